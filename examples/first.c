@@ -1,0 +1,6 @@
+int main(void) {
+  int x = 6;
+  x = x * 7;
+  printf("%d\n", x);
+  return 0;
+}
