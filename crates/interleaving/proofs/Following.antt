@@ -3,7 +3,7 @@ use Rattle.std.proofs.Common.{◌≡◌, ℕ, zero, suc, ◌+◌, ◌≤◌, Lis
 use Rattle.std.specs.Prelude.{Bool, Some, slice_get, if◌then◌else◌}
 use Rattle.std.proofs.Math.Seq.{take-append_seam, take-length, take-nil}
 use Rattle.std.proofs.Math.Nat.{add-zero}
-use Rattle.interleaving.specs.Run.{machine_after, counted, FollowsOne, EachCycleKeeps, RunsFollowOne}
+use Rattle.interleaving.specs.Run.{machine_after, counted_choices, FollowsOne, EachCycleKeeps, RunsFollowOne}
 
 module _ {Machine Choice : Type 0} (cycle : Machine → Choice → Machine) (counts : Machine → Choice → Bool) (still : Machine → Choice → Type 0) (R : List ℕ → Machine → ℕ → Type 0) where
   -- as FollowsOne, of a run from any moment: L has been taken, and m cycles have counted
@@ -14,7 +14,7 @@ module _ {Machine Choice : Type 0} (cycle : Machine → Choice → Machine) (cou
     extends : (rest : List ℕ) × (steps ≡ L ++ rest)
     rises : (n : ℕ) → count n ≤ count (suc n)
     rests : (n : ℕ) (c : Choice) → slice_get C n ≡ Some c → still (machine_after cycle w (take n C)) c → count (suc n) ≡ count n
-    each : (n : ℕ) → n ≤ length C → R (take (count n) steps) (machine_after cycle w (take n C)) (m + counted cycle counts w (take n C))
+    each : (n : ℕ) → n ≤ length C → R (take (count n) steps) (machine_after cycle w (take n C)) (m + counted_choices cycle counts w (take n C))
 
   follows : EachCycleKeeps cycle counts still R → (C : List Choice) (L : List ℕ) (w : Machine) (m : ℕ) → R L w m → FollowsFrom L w m C
   follows goes [] L w m r = record {
@@ -24,7 +24,7 @@ module _ {Machine Choice : Type 0} (cycle : Machine → Choice → Machine) (cou
     extends = ([], sym (append-nil L));
     rises = λ n. omega arith;
     rests = λ n c e q. refl;
-    each = λ n le. subst (λ C. R (take (length L) L) (machine_after cycle w C) (m + counted cycle counts w C)) (sym (take-nil n))
+    each = λ n le. subst (λ C. R (take (length L) L) (machine_after cycle w C) (m + counted_choices cycle counts w C)) (sym (take-nil n))
         (subst (λ M. R M w (m + 0)) (sym (take-length L)) (subst (λ k. R L w k) (sym (add-zero m)) r));
   }
   follows goes (c ∷ C) L w m r =
@@ -57,7 +57,7 @@ module _ {Machine Choice : Type 0} (cycle : Machine → Choice → Machine) (cou
         taken = f.count;
         rises = f.rises;
         rests = f.rests;
-        each = λ n le. subst (λ m. R (take (f.count n) f.steps) (machine_after cycle h (take n C)) m) (zero-add (counted cycle counts h (take n C))) (f.each n le);
+        each = λ n le. subst (λ m. R (take (f.count n) f.steps) (machine_after cycle h (take n C)) m) (zero-add (counted_choices cycle counts h (take n C))) (f.each n le);
       }
 
 -- what holds of each moment may be weakened
@@ -70,5 +70,5 @@ follows_weaker cycle counts still R Q h C weaker f = record {
   taken = f.taken;
   rises = f.rises;
   rests = f.rests;
-  each = λ n le. weaker (take (f.taken n) f.interleaving) (machine_after cycle h (take n C)) (counted cycle counts h (take n C)) (f.each n le);
+  each = λ n le. weaker (take (f.taken n) f.interleaving) (machine_after cycle h (take n C)) (counted_choices cycle counts h (take n C)) (f.each n le);
 }

@@ -7,7 +7,7 @@ use Rattle.interleaving.specs.Memory.{Location, Memory, Access, memory_after, Wr
 use Rattle.interleaving.specs.Source.{View, Moves, Acts, Ends, Fails, Source, Move, accesses_of, view_at, RunsAlone}
 use Rattle.interleaving.specs.Interleaving.{if_steps, after_from, Reached, Reachable, IsGood}
 use Rattle.interleaving.specs.Threaded.{IsThreaded}
-use Rattle.interleaving.specs.Hardware.{World, Flight, IsMoveOrFault, OnlyMoves, Hardware, Overlaid, Lands, FliesOrLands, IsPlanned, IsAt, Lag, Turned, KeepsLag}
+use Rattle.interleaving.specs.Hardware.{World, Flight, IsMoveOrFault, OnlyMoves, Hardware, Overlaid, Lands, FliesOrLands, IsPlanned, IsAt, Lag, Turned, KeepsLag, FlightsAreApart}
 use Rattle.interleaving.proofs.Accesses.{memory_after-agree, memory_after-unwritten, memory_after-append, touched, writes_left, writes_right, writes_or_not}
 use Rattle.interleaving.proofs.Apart.{memory_after-apart}
 use Rattle.interleaving.proofs.Alone.{Ran, after_from-append, runs_alone_frame, after_move, reach_move, run, others_run, one_move, reached_on}
@@ -261,5 +261,5 @@ module _ {Value Local State Slot Cores : Type 0} (P : Source Value Local State) 
       move
 
   -- nothing that one block in flight writes is touched by another
-  pub flights_apart : (L : List ℕ) (w : World Value Slot Cores) (l : Lag P H L w) (i j : ℕ) → i ≢ j → AreApart (accesses_of (l.flights i).moves) (accesses_of (l.flights j).moves)
+  pub flights_apart : FlightsAreApart P H
   flights_apart L w l i j ne = runs_apart P law good L l.state i j (l.flights i).moves (l.flights j).moves l.reached ne (l.runs i) (l.runs j)

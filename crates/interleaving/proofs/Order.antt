@@ -7,7 +7,7 @@ use Rattle.std.proofs.lemmas.Bool.Decides.{nat_tests}
 use Rattle.interleaving.specs.Memory.{Location, Memory, Access, memory_after, Touches, AgreeOn}
 use Rattle.interleaving.specs.Source.{Source}
 use Rattle.interleaving.specs.Hardware.{World, Hardware, Turned}
-use Rattle.interleaving.specs.Cycle.{passing, Chain, StaysInCycle, TurnsInCycle, ActsInCycle, InCycle, OrderInCycle}
+use Rattle.interleaving.specs.Cycle.{movers, Chain, AreForThread, StaysInCycle, TurnsInCycle, ActsInCycle, InCycle, OrderInCycle}
 use Rattle.interleaving.proofs.Accesses.{memory_after-agree, memory_after-unwritten, touched}
 use Rattle.interleaving.proofs.Update.{same_or_not}
 
@@ -34,18 +34,18 @@ upto_step n owner new old same =
     (same_or_not owner n)
 
 -- who are the threads that move
-pub nobody_moves : (r n : ℕ) (f : ℕ → Bool) → passing f r n ≡ [] → (i : ℕ) → n ≤ i → i < n + r → f i ≡ false
+pub nobody_moves : (r n : ℕ) (f : ℕ → Bool) → movers f r n ≡ [] → (i : ℕ) → n ≤ i → i < n + r → f i ≡ false
 nobody_moves zero n f e i le lt = absurd (omega arith)
 nobody_moves (suc r) n f e i le lt = go (f n) refl e (λ q a b. nobody_moves r (suc n) f q i a b)
   where
-    go : (b : Bool) → f n ≡ b → (if b then n ∷ passing f r (suc n) else passing f r (suc n)) ≡ [] → (passing f r (suc n) ≡ [] → suc n ≤ i → i < suc n + r → f i ≡ false) → f i ≡ false
+    go : (b : Bool) → f n ≡ b → (if b then n ∷ movers f r (suc n) else movers f r (suc n)) ≡ [] → (movers f r (suc n) ≡ [] → suc n ≤ i → i < suc n + r → f i ≡ false) → f i ≡ false
     go true q g ih = absurd cc
     go false q g ih = ⊎_elim (λ (same : i ≡ n). ap f same ∙ q) (λ (ne : i ≢ n). ih g (omega arith) (omega arith)) (same_or_not i n)
 
-pub moves_nobody : (r n : ℕ) (f : ℕ → Bool) → ((i : ℕ) → n ≤ i → i < n + r → f i ≡ false) → passing f r n ≡ []
+pub moves_nobody : (r n : ℕ) (f : ℕ → Bool) → ((i : ℕ) → n ≤ i → i < n + r → f i ≡ false) → movers f r n ≡ []
 moves_nobody zero n f none = refl
 moves_nobody (suc r) n f none =
-    subst (λ b. (if b then n ∷ passing f r (suc n) else passing f r (suc n)) ≡ []) (sym (none n (omega arith) (omega arith)))
+    subst (λ b. (if b then n ∷ movers f r (suc n) else movers f r (suc n)) ≡ []) (sym (none n (omega arith) (omega arith)))
     (moves_nobody r (suc n) f (λ i le lt. none i (omega arith) (omega arith)))
 
 module _ {Value Local State Slot Cores : Type 0} (P : Source Value Local State) (H : Hardware Value Local State Slot Cores) (T : ℕ) (w w' : World Value Slot Cores)
@@ -107,7 +107,7 @@ module _ {Value Local State Slot Cores : Type 0} (P : Source Value Local State) 
   -- a cycle in which each bank and core is granted to one thread is a chain of moves by thread number
   pub in_order_of_threads : (moves : ℕ → Bool) → ((n : ℕ) → n < T → moves n ≡ false → StaysIn n) →
       ((n : ℕ) → n < T → moves n ≡ true → TurnsIn n ⊎ H.Act (mix n) n (mix (suc n))) → ((i : ℕ) → T ≤ i → w'.slots i ≡ w.slots i) →
-      ((p : Location) → T ≤ place_owner p → w'.memory p ≡ w.memory p) → (cores_at 0 ≡ w.cores) → (cores_at T ≡ w'.cores) → Chain P H T (passing moves T 0) w w'
+      ((p : Location) → T ≤ place_owner p → w'.memory p ≡ w.memory p) → (cores_at 0 ≡ w.cores) → (cores_at T ≡ w'.cores) → Chain P H T (movers moves T 0) w w'
   in_order_of_threads moves stay move slots memory cores_first cores_last =
       let all = go T 0 (omega arith) in
       let first : mix 0 ≡ w = mix_same (mix 0) w (λ i. upto_above 0 i (w'.slots i) (w.slots i) (omega arith))
@@ -116,7 +116,7 @@ module _ {Value Local State Slot Cores : Type 0} (P : Source Value Local State) 
       (λ i. at_end i (w'.slots i) (w.slots i) (slots i))
       (λ p. at_end (place_owner p) (w'.memory p) (w.memory p) (memory p))
       cores_last in
-      subst (λ v. Chain P H T (passing moves T 0) v w') first (subst (λ v. Chain P H T (passing moves T 0) (mix 0) v) last all)
+      subst (λ v. Chain P H T (movers moves T 0) v w') first (subst (λ v. Chain P H T (movers moves T 0) (mix 0) v) last all)
     where
       at_end : {A : Type 0} (owner : ℕ) (new old : A) → (T ≤ owner → new ≡ old) → upto T owner new old ≡ new
       at_end owner new old same =
@@ -129,9 +129,9 @@ module _ {Value Local State Slot Cores : Type 0} (P : Source Value Local State) 
       one true n is below e rest = (mix (suc n), below, ⊎_elim (λ t. inl (turns_in n t)) (λ a. inr a) (move n below e), rest)
       one false n is below e rest = subst (λ v. Chain P H T is v (mix T)) (sym (stays_in n (stay n below e))) rest
 
-      go : (r n : ℕ) → n + r ≡ T → Chain P H T (passing moves r n) (mix n) (mix T)
+      go : (r n : ℕ) → n + r ≡ T → Chain P H T (movers moves r n) (mix n) (mix T)
       go zero n e = let same : n ≡ T = omega arith in ap mix same
-      go (suc r) n e = one (moves n) n (passing moves r (suc n)) (omega arith) refl (go r (suc n) (omega arith))
+      go (suc r) n e = one (moves n) n (movers moves r (suc n)) (omega arith) refl (go r (suc n) (omega arith))
 
 -- cores by number, each granted to one thread
 module _ {Value Local State Slot Core : Type 0} (P : Source Value Local State) (H : Hardware Value Local State Slot (ℕ → Core)) (w v : World Value Slot (ℕ → Core))
@@ -146,14 +146,18 @@ module _ {Value Local State Slot Core : Type 0} (P : Source Value Local State) (
   stays_in_cycle : (n : ℕ) → StaysInCycle P H w v place_owner core_owner n → StaysIn P H T w v place_owner cores_upto n
   stays_in_cycle n r = record { slot = r.slot; memory = r.memory; cores = cores_stay n r.cores }
 
+  -- what thread n finds: its own cores are old
+  cores_for : (n : ℕ) → AreForThread P H w v place_owner core_owner n (cores_upto n)
+  cores_for n k =
+      ⊎_elim
+      (λ lt. inr ((λ (e : core_owner k ≡ n). absurd (omega arith)), upto_below n (core_owner k) (v.cores k) (w.cores k) lt))
+      (λ le. inl (upto_above n (core_owner k) (v.cores k) (w.cores k) le))
+      (cases_lt (core_owner k) n)
+
   turns_in_cycle : (n : ℕ) → TurnsInCycle P H w v place_owner core_owner n → TurnsIn P H T w v place_owner cores_upto n
   turns_in_cycle n r = record {
     accesses = r.accesses;
-    turn = λ M agree. r.turn M (cores_upto n) agree (λ k.
-        ⊎_elim
-        (λ lt. inr ((λ (e : core_owner k ≡ n). absurd (omega arith)), upto_below n (core_owner k) (v.cores k) (w.cores k) lt))
-        (λ le. inl (upto_above n (core_owner k) (v.cores k) (w.cores k) le))
-        (cases_lt (core_owner k) n));
+    turn = λ M agree. r.turn M (cores_upto n) agree (cores_for n);
     own = r.own;
     memory = r.memory;
     cores = cores_stay n r.cores;
@@ -165,14 +169,14 @@ module _ {Value Local State Slot Core : Type 0} (P : Source Value Local State) (
       (record {
         old_slot = upto_above n n (v.slots n) (w.slots n) (omega arith);
         new_slot = upto_below (suc n) n (v.slots n) (w.slots n) (omega arith);
-        old_cores = λ k e. upto_above n (core_owner k) (v.cores k) (w.cores k) (omega arith);
+        old_cores = cores_for n;
         new_cores = λ k e. upto_below (suc n) (core_owner k) (v.cores k) (w.cores k) (omega arith);
         slots = λ j ne. sym (upto_step n j (v.slots j) (w.slots j) (λ e. absurd (ne e)));
         cores = λ k ne. sym (upto_step n (core_owner k) (v.cores k) (w.cores k) (λ e. absurd (ne e)));
         memory = λ p. sym (upto_step n (place_owner p) (v.memory p) (w.memory p) (λ e. r.memory p e));
       })
 
-  in_cycle : (moving : ℕ → Bool) → InCycle P H w v place_owner core_owner T moving → Chain P H T (passing moving T 0) w v
+  in_cycle : (moving : ℕ → Bool) → InCycle P H w v place_owner core_owner T moving → Chain P H T (movers moving T 0) w v
   in_cycle moving cycle =
       in_order_of_threads P H T w v place_owner cores_upto moving
       (λ n lt e. stays_in_cycle n (cycle.stays n lt e))
@@ -184,6 +188,12 @@ module _ {Value Local State Slot Core : Type 0} (P : Source Value Local State) (
       (λ lt. upto_below T (core_owner k) (v.cores k) (w.cores k) lt)
       (λ le. upto_above T (core_owner k) (v.cores k) (w.cores k) le ∙ sym (cycle.idle k le))
       (cases_lt (core_owner k) T)))
+
+-- a core that is granted to thread n is as before the cycle when n moves
+pub own_core_old : {Value Local State Slot Core : Type 0} (P : Source Value Local State) (H : Hardware Value Local State Slot (ℕ → Core))
+    (w v : World Value Slot (ℕ → Core)) (place_owner : Location → ℕ) (core_owner : ℕ → ℕ) (n : ℕ) (c : ℕ → Core) →
+    AreForThread P H w v place_owner core_owner n c → (k : ℕ) → core_owner k ≡ n → c k ≡ w.cores k
+own_core_old P H w v place_owner core_owner n c fit k own = ⊎_elim (λ old. old) (λ new. absurd (new.0 own)) (fit k)
 
 -- ORDER IN A CYCLE
 pub order_in_cycle : {Value Local State Slot Core : Type 0} (P : Source Value Local State) (H : Hardware Value Local State Slot (ℕ → Core)) → OrderInCycle P H

@@ -7,7 +7,7 @@ use Rattle.interleaving.specs.Threaded.{IsThreaded}
 use Rattle.interleaving.specs.Hardware.{World, Hardware, IsPlanned, Lag}
 use Rattle.interleaving.specs.Cycle.{Chain}
 use Rattle.interleaving.specs.Run.{FollowsOne}
-use Rattle.interleaving.specs.Progress.{owed, IsTimed, IsStuck, IsClocked, Moment, PaysForMoves}
+use Rattle.interleaving.specs.Progress.{total_left, IsTimed, IsStuck, IsClocked, Moment, PaysForMoves}
 use Rattle.interleaving.proofs.Alone.{after_from-append}
 use Rattle.interleaving.proofs.Lagging.{keeps_lag}
 use Rattle.interleaving.proofs.Following.{runs_follow_one}
@@ -21,25 +21,26 @@ pay_cycle m k n o o' B l a T x h t le e = subst (λ y. m + k + o' ≤ B * (y + T
 
 -- the sum over the slots where one changes
 module _ {Value Slot Cores : Type 0} (left : Slot → ℕ) where
-  pub owed_same : (T : ℕ) (w w' : World Value Slot Cores) → ((j : ℕ) → j < T → w'.slots j ≡ w.slots j) → owed T left w' ≡ owed T left w
-  owed_same zero w w' same = refl
-  owed_same (suc n) w w' same =
-      let rest = owed_same n w w' (λ j lt. same j (omega arith)) in
+  pub total_left-same : (T : ℕ) (w w' : World Value Slot Cores) → ((j : ℕ) → j < T → w'.slots j ≡ w.slots j) → total_left T left w' ≡ total_left T left w
+  total_left-same zero w w' same = refl
+  total_left-same (suc n) w w' same =
+      let rest = total_left-same n w w' (λ j lt. same j (omega arith)) in
       let here = ap left (same n (omega arith)) in
       omega arith
 
   -- where slot i alone changes, the sum changes by as much
-  pub owed_changed : (T : ℕ) (w w' : World Value Slot Cores) (i : ℕ) → i < T → ((j : ℕ) → j ≢ i → w'.slots j ≡ w.slots j) → owed T left w' + left (w.slots i) ≡ owed T left w + left (w'.slots i)
-  owed_changed zero w w' i lt others = absurd (omega arith)
-  owed_changed (suc n) w w' i lt others =
+  pub total_left-changed : (T : ℕ) (w w' : World Value Slot Cores) (i : ℕ) → i < T → ((j : ℕ) → j ≢ i → w'.slots j ≡ w.slots j) → total_left T left w' + left
+      (w.slots i) ≡ total_left T left w + left (w'.slots i)
+  total_left-changed zero w w' i lt others = absurd (omega arith)
+  total_left-changed (suc n) w w' i lt others =
       ⊎_elim
       (λ (e : n ≡ i).
-      let rest = owed_same n w w' (λ j below. others j (λ f. absurd (omega arith))) in
+      let rest = total_left-same n w w' (λ j below. others j (λ f. absurd (omega arith))) in
       let now : left (w'.slots n) ≡ left (w'.slots i) = ap (λ k. left (w'.slots k)) e in
       let was : left (w.slots n) ≡ left (w.slots i) = ap (λ k. left (w.slots k)) e in
       omega arith)
       (λ (ne : n ≢ i).
-      let rest = owed_changed n w w' i (omega arith) others in
+      let rest = total_left-changed n w w' i (omega arith) others in
       let here = ap left (others n ne) in
       omega arith)
       (same_or_not n i)
@@ -48,17 +49,17 @@ module _ {Value Local State Slot Cores : Type 0} (P : Source Value Local State) 
     (plan : IsPlanned P H) (T B : ℕ) (left : Slot → ℕ) (timed : IsTimed H B left) where
   -- a chain of moves keeps the lag, and its steps pay for the changes
   pub lag_chain : (is : List ℕ) (L : List ℕ) (w w' : World Value Slot Cores) → Lag P H L w → Chain P H T is w w' →
-      (added : List ℕ) × Lag P H (L ++ added) w' × (length is + owed T left w' ≤ owed T left w + B * length added)
-  lag_chain [] L w w' l c = ([], subst (λ M. Lag P H M w') (sym (append-nil L)) (subst (λ v. Lag P H L v) c l), subst (λ v. 0 + owed T left v ≤ owed T left w + B * 0) c (omega arith))
+      (added : List ℕ) × Lag P H (L ++ added) w' × (length is + total_left T left w' ≤ total_left T left w + B * length added)
+  lag_chain [] L w w' l c = ([], subst (λ M. Lag P H M w') (sym (append-nil L)) (subst (λ v. Lag P H L v) c l), subst (λ v. 0 + total_left T left v ≤ total_left T left w + B * 0) c (omega arith))
   lag_chain (i ∷ is) L w w' l c =
       let v = c.0 in
       let one = keeps_lag P H law good plan L w v i l c.2 in
       let less = timed.spends (w.slots i) (v.slots i) (length one.0) one.2 in
       let rest = lag_chain is (L ++ one.0) v w' one.1 c.3 in
-      let changed = owed_changed left T w v i c.1 one.3 in (
+      let changed = total_left-changed left T w v i c.1 one.3 in (
         one.0 ++ rest.0,
         subst (λ M. Lag P H M w') (append_assoc L one.0 rest.0) rest.1,
-        pay (length is) (owed T left w') (owed T left v) (owed T left w)
+        pay (length is) (total_left T left w') (total_left T left v) (total_left T left w)
             (left (w.slots i)) (left (v.slots i)) B (length one.0) (length rest.0) (length (one.0 ++ rest.0)) rest.2 changed less (length-append one.0 rest.0),
       )
 
@@ -83,24 +84,24 @@ module _ {Value Local State Slot Cores : Type 0} (P : Source Value Local State) 
   module _ {Machine Choice : Type 0} (look : Machine → World Value Slot Cores) (counts : Machine → Choice → Bool) (cycle : Machine → Choice → Machine)
       (clocked : IsClocked P H T look counts cycle) where
     moment_paid : (L M : List ℕ) (h : Machine) (m : ℕ) (c : Choice) (l : Lag P H L (look h)) (t : Lag P H (L ++ M) (look (cycle h c))) →
-        length (clocked.chain L h c l).0 + owed T left (look (cycle h c)) ≤ owed T left (look h) + B * length M →
-        (m + owed T left (look h) ≤ B * (length L + T)) →
-        IsStuck P t.state ⊎ (m + (if counts h c then 1 else 0) + owed T left (look (cycle h c)) ≤ B * (length (L ++ M) + T))
+        length (clocked.chain L h c l).0 + total_left T left (look (cycle h c)) ≤ total_left T left (look h) + B * length M →
+        (m + total_left T left (look h) ≤ B * (length L + T)) →
+        IsStuck P t.state ⊎ (m + (if counts h c then 1 else 0) + total_left T left (look (cycle h c)) ≤ B * (length (L ++ M) + T))
     moment_paid L M h m c l t cost paid = go (clocked.chain L h c l).0 refl (counts h c) refl
       where
-        enough : (k : ℕ) → k ≤ length (clocked.chain L h c l).0 → m + k + owed T left (look (cycle h c)) ≤ B * (length (L ++ M) + T)
-        enough k le = pay_cycle m k (length (clocked.chain L h c l).0) (owed T left (look h)) (owed T left (look (cycle h c))) B (length L) (length M) T
+        enough : (k : ℕ) → k ≤ length (clocked.chain L h c l).0 → m + k + total_left T left (look (cycle h c)) ≤ B * (length (L ++ M) + T)
+        enough k le = pay_cycle m k (length (clocked.chain L h c l).0) (total_left T left (look h)) (total_left T left (look (cycle h c))) B (length L) (length M) T
             (length (L ++ M)) paid cost le (length-append L M)
 
         go : (is : List ℕ) → (clocked.chain L h c l).0 ≡ is → (b : Bool) → counts h c ≡ b →
-            IsStuck P t.state ⊎ (m + (if counts h c then 1 else 0) + owed T left (look (cycle h c)) ≤ B * (length (L ++ M) + T))
-        go is e false q = inr (subst (λ b. m + (if b then 1 else 0) + owed T left (look (cycle h c)) ≤ B * (length (L ++ M) + T)) (sym q) (enough 0 (omega arith)))
+            IsStuck P t.state ⊎ (m + (if counts h c then 1 else 0) + total_left T left (look (cycle h c)) ≤ B * (length (L ++ M) + T))
+        go is e false q = inr (subst (λ b. m + (if b then 1 else 0) + total_left T left (look (cycle h c)) ≤ B * (length (L ++ M) + T)) (sym q) (enough 0 (omega arith)))
         go [] e true q =
             let stuck = clocked.lively L h c l q e in
             inl (subst (λ s. IsStuck P s) (stuck_stays L M l.state t.state l.reached stuck t.reached) stuck)
         go (i ∷ is) e true q =
             let some : length (clocked.chain L h c l).0 ≡ suc (length is) = ap length e in
-            inr (subst (λ b. m + (if b then 1 else 0) + owed T left (look (cycle h c)) ≤ B * (length (L ++ M) + T)) (sym q) (enough 1 (omega arith)))
+            inr (subst (λ b. m + (if b then 1 else 0) + total_left T left (look (cycle h c)) ≤ B * (length (L ++ M) + T)) (sym q) (enough 1 (omega arith)))
 
     -- the cycle changes no slot
     abbrev pub Still : Machine → Choice → Type 0

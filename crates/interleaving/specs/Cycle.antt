@@ -1,18 +1,22 @@
 -- What all threads do in one cycle, and the order in which it enters an interleaving: by thread number.
 --
--- What the hardware's side provides of one cycle from w to v, with cores by number (Hardware Value Local State Slot (ℕ → Core)):
---   place_owner : Location → ℕ, core_owner : ℕ → ℕ   the thread to which a place's bank, or a core, is granted; T or more for nobody
---   moving : ℕ → Bool                                who turns or acts
---   InCycle: stays, goes, beyond, unowned, idle      below
+-- What the concrete side has to provide of a cycle from w to v, for InCycle P H w v place_owner core_owner T moving,
+-- with cores by number (H : Hardware Value Local State Slot (ℕ → Core)):
+--   place_owner : Location → ℕ    the thread to which the bank of a place is granted in this cycle; T or more for nobody
+--   core_owner : ℕ → ℕ            the thread to which a core is granted; T or more for nobody
+--   moving : ℕ → Bool             who turns or acts
+--   stays                         of each other thread below T: slot, own places and own cores stay
+--   goes                          of each thread that moves: TurnsInCycle or ActsInCycle
+--   beyond, unowned, idle         slots from T on, places and cores that are nobody's stay
 use Rattle.std.specs.Prelude.{◌≡◌, ◌≢◌, ℕ, zero, suc, ◌<◌, ◌≤◌, List, [], ◌∷◌, ◌⊎◌, Bool, true, false, if◌then◌else◌}
 use Rattle.interleaving.specs.Memory.{Location, Memory, Access, memory_after, Touches, AgreeOn}
 use Rattle.interleaving.specs.Source.{Source}
 use Rattle.interleaving.specs.Hardware.{World, Hardware, Turned}
 
 -- of r threads from n on those that pass, in order
-abbrev pub passing : (ℕ → Bool) → ℕ → ℕ → List ℕ
-passing test zero n = []
-passing test (suc r) n = if test n then n ∷ passing test r (suc n) else passing test r (suc n)
+abbrev pub movers : (ℕ → Bool) → ℕ → ℕ → List ℕ
+movers test zero n = []
+movers test (suc r) n = if test n then n ∷ movers test r (suc n) else movers test r (suc n)
 
 module _ {Value Local State Slot Cores : Type 0} (P : Source Value Local State) (H : Hardware Value Local State Slot Cores) where
   -- these threads, all below T, move one after the other: each turns or acts
@@ -40,17 +44,17 @@ module _ {Value Local State Slot Core : Type 0} (P : Source Value Local State) (
     pub memory : (p : Location) → place_owner p ≡ n → v.memory p ≡ memory_after accesses w.memory p
     pub cores : (k : ℕ) → core_owner k ≡ n → v.cores k ≡ w.cores k
 
-  -- where thread n has its slot and cores as before the cycle, its own act alone leads from a to b
+  -- b is a after the act of thread n alone, where a has the slot of n and its cores as before the cycle
   pub record ActsAlone (n : ℕ) (a b : World Value Slot (ℕ → Core)) : Type 0 where
     pub old_slot : a.slots n ≡ w.slots n
     pub new_slot : b.slots n ≡ v.slots n
-    pub old_cores : (k : ℕ) → core_owner k ≡ n → a.cores k ≡ w.cores k
+    pub old_cores : AreForThread n a.cores
     pub new_cores : (k : ℕ) → core_owner k ≡ n → b.cores k ≡ v.cores k
     pub slots : (j : ℕ) → j ≢ n → b.slots j ≡ a.slots j
     pub cores : (k : ℕ) → core_owner k ≢ n → b.cores k ≡ a.cores k
     pub memory : (p : Location) → b.memory p ≡ a.memory p
 
-  -- thread n acts in this cycle: what it does hangs on its slot and the cores granted to it, whatever the other threads have done in this cycle
+  -- thread n acts in this cycle, whatever other threads have done in it
   pub record ActsInCycle (n : ℕ) : Type 0 where
     pub act : (a b : World Value Slot (ℕ → Core)) → ActsAlone n a b → H.Act a n b
     pub memory : (p : Location) → place_owner p ≡ n → v.memory p ≡ w.memory p
@@ -67,4 +71,4 @@ module _ {Value Local State Slot Core : Type 0} (P : Source Value Local State) (
 abbrev pub OrderInCycle : {Value Local State Slot Core : Type 0} → Source Value Local State → Hardware Value Local State Slot (ℕ → Core) → Type 0
 OrderInCycle {Value = Value} {Slot = Slot} {Core = Core} P H =
     (w v : World Value Slot (ℕ → Core)) (place_owner : Location → ℕ) (core_owner : ℕ → ℕ) (T : ℕ) (moving : ℕ → Bool) →
-    InCycle P H w v place_owner core_owner T moving → Chain P H T (passing moving T 0) w v
+    InCycle P H w v place_owner core_owner T moving → Chain P H T (movers moving T 0) w v

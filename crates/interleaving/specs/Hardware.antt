@@ -1,18 +1,7 @@
 -- Hardware that runs blocks of a threaded source, and how far it lags behind an interleaving.
---
--- What the hardware's side provides, for P : Source Value Local State:
---   Slot, Cores : Type 0          what one thread's part holds, and what all cores together hold
---   H : Hardware Value Local State Slot Cores
---     Stands  Cores → State → Type 0                                    the cores stand for the state
---     Rests   Cores → ℕ → Local → Slot → Type 0                         the slot of a thread is before a block or an act
---     Flies   Local → Memory Value → List (Move Value Local) → List (Access Value) → Slot → Type 0
---     Turn    Cores → ℕ → Slot → Memory Value → List (Access Value) → Slot → Type 0
---     Spends  Slot → Slot → ℕ → Type 0                                  a change of a slot that some steps pay for
---     Act     World Value Slot Cores → ℕ → World Value Slot Cores → Type 0
---   IsPlanned P H                 begins, frame, inside, turn, stands, act, act_rests: below
--- A machine that is looked at as such a world adds what specs/Cycle and specs/Headline name.
+-- What the concrete side has to provide of it stands at the head of specs/Headline.
 use Rattle.std.specs.Prelude.{◌≡◌, ◌≢◌, ℕ, zero, suc, List, [], ◌++◌, length, ◌⊎◌, true, false}
-use Rattle.interleaving.specs.Memory.{Location, Memory, Access, memory_after, Writes, AgreeOn}
+use Rattle.interleaving.specs.Memory.{Location, Memory, Access, memory_after, Writes, AreApart, AgreeOn}
 use Rattle.interleaving.specs.Source.{StepsTo, Undefined, View, Moves, Acts, Ends, Fails, Source, Move, accesses_of, end_of, view_at, RunsAlone}
 use Rattle.interleaving.specs.Interleaving.{Reached, Reachable}
 use Rattle.interleaving.specs.Threaded.{IsSynchronizing, Moved}
@@ -91,8 +80,8 @@ module _ {Value Local State Slot Cores : Type 0} (P : Source Value Local State) 
     -- a block that begins has a number of steps, all of them moves, and its first turn goes on with their run or ends it
     pub begins : (c : Cores) (s : State) (i : ℕ) (q r : Slot) (M : Memory Value) (es : List (Access Value)) → Reachable P s → H.Rests c i (P.local s i) q →
         H.Turn c i q M es r →
-        (n : ℕ) × OnlyMoves P n (P.local s i) (P.memory s) × ((hs : List (Move Value Local)) → RunsAlone P (P.local s i) (P.memory s) hs → length hs ≡ n → AgreeOn
-        (accesses_of hs) (P.memory s) M → FliesOrLands c i (P.local s i) (P.memory s) hs es q r)
+        (n : ℕ) × OnlyMoves P n (P.local s i) (P.memory s) × ((hs : List (Move Value Local)) → RunsAlone P (P.local s i) (P.memory s) hs → length hs ≡ n →
+        AgreeOn (accesses_of hs) (P.memory s) M → FliesOrLands c i (P.local s i) (P.memory s) hs es q r)
     -- a block in flight depends on what its run touches alone
     pub frame : (x : Local) (m n : Memory Value) (hs : List (Move Value Local)) (made : List (Access Value)) (q : Slot) → H.Flies x m hs made q → AgreeOn (accesses_of hs) m n → H.Flies x n hs made q
     -- it has written only what its run writes
@@ -138,3 +127,9 @@ module _ {Value Local State Slot Cores : Type 0} (P : Source Value Local State) 
   KeepsLag =
       (L : List ℕ) (w v : World Value Slot Cores) (i : ℕ) → Lag L w → Turned w i v ⊎ H.Act w i v →
       (added : List ℕ) × Lag (L ++ added) v × H.Spends (w.slots i) (v.slots i) (length added) × ((j : ℕ) → j ≢ i → v.slots j ≡ w.slots j)
+
+  -- nothing that one block in flight writes is touched by another
+  abbrev pub FlightsAreApart : Type 0
+  FlightsAreApart =
+      (L : List ℕ) (w : World Value Slot Cores) (l : Lag L w) (i j : ℕ) → i ≢ j →
+      AreApart (accesses_of (l.flights i).moves) (accesses_of (l.flights j).moves)

@@ -1,10 +1,36 @@
 -- The headline's second sentence in the abstract: every run of the hardware of a good program shows one interleaving.
+--
+-- What the concrete side has to provide, all of it gathered in the record Refinement:
+--   Value, Local, State, Slot, Cores, Machine, Choice : Type 0
+--   source : Source Value Local State                      start : State; step : State → ℕ → Outcome State; is_ended : State → Bool;
+--                                                          is_live : State → ℕ → Bool; local : State → ℕ → Local; memory : State → Memory Value;
+--                                                          view : Local → Memory Value → View Value Local
+--   threaded : IsThreaded source                           the laws of specs/Threaded
+--   hardware : Hardware Value Local State Slot Cores       Stands : Cores → State → Type 0
+--                                                          Rests : Cores → ℕ → Local → Slot → Type 0
+--                                                          Flies : Local → Memory Value → List (Move Value Local) → List (Access Value) → Slot → Type 0
+--                                                          Turn : Cores → ℕ → Slot → Memory Value → List (Access Value) → Slot → Type 0
+--                                                          Spends : Slot → Slot → ℕ → Type 0
+--                                                          Act : World Value Slot Cores → ℕ → World Value Slot Cores → Type 0
+--   planned : IsPlanned source hardware                    begins, frame, inside, turn, stands, act, act_rests (specs/Hardware)
+--   T, B : ℕ, left : Slot → ℕ                              threads; changes of a slot for each step; changes that a slot has left
+--   timed : IsTimed hardware B left                        spends : Spends q r k → left r < left q + B * k
+--   look : Machine → World Value Slot Cores                slots : ℕ → Slot; memory : Memory Value; cores : Cores
+--   cycle : Machine → Choice → Machine
+--   is_full : Choice → Bool, counts : Machine → Choice → Bool, full_counts
+--   clocked : IsGood source → IsClocked source hardware T look counts cycle
+--                                                          chain, by order in a cycle (specs/Cycle); still; lively: where a cycle that counts
+--                                                          moves nobody, the state is stuck
+--   views : Views Value State Machine                      output : State → List ℕ; printed : Machine → List ℕ; done : Machine → Bool;
+--                                                          globals : Machine → Memory Value
+--   seen : IsSeen source views hardware look T             prints, done (by EndIsMarked), globals, beyond
+--   first : Machine, starts                                the first moment: the lag at the start, and T times B at least the changes left
 use Rattle.std.specs.Prelude.{◌≡◌, ◌↔◌, ℕ, ◌+◌, ◌/◌, ◌≤◌, List, [], length, ◌⊎◌, Bool, true}
 use Rattle.interleaving.specs.Memory.{Location, Memory, Access}
 use Rattle.interleaving.specs.Source.{Blocked, Source, Move, RunsAlone}
 use Rattle.interleaving.specs.Interleaving.{Reached, Reachable, Deadlocked, IsGood}
 use Rattle.interleaving.specs.Threaded.{IsThreaded}
-use Rattle.interleaving.specs.Hardware.{World, Hardware, IsPlanned, Lag, KeepsLag}
+use Rattle.interleaving.specs.Hardware.{World, Hardware, IsPlanned, Lag, KeepsLag, FlightsAreApart}
 use Rattle.interleaving.specs.Progress.{IsTimed, IsClocked, Moment, PaysForMoves}
 use Rattle.interleaving.specs.Run.{FollowsOne}
 
@@ -88,9 +114,9 @@ RunsAsOne M =
     IsGood M.source → (C : List M.Choice) →
     FollowsOne M.cycle M.counts (is_still M) (Shows M.source M.views M.T M.B M.is_full (is_still M)) M.first C
 
--- the other laws of the theory, of such a program and machine: if the program is good, the lag is kept
+-- the other laws of the theory, of such a program and machine: if the program is good, the lag is kept, and blocks in flight are apart
 abbrev pub LagIsKept : Refinement → Type 0
-LagIsKept M = IsGood M.source → KeepsLag M.source M.hardware
+LagIsKept M = IsGood M.source → KeepsLag M.source M.hardware × FlightsAreApart M.source M.hardware
 
 -- and each move of a cycle is paid for
 abbrev pub MovesArePaid : Refinement → Type 0

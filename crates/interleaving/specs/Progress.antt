@@ -1,17 +1,13 @@
 -- Progress by a count: the steps of the interleaving pay for the changes of the slots.
---
--- What the hardware's side provides:
---   IsTimed H B left                        left : Slot → ℕ, how often a slot may still change before its thread has taken a step
---   IsClocked P H T look counts cycle       chain, still, lively: of a machine that look shows as a world
 use Rattle.std.specs.Prelude.{◌≡◌, ℕ, zero, suc, ◌+◌, ◌*◌, ◌<◌, ◌≤◌, List, [], ◌++◌, length, ◌⊎◌, Bool, true}
 use Rattle.interleaving.specs.Source.{Blocked, Source}
 use Rattle.interleaving.specs.Hardware.{World, Hardware, Lag}
 use Rattle.interleaving.specs.Cycle.{Chain}
 
 -- what the slots of the first n threads have left, all together
-abbrev pub owed : {Value Slot Cores : Type 0} → ℕ → (Slot → ℕ) → World Value Slot Cores → ℕ
-owed zero left w = 0
-owed (suc n) left w = owed n left w + left (w.slots n)
+abbrev pub total_left : {Value Slot Cores : Type 0} → ℕ → (Slot → ℕ) → World Value Slot Cores → ℕ
+total_left zero left w = 0
+total_left (suc n) left w = total_left n left w + left (w.slots n)
 
 -- less is left with each change, and at most B more for each step
 pub record IsTimed {Value Local State Slot Cores : Type 0} (H : Hardware Value Local State Slot Cores) (B : ℕ) (left : Slot → ℕ) : Type 0 where
@@ -31,10 +27,10 @@ module _ {Value Local State Slot Cores : Type 0} (P : Source Value Local State) 
   -- a moment of a run: the hardware lags behind L, which has steps enough for the m cycles that have counted
   pub record Moment (T B : ℕ) (left : Slot → ℕ) (L : List ℕ) (w : World Value Slot Cores) (m : ℕ) : Type 0 where
     pub lag : Lag P H L w
-    pub paid : IsStuck P lag.state ⊎ (m + owed T left w ≤ B * (length L + T))
+    pub paid : IsStuck P lag.state ⊎ (m + total_left T left w ≤ B * (length L + T))
 
   -- PROGRESS BY A COUNT: along a chain the lag is kept, and each move is paid for: by what was left, or by a step, which is worth B moves
   abbrev pub PaysForMoves : ℕ → ℕ → (Slot → ℕ) → Type 0
   PaysForMoves T B left =
       (is L : List ℕ) (w v : World Value Slot Cores) → Lag P H L w → Chain P H T is w v →
-      (added : List ℕ) × Lag P H (L ++ added) v × (length is + owed T left v ≤ owed T left w + B * length added)
+      (added : List ℕ) × Lag P H (L ++ added) v × (length is + total_left T left v ≤ total_left T left w + B * length added)

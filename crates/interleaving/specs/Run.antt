@@ -8,9 +8,9 @@ module _ {Machine Choice : Type 0} (cycle : Machine → Choice → Machine) wher
   machine_after h (c ∷ C) = machine_after (cycle h c) C
 
   -- how many of these choices count
-  abbrev pub counted : (Machine → Choice → Bool) → Machine → List Choice → ℕ
-  counted counts h [] = 0
-  counted counts h (c ∷ C) = (if counts h c then 1 else 0) + counted counts (cycle h c) C
+  abbrev pub counted_choices : (Machine → Choice → Bool) → Machine → List Choice → ℕ
+  counted_choices counts h [] = 0
+  counted_choices counts h (c ∷ C) = (if counts h c then 1 else 0) + counted_choices counts (cycle h c) C
 
 module _ {Machine Choice : Type 0} (cycle : Machine → Choice → Machine) (counts : Machine → Choice → Bool) (still : Machine → Choice → Type 0) (R : List ℕ → Machine → ℕ → Type 0) where
   -- there is one list of thread numbers of which each moment of the run has a beginning that R relates to it and to the cycles that have counted;
@@ -20,7 +20,7 @@ module _ {Machine Choice : Type 0} (cycle : Machine → Choice → Machine) (cou
     pub taken : ℕ → ℕ
     pub rises : (n : ℕ) → taken n ≤ taken (suc n)
     pub rests : (n : ℕ) (c : Choice) → slice_get C n ≡ Some c → still (machine_after cycle h (take n C)) c → taken (suc n) ≡ taken n
-    pub each : (n : ℕ) → n ≤ length C → R (take (taken n) interleaving) (machine_after cycle h (take n C)) (counted cycle counts h (take n C))
+    pub each : (n : ℕ) → n ≤ length C → R (take (taken n) interleaving) (machine_after cycle h (take n C)) (counted_choices cycle counts h (take n C))
 
   -- each cycle keeps R and appends some steps to the interleaving, none where it leaves all still
   abbrev pub EachCycleKeeps : Type 0

@@ -80,7 +80,7 @@ pub trait Refined {
 }
 
 /// The lag: in a good program a turn or an act of one thread keeps the hardware where an interleaving leads,
-/// but for what the blocks in flight have done so far.
+/// but for what the blocks in flight have done so far; and nothing that one of these blocks writes is touched by another.
 pub fn keeps_lag<R: Refined>()
     ensures { LagIsKept R.refinement }
 {}
