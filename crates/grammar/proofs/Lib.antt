@@ -1,0 +1,5 @@
+pub mod Lists
+pub mod Good
+pub mod Both
+pub mod Parts
+pub mod Choice
