@@ -14,7 +14,7 @@ module _ {T : Type 0} where
       (fits : (room : ℕ) (ts : List T) (x : A × List T) → length ts < n → p room ts ≡ Ok x → length x.1 < m)
       (First : T → Bool) (Last : B → T → Bool)
       (first_in : (t : T) → first t ≡ true → First t ≡ true) (second_in : (a : A) (t : T) → null ≡ true → first' a t ≡ true → First t ≡ true)
-      (first_of : ((d : ℕ) → D d) → (at : ℕ) (t : T) → First t ≡ true → (first t ≡ true) ⊎ ((a : A) × Spelled P at [] a × (first' a t ≡ true)))
+      (first_of : 0 < n → (at : ℕ) (t : T) → First t ≡ true → (first t ≡ true) ⊎ ((a : A) × Spelled P at [] a × (first' a t ≡ true) × (0 < m)))
       (last_in : (b : B) (t : T) → last' b t ≡ true → Last b t ≡ true)
       (early_in : (a : A) (depth at : ℕ) (b : B) (t : T) → null' ≡ true → Q a depth at [] b → last a t ≡ true → Last b t ≡ true) where
     abbrev Joined : Family T B
@@ -26,6 +26,12 @@ module _ {T : Type 0} where
     both_begins depth at dd t w (x ∷ front) back a v e h k =
         let same : x ≡ t = cc in
         first_in t.0 (subst (λ y. first y.0 ≡ true) same (before.begins depth at dd x front a h))
+
+    both_above : (depth at : ℕ) → D depth → (t : Placed T) (w front back : List (Placed T)) (a : A) (v : B) → t ∷ w ≡ front ++ back → P depth at front a → Q a depth at back v → at ≤ t.1
+    both_above depth at dd t w [] back a v e h k = (after a).above depth at dd t w v (subst (λ l. Q a depth at l v) (sym e) k)
+    both_above depth at dd t w (x ∷ front) back a v e h k =
+        let same : x ≡ t = cc in
+        subst (λ y. at ≤ y.1) same (before.above depth at dd x front a h)
 
     both_empty : (depth at : ℕ) → D depth → (front back : List (Placed T)) (a : A) (v : B) → [] ≡ front ++ back → P depth at front a → Q a depth at back v → (null && null') ≡ true
     both_empty depth at dd [] back a v e h k = and_both null null' (before.empty depth at dd a h) ((after a).empty depth at dd v (subst (λ l. Q a depth at l v) (sym e) k))
@@ -191,21 +197,23 @@ module _ {T : Type 0} where
             (λ t z e. agrees-sym h'.2 (t ∷ (z ++ h.2)) (longer_front depth' depth at h'.1 h.1 h'.2 h.2 z t h'.0 h.0 v' size h'.4 h'.5 h.4 e)) in
         subst (λ l. Agrees l w') (sym h.3) (subst (λ l. Agrees (h.1 ++ h.2) l) (sym h'.3) all)
 
-    both_begun : ((d : ℕ) → D d) → (at : ℕ) (t : T) → (first t ≡ true) ⊎ ((a : A) × Spelled P at [] a × (first' a t ≡ true)) → Begun Joined at t
-    both_begun all at t (inl h) =
-        let k = before.begun all at t h in
+    both_begun : 0 < n → (at : ℕ) (t : T) → (first t ≡ true) ⊎ ((a : A) × Spelled P at [] a × (first' a t ≡ true) × (0 < m)) → Begun Joined at t
+    both_begun lt at t (inl h) =
+        let all = before.whole lt in
+        let k = before.begun lt at t h in
         let some = (after k.2).inhabited all at in
         (k.0, k.1 ++ some.0, some.1, k.3, spells_on all at ((t, k.0) ∷ k.1) some.0 k.2 some.1 k.4 some.2)
-    both_begun all at t (inr h) =
-        let k = (after h.0).begun all at t h.2 in
-        (k.0, k.1, k.2, k.3, spells_on all at [] ((t, k.0) ∷ k.1) h.0 k.2 h.1 k.4)
+    both_begun lt at t (inr h) =
+        let k = (after h.0).begun h.3 at t h.2 in
+        (k.0, k.1, k.2, k.3, spells_on (before.whole lt) at [] ((t, k.0) ∷ k.1) h.0 k.2 h.1 k.4)
 
     pub both_in : Reads D n Joined (λ room. reads_both (p room) (λ a. q a room)) First Last (null && null')
     both_in = record {
       whole = before.whole;
       deeper = λ depth at dd w v h. (h.0, h.1, h.2, h.3, before.deeper depth at dd h.1 h.0 h.4, (after h.0).deeper depth at dd h.2 v h.5);
       begins = λ depth at dd t w v h. both_begins depth at dd t w h.1 h.2 h.0 v h.3 h.4 h.5;
-      begun = λ all at t h. both_begun all at t (first_of all at t h);
+      above = λ depth at dd t w v h. both_above depth at dd t w h.1 h.2 h.0 v h.3 h.4 h.5;
+      begun = λ lt at t h. both_begun lt at t (first_of lt at t h);
       empty = λ depth at dd v h. both_empty depth at dd h.1 h.2 h.0 v h.3 h.4 h.5;
       nothing = λ all at h.
           let parts = and_parts null null' h in

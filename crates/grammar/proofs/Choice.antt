@@ -25,8 +25,8 @@ module _ {T : Type 0} where
   module _ {D : ℕ → Type 0} {A : Type 0} {n : ℕ} {P Q : Family T A} {p q : ℕ → Reader T A} {first first' : T → Bool} {last last' : A → T → Bool} {null null' : Bool}
       (left : Reads D n P p first last null) (right : Reads D n Q q first' last' null') (test : List T → Bool)
       (Last : A → T → Bool) (left_in : (v : A) (t : T) → last v t ≡ true → Last v t ≡ true) (right_in : (v : A) (t : T) → last' v t ≡ true → Last v t ≡ true)
-      (goes_left : ((d : ℕ) → D d) → (at : ℕ) (x : List T) (t : T) (rest : List T) → test (x ++ (t ∷ rest)) ≡ true → (depth : ℕ) (w : List (Placed T)) (more : List T) (v : A) → plain w ≡ x ++ (t ∷ more) → Q depth at w v → StartsPlain P at (x ++ (t ∷ [])))
-      (goes_right : ((d : ℕ) → D d) → (at : ℕ) (x : List T) (t : T) (rest : List T) → test (x ++ (t ∷ rest)) ≡ false → (depth : ℕ) (w : List (Placed T)) (more : List T) (v : A) → plain w ≡ x ++ (t ∷ more) → P depth at w v → StartsPlain Q at (x ++ (t ∷ [])))
+      (goes_left : 0 < n → (at : ℕ) (x : List T) (t : T) (rest : List T) → test (x ++ (t ∷ rest)) ≡ true → (depth : ℕ) (w : List (Placed T)) (more : List T) (v : A) → plain w ≡ x ++ (t ∷ more) → Q depth at w v → StartsPlain P at (x ++ (t ∷ [])))
+      (goes_right : 0 < n → (at : ℕ) (x : List T) (t : T) (rest : List T) → test (x ++ (t ∷ rest)) ≡ false → (depth : ℕ) (w : List (Placed T)) (more : List T) (v : A) → plain w ≡ x ++ (t ∷ more) → P depth at w v → StartsPlain Q at (x ++ (t ∷ [])))
       (left_seen : ((d : ℕ) → D d) → (depth at : ℕ) (w : List (Placed T)) (rest : List T) (v : A) → P depth at w v → Avoids (Last v) rest → test (plain w ++ rest) ≡ true)
       (right_seen : ((d : ℕ) → D d) → (depth at : ℕ) (w : List (Placed T)) (rest : List T) (v : A) → Q depth at w v → Avoids (Last v) rest → test (plain w ++ rest) ≡ false)
       (agree : ((d : ℕ) → D d) → (depth depth' at : ℕ) (w w' : List (Placed T)) (v v' : A) → P depth at w v → Q depth' at w' v' → Agrees w w') where
@@ -36,38 +36,38 @@ module _ {T : Type 0} where
     reach : (x : List T) (t : T) (w : List (Placed T)) (more : List T) → plain w ≡ (x ++ (t ∷ [])) ++ more → plain w ≡ x ++ (t ∷ more)
     reach x t w more e = e ∙ append_assoc x (t ∷ []) more
 
-    left_dead : ((d : ℕ) → D d) → (at : ℕ) (ts done rest : List T) → test ts ≡ true → ts ≡ done ++ rest → Dead P at done rest → Dead Either at done rest
-    left_dead all at ts done [] e cut dead = tt
-    left_dead all at ts done (t ∷ rest) e cut dead = λ depth w more v s h.
+    left_dead : 0 < n → (at : ℕ) (ts done rest : List T) → test ts ≡ true → ts ≡ done ++ rest → Dead P at done rest → Dead Either at done rest
+    left_dead lt at ts done [] e cut dead = tt
+    left_dead lt at ts done (t ∷ rest) e cut dead = λ depth w more v s h.
         ⊎_elim
         (λ hp. dead depth w more v s hp)
-        (λ hq. let k = goes_left all at done t rest (ap test (sym cut) ∙ e) depth w more v s hq in dead k.0 k.1 k.2 k.3 (reach done t k.1 k.2 k.4) k.5)
+        (λ hq. let k = goes_left lt at done t rest (ap test (sym cut) ∙ e) depth w more v s hq in dead k.0 k.1 k.2 k.3 (reach done t k.1 k.2 k.4) k.5)
         h
 
-    right_dead : ((d : ℕ) → D d) → (at : ℕ) (ts done rest : List T) → test ts ≡ false → ts ≡ done ++ rest → Dead Q at done rest → Dead Either at done rest
-    right_dead all at ts done [] e cut dead = tt
-    right_dead all at ts done (t ∷ rest) e cut dead = λ depth w more v s h.
+    right_dead : 0 < n → (at : ℕ) (ts done rest : List T) → test ts ≡ false → ts ≡ done ++ rest → Dead Q at done rest → Dead Either at done rest
+    right_dead lt at ts done [] e cut dead = tt
+    right_dead lt at ts done (t ∷ rest) e cut dead = λ depth w more v s h.
         ⊎_elim
-        (λ hp. let k = goes_right all at done t rest (ap test (sym cut) ∙ e) depth w more v s hp in dead k.0 k.1 k.2 k.3 (reach done t k.1 k.2 k.4) k.5)
+        (λ hp. let k = goes_right lt at done t rest (ap test (sym cut) ∙ e) depth w more v s hp in dead k.0 k.1 k.2 k.3 (reach done t k.1 k.2 k.4) k.5)
         (λ hq. dead depth w more v s hq)
         h
 
-    left_answers : ((d : ℕ) → D d) → (at limit : ℕ) (ts : List T) → test ts ≡ true → (r : Reading T A) → Answers P at limit ts r → Answers Either at limit ts r
-    left_answers all at limit ts e (Ok x) k = (k.0, k.1, (k.2.0, inl k.2.1), k.3, left_dead all at ts (plain k.0) x.1 e k.1 k.4)
-    left_answers all at limit ts e (Err (Syntax rest)) k = (k.0, k.1, (k.2.0, k.2.1, (k.2.2.0, inl k.2.2.1)), k.3, left_dead all at ts (plain k.0) rest e k.1 k.4)
-    left_answers all at limit ts e (Err (Deep rest)) k = (k.0, k.1, k.2, k.3, k.4, k.5, (k.6.0, k.6.1, (k.6.2.0, inl k.6.2.1)), k.7, k.8)
+    left_answers : 0 < n → (at limit : ℕ) (ts : List T) → test ts ≡ true → (r : Reading T A) → Answers P at limit ts r → Answers Either at limit ts r
+    left_answers lt at limit ts e (Ok x) k = (k.0, k.1, (k.2.0, inl k.2.1), k.3, left_dead lt at ts (plain k.0) x.1 e k.1 k.4)
+    left_answers lt at limit ts e (Err (Syntax rest)) k = (k.0, k.1, (k.2.0, k.2.1, (k.2.2.0, inl k.2.2.1)), k.3, left_dead lt at ts (plain k.0) rest e k.1 k.4)
+    left_answers lt at limit ts e (Err (Deep rest)) k = (k.0, k.1, k.2, k.3, k.4, k.5, (k.6.0, k.6.1, (k.6.2.0, inl k.6.2.1)), k.7, k.8)
 
-    right_answers : ((d : ℕ) → D d) → (at limit : ℕ) (ts : List T) → test ts ≡ false → (r : Reading T A) → Answers Q at limit ts r → Answers Either at limit ts r
-    right_answers all at limit ts e (Ok x) k = (k.0, k.1, (k.2.0, inr k.2.1), k.3, right_dead all at ts (plain k.0) x.1 e k.1 k.4)
-    right_answers all at limit ts e (Err (Syntax rest)) k = (k.0, k.1, (k.2.0, k.2.1, (k.2.2.0, inr k.2.2.1)), k.3, right_dead all at ts (plain k.0) rest e k.1 k.4)
-    right_answers all at limit ts e (Err (Deep rest)) k = (k.0, k.1, k.2, k.3, k.4, k.5, (k.6.0, k.6.1, (k.6.2.0, inr k.6.2.1)), k.7, k.8)
+    right_answers : 0 < n → (at limit : ℕ) (ts : List T) → test ts ≡ false → (r : Reading T A) → Answers Q at limit ts r → Answers Either at limit ts r
+    right_answers lt at limit ts e (Ok x) k = (k.0, k.1, (k.2.0, inr k.2.1), k.3, right_dead lt at ts (plain k.0) x.1 e k.1 k.4)
+    right_answers lt at limit ts e (Err (Syntax rest)) k = (k.0, k.1, (k.2.0, k.2.1, (k.2.2.0, inr k.2.2.1)), k.3, right_dead lt at ts (plain k.0) rest e k.1 k.4)
+    right_answers lt at limit ts e (Err (Deep rest)) k = (k.0, k.1, k.2, k.3, k.4, k.5, (k.6.0, k.6.1, (k.6.2.0, inr k.6.2.1)), k.7, k.8)
 
     abbrev chosen : Bool → ℕ → Reader T A
     chosen b room ts = if b then p room ts else q room ts
 
     when_sound : (at room : ℕ) (ts : List T) → length ts < n → (b : Bool) → test ts ≡ b → Answers Either at (at + room) ts (chosen b room ts)
-    when_sound at room ts lt true e = left_answers (left.whole (omega arith)) at (at + room) ts e (p room ts) (left.sound at room ts lt)
-    when_sound at room ts lt false e = right_answers (left.whole (omega arith)) at (at + room) ts e (q room ts) (right.sound at room ts lt)
+    when_sound at room ts lt true e = left_answers (omega arith) at (at + room) ts e (p room ts) (left.sound at room ts lt)
+    when_sound at room ts lt false e = right_answers (omega arith) at (at + room) ts e (q room ts) (right.sound at room ts lt)
 
     when_stable : (room : ℕ) (ts : List T) → length ts < n → (b : Bool) → Calm (chosen b room ts) → chosen b (suc room) ts ≡ chosen b room ts
     when_stable room ts lt true calm = left.stable room ts lt calm
@@ -85,9 +85,10 @@ module _ {T : Type 0} where
       whole = left.whole;
       deeper = λ depth at dd w v h. ⊎_elim (λ hp. inl (left.deeper depth at dd w v hp)) (λ hq. inr (right.deeper depth at dd w v hq)) h;
       begins = λ depth at dd t w v h. ⊎_elim (λ hp. or_left (first t.0) (first' t.0) (left.begins depth at dd t w v hp)) (λ hq. or_right (first t.0) (first' t.0) (right.begins depth at dd t w v hq)) h;
-      begun = λ all at t h. or_cases (first t) (first' t) h
-          (λ e. let k = left.begun all at t e in (k.0, k.1, k.2, k.3, (k.4.0, inl k.4.1)))
-          (λ e. let k = right.begun all at t e in (k.0, k.1, k.2, k.3, (k.4.0, inr k.4.1)));
+      above = λ depth at dd t w v h. ⊎_elim (λ hp. left.above depth at dd t w v hp) (λ hq. right.above depth at dd t w v hq) h;
+      begun = λ lt at t h. or_cases (first t) (first' t) h
+          (λ e. let k = left.begun lt at t e in (k.0, k.1, k.2, k.3, (k.4.0, inl k.4.1)))
+          (λ e. let k = right.begun lt at t e in (k.0, k.1, k.2, k.3, (k.4.0, inr k.4.1)));
       empty = λ depth at dd v h. ⊎_elim (λ hp. or_left null null' (left.empty depth at dd v hp)) (λ hq. or_right null null' (right.empty depth at dd v hq)) h;
       nothing = λ all at h. or_cases null null' h
           (λ e. let k = left.nothing all at e in (k.0, (k.1.0, inl k.1.1)))
@@ -146,8 +147,8 @@ module _ {T : Type 0} where
     pub either_in : Reads D n (P <∘> Q) (λ room. reads_either first (p room) (q room)) (λ t. first t || first' t) Last null'
     either_in =
         when_in left right (sees first) Last left_in right_in
-        (λ all at x t rest seen depth w more v e h. absurd (apart (head x t) (sym (sees_head first x t rest) ∙ seen) (begins_head right all depth at x t more w v e h)))
-        (λ all at x t rest seen depth w more v e h. absurd (false_true (first (head x t)) (begins_head left all depth at x t more w v e h) (sym (sees_head first x t rest) ∙ seen)))
+        (λ lt at x t rest seen depth w more v e h. absurd (apart (head x t) (sym (sees_head first x t rest) ∙ seen) (begins_head right (left.whole lt) depth at x t more w v e h)))
+        (λ lt at x t rest seen depth w more v e h. absurd (false_true (first (head x t)) (begins_head left (left.whole lt) depth at x t more w v e h) (sym (sees_head first x t rest) ∙ seen)))
         (λ all depth at w rest v h av. sees_left all depth at w rest v h)
         sees_right token_agree
 
@@ -237,21 +238,21 @@ module _ {T : Type 0} where
       (heads : ((d : ℕ) → D d) → (depth at : ℕ) (w : List (Placed T)) (v : A) → P depth at w v → (sees_all fs (plain w) ≡ true) × Level fs (at + k) w)
       (others : ((d : ℕ) → D d) → (depth at : ℕ) (w : List (Placed T)) (rest : List T) (v : A) → Q depth at w v → Avoids (Last v) rest → sees_all fs (plain w ++ rest) ≡ false)
       (levels : ((d : ℕ) → D d) → (depth at : ℕ) (w : List (Placed T)) (v : A) → Q depth at w v → Level fs (at + k) w)
-      (left_common : ((d : ℕ) → D d) → (at : ℕ) (x : List T) → partly fs x ≡ true → StartsPlain P at x)
-      (right_common : ((d : ℕ) → D d) → (at : ℕ) (x : List T) → partly fs x ≡ true → StartsPlain Q at x) where
+      (left_common : 0 < n → (at : ℕ) (x : List T) → partly fs x ≡ true → StartsPlain P at x)
+      (right_common : 0 < n → (at : ℕ) (x : List T) → partly fs x ≡ true → StartsPlain Q at x) where
     never : ((d : ℕ) → D d) → (depth at : ℕ) (w : List (Placed T)) (v : A) → Q depth at w v → sees_all fs (plain w) ≡ false
     never all depth at w v h = ap (sees_all fs) (sym (append_nil (plain w))) ∙ others all depth at w [] v h tt
 
     pub ahead_in : Reads D n (P <∘> Q) (λ room. reads_when (sees_all fs) (p room) (q room)) (λ t. first t || first' t) Last (null || null')
     ahead_in =
         when_in left right (sees_all fs) Last left_in right_in
-        (λ all at x t rest seen depth w more v e h.
-            ⊎_elim (λ yes. left_common all at (x ++ (t ∷ [])) yes)
-            (λ no. absurd (false_true (sees_all fs (plain w)) (ap (sees_all fs) e ∙ sees_within fs x t rest more seen no) (never all depth at w v h)))
+        (λ lt at x t rest seen depth w more v e h.
+            ⊎_elim (λ yes. left_common lt at (x ++ (t ∷ [])) yes)
+            (λ no. absurd (false_true (sees_all fs (plain w)) (ap (sees_all fs) e ∙ sees_within fs x t rest more seen no) (never (left.whole lt) depth at w v h)))
             (true_or_not (partly fs (x ++ (t ∷ [])))))
-        (λ all at x t rest seen depth w more v e h.
-            ⊎_elim (λ yes. right_common all at (x ++ (t ∷ [])) yes)
-            (λ no. absurd (false_true (sees_all fs (x ++ (t ∷ rest))) (sees_within fs x t more rest (ap (sees_all fs) (sym e) ∙ (heads all depth at w v h).0) no) seen))
+        (λ lt at x t rest seen depth w more v e h.
+            ⊎_elim (λ yes. right_common lt at (x ++ (t ∷ [])) yes)
+            (λ no. absurd (false_true (sees_all fs (x ++ (t ∷ rest))) (sees_within fs x t more rest (ap (sees_all fs) (sym e) ∙ (heads (left.whole lt) depth at w v h).0) no) seen))
             (true_or_not (partly fs (x ++ (t ∷ [])))))
         (λ all depth at w rest v h av. sees_all-append fs (plain w) rest (heads all depth at w v h).0)
         others
@@ -265,12 +266,12 @@ module _ {T : Type 0} where
       (others : ((d : ℕ) → D d) → (depth at : ℕ) (w : List (Placed T)) (rest : List T) (v : A) → Q depth at w v → Avoids (Last v) rest → sees_all (f ∷ g ∷ []) (plain w ++ rest) ≡ false)
       (levels : ((d : ℕ) → D d) → (depth at : ℕ) (w : List (Placed T)) (v : A) → Q depth at w v → Level (f ∷ g ∷ []) (at + k) w)
       (left_first : (t : T) → f t ≡ true → first t ≡ true) (right_first : (t : T) → f t ≡ true → first' t ≡ true) where
-    common_of : {R : Family T A} {r : ℕ → Reader T A} {begins : T → Bool} {ends : A → T → Bool} {z : Bool} → Reads D n R r begins ends z → ((t : T) → f t ≡ true → begins t ≡ true) → ((d : ℕ) → D d) → (at : ℕ) (x : List T) → partly (f ∷ g ∷ []) x ≡ true → StartsPlain R at x
-    common_of good within all at [] e = let some = good.inhabited all at in (some.2.0, some.0, plain some.0, some.1, refl, some.2.1)
-    common_of good within all at (t ∷ []) e =
-        let some = good.begun all at t (within t (and_parts (f t) true e).0) in
+    common_of : {R : Family T A} {r : ℕ → Reader T A} {begins : T → Bool} {ends : A → T → Bool} {z : Bool} → Reads D n R r begins ends z → ((t : T) → f t ≡ true → begins t ≡ true) → 0 < n → (at : ℕ) (x : List T) → partly (f ∷ g ∷ []) x ≡ true → StartsPlain R at x
+    common_of good within lt at [] e = let some = good.inhabited (good.whole lt) at in (some.2.0, some.0, plain some.0, some.1, refl, some.2.1)
+    common_of good within lt at (t ∷ []) e =
+        let some = good.begun lt at t (within t (and_parts (f t) true e).0) in
         (some.4.0, (t, some.0) ∷ some.1, plain some.1, some.2, refl, some.4.1)
-    common_of good within all at (t ∷ u ∷ x) e =
+    common_of good within lt at (t ∷ u ∷ x) e =
         let parts = and_parts (f t) (g u && false) e in
         let no : false ≡ true = (and_parts (g u) false parts.1).1 in
         absurd (false_true false no refl)

@@ -47,7 +47,8 @@ module _ {T : Type 0} where
     pub whole : 0 < n → (depth : ℕ) → D depth
     pub deeper : (depth at : ℕ) → D depth → (w : List (Placed T)) (v : A) → P depth at w v → P (suc depth) at w v
     pub begins : (depth at : ℕ) → D depth → (t : Placed T) (w : List (Placed T)) (v : A) → P depth at (t ∷ w) v → first t.0 ≡ true
-    pub begun : ((d : ℕ) → D d) → (at : ℕ) (t : T) → first t ≡ true → Begun P at t
+    pub above : (depth at : ℕ) → D depth → (t : Placed T) (w : List (Placed T)) (v : A) → P depth at (t ∷ w) v → at ≤ t.1
+    pub begun : 0 < n → (at : ℕ) (t : T) → first t ≡ true → Begun P at t
     pub empty : (depth at : ℕ) → D depth → (v : A) → P depth at [] v → null ≡ true
     pub nothing : ((d : ℕ) → D d) → (at : ℕ) → null ≡ true → (v : A) × Spelled P at [] v
     pub inhabited : ((d : ℕ) → D d) → (at : ℕ) → (w : List (Placed T)) × (v : A) × Spelled P at w v
@@ -123,7 +124,8 @@ module _ {T : Type 0} where
       whole = λ lt. good.whole (omega arith);
       deeper = good.deeper;
       begins = good.begins;
-      begun = good.begun;
+      above = good.above;
+      begun = λ lt. good.begun (omega arith);
       empty = good.empty;
       nothing = good.nothing;
       inhabited = good.inhabited;

@@ -3,3 +3,5 @@ pub mod Good
 pub mod Both
 pub mod Parts
 pub mod Choice
+pub mod Loops
+pub mod Nested

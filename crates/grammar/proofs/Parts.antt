@@ -31,7 +31,8 @@ module _ {T : Type 0} where
       whole = good.whole;
       deeper = good.deeper;
       begins = λ depth at dd t w v h. sym (f t.0) ∙ good.begins depth at dd t w v h;
-      begun = λ all at t h. good.begun all at t (f t ∙ h);
+      above = good.above;
+      begun = λ lt at t h. good.begun lt at t (f t ∙ h);
       empty = λ depth at dd v h. sym z ∙ good.empty depth at dd v h;
       nothing = λ all at h. good.nothing all at (z ∙ h);
       inhabited = good.inhabited;
@@ -50,7 +51,8 @@ module _ {T : Type 0} where
       whole = whole;
       deeper = λ depth at dd. good.deeper depth at (all depth);
       begins = λ depth at dd. good.begins depth at (all depth);
-      begun = λ all'. good.begun all;
+      above = λ depth at dd. good.above depth at (all depth);
+      begun = good.begun;
       empty = λ depth at dd. good.empty depth at (all depth);
       nothing = λ all'. good.nothing all;
       inhabited = λ all'. good.inhabited all;
@@ -82,7 +84,8 @@ module _ {T : Type 0} where
         whole = good.whole;
         deeper = λ depth at dd w v h. to (suc depth) at w v (good.deeper depth at dd w v (from depth at w v h));
         begins = λ depth at dd t w v h. good.begins depth at dd t w v (from depth at (t ∷ w) v h);
-        begun = λ all at t h. let k = good.begun all at t h in (k.0, k.1, k.2, k.3, spelled_same at ((t, k.0) ∷ k.1) k.2 k.4);
+        above = λ depth at dd t w v h. good.above depth at dd t w v (from depth at (t ∷ w) v h);
+        begun = λ lt at t h. let k = good.begun lt at t h in (k.0, k.1, k.2, k.3, spelled_same at ((t, k.0) ∷ k.1) k.2 k.4);
         empty = λ depth at dd v h. good.empty depth at dd v (from depth at [] v h);
         nothing = λ all at h. let k = good.nothing all at h in (k.0, spelled_same at [] k.0 k.1);
         inhabited = λ all at. let k = good.inhabited all at in (k.0, k.1, spelled_same at k.0 k.1 k.2);
@@ -98,6 +101,7 @@ module _ {T : Type 0} where
       whole = good.whole;
       deeper = good.deeper;
       begins = good.begins;
+      above = good.above;
       begun = good.begun;
       empty = good.empty;
       nothing = good.nothing;
@@ -141,7 +145,8 @@ module _ {T : Type 0} where
     whole = whole;
     deeper = λ depth at dd w v h. h;
     begins = λ depth at dd t w v h. cc (h.0);
-    begun = λ all at t h. cc;
+    above = λ depth at dd t w v h. cc (h.0);
+    begun = λ lt at t h. cc;
     empty = λ depth at dd v h. refl;
     nothing = λ all at h. (a, (0, (refl, refl)));
     inhabited = λ all at. ([], a, (0, (refl, refl)));
@@ -173,6 +178,13 @@ module _ {T : Type 0} where
         let same : t ≡ here = cc in
         ap (λ x. gives (f x.0)) same ∙ ap gives g
 
+    one_above : (t : Placed T) (w : List (Placed T)) (at : ℕ) (u : T) → t ∷ w ≡ (u, at) ∷ [] → at ≤ t.1
+    one_above t w at u e =
+        let here : Placed T = (u, at) in
+        let same : here ≡ t = cc in
+        let low : at ≤ at = omega arith in
+        subst (λ x. at ≤ x.1) same low
+
     one_sound : (at limit : ℕ) → at ≤ limit → (t : T) (rest : List T) → Starts Token at [] → (o : Option A) → f t ≡ o → Answers Token at limit (t ∷ rest) (taken t rest o)
     one_sound at limit low t rest some (Some a) e = ((t, at) ∷ [], refl, (0, (t, refl, e)), (low, tt), one_dead at t rest)
     one_sound at limit low t rest some None e =
@@ -200,7 +212,8 @@ module _ {T : Type 0} where
       whole = whole;
       deeper = λ depth at dd w v h. h;
       begins = λ depth at dd s w v h. one_begins s s w at h.0 v h.1 h.2;
-      begun = λ all at s h. one_begun at s (f s) refl h;
+      above = λ depth at dd s w v h. one_above s w at h.0 h.1;
+      begun = λ lt at s h. one_begun at s (f s) refl h;
       empty = λ depth at dd v h. cc (h.1);
       nothing = λ all at h. cc;
       inhabited = λ all at. ((t, at) ∷ [], a, (0, (t, refl, e)));
@@ -222,21 +235,21 @@ module _ {T : Type 0} where
         → ((a : A) (depth at : ℕ) (b : B) (t : T) → null' ≡ true → Q a depth at [] b → last a t ≡ true → Last b t ≡ true)
         → Reads D n (P ∘> Q) (λ room. reads_both (p room) (λ a. q a room)) first Last false
     some_then Last last_in early_in =
-        both_in before after apart (shorter before refl m le) first Last (λ t e. e) (λ a t z e. cc) (λ all at t e. inl e) last_in early_in
+        both_in before after apart (shorter before refl m le) first Last (λ t e. e) (λ a t z e. cc) (λ lt at t e. inl e) last_in early_in
 
   module _ {D : ℕ → Type 0} {A B : Type 0} {n : ℕ} {P : Family T A} {Q : A → Family T B} {p : ℕ → Reader T A} {q : A → ℕ → Reader T B} {first : T → Bool} {last : A → T → Bool} {first' : A → T → Bool} {last' : B → T → Bool}
       (before : Reads D n P p first last false) (after : (a : A) → Reads D n (Q a) (q a) (first' a) last' false)
       (apart : (a : A) (t : T) → last a t ≡ true → first' a t ≡ true → ⊥) where
     -- two rules that are never empty
     pub in_turn : Reads D n (P ∘> Q) (λ room. reads_both (p room) (λ a. q a room)) first last' false
-    in_turn = both_in before after apart (no_longer before) first last' (λ t e. e) (λ a t z e. cc) (λ all at t e. inl e) (λ b t e. e) (λ a depth at b t z h e. cc)
+    in_turn = both_in before after apart (no_longer before) first last' (λ t e. e) (λ a t z e. cc) (λ lt at t e. inl e) (λ b t e. e) (λ a depth at b t z h e. cc)
 
   module _ {D : ℕ → Type 0} {A B : Type 0} {n : ℕ} {P : Family T A} {Q : A → Family T B} {p : ℕ → Reader T A} {q : A → ℕ → Reader T B} {first : T → Bool} {last : A → T → Bool} {first' : T → Bool} {last' : B → T → Bool} {null null' : Bool}
       (before : Reads D n P p first last null) (after : (a : A) → Reads D n (Q a) (q a) first' last' null')
       (apart : (a : A) (t : T) → last a t ≡ true → first' t ≡ true → ⊥) where
-    begins_with : ((d : ℕ) → D d) → (at : ℕ) (t : T) → (first t || if_so null first' t) ≡ true → (first t ≡ true) ⊎ ((a : A) × Spelled P at [] a × (first' t ≡ true))
-    begins_with all at t e =
-        or_cases (first t) (if_so null first' t) e (λ h. inl h) (λ h. let parts = and_parts null (first' t) h in let a = before.nothing all at parts.0 in inr (a.0, a.1, parts.1))
+    begins_with : 0 < n → (at : ℕ) (t : T) → (first t || if_so null first' t) ≡ true → (first t ≡ true) ⊎ ((a : A) × Spelled P at [] a × (first' t ≡ true) × (0 < n))
+    begins_with lt at t e =
+        or_cases (first t) (if_so null first' t) e (λ h. inl h) (λ h. let parts = and_parts null (first' t) h in let a = before.nothing (before.whole lt) at parts.0 in inr (a.0, a.1, parts.1, lt))
 
     -- any two rules
     pub both : (Last : B → T → Bool) → ((b : B) (t : T) → last' b t ≡ true → Last b t ≡ true)
