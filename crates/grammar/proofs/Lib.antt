@@ -5,3 +5,5 @@ pub mod Parts
 pub mod Choice
 pub mod Loops
 pub mod Nested
+pub mod Whole
+pub mod Exact
