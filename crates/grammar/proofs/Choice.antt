@@ -1,12 +1,12 @@
 -- One rule or the other, by the tokens ahead.
 use Rattle.std.proofs.Common.{◌≡◌, ℕ, zero, suc, ◌+◌, ◌<◌, ◌≤◌, List, [], ◌∷◌, ◌++◌, length, Option, Some, None, Bool, true, false, refl, sym, ap, ◌∙◌, subst, ◌⊎◌, inl, inr, ⊎_elim, append_assoc, length-append, arith}
 use Rattle.std.specs.Prelude.{Result, Ok, Err, if◌then◌else◌, ◌||◌, ◌&&◌, not}
-use Rattle.grammar.specs.Rules.{Placed, Rule, Family, pure, one, ◌>>=◌, ◌<|>◌}
+use Rattle.grammar.specs.Rules.{Placed, Rule, Family, pure, one, ◌>>=◌, ◌<|>◌, optional}
 use Rattle.grammar.specs.Sentences.{plain, Within, Spelled, Starts}
-use Rattle.grammar.specs.Readers.{Stop, Syntax, Deep, Reading, Reader, sees, sees_all, reads_when, reads_either}
+use Rattle.grammar.specs.Readers.{Stop, Syntax, Deep, Reading, Reader, sees, sees_all, reads_pure, reads_when, reads_either, reads_optional}
 use Rattle.grammar.proofs.Lists.{false_true, or_left, or_right, or_cases, and_both, and_parts, true_or_not, not_true, append_nil, plain-append, Agrees, agrees-sym}
 use Rattle.grammar.proofs.Good.{Reads, Answers, Dead, Avoids, Calm, Begun, ◌∘>◌, avoids_wider}
-use Rattle.grammar.proofs.Parts.{if_so, gives}
+use Rattle.grammar.proofs.Parts.{if_so, gives, or_nothing, resize, same_rule, reads_nothing, ends}
 
 not_not : (b : Bool) → not b ≡ true → b ≡ true → ⊥
 not_not true e h = cc
@@ -258,13 +258,72 @@ module _ {T : Type 0} where
         others
         (λ all depth depth' at w w' v v' h h'. level_agree fs (at + k) w w' (heads all depth at w v h).0 (λ s. false_true (sees_all fs (plain w')) s (never all depth' at w' v' h')) (heads all depth at w v h).1 (levels all depth' at w' v' h'))
 
-  -- by two tokens: what is common is the first
+  -- ---- how sentences start
+
+  -- the tokens start with tokens of the sets, one of each, of this nesting
+  abbrev pub StartsBy : List (T → Bool) → ℕ → List (Placed T) → Type 0
+  StartsBy fs m w = (sees_all fs (plain w) ≡ true) × Level fs m w
+
+  -- the tokens do not, but up to the first that is not of its set they have this nesting
+  abbrev pub DepartsBy : List (T → Bool) → ℕ → List (Placed T) → Type 0
+  DepartsBy fs m w = (departs fs (plain w) ≡ true) × Level fs m w
+
+  level_on : (fs : List (T → Bool)) (m : ℕ) (x y : List (Placed T)) → sees_all fs (plain x) ≡ true → Level fs m x → Level fs m (x ++ y)
+  level_on [] m x y e h = tt
+  level_on (f ∷ fs) m [] y e h = cc
+  level_on (f ∷ fs) m (t ∷ x) y e h = λ yes. let k = h yes in (k.0, level_on fs m x y (and_parts (f t.0) (sees_all fs (plain x)) e).1 k.1)
+
+  pub starts-append : (fs : List (T → Bool)) (m : ℕ) (x y : List (Placed T)) → StartsBy fs m x → StartsBy fs m (x ++ y)
+  starts-append fs m x y h = (ap (sees_all fs) (plain-append x y) ∙ sees_all-append fs (plain x) (plain y) h.0, level_on fs m x y h.0 h.1)
+
+  pub departs_by-append : (fs : List (T → Bool)) (m : ℕ) (x y : List (Placed T)) → DepartsBy fs m x → DepartsBy fs m (x ++ y)
+  departs_by-append fs m x y h = (ap (departs fs) (plain-append x y) ∙ departs-append fs (plain x) (plain y) h.0, level-append fs m x y h.0 h.1)
+
+  -- a rule after a rule starts as the first does
+  pub starts_both : {A B : Type 0} (P : Rule T A) (Q : A → Rule T B) (fs : List (T → Bool)) (at m : ℕ) (w : List (Placed T)) (v : B) (h : (P >>= Q) at w v) → StartsBy fs m h.1 → StartsBy fs m w
+  starts_both P Q fs at m w v h k = subst (StartsBy fs m) (sym h.3) (starts-append fs m h.1 h.2 k)
+
+  pub departs_both : {A B : Type 0} (P : Rule T A) (Q : A → Rule T B) (fs : List (T → Bool)) (at m : ℕ) (w : List (Placed T)) (v : B) (h : (P >>= Q) at w v) → DepartsBy fs m h.1 → DepartsBy fs m w
+  departs_both P Q fs at m w v h k = subst (DepartsBy fs m) (sym h.3) (departs_by-append fs m h.1 h.2 k)
+
+  -- one token, and what follows it
+  pub one_starts : {A B : Type 0} (f : T → Option A) (Q : A → Rule T B) (set : T → Bool) (fs : List (T → Bool)) (at m : ℕ) (w : List (Placed T)) (v : B) → ((t : T) → gives (f t) ≡ set t) → at ≡ m
+      → (h : (one f >>= Q) at w v) → StartsBy fs m h.2 → StartsBy (set ∷ fs) m w
+  one_starts f Q set fs at m w v exactly same h more =
+      let whole : w ≡ (h.4.0, at) ∷ h.2 = h.3 ∙ ap (λ l. l ++ h.2) h.4.1 in
+      let seen : set h.4.0 ≡ true = sym (exactly h.4.0) ∙ ap gives h.4.2 in
+      subst (StartsBy (set ∷ fs) m) (sym whole) (and_both (set h.4.0) (sees_all fs (plain h.2)) seen more.0, (λ e. (same, more.1)))
+
+  pub one_departs : {A B : Type 0} (f : T → Option A) (Q : A → Rule T B) (set : T → Bool) (fs : List (T → Bool)) (at m : ℕ) (w : List (Placed T)) (v : B) → at ≡ m
+      → (h : (one f >>= Q) at w v) → DepartsBy fs m h.2 → DepartsBy (set ∷ fs) m w
+  one_departs f Q set fs at m w v same h more =
+      let whole : w ≡ (h.4.0, at) ∷ h.2 = h.3 ∙ ap (λ l. l ++ h.2) h.4.1 in
+      subst (DepartsBy (set ∷ fs) m) (sym whole) (or_right (not (set h.4.0)) (departs fs (plain h.2)) more.0, (λ e. (same, more.1)))
+
+  pub first_departs : (f : T → Bool) (fs : List (T → Bool)) (m : ℕ) (t : Placed T) (w : List (Placed T)) → f t.0 ≡ false → DepartsBy (f ∷ fs) m (t ∷ w)
+  first_departs f fs m t w out = (or_left (not (f t.0)) (departs fs (plain w)) (not_of (f t.0) out), λ e. absurd (false_true (f t.0) e out)) where
+    not_of : (b : Bool) → b ≡ false → not b ≡ true
+    not_of true e = cc
+    not_of false e = refl
+
+  module _ {D : ℕ → Type 0} {A : Type 0} {n : ℕ} {P : Family T A} {p : ℕ → Reader T A} {first : T → Bool} {last : A → T → Bool} (good : Reads D n P p first last false) where
+    -- a rule none of whose first tokens is of the set
+    pub begins_departs : (f : T → Bool) (fs : List (T → Bool)) → ((t : T) → first t ≡ true → f t ≡ true → ⊥) → (depth at m : ℕ) → D depth → (w : List (Placed T)) (v : A) → P depth at w v → DepartsBy (f ∷ fs) m w
+    begins_departs f fs apart depth at m dd [] v h = absurd (false_true false (good.empty depth at dd v h) refl)
+    begins_departs f fs apart depth at m dd (t ∷ w) v h = first_departs f fs m t w (not_true (f t.0) (λ yes. apart t.0 (good.begins depth at dd t w v h) yes))
+
+    -- a rule all of whose first tokens are of the set
+    pub begins_starts : (f : T → Bool) → ((t : T) → first t ≡ true → f t ≡ true) → (depth at : ℕ) → D depth → (w : List (Placed T)) (v : A) → P depth at w v → sees_all (f ∷ []) (plain w) ≡ true
+    begins_starts f within depth at dd [] v h = absurd (false_true false (good.empty depth at dd v h) refl)
+    begins_starts f within depth at dd (t ∷ w) v h = and_both (f t.0) true (within t.0 (good.begins depth at dd t w v h)) refl
+
+  -- ---- by two tokens: what is common is the first
+
   module _ {D : ℕ → Type 0} {A : Type 0} {n : ℕ} {P Q : Family T A} {p q : ℕ → Reader T A} {first first' : T → Bool} {last last' : A → T → Bool} {null null' : Bool}
       (left : Reads D n P p first last null) (right : Reads D n Q q first' last' null') (f g : T → Bool) (k : ℕ)
       (Last : A → T → Bool) (left_in : (v : A) (t : T) → last v t ≡ true → Last v t ≡ true) (right_in : (v : A) (t : T) → last' v t ≡ true → Last v t ≡ true)
-      (heads : ((d : ℕ) → D d) → (depth at : ℕ) (w : List (Placed T)) (v : A) → P depth at w v → (sees_all (f ∷ g ∷ []) (plain w) ≡ true) × Level (f ∷ g ∷ []) (at + k) w)
-      (others : ((d : ℕ) → D d) → (depth at : ℕ) (w : List (Placed T)) (rest : List T) (v : A) → Q depth at w v → Avoids (Last v) rest → sees_all (f ∷ g ∷ []) (plain w ++ rest) ≡ false)
-      (levels : ((d : ℕ) → D d) → (depth at : ℕ) (w : List (Placed T)) (v : A) → Q depth at w v → Level (f ∷ g ∷ []) (at + k) w)
+      (heads : ((d : ℕ) → D d) → (depth at : ℕ) (w : List (Placed T)) (v : A) → P depth at w v → StartsBy (f ∷ g ∷ []) (at + k) w)
+      (others : ((d : ℕ) → D d) → (depth at : ℕ) (w : List (Placed T)) (v : A) → Q depth at w v → DepartsBy (f ∷ g ∷ []) (at + k) w)
       (left_first : (t : T) → f t ≡ true → first t ≡ true) (right_first : (t : T) → f t ≡ true → first' t ≡ true) where
     common_of : {R : Family T A} {r : ℕ → Reader T A} {begins : T → Bool} {ends : A → T → Bool} {z : Bool} → Reads D n R r begins ends z → ((t : T) → f t ≡ true → begins t ≡ true) → 0 < n → (at : ℕ) (x : List T) → partly (f ∷ g ∷ []) x ≡ true → StartsPlain R at x
     common_of good within lt at [] e = let some = good.inhabited (good.whole lt) at in (some.2.0, some.0, plain some.0, some.1, refl, some.2.1)
@@ -273,18 +332,45 @@ module _ {T : Type 0} where
         (some.4.0, (t, some.0) ∷ some.1, plain some.1, some.2, refl, some.4.1)
     common_of good within lt at (t ∷ u ∷ x) e =
         let parts = and_parts (f t) (g u && false) e in
-        let no : false ≡ true = (and_parts (g u) false parts.1).1 in
-        absurd (false_true false no refl)
+        let no_way : false ≡ true = (and_parts (g u) false parts.1).1 in
+        absurd (false_true false no_way refl)
 
     pub ahead_two : Reads D n (P <∘> Q) (λ room. reads_when (sees_all (f ∷ g ∷ [])) (p room) (q room)) (λ t. first t || first' t) Last (null || null')
-    ahead_two = ahead_in left right (f ∷ g ∷ []) k Last left_in right_in heads others levels (common_of left left_first) (common_of right right_first)
+    ahead_two =
+        ahead_in left right (f ∷ g ∷ []) k Last left_in right_in heads
+        (λ all depth at w rest v h av. departs_not (f ∷ g ∷ []) (plain w) rest (others all depth at w v h).0)
+        (λ all depth at w v h. (others all depth at w v h).1)
+        (common_of left left_first) (common_of right right_first)
 
-  -- ---- how a sentence of `one f >>= Q` starts
-  pub one_starts : {A B : Type 0} (f : T → Option A) (Q : A → Rule T B) (set : T → Bool) (fs : List (T → Bool)) (at m : ℕ) (w : List (Placed T)) (v : B) → ((t : T) → gives (f t) ≡ true → set t ≡ true) → at ≡ m
-      → (h : (one f >>= Q) at w v) → (sees_all fs (plain h.2) ≡ true) × Level fs m h.2 → (sees_all (set ∷ fs) (plain w) ≡ true) × Level (set ∷ fs) m w
-  one_starts f Q set fs at m w v within same h more =
-      let front : List (Placed T) = (h.4.0, at) ∷ [] in
-      let whole : w ≡ (h.4.0, at) ∷ h.2 = h.3 ∙ ap (λ l. l ++ h.2) h.4.1 in
-      let yes : set h.4.0 ≡ true = within h.4.0 (ap gives h.4.2) in
-      let goal : List (Placed T) → Type 0 = λ l. (sees_all (set ∷ fs) (plain l) ≡ true) × Level (set ∷ fs) m l in
-      subst goal (sym whole) (and_both (set h.4.0) (sees_all fs (plain h.2)) yes more.0, (λ e. (same, more.1)))
+  -- ---- a common beginning
+
+  module _ {D : ℕ → Type 0} {A B : Type 0} {n : ℕ} {P : Family T A} {Q R : A → Family T B} {p : ℕ → Reader T B} {first : T → Bool} {last : B → T → Bool} {null : Bool} where
+    -- two alternatives that begin with the same rule
+    pub shared : Reads D n (P ∘> (λ a. Q a <∘> R a)) p first last null → Reads D n ((P ∘> Q) <∘> (P ∘> R)) p first last null
+    shared good =
+        same_rule good ((P ∘> Q) <∘> (P ∘> R))
+        (λ depth at w v h. ⊎_elim (λ q. inl (h.0, h.1, h.2, h.3, h.4, q)) (λ r. inr (h.0, h.1, h.2, h.3, h.4, r)) h.5)
+        (λ depth at w v h. ⊎_elim (λ q. (q.0, q.1, q.2, q.3, q.4, inl q.5)) (λ r. (r.0, r.1, r.2, r.3, r.4, inr r.5)) h)
+
+  module _ {D : ℕ → Type 0} {A B C : Type 0} {n : ℕ} {P : Family T A} {Q : A → Family T B} {R : B → Family T C} {p : ℕ → Reader T C} {first : T → Bool} {last : C → T → Bool} {null : Bool} where
+    -- three rules, of which the first two are one
+    pub regrouped : Reads D n (P ∘> (λ a. Q a ∘> R)) p first last null → Reads D n ((P ∘> Q) ∘> R) p first last null
+    regrouped good =
+        same_rule good ((P ∘> Q) ∘> R)
+        (λ depth at w v h.
+            let k = h.5 in
+            (k.0, h.1 ++ k.1, k.2, h.3 ∙ ap (λ l. h.1 ++ l) k.3 ∙ sym (append_assoc h.1 k.1 k.2), (h.0, h.1, k.1, refl, h.4, k.4), k.5))
+        (λ depth at w v h.
+            let k = h.4 in
+            (k.0, k.1, k.2 ++ h.2, h.3 ∙ ap (λ l. l ++ h.2) k.3 ∙ append_assoc k.1 k.2 h.2, k.4, (h.0, k.2, h.2, refl, k.5, h.5)))
+
+  -- ---- once or not at all
+
+  module _ {D : ℕ → Type 0} {A : Type 0} {n : ℕ} {P : Family T A} {p : ℕ → Reader T A} {first : T → Bool} {last : A → T → Bool} (good : Reads D n P p first last false)
+      (Last : Option A → T → Bool) (some_in : (v : A) (t : T) → last v t ≡ true → Last (Some v) t ≡ true) (none_in : (t : T) → first t ≡ true → Last None t ≡ true) where
+    pub may : Reads D n (λ depth. optional (P depth)) (λ room. reads_optional first (p room)) first Last true
+    may =
+        resize
+        (either_in (ends good (λ v. Some v) Last some_in) (reads_nothing {n = n} good.whole None) (λ t e h. cc) Last (λ v t e. e) (λ v t e. cc)
+            (λ depth at v t z h e. subst (λ o. Last o t ≡ true) (sym h.1) (none_in t e)))
+        first Last true (λ t. or_nothing (first t)) (λ v t e. e) refl

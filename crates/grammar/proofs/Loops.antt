@@ -7,7 +7,11 @@ use Rattle.grammar.specs.Readers.{Stop, Syntax, Deep, Reading, Reader, and_then,
 use Rattle.grammar.proofs.Lists.{false_true, or_left, or_right, or_cases, and_both, and_parts, true_or_not, not_true, append_nil, no_tokens, plain-append, Agrees}
 use Rattle.grammar.proofs.Good.{Reads, Answers, Dead, Avoids, Calm, Begun, ◌∘>◌, avoids_wider, deeper_by, less}
 use Rattle.grammar.proofs.Parts.{nowhere, if_so, resize, same_rule, same_reader, no_longer, reads_nothing, some_then}
-use Rattle.grammar.proofs.Choice.{◌<∘>◌, Level, either_in, ahead_two, sees_all-append}
+use Rattle.grammar.proofs.Choice.{◌<∘>◌, StartsBy, DepartsBy, either_in, ahead_two, starts_both}
+
+pub fold-appended : {A : Type 0} → (found vs : List A) → fold appended found vs ≡ found ++ vs
+fold-appended found [] = sym (append_nil found)
+fold-appended found (v ∷ vs) = fold-appended (found ++ (v ∷ [])) vs ∙ append_assoc found (v ∷ []) vs
 
 module _ {T : Type 0} where
   module _ {D : ℕ → Type 0} {S A B : Type 0} {n : ℕ} {P : Family T A} {Q : S → Family T B} {p : ℕ → Reader T A} {q : S → ℕ → Reader T B} {first first' : T → Bool} {last : A → T → Bool} {last' : B → T → Bool} {null' : Bool}
@@ -181,21 +185,17 @@ module _ {T : Type 0} where
 
   module _ {D : ℕ → Type 0} {A : Type 0} {n : ℕ} {P : Family T A} {p : ℕ → Reader T A} {first last : T → Bool}
       (item : Reads D n P p first (λ v. last) false) (again_apart : (t : T) → last t ≡ true → first t ≡ true → ⊥) where
-    fold_appended : (found vs : List A) → fold appended found vs ≡ found ++ vs
-    fold_appended found [] = sym (append_nil found)
-    fold_appended found (v ∷ vs) = fold_appended (found ++ (v ∷ [])) vs ∙ append_assoc found (v ∷ []) vs
-
     abbrev Folded : Family T (List A)
     Folded depth = many (P depth) >>= (λ vs. pure (fold appended [] vs))
 
     to_many : (depth at : ℕ) (w : List (Placed T)) (vs : List A) → Folded depth at w vs → many (P depth) at w vs
     to_many depth at w vs h =
-        let value : vs ≡ h.0 = h.5.1 ∙ fold_appended [] h.0 in
+        let value : vs ≡ h.0 = h.5.1 ∙ fold-appended [] h.0 in
         let tokens : w ≡ h.1 = h.3 ∙ ap (λ l. h.1 ++ l) h.5.0 ∙ append_nil h.1 in
         subst (λ l. many (P depth) at l vs) (sym tokens) (subst (λ x. many (P depth) at h.1 x) (sym value) h.4)
 
     from_many : (depth at : ℕ) (w : List (Placed T)) (vs : List A) → many (P depth) at w vs → Folded depth at w vs
-    from_many depth at w vs h = (vs, w, [], sym (append_nil w), h, (refl, sym (fold_appended [] vs)))
+    from_many depth at w vs h = (vs, w, [], sym (append_nil w), h, (refl, sym (fold-appended [] vs)))
 
     -- any number of P, in a list
     pub collected : Reads D n (λ depth. many (P depth)) (λ room. reads_many first (p room)) first (λ vs t. last t || first t) true
@@ -206,29 +206,25 @@ module _ {T : Type 0} where
 
   -- ---- by two tokens
 
-  level_all : (fs : List (T → Bool)) (m : ℕ) (x y : List (Placed T)) → sees_all fs (plain x) ≡ true → Level fs m x → Level fs m (x ++ y)
-  level_all [] m x y e h = tt
-  level_all (f ∷ fs) m [] y e h = cc
-  level_all (f ∷ fs) m (t ∷ x) y e h = λ yes. let k = h yes in (k.0, level_all fs m x y (and_parts (f t.0) (sees_all fs (plain x)) e).1 k.1)
-
   module _ {D : ℕ → Type 0} {S A B : Type 0} {n : ℕ} {P : Family T A} {Q : S → Family T B} {p : ℕ → Reader T A} {q : S → ℕ → Reader T B} {first first' : T → Bool} {last : A → T → Bool} {last' : B → T → Bool}
       (join : S → A → S) (f g : T → Bool) (k : ℕ) (item : Reads D n P p first last false) (after : (s : S) → Reads D n (Q s) (q s) first' last' false)
       (again_apart : (v : A) (t : T) → last v t ≡ true → first t ≡ true → ⊥) (after_apart : (v : A) (t : T) → last v t ≡ true → first' t ≡ true → ⊥)
-      (heads : ((d : ℕ) → D d) → (depth at : ℕ) (w : List (Placed T)) (v : A) → P depth at w v → (sees_all (f ∷ g ∷ []) (plain w) ≡ true) × Level (f ∷ g ∷ []) (at + k) w)
-      (others : ((d : ℕ) → D d) → (s : S) (depth at : ℕ) (w : List (Placed T)) (rest : List T) (v : B) → Q s depth at w v → Avoids (last' v) rest → sees_all (f ∷ g ∷ []) (plain w ++ rest) ≡ false)
-      (levels : ((d : ℕ) → D d) → (s : S) (depth at : ℕ) (w : List (Placed T)) (v : B) → Q s depth at w v → Level (f ∷ g ∷ []) (at + k) w)
+      (heads : ((d : ℕ) → D d) → (depth at : ℕ) (w : List (Placed T)) (v : A) → P depth at w v → StartsBy (f ∷ g ∷ []) (at + k) w)
+      (others : ((d : ℕ) → D d) → (s : S) (depth at : ℕ) (w : List (Placed T)) (v : B) → Q s depth at w v → DepartsBy (f ∷ g ∷ []) (at + k) w)
       (left_first : (t : T) → f t ≡ true → first t ≡ true) (right_first : (t : T) → f t ≡ true → first' t ≡ true) where
-    abbrev two : List (T → Bool)
-    two = f ∷ g ∷ []
-
-    both_heads : (R : A → Family T B) → ((d : ℕ) → D d) → (depth at : ℕ) (w : List (Placed T)) (v : B) → (P ∘> R) depth at w v → (sees_all two (plain w) ≡ true) × Level two (at + k) w
-    both_heads R all depth at w v h =
-        let x = heads all depth at h.1 h.0 h.4 in
-        let seen : sees_all two (plain (h.1 ++ h.2)) ≡ true = ap (sees_all two) (plain-append h.1 h.2) ∙ sees_all-append two (plain h.1) (plain h.2) x.0 in
-        let goal : List (Placed T) → Type 0 = λ l. (sees_all two (plain l) ≡ true) × Level two (at + k) l in
-        subst goal (sym h.3) (seen, level_all two (at + k) h.1 h.2 x.0 x.1)
-
     -- as long as the next two tokens are of the sets, and then Q of what was found, which is never empty
-    pub loop_two : (s : S) → Reads D n (λ depth. many (P depth) >>= (λ vs. Q (fold join s vs) depth)) (λ room ts. and_then (reads_while (sees_all two) join (p room) (length ts) s ts) (λ s. q s room)) (λ t. first t || first' t) last' false
-    loop_two = loop_in join (sees_all two) refl item after again_apart after_apart last' (λ v b t z e. cc)
-        (λ j le s R r left. ahead_two left (less (after s) j le) f g k last' (λ b t e. e) (λ b t e. e) (both_heads R) (λ all depth at w rest v h av. others all s depth at w rest v h av) (λ all depth at w v h. levels all s depth at w v h) left_first right_first)
+    pub loop_two : (s : S) → Reads D n (λ depth. many (P depth) >>= (λ vs. Q (fold join s vs) depth)) (λ room ts. and_then (reads_while (sees_all (f ∷ g ∷ [])) join (p room) (length ts) s ts) (λ s. q s room)) (λ t. first t || first' t) last' false
+    loop_two = loop_in join (sees_all (f ∷ g ∷ [])) refl item after again_apart after_apart last' (λ v b t z e. cc)
+        (λ j le s R r left. ahead_two left (less (after s) j le) f g k last' (λ b t e. e) (λ b t e. e)
+            (λ all depth at w v h. starts_both (P depth) (λ a. R a depth) (f ∷ g ∷ []) at (at + k) w v h (heads all depth at h.1 h.0 h.4))
+            (λ all depth at w v h. others all s depth at w v h) left_first right_first)
+
+  -- ---- where what is found is a list
+
+  module _ {D : ℕ → Type 0} {A B : Type 0} {n : ℕ} {P : Family T A} {p : ℕ → Reader T B} {first : T → Bool} {last : B → T → Bool} {null : Bool} (Q : List A → Family T B) (found : List A) where
+    -- the rule says the list plainly
+    pub as_list : Reads D n (λ depth. many (P depth) >>= (λ vs. Q (fold appended found vs) depth)) p first last null → Reads D n (λ depth. many (P depth) >>= (λ vs. Q (found ++ vs) depth)) p first last null
+    as_list good =
+        same_rule good (λ depth. many (P depth) >>= (λ vs. Q (found ++ vs) depth))
+        (λ depth at w v h. (h.0, h.1, h.2, h.3, h.4, subst (λ l. Q l depth at h.2 v) (fold-appended found h.0) h.5))
+        (λ depth at w v h. (h.0, h.1, h.2, h.3, h.4, subst (λ l. Q l depth at h.2 v) (sym (fold-appended found h.0)) h.5))

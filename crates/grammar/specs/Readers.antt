@@ -86,6 +86,10 @@ module _ {T : Type 0} where
   abbrev pub reads_either : {A : Type 0} → (T → Bool) → Reader T A → Reader T A → Reader T A
   reads_either f p q = reads_when (sees f) p q
 
+  -- once if the next token is of the set, else not at all
+  abbrev pub reads_optional : {A : Type 0} → (T → Bool) → Reader T A → Reader T (Option A)
+  reads_optional f p = reads_either f (p >>= (λ v. reads_pure (Some v))) (reads_pure None)
+
   -- no level of nesting is left for a rule whose sentences begin with the tokens of the set
   abbrev pub too_deep : {A : Type 0} → (T → Bool) → Reader T A
   too_deep f ts = if sees f ts then Err (Deep ts) else Err (Syntax ts)
