@@ -172,11 +172,20 @@ module _ {T : Type 0} where
   departs (f ∷ fs) [] = false
   departs (f ∷ fs) (t ∷ x) = not (f t) || departs fs x
 
-  -- the tokens have this nesting, as long as they are of the sets
+  -- the tokens have this nesting, as long as they are of the sets; of the last set's token nothing is said
   abbrev pub Level : List (T → Bool) → ℕ → List (Placed T) → Type 0
   Level [] m w = Unit {0}
-  Level (f ∷ fs) m [] = Unit {0}
-  Level (f ∷ fs) m (x ∷ w) = f x.0 ≡ true → (x.1 ≡ m) × Level fs m w
+  Level (f ∷ []) m w = Unit {0}
+  Level (f ∷ g ∷ fs) m [] = Unit {0}
+  Level (f ∷ g ∷ fs) m (x ∷ w) = f x.0 ≡ true → (x.1 ≡ m) × Level (g ∷ fs) m w
+
+  level_token : (f : T → Bool) (fs : List (T → Bool)) (m : ℕ) (t : Placed T) (w : List (Placed T)) → t.1 ≡ m → Level fs m w → Level (f ∷ fs) m (t ∷ w)
+  level_token f [] m t w e h = tt
+  level_token f (g ∷ fs) m t w e h = λ here. (e, h)
+
+  level_out : (f : T → Bool) (fs : List (T → Bool)) (m : ℕ) (t : Placed T) (w : List (Placed T)) → f t.0 ≡ false → Level (f ∷ fs) m (t ∷ w)
+  level_out f [] m t w out = tt
+  level_out f (g ∷ fs) m t w out = λ here. absurd (false_true (f t.0) here out)
 
   sees_within : (fs : List (T → Bool)) (x : List T) (t : T) (rest more : List T) → sees_all fs (x ++ (t ∷ rest)) ≡ true → partly fs (x ++ (t ∷ [])) ≡ false → sees_all fs (x ++ (t ∷ more)) ≡ true
   sees_within [] x t rest more e out = refl
@@ -214,21 +223,25 @@ module _ {T : Type 0} where
 
   pub level-append : (fs : List (T → Bool)) (m : ℕ) (x y : List (Placed T)) → departs fs (plain x) ≡ true → Level fs m x → Level fs m (x ++ y)
   level-append [] m x y e h = tt
-  level-append (f ∷ fs) m [] y e h = cc
-  level-append (f ∷ fs) m (t ∷ x) y e h = λ yes.
-      let k = h yes in
-      (k.0, or_cases (not (f t.0)) (departs fs (plain x)) e (λ out. absurd (not_not (f t.0) out yes)) (λ out. level-append fs m x y out k.1))
+  level-append (f ∷ []) m x y e h = tt
+  level-append (f ∷ g ∷ fs) m [] y e h = cc
+  level-append (f ∷ g ∷ fs) m (t ∷ x) y e h = λ here.
+      let k = h here in
+      (k.0, or_cases (not (f t.0)) (departs (g ∷ fs) (plain x)) e (λ out. absurd (not_not (f t.0) out here)) (λ out. level-append (g ∷ fs) m x y out k.1))
 
   level_agree : (fs : List (T → Bool)) (m : ℕ) (w w' : List (Placed T)) → sees_all fs (plain w) ≡ true → (sees_all fs (plain w') ≡ true → ⊥) → Level fs m w → Level fs m w' → Agrees w w'
   level_agree [] m w w' e bar h h' = absurd (bar refl)
   level_agree (f ∷ fs) m [] w' e bar h h' = tt
   level_agree (f ∷ fs) m (x ∷ w) [] e bar h h' = tt
-  level_agree (f ∷ fs) m (x ∷ w) (y ∷ w') e bar h h' = λ same.
-      let parts = and_parts (f x.0) (sees_all fs (plain w)) e in
-      let yes : f y.0 ≡ true = subst (λ t. f t ≡ true) same parts.0 in
+  level_agree (f ∷ []) m (x ∷ w) (y ∷ w') e bar h h' = λ same.
+      let parts = and_parts (f x.0) true e in
+      absurd (bar (and_both (f y.0) true (subst (λ t. f t ≡ true) same parts.0) refl))
+  level_agree (f ∷ g ∷ fs) m (x ∷ w) (y ∷ w') e bar h h' = λ same.
+      let parts = and_parts (f x.0) (sees_all (g ∷ fs) (plain w)) e in
+      let here : f y.0 ≡ true = subst (λ t. f t ≡ true) same parts.0 in
       let k = h parts.0 in
-      let k' = h' yes in
-      (k.0 ∙ sym k'.0, level_agree fs m w w' parts.1 (λ s. bar (and_both (f y.0) (sees_all fs (plain w')) yes s)) k.1 k'.1)
+      let k' = h' here in
+      (k.0 ∙ sym k'.0, level_agree (g ∷ fs) m w w' parts.1 (λ s. bar (and_both (f y.0) (sees_all (g ∷ fs) (plain w')) here s)) k.1 k'.1)
 
   -- The sentences of the first rule start with tokens of the sets, one of each, those of the second do not; and what
   -- starts with fewer of them can become either, with the same nestings.
@@ -270,8 +283,9 @@ module _ {T : Type 0} where
 
   level_on : (fs : List (T → Bool)) (m : ℕ) (x y : List (Placed T)) → sees_all fs (plain x) ≡ true → Level fs m x → Level fs m (x ++ y)
   level_on [] m x y e h = tt
-  level_on (f ∷ fs) m [] y e h = cc
-  level_on (f ∷ fs) m (t ∷ x) y e h = λ yes. let k = h yes in (k.0, level_on fs m x y (and_parts (f t.0) (sees_all fs (plain x)) e).1 k.1)
+  level_on (f ∷ []) m x y e h = tt
+  level_on (f ∷ g ∷ fs) m [] y e h = cc
+  level_on (f ∷ g ∷ fs) m (t ∷ x) y e h = λ here. let k = h here in (k.0, level_on (g ∷ fs) m x y (and_parts (f t.0) (sees_all (g ∷ fs) (plain x)) e).1 k.1)
 
   pub starts-append : (fs : List (T → Bool)) (m : ℕ) (x y : List (Placed T)) → StartsBy fs m x → StartsBy fs m (x ++ y)
   starts-append fs m x y h = (ap (sees_all fs) (plain-append x y) ∙ sees_all-append fs (plain x) (plain y) h.0, level_on fs m x y h.0 h.1)
@@ -292,16 +306,16 @@ module _ {T : Type 0} where
   one_starts f Q set fs at m w v exactly same h more =
       let whole : w ≡ (h.4.0, at) ∷ h.2 = h.3 ∙ ap (λ l. l ++ h.2) h.4.1 in
       let seen : set h.4.0 ≡ true = sym (exactly h.4.0) ∙ ap gives h.4.2 in
-      subst (StartsBy (set ∷ fs) m) (sym whole) (and_both (set h.4.0) (sees_all fs (plain h.2)) seen more.0, (λ e. (same, more.1)))
+      subst (StartsBy (set ∷ fs) m) (sym whole) (and_both (set h.4.0) (sees_all fs (plain h.2)) seen more.0, level_token set fs m (h.4.0, at) h.2 same more.1)
 
   pub one_departs : {A B : Type 0} (f : T → Option A) (Q : A → Rule T B) (set : T → Bool) (fs : List (T → Bool)) (at m : ℕ) (w : List (Placed T)) (v : B) → at ≡ m
       → (h : (one f >>= Q) at w v) → DepartsBy fs m h.2 → DepartsBy (set ∷ fs) m w
   one_departs f Q set fs at m w v same h more =
       let whole : w ≡ (h.4.0, at) ∷ h.2 = h.3 ∙ ap (λ l. l ++ h.2) h.4.1 in
-      subst (DepartsBy (set ∷ fs) m) (sym whole) (or_right (not (set h.4.0)) (departs fs (plain h.2)) more.0, (λ e. (same, more.1)))
+      subst (DepartsBy (set ∷ fs) m) (sym whole) (or_right (not (set h.4.0)) (departs fs (plain h.2)) more.0, level_token set fs m (h.4.0, at) h.2 same more.1)
 
   pub first_departs : (f : T → Bool) (fs : List (T → Bool)) (m : ℕ) (t : Placed T) (w : List (Placed T)) → f t.0 ≡ false → DepartsBy (f ∷ fs) m (t ∷ w)
-  first_departs f fs m t w out = (or_left (not (f t.0)) (departs fs (plain w)) (not_of (f t.0) out), λ e. absurd (false_true (f t.0) e out)) where
+  first_departs f fs m t w out = (or_left (not (f t.0)) (departs fs (plain w)) (not_of (f t.0) out), level_out f fs m t w out) where
     not_of : (b : Bool) → b ≡ false → not b ≡ true
     not_of true e = cc
     not_of false e = refl
@@ -313,9 +327,22 @@ module _ {T : Type 0} where
     begins_departs f fs apart depth at m dd (t ∷ w) v h = first_departs f fs m t w (not_true (f t.0) (λ yes. apart t.0 (good.begins depth at dd t w v h) yes))
 
     -- a rule all of whose first tokens are of the set
-    pub begins_starts : (f : T → Bool) → ((t : T) → first t ≡ true → f t ≡ true) → (depth at : ℕ) → D depth → (w : List (Placed T)) (v : A) → P depth at w v → sees_all (f ∷ []) (plain w) ≡ true
-    begins_starts f within depth at dd [] v h = absurd (false_true false (good.empty depth at dd v h) refl)
-    begins_starts f within depth at dd (t ∷ w) v h = and_both (f t.0) true (within t.0 (good.begins depth at dd t w v h)) refl
+    pub begins_starts : (f : T → Bool) → ((t : T) → first t ≡ true → f t ≡ true) → (depth at m : ℕ) → D depth → (w : List (Placed T)) (v : A) → P depth at w v → StartsBy (f ∷ []) m w
+    begins_starts f within depth at m dd [] v h = absurd (false_true false (good.empty depth at dd v h) refl)
+    begins_starts f within depth at m dd (t ∷ w) v h = (and_both (f t.0) true (within t.0 (good.begins depth at dd t w v h)) refl, tt)
+
+  -- one token or none, and what follows it
+  pub optional_departs : {A B : Type 0} (f : T → Option A) (Q : Option A → Rule T B) (set : T → Bool) (fs : List (T → Bool)) (at m : ℕ) (w : List (Placed T)) (v : B) → at ≡ m
+      → (h : (optional (one f) >>= Q) at w v) → DepartsBy fs m h.2 → DepartsBy (set ∷ fs) m h.2 → DepartsBy (set ∷ fs) m w
+  optional_departs f Q set fs at m w v same h more alone =
+      subst (DepartsBy (set ∷ fs) m) (sym h.3)
+      (⊎_elim
+      (λ k.
+          let token : h.1 ≡ (k.4.0, at) ∷ [] = k.3 ∙ ap (λ l. l ++ k.2) k.4.1 ∙ ap (λ l. (k.4.0, at) ∷ l) k.5.0 in
+          let here : DepartsBy (set ∷ fs) m ((k.4.0, at) ∷ h.2) = (or_right (not (set k.4.0)) (departs fs (plain h.2)) more.0, level_token set fs m (k.4.0, at) h.2 same more.1) in
+          subst (λ l. DepartsBy (set ∷ fs) m (l ++ h.2)) (sym token) here)
+      (λ k. subst (λ l. DepartsBy (set ∷ fs) m (l ++ h.2)) (sym k.0) alone)
+      h.4)
 
   -- ---- by two tokens: what is common is the first
 
@@ -341,6 +368,12 @@ module _ {T : Type 0} where
         (λ all depth at w rest v h av. departs_not (f ∷ g ∷ []) (plain w) rest (others all depth at w v h).0)
         (λ all depth at w v h. (others all depth at w v h).1)
         (common_of left left_first) (common_of right right_first)
+
+  -- ---- the same alternatives in the other order
+
+  module _ {D : ℕ → Type 0} {A : Type 0} {n : ℕ} {P Q : Family T A} {p : ℕ → Reader T A} {first : T → Bool} {last : A → T → Bool} {null : Bool} where
+    pub swapped : Reads D n (P <∘> Q) p first last null → Reads D n (Q <∘> P) p first last null
+    swapped good = same_rule good (Q <∘> P) (λ depth at w v h. ⊎_elim (λ a. inr a) (λ b. inl b) h) (λ depth at w v h. ⊎_elim (λ a. inr a) (λ b. inl b) h)
 
   -- ---- a common beginning
 

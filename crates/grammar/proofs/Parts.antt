@@ -20,6 +20,16 @@ pub or_nothing : (a : Bool) → (a || false) ≡ a
 or_nothing true = refl
 or_nothing false = refl
 
+-- ---- what a reading that came to its end read
+
+pub then_ok : {T A B : Type 0} {x : B × List T} (q : A → Reader T B) (r : Reading T A) → and_then r q ≡ Ok x → (y : A × List T) × (r ≡ Ok y) × (q y.0 y.1 ≡ Ok x)
+then_ok q (Ok y) e = (y, refl, e)
+then_ok q (Err stop) e = cc
+
+pub when_ok : {T B : Type 0} {z : B × List T} (x y : Reading T B) (b : Bool) → (if b then x else y) ≡ Ok z → (x ≡ Ok z) ⊎ (y ≡ Ok z)
+when_ok x y true e = inl e
+when_ok x y false e = inr e
+
 module _ {T : Type 0} where
   abbrev pub nowhere : T → Bool
   nowhere t = false
