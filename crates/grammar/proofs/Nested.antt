@@ -3,7 +3,7 @@ use Rattle.std.proofs.Common.{◌≡◌, ℕ, zero, suc, ◌+◌, ◌-◌, ◌<�
 use Rattle.std.specs.Prelude.{Result, Ok, Err, if◌then◌else◌}
 use Rattle.grammar.specs.Rules.{Placed, Rule, Family, nested}
 use Rattle.grammar.specs.Sentences.{plain, Within, Spelled, Starts}
-use Rattle.grammar.specs.Readers.{Stop, Syntax, Deep, Reading, Reader, sees, too_deep}
+use Rattle.grammar.specs.Readers.{Stop, Syntax, Deep, Reading, Reader, sees, too_deep, reads_within}
 use Rattle.grammar.proofs.Lists.{false_true, Agrees}
 use Rattle.grammar.proofs.Good.{Reads, Answers, Dead, Avoids, Calm, Begun}
 use Rattle.grammar.proofs.Parts.{same_reader}
@@ -100,6 +100,11 @@ module _ {T : Type 0} where
         sound = inside_sound;
         complete = inside_complete;
       }
+
+  module _ {D : ℕ → Type 0} {A : Type 0} {n : ℕ} {P : Family T A} {first : T → Bool} {last : A → T → Bool} (p : ℕ → Reader T A) where
+    -- the same where the reader says so itself
+    pub within_in : Reads D n P (λ room. p (suc room)) first last false → Reads D n (λ depth. nested (P depth)) (λ room. reads_within first room (p room)) first last false
+    within_in good = deeper_in good (λ room. reads_within first room (p room)) (λ ts. refl) (λ room ts. refl)
 
   -- ---- a rule by how often it is entered: the one at a depth is made of the one below
 

@@ -1,26 +1,31 @@
 -- Readers: functions that read a value from the front of a list of tokens, top down.
 --
--- A reading stands beside its rule in the same do-notation. It has a parameter `room`, the number of levels of
--- nesting that are left. Each part that the rule puts into `nested` is a function of its own by cases on the room:
+-- A reading stands beside its rule in the same do-notation. It has a parameter `room`: how many levels of nesting are
+-- left, the one that the phrase stands at among them. What the rule puts into `nested` is read by a function of its own:
 --
 --     read_parenthesized : ℕ → Reader T Expr
---     read_parenthesized zero = too_deep (is OpenRound)
---     read_parenthesized (suc room) = do
+--     read_parenthesized room = reads_within (is OpenRound) room (do
 --       expect OpenRound
 --       inner ← read_expr room
 --       expect CloseRound
---       reads_pure inner
+--       reads_pure inner)
 --
 -- and in the program
 --
---     fn parenthesized(&mut self, room: usize) -> Result<Expr, Fault> {
---         if room == 0 { return Err(too_deep(self.sees(OpenRound))) }
+--     fn parenthesized(&mut self, room: usize) -> Result<Expr, Fault>
+--         ensures { Steps (read_parenthesized room self.old.rest.now) result self.new.rest.now }
+--     {
+--         if room == 0 {
+--             return Err(too_deep(self.sees(OpenRound)));
+--         }
 --         self.expect(OpenRound)?;
---         let inner = self.expr(room - 1)?;
+--         let inner = self.expr(room)?;
 --         self.expect(CloseRound)?;
 --         Ok(inner)
 --     }
-use Rattle.std.specs.Prelude.{ℕ, zero, suc, Bool, true, false, if◌then◌else◌, ◌&&◌, List, [], ◌∷◌, ◌++◌, length, Option, Some, None, Result, Ok, Err}
+--
+-- What refers to itself is by cases on the room, `read_cast (suc room) = read_operand (read_cast room) room`.
+use Rattle.std.specs.Prelude.{ℕ, zero, suc, Bool, true, false, if◌then◌else◌, ◌&&◌, ◌==◌, List, [], ◌∷◌, ◌++◌, length, Option, Some, None, Result, Ok, Err}
 
 -- why reading stopped, and the tokens from the faulty one on
 pub data Stop (T : Type 0) : Type 0 where
@@ -93,6 +98,10 @@ module _ {T : Type 0} where
   -- no level of nesting is left for a rule whose sentences begin with the tokens of the set
   abbrev pub too_deep : {A : Type 0} → (T → Bool) → Reader T A
   too_deep f ts = if sees f ts then Err (Deep ts) else Err (Syntax ts)
+
+  -- a rule one level deeper, by how many levels are left for it
+  abbrev pub reads_within : {A : Type 0} → (T → Bool) → ℕ → Reader T A → Reader T A
+  reads_within f room p ts = if room == 0 then too_deep f ts else p ts
 
   -- a loop: as long as the tokens ahead pass the test, one more value joins those found; the number bounds the turns
   unfoldable pub reads_while : {S A : Type 0} → (List T → Bool) → (S → A → S) → Reader T A → ℕ → S → Reader T S
