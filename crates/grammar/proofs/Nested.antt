@@ -1,10 +1,11 @@
 -- One level deeper, and rules that refer to themselves.
 use Rattle.std.proofs.Common.{◌≡◌, ℕ, zero, suc, ◌+◌, ◌-◌, ◌<◌, ◌≤◌, List, [], ◌∷◌, ◌++◌, length, Option, Some, None, Bool, true, false, refl, sym, ap, ◌∙◌, subst, ◌⊎◌, inl, inr, ⊎_elim, append_assoc, length-append, arith}
-use Rattle.std.specs.Prelude.{Result, Ok, Err, if◌then◌else◌}
+use Rattle.std.specs.Prelude.{Result, Ok, Err, if◌then◌else◌, ◌==◌}
+use Rattle.std.proofs.lemmas.Bool.{eqb-true}
 use Rattle.grammar.specs.Rules.{Placed, Rule, Family, nested}
 use Rattle.grammar.specs.Sentences.{plain, Within, Spelled, Starts}
 use Rattle.grammar.specs.Readers.{Stop, Syntax, Deep, Reading, Reader, sees, too_deep, reads_within}
-use Rattle.grammar.proofs.Lists.{false_true, Agrees}
+use Rattle.grammar.proofs.Lists.{false_true, not_true, Agrees}
 use Rattle.grammar.proofs.Good.{Reads, Answers, Dead, Avoids, Calm, Begun}
 use Rattle.grammar.proofs.Parts.{same_reader}
 
@@ -104,7 +105,8 @@ module _ {T : Type 0} where
   module _ {D : ℕ → Type 0} {A : Type 0} {n : ℕ} {P : Family T A} {first : T → Bool} {last : A → T → Bool} (p : ℕ → Reader T A) where
     -- the same where the reader says so itself
     pub within_in : Reads D n P (λ room. p (suc room)) first last false → Reads D n (λ depth. nested (P depth)) (λ room. reads_within first room (p room)) first last false
-    within_in good = deeper_in good (λ room. reads_within first room (p room)) (λ ts. refl) (λ room ts. refl)
+    within_in good = deeper_in good (λ room. reads_within first room (p room)) (λ ts. refl)
+        (λ room ts. ap (λ b. if b then too_deep first ts else p (suc room) ts) (not_true (suc room == 0) (λ h. omega (arith, eqb-true (suc room) 0 h))))
 
   -- ---- a rule by how often it is entered: the one at a depth is made of the one below
 

@@ -26,6 +26,11 @@ pub then_ok : {T A B : Type 0} {x : B × List T} (q : A → Reader T B) (r : Rea
 then_ok q (Ok y) e = (y, refl, e)
 then_ok q (Err stop) e = cc
 
+-- three readings, of which the first two are one
+pub reads_regrouped : {T A B C : Type 0} (q : A → Reader T B) (r : B → Reader T C) (x : Reading T A) → and_then (and_then x q) r ≡ and_then x (λ a. reads_both (q a) r)
+reads_regrouped q r (Ok x) = refl
+reads_regrouped q r (Err stop) = refl
+
 pub when_ok : {T B : Type 0} {z : B × List T} (x y : Reading T B) (b : Bool) → (if b then x else y) ≡ Ok z → (x ≡ Ok z) ⊎ (y ≡ Ok z)
 when_ok x y true e = inl e
 when_ok x y false e = inr e
