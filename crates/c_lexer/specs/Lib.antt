@@ -1,0 +1,5 @@
+pub mod Lexemes
+pub mod Meaning
+pub mod Contexts
+pub mod Texts
+pub mod Finding

@@ -1,0 +1,133 @@
+// What a lexeme means where it stands: a token, or a part of a directive.
+
+ghost use Rattle.std.specs.Prelude.{◌≡◌, ◌∷◌, ◌++◌, [], List, Bool, Option, map, position, slice_get, option_and_then, IfOk, OnOk, false};
+ghost use Rattle.std.specs.List.{list_any};
+ghost use Rattle.std.specs.Str.{bytes_eq};
+ghost use Rattle.c_lexer.specs.Meaning as spec;
+ghost use Rattle.c_token.specs.Spelling.{keyword_of};
+
+use crate::lexeme::Class;
+use c_token::{Constant, Keyword, Kind};
+use indexmap::IndexSet;
+use sqlite_items::Items;
+use std::alloc::{AllocError, Global};
+
+/// What a directive awaits next, besides blanks and comments.
+#[derive(Clone, Copy, Debug, PartialEq, Eq)]
+pub enum Awaits {
+    /// `include` or `define`.
+    Word,
+    /// What an include directive names.
+    Header,
+    /// The name that is defined.
+    Name,
+    /// The integer constant that the name stands for.
+    Value,
+    /// The end of the line or of the text: the directive is whole.
+    LineEnd,
+}
+
+/// Where a lexeme stands.
+#[derive(Clone, Copy, Debug, PartialEq, Eq)]
+pub enum Mode {
+    /// In a line that has only blanks and comments so far: a directive may begin.
+    LineStart,
+    /// Behind a token of the line.
+    InLine,
+    /// In the directive whose `#` stands at this offset.
+    Directive(usize, Awaits),
+}
+
+/// What a lexeme gives.
+#[derive(Debug, Drop)]
+pub enum Action {
+    Nothing,
+    Token(Kind),
+    /// Its bytes are the name that a directive defines.
+    Name,
+    /// The constant that the last such name stands for.
+    Value(Constant),
+}
+
+/// What a lexeme gives, and where the next one stands.
+#[derive(Debug, Drop)]
+pub struct Effect {
+    pub mode: Mode,
+    pub action: Action,
+}
+
+/// What the lexemes so far have defined, and where the next one stands.
+#[derive(Drop)]
+pub(crate) struct Context<'t> {
+    pub(crate) mode: Mode,
+    /// The names that directives define, in order.
+    names: IndexSet<&'t [u8]>,
+    /// The constants of these names.
+    values: Items<Constant>,
+}
+
+/// The place of the name among them.
+fn place_of(names: &IndexSet<&[u8]>, name: &[u8]) -> Option<usize>
+    ensures { result ≡ position (bytes_eq name.now) (map (λ k. k.now) names.now.keys) }
+{
+    names.get_index_of(&name)
+}
+
+/// Whether the name is among them.
+fn is_among(names: &IndexSet<&[u8]>, name: &[u8]) -> bool
+    ensures { result ≡ list_any (bytes_eq name.now) (map (λ k. k.now) names.now.keys) }
+{
+    names.contains(&name)
+}
+
+/// Adds the name at the end.
+fn add<'t>(names: &mut IndexSet<&'t [u8]>, name: &'t [u8]) -> Result<(), AllocError>
+    requires { list_any (bytes_eq name.now) (map (λ k. k.now) names.old.keys) ≡ false }
+    ensures { OnOk result (map (λ k. k.now) names.new.keys ≡ map (λ k. k.now) names.old.keys ++ name.now ∷ []) }
+{
+    names.insert(name)?;
+    Ok(())
+}
+
+impl<'t> Context<'t> {
+    ghost use Rattle.c_lexer.specs.Contexts.{state_of};
+
+    #[tactic(auto, unfolding(crate::specs::Meaning::start))]
+    pub(crate) fn new(alloc: Global) -> Context<'t>
+        ensures { state_of result ≡ spec.start }
+    {
+        Context {
+            mode: Mode::LineStart,
+            names: IndexSet::new(alloc),
+            values: Items::new(alloc),
+        }
+    }
+
+    /// Whether a directive has defined the name.
+    fn is_defined(&self, word: &[u8]) -> bool
+        ensures { result ≡ spec.is_defined (state_of self.now) word.now }
+    {
+        is_among(&self.names, word)
+    }
+
+    /// The constant that a directive has given the name.
+    fn defined(&self, word: &[u8]) -> Option<Constant>
+        ensures { result ≡ spec.defined (state_of self.now) word.now }
+    {
+        let index = place_of(&self.names, word)?;
+        self.values.get(index).copied()
+    }
+
+    /// The kind of the word: a keyword, a defined name's constant or a name.
+    fn word_kind(&self, alloc: Global, word: &[u8]) -> Result<Kind, AllocError>
+        ensures { IfOk result (λ k. k ≡ spec.word_kind word.now (keyword_of word.now) (spec.defined (state_of self.now) word.now)) }
+    {
+        if let Some(keyword) = Keyword::from_spelling(word) {
+            return Ok(Kind::Keyword(keyword));
+        }
+        match self.defined(word) {
+            Some(constant) => Ok(Kind::Constant(constant)),
+            None => Ok(Kind::Name(Items::from_slice(alloc, word)?)),
+        }
+    }
+}
