@@ -85,17 +85,20 @@ directive_word hash word =
     else (if bytes_eq word (codes "define") then only (Directive hash awaits.Name)
     else None)
 
--- a reserved word is not defined, and no name is defined twice
-abbrev pub definition_name : ℕ → State → Bytes → Option Effect
-definition_name hash s word =
-    if is_reserved word || is_defined s word then None
-    else Some (gives (Directive hash awaits.Value) action.Name)
+-- the name of a definition, which may not be taken
+abbrev pub definition_name : ℕ → Bool → Option Effect
+definition_name hash is_taken = if is_taken then None else Some (gives (Directive hash awaits.Value) action.Name)
 
+abbrev pub definition_value : ℕ → Bytes → Option Effect
+definition_value hash word = option_map (λ n. gives (Directive hash awaits.LineEnd) (action.Value n)) (integer_of word)
+
+
+-- A reserved word is taken, and so is a name that is defined already.
 abbrev pub in_directive : Awaits → ℕ → State → Class → Bytes → Option Effect
 in_directive awaits.Word hash s c.Word word = directive_word hash word
 in_directive awaits.Header hash s (c.Header close) word = only (Directive hash awaits.LineEnd)
-in_directive awaits.Name hash s c.Word word = definition_name hash s word
-in_directive awaits.Value hash s c.Number word = option_map (λ n. gives (Directive hash awaits.LineEnd) (action.Value n)) (integer_of word)
+in_directive awaits.Name hash s c.Word word = definition_name hash (is_reserved word || is_defined s word)
+in_directive awaits.Value hash s c.Number word = definition_value hash word
 in_directive awaits.LineEnd hash s c.LineFeed word = only LineStart
 in_directive a hash s class word = None
 

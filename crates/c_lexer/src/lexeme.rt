@@ -162,7 +162,7 @@ fn block_len(z: &[u8]) -> Option<usize>
 }
 
 /// The first `len` bytes, or all where there are fewer.
-fn front(z: &[u8], len: usize) -> &[u8]
+pub(crate) fn front(z: &[u8], len: usize) -> &[u8]
     ensures { result.now ≡ take len z.now }
 {
     z.get(..len).unwrap_or(z)
@@ -212,7 +212,7 @@ fn header_len(close: u8, z: &[u8]) -> Option<usize>
 }
 
 /// All but the first `n` bytes.
-fn behind(z: &[u8], n: usize) -> &[u8]
+pub(crate) fn behind(z: &[u8], n: usize) -> &[u8]
     ensures { result.now ≡ drop n z.now }
 {
     z.get(n..).unwrap_or(&[])

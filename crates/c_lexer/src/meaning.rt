@@ -6,7 +6,7 @@ ghost use Rattle.std.specs.Str.{bytes_eq};
 ghost use Rattle.c_lexer.specs.Meaning as spec;
 ghost use Rattle.c_token.specs.Spelling.{keyword_of};
 
-use crate::lexeme::Class;
+use crate::lexeme::{Class, behind, front};
 use c_token::{Constant, Keyword, Kind};
 use indexmap::IndexSet;
 use sqlite_items::Items;
@@ -64,6 +64,64 @@ pub(crate) struct Context<'t> {
     names: IndexSet<&'t [u8]>,
     /// The constants of these names.
     values: Items<Constant>,
+}
+
+/// No token, and this for the next lexeme.
+fn only(mode: Mode) -> Option<Effect>
+    ensures { result ≡ spec.only mode }
+{
+    Some(Effect {
+        mode,
+        action: Action::Nothing,
+    })
+}
+
+fn is_reserved(word: &[u8]) -> bool
+    ensures { result ≡ spec.is_reserved word.now }
+{
+    Keyword::from_spelling(word).is_some()
+}
+
+fn directive_word(hash: usize, word: &[u8]) -> Option<Effect>
+    ensures { result ≡ spec.directive_word hash word.now }
+{
+    if word == b"include".as_slice() {
+        only(Mode::Directive(hash, Awaits::Header))
+    } else if word == b"define".as_slice() {
+        only(Mode::Directive(hash, Awaits::Name))
+    } else {
+        None
+    }
+}
+
+/// The name of a definition, which may not be taken.
+fn definition_name(hash: usize, is_taken: bool) -> Option<Effect>
+    ensures { result ≡ spec.definition_name hash is_taken }
+{
+    if is_taken {
+        return None;
+    }
+    Some(Effect {
+        mode: Mode::Directive(hash, Awaits::Value),
+        action: Action::Name,
+    })
+}
+
+fn definition_value(hash: usize, word: &[u8]) -> Option<Effect>
+    ensures { result ≡ spec.definition_value hash word.now }
+{
+    Constant::from_integer(word).map(|constant| Effect {
+        mode: Mode::Directive(hash, Awaits::LineEnd),
+        action: Action::Value(constant),
+    })
+}
+
+/// The bytes between the quotes.
+fn text_kind(alloc: Global, word: &[u8]) -> Result<Kind, AllocError>
+    ensures { IfOk result (λ k. k ≡ spec.text_kind word.now) }
+{
+    let inside = front(behind(word, 1), word.len().saturating_sub(2));
+    Ok(Kind::StringLiteral(Items::from_slice(alloc, inside)?))
 }
 
 /// The place of the name among them.
@@ -128,6 +186,81 @@ impl<'t> Context<'t> {
         match self.defined(word) {
             Some(constant) => Ok(Kind::Constant(constant)),
             None => Ok(Kind::Name(Items::from_slice(alloc, word)?)),
+        }
+    }
+
+    /// The token that the lexeme is; None where it is none, or a constant that is spelled badly.
+    #[tactic(auto, unfolding(crate::specs::Meaning::token_of))]
+    fn token_of(&self, alloc: Global, class: Class, word: &[u8]) -> Result<Option<Kind>, AllocError>
+        ensures { IfOk result (λ o. o ≡ spec.token_of (state_of self.now) class word.now) }
+    {
+        match class {
+            Class::Word => Ok(Some(self.word_kind(alloc, word)?)),
+            Class::Number => Ok(Constant::from_integer(word).map(Kind::Constant)),
+            Class::Character => Ok(Constant::from_character(word).map(Kind::Constant)),
+            Class::Text => Ok(Some(text_kind(alloc, word)?)),
+            Class::Mark(mark) => Ok(Some(Kind::Punctuator(mark))),
+            _ => Ok(None),
+        }
+    }
+
+    /// What a lexeme means in a line of tokens.
+    fn in_line(
+        &self,
+        alloc: Global,
+        at: usize,
+        class: Class,
+        word: &[u8],
+    ) -> Result<Option<Effect>, AllocError>
+        ensures { IfOk result (λ e. e ≡ spec.in_line at (state_of self.now) class word.now) }
+    {
+        if let Class::LineFeed = class {
+            return Ok(only(Mode::LineStart));
+        }
+        let token = self.token_of(alloc, class, word)?;
+        Ok(token.map(|kind| Effect {
+            mode: Mode::InLine,
+            action: Action::Token(kind),
+        }))
+    }
+
+    /// What a lexeme means in the directive whose `#` stands at the offset.
+    fn in_directive(&self, awaits: Awaits, hash: usize, class: Class, word: &[u8]) -> Option<Effect>
+        ensures { result ≡ spec.in_directive awaits hash (state_of self.now) class word.now }
+    {
+        match (awaits, class) {
+            (Awaits::Word, Class::Word) => directive_word(hash, word),
+            (Awaits::Header, Class::Header(_)) => only(Mode::Directive(hash, Awaits::LineEnd)),
+            (Awaits::Name, Class::Word) => definition_name(
+                hash,
+                is_reserved(word) || self.is_defined(word),
+            ),
+            (Awaits::Value, Class::Number) => definition_value(hash, word),
+            (Awaits::LineEnd, Class::LineFeed) => only(Mode::LineStart),
+            _ => None,
+        }
+    }
+
+    /// What the lexeme at the offset means; None where it may not stand there.
+    #[tactic(auto, unfolding(crate::specs::Meaning::effect_of))]
+    pub(crate) fn effect_of(
+        &self,
+        alloc: Global,
+        at: usize,
+        class: Class,
+        word: &[u8],
+    ) -> Result<Option<Effect>, AllocError>
+        ensures { IfOk result (λ e. e ≡ spec.effect_of at (state_of self.now) class word.now) }
+    {
+        if let Class::Blank | Class::LineComment | Class::BlockComment = class {
+            return Ok(only(self.mode));
+        }
+        match (self.mode, class) {
+            (Mode::Directive(hash, awaits), class) => Ok(self.in_directive(
+                awaits, hash, class, word,
+            )),
+            (Mode::LineStart, Class::Hash) => Ok(only(Mode::Directive(at, Awaits::Word))),
+            (_, class) => self.in_line(alloc, at, class, word),
         }
     }
 }
