@@ -1,3 +1,5 @@
 pub mod Places
 pub mod Runs
 pub mod Parts
+pub mod Classes
+pub mod Found

@@ -32,7 +32,7 @@ text_step : (n : ℕ) (m : Option ℕ) (x : Bool) → x ≡ true → m ≡ Some 
 text_step n m true e h = h
 text_step n m false e h = cc
 
-both_true : (x y : Bool) → (x && y) ≡ true → (x ≡ true) × (y ≡ true)
+pub both_true : (x y : Bool) → (x && y) ≡ true → (x ≡ true) × (y ≡ true)
 both_true true true h = (refl, refl)
 both_true true false h = cc
 both_true false y h = cc
