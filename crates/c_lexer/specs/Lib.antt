@@ -3,3 +3,4 @@ pub mod Meaning
 pub mod Contexts
 pub mod Texts
 pub mod Finding
+pub mod Stepping

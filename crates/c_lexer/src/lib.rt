@@ -4,3 +4,4 @@
 pub mod fault;
 pub mod lexeme;
 pub mod meaning;
+mod step;

@@ -149,6 +149,7 @@ fn add<'t>(names: &mut IndexSet<&'t [u8]>, name: &'t [u8]) -> Result<(), AllocEr
 
 impl<'t> Context<'t> {
     ghost use Rattle.c_lexer.specs.Contexts.{state_of};
+    ghost use Rattle.c_lexer.specs.declared.meaning.Action.TheVariants as action;
 
     #[tactic(auto, unfolding(crate::specs::Meaning::start))]
     pub(crate) fn new(alloc: Global) -> Context<'t>
@@ -262,5 +263,38 @@ impl<'t> Context<'t> {
             (Mode::LineStart, Class::Hash) => Ok(only(Mode::Directive(at, Awaits::Word))),
             (_, class) => self.in_line(alloc, at, class, word),
         }
+    }
+
+    /// Whether an include directive awaits what it names.
+    pub(crate) fn awaits_header(&self) -> bool
+        ensures { result ≡ spec.awaits_header (state_of self.now) }
+    {
+        matches!(self.mode, Mode::Directive(_, Awaits::Header))
+    }
+
+    /// The next lexeme stands in this mode.
+    pub(crate) fn turn(&mut self, mode: Mode)
+        ensures { state_of self.new ≡ spec.after_action mode action.Nothing [] (state_of self.old) }
+    {
+        self.mode = mode;
+    }
+
+    /// Notes the name that a directive defines, which is new.
+    pub(crate) fn name(&mut self, mode: Mode, word: &'t [u8]) -> Result<(), AllocError>
+        requires { spec.is_defined (state_of self.old) word.now ≡ false }
+        ensures { OnOk result (state_of self.new ≡ spec.after_action mode action.Name word.now (state_of self.old)) }
+    {
+        add(&mut self.names, word)?;
+        self.mode = mode;
+        Ok(())
+    }
+
+    /// Notes the constant of the last such name.
+    pub(crate) fn define(&mut self, mode: Mode, constant: Constant) -> Result<(), AllocError>
+        ensures { OnOk result (state_of self.new ≡ spec.after_action mode (action.Value constant) [] (state_of self.old)) }
+    {
+        self.values.push(constant)?;
+        self.mode = mode;
+        Ok(())
     }
 }
