@@ -107,3 +107,31 @@ fn take<'t>(
     }
     Ok(())
 }
+
+/// Takes the piece at the front of what is left of the text, and answers what is left then.
+#[tactic(auto, unfolding(crate::specs::Stepping::next_piece))]
+pub(crate) fn step<'t>(
+    alloc: Global,
+    context: &mut Context<'t>,
+    tokens: &mut Items<Token>,
+    at: usize,
+    rest: &'t [u8],
+) -> Result<&'t [u8], LexFault>
+    ensures steps { IfOk result (λ more. spec.Steps at rest.now (state_of context.old) tokens.old (state_of context.new) tokens.new more.now) }
+    ensures fails { IfErr result (spec.StepFails at rest.now (state_of context.old) tokens.old) }
+{
+    let bad = LexFault::Bad {
+        offset: fault_place(context.mode, at, rest),
+    };
+    let Some((class, len)) = lexeme_at(context.awaits_header(), rest) else {
+        return Err(bad);
+    };
+    let word = front(rest, len);
+    let Some(effect) = context.effect_of(alloc, at, class, word)? else {
+        return Err(bad);
+    };
+    match take(context, tokens, at, class, word, effect) {
+        Ok(()) => Ok(behind(rest, len)),
+        Err(fault) => Err(fault),
+    }
+}
