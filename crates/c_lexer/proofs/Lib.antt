@@ -5,3 +5,5 @@ pub mod Classes
 pub mod Found
 pub mod Fresh
 pub mod Steps
+pub mod Whole
+pub mod Unique

@@ -26,7 +26,7 @@ pub fn lex(alloc: Global, text: &[u8]) -> Result<Items<Token>, LexFault>
     let mut context = Context::new(alloc);
     let mut tokens = Items::new(alloc);
     let mut rest = text;
-    while !rest.is_empty() {
+    'pieces: while !rest.is_empty() {
         let at = text.len() - rest.len();
         match step(alloc, &mut context, &mut tokens, at, rest) {
             Ok(more) => rest = more,
