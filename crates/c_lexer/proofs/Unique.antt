@@ -8,7 +8,7 @@ use Rattle.c_lexer.specs.declared.fault.TextLimit.{TextLimit}
 use Rattle.c_lexer.specs.declared.fault.LexFault.{LexFault}
 use Rattle.c_lexer.specs.declared.fault.LexFault.TheVariants.{Bad, Limit, Memory}
 use Rattle.c_lexer.specs.Meaning.{State, start, after}
-use Rattle.c_lexer.specs.Texts.{Piece, IsPiece, Splits, with_token, tokens, with_end, may_end, Passed, limit_of, IsWithin, Reaches, IsStuck, fault_place, EndsAs, LexesAs, Lexed, Finds}
+use Rattle.c_lexer.specs.Texts.{Piece, IsPiece, Splits, with_token, tokens, with_end, may_end, Passed, limit_of, IsWithin, Reaches, IsStuck, fault_place, EndsAs, AreTokens, LexesAs, Lexed, Finds, FindsTokens}
 use Rattle.c_lexer.specs.Stepping.{next_piece}
 use Rattle.c_lexer.proofs.Steps.{piece_found}
 use Rattle.c_lexer.proofs.Whole.{count_more, no_first}
@@ -30,15 +30,15 @@ same_piece at s p q more more' e h k =
       rest = sym (drop-append_seam p.bytes more) ∙ ap (drop (length p.bytes)) e ∙ ap (λ n. drop n (q.bytes ++ more')) len ∙ drop-append_seam q.bytes more';
     }
 
--- a piece within the limits stands behind the pieces
-pub record Follows (at n : ℕ) (text : Bytes) (ps : List Piece) (t : State) (rest : Bytes) : Type 0 where
+-- a piece of qs stands behind the pieces; where qs is within the limits, so is the piece
+pub record Follows (at n : ℕ) (text : Bytes) (ps qs : List Piece) (t : State) (rest : Bytes) : Type 0 where
   pub offset : ℕ
   pub place : offset + length rest ≡ at + length text
   pub piece : Piece
   pub more : Bytes
   pub whole : rest ≡ piece.bytes ++ more
   pub is : IsPiece offset t piece more
-  pub within : limit_of (length (tokens at ps) + n) piece ≡ None
+  pub within : IsWithin n qs → limit_of (length (tokens at ps) + n) piece ≡ None
 
 pub record SamePlace (ps qs : List Piece) (t u : State) (rest rest' : Bytes) : Type 0 where
   pub pieces : ps ≡ qs
@@ -46,11 +46,11 @@ pub record SamePlace (ps qs : List Piece) (t u : State) (rest rest' : Bytes) : T
   pub rest_is : rest ≡ rest'
 
 abbrev pub Compared : ℕ → ℕ → Bytes → List Piece → List Piece → State → State → Bytes → Bytes → Type 0
-Compared at n text ps qs t u rest rest' = SamePlace ps qs t u rest rest' ⊎ (Follows at n text ps t rest ⊎ Follows at n text qs u rest')
+Compared at n text ps qs t u rest rest' = SamePlace ps qs t u rest rest' ⊎ (Follows at n text ps qs t rest ⊎ Follows at n text qs ps u rest')
 
 first_follows : (at n : ℕ) (s : State) (text : Bytes) (t : State) (rest : Bytes) (q : Piece) (qs : List Piece) (u : State) (rest' : Bytes)
-    → Splits at s text [] t rest → Splits at s text (q ∷ qs) u rest' → IsWithin n (q ∷ qs) → Follows at n text [] t rest
-first_follows at n s text t rest q qs u rest' h k w =
+    → Splits at s text [] t rest → Splits at s text (q ∷ qs) u rest' → Follows at n text [] (q ∷ qs) t rest
+first_follows at n s text t rest q qs u rest' h k =
     let none : n ≡ 0 + n = omega arith in
     record {
       offset = at;
@@ -59,12 +59,12 @@ first_follows at n s text t rest q qs u rest' h k w =
       more = k.0;
       whole = sym h.1 ∙ k.1;
       is = subst (λ x. IsPiece at x q k.0) h.0 k.2;
-      within = subst (λ m. limit_of m q ≡ None) none w.0;
+      within = λ w. subst (λ m. limit_of m q ≡ None) none w.0;
     }
 
-follows_on : (at n : ℕ) (text : Bytes) (p : Piece) (ps : List Piece) (t : State) (rest more : Bytes) → text ≡ p.bytes ++ more
-    → Follows (at + length p.bytes) (length (with_token 0 p.effect.action []) + n) more ps t rest → Follows at n text (p ∷ ps) t rest
-follows_on at n text p ps t rest more e h =
+follows_on : (at n : ℕ) (text : Bytes) (p : Piece) (ps qs : List Piece) (t : State) (rest more : Bytes) → text ≡ p.bytes ++ more
+    → Follows (at + length p.bytes) (length (with_token 0 p.effect.action []) + n) more ps qs t rest → Follows at n text (p ∷ ps) (p ∷ qs) t rest
+follows_on at n text p ps qs t rest more e h =
     let count : length (tokens (at + length p.bytes) ps) + (length (with_token 0 p.effect.action []) + n) ≡ length (tokens at (p ∷ ps)) + n = omega (arith, count_more at p.effect.action (tokens (at + length p.bytes) ps)) in
     record {
       offset = h.offset;
@@ -73,7 +73,7 @@ follows_on at n text p ps t rest more e h =
       more = h.more;
       whole = h.whole;
       is = h.is;
-      within = subst (λ m. limit_of m h.piece ≡ None) count h.within;
+      within = λ w. subst (λ m. limit_of m h.piece ≡ None) count (h.within w.1);
     }
 
 same_on : (p q : Piece) (ps qs : List Piece) (t u : State) (rest rest' : Bytes) → p ≡ q → SamePlace ps qs t u rest rest' → SamePlace (p ∷ ps) (q ∷ qs) t u rest rest'
@@ -84,24 +84,23 @@ compare_on : (at n : ℕ) (text : Bytes) (p q : Piece) (ps qs : List Piece) (t u
     → Compared (at + length p.bytes) (length (with_token 0 p.effect.action []) + n) more ps qs t u rest rest'
     → Compared at n text (p ∷ ps) (q ∷ qs) t u rest rest'
 compare_on at n text p q ps qs t u rest rest' more more' e f same (inl h) = inl (same_on p q ps qs t u rest rest' same.piece h)
-compare_on at n text p q ps qs t u rest rest' more more' e f same (inr (inl h)) = inr (inl (follows_on at n text p ps t rest more e h))
+compare_on at n text p q ps qs t u rest rest' more more' e f same (inr (inl h)) =
+    inr (inl (subst (λ x. Follows at n text (p ∷ ps) (x ∷ qs) t rest) same.piece (follows_on at n text p ps qs t rest more e h)))
 compare_on at n text p q ps qs t u rest rest' more more' e f same (inr (inr h)) =
-    let there : Follows at n text (p ∷ qs) u rest' = follows_on at n text p qs u rest' more e h in
-    inr (inr (subst (λ x. Follows at n text (x ∷ qs) u rest') same.piece there))
+    inr (inr (subst (λ x. Follows at n text (x ∷ qs) (p ∷ ps) u rest') same.piece (follows_on at n text p qs ps u rest' more e h)))
 
 compare : (at n : ℕ) (s : State) (text : Bytes) (ps qs : List Piece) (t u : State) (rest rest' : Bytes)
-    → Splits at s text ps t rest → Splits at s text qs u rest' → IsWithin n ps → IsWithin n qs → Compared at n text ps qs t u rest rest'
-compare at n s text [] [] t u rest rest' h k v w = inl (record { pieces = refl; state = sym h.0 ∙ k.0; rest_is = sym h.1 ∙ k.1 })
-compare at n s text [] (q ∷ qs) t u rest rest' h k v w = inr (inl (first_follows at n s text t rest q qs u rest' h k w))
-compare at n s text (p ∷ ps) [] t u rest rest' h k v w = inr (inr (first_follows at n s text u rest' p ps t rest k h v))
-compare at n s text (p ∷ ps) (q ∷ qs) t u rest rest' h k v w =
+    → Splits at s text ps t rest → Splits at s text qs u rest' → Compared at n text ps qs t u rest rest'
+compare at n s text [] [] t u rest rest' h k = inl (record { pieces = refl; state = sym h.0 ∙ k.0; rest_is = sym h.1 ∙ k.1 })
+compare at n s text [] (q ∷ qs) t u rest rest' h k = inr (inl (first_follows at n s text t rest q qs u rest' h k))
+compare at n s text (p ∷ ps) [] t u rest rest' h k = inr (inr (first_follows at n s text u rest' p ps t rest k h))
+compare at n s text (p ∷ ps) (q ∷ qs) t u rest rest' h k =
     let same = same_piece at s p q h.0 k.0 (sym h.1 ∙ k.1) h.2 k.2 in
     let other : Splits (at + length p.bytes) (after p.effect p.bytes s) h.0 qs u rest' =
       subst (λ y. Splits (at + length p.bytes) (after p.effect p.bytes s) y qs u rest') (sym same.rest)
         (subst (λ x. Splits (at + length x.bytes) (after x.effect x.bytes s) k.0 qs u rest') (sym same.piece) k.3) in
-    let bound : IsWithin (length (with_token 0 p.effect.action []) + n) qs = subst (λ x. IsWithin (length (with_token 0 x.effect.action []) + n) qs) (sym same.piece) w.1 in
     compare_on at n text p q ps qs t u rest rest' h.0 k.0 h.1 k.1 same
-      (compare (at + length p.bytes) (length (with_token 0 p.effect.action []) + n) (after p.effect p.bytes s) h.0 ps qs t u rest rest' h.3 other v.1 bound)
+      (compare (at + length p.bytes) (length (with_token 0 p.effect.action []) + n) (after p.effect p.bytes s) h.0 ps qs t u rest rest' h.3 other)
 
 -- ---- ends
 
@@ -154,29 +153,29 @@ none_follows text ps at s rest (Err (Limit which count k)) p more h e is w =
     let clash : None ≡ some_passed which count = sym w ∙ ap (limit_of (length (tokens 0 ps))) (sym same.piece) ∙ h.4 in cc
 none_follows text ps at s rest (Err Memory) p more h e is w = h
 
-none_behind : (text : Bytes) (ps : List Piece) (at : ℕ) (s : State) (rest : Bytes) (a : Answer)
-    → at + length rest ≡ length text → EndsAs text ps at s rest a → Follows 0 0 text ps s rest → ⊥
-none_behind text ps at s rest a place h f =
+none_behind : (text : Bytes) (ps qs : List Piece) (at : ℕ) (s : State) (rest : Bytes) (a : Answer)
+    → at + length rest ≡ length text → EndsAs text ps at s rest a → IsWithin 0 qs → Follows 0 0 text ps qs s rest → ⊥
+none_behind text ps qs at s rest a place h w f =
     let here : f.offset ≡ at = omega (arith, f.place, place) in
     let count : length (tokens 0 ps) + 0 ≡ length (tokens 0 ps) = omega arith in
-    none_follows text ps at s rest a f.piece f.more h f.whole (subst (λ n. IsPiece n s f.piece f.more) here f.is) (subst (λ n. limit_of n f.piece ≡ None) count f.within)
+    none_follows text ps at s rest a f.piece f.more h f.whole (subst (λ n. IsPiece n s f.piece f.more) here f.is) (subst (λ n. limit_of n f.piece ≡ None) count (f.within w))
 
 end_moved : (text : Bytes) (ps qs : List Piece) (at at' : ℕ) (s t : State) (rest rest' : Bytes) (a : Answer) → ps ≡ qs → at ≡ at' → s ≡ t → rest ≡ rest' → EndsAs text ps at s rest a → EndsAs text qs at' t rest' a
 end_moved text ps qs at at' s t rest rest' a e f g j h =
     subst (λ x. EndsAs text qs at' t x a) j (subst (λ x. EndsAs text qs at' x rest a) g (subst (λ x. EndsAs text qs x s rest a) f (subst (λ x. EndsAs text x at s rest a) e h)))
 
 compared : (text : Bytes) (ps qs : List Piece) (at at' : ℕ) (s t : State) (rest rest' : Bytes) (a b : Answer)
-    → at + length rest ≡ length text → at' + length rest' ≡ length text → EndsAs text ps at s rest a → EndsAs text qs at' t rest' b
+    → Reaches text ps at s rest → Reaches text qs at' t rest' → EndsAs text ps at s rest a → EndsAs text qs at' t rest' b
     → Compared 0 0 text ps qs s t rest rest' → a ≡ b
 compared text ps qs at at' s t rest rest' a b e f h k (inl same) =
-    ends_once text qs at' t rest' a b (end_moved text ps qs at at' s t rest rest' a same.pieces (omega (arith, e, f, ap length same.rest_is)) same.state same.rest_is h) k
-compared text ps qs at at' s t rest rest' a b e f h k (inr (inl more)) = absurd (none_behind text ps at s rest a e h more)
-compared text ps qs at at' s t rest rest' a b e f h k (inr (inr more)) = absurd (none_behind text qs at' t rest' b f k more)
+    ends_once text qs at' t rest' a b (end_moved text ps qs at at' s t rest rest' a same.pieces (omega (arith, e.place, f.place, ap length same.rest_is)) same.state same.rest_is h) k
+compared text ps qs at at' s t rest rest' a b e f h k (inr (inl more)) = absurd (none_behind text ps qs at s rest a e.place h f.within more)
+compared text ps qs at at' s t rest rest' a b e f h k (inr (inr more)) = absurd (none_behind text qs ps at' t rest' b f.place k e.within more)
 
 pub one_answer : (text : Bytes) (a b : Answer) → LexesAs text a → LexesAs text b → a ≡ b
 one_answer text a b h k =
-    compared text h.0 k.0 h.1 k.1 h.2 k.2 h.3 k.3 a b h.4.place k.4.place h.5 k.5
-      (compare 0 0 start text h.0 k.0 h.2 k.2 h.3 k.3 h.4.split k.4.split h.4.within k.4.within)
+    compared text h.0 k.0 h.1 k.1 h.2 k.2 h.3 k.3 a b h.4 k.4 h.5 k.5
+      (compare 0 0 start text h.0 k.0 h.2 k.2 h.3 k.3 h.4.split k.4.split)
 
 -- what holds of a text is found
 pub finds : (text : Bytes) (answer : Answer) → Lexed text answer → (r : Answer) → LexesAs text r → Finds r answer
@@ -184,3 +183,29 @@ finds text (Ok ts) h r k = one_answer text (Ok ts) r h k
 finds text (Err (Bad n)) h r k = one_answer text (Err (Bad n)) r h k
 finds text (Err (Limit which count n)) h r k = one_answer text (Err (Limit which count n)) r h k
 finds text (Err Memory) h r k = tt
+
+-- ---- tokens without a look at the limits
+
+-- where a text splits to its end, no fault but a limit stands
+tokens_by : (text : Bytes) (ps qs : List Piece) (at : ℕ) (s t : State) (rest : Bytes) (ts : List Token) (a : Answer)
+    → Reaches text ps at s rest → EndsAs text ps at s rest a → may_end t.mode ≡ true → ts ≡ with_end text (tokens 0 qs)
+    → Compared 0 0 text ps qs s t rest [] → FindsTokens ts a
+tokens_by text ps qs at s t rest ts (Ok us) e h may k (inl same) = h.2 ∙ ap (λ x. with_end text (tokens 0 x)) same.pieces ∙ sym k
+tokens_by text ps qs at s t rest ts (Err (Bad n)) e h may k (inl same) =
+    let clash : false ≡ true = sym (h.0.unfinished same.rest_is) ∙ ap (λ x. may_end x.mode) same.state ∙ may in cc
+tokens_by text ps qs at s t rest ts (Ok us) e h may k (inr (inl f)) = no_first f.offset s f.piece rest f.more (ap length h.0) f.whole f.is
+tokens_by text ps qs at s t rest ts (Err (Bad n)) e h may k (inr (inl f)) =
+    let here : f.offset ≡ at = omega (arith, f.place, e.place) in
+    h.0.none f.piece f.more f.whole (subst (λ n. IsPiece n s f.piece f.more) here f.is)
+tokens_by text ps qs at s t rest ts (Ok us) e h may k (inr (inr f)) = no_first f.offset t f.piece [] f.more refl f.whole f.is
+tokens_by text ps qs at s t rest ts (Err (Bad n)) e h may k (inr (inr f)) = no_first f.offset t f.piece [] f.more refl f.whole f.is
+tokens_by text ps qs at s t rest ts (Err (Limit which count n)) e h may k c = tt
+tokens_by text ps qs at s t rest ts (Err Memory) e h may k c = tt
+
+pub finds_tokens : (text : Bytes) (answer : Answer) → Lexed text answer → (ts : List Token) → AreTokens text ts → FindsTokens ts answer
+finds_tokens text (Ok us) h ts k =
+    tokens_by text h.0 k.0 h.1 h.2 k.1 h.3 ts (Ok us) h.4 h.5 k.3 k.4 (compare 0 0 start text h.0 k.0 h.2 k.1 h.3 [] h.4.split k.2)
+finds_tokens text (Err (Bad n)) h ts k =
+    tokens_by text h.0 k.0 h.1 h.2 k.1 h.3 ts (Err (Bad n)) h.4 h.5 k.3 k.4 (compare 0 0 start text h.0 k.0 h.2 k.1 h.3 [] h.4.split k.2)
+finds_tokens text (Err (Limit which count n)) h ts k = tt
+finds_tokens text (Err Memory) h ts k = tt

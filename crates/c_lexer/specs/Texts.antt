@@ -139,3 +139,10 @@ Finds r (Ok ts) = Ok ts ≡ r
 Finds r (Err (Bad k)) = Err (Bad k) ≡ r
 Finds r (Err (Limit which count k)) = Err (Limit which count k) ≡ r
 Finds r (Err Memory) = Unit {0}
+
+-- tokens of the text are these: they are found, but for a limit that the text passes
+abbrev pub FindsTokens : List Token → Result (List Token) LexFault → Type 0
+FindsTokens ts (Ok us) = us ≡ ts
+FindsTokens ts (Err (Bad k)) = ⊥
+FindsTokens ts (Err (Limit which count k)) = Unit {0}
+FindsTokens ts (Err Memory) = Unit {0}

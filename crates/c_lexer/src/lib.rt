@@ -9,7 +9,7 @@ mod step;
 ghost use Rattle.std.specs.Prelude.{List, Result};
 ghost use Rattle.c_token.specs.declared.token.Token as token;
 ghost use Rattle.c_lexer.specs.declared.fault.LexFault as fault;
-ghost use Rattle.c_lexer.specs.Texts.{LexesAs, Lexed, Finds};
+ghost use Rattle.c_lexer.specs.Texts.{AreTokens, LexesAs, Lexed, Finds, FindsTokens};
 
 use crate::fault::LexFault;
 use crate::meaning::Context;
@@ -21,6 +21,7 @@ use std::alloc::Global;
 /// The tokens of the text with the token of its end, or its first fault from left to right.
 pub fn lex(alloc: Global, text: &[u8]) -> Result<Items<Token>, LexFault>
     ensures answer { Lexed text.now result }
+    ensures tokens { (ts : List token.Token) → AreTokens text.now ts → FindsTokens ts result }
     ensures every { (r : Result (List token.Token) fault.LexFault) → LexesAs text.now r → Finds r result }
 {
     let mut context = Context::new(alloc);
