@@ -1,0 +1,114 @@
+-- Worked examples of the command line: what it takes, and what it doesn't.
+use Rattle.std.proofs.Common.{◌≡◌, ℕ, List, [], ◌∷◌, refl, codes}
+use Rattle.std.specs.Prelude.{Some, None}
+use Rattle.clap.proofs.OnLiterals.{clap_on_literals}
+use Rattle.hls_words.specs.declared.task.Request.TheVariants.{Step}
+use Rattle.hls_words.specs.declared.task.Task.TheVariants.{Build}
+use Rattle.hls_words.specs.Line.{command_line, request_of, task_of}
+
+builds : task_of (codes "hls" ∷ codes "build" ∷ []) ≡ Some Build
+unfolding clap_on_literals command_line
+builds = refl
+
+ends_the_options : task_of (codes "hls" ∷ codes "build" ∷ codes "--" ∷ []) ≡ Some Build
+unfolding clap_on_literals command_line
+ends_the_options = refl
+
+-- the first word is free
+any_name : (name : List ℕ) → task_of (name ∷ codes "build" ∷ []) ≡ Some Build
+unfolding clap_on_literals command_line
+any_name name = refl
+
+no_words : task_of ([]) ≡ None
+unfolding clap_on_literals command_line
+no_words = refl
+
+no_command : task_of (codes "hls" ∷ []) ≡ None
+unfolding clap_on_literals command_line
+no_command = refl
+
+unknown_command : task_of (codes "hls" ∷ codes "compile" ∷ []) ≡ None
+unfolding clap_on_literals command_line
+unknown_command = refl
+
+other_case : task_of (codes "hls" ∷ codes "Build" ∷ []) ≡ None
+unfolding clap_on_literals command_line
+other_case = refl
+
+command_to_come : task_of (codes "hls" ∷ codes "step" ∷ codes "--cycles" ∷ codes "3136" ∷ []) ≡ None
+unfolding clap_on_literals command_line
+command_to_come = refl
+
+option_to_come : task_of (codes "hls" ∷ codes "build" ∷ codes "--jobs" ∷ codes "2" ∷ []) ≡ None
+unfolding clap_on_literals command_line
+option_to_come = refl
+
+word_too_many : task_of (codes "hls" ∷ codes "build" ∷ codes "first.c" ∷ []) ≡ None
+unfolding clap_on_literals command_line
+word_too_many = refl
+
+command_twice : task_of (codes "hls" ∷ codes "build" ∷ codes "build" ∷ []) ≡ None
+unfolding clap_on_literals command_line
+command_twice = refl
+
+behind_the_options : task_of (codes "hls" ∷ codes "--" ∷ codes "build" ∷ []) ≡ None
+unfolding clap_on_literals command_line
+behind_the_options = refl
+
+long_help : task_of (codes "hls" ∷ codes "--help" ∷ []) ≡ None
+unfolding clap_on_literals command_line
+long_help = refl
+
+short_help : task_of (codes "hls" ∷ codes "-h" ∷ []) ≡ None
+unfolding clap_on_literals command_line
+short_help = refl
+
+help_command : task_of (codes "hls" ∷ codes "help" ∷ []) ≡ None
+unfolding clap_on_literals command_line
+help_command = refl
+
+version : task_of (codes "hls" ∷ codes "--version" ∷ []) ≡ None
+unfolding clap_on_literals command_line
+version = refl
+
+help_of_build : task_of (codes "hls" ∷ codes "build" ∷ codes "--help" ∷ []) ≡ None
+unfolding clap_on_literals command_line
+help_of_build = refl
+
+-- ---- the command of the table that is still to come
+
+steps : request_of (codes "hls" ∷ codes "step" ∷ codes "--cycles" ∷ codes "3136" ∷ []) ≡ Some (Step 3136)
+unfolding clap_on_literals command_line
+steps = refl
+
+steps_none : request_of (codes "hls" ∷ codes "step" ∷ codes "--cycles=0" ∷ []) ≡ Some (Step 0)
+unfolding clap_on_literals command_line
+steps_none = refl
+
+minus_zero : request_of (codes "hls" ∷ codes "step" ∷ codes "--cycles=-0" ∷ []) ≡ Some (Step 0)
+unfolding clap_on_literals command_line
+minus_zero = refl
+
+plus : request_of (codes "hls" ∷ codes "step" ∷ codes "--cycles=+0010" ∷ []) ≡ Some (Step 10)
+unfolding clap_on_literals command_line
+plus = refl
+
+most_steps : request_of (codes "hls" ∷ codes "step" ∷ codes "--cycles=4294967295" ∷ []) ≡ Some (Step 4294967295)
+unfolding clap_on_literals command_line
+most_steps = refl
+
+one_step_more : request_of (codes "hls" ∷ codes "step" ∷ codes "--cycles=4294967296" ∷ []) ≡ None
+unfolding clap_on_literals command_line
+one_step_more = refl
+
+no_cycles : request_of (codes "hls" ∷ codes "step" ∷ []) ≡ None
+unfolding clap_on_literals command_line
+no_cycles = refl
+
+below_zero : request_of (codes "hls" ∷ codes "step" ∷ codes "--cycles" ∷ codes "-5" ∷ []) ≡ None
+unfolding clap_on_literals command_line
+below_zero = refl
+
+cycles_twice : request_of (codes "hls" ∷ codes "step" ∷ codes "--cycles=1" ∷ codes "--cycles=1" ∷ []) ≡ None
+unfolding clap_on_literals command_line
+cycles_twice = refl

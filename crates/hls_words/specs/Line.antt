@@ -1,0 +1,97 @@
+-- The command line as a definition in clap's own data, and what its words ask for. Source: clap's builder, `Command`
+-- and `Arg`. A further command is a line of `commands`, one of `request_in` and one of `task_for`.
+use Rattle.std.specs.Prelude.{◌&&◌, ℕ, ◌^◌, true, pos, List, [], ◌∷◌, codes, Option, Some, None, if◌then◌else◌, nat_lt, nat_le, option_and_then, option_map, is_some}
+use Rattle.std.specs.Str.{bytes_eq}
+use Rattle.std.specs.Str.Parse.{digits_value, without_leading_plus}
+use Rattle.clap.specs.ValueTests.{is_numeral}
+use Rattle.clap.specs.Faults.{fault_of}
+use Rattle.clap.specs.Kinds.{Kinds}
+use Rattle.clap.specs.Simple.{App, new_app, new_rule, on_top, subcommand_of, with_rule, with_subcommand}
+use Rattle.clap.specs.Walk.{Row, Rule, Text, one_of}
+use Rattle.clap.specs.declared.builder.value_parser.ValueParser.TheVariants.{Signed}
+use Rattle.hls_words.specs.declared.task.Request.{Request}
+use Rattle.hls_words.specs.declared.task.Request.TheVariants as request
+use Rattle.hls_words.specs.declared.task.Task.{Task}
+use Rattle.hls_words.specs.declared.task.Task.TheVariants as task
+
+-- ---- the table of commands
+
+-- `--NAME n`, n from low to high
+abbrev pub number_rule : Text → ℕ → ℕ → Rule
+number_rule name low high =
+    record (new_rule name) { long = Some name; parser = Some (Signed (pos low) (pos high)) }
+
+-- an option that has to be given
+abbrev pub required : Rule → Rule
+required rule = record rule { required = true }
+
+-- build
+abbrev pub build_line : App
+build_line = new_app (codes "build")
+
+-- step --cycles n
+abbrev pub step_line : App
+step_line =
+    with_rule (new_app (codes "step")) (required (number_rule (codes "cycles") 0 4294967295))
+
+abbrev pub commands : List App
+commands = build_line ∷ step_line ∷ []
+
+-- the program without its commands, of which one has to be given
+abbrev pub program_line : App
+program_line = on_top (λ top. record top { subcommand_required = true }) (new_app (codes "hls"))
+
+abbrev pub with_commands : App → List App → App
+with_commands program [] = program
+with_commands program (line ∷ lines) = with_commands (with_subcommand program line.top) lines
+
+unfoldable pub command_line : App
+command_line = with_commands program_line commands
+
+-- ---- what taken words ask for
+
+-- the number that the text writes, where it is one of 32 bits
+abbrev pub number_of : Text → Option ℕ
+number_of text =
+    if is_numeral (without_leading_plus text)
+    && nat_lt (digits_value 10 (without_leading_plus text)) (2 ^ 32)
+    then Some (digits_value 10 (without_leading_plus text)) else None
+
+abbrev pub in_range : ℕ → ℕ → ℕ → Option ℕ
+in_range low high n = if nat_le low n && nat_le n high then Some n else None
+
+-- the number of an option, or its default where the option isn't given
+abbrev pub number_in : ℕ → ℕ → Option ℕ → Option Text → Option ℕ
+number_in low high default text =
+    if is_some text
+    then option_and_then (in_range low high) (option_and_then number_of text) else default
+
+abbrev pub step_in : List Row → Option Request
+step_in rows = option_map (λ n. request.Step n)
+    (number_in 0 4294967295 None (one_of (codes "cycles") rows))
+
+-- the command of this name with the values given to its options
+abbrev pub request_in : Text → List Row → Option Request
+request_in name rows =
+    if bytes_eq name (codes "build") then Some request.Build
+    else (if bytes_eq name (codes "step") then step_in rows
+    else None)
+
+-- x where clap finds no fault
+abbrev pub unless_fails : Kinds → Option Request → Option Request
+unless_fails [] x = x
+unless_fails (kind ∷ kinds) x = None
+
+-- what the words ask for, if they are of the table
+abbrev pub request_of : List Text → Option Request
+request_of words = unless_fails (fault_of command_line words)
+    (option_and_then (λ p. request_in p.0 p.1) (subcommand_of command_line words))
+
+-- the commands that exist; the others of the table are still to come
+abbrev pub task_for : Request → Option Task
+task_for request.Build = Some task.Build
+task_for (request.Step cycles) = None
+
+-- what the words ask for, if they are of the grammar: of the table, with a command that exists
+abbrev pub task_of : List Text → Option Task
+task_of words = option_and_then task_for (request_of words)

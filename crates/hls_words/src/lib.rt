@@ -1,0 +1,10 @@
+//! The words of the command line: what they ask for, read with clap.
+#![tactic(auto)]
+
+mod line;
+mod task;
+#[cfg(test)]
+mod tests;
+
+pub use line::parse;
+pub use task::{Task, WordsError};

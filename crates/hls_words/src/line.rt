@@ -1,0 +1,157 @@
+ghost use Rattle.std.specs.Prelude.{◌≡◌, Option, Some, None, false, map, string_bytes, IfOk, IsErrOf, ◌≢◌, is_some, option_and_then};
+ghost use Rattle.clap.specs.Words.{app_of, rule_of, rows_of, one_of, found_of, kind_of, subcommand_rows_of, with_rule, with_subcommand};
+ghost use Rattle.clap.specs.declared.builder.command.Command.TheViews.{out-Command as fields_of};
+ghost use Rattle.clap.specs.declared.error.kind.ErrorKind.TheVariants.{OutOfMemory};
+ghost use Rattle.hls_words.specs.Line.{build_line, command_line, in_range, number_in, number_of, number_rule, request_in, request_of, required, step_in, step_line, task_of};
+
+use crate::task::Request;
+use crate::{Task, WordsError};
+use clap::error::ErrorKind;
+use clap::{Arg, ArgMatches, Command, Error, value_parser};
+use std::alloc::{AllocError, Global};
+
+/// `--NAME n`, n from low to high.
+fn number_option<'a>(alloc: Global, name: &'a str, low: u32, high: u32) -> Arg<'a>
+    ensures rule { rule_of result ≡ number_rule name.entry.now low high }
+    ensures local { result.global ≡ false }
+{
+    Arg::new(alloc, name)
+        .long(name)
+        .value_parser(value_parser!(u32).range(low as i64..=high as i64))
+}
+
+/// The same where the option has to be given.
+fn required_number<'a>(alloc: Global, name: &'a str, low: u32, high: u32) -> Arg<'a>
+    ensures rule { rule_of result ≡ required (number_rule name.entry.now low high) }
+    ensures local { result.global ≡ false }
+{
+    number_option(alloc, name, low, high).required(true)
+}
+
+fn build_command<'a>(alloc: Global) -> Command<'a>
+    ensures app { app_of result ≡ build_line }
+    ensures local { (fields_of result).has_globals ≡ false }
+{
+    Command::new(alloc, "build")
+}
+
+fn step_command<'a>(alloc: Global) -> Result<Command<'a>, AllocError>
+    ensures { IfOk result (λ c. (app_of c ≡ step_line) × ((fields_of c).has_globals ≡ false)) }
+{
+    let cycles = required_number(alloc, "cycles", 0, u32::MAX);
+    Command::new(alloc, "step").arg(cycles)
+}
+
+/// Adds a command that has no global argument.
+fn with_command<'a>(program: Command<'a>, command: Command<'a>) -> Result<Command<'a>, AllocError>
+    requires { (fields_of command).has_globals ≡ false }
+    ensures { IfOk result (λ c. app_of c ≡ with_subcommand (app_of program.entry) (app_of command.entry).top) }
+{
+    program.subcommand(command)
+}
+
+/// The program with every command of the table.
+fn whole_command<'a>(alloc: Global) -> Result<Command<'a>, AllocError>
+    ensures { IfOk result (λ c. app_of c ≡ command_line) }
+{
+    let program = Command::new(alloc, "hls").subcommand_required(true);
+    let build = with_command(program, build_command(alloc))?;
+    with_command(build, step_command(alloc)?)
+}
+
+fn is_given(matches: &ArgMatches<'_>, id: &str) -> bool
+    ensures { result ≡ is_some (one_of id.now (rows_of (found_of matches.now))) }
+{
+    matches.get_str(id).is_some()
+}
+
+fn value(matches: &ArgMatches<'_>, id: &str) -> Option<u32>
+    ensures { result ≡ option_and_then number_of (one_of id.now (rows_of (found_of matches.now))) }
+{
+    matches.get_one(id)
+}
+
+fn within(low: u32, high: u32, n: Option<u32>) -> Option<u32>
+    ensures { result ≡ option_and_then (in_range low high) n }
+{
+    match n {
+        Some(n) if low <= n && n <= high => Some(n),
+        _ => None,
+    }
+}
+
+/// The number of an option, or its default where the option isn't given.
+fn number(
+    matches: &ArgMatches<'_>,
+    id: &str,
+    low: u32,
+    high: u32,
+    default: Option<u32>,
+) -> Option<u32>
+    ensures { result ≡ number_in low high default (one_of id.now (rows_of (found_of matches.now))) }
+{
+    if is_given(matches, id) {
+        within(low, high, value(matches, id))
+    } else {
+        default
+    }
+}
+
+fn step_request(matches: &ArgMatches<'_>) -> Option<Request>
+    ensures { result ≡ step_in (rows_of (found_of matches.now)) }
+{
+    let cycles = number(matches, "cycles", 0, u32::MAX, None)?;
+    Some(Request::Step { cycles })
+}
+
+/// What the command of this name asks for with these values.
+fn request(name: &str, matches: &ArgMatches<'_>) -> Option<Request>
+    ensures { result ≡ request_in name.now (rows_of (found_of matches.now)) }
+{
+    match name {
+        "build" => Some(Request::Build),
+        "step" => step_request(matches),
+        _ => None,
+    }
+}
+
+fn request_met(matches: &ArgMatches<'_>) -> Option<Request>
+    ensures { result ≡ option_and_then (λ p. request_in p.0 p.1) (subcommand_rows_of matches.now) }
+{
+    let (name, inner) = matches.subcommand()?;
+    request(name, inner)
+}
+
+/// What clap refuses for another cause than memory, a request for help among it, is `Usage`.
+fn refusal(error: &Error) -> WordsError
+    ensures { result ≡ WordsError.Usage → kind_of error.now ≢ OutOfMemory }
+{
+    if error.kind() == ErrorKind::OutOfMemory {
+        WordsError::Mem
+    } else {
+        WordsError::Usage
+    }
+}
+
+/// What the words ask for by the whole table, and `Usage` only where they aren't of it.
+pub(crate) fn requested(alloc: Global, words: &[String]) -> Result<Request, WordsError>
+    ensures ok { IfOk result (λ r. request_of (map string_bytes words.now) ≡ Some r) }
+    ensures usage { IsErrOf result WordsError.Usage → request_of (map string_bytes words.now) ≡ None }
+{
+    let Ok(command) = whole_command(alloc) else {
+        return Err(WordsError::Mem);
+    };
+    match command.try_get_matches_from(words) {
+        Ok(matches) => request_met(&matches).ok_or(WordsError::Usage),
+        Err(error) => Err(refusal(&error)),
+    }
+}
+
+/// What the words ask for, the first of which is the program's name, whatever it is. `Usage` comes only where they
+/// aren't of the grammar, and an answer only where they are. `Mem` is the want of memory alone.
+pub fn parse(alloc: Global, words: &[String]) -> Result<Task, WordsError>
+    ensures ok { IfOk result (λ t. task_of (map string_bytes words.now) ≡ Some t) }
+    ensures usage { IsErrOf result WordsError.Usage → task_of (map string_bytes words.now) ≡ None }
+{
+    requested(alloc, words)?.task().ok_or(WordsError::Usage)
+}
