@@ -1,3 +1,6 @@
 pub mod Tree
 pub mod Plain
 pub mod Types
+pub mod Calls
+pub mod Weight
+pub mod Resolved

@@ -1,5 +1,5 @@
 -- What a program's tree, which has pointers, stands for.
-use Rattle.std.specs.Prelude.{List, map, Option, Some, None, Vec, string_bytes}
+use Rattle.std.specs.Prelude.{List, map, Option, Some, None, string_bytes}
 use Rattle.c_program.specs.declared.tree.Expression.{Expression as ExpressionTree}
 use Rattle.c_program.specs.declared.tree.Expression.TheVariants as expression
 use Rattle.c_program.specs.declared.tree.Place.{Place as PlaceTree}

@@ -1,9 +1,9 @@
 -- The types of expressions, and the type in which an operator works (C99 6.3.1, 6.5).
 use Rattle.hls_ints.specs.Types.{IntegerType, int_type, promoted, usual_type}
 use Rattle.c_program.specs.declared.tree.UnaryOperator.{UnaryOperator}
-use Rattle.c_program.specs.declared.tree.UnaryOperator.TheVariants.{Plus, Minus, Complement, Not}
+use Rattle.c_program.specs.declared.tree.UnaryOperator.TheVariants.{Not}
 use Rattle.c_program.specs.declared.tree.BinaryOperator.{BinaryOperator}
-use Rattle.c_program.specs.declared.tree.BinaryOperator.TheVariants.{Multiply, Divide, Remainder, Add, Subtract, ShiftLeft, ShiftRight, Less, Greater, LessEqual, GreaterEqual, Equal, NotEqual, And, ExclusiveOr, InclusiveOr}
+use Rattle.c_program.specs.declared.tree.BinaryOperator.TheVariants.{ShiftLeft, ShiftRight, Less, Greater, LessEqual, GreaterEqual, Equal, NotEqual}
 use Rattle.c_program.specs.Tree.{Expression}
 
 -- the type of a unary operator's result, where it works in ty (6.5.3.3)
