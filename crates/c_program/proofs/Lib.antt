@@ -1,1 +1,2 @@
+pub mod Samples
 mod Rows
