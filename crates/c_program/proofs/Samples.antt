@@ -1,5 +1,5 @@
 -- Programs of a few statements as plain data, on which the definitions are tried.
-use Rattle.std.specs.Prelude.{ℕ, true, List, [], ◌∷◌, Some, pos}
+use Rattle.std.specs.Prelude.{ℕ, Bool, true, false, List, [], ◌∷◌, Some, pos}
 use Rattle.hls_ints.specs.Types.{int_type, long_int}
 use Rattle.c_program.specs.declared.tree.Storage.TheVariants.{Automatic, Static}
 use Rattle.c_program.specs.declared.tree.BinaryOperator.TheVariants.{Add, Less}
@@ -46,49 +46,79 @@ alone body = record {
   barriers = [];
 }
 
--- for (i = from; i < to; i++)
+abbrev pub is_below : ℕ → ℕ → Condition
+is_below x to = Condition.Operand 0 (Expression.Binary Less int_type (local x) (number to))
+
+-- for (x = from; x < to; x++)
+abbrev pub counted_by : ℕ → ℕ → ℕ → Statement → Statement
+counted_by x from to body = Statement.For (local_set x (number from)) (is_below x to) (local_raised x) body
+
 abbrev pub counted : ℕ → ℕ → Statement → Statement
-counted from to body =
-    Statement.For
-    (local_set 0 (number from))
-    (Condition.Operand 0 (Expression.Binary Less int_type (local 0) (number to)))
-    (local_raised 0)
-    body
+counted from to body = counted_by 0 from to body
 
 abbrev pub print_int : Expression → Statement
 print_int e = Statement.Print 0 (Piece.Conversion int_type ∷ Piece.Text (10 ∷ []) ∷ []) (e ∷ [])
 
-abbrev pub thread_at : ObjectPlace
-thread_at = ObjectPlace.Element 0 3 (local 0)
-
 abbrev pub null : Expression
 null = Expression.Constant long_int (pos 0)
 
--- three threads that raise a global under a mutex: main creates and joins each in a loop, and prints
-abbrev pub three_threads : Program
-three_threads = record {
-  functions =
-      record {
-        name = [];
-        returns = Pointer;
-        parameters = 1;
-        locals = scalar long_int ∷ [];
-        body = list_of (
-            Statement.Thread 0 (ThreadCall.MutexLock (ObjectPlace.Single 0)) ∷
-            Statement.Assign 0 (Place.Scalar Static 0 int_type) (RightSide.Value (Expression.Binary Add int_type (Expression.Variable Static 0 int_type) (number 1))) ∷
-            Statement.Thread 0 (ThreadCall.MutexUnlock (ObjectPlace.Single 0)) ∷
-            Statement.Return 0 (Some (RightSide.Value null)) ∷ []);
-        end = 0;
-      } ∷
-      main_of (
-      Statement.Declare 0 0 0 ∷
-      counted 0 3 (Statement.Thread 0 (ThreadCall.Create thread_at 0 null)) ∷
-      counted 0 3 (Statement.Thread 0 (ThreadCall.Join thread_at)) ∷
-      print_int (Expression.Variable Static 0 int_type) ∷
-      return_zero ∷ []) ∷ [];
+abbrev pub return_null : Statement
+return_null = Statement.Return 0 (Some (RightSide.Value null))
+
+-- the global 0, an int, and the statement that adds 1 to it
+abbrev pub global : Expression
+global = Expression.Variable Static 0 int_type
+
+abbrev pub global_raised : Statement
+global_raised =
+    Statement.Assign 0 (Place.Scalar Static 0 int_type)
+    (RightSide.Value (Expression.Binary Add int_type global (number 1)))
+
+-- a start routine with one more local
+abbrev pub routine_of : List Statement → Function
+routine_of body = record {
+  name = [];
+  returns = Pointer;
+  parameters = 1;
+  locals = scalar long_int ∷ scalar int_type ∷ [];
+  body = list_of body;
+  end = 0;
+}
+
+-- the start routine, main, one global, so many threads, and a mutex that is initialised or not
+abbrev pub shared_by : ℕ → Bool → List Statement → List Statement → Program
+shared_by count initialised routine body = record {
+  functions = routine_of routine ∷ main_of body ∷ [];
   main = 1;
   globals = record { name = 115 ∷ []; ty = int_type; length = 1; initial = [] } ∷ [];
-  threads = record { length = 3; routine = Some 0 } ∷ [];
-  mutexes = record { length = 1; initialised = true } ∷ [];
-  barriers = [];
+  threads = record { length = count; routine = Some 0 } ∷ [];
+  mutexes = record { length = 1; initialised = initialised } ∷ [];
+  barriers = record { length = 1 } ∷ [];
 }
+
+abbrev pub single : ObjectPlace
+single = ObjectPlace.Single 0
+
+abbrev pub called : ThreadCall → Statement
+called call = Statement.Thread 0 call
+
+-- for (i = 0; i < count; i++) pthread_create(&t[i], NULL, w, NULL);
+abbrev pub creates : ℕ → Statement
+creates count = counted 0 count (called (ThreadCall.Create (ObjectPlace.Element 0 count (local 0)) 0 null))
+
+abbrev pub joins : ℕ → Statement
+joins count = counted 0 count (called (ThreadCall.Join (ObjectPlace.Element 0 count (local 0))))
+
+-- three threads that raise a global under a mutex: main creates and joins each in a loop, and prints
+abbrev pub three_threads : Program
+three_threads =
+    shared_by 3 true
+    (called (ThreadCall.MutexLock single) ∷ global_raised ∷ called (ThreadCall.MutexUnlock single) ∷ return_null ∷ [])
+    (Statement.Declare 0 0 0 ∷ creates 3 ∷ joins 3 ∷ print_int global ∷ return_zero ∷ [])
+
+-- two threads that raise a global under no mutex
+abbrev pub racing_threads : Program
+racing_threads =
+    shared_by 2 false
+    (Statement.Declare 0 1 0 ∷ counted_by 1 0 100 global_raised ∷ return_null ∷ [])
+    (called (ThreadCall.MutexInit single) ∷ Statement.Declare 0 0 0 ∷ creates 2 ∷ joins 2 ∷ print_int global ∷ return_zero ∷ [])
