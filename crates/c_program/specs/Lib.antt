@@ -4,3 +4,4 @@ pub mod Types
 pub mod Calls
 pub mod Weight
 pub mod Resolved
+pub mod Node

@@ -1,9 +1,11 @@
 -- The weight of a program, which bounds the cycles between two of its steps, and its number of hardware threads.
-use Rattle.std.specs.Prelude.{ℕ, zero, suc, ◌+◌, ◌*◌, Bool, nat_eq, List, ◌∷◌, length, filter, sum_by, Option, Some, None, slice_get}
+use Rattle.std.specs.Prelude.{ℕ, zero, suc, ◌+◌, ◌*◌, min, Bool, nat_eq, List, ◌∷◌, length, filter, sum_by, Option, Some, None, slice_get, unwrap_or, ◌≡◌}
 use Rattle.std.specs.List.{range_with_len, list_any}
 use Rattle.std.specs.Option.{option_eq}
 use Rattle.c_program.specs.declared.tree.LocalVariable.{LocalVariable}
 use Rattle.c_program.specs.declared.tree.ThreadObject.{ThreadObject}
+use Rattle.c_program.specs.declared.weight.Amount.{Amount}
+use Rattle.c_program.specs.declared.weight.Amount.TheVariants.{Weight, LocalElements}
 use Rattle.c_program.specs.Tree.{Expression, Place, Condition, RightSide, ObjectPlace, ThreadCall, Statement, Function, Program}
 use Rattle.c_program.specs.Calls.{calls_of}
 
@@ -126,3 +128,24 @@ bound P = 64 * (weight P + 1)
 -- main, and the elements of the pthread_t objects
 abbrev pub thread_count : Program → ℕ
 thread_count P = 1 + sum_by (λ (object : ThreadObject). object.length) P.threads
+
+-- A count that may grow past all limits stops at this number.
+abbrev pub most : ℕ
+most = 1000000
+
+abbrev pub capped : ℕ → ℕ
+capped n = min n most
+
+-- the number at an index of a table, 0 past its end
+abbrev pub number_at : List ℕ → ℕ → ℕ
+number_at table f = unwrap_or (slice_get table f) 0
+
+-- what a function's own amount may be
+abbrev pub amount_of : Amount → Function → ℕ
+amount_of Weight function = own_weight function
+amount_of LocalElements function = own_elements function
+
+-- for each function its amount with all that is inlined in it, calls being less than depth deep
+pub record IsTable (amount : Function → ℕ) (functions : List Function) (depth : ℕ) (table : List ℕ) : Type 0 where
+  pub count : length table ≡ length functions
+  pub each : (f : ℕ) → number_at table f ≡ capped (inlined amount functions depth f)
