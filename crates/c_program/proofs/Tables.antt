@@ -1,11 +1,11 @@
 -- The table of inlined amounts, one call deeper at a time.
-use Rattle.std.proofs.Common.{◌≡◌, ℕ, zero, suc, ◌+◌, ◌-◌, ◌≤◌, List, [], ◌∷◌, map, length, sum_by, replicate, Option, Some, None, slice_get, unwrap_or, refl, sym, ◌∙◌, ap, subst, arith}
+use Rattle.std.proofs.Common.{◌≡◌, ℕ, zero, suc, ◌+◌, ◌-◌, ◌≤◌, List, [], ◌∷◌, map, length, sum_by, replicate, slice_get, refl, sym, ◌∙◌, ap, subst, arith}
 use Rattle.std.proofs.lemmas.List.Sums.{sum_by-cons}
 use Rattle.std.proofs.lemmas.List.{length-replicate}
 use Rattle.c_program.specs.declared.weight.Node.{Node}
-use Rattle.c_program.specs.Tree.{Function}
+use Rattle.c_program.specs.Tree.{Function, Program}
 use Rattle.c_program.specs.Calls.{calls_of}
-use Rattle.c_program.specs.Weight.{capped, inlined, with_callees, number_at, IsTable}
+use Rattle.c_program.specs.Weight.{capped, inlined, with_callees, number_at, IsTable, own_weight, thread_functions, weight, function_weight}
 use Rattle.c_program.specs.Node.{node_of, node_view}
 
 -- sums of numbers that are equal up to the cap are equal up to the cap
@@ -107,3 +107,16 @@ table_last amount nodes functions depth table same known made deep =
     let count : length nodes ≡ length functions = nodes-count amount nodes functions same in
     let sum : length functions ≡ depth + (length functions - depth) = omega arith in
     table_stable amount nodes functions (length functions - depth) depth (length functions) table same known made sum
+
+-- the sum of what the table of weights has for the thread functions
+pub weight_from_table :
+    (P : Program) (table functions : List ℕ) (sum : ℕ) →
+    IsTable own_weight P.functions (length P.functions) table → functions ≡ thread_functions P →
+    sum ≡ capped (sum_by (number_at table) functions) → sum ≡ capped (weight P)
+weight_from_table P table functions sum known same made =
+    let last =
+    capped-sum (number_at table) (function_weight P.functions) known.each (thread_functions P) 0 0 refl in
+    let equal :
+    capped (sum_by (number_at table) (thread_functions P))
+    ≡ capped (sum_by (function_weight P.functions) (thread_functions P)) = omega (arith, last) in
+    made ∙ (ap (λ (fs : List ℕ). capped (sum_by (number_at table) fs)) same ∙ equal)

@@ -1,5 +1,5 @@
 -- The weight of a program, which bounds the cycles between two of its steps, and its number of hardware threads.
-use Rattle.std.specs.Prelude.{ℕ, zero, suc, ◌+◌, ◌*◌, min, Bool, nat_eq, List, ◌∷◌, length, filter, sum_by, Option, Some, None, slice_get, unwrap_or, ◌≡◌}
+use Rattle.std.specs.Prelude.{ℕ, zero, suc, ◌+◌, ◌*◌, min, Bool, false, nat_eq, List, ◌∷◌, length, filter, sum_by, Option, Some, None, slice_get, slice_index_or, unwrap_or, ◌≡◌, ◌<◌}
 use Rattle.std.specs.List.{range_with_len, list_any}
 use Rattle.std.specs.Option.{option_eq}
 use Rattle.c_program.specs.declared.tree.LocalVariable.{LocalVariable}
@@ -107,8 +107,11 @@ abbrev pub local_elements : List Function → ℕ → ℕ
 local_elements functions f = inlined own_elements functions (length functions) f
 
 -- whether a create names the function f as a start routine
+abbrev pub names_routine : ℕ → ThreadObject → Bool
+names_routine f object = option_eq nat_eq object.routine (Some f)
+
 abbrev pub is_routine : List ThreadObject → ℕ → Bool
-is_routine threads f = list_any (λ (object : ThreadObject). option_eq nat_eq object.routine (Some f)) threads
+is_routine threads f = list_any (names_routine f) threads
 
 -- the start routines that a create names, in the order of their definitions
 abbrev pub routines : Program → List ℕ
@@ -149,3 +152,8 @@ amount_of LocalElements function = own_elements function
 pub record IsTable (amount : Function → ℕ) (functions : List Function) (depth : ℕ) (table : List ℕ) : Type 0 where
   pub count : length table ≡ length functions
   pub each : (f : ℕ) → number_at table f ≡ capped (inlined amount functions depth f)
+
+-- for each function whether it is a start routine that a create names
+pub record IsMarked (threads : List ThreadObject) (count : ℕ) (marks : List Bool) : Type 0 where
+  pub count_is : length marks ≡ count
+  pub each : (f : ℕ) → f < count → slice_index_or marks f false ≡ is_routine threads f

@@ -14,7 +14,8 @@ use std::alloc::{AllocError, Global};
 /// Where the counts of what is inlined stop.
 pub const MOST: u32 = 1_000_000;
 
-fn plus(a: u32, b: u32) -> u32
+/// The sum, which stops at 1,000,000.
+pub(crate) fn plus(a: u32, b: u32) -> u32
     ensures { result ≡ capped (a + b) }
 {
     a.saturating_add(b).min(MOST)
@@ -263,10 +264,11 @@ fn nodes(alloc: Global, amount: Amount, functions: &[Function]) -> Result<Vec<No
     Ok(nodes)
 }
 
-fn at(table: &[u32], f: u32) -> u32
-    ensures { result ≡ number_at table.now f }
+/// The table's number at an index, 0 past its end.
+pub(crate) fn at(table: &[u32], index: usize) -> u32
+    ensures { result ≡ number_at table.now index }
 {
-    table.get(f as usize).copied().unwrap_or(0)
+    table.get(index).copied().unwrap_or(0)
 }
 
 /// A function's own amount with what the table has for the functions that it calls.
@@ -275,7 +277,7 @@ fn with_calls(node: &Node, table: &[u32]) -> u32
 {
     let mut total = plus(node.own, 0);
     for called in &node.calls {
-        total = plus(total, at(table, *called));
+        total = plus(total, at(table, *called as usize));
     }
     total
 }

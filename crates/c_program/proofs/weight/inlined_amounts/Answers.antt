@@ -1,9 +1,7 @@
 -- The table of each turn is that of calls one deeper; one that stays as it is is that of all deeper calls.
-use Rattle.std.proofs.Common.{◌≡◌, ◌≤◌, rules, map, length, add-one, arith, sym}
-use Rattle.c_program.specs.Plain.{function_of}
-use Rattle.c_program.specs.Node.{node_of, node_view}
+use Rattle.std.proofs.Common.{◌≡◌, ◌≤◌, rules, length, add-one, arith}
 use Rattle.c_program.specs.Weight.{amount_of}
-use Rattle.c_program.proofs.Tables.{deeper_of, table_deeper, table_last}
+use Rattle.c_program.proofs.Tables.{table_deeper, table_last}
 use Rattle.c_program.proofs.weight.inlined_amounts.Goals as goal
 
 pub loop-preserved : goal.loop-preserved

@@ -6,7 +6,7 @@ ghost use Rattle.c_program.specs.Types.{type_of, unary_type, binary_type};
 use crate::tree::{BinaryOperator, Expression, UnaryOperator};
 use hls_ints::CType;
 
-fn unary(operator: UnaryOperator, ty: CType) -> CType
+fn unary_result(operator: UnaryOperator, ty: CType) -> CType
     ensures { result ≡ unary_type operator ty }
 {
     match operator {
@@ -18,7 +18,7 @@ fn unary(operator: UnaryOperator, ty: CType) -> CType
     }
 }
 
-fn binary(operator: BinaryOperator, ty: CType) -> CType
+fn binary_result(operator: BinaryOperator, ty: CType) -> CType
     ensures { result ≡ binary_type operator ty }
 {
     match operator {
@@ -35,8 +35,8 @@ fn binary(operator: BinaryOperator, ty: CType) -> CType
     }
 }
 
-/// The type of an expression.
-pub fn kind(expression: &Expression) -> CType
+/// The type of an expression (C99 6.5).
+pub fn expression_type(expression: &Expression) -> CType
     ensures { result ≡ type_of (expression_of expression.now) }
 {
     match expression {
@@ -44,7 +44,7 @@ pub fn kind(expression: &Expression) -> CType
         | Expression::Variable(_, _, ty)
         | Expression::Element(_, _, _, ty, _)
         | Expression::Cast(ty, _) => *ty,
-        Expression::Unary(operator, ty, _) => unary(*operator, *ty),
-        Expression::Binary(operator, ty, _, _) => binary(*operator, *ty),
+        Expression::Unary(operator, ty, _) => unary_result(*operator, *ty),
+        Expression::Binary(operator, ty, _, _) => binary_result(*operator, *ty),
     }
 }
