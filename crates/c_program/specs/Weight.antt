@@ -1,5 +1,6 @@
 -- The weight of a program, which bounds the cycles between two of its steps, and its number of hardware threads.
-use Rattle.std.specs.Prelude.{ℕ, zero, suc, ◌+◌, ◌*◌, min, Bool, false, nat_eq, List, ◌∷◌, length, filter, sum_by, Option, Some, None, slice_get, slice_index_or, unwrap_or, ◌≡◌, ◌<◌}
+use Rattle.std.specs.Prelude.{ℕ, zero, suc, ◌+◌, ◌*◌, min, Bool, false, nat_eq, List, ◌∷◌, length, filter, sum_by, Option, Some, None}
+use Rattle.std.specs.Prelude.{slice_get, slice_index_or, unwrap_or, ◌≡◌, ◌<◌}
 use Rattle.std.specs.List.{range_with_len, list_any}
 use Rattle.std.specs.Option.{option_eq}
 use Rattle.c_program.specs.declared.tree.LocalVariable.{LocalVariable}

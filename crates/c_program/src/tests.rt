@@ -10,10 +10,7 @@ use hls_ints::CType;
 use std::alloc::{AllocError, Global};
 use std::test::Fail;
 
-const INT: CType = CType {
-    width: 32,
-    signed: true,
-};
+const INT: CType = CType::INT;
 
 const SCALAR: LocalVariable = LocalVariable { ty: INT, length: 1 };
 

@@ -1,7 +1,8 @@
 // The functions that a program's hardware threads run, and how many threads there are.
 ghost use Rattle.std.specs.Prelude.{◌≡◌, ◌<◌, ◌||◌, ℕ, false, length, sum_by, IfOk, slice_index_or};
 ghost use Rattle.c_program.specs.Plain.{program_of};
-ghost use Rattle.c_program.specs.Weight.{capped, names_routine, IsMarked, is_routine, thread_functions, thread_count, weight, function_weight, IsTable, own_weight, number_at};
+ghost use Rattle.c_program.specs.Weight.{capped, names_routine, IsMarked, is_routine, thread_functions, thread_count, weight};
+ghost use Rattle.c_program.specs.Weight.{function_weight, IsTable, own_weight, number_at};
 
 use crate::tree::{Program, ThreadObject};
 use crate::weight::{Amount, at, inlined_amounts, plus};

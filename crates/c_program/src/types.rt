@@ -10,10 +10,7 @@ fn unary_result(operator: UnaryOperator, ty: CType) -> CType
     ensures { result ≡ unary_type operator ty }
 {
     match operator {
-        UnaryOperator::Not => CType {
-            width: 32,
-            signed: true,
-        },
+        UnaryOperator::Not => CType::INT,
         UnaryOperator::Plus | UnaryOperator::Minus | UnaryOperator::Complement => ty,
     }
 }
@@ -27,10 +24,7 @@ fn binary_result(operator: BinaryOperator, ty: CType) -> CType
         | BinaryOperator::LessEqual
         | BinaryOperator::GreaterEqual
         | BinaryOperator::Equal
-        | BinaryOperator::NotEqual => CType {
-            width: 32,
-            signed: true,
-        },
+        | BinaryOperator::NotEqual => CType::INT,
         _ => ty,
     }
 }

@@ -1,10 +1,13 @@
 // The weight of a program's functions, with all that is inlined in them.
 ghost use Rattle.std.specs.Prelude.{◌≡◌, ◌+◌, ◌++◌, length, map, sum_by, IfOk};
-ghost use Rattle.c_program.specs.Plain.{expression_of, expressions_of, place_of, condition_of, right_side_of, object_place_of, thread_call_of, statement_of, returned_of, function_of, program_of};
+ghost use Rattle.c_program.specs.Plain.{expression_of, expressions_of, place_of, condition_of, right_side_of, object_place_of};
+ghost use Rattle.c_program.specs.Plain.{thread_call_of, statement_of, returned_of, function_of, program_of};
 ghost use Rattle.c_program.specs.declared.weight.Node.{Node};
 ghost use Rattle.c_program.specs.Node.{node_of, node_view};
 ghost use Rattle.c_program.specs.Calls.{calls_of, calls_of_right, calls_of_returned};
-ghost use Rattle.c_program.specs.Weight.{capped, expression_weight, expressions_weight, condition_weight, place_weight, object_place_weight, arguments_weight, right_side_weight, returned_weight, thread_call_weight, statement_weight, own_weight, own_elements, amount_of, number_at, IsTable};
+ghost use Rattle.c_program.specs.Weight.{capped, expression_weight, expressions_weight, condition_weight, place_weight};
+ghost use Rattle.c_program.specs.Weight.{object_place_weight, arguments_weight, right_side_weight, returned_weight, thread_call_weight};
+ghost use Rattle.c_program.specs.Weight.{statement_weight, own_weight, own_elements, amount_of, number_at, IsTable};
 
 use crate::tree::{
     Condition, Expression, Function, ObjectPlace, Place, Program, RightSide, Statement, ThreadCall,

@@ -10,7 +10,8 @@ use Rattle.c_program.specs.declared.tree.BinaryOperator.TheVariants.{Multiply, D
 use Rattle.c_program.specs.declared.tree.ReturnType.TheVariants.{Integer}
 use Rattle.c_program.specs.Tree.{Expression, Place, Condition, RightSide, ThreadCall, Piece, Statement, Function, Program}
 use Rattle.c_program.specs.Resolved.{scalar}
-use Rattle.c_program.proofs.Samples.{number, local, local_set, local_raised, return_zero, list_of, main_of, alone, is_below, counted, print_int, null, return_null, shared_by, single, called, three_threads, racing_threads}
+use Rattle.c_program.proofs.Samples.{number, local, local_set, local_raised, return_zero, list_of, main_of, alone, is_below, counted}
+use Rattle.c_program.proofs.Samples.{print_int, null, return_null, shared_by, single, called, three_threads, racing_threads}
 use Rattle.thread_semantics.specs.declared.cause.UndefinedCause.{UndefinedCause}
 use Rattle.thread_semantics.specs.declared.cause.UndefinedCause.TheVariants as undefined
 use Rattle.thread_semantics.specs.declared.cause.BlockedCause.{BlockedCause}
@@ -41,7 +42,9 @@ abbrev ends_in : Program → List ℕ → List ℕ → Type 0
 ends_in P list output = seen (after P list) ≡ Shows true output
 
 -- int x = 6; x = x * 7; printf("%d\n", x); return 0;
-first_run : ends_in (alone (local_set 0 (number 6) ∷ local_set 0 (Expression.Binary Multiply int_type (local 0) (number 7)) ∷ print_int (local 0) ∷ return_zero ∷ [])) (steps 0 5) (52 ∷ 50 ∷ 10 ∷ [])
+first_run :
+    ends_in (alone (local_set 0 (number 6) ∷ local_set 0 (Expression.Binary Multiply int_type (local 0) (number 7)) ∷ print_int (local 0) ∷
+    return_zero ∷ [])) (steps 0 5) (52 ∷ 50 ∷ 10 ∷ [])
 unfolding wrapped residue_of signed_value_of result_of digits
 first_run = refl
 
@@ -51,7 +54,9 @@ unfolding wrapped residue_of signed_value_of result_of digits
 counting = refl
 
 -- int x = 1 << 31; is undefined at x
-shifting : seen (after (alone (Statement.Assign 19 (Place.Scalar Automatic 0 int_type) (RightSide.Value (Expression.Binary ShiftLeft int_type (number 1) (number 31))) ∷ return_zero ∷ [])) (steps 0 1)) ≡ Breaks 19 (undefined.Arithmetic fault.Shift)
+shifting :
+    seen (after (alone (Statement.Assign 19 (Place.Scalar Automatic 0 int_type) (RightSide.Value (Expression.Binary ShiftLeft int_type (number 1) (number 31))) ∷
+    return_zero ∷ [])) (steps 0 1)) ≡ Breaks 19 (undefined.Arithmetic fault.Shift)
 unfolding wrapped residue_of signed_value_of result_of
 shifting = refl
 
@@ -79,7 +84,10 @@ unfolding divided wrapped residue_of signed_value_of result_of
 no_divisor = refl
 
 -- int i; i += 1 / 0; evaluates the right side before the old value, which isn't written
-right_side_first : seen (after (alone (Statement.Declare 0 0 0 ∷ Statement.Update 7 (Place.Scalar Automatic 0 int_type) Add int_type (Expression.Binary Divide int_type (number 1) (number 0)) ∷ [])) (steps 0 2)) ≡ Breaks 7 (undefined.Arithmetic fault.Divisor)
+right_side_first :
+    seen (after (alone (Statement.Declare 0 0 0 ∷
+    Statement.Update 7 (Place.Scalar Automatic 0 int_type) Add int_type (Expression.Binary Divide int_type (number 1) (number 0)) ∷
+    [])) (steps 0 2)) ≡ Breaks 7 (undefined.Arithmetic fault.Divisor)
 unfolding wrapped residue_of signed_value_of result_of
 right_side_first = refl
 
@@ -88,17 +96,26 @@ unfolding wrapped residue_of signed_value_of result_of
 old_value_then = refl
 
 -- int i; for (i = 0; i < 2; i++) do { break; } while (1); return 0; leaves the inner loop alone
-inner_break : ends_in (alone (Statement.Declare 0 0 0 ∷ counted 0 2 (Statement.DoWhile (Statement.Block (Statement.Sequence Statement.Break Statement.Done)) (Condition.Operand 0 (number 1))) ∷ return_zero ∷ [])) (steps 0 8) []
+inner_break :
+    ends_in (alone (Statement.Declare 0 0 0 ∷
+    counted 0 2 (Statement.DoWhile (Statement.Block (Statement.Sequence Statement.Break Statement.Done)) (Condition.Operand 0 (number 1))) ∷
+    return_zero ∷ [])) (steps 0 8) []
 unfolding wrapped residue_of signed_value_of result_of
 inner_break = refl
 
 -- int i; for (i = 0; i < 2; i++) do { continue; } while (0); return 0; asks the inner condition at each turn
-inner_continue : ends_in (alone (Statement.Declare 0 0 0 ∷ counted 0 2 (Statement.DoWhile (Statement.Block (Statement.Sequence Statement.Continue Statement.Done)) (Condition.Operand 0 (number 0))) ∷ return_zero ∷ [])) (steps 0 10) []
+inner_continue :
+    ends_in (alone (Statement.Declare 0 0 0 ∷
+    counted 0 2 (Statement.DoWhile (Statement.Block (Statement.Sequence Statement.Continue Statement.Done)) (Condition.Operand 0 (number 0))) ∷
+    return_zero ∷ [])) (steps 0 10) []
 unfolding wrapped residue_of signed_value_of result_of
 inner_continue = refl
 
 -- int i; for (i = 0; i < 2; i++) { if (i) continue; printf("%d\n", i); } return 0;
-outer_continue : ends_in (alone (Statement.Declare 0 0 0 ∷ counted 0 2 (Statement.Block (list_of (Statement.If (Condition.Operand 0 (local 0)) Statement.Continue Statement.Done ∷ print_int (local 0) ∷ []))) ∷ return_zero ∷ [])) (steps 0 12) (48 ∷ 10 ∷ [])
+outer_continue :
+    ends_in (alone (Statement.Declare 0 0 0 ∷
+    counted 0 2 (Statement.Block (list_of (Statement.If (Condition.Operand 0 (local 0)) Statement.Continue Statement.Done ∷ print_int (local 0) ∷
+    []))) ∷ return_zero ∷ [])) (steps 0 12) (48 ∷ 10 ∷ [])
 unfolding wrapped residue_of signed_value_of result_of digits
 outer_continue = refl
 

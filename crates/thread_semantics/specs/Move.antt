@@ -15,7 +15,9 @@ use Rattle.thread_semantics.specs.declared.cause.UndefinedCause.{UndefinedCause}
 use Rattle.thread_semantics.specs.declared.cause.UndefinedCause.TheVariants.{NoValue}
 use Rattle.thread_semantics.specs.Memory.{Location, Memory, Evaluation, Gives, Fails, and_then, with_element}
 use Rattle.thread_semantics.specs.Value.{value, values, binary_value, checked_index, load}
-use Rattle.thread_semantics.specs.Work.{Work, Do, Ask, Store, Hand, Drop, Perform, Act, Print, Create, Join, MutexInit, MutexDestroy, MutexLock, MutexUnlock, BarrierInit, BarrierDestroy, BarrierWait, settled, Onward, decided, first_operand, first_offset, waiting_parts}
+use Rattle.thread_semantics.specs.Work.{Work, Do, Ask, Store, Hand, Drop, Perform, Act, Print, Create, Join, MutexInit, MutexDestroy}
+use Rattle.thread_semantics.specs.Work.{MutexLock, MutexUnlock, BarrierInit, BarrierDestroy, BarrierWait, settled, Onward, decided}
+use Rattle.thread_semantics.specs.Work.{first_operand, first_offset, waiting_parts}
 use Rattle.thread_semantics.specs.State.{Frame, begun}
 
 pub record Write : Type 0 where

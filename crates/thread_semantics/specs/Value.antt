@@ -3,13 +3,16 @@ use Rattle.std.specs.Prelude.{ℕ, not, if◌then◌else◌, nat_lt, List, [], �
 use Rattle.hls_ints.specs.declared.fault.ArithmeticFault.{ArithmeticFault}
 use Rattle.hls_ints.specs.Types.{IntegerType, wrapped}
 use Rattle.hls_ints.specs.Residues.{bit_of}
-use Rattle.hls_ints.specs.Operators.{negation_of, sum_of, difference_of, product_of, quotient_of, remainder_of, left_shift_of, right_shift_of, complement_of, and_of, exclusive_or_of, inclusive_or_of, less_of, equal_of, is_zero}
+use Rattle.hls_ints.specs.Operators.{negation_of, sum_of, difference_of, product_of, quotient_of, remainder_of, left_shift_of}
+use Rattle.hls_ints.specs.Operators.{right_shift_of, complement_of, and_of, exclusive_or_of, inclusive_or_of, less_of, equal_of, is_zero}
 use Rattle.c_program.specs.declared.tree.Storage.{Storage}
 use Rattle.c_program.specs.declared.tree.Storage.TheVariants.{Automatic, Static}
 use Rattle.c_program.specs.declared.tree.UnaryOperator.{UnaryOperator}
 use Rattle.c_program.specs.declared.tree.UnaryOperator.TheVariants.{Plus, Minus, Complement, Not}
 use Rattle.c_program.specs.declared.tree.BinaryOperator.{BinaryOperator}
-use Rattle.c_program.specs.declared.tree.BinaryOperator.TheVariants.{Multiply, Divide, Remainder, Add, Subtract, ShiftLeft, ShiftRight, Less, Greater, LessEqual, GreaterEqual, Equal, NotEqual, And, ExclusiveOr, InclusiveOr}
+use Rattle.c_program.specs.declared.tree.BinaryOperator.TheVariants.{Multiply, Divide, Remainder, Add, Subtract, ShiftLeft, ShiftRight}
+use Rattle.c_program.specs.declared.tree.BinaryOperator.TheVariants.{Less, Greater, LessEqual, GreaterEqual, Equal, NotEqual, And}
+use Rattle.c_program.specs.declared.tree.BinaryOperator.TheVariants.{ExclusiveOr, InclusiveOr}
 use Rattle.c_program.specs.Tree.{Expression}
 use Rattle.thread_semantics.specs.declared.cause.UndefinedCause.TheVariants.{Arithmetic, Index, Unwritten}
 use Rattle.thread_semantics.specs.Memory.{Location, Memory, Evaluation, Gives, Fails, and_then, element}
