@@ -5,7 +5,8 @@ use Rattle.std.proofs.lemmas.List.{length-replicate}
 use Rattle.c_program.specs.declared.weight.Node.{Node}
 use Rattle.c_program.specs.Tree.{Function, Program}
 use Rattle.c_program.specs.Calls.{calls_of}
-use Rattle.c_program.specs.Weight.{capped, inlined, with_callees, number_at, IsTable, own_weight, thread_functions, weight, function_weight}
+use Rattle.c_program.specs.Weight.{inlined, with_callees, own_weight, thread_functions, weight, function_weight}
+use Rattle.c_program.specs.Counting.{capped, number_at, IsTable}
 use Rattle.c_program.specs.Node.{node_of, node_view}
 
 -- sums of numbers that are equal up to the cap are equal up to the cap

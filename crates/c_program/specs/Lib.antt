@@ -3,5 +3,7 @@ pub mod Plain
 pub mod Types
 pub mod Calls
 pub mod Weight
-pub mod Resolved
+pub mod Limits
+pub mod Counting
 pub mod Node
+pub mod Resolved

@@ -1,12 +1,9 @@
 -- The weight of a program, which bounds the cycles between two of its steps, and its number of hardware threads.
-use Rattle.std.specs.Prelude.{ℕ, zero, suc, ◌+◌, ◌*◌, min, Bool, false, nat_eq, List, ◌∷◌, length, filter, sum_by, Option, Some, None}
-use Rattle.std.specs.Prelude.{slice_get, slice_index_or, unwrap_or, ◌≡◌, ◌<◌}
+use Rattle.std.specs.Prelude.{ℕ, zero, suc, ◌+◌, ◌*◌, Bool, nat_eq, List, ◌∷◌, length, filter, sum_by, Option, Some, None}
+use Rattle.std.specs.Prelude.{slice_get}
 use Rattle.std.specs.List.{range_with_len, list_any}
 use Rattle.std.specs.Option.{option_eq}
-use Rattle.c_program.specs.declared.tree.LocalVariable.{LocalVariable}
 use Rattle.c_program.specs.declared.tree.ThreadObject.{ThreadObject}
-use Rattle.c_program.specs.declared.weight.Amount.{Amount}
-use Rattle.c_program.specs.declared.weight.Amount.TheVariants.{Weight, LocalElements}
 use Rattle.c_program.specs.Tree.{Expression, Place, Condition, RightSide, ObjectPlace, ThreadCall, Statement, Function, Program}
 use Rattle.c_program.specs.Calls.{calls_of}
 
@@ -83,12 +80,9 @@ statement_weight (Statement.Call offset function arguments) = arguments_weight a
 statement_weight (Statement.Print offset format arguments) = expressions_weight arguments + 1
 statement_weight (Statement.Thread offset call) = thread_call_weight call + 1
 
--- a function's own weight, and how many local elements it has itself, parameters among them
+-- a function's own weight
 abbrev pub own_weight : Function → ℕ
 own_weight function = statement_weight function.body + 1
-
-abbrev pub own_elements : Function → ℕ
-own_elements function = sum_by (λ (l : LocalVariable). l.length) function.locals
 
 -- a function's own amount and, once for each call, what its callee has with all that is inlined there
 abbrev pub with_callees : (Function → ℕ) → (ℕ → ℕ) → Option Function → ℕ
@@ -103,9 +97,6 @@ inlined amount functions (suc depth) f = with_callees amount (inlined amount fun
 -- where no call leads back to its caller, calls are less deep than there are functions
 abbrev pub function_weight : List Function → ℕ → ℕ
 function_weight functions f = inlined own_weight functions (length functions) f
-
-abbrev pub local_elements : List Function → ℕ → ℕ
-local_elements functions f = inlined own_elements functions (length functions) f
 
 -- whether a create names the function f as a start routine
 abbrev pub names_routine : ℕ → ThreadObject → Bool
@@ -132,29 +123,3 @@ bound P = 64 * (weight P + 1)
 -- main, and the elements of the pthread_t objects
 abbrev pub thread_count : Program → ℕ
 thread_count P = 1 + sum_by (λ (object : ThreadObject). object.length) P.threads
-
--- A count that may grow past all limits stops at this number.
-abbrev pub most : ℕ
-most = 1000000
-
-abbrev pub capped : ℕ → ℕ
-capped n = min n most
-
--- the number at an index of a table, 0 past its end
-abbrev pub number_at : List ℕ → ℕ → ℕ
-number_at table f = unwrap_or (slice_get table f) 0
-
--- what a function's own amount may be
-abbrev pub amount_of : Amount → Function → ℕ
-amount_of Weight function = own_weight function
-amount_of LocalElements function = own_elements function
-
--- for each function its amount with all that is inlined in it, calls being less than depth deep
-pub record IsTable (amount : Function → ℕ) (functions : List Function) (depth : ℕ) (table : List ℕ) : Type 0 where
-  pub count : length table ≡ length functions
-  pub each : (f : ℕ) → number_at table f ≡ capped (inlined amount functions depth f)
-
--- for each function whether it is a start routine that a create names
-pub record IsMarked (threads : List ThreadObject) (count : ℕ) (marks : List Bool) : Type 0 where
-  pub count_is : length marks ≡ count
-  pub each : (f : ℕ) → f < count → slice_index_or marks f false ≡ is_routine threads f

@@ -5,9 +5,12 @@ ghost use Rattle.c_program.specs.Plain.{thread_call_of, statement_of, returned_o
 ghost use Rattle.c_program.specs.declared.weight.Node.{Node};
 ghost use Rattle.c_program.specs.Node.{node_of, node_view};
 ghost use Rattle.c_program.specs.Calls.{calls_of, calls_of_right, calls_of_returned};
-ghost use Rattle.c_program.specs.Weight.{capped, expression_weight, expressions_weight, condition_weight, place_weight};
+ghost use Rattle.c_program.specs.Weight.{expression_weight, expressions_weight, condition_weight, place_weight};
+ghost use Rattle.c_program.specs.Counting.{capped};
 ghost use Rattle.c_program.specs.Weight.{object_place_weight, arguments_weight, right_side_weight, returned_weight, thread_call_weight};
-ghost use Rattle.c_program.specs.Weight.{statement_weight, own_weight, own_elements, amount_of, number_at, IsTable};
+ghost use Rattle.c_program.specs.Weight.{statement_weight, own_weight};
+ghost use Rattle.c_program.specs.Counting.{amount_of, number_at, IsTable};
+ghost use Rattle.c_program.specs.Limits.{own_elements};
 
 use crate::tree::{
     Condition, Expression, Function, ObjectPlace, Place, Program, RightSide, Statement, ThreadCall,

@@ -1,6 +1,6 @@
 use Rattle.std.proofs.Common.{◌≡◌, take, sum_by}
 use Rattle.c_program.specs.declared.tree.LocalVariable.{LocalVariable}
-use Rattle.c_program.specs.Weight.{capped}
+use Rattle.c_program.specs.Counting.{capped}
 use Rattle.c_program.proofs.weight.elements.Given as goal
 
 abbrev pub invariant-loop-local : goal.invariant-loop-local
