@@ -1,0 +1,9 @@
+pub mod Tree
+pub mod Plain
+pub mod Types
+pub mod Calls
+pub mod Weight
+pub mod Limits
+pub mod Counting
+pub mod Node
+pub mod Resolved
