@@ -37,7 +37,7 @@ pub record Advances (bank : Location → ℕ) (b : Block) (p : Plan) (q : Slot) 
   pub words : ℕ → ℤ
   pub wired : IsWired bank b p q wire
   pub read : WordsAfter bank b p q wire m (answered b p q grant) words
-  pub leaves : is_ready b p q grant ≡ true → GoesOn b p q (answered b p q grant) wire words r ⊎ Leaves b p q (answered b p q grant) wire r
+  pub leaves : is_ready b p q grant ≡ true → GoesOn b p q wire words r ⊎ Leaves b p q wire r
   pub waits : is_ready b p q grant ≡ false → is_answered b p q grant ≡ true → Stays b p q (answered b p q grant) words r
   pub rests : is_ready b p q grant ≡ false → is_answered b p q grant ≡ false → r ≡ q
 

@@ -8,3 +8,6 @@ pub mod Closed
 pub mod Law
 pub mod InFlight
 pub mod Hardware
+pub mod Net
+pub mod Headline
+pub mod Following

@@ -61,8 +61,6 @@ pub record KeepsOrders (b : Block) (p : Plan) : Type 0 where
   pub final : (k : ℕ) → IsUsedAtEnd b k → k < size b
   -- no operation starts before its operands are there
   pub waits : (j k : ℕ) → k < size b → Uses (operation_at b k) j → last_state b p j ≤ p.start k
-  -- only the value of a simple one is used in its own last state
-  pub chained : (j k : ℕ) → k < size b → Uses (operation_at b k) j → last_state b p j ≡ p.start k → is_simple (operation_at b j).kind ≡ true
   pub ends : (k : ℕ) → k < size b → last_state b p k < p.states
   -- accesses of one global stay in their order, and a word read is taken before the next access
   pub banks : (j k x : ℕ) (v w : Bool) → j < k → k < size b → target_of (operation_at b j).kind ≡ OfGlobal x v → target_of (operation_at b k).kind ≡ OfGlobal x w →

@@ -118,15 +118,13 @@ module _ (b : Block) (p : Plan) where
   AllGranted q grants = (k : ℕ) → k < size b → asks q k ≡ true → granted_with q grants k ≡ true
 
   -- the state is left for the next one of the block
-  pub record GoesOn (q : Slot) (grants : ℕ → Bool) (wire words : ℕ → ℤ) (r : Slot) : Type 0 where
-    pub all_granted : AllGranted q grants
+  pub record GoesOn (q : Slot) (wire words : ℕ → ℤ) (r : Slot) : Type 0 where
     pub within : suc q.state < p.states
     pub registers : RegistersAfter q wire r.registers
     pub slot : r ≡ gone_on q wire words r.registers
 
   -- the block is left. Its registers and the words are of no use any more
-  pub record Leaves (q : Slot) (grants : ℕ → Bool) (wire : ℕ → ℤ) (r : Slot) : Type 0 where
-    pub all_granted : AllGranted q grants
+  pub record Leaves (q : Slot) (wire : ℕ → ℤ) (r : Slot) : Type 0 where
     pub at_end : suc q.state ≡ p.states
     pub stage : r.stage ≡ leads_to (operand_now q wire) b.next
     pub state : r.state ≡ 0
@@ -177,13 +175,13 @@ module _ (bank : Location → ℕ) where
       pub read : WordsAfter q wire m grants words
       pub accesses : es ≡ accesses_where grants (bank_access_now b p q wire) (size b) 0
 
-    -- a cycle within the block
+    -- a cycle within the block: the state is kept, or left once all its requests are granted
     abbrev pub Passes : Slot → Memory ℤ → List (Access ℤ) → Slot → Type 0
-    Passes q m es r = (t : Works q m es) × (Stays b p q t.grants t.words r ⊎ GoesOn b p q t.grants t.wire t.words r)
+    Passes q m es r = (t : Works q m es) × (Stays b p q t.grants t.words r ⊎ (AllGranted b p q t.grants × GoesOn b p q t.wire t.words r))
 
     -- the last cycle of the block
     abbrev pub Finishes : Slot → Memory ℤ → List (Access ℤ) → Slot → Type 0
-    Finishes q m es r = (t : Works q m es) × Leaves b p q t.grants t.wire r
+    Finishes q m es r = (t : Works q m es) × AllGranted b p q t.grants × Leaves b p q t.wire r
 
     -- one cycle of the slot
     abbrev pub Turns : Slot → Memory ℤ → List (Access ℤ) → Slot → Type 0

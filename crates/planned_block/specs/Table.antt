@@ -49,7 +49,7 @@ any_final (f ∷ fs) k = uses_in f.value k || any_final fs k
 
 abbrev pub next_uses : Next → ℕ → Bool
 next_uses (Jump l) k = false
-next_uses (Branch test if_nonzero if_zero) k = uses_in test k
+next_uses (Branch test _ _) k = uses_in test k
 
 -- the last state in which the value of k is used, or 0: variables are set, and the branch is taken, in the block's last state
 abbrev pub last_use : Block → Plan → ℕ → ℕ
