@@ -1,13 +1,13 @@
 -- A module that advances turns, where it moves.
 use Rattle.std.specs.Prelude.{◌⊎◌, ℤ, Bool, true, false, ◌&&◌, ◌||◌, not, if◌then◌else◌}
-use Rattle.std.proofs.Common.{inr, ◌≡◌, ◌≢◌, ℕ, zero, suc, ◌+◌, ◌<◌, ◌≤◌, List, [], ◌∷◌, ◌++◌, refl, sym, ap, ◌∙◌, subst, ⊎_elim, inl, arith}
+use Rattle.std.proofs.Common.{inr, ◌≡◌, ◌≢◌, ℕ, zero, suc, ◌+◌, ◌<◌, ◌≤◌, List, [], ◌++◌, refl, sym, ap, ◌∙◌, subst, ⊎_elim, inl, arith}
 use Rattle.interleaving.specs.Memory.{Location, Memory, Access, Touches, AgreeOn}
 use Rattle.interleaving.proofs.Accesses.{touches_left, touches_right, touches_either}
 use Rattle.interleaving.proofs.Update.{same_or_not}
-use Rattle.planned_block.specs.Block.{BankRead, Block, operation_at, size, element}
+use Rattle.planned_block.specs.Block.{Block, operation_at, size, element}
 use Rattle.planned_block.specs.Plan.{Plan}
 use Rattle.planned_block.specs.Run.{bank_access}
-use Rattle.planned_block.specs.Slot.{Slot, accesses_where, operand_now, bank_access_now, asks, granted_with, AllGranted, Works, Passes, Turns}
+use Rattle.planned_block.specs.Slot.{Slot, accesses_where, operand_now, bank_access_now, asks, granted_with, AllGranted, Works, Turns}
 use Rattle.planned_block.specs.Advance.{all_below, any_below, requests, answered, is_granted, is_ready, is_answered, Advances}
 use Rattle.planned_block.specs.Net.{accesses_of_cycle}
 use Rattle.planned_block.proofs.Bits.{both_true}
@@ -38,6 +38,10 @@ none_tells f (suc n) k e lt = ⊎_elim (λ (s : k ≡ n). ap f s ∙ right (any_
     right : (a c : Bool) → (a || c) ≡ false → c ≡ false
     right true c z = absurd cc
     right false c z = z
+
+pub all_true : (f : ℕ → Bool) (n : ℕ) → ((k : ℕ) → k < n → f k ≡ true) → all_below f n ≡ true
+all_true f zero each = refl
+all_true f (suc n) each = ap (λ c. c && f n) (all_true f n (λ k lt. each k (omega arith))) ∙ each n (omega arith)
 
 none_made : (f : ℕ → Bool) (made : ℕ → List (Access ℤ)) (r n : ℕ) → ((k : ℕ) → n ≤ k → k < n + r → f k ≡ false) → accesses_where f made r n ≡ []
 none_made f made zero n none = refl
@@ -114,8 +118,11 @@ module _ (bank : Location → ℕ) (b : Block) (p : Plan) where
           inl (⊎_elim (λ g. inl (works, inr (all e, g))) (λ l. inr (works, all e, l)) (a.leaves e), ap (λ c. c || is_answered b p q grant) e)
       by_bits false e true f = inl (inl (works, inl (a.waits e f)), ap (λ c. c || is_answered b p q grant) e ∙ f)
       by_bits false e false f =
-          inr (a.rests e f, none_made (answered b p q grant) (bank_access_now b p q wire) (size b) 0 (λ k _ lt. none_tells (answered b p q grant) (size b) k f (omega arith)),
-          ap (λ c. c || is_answered b p q grant) e ∙ f)
+          inr (
+            a.rests e f,
+            none_made (answered b p q grant) (bank_access_now b p q wire) (size b) 0 (λ k _ lt. none_tells (answered b p q grant) (size b) k f (omega arith)),
+            ap (λ c. c || is_answered b p q grant) e ∙ f,
+          )
 
 -- who passes is among those
 among : (f : ℕ → Bool) (made : ℕ → List (Access ℤ)) (count n k : ℕ) (l : Location) → n ≤ k → k < n + count → f k ≡ true → Touches l (made k) → Touches l (accesses_where f made count n)

@@ -1,15 +1,15 @@
 -- The law of a planned block, for any cycles.
-use Rattle.std.specs.Prelude.{◌⊎◌, nat_eq, nat_lt, ◌&&◌, ℤ, pos, Bool, true, false, ◌||◌}
-use Rattle.std.proofs.Common.{inr, ◌≡◌, ◌≢◌, ℕ, zero, suc, ◌+◌, ◌<◌, ◌≤◌, List, [], ◌∷◌, ◌++◌, refl, sym, ap, ◌∙◌, subst, ⊎_elim, inl, arith, append_assoc, append-nil}
+use Rattle.std.specs.Prelude.{nat_eq, nat_lt, ◌&&◌, ℤ, Bool, true, false, ◌||◌}
+use Rattle.std.proofs.Common.{inr, ◌≡◌, ℕ, ◌<◌, List, [], ◌∷◌, ◌++◌, refl, sym, ap, ◌∙◌, subst, ⊎_elim, arith, append_assoc, append-nil}
 use Rattle.interleaving.specs.Memory.{Location, Memory, Access, memory_after, AgreeOn}
 use Rattle.interleaving.specs.AnyOrder.{Event, accesses_in, Remains}
 use Rattle.interleaving.proofs.AnyOrder.{remains_none, remains_all}
-use Rattle.planned_block.specs.Block.{Block, size, operand_value, finished, leads_to, operation_at, IsOrdered}
+use Rattle.planned_block.specs.Block.{Block, size, operand_value, finished, leads_to, IsOrdered}
 use Rattle.planned_block.specs.Plan.{Plan, KeepsOrders}
 use Rattle.planned_block.specs.Run.{Running, bank_events_at, array_events_at, events_from, block_run}
-use Rattle.planned_block.specs.Slot.{AreBanks, Slot, accesses_where, was_granted, stayed, gone_on, AllGranted, Works, Passes, Finishes, Stays, GoesOn}
+use Rattle.planned_block.specs.Slot.{AreBanks, Slot, accesses_where, was_granted, AllGranted, Passes, Stays, GoesOn}
 use Rattle.planned_block.specs.InFlight.{events_but, started_before, InFlight}
-use Rattle.planned_block.specs.Law.{Cycle, made_in, slot_after, IsAtStart, run, accesses_of_operation, PassThrough, IsOver, KeepsToRun, BlockKeepsToRun}
+use Rattle.planned_block.specs.Law.{Cycle, made_in, slot_after, run, PassThrough, KeepsToRun, BlockKeepsToRun}
 use Rattle.planned_block.proofs.Bits.{not_less_is}
 use Rattle.planned_block.proofs.Sweep.{events_where, undone_same, events_but-nothing}
 use Rattle.planned_block.proofs.Passing.{stays, goes_on, leaves, accesses_right, accesses_where-events, stored_next}

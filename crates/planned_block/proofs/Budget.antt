@@ -1,6 +1,6 @@
 -- What a slot has left is bounded by the latencies; code that follows its thread is lowered code.
-use Rattle.std.specs.Prelude.{◌⊎◌, ℤ, Bool, true, false, if◌then◌else◌}
-use Rattle.std.proofs.Common.{◌≡◌, ℕ, zero, suc, ◌+◌, ◌-◌, ◌*◌, ◌<◌, ◌≤◌, length, refl, sym, ap, ◌∙◌, subst, ⊎_elim, inl, inr, arith}
+use Rattle.std.specs.Prelude.{ℤ, Bool, true, false, if◌then◌else◌}
+use Rattle.std.proofs.Common.{ℕ, zero, suc, ◌+◌, ◌*◌, ◌<◌, ◌≤◌, length, sym, ap, ◌∙◌, arith}
 use Rattle.std.proofs.lemmas.Bool.Decides.{nat_tests}
 use Rattle.interleaving.specs.Memory.{Memory}
 use Rattle.interleaving.specs.Source.{Source}

@@ -1,7 +1,7 @@
 -- A cycle of a net of planned threads is a chain of their moves, and its runs follow one interleaving.
 use Rattle.std.specs.Prelude.{◌⊎◌, ℤ, Bool, true, false, ◌&&◌, ◌||◌, if◌then◌else◌}
-use Rattle.std.proofs.Common.{inr, ◌≡◌, ◌≢◌, ℕ, ◌<◌, List, [], refl, sym, ap, ◌∙◌, subst, ⊎_elim, inl}
-use Rattle.interleaving.specs.Memory.{Location, Memory, Access, memory_after}
+use Rattle.std.proofs.Common.{◌≡◌, ℕ, ◌<◌, List, [], refl, ap, ◌∙◌, subst, ⊎_elim, inl}
+use Rattle.interleaving.specs.Memory.{Access, memory_after}
 use Rattle.interleaving.specs.Hardware.{World}
 use Rattle.interleaving.specs.Cycle.{StaysInCycle, TurnsInCycle, ActsInCycle}
 use Rattle.interleaving.specs.Headline.{Refinement}
@@ -12,7 +12,7 @@ use Rattle.planned_block.specs.Plan.{Plan}
 use Rattle.planned_block.specs.Slot.{Slot, bank_access_now}
 use Rattle.planned_block.specs.Advance.{answered, is_ready, is_answered}
 use Rattle.planned_block.specs.Hardware.{changes_left, block_of, plan_of, PlannedThreads, hardware_of}
-use Rattle.planned_block.specs.Net.{Grants, accesses_of_cycle, place_owner, RunsInCycle, NetCycle, moves_in_block, moves, Serves, IsChain, SomebodyMoves}
+use Rattle.planned_block.specs.Net.{Grants, accesses_of_cycle, place_owner, RunsInCycle, NetCycle, moves, IsChain, SomebodyMoves}
 use Rattle.planned_block.specs.Headline.{BlocksArePlanned, PlannedProgram, PlannedRunsAsOne}
 use Rattle.planned_block.proofs.Advancing.{advances, ready_or_asks, some_tells, touched_by_one, turns_frame}
 use Rattle.planned_block.proofs.Planned.{blocks_planned, blocks_timed}
@@ -106,7 +106,7 @@ somebody_moves M w v g T serves n lt e =
       i,
       s.2,
       or_right (g.outside i) _ (ap (λ c. c && goes M w v g i) s.3
-      ∙ or_right (is_ready (b M w v g i) (p M w v g i) (w.slots i) (g.grant i)) _ (some_tells (answered (b M w v g i) (p M w v g i) (w.slots i) (g.grant i)) (size (b M w v g i)) s.1 s.4 s.5)),
+          ∙ or_right (is_ready (b M w v g i) (p M w v g i) (w.slots i) (g.grant i)) _ (some_tells (answered (b M w v g i) (p M w v g i) (w.slots i) (g.grant i)) (size (b M w v g i)) s.1 s.4 s.5)),
     ))
     (ready_or_asks M.bank (b M w v g n) (p M w v g n) (w.slots n) (g.grant n))
 

@@ -1,6 +1,6 @@
 -- Counts of requests to come.
-use Rattle.std.specs.Prelude.{◌⊎◌, nat_eq, nat_lt, ◌&&◌, Bool, true, false, ◌||◌, not, if◌then◌else◌}
-use Rattle.std.proofs.Common.{◌≡◌, ◌≢◌, ℕ, zero, suc, ◌+◌, ◌<◌, ◌≤◌, refl, sym, ap, ◌∙◌, ⊎_elim, inl, inr, arith}
+use Rattle.std.specs.Prelude.{nat_eq, nat_lt, ◌&&◌, Bool, true, false, ◌||◌, not, if◌then◌else◌}
+use Rattle.std.proofs.Common.{◌≡◌, ◌≢◌, ℕ, zero, suc, ◌<◌, ◌≤◌, refl, sym, ap, ◌∙◌, ⊎_elim, arith}
 use Rattle.interleaving.proofs.Update.{same_or_not}
 use Rattle.planned_block.specs.Hardware.{count_below}
 use Rattle.planned_block.proofs.Bits.{both_true, is_same, less_is, not_less_is, less_or_not}
@@ -58,4 +58,3 @@ granted_goes a s g c t = ⊎_elim (λ lt. ap (λ x. x || c) (less_is a (suc s) (
         let now : (nat_eq a s && g) ≡ true = sym (ap (λ x. x || (nat_eq a s && g)) (not_less_is a s le)) ∙ t in
         let e = is_same a s (both_true (nat_eq a s) g now).0 in
         omega arith
-

@@ -11,3 +11,4 @@ pub mod Planned
 pub mod Advancing
 pub mod Chaining
 pub mod Budget
+pub mod Total

@@ -1,6 +1,6 @@
 -- A planned block in flight, and one cycle of it.
-use Rattle.std.specs.Prelude.{◌⊎◌, nat_eq, nat_lt, ◌&&◌, ℤ, Bool, true, false, ◌||◌, not, if◌then◌else◌, Option, Some, None}
-use Rattle.std.proofs.Common.{inr, ◌≡◌, ◌≢◌, ℕ, zero, suc, ◌+◌, ◌<◌, ◌≤◌, List, [], ◌∷◌, ◌++◌, refl, sym, ap, ◌∙◌, subst, ⊎_elim, inl, arith, append-nil}
+use Rattle.std.specs.Prelude.{◌⊎◌, nat_eq, nat_lt, ◌&&◌, ℤ, Bool, true, false, ◌||◌, if◌then◌else◌}
+use Rattle.std.proofs.Common.{inr, ◌≡◌, ◌≢◌, ℕ, zero, suc, ◌+◌, ◌<◌, ◌≤◌, List, [], ◌∷◌, ◌++◌, refl, sym, ap, ◌∙◌, subst, ⊎_elim, inl, arith}
 use Rattle.std.proofs.Math.Path.{fun_ext}
 use Rattle.std.proofs.lemmas.Bool.Decides.{nat_tests}
 use Rattle.interleaving.specs.Memory.{Location, Memory, Access, memory_after, Touches, AreApart, AgreeOn}
@@ -316,8 +316,8 @@ module _ (bank : Location → ℕ) (banks : AreBanks bank) (b : Block) (p : Plan
           arrays_over l =
               arrays_right l
               ∙ remains_none first (accesses_in (events_from array_ev (size b) 0)) stored_next
-                (subst (Remains first (accesses_in (events_from array_ev (size b) 0)) stored_next)
-                (none_left array_ev (started_before p (suc q.state)) (size b) 0 (λ k _ lt. inr (less_is (p.start k) (suc q.state) (over k (omega arith))))) array_next) l
+              (subst (Remains first (accesses_in (events_from array_ev (size b) 0)) stored_next)
+              (none_left array_ev (started_before p (suc q.state)) (size b) 0 (λ k _ lt. inr (less_is (p.start k) (suc q.state) (over k (omega arith))))) array_next) l
 
           final_operand : (o : Operand) → ((j : ℕ) → UsesIn o j → IsUsedAtEnd b j) → operand_now b p q t.wire o ≡ operand_value q.variables values o
           final_operand o each =

@@ -1,20 +1,18 @@
 -- Hardware of planned blocks is planned.
-use Rattle.std.specs.Prelude.{◌⊎◌, nat_eq, nat_lt, ◌&&◌, ℤ, Bool, true, false, ◌||◌, not, if◌then◌else◌}
-use Rattle.std.proofs.Common.{inr, ◌≡◌, ◌≢◌, ℕ, zero, suc, ◌+◌, ◌-◌, ◌*◌, ◌<◌, ◌≤◌, List, [], ◌∷◌, ◌++◌, length, refl, sym, ap, ◌∙◌, subst, ⊎_elim, inl, arith}
+use Rattle.std.specs.Prelude.{nat_eq, nat_lt, ◌&&◌, ℤ, Bool, true, false, ◌||◌, not}
+use Rattle.std.proofs.Common.{inr, ◌≡◌, ℕ, suc, ◌+◌, ◌*◌, ◌<◌, ◌≤◌, List, [], ◌∷◌, ◌++◌, length, refl, sym, ap, ◌∙◌, subst, ⊎_elim, inl, arith}
 use Rattle.std.proofs.Math.Path.{fun_ext}
 use Rattle.interleaving.specs.Memory.{Location, Memory, Access, memory_after, Writes, AgreeOn}
-use Rattle.interleaving.specs.AnyOrder.{accesses_in, Remains}
-use Rattle.interleaving.specs.Source.{Source, Move, accesses_of, end_of, RunsAlone}
-use Rattle.interleaving.specs.Interleaving.{Reachable}
-use Rattle.interleaving.specs.Hardware.{World, Hardware, IsPlanned, Lands, FliesOrLands}
+use Rattle.interleaving.specs.Source.{Source, Move, accesses_of, end_of}
+use Rattle.interleaving.specs.Hardware.{Hardware, IsPlanned, FliesOrLands}
 use Rattle.interleaving.specs.Progress.{IsTimed}
 use Rattle.interleaving.proofs.AnyOrder.{remains_none, remains_frame}
 use Rattle.planned_block.specs.Block.{Block, operation_at, size, operand_value, finished, leads_to, IsOrdered}
-use Rattle.planned_block.specs.Plan.{Plan, KeepsOrders}
-use Rattle.planned_block.specs.Run.{block_run, array_events_at, events_from}
-use Rattle.planned_block.specs.Slot.{Slot, is_request, starts_now, asks, was_granted, stayed, gone_on, AllGranted, Works, Turns, Passes, Finishes, Stays, GoesOn, Leaves}
+use Rattle.planned_block.specs.Plan.{Plan}
+use Rattle.planned_block.specs.Run.{block_run}
+use Rattle.planned_block.specs.Slot.{Slot, is_request, starts_now, was_granted, stayed, gone_on, AllGranted, Works, Turns, Stays, GoesOn, Leaves}
 use Rattle.planned_block.specs.InFlight.{InFlight}
-use Rattle.planned_block.specs.Hardware.{Code, count_below, block_of, plan_of, is_open, changes_left, changes_of, Begins, Flies, planned_hardware, IsBlockRun, PlannedThreads, hardware_of}
+use Rattle.planned_block.specs.Hardware.{Code, block_of, plan_of, is_open, changes_left, changes_of, Begins, Flies, IsBlockRun, PlannedThreads, hardware_of}
 use Rattle.planned_block.proofs.Bits.{both_true, is_same, not_less_is}
 use Rattle.planned_block.proofs.Counting.{count_le, count_less, open_before, granted_stays, granted_goes}
 use Rattle.planned_block.proofs.Passing.{stays, goes_on, IsDone, leaves, stored_next}

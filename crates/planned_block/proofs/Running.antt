@@ -1,8 +1,8 @@
 -- The operations one after another give a run of the block.
-use Rattle.std.specs.Prelude.{◌⊎◌, nat_eq, ℤ, pos, Bool, true, false, if◌then◌else◌, Option, Some, None}
-use Rattle.std.proofs.Common.{inr, ◌≡◌, ◌≢◌, ℕ, zero, suc, ◌+◌, ◌<◌, ◌≤◌, List, [], ◌∷◌, ◌++◌, length, refl, sym, ap, ◌∙◌, subst, ⊎_elim, inl, arith, append_assoc, append-nil}
-use Rattle.interleaving.specs.Memory.{Location, Memory, Access, memory_after}
-use Rattle.interleaving.specs.AnyOrder.{Event, accesses_in, ReadsRight}
+use Rattle.std.specs.Prelude.{ℤ, pos, Bool, if◌then◌else◌, Some}
+use Rattle.std.proofs.Common.{inr, ◌≡◌, ◌≢◌, ℕ, zero, suc, ◌+◌, ◌<◌, ◌≤◌, ◌++◌, refl, sym, ap, ◌∙◌, subst, ⊎_elim, inl, arith, append_assoc, append-nil}
+use Rattle.interleaving.specs.Memory.{Memory, memory_after}
+use Rattle.interleaving.specs.AnyOrder.{accesses_in, ReadsRight}
 use Rattle.interleaving.proofs.Accesses.{memory_after-append}
 use Rattle.interleaving.proofs.AnyOrder.{accesses_in-append, right_join}
 use Rattle.interleaving.proofs.Update.{same_or_not}

@@ -149,21 +149,21 @@ module _ (ev : ℕ → List (Event ℤ)) where
               let off = fresh n q in
               let more = (left_more done d n l (omega arith) (above n (omega arith) ∙ off) (λ j lt z. clear j n lt (omega arith) q (both (old j) (go j) (sym (below j lt) ∙ z)))).1 in
               let got = on (at d n true) (done ++ accesses_in (ev n)) more
-                  (λ k le. at_other d n k true (λ (x : k ≡ n). absurd (omega arith)) ∙ above k (omega arith))
-                  (λ k lt. ⊎_elim
-                    (λ (x : k ≡ n). ap (at d n true) x ∙ at_same d n true ∙ sym (ap (λ j. old j || go j) x ∙ turned (old n) off (go n) ∙ q))
-                    (λ ne. at_other d n k true ne ∙ below k (omega arith))
-                    (same_or_not k n)) in
+              (λ k le. at_other d n k true (λ (x : k ≡ n). absurd (omega arith)) ∙ above k (omega arith))
+              (λ k lt. ⊎_elim
+              (λ (x : k ≡ n). ap (at d n true) x ∙ at_same d n true ∙ sym (ap (λ j. old j || go j) x ∙ turned (old n) off (go n) ∙ q))
+              (λ ne. at_other d n k true ne ∙ below k (omega arith))
+              (same_or_not k n)) in
               subst (λ x. Remains m all x (events_but ev (λ k. old k || go k) N 0))
               (append_assoc done (accesses_in (ev n)) (accesses_in (events_where ev go r (suc n))) ∙ ap (λ x. done ++ x) (sym (accesses_in-append (ev n) (events_where ev go r (suc n)))) ∙ ap (λ (b : Bool). done ++ accesses_in ((if b then ev n else []) ++ events_where ev go r (suc n))) (sym q))
               got
           now false q on =
               let got = on d done l
-                  (λ k le. above k (omega arith))
-                  (λ k lt. ⊎_elim
-                    (λ (x : k ≡ n). above k (omega arith) ∙ sym (ap (λ (b : Bool). old k || b) (ap go x ∙ q) ∙ or_false (old k)))
-                    (λ ne. below k (omega arith))
-                    (same_or_not k n)) in
+              (λ k le. above k (omega arith))
+              (λ k lt. ⊎_elim
+              (λ (x : k ≡ n). above k (omega arith) ∙ sym (ap (λ (b : Bool). old k || b) (ap go x ∙ q) ∙ or_false (old k)))
+              (λ ne. below k (omega arith))
+              (same_or_not k n)) in
               subst (λ x. Remains m all x (events_but ev (λ k. old k || go k) N 0)) (ap (λ (b : Bool). done ++ accesses_in ((if b then ev n else []) ++ events_where ev go r (suc n))) (sym q)) got
 
       pub sweep : (done : List (Access ℤ)) → Remains m all done (events_but ev old N 0) → Remains m all (done ++ accesses_in (events_where ev go N 0)) (events_but ev (λ k. old k || go k) N 0)

@@ -1,13 +1,13 @@
 -- A plan that meets the table and is packed keeps the orders; so does the sequential one.
-use Rattle.std.specs.Prelude.{◌⊎◌, nat_eq, nat_lt, ◌&&◌, Bool, true, false, ◌||◌, if◌then◌else◌, Option, Some, None}
+use Rattle.std.specs.Prelude.{◌⊎◌, nat_lt, Bool, true, false, ◌||◌, if◌then◌else◌, Some, None}
 use Rattle.std.proofs.Common.{inr, ◌≡◌, ◌≢◌, ℕ, zero, suc, ◌+◌, ◌-◌, ◌<◌, ◌≤◌, List, [], ◌∷◌, refl, sym, ap, ◌∙◌, subst, ⊎_elim, inl, arith}
 use Rattle.std.proofs.lemmas.Bool.Decides.{nat_tests}
 use Rattle.interleaving.proofs.Update.{same_or_not}
 use Rattle.planned_block.specs.Block.{Operand, Constant, Variable, Value, Through, Kind, Simple, Multiply, Divide, BankRead, BankWrite, ArrayRead, ArrayWrite}
-use Rattle.planned_block.specs.Block.{Final, Next, Jump, Branch, Block, operation_at, size, Uses, UsesIn, IsAmong, IsUsedAtEnd, IsOrdered}
-use Rattle.planned_block.specs.Plan.{Plan, further_states, last_state, is_simple, target_of, OfGlobal, OfArray, gap_after, KeepsOrders}
+use Rattle.planned_block.specs.Block.{Final, Block, operation_at, size, Uses, UsesIn, IsAmong, IsUsedAtEnd, IsOrdered}
+use Rattle.planned_block.specs.Plan.{Plan, further_states, last_state, is_simple, target_of, OfGlobal, gap_after, KeepsOrders}
 use Rattle.planned_block.specs.Table.{MeetsTable, IsPacked, latency, greater, uses_in, last_user, any_final, next_uses, last_use, latencies_before, sequential}
-use Rattle.planned_block.proofs.Bits.{same_is, less_is, not_less_is, less_or_not}
+use Rattle.planned_block.proofs.Bits.{same_is, less_is}
 
 simple_now : (kind : Kind) → is_simple kind ≡ true → further_states kind ≡ 0
 simple_now (Simple f) e = refl

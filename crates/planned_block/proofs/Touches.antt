@@ -1,11 +1,11 @@
 -- What the events of an operation touch.
 use Rattle.std.specs.Prelude.{◌⊎◌, Bool, true, false, ◌||◌, ℤ}
-use Rattle.std.proofs.Common.{inr, ◌≡◌, ◌≢◌, ℕ, List, [], ◌∷◌, refl, sym, ap, ◌∙◌, subst, ⊎_elim, inl}
+use Rattle.std.proofs.Common.{inr, ◌≡◌, ℕ, refl, sym, ap, ◌∙◌, subst, inl}
 use Rattle.interleaving.specs.Memory.{Location, Touches, Writes, AreApart}
 use Rattle.interleaving.specs.AnyOrder.{ReadEvent, WriteEvent, accesses_in}
 use Rattle.interleaving.proofs.Accesses.{touched}
 use Rattle.planned_block.specs.Block.{Kind, Simple, Multiply, Divide, BankRead, BankWrite, ArrayRead, ArrayWrite, element}
-use Rattle.planned_block.specs.Plan.{Target, NoTarget, OfGlobal, OfArray, target_of}
+use Rattle.planned_block.specs.Plan.{OfGlobal, OfArray, target_of}
 use Rattle.planned_block.specs.Run.{bank_access, array_access, bank_events, array_events}
 use Rattle.planned_block.proofs.Sweep.{IsOne}
 

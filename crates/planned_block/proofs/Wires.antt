@@ -1,12 +1,11 @@
 -- What the wires of a state show.
-use Rattle.std.specs.Prelude.{◌⊎◌, nat_eq, ℤ, pos, Bool, true, false, if◌then◌else◌, Option, Some, None}
-use Rattle.std.proofs.Common.{inr, ◌≡◌, ◌≢◌, ℕ, zero, suc, ◌+◌, ◌<◌, ◌≤◌, List, [], ◌∷◌, ◌++◌, refl, sym, ap, ◌∙◌, subst, ⊎_elim, inl, arith}
-use Rattle.std.proofs.lemmas.Bool.Decides.{nat_tests}
-use Rattle.interleaving.specs.Memory.{Location, Memory}
+use Rattle.std.specs.Prelude.{nat_eq, ℤ, pos, Bool, true, false, if◌then◌else◌, Some}
+use Rattle.std.proofs.Common.{inr, ◌≡◌, ◌≢◌, ℕ, zero, suc, ◌+◌, ◌<◌, ◌≤◌, refl, sym, ap, ◌∙◌, ⊎_elim, inl, arith}
+use Rattle.interleaving.specs.Memory.{Location}
 use Rattle.interleaving.proofs.Update.{same_or_not}
 use Rattle.planned_block.specs.Block.{Operand, Constant, Variable, Value, Through, Kind, Simple, Multiply, Divide, BankRead, BankWrite, ArrayRead, ArrayWrite}
 use Rattle.planned_block.specs.Block.{Block, operation_at, size, operand_value, element, Uses, UsesIn, IsUsedAtEnd}
-use Rattle.planned_block.specs.Plan.{Plan, last_state, further_states, is_simple, KeepsOrders}
+use Rattle.planned_block.specs.Plan.{Plan, last_state, further_states, KeepsOrders}
 use Rattle.planned_block.specs.Run.{computes}
 use Rattle.planned_block.specs.Slot.{Slot, register_value, value_now, operand_now, result_of, IsWired}
 use Rattle.planned_block.proofs.Bits.{same_is, other_is}
@@ -70,8 +69,8 @@ module _ (bank : Location → ℕ) (b : Block) (p : Plan) (keeps : KeepsOrders b
           let from : p.start k ≤ q.state = omega arith in
           wired k lt s
           ∙ given_right k (operation_at b k).kind (operand_now b p q wire (operation_at b k).left) (operand_now b p q wire (operation_at b k).right) refl lt s
-            (operand_right (operation_at b k).left (λ j u. uses_right k j lt from (omega arith) each (inl u)))
-            (operand_right (operation_at b k).right (λ j u. uses_right k j lt from (omega arith) each (inr u)))
+          (operand_right (operation_at b k).left (λ j u. uses_right k j lt from (omega arith) each (inl u)))
+          (operand_right (operation_at b k).right (λ j u. uses_right k j lt from (omega arith) each (inr u)))
 
       -- each wire of an operation in its last state has the value of the run
       pub wire_right : (k : ℕ) → k < size b → last_state b p k ≡ q.state → wire k ≡ values k

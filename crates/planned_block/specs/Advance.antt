@@ -1,9 +1,9 @@
 -- What the module of a thread does in a cycle in which it is enabled, grants given: as a relation, and as a function.
 use Rattle.std.specs.Prelude.{◌≡◌, ℕ, zero, suc, nat_eq, ℤ, pos, Bool, true, false, not, ◌&&◌, ◌||◌, ◌⊎◌, if◌then◌else◌, Option, Some, None}
-use Rattle.interleaving.specs.Memory.{Location, Memory, memory_after}
+use Rattle.interleaving.specs.Memory.{Location, Memory}
 use Rattle.planned_block.specs.Block.{Kind, Simple, Multiply, Divide, BankRead, BankWrite, ArrayRead, ArrayWrite, Block, operation_at, size, finished, leads_to, element}
 use Rattle.planned_block.specs.Plan.{Plan, last_state}
-use Rattle.planned_block.specs.Slot.{Slot, asks, granted_with, operand_now, arrays_next, stayed, gone_on, IsWired, result_now, bank_asked, WordsAfter, Stays, GoesOn, Leaves}
+use Rattle.planned_block.specs.Slot.{Slot, asks, granted_with, operand_now, arrays_next, stayed, gone_on, IsWired, result_now, WordsAfter, Stays, GoesOn, Leaves}
 
 abbrev pub all_below : (ℕ → Bool) → ℕ → Bool
 all_below test zero = true

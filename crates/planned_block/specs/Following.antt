@@ -6,7 +6,7 @@ use Rattle.interleaving.specs.Interleaving.{Reachable}
 use Rattle.interleaving.specs.Hardware.{OnlyMoves}
 use Rattle.planned_block.specs.Block.{Operand, Block, size, operand_value, finished, leads_to, IsOrdered}
 use Rattle.planned_block.specs.Plan.{Plan}
-use Rattle.planned_block.specs.Run.{Running, block_run}
+use Rattle.planned_block.specs.Run.{block_run}
 use Rattle.planned_block.specs.Table.{latencies_before}
 use Rattle.planned_block.specs.Hardware.{Code, IsLowered}
 

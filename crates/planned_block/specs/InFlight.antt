@@ -1,5 +1,5 @@
 -- A planned block in flight: how far it is in its run.
-use Rattle.std.specs.Prelude.{◌≡◌, ℕ, zero, suc, ◌<◌, ◌≤◌, nat_lt, ℤ, List, [], ◌++◌, Bool, true, if◌then◌else◌, Option, Some}
+use Rattle.std.specs.Prelude.{◌≡◌, ℕ, zero, suc, ◌<◌, ◌≤◌, nat_lt, ℤ, List, [], ◌++◌, Bool, true, if◌then◌else◌, Some}
 use Rattle.interleaving.specs.Memory.{Location, Memory, Access, memory_after}
 use Rattle.interleaving.specs.AnyOrder.{Event, accesses_in, Remains}
 use Rattle.planned_block.specs.Block.{BankRead, Block, operation_at, size, operand_value, element}

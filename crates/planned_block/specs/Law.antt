@@ -1,5 +1,5 @@
 -- The law of a planned block: whatever its stalls, it makes only accesses of its run, and ends with its effect.
-use Rattle.std.specs.Prelude.{◌≡◌, ℕ, ◌<◌, ℤ, List, [], ◌∷◌, ◌++◌, Bool, false}
+use Rattle.std.specs.Prelude.{◌≡◌, ℕ, ◌<◌, ℤ, List, [], ◌∷◌, ◌++◌, false}
 use Rattle.interleaving.specs.Memory.{Location, Memory, Access, memory_after, AgreeOn}
 use Rattle.interleaving.specs.AnyOrder.{accesses_in}
 use Rattle.planned_block.specs.Block.{Block, size, operand_value, finished, leads_to}

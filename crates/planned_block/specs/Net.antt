@@ -1,13 +1,13 @@
 -- One cycle of a net of planned threads, as a chain of their moves by thread number.
 use Rattle.std.specs.Prelude.{◌≡◌, ℕ, ◌<◌, ◌≤◌, ℤ, List, [], Bool, true, false, ◌&&◌, ◌||◌, ◌⊎◌, if◌then◌else◌}
-use Rattle.interleaving.specs.Memory.{Location, Memory, Access, memory_after, Touches}
+use Rattle.interleaving.specs.Memory.{Location, Access, memory_after, Touches}
 use Rattle.interleaving.specs.Hardware.{World}
 use Rattle.interleaving.specs.Cycle.{movers, Chain, TurnsInCycle, ActsInCycle}
 use Rattle.planned_block.specs.Block.{Block, size}
 use Rattle.planned_block.specs.Plan.{Plan}
 use Rattle.planned_block.specs.Slot.{Slot, accesses_where, bank_access_now}
 use Rattle.planned_block.specs.Advance.{requests, answered, is_ready, is_answered, Advances}
-use Rattle.planned_block.specs.Hardware.{Code, block_of, plan_of, PlannedThreads, hardware_of}
+use Rattle.planned_block.specs.Hardware.{block_of, plan_of, PlannedThreads, hardware_of}
 
 -- what one cycle of the net was given: who is enabled; who moves outside blocks; which requests are granted, by thread and operation;
 -- what the wires show; and to which thread each bank and each core is granted, with as many as there are threads, or more, for nobody
@@ -40,7 +40,7 @@ module _ (M : PlannedThreads) (w v : World ℤ Slot (ℕ → M.Core)) (g : Grant
     -- places of its banks have its accesses, its cores stay
     pub memory : (l : Location) → place_owner l ≡ n →
         v.memory l ≡ memory_after
-          (if g.enabled n then accesses_of_cycle (block_of M.code (w.slots n)) (plan_of M.code (w.slots n)) (w.slots n) (g.grant n) (g.wire n) else []) w.memory l
+        (if g.enabled n then accesses_of_cycle (block_of M.code (w.slots n)) (plan_of M.code (w.slots n)) (w.slots n) (g.grant n) (g.wire n) else []) w.memory l
     pub cores : (k : ℕ) → g.core_owner k ≡ n → v.cores k ≡ w.cores k
 
   pub record NetCycle (T : ℕ) : Type 0 where

@@ -2,7 +2,7 @@
 --
 -- bank : Location → ℕ is the number of the bank that holds a place. A bank is of one global, which may have several of them: element j
 -- of a global with K banks stands in its bank j mod K. For each thread a bank keeps the word that the thread read there last.
-use Rattle.std.specs.Prelude.{◌≡◌, ℕ, zero, suc, ◌<◌, ◌+◌, nat_eq, nat_lt, ℤ, pos, List, [], ◌++◌, Bool, true, false, not, ◌&&◌, ◌||◌, Option, Some, None, ◌⊎◌, if◌then◌else◌}
+use Rattle.std.specs.Prelude.{◌≡◌, ℕ, zero, suc, ◌<◌, nat_eq, nat_lt, ℤ, pos, List, [], ◌++◌, Bool, true, false, not, ◌&&◌, ◌||◌, Option, Some, None, ◌⊎◌, if◌then◌else◌}
 use Rattle.interleaving.specs.Memory.{Location, Memory, Access, memory_after}
 use Rattle.planned_block.specs.Block.{Operand, Kind, Simple, Multiply, Divide, BankRead, BankWrite, ArrayRead, ArrayWrite}
 use Rattle.planned_block.specs.Block.{Block, operation_at, size, operand_value, finished, leads_to, element}

@@ -1,6 +1,6 @@
 -- The table of constraints as a condition on starts (difference constraints of a schedule: Cong and Zhang 2006), what a packing of
 -- registers gives, and the sequential plan.
-use Rattle.std.specs.Prelude.{◌≡◌, ◌≢◌, ℕ, zero, suc, ◌<◌, ◌≤◌, ◌+◌, ◌-◌, nat_eq, nat_lt, List, [], ◌∷◌, Bool, true, false, ◌||◌, Option, Some, None, ◌⊎◌, if◌then◌else◌}
+use Rattle.std.specs.Prelude.{◌≡◌, ◌≢◌, ℕ, zero, suc, ◌<◌, ◌≤◌, ◌+◌, ◌-◌, nat_eq, nat_lt, List, [], ◌∷◌, Bool, true, false, ◌||◌, Some, None, ◌⊎◌, if◌then◌else◌}
 use Rattle.planned_block.specs.Block.{Operand, Constant, Variable, Value, Through, Kind, Final, Next, Jump, Branch, Block, operation_at, size, Uses}
 use Rattle.planned_block.specs.Plan.{Plan, further_states, last_state, is_simple, target_of, OfGlobal, OfArray, gap_after}
 
