@@ -1,0 +1,13 @@
+pub mod Update
+pub mod Locations
+pub mod Accesses
+pub mod Apart
+pub mod Alone
+pub mod Races
+pub mod Commuting
+pub mod Lagging
+pub mod Order
+pub mod Following
+pub mod Paying
+pub mod Headline
+pub mod AnyOrder

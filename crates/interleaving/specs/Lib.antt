@@ -1,0 +1,12 @@
+pub mod Memory
+pub mod Source
+pub mod Interleaving
+pub mod Threaded
+pub mod FirstConflict
+pub mod Commutation
+pub mod Hardware
+pub mod Cycle
+pub mod AnyOrder
+pub mod Run
+pub mod Progress
+pub mod Headline
