@@ -14,7 +14,7 @@ use Rattle.verilog_tree.specs.declared.tree.DivisionOperator.TheVariants as d
 use Rattle.verilog_tree.specs.declared.tree.Direction.{Direction}
 use Rattle.verilog_tree.specs.declared.tree.Direction.TheVariants as dir
 use Rattle.verilog_tree.specs.declared.tree.Expression.{Expression}
-use Rattle.verilog_tree.specs.declared.tree.Expression.TheVariants as e
+use Rattle.verilog_tree.specs.declared.tree.Expression.TheVariants as expr
 use Rattle.verilog_tree.specs.declared.tree.Port.{Port}
 use Rattle.verilog_tree.specs.declared.tree.InitialConstant.{InitialConstant}
 use Rattle.verilog_tree.specs.declared.tree.WriteArgument.{WriteArgument}
@@ -94,20 +94,20 @@ guard n by c = mark m.OpenRound ++ name n ++ mark by ++ constant c ++ mark m.Clo
 
 -- the right side of an assign
 abbrev pub expression : Expression → Tokens
-expression (e.Copy of) = name of
-expression (e.Constant c) = constant c
-expression (e.BitwiseNot of) = mark m.Tilde ++ name of
-expression (e.Binary operator left right) = name left ++ mark (operator_mark operator) ++ name right
-expression (e.SignedLess left right) = signed left ++ mark m.Less ++ signed right
-expression (e.ArithmeticShiftRight left right) = signed left ++ mark m.ArithmeticShiftRight ++ name right
-expression (e.Conditional condition if_true if_false) = name condition ++ mark m.Question ++ name if_true ++ mark m.Colon ++ name if_false
-expression (e.Division tested nought guarded operator left right) = guard tested m.EqualEqual nought ++ constant guarded ++ mark m.Colon ++ name left ++ mark (division_mark operator) ++ name right
-expression (e.SignedDivision tested nought guarded operator left right) = guard tested m.EqualEqual nought ++ signed_constant guarded ++ mark m.Colon ++ signed left ++ mark (division_mark operator) ++ signed right
-expression (e.MemoryRead tested bound memory address guarded) = guard tested m.Less bound ++ name memory ++ mark m.OpenSquare ++ name address ++ mark m.CloseSquare ++ mark m.Colon ++ constant guarded
-expression (e.BitSelect of bit) = name of ++ mark m.OpenSquare ++ number bit ++ mark m.CloseSquare
-expression (e.PartSelect of high low) = name of ++ mark m.OpenSquare ++ number high ++ mark m.Colon ++ number low ++ mark m.CloseSquare
-expression (e.Concatenation parts) = mark m.OpenCurly ++ commas name parts ++ mark m.CloseCurly
-expression (e.Replication count of) = mark m.OpenCurly ++ number count ++ mark m.OpenCurly ++ name of ++ mark m.CloseCurly ++ mark m.CloseCurly
+expression (expr.Copy of) = name of
+expression (expr.Constant c) = constant c
+expression (expr.BitwiseNot of) = mark m.Tilde ++ name of
+expression (expr.Binary operator left right) = name left ++ mark (operator_mark operator) ++ name right
+expression (expr.SignedLess left right) = signed left ++ mark m.Less ++ signed right
+expression (expr.ArithmeticShiftRight left right) = signed left ++ mark m.ArithmeticShiftRight ++ name right
+expression (expr.Conditional condition if_true if_false) = name condition ++ mark m.Question ++ name if_true ++ mark m.Colon ++ name if_false
+expression (expr.Division tested nought guarded operator left right) = guard tested m.EqualEqual nought ++ constant guarded ++ mark m.Colon ++ name left ++ mark (division_mark operator) ++ name right
+expression (expr.SignedDivision tested nought guarded operator left right) = guard tested m.EqualEqual nought ++ signed_constant guarded ++ mark m.Colon ++ signed left ++ mark (division_mark operator) ++ signed right
+expression (expr.MemoryRead tested bound memory address guarded) = guard tested m.Less bound ++ name memory ++ mark m.OpenSquare ++ name address ++ mark m.CloseSquare ++ mark m.Colon ++ constant guarded
+expression (expr.BitSelect of bit) = name of ++ mark m.OpenSquare ++ number bit ++ mark m.CloseSquare
+expression (expr.PartSelect of high low) = name of ++ mark m.OpenSquare ++ number high ++ mark m.Colon ++ number low ++ mark m.CloseSquare
+expression (expr.Concatenation parts) = mark m.OpenCurly ++ commas name parts ++ mark m.CloseCurly
+expression (expr.Replication count of) = mark m.OpenCurly ++ number count ++ mark m.OpenCurly ++ name of ++ mark m.CloseCurly ++ mark m.CloseCurly
 
 abbrev pub direction : Direction → Tokens
 direction dir.Input = word w.Input

@@ -1,7 +1,7 @@
 -- A text reads as a net.
 use Rattle.std.specs.Prelude.{◌≡◌, ℕ, List, [], ◌∷◌}
 use Rattle.verilog_tree.specs.declared.tree.Expression.{Expression}
-use Rattle.verilog_tree.specs.declared.tree.Expression.TheVariants as e
+use Rattle.verilog_tree.specs.declared.tree.Expression.TheVariants as expr
 use Rattle.verilog_tree.specs.declared.tree.Item.{Item}
 use Rattle.verilog_tree.specs.declared.tree.Item.TheVariants as i
 use Rattle.verilog_tree.specs.declared.tree.Module.{Module}
@@ -20,7 +20,7 @@ Each P (x ∷ xs) = P x × Each P xs
 
 -- the lists of which the grammar asks for at least one are not empty
 abbrev pub IsFullExpression : Expression → Type 0
-IsFullExpression (e.Concatenation parts) = IsFilled parts
+IsFullExpression (expr.Concatenation parts) = IsFilled parts
 IsFullExpression _ = Unit {0}
 
 abbrev pub IsFullItem : Item → Type 0

@@ -1,7 +1,7 @@
 // Names and quoted texts, which are valid by their types.
 
-ghost use Rattle.std.specs.Prelude.{◌≡◌, true, false, string_bytes, IfOk};
-ghost use Rattle.verilog_tree.specs.Spelling.{is_name, is_quoted};
+ghost use Rattle.std.specs.Prelude.{◌≡◌, ◌∷◌, ◌++◌, true, false, decimal, string_bytes, IfOk};
+ghost use Rattle.verilog_tree.specs.Spelling.{is_name, is_quoted, all_pass, is_name_byte};
 
 use std::alloc::{AllocError, Global};
 use std::marker::Model;
@@ -50,6 +50,25 @@ impl Identifier {
         ensures name { is_name self.now ≡ true }
     {
         self.text.as_str()
+    }
+
+    /// This name, `_` and the suffix.
+    pub fn with_suffix(&self, suffix: &str) -> Result<Identifier, AllocError>
+        requires { all_pass is_name_byte suffix.now ≡ true }
+        ensures { IfOk result (λ name. name ≡ self.now ++ 95 ∷ suffix.now) }
+    {
+        let mut text = self.text.clone()?;
+        text.push_str("_")?;
+        text.push_str(suffix)?;
+        Ok(Identifier { text })
+    }
+
+    /// This name, `_` and the number in minimal decimals.
+    pub fn with_number(&self, alloc: Global, number: u64) -> Result<Identifier, AllocError>
+        ensures { IfOk result (λ name. name ≡ self.now ++ 95 ∷ decimal number) }
+    {
+        let suffix = number.to_string(alloc)?;
+        self.with_suffix(suffix.as_str())
     }
 }
 
