@@ -5,3 +5,4 @@ pub mod Splitting
 pub mod Unique
 pub mod UniqueExpressions
 pub mod UniqueItems
+pub mod Fronts

@@ -1,8 +1,8 @@
 -- A text splits into tokens in one way.
-use Rattle.std.proofs.Common.{◌≡◌, ℕ, List, [], ◌∷◌, Option, Some, None, Bool, true, false, refl, sym, ap, ◌∙◌, subst}
+use Rattle.std.proofs.Common.{◌≡◌, List, [], ◌∷◌, Some, refl, sym, ap, ◌∙◌, subst}
 use Rattle.verilog_tree.specs.declared.token.Token.{Token}
 use Rattle.verilog_tree.specs.Spelling.{Text}
-use Rattle.verilog_tree.specs.Tokens.{front, skip, Splits}
+use Rattle.verilog_tree.specs.Tokens.{front, Splits}
 
 nothing_here : (rest : Text) (x : Token) (z : Text) → z ≡ [] → front z ≡ Some (x, rest) → ⊥
 unfolding front
@@ -21,5 +21,5 @@ splits_same text (t ∷ ts) (u ∷ us) h k =
     let token : t ≡ u = ap (λ p. p.0) pair in
     cc (same, token)
   where
-  some_same : {p q : Token × Text} → Some p ≡ Some q → p ≡ q
-  some_same e = cc
+    some_same : {p q : Token × Text} → Some p ≡ Some q → p ≡ q
+    some_same e = cc

@@ -1,12 +1,12 @@
 -- Tests that hold.
-use Rattle.std.proofs.Common.{◌≡◌, ℕ, ◌+◌, ◌*◌, ◌^◌, ◌<◌, ◌≤◌, ◌/◌, ◌%◌, List, [], ◌∷◌, ◌++◌, Bool, true, false, refl, sym, ap, ◌∙◌, arith}
+use Rattle.std.proofs.Common.{◌≡◌, ℕ, ◌+◌, ◌^◌, ◌<◌, ◌%◌, [], ◌∷◌, ◌++◌, Bool, true, false, refl, sym, ap, ◌∙◌, arith}
 use Rattle.std.specs.Prelude.{not, ◌&&◌, ◌||◌, decimal}
 use Rattle.std.specs.Str.{bytes_eq}
 use Rattle.std.specs.Char.{is_ascii_digit}
 use Rattle.std.proofs.lemmas.Bool.{eq-eqb}
 use Rattle.std.proofs.lemmas.Bool.Decides.{nat_tests}
 use Rattle.std.proofs.lemmas.Fmt.{decimal_by_steps}
-use Rattle.verilog_tree.specs.Spelling.{Text, is_name_byte, all_pass}
+use Rattle.verilog_tree.specs.Spelling.{Text, all_pass}
 
 pub and_left : (a b : Bool) → (a && b) ≡ true → a ≡ true
 and_left true b e = refl
@@ -57,6 +57,10 @@ pub record Digits (ds : Text) : Type 0 where
 pub digits_of : (n : ℕ) → n < 2 ^ 64 → Digits (decimal n)
 digits_of n lt = decimal_by_steps (λ n ds. Digits ds)
     (λ n lt. record { first = 48 + n; others = []; is = refl; digits = and_both _ true (digit_of n lt) refl })
-    (λ n ds le h. record { first = h.first; others = h.others ++ ((48 + n % 10) ∷ []); is = ap (λ l. l ++ ((48 + n % 10) ∷ [])) h.is;
-        digits = all_pass-append is_ascii_digit (h.first ∷ h.others) ((48 + n % 10) ∷ []) h.digits (and_both _ true (digit_of (n % 10) (omega arith)) refl) })
+    (λ n ds le h. record {
+      first = h.first;
+      others = h.others ++ ((48 + n % 10) ∷ []);
+      is = ap (λ l. l ++ ((48 + n % 10) ∷ [])) h.is;
+      digits = all_pass-append is_ascii_digit (h.first ∷ h.others) ((48 + n % 10) ∷ []) h.digits (and_both _ true (digit_of (n % 10) (omega arith)) refl);
+    })
     n lt

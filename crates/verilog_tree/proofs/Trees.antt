@@ -9,7 +9,7 @@ use Rattle.verilog_tree.specs.declared.tree.WriteArgument.{WriteArgument}
 use Rattle.verilog_tree.specs.declared.tree.Statement.{Statement}
 use Rattle.verilog_tree.specs.declared.tree.Statement.TheVariants as s
 use Rattle.verilog_tree.specs.declared.tree.Statement.TheOpen.{Statement-F}
-use Rattle.verilog_tree.specs.declared.tree.Statement.TheFolds.{fold-Statement, fold-roll-Statement, ind-Statement, map-Statement, claims}
+use Rattle.verilog_tree.specs.declared.tree.Statement.TheFolds.{fold-roll-Statement, ind-Statement, map-Statement, claims}
 use Rattle.verilog_tree.specs.declared.tree.Statement.TheViews.{roll-Statement}
 use Rattle.verilog_tree.specs.declared.tree.Statement.TheBlock.{the_family, member-Statement}
 use denote.Hole.Holds.{Such}

@@ -1,5 +1,5 @@
 -- What is written is known from the front of what is read.
-use Rattle.std.proofs.Common.{◌≡◌, ℕ, zero, suc, List, [], ◌∷◌, ◌++◌, Option, Some, None, refl, sym, ap, ◌∙◌, subst, append_assoc}
+use Rattle.std.proofs.Common.{◌≡◌, ℕ, zero, suc, List, [], ◌∷◌, ◌++◌, refl, sym, ap, ◌∙◌, append_assoc}
 use Rattle.verilog_tree.specs.declared.token.Mark.{Mark}
 use Rattle.verilog_tree.specs.declared.token.Mark.TheVariants as m
 use Rattle.verilog_tree.specs.declared.token.Token.{Token}

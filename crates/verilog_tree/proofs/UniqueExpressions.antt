@@ -1,15 +1,13 @@
 -- The tokens of an expression are those of one alone.
-use Rattle.std.proofs.Common.{◌≡◌, ℕ, zero, suc, List, [], ◌∷◌, ◌++◌, Option, Some, None, refl, sym, ap, ◌∙◌, subst, append_assoc}
+use Rattle.std.proofs.Common.{◌≡◌, ℕ, List, [], ◌∷◌, ◌++◌, refl, sym, ap, ◌∙◌, append_assoc}
 use Rattle.verilog_tree.specs.declared.token.Mark.{Mark}
 use Rattle.verilog_tree.specs.declared.token.Mark.TheVariants as m
-use Rattle.verilog_tree.specs.declared.token.Token.{Token}
 use Rattle.verilog_tree.specs.declared.token.Token.TheVariants as t
 use Rattle.verilog_tree.specs.declared.tree.Constant.{Constant}
 use Rattle.verilog_tree.specs.declared.tree.BinaryOperator.{BinaryOperator}
 use Rattle.verilog_tree.specs.declared.tree.BinaryOperator.TheVariants as op
 use Rattle.verilog_tree.specs.declared.tree.DivisionOperator.{DivisionOperator}
 use Rattle.verilog_tree.specs.declared.tree.DivisionOperator.TheVariants as d
-use Rattle.verilog_tree.specs.declared.tree.Expression.{Expression}
 use Rattle.verilog_tree.specs.declared.tree.Expression.TheVariants as expr
 use Rattle.verilog_tree.proofs.Unique.{Unique, UniqueBefore, commas_unique, same_name, same_number, same_mark, same_rest}
 use Rattle.verilog_tree.specs.Grammar as g
@@ -144,7 +142,7 @@ expression_unique (expr.PartSelect x h l) _ r s e = cc
 expression_unique (expr.Concatenation xs) (expr.Concatenation ys) r s e =
     let tail : (g.commas g.name xs ++ (t.Mark m.CloseCurly ∷ [])) ++ (t.Mark m.Semicolon ∷ r) ≡ (g.commas g.name ys ++ (t.Mark m.CloseCurly ∷ [])) ++ (t.Mark m.Semicolon ∷ s) = cc in
     let one = commas_unique g.name name_unique m.CloseCurly no_comma name_first xs ys (t.Mark m.Semicolon ∷ r) (t.Mark m.Semicolon ∷ s)
-        (sym (append_assoc (g.commas g.name xs) (t.Mark m.CloseCurly ∷ []) (t.Mark m.Semicolon ∷ r)) ∙ tail ∙ append_assoc (g.commas g.name ys) (t.Mark m.CloseCurly ∷ []) (t.Mark m.Semicolon ∷ s)) in
+    (sym (append_assoc (g.commas g.name xs) (t.Mark m.CloseCurly ∷ []) (t.Mark m.Semicolon ∷ r)) ∙ tail ∙ append_assoc (g.commas g.name ys) (t.Mark m.CloseCurly ∷ []) (t.Mark m.Semicolon ∷ s)) in
     let same : xs ≡ ys = one.0 in
     let rest : t.Mark m.Semicolon ∷ r ≡ t.Mark m.Semicolon ∷ s = one.1 in
     (ap expr.Concatenation same, cc (rest))

@@ -1,16 +1,13 @@
 -- The tokens of a net are those of one net alone.
-use Rattle.std.proofs.Common.{◌≡◌, ℕ, zero, suc, List, [], ◌∷◌, ◌++◌, Option, Some, None, refl, sym, ap, ◌∙◌, subst, append_assoc}
+use Rattle.std.proofs.Common.{◌≡◌, ℕ, List, [], ◌∷◌, ◌++◌, Option, Some, None, refl, sym, ap, ◌∙◌, append_assoc}
 use Rattle.verilog_tree.specs.declared.token.Word.TheVariants as w
-use Rattle.verilog_tree.specs.declared.token.Mark.{Mark}
 use Rattle.verilog_tree.specs.declared.token.Mark.TheVariants as m
-use Rattle.verilog_tree.specs.declared.token.Token.{Token}
 use Rattle.verilog_tree.specs.declared.token.Token.TheVariants as t
 use Rattle.verilog_tree.specs.declared.tree.Constant.{Constant}
 use Rattle.verilog_tree.specs.declared.tree.Direction.{Direction}
 use Rattle.verilog_tree.specs.declared.tree.Direction.TheVariants as dir
 use Rattle.verilog_tree.specs.declared.tree.Port.{Port}
 use Rattle.verilog_tree.specs.declared.tree.InitialConstant.{InitialConstant}
-use Rattle.verilog_tree.specs.declared.tree.WriteArgument.{WriteArgument}
 use Rattle.verilog_tree.specs.declared.tree.WriteArgument.TheVariants as a
 use Rattle.verilog_tree.specs.declared.tree.Statement.{Statement}
 use Rattle.verilog_tree.specs.declared.tree.Statement.TheVariants as st
@@ -25,7 +22,7 @@ use Rattle.verilog_tree.specs.Spelling.{Text}
 use Rattle.verilog_tree.specs.Reads.{Each, Reads}
 use Rattle.verilog_tree.proofs.Trees.{induct, level, view, statement_set, statement_store, statement_if, statement_write}
 use Rattle.verilog_tree.proofs.Splitting.{splits_same}
-use Rattle.verilog_tree.proofs.Unique.{Unique, UniqueBefore, IsKnown, all_known, all_unique, all_whole, more_unique, commas_unique, tail_two, tail_more, same_quoted, same_name, same_number, same_mark, same_rest}
+use Rattle.verilog_tree.proofs.Unique.{Unique, IsKnown, all_known, all_unique, all_whole, more_unique, commas_unique, tail_two, tail_more, same_quoted, same_name, same_number, same_mark, same_rest}
 use Rattle.verilog_tree.proofs.UniqueExpressions.{constant_same, expression_unique}
 use Rattle.verilog_tree.specs.Grammar as g
 use Rattle.verilog_tree.specs.Grammar.{Tokens}
@@ -119,14 +116,14 @@ level_unique (Statement-F.Store x y z) _ r s kids e = cc
 level_unique (Statement-F.If x xs) (Statement-F.If y ys) r s kids e =
     let name : x ≡ y = same_name e 2 in
     let body = all_known g.statement (t.Word w.End) statement_first xs ys r s kids
-        (sym (append_assoc (g.all g.statement xs) (t.Word w.End ∷ []) r) ∙ same_rest e 5 ∙ append_assoc (g.all g.statement ys) (t.Word w.End ∷ []) s) in
+    (sym (append_assoc (g.all g.statement xs) (t.Word w.End ∷ []) r) ∙ same_rest e 5 ∙ append_assoc (g.all g.statement ys) (t.Word w.End ∷ []) s) in
     let same : xs ≡ ys = body.0 in
     ((λ i. Statement-F.If (name i) (same i)), body.1)
 level_unique (Statement-F.If x xs) _ r s kids e = cc
 level_unique (Statement-F.Write x xs) (Statement-F.Write y ys) r s kids e =
     let text : x ≡ y = same_quoted e 2 in
     let one = more_unique g.argument argument_unique m.CloseRound no_comma_round xs ys (t.Mark m.Semicolon ∷ r) (t.Mark m.Semicolon ∷ s)
-        (sym (tail_two (g.more g.argument xs) (t.Mark m.CloseRound) (t.Mark m.Semicolon) r) ∙ same_rest e 3 ∙ tail_two (g.more g.argument ys) (t.Mark m.CloseRound) (t.Mark m.Semicolon) s) in
+    (sym (tail_two (g.more g.argument xs) (t.Mark m.CloseRound) (t.Mark m.Semicolon) r) ∙ same_rest e 3 ∙ tail_two (g.more g.argument ys) (t.Mark m.CloseRound) (t.Mark m.Semicolon) s) in
     let same : xs ≡ ys = one.0 in
     ((λ i. Statement-F.Write (text i) (same i)), same_rest one.1 1)
 level_unique (Statement-F.Write x xs) _ r s kids e = cc
@@ -191,7 +188,7 @@ item_unique (i.Instance x) (i.Instance y) r s e =
     let xs = x.connections in
     let ys = y.connections in
     let f = commas_unique g.connection connection_unique m.CloseRound no_comma_round connection_first xs ys (t.Mark m.Semicolon ∷ r) (t.Mark m.Semicolon ∷ s)
-        (sym (tail_two (g.commas g.connection xs) (t.Mark m.CloseRound) (t.Mark m.Semicolon) r) ∙ same_rest e 3 ∙ tail_two (g.commas g.connection ys) (t.Mark m.CloseRound) (t.Mark m.Semicolon) s) in
+    (sym (tail_two (g.commas g.connection xs) (t.Mark m.CloseRound) (t.Mark m.Semicolon) r) ∙ same_rest e 3 ∙ tail_two (g.commas g.connection ys) (t.Mark m.CloseRound) (t.Mark m.Semicolon) s) in
     ((λ j. i.Instance (record { module_name = what j; name = name j; connections = f.0 j })), same_rest f.1 1)
 item_unique (i.Instance x) _ r s e = cc
 
@@ -208,7 +205,7 @@ module_unique : Unique g.module_tokens
 module_unique x y r s e =
     let name : x.name ≡ y.name = same_name e 1 in
     let tail = sym (tail_more (g.commas g.port x.ports) (g.all g.item x.items) (t.Mark m.CloseRound) (t.Mark m.Semicolon) (t.Word w.EndModule) r) ∙ same_rest e 3
-        ∙ tail_more (g.commas g.port y.ports) (g.all g.item y.items) (t.Mark m.CloseRound) (t.Mark m.Semicolon) (t.Word w.EndModule) s in
+    ∙ tail_more (g.commas g.port y.ports) (g.all g.item y.items) (t.Mark m.CloseRound) (t.Mark m.Semicolon) (t.Word w.EndModule) s in
     let ports = commas_unique g.port port_unique m.CloseRound no_comma_round port_first x.ports y.ports _ _ tail in
     let items = all_unique g.item item_unique (t.Word w.EndModule) item_first x.items y.items r s (same_rest ports.1 1) in
     ((λ j. record { name = name j; ports = ports.0 j; items = items.0 j }), items.1)

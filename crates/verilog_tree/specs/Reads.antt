@@ -1,5 +1,5 @@
 -- A text reads as a net.
-use Rattle.std.specs.Prelude.{◌≡◌, ℕ, List, [], ◌∷◌}
+use Rattle.std.specs.Prelude.{◌≡◌, List, [], ◌∷◌}
 use Rattle.verilog_tree.specs.declared.tree.Expression.{Expression}
 use Rattle.verilog_tree.specs.declared.tree.Expression.TheVariants as expr
 use Rattle.verilog_tree.specs.declared.tree.Item.{Item}

@@ -1,12 +1,11 @@
 -- A well-formed net: one that stands for hardware with one driver for each wire, one block for each register, and widths that agree.
-use Rattle.std.specs.Prelude.{◌≡◌, ℕ, ◌+◌, Bool, true, false, not, ◌==◌, ◌&&◌, ◌||◌, nat_lt, if◌then◌else◌, List, [], ◌∷◌, Option, Some, None, is_some}
+use Rattle.std.specs.Prelude.{◌≡◌, Bool, true, false, not, ◌==◌, ◌&&◌, ◌||◌, nat_lt, List, [], ◌∷◌, Option, Some, None, is_some}
 use Rattle.std.specs.List.{list_any}
 use Rattle.verilog_tree.specs.declared.kind.Kind.{Kind}
 use Rattle.verilog_tree.specs.declared.tree.Direction.{Direction}
 use Rattle.verilog_tree.specs.declared.tree.Direction.TheVariants as dir
 use Rattle.verilog_tree.specs.declared.tree.Port.{Port}
 use Rattle.verilog_tree.specs.declared.tree.InitialConstant.{InitialConstant}
-use Rattle.verilog_tree.specs.declared.tree.Statement.{Statement}
 use Rattle.verilog_tree.specs.declared.tree.Item.{Item}
 use Rattle.verilog_tree.specs.declared.tree.Item.TheVariants as i
 use Rattle.verilog_tree.specs.declared.tree.Module.{Module}
@@ -14,7 +13,7 @@ use Rattle.verilog_tree.specs.declared.tree.Net.{Net}
 use Rattle.verilog_tree.specs.Grammar.{clk}
 use Rattle.verilog_tree.specs.Scope.{Name, Names, is_known, is_clk, Scope, is_declared, declaration, width_of}
 use Rattle.verilog_tree.specs.Rules.{all_right, has_port, assign_right, statement_right, initial_constant_right, connections_right}
-use Rattle.verilog_tree.specs.Facts.{Place, is_place, with_place, place_of, words_below, with_name, Interface, interface_named, ports_of, is_top, drives, written_by, body_of, constants_of, item_prints, places_printer, module_of, Facts, nothing, after, after_port, after_item, after_constant, head_facts, port_facts, module_facts, after_module}
+use Rattle.verilog_tree.specs.Facts.{Place, is_place, place_of, words_below, with_name, Interface, interface_named, ports_of, is_top, drives, written_by, body_of, constants_of, item_prints, places_printer, Facts, nothing, after, after_port, after_item, after_constant, head_facts, port_facts, module_facts, after_module}
 
 -- ---- what may stand once
 

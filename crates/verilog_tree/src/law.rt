@@ -5,5 +5,4 @@ ghost use Rattle.verilog_tree.specs.Reads.{ReadsOne};
 /// A text reads as at most one net.
 pub fn reads_one()
     ensures { ReadsOne }
-{
-}
+{}

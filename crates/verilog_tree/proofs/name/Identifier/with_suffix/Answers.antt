@@ -1,4 +1,3 @@
-use Rattle.std.proofs.Common.{◌≡◌}
 use Rattle.verilog_tree.proofs.Names.{is_name-suffixed}
 use Rattle.verilog_tree.proofs.name.Identifier.with_suffix.Goals as goal
 
