@@ -14,7 +14,8 @@ use Rattle.verilog_tree.specs.declared.token.Mark.TheVariants as m
 use Rattle.verilog_tree.specs.declared.token.Token.{Token}
 use Rattle.verilog_tree.specs.declared.token.Token.TheVariants as t
 use Rattle.verilog_tree.specs.Spelling.{Text, word_spelling, all_words, word_among, is_letter, is_name_byte, all_pass, is_no_word, is_name, is_plain, is_quoted}
-use Rattle.verilog_tree.specs.Tokens.{mark_spelling, spelling, run_of, after_run, word_by, word_or_name, number_of, with_byte, quoted, front_of, front, mark_by, is_token, is_blank, begins_slash, skip}
+use Rattle.verilog_tree.specs.Tokens.{mark_spelling, spelling, run_of, after_run, word_by, word_or_name, number_of, with_byte, quoted, front_of, front}
+use Rattle.verilog_tree.specs.Tokens.{mark_by, is_token, is_blank, begins_slash, skip}
 use Rattle.verilog_tree.proofs.Tests.{and_left, and_right, not_true, or_right, bytes_same, digits_of}
 
 -- a byte that goes on with no token before it
@@ -135,7 +136,8 @@ number_found n lt =
     ∙ ap (λ x. if x && bytes_eq (decimal n) (decimal n) then Some n else None) (lt-ltb n (2 ^ 64) lt)
     ∙ ap (λ x. if x then Some n else None) (bytes_same (decimal n))
 
-front_digit : (b : ℕ) (z : Text) (c : ℕ) (r : Text) → all_pass is_ascii_digit (b ∷ z) ≡ true → separates c ≡ true → front ((b ∷ z) ++ (c ∷ r)) ≡ option_map (λ n. (t.Number n, c ∷ r)) (number_of (b ∷ z))
+front_digit : (b : ℕ) (z : Text) (c : ℕ) (r : Text) → all_pass is_ascii_digit (b ∷ z) ≡ true → separates c ≡ true
+    → front ((b ∷ z) ++ (c ∷ r)) ≡ option_map (λ n. (t.Number n, c ∷ r)) (number_of (b ∷ z))
 unfolding front
 front_digit b z c r all sep =
     let stop = separates_digit c sep in

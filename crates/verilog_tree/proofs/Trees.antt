@@ -44,7 +44,8 @@ module _ (P : Statement → Type 0)
   each_of [] = tt
   each_of (y ∷ ys) = (y.1, each_of ys)
 
-  induct_step : (x : Statement-F Statement) (y : Statement-F (Such the_family (claims P) member-Statement)) → map-Statement (Such the_family (claims P) member-Statement) Statement (λ e. e.0) y ≡ x → P (roll-Statement x)
+  induct_step : (x : Statement-F Statement) (y : Statement-F (Such the_family (claims P) member-Statement))
+      → map-Statement (Such the_family (claims P) member-Statement) Statement (λ e. e.0) y ≡ x → P (roll-Statement x)
   induct_step x (Statement-F.Set a b) e = subst (λ k. P (roll-Statement k)) e (subst P (sym (s.rolls-Set a b)) (set a b))
   induct_step x (Statement-F.Store a b c) e = subst (λ k. P (roll-Statement k)) e (subst P (sym (s.rolls-Store a b c)) (store a b c))
   induct_step x (Statement-F.If a ys) e = subst (λ k. P (roll-Statement k)) e (subst P (sym (s.rolls-If a (map (λ e. e.0) ys))) (branch a (map (λ e. e.0) ys) (each_of ys)))

@@ -22,7 +22,8 @@ module _ {A : Type 0} (f : A → Tokens) where
   abbrev pub IsKnown : A → Type 0
   IsKnown x = (y : A) (r s : Tokens) → f x ++ r ≡ f y ++ s → (x ≡ y) × (r ≡ s)
 
-  pub all_known : (stop : Token) → ((x : A) (r s : Tokens) → f x ++ r ≡ stop ∷ s → ⊥) → (xs ys : List A) (r s : Tokens) → Each IsKnown xs → g.all f xs ++ (stop ∷ r) ≡ g.all f ys ++ (stop ∷ s) → (xs ≡ ys) × (r ≡ s)
+  pub all_known : (stop : Token) → ((x : A) (r s : Tokens) → f x ++ r ≡ stop ∷ s → ⊥) → (xs ys : List A) (r s : Tokens) → Each IsKnown xs
+      → g.all f xs ++ (stop ∷ r) ≡ g.all f ys ++ (stop ∷ s) → (xs ≡ ys) × (r ≡ s)
   all_known stop apart [] [] r s known e = (refl, cc)
   all_known stop apart [] (y ∷ ys) r s known e = absurd (apart y (g.all f ys ++ (stop ∷ s)) r (sym (append_assoc (f y) (g.all f ys) (stop ∷ s)) ∙ sym e))
   all_known stop apart (x ∷ xs) [] r s known e = absurd (apart x (g.all f xs ++ (stop ∷ r)) s (sym (append_assoc (f x) (g.all f xs) (stop ∷ r)) ∙ e))
@@ -58,7 +59,8 @@ module _ {A : Type 0} (f : A → Tokens) (unique : Unique f) where
   more_unique mark apart (x ∷ xs) [] r s e = absurd (apart cc)
   more_unique mark apart (x ∷ xs) (y ∷ ys) r s e =
       let tail : (f x ++ g.more f xs) ++ (t.Mark mark ∷ r) ≡ (f y ++ g.more f ys) ++ (t.Mark mark ∷ s) = cc in
-      let one = unique x y (g.more f xs ++ (t.Mark mark ∷ r)) (g.more f ys ++ (t.Mark mark ∷ s)) (sym (append_assoc (f x) (g.more f xs) (t.Mark mark ∷ r)) ∙ tail ∙ append_assoc (f y) (g.more f ys) (t.Mark mark ∷ s)) in
+      let one = unique x y (g.more f xs ++ (t.Mark mark ∷ r)) (g.more f ys ++ (t.Mark mark ∷ s))
+          (sym (append_assoc (f x) (g.more f xs) (t.Mark mark ∷ r)) ∙ tail ∙ append_assoc (f y) (g.more f ys) (t.Mark mark ∷ s)) in
       let rest = more_unique mark apart xs ys r s one.1 in
       let same : x ≡ y = one.0 in
       let others : xs ≡ ys = rest.0 in
@@ -69,7 +71,8 @@ module _ {A : Type 0} (f : A → Tokens) (unique : Unique f) where
   commas_unique mark apart first [] (y ∷ ys) r s e = absurd (first y (g.more f ys ++ (t.Mark mark ∷ s)) r (sym (append_assoc (f y) (g.more f ys) (t.Mark mark ∷ s)) ∙ sym e))
   commas_unique mark apart first (x ∷ xs) [] r s e = absurd (first x (g.more f xs ++ (t.Mark mark ∷ r)) s (sym (append_assoc (f x) (g.more f xs) (t.Mark mark ∷ r)) ∙ e))
   commas_unique mark apart first (x ∷ xs) (y ∷ ys) r s e =
-      let one = unique x y (g.more f xs ++ (t.Mark mark ∷ r)) (g.more f ys ++ (t.Mark mark ∷ s)) (sym (append_assoc (f x) (g.more f xs) (t.Mark mark ∷ r)) ∙ e ∙ append_assoc (f y) (g.more f ys) (t.Mark mark ∷ s)) in
+      let one = unique x y (g.more f xs ++ (t.Mark mark ∷ r)) (g.more f ys ++ (t.Mark mark ∷ s))
+          (sym (append_assoc (f x) (g.more f xs) (t.Mark mark ∷ r)) ∙ e ∙ append_assoc (f y) (g.more f ys) (t.Mark mark ∷ s)) in
       let rest = more_unique mark apart xs ys r s one.1 in
       let same : x ≡ y = one.0 in
       let others : xs ≡ ys = rest.0 in

@@ -101,9 +101,12 @@ expression (expr.Binary operator left right) = name left ++ mark (operator_mark 
 expression (expr.SignedLess left right) = signed left ++ mark m.Less ++ signed right
 expression (expr.ArithmeticShiftRight left right) = signed left ++ mark m.ArithmeticShiftRight ++ name right
 expression (expr.Conditional condition if_true if_false) = name condition ++ mark m.Question ++ name if_true ++ mark m.Colon ++ name if_false
-expression (expr.Division tested nought guarded operator left right) = guard tested m.EqualEqual nought ++ constant guarded ++ mark m.Colon ++ name left ++ mark (division_mark operator) ++ name right
-expression (expr.SignedDivision tested nought guarded operator left right) = guard tested m.EqualEqual nought ++ signed_constant guarded ++ mark m.Colon ++ signed left ++ mark (division_mark operator) ++ signed right
-expression (expr.MemoryRead tested bound memory address guarded) = guard tested m.Less bound ++ name memory ++ mark m.OpenSquare ++ name address ++ mark m.CloseSquare ++ mark m.Colon ++ constant guarded
+expression (expr.Division tested nought guarded operator left right) =
+    guard tested m.EqualEqual nought ++ constant guarded ++ mark m.Colon ++ name left ++ mark (division_mark operator) ++ name right
+expression (expr.SignedDivision tested nought guarded operator left right) =
+    guard tested m.EqualEqual nought ++ signed_constant guarded ++ mark m.Colon ++ signed left ++ mark (division_mark operator) ++ signed right
+expression (expr.MemoryRead tested bound memory address guarded) =
+    guard tested m.Less bound ++ name memory ++ mark m.OpenSquare ++ name address ++ mark m.CloseSquare ++ mark m.Colon ++ constant guarded
 expression (expr.BitSelect of bit) = name of ++ mark m.OpenSquare ++ number bit ++ mark m.CloseSquare
 expression (expr.PartSelect of high low) = name of ++ mark m.OpenSquare ++ number high ++ mark m.Colon ++ number low ++ mark m.CloseSquare
 expression (expr.Concatenation parts) = mark m.OpenCurly ++ commas name parts ++ mark m.CloseCurly
@@ -128,12 +131,24 @@ abbrev pub argument : WriteArgument → Tokens
 argument (a.Unsigned n) = name n
 argument (a.Signed n) = signed n
 
+abbrev pub set : List ℕ → List ℕ → Tokens
+set register source = name register ++ mark m.LessEqual ++ name source ++ mark m.Semicolon
+
+abbrev pub store : List ℕ → List ℕ → List ℕ → Tokens
+store memory address source = name memory ++ mark m.OpenSquare ++ name address ++ mark m.CloseSquare ++ mark m.LessEqual ++ name source ++ mark m.Semicolon
+
+abbrev pub conditional : List ℕ → Tokens → Tokens
+conditional condition body = word w.If ++ mark m.OpenRound ++ name condition ++ mark m.CloseRound ++ word w.Begin ++ body ++ word w.End
+
+abbrev pub write : List ℕ → List WriteArgument → Tokens
+write text arguments = mark m.Write ++ mark m.OpenRound ++ t.Quoted text ∷ [] ++ more argument arguments ++ mark m.CloseRound ++ mark m.Semicolon
+
 -- a statement, by the tokens of those in it
 abbrev pub statement_of : Statement-F Tokens → Tokens
-statement_of (Statement-F.Set register source) = name register ++ mark m.LessEqual ++ name source ++ mark m.Semicolon
-statement_of (Statement-F.Store memory address source) = name memory ++ mark m.OpenSquare ++ name address ++ mark m.CloseSquare ++ mark m.LessEqual ++ name source ++ mark m.Semicolon
-statement_of (Statement-F.If condition body) = word w.If ++ mark m.OpenRound ++ name condition ++ mark m.CloseRound ++ word w.Begin ++ all (λ ts. ts) body ++ word w.End
-statement_of (Statement-F.Write text arguments) = mark m.Write ++ mark m.OpenRound ++ t.Quoted text ∷ [] ++ more argument arguments ++ mark m.CloseRound ++ mark m.Semicolon
+statement_of (Statement-F.Set register source) = set register source
+statement_of (Statement-F.Store memory address source) = store memory address source
+statement_of (Statement-F.If condition body) = conditional condition (all (λ ts. ts) body)
+statement_of (Statement-F.Write text arguments) = write text arguments
 
 abbrev pub statement : Statement → Tokens
 statement = fold-Statement Tokens statement_of

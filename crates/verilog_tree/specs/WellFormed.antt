@@ -13,7 +13,9 @@ use Rattle.verilog_tree.specs.declared.tree.Net.{Net}
 use Rattle.verilog_tree.specs.Grammar.{clk}
 use Rattle.verilog_tree.specs.Scope.{Name, Names, is_known, is_clk, Scope, is_declared, declaration, width_of}
 use Rattle.verilog_tree.specs.Rules.{all_right, has_port, assign_right, statement_right, initial_constant_right, connections_right}
-use Rattle.verilog_tree.specs.Facts.{Place, is_place, place_of, words_below, with_name, Interface, interface_named, ports_of, is_top, drives, written_by, body_of, constants_of, item_prints, places_printer, Facts, nothing, after, after_port, after_item, after_constant, head_facts, port_facts, module_facts, after_module}
+use Rattle.verilog_tree.specs.Facts.{Place, is_place, place_of, words_below, with_name, Interface, interface_named, ports_of, is_top, drives, written_by}
+use Rattle.verilog_tree.specs.Facts.{body_of, constants_of, item_prints, places_printer, Facts, nothing, after, after_port, after_item, after_constant}
+use Rattle.verilog_tree.specs.Facts.{head_facts, port_facts, module_facts, after_module}
 
 -- ---- what may stand once
 
