@@ -60,7 +60,7 @@ module _ {A : Type 0} (f : A → Tokens) (unique : Unique f) where
   more_unique mark apart (x ∷ xs) (y ∷ ys) r s e =
       let tail : (f x ++ g.more f xs) ++ (t.Mark mark ∷ r) ≡ (f y ++ g.more f ys) ++ (t.Mark mark ∷ s) = cc in
       let one = unique x y (g.more f xs ++ (t.Mark mark ∷ r)) (g.more f ys ++ (t.Mark mark ∷ s))
-          (sym (append_assoc (f x) (g.more f xs) (t.Mark mark ∷ r)) ∙ tail ∙ append_assoc (f y) (g.more f ys) (t.Mark mark ∷ s)) in
+      (sym (append_assoc (f x) (g.more f xs) (t.Mark mark ∷ r)) ∙ tail ∙ append_assoc (f y) (g.more f ys) (t.Mark mark ∷ s)) in
       let rest = more_unique mark apart xs ys r s one.1 in
       let same : x ≡ y = one.0 in
       let others : xs ≡ ys = rest.0 in
@@ -72,7 +72,7 @@ module _ {A : Type 0} (f : A → Tokens) (unique : Unique f) where
   commas_unique mark apart first (x ∷ xs) [] r s e = absurd (first x (g.more f xs ++ (t.Mark mark ∷ r)) s (sym (append_assoc (f x) (g.more f xs) (t.Mark mark ∷ r)) ∙ e))
   commas_unique mark apart first (x ∷ xs) (y ∷ ys) r s e =
       let one = unique x y (g.more f xs ++ (t.Mark mark ∷ r)) (g.more f ys ++ (t.Mark mark ∷ s))
-          (sym (append_assoc (f x) (g.more f xs) (t.Mark mark ∷ r)) ∙ e ∙ append_assoc (f y) (g.more f ys) (t.Mark mark ∷ s)) in
+      (sym (append_assoc (f x) (g.more f xs) (t.Mark mark ∷ r)) ∙ e ∙ append_assoc (f y) (g.more f ys) (t.Mark mark ∷ s)) in
       let rest = more_unique mark apart xs ys r s one.1 in
       let same : x ≡ y = one.0 in
       let others : xs ≡ ys = rest.0 in

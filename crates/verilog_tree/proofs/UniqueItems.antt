@@ -146,7 +146,7 @@ statement_unique = induct Known
 declared : (h k : Option ℕ) (x y : List ℕ) (r s : Tokens) → ((g.range h ++ g.name x) ++ g.mark m.Semicolon) ++ r ≡ ((g.range k ++ g.name y) ++ g.mark m.Semicolon) ++ s → (h ≡ k) × (x ≡ y) × (r ≡ s)
 declared h k x y r s e =
     let f = range_name h k x y (t.Mark m.Semicolon ∷ r) (t.Mark m.Semicolon ∷ s)
-        (sym (tail_two (g.range h) (t.Name x) (t.Mark m.Semicolon) r) ∙ e ∙ tail_two (g.range k) (t.Name y) (t.Mark m.Semicolon) s) in
+    (sym (tail_two (g.range h) (t.Name x) (t.Mark m.Semicolon) r) ∙ e ∙ tail_two (g.range k) (t.Name y) (t.Mark m.Semicolon) s) in
     (f.0, f.1, same_rest f.2 1)
 
 not_memory : (h : Option ℕ) (x : List ℕ) (k : ℕ) (y : List ℕ) (n : ℕ) (r s : Tokens)
@@ -170,21 +170,21 @@ item_unique (i.Memory x) _ r s e = cc
 item_unique (i.Assign x) (i.Assign y) r s e =
     let name : x.target ≡ y.target = same_name e 1 in
     let f = expression_unique x.value y.value r s
-        (sym (append_assoc (g.expression x.value) (t.Mark m.Semicolon ∷ []) r) ∙ same_rest e 3 ∙ append_assoc (g.expression y.value) (t.Mark m.Semicolon ∷ []) s) in
+    (sym (append_assoc (g.expression x.value) (t.Mark m.Semicolon ∷ []) r) ∙ same_rest e 3 ∙ append_assoc (g.expression y.value) (t.Mark m.Semicolon ∷ []) s) in
     ((λ j. i.Assign (record { target = name j; value = f.0 j })), f.1)
 item_unique (i.Assign x) _ r s e = cc
 item_unique (i.Initial x) (i.Initial y) r s e =
     let xs = x.constants in
     let ys = y.constants in
     let f = all_unique g.initial_constant initial_unique (t.Word w.End) initial_first xs ys r s
-        (sym (append_assoc (g.all g.initial_constant xs) (t.Word w.End ∷ []) r) ∙ same_rest e 2 ∙ append_assoc (g.all g.initial_constant ys) (t.Word w.End ∷ []) s) in
+    (sym (append_assoc (g.all g.initial_constant xs) (t.Word w.End ∷ []) r) ∙ same_rest e 2 ∙ append_assoc (g.all g.initial_constant ys) (t.Word w.End ∷ []) s) in
     ((λ j. i.Initial (record { constants = f.0 j })), f.1)
 item_unique (i.Initial x) _ r s e = cc
 item_unique (i.Always x) (i.Always y) r s e =
     let xs = x.body in
     let ys = y.body in
     let f = all_unique g.statement statement_unique (t.Word w.End) statement_first xs ys r s
-        (sym (append_assoc (g.all g.statement xs) (t.Word w.End ∷ []) r) ∙ same_rest e 7 ∙ append_assoc (g.all g.statement ys) (t.Word w.End ∷ []) s) in
+    (sym (append_assoc (g.all g.statement xs) (t.Word w.End ∷ []) r) ∙ same_rest e 7 ∙ append_assoc (g.all g.statement ys) (t.Word w.End ∷ []) s) in
     ((λ j. i.Always (record { body = f.0 j })), f.1)
 item_unique (i.Always x) _ r s e = cc
 item_unique (i.Instance x) (i.Instance y) r s e =

@@ -87,7 +87,7 @@ impl Clone for Identifier {
 /// Contracts see its bytes.
 #[derive(Debug, Drop)]
 pub struct Quoted {
-    text: String,
+    inside: String,
 }
 
 impl Model for Quoted {
@@ -96,9 +96,9 @@ impl Model for Quoted {
 
     ghost Value = { List ℕ };
 
-    ghost view = { λ q. string_bytes q.text };
+    ghost view = { λ q. string_bytes q.inside };
 
-    ghost invariant = { λ q. is_quoted false (string_bytes q.text) ≡ true };
+    ghost invariant = { λ q. is_quoted false (string_bytes q.inside) ≡ true };
 }
 
 impl Quoted {
@@ -107,14 +107,24 @@ impl Quoted {
         requires { is_quoted false (string_bytes text) ≡ true }
         ensures { result ≡ string_bytes text }
     {
-        Quoted { text }
+        Quoted { inside: text }
+    }
+
+    /// A copy of a text that can stand between quotes.
+    pub fn from_text(alloc: Global, text: &str) -> Result<Quoted, AllocError>
+        requires { is_quoted false text.now ≡ true }
+        ensures { IfOk result (λ quoted. quoted ≡ text.now) }
+    {
+        Ok(Quoted {
+            inside: String::from_str(alloc, text)?,
+        })
     }
 
     pub fn as_str(&self) -> &str
         ensures bytes { result.now ≡ self.now }
         ensures quoted { is_quoted false self.now ≡ true }
     {
-        self.text.as_str()
+        self.inside.as_str()
     }
 }
 
@@ -123,7 +133,7 @@ impl Clone for Quoted {
 
     fn clone(&self) -> Result<Quoted, AllocError> {
         Ok(Quoted {
-            text: self.text.clone()?,
+            inside: self.inside.clone()?,
         })
     }
 }

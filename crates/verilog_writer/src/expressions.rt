@@ -11,22 +11,28 @@ use verilog_tree::name::Identifier;
 use verilog_tree::token::Mark;
 use verilog_tree::tree::{BinaryOperator, Constant, DivisionOperator, Expression};
 
+/// `width'd value`, or with another mark between them.
+fn sized(out: &mut Text, constant: Constant, base: Mark) -> Result<(), AllocError>
+    ensures text { OnOk result (out.new ≡ put_all out.old (g.number constant.width ++ g.mark base ++ g.number constant.value)) }
+    ensures tokens { OnOk result (AllTokens (g.number constant.width ++ g.mark base ++ g.number constant.value)) }
+{
+    out.number(constant.width)?;
+    out.mark(base)?;
+    out.number(constant.value)
+}
+
 pub fn constant(out: &mut Text, constant: Constant) -> Result<(), AllocError>
     ensures text { OnOk result (out.new ≡ put_all out.old (g.constant constant)) }
     ensures tokens { OnOk result (AllTokens (g.constant constant)) }
 {
-    out.number(constant.width)?;
-    out.mark(Mark::Decimal)?;
-    out.number(constant.value)
+    sized(out, constant, Mark::Decimal)
 }
 
 fn signed_constant(out: &mut Text, constant: Constant) -> Result<(), AllocError>
     ensures text { OnOk result (out.new ≡ put_all out.old (g.signed_constant constant)) }
     ensures tokens { OnOk result (AllTokens (g.signed_constant constant)) }
 {
-    out.number(constant.width)?;
-    out.mark(Mark::SignedDecimal)?;
-    out.number(constant.value)
+    sized(out, constant, Mark::SignedDecimal)
 }
 
 /// `$signed(name)`

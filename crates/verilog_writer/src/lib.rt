@@ -8,6 +8,8 @@ ghost use Rattle.verilog_tree.specs.Reads.{IsFull, Reads};
 
 mod expressions;
 mod items;
+#[cfg(test)]
+mod tests;
 mod text;
 
 use crate::text::Text;
