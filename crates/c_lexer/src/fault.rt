@@ -1,0 +1,42 @@
+// What may stop the lexer.
+
+ghost use Rattle.std.specs.Prelude.{◌≡◌};
+
+use std::alloc::AllocError;
+
+/// The largest number of tokens of a text, its end not counted.
+pub const MAX_TOKENS: usize = 16_384;
+
+/// The largest length of a name, in bytes.
+pub const MAX_NAME_LENGTH: usize = 63;
+
+/// A limit of a text's tokens.
+#[derive(Clone, Copy, Debug, PartialEq, Eq)]
+pub enum TextLimit {
+    Tokens,
+    NameLength,
+}
+
+/// The first fault of a text from left to right, or want of memory.
+#[derive(Clone, Copy, Debug, PartialEq, Eq)]
+pub enum LexFault {
+    /// No token, comment or directive starts at the offset, or it isn't closed.
+    Bad { offset: usize },
+    /// The token at the offset is the first to pass the limit, by this count.
+    Limit {
+        limit: TextLimit,
+        count: usize,
+        offset: usize,
+    },
+    Memory,
+}
+
+impl From<AllocError> for LexFault {
+    ghost use Rattle.c_lexer.specs.declared.fault.LexFault.TheVariants.{Memory};
+
+    ghost from_gives = { λ _ fault. fault ≡ Memory };
+
+    fn from(_error: AllocError) -> LexFault {
+        LexFault::Memory
+    }
+}

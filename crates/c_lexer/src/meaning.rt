@@ -1,0 +1,300 @@
+// What a lexeme means where it stands: a token, or a part of a directive.
+
+ghost use Rattle.std.specs.Prelude.{◌≡◌, ◌∷◌, ◌++◌, [], List, Bool, Option, map, position, slice_get, option_and_then, IfOk, OnOk, false};
+ghost use Rattle.std.specs.List.{list_any};
+ghost use Rattle.std.specs.Str.{bytes_eq};
+ghost use Rattle.c_lexer.specs.Meaning as spec;
+ghost use Rattle.c_token.specs.Spelling.{keyword_of};
+
+use crate::lexeme::{Class, behind, front};
+use c_token::{Constant, Keyword, Kind};
+use indexmap::IndexSet;
+use sqlite_items::Items;
+use std::alloc::{AllocError, Global};
+
+/// What a directive awaits next, besides blanks and comments.
+#[derive(Clone, Copy, Debug, PartialEq, Eq)]
+pub enum Awaits {
+    /// `include` or `define`.
+    Word,
+    /// What an include directive names.
+    Header,
+    /// The name that is defined.
+    Name,
+    /// The integer constant that the name stands for.
+    Value,
+    /// The end of the line or of the text: the directive is whole.
+    LineEnd,
+}
+
+/// Where a lexeme stands.
+#[derive(Clone, Copy, Debug, PartialEq, Eq)]
+pub enum Mode {
+    /// In a line that has only blanks and comments so far: a directive may begin.
+    LineStart,
+    /// Behind a token of the line.
+    InLine,
+    /// In the directive whose `#` stands at this offset.
+    Directive(usize, Awaits),
+}
+
+/// What a lexeme gives.
+#[derive(Debug, Drop)]
+pub enum Action {
+    Nothing,
+    Token(Kind),
+    /// Its bytes are the name that a directive defines.
+    Name,
+    /// The constant that the last such name stands for.
+    Value(Constant),
+}
+
+/// What a lexeme gives, and where the next one stands.
+#[derive(Debug, Drop)]
+pub struct Effect {
+    pub mode: Mode,
+    pub action: Action,
+}
+
+/// What the lexemes so far have defined, and where the next one stands.
+#[derive(Drop)]
+pub(crate) struct Context<'t> {
+    pub(crate) mode: Mode,
+    /// The names that directives define, in order.
+    names: IndexSet<&'t [u8]>,
+    /// The constants of these names.
+    values: Items<Constant>,
+}
+
+/// No token, and this for the next lexeme.
+fn only(mode: Mode) -> Option<Effect>
+    ensures { result ≡ spec.only mode }
+{
+    Some(Effect {
+        mode,
+        action: Action::Nothing,
+    })
+}
+
+fn is_reserved(word: &[u8]) -> bool
+    ensures { result ≡ spec.is_reserved word.now }
+{
+    Keyword::from_spelling(word).is_some()
+}
+
+fn directive_word(hash: usize, word: &[u8]) -> Option<Effect>
+    ensures { result ≡ spec.directive_word hash word.now }
+{
+    if word == b"include".as_slice() {
+        only(Mode::Directive(hash, Awaits::Header))
+    } else if word == b"define".as_slice() {
+        only(Mode::Directive(hash, Awaits::Name))
+    } else {
+        None
+    }
+}
+
+/// The name of a definition, which may not be taken.
+fn definition_name(hash: usize, is_taken: bool) -> Option<Effect>
+    ensures { result ≡ spec.definition_name hash is_taken }
+{
+    if is_taken {
+        return None;
+    }
+    Some(Effect {
+        mode: Mode::Directive(hash, Awaits::Value),
+        action: Action::Name,
+    })
+}
+
+fn definition_value(hash: usize, word: &[u8]) -> Option<Effect>
+    ensures { result ≡ spec.definition_value hash word.now }
+{
+    Constant::from_integer(word).map(|constant| Effect {
+        mode: Mode::Directive(hash, Awaits::LineEnd),
+        action: Action::Value(constant),
+    })
+}
+
+/// The bytes between the quotes.
+fn text_kind(alloc: Global, word: &[u8]) -> Result<Kind, AllocError>
+    ensures { IfOk result (λ k. k ≡ spec.text_kind word.now) }
+{
+    let inside = front(behind(word, 1), word.len().saturating_sub(2));
+    Ok(Kind::StringLiteral(Items::from_slice(alloc, inside)?))
+}
+
+/// The place of the name among them.
+fn place_of(names: &IndexSet<&[u8]>, name: &[u8]) -> Option<usize>
+    ensures { result ≡ position (bytes_eq name.now) (map (λ k. k.now) names.now.keys) }
+{
+    names.get_index_of(&name)
+}
+
+/// Whether the name is among them.
+fn is_among(names: &IndexSet<&[u8]>, name: &[u8]) -> bool
+    ensures { result ≡ list_any (bytes_eq name.now) (map (λ k. k.now) names.now.keys) }
+{
+    names.contains(&name)
+}
+
+/// Adds the name at the end.
+fn add<'t>(names: &mut IndexSet<&'t [u8]>, name: &'t [u8]) -> Result<(), AllocError>
+    requires { list_any (bytes_eq name.now) (map (λ k. k.now) names.old.keys) ≡ false }
+    ensures { OnOk result (map (λ k. k.now) names.new.keys ≡ map (λ k. k.now) names.old.keys ++ name.now ∷ []) }
+{
+    names.insert(name)?;
+    Ok(())
+}
+
+impl<'t> Context<'t> {
+    ghost use Rattle.c_lexer.specs.Contexts.{state_of};
+    ghost use Rattle.c_lexer.specs.declared.meaning.Action.TheVariants as action;
+
+    #[tactic(auto, unfolding(crate::specs::Meaning::start))]
+    pub(crate) fn new(alloc: Global) -> Context<'t>
+        ensures { state_of result ≡ spec.start }
+    {
+        Context {
+            mode: Mode::LineStart,
+            names: IndexSet::new(alloc),
+            values: Items::new(alloc),
+        }
+    }
+
+    /// Whether a directive has defined the name.
+    fn is_defined(&self, word: &[u8]) -> bool
+        ensures { result ≡ spec.is_defined (state_of self.now) word.now }
+    {
+        is_among(&self.names, word)
+    }
+
+    /// The constant that a directive has given the name.
+    fn defined(&self, word: &[u8]) -> Option<Constant>
+        ensures { result ≡ spec.defined (state_of self.now) word.now }
+    {
+        let index = place_of(&self.names, word)?;
+        self.values.get(index).copied()
+    }
+
+    /// The kind of the word: a keyword, a defined name's constant or a name.
+    fn word_kind(&self, alloc: Global, word: &[u8]) -> Result<Kind, AllocError>
+        ensures { IfOk result (λ k. k ≡ spec.word_kind word.now (keyword_of word.now) (spec.defined (state_of self.now) word.now)) }
+    {
+        if let Some(keyword) = Keyword::from_spelling(word) {
+            return Ok(Kind::Keyword(keyword));
+        }
+        match self.defined(word) {
+            Some(constant) => Ok(Kind::Constant(constant)),
+            None => Ok(Kind::Name(Items::from_slice(alloc, word)?)),
+        }
+    }
+
+    /// The token that the lexeme is; None where it is none, or a constant that is spelled badly.
+    #[tactic(auto, unfolding(crate::specs::Meaning::token_of))]
+    fn token_of(&self, alloc: Global, class: Class, word: &[u8]) -> Result<Option<Kind>, AllocError>
+        ensures { IfOk result (λ o. o ≡ spec.token_of (state_of self.now) class word.now) }
+    {
+        match class {
+            Class::Word => Ok(Some(self.word_kind(alloc, word)?)),
+            Class::Number => Ok(Constant::from_integer(word).map(Kind::Constant)),
+            Class::Character => Ok(Constant::from_character(word).map(Kind::Constant)),
+            Class::Text => Ok(Some(text_kind(alloc, word)?)),
+            Class::Mark(mark) => Ok(Some(Kind::Punctuator(mark))),
+            _ => Ok(None),
+        }
+    }
+
+    /// What a lexeme means in a line of tokens.
+    fn in_line(
+        &self,
+        alloc: Global,
+        at: usize,
+        class: Class,
+        word: &[u8],
+    ) -> Result<Option<Effect>, AllocError>
+        ensures { IfOk result (λ e. e ≡ spec.in_line at (state_of self.now) class word.now) }
+    {
+        if let Class::LineFeed = class {
+            return Ok(only(Mode::LineStart));
+        }
+        let token = self.token_of(alloc, class, word)?;
+        Ok(token.map(|kind| Effect {
+            mode: Mode::InLine,
+            action: Action::Token(kind),
+        }))
+    }
+
+    /// What a lexeme means in the directive whose `#` stands at the offset.
+    fn in_directive(&self, awaits: Awaits, hash: usize, class: Class, word: &[u8]) -> Option<Effect>
+        ensures { result ≡ spec.in_directive awaits hash (state_of self.now) class word.now }
+    {
+        match (awaits, class) {
+            (Awaits::Word, Class::Word) => directive_word(hash, word),
+            (Awaits::Header, Class::Header(_)) => only(Mode::Directive(hash, Awaits::LineEnd)),
+            (Awaits::Name, Class::Word) => definition_name(
+                hash,
+                is_reserved(word) || self.is_defined(word),
+            ),
+            (Awaits::Value, Class::Number) => definition_value(hash, word),
+            (Awaits::LineEnd, Class::LineFeed) => only(Mode::LineStart),
+            _ => None,
+        }
+    }
+
+    /// What the lexeme at the offset means; None where it may not stand there.
+    #[tactic(auto, unfolding(crate::specs::Meaning::effect_of))]
+    pub(crate) fn effect_of(
+        &self,
+        alloc: Global,
+        at: usize,
+        class: Class,
+        word: &[u8],
+    ) -> Result<Option<Effect>, AllocError>
+        ensures { IfOk result (λ e. e ≡ spec.effect_of at (state_of self.now) class word.now) }
+    {
+        if let Class::Blank | Class::LineComment | Class::BlockComment = class {
+            return Ok(only(self.mode));
+        }
+        match (self.mode, class) {
+            (Mode::Directive(hash, awaits), class) => Ok(self.in_directive(
+                awaits, hash, class, word,
+            )),
+            (Mode::LineStart, Class::Hash) => Ok(only(Mode::Directive(at, Awaits::Word))),
+            (_, class) => self.in_line(alloc, at, class, word),
+        }
+    }
+
+    /// Whether an include directive awaits what it names.
+    pub(crate) fn awaits_header(&self) -> bool
+        ensures { result ≡ spec.awaits_header (state_of self.now) }
+    {
+        matches!(self.mode, Mode::Directive(_, Awaits::Header))
+    }
+
+    /// The next lexeme stands in this mode.
+    pub(crate) fn turn(&mut self, mode: Mode)
+        ensures { state_of self.new ≡ spec.after_action mode action.Nothing [] (state_of self.old) }
+    {
+        self.mode = mode;
+    }
+
+    /// Notes the name that a directive defines, which is new.
+    pub(crate) fn name(&mut self, mode: Mode, word: &'t [u8]) -> Result<(), AllocError>
+        requires { spec.is_defined (state_of self.old) word.now ≡ false }
+        ensures { OnOk result (state_of self.new ≡ spec.after_action mode action.Name word.now (state_of self.old)) }
+    {
+        add(&mut self.names, word)?;
+        self.mode = mode;
+        Ok(())
+    }
+
+    /// Notes the constant of the last such name.
+    pub(crate) fn define(&mut self, mode: Mode, constant: Constant) -> Result<(), AllocError>
+        ensures { OnOk result (state_of self.new ≡ spec.after_action mode (action.Value constant) [] (state_of self.old)) }
+    {
+        self.values.push(constant)?;
+        self.mode = mode;
+        Ok(())
+    }
+}

@@ -1,0 +1,4 @@
+pub mod Samples
+pub mod Tables
+pub mod Routines
+mod Rows

@@ -1,0 +1,317 @@
+-- What name resolution gives, and what the meaning and the lowering of a program rest on.
+use Rattle.std.specs.Prelude.{◌≡◌, ◌≢◌, ℕ, ◌<◌, ◌≤◌, Bool, true, false, ◌&&◌, ◌||◌, nat_eq, nat_le, List, [], ◌∷◌, ◌++◌, length, map}
+use Rattle.std.specs.Prelude.{count_by, Option, Some, None, slice_get, IsTrue, Contains, ⊤}
+use Rattle.std.specs.List.{AllByRecursion, IsDistinct}
+use Rattle.std.specs.Cmp.Lexicographic.{pointwise}
+use Rattle.hls_ints.specs.Types.{IntegerType, HasType, promoted, int_type, long_int}
+use Rattle.c_program.specs.declared.tree.Storage.{Storage}
+use Rattle.c_program.specs.declared.tree.Storage.TheVariants.{Automatic, Static}
+use Rattle.c_program.specs.declared.tree.BinaryOperator.{BinaryOperator}
+use Rattle.c_program.specs.declared.tree.BinaryOperator.TheVariants.{Less, Greater, LessEqual, GreaterEqual, Equal, NotEqual}
+use Rattle.c_program.specs.declared.tree.LocalVariable.{LocalVariable}
+use Rattle.c_program.specs.declared.tree.ReturnType.{ReturnType}
+use Rattle.c_program.specs.declared.tree.ReturnType.TheVariants.{Void, Integer, Pointer}
+use Rattle.c_program.specs.declared.tree.ThreadObject.{ThreadObject}
+use Rattle.c_program.specs.declared.tree.MutexObject.{MutexObject}
+use Rattle.c_program.specs.declared.tree.BarrierObject.{BarrierObject}
+use Rattle.c_program.specs.Tree.{Expression, Place, Condition, RightSide, ObjectPlace, ThreadCall, Piece, Statement, Function, GlobalVariable, Program}
+use Rattle.c_program.specs.Types.{type_of, working_type}
+use Rattle.c_program.specs.Calls.{Reaches, IsAcyclic}
+
+-- a declared object: the type of its elements, and their number
+abbrev pub global_object : Option GlobalVariable → Option LocalVariable
+global_object None = None
+global_object (Some g) = Some (record { ty = g.ty; length = g.length })
+
+-- the object of that storage and number that the function sees
+abbrev pub declared : Program → Function → Storage → ℕ → Option LocalVariable
+declared P f Automatic variable = slice_get f.locals variable
+declared P f Static variable = global_object (slice_get P.globals variable)
+
+abbrev pub IsObject : Program → Function → Storage → ℕ → ℕ → IntegerType → Type 0
+IsObject P f storage variable length ty = declared P f storage variable ≡ Some (record { ty = ty; length = length })
+
+-- each variable is declared as it says, each constant is of its type, each operator works in the type that its
+-- operands give
+abbrev pub IsExpression : Program → Function → Expression → Type 0
+IsExpression P f (Expression.Constant ty number) = HasType ty number
+IsExpression P f (Expression.Variable storage variable ty) = IsObject P f storage variable 1 ty
+IsExpression P f (Expression.Element storage variable length ty index) =
+    IsObject P f storage variable length ty × IsExpression P f index
+IsExpression P f (Expression.Unary operator ty operand) = (ty ≡ promoted (type_of operand)) × IsExpression P f operand
+IsExpression P f (Expression.Binary operator ty left right) =
+    (ty ≡ working_type operator (type_of left) (type_of right)) × IsExpression P f left × IsExpression P f right
+IsExpression P f (Expression.Cast ty operand) = IsExpression P f operand
+
+abbrev pub AreExpressions : Program → Function → List Expression → Type 0
+AreExpressions P f list = AllByRecursion (IsExpression P f) list
+
+abbrev pub IsPlace : Program → Function → Place → Type 0
+IsPlace P f (Place.Scalar storage variable ty) = IsObject P f storage variable 1 ty
+IsPlace P f (Place.Element storage variable length ty index) =
+    IsObject P f storage variable length ty × IsExpression P f index
+
+abbrev pub place_type : Place → IntegerType
+place_type (Place.Scalar storage variable ty) = ty
+place_type (Place.Element storage variable length ty index) = ty
+
+abbrev pub IsCondition : Program → Function → Condition → Type 0
+IsCondition P f (Condition.Operand offset operand) = IsExpression P f operand
+IsCondition P f (Condition.Both first second) = IsCondition P f first × IsCondition P f second
+IsCondition P f (Condition.Either first second) = IsCondition P f first × IsCondition P f second
+IsCondition P f (Condition.Opposite inner) = IsCondition P f inner
+
+abbrev pub is_integer : ReturnType → Bool
+is_integer Void = false
+is_integer (Integer ty) = true
+is_integer Pointer = false
+
+abbrev pub is_pointer : ReturnType → Bool
+is_pointer Void = false
+is_pointer (Integer ty) = false
+is_pointer Pointer = true
+
+-- a call of a function that is neither main nor a start routine, with an argument for each parameter
+pub record IsCall (P : Program) (f : Function) (callee : ℕ) (arguments : List Expression) : Type 0 where
+  pub code : Function
+  pub found : slice_get P.functions callee ≡ Some code
+  pub not_main : callee ≢ P.main
+  pub not_routine : is_pointer code.returns ≡ false
+  pub count : length arguments ≡ code.parameters
+  pub passed : AreExpressions P f arguments
+
+-- a call whose value is used, of a function that returns one
+pub record IsValueCall (P : Program) (f : Function) (callee : ℕ) (arguments : List Expression) : Type 0 where
+  pub call : IsCall P f callee arguments
+  pub gives : is_integer call.code.returns ≡ true
+
+abbrev pub IsRightSide : Program → Function → RightSide → Type 0
+IsRightSide P f (RightSide.Value expression) = IsExpression P f expression
+IsRightSide P f (RightSide.Call callee arguments) = IsValueCall P f callee arguments
+
+-- a void function returns no value, a start routine one that is no call's, every other function a value
+abbrev pub IsReturn : Program → Function → ReturnType → Option RightSide → Type 0
+IsReturn P f Void None = ⊤
+IsReturn P f Void (Some right) = ⊥
+IsReturn P f (Integer ty) None = ⊥
+IsReturn P f (Integer ty) (Some right) = IsRightSide P f right
+IsReturn P f Pointer None = ⊥
+IsReturn P f Pointer (Some (RightSide.Value expression)) = IsExpression P f expression
+IsReturn P f Pointer (Some (RightSide.Call callee arguments)) = ⊥
+
+-- a place among objects that have these numbers of elements
+abbrev pub IsObjectPlace : Program → Function → (ℕ → Option ℕ) → ObjectPlace → Type 0
+IsObjectPlace P f length_at (ObjectPlace.Single object) = length_at object ≡ Some 1
+IsObjectPlace P f length_at (ObjectPlace.Element object length index) =
+    (length_at object ≡ Some length) × IsExpression P f index
+
+abbrev pub object_of : ObjectPlace → ℕ
+object_of (ObjectPlace.Single object) = object
+object_of (ObjectPlace.Element object length index) = object
+
+abbrev pub thread_length : Option ThreadObject → Option ℕ
+thread_length None = None
+thread_length (Some object) = Some object.length
+
+abbrev pub mutex_length : Option MutexObject → Option ℕ
+mutex_length None = None
+mutex_length (Some object) = Some object.length
+
+abbrev pub barrier_length : Option BarrierObject → Option ℕ
+barrier_length None = None
+barrier_length (Some object) = Some object.length
+
+abbrev pub IsThread : Program → Function → ObjectPlace → Type 0
+IsThread P f place = IsObjectPlace P f (λ x. thread_length (slice_get P.threads x)) place
+
+abbrev pub IsMutex : Program → Function → ObjectPlace → Type 0
+IsMutex P f place = IsObjectPlace P f (λ x. mutex_length (slice_get P.mutexes x)) place
+
+abbrev pub IsBarrier : Program → Function → ObjectPlace → Type 0
+IsBarrier P f place = IsObjectPlace P f (λ x. barrier_length (slice_get P.barriers x)) place
+
+-- the object keeps the routine that a create names for it
+abbrev pub HasRoutine : Option ThreadObject → ℕ → Type 0
+HasRoutine None routine = ⊥
+HasRoutine (Some object) routine = object.routine ≡ Some routine
+
+abbrev pub IsThreadCall : Program → Function → ThreadCall → Type 0
+IsThreadCall P f (ThreadCall.Create thread routine argument) =
+    IsThread P f thread × HasRoutine (slice_get P.threads (object_of thread)) routine × IsExpression P f argument
+IsThreadCall P f (ThreadCall.Join thread) = IsThread P f thread
+IsThreadCall P f (ThreadCall.MutexInit mutex) = IsMutex P f mutex
+IsThreadCall P f (ThreadCall.MutexDestroy mutex) = IsMutex P f mutex
+IsThreadCall P f (ThreadCall.MutexLock mutex) = IsMutex P f mutex
+IsThreadCall P f (ThreadCall.MutexUnlock mutex) = IsMutex P f mutex
+IsThreadCall P f (ThreadCall.BarrierInit barrier count) = IsBarrier P f barrier × IsExpression P f count
+IsThreadCall P f (ThreadCall.BarrierDestroy barrier) = IsBarrier P f barrier
+IsThreadCall P f (ThreadCall.BarrierWait barrier) = IsBarrier P f barrier
+
+-- a byte that may stand in a printf's text once its escapes are read: 0x20 to 0x7E, tab and line feed
+abbrev pub is_text_byte : ℕ → Bool
+is_text_byte byte = nat_eq byte 9 || nat_eq byte 10 || (nat_le 32 byte && nat_le byte 126)
+
+abbrev pub IsPiece : Piece → Type 0
+IsPiece (Piece.Text bytes) = AllByRecursion (λ byte. IsTrue (is_text_byte byte)) bytes
+IsPiece (Piece.Conversion ty) = ⊤
+
+abbrev pub is_conversion : Piece → Bool
+is_conversion (Piece.Text bytes) = false
+is_conversion (Piece.Conversion ty) = true
+
+-- printf with at most 4 values, as many as its format converts
+pub record IsPrint (P : Program) (f : Function) (format : List Piece) (arguments : List Expression) : Type 0 where
+  pub pieces : AllByRecursion IsPiece format
+  pub count : count_by is_conversion format ≡ length arguments
+  pub most : length arguments ≤ 4
+  pub passed : AreExpressions P f arguments
+
+abbrev pub is_comparison : BinaryOperator → Bool
+is_comparison Less = true
+is_comparison Greater = true
+is_comparison LessEqual = true
+is_comparison GreaterEqual = true
+is_comparison Equal = true
+is_comparison NotEqual = true
+is_comparison operator = false
+
+-- a compound assignment, whose operator is no comparison
+pub record IsUpdate (P : Program) (f : Function) (place : Place) (operator : BinaryOperator) (ty : IntegerType) (right : Expression) : Type 0 where
+  pub compound : is_comparison operator ≡ false
+  pub works_in : ty ≡ working_type operator (place_type place) (type_of right)
+  pub target : IsPlace P f place
+  pub operand : IsExpression P f right
+
+-- a statement of the function, in a loop or not
+abbrev pub IsStatement : Program → Function → Bool → Statement → Type 0
+IsStatement P f in_loop Statement.Done = ⊤
+IsStatement P f in_loop (Statement.Sequence first rest) = IsStatement P f in_loop first × IsStatement P f in_loop rest
+IsStatement P f in_loop Statement.Empty = ⊤
+IsStatement P f in_loop (Statement.Block body) = IsStatement P f in_loop body
+IsStatement P f in_loop (Statement.Declare offset local operators) = local < length f.locals
+IsStatement P f in_loop (Statement.Assign offset place right) = IsPlace P f place × IsRightSide P f right
+IsStatement P f in_loop (Statement.Update offset place operator ty right) = IsUpdate P f place operator ty right
+IsStatement P f in_loop (Statement.If condition consequent alternative) =
+    IsCondition P f condition × IsStatement P f in_loop consequent × IsStatement P f in_loop alternative
+IsStatement P f in_loop (Statement.While condition body) = IsCondition P f condition × IsStatement P f true body
+IsStatement P f in_loop (Statement.DoWhile body condition) = IsStatement P f true body × IsCondition P f condition
+IsStatement P f in_loop (Statement.For first condition last body) =
+    IsStatement P f false first × IsCondition P f condition × IsStatement P f false last × IsStatement P f true body
+IsStatement P f in_loop Statement.Break = IsTrue in_loop
+IsStatement P f in_loop Statement.Continue = IsTrue in_loop
+IsStatement P f in_loop (Statement.Return offset right) = IsReturn P f f.returns right
+IsStatement P f in_loop (Statement.Call offset callee arguments) = IsCall P f callee arguments
+IsStatement P f in_loop (Statement.Print offset format arguments) = IsPrint P f format arguments
+IsStatement P f in_loop (Statement.Thread offset call) = IsThreadCall P f call
+
+-- a letter or _, then letters, digits and _ (6.4.2)
+abbrev pub is_letter : ℕ → Bool
+is_letter byte = (nat_le 65 byte && nat_le byte 90) || (nat_le 97 byte && nat_le byte 122) || nat_eq byte 95
+
+abbrev pub is_letter_or_digit : ℕ → Bool
+is_letter_or_digit byte = is_letter byte || (nat_le 48 byte && nat_le byte 57)
+
+abbrev pub IsName : List ℕ → Type 0
+IsName [] = ⊥
+IsName (first ∷ rest) = IsTrue (is_letter first) × AllByRecursion (λ byte. IsTrue (is_letter_or_digit byte)) rest
+
+abbrev pub scalar : IntegerType → LocalVariable
+scalar ty = record { ty = ty; length = 1 }
+
+pub record IsFunction (P : Program) (f : Function) : Type 0 where
+  pub name : IsName f.name
+  pub parameters : f.parameters ≤ length f.locals
+  pub scalars : (k : ℕ) (l : LocalVariable) → k < f.parameters → slice_get f.locals k ≡ Some l → l.length ≡ 1
+  pub lengths : AllByRecursion (λ (l : LocalVariable). 0 < l.length) f.locals
+  pub body : IsStatement P f false f.body
+
+pub record IsGlobal (g : GlobalVariable) : Type 0 where
+  pub name : IsName g.name
+  pub not_empty : 0 < g.length
+  pub given : length g.initial ≤ g.length
+  pub initial : AllByRecursion (HasType g.ty) g.initial
+
+-- a function of a pointer to a pointer, whose parameter is seen as a long
+pub record IsStartRoutine (f : Function) : Type 0 where
+  pub returns : f.returns ≡ Pointer
+  pub parameters : f.parameters ≡ 1
+  pub parameter : slice_get f.locals 0 ≡ Some (scalar long_int)
+
+abbrev pub IfStartRoutine : Function → ReturnType → Type 0
+IfStartRoutine f Void = ⊤
+IfStartRoutine f (Integer ty) = ⊤
+IfStartRoutine f Pointer = IsStartRoutine f
+
+-- the function main: it takes nothing and returns an int
+pub record IsMain (P : Program) : Type 0 where
+  pub code : Function
+  pub found : slice_get P.functions P.main ≡ Some code
+  pub returns : code.returns ≡ Integer int_type
+  pub parameters : code.parameters ≡ 0
+
+abbrev pub IsRoutineAt : Option Function → Type 0
+IsRoutineAt None = ⊥
+IsRoutineAt (Some f) = IsStartRoutine f
+
+-- the creates of a statement: the numbers of the thread object and of the routine
+abbrev pub creates_of : Statement → List (ℕ × ℕ)
+creates_of (Statement.Sequence first rest) = creates_of first ++ creates_of rest
+creates_of (Statement.Block body) = creates_of body
+creates_of (Statement.If condition consequent alternative) = creates_of consequent ++ creates_of alternative
+creates_of (Statement.While condition body) = creates_of body
+creates_of (Statement.DoWhile body condition) = creates_of body
+creates_of (Statement.For first condition last body) = creates_of first ++ (creates_of last ++ creates_of body)
+creates_of (Statement.Thread offset (ThreadCall.Create thread routine argument)) = (object_of thread, routine) ∷ []
+creates_of statement = []
+
+-- some create names the routine for the thread object of that number
+pub record IsCreated (P : Program) (object routine : ℕ) : Type 0 where
+  pub creator : Function
+  pub found : Contains P.functions creator
+  pub created : Contains (creates_of creator.body) (object, routine)
+
+-- a pthread_t object, whose routine, if it has one, is a start routine that a create names
+pub record IsThreadObject (P : Program) (number : ℕ) (object : ThreadObject) : Type 0 where
+  pub not_empty : 0 < object.length
+  pub routine : (r : ℕ) → object.routine ≡ Some r → IsRoutineAt (slice_get P.functions r)
+  pub created : (r : ℕ) → object.routine ≡ Some r → IsCreated P number r
+
+-- a pthread_mutex_t object; one that is initialised where it is declared is no array
+pub record IsMutexObject (object : MutexObject) : Type 0 where
+  pub not_empty : 0 < object.length
+  pub initialised : object.initialised ≡ true → object.length ≡ 1
+
+-- whether a statement creates or joins a thread
+abbrev pub starts_or_joins : Statement → Bool
+starts_or_joins (Statement.Sequence first rest) = starts_or_joins first || starts_or_joins rest
+starts_or_joins (Statement.Block body) = starts_or_joins body
+starts_or_joins (Statement.If condition consequent alternative) =
+    starts_or_joins consequent || starts_or_joins alternative
+starts_or_joins (Statement.While condition body) = starts_or_joins body
+starts_or_joins (Statement.DoWhile body condition) = starts_or_joins body
+starts_or_joins (Statement.For first condition last body) =
+    starts_or_joins first || (starts_or_joins last || starts_or_joins body)
+starts_or_joins (Statement.Thread offset (ThreadCall.Create thread routine argument)) = true
+starts_or_joins (Statement.Thread offset (ThreadCall.Join thread)) = true
+starts_or_joins statement = false
+
+-- a start routine, and a function that one reaches by calls, neither creates nor joins a thread
+pub record OnlyMainStarts (P : Program) : Type 0 where
+  pub own : (f : Function) → Contains P.functions f → is_pointer f.returns ≡ true → starts_or_joins f.body ≡ false
+  pub reached :
+      (r g : ℕ) (f code : Function) → slice_get P.functions r ≡ Some f → is_pointer f.returns ≡ true →
+      Reaches P.functions r g → slice_get P.functions g ≡ Some code → starts_or_joins code.body ≡ false
+
+-- what holds of each program that a text spells
+pub record IsResolved (P : Program) : Type 0 where
+  pub main : IsMain P
+  pub functions : AllByRecursion (IsFunction P) P.functions
+  pub start_routines : AllByRecursion (λ (f : Function). IfStartRoutine f f.returns) P.functions
+  pub globals : AllByRecursion IsGlobal P.globals
+  pub threads : (number : ℕ) (object : ThreadObject) → slice_get P.threads number ≡ Some object → IsThreadObject P number object
+  pub mutexes : AllByRecursion IsMutexObject P.mutexes
+  pub barriers : AllByRecursion (λ (object : BarrierObject). 0 < object.length) P.barriers
+  pub acyclic : IsAcyclic P.functions
+  pub starters : OnlyMainStarts P
+  pub function_names : IsDistinct (pointwise nat_eq) (map (λ (f : Function). f.name) P.functions)
+  pub global_names : IsDistinct (pointwise nat_eq) (map (λ (g : GlobalVariable). g.name) P.globals)

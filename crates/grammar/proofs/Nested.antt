@@ -1,0 +1,215 @@
+-- One level deeper, and rules that refer to themselves.
+use Rattle.std.proofs.Common.{◌≡◌, ℕ, zero, suc, ◌+◌, ◌-◌, ◌<◌, ◌≤◌, List, [], ◌∷◌, ◌++◌, length, Option, Some, None, Bool, true, false, refl, sym, ap, ◌∙◌, subst, ◌⊎◌, inl, inr, ⊎_elim, append_assoc, length-append, arith}
+use Rattle.std.specs.Prelude.{Result, Ok, Err, if◌then◌else◌, ◌==◌}
+use Rattle.std.proofs.lemmas.Bool.{eqb-true}
+use Rattle.grammar.specs.Rules.{Placed, Rule, Family, nested}
+use Rattle.grammar.specs.Sentences.{plain, Within, Spelled, Starts}
+use Rattle.grammar.specs.Readers.{Stop, Syntax, Deep, Reading, Reader, sees, too_deep, reads_within}
+use Rattle.grammar.proofs.Lists.{false_true, not_true, Agrees}
+use Rattle.grammar.proofs.Good.{Reads, Answers, Dead, Avoids, Calm, Begun}
+use Rattle.grammar.proofs.Parts.{same_reader}
+
+module _ {T : Type 0} where
+  module _ {D : ℕ → Type 0} {A : Type 0} {n : ℕ} {P : Family T A} {p : ℕ → Reader T A} {first : T → Bool} {last : A → T → Bool} (good : Reads D n P p first last false) where
+    abbrev Inside : Family T A
+    Inside depth = nested (P depth)
+
+    abbrev Stopped : List T → Reading T A
+    Stopped ts = Err (Syntax ts)
+
+    -- what begins with no token of the set stops at once
+    unseen : (at room : ℕ) (ts : List T) → length ts < n → sees first ts ≡ false → (r : Reading T A) → Answers P at (at + room) ts r → r ≡ Err (Syntax ts)
+    unseen at room ts lt out (Ok x) k = absurd (seen_sentence ts k.0 x.1 x.0 k.2.0 k.1 out k.2.1) where
+      seen_sentence : (ts : List T) (w : List (Placed T)) (rest : List T) (v : A) (depth : ℕ) → ts ≡ plain w ++ rest → sees first ts ≡ false → P depth at w v → ⊥
+      seen_sentence ts [] rest v depth e out h = false_true false (good.empty depth at (good.whole (omega arith) depth) v h) refl
+      seen_sentence ts (t ∷ w) rest v depth e out h = false_true (first t.0) (good.begins depth at (good.whole (omega arith) depth) t w v h) (sym (ap (sees first) e) ∙ out)
+    unseen at room ts lt out (Err (Syntax rest)) k = stuck_at k.0 k.1 k.2 where
+      stuck_at : (w : List (Placed T)) → ts ≡ plain w ++ rest → Starts P at w → Stopped rest ≡ Stopped ts
+      stuck_at [] e h = ap Stopped (sym e)
+      stuck_at (t ∷ w) e h = absurd (false_true (first t.0) (good.begins h.2.0 at (good.whole (omega arith) h.2.0) t (w ++ h.0) h.1 h.2.1) (sym (ap (sees first) e) ∙ out))
+    unseen at room ts lt out (Err (Deep rest)) k = absurd (deep_at k.0 (k.5 ∙ ap (λ l. plain k.0 ++ l) k.4) k.6) where
+      deep_at : (w : List (Placed T)) → ts ≡ plain w ++ (k.1 ∷ k.3) → Starts P at (w ++ ((k.1, k.2) ∷ [])) → ⊥
+      deep_at [] e h = false_true (first k.1) (good.begins h.2.0 at (good.whole (omega arith) h.2.0) (k.1, k.2) h.0 h.1 h.2.1) (sym (ap (sees first) e) ∙ out)
+      deep_at (t ∷ w) e h = false_true (first t.0) (good.begins h.2.0 at (good.whole (omega arith) h.2.0) t ((w ++ ((k.1, k.2) ∷ [])) ++ h.0) h.1 h.2.1) (sym (ap (sees first) e) ∙ out)
+
+    to_inside : (at limit : ℕ) (ts : List T) (r : Reading T A) → Answers P (at + 1) limit ts r → Answers Inside at limit ts r
+    to_inside at limit ts (Ok x) k = (k.0, k.1, k.2, k.3, inside_dead at (plain k.0) x.1 k.4) where
+      inside_dead : (at : ℕ) (done rest : List T) → Dead P (at + 1) done rest → Dead Inside at done rest
+      inside_dead at done [] dead = tt
+      inside_dead at done (t ∷ rest) dead = dead
+    to_inside at limit ts (Err (Syntax rest)) k = (k.0, k.1, k.2, k.3, inside_dead' at (plain k.0) rest k.4) where
+      inside_dead' : (at : ℕ) (done rest : List T) → Dead P (at + 1) done rest → Dead Inside at done rest
+      inside_dead' at done [] dead = tt
+      inside_dead' at done (t ∷ rest) dead = dead
+    to_inside at limit ts (Err (Deep rest)) k = k
+
+    deep_sound : (at : ℕ) (ts : List T) → length ts < n → (b : Bool) → sees first ts ≡ b → Answers Inside at (at + 0) ts (if b then Err (Deep ts) else Err (Syntax ts))
+    deep_sound at [] lt true e = cc
+    deep_sound at (t ∷ ts) lt true e =
+        let k = good.begun (omega arith) (at + 1) t e in
+        ([], t, k.0, ts, refl, refl, (k.1, k.2, k.4), tt, (let i : at + 0 < k.0 = omega (arith, k.3) in i))
+    deep_sound at [] lt false e = let some = good.inhabited (good.whole (omega arith)) (at + 1) in ([], refl, (some.0, some.1, some.2), tt, tt)
+    deep_sound at (t ∷ ts) lt false e =
+        let some = good.inhabited (good.whole (omega arith)) (at + 1) in
+        ([], refl, (some.0, some.1, some.2), tt, λ depth w more v s h. no_first depth w more v s h) where
+      no_first : (depth : ℕ) (w : List (Placed T)) (more : List T) (v : A) → plain w ≡ t ∷ more → P depth (at + 1) w v → ⊥
+      no_first depth [] more v s h = cc
+      no_first depth (x ∷ w) more v s h =
+          let same : x.0 ≡ t = cc in
+          false_true (first t) (subst (λ y. first y ≡ true) same (good.begins depth (at + 1) (good.whole (omega arith) depth) x w v h)) e
+
+    -- p', which takes a level of room and reads as p does with the rest, reads the rule one level deeper
+    module _ (p' : ℕ → Reader T A) (without : (ts : List T) → p' 0 ts ≡ too_deep first ts) (with : (room : ℕ) (ts : List T) → p' (suc room) ts ≡ p room ts) where
+      inside_sound : (at room : ℕ) (ts : List T) → length ts < n → Answers Inside at (at + room) ts (p' room ts)
+      inside_sound at zero ts lt = subst (Answers Inside at (at + 0) ts) (sym (without ts)) (deep_sound at ts lt (sees first ts) refl)
+      inside_sound at (suc room) ts lt =
+          let limit : (at + 1) + room ≡ at + suc room = omega arith in
+          subst (Answers Inside at (at + suc room) ts) (sym (with room ts)) (subst (λ l. Answers Inside at l ts (p room ts)) limit (to_inside at ((at + 1) + room) ts (p room ts) (good.sound (at + 1) room ts lt)))
+
+      inside_complete : (depth at room : ℕ) (ts : List T) (w : List (Placed T)) (rest : List T) (v : A) → length ts < n → ts ≡ plain w ++ rest → Inside depth at w v → Within (at + room) w → Avoids (last v) rest → p' room ts ≡ Ok (v, rest)
+      inside_complete depth at zero ts [] rest v lt e h low av = absurd (false_true false (good.empty depth (at + 1) (good.whole (omega arith) depth) v h) refl)
+      inside_complete depth at zero ts (t ∷ w) rest v lt e h low av =
+          let high : at + 1 ≤ t.1 = good.above depth (at + 1) (good.whole (omega arith) depth) t w v h in
+          absurd (omega (arith, high, low.0))
+      inside_complete depth at (suc room) ts w rest v lt e h low av =
+          let limit : at + suc room ≡ (at + 1) + room = omega arith in
+          with room ts ∙ good.complete depth (at + 1) room ts w rest v lt e h (subst (λ l. Within l w) limit low) av
+
+      out_of : (ts : List T) (b : Bool) → Calm {A = A} (if b then Err (Deep ts) else Err (Syntax ts)) → b ≡ false
+      out_of ts true calm = absurd calm
+      out_of ts false calm = refl
+
+      inside_stable : (room : ℕ) (ts : List T) → length ts < n → Calm (p' room ts) → p' (suc room) ts ≡ p' room ts
+      inside_stable zero ts lt calm =
+          let calm' : Calm (too_deep {A = A} first ts) = subst Calm (without ts) calm in
+          let out : sees first ts ≡ false = out_of ts (sees first ts) calm' in
+          with 0 ts ∙ unseen 0 0 ts lt out (p 0 ts) (good.sound 0 0 ts lt) ∙ sym (without ts ∙ ap (λ b. if b then Err (Deep ts) else Err (Syntax ts)) out)
+      inside_stable (suc room) ts lt calm = with (suc room) ts ∙ good.stable room ts lt (subst Calm (with room ts) calm) ∙ sym (with room ts)
+
+      pub deeper_in : Reads D n Inside p' first last false
+      deeper_in = record {
+        whole = good.whole;
+        deeper = λ depth at. good.deeper depth (at + 1);
+        begins = λ depth at. good.begins depth (at + 1);
+        above = λ depth at dd t w v h. (let i = good.above depth (at + 1) dd t w v h in omega (arith, i));
+        begun = λ lt at t h. let k = good.begun lt (at + 1) t h in (k.0, k.1, k.2, omega (arith, k.3), k.4);
+        empty = λ depth at. good.empty depth (at + 1);
+        nothing = λ all at. good.nothing all (at + 1);
+        inhabited = λ all at. good.inhabited all (at + 1);
+        stable = inside_stable;
+        fixed = λ depth depth' at. good.fixed depth depth' (at + 1);
+        sound = inside_sound;
+        complete = inside_complete;
+      }
+
+  module _ {D : ℕ → Type 0} {A : Type 0} {n : ℕ} {P : Family T A} {first : T → Bool} {last : A → T → Bool} (p : ℕ → Reader T A) where
+    -- the same where the reader says so itself
+    pub within_in : Reads D n P (λ room. p (suc room)) first last false → Reads D n (λ depth. nested (P depth)) (λ room. reads_within first room (p room)) first last false
+    within_in good = deeper_in good (λ room. reads_within first room (p room)) (λ ts. refl)
+        (λ room ts. ap (λ b. if b then too_deep first ts else p (suc room) ts) (not_true (suc room == 0) (λ h. omega (arith, eqb-true (suc room) 0 h))))
+
+  -- ---- a rule by how often it is entered: the one at a depth is made of the one below
+
+  module _ {D D' : ℕ → Type 0} {A : Type 0} {n : ℕ} (E : Family T A) {p : ℕ → Reader T A} {first : T → Bool} {last : A → T → Bool} {null : Bool}
+      (body : Reads D n (λ depth. E (suc depth)) p first last null) (none : (at : ℕ) (w : List (Placed T)) (v : A) → E 0 at w v → ⊥)
+      (below : (depth : ℕ) → D' (suc depth) → D depth) (whole : 0 < n → (depth : ℕ) → D' depth) (whole' : ((d : ℕ) → D' d) → (d : ℕ) → D d) where
+    abbrev Next : Family T A
+    Next depth = E (suc depth)
+
+    entered_deeper : (depth at : ℕ) → D' depth → (w : List (Placed T)) (v : A) → E depth at w v → E (suc depth) at w v
+    entered_deeper zero at dd w v h = absurd (none at w v h)
+    entered_deeper (suc depth) at dd w v h = body.deeper depth at (below depth dd) w v h
+
+    entered_begins : (depth at : ℕ) → D' depth → (t : Placed T) (w : List (Placed T)) (v : A) → E depth at (t ∷ w) v → first t.0 ≡ true
+    entered_begins zero at dd t w v h = absurd (none at (t ∷ w) v h)
+    entered_begins (suc depth) at dd t w v h = body.begins depth at (below depth dd) t w v h
+
+    entered_above : (depth at : ℕ) → D' depth → (t : Placed T) (w : List (Placed T)) (v : A) → E depth at (t ∷ w) v → at ≤ t.1
+    entered_above zero at dd t w v h = absurd (none at (t ∷ w) v h)
+    entered_above (suc depth) at dd t w v h = body.above depth at (below depth dd) t w v h
+
+    entered_empty : (depth at : ℕ) → D' depth → (v : A) → E depth at [] v → null ≡ true
+    entered_empty zero at dd v h = absurd (none at [] v h)
+    entered_empty (suc depth) at dd v h = body.empty depth at (below depth dd) v h
+
+    entered_fixed : (depth depth' at : ℕ) (w w' : List (Placed T)) (v v' : A) → length w < n → length w' < n → E depth at w v → E depth' at w' v' → Agrees w w'
+    entered_fixed zero depth' at w w' v v' lt lt' h h' = absurd (none at w v h)
+    entered_fixed (suc depth) zero at w w' v v' lt lt' h h' = absurd (none at w' v' h')
+    entered_fixed (suc depth) (suc depth') at w w' v v' lt lt' h h' = body.fixed depth depth' at w w' v v' lt lt' h h'
+
+    entered_complete : (depth at room : ℕ) (ts : List T) (w : List (Placed T)) (rest : List T) (v : A) → length ts < n → ts ≡ plain w ++ rest → E depth at w v → Within (at + room) w → Avoids (last v) rest → p room ts ≡ Ok (v, rest)
+    entered_complete zero at room ts w rest v lt e h low av = absurd (none at w v h)
+    entered_complete (suc depth) at room ts w rest v lt e h low av = body.complete depth at room ts w rest v lt e h low av
+
+    entered_dead_at : (at : ℕ) (done : List T) (t : T) (rest : List T) → Dead Next at done (t ∷ rest) → (depth : ℕ) (w : List (Placed T)) (more : List T) (v : A) → plain w ≡ done ++ (t ∷ more) → E depth at w v → ⊥
+    entered_dead_at at done t rest dead zero w more v e h = none at w v h
+    entered_dead_at at done t rest dead (suc depth) w more v e h = dead depth w more v e h
+
+    entered_dead : (at : ℕ) (done rest : List T) → Dead Next at done rest → Dead E at done rest
+    entered_dead at done [] dead = tt
+    entered_dead at done (t ∷ rest) dead = entered_dead_at at done t rest dead
+
+    entered_answers : (at limit : ℕ) (ts : List T) (r : Reading T A) → Answers Next at limit ts r → Answers E at limit ts r
+    entered_answers at limit ts (Ok x) k = (k.0, k.1, (suc k.2.0, k.2.1), k.3, entered_dead at (plain k.0) x.1 k.4)
+    entered_answers at limit ts (Err (Syntax rest)) k = (k.0, k.1, (k.2.0, k.2.1, (suc k.2.2.0, k.2.2.1)), k.3, entered_dead at (plain k.0) rest k.4)
+    entered_answers at limit ts (Err (Deep rest)) k = (k.0, k.1, k.2, k.3, k.4, k.5, (k.6.0, k.6.1, (suc k.6.2.0, k.6.2.1)), k.7, k.8)
+
+    pub entered : Reads D' n E p first last null
+    entered = record {
+      whole = whole;
+      deeper = entered_deeper;
+      begins = entered_begins;
+      above = entered_above;
+      begun = λ lt at t h. let k = body.begun lt at t h in (k.0, k.1, k.2, k.3, (suc k.4.0, k.4.1));
+      empty = entered_empty;
+      nothing = λ all at h. let k = body.nothing (whole' all) at h in (k.0, (suc k.1.0, k.1.1));
+      inhabited = λ all at. let k = body.inhabited (whole' all) at in (k.0, k.1, (suc k.2.0, k.2.1));
+      stable = body.stable;
+      fixed = entered_fixed;
+      sound = λ at room ts lt. entered_answers at (at + room) ts (p room ts) (body.sound at room ts lt);
+      complete = entered_complete;
+    }
+
+  -- A rule that refers to itself, and its reader, at every depth and for any number of tokens. The reader is by how many
+  -- tokens there are, too, for a rule that refers to itself without nesting deeper; most do not use that number.
+  module _ {A : Type 0} (E : Family T A) (p : ℕ → ℕ → Reader T A) {first : T → Bool} {last : A → T → Bool} {null : Bool}
+      (none : (at : ℕ) (w : List (Placed T)) (v : A) → E 0 at w v → ⊥)
+      (empty : null ≡ true → (at : ℕ) → (v : A) × Spelled E at [] v)
+      (some : (at : ℕ) → (w : List (Placed T)) × (v : A) × Spelled E at w v)
+      (body : (D : ℕ → Type 0) (n m : ℕ) → n ≤ suc m → m ≤ n → (0 < n → (depth : ℕ) → D depth) → Reads D m E (p m) first last null → Reads D n (λ depth. E (suc depth)) (p (suc m)) first last null) where
+    shape : (k : ℕ) → Reads (λ depth. depth < k) 0 E (p 0) first last null
+    shape zero = record {
+      whole = λ lt. absurd (omega arith);
+      deeper = λ depth at dd w v h. absurd (omega arith);
+      begins = λ depth at dd t w v h. absurd (omega arith);
+      above = λ depth at dd t w v h. absurd (omega arith);
+      begun = λ lt. absurd (omega arith);
+      empty = λ depth at dd v h. absurd (omega arith);
+      nothing = λ all at h. empty h at;
+      inhabited = λ all. some;
+      stable = λ room ts lt calm. absurd (omega arith);
+      fixed = λ depth depth' at w w' v v' lt lt' h h'. absurd (omega arith);
+      sound = λ at room ts lt. absurd (omega arith);
+      complete = λ depth at room ts w rest v lt e h low av. absurd (omega arith);
+    }
+    shape (suc k) =
+        let inner = body (λ depth. depth < k) 0 0 (omega arith) (omega arith) (λ lt. absurd (omega arith)) (shape k) in
+        same_reader (entered {D' = λ depth. depth < suc k} E inner none (λ depth lt. omega arith) (λ lt. absurd (omega arith)) (λ all d. absurd (omega (arith, all (suc k))))) (p 0) (λ room ts lt. absurd (omega arith))
+
+    pub at_any_depth : (n : ℕ) → Reads (λ depth. Unit {0}) n E (p n) first last null
+    at_any_depth zero = record {
+      whole = λ lt. absurd (omega arith);
+      deeper = λ depth at dd. (shape (suc depth)).deeper depth at (omega arith);
+      begins = λ depth at dd. (shape (suc depth)).begins depth at (omega arith);
+      above = λ depth at dd. (shape (suc depth)).above depth at (omega arith);
+      begun = λ lt. absurd (omega arith);
+      empty = λ depth at dd. (shape (suc depth)).empty depth at (omega arith);
+      nothing = λ all at h. empty h at;
+      inhabited = λ all. some;
+      stable = λ room ts lt calm. absurd (omega arith);
+      fixed = λ depth depth' at w w' v v' lt lt' h h'. absurd (omega arith);
+      sound = λ at room ts lt. absurd (omega arith);
+      complete = λ depth at room ts w rest v lt e h low av. absurd (omega arith);
+    }
+    at_any_depth (suc n) =
+        entered E (body (λ depth. Unit {0}) (suc n) n (omega arith) (omega arith) (λ lt depth. tt) (at_any_depth n)) none (λ depth lt. tt) (λ lt depth. tt) (λ all d. tt)

@@ -1,0 +1,4 @@
+pub mod Rules
+pub mod Sentences
+pub mod Readers
+pub mod Steps

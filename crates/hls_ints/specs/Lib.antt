@@ -1,0 +1,4 @@
+pub mod Residues
+pub mod Types
+pub mod Operators
+pub mod Words
