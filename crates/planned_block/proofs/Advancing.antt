@@ -45,7 +45,8 @@ all_true f (suc n) each = ap (λ c. c && f n) (all_true f n (λ k lt. each k (om
 
 none_made : (f : ℕ → Bool) (made : ℕ → List (Access ℤ)) (r n : ℕ) → ((k : ℕ) → n ≤ k → k < n + r → f k ≡ false) → accesses_where f made r n ≡ []
 none_made f made zero n none = refl
-none_made f made (suc r) n none = ap (λ (c : Bool). (if c then made n else []) ++ accesses_where f made r (suc n)) (none n (omega arith) (omega arith)) ∙ none_made f made r (suc n) (λ k le lt. none k (omega arith) (omega arith))
+none_made f made (suc r) n none = ap (λ (c : Bool). (if c then made n else []) ++ accesses_where f made r (suc n)) (none n (omega arith) (omega arith))
+    ∙ none_made f made r (suc n) (λ k le lt. none k (omega arith) (omega arith))
 
 not_all : (f : ℕ → Bool) (n : ℕ) → all_below f n ≡ false → (k : ℕ) × (k < n) × (f k ≡ false)
 not_all f zero e = absurd cc

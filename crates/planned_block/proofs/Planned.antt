@@ -45,7 +45,8 @@ module _ (code : Code) where
       (k : ℕ) → k < size (block_of code q) → t.grants k ≡ true → changes_left code (stayed (block_of code q) (plan_of code q) q t.grants t.words) < changes_left code q
   stay_less bank q now es t k lt g =
       let less = count_less (is_open code (stayed (block_of code q) (plan_of code q) q t.grants t.words)) (is_open code q) k (size (block_of code q)) lt closed opened
-      (λ j below o. open_before (is_request (operation_at (block_of code q) j).kind) (was_granted (block_of code q) (plan_of code q) q j) (was_granted (block_of code q) (plan_of code q) (stayed (block_of code q) (plan_of code q) q t.grants t.words) j)
+      (λ j below o. open_before (is_request (operation_at (block_of code q) j).kind) (was_granted (block_of code q) (plan_of code q) q j)
+      (was_granted (block_of code q) (plan_of code q) (stayed (block_of code q) (plan_of code q) q t.grants t.words) j)
       (granted_stays (nat_lt ((plan_of code q).start j) q.state) (starts_now (block_of code q) (plan_of code q) q j) (q.granted j) (t.grants j)) o) in
       omega arith
     where
@@ -53,13 +54,15 @@ module _ (code : Code) where
       asked = both_true (is_request (operation_at (block_of code q) k).kind) (starts_now (block_of code q) (plan_of code q) q k) (t.requested k g).1
 
       closed : is_open code (stayed (block_of code q) (plan_of code q) q t.grants t.words) k ≡ false
-      closed = closes (nat_lt ((plan_of code q).start k) q.state) (starts_now (block_of code q) (plan_of code q) q k) (q.granted k) (t.grants k) (is_request (operation_at (block_of code q) k).kind) g asked.1
+      closed = closes (nat_lt ((plan_of code q).start k) q.state) (starts_now (block_of code q) (plan_of code q) q k) (q.granted k) (t.grants k)
+          (is_request (operation_at (block_of code q) k).kind) g asked.1
 
       opened : is_open code q k ≡ true
       opened =
           let e = is_same ((plan_of code q).start k) q.state asked.1 in
           ap (λ z. z && not (was_granted (block_of code q) (plan_of code q) q k)) asked.0
-          ∙ ap not (ap (λ z. z || (starts_now (block_of code q) (plan_of code q) q k && q.granted k)) (not_less_is ((plan_of code q).start k) q.state (omega arith)) ∙ ap (λ z. z && q.granted k) asked.1 ∙ (t.requested k g).2)
+          ∙ ap not (ap (λ z. z || (starts_now (block_of code q) (plan_of code q) q k && q.granted k)) (not_less_is ((plan_of code q).start k) q.state (omega arith))
+          ∙ ap (λ z. z && q.granted k) asked.1 ∙ (t.requested k g).2)
 
   -- no request comes anew
   go_less : (q : Slot) (wire words registers : ℕ → ℤ) → suc q.state < (plan_of code q).states →
@@ -143,7 +146,12 @@ module _ (M : PlannedThreads) where
 
     land : (t : Works M.bank b p q now es) (r : Slot) → AllGranted b p q t.grants → Leaves b p q t.wire r → Result r
     land t r granted e = inr (
-      record { effect = remains_none m (accesses_of hs) (made ++ es) d.none_left_over; inside = d.none_left_over.inside; rests = inl (record { starts = starts; state = e.state; granted = e.granted }) },
+      record {
+        effect = remains_none m (accesses_of hs) (made ++ es) d.none_left_over;
+        inside = d.none_left_over.inside;
+        rests =
+            inl (record { starts = starts; state = e.state; granted = e.granted });
+      },
       cost hs refl,
     )
       where
@@ -195,8 +203,12 @@ module _ (M : PlannedThreads) where
         let some : 0 < (plan_of M.code q).states = omega arith in
         ⊎_elim
         (λ (b : AtStart (P.local s i) q).
-        let l = M.lowered.blocks s i q.stage q.variables q.arrays at b.starts some in
-        ((block_of M.code q).steps, l.only_moves, λ hs run n agree. turn c i (P.local s i) (P.memory s) m hs [] es q (begins (P.local s i) (P.memory s) q hs b some (l.block_runs hs run n)) agree r u))
+        let l = M.lowered.blocks s i q.stage q.variables q.arrays at b.starts some in (
+          (block_of M.code q).steps,
+          l.only_moves,
+          λ hs run n agree. turn c i (P.local s i) (P.memory s) m hs [] es q
+              (begins (P.local s i) (P.memory s) q hs b some (l.block_runs hs run n)) agree r u,
+        ))
         (λ w. let none = M.fits.waits_outside c i (P.local s i) q w in absurd (omega arith))
         rests)
         (λ k.

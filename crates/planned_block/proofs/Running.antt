@@ -8,7 +8,8 @@ use Rattle.interleaving.proofs.AnyOrder.{accesses_in-append, right_join}
 use Rattle.interleaving.proofs.Update.{same_or_not}
 use Rattle.planned_block.specs.Block.{Operand, Constant, Variable, Value, Through, Kind, Simple, Multiply, Divide, BankRead, BankWrite, ArrayRead, ArrayWrite}
 use Rattle.planned_block.specs.Block.{Block, operation_at, size, operand_value, UsesIn, IsOrdered}
-use Rattle.planned_block.specs.Run.{bank_access, array_access, computes, Running, started, value_of, run_operation, run_from, block_run, bank_events, array_events, bank_events_at, array_events_at, events_from, IsRun}
+use Rattle.planned_block.specs.Run.{bank_access, array_access, computes, Running, started, value_of, run_operation}
+use Rattle.planned_block.specs.Run.{run_from, block_run, bank_events, array_events, bank_events_at, array_events_at, events_from, IsRun}
 use Rattle.planned_block.proofs.Bits.{same_is, other_is}
 use Rattle.planned_block.proofs.Touches.{bank_access-events, array_access-events}
 
@@ -53,11 +54,13 @@ module _ (b : Block) (variables : ℕ → ℤ) (ordered : IsOrdered b) where
   stable zero n s j lt = refl
   stable (suc r) n s j lt =
       stable r (suc n) (run_operation variables n (operation_at b n) s) j (omega arith)
-      ∙ ap (λ (c : Bool). if c then value_of (operation_at b n).kind s.arrays s.memory (operand_value variables s.values (operation_at b n).left) (operand_value variables s.values (operation_at b n).right) else s.values j) (other_is j n (λ (e : j ≡ n). absurd (omega arith)))
+      ∙ ap (λ (c : Bool). if c then value_of (operation_at b n).kind s.arrays s.memory (operand_value variables s.values (operation_at b n).left)
+      (operand_value variables s.values (operation_at b n).right) else s.values j) (other_is j n (λ (e : j ≡ n). absurd (omega arith)))
 
   -- what r operations from n on leave
   record Runs (r n : ℕ) (s fin : Running) : Type 0 where
-    value : (k : ℕ) (f : ℤ → ℤ → ℤ) → n ≤ k → k < n + r → computes (operation_at b k).kind ≡ Some f → fin.values k ≡ f (operand_value variables fin.values (operation_at b k).left) (operand_value variables fin.values (operation_at b k).right)
+    value : (k : ℕ) (f : ℤ → ℤ → ℤ) → n ≤ k → k < n + r → computes (operation_at b k).kind ≡ Some f → fin.values k
+        ≡ f (operand_value variables fin.values (operation_at b k).left) (operand_value variables fin.values (operation_at b k).right)
     bank : ReadsRight s.memory (events_from (bank_events_at b variables fin.values) r n)
     array : ReadsRight s.arrays (events_from (array_events_at b variables fin.values) r n)
     accesses : fin.accesses ≡ s.accesses ++ accesses_in (events_from (bank_events_at b variables fin.values) r n)
@@ -65,7 +68,9 @@ module _ (b : Block) (variables : ℕ → ℤ) (ordered : IsOrdered b) where
     arrays : fin.arrays ≡ memory_after (accesses_in (events_from (array_events_at b variables fin.values) r n)) s.arrays
 
   -- operation n with the values at the end
-  step : (n : ℕ) (s : Running) (fin : ℕ → ℤ) → n < size b → ((j : ℕ) → j < n → fin j ≡ s.values j) → (operand_value variables s.values (operation_at b n).left ≡ operand_value variables fin (operation_at b n).left) × (operand_value variables s.values (operation_at b n).right ≡ operand_value variables fin (operation_at b n).right)
+  step : (n : ℕ) (s : Running) (fin : ℕ → ℤ) → n < size b → ((j : ℕ) → j < n → fin j ≡ s.values j) →
+      (operand_value variables s.values (operation_at b n).left ≡ operand_value variables fin (operation_at b n).left)
+      × (operand_value variables s.values (operation_at b n).right ≡ operand_value variables fin (operation_at b n).right)
   step n s fin lt same = (
     operand_value_same variables s.values fin (operation_at b n).left (λ j u. sym (same j (ordered.earlier j n lt (inl u)))),
     operand_value_same variables s.values fin (operation_at b n).right (λ j u. sym (same j (ordered.earlier j n lt (inr u)))),
@@ -81,17 +86,22 @@ module _ (b : Block) (variables : ℕ → ℤ) (ordered : IsOrdered b) where
       let lt : n < size b = omega arith in
       let l = operand_value variables s.values o.left in
       let rr = operand_value variables s.values o.right in
-      let both = step n s fin.values lt (λ j below. stable r (suc n) s1 j (omega arith) ∙ ap (λ (c : Bool). if c then value_of o.kind s.arrays s.memory l rr else s.values j) (other_is j n (λ (x : j ≡ n). absurd (omega arith)))) in
-      let now : value_of o.kind s.arrays s.memory l rr ≡ fin.values n = sym (stable r (suc n) s1 n (omega arith) ∙ ap (λ (c : Bool). if c then value_of o.kind s.arrays s.memory l rr else s.values n) (same_is n n refl)) in
-      let bank_now : bank_events o.kind l rr (fin.values n) ≡ bank_events_at b variables fin.values n = ap (λ x. bank_events o.kind x rr (fin.values n)) both.0 ∙ ap (λ x. bank_events o.kind (operand_value variables fin.values o.left) x (fin.values n)) both.1 in
-      let array_now : array_events o.kind l rr (fin.values n) ≡ array_events_at b variables fin.values n = ap (λ x. array_events o.kind x rr (fin.values n)) both.0 ∙ ap (λ x. array_events o.kind (operand_value variables fin.values o.left) x (fin.values n)) both.1 in
+      let both = step n s fin.values lt (λ j below. stable r (suc n) s1 j (omega arith)
+      ∙ ap (λ (c : Bool). if c then value_of o.kind s.arrays s.memory l rr else s.values j) (other_is j n (λ (x : j ≡ n). absurd (omega arith)))) in
+      let now : value_of o.kind s.arrays s.memory l rr ≡ fin.values n =
+      sym (stable r (suc n) s1 n (omega arith) ∙ ap (λ (c : Bool). if c then value_of o.kind s.arrays s.memory l rr else s.values n) (same_is n n refl)) in
+      let bank_now : bank_events o.kind l rr (fin.values n) ≡ bank_events_at b variables fin.values n = ap (λ x. bank_events o.kind x rr (fin.values n)) both.0
+      ∙ ap (λ x. bank_events o.kind (operand_value variables fin.values o.left) x (fin.values n)) both.1 in
+      let array_now : array_events o.kind l rr (fin.values n) ≡ array_events_at b variables fin.values n = ap (λ x. array_events o.kind x rr (fin.values n)) both.0
+      ∙ ap (λ x. array_events o.kind (operand_value variables fin.values o.left) x (fin.values n)) both.1 in
       let bank_made : bank_access o.kind l rr ≡ accesses_in (bank_events_at b variables fin.values n) = bank_access-events o.kind l rr (fin.values n) ∙ ap accesses_in bank_now in
       let array_made : array_access o.kind l rr ≡ accesses_in (array_events_at b variables fin.values n) = array_access-events o.kind l rr (fin.values n) ∙ ap accesses_in array_now in
       record {
         value = λ k f le below c. ⊎_elim
             (λ (x : k ≡ n).
             subst (λ i. fin.values i ≡ f (operand_value variables fin.values (operation_at b i).left) (operand_value variables fin.values (operation_at b i).right)) (sym x)
-            (sym now ∙ is_computed o.kind f s.arrays s.memory l rr (subst (λ i. computes (operation_at b i).kind ≡ Some f) x c) ∙ ap (λ y. f y rr) both.0 ∙ ap (λ y. f (operand_value variables fin.values o.left) y) both.1))
+            (sym now ∙ is_computed o.kind f s.arrays s.memory l rr (subst (λ i. computes (operation_at b i).kind ≡ Some f) x c) ∙ ap (λ y. f y rr) both.0
+            ∙ ap (λ y. f (operand_value variables fin.values o.left) y) both.1))
             (λ (ne : k ≢ n). rest.value k f (omega arith) (omega arith) c)
             (same_or_not k n);
         bank = right_join (bank_events_at b variables fin.values n) (events_from (bank_events_at b variables fin.values) r (suc n)) s.memory
@@ -104,9 +114,12 @@ module _ (b : Block) (variables : ℕ → ℤ) (ordered : IsOrdered b) where
             ∙ append_assoc s.accesses (accesses_in (bank_events_at b variables fin.values n)) (accesses_in (events_from (bank_events_at b variables fin.values) r (suc n)))
             ∙ ap (λ a. s.accesses ++ a) (sym (accesses_in-append (bank_events_at b variables fin.values n) (events_from (bank_events_at b variables fin.values) r (suc n))));
         memory = rest.memory ∙ ap (λ a. memory_after (accesses_in (events_from (bank_events_at b variables fin.values) r (suc n))) (memory_after a s.memory)) bank_made
-            ∙ sym (ap (λ a. memory_after a s.memory) (accesses_in-append (bank_events_at b variables fin.values n) (events_from (bank_events_at b variables fin.values) r (suc n))) ∙ memory_after-append (accesses_in (bank_events_at b variables fin.values n)) (accesses_in (events_from (bank_events_at b variables fin.values) r (suc n))) s.memory);
+            ∙ sym (ap (λ a. memory_after a s.memory) (accesses_in-append (bank_events_at b variables fin.values n) (events_from (bank_events_at b variables fin.values) r (suc n)))
+            ∙ memory_after-append (accesses_in (bank_events_at b variables fin.values n)) (accesses_in (events_from (bank_events_at b variables fin.values) r (suc n))) s.memory);
         arrays = rest.arrays ∙ ap (λ a. memory_after (accesses_in (events_from (array_events_at b variables fin.values) r (suc n))) (memory_after a s.arrays)) array_made
-            ∙ sym (ap (λ a. memory_after a s.arrays) (accesses_in-append (array_events_at b variables fin.values n) (events_from (array_events_at b variables fin.values) r (suc n))) ∙ memory_after-append (accesses_in (array_events_at b variables fin.values n)) (accesses_in (events_from (array_events_at b variables fin.values) r (suc n))) s.arrays);
+            ∙ sym (ap (λ a. memory_after a s.arrays) (accesses_in-append (array_events_at b variables fin.values n)
+            (events_from (array_events_at b variables fin.values) r (suc n)))
+            ∙ memory_after-append (accesses_in (array_events_at b variables fin.values n)) (accesses_in (events_from (array_events_at b variables fin.values) r (suc n))) s.arrays);
       }
 
   -- the block's run, by its operations one after another
@@ -118,8 +131,10 @@ module _ (b : Block) (variables : ℕ → ℤ) (ordered : IsOrdered b) where
   pub run_accesses : (arrays m : Memory ℤ) → (block_run b variables arrays m).accesses ≡ accesses_in (events_from (bank_events_at b variables (block_run b variables arrays m).values) (size b) 0)
   run_accesses arrays m = (runs (size b) 0 (started arrays m) (omega arith)).accesses
 
-  pub run_arrays : (arrays m : Memory ℤ) → (block_run b variables arrays m).arrays ≡ memory_after (accesses_in (events_from (array_events_at b variables (block_run b variables arrays m).values) (size b) 0)) arrays
+  pub run_arrays : (arrays m : Memory ℤ) → (block_run b variables arrays m).arrays
+      ≡ memory_after (accesses_in (events_from (array_events_at b variables (block_run b variables arrays m).values) (size b) 0)) arrays
   run_arrays arrays m = (runs (size b) 0 (started arrays m) (omega arith)).arrays
 
-  pub run_memory : (arrays m : Memory ℤ) → (block_run b variables arrays m).memory ≡ memory_after (accesses_in (events_from (bank_events_at b variables (block_run b variables arrays m).values) (size b) 0)) m
+  pub run_memory : (arrays m : Memory ℤ) → (block_run b variables arrays m).memory
+      ≡ memory_after (accesses_in (events_from (bank_events_at b variables (block_run b variables arrays m).values) (size b) 0)) m
   run_memory arrays m = (runs (size b) 0 (started arrays m) (omega arith)).memory

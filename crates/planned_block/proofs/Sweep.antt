@@ -88,18 +88,23 @@ module _ (ev : ℕ → List (Event ℤ)) where
           record {
             us = e' ++ s.us;
             vs = s.vs;
-            before = subst (λ (b : Bool). (if b then events_but ev d r (suc n) else e' ++ events_but ev d r (suc n)) ≡ (e' ++ s.us) ++ (ev k ++ s.vs)) (sym q) (ap (λ l. e' ++ l) s.before ∙ sym (append_assoc e' s.us (ev k ++ s.vs)));
-            after = subst (λ (b : Bool). (if b then events_but ev (at d k true) r (suc n) else e' ++ events_but ev (at d k true) r (suc n)) ≡ (e' ++ s.us) ++ s.vs) (sym now) (ap (λ l. e' ++ l) s.after ∙ sym (append_assoc e' s.us s.vs));
+            before = subst (λ (b : Bool). (if b then events_but ev d r (suc n) else e' ++ events_but ev d r (suc n)) ≡ (e' ++ s.us) ++ (ev k ++ s.vs)) (sym q)
+                (ap (λ l. e' ++ l) s.before ∙ sym (append_assoc e' s.us (ev k ++ s.vs)));
+            after = subst (λ (b : Bool). (if b then events_but ev (at d k true) r (suc n) else e' ++ events_but ev (at d k true) r (suc n)) ≡ (e' ++ s.us) ++ s.vs) (sym now)
+                (ap (λ l. e' ++ l) s.after ∙ sym (append_assoc e' s.us s.vs));
             apart = λ each.
                 let below : n < k = omega arith in
                 let one = each n below q in
                 let rest = s.apart each in
                 subst (λ l. AreApart l (accesses_in (ev k))) (sym (accesses_in-append e' s.us))
-                (apart_swap (accesses_in (ev k)) (accesses_in e' ++ accesses_in s.us) (apart_join (accesses_in (ev k)) (accesses_in e') (accesses_in s.us) (apart_swap (accesses_in e') (accesses_in (ev k)) one) (apart_swap (accesses_in s.us) (accesses_in (ev k)) rest)));
+                (apart_swap (accesses_in (ev k)) (accesses_in e' ++ accesses_in s.us)
+                (apart_join (accesses_in (ev k)) (accesses_in e') (accesses_in s.us) (apart_swap (accesses_in e') (accesses_in (ev k)) one)
+                (apart_swap (accesses_in s.us) (accesses_in (ev k)) rest)));
           }
 
   module _ (m : Memory ℤ) (all : List (Access ℤ)) (N : ℕ) (one : (k : ℕ) → IsOne (ev k)) where
-    left_events : (done : List (Access ℤ)) (us vs es : List (Event ℤ)) → IsOne es → Remains m all done (us ++ (es ++ vs)) → AreApart (accesses_in us) (accesses_in es) → ReadsRight (memory_after done m) es × Remains m all (done ++ accesses_in es) (us ++ vs)
+    left_events : (done : List (Access ℤ)) (us vs es : List (Event ℤ)) → IsOne es → Remains m all done (us ++ (es ++ vs)) → AreApart (accesses_in us) (accesses_in es) →
+        ReadsRight (memory_after done m) es × Remains m all (done ++ accesses_in es) (us ++ vs)
     left_events done us vs es (inl z) l a =
         let l' : Remains m all done (us ++ vs) = subst (λ x. Remains m all done (us ++ (x ++ vs))) z l in (
           subst (ReadsRight (memory_after done m)) (sym z) tt,
@@ -111,7 +116,9 @@ module _ (ev : ℕ → List (Event ℤ)) where
         subst (λ x. ReadsRight (memory_after done m) x × Remains m all (done ++ accesses_in x) (us ++ vs)) (sym o.1) got
 
     -- one operation that may be done
-    pub left_more : (done : List (Access ℤ)) (d : ℕ → Bool) (k : ℕ) → Remains m all done (events_but ev d N 0) → k < N → d k ≡ false → ((j : ℕ) → j < k → d j ≡ false → AreApart (accesses_in (ev j)) (accesses_in (ev k))) → ReadsRight (memory_after done m) (ev k) × Remains m all (done ++ accesses_in (ev k)) (events_but ev (at d k true) N 0)
+    pub left_more : (done : List (Access ℤ)) (d : ℕ → Bool) (k : ℕ) → Remains m all done (events_but ev d N 0) → k < N → d k ≡ false →
+        ((j : ℕ) → j < k → d j ≡ false → AreApart (accesses_in (ev j)) (accesses_in (ev k))) → ReadsRight (memory_after done m) (ev k)
+        × Remains m all (done ++ accesses_in (ev k)) (events_but ev (at d k true) N 0)
     left_more done d k l lt e clear =
         let s = splits d k N 0 (omega arith) (omega arith) e in
         let got = left_events done s.us s.vs (ev k) (one k) (subst (λ x. Remains m all done x) s.before l) (s.apart clear) in
@@ -125,7 +132,8 @@ module _ (ev : ℕ → List (Event ℤ)) where
         (touches_right (accesses_in s.us) (accesses_in (ev k) ++ accesses_in s.vs) q (touches_left (accesses_in (ev k)) (accesses_in s.vs) q t)))
 
     -- several that may be done, all at once
-    module _ (old go : ℕ → Bool) (fresh : (k : ℕ) → go k ≡ true → old k ≡ false) (clear : (j k : ℕ) → j < k → k < N → go k ≡ true → old j ≡ false → AreApart (accesses_in (ev j)) (accesses_in (ev k))) where
+    module _ (old go : ℕ → Bool) (fresh : (k : ℕ) → go k ≡ true → old k ≡ false)
+        (clear : (j k : ℕ) → j < k → k < N → go k ≡ true → old j ≡ false → AreApart (accesses_in (ev j)) (accesses_in (ev k))) where
       turned : (b : Bool) → b ≡ false → (c : Bool) → (b || c) ≡ c
       turned true e c = absurd cc
       turned false e c = refl
@@ -138,13 +146,16 @@ module _ (ev : ℕ → List (Event ℤ)) where
       or_false true = refl
       or_false false = refl
 
-      sweep_on : (r n : ℕ) (d : ℕ → Bool) (done : List (Access ℤ)) → n + r ≡ N → Remains m all done (events_but ev d N 0) → ((k : ℕ) → n ≤ k → d k ≡ old k) → ((k : ℕ) → k < n → d k ≡ (old k || go k)) → Remains m all (done ++ accesses_in (events_where ev go r n)) (events_but ev (λ k. old k || go k) N 0)
+      sweep_on : (r n : ℕ) (d : ℕ → Bool) (done : List (Access ℤ)) → n + r ≡ N → Remains m all done (events_but ev d N 0) → ((k : ℕ) → n ≤ k → d k ≡ old k) →
+          ((k : ℕ) → k < n → d k ≡ (old k || go k)) → Remains m all (done ++ accesses_in (events_where ev go r n)) (events_but ev (λ k. old k || go k) N 0)
       sweep_on zero n d done e l above below =
           subst (λ x. Remains m all x (events_but ev (λ k. old k || go k) N 0)) (sym (append-nil done))
           (subst (Remains m all done) (undone_same d (λ k. old k || go k) N 0 (λ k _ lt. inr (below k (omega arith)))) l)
       sweep_on (suc r) n d done e l above below = now (go n) refl (λ d' done' l' a b. sweep_on r (suc n) d' done' (omega arith) l' a b)
         where
-          now : (g : Bool) → go n ≡ g → ((d' : ℕ → Bool) (done' : List (Access ℤ)) → Remains m all done' (events_but ev d' N 0) → ((k : ℕ) → suc n ≤ k → d' k ≡ old k) → ((k : ℕ) → k < suc n → d' k ≡ (old k || go k)) → Remains m all (done' ++ accesses_in (events_where ev go r (suc n))) (events_but ev (λ k. old k || go k) N 0)) → Remains m all (done ++ accesses_in (events_where ev go (suc r) n)) (events_but ev (λ k. old k || go k) N 0)
+          now : (g : Bool) → go n ≡ g → ((d' : ℕ → Bool) (done' : List (Access ℤ)) → Remains m all done' (events_but ev d' N 0) → ((k : ℕ) → suc n ≤ k → d' k ≡ old k) →
+              ((k : ℕ) → k < suc n → d' k ≡ (old k || go k)) → Remains m all (done' ++ accesses_in (events_where ev go r (suc n))) (events_but ev (λ k. old k || go k) N 0)) →
+              Remains m all (done ++ accesses_in (events_where ev go (suc r) n)) (events_but ev (λ k. old k || go k) N 0)
           now true q on =
               let off = fresh n q in
               let more = (left_more done d n l (omega arith) (above n (omega arith) ∙ off) (λ j lt z. clear j n lt (omega arith) q (both (old j) (go j) (sym (below j lt) ∙ z)))).1 in
@@ -155,7 +166,9 @@ module _ (ev : ℕ → List (Event ℤ)) where
               (λ ne. at_other d n k true ne ∙ below k (omega arith))
               (same_or_not k n)) in
               subst (λ x. Remains m all x (events_but ev (λ k. old k || go k) N 0))
-              (append_assoc done (accesses_in (ev n)) (accesses_in (events_where ev go r (suc n))) ∙ ap (λ x. done ++ x) (sym (accesses_in-append (ev n) (events_where ev go r (suc n)))) ∙ ap (λ (b : Bool). done ++ accesses_in ((if b then ev n else []) ++ events_where ev go r (suc n))) (sym q))
+              (append_assoc done (accesses_in (ev n)) (accesses_in (events_where ev go r (suc n)))
+              ∙ ap (λ x. done ++ x) (sym (accesses_in-append (ev n) (events_where ev go r (suc n))))
+              ∙ ap (λ (b : Bool). done ++ accesses_in ((if b then ev n else []) ++ events_where ev go r (suc n))) (sym q))
               got
           now false q on =
               let got = on d done l

@@ -48,24 +48,30 @@ user_is_before b p j k (suc n) lt u = ⊎_elim here (λ ne. there ne (user_is_be
     here : k ≡ n → last_state b p k ≤ greater (last_user b p j n) (if uses_in (operation_at b n).left j || uses_in (operation_at b n).right j then last_state b p n else 0)
     here e =
         let u' : Uses (operation_at b n) j = subst (λ i. Uses (operation_at b i) j) e u in
-        let on : (uses_in (operation_at b n).left j || uses_in (operation_at b n).right j) ≡ true = ⊎_elim (λ v. or_left _ (uses_in (operation_at b n).right j) (uses_tells (operation_at b n).left j v)) (λ v. or_right (uses_in (operation_at b n).left j) _ (uses_tells (operation_at b n).right j v)) u' in
-        let is : ◌≡◌ {A = ℕ} (if uses_in (operation_at b n).left j || uses_in (operation_at b n).right j then last_state b p n else 0) (last_state b p n) = ap (λ (c : Bool). if c then last_state b p n else 0) on in
+        let on : (uses_in (operation_at b n).left j || uses_in (operation_at b n).right j) ≡ true =
+        ⊎_elim (λ v. or_left _ (uses_in (operation_at b n).right j) (uses_tells (operation_at b n).left j v))
+        (λ v. or_right (uses_in (operation_at b n).left j) _ (uses_tells (operation_at b n).right j v)) u' in
+        let is : ◌≡◌ {A = ℕ} (if uses_in (operation_at b n).left j || uses_in (operation_at b n).right j then last_state b p n else 0) (last_state b p n) =
+        ap (λ (c : Bool). if c then last_state b p n else 0) on in
         let same : last_state b p k ≡ last_state b p n = ap (last_state b p) e in
         let most = greater_right (last_user b p j n) (if uses_in (operation_at b n).left j || uses_in (operation_at b n).right j then last_state b p n else 0) in
         omega arith
 
-    there : k ≢ n → last_state b p k ≤ last_user b p j n → last_state b p k ≤ greater (last_user b p j n) (if uses_in (operation_at b n).left j || uses_in (operation_at b n).right j then last_state b p n else 0)
+    there : k ≢ n → last_state b p k ≤ last_user b p j n → last_state b p k ≤ greater (last_user b p j n)
+        (if uses_in (operation_at b n).left j || uses_in (operation_at b n).right j then last_state b p n else 0)
     there ne rest =
         let most = greater_left (last_user b p j n) (if uses_in (operation_at b n).left j || uses_in (operation_at b n).right j then last_state b p n else 0) in
         omega arith
 
 final_tells : (fs : List Final) (f : Final) (k : ℕ) → IsAmong fs f → UsesIn f.value k → any_final fs k ≡ true
 final_tells [] f k a u = absurd a
-final_tells (g ∷ fs) f k a u = ⊎_elim (λ e. or_left (uses_in g.value k) (any_final fs k) (uses_tells g.value k (subst (λ h. UsesIn h.value k) e u))) (λ t. or_right (uses_in g.value k) (any_final fs k) (final_tells fs f k t u)) a
+final_tells (g ∷ fs) f k a u = ⊎_elim (λ e. or_left (uses_in g.value k) (any_final fs k) (uses_tells g.value k (subst (λ h. UsesIn h.value k) e u)))
+    (λ t. or_right (uses_in g.value k) (any_final fs k) (final_tells fs f k t u)) a
 
 used_last : (b : Block) (p : Plan) (k : ℕ) → IsUsedAtEnd b k → p.states ≤ suc (last_use b p k)
 used_last b p k u =
-    let on : (any_final b.finals k || next_uses b.next k) ≡ true = ⊎_elim (λ v. or_left _ (next_uses b.next k) (final_tells b.finals v.0 k v.1 v.2)) (λ v. or_right (any_final b.finals k) _ (ap (λ n. next_uses n k) v.3 ∙ uses_tells v.0 k v.4)) u in
+    let on : (any_final b.finals k || next_uses b.next k) ≡ true =
+    ⊎_elim (λ v. or_left _ (next_uses b.next k) (final_tells b.finals v.0 k v.1 v.2)) (λ v. or_right (any_final b.finals k) _ (ap (λ n. next_uses n k) v.3 ∙ uses_tells v.0 k v.4)) u in
     let is : ◌≡◌ {A = ℕ} (if any_final b.finals k || next_uses b.next k then p.states - 1 else 0) (p.states - 1) = ap (λ (c : Bool). if c then p.states - 1 else 0) on in
     let most = greater_right (last_user b p k (size b)) (if any_final b.finals k || next_uses b.next k then p.states - 1 else 0) in
     omega arith
@@ -77,7 +83,8 @@ used b p j k lt u =
     omega arith
 
 module _ (b : Block) (p : Plan) (t : MeetsTable b p) where
-  by_kinds : (j k : ℕ) → k < size b → Uses (operation_at b k) j → (x : Bool) → is_simple (operation_at b j).kind ≡ x → (y : Bool) → is_simple (operation_at b k).kind ≡ y → last_state b p j ≤ p.start k
+  by_kinds : (j k : ℕ) → k < size b → Uses (operation_at b k) j → (x : Bool) → is_simple (operation_at b j).kind ≡ x → (y : Bool) → is_simple (operation_at b k).kind ≡ y →
+      last_state b p j ≤ p.start k
   by_kinds j k lt u true ej true ek = let le = t.chained j k lt u ej ek in let z = simple_now (operation_at b j).kind ej in omega arith
   by_kinds j k lt u true ej false ek = let le = t.kept j k lt u ej ek in let z = simple_now (operation_at b j).kind ej in omega arith
   by_kinds j k lt u false ej y ek = let le = t.awaited j k lt u ej in omega arith
@@ -105,7 +112,8 @@ keeps_orders b p o t pack = record {
 
 sum_steps : (b : Block) (i j : ℕ) → i < j → latencies_before b i + latency (operation_at b i).kind ≤ latencies_before b j
 sum_steps b i zero lt = absurd (omega arith)
-sum_steps b i (suc j) lt = ⊎_elim (λ (e : i ≡ j). let same : latencies_before b i + latency (operation_at b i).kind ≡ latencies_before b j + latency (operation_at b j).kind = ap (λ k. latencies_before b k + latency (operation_at b k).kind) e in omega arith) (λ (ne : i ≢ j). let rest = sum_steps b i j (omega arith) in omega arith) (same_or_not i j)
+sum_steps b i (suc j) lt = ⊎_elim (λ (e : i ≡ j). let same : latencies_before b i + latency (operation_at b i).kind ≡ latencies_before b j + latency (operation_at b j).kind =
+    ap (λ k. latencies_before b k + latency (operation_at b k).kind) e in omega arith) (λ (ne : i ≢ j). let rest = sum_steps b i j (omega arith) in omega arith) (same_or_not i j)
 
 gap_fits : (kind : Kind) (x : ℕ) (v : Bool) → target_of kind ≡ OfGlobal x v → gap_after v ≤ latency kind
 gap_fits (Simple f) x v e = absurd cc
@@ -136,14 +144,16 @@ sequential_packed b = record {
   until = λ k lt. refl;
   has = λ k lt less. (k, ap (λ (c : Bool). if c then Some k else None) (less_is (last_state b (sequential b) k) ((sequential b).until k) less));
   short = λ k x lt e. of_bit k x (nat_lt (last_state b (sequential b) k) ((sequential b).until k)) refl e;
-  apart = λ j k x lj lk ne ej ek. absurd (ne (own j x (nat_lt (last_state b (sequential b) j) ((sequential b).until j)) ej ∙ sym (own k x (nat_lt (last_state b (sequential b) k) ((sequential b).until k)) ek)));
+  apart = λ j k x lj lk ne ej ek. absurd (ne (own j x (nat_lt (last_state b (sequential b) j) ((sequential b).until j)) ej
+      ∙ sym (own k x (nat_lt (last_state b (sequential b) k) ((sequential b).until k)) ek)));
 }
   where
     own : (k x : ℕ) (c : Bool) → (if c then Some k else None) ≡ Some x → k ≡ x
     own k x true e = cc
     own k x false e = absurd cc
 
-    of_bit : (k x : ℕ) (c : Bool) → nat_lt (last_state b (sequential b) k) ((sequential b).until k) ≡ c → (if c then Some k else None) ≡ Some x → last_state b (sequential b) k < (sequential b).until k
+    of_bit : (k x : ℕ) (c : Bool) → nat_lt (last_state b (sequential b) k) ((sequential b).until k) ≡ c → (if c then Some k else None) ≡ Some x →
+        last_state b (sequential b) k < (sequential b).until k
     of_bit k x true t e = grind (arith, nat_tests)
     of_bit k x false t e = absurd cc
 
@@ -151,7 +161,8 @@ pub sequential_keeps : (b : Block) → IsOrdered b → KeepsOrders b (sequential
 sequential_keeps b o = keeps_orders b (sequential b) o (sequential_meets b o) (sequential_packed b)
 
 -- rows of a packing of the intervals from the state after an operation's last one to the state after the last use
-pub packed : (b : Block) (p : Plan) (row : ℕ → ℕ) → ((k : ℕ) → k < size b → p.until k ≡ last_use b p k) → ((k : ℕ) → k < size b → p.register k ≡ (if nat_lt (last_state b p k) (p.until k) then Some (row k) else None)) →
+pub packed : (b : Block) (p : Plan) (row : ℕ → ℕ) → ((k : ℕ) → k < size b → p.until k ≡ last_use b p k) →
+    ((k : ℕ) → k < size b → p.register k ≡ (if nat_lt (last_state b p k) (p.until k) then Some (row k) else None)) →
     ((j k : ℕ) → j < size b → k < size b → j ≢ k → suc (last_state b p j) < suc (p.until k) → suc (last_state b p k) < suc (p.until j) → row j ≢ row k) → IsPacked b p
 packed b p row until register differ = record {
   until = until;
@@ -160,7 +171,9 @@ packed b p row until register differ = record {
   apart = λ j k r lj lk ne ej ek.
       let own_j = (of_bit j r (nat_lt (last_state b p j) (p.until j)) refl (sym (register j lj) ∙ ej)).1 in
       let own_k = (of_bit k r (nat_lt (last_state b p k) (p.until k)) refl (sym (register k lk) ∙ ek)).1 in
-      ⊎_elim (λ le. inl le) (λ (less : last_state b p k < p.until j). ⊎_elim (λ le. inr le) (λ (more : last_state b p j < p.until k). absurd (differ j k lj lk ne (omega arith) (omega arith) (own_j ∙ sym own_k))) (le_or (p.until k) (last_state b p j))) (le_or (p.until j) (last_state b p k));
+      ⊎_elim (λ le. inl le) (λ (less : last_state b p k < p.until j). ⊎_elim (λ le. inr le)
+      (λ (more : last_state b p j < p.until k). absurd (differ j k lj lk ne (omega arith) (omega arith) (own_j ∙ sym own_k))) (le_or (p.until k) (last_state b p j)))
+      (le_or (p.until j) (last_state b p k));
 }
   where
     le_or : (a c : ℕ) → (a ≤ c) ⊎ (c < a)

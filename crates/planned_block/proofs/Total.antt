@@ -206,15 +206,22 @@ module _ (bank : Location → ℕ) (b : Block) (p : Plan) (keeps : KeepsOrders b
     read = words_right banks q m (answered b p q grant) (λ k g. (both_true (asks b p q k) (not (q.granted k)) (both_true (requests b p q k) (grant k) g).0).0);
     leaves = λ r. subst (λ z. GoesOn b p q (wires bank b p q) (words_next bank b p q m (answered b p q grant)) z ⊎ Leaves b p q (wires bank b p q) z) (sym (ready r))
         (left_or_on q inside (words_next bank b p q m (answered b p q grant)));
-    waits = λ r a. record { some = any_tells (answered b p q grant) (size b) a; slot = unready r ∙ ap (λ (c : Bool). if c then stayed b p q (answered b p q grant) (words_next bank b p q m (answered b p q grant)) else q) a };
+    waits = λ r a. record {
+      some = any_tells (answered b p q grant) (size b) a;
+      slot = unready r
+          ∙ ap (λ (c : Bool). if c then stayed b p q (answered b p q grant) (words_next bank b p q m (answered b p q grant)) else q) a;
+    };
     rests = λ r a. unready r ∙ ap (λ (c : Bool). if c then stayed b p q (answered b p q grant) (words_next bank b p q m (answered b p q grant)) else q) a;
   }
     where
       ready : is_ready b p q grant ≡ true → advance bank b p q m grant ≡ state_left bank b p q (words_next bank b p q m (answered b p q grant))
-      ready r = ap (λ (c : Bool). if c then state_left bank b p q (words_next bank b p q m (answered b p q grant)) else (if is_answered b p q grant then stayed b p q (answered b p q grant) (words_next bank b p q m (answered b p q grant)) else q)) r
+      ready r = ap (λ (c : Bool). if c then state_left bank b p q (words_next bank b p q m (answered b p q grant)) else
+          (if is_answered b p q grant then stayed b p q (answered b p q grant) (words_next bank b p q m (answered b p q grant)) else q)) r
 
-      unready : is_ready b p q grant ≡ false → advance bank b p q m grant ≡ (if is_answered b p q grant then stayed b p q (answered b p q grant) (words_next bank b p q m (answered b p q grant)) else q)
-      unready r = ap (λ (c : Bool). if c then state_left bank b p q (words_next bank b p q m (answered b p q grant)) else (if is_answered b p q grant then stayed b p q (answered b p q grant) (words_next bank b p q m (answered b p q grant)) else q)) r
+      unready : is_ready b p q grant ≡ false → advance bank b p q m grant
+          ≡ (if is_answered b p q grant then stayed b p q (answered b p q grant) (words_next bank b p q m (answered b p q grant)) else q)
+      unready r = ap (λ (c : Bool). if c then state_left bank b p q (words_next bank b p q m (answered b p q grant)) else
+          (if is_answered b p q grant then stayed b p q (answered b p q grant) (words_next bank b p q m (answered b p q grant)) else q)) r
 
 -- CLOSED
 module _ (bank : Location → ℕ) (b : Block) (p : Plan) (keeps : KeepsOrders b p) (q : Slot) (closed : IsClosed b p q) (words : ℕ → ℤ) where

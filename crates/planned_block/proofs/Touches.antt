@@ -77,8 +77,13 @@ array_writes (BankWrite x) l r v q t = absurd t
 array_writes (ArrayRead x) l r v q t = absurd t
 array_writes (ArrayWrite x) l r v q t = (x, refl, is_of q x l t)
 
-pub bank_apart : (j k : Kind) (l r v l' r' v' : ℤ) → ((x : ℕ) (a b : Bool) → target_of j ≡ OfGlobal x a → target_of k ≡ OfGlobal x b → ⊥) → AreApart (accesses_in (bank_events j l r v)) (accesses_in (bank_events k l' r' v'))
-bank_apart j k l r v l' r' v' never = record { first = λ q w t. meet q (touched (accesses_in (bank_events j l r v)) q w) t; second = λ q t w. meet q t (touched (accesses_in (bank_events k l' r' v')) q w) }
+pub bank_apart : (j k : Kind) (l r v l' r' v' : ℤ) → ((x : ℕ) (a b : Bool) → target_of j ≡ OfGlobal x a → target_of k ≡ OfGlobal x b → ⊥) →
+    AreApart (accesses_in (bank_events j l r v)) (accesses_in (bank_events k l' r' v'))
+bank_apart j k l r v l' r' v' never = record {
+  first = λ q w t. meet q (touched (accesses_in (bank_events j l r v)) q w) t;
+  second =
+      λ q t w. meet q t (touched (accesses_in (bank_events k l' r' v')) q w);
+}
   where
     meet : (q : Location) → Touches q (accesses_in (bank_events j l r v)) → Touches q (accesses_in (bank_events k l' r' v')) → ⊥
     meet q t u =
@@ -86,7 +91,8 @@ bank_apart j k l r v l' r' v' never = record { first = λ q w t. meet q (touched
         let b = bank_touches k l' r' v' q u in
         never a.0 a.1 b.1 a.2 (subst (λ y. target_of k ≡ OfGlobal y b.1) (sym b.3 ∙ a.3) b.2)
 
-pub array_apart : (j k : Kind) (l r v l' r' v' : ℤ) → ((x : ℕ) (a b : Bool) → target_of j ≡ OfArray x a → target_of k ≡ OfArray x b → (a || b) ≡ true → ⊥) → AreApart (accesses_in (array_events j l r v)) (accesses_in (array_events k l' r' v'))
+pub array_apart : (j k : Kind) (l r v l' r' v' : ℤ) → ((x : ℕ) (a b : Bool) → target_of j ≡ OfArray x a → target_of k ≡ OfArray x b → (a || b) ≡ true → ⊥) →
+    AreApart (accesses_in (array_events j l r v)) (accesses_in (array_events k l' r' v'))
 array_apart j k l r v l' r' v' never = record {
   first = λ q w u.
       let a = array_writes j l r v q w in

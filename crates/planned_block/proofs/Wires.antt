@@ -13,7 +13,8 @@ use Rattle.planned_block.proofs.Bits.{same_is, other_is}
 module _ (bank : Location → ℕ) (b : Block) (p : Plan) (keeps : KeepsOrders b p) where
   -- what the registers, the arrays and the words of a slot hold, in a run with these values
   pub record Holds (values : ℕ → ℤ) (q : Slot) : Type 0 where
-    pub computed : (k : ℕ) (f : ℤ → ℤ → ℤ) → k < size b → computes (operation_at b k).kind ≡ Some f → values k ≡ f (operand_value q.variables values (operation_at b k).left) (operand_value q.variables values (operation_at b k).right)
+    pub computed : (k : ℕ) (f : ℤ → ℤ → ℤ) → k < size b → computes (operation_at b k).kind ≡ Some f → values k
+        ≡ f (operand_value q.variables values (operation_at b k).left) (operand_value q.variables values (operation_at b k).right)
     pub registers : (k r : ℕ) → k < size b → last_state b p k < q.state → q.state ≤ p.until k → p.register k ≡ Some r → q.registers r ≡ values k
     pub reads : (k x : ℕ) → k < size b → (operation_at b k).kind ≡ ArrayRead x → p.start k ≡ q.state → q.arrays (element x (operand_value q.variables values (operation_at b k).left)) ≡ values k
     pub words : (k x : ℕ) → k < size b → (operation_at b k).kind ≡ BankRead x → last_state b p k ≡ q.state →
@@ -46,20 +47,23 @@ module _ (bank : Location → ℕ) (b : Block) (p : Plan) (keeps : KeepsOrders b
 
     module _ (wired : IsWired bank b p q wire) where
       -- an operation at work in this state has its operands
-      uses_right : (k j : ℕ) → k < size b → p.start k ≤ q.state → q.state ≤ last_state b p k → ((i : ℕ) → i < k → last_state b p i ≡ q.state → wire i ≡ values i) → Uses (operation_at b k) j → value_now b p q wire j ≡ values j
+      uses_right : (k j : ℕ) → k < size b → p.start k ≤ q.state → q.state ≤ last_state b p k → ((i : ℕ) → i < k → last_state b p i ≡ q.state → wire i ≡ values i) →
+          Uses (operation_at b k) j → value_now b p q wire j ≡ values j
       uses_right k j lt from to below u =
           let early = keeps.earlier j k lt u in
           let waits = keeps.waits j k lt u in
           let used = keeps.used j k lt u in
           value_right j (omega arith) (omega arith) (omega arith) (λ s. below j early s)
 
-      given_right : (k : ℕ) (kind : Kind) (l r : ℤ) → (operation_at b k).kind ≡ kind → k < size b → last_state b p k ≡ q.state → l ≡ operand_value q.variables values (operation_at b k).left → r ≡ operand_value q.variables values (operation_at b k).right → result_of bank kind q.words q.arrays l r ≡ values k
+      given_right : (k : ℕ) (kind : Kind) (l r : ℤ) → (operation_at b k).kind ≡ kind → k < size b → last_state b p k ≡ q.state → l
+          ≡ operand_value q.variables values (operation_at b k).left → r ≡ operand_value q.variables values (operation_at b k).right → result_of bank kind q.words q.arrays l r ≡ values k
       given_right k (Simple f) l r e lt s el er = ap (λ x. f x r) el ∙ ap (λ x. f (operand_value q.variables values (operation_at b k).left) x) er ∙ sym (holds.computed k f lt (ap computes e))
       given_right k (Multiply f) l r e lt s el er = ap (λ x. f x r) el ∙ ap (λ x. f (operand_value q.variables values (operation_at b k).left) x) er ∙ sym (holds.computed k f lt (ap computes e))
       given_right k (Divide f) l r e lt s el er = ap (λ x. f x r) el ∙ ap (λ x. f (operand_value q.variables values (operation_at b k).left) x) er ∙ sym (holds.computed k f lt (ap computes e))
       given_right k (BankRead x) l r e lt s el er = ap (λ y. q.words (bank (element x y))) el ∙ holds.words k x lt e s
       given_right k (BankWrite x) l r e lt s el er = sym (holds.computed k (λ l r. pos 0) lt (ap computes e))
-      given_right k (ArrayRead x) l r e lt s el er = ap (λ y. q.arrays (element x y)) el ∙ holds.reads k x lt e (let t : p.start k + further_states (operation_at b k).kind ≡ p.start k + 0 = ap (λ y. p.start k + further_states y) e in omega arith)
+      given_right k (ArrayRead x) l r e lt s el er = ap (λ y. q.arrays (element x y)) el
+          ∙ holds.reads k x lt e (let t : p.start k + further_states (operation_at b k).kind ≡ p.start k + 0 = ap (λ y. p.start k + further_states y) e in omega arith)
       given_right k (ArrayWrite x) l r e lt s el er = sym (holds.computed k (λ l r. pos 0) lt (ap computes e))
 
       wires_below : (n k : ℕ) → k < n → k < size b → last_state b p k ≡ q.state → wire k ≡ values k
@@ -76,10 +80,12 @@ module _ (bank : Location → ℕ) (b : Block) (p : Plan) (keeps : KeepsOrders b
       pub wire_right : (k : ℕ) → k < size b → last_state b p k ≡ q.state → wire k ≡ values k
       wire_right k lt s = wires_below (suc k) k (omega arith) lt s
 
-      pub left_right : (k : ℕ) → k < size b → p.start k ≤ q.state → q.state ≤ last_state b p k → operand_now b p q wire (operation_at b k).left ≡ operand_value q.variables values (operation_at b k).left
+      pub left_right : (k : ℕ) → k < size b → p.start k ≤ q.state → q.state ≤ last_state b p k → operand_now b p q wire (operation_at b k).left
+          ≡ operand_value q.variables values (operation_at b k).left
       left_right k lt from to = operand_right (operation_at b k).left (λ j u. uses_right k j lt from to (λ i less z. wire_right i (omega arith) z) (inl u))
 
-      pub right_right : (k : ℕ) → k < size b → p.start k ≤ q.state → q.state ≤ last_state b p k → operand_now b p q wire (operation_at b k).right ≡ operand_value q.variables values (operation_at b k).right
+      pub right_right : (k : ℕ) → k < size b → p.start k ≤ q.state → q.state ≤ last_state b p k → operand_now b p q wire (operation_at b k).right
+          ≡ operand_value q.variables values (operation_at b k).right
       right_right k lt from to = operand_right (operation_at b k).right (λ j u. uses_right k j lt from to (λ i less z. wire_right i (omega arith) z) (inr u))
 
       -- in the last state of the block all that is used later is there
