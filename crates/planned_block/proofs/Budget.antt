@@ -24,31 +24,31 @@ requests_fit b (suc n) =
     at_most_one true = omega arith
     at_most_one false = omega arith
 
-module _ (blocks : ℕ → Block) (plans : ℕ → Plan) (chain : ℕ → ℕ) (weight : ℕ) (chains : AreChains blocks plans chain weight) where
+module _ (blocks : ℕ → ℕ → Block) (plans : ℕ → ℕ → Plan) (chain : ℕ → ℕ → ℕ) (weight : ℕ) (chains : AreChains blocks plans chain weight) where
   -- a block has at most one change for each state and one for each request
-  within_chain : (l : ℕ) → changes_of (code_of blocks plans chain) l < 2 * chain l
-  within_chain l =
-      let s = chains.short l in
-      let h = chains.holds l in
-      let c = requests_fit (blocks l) (size (blocks l)) in
+  within_chain : (f l : ℕ) → changes_of (code_of blocks plans chain) f l < 2 * chain f l
+  within_chain f l =
+      let s = chains.short f l in
+      let h = chains.holds f l in
+      let c = requests_fit (blocks f l) (size (blocks f l)) in
       omega arith
 
   -- a stepless block's successor is paid for
-  fits : (l k : ℕ) → own_latencies blocks l + chain k ≤ chain l → changes_of (code_of blocks plans chain) k ≤ (code_of blocks plans chain).reserve l
-  fits l k e = let t = within_chain k in omega arith
+  fits : (f l k : ℕ) → own_latencies (blocks f l) + chain f k ≤ chain f l → changes_of (code_of blocks plans chain) f k ≤ (code_of blocks plans chain).reserve f l
+  fits f l k e = let t = within_chain f k in omega arith
 
-  bounded : (l : ℕ) → changes_of (code_of blocks plans chain) l < 64 * (weight + 1)
-  bounded l = let t = within_chain l in let c = chains.bounded l in omega arith
+  bounded : (f l : ℕ) → changes_of (code_of blocks plans chain) f l < 64 * (weight + 1)
+  bounded f l = let t = within_chain f l in let c = chains.bounded f l in omega arith
 
 -- FOLLOWING
 pub followers_are_lowered : {Local State : Type 0} (P : Source ℤ Local State) (Typed : Memory ℤ → Type 0) → FollowersAreLowered P Typed
 followers_are_lowered P Typed blocks plans chain weight typed ordered chains = record {
-  blocks = λ s i l variables arrays at starts some. record {
+  blocks = λ s i f l variables arrays at starts some. record {
     only_moves = (starts 1 (P.memory s) (typed s at)).only_moves;
     block_runs = λ hs run n. record {
       accesses = (starts 1 (P.memory s) (typed s at)).accesses hs run n;
       ends = λ k. (starts (suc k) (P.memory s) (typed s at)).leads hs run n;
-      fits = λ z. fits blocks plans chain weight chains l _ (chains.stepless l (sym n ∙ ap length z) (operand_value variables (block_run (blocks l) variables arrays (P.memory s)).values));
+      fits = λ z. fits blocks plans chain weight chains f l _ (chains.stepless f l (sym n ∙ ap length z) (operand_value variables (block_run (blocks f l) variables arrays (P.memory s)).values));
     };
   };
   bounded = bounded blocks plans chain weight chains;

@@ -1,6 +1,6 @@
 -- A cycle of a net of planned threads is a chain of their moves, and its runs follow one interleaving.
 use Rattle.std.specs.Prelude.{◌⊎◌, ℤ, Bool, true, false, ◌&&◌, ◌||◌, if◌then◌else◌}
-use Rattle.std.proofs.Common.{◌≡◌, ℕ, ◌<◌, List, [], refl, ap, ◌∙◌, subst, ⊎_elim, inl}
+use Rattle.std.proofs.Common.{◌≡◌, ℕ, ◌<◌, List, [], refl, ap, ◌∙◌, subst, ⊎_elim, inl, ◌≢◌}
 use Rattle.interleaving.specs.Memory.{Access, memory_after}
 use Rattle.interleaving.specs.Hardware.{World}
 use Rattle.interleaving.specs.Cycle.{StaysInCycle, TurnsInCycle, ActsInCycle}
@@ -12,9 +12,9 @@ use Rattle.planned_block.specs.Plan.{Plan}
 use Rattle.planned_block.specs.Slot.{Slot, bank_access_now}
 use Rattle.planned_block.specs.Advance.{answered, is_ready, is_answered}
 use Rattle.planned_block.specs.Hardware.{changes_left, block_of, plan_of, PlannedThreads, hardware_of}
-use Rattle.planned_block.specs.Net.{Grants, accesses_of_cycle, place_owner, RunsInCycle, NetCycle, moves, IsChain, SomebodyMoves}
+use Rattle.planned_block.specs.Net.{Grants, accesses_of_cycle, place_owner, RunsInCycle, NetCycle, moves, IsChain, SomebodyMoves, MovesChange}
 use Rattle.planned_block.specs.Headline.{BlocksArePlanned, PlannedProgram, PlannedRunsAsOne}
-use Rattle.planned_block.proofs.Advancing.{advances, ready_or_asks, some_tells, touched_by_one, turns_frame}
+use Rattle.planned_block.proofs.Advancing.{advances, ready_or_asks, some_tells, touched_by_one, turns_frame, turns_change}
 use Rattle.planned_block.proofs.Planned.{blocks_planned, blocks_timed}
 
 differ : (a : Bool) → a ≡ true → a ≡ false → ⊥
@@ -109,6 +109,18 @@ somebody_moves M w v g T serves n lt e =
           ∙ or_right (is_ready (b M w v g i) (p M w v g i) (w.slots i) (g.grant i)) _ (some_tells (answered (b M w v g i) (p M w v g i) (w.slots i) (g.grant i)) (size (b M w v g i)) s.1 s.4 s.5)),
     ))
     (ready_or_asks M.bank (b M w v g n) (p M w v g n) (w.slots n) (g.grant n))
+
+-- EACH MOVE CHANGES A SLOT
+pub moves_change : (M : PlannedThreads) → MovesChange M
+moves_change M w v g n r go = by_enabled (g.enabled n) refl go
+  where
+    by_enabled : (e : Bool) → g.enabled n ≡ e → (e && goes M w v g n) ≡ true → v.slots n ≢ w.slots n
+    by_enabled false e m = absurd (differ false m refl)
+    by_enabled true e m =
+        ⊎_elim
+        (λ t. turns_change M.bank (b M w v g n) (p M w v g n) (w.slots n) w.memory (made M w v g n) (v.slots n) t.0)
+        (λ rest. absurd (differ (goes M w v g n) m rest.2))
+        (advances M.bank (b M w v g n) (p M w v g n) (w.slots n) w.memory (g.grant n) (g.wire n) (v.slots n) (r.on e) (r.inside e) r.within)
 
 -- PLANNED
 pub are_planned : (M : PlannedThreads) → BlocksArePlanned M

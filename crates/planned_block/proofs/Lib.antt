@@ -12,3 +12,4 @@ pub mod Advancing
 pub mod Chaining
 pub mod Budget
 pub mod Total
+pub mod Examples

@@ -21,7 +21,7 @@ use Rattle.planned_block.proofs.Running.{run_arrays}
 
 module _ (code : Code) where
   -- a slot at the start of a block has no more left than the block has
-  fresh_left : (q : Slot) → q.state ≡ 0 → changes_left code q ≤ changes_of code q.stage
+  fresh_left : (q : Slot) → q.state ≡ 0 → changes_left code q ≤ changes_of code q.routine q.stage
   fresh_left q z =
       let c = count_le (is_open code q) (λ k. is_request (operation_at (block_of code q) k).kind) (size (block_of code q))
       (λ k lt t. (both_true (is_request (operation_at (block_of code q) k).kind) (not (was_granted (block_of code q) (plan_of code q) q k)) t).0) in
@@ -88,10 +88,10 @@ module _ (M : PlannedThreads) where
   AtStart = Begins M.bank M.code M.around M.B
 
   begins : (x : M.Local) (m : Memory ℤ) (q : Slot) (hs : List (Move ℤ M.Local)) → AtStart x q → 0 < (plan_of M.code q).states →
-      IsBlockRun P M.code M.around.Starts M.B x q.stage q.variables q.arrays m hs → InBlock x m hs [] q
+      IsBlockRun P M.code M.around.Starts M.B x q.routine q.stage q.variables q.arrays m hs → InBlock x m hs [] q
   begins x m q hs r some l =
       let b = block_of M.code q in
-      let keeps = M.keeps q.stage in
+      let keeps = M.keeps q.routine q.stage in
       let ordered : IsOrdered b = record { earlier = keeps.earlier; final = keeps.final } in
       let run = block_run b q.variables q.arrays m in
       record {
@@ -99,7 +99,7 @@ module _ (M : PlannedThreads) where
         values = run.values;
         stored = [];
         flight = subst (λ a. InFlight M.bank b (plan_of M.code q) m a q.arrays run.values [] [] q) l.accesses (at_start M.bank b (plan_of M.code q) ordered q m r.state r.granted some);
-        ends = subst (λ a. M.around.Starts (end_of x hs) (leads_to (operand_value q.variables run.values) b.next) (finished (operand_value q.variables run.values) b.finals q.variables) a)
+        ends = subst (λ a. M.around.Starts (end_of x hs) q.routine (leads_to (operand_value q.variables run.values) b.next) (finished (operand_value q.variables run.values) b.finals q.variables) a)
             (run_arrays b q.variables ordered q.arrays m) l.ends;
         fits = l.fits;
       }
@@ -124,7 +124,7 @@ module _ (M : PlannedThreads) where
           first = f.first;
           values = f.values;
           stored = f.stored;
-          flight = stays M.bank M.banks b p (M.keeps q.stage) m (accesses_of hs) f.first f.values made f.stored q f.flight now es t sees;
+          flight = stays M.bank M.banks b p (M.keeps q.routine q.stage) m (accesses_of hs) f.first f.values made f.stored q f.flight now es t sees;
           ends = f.ends;
           fits = f.fits;
         } in
@@ -136,8 +136,8 @@ module _ (M : PlannedThreads) where
         let flown : InBlock x m hs (made ++ es) (gone_on b p q t.wire t.words r.registers) = record {
           first = f.first;
           values = f.values;
-          stored = stored_next M.bank M.banks b p (M.keeps q.stage) m (accesses_of hs) f.first f.values made f.stored q f.flight now es t sees;
-          flight = goes_on M.bank M.banks b p (M.keeps q.stage) m (accesses_of hs) f.first f.values made f.stored q f.flight now es t sees granted r.registers g.registers g.within;
+          stored = stored_next M.bank M.banks b p (M.keeps q.routine q.stage) m (accesses_of hs) f.first f.values made f.stored q f.flight now es t sees;
+          flight = goes_on M.bank M.banks b p (M.keeps q.routine q.stage) m (accesses_of hs) f.first f.values made f.stored q f.flight now es t sees granted r.registers g.registers g.within;
           ends = f.ends;
           fits = f.fits;
         } in
@@ -155,27 +155,29 @@ module _ (M : PlannedThreads) where
       cost hs refl,
     )
       where
-        d : IsDone M.bank M.banks b p (M.keeps q.stage) m (accesses_of hs) f.first f.values made f.stored q f.flight now es t sees r
-        d = leaves M.bank M.banks b p (M.keeps q.stage) m (accesses_of hs) f.first f.values made f.stored q f.flight now es t sees granted r e
+        d : IsDone M.bank M.banks b p (M.keeps q.routine q.stage) m (accesses_of hs) f.first f.values made f.stored q f.flight now es t sees r
+        d = leaves M.bank M.banks b p (M.keeps q.routine q.stage) m (accesses_of hs) f.first f.values made f.stored q f.flight now es t sees granted r e
 
-        starts : M.around.Starts (end_of x hs) r.stage r.variables r.arrays
+        starts : M.around.Starts (end_of x hs) r.routine r.stage r.variables r.arrays
         starts =
-            subst (λ l. M.around.Starts (end_of x hs) l r.variables r.arrays) (sym d.stage)
-            (subst (λ v. M.around.Starts (end_of x hs) (leads_to (operand_value q.variables f.values) b.next) v r.arrays) (fun_ext (λ y. sym (d.variables y)))
-            (subst (λ a. M.around.Starts (end_of x hs) (leads_to (operand_value q.variables f.values) b.next) (finished (operand_value q.variables f.values) b.finals q.variables) a)
-            (fun_ext (λ l. sym (d.arrays l))) f.ends))
+            subst (λ z. M.around.Starts (end_of x hs) z r.stage r.variables r.arrays) (sym e.routine)
+            (subst (λ l. M.around.Starts (end_of x hs) q.routine l r.variables r.arrays) (sym d.stage)
+            (subst (λ v. M.around.Starts (end_of x hs) q.routine (leads_to (operand_value q.variables f.values) b.next) v r.arrays) (fun_ext (λ y. sym (d.variables y)))
+            (subst (λ a. M.around.Starts (end_of x hs) q.routine (leads_to (operand_value q.variables f.values) b.next) (finished (operand_value q.variables f.values) b.finals q.variables) a)
+            (fun_ext (λ l. sym (d.arrays l))) f.ends)))
 
         cost : (gs : List (Move ℤ M.Local)) → hs ≡ gs → changes_left M.code r < changes_left M.code q + M.B * length hs
         cost [] z =
             let fresh = fresh_left M.code r e.state in
             let fits = f.fits z in
-            let to : changes_of M.code r.stage ≡ changes_of M.code (leads_to (operand_value q.variables f.values) b.next) = ap (changes_of M.code) d.stage in
+            let to : changes_of M.code r.routine r.stage ≡ changes_of M.code q.routine (leads_to (operand_value q.variables f.values) b.next) =
+            ap (λ z. changes_of M.code z r.stage) e.routine ∙ ap (changes_of M.code q.routine) d.stage in
             let within = t.inside in
             let none : M.B * length hs ≡ 0 = ap (λ l. M.B * length l) z ∙ (grind arith) in
             omega arith
         cost (h ∷ gs) z =
             let fresh = fresh_left M.code r e.state in
-            let bound = M.lowered.bounded r.stage in
+            let bound = M.lowered.bounded r.routine r.stage in
             let more = once (length hs) (subst (λ l. 0 < length l) (sym z) (omega arith)) in
             let within = t.inside in
             omega arith
@@ -203,7 +205,7 @@ module _ (M : PlannedThreads) where
         let some : 0 < (plan_of M.code q).states = omega arith in
         ⊎_elim
         (λ (b : AtStart (P.local s i) q).
-        let l = M.lowered.blocks s i q.stage q.variables q.arrays at b.starts some in (
+        let l = M.lowered.blocks s i q.routine q.stage q.variables q.arrays at b.starts some in (
           (block_of M.code q).steps,
           l.only_moves,
           λ hs run n agree. turn c i (P.local s i) (P.memory s) m hs [] es q

@@ -192,7 +192,7 @@ module _ (bank : Location → ℕ) (b : Block) (p : Plan) (keeps : KeepsOrders b
           GoesOn b p q (wires bank b p q) words (if c then left_for_next bank b p q words else gone_on b p q (wires bank b p q) words (registers_next bank b p q))
           ⊎ Leaves b p q (wires bank b p q) (if c then left_for_next bank b p q words else gone_on b p q (wires bank b p q) words (registers_next bank b p q))
       by_end true e =
-          inr (record { at_end = is_same (suc q.state) p.states e; stage = refl; state = refl; granted = λ k. refl; variables = λ x. refl; arrays = λ l. refl; beat = refl })
+          inr (record { at_end = is_same (suc q.state) p.states e; routine = refl; stage = refl; state = refl; granted = λ k. refl; variables = λ x. refl; arrays = λ l. refl; beat = refl })
       by_end false e =
           let ne : suc q.state ≢ p.states = (λ z. absurd (cc (sym (same_is (suc q.state) p.states z) ∙ e))) in
           inl (record { within = omega (arith, inside); registers = registers_right q; slot = refl })
@@ -276,6 +276,7 @@ module _ (bank : Location → ℕ) (b : Block) (p : Plan) (keeps : KeepsOrders b
           (if c then left_for_next bank b p q held else gone_on b p q u held (registers_next bank b p q))
           (if c then left_for_next bank b p (with_words q words) other else gone_on b p (with_words q words) v other (registers_next bank b p (with_words q words)))
       by_end true = record {
+        routine = refl;
         stage = leads_same (operand_now b p q u) (operand_now b p q v) b.next (λ o l k e. final_same o (λ j y. inr (o, l, k, e, y)));
         state = refl;
         granted = λ k. refl;
@@ -285,7 +286,7 @@ module _ (bank : Location → ℕ) (b : Block) (p : Plan) (keeps : KeepsOrders b
         registers = registers_same;
         beat = refl;
       }
-      by_end false = record { stage = refl; state = refl; granted = λ k. refl; variables = λ x. refl; arrays = arrays_same; registers = registers_same; beat = refl }
+      by_end false = record { routine = refl; stage = refl; state = refl; granted = λ k. refl; variables = λ x. refl; arrays = arrays_same; registers = registers_same; beat = refl }
 
   all_ready : (s : Slot) → ((k : ℕ) → k < size b → asks b p s k ≡ false) → (grant : ℕ → Bool) → is_ready b p s grant ≡ true
   all_ready s none grant = all_true (is_granted b p s grant) (size b) (λ k lt. ap (λ c. not c || granted_with b p s (answered b p s grant) k) (none k lt))

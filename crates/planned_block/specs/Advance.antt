@@ -91,6 +91,7 @@ module _ (bank : Location → ℕ) where
     -- the start of the next block
     abbrev pub left_for_next : Slot → (ℕ → ℤ) → Slot
     left_for_next q words = record {
+      routine = q.routine;
       stage = leads_to (operand_now b p q (wires q)) b.next;
       state = 0;
       granted = λ k. false;

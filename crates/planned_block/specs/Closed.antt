@@ -13,6 +13,7 @@ pub record IsClosed (b : Block) (p : Plan) (q : Slot) : Type 0 where
 -- the same slot beside other words, which stand in the cores and not in the thread's module
 abbrev pub with_words : Slot → (ℕ → ℤ) → Slot
 with_words q words = record {
+  routine = q.routine;
   stage = q.stage;
   state = q.state;
   granted = q.granted;
@@ -25,6 +26,7 @@ with_words q words = record {
 
 -- all but the words
 pub record SameButWords (q r : Slot) : Type 0 where
+  pub routine : q.routine ≡ r.routine
   pub stage : q.stage ≡ r.stage
   pub state : q.state ≡ r.state
   pub granted : (k : ℕ) → q.granted k ≡ r.granted k

@@ -10,6 +10,7 @@ use Rattle.planned_block.specs.Run.{block_run}
 use Rattle.planned_block.specs.Table.{latencies_before}
 use Rattle.planned_block.specs.Hardware.{Code, IsLowered}
 
+-- the code of one routine
 module _ {Local State : Type 0} (P : Source ℤ Local State) (blocks : ℕ → Block) (Typed : Memory ℤ → Type 0) where
   -- the block at a stage is its number of steps, and where it leads Next holds
   pub record IsStage (Next : Local → ℕ → (ℕ → ℤ) → Memory ℤ → Type 0) (x : Local) (l : ℕ) (variables : ℕ → ℤ) (arrays m : Memory ℤ) : Type 0 where
@@ -29,27 +30,24 @@ module _ {Local State : Type 0} (P : Source ℤ Local State) (blocks : ℕ → B
   FollowsOn x l variables arrays = (n : ℕ) → Follows n x l variables arrays
 
 -- a bound of the changes by the latencies: of each block, with 1 for it
-abbrev pub own_latencies : (ℕ → Block) → ℕ → ℕ
-own_latencies blocks l = latencies_before (blocks l) (size (blocks l)) + 1
+abbrev pub own_latencies : Block → ℕ
+own_latencies b = latencies_before b (size b) + 1
 
--- chain l is a bound for a stage and the stepless blocks that follow it. A state and a request may each cost a change
-abbrev pub reserve_of : (ℕ → Block) → (ℕ → ℕ) → ℕ → ℕ
-reserve_of blocks chain l = 2 * (chain l - own_latencies blocks l)
-
-abbrev pub code_of : (ℕ → Block) → (ℕ → Plan) → (ℕ → ℕ) → Code
-code_of blocks plans chain = record { blocks = blocks; plans = plans; reserve = reserve_of blocks chain }
+-- chain f l is a bound for a stage and the stepless blocks that follow it. A state and a request may each cost a change
+abbrev pub code_of : (ℕ → ℕ → Block) → (ℕ → ℕ → Plan) → (ℕ → ℕ → ℕ) → Code
+code_of blocks plans chain = record { blocks = blocks; plans = plans; reserve = λ f l. 2 * (chain f l - own_latencies (blocks f l)) }
 
 -- what the chains of blocks have to meet
-pub record AreChains (blocks : ℕ → Block) (plans : ℕ → Plan) (chain : ℕ → ℕ) (weight : ℕ) : Type 0 where
+pub record AreChains (blocks : ℕ → ℕ → Block) (plans : ℕ → ℕ → Plan) (chain : ℕ → ℕ → ℕ) (weight : ℕ) : Type 0 where
   -- a plan has no more states than the sum of the latencies, and 1
-  pub short : (l : ℕ) → (plans l).states ≤ own_latencies blocks l
-  pub holds : (l : ℕ) → own_latencies blocks l ≤ chain l
+  pub short : (f l : ℕ) → (plans f l).states ≤ own_latencies (blocks f l)
+  pub holds : (f l : ℕ) → own_latencies (blocks f l) ≤ chain f l
   -- the stage after a stepless block, wherever it leads, is in the chain of that block
-  pub stepless : (l : ℕ) → (blocks l).steps ≡ 0 → (value : Operand → ℤ) → own_latencies blocks l + chain (leads_to value (blocks l).next) ≤ chain l
-  pub bounded : (l : ℕ) → chain l ≤ 32 * weight
+  pub stepless : (f l : ℕ) → (blocks f l).steps ≡ 0 → (value : Operand → ℤ) → own_latencies (blocks f l) + chain f (leads_to value (blocks f l).next) ≤ chain f l
+  pub bounded : (f l : ℕ) → chain f l ≤ 32 * weight
 
 -- FOLLOWING: code that follows its thread for ever is lowered code, with 64 times (the weight and 1) changes for each step
 abbrev pub FollowersAreLowered : {Local State : Type 0} → Source ℤ Local State → (Memory ℤ → Type 0) → Type 0
 FollowersAreLowered {State = State} P Typed =
-    (blocks : ℕ → Block) (plans : ℕ → Plan) (chain : ℕ → ℕ) (weight : ℕ) → ((s : State) → Reachable P s → Typed (P.memory s)) →
-    ((l : ℕ) → IsOrdered (blocks l)) → AreChains blocks plans chain weight → IsLowered P (code_of blocks plans chain) (FollowsOn P blocks Typed) (64 * (weight + 1))
+    (blocks : ℕ → ℕ → Block) (plans : ℕ → ℕ → Plan) (chain : ℕ → ℕ → ℕ) (weight : ℕ) → ((s : State) → Reachable P s → Typed (P.memory s)) →
+    ((f l : ℕ) → IsOrdered (blocks f l)) → AreChains blocks plans chain weight → IsLowered P (code_of blocks plans chain) (λ x f l variables arrays. FollowsOn P (blocks f) Typed x l variables arrays) (64 * (weight + 1))

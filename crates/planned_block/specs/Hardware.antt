@@ -12,12 +12,12 @@ use Rattle.planned_block.specs.Run.{Running, block_run, array_events_at, events_
 use Rattle.planned_block.specs.Slot.{Slot, AreBanks, is_request, was_granted, Turns}
 use Rattle.planned_block.specs.InFlight.{InFlight}
 
--- the stages of all threads by number: a block has a plan of some states, an act one of none
+-- the code of all routines, by routine and stage: a block has a plan of some states, an act one of none
 pub record Code : Type 0 where
-  pub blocks : ℕ → Block
-  pub plans : ℕ → Plan
+  pub blocks : ℕ → ℕ → Block
+  pub plans : ℕ → ℕ → Plan
   -- how many changes of a slot are set aside for the stepless blocks that follow a stage
-  pub reserve : ℕ → ℕ
+  pub reserve : ℕ → ℕ → ℕ
 
 -- how many of the first n pass
 abbrev pub count_below : (ℕ → Bool) → ℕ → ℕ
@@ -26,10 +26,10 @@ count_below test (suc n) = count_below test n + (if test n then 1 else 0)
 
 module _ (code : Code) where
   abbrev pub block_of : Slot → Block
-  block_of q = code.blocks q.stage
+  block_of q = code.blocks q.routine q.stage
 
   abbrev pub plan_of : Slot → Plan
-  plan_of q = code.plans q.stage
+  plan_of q = code.plans q.routine q.stage
 
   -- operation k has a request that is still to be granted
   abbrev pub is_open : Slot → ℕ → Bool
@@ -38,19 +38,19 @@ module _ (code : Code) where
   -- how often a slot may change before its thread has taken a step: once for each state and each request to come, and as often as the
   -- stepless blocks that follow take
   abbrev pub changes_left : Slot → ℕ
-  changes_left q = code.reserve q.stage + (((plan_of q).states - q.state) + count_below (is_open q) (size (block_of q)))
+  changes_left q = code.reserve q.routine q.stage + (((plan_of q).states - q.state) + count_below (is_open q) (size (block_of q)))
 
   -- what is left at the start of a stage
-  abbrev pub changes_of : ℕ → ℕ
-  changes_of l = code.reserve l + ((code.plans l).states + count_below (λ k. is_request (operation_at (code.blocks l) k).kind) (size (code.blocks l)))
+  abbrev pub changes_of : ℕ → ℕ → ℕ
+  changes_of f l = code.reserve f l + ((code.plans f l).states + count_below (λ k. is_request (operation_at (code.blocks f l) k).kind) (size (code.blocks f l)))
 
--- what the concrete side says of threads besides blocks
+-- what the concrete side says of threads besides blocks. An act reads variables alone, so no value has to outlive its block
 pub record Surroundings (Local State Core : Type 0) : Type 1 where
-  -- the local state is at the start of this stage, with these variables and arrays
-  pub Starts : Local → ℕ → (ℕ → ℤ) → Memory ℤ → Type 0
-  -- the slot of this thread waits at no block, for this local state
+  -- the local state is at the start of this stage of this routine, with these variables and arrays
+  pub Starts : Local → ℕ → ℕ → (ℕ → ℤ) → Memory ℤ → Type 0
+  -- the slot of this thread is in no block for this local state: it waits at a core, or has not begun
   pub Waits : (ℕ → Core) → ℕ → Local → Slot → Type 0
-  -- it may go on in one cycle: after an act, or when its thread is created
+  -- in one cycle it may come to the start of a stage, with no access: a waiter that goes on, or a thread that begins
   pub Wakes : (ℕ → Core) → ℕ → Slot → Slot → Type 0
   -- the cores stand for the state
   pub Stands : (ℕ → Core) → State → Type 0
@@ -60,7 +60,7 @@ pub record Surroundings (Local State Core : Type 0) : Type 1 where
 module _ {Local State Core : Type 0} (bank : Location → ℕ) (code : Code) (around : Surroundings Local State Core) (B : ℕ) where
   -- the slot is at the start of a stage
   pub record Begins (x : Local) (q : Slot) : Type 0 where
-    pub starts : around.Starts x q.stage q.variables q.arrays
+    pub starts : around.Starts x q.routine q.stage q.variables q.arrays
     pub state : q.state ≡ 0
     pub granted : (k : ℕ) → q.granted k ≡ false
 
@@ -72,10 +72,10 @@ module _ {Local State Core : Type 0} (bank : Location → ℕ) (code : Code) (ar
     pub stored : List (Access ℤ)
     pub flight : InFlight bank (block_of code q) (plan_of code q) m (accesses_of hs) first values made stored q
     -- where the run ends
-    pub ends : around.Starts (end_of x hs) (leads_to (operand_value q.variables values) (block_of code q).next)
+    pub ends : around.Starts (end_of x hs) q.routine (leads_to (operand_value q.variables values) (block_of code q).next)
         (finished (operand_value q.variables values) (block_of code q).finals q.variables)
         (memory_after (accesses_in (events_from (array_events_at (block_of code q) q.variables values) (size (block_of code q)) 0)) first)
-    pub fits : hs ≡ [] → changes_of code (leads_to (operand_value q.variables values) (block_of code q).next) ≤ code.reserve q.stage
+    pub fits : hs ≡ [] → changes_of code q.routine (leads_to (operand_value q.variables values) (block_of code q).next) ≤ code.reserve q.routine q.stage
 
   abbrev pub planned_hardware : Hardware ℤ Local State Slot (ℕ → Core)
   planned_hardware = record {
@@ -88,30 +88,30 @@ module _ {Local State Core : Type 0} (bank : Location → ℕ) (code : Code) (ar
   }
 
 -- what lowering gives
-module _ {Local State : Type 0} (P : Source ℤ Local State) (code : Code) (Starts : Local → ℕ → (ℕ → ℤ) → Memory ℤ → Type 0) (B : ℕ) where
-  module _ (x : Local) (l : ℕ) (variables : ℕ → ℤ) (arrays m : Memory ℤ) where
+module _ {Local State : Type 0} (P : Source ℤ Local State) (code : Code) (Starts : Local → ℕ → ℕ → (ℕ → ℤ) → Memory ℤ → Type 0) (B : ℕ) where
+  module _ (x : Local) (f l : ℕ) (variables : ℕ → ℤ) (arrays m : Memory ℤ) where
     abbrev run_at : Running
-    run_at = block_run (code.blocks l) variables arrays m
+    run_at = block_run (code.blocks f l) variables arrays m
 
     abbrev pub stage_after : ℕ
-    stage_after = leads_to (operand_value variables run_at.values) (code.blocks l).next
+    stage_after = leads_to (operand_value variables run_at.values) (code.blocks f l).next
 
     -- the run of the block is these steps, and leads to the start of a stage
     pub record IsBlockRun (hs : List (Move ℤ Local)) : Type 0 where
       pub accesses : run_at.accesses ≡ accesses_of hs
-      pub ends : Starts (end_of x hs) stage_after (finished (operand_value variables run_at.values) (code.blocks l).finals variables) run_at.arrays
+      pub ends : Starts (end_of x hs) f stage_after (finished (operand_value variables run_at.values) (code.blocks f l).finals variables) run_at.arrays
       -- a stepless block's successor is paid for with it
-      pub fits : hs ≡ [] → changes_of code stage_after ≤ code.reserve l
+      pub fits : hs ≡ [] → changes_of code f stage_after ≤ code.reserve f l
 
     -- the block does its number of steps, none of them an act
     pub record IsSteps : Type 0 where
-      pub only_moves : OnlyMoves P (code.blocks l).steps x m
-      pub block_runs : (hs : List (Move ℤ Local)) → RunsAlone P x m hs → length hs ≡ (code.blocks l).steps → IsBlockRun hs
+      pub only_moves : OnlyMoves P (code.blocks f l).steps x m
+      pub block_runs : (hs : List (Move ℤ Local)) → RunsAlone P x m hs → length hs ≡ (code.blocks f l).steps → IsBlockRun hs
 
   pub record IsLowered : Type 0 where
-    pub blocks : (s : State) (i l : ℕ) (variables : ℕ → ℤ) (arrays : Memory ℤ) → Reachable P s → Starts (P.local s i) l variables arrays → 0 < (code.plans l).states →
-        IsSteps (P.local s i) l variables arrays (P.memory s)
-    pub bounded : (l : ℕ) → changes_of code l < B
+    pub blocks : (s : State) (i f l : ℕ) (variables : ℕ → ℤ) (arrays : Memory ℤ) → Reachable P s → Starts (P.local s i) f l variables arrays → 0 < (code.plans f l).states →
+        IsSteps (P.local s i) f l variables arrays (P.memory s)
+    pub bounded : (f l : ℕ) → changes_of code f l < B
 
 -- what acts and waiting slots have to meet
 pub record FitsBlocks {Local State Core : Type 0} (P : Source ℤ Local State) (bank : Location → ℕ) (code : Code) (around : Surroundings Local State Core) (B : ℕ) : Type 0 where
@@ -139,7 +139,7 @@ pub record PlannedThreads : Type 1 where
   pub bank : Location → ℕ
   pub banks : AreBanks bank
   pub code : Code
-  pub keeps : (l : ℕ) → KeepsOrders (code.blocks l) (code.plans l)
+  pub keeps : (f l : ℕ) → KeepsOrders (code.blocks f l) (code.plans f l)
   pub around : Surroundings Local State Core
   -- so many changes of a slot at most for each step of its thread
   pub B : ℕ

@@ -11,3 +11,4 @@ pub mod Hardware
 pub mod Net
 pub mod Headline
 pub mod Following
+pub mod Example

@@ -1,5 +1,5 @@
 -- One cycle of a net of planned threads, as a chain of their moves by thread number.
-use Rattle.std.specs.Prelude.{◌≡◌, ℕ, ◌<◌, ◌≤◌, ℤ, List, [], Bool, true, false, ◌&&◌, ◌||◌, ◌⊎◌, if◌then◌else◌}
+use Rattle.std.specs.Prelude.{◌≡◌, ◌≢◌, ℕ, ◌<◌, ◌≤◌, ℤ, List, [], Bool, true, false, ◌&&◌, ◌||◌, ◌⊎◌, if◌then◌else◌}
 use Rattle.interleaving.specs.Memory.{Location, Access, memory_after, Touches}
 use Rattle.interleaving.specs.Hardware.{World}
 use Rattle.interleaving.specs.Cycle.{movers, Chain, TurnsInCycle, ActsInCycle}
@@ -78,3 +78,8 @@ IsChain M =
 abbrev pub SomebodyMoves : PlannedThreads → Type 0
 SomebodyMoves M =
     (w v : World ℤ Slot (ℕ → M.Core)) (g : Grants) (T : ℕ) → Serves M w v g T → (n : ℕ) → n < T → g.enabled n ≡ true → (i : ℕ) × (i < T) × (moves M w v g i ≡ true)
+
+-- EACH MOVE CHANGES A SLOT
+abbrev pub MovesChange : PlannedThreads → Type 0
+MovesChange M =
+    (w v : World ℤ Slot (ℕ → M.Core)) (g : Grants) (n : ℕ) → RunsInCycle M w v g n → moves_in_block M w v g n ≡ true → v.slots n ≢ w.slots n

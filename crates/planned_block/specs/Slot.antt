@@ -14,6 +14,8 @@ abbrev pub AreBanks : (Location → ℕ) → Type 0
 AreBanks bank = (p q : Location) → bank p ≡ bank q → p.object ≡ q.object
 
 pub record Slot : Type 0 where
+  -- the function that its thread runs, main or a start routine, and the stage of its code
+  pub routine : ℕ
   pub stage : ℕ
   pub state : ℕ
   -- which requests of this state have been granted
@@ -85,6 +87,7 @@ module _ (b : Block) (p : Plan) where
   -- the same state, in which these are granted
   abbrev pub stayed : Slot → (ℕ → Bool) → (ℕ → ℤ) → Slot
   stayed q grants words = record {
+    routine = q.routine;
     stage = q.stage;
     state = q.state;
     granted = granted_with q grants;
@@ -98,6 +101,7 @@ module _ (b : Block) (p : Plan) where
   -- the next state of the block
   abbrev pub gone_on : Slot → (ℕ → ℤ) → (ℕ → ℤ) → (ℕ → ℤ) → Slot
   gone_on q wire words registers = record {
+    routine = q.routine;
     stage = q.stage;
     state = suc q.state;
     granted = λ k. false;
@@ -126,6 +130,7 @@ module _ (b : Block) (p : Plan) where
   -- the block is left. Its registers and the words are of no use any more
   pub record Leaves (q : Slot) (wire : ℕ → ℤ) (r : Slot) : Type 0 where
     pub at_end : suc q.state ≡ p.states
+    pub routine : r.routine ≡ q.routine
     pub stage : r.stage ≡ leads_to (operand_now q wire) b.next
     pub state : r.state ≡ 0
     pub granted : (k : ℕ) → r.granted k ≡ false
@@ -134,7 +139,7 @@ module _ (b : Block) (p : Plan) where
     pub beat : r.beat ≡ not q.beat
 
 module _ (bank : Location → ℕ) where
-  -- what a kind of operation gives in its last state
+  -- what a kind of operation gives in its last state: a read takes the word of the bank that its index names, which it still has
   abbrev pub result_of : Kind → (ℕ → ℤ) → Memory ℤ → ℤ → ℤ → ℤ
   result_of (Simple f) words arrays l r = f l r
   result_of (Multiply f) words arrays l r = f l r

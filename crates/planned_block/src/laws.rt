@@ -9,9 +9,10 @@ ghost use Rattle.planned_block.specs.Table.{MeetsTable, IsPacked, latencies_befo
 ghost use Rattle.planned_block.specs.Slot.{Slot, AreBanks};
 ghost use Rattle.planned_block.specs.Advance.{Advances, wires, advance};
 ghost use Rattle.planned_block.specs.Closed.{IsClosedAlone};
+ghost use Rattle.planned_block.specs.Example.{RunReadsAndWrites, StallsTwice, SequentialRows};
 ghost use Rattle.planned_block.specs.Law.{BlockKeepsToRun};
 ghost use Rattle.planned_block.specs.Hardware.{PlannedThreads};
-ghost use Rattle.planned_block.specs.Net.{IsChain, SomebodyMoves};
+ghost use Rattle.planned_block.specs.Net.{IsChain, SomebodyMoves, MovesChange};
 ghost use Rattle.planned_block.specs.Following.{FollowersAreLowered};
 ghost use Rattle.planned_block.specs.Headline.{BlocksArePlanned, PlannedProgram, PlannedRunsAsOne};
 
@@ -85,6 +86,11 @@ pub fn somebody_moves<P: Planned>()
     ensures { SomebodyMoves P.threads }
 {}
 
+/// Each move of a thread in a block changes its slot.
+pub fn moves_change<P: Planned>()
+    ensures { MovesChange P.threads }
+{}
+
 /// A threaded program of planned blocks, and the machine that runs it.
 pub trait PlannedMachine {
     ghost program: { PlannedProgram };
@@ -93,4 +99,11 @@ pub trait PlannedMachine {
 /// The headline's second sentence for planned blocks: every run of the machine of a good program shows one interleaving.
 pub fn planned_runs<P: PlannedMachine>()
     ensures { PlannedRunsAsOne P.program }
+{}
+
+/// A small block worked out by the definitions: `a = g; g = a + 1`, with two stalls; and the sequential plan of `a = g`.
+pub fn small_block()
+    ensures run { RunReadsAndWrites }
+    ensures stalls { StallsTwice }
+    ensures sequential { SequentialRows }
 {}
