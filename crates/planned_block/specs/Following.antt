@@ -50,4 +50,5 @@ pub record AreChains (blocks : ℕ → ℕ → Block) (plans : ℕ → ℕ → P
 abbrev pub FollowersAreLowered : {Local State : Type 0} → Source ℤ Local State → (Memory ℤ → Type 0) → Type 0
 FollowersAreLowered {State = State} P Typed =
     (blocks : ℕ → ℕ → Block) (plans : ℕ → ℕ → Plan) (chain : ℕ → ℕ → ℕ) (weight : ℕ) → ((s : State) → Reachable P s → Typed (P.memory s)) →
-    ((f l : ℕ) → IsOrdered (blocks f l)) → AreChains blocks plans chain weight → IsLowered P (code_of blocks plans chain) (λ x f l variables arrays. FollowsOn P (blocks f) Typed x l variables arrays) (64 * (weight + 1))
+    ((f l : ℕ) → IsOrdered (blocks f l)) → AreChains blocks plans chain weight →
+    IsLowered P (code_of blocks plans chain) (λ x f l variables arrays. FollowsOn P (blocks f) Typed x l variables arrays) (64 * (weight + 1))
