@@ -1,0 +1,72 @@
+// Basic blocks.
+
+use crate::operand::Operand;
+use c_program::tree::{BinaryOperator, UnaryOperator};
+use hls_ints::CType;
+use sqlite_items::Items;
+
+/// An operation: an operator, or an access of a global or of a local array.
+///
+/// An operator converts its operands to the type in which it works, but for the count of a shift. Operations are total:
+/// where C leaves a step undefined they give what the hardware gives.
+#[derive(Drop)]
+pub enum Operation {
+    Unary {
+        operator: UnaryOperator,
+        ty: CType,
+        operand: Operand,
+    },
+    Binary {
+        operator: BinaryOperator,
+        ty: CType,
+        left: Operand,
+        right: Operand,
+    },
+    ReadGlobal {
+        global: u32,
+        index: Operand,
+    },
+    WriteGlobal {
+        global: u32,
+        index: Operand,
+        value: Operand,
+    },
+    ReadArray {
+        array: u32,
+        index: Operand,
+    },
+    WriteArray {
+        array: u32,
+        index: Operand,
+        value: Operand,
+    },
+}
+
+/// What a variable holds after the block.
+#[derive(Drop)]
+pub struct Final {
+    pub variable: u32,
+    pub value: Operand,
+}
+
+/// Where a block leads.
+#[derive(Drop)]
+pub enum Next {
+    Jump(usize),
+    /// To the first stage where the value isn't 0.
+    Branch {
+        test: Operand,
+        nonzero: usize,
+        zero: usize,
+    },
+}
+
+/// Operations in their order, what variables hold at the end, where it leads, and how many steps of the C program it
+/// takes, none of them an act.
+#[derive(Drop)]
+pub struct Block {
+    pub operations: Items<Operation>,
+    pub finals: Items<Final>,
+    pub next: Next,
+    pub steps: u32,
+}

@@ -1,0 +1,30 @@
+// Plans: when and where each operation works.
+
+use sqlite_items::Items;
+
+/// The plan of a block.
+#[derive(Drop)]
+pub struct BlockPlan {
+    /// For each operation the state in which it starts, counted from 0.
+    pub starts: Items<u64>,
+    /// The number of states, at least 1.
+    pub states: u64,
+    /// For each operation the number of its unit among those of its kind.
+    pub units: Items<u32>,
+    /// For each operation the register that keeps its value past its last state, where one does.
+    pub registers: Items<Option<u32>>,
+}
+
+/// The plan of a stage; an act takes one state.
+#[derive(Drop)]
+pub enum StagePlan {
+    Run(BlockPlan),
+    Act,
+}
+
+/// The plan of a thread's code: one for each stage, and how many registers there are.
+#[derive(Drop)]
+pub struct Planned {
+    pub stages: Items<StagePlan>,
+    pub registers: u32,
+}

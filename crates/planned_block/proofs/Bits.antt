@@ -1,0 +1,70 @@
+-- Facts on tests.
+use Rattle.std.specs.Prelude.{◌⊎◌, nat_eq, nat_lt, ◌&&◌, Bool, true, false, ◌||◌}
+use Rattle.std.proofs.Common.{◌≡◌, ◌≢◌, ℕ, suc, ◌<◌, ◌≤◌, refl, sym, ap, ◌∙◌, ⊎_elim, arith}
+use Rattle.std.proofs.lemmas.Bool.Decides.{nat_tests}
+
+pub both_true : (a b : Bool) → (a && b) ≡ true → (a ≡ true) × (b ≡ true)
+both_true true true e = (refl, refl)
+both_true true false e = absurd cc
+both_true false b e = absurd cc
+
+pub is_same : (a b : ℕ) → nat_eq a b ≡ true → a ≡ b
+is_same a b e = grind (arith, nat_tests)
+
+pub same_is : (a b : ℕ) → a ≡ b → nat_eq a b ≡ true
+same_is a b e = grind (arith, nat_tests)
+
+pub other_is : (a b : ℕ) → a ≢ b → nat_eq a b ≡ false
+other_is a b e = grind (arith, nat_tests)
+
+pub less_is : (a b : ℕ) → a < b → nat_lt a b ≡ true
+less_is a b e = grind (arith, nat_tests)
+
+pub not_less_is : (a b : ℕ) → b ≤ a → nat_lt a b ≡ false
+not_less_is a b e = grind (arith, nat_tests)
+
+pub less_or_not : (a b : ℕ) → (a < b) ⊎ (b ≤ a)
+less_or_not a b = grind arith
+
+-- who isn't done hasn't started before
+pub not_before : (a s : ℕ) (c : Bool) → (nat_lt a s || c) ≡ false → s ≤ a
+not_before a s c e = ⊎_elim (λ lt. absurd (cc (e, ap (λ b. b || c) (less_is a s lt)))) (λ le. le) (less_or_not a s)
+
+-- the bits of a state that is kept
+pub bits_stay : (l e g h : Bool) → (h ≡ true → e ≡ true) → ((l || (e && g)) || h) ≡ (l || (e && (g || h)))
+bits_stay true e g h t = refl
+bits_stay false true g h t = refl
+bits_stay false false g true t = sym (t refl)
+bits_stay false false g false t = refl
+
+-- the bits of a state that is left
+pub bits_go : (a s : ℕ) (g h : Bool) → (a ≡ s → (g || h) ≡ true) → (h ≡ true → a ≡ s) → ((nat_lt a s || (nat_eq a s && g)) || h) ≡ (nat_lt a (suc s) || (nat_eq a (suc s) && false))
+bits_go a s g h all now = ⊎_elim before (λ le. ⊎_elim here (λ ne. beyond h refl le ne) (same_or a s)) (less_or_not a s)
+  where
+    same_or : (a s : ℕ) → (a ≡ s) ⊎ (a ≢ s)
+    same_or a s = grind arith
+
+    and_false : (b : Bool) → (b && false) ≡ false
+    and_false true = refl
+    and_false false = refl
+
+    or_false : (b : Bool) → (b || false) ≡ b
+    or_false true = refl
+    or_false false = refl
+
+    right : (nat_eq a (suc s) && false) ≡ false
+    right = and_false (nat_eq a (suc s))
+
+    before : a < s → ((nat_lt a s || (nat_eq a s && g)) || h) ≡ (nat_lt a (suc s) || (nat_eq a (suc s) && false))
+    before lt = ap (λ b. (b || (nat_eq a s && g)) || h) (less_is a s lt) ∙ sym (ap (λ b. b || (nat_eq a (suc s) && false)) (less_is a (suc s) (omega arith)))
+
+    here : a ≡ s → ((nat_lt a s || (nat_eq a s && g)) || h) ≡ (nat_lt a (suc s) || (nat_eq a (suc s) && false))
+    here e =
+        ap (λ b. (b || (nat_eq a s && g)) || h) (not_less_is a s (omega arith)) ∙ ap (λ b. (b && g) || h) (same_is a s e) ∙ all e
+        ∙ sym (ap (λ b. b || (nat_eq a (suc s) && false)) (less_is a (suc s) (omega arith)))
+
+    beyond : (k : Bool) → h ≡ k → s ≤ a → a ≢ s → ((nat_lt a s || (nat_eq a s && g)) || h) ≡ (nat_lt a (suc s) || (nat_eq a (suc s) && false))
+    beyond true e le ne = absurd (ne (now e))
+    beyond false e le ne =
+        ap (λ b. (b || (nat_eq a s && g)) || h) (not_less_is a s le) ∙ ap (λ b. (b && g) || h) (other_is a s ne) ∙ e
+        ∙ sym (ap (λ b. b || (nat_eq a (suc s) && false)) (not_less_is a (suc s) (omega arith)) ∙ right)

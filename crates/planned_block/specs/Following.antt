@@ -1,0 +1,54 @@
+-- Code that does the steps of a thread, block after block.
+use Rattle.std.specs.Prelude.{◌≡◌, ℕ, zero, suc, ◌+◌, ◌*◌, ◌-◌, ◌≤◌, ℤ, List, length}
+use Rattle.interleaving.specs.Memory.{Memory}
+use Rattle.interleaving.specs.Source.{Source, Move, accesses_of, end_of, RunsAlone}
+use Rattle.interleaving.specs.Interleaving.{Reachable}
+use Rattle.interleaving.specs.Hardware.{OnlyMoves}
+use Rattle.planned_block.specs.Block.{Operand, Block, size, operand_value, finished, leads_to, IsOrdered}
+use Rattle.planned_block.specs.Plan.{Plan}
+use Rattle.planned_block.specs.Run.{block_run}
+use Rattle.planned_block.specs.Table.{latencies_before}
+use Rattle.planned_block.specs.Hardware.{Code, IsLowered}
+
+-- the code of one routine
+module _ {Local State : Type 0} (P : Source ℤ Local State) (blocks : ℕ → Block) (Typed : Memory ℤ → Type 0) where
+  -- the block at a stage is its number of steps, and where it leads Next holds
+  pub record IsStage (Next : Local → ℕ → (ℕ → ℤ) → Memory ℤ → Type 0) (x : Local) (l : ℕ) (variables : ℕ → ℤ) (arrays m : Memory ℤ) : Type 0 where
+    pub only_moves : OnlyMoves P (blocks l).steps x m
+    pub accesses : (hs : List (Move ℤ Local)) → RunsAlone P x m hs → length hs ≡ (blocks l).steps → (block_run (blocks l) variables arrays m).accesses ≡ accesses_of hs
+    pub leads : (hs : List (Move ℤ Local)) → RunsAlone P x m hs → length hs ≡ (blocks l).steps →
+        Next (end_of x hs) (leads_to (operand_value variables (block_run (blocks l) variables arrays m).values) (blocks l).next)
+        (finished (operand_value variables (block_run (blocks l) variables arrays m).values) (blocks l).finals variables) (block_run (blocks l) variables arrays m).arrays
+
+  -- the next n blocks do the steps of the thread, whatever the other threads leave in the memory
+  abbrev pub Follows : ℕ → Local → ℕ → (ℕ → ℤ) → Memory ℤ → Type 0
+  Follows zero x l variables arrays = Unit {0}
+  Follows (suc n) x l variables arrays = (m : Memory ℤ) → Typed m → IsStage (Follows n) x l variables arrays m
+
+  -- and all that follow
+  abbrev pub FollowsOn : Local → ℕ → (ℕ → ℤ) → Memory ℤ → Type 0
+  FollowsOn x l variables arrays = (n : ℕ) → Follows n x l variables arrays
+
+-- a bound of the changes by the latencies: of each block, with 1 for it
+abbrev pub own_latencies : Block → ℕ
+own_latencies b = latencies_before b (size b) + 1
+
+-- chain f l is a bound for a stage and the stepless blocks that follow it. A state and a request may each cost a change
+abbrev pub code_of : (ℕ → ℕ → Block) → (ℕ → ℕ → Plan) → (ℕ → ℕ → ℕ) → Code
+code_of blocks plans chain = record { blocks = blocks; plans = plans; reserve = λ f l. 2 * (chain f l - own_latencies (blocks f l)) }
+
+-- what the chains of blocks have to meet
+pub record AreChains (blocks : ℕ → ℕ → Block) (plans : ℕ → ℕ → Plan) (chain : ℕ → ℕ → ℕ) (weight : ℕ) : Type 0 where
+  -- a plan has no more states than the sum of the latencies, and 1
+  pub short : (f l : ℕ) → (plans f l).states ≤ own_latencies (blocks f l)
+  pub holds : (f l : ℕ) → own_latencies (blocks f l) ≤ chain f l
+  -- the stage after a stepless block, wherever it leads, is in the chain of that block
+  pub stepless : (f l : ℕ) → (blocks f l).steps ≡ 0 → (value : Operand → ℤ) → own_latencies (blocks f l) + chain f (leads_to value (blocks f l).next) ≤ chain f l
+  pub bounded : (f l : ℕ) → chain f l ≤ 32 * weight
+
+-- FOLLOWING: code that follows its thread for ever is lowered code, with 64 times (the weight and 1) changes for each step
+abbrev pub FollowersAreLowered : {Local State : Type 0} → Source ℤ Local State → (Memory ℤ → Type 0) → Type 0
+FollowersAreLowered {State = State} P Typed =
+    (blocks : ℕ → ℕ → Block) (plans : ℕ → ℕ → Plan) (chain : ℕ → ℕ → ℕ) (weight : ℕ) → ((s : State) → Reachable P s → Typed (P.memory s)) →
+    ((f l : ℕ) → IsOrdered (blocks f l)) → AreChains blocks plans chain weight →
+    IsLowered P (code_of blocks plans chain) (λ x f l variables arrays. FollowsOn P (blocks f) Typed x l variables arrays) (64 * (weight + 1))

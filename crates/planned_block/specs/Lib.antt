@@ -1,0 +1,14 @@
+pub mod Block
+pub mod Run
+pub mod Plan
+pub mod Table
+pub mod Slot
+pub mod Advance
+pub mod Closed
+pub mod Law
+pub mod InFlight
+pub mod Hardware
+pub mod Net
+pub mod Headline
+pub mod Following
+pub mod Example

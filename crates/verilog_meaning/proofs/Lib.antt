@@ -1,0 +1,3 @@
+pub mod Ranked
+pub mod Operands
+pub mod Settling

@@ -1,0 +1,5 @@
+pub mod Readings
+pub mod Names
+pub mod Cycles
+pub mod Threads
+pub mod Follows

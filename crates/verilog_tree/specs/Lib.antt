@@ -1,0 +1,8 @@
+pub mod Spelling
+pub mod Tokens
+pub mod Grammar
+pub mod Reads
+pub mod Scope
+pub mod Rules
+pub mod Facts
+pub mod WellFormed

@@ -1,0 +1,247 @@
+// The tree of a text: each part of it is one phrase of the grammar, and the parts stand in the text's order.
+
+use crate::name::{Identifier, Quoted};
+use sqlite_items::Items;
+
+/// `width'd value`, or `width'sd value` (IEEE 1364-2005, 3.5.1).
+#[derive(Clone, Copy, Debug, PartialEq, Eq)]
+pub struct Constant {
+    pub width: u64,
+    pub value: u64,
+}
+
+/// An operator between two names that reads both as numbers from 0.
+#[derive(Clone, Copy, Debug, PartialEq, Eq)]
+pub enum BinaryOperator {
+    Add,
+    Subtract,
+    Multiply,
+    And,
+    Or,
+    Xor,
+    Equal,
+    Less,
+    ShiftLeft,
+    ShiftRight,
+}
+
+/// The operator of a guarded division.
+#[derive(Clone, Copy, Debug, PartialEq, Eq)]
+pub enum DivisionOperator {
+    Quotient,
+    Remainder,
+}
+
+/// The right side of a continuous assignment (IEEE 1364-2005, 5.1).
+#[derive(Debug, Drop)]
+pub enum Expression {
+    /// `of`
+    Copy(Identifier),
+    /// `width'd value`
+    Constant(Constant),
+    /// `~of`
+    BitwiseNot(Identifier),
+    /// `left operator right`
+    Binary {
+        operator: BinaryOperator,
+        left: Identifier,
+        right: Identifier,
+    },
+    /// `$signed(left) < $signed(right)`
+    SignedLess {
+        left: Identifier,
+        right: Identifier,
+    },
+    /// `$signed(left) >>> right`
+    ArithmeticShiftRight {
+        left: Identifier,
+        right: Identifier,
+    },
+    /// `condition ? if_true : if_false`
+    Conditional {
+        condition: Identifier,
+        if_true: Identifier,
+        if_false: Identifier,
+    },
+    /// `(tested == zero) ? guarded : left operator right`
+    Division {
+        tested: Identifier,
+        zero: Constant,
+        guarded: Constant,
+        operator: DivisionOperator,
+        left: Identifier,
+        right: Identifier,
+    },
+    /// `(tested == zero) ? guarded : $signed(left) operator $signed(right)`, where `guarded` has `'sd`
+    SignedDivision {
+        tested: Identifier,
+        zero: Constant,
+        guarded: Constant,
+        operator: DivisionOperator,
+        left: Identifier,
+        right: Identifier,
+    },
+    /// `(tested < bound) ? memory[address] : guarded`
+    MemoryRead {
+        tested: Identifier,
+        bound: Constant,
+        memory: Identifier,
+        address: Identifier,
+        guarded: Constant,
+    },
+    /// `of[bit]`
+    BitSelect {
+        of: Identifier,
+        bit: u64,
+    },
+    /// `of[high:low]`
+    PartSelect {
+        of: Identifier,
+        high: u64,
+        low: u64,
+    },
+    /// `{part, part}`, the first part with the highest bits
+    Concatenation(Items<Identifier>),
+    /// `{count{of}}`
+    Replication {
+        count: u64,
+        of: Identifier,
+    },
+}
+
+#[derive(Clone, Copy, Debug, PartialEq, Eq)]
+pub enum Direction {
+    Input,
+    Output,
+}
+
+/// `input wire [high:0] name`; without `high` there is no range.
+#[derive(Debug, Drop)]
+pub struct Port {
+    pub direction: Direction,
+    pub high: Option<u64>,
+    pub name: Identifier,
+}
+
+/// `name = value;` for a register, or `name[word] = value;` for a word of a memory.
+#[derive(Debug, Drop)]
+pub struct InitialConstant {
+    pub name: Identifier,
+    pub word: Option<u64>,
+    pub value: Constant,
+}
+
+/// A value of `$write`: `name`, or `$signed(name)`.
+#[derive(Debug, Drop)]
+pub enum WriteArgument {
+    Unsigned(Identifier),
+    Signed(Identifier),
+}
+
+/// A statement of an always block.
+#[derive(Debug, Drop)]
+pub enum Statement {
+    /// `register <= source;`
+    Set {
+        register: Identifier,
+        source: Identifier,
+    },
+    /// `memory[address] <= source;`
+    Store {
+        memory: Identifier,
+        address: Identifier,
+        source: Identifier,
+    },
+    /// `if (condition) begin .. end`
+    If {
+        condition: Identifier,
+        body: Items<Statement>,
+    },
+    /// `$write("text", argument, argument);`
+    Write {
+        text: Quoted,
+        arguments: Items<WriteArgument>,
+    },
+}
+
+/// `.port(signal)`
+#[derive(Debug, Drop)]
+pub struct Connection {
+    pub port: Identifier,
+    pub signal: Identifier,
+}
+
+/// `wire [high:0] name;`
+#[derive(Debug, Drop)]
+pub struct Wire {
+    pub high: Option<u64>,
+    pub name: Identifier,
+}
+
+/// `reg [high:0] name;`
+#[derive(Debug, Drop)]
+pub struct Register {
+    pub high: Option<u64>,
+    pub name: Identifier,
+}
+
+/// `reg [high:0] name [0:last];`
+#[derive(Debug, Drop)]
+pub struct Memory {
+    pub high: u64,
+    pub name: Identifier,
+    pub last: u64,
+}
+
+/// `assign target = value;`
+#[derive(Debug, Drop)]
+pub struct Assign {
+    pub target: Identifier,
+    pub value: Expression,
+}
+
+/// `initial begin .. end`
+#[derive(Debug, Drop)]
+pub struct Initial {
+    pub constants: Items<InitialConstant>,
+}
+
+/// `always @(posedge clk) begin .. end`
+#[derive(Debug, Drop)]
+pub struct Always {
+    pub body: Items<Statement>,
+}
+
+/// `module_name name (.port(signal), .port(signal));`
+#[derive(Debug, Drop)]
+pub struct Instance {
+    pub module_name: Identifier,
+    pub name: Identifier,
+    pub connections: Items<Connection>,
+}
+
+/// An item of a module.
+#[derive(Debug, Drop)]
+pub enum Item {
+    Wire(Wire),
+    Register(Register),
+    Memory(Memory),
+    Assign(Assign),
+    Initial(Initial),
+    Always(Always),
+    Instance(Instance),
+}
+
+/// `module name (port, port); item item endmodule`
+#[derive(Debug, Drop)]
+pub struct Module {
+    pub name: Identifier,
+    pub ports: Items<Port>,
+    pub items: Items<Item>,
+}
+
+/// The modules of a text. A text reads as at most one net.
+#[derive(Debug, Drop)]
+pub struct Net {
+    pub modules: Items<Module>,
+}

@@ -1,0 +1,418 @@
+// Statements, items, modules and nets.
+
+ghost use Rattle.std.specs.Prelude.{◌≡◌, ◌++◌, OnOk};
+ghost use Rattle.verilog_tree.specs.Grammar as g;
+ghost use Rattle.verilog_tree.specs.declared.token.Mark.TheVariants as m;
+ghost use Rattle.verilog_tree.specs.declared.token.Word.TheVariants as w;
+ghost use Rattle.verilog_tree.specs.declared.tree.Item.TheVariants as i;
+ghost use Rattle.verilog_writer.specs.Layout.{put_all, AllTokens};
+
+use crate::expressions::{constant, expression, signed};
+use crate::text::Text;
+use std::alloc::AllocError;
+use verilog_tree::name::{Identifier, Quoted};
+use verilog_tree::token::{Mark, Word};
+use verilog_tree::tree::{
+    Always, Assign, Connection, Direction, Initial, InitialConstant, Instance, Item, Memory,
+    Module, Net, Port, Register, Statement, Wire, WriteArgument,
+};
+
+fn range(out: &mut Text, high: Option<u64>) -> Result<(), AllocError>
+    ensures text { OnOk result (out.new ≡ put_all out.old (g.range high)) }
+    ensures tokens { OnOk result (AllTokens (g.range high)) }
+{
+    match high {
+        None => Ok(()),
+        Some(high) => {
+            out.mark(Mark::OpenSquare)?;
+            out.number(high)?;
+            out.mark(Mark::Colon)?;
+            out.number(0)?;
+            out.mark(Mark::CloseSquare)
+        }
+    }
+}
+
+fn direction(out: &mut Text, direction: Direction) -> Result<(), AllocError>
+    ensures text { OnOk result (out.new ≡ put_all out.old (g.direction direction)) }
+    ensures tokens { OnOk result (AllTokens (g.direction direction)) }
+{
+    match direction {
+        Direction::Input => out.word(Word::Input),
+        Direction::Output => out.word(Word::Output),
+    }
+}
+
+#[tactic(auto, using(crate::proofs::Laying::put_all_append, crate::proofs::Laying::all_tokens_append))]
+fn port(out: &mut Text, port: &Port) -> Result<(), AllocError>
+    ensures text { OnOk result (out.new ≡ put_all out.old (g.port port.now)) }
+    ensures tokens { OnOk result (AllTokens (g.port port.now)) }
+{
+    direction(out, port.direction)?;
+    out.word(Word::Wire)?;
+    range(out, port.high)?;
+    out.name(&port.name)
+}
+
+fn connection(out: &mut Text, connection: &Connection) -> Result<(), AllocError>
+    ensures text { OnOk result (out.new ≡ put_all out.old (g.connection connection.now)) }
+    ensures tokens { OnOk result (AllTokens (g.connection connection.now)) }
+{
+    out.mark(Mark::Dot)?;
+    out.name(&connection.port)?;
+    out.mark(Mark::OpenRound)?;
+    out.name(&connection.signal)?;
+    out.mark(Mark::CloseRound)
+}
+
+fn argument(out: &mut Text, argument: &WriteArgument) -> Result<(), AllocError>
+    ensures text { OnOk result (out.new ≡ put_all out.old (g.argument argument.now)) }
+    ensures tokens { OnOk result (AllTokens (g.argument argument.now)) }
+{
+    match argument {
+        WriteArgument::Unsigned(name) => out.name(name),
+        WriteArgument::Signed(name) => signed(out, name),
+    }
+}
+
+fn more_ports(out: &mut Text, ports: &[Port]) -> Result<(), AllocError>
+    ensures text { OnOk result (out.new ≡ put_all out.old (g.more g.port ports.now)) }
+    ensures tokens { OnOk result (AllTokens (g.more g.port ports.now)) }
+{
+    for one in ports {
+        out.mark(Mark::Comma)?;
+        port(out, one)?;
+    }
+    Ok(())
+}
+
+#[tactic(auto, using(crate::proofs::Laying::put_all_append, crate::proofs::Laying::all_tokens_append))]
+fn ports(out: &mut Text, ports: &[Port]) -> Result<(), AllocError>
+    ensures text { OnOk result (out.new ≡ put_all out.old (g.commas g.port ports.now)) }
+    ensures tokens { OnOk result (AllTokens (g.commas g.port ports.now)) }
+{
+    match ports {
+        [] => Ok(()),
+        [first, rest @ ..] => {
+            port(out, first)?;
+            more_ports(out, rest)
+        }
+    }
+}
+
+fn more_connections(out: &mut Text, connections: &[Connection]) -> Result<(), AllocError>
+    ensures text { OnOk result (out.new ≡ put_all out.old (g.more g.connection connections.now)) }
+    ensures tokens { OnOk result (AllTokens (g.more g.connection connections.now)) }
+{
+    for one in connections {
+        out.mark(Mark::Comma)?;
+        connection(out, one)?;
+    }
+    Ok(())
+}
+
+#[tactic(auto, using(crate::proofs::Laying::put_all_append, crate::proofs::Laying::all_tokens_append))]
+fn connections(out: &mut Text, connections: &[Connection]) -> Result<(), AllocError>
+    ensures text { OnOk result (out.new ≡ put_all out.old (g.commas g.connection connections.now)) }
+    ensures tokens { OnOk result (AllTokens (g.commas g.connection connections.now)) }
+{
+    match connections {
+        [] => Ok(()),
+        [first, rest @ ..] => {
+            connection(out, first)?;
+            more_connections(out, rest)
+        }
+    }
+}
+
+fn more_arguments(out: &mut Text, arguments: &[WriteArgument]) -> Result<(), AllocError>
+    ensures text { OnOk result (out.new ≡ put_all out.old (g.more g.argument arguments.now)) }
+    ensures tokens { OnOk result (AllTokens (g.more g.argument arguments.now)) }
+{
+    for one in arguments {
+        out.mark(Mark::Comma)?;
+        argument(out, one)?;
+    }
+    Ok(())
+}
+
+fn index(out: &mut Text, word: Option<u64>) -> Result<(), AllocError>
+    ensures text { OnOk result (out.new ≡ put_all out.old (g.index word)) }
+    ensures tokens { OnOk result (AllTokens (g.index word)) }
+{
+    match word {
+        None => Ok(()),
+        Some(word) => {
+            out.mark(Mark::OpenSquare)?;
+            out.number(word)?;
+            out.mark(Mark::CloseSquare)
+        }
+    }
+}
+
+#[tactic(auto, using(crate::proofs::Laying::put_all_append, crate::proofs::Laying::all_tokens_append))]
+fn initial_constant(out: &mut Text, initial: &InitialConstant) -> Result<(), AllocError>
+    ensures text { OnOk result (out.new ≡ put_all out.old (g.initial_constant initial.now)) }
+    ensures tokens { OnOk result (AllTokens (g.initial_constant initial.now)) }
+{
+    out.name(&initial.name)?;
+    index(out, initial.word)?;
+    out.mark(Mark::Equal)?;
+    constant(out, initial.value)?;
+    out.mark(Mark::Semicolon)
+}
+
+fn constants(out: &mut Text, constants: &[InitialConstant]) -> Result<(), AllocError>
+    ensures text { OnOk result (out.new ≡ put_all out.old (g.all g.initial_constant constants.now)) }
+    ensures tokens { OnOk result (AllTokens (g.all g.initial_constant constants.now)) }
+{
+    for one in constants {
+        initial_constant(out, one)?;
+    }
+    Ok(())
+}
+
+fn set(out: &mut Text, register: &Identifier, source: &Identifier) -> Result<(), AllocError>
+    ensures text { OnOk result (out.new ≡ put_all out.old (g.set register.now source.now)) }
+    ensures tokens { OnOk result (AllTokens (g.set register.now source.now)) }
+{
+    out.name(register)?;
+    out.mark(Mark::LessEqual)?;
+    out.name(source)?;
+    out.mark(Mark::Semicolon)
+}
+
+fn store(
+    out: &mut Text,
+    memory: &Identifier,
+    address: &Identifier,
+    source: &Identifier,
+) -> Result<(), AllocError>
+    ensures text { OnOk result (out.new ≡ put_all out.old (g.store memory.now address.now source.now)) }
+    ensures tokens { OnOk result (AllTokens (g.store memory.now address.now source.now)) }
+{
+    out.name(memory)?;
+    out.mark(Mark::OpenSquare)?;
+    out.name(address)?;
+    out.mark(Mark::CloseSquare)?;
+    out.mark(Mark::LessEqual)?;
+    out.name(source)?;
+    out.mark(Mark::Semicolon)
+}
+
+/// `$write("text", argument, argument);`
+#[tactic(auto, using(crate::proofs::Laying::put_all_append, crate::proofs::Laying::all_tokens_append))]
+fn system_write(
+    out: &mut Text,
+    text: &Quoted,
+    arguments: &[WriteArgument],
+) -> Result<(), AllocError>
+    ensures text { OnOk result (out.new ≡ put_all out.old (g.write text.now arguments.now)) }
+    ensures tokens { OnOk result (AllTokens (g.write text.now arguments.now)) }
+{
+    out.mark(Mark::Write)?;
+    out.mark(Mark::OpenRound)?;
+    out.quoted(text)?;
+    more_arguments(out, arguments)?;
+    out.mark(Mark::CloseRound)?;
+    out.mark(Mark::Semicolon)
+}
+
+#[tactic(auto, using(verilog_tree::proofs::Trees::statement_set, verilog_tree::proofs::Trees::statement_store, verilog_tree::proofs::Trees::statement_write, verilog_tree::proofs::Trees::statement_if))]
+#[cycle(statements)]
+fn statement(out: &mut Text, statement: &Statement) -> Result<(), AllocError>
+    ensures text { OnOk result (out.new ≡ put_all out.old (g.statement statement.now)) }
+    ensures tokens { OnOk result (AllTokens (g.statement statement.now)) }
+{
+    match statement {
+        Statement::Set { register, source } => set(out, register, source),
+        Statement::Store {
+            memory,
+            address,
+            source,
+        } => store(out, memory, address, source),
+        Statement::If { condition, body } => conditional(out, condition, body.as_slice()),
+        Statement::Write { text, arguments } => system_write(out, text, arguments.as_slice()),
+    }
+}
+
+/// `if (condition) begin .. end`
+#[tactic(auto, using(crate::proofs::Laying::put_all_append, crate::proofs::Laying::all_tokens_append))]
+#[cycle(statements)]
+fn conditional(out: &mut Text, condition: &Identifier, body: &[Statement]) -> Result<(), AllocError>
+    ensures text { OnOk result (out.new ≡ put_all out.old (g.conditional condition.now (g.all g.statement body.now))) }
+    ensures tokens { OnOk result (AllTokens (g.conditional condition.now (g.all g.statement body.now))) }
+{
+    out.word(Word::If)?;
+    out.mark(Mark::OpenRound)?;
+    out.name(condition)?;
+    out.mark(Mark::CloseRound)?;
+    out.word(Word::Begin)?;
+    statements(out, body)?;
+    out.word(Word::End)
+}
+
+#[cycle(statements)]
+fn statements(out: &mut Text, statements: &[Statement]) -> Result<(), AllocError>
+    ensures text { OnOk result (out.new ≡ put_all out.old (g.all g.statement statements.now)) }
+    ensures tokens { OnOk result (AllTokens (g.all g.statement statements.now)) }
+{
+    for one in statements {
+        statement(out, one)?;
+    }
+    Ok(())
+}
+
+#[tactic(auto, using(crate::proofs::Laying::put_all_append, crate::proofs::Laying::all_tokens_append))]
+fn wire(out: &mut Text, wire: &Wire) -> Result<(), AllocError>
+    ensures text { OnOk result (out.new ≡ put_all out.old (g.item (i.Wire wire.now))) }
+    ensures tokens { OnOk result (AllTokens (g.item (i.Wire wire.now))) }
+{
+    out.word(Word::Wire)?;
+    range(out, wire.high)?;
+    out.name(&wire.name)?;
+    out.mark(Mark::Semicolon)
+}
+
+#[tactic(auto, using(crate::proofs::Laying::put_all_append, crate::proofs::Laying::all_tokens_append))]
+fn register(out: &mut Text, register: &Register) -> Result<(), AllocError>
+    ensures text { OnOk result (out.new ≡ put_all out.old (g.item (i.Register register.now))) }
+    ensures tokens { OnOk result (AllTokens (g.item (i.Register register.now))) }
+{
+    out.word(Word::Reg)?;
+    range(out, register.high)?;
+    out.name(&register.name)?;
+    out.mark(Mark::Semicolon)
+}
+
+#[tactic(auto, using(crate::proofs::Laying::put_all_append, crate::proofs::Laying::all_tokens_append))]
+fn memory(out: &mut Text, memory: &Memory) -> Result<(), AllocError>
+    ensures text { OnOk result (out.new ≡ put_all out.old (g.item (i.Memory memory.now))) }
+    ensures tokens { OnOk result (AllTokens (g.item (i.Memory memory.now))) }
+{
+    out.word(Word::Reg)?;
+    range(out, Some(memory.high))?;
+    out.name(&memory.name)?;
+    out.mark(Mark::OpenSquare)?;
+    out.number(0)?;
+    out.mark(Mark::Colon)?;
+    out.number(memory.last)?;
+    out.mark(Mark::CloseSquare)?;
+    out.mark(Mark::Semicolon)
+}
+
+#[tactic(auto, using(crate::proofs::Laying::put_all_append, crate::proofs::Laying::all_tokens_append))]
+fn assign(out: &mut Text, assign: &Assign) -> Result<(), AllocError>
+    ensures text { OnOk result (out.new ≡ put_all out.old (g.item (i.Assign assign.now))) }
+    ensures tokens { OnOk result (AllTokens (g.item (i.Assign assign.now))) }
+{
+    out.word(Word::Assign)?;
+    out.name(&assign.target)?;
+    out.mark(Mark::Equal)?;
+    expression(out, &assign.value)?;
+    out.mark(Mark::Semicolon)
+}
+
+#[tactic(auto, using(crate::proofs::Laying::put_all_append, crate::proofs::Laying::all_tokens_append))]
+fn initial(out: &mut Text, initial: &Initial) -> Result<(), AllocError>
+    ensures text { OnOk result (out.new ≡ put_all out.old (g.item (i.Initial initial.now))) }
+    ensures tokens { OnOk result (AllTokens (g.item (i.Initial initial.now))) }
+{
+    out.word(Word::Initial)?;
+    out.word(Word::Begin)?;
+    constants(out, initial.constants.as_slice())?;
+    out.word(Word::End)
+}
+
+/// `always @(posedge clk)`
+fn clock_edge(out: &mut Text) -> Result<(), AllocError>
+    ensures text { OnOk result (out.new ≡ put_all out.old (g.word w.Always ++ g.mark m.At ++ g.mark m.OpenRound ++ g.word w.PosEdge ++ g.name g.clk ++ g.mark m.CloseRound)) }
+{
+    out.word(Word::Always)?;
+    out.mark(Mark::At)?;
+    out.mark(Mark::OpenRound)?;
+    out.word(Word::PosEdge)?;
+    out.clock()?;
+    out.mark(Mark::CloseRound)
+}
+
+#[tactic(auto, using(crate::proofs::Laying::put_all_append, crate::proofs::Laying::all_tokens_append))]
+fn always(out: &mut Text, always: &Always) -> Result<(), AllocError>
+    ensures text { OnOk result (out.new ≡ put_all out.old (g.item (i.Always always.now))) }
+    ensures tokens { OnOk result (AllTokens (g.item (i.Always always.now))) }
+{
+    clock_edge(out)?;
+    out.word(Word::Begin)?;
+    statements(out, always.body.as_slice())?;
+    out.word(Word::End)
+}
+
+#[tactic(auto, using(crate::proofs::Laying::put_all_append, crate::proofs::Laying::all_tokens_append))]
+fn instance(out: &mut Text, instance: &Instance) -> Result<(), AllocError>
+    ensures text { OnOk result (out.new ≡ put_all out.old (g.item (i.Instance instance.now))) }
+    ensures tokens { OnOk result (AllTokens (g.item (i.Instance instance.now))) }
+{
+    out.name(&instance.module_name)?;
+    out.name(&instance.name)?;
+    out.mark(Mark::OpenRound)?;
+    connections(out, instance.connections.as_slice())?;
+    out.mark(Mark::CloseRound)?;
+    out.mark(Mark::Semicolon)
+}
+
+fn item(out: &mut Text, item: &Item) -> Result<(), AllocError>
+    ensures text { OnOk result (out.new ≡ put_all out.old (g.item item.now)) }
+    ensures tokens { OnOk result (AllTokens (g.item item.now)) }
+{
+    match item {
+        Item::Wire(item) => wire(out, item),
+        Item::Register(item) => register(out, item),
+        Item::Memory(item) => memory(out, item),
+        Item::Assign(item) => assign(out, item),
+        Item::Initial(item) => initial(out, item),
+        Item::Always(item) => always(out, item),
+        Item::Instance(item) => instance(out, item),
+    }
+}
+
+fn items(out: &mut Text, items: &[Item]) -> Result<(), AllocError>
+    ensures text { OnOk result (out.new ≡ put_all out.old (g.all g.item items.now)) }
+    ensures tokens { OnOk result (AllTokens (g.all g.item items.now)) }
+{
+    for one in items {
+        item(out, one)?;
+    }
+    Ok(())
+}
+
+#[tactic(auto, using(crate::proofs::Laying::put_all_append, crate::proofs::Laying::all_tokens_append))]
+fn one_module(out: &mut Text, one: &Module) -> Result<(), AllocError>
+    ensures text { OnOk result (out.new ≡ put_all out.old (g.module_tokens one.now)) }
+    ensures tokens { OnOk result (AllTokens (g.module_tokens one.now)) }
+{
+    out.word(Word::Module)?;
+    out.name(&one.name)?;
+    out.mark(Mark::OpenRound)?;
+    ports(out, one.ports.as_slice())?;
+    out.mark(Mark::CloseRound)?;
+    out.mark(Mark::Semicolon)?;
+    items(out, one.items.as_slice())?;
+    out.word(Word::EndModule)
+}
+
+fn modules(out: &mut Text, modules: &[Module]) -> Result<(), AllocError>
+    ensures text { OnOk result (out.new ≡ put_all out.old (g.all g.module_tokens modules.now)) }
+    ensures tokens { OnOk result (AllTokens (g.all g.module_tokens modules.now)) }
+{
+    for one in modules {
+        one_module(out, one)?;
+    }
+    Ok(())
+}
+
+pub fn net(out: &mut Text, net: &Net) -> Result<(), AllocError>
+    ensures text { OnOk result (out.new ≡ put_all out.old (g.net net.now)) }
+    ensures tokens { OnOk result (AllTokens (g.net net.now)) }
+{
+    modules(out, net.modules.as_slice())
+}
