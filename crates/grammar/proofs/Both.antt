@@ -132,14 +132,14 @@ module _ {T : Type 0} where
     second at room ts mid done a lt e cut h low dead (Err (Syntax rest)) k =
         (done ++ k.0, joined_cut ts mid done k.0 rest cut k.1, starts_on (before.whole (omega arith)) at done k.0 a h k.2, within-append (at + room) done k.0 low k.3,
          joined_dead at done k.0 rest (ok_dead at room ts (plain done) mid (plain k.0) rest a lt e cut dead k.1 k.4))
-    second at room ts mid done a lt e cut h low dead (Err (Deep rest)) k =
+    second at room ts mid done a lt e cut h low dead (Err (Deep above rest)) k =
         let begun = starts_on (before.whole (omega arith)) at done (k.0 ++ ((k.1, k.2) ∷ [])) a h k.6 in
         (done ++ k.0, k.1, k.2, k.3, k.4, joined_cut ts mid done k.0 rest cut k.5, subst (Starts Joined at) (sym (append_assoc done k.0 ((k.1, k.2) ∷ []))) begun, within-append (at + room) done k.0 low k.7, k.8)
 
     first_then : (at room : ℕ) (ts : List T) → length ts < n → (r : Reading T A) → p room ts ≡ r → Answers P at (at + room) ts r → Answers Joined at (at + room) ts (and_then r (λ a. q a room))
     first_then at room ts lt (Ok x) e k = second at room ts x.1 k.0 x.0 lt e k.1 k.2 k.3 k.4 (q x.0 room x.1) ((after x.0).sound at room x.1 (fits room ts x lt e))
     first_then at room ts lt (Err (Syntax rest)) e k = (k.0, k.1, starts_first (before.whole (omega arith)) at k.0 k.2, k.3, err_dead at room ts (plain k.0) rest lt e k.1 k.4)
-    first_then at room ts lt (Err (Deep rest)) e k = (k.0, k.1, k.2, k.3, k.4, k.5, starts_first (before.whole (omega arith)) at (k.0 ++ ((k.1, k.2) ∷ [])) k.6, k.7, k.8)
+    first_then at room ts lt (Err (Deep above rest)) e k = (k.0, k.1, k.2, k.3, k.4, k.5, starts_first (before.whole (omega arith)) at (k.0 ++ ((k.1, k.2) ∷ [])) k.6, k.7, k.8)
 
     avoids_back : (depth at : ℕ) → D depth → (a : A) (back : List (Placed T)) (rest : List T) (v : B) → Q a depth at back v → Avoids (Last v) rest → Avoids (last a) (plain back ++ rest)
     avoids_back depth at dd a [] rest v h av = avoids_wider (last a) (Last v) (λ t e. early_in a depth at v t ((after a).empty depth at dd v h) h e) rest av
@@ -164,7 +164,7 @@ module _ {T : Type 0} where
     both_stable room ts lt (Err (Syntax rest)) e calm =
         let same : p (suc room) ts ≡ Err (Syntax rest) = before.stable room ts lt (subst Calm (sym e) tt) ∙ e in
         ap (λ r. and_then r (λ a. q a (suc room))) same
-    both_stable room ts lt (Err (Deep rest)) e calm = absurd calm
+    both_stable room ts lt (Err (Deep above rest)) e calm = absurd calm
 
     -- what the second rule takes is shorter than m
     back_short : (depth at : ℕ) (front back : List (Placed T)) (a : A) (v : B) → length (front ++ back) < n → P depth at front a → Q a depth at back v → length back < m

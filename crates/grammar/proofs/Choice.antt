@@ -5,7 +5,7 @@ use Rattle.grammar.specs.Rules.{Placed, Rule, Family, pure, one, ◌>>=◌, ◌<
 use Rattle.grammar.specs.Sentences.{plain, Within, Spelled, Starts}
 use Rattle.grammar.specs.Readers.{Stop, Syntax, Deep, Reading, Reader, sees, sees_all, reads_pure, reads_when, reads_either, reads_optional}
 use Rattle.grammar.proofs.Lists.{false_true, or_left, or_right, or_cases, and_both, and_parts, true_or_not, not_true, append_nil, plain-append, Agrees, agrees-sym}
-use Rattle.grammar.proofs.Good.{Reads, Answers, Dead, Avoids, Calm, Begun, ◌∘>◌, avoids_wider}
+use Rattle.grammar.proofs.Good.{Reads, Answers, Dead, Avoids, Calm, Begun, ◌∘>◌, avoids_wider, deeper_by}
 use Rattle.grammar.proofs.Parts.{if_so, gives, or_nothing, resize, same_rule, reads_nothing, ends}
 
 not_not : (b : Bool) → not b ≡ true → b ≡ true → ⊥
@@ -55,12 +55,12 @@ module _ {T : Type 0} where
     left_answers : 0 < n → (at limit : ℕ) (ts : List T) → test ts ≡ true → (r : Reading T A) → Answers P at limit ts r → Answers Either at limit ts r
     left_answers lt at limit ts e (Ok x) k = (k.0, k.1, (k.2.0, inl k.2.1), k.3, left_dead lt at ts (plain k.0) x.1 e k.1 k.4)
     left_answers lt at limit ts e (Err (Syntax rest)) k = (k.0, k.1, (k.2.0, k.2.1, (k.2.2.0, inl k.2.2.1)), k.3, left_dead lt at ts (plain k.0) rest e k.1 k.4)
-    left_answers lt at limit ts e (Err (Deep rest)) k = (k.0, k.1, k.2, k.3, k.4, k.5, (k.6.0, k.6.1, (k.6.2.0, inl k.6.2.1)), k.7, k.8)
+    left_answers lt at limit ts e (Err (Deep above rest)) k = (k.0, k.1, k.2, k.3, k.4, k.5, (k.6.0, k.6.1, (k.6.2.0, inl k.6.2.1)), k.7, k.8)
 
     right_answers : 0 < n → (at limit : ℕ) (ts : List T) → test ts ≡ false → (r : Reading T A) → Answers Q at limit ts r → Answers Either at limit ts r
     right_answers lt at limit ts e (Ok x) k = (k.0, k.1, (k.2.0, inr k.2.1), k.3, right_dead lt at ts (plain k.0) x.1 e k.1 k.4)
     right_answers lt at limit ts e (Err (Syntax rest)) k = (k.0, k.1, (k.2.0, k.2.1, (k.2.2.0, inr k.2.2.1)), k.3, right_dead lt at ts (plain k.0) rest e k.1 k.4)
-    right_answers lt at limit ts e (Err (Deep rest)) k = (k.0, k.1, k.2, k.3, k.4, k.5, (k.6.0, k.6.1, (k.6.2.0, inr k.6.2.1)), k.7, k.8)
+    right_answers lt at limit ts e (Err (Deep above rest)) k = (k.0, k.1, k.2, k.3, k.4, k.5, (k.6.0, k.6.1, (k.6.2.0, inr k.6.2.1)), k.7, k.8)
 
     abbrev chosen : Bool → ℕ → Reader T A
     chosen b room ts = if b then p room ts else q room ts
@@ -368,6 +368,34 @@ module _ {T : Type 0} where
         (λ all depth at w rest v h av. departs_not (f ∷ g ∷ []) (plain w) rest (others all depth at w v h).0)
         (λ all depth at w v h. (others all depth at w v h).1)
         (common_of left left_first) (common_of right right_first)
+
+  -- ---- what starts a sentence, token by token, for the common beginnings of two alternatives
+
+  pub start_none : {D : ℕ → Type 0} {A : Type 0} {n : ℕ} {P : Family T A} {p : ℕ → Reader T A} {first : T → Bool} {last : A → T → Bool} {null : Bool} → Reads D n P p first last null → 0 < n → (at : ℕ) → StartsPlain P at []
+  start_none good lt at = let k = good.inhabited (good.whole lt) at in (k.2.0, k.0, plain k.0, k.1, refl, k.2.1)
+
+  pub start_begun : {D : ℕ → Type 0} {A : Type 0} {n : ℕ} {P : Family T A} {p : ℕ → Reader T A} {first : T → Bool} {last : A → T → Bool} {null : Bool} → Reads D n P p first last null → 0 < n → (at : ℕ) (t : T) → first t ≡ true → StartsPlain P at (t ∷ [])
+  start_begun good lt at t e = let k = good.begun lt at t e in (k.4.0, (t, k.0) ∷ k.1, plain k.1, k.2, refl, k.4.1)
+
+  pub start_one : {A B : Type 0} (f : T → Option A) (Q : A → Family T B) (at : ℕ) (t : T) (a : A) (x : List T) → f t ≡ Some a → StartsPlain (Q a) at x → StartsPlain ((λ depth. one f) ∘> Q) at (t ∷ x)
+  start_one f Q at t a x e k = (k.0, (t, at) ∷ k.1, k.2, k.3, ap (λ l. t ∷ l) k.4, (a, (t, at) ∷ [], k.1, refl, (t, refl, e), k.5))
+
+  pub start_both : {D : ℕ → Type 0} {A B : Type 0} {n m : ℕ} {P : Family T A} {Q : A → Family T B} {p : ℕ → Reader T A} {q : A → ℕ → Reader T B} {first : T → Bool} {last : A → T → Bool} {first' : A → T → Bool} {last' : B → T → Bool} {null null' : Bool}
+      → Reads D n P p first last null → ((a : A) → Reads D m (Q a) (q a) (first' a) last' null') → 0 < n → (at : ℕ) (x : List T) → StartsPlain P at x → StartsPlain (P ∘> Q) at x
+  start_both {P = P} {Q = Q} before after lt at x k =
+      let all = before.whole lt in
+      let some = (after k.3).inhabited all at in
+      let ph : P (some.2.0 + k.0) at k.1 k.3 = deeper_by before all some.2.0 k.0 at k.1 k.3 k.5 in
+      let qh : Q k.3 (k.0 + some.2.0) at some.0 some.1 = deeper_by (after k.3) all k.0 some.2.0 at some.0 some.1 some.2.1 in
+      let same : k.0 + some.2.0 ≡ some.2.0 + k.0 = omega arith in
+      (some.2.0 + k.0, k.1 ++ some.0, k.2 ++ plain some.0, some.1, plain-append k.1 some.0 ∙ ap (λ l. l ++ plain some.0) k.4 ∙ append_assoc x k.2 (plain some.0),
+       (k.3, k.1, some.0, refl, ph, subst (λ d. Q k.3 d at some.0 some.1) same qh))
+
+  pub start_left : {A : Type 0} (P Q : Family T A) (at : ℕ) (x : List T) → StartsPlain P at x → StartsPlain (P <∘> Q) at x
+  start_left P Q at x k = (k.0, k.1, k.2, k.3, k.4, inl k.5)
+
+  pub start_right : {A : Type 0} (P Q : Family T A) (at : ℕ) (x : List T) → StartsPlain Q at x → StartsPlain (P <∘> Q) at x
+  start_right P Q at x k = (k.0, k.1, k.2, k.3, k.4, inr k.5)
 
   -- ---- the same alternatives in the other order
 

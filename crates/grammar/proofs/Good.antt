@@ -27,14 +27,14 @@ module _ {T : Type 0} where
   abbrev pub Answers : {A : Type 0} → Family T A → ℕ → ℕ → List T → Reading T A → Type 0
   Answers P at limit ts (Ok x) = (before : List (Placed T)) × (ts ≡ plain before ++ x.1) × Spelled P at before x.0 × Within limit before × Dead P at (plain before) x.1
   Answers P at limit ts (Err (Syntax rest)) = (before : List (Placed T)) × (ts ≡ plain before ++ rest) × Starts P at before × Within limit before × Dead P at (plain before) rest
-  Answers P at limit ts (Err (Deep rest)) =
-      (before : List (Placed T)) × (t : T) × (deep : ℕ) × (more : List T) × (rest ≡ t ∷ more) × (ts ≡ plain before ++ rest) × Starts P at (before ++ ((t, deep) ∷ [])) × Within limit before × (limit < deep)
+  Answers P at limit ts (Err (Deep above rest)) =
+      (before : List (Placed T)) × (t : T) × (deep : ℕ) × (more : List T) × (rest ≡ t ∷ more) × (ts ≡ plain before ++ rest) × Starts P at (before ++ ((t, deep) ∷ [])) × Within limit before × ((deep ≡ limit + above) × (limit < deep))
 
   -- not stopped by the nesting
   abbrev pub Calm : {A : Type 0} → Reading T A → Type 0
   Calm (Ok x) = Unit {0}
   Calm (Err (Syntax rest)) = Unit {0}
-  Calm (Err (Deep rest)) = ⊥
+  Calm (Err (Deep above rest)) = ⊥
 
   -- a sentence begins with the token
   abbrev pub Begun : {A : Type 0} → Family T A → ℕ → T → Type 0

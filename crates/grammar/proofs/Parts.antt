@@ -92,7 +92,7 @@ module _ {T : Type 0} where
       answers_same : (at limit : ℕ) (ts : List T) (r : Reading T A) → Answers P at limit ts r → Answers P' at limit ts r
       answers_same at limit ts (Ok x) k = (k.0, k.1, spelled_same at k.0 x.0 k.2, k.3, dead_same at (plain k.0) x.1 k.4)
       answers_same at limit ts (Err (Syntax rest)) k = (k.0, k.1, starts_same at k.0 k.2, k.3, dead_same at (plain k.0) rest k.4)
-      answers_same at limit ts (Err (Deep rest)) k = (k.0, k.1, k.2, k.3, k.4, k.5, starts_same at (k.0 ++ ((k.1, k.2) ∷ [])) k.6, k.7, k.8)
+      answers_same at limit ts (Err (Deep above rest)) k = (k.0, k.1, k.2, k.3, k.4, k.5, starts_same at (k.0 ++ ((k.1, k.2) ∷ [])) k.6, k.7, k.8)
 
       pub same_rule : Reads D n P' p first last null
       same_rule = record {

@@ -85,16 +85,18 @@ module _ {T : Type 0} where
         let same : rest' ≡ rest = cc in
         let calm : Calm reading = subst Calm (sym read) tt in
         fault_from k.0 rest (k.1 ∙ ap (λ l. plain k.0 ++ l) same) k.2 k.3 (subst (Dead P 0 (plain k.0)) same k.4) (λ none v h. let got = calm_whole v h calm in let clash : ⊥ = cc (got, read) in clash)
-    err_fault_from rest (Err (Deep rest')) read k e = cc
+    err_fault_from rest (Err (Deep above' rest')) read k e = cc
 
     pub err_fault : (rest : List T) → reading ≡ Err (Syntax rest) → FaultAt P limit ts (length ts - length rest)
     err_fault rest e = err_fault_from rest reading refl answers e
 
-    deep_from : (rest : List T) (r : Reading T A) → Answers P 0 limit ts r → r ≡ Err (Deep rest) → TooDeepAt P limit ts (length ts - length rest)
-    deep_from rest (Ok x) k e = cc
-    deep_from rest (Err (Syntax rest')) k e = cc
-    deep_from rest (Err (Deep rest')) k e =
+    deep_from : (above : ℕ) (rest : List T) (r : Reading T A) → Answers P 0 limit ts r → r ≡ Err (Deep above rest) → TooDeepAt P limit ts (length ts - length rest) (limit + above)
+    deep_from above rest (Ok x) k e = cc
+    deep_from above rest (Err (Syntax rest')) k e = cc
+    deep_from above rest (Err (Deep above' rest')) k e =
         let same : rest' ≡ rest = cc in
+        let levels : above' ≡ above = cc in
+        let count : k.2 ≡ limit + above = k.8.0 ∙ ap (λ a. limit + a) levels in
         let cut : ts ≡ plain k.0 ++ (k.1 ∷ k.3) = k.5 ∙ ap (λ l. plain k.0 ++ l) k.4 in
         let size : length rest ≡ suc (length k.3) = ap length (sym same ∙ k.4) in
         let at : length ts - length rest ≡ length (plain k.0) = omega (arith, ap length cut, length-append (plain k.0) (k.1 ∷ k.3), size) in
@@ -102,16 +104,15 @@ module _ {T : Type 0} where
         record {
           front = k.0;
           token = k.1;
-          nesting = k.2;
-          begun = k.6;
+          begun = subst (λ n. Starts P 0 (k.0 ++ ((k.1, n) ∷ []))) count k.6;
           place = sym (at ∙ length-plain k.0);
           is = sym (ap (λ j. take (j + 1) ts) at ∙ more);
           before = k.7;
-          deep = k.8;
+          deep = subst (λ n. limit < n) count k.8.1;
         }
 
-    pub err_deep : (rest : List T) → reading ≡ Err (Deep rest) → TooDeepAt P limit ts (length ts - length rest)
-    err_deep rest e = deep_from rest reading answers e
+    pub err_deep : (above : ℕ) (rest : List T) → reading ≡ Err (Deep above rest) → TooDeepAt P limit ts (length ts - length rest) (limit + above)
+    err_deep above rest e = deep_from above rest reading answers e
 
     -- ---- for the caller, by what is left
 
@@ -132,21 +133,21 @@ module _ {T : Type 0} where
         let same : rest' ≡ rest = cc in
         let cut : ts ≡ plain k.0 ++ rest = k.1 ∙ ap (λ l. plain k.0 ++ l) same in
         omega (arith, ap length cut, length-append (plain k.0) rest)
-    within_syntax_from (Err (Deep rest')) rest k e = cc
+    within_syntax_from (Err (Deep above' rest')) rest k e = cc
 
     pub within_syntax : (rest : List T) → reading ≡ Err (Syntax rest) → length rest ≤ length ts
     within_syntax rest e = within_syntax_from reading rest answers e
 
-    within_deep_from : (r : Reading T A) (rest : List T) → Answers P 0 limit ts r → r ≡ Err (Deep rest) → length rest ≤ length ts
-    within_deep_from (Ok x) rest k e = cc
-    within_deep_from (Err (Syntax rest')) rest k e = cc
-    within_deep_from (Err (Deep rest')) rest k e =
+    within_deep_from : (r : Reading T A) (above : ℕ) (rest : List T) → Answers P 0 limit ts r → r ≡ Err (Deep above rest) → length rest ≤ length ts
+    within_deep_from (Ok x) above rest k e = cc
+    within_deep_from (Err (Syntax rest')) above rest k e = cc
+    within_deep_from (Err (Deep above' rest')) above rest k e =
         let same : rest' ≡ rest = cc in
         let cut : ts ≡ plain k.0 ++ rest = k.5 ∙ ap (λ l. plain k.0 ++ l) same in
         omega (arith, ap length cut, length-append (plain k.0) rest)
 
-    pub within_deep : (rest : List T) → reading ≡ Err (Deep rest) → length rest ≤ length ts
-    within_deep rest e = within_deep_from reading rest answers e
+    pub within_deep : (above : ℕ) (rest : List T) → reading ≡ Err (Deep above rest) → length rest ≤ length ts
+    within_deep above rest e = within_deep_from reading above rest answers e
 
     pub all_read : (v : A) (new : List T) → reading ≡ Ok (v, new) → length new ≡ 0 → SentenceWithin P limit ts v
     all_read v [] e none = found v e

@@ -16,7 +16,7 @@
 --         ensures { Steps (read_parenthesized room self.old.rest.now) result self.new.rest.now }
 --     {
 --         if room == 0 {
---             return Err(too_deep(self.sees(OpenRound)));
+--             return Err(too_deep(self.sees(OpenRound), false));
 --         }
 --         self.expect(OpenRound)?;
 --         let inner = self.expr(room)?;
@@ -24,15 +24,16 @@
 --         Ok(inner)
 --     }
 --
--- What refers to itself is by cases on the room, `read_cast (suc room) = read_operand (read_cast room) room`.
+-- What refers to itself is by cases on the room, `read_cast zero = too_deep_or (is OpenRound) begins_cast` and
+-- `read_cast (suc room) = read_operand (read_cast room) room`.
 use Rattle.std.specs.Prelude.{ℕ, zero, suc, Bool, true, false, if◌then◌else◌, ◌&&◌, ◌==◌, List, [], ◌∷◌, ◌++◌, length, Option, Some, None, Result, Ok, Err}
 
 -- why reading stopped, and the tokens from the faulty one on
 pub data Stop (T : Type 0) : Type 0 where
   -- no sentence goes on with the first of these tokens
   Syntax : List T → Stop T
-  -- a sentence goes on with the first of these tokens, but it is nested too deep
-  Deep : List T → Stop T
+  -- a sentence goes on with the first of these tokens, but it is nested too deep, by so many levels
+  Deep : ℕ → List T → Stop T
 
 abbrev pub Reading : Type 0 → Type 0 → Type 0
 Reading T A = Result (A × List T) (Stop T)
@@ -97,7 +98,11 @@ module _ {T : Type 0} where
 
   -- no level of nesting is left for a rule whose sentences begin with the tokens of the set
   abbrev pub too_deep : {A : Type 0} → (T → Bool) → Reader T A
-  too_deep f ts = if sees f ts then Err (Deep ts) else Err (Syntax ts)
+  too_deep f ts = if sees f ts then Err (Deep 1 ts) else Err (Syntax ts)
+
+  -- the same where those of a second set, which open a bracket, stand one level deeper still
+  abbrev pub too_deep_or : {A : Type 0} → (T → Bool) → (T → Bool) → Reader T A
+  too_deep_or opens f ts = if sees opens ts then Err (Deep 2 ts) else too_deep f ts
 
   -- a rule one level deeper, by how many levels are left for it
   abbrev pub reads_within : {A : Type 0} → (T → Bool) → ℕ → Reader T A → Reader T A
