@@ -13,7 +13,7 @@ pub enum Fault {
     /// No sentence goes on with the token ahead.
     Syntax,
     /// A sentence goes on with the token ahead, but it is nested deeper than the limit, by so many levels.
-    Nesting(usize),
+    Nesting(u8),
     /// Memory ran out.
     Memory,
 }
