@@ -1,8 +1,8 @@
 -- Each text has one answer: a sentence, one place of a syntax fault, or one place at which it nests too deep.
-use Rattle.std.proofs.Common.{◌≡◌, ℕ, zero, suc, ◌+◌, ◌-◌, ◌<◌, ◌≤◌, List, [], ◌∷◌, ◌++◌, length, take, refl, sym, ap, ◌∙◌, subst, ◌⊎◌, inl, inr, ⊎_elim, append_assoc, length-append, arith}
-use Rattle.std.specs.Prelude.{Result, Ok, Err, Bool}
+use Rattle.std.proofs.Common.{◌≡◌, ℕ, zero, suc, ◌+◌, ◌<◌, ◌≤◌, List, [], ◌∷◌, ◌++◌, length, take, refl, sym, ap, ◌∙◌, subst, ◌⊎◌, inl, inr, ⊎_elim, append_assoc, length-append, arith}
+use Rattle.std.specs.Prelude.{Bool}
 use Rattle.grammar.specs.Rules.{Placed, Family}
-use Rattle.grammar.specs.Sentences.{plain, Within, Spelled, Starts, Sentence, SentenceWithin, StartsSentence, StartsWithin, FaultAt, TooDeepAt}
+use Rattle.grammar.specs.Sentences.{plain, Within, Starts, Sentence, SentenceWithin, StartsSentence, StartsWithin, FaultAt, TooDeepAt}
 use Rattle.grammar.specs.Readers.{Reader}
 use Rattle.grammar.proofs.Lists.{append_nil, plain-append, length-plain, plain_cut, within_front, within_back, Agrees, agrees_same, agrees_front}
 use Rattle.grammar.proofs.Good.{Reads}
@@ -102,16 +102,16 @@ module _ {T : Type 0} where
         let long : plain d.front ++ (d.token ∷ []) ≡ take k ts ++ z.0 = d.is ∙ z.1 in
         let c = plain_cut (d.front ++ ((d.token, n) ∷ [])) (take k ts) z.0 (plain-append d.front ((d.token, n) ∷ []) ∙ long) in
         (d.front, same_front (plain d.front) (take k ts) (d.token ∷ []) z.0 long (sizes (take k ts) refl), starts_shorter d.front ((d.token, n) ∷ []) d.begun, d.before) where
-      length_take_at : (k : ℕ) (ts : List T) → k ≤ length ts → length (take k ts) ≡ k
-      length_take_at zero ts le = refl
-      length_take_at (suc k) [] le = absurd (omega arith)
-      length_take_at (suc k) (t ∷ ts) le = let h = length_take_at k ts (omega arith) in omega (arith, h)
+          length_take_at : (k : ℕ) (ts : List T) → k ≤ length ts → length (take k ts) ≡ k
+          length_take_at zero ts le = refl
+          length_take_at (suc k) [] le = absurd (omega arith)
+          length_take_at (suc k) (t ∷ ts) le = let h = length_take_at k ts (omega arith) in omega (arith, h)
 
-      sizes : (y : List T) → take k ts ≡ y → length (plain d.front) ≡ length y
-      sizes y e =
-          let lt = deep_inside limit ts k n d in
-          let size = length_take_at k ts (omega (arith, lt)) in
-          omega (arith, size, ap length e, length-plain d.front, d.place)
+          sizes : (y : List T) → take k ts ≡ y → length (plain d.front) ≡ length y
+          sizes y e =
+              let lt = deep_inside limit ts k n d in
+              let size = length_take_at k ts (omega (arith, lt)) in
+              omega (arith, size, ap length e, length-plain d.front, d.place)
 
     pub fault_once : (limit : ℕ) (ts : List T) (j k : ℕ) → FaultAt P limit ts j → FaultAt P limit ts k → j ≡ k
     fault_once limit ts j k a b = in_order j k (past j k a b) (past k j b a) where
@@ -126,24 +126,26 @@ module _ {T : Type 0} where
         let x : List (Placed T) = a.front ++ ((a.token, m) ∷ []) in
         let y : List (Placed T) = b.front ++ ((b.token, n) ∷ []) in
         let fronts : a.front ≡ b.front = one_nesting a.front b.front (starts_shorter a.front ((a.token, m) ∷ []) a.begun) (starts_shorter b.front ((b.token, n) ∷ []) b.begun)
-            (same_front (plain a.front) (plain b.front) (a.token ∷ []) (b.token ∷ []) (a.is ∙ ap (λ i. take (i + 1) ts) place ∙ sym b.is) (omega (arith, length-plain a.front, length-plain b.front, a.place, b.place, place))) in
-        let same : x ≡ y = one_nesting x y a.begun b.begun (plain-append a.front ((a.token, m) ∷ []) ∙ a.is ∙ ap (λ i. take (i + 1) ts) place ∙ sym b.is ∙ sym (plain-append b.front ((b.token, n) ∷ []))) in
+        (same_front (plain a.front) (plain b.front) (a.token ∷ []) (b.token ∷ []) (a.is ∙ ap (λ i. take (i + 1) ts) place ∙ sym b.is)
+        (omega (arith, length-plain a.front, length-plain b.front, a.place, b.place, place))) in
+        let same : x ≡ y = one_nesting x y a.begun b.begun (plain-append a.front ((a.token, m) ∷ []) ∙ a.is ∙ ap (λ i. take (i + 1) ts) place ∙ sym b.is ∙ sym
+        (plain-append b.front ((b.token, n) ∷ []))) in
         (place, same_nesting a.token b.token m n (same_back a.front b.front ((a.token, m) ∷ []) ((b.token, n) ∷ []) fronts same)) where
-      same_back : (x y c d : List (Placed T)) → x ≡ y → x ++ c ≡ y ++ d → c ≡ d
-      same_back [] [] c d e f = f
-      same_back [] (u ∷ y) c d e f = cc
-      same_back (t ∷ x) [] c d e f = cc
-      same_back (t ∷ x) (u ∷ y) c d e f =
-          let e' : x ≡ y = cc in
-          let f' : x ++ c ≡ y ++ d = cc in
-          same_back x y c d e' f'
+          same_back : (x y c d : List (Placed T)) → x ≡ y → x ++ c ≡ y ++ d → c ≡ d
+          same_back [] [] c d e f = f
+          same_back [] (u ∷ y) c d e f = cc
+          same_back (t ∷ x) [] c d e f = cc
+          same_back (t ∷ x) (u ∷ y) c d e f =
+              let e' : x ≡ y = cc in
+              let f' : x ++ c ≡ y ++ d = cc in
+              same_back x y c d e' f'
 
-      same_nesting : (t u : T) (m n : ℕ) → ◌≡◌ {A = List (Placed T)} ((t, m) ∷ []) ((u, n) ∷ []) → m ≡ n
-      same_nesting t u m n e =
-          let was : Placed T = (t, m) in
-          let is : Placed T = (u, n) in
-          let pair : was ≡ is = cc in
-          ap (λ z. z.1) pair
+          same_nesting : (t u : T) (m n : ℕ) → ◌≡◌ {A = List (Placed T)} ((t, m) ∷ []) ((u, n) ∷ []) → m ≡ n
+          same_nesting t u m n e =
+              let was : Placed T = (t, m) in
+              let is : Placed T = (u, n) in
+              let pair : was ≡ is = cc in
+              ap (λ z. z.1) pair
 
     pub fault_or_deep : (limit : ℕ) (ts : List T) (j k n : ℕ) → FaultAt P limit ts j → TooDeepAt P limit ts k n → ⊥
     fault_or_deep limit ts j k n a b =

@@ -1,12 +1,12 @@
 -- One level deeper, and rules that refer to themselves.
-use Rattle.std.proofs.Common.{◌≡◌, ℕ, zero, suc, ◌+◌, ◌-◌, ◌<◌, ◌≤◌, List, [], ◌∷◌, ◌++◌, length, Option, Some, None, Bool, true, false, refl, sym, ap, ◌∙◌, subst, ◌⊎◌, inl, inr, ⊎_elim, append_assoc, length-append, arith}
-use Rattle.std.specs.Prelude.{Result, Ok, Err, if◌then◌else◌, ◌==◌}
+use Rattle.std.proofs.Common.{◌≡◌, ℕ, zero, suc, ◌+◌, ◌<◌, ◌≤◌, List, [], ◌∷◌, ◌++◌, length, Option, Bool, true, false, refl, sym, ap, ◌∙◌, subst, ⊎_elim, arith}
+use Rattle.std.specs.Prelude.{Ok, Err, if◌then◌else◌, ◌==◌}
 use Rattle.std.proofs.lemmas.Bool.{eqb-true}
 use Rattle.grammar.specs.Rules.{Placed, Rule, Family, one, ◌>>=◌, ◌<|>◌, nested}
 use Rattle.grammar.specs.Sentences.{plain, Within, Spelled, Starts}
-use Rattle.grammar.specs.Readers.{Stop, Syntax, Deep, Reading, Reader, sees, too_deep, too_deep_or, reads_within}
+use Rattle.grammar.specs.Readers.{Syntax, Deep, Reading, Reader, sees, too_deep, too_deep_or, reads_within}
 use Rattle.grammar.proofs.Lists.{false_true, not_true, Agrees}
-use Rattle.grammar.proofs.Good.{Reads, Answers, Dead, Avoids, Calm, Begun, ◌∘>◌}
+use Rattle.grammar.proofs.Good.{Reads, Answers, Dead, Avoids, Calm, ◌∘>◌}
 use Rattle.grammar.proofs.Parts.{gives, same_reader}
 
 -- what a bracket adds
@@ -56,7 +56,8 @@ module _ {T : Type 0} where
     stopped_by more [] = Err (Syntax [])
     stopped_by more (t ∷ ts) = if first t then Err (Deep (suc (more t)) (t ∷ ts)) else Err (Syntax (t ∷ ts))
 
-    deep_at : (more : T → ℕ) → Leads more → (at : ℕ) (t : T) (ts : List T) → length (t ∷ ts) < n → (b : Bool) → first t ≡ b → Answers Inside at (at + 0) (t ∷ ts) (if b then Err (Deep (suc (more t)) (t ∷ ts)) else Err (Syntax (t ∷ ts)))
+    deep_at : (more : T → ℕ) → Leads more → (at : ℕ) (t : T) (ts : List T) → length (t ∷ ts) < n → (b : Bool) → first t ≡ b → Answers Inside at (at + 0)
+        (t ∷ ts) (if b then Err (Deep (suc (more t)) (t ∷ ts)) else Err (Syntax (t ∷ ts)))
     deep_at more leads at t ts lt true e =
         let k = good.begun (omega arith) (at + 1) t e in
         let here : k.0 ≡ (at + 1) + more t = leads k.4.0 (at + 1) (good.whole (omega arith) k.4.0) (t, k.0) k.1 k.2 k.4.1 in
@@ -64,11 +65,11 @@ module _ {T : Type 0} where
     deep_at more leads at t ts lt false e =
         let some = good.inhabited (good.whole (omega arith)) (at + 1) in
         ([], refl, (some.0, some.1, some.2), tt, λ depth w more v s h. no_first depth w more v s h) where
-      no_first : (depth : ℕ) (w : List (Placed T)) (more : List T) (v : A) → plain w ≡ t ∷ more → P depth (at + 1) w v → ⊥
-      no_first depth [] more v s h = cc
-      no_first depth (x ∷ w) more v s h =
-          let same : x.0 ≡ t = cc in
-          false_true (first t) (subst (λ y. first y ≡ true) same (good.begins depth (at + 1) (good.whole (omega arith) depth) x w v h)) e
+          no_first : (depth : ℕ) (w : List (Placed T)) (more : List T) (v : A) → plain w ≡ t ∷ more → P depth (at + 1) w v → ⊥
+          no_first depth [] more v s h = cc
+          no_first depth (x ∷ w) more v s h =
+              let same : x.0 ≡ t = cc in
+              false_true (first t) (subst (λ y. first y ≡ true) same (good.begins depth (at + 1) (good.whole (omega arith) depth) x w v h)) e
 
     deep_sound : (more : T → ℕ) → Leads more → (at : ℕ) (ts : List T) → length ts < n → Answers Inside at (at + 0) ts (stopped_by more ts)
     deep_sound more leads at [] lt = let some = good.inhabited (good.whole (omega arith)) (at + 1) in ([], refl, (some.0, some.1, some.2), tt, tt)
@@ -80,9 +81,11 @@ module _ {T : Type 0} where
       inside_sound at zero ts lt = subst (Answers Inside at (at + 0) ts) (sym (without ts)) (deep_sound more leads at ts lt)
       inside_sound at (suc room) ts lt =
           let limit : (at + 1) + room ≡ at + suc room = omega arith in
-          subst (Answers Inside at (at + suc room) ts) (sym (with room ts)) (subst (λ l. Answers Inside at l ts (p room ts)) limit (to_inside at ((at + 1) + room) ts (p room ts) (good.sound (at + 1) room ts lt)))
+          subst (Answers Inside at (at + suc room) ts) (sym (with room ts)) (subst (λ l. Answers Inside at l ts (p room ts)) limit
+          (to_inside at ((at + 1) + room) ts (p room ts) (good.sound (at + 1) room ts lt)))
 
-      inside_complete : (depth at room : ℕ) (ts : List T) (w : List (Placed T)) (rest : List T) (v : A) → length ts < n → ts ≡ plain w ++ rest → Inside depth at w v → Within (at + room) w → Avoids (last v) rest → p' room ts ≡ Ok (v, rest)
+      inside_complete : (depth at room : ℕ) (ts : List T) (w : List (Placed T)) (rest : List T) (v : A) → length ts < n → ts ≡ plain w ++ rest
+          → Inside depth at w v → Within (at + room) w → Avoids (last v) rest → p' room ts ≡ Ok (v, rest)
       inside_complete depth at zero ts [] rest v lt e h low av = absurd (false_true false (good.empty depth (at + 1) (good.whole (omega arith) depth) v h) refl)
       inside_complete depth at zero ts (t ∷ w) rest v lt e h low av =
           let high : at + 1 ≤ t.1 = good.above depth (at + 1) (good.whole (omega arith) depth) t w v h in
@@ -135,7 +138,8 @@ module _ {T : Type 0} where
   module _ {D : ℕ → Type 0} {A : Type 0} {n : ℕ} {P : Family T A} {first : T → Bool} {last : A → T → Bool} where
     -- a reader that refers to itself, below where it is entered: p' without room stops, and with room reads as p does
     pub deeper_in : {p : ℕ → Reader T A} → Reads D n P p first last false → (opens : T → Bool) → OpensBy D opens P → ((t : T) → opens t ≡ true → first t ≡ true)
-        → (p' : ℕ → Reader T A) → ((ts : List T) → p' 0 ts ≡ too_deep_or opens first ts) → ((room : ℕ) (ts : List T) → p' (suc room) ts ≡ p room ts) → Reads D n (λ depth. nested (P depth)) p' first last false
+        → (p' : ℕ → Reader T A) → ((ts : List T) → p' 0 ts ≡ too_deep_or opens first ts) → ((room : ℕ) (ts : List T) → p' (suc room) ts ≡ p room ts)
+        → Reads D n (λ depth. nested (P depth)) p' first last false
     deeper_in good opens level opening p' without with = inside_in good p' (λ t. extra (opens t)) level.level (λ ts. without ts ∙ same_stop ts) with where
       same_stop : (ts : List T) → too_deep_or {A = A} opens first ts ≡ stopped_by good (λ t. extra (opens t)) ts
       same_stop [] = refl
@@ -145,13 +149,14 @@ module _ {T : Type 0} where
         stop_at false e = refl
 
     -- a bracket and what it encloses: p reads it, the room that it takes being one of those it counts
-    pub within_in : (p : ℕ → Reader T A) → Reads D n P (λ room. p (suc room)) first last false → Flat D P → Reads D n (λ depth. nested (P depth)) (λ room. reads_within first room (p room)) first last false
+    pub within_in : (p : ℕ → Reader T A) → Reads D n P (λ room. p (suc room)) first last false → Flat D P → Reads D n (λ depth. nested (P depth))
+        (λ room. reads_within first room (p room)) first last false
     within_in p good flat =
         inside_in good (λ room. reads_within first room (p room)) (λ t. 0) (λ depth at dd t w v h. let i = flat.level depth at dd t w v h in omega (arith, i)) same_stop
         (λ room ts. ap (λ b. if b then too_deep first ts else p (suc room) ts) (not_true (suc room == 0) (λ h. omega (arith, eqb-true (suc room) 0 h)))) where
-      same_stop : (ts : List T) → too_deep {A = A} first ts ≡ stopped_by good (λ t. 0) ts
-      same_stop [] = refl
-      same_stop (t ∷ ts) = refl
+          same_stop : (ts : List T) → too_deep {A = A} first ts ≡ stopped_by good (λ t. 0) ts
+          same_stop [] = refl
+          same_stop (t ∷ ts) = refl
 
   -- ---- at which level sentences begin
 
@@ -178,7 +183,8 @@ module _ {T : Type 0} where
   }
 
   -- and what follows it
-  pub one_opens : {D : ℕ → Type 0} {A B : Type 0} (opens : T → Bool) (f : T → Option A) (Q : A → Family T B) → ((t : T) → gives (f t) ≡ true → opens t ≡ false) → OpensBy D opens ((λ depth. one f) ∘> Q)
+  pub one_opens : {D : ℕ → Type 0} {A B : Type 0} (opens : T → Bool) (f : T → Option A) (Q : A → Family T B) → ((t : T) → gives (f t) ≡ true → opens t ≡ false)
+      → OpensBy D opens ((λ depth. one f) ∘> Q)
   one_opens opens f Q closes = record {
     level = λ depth at dd t w v h.
         let whole : t ∷ w ≡ (h.4.0, at) ∷ h.2 = h.3 ∙ ap (λ l. l ++ h.2) h.4.1 in
@@ -191,7 +197,8 @@ module _ {T : Type 0} where
   }
 
   -- a bracket and what it encloses
-  pub group_opens : {D : ℕ → Type 0} {A B : Type 0} (opens : T → Bool) (f : T → Option A) (Q : A → Family T B) → ((t : T) → gives (f t) ≡ true → opens t ≡ true) → OpensBy D opens (λ depth. nested (one f >>= (λ a. Q a depth)))
+  pub group_opens : {D : ℕ → Type 0} {A B : Type 0} (opens : T → Bool) (f : T → Option A) (Q : A → Family T B) →
+      ((t : T) → gives (f t) ≡ true → opens t ≡ true) → OpensBy D opens (λ depth. nested (one f >>= (λ a. Q a depth)))
   group_opens opens f Q all = record {
     level = λ depth at dd t w v h.
         let whole : t ∷ w ≡ (h.4.0, at + 1) ∷ h.2 = h.3 ∙ ap (λ l. l ++ h.2) h.4.1 in
@@ -208,7 +215,8 @@ module _ {T : Type 0} where
   one_some f Q at v h = let whole : [] ≡ (h.4.0, at) ∷ h.2 = h.3 ∙ ap (λ l. l ++ h.2) h.4.1 in cc (whole)
 
   -- a rule that is never empty, and what follows it
-  pub both_opens : {D : ℕ → Type 0} {A B : Type 0} {P : Family T A} {opens : T → Bool} (Q : A → Family T B) → ((depth at : ℕ) (v : A) → P depth at [] v → ⊥) → OpensBy D opens P → OpensBy D opens (P ∘> Q)
+  pub both_opens : {D : ℕ → Type 0} {A B : Type 0} {P : Family T A} {opens : T → Bool} (Q : A → Family T B) → ((depth at : ℕ) (v : A) → P depth at [] v → ⊥)
+      → OpensBy D opens P → OpensBy D opens (P ∘> Q)
   both_opens {D = D} {A = A} {P = P} {opens = opens} Q some opening = record { level = λ depth at dd t w v h. front_opens depth at dd t w h.1 h.2 h.0 h.3 h.4 } where
     front_opens : (depth at : ℕ) → D depth → (t : Placed T) (w front back : List (Placed T)) (a : A) → t ∷ w ≡ front ++ back → P depth at front a → t.1 ≡ at + extra (opens t.0)
     front_opens depth at dd t w [] back a e k = absurd (some depth at a k)
@@ -220,7 +228,8 @@ module _ {T : Type 0} where
   either_opens left right = record { level = λ depth at dd t w v h. ⊎_elim (λ k. left.level depth at dd t w v k) (λ k. right.level depth at dd t w v k) h }
 
   -- a rule that is known at each depth from the one below
-  pub depth_opens : {A : Type 0} (E : Family T A) (opens : T → Bool) → ((at : ℕ) (w : List (Placed T)) (v : A) → E 0 at w v → ⊥) → {D : ℕ → Type 0} → OpensBy (λ depth. Unit {0}) opens (λ depth. E (suc depth)) → OpensBy D opens E
+  pub depth_opens : {A : Type 0} (E : Family T A) (opens : T → Bool) → ((at : ℕ) (w : List (Placed T)) (v : A) → E 0 at w v → ⊥) → {D : ℕ → Type 0} → OpensBy
+      (λ depth. Unit {0}) opens (λ depth. E (suc depth)) → OpensBy D opens E
   depth_opens E opens none body = record { level = λ depth at dd t w v h. at_depth depth at t w v h } where
     at_depth : (depth at : ℕ) (t : Placed T) (w : List (Placed T)) (v : _) → E depth at (t ∷ w) v → t.1 ≡ at + extra (opens t.0)
     at_depth zero at t w v h = absurd (none at (t ∷ w) v h)
@@ -255,11 +264,13 @@ module _ {T : Type 0} where
     entered_fixed (suc depth) zero at w w' v v' lt lt' h h' = absurd (none at w' v' h')
     entered_fixed (suc depth) (suc depth') at w w' v v' lt lt' h h' = body.fixed depth depth' at w w' v v' lt lt' h h'
 
-    entered_complete : (depth at room : ℕ) (ts : List T) (w : List (Placed T)) (rest : List T) (v : A) → length ts < n → ts ≡ plain w ++ rest → E depth at w v → Within (at + room) w → Avoids (last v) rest → p room ts ≡ Ok (v, rest)
+    entered_complete : (depth at room : ℕ) (ts : List T) (w : List (Placed T)) (rest : List T) (v : A) → length ts < n → ts ≡ plain w ++ rest → E depth at w v
+        → Within (at + room) w → Avoids (last v) rest → p room ts ≡ Ok (v, rest)
     entered_complete zero at room ts w rest v lt e h low av = absurd (none at w v h)
     entered_complete (suc depth) at room ts w rest v lt e h low av = body.complete depth at room ts w rest v lt e h low av
 
-    entered_dead_at : (at : ℕ) (done : List T) (t : T) (rest : List T) → Dead Next at done (t ∷ rest) → (depth : ℕ) (w : List (Placed T)) (more : List T) (v : A) → plain w ≡ done ++ (t ∷ more) → E depth at w v → ⊥
+    entered_dead_at : (at : ℕ) (done : List T) (t : T) (rest : List T) → Dead Next at done (t ∷ rest) → (depth : ℕ) (w : List (Placed T)) (more : List T)
+        (v : A) → plain w ≡ done ++ (t ∷ more) → E depth at w v → ⊥
     entered_dead_at at done t rest dead zero w more v e h = none at w v h
     entered_dead_at at done t rest dead (suc depth) w more v e h = dead depth w more v e h
 
@@ -294,7 +305,8 @@ module _ {T : Type 0} where
       (none : (at : ℕ) (w : List (Placed T)) (v : A) → E 0 at w v → ⊥)
       (empty : null ≡ true → (at : ℕ) → (v : A) × Spelled E at [] v)
       (some : (at : ℕ) → (w : List (Placed T)) × (v : A) × Spelled E at w v)
-      (body : (D : ℕ → Type 0) (n m : ℕ) → n ≤ suc m → m ≤ n → (0 < n → (depth : ℕ) → D depth) → Reads D m E (p m) first last null → Reads D n (λ depth. E (suc depth)) (p (suc m)) first last null) where
+      (body : (D : ℕ → Type 0) (n m : ℕ) → n ≤ suc m → m ≤ n → (0 < n → (depth : ℕ) → D depth) → Reads D m E (p m) first last null → Reads D n
+      (λ depth. E (suc depth)) (p (suc m)) first last null) where
     shape : (k : ℕ) → Reads (λ depth. depth < k) 0 E (p 0) first last null
     shape zero = record {
       whole = λ lt. absurd (omega arith);
@@ -312,7 +324,8 @@ module _ {T : Type 0} where
     }
     shape (suc k) =
         let inner = body (λ depth. depth < k) 0 0 (omega arith) (omega arith) (λ lt. absurd (omega arith)) (shape k) in
-        same_reader (entered {D' = λ depth. depth < suc k} E inner none (λ depth lt. omega arith) (λ lt. absurd (omega arith)) (λ all d. absurd (omega (arith, all (suc k))))) (p 0) (λ room ts lt. absurd (omega arith))
+        same_reader (entered {D' = λ depth. depth < suc k} E inner none (λ depth lt. omega arith) (λ lt. absurd (omega arith))
+        (λ all d. absurd (omega (arith, all (suc k))))) (p 0) (λ room ts lt. absurd (omega arith))
 
     pub at_any_depth : (n : ℕ) → Reads (λ depth. Unit {0}) n E (p n) first last null
     at_any_depth zero = record {

@@ -1,15 +1,16 @@
 -- Whole texts: what the answer of a reader says of them.
-use Rattle.std.proofs.Common.{◌≡◌, ℕ, zero, suc, ◌+◌, ◌-◌, ◌<◌, ◌≤◌, List, [], ◌∷◌, ◌++◌, length, take, refl, sym, ap, ◌∙◌, subst, append_assoc, length-append, arith}
+use Rattle.std.proofs.Common.{◌≡◌, ℕ, suc, ◌+◌, ◌-◌, ◌<◌, ◌≤◌, List, [], ◌∷◌, ◌++◌, length, take, refl, sym, ap, ◌∙◌, subst, append_assoc, length-append, arith}
 use Rattle.std.proofs.Math.Seq.{take-append_seam, take-append-add}
-use Rattle.std.specs.Prelude.{Result, Ok, Err, Bool}
+use Rattle.std.specs.Prelude.{Ok, Err, Bool}
 use Rattle.grammar.specs.Rules.{Placed, Family}
-use Rattle.grammar.specs.Sentences.{plain, Within, Spelled, Starts, Sentence, SentenceWithin, StartsSentence, StartsWithin, FaultAt, TooDeepAt}
+use Rattle.grammar.specs.Sentences.{plain, Within, Spelled, Starts, Sentence, SentenceWithin, StartsWithin, FaultAt, TooDeepAt}
 use Rattle.grammar.specs.Readers.{Stop, Syntax, Deep, Reading, Reader}
 use Rattle.grammar.proofs.Lists.{append_nil, plain-append, length-plain}
 use Rattle.grammar.proofs.Good.{Reads, Answers, Dead, Calm, calm_complete}
 
 module _ {T : Type 0} where
-  module _ {A : Type 0} {P : Family T A} {p : ℕ → Reader T A} {first : T → Bool} {last : A → T → Bool} {null : Bool} (limit : ℕ) (ts : List T) (good : Reads (λ depth. Unit {0}) (suc (length ts)) P p first last null) where
+  module _ {A : Type 0} {P : Family T A} {p : ℕ → Reader T A} {first : T → Bool} {last : A → T → Bool} {null : Bool} (limit : ℕ) (ts : List T)
+      (good : Reads (λ depth. Unit {0}) (suc (length ts)) P p first last null) where
     abbrev reading : Reading T A
     reading = p limit ts
 
@@ -42,7 +43,8 @@ module _ {T : Type 0} where
     found v e = found_from v reading answers e
 
     -- the tokens before the rest start a sentence, and none goes on with the next one
-    fault_from : (before : List (Placed T)) (rest : List T) → ts ≡ plain before ++ rest → Starts P 0 before → Within limit before → Dead P 0 (plain before) rest → (rest ≡ [] → (v : A) → Sentence P ts v → ⊥) → FaultAt P limit ts (length ts - length rest)
+    fault_from : (before : List (Placed T)) (rest : List T) → ts ≡ plain before ++ rest → Starts P 0 before → Within limit before → Dead P 0
+        (plain before) rest → (rest ≡ [] → (v : A) → Sentence P ts v → ⊥) → FaultAt P limit ts (length ts - length rest)
     fault_from before [] e begun low dead cut =
         let all : length ts - 0 ≡ length (plain before) = omega (arith, ap length e, length-append (plain before) []) in
         let whole : take (length (plain before)) ts ≡ plain before = ap (take (length (plain before))) e ∙ take-append_seam (plain before) [] in
@@ -72,7 +74,8 @@ module _ {T : Type 0} where
     ok_fault_from v t rest (Ok x) k e =
         let is : A × List T = (v, t ∷ rest) in
         let same : x ≡ is = cc in
-        fault_from k.0 (t ∷ rest) (k.1 ∙ ap (λ y. plain k.0 ++ y.1) same) ([], x.0, (k.2.0, subst (λ l. P k.2.0 0 l x.0) (sym (append_nil k.0)) k.2.1)) k.3 (subst (λ y. Dead P 0 (plain k.0) y.1) same k.4) (λ none. cc)
+        fault_from k.0 (t ∷ rest) (k.1 ∙ ap (λ y. plain k.0 ++ y.1) same) ([], x.0, (k.2.0, subst (λ l. P k.2.0 0 l x.0) (sym (append_nil k.0)) k.2.1)) k.3
+        (subst (λ y. Dead P 0 (plain k.0) y.1) same k.4) (λ none. cc)
     ok_fault_from v t rest (Err stop) k e = cc
 
     -- the sentence ended before the last token

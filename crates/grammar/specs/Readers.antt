@@ -1,31 +1,11 @@
 -- Readers: functions that read a value from the front of a list of tokens, top down.
 --
--- A reading stands beside its rule in the same do-notation. It has a parameter `room`: how many levels of nesting are
--- left, the one that the phrase stands at among them. What the rule puts into `nested` is read by a function of its own:
+-- The head of Rules.antt shows a reading beside its rule and its program. It has a parameter `room`: how many levels of
+-- nesting are left, the one that the phrase stands at among them. What the rule puts into `nested` is read by a reader of
+-- its own: a bracket by `reads_within`; what refers to itself by cases on the room,
 --
---     read_parenthesized : ℕ → Reader T Expr
---     read_parenthesized room = reads_within (is OpenRound) room (do
---       expect OpenRound
---       inner ← read_expr room
---       expect CloseRound
---       reads_pure inner)
---
--- and in the program
---
---     fn parenthesized(&mut self, room: usize) -> Result<Expr, Fault>
---         ensures { Steps (read_parenthesized room self.old.rest.now) result self.new.rest.now }
---     {
---         if room == 0 {
---             return Err(too_deep(self.sees(OpenRound), false));
---         }
---         self.expect(OpenRound)?;
---         let inner = self.expr(room)?;
---         self.expect(CloseRound)?;
---         Ok(inner)
---     }
---
--- What refers to itself is by cases on the room, `read_cast zero = too_deep_or (is OpenRound) begins_cast` and
--- `read_cast (suc room) = read_operand (read_cast room) room`.
+--     read_cast zero = too_deep_or (is OpenRound) begins_cast
+--     read_cast (suc room) = read_operand (read_cast room) room
 use Rattle.std.specs.Prelude.{ℕ, zero, suc, Bool, true, false, if◌then◌else◌, ◌&&◌, ◌==◌, List, [], ◌∷◌, ◌++◌, length, Option, Some, None, Result, Ok, Err}
 
 -- why reading stopped, and the tokens from the faulty one on
