@@ -299,16 +299,13 @@ module _ {T : Type 0} where
       complete = entered_complete;
     }
 
-  -- A rule that refers to itself, and its reader, at every depth and for any number of tokens. The reader is by how many
-  -- tokens there are, too, for a rule that refers to itself without nesting deeper; most do not use that number.
-  module _ {A : Type 0} (E : Family T A) (p : ℕ → ℕ → Reader T A) {first : T → Bool} {last : A → T → Bool} {null : Bool}
-      (none : (at : ℕ) (w : List (Placed T)) (v : A) → E 0 at w v → ⊥)
-      (empty : null ≡ true → (at : ℕ) → (v : A) × Spelled E at [] v)
-      (some : (at : ℕ) → (w : List (Placed T)) × (v : A) × Spelled E at w v)
-      (body : (D : ℕ → Type 0) (n m : ℕ) → n ≤ suc m → m ≤ n → (0 < n → (depth : ℕ) → D depth) → Reads D m E (p m) first last null → Reads D n
-      (λ depth. E (suc depth)) (p (suc m)) first last null) where
-    shape : (k : ℕ) → Reads (λ depth. depth < k) 0 E (p 0) first last null
-    shape zero = record {
+  -- ---- what is known of a rule before any of it is read
+
+  module _ {A : Type 0} (G : Family T A) {first : T → Bool} {last : A → T → Bool} {null : Bool}
+      (empty : null ≡ true → (at : ℕ) → (v : A) × Spelled G at [] v) (some : (at : ℕ) → (w : List (Placed T)) × (v : A) × Spelled G at w v) where
+    -- at no depth, nothing
+    unknown : (r : ℕ → Reader T A) → Reads (λ depth. depth < 0) 0 G r first last null
+    unknown r = record {
       whole = λ lt. absurd (omega arith);
       deeper = λ depth at dd w v h. absurd (omega arith);
       begins = λ depth at dd t w v h. absurd (omega arith);
@@ -322,19 +319,16 @@ module _ {T : Type 0} where
       sound = λ at room ts lt. absurd (omega arith);
       complete = λ depth at room ts w rest v lt e h low av. absurd (omega arith);
     }
-    shape (suc k) =
-        let inner = body (λ depth. depth < k) 0 0 (omega arith) (omega arith) (λ lt. absurd (omega arith)) (shape k) in
-        same_reader (entered {D' = λ depth. depth < suc k} E inner none (λ depth lt. omega arith) (λ lt. absurd (omega arith))
-        (λ all d. absurd (omega (arith, all (suc k))))) (p 0) (λ room ts lt. absurd (omega arith))
 
-    pub at_any_depth : (n : ℕ) → Reads (λ depth. Unit {0}) n E (p n) first last null
-    at_any_depth zero = record {
+    -- at every depth, what is known up to each
+    shape_of : (r : ℕ → Reader T A) → ((k : ℕ) → Reads (λ depth. depth < k) 0 G r first last null) → Reads (λ depth. Unit {0}) 0 G r first last null
+    shape_of r known = record {
       whole = λ lt. absurd (omega arith);
-      deeper = λ depth at dd. (shape (suc depth)).deeper depth at (omega arith);
-      begins = λ depth at dd. (shape (suc depth)).begins depth at (omega arith);
-      above = λ depth at dd. (shape (suc depth)).above depth at (omega arith);
+      deeper = λ depth at dd. (known (suc depth)).deeper depth at (omega arith);
+      begins = λ depth at dd. (known (suc depth)).begins depth at (omega arith);
+      above = λ depth at dd. (known (suc depth)).above depth at (omega arith);
       begun = λ lt. absurd (omega arith);
-      empty = λ depth at dd. (shape (suc depth)).empty depth at (omega arith);
+      empty = λ depth at dd. (known (suc depth)).empty depth at (omega arith);
       nothing = λ all at h. empty h at;
       inhabited = λ all. some;
       stable = λ room ts lt calm. absurd (omega arith);
@@ -342,5 +336,58 @@ module _ {T : Type 0} where
       sound = λ at room ts lt. absurd (omega arith);
       complete = λ depth at room ts w rest v lt e h low av. absurd (omega arith);
     }
+
+  -- A rule that refers to itself, and its reader, at every depth and for any number of tokens. The reader is by how many
+  -- tokens there are, too, for a rule that refers to itself without nesting deeper; most do not use that number.
+  module _ {A : Type 0} (E : Family T A) (p : ℕ → ℕ → Reader T A) {first : T → Bool} {last : A → T → Bool} {null : Bool}
+      (none : (at : ℕ) (w : List (Placed T)) (v : A) → E 0 at w v → ⊥)
+      (empty : null ≡ true → (at : ℕ) → (v : A) × Spelled E at [] v)
+      (some : (at : ℕ) → (w : List (Placed T)) × (v : A) × Spelled E at w v)
+      (body : (D : ℕ → Type 0) (n m : ℕ) → n ≤ suc m → m ≤ n → (0 < n → (depth : ℕ) → D depth) → Reads D m E (p m) first last null → Reads D n
+      (λ depth. E (suc depth)) (p (suc m)) first last null) where
+    shape : (k : ℕ) → Reads (λ depth. depth < k) 0 E (p 0) first last null
+    shape zero = unknown E empty some (p 0)
+    shape (suc k) =
+        let inner = body (λ depth. depth < k) 0 0 (omega arith) (omega arith) (λ lt. absurd (omega arith)) (shape k) in
+        same_reader (entered {D' = λ depth. depth < suc k} E inner none (λ depth lt. omega arith) (λ lt. absurd (omega arith))
+        (λ all d. absurd (omega (arith, all (suc k))))) (p 0) (λ room ts lt. absurd (omega arith))
+
+    pub at_any_depth : (n : ℕ) → Reads (λ depth. Unit {0}) n E (p n) first last null
+    at_any_depth zero = shape_of E empty some (p 0) shape
     at_any_depth (suc n) =
         entered E (body (λ depth. Unit {0}) (suc n) n (omega arith) (omega arith) (λ lt depth. tt) (at_any_depth n)) none (λ depth lt. tt) (λ lt depth. tt) (λ all d. tt)
+
+  -- Two rules that refer to themselves and to each other, as an operand with parentheses and an expression of operands.
+  -- The second may begin with the first.
+  module _ {A B : Type 0} (E : Family T A) (F : Family T B) (p : ℕ → ℕ → Reader T A) (q : ℕ → ℕ → Reader T B)
+      {first first' : T → Bool} {last : A → T → Bool} {last' : B → T → Bool}
+      (none : (at : ℕ) (w : List (Placed T)) (v : A) → E 0 at w v → ⊥) (none' : (at : ℕ) (w : List (Placed T)) (v : B) → F 0 at w v → ⊥)
+      (some : (at : ℕ) → (w : List (Placed T)) × (v : A) × Spelled E at w v) (some' : (at : ℕ) → (w : List (Placed T)) × (v : B) × Spelled F at w v)
+      (body : (D : ℕ → Type 0) (n m : ℕ) → n ≤ suc m → m ≤ n → (0 < n → (depth : ℕ) → D depth) → Reads D m E (p m) first last false
+      → Reads D m F (q m) first' last' false → Reads D n (λ depth. E (suc depth)) (p (suc m)) first last false)
+      (body' : (D : ℕ → Type 0) (n m : ℕ) → n ≤ suc m → m ≤ n → (0 < n → (depth : ℕ) → D depth) → Reads D n E (p (suc m)) first last false
+      → Reads D m F (q m) first' last' false → Reads D n (λ depth. F (suc depth)) (q (suc m)) first' last' false) where
+    Shapes : ℕ → Type 0
+    Shapes k = Reads (λ depth. depth < k) 0 E (p 0) first last false × Reads (λ depth. depth < k) 0 F (q 0) first' last' false
+
+    shapes : (k : ℕ) → Shapes k
+    unfolding Shapes
+    shapes zero = (unknown E (λ h at. cc) some (p 0), unknown F (λ h at. cc) some' (q 0))
+    shapes (suc k) =
+        let below = shapes k in
+        let at_one = same_reader below.0 (p 1) (λ room ts lt. absurd (omega arith)) in
+        let e = body (λ depth. depth < k) 0 0 (omega arith) (omega arith) (λ lt. absurd (omega arith)) below.0 below.1 in
+        let f = body' (λ depth. depth < k) 0 0 (omega arith) (omega arith) (λ lt. absurd (omega arith)) at_one below.1 in (
+          same_reader (entered {D' = λ depth. depth < suc k} E e none (λ depth lt. omega arith) (λ lt. absurd (omega arith)) (λ all d. absurd (omega (arith, all (suc k))))) (p 0)
+              (λ room ts lt. absurd (omega arith)),
+          same_reader (entered {D' = λ depth. depth < suc k} F f none' (λ depth lt. omega arith) (λ lt. absurd (omega arith)) (λ all d. absurd (omega (arith, all (suc k))))) (q 0)
+              (λ room ts lt. absurd (omega arith)),
+        )
+
+    pub two_at_any_depth : (n : ℕ) → Reads (λ depth. Unit {0}) n E (p n) first last false × Reads (λ depth. Unit {0}) n F (q n) first' last' false
+    unfolding Shapes
+    two_at_any_depth zero = (shape_of E (λ h at. cc) some (p 0) (λ k. (shapes k).0), shape_of F (λ h at. cc) some' (q 0) (λ k. (shapes k).1))
+    two_at_any_depth (suc n) =
+        let below = two_at_any_depth n in
+        let e = entered E (body (λ depth. Unit {0}) (suc n) n (omega arith) (omega arith) (λ lt depth. tt) below.0 below.1) none (λ depth lt. tt) (λ lt depth. tt) (λ all d. tt) in
+        (e, entered F (body' (λ depth. Unit {0}) (suc n) n (omega arith) (omega arith) (λ lt depth. tt) e below.1) none' (λ depth lt. tt) (λ lt depth. tt) (λ all d. tt))

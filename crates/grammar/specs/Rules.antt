@@ -30,7 +30,7 @@
 --    and go on with after their end, and whether they may be empty. It is put together as the rule is: `one_then`,
 --    `in_turn`, `some_then`, `both`, `ends` (proofs/Parts.antt), `either_in`, `ahead_two`, `ahead_in`, `may`, `shared`,
 --    `regrouped`, `swapped` (proofs/Choice.antt), `loop`, `loop_two`, `folded`, `collected`, `as_list` (proofs/Loops.antt),
---    `within_in`, `deeper_in`, `at_any_depth` (proofs/Nested.antt).
+--    `within_in`, `deeper_in`, `at_any_depth`, `two_at_any_depth` (proofs/Nested.antt).
 --
 --        group = sign_then le whole OpenRound (λ u. in_turn expr (λ x. sign_then .. CloseRound (λ v. reads_nothing whole x)) apart)
 --        parenthesized = within_in read_group group (one_flat (sign_at OpenRound) ..)
