@@ -1,11 +1,11 @@
 -- One rule or the other, by the tokens ahead.
-use Rattle.std.proofs.Common.{◌≡◌, ℕ, zero, suc, ◌+◌, ◌<◌, ◌≤◌, List, [], ◌∷◌, ◌++◌, length, Option, Some, None, Bool, true, false, refl, sym, ap, ◌∙◌, subst, ◌⊎◌, inl, inr, ⊎_elim, append_assoc, length-append, arith}
-use Rattle.std.specs.Prelude.{Result, Ok, Err, if◌then◌else◌, ◌||◌, ◌&&◌, not}
-use Rattle.grammar.specs.Rules.{Placed, Rule, Family, pure, one, ◌>>=◌, ◌<|>◌, optional}
-use Rattle.grammar.specs.Sentences.{plain, Within, Spelled, Starts}
-use Rattle.grammar.specs.Readers.{Stop, Syntax, Deep, Reading, Reader, sees, sees_all, reads_pure, reads_when, reads_either, reads_optional}
+use Rattle.std.proofs.Common.{◌≡◌, ℕ, suc, ◌+◌, ◌<◌, List, [], ◌∷◌, ◌++◌, length, Option, Some, None, Bool, true, false, refl, sym, ap, ◌∙◌, subst, inl, inr, ⊎_elim, append_assoc, arith}
+use Rattle.std.specs.Prelude.{Ok, Err, if◌then◌else◌, ◌||◌, ◌&&◌, not}
+use Rattle.grammar.specs.Rules.{Placed, Rule, Family, one, ◌>>=◌, ◌<|>◌, optional}
+use Rattle.grammar.specs.Sentences.{plain}
+use Rattle.grammar.specs.Readers.{Syntax, Deep, Reading, Reader, sees, sees_all, reads_when, reads_either, reads_optional}
 use Rattle.grammar.proofs.Lists.{false_true, or_left, or_right, or_cases, and_both, and_parts, true_or_not, not_true, append_nil, plain-append, Agrees, agrees-sym}
-use Rattle.grammar.proofs.Good.{Reads, Answers, Dead, Avoids, Calm, Begun, ◌∘>◌, avoids_wider}
+use Rattle.grammar.proofs.Good.{Reads, Answers, Dead, Avoids, Calm, ◌∘>◌, avoids_wider, deeper_by}
 use Rattle.grammar.proofs.Parts.{if_so, gives, or_nothing, resize, same_rule, reads_nothing, ends}
 
 not_not : (b : Bool) → not b ≡ true → b ≡ true → ⊥
@@ -25,8 +25,10 @@ module _ {T : Type 0} where
   module _ {D : ℕ → Type 0} {A : Type 0} {n : ℕ} {P Q : Family T A} {p q : ℕ → Reader T A} {first first' : T → Bool} {last last' : A → T → Bool} {null null' : Bool}
       (left : Reads D n P p first last null) (right : Reads D n Q q first' last' null') (test : List T → Bool)
       (Last : A → T → Bool) (left_in : (v : A) (t : T) → last v t ≡ true → Last v t ≡ true) (right_in : (v : A) (t : T) → last' v t ≡ true → Last v t ≡ true)
-      (goes_left : 0 < n → (at : ℕ) (x : List T) (t : T) (rest : List T) → test (x ++ (t ∷ rest)) ≡ true → (depth : ℕ) (w : List (Placed T)) (more : List T) (v : A) → plain w ≡ x ++ (t ∷ more) → Q depth at w v → StartsPlain P at (x ++ (t ∷ [])))
-      (goes_right : 0 < n → (at : ℕ) (x : List T) (t : T) (rest : List T) → test (x ++ (t ∷ rest)) ≡ false → (depth : ℕ) (w : List (Placed T)) (more : List T) (v : A) → plain w ≡ x ++ (t ∷ more) → P depth at w v → StartsPlain Q at (x ++ (t ∷ [])))
+      (goes_left : 0 < n → (at : ℕ) (x : List T) (t : T) (rest : List T) → test (x ++ (t ∷ rest)) ≡ true → (depth : ℕ) (w : List (Placed T)) (more : List T)
+      (v : A) → plain w ≡ x ++ (t ∷ more) → Q depth at w v → StartsPlain P at (x ++ (t ∷ [])))
+      (goes_right : 0 < n → (at : ℕ) (x : List T) (t : T) (rest : List T) → test (x ++ (t ∷ rest)) ≡ false → (depth : ℕ) (w : List (Placed T)) (more : List T)
+      (v : A) → plain w ≡ x ++ (t ∷ more) → P depth at w v → StartsPlain Q at (x ++ (t ∷ [])))
       (left_seen : ((d : ℕ) → D d) → (depth at : ℕ) (w : List (Placed T)) (rest : List T) (v : A) → P depth at w v → Avoids (Last v) rest → test (plain w ++ rest) ≡ true)
       (right_seen : ((d : ℕ) → D d) → (depth at : ℕ) (w : List (Placed T)) (rest : List T) (v : A) → Q depth at w v → Avoids (Last v) rest → test (plain w ++ rest) ≡ false)
       (agree : ((d : ℕ) → D d) → (depth depth' at : ℕ) (w w' : List (Placed T)) (v v' : A) → P depth at w v → Q depth' at w' v' → Agrees w w') where
@@ -55,12 +57,12 @@ module _ {T : Type 0} where
     left_answers : 0 < n → (at limit : ℕ) (ts : List T) → test ts ≡ true → (r : Reading T A) → Answers P at limit ts r → Answers Either at limit ts r
     left_answers lt at limit ts e (Ok x) k = (k.0, k.1, (k.2.0, inl k.2.1), k.3, left_dead lt at ts (plain k.0) x.1 e k.1 k.4)
     left_answers lt at limit ts e (Err (Syntax rest)) k = (k.0, k.1, (k.2.0, k.2.1, (k.2.2.0, inl k.2.2.1)), k.3, left_dead lt at ts (plain k.0) rest e k.1 k.4)
-    left_answers lt at limit ts e (Err (Deep rest)) k = (k.0, k.1, k.2, k.3, k.4, k.5, (k.6.0, k.6.1, (k.6.2.0, inl k.6.2.1)), k.7, k.8)
+    left_answers lt at limit ts e (Err (Deep above rest)) k = (k.0, k.1, k.2, k.3, k.4, k.5, (k.6.0, k.6.1, (k.6.2.0, inl k.6.2.1)), k.7, k.8)
 
     right_answers : 0 < n → (at limit : ℕ) (ts : List T) → test ts ≡ false → (r : Reading T A) → Answers Q at limit ts r → Answers Either at limit ts r
     right_answers lt at limit ts e (Ok x) k = (k.0, k.1, (k.2.0, inr k.2.1), k.3, right_dead lt at ts (plain k.0) x.1 e k.1 k.4)
     right_answers lt at limit ts e (Err (Syntax rest)) k = (k.0, k.1, (k.2.0, k.2.1, (k.2.2.0, inr k.2.2.1)), k.3, right_dead lt at ts (plain k.0) rest e k.1 k.4)
-    right_answers lt at limit ts e (Err (Deep rest)) k = (k.0, k.1, k.2, k.3, k.4, k.5, (k.6.0, k.6.1, (k.6.2.0, inr k.6.2.1)), k.7, k.8)
+    right_answers lt at limit ts e (Err (Deep above rest)) k = (k.0, k.1, k.2, k.3, k.4, k.5, (k.6.0, k.6.1, (k.6.2.0, inr k.6.2.1)), k.7, k.8)
 
     abbrev chosen : Bool → ℕ → Reader T A
     chosen b room ts = if b then p room ts else q room ts
@@ -84,7 +86,8 @@ module _ {T : Type 0} where
     when_in = record {
       whole = left.whole;
       deeper = λ depth at dd w v h. ⊎_elim (λ hp. inl (left.deeper depth at dd w v hp)) (λ hq. inr (right.deeper depth at dd w v hq)) h;
-      begins = λ depth at dd t w v h. ⊎_elim (λ hp. or_left (first t.0) (first' t.0) (left.begins depth at dd t w v hp)) (λ hq. or_right (first t.0) (first' t.0) (right.begins depth at dd t w v hq)) h;
+      begins = λ depth at dd t w v h. ⊎_elim (λ hp. or_left (first t.0) (first' t.0) (left.begins depth at dd t w v hp))
+          (λ hq. or_right (first t.0) (first' t.0) (right.begins depth at dd t w v hq)) h;
       above = λ depth at dd t w v h. ⊎_elim (λ hp. left.above depth at dd t w v hp) (λ hq. right.above depth at dd t w v hq) h;
       begun = λ lt at t h. or_cases (first t) (first' t) h
           (λ e. let k = left.begun lt at t e in (k.0, k.1, k.2, k.3, (k.4.0, inl k.4.1)))
@@ -99,8 +102,10 @@ module _ {T : Type 0} where
       sound = λ at room ts lt. when_sound at room ts lt (test ts) refl;
       complete = λ depth at room ts w rest v lt e h low av.
           ⊎_elim
-          (λ hp. ap (λ b. chosen b room ts) (ap test e ∙ left_seen (left.whole (omega arith)) depth at w rest v hp av) ∙ left.complete depth at room ts w rest v lt e hp low (avoids_wider (last v) (Last v) (left_in v) rest av))
-          (λ hq. ap (λ b. chosen b room ts) (ap test e ∙ right_seen (left.whole (omega arith)) depth at w rest v hq av) ∙ right.complete depth at room ts w rest v lt e hq low (avoids_wider (last' v) (Last v) (right_in v) rest av))
+          (λ hp. ap (λ b. chosen b room ts) (ap test e ∙ left_seen
+          (left.whole (omega arith)) depth at w rest v hp av) ∙ left.complete depth at room ts w rest v lt e hp low (avoids_wider (last v) (Last v) (left_in v) rest av))
+          (λ hq. ap (λ b. chosen b room ts) (ap test e ∙ right_seen
+          (left.whole (omega arith)) depth at w rest v hq av) ∙ right.complete depth at room ts w rest v lt e hq low (avoids_wider (last' v) (Last v) (right_in v) rest av))
           h;
     }
 
@@ -115,7 +120,9 @@ module _ {T : Type 0} where
   sees_head f [] t rest = refl
   sees_head f (x ∷ done) t rest = refl
 
-  begins_head : {D : ℕ → Type 0} {A : Type 0} {n : ℕ} {P : Family T A} {p : ℕ → Reader T A} {first : T → Bool} {last : A → T → Bool} {null : Bool} → Reads D n P p first last null → ((d : ℕ) → D d) → (depth at : ℕ) (done : List T) (t : T) (more : List T) (w : List (Placed T)) (v : A) → plain w ≡ done ++ (t ∷ more) → P depth at w v → first (head done t) ≡ true
+  begins_head : {D : ℕ → Type 0} {A : Type 0} {n : ℕ} {P : Family T A} {p : ℕ → Reader T A} {first : T → Bool} {last : A → T → Bool} {null : Bool}
+      → Reads D n P p first last null → ((d : ℕ) → D d) → (depth at : ℕ) (done : List T) (t : T) (more : List T) (w : List (Placed T)) (v : A)
+      → plain w ≡ done ++ (t ∷ more) → P depth at w v → first (head done t) ≡ true
   begins_head good all depth at [] t more [] v e h = cc
   begins_head {first = first} good all depth at [] t more (y ∷ w) v e h = let same : y.0 ≡ t = cc in subst (λ x. first x ≡ true) same (good.begins depth at (all depth) y w v h)
   begins_head good all depth at (x ∷ done) t more [] v e h = cc
@@ -155,8 +162,10 @@ module _ {T : Type 0} where
   -- the same where no value matters
   module _ {D : ℕ → Type 0} {A : Type 0} {n : ℕ} {P Q : Family T A} {p q : ℕ → Reader T A} {first first' : T → Bool} {last last' : A → T → Bool} {null' : Bool}
       (left : Reads D n P p first last false) (right : Reads D n Q q first' last' null') where
-    pub either : ((t : T) → first t ≡ true → first' t ≡ true → ⊥) → Reads D n (P <∘> Q) (λ room. reads_either first (p room) (q room)) (λ t. first t || first' t) (λ v t. last v t || (last' v t || if_so null' first t)) null'
-    either apart = either_in left right apart (λ v t. last v t || (last' v t || if_so null' first t)) (λ v t e. or_left (last v t) _ e) (λ v t e. or_right (last v t) _ (or_left (last' v t) _ e)) (λ depth at v t z h e. or_right (last v t) _ (or_right (last' v t) _ (and_both null' (first t) z e)))
+    pub either : ((t : T) → first t ≡ true → first' t ≡ true → ⊥) → Reads D n (P <∘> Q) (λ room. reads_either first (p room) (q room))
+        (λ t. first t || first' t) (λ v t. last v t || (last' v t || if_so null' first t)) null'
+    either apart = either_in left right apart (λ v t. last v t || (last' v t || if_so null' first t)) (λ v t e. or_left (last v t) _ e)
+        (λ v t e. or_right (last v t) _ (or_left (last' v t) _ e)) (λ depth at v t z h e. or_right (last v t) _ (or_right (last' v t) _ (and_both null' (first t) z e)))
 
   -- ---- by several tokens
 
@@ -192,12 +201,12 @@ module _ {T : Type 0} where
   sees_within (f ∷ fs) [] t rest more e out =
       let parts = and_parts (f t) (sees_all fs rest) e in
       and_both (f t) (sees_all fs more) parts.0 (none_left fs (partly_no parts.0 out)) where
-    partly_no : f t ≡ true → (f t && partly fs []) ≡ false → partly fs [] ≡ false
-    partly_no here out' = not_true (partly fs []) (λ h. false_true (f t && partly fs []) (and_both (f t) (partly fs []) here h) out')
+        partly_no : f t ≡ true → (f t && partly fs []) ≡ false → partly fs [] ≡ false
+        partly_no here out' = not_true (partly fs []) (λ h. false_true (f t && partly fs []) (and_both (f t) (partly fs []) here h) out')
 
-    none_left : (gs : List (T → Bool)) → partly gs [] ≡ false → sees_all gs more ≡ true
-    none_left [] h = refl
-    none_left (g ∷ gs) h = cc
+        none_left : (gs : List (T → Bool)) → partly gs [] ≡ false → sees_all gs more ≡ true
+        none_left [] h = refl
+        none_left (g ∷ gs) h = cc
   sees_within (f ∷ fs) (y ∷ x) t rest more e out =
       let parts = and_parts (f y) (sees_all fs (x ++ (t ∷ rest))) e in
       and_both (f y) (sees_all fs (x ++ (t ∷ more))) parts.0
@@ -213,13 +222,14 @@ module _ {T : Type 0} where
   departs_not (f ∷ fs) [] y e = cc
   departs_not (f ∷ fs) (t ∷ x) y e =
       not_true (f t && sees_all fs (x ++ y)) (λ h.
-          let parts = and_parts (f t) (sees_all fs (x ++ y)) h in
-          or_cases (not (f t)) (departs fs x) e (λ out. not_not (f t) out parts.0) (λ out. false_true (sees_all fs (x ++ y)) parts.1 (departs_not fs x y out)))
+      let parts = and_parts (f t) (sees_all fs (x ++ y)) h in
+      or_cases (not (f t)) (departs fs x) e (λ out. not_not (f t) out parts.0) (λ out. false_true (sees_all fs (x ++ y)) parts.1 (departs_not fs x y out)))
 
   pub departs-append : (fs : List (T → Bool)) (x y : List T) → departs fs x ≡ true → departs fs (x ++ y) ≡ true
   departs-append [] x y e = cc
   departs-append (f ∷ fs) [] y e = cc
-  departs-append (f ∷ fs) (t ∷ x) y e = or_cases (not (f t)) (departs fs x) e (λ out. or_left (not (f t)) (departs fs (x ++ y)) out) (λ out. or_right (not (f t)) (departs fs (x ++ y)) (departs-append fs x y out))
+  departs-append (f ∷ fs) (t ∷ x) y e = or_cases (not (f t)) (departs fs x) e (λ out. or_left (not (f t)) (departs fs (x ++ y)) out)
+      (λ out. or_right (not (f t)) (departs fs (x ++ y)) (departs-append fs x y out))
 
   pub level-append : (fs : List (T → Bool)) (m : ℕ) (x y : List (Placed T)) → departs fs (plain x) ≡ true → Level fs m x → Level fs m (x ++ y)
   level-append [] m x y e h = tt
@@ -260,16 +270,17 @@ module _ {T : Type 0} where
     ahead_in =
         when_in left right (sees_all fs) Last left_in right_in
         (λ lt at x t rest seen depth w more v e h.
-            ⊎_elim (λ yes. left_common lt at (x ++ (t ∷ [])) yes)
-            (λ no. absurd (false_true (sees_all fs (plain w)) (ap (sees_all fs) e ∙ sees_within fs x t rest more seen no) (never (left.whole lt) depth at w v h)))
-            (true_or_not (partly fs (x ++ (t ∷ [])))))
+        ⊎_elim (λ yes. left_common lt at (x ++ (t ∷ [])) yes)
+        (λ no. absurd (false_true (sees_all fs (plain w)) (ap (sees_all fs) e ∙ sees_within fs x t rest more seen no) (never (left.whole lt) depth at w v h)))
+        (true_or_not (partly fs (x ++ (t ∷ [])))))
         (λ lt at x t rest seen depth w more v e h.
-            ⊎_elim (λ yes. right_common lt at (x ++ (t ∷ [])) yes)
-            (λ no. absurd (false_true (sees_all fs (x ++ (t ∷ rest))) (sees_within fs x t more rest (ap (sees_all fs) (sym e) ∙ (heads (left.whole lt) depth at w v h).0) no) seen))
-            (true_or_not (partly fs (x ++ (t ∷ [])))))
+        ⊎_elim (λ yes. right_common lt at (x ++ (t ∷ [])) yes)
+        (λ no. absurd (false_true (sees_all fs (x ++ (t ∷ rest))) (sees_within fs x t more rest (ap (sees_all fs) (sym e) ∙ (heads (left.whole lt) depth at w v h).0) no) seen))
+        (true_or_not (partly fs (x ++ (t ∷ [])))))
         (λ all depth at w rest v h av. sees_all-append fs (plain w) rest (heads all depth at w v h).0)
         others
-        (λ all depth depth' at w w' v v' h h'. level_agree fs (at + k) w w' (heads all depth at w v h).0 (λ s. false_true (sees_all fs (plain w')) s (never all depth' at w' v' h')) (heads all depth at w v h).1 (levels all depth' at w' v' h'))
+        (λ all depth depth' at w w' v v' h h'. level_agree fs (at + k) w w' (heads all depth at w v h).0
+        (λ s. false_true (sees_all fs (plain w')) s (never all depth' at w' v' h')) (heads all depth at w v h).1 (levels all depth' at w' v' h'))
 
   -- ---- how sentences start
 
@@ -322,7 +333,8 @@ module _ {T : Type 0} where
 
   module _ {D : ℕ → Type 0} {A : Type 0} {n : ℕ} {P : Family T A} {p : ℕ → Reader T A} {first : T → Bool} {last : A → T → Bool} (good : Reads D n P p first last false) where
     -- a rule none of whose first tokens is of the set
-    pub begins_departs : (f : T → Bool) (fs : List (T → Bool)) → ((t : T) → first t ≡ true → f t ≡ true → ⊥) → (depth at m : ℕ) → D depth → (w : List (Placed T)) (v : A) → P depth at w v → DepartsBy (f ∷ fs) m w
+    pub begins_departs : (f : T → Bool) (fs : List (T → Bool)) → ((t : T) → first t ≡ true → f t ≡ true → ⊥) → (depth at m : ℕ) → D depth →
+        (w : List (Placed T)) (v : A) → P depth at w v → DepartsBy (f ∷ fs) m w
     begins_departs f fs apart depth at m dd [] v h = absurd (false_true false (good.empty depth at dd v h) refl)
     begins_departs f fs apart depth at m dd (t ∷ w) v h = first_departs f fs m t w (not_true (f t.0) (λ yes. apart t.0 (good.begins depth at dd t w v h) yes))
 
@@ -338,9 +350,9 @@ module _ {T : Type 0} where
       subst (DepartsBy (set ∷ fs) m) (sym h.3)
       (⊎_elim
       (λ k.
-          let token : h.1 ≡ (k.4.0, at) ∷ [] = k.3 ∙ ap (λ l. l ++ k.2) k.4.1 ∙ ap (λ l. (k.4.0, at) ∷ l) k.5.0 in
-          let here : DepartsBy (set ∷ fs) m ((k.4.0, at) ∷ h.2) = (or_right (not (set k.4.0)) (departs fs (plain h.2)) more.0, level_token set fs m (k.4.0, at) h.2 same more.1) in
-          subst (λ l. DepartsBy (set ∷ fs) m (l ++ h.2)) (sym token) here)
+      let token : h.1 ≡ (k.4.0, at) ∷ [] = k.3 ∙ ap (λ l. l ++ k.2) k.4.1 ∙ ap (λ l. (k.4.0, at) ∷ l) k.5.0 in
+      let here : DepartsBy (set ∷ fs) m ((k.4.0, at) ∷ h.2) = (or_right (not (set k.4.0)) (departs fs (plain h.2)) more.0, level_token set fs m (k.4.0, at) h.2 same more.1) in
+      subst (λ l. DepartsBy (set ∷ fs) m (l ++ h.2)) (sym token) here)
       (λ k. subst (λ l. DepartsBy (set ∷ fs) m (l ++ h.2)) (sym k.0) alone)
       h.4)
 
@@ -352,7 +364,8 @@ module _ {T : Type 0} where
       (heads : ((d : ℕ) → D d) → (depth at : ℕ) (w : List (Placed T)) (v : A) → P depth at w v → StartsBy (f ∷ g ∷ []) (at + k) w)
       (others : ((d : ℕ) → D d) → (depth at : ℕ) (w : List (Placed T)) (v : A) → Q depth at w v → DepartsBy (f ∷ g ∷ []) (at + k) w)
       (left_first : (t : T) → f t ≡ true → first t ≡ true) (right_first : (t : T) → f t ≡ true → first' t ≡ true) where
-    common_of : {R : Family T A} {r : ℕ → Reader T A} {begins : T → Bool} {ends : A → T → Bool} {z : Bool} → Reads D n R r begins ends z → ((t : T) → f t ≡ true → begins t ≡ true) → 0 < n → (at : ℕ) (x : List T) → partly (f ∷ g ∷ []) x ≡ true → StartsPlain R at x
+    common_of : {R : Family T A} {r : ℕ → Reader T A} {begins : T → Bool} {ends : A → T → Bool} {z : Bool} → Reads D n R r begins ends z →
+        ((t : T) → f t ≡ true → begins t ≡ true) → 0 < n → (at : ℕ) (x : List T) → partly (f ∷ g ∷ []) x ≡ true → StartsPlain R at x
     common_of good within lt at [] e = let some = good.inhabited (good.whole lt) at in (some.2.0, some.0, plain some.0, some.1, refl, some.2.1)
     common_of good within lt at (t ∷ []) e =
         let some = good.begun lt at t (within t (and_parts (f t) true e).0) in
@@ -368,6 +381,42 @@ module _ {T : Type 0} where
         (λ all depth at w rest v h av. departs_not (f ∷ g ∷ []) (plain w) rest (others all depth at w v h).0)
         (λ all depth at w v h. (others all depth at w v h).1)
         (common_of left left_first) (common_of right right_first)
+
+  -- ---- what starts a sentence, token by token, for the common beginnings of two alternatives
+
+  pub start_none : {D : ℕ → Type 0} {A : Type 0} {n : ℕ} {P : Family T A} {p : ℕ → Reader T A} {first : T → Bool} {last : A → T → Bool} {null : Bool}
+      → Reads D n P p first last null → 0 < n → (at : ℕ) → StartsPlain P at []
+  start_none good lt at = let k = good.inhabited (good.whole lt) at in (k.2.0, k.0, plain k.0, k.1, refl, k.2.1)
+
+  pub start_begun : {D : ℕ → Type 0} {A : Type 0} {n : ℕ} {P : Family T A} {p : ℕ → Reader T A} {first : T → Bool} {last : A → T → Bool} {null : Bool}
+      → Reads D n P p first last null → 0 < n → (at : ℕ) (t : T) → first t ≡ true → StartsPlain P at (t ∷ [])
+  start_begun good lt at t e = let k = good.begun lt at t e in (k.4.0, (t, k.0) ∷ k.1, plain k.1, k.2, refl, k.4.1)
+
+  pub start_one : {A B : Type 0} (f : T → Option A) (Q : A → Family T B) (at : ℕ) (t : T) (a : A) (x : List T) → f t ≡ Some a → StartsPlain (Q a) at x → StartsPlain ((λ depth. one f) ∘> Q) at (t ∷ x)
+  start_one f Q at t a x e k = (k.0, (t, at) ∷ k.1, k.2, k.3, ap (λ l. t ∷ l) k.4, (a, (t, at) ∷ [], k.1, refl, (t, refl, e), k.5))
+
+  pub start_both : {D : ℕ → Type 0} {A B : Type 0} {n m : ℕ} {P : Family T A} {Q : A → Family T B} {p : ℕ → Reader T A} {q : A → ℕ → Reader T B}
+      {first : T → Bool} {last : A → T → Bool} {first' : A → T → Bool} {last' : B → T → Bool} {null null' : Bool}
+      → Reads D n P p first last null → ((a : A) → Reads D m (Q a) (q a) (first' a) last' null') → 0 < n → (at : ℕ) (x : List T) → StartsPlain P at x → StartsPlain (P ∘> Q) at x
+  start_both {P = P} {Q = Q} before after lt at x k =
+      let all = before.whole lt in
+      let some = (after k.3).inhabited all at in
+      let ph : P (some.2.0 + k.0) at k.1 k.3 = deeper_by before all some.2.0 k.0 at k.1 k.3 k.5 in
+      let qh : Q k.3 (k.0 + some.2.0) at some.0 some.1 = deeper_by (after k.3) all k.0 some.2.0 at some.0 some.1 some.2.1 in
+      let same : k.0 + some.2.0 ≡ some.2.0 + k.0 = omega arith in (
+        some.2.0 + k.0,
+        k.1 ++ some.0,
+        k.2 ++ plain some.0,
+        some.1,
+        plain-append k.1 some.0 ∙ ap (λ l. l ++ plain some.0) k.4 ∙ append_assoc x k.2 (plain some.0),
+        (k.3, k.1, some.0, refl, ph, subst (λ d. Q k.3 d at some.0 some.1) same qh),
+      )
+
+  pub start_left : {A : Type 0} (P Q : Family T A) (at : ℕ) (x : List T) → StartsPlain P at x → StartsPlain (P <∘> Q) at x
+  start_left P Q at x k = (k.0, k.1, k.2, k.3, k.4, inl k.5)
+
+  pub start_right : {A : Type 0} (P Q : Family T A) (at : ℕ) (x : List T) → StartsPlain Q at x → StartsPlain (P <∘> Q) at x
+  start_right P Q at x k = (k.0, k.1, k.2, k.3, k.4, inr k.5)
 
   -- ---- the same alternatives in the other order
 
@@ -391,11 +440,11 @@ module _ {T : Type 0} where
     regrouped good =
         same_rule good ((P ∘> Q) ∘> R)
         (λ depth at w v h.
-            let k = h.5 in
-            (k.0, h.1 ++ k.1, k.2, h.3 ∙ ap (λ l. h.1 ++ l) k.3 ∙ sym (append_assoc h.1 k.1 k.2), (h.0, h.1, k.1, refl, h.4, k.4), k.5))
+        let k = h.5 in
+        (k.0, h.1 ++ k.1, k.2, h.3 ∙ ap (λ l. h.1 ++ l) k.3 ∙ sym (append_assoc h.1 k.1 k.2), (h.0, h.1, k.1, refl, h.4, k.4), k.5))
         (λ depth at w v h.
-            let k = h.4 in
-            (k.0, k.1, k.2 ++ h.2, h.3 ∙ ap (λ l. l ++ h.2) k.3 ∙ append_assoc k.1 k.2 h.2, k.4, (h.0, k.2, h.2, refl, k.5, h.5)))
+        let k = h.4 in
+        (k.0, k.1, k.2 ++ h.2, h.3 ∙ ap (λ l. l ++ h.2) k.3 ∙ append_assoc k.1 k.2 h.2, k.4, (h.0, k.2, h.2, refl, k.5, h.5)))
 
   -- ---- once or not at all
 
@@ -405,5 +454,5 @@ module _ {T : Type 0} where
     may =
         resize
         (either_in (ends good (λ v. Some v) Last some_in) (reads_nothing {n = n} good.whole None) (λ t e h. cc) Last (λ v t e. e) (λ v t e. cc)
-            (λ depth at v t z h e. subst (λ o. Last o t ≡ true) (sym h.1) (none_in t e)))
+        (λ depth at v t z h e. subst (λ o. Last o t ≡ true) (sym h.1) (none_in t e)))
         first Last true (λ t. or_nothing (first t)) (λ v t e. e) refl

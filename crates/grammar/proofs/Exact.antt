@@ -1,8 +1,8 @@
 -- Each text has one answer: a sentence, one place of a syntax fault, or one place at which it nests too deep.
-use Rattle.std.proofs.Common.{◌≡◌, ℕ, zero, suc, ◌+◌, ◌-◌, ◌<◌, ◌≤◌, List, [], ◌∷◌, ◌++◌, length, take, refl, sym, ap, ◌∙◌, subst, ◌⊎◌, inl, inr, ⊎_elim, append_assoc, length-append, arith}
-use Rattle.std.specs.Prelude.{Result, Ok, Err, Bool}
+use Rattle.std.proofs.Common.{◌≡◌, ℕ, zero, suc, ◌+◌, ◌<◌, ◌≤◌, List, [], ◌∷◌, ◌++◌, length, take, refl, sym, ap, ◌∙◌, subst, ◌⊎◌, inl, inr, ⊎_elim, append_assoc, length-append, arith}
+use Rattle.std.specs.Prelude.{Bool}
 use Rattle.grammar.specs.Rules.{Placed, Family}
-use Rattle.grammar.specs.Sentences.{plain, Within, Spelled, Starts, Sentence, SentenceWithin, StartsSentence, StartsWithin, FaultAt, TooDeepAt}
+use Rattle.grammar.specs.Sentences.{plain, Within, Starts, Sentence, SentenceWithin, StartsSentence, StartsWithin, FaultAt, TooDeepAt}
 use Rattle.grammar.specs.Readers.{Reader}
 use Rattle.grammar.proofs.Lists.{append_nil, plain-append, length-plain, plain_cut, within_front, within_back, Agrees, agrees_same, agrees_front}
 use Rattle.grammar.proofs.Good.{Reads}
@@ -38,6 +38,16 @@ module _ {T : Type 0} where
   take_all (suc k) [] le = refl
   take_all (suc k) (t ∷ ts) le = ap (λ l. t ∷ l) (take_all k ts (omega arith))
 
+  same_front : (x y a b : List T) → x ++ a ≡ y ++ b → length x ≡ length y → x ≡ y
+  same_front [] [] a b e s = refl
+  same_front [] (t ∷ y) a b e s = absurd (omega (arith, s))
+  same_front (t ∷ x) [] a b e s = absurd (omega (arith, s))
+  same_front (t ∷ x) (u ∷ y) a b e s =
+      let heads : t ≡ u = cc in
+      let tails : x ++ a ≡ y ++ b = cc in
+      let rest = same_front x y a b tails (omega (arith, s)) in
+      (λ i. heads i ∷ rest i)
+
   length_take : (k : ℕ) (ts : List T) → length (take k ts) ≤ length ts
   length_take zero ts = omega arith
   length_take (suc k) [] = omega arith
@@ -69,49 +79,39 @@ module _ {T : Type 0} where
         let c = plain_cut h.0 (take i ts) z.0 (h.1 ∙ z.1) in
         (c.0, c.3, starts_shorter c.0 c.1 (subst (Starts P 0) c.2 h.2))
 
-    deep_starts : (limit : ℕ) (ts : List T) (k : ℕ) (d : TooDeepAt P limit ts k) → StartsSentence P (take (k + 1) ts)
-    deep_starts limit ts k d = (d.front ++ ((d.token, d.nesting) ∷ []), plain-append d.front ((d.token, d.nesting) ∷ []) ∙ d.is, d.begun)
+    deep_starts : (limit : ℕ) (ts : List T) (k n : ℕ) (d : TooDeepAt P limit ts k n) → StartsSentence P (take (k + 1) ts)
+    deep_starts limit ts k n d = (d.front ++ ((d.token, n) ∷ []), plain-append d.front ((d.token, n) ∷ []) ∙ d.is, d.begun)
 
-    deep_inside : (limit : ℕ) (ts : List T) (k : ℕ) → TooDeepAt P limit ts k → k < length ts
-    deep_inside limit ts k d =
+    deep_inside : (limit : ℕ) (ts : List T) (k n : ℕ) → TooDeepAt P limit ts k n → k < length ts
+    deep_inside limit ts k n d =
         let size : length (take (k + 1) ts) ≤ length ts = length_take (k + 1) ts in
         omega (arith, size, ap length d.is, length-append (plain d.front) (d.token ∷ []), length-plain d.front, d.place)
 
     -- what starts a sentence within the limit ends before a token that is too deep
-    deep_past : (limit : ℕ) (ts : List T) (j k : ℕ) → TooDeepAt P limit ts j → j < k → StartsWithin P limit (take k ts) → ⊥
-    deep_past limit ts j k d lt h =
+    deep_past : (limit : ℕ) (ts : List T) (j k n : ℕ) → TooDeepAt P limit ts j n → j < k → StartsWithin P limit (take k ts) → ⊥
+    deep_past limit ts j k n d lt h =
         let c = cut_within limit (j + 1) k ts (omega arith) h in
-        let front : List (Placed T) = d.front ++ ((d.token, d.nesting) ∷ []) in
-        let same : c.0 ≡ front = one_nesting c.0 front c.2 d.begun (c.1 ∙ sym d.is ∙ sym (plain-append d.front ((d.token, d.nesting) ∷ []))) in
-        let low = within_back limit d.front ((d.token, d.nesting) ∷ []) (subst (Within limit) same c.3) in
+        let front : List (Placed T) = d.front ++ ((d.token, n) ∷ []) in
+        let same : c.0 ≡ front = one_nesting c.0 front c.2 d.begun (c.1 ∙ sym d.is ∙ sym (plain-append d.front ((d.token, n) ∷ []))) in
+        let low = within_back limit d.front ((d.token, n) ∷ []) (subst (Within limit) same c.3) in
         omega (arith, low.0, d.deep)
 
-    deep_before : (limit : ℕ) (ts : List T) (k : ℕ) → TooDeepAt P limit ts k → StartsWithin P limit (take k ts)
-    deep_before limit ts k d =
+    deep_before : (limit : ℕ) (ts : List T) (k n : ℕ) → TooDeepAt P limit ts k n → StartsWithin P limit (take k ts)
+    deep_before limit ts k n d =
         let z = take_front k (k + 1) ts (omega arith) in
         let long : plain d.front ++ (d.token ∷ []) ≡ take k ts ++ z.0 = d.is ∙ z.1 in
-        let c = plain_cut (d.front ++ ((d.token, d.nesting) ∷ [])) (take k ts) z.0 (plain-append d.front ((d.token, d.nesting) ∷ []) ∙ long) in
-        (d.front, same_front (plain d.front) (take k ts) (d.token ∷ []) z.0 long (sizes (take k ts) refl), starts_shorter d.front ((d.token, d.nesting) ∷ []) d.begun, d.before) where
-      same_front : (x y a b : List T) → x ++ a ≡ y ++ b → length x ≡ length y → x ≡ y
-      same_front [] [] a b e s = refl
-      same_front [] (t ∷ y) a b e s = absurd (omega (arith, s))
-      same_front (t ∷ x) [] a b e s = absurd (omega (arith, s))
-      same_front (t ∷ x) (u ∷ y) a b e s =
-          let heads : t ≡ u = cc in
-          let tails : x ++ a ≡ y ++ b = cc in
-          let rest = same_front x y a b tails (omega (arith, s)) in
-          (λ i. heads i ∷ rest i)
+        let c = plain_cut (d.front ++ ((d.token, n) ∷ [])) (take k ts) z.0 (plain-append d.front ((d.token, n) ∷ []) ∙ long) in
+        (d.front, same_front (plain d.front) (take k ts) (d.token ∷ []) z.0 long (sizes (take k ts) refl), starts_shorter d.front ((d.token, n) ∷ []) d.begun, d.before) where
+          length_take_at : (k : ℕ) (ts : List T) → k ≤ length ts → length (take k ts) ≡ k
+          length_take_at zero ts le = refl
+          length_take_at (suc k) [] le = absurd (omega arith)
+          length_take_at (suc k) (t ∷ ts) le = let h = length_take_at k ts (omega arith) in omega (arith, h)
 
-      length_take_at : (k : ℕ) (ts : List T) → k ≤ length ts → length (take k ts) ≡ k
-      length_take_at zero ts le = refl
-      length_take_at (suc k) [] le = absurd (omega arith)
-      length_take_at (suc k) (t ∷ ts) le = let h = length_take_at k ts (omega arith) in omega (arith, h)
-
-      sizes : (y : List T) → take k ts ≡ y → length (plain d.front) ≡ length y
-      sizes y e =
-          let lt = deep_inside limit ts k d in
-          let size = length_take_at k ts (omega (arith, lt)) in
-          omega (arith, size, ap length e, length-plain d.front, d.place)
+          sizes : (y : List T) → take k ts ≡ y → length (plain d.front) ≡ length y
+          sizes y e =
+              let lt = deep_inside limit ts k n d in
+              let size = length_take_at k ts (omega (arith, lt)) in
+              omega (arith, size, ap length e, length-plain d.front, d.place)
 
     pub fault_once : (limit : ℕ) (ts : List T) (j k : ℕ) → FaultAt P limit ts j → FaultAt P limit ts k → j ≡ k
     fault_once limit ts j k a b = in_order j k (past j k a b) (past k j b a) where
@@ -120,15 +120,38 @@ module _ {T : Type 0} where
           let begun = cut_within limit (j + 1) k ts (omega arith) b.begun in
           a.stuck (omega (arith, b.inside, lt)) (begun.0, begun.1, begun.2)
 
-    pub deep_once : (limit : ℕ) (ts : List T) (j k : ℕ) → TooDeepAt P limit ts j → TooDeepAt P limit ts k → j ≡ k
-    deep_once limit ts j k a b =
-        in_order j k (λ lt. deep_past limit ts j k a lt (deep_before limit ts k b)) (λ lt. deep_past limit ts k j b lt (deep_before limit ts j a))
+    pub deep_once : (limit : ℕ) (ts : List T) (j k m n : ℕ) → TooDeepAt P limit ts j m → TooDeepAt P limit ts k n → (j ≡ k) × (m ≡ n)
+    deep_once limit ts j k m n a b =
+        let place : j ≡ k = in_order j k (λ lt. deep_past limit ts j k m a lt (deep_before limit ts k n b)) (λ lt. deep_past limit ts k j n b lt (deep_before limit ts j m a)) in
+        let x : List (Placed T) = a.front ++ ((a.token, m) ∷ []) in
+        let y : List (Placed T) = b.front ++ ((b.token, n) ∷ []) in
+        let fronts : a.front ≡ b.front = one_nesting a.front b.front (starts_shorter a.front ((a.token, m) ∷ []) a.begun) (starts_shorter b.front ((b.token, n) ∷ []) b.begun)
+        (same_front (plain a.front) (plain b.front) (a.token ∷ []) (b.token ∷ []) (a.is ∙ ap (λ i. take (i + 1) ts) place ∙ sym b.is)
+        (omega (arith, length-plain a.front, length-plain b.front, a.place, b.place, place))) in
+        let same : x ≡ y = one_nesting x y a.begun b.begun (plain-append a.front ((a.token, m) ∷ []) ∙ a.is ∙ ap (λ i. take (i + 1) ts) place ∙ sym b.is ∙ sym
+        (plain-append b.front ((b.token, n) ∷ []))) in
+        (place, same_nesting a.token b.token m n (same_back a.front b.front ((a.token, m) ∷ []) ((b.token, n) ∷ []) fronts same)) where
+          same_back : (x y c d : List (Placed T)) → x ≡ y → x ++ c ≡ y ++ d → c ≡ d
+          same_back [] [] c d e f = f
+          same_back [] (u ∷ y) c d e f = cc
+          same_back (t ∷ x) [] c d e f = cc
+          same_back (t ∷ x) (u ∷ y) c d e f =
+              let e' : x ≡ y = cc in
+              let f' : x ++ c ≡ y ++ d = cc in
+              same_back x y c d e' f'
 
-    pub fault_or_deep : (limit : ℕ) (ts : List T) (j k : ℕ) → FaultAt P limit ts j → TooDeepAt P limit ts k → ⊥
-    fault_or_deep limit ts j k a b =
+          same_nesting : (t u : T) (m n : ℕ) → ◌≡◌ {A = List (Placed T)} ((t, m) ∷ []) ((u, n) ∷ []) → m ≡ n
+          same_nesting t u m n e =
+              let was : Placed T = (t, m) in
+              let is : Placed T = (u, n) in
+              let pair : was ≡ is = cc in
+              ap (λ z. z.1) pair
+
+    pub fault_or_deep : (limit : ℕ) (ts : List T) (j k n : ℕ) → FaultAt P limit ts j → TooDeepAt P limit ts k n → ⊥
+    fault_or_deep limit ts j k n a b =
         ⊎_elim
-        (λ lt. deep_past limit ts k j b lt a.begun)
-        (λ le. a.stuck (let lt = deep_inside limit ts k b in omega (arith, lt, le)) (cut_starts (j + 1) (k + 1) ts (omega (arith, le)) (deep_starts limit ts k b)))
+        (λ lt. deep_past limit ts k j n b lt a.begun)
+        (λ le. a.stuck (let lt = deep_inside limit ts k n b in omega (arith, lt, le)) (cut_starts (j + 1) (k + 1) ts (omega (arith, le)) (deep_starts limit ts k n b)))
         (less_or_not k j)
 
     sentence_starts : (ts : List T) (v : A) (k : ℕ) → Sentence P ts v → StartsSentence P (take k ts)
@@ -145,7 +168,7 @@ module _ {T : Type 0} where
         (less_or_not k (length ts))
 
     -- a sentence that keeps the limit has no token that is too deep
-    pub sentence_or_deep : (limit : ℕ) (ts : List T) (v : A) (k : ℕ) → SentenceWithin P limit ts v → TooDeepAt P limit ts k → ⊥
-    sentence_or_deep limit ts v k h d =
+    pub sentence_or_deep : (limit : ℕ) (ts : List T) (v : A) (k n : ℕ) → SentenceWithin P limit ts v → TooDeepAt P limit ts k n → ⊥
+    sentence_or_deep limit ts v k n h d =
         let all : take (length ts) ts ≡ ts = take_all (length ts) ts (omega arith) in
-        deep_past limit ts k (length ts) d (deep_inside limit ts k d) (h.0, h.1 ∙ sym all, ([], v, (h.2.0, subst (λ l. P h.2.0 0 l v) (sym (append_nil h.0)) h.2.1)), h.3)
+        deep_past limit ts k (length ts) n d (deep_inside limit ts k n d) (h.0, h.1 ∙ sym all, ([], v, (h.2.0, subst (λ l. P h.2.0 0 l v) (sym (append_nil h.0)) h.2.1)), h.3)

@@ -1,10 +1,10 @@
 -- When a reader reads a rule: both ways, and with the exact token at which no sentence goes on or the nesting is too deep.
-use Rattle.std.proofs.Common.{◌≡◌, ℕ, zero, suc, ◌+◌, ◌<◌, ◌≤◌, List, [], ◌∷◌, ◌++◌, length, Option, Some, None, Bool, true, false, refl, sym, ap, ◌∙◌, subst, ◌⊎◌, inl, inr, ⊎_elim, append_assoc, length-append, arith}
-use Rattle.std.specs.Prelude.{Result, Ok, Err, if◌then◌else◌, ◌||◌, ◌&&◌}
-use Rattle.grammar.specs.Rules.{Placed, Rule, Family, pure, one, ◌>>=◌}
+use Rattle.std.proofs.Common.{◌≡◌, ℕ, zero, suc, ◌+◌, ◌<◌, ◌≤◌, List, [], ◌∷◌, ◌++◌, length, Bool, true, false, refl, sym, ap, ◌∙◌, subst, ⊎_elim, arith}
+use Rattle.std.specs.Prelude.{Ok, Err}
+use Rattle.grammar.specs.Rules.{Placed, Family, ◌>>=◌}
 use Rattle.grammar.specs.Sentences.{plain, Within, Spelled, Starts}
-use Rattle.grammar.specs.Readers.{Stop, Syntax, Deep, Reading, Reader, and_then, reads_both}
-use Rattle.grammar.proofs.Lists.{false_true, or_left, or_right, or_cases, and_both, and_parts, true_or_not, not_true, append_nil, cuts, no_more, plain-append, length-plain, within-append, within_front, within_wider, roof, within_roof, Agrees, agrees-append, agrees-sym}
+use Rattle.grammar.specs.Readers.{Syntax, Deep, Reading, Reader}
+use Rattle.grammar.proofs.Lists.{false_true, true_or_not, not_true, append_nil, plain-append, length-plain, within_wider, roof, within_roof, Agrees}
 
 module _ {T : Type 0} where
   -- one rule after the other, at each depth
@@ -27,14 +27,15 @@ module _ {T : Type 0} where
   abbrev pub Answers : {A : Type 0} → Family T A → ℕ → ℕ → List T → Reading T A → Type 0
   Answers P at limit ts (Ok x) = (before : List (Placed T)) × (ts ≡ plain before ++ x.1) × Spelled P at before x.0 × Within limit before × Dead P at (plain before) x.1
   Answers P at limit ts (Err (Syntax rest)) = (before : List (Placed T)) × (ts ≡ plain before ++ rest) × Starts P at before × Within limit before × Dead P at (plain before) rest
-  Answers P at limit ts (Err (Deep rest)) =
-      (before : List (Placed T)) × (t : T) × (deep : ℕ) × (more : List T) × (rest ≡ t ∷ more) × (ts ≡ plain before ++ rest) × Starts P at (before ++ ((t, deep) ∷ [])) × Within limit before × (limit < deep)
+  Answers P at limit ts (Err (Deep above rest)) =
+      (before : List (Placed T)) × (t : T) × (deep : ℕ) × (more : List T) × (rest ≡ t ∷ more) × (ts ≡ plain before ++ rest) × Starts P at
+      (before ++ ((t, deep) ∷ [])) × Within limit before × ((deep ≡ limit + above) × (limit < deep))
 
   -- not stopped by the nesting
   abbrev pub Calm : {A : Type 0} → Reading T A → Type 0
   Calm (Ok x) = Unit {0}
   Calm (Err (Syntax rest)) = Unit {0}
-  Calm (Err (Deep rest)) = ⊥
+  Calm (Err (Deep above rest)) = ⊥
 
   -- a sentence begins with the token
   abbrev pub Begun : {A : Type 0} → Family T A → ℕ → T → Type 0
@@ -55,7 +56,8 @@ module _ {T : Type 0} where
     pub stable : (room : ℕ) (ts : List T) → length ts < n → Calm (p room ts) → p (suc room) ts ≡ p room ts
     pub fixed : (depth depth' at : ℕ) (w w' : List (Placed T)) (v v' : A) → length w < n → length w' < n → P depth at w v → P depth' at w' v' → Agrees w w'
     pub sound : (at room : ℕ) (ts : List T) → length ts < n → Answers P at (at + room) ts (p room ts)
-    pub complete : (depth at room : ℕ) (ts : List T) (w : List (Placed T)) (rest : List T) (v : A) → length ts < n → ts ≡ plain w ++ rest → P depth at w v → Within (at + room) w → Avoids (last v) rest → p room ts ≡ Ok (v, rest)
+    pub complete : (depth at room : ℕ) (ts : List T) (w : List (Placed T)) (rest : List T) (v : A) → length ts < n → ts ≡ plain w ++ rest → P depth at w v
+        → Within (at + room) w → Avoids (last v) rest → p room ts ≡ Ok (v, rest)
 
   pub avoids_wider : (f g : T → Bool) → ((t : T) → f t ≡ true → g t ≡ true) → (ts : List T) → Avoids g ts → Avoids f ts
   avoids_wider f g within [] av = tt
@@ -77,13 +79,15 @@ module _ {T : Type 0} where
         ap (λ r. p r ts) e ∙ good.stable (k + room) ts lt (subst Calm (sym fewer) calm) ∙ fewer
 
     -- a sentence is read, whatever its nestings, unless they stop the reader
-    pub calm_complete : (depth at room : ℕ) (ts : List T) (w : List (Placed T)) (rest : List T) (v : A) → length ts < n → ts ≡ plain w ++ rest → P depth at w v → Avoids (last v) rest → Calm (p room ts) → p room ts ≡ Ok (v, rest)
+    pub calm_complete : (depth at room : ℕ) (ts : List T) (w : List (Placed T)) (rest : List T) (v : A) → length ts < n → ts ≡ plain w ++ rest → P depth at w v
+        → Avoids (last v) rest → Calm (p room ts) → p room ts ≡ Ok (v, rest)
     calm_complete depth at room ts w rest v lt e h av calm =
         let high : Within (at + (roof w + room)) w = within_wider (roof w + (at + room)) (at + (roof w + room)) (omega arith) w (within_roof (at + room) w) in
         sym (raised (roof w) room ts lt calm) ∙ good.complete depth at (roof w + room) ts w rest v lt e h high av
 
     -- the same with room enough
-    pub roof_complete : (depth at k : ℕ) (w : List (Placed T)) (rest : List T) (v : A) → length (plain w ++ rest) < n → P depth at w v → Avoids (last v) rest → p (roof w + k) (plain w ++ rest) ≡ Ok (v, rest)
+    pub roof_complete : (depth at k : ℕ) (w : List (Placed T)) (rest : List T) (v : A) → length (plain w ++ rest) < n → P depth at w v → Avoids (last v) rest
+        → p (roof w + k) (plain w ++ rest) ≡ Ok (v, rest)
     roof_complete depth at k w rest v lt h av =
         let high : Within (at + (roof w + k)) w = within_wider (roof w + (at + k)) (at + (roof w + k)) (omega arith) w (within_roof (at + k) w) in
         good.complete depth at (roof w + k) (plain w ++ rest) w rest v lt refl h high av
@@ -105,18 +109,19 @@ module _ {T : Type 0} where
     goes_on depth depth' at w z t v v' lt h h' =
         ⊎_elim (λ yes. yes)
         (λ no.
-            let long : List (Placed T) = w ++ (t ∷ z) in
-            let all : plain long ++ [] ≡ plain w ++ (t.0 ∷ plain z) = append_nil (plain long) ∙ plain-append w (t ∷ z) in
-            let size : length (plain long ++ []) < n = omega (arith, lt, ap length (append_nil (plain long)), length-plain long) in
-            let a = roof_complete depth' at (roof w) long [] v' size h' tt in
-            let room : roof long + roof w ≡ roof w + roof long = omega arith in
-            let b = roof_complete depth at (roof long) w (t.0 ∷ plain z) v (subst (λ l. length l < n) all size) h no in
-            let c : p (roof w + roof long) (plain w ++ (t.0 ∷ plain z)) ≡ Ok (v', []) = subst (λ l. p (roof w + roof long) l ≡ Ok (v', [])) all (subst (λ r. p r (plain long ++ []) ≡ Ok (v', [])) room a) in
-            let was : A × List T = (v, t.0 ∷ plain z) in
-            let is : A × List T = (v', []) in
-            let pair : was ≡ is = cc (b, c) in
-            let none : t.0 ∷ plain z ≡ [] = ap (λ x. x.1) pair in
-            cc (none))
+        let long : List (Placed T) = w ++ (t ∷ z) in
+        let all : plain long ++ [] ≡ plain w ++ (t.0 ∷ plain z) = append_nil (plain long) ∙ plain-append w (t ∷ z) in
+        let size : length (plain long ++ []) < n = omega (arith, lt, ap length (append_nil (plain long)), length-plain long) in
+        let a = roof_complete depth' at (roof w) long [] v' size h' tt in
+        let room : roof long + roof w ≡ roof w + roof long = omega arith in
+        let b = roof_complete depth at (roof long) w (t.0 ∷ plain z) v (subst (λ l. length l < n) all size) h no in
+        let c : p (roof w + roof long) (plain w ++ (t.0 ∷ plain z)) ≡ Ok (v', []) = subst (λ l. p (roof w + roof long) l ≡ Ok (v', [])) all
+        (subst (λ r. p r (plain long ++ []) ≡ Ok (v', [])) room a) in
+        let was : A × List T = (v, t.0 ∷ plain z) in
+        let is : A × List T = (v', []) in
+        let pair : was ≡ is = cc (b, c) in
+        let none : t.0 ∷ plain z ≡ [] = ap (λ x. x.1) pair in
+        cc (none))
         (true_or_not (last v t.0))
 
     pub less : (k : ℕ) → k ≤ n → Reads D k P p first last null

@@ -7,3 +7,4 @@ pub mod Loops
 pub mod Nested
 pub mod Whole
 pub mod Exact
+pub mod Turns

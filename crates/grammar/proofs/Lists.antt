@@ -1,5 +1,5 @@
 -- Lists of tokens with their nesting.
-use Rattle.std.proofs.Common.{◌≡◌, ℕ, zero, suc, ◌+◌, ◌<◌, ◌≤◌, List, [], ◌∷◌, ◌++◌, length, Bool, true, false, refl, sym, ap, ◌∙◌, subst, ◌⊎◌, inl, inr, ⊎_elim, append_assoc, length-append, arith}
+use Rattle.std.proofs.Common.{◌≡◌, ℕ, ◌+◌, ◌<◌, ◌≤◌, List, [], ◌∷◌, ◌++◌, length, Bool, true, false, refl, sym, ap, ◌⊎◌, inl, inr, ⊎_elim, length-append, arith}
 use Rattle.std.specs.Prelude.{◌||◌, ◌&&◌}
 use Rattle.grammar.specs.Rules.{Placed}
 use Rattle.grammar.specs.Sentences.{plain, Within}
@@ -149,8 +149,10 @@ module _ {T : Type 0} where
   agrees-append (x ∷ f) [] b b' h same longer shorter = shorter x f refl
   agrees-append (x ∷ f) (y ∷ f') b b' h same longer shorter = λ e.
       let k = h e in
-      let heads : x ≡ y = (λ i. (e i, k.0 i)) in
-      (k.0, agrees-append f f' b b' k.1
-          (λ s. same (λ i. heads i ∷ s i))
-          (λ t z s. longer t z (λ i. sym heads i ∷ s i))
-          (λ t z s. shorter t z (λ i. heads i ∷ s i)))
+      let heads : x ≡ y = (λ i. (e i, k.0 i)) in (
+        k.0,
+        agrees-append f f' b b' k.1
+            (λ s. same (λ i. heads i ∷ s i))
+            (λ t z s. longer t z (λ i. sym heads i ∷ s i))
+            (λ t z s. shorter t z (λ i. heads i ∷ s i)),
+      )

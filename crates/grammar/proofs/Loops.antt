@@ -1,12 +1,12 @@
 -- Any number of a rule, and what follows it.
-use Rattle.std.proofs.Common.{◌≡◌, ℕ, zero, suc, ◌+◌, ◌-◌, ◌<◌, ◌≤◌, List, [], ◌∷◌, ◌++◌, length, Option, Some, None, Bool, true, false, refl, sym, ap, ◌∙◌, subst, ◌⊎◌, inl, inr, ⊎_elim, append_assoc, length-append, arith}
-use Rattle.std.specs.Prelude.{Result, Ok, Err, if◌then◌else◌, ◌||◌, ◌&&◌, fold}
-use Rattle.grammar.specs.Rules.{Placed, Rule, Family, pure, one, ◌>>=◌, ◌<|>◌, many}
-use Rattle.grammar.specs.Sentences.{plain, Within, Spelled, Starts}
-use Rattle.grammar.specs.Readers.{Stop, Syntax, Deep, Reading, Reader, and_then, sees, sees_all, reads_pure, reads_both, reads_when, reads_either, reads_while, reads_many, appended}
-use Rattle.grammar.proofs.Lists.{false_true, or_left, or_right, or_cases, and_both, and_parts, true_or_not, not_true, append_nil, no_tokens, plain-append, Agrees}
-use Rattle.grammar.proofs.Good.{Reads, Answers, Dead, Avoids, Calm, Begun, ◌∘>◌, avoids_wider, deeper_by, less}
-use Rattle.grammar.proofs.Parts.{nowhere, if_so, resize, same_rule, same_reader, no_longer, reads_nothing, some_then}
+use Rattle.std.proofs.Common.{◌≡◌, ℕ, zero, suc, ◌+◌, ◌-◌, ◌≤◌, List, [], ◌∷◌, ◌++◌, length, Bool, true, false, refl, sym, ap, ◌∙◌, subst, inl, inr, ⊎_elim, append_assoc, arith}
+use Rattle.std.specs.Prelude.{Ok, Err, if◌then◌else◌, ◌||◌, fold}
+use Rattle.grammar.specs.Rules.{Placed, Family, pure, ◌>>=◌, many}
+use Rattle.grammar.specs.Sentences.{Spelled}
+use Rattle.grammar.specs.Readers.{Reading, Reader, and_then, sees, sees_all, reads_pure, reads_both, reads_when, reads_while, reads_many, appended}
+use Rattle.grammar.proofs.Lists.{false_true, or_left, or_right, or_cases, append_nil, no_tokens}
+use Rattle.grammar.proofs.Good.{Reads, ◌∘>◌, less}
+use Rattle.grammar.proofs.Parts.{resize, same_rule, same_reader, reads_nothing, some_then}
 use Rattle.grammar.proofs.Choice.{◌<∘>◌, StartsBy, DepartsBy, either_in, ahead_two, starts_both}
 
 pub fold-appended : {A : Type 0} → (found vs : List A) → fold appended found vs ≡ found ++ vs
@@ -14,13 +14,14 @@ fold-appended found [] = sym (append_nil found)
 fold-appended found (v ∷ vs) = fold-appended (found ++ (v ∷ [])) vs ∙ append_assoc found (v ∷ []) vs
 
 module _ {T : Type 0} where
-  module _ {D : ℕ → Type 0} {S A B : Type 0} {n : ℕ} {P : Family T A} {Q : S → Family T B} {p : ℕ → Reader T A} {q : S → ℕ → Reader T B} {first first' : T → Bool} {last : A → T → Bool} {last' : B → T → Bool} {null' : Bool}
+  module _ {D : ℕ → Type 0} {S A B : Type 0} {n : ℕ} {P : Family T A} {Q : S → Family T B} {p : ℕ → Reader T A} {q : S → ℕ → Reader T B}
+      {first first' : T → Bool} {last : A → T → Bool} {last' : B → T → Bool} {null' : Bool}
       (join : S → A → S) (test : List T → Bool) (nothing_ahead : test [] ≡ false)
       (item : Reads D n P p first last false) (after : (s : S) → Reads D n (Q s) (q s) first' last' null')
       (again_apart : (v : A) (t : T) → last v t ≡ true → first t ≡ true → ⊥) (after_apart : (v : A) (t : T) → last v t ≡ true → first' t ≡ true → ⊥)
       (Last : B → T → Bool) (early : (v : A) (b : B) (t : T) → null' ≡ true → last v t ≡ true → Last b t ≡ true)
       (choose : (k : ℕ) → k ≤ n → (s : S) (R : A → Family T B) (r : A → ℕ → Reader T B) → Reads D k (P ∘> R) (λ room. reads_both (p room) (λ v. r v room)) first Last false
-          → Reads D k ((P ∘> R) <∘> Q s) (λ room. reads_when test (reads_both (p room) (λ v. r v room)) (q s room)) (λ t. first t || first' t) Last null') where
+      → Reads D k ((P ∘> R) <∘> Q s) (λ room. reads_when test (reads_both (p room) (λ v. r v room)) (q s room)) (λ t. first t || first' t) Last null') where
     -- the rest of the loop, and what follows it
     abbrev pub Tail : S → Family T B
     Tail s depth = many (P depth) >>= (λ vs. Q (fold join s vs) depth)
@@ -36,12 +37,13 @@ module _ {T : Type 0} where
     turn_to s depth at w b h =
         ⊎_elim
         (λ k.
-            let t = k.5 in
-            (k.0 ∷ t.0, k.1 ++ t.1, t.2, k.3 ∙ ap (λ l. k.1 ++ l) t.3 ∙ sym (append_assoc k.1 t.1 t.2), (k.1, t.1, refl, k.4, t.4), t.5))
+        let t = k.5 in
+        (k.0 ∷ t.0, k.1 ++ t.1, t.2, k.3 ∙ ap (λ l. k.1 ++ l) t.3 ∙ sym (append_assoc k.1 t.1 t.2), (k.1, t.1, refl, k.4, t.4), t.5))
         (λ k. ([], [], w, refl, refl, k))
         h
 
-    turn_from_at : (s : S) (depth at : ℕ) (w : List (Placed T)) (b : B) (vs : List A) (f r : List (Placed T)) → w ≡ f ++ r → many (P depth) at f vs → Q (fold join s vs) depth at r b → Turn s depth at w b
+    turn_from_at : (s : S) (depth at : ℕ) (w : List (Placed T)) (b : B) (vs : List A) (f r : List (Placed T)) → w ≡ f ++ r → many (P depth) at f vs → Q
+        (fold join s vs) depth at r b → Turn s depth at w b
     turn_from_at s depth at w b [] f r e m k =
         let same : r ≡ w = sym (e ∙ ap (λ l. l ++ r) m) in
         inr (subst (λ l. Q s depth at l b) same k)
@@ -59,16 +61,16 @@ module _ {T : Type 0} where
     turn_begins : (depth at : ℕ) → D depth → (s : S) (t : Placed T) (w : List (Placed T)) (b : B) → Turn s depth at (t ∷ w) b → First t.0 ≡ true
     turn_begins depth at dd s t w b h =
         ⊎_elim (λ k. or_left (first t.0) (first' t.0) (item_begins k.1 k.2 k.0 k.3 k.4)) (λ k. or_right (first t.0) (first' t.0) ((after s).begins depth at dd t w b k)) h where
-      item_begins : (f r : List (Placed T)) (v : A) → t ∷ w ≡ f ++ r → P depth at f v → first t.0 ≡ true
-      item_begins [] r v e k = absurd (false_true false (item.empty depth at dd v k) refl)
-      item_begins (x ∷ f) r v e k = let same : x ≡ t = cc in subst (λ y. first y.0 ≡ true) same (item.begins depth at dd x f v k)
+          item_begins : (f r : List (Placed T)) (v : A) → t ∷ w ≡ f ++ r → P depth at f v → first t.0 ≡ true
+          item_begins [] r v e k = absurd (false_true false (item.empty depth at dd v k) refl)
+          item_begins (x ∷ f) r v e k = let same : x ≡ t = cc in subst (λ y. first y.0 ≡ true) same (item.begins depth at dd x f v k)
 
     turn_above : (depth at : ℕ) → D depth → (s : S) (t : Placed T) (w : List (Placed T)) (b : B) → Turn s depth at (t ∷ w) b → at ≤ t.1
     turn_above depth at dd s t w b h =
         ⊎_elim (λ k. item_above k.1 k.2 k.0 k.3 k.4) (λ k. (after s).above depth at dd t w b k) h where
-      item_above : (f r : List (Placed T)) (v : A) → t ∷ w ≡ f ++ r → P depth at f v → at ≤ t.1
-      item_above [] r v e k = absurd (false_true false (item.empty depth at dd v k) refl)
-      item_above (x ∷ f) r v e k = let same : x ≡ t = cc in subst (λ y. at ≤ y.1) same (item.above depth at dd x f v k)
+          item_above : (f r : List (Placed T)) (v : A) → t ∷ w ≡ f ++ r → P depth at f v → at ≤ t.1
+          item_above [] r v e k = absurd (false_true false (item.empty depth at dd v k) refl)
+          item_above (x ∷ f) r v e k = let same : x ≡ t = cc in subst (λ y. at ≤ y.1) same (item.above depth at dd x f v k)
 
     turn_empty : (depth at : ℕ) → D depth → (s : S) (b : B) → Turn s depth at [] b → null' ≡ true
     turn_empty depth at dd s b h = ⊎_elim (λ k. no_item k.1 k.2 k.0 k.3 k.4) (λ k. (after s).empty depth at dd b k) h where
@@ -101,7 +103,7 @@ module _ {T : Type 0} where
         → Reads D (suc m) (Tail s) (λ room. reads_when test (reads_both (p room) (λ v. r (join s v) room)) (q s room)) First Last null'
     turn m le s r tails =
         let more = some_then {n = suc m} {m = m} (omega arith) (less item (suc m) le) (λ v. tails (join s v)) (λ v t l f. or_cases (first t) (first' t) f (again_apart v t l) (after_apart v t l))
-            Last (λ b t e. e) (λ v depth at b t z h e. early v b t z e) in
+        Last (λ b t e. e) (λ v depth at b t z h e. early v b t z e) in
         same_rule (choose (suc m) le s (λ v. Tail (join s v)) (λ v. r (join s v)) more) (Tail s) (turn_to s) (turn_from s)
 
     unfoldable reads_loop : ℕ → S → ℕ → Reader T B
@@ -113,9 +115,9 @@ module _ {T : Type 0} where
     loop_at zero le s =
         let none = turn zero le s (λ s. q s) (λ s. shape s (q s)) in
         same_reader none (λ room ts. q s room ts) (λ room ts lt.
-            let empty : ts ≡ [] = no_tokens ts lt in
-            let out : test ts ≡ false = ap test empty ∙ nothing_ahead in
-            ap (λ b. if b then and_then (p room ts) (λ v. q (join s v) room) else q s room ts) out)
+        let empty : ts ≡ [] = no_tokens ts lt in
+        let out : test ts ≡ false = ap test empty ∙ nothing_ahead in
+        ap (λ b. if b then and_then (p room ts) (λ v. q (join s v) room) else q s room ts) out)
     loop_at (suc k) le s = turn (suc k) le s (reads_loop k) (loop_at k (omega arith))
 
     while_seen : (k : ℕ) → ((s : S) (room : ℕ) (ts : List T) → reads_loop k s room ts ≡ and_then (reads_while test join (p room) k s ts) (λ s. q s room)) → (s : S) (room : ℕ) (ts : List T) (b : Bool)
@@ -156,12 +158,16 @@ module _ {T : Type 0} where
 
   -- ---- by the next token
 
-  module _ {D : ℕ → Type 0} {S A B : Type 0} {n : ℕ} {P : Family T A} {Q : S → Family T B} {p : ℕ → Reader T A} {q : S → ℕ → Reader T B} {first first' : T → Bool} {last : A → T → Bool} {last' : B → T → Bool} {null' : Bool}
+  module _ {D : ℕ → Type 0} {S A B : Type 0} {n : ℕ} {P : Family T A} {Q : S → Family T B} {p : ℕ → Reader T A} {q : S → ℕ → Reader T B}
+      {first first' : T → Bool} {last : A → T → Bool} {last' : B → T → Bool} {null' : Bool}
       (join : S → A → S) (item : Reads D n P p first last false) (after : (s : S) → Reads D n (Q s) (q s) first' last' null')
-      (again_apart : (v : A) (t : T) → last v t ≡ true → first t ≡ true → ⊥) (after_apart : (v : A) (t : T) → last v t ≡ true → first' t ≡ true → ⊥) (apart : (t : T) → first t ≡ true → first' t ≡ true → ⊥)
-      (Last : B → T → Bool) (after_in : (b : B) (t : T) → last' b t ≡ true → Last b t ≡ true) (early : (v : A) (b : B) (t : T) → null' ≡ true → last v t ≡ true → Last b t ≡ true) (first_in : (b : B) (t : T) → null' ≡ true → first t ≡ true → Last b t ≡ true) where
+      (again_apart : (v : A) (t : T) → last v t ≡ true → first t ≡ true → ⊥) (after_apart : (v : A) (t : T) → last v t ≡ true → first' t ≡ true → ⊥)
+      (apart : (t : T) → first t ≡ true → first' t ≡ true → ⊥)
+      (Last : B → T → Bool) (after_in : (b : B) (t : T) → last' b t ≡ true → Last b t ≡ true)
+      (early : (v : A) (b : B) (t : T) → null' ≡ true → last v t ≡ true → Last b t ≡ true) (first_in : (b : B) (t : T) → null' ≡ true → first t ≡ true → Last b t ≡ true) where
     -- any number of P, and then Q of what was found
-    pub loop : (s : S) → Reads D n (λ depth. many (P depth) >>= (λ vs. Q (fold join s vs) depth)) (λ room ts. and_then (reads_while (sees first) join (p room) (length ts) s ts) (λ s. q s room)) (λ t. first t || first' t) Last null'
+    pub loop : (s : S) → Reads D n (λ depth. many (P depth) >>= (λ vs. Q (fold join s vs) depth))
+        (λ room ts. and_then (reads_while (sees first) join (p room) (length ts) s ts) (λ s. q s room)) (λ t. first t || first' t) Last null'
     loop = loop_in join (sees first) refl item after again_apart after_apart Last early
         (λ k le s R r left. either_in left (less (after s) k le) apart Last (λ b t e. e) after_in (λ depth at b t z h e. first_in b t z e))
 
@@ -206,24 +212,27 @@ module _ {T : Type 0} where
 
   -- ---- by two tokens
 
-  module _ {D : ℕ → Type 0} {S A B : Type 0} {n : ℕ} {P : Family T A} {Q : S → Family T B} {p : ℕ → Reader T A} {q : S → ℕ → Reader T B} {first first' : T → Bool} {last : A → T → Bool} {last' : B → T → Bool}
+  module _ {D : ℕ → Type 0} {S A B : Type 0} {n : ℕ} {P : Family T A} {Q : S → Family T B} {p : ℕ → Reader T A} {q : S → ℕ → Reader T B}
+      {first first' : T → Bool} {last : A → T → Bool} {last' : B → T → Bool}
       (join : S → A → S) (f g : T → Bool) (k : ℕ) (item : Reads D n P p first last false) (after : (s : S) → Reads D n (Q s) (q s) first' last' false)
       (again_apart : (v : A) (t : T) → last v t ≡ true → first t ≡ true → ⊥) (after_apart : (v : A) (t : T) → last v t ≡ true → first' t ≡ true → ⊥)
       (heads : ((d : ℕ) → D d) → (depth at : ℕ) (w : List (Placed T)) (v : A) → P depth at w v → StartsBy (f ∷ g ∷ []) (at + k) w)
       (others : ((d : ℕ) → D d) → (s : S) (depth at : ℕ) (w : List (Placed T)) (v : B) → Q s depth at w v → DepartsBy (f ∷ g ∷ []) (at + k) w)
       (left_first : (t : T) → f t ≡ true → first t ≡ true) (right_first : (t : T) → f t ≡ true → first' t ≡ true) where
     -- as long as the next two tokens are of the sets, and then Q of what was found, which is never empty
-    pub loop_two : (s : S) → Reads D n (λ depth. many (P depth) >>= (λ vs. Q (fold join s vs) depth)) (λ room ts. and_then (reads_while (sees_all (f ∷ g ∷ [])) join (p room) (length ts) s ts) (λ s. q s room)) (λ t. first t || first' t) last' false
+    pub loop_two : (s : S) → Reads D n (λ depth. many (P depth) >>= (λ vs. Q (fold join s vs) depth))
+        (λ room ts. and_then (reads_while (sees_all (f ∷ g ∷ [])) join (p room) (length ts) s ts) (λ s. q s room)) (λ t. first t || first' t) last' false
     loop_two = loop_in join (sees_all (f ∷ g ∷ [])) refl item after again_apart after_apart last' (λ v b t z e. cc)
         (λ j le s R r left. ahead_two left (less (after s) j le) f g k last' (λ b t e. e) (λ b t e. e)
-            (λ all depth at w v h. starts_both (P depth) (λ a. R a depth) (f ∷ g ∷ []) at (at + k) w v h (heads all depth at h.1 h.0 h.4))
-            (λ all depth at w v h. others all s depth at w v h) left_first right_first)
+        (λ all depth at w v h. starts_both (P depth) (λ a. R a depth) (f ∷ g ∷ []) at (at + k) w v h (heads all depth at h.1 h.0 h.4))
+        (λ all depth at w v h. others all s depth at w v h) left_first right_first)
 
   -- ---- where what is found is a list
 
   module _ {D : ℕ → Type 0} {A B : Type 0} {n : ℕ} {P : Family T A} {p : ℕ → Reader T B} {first : T → Bool} {last : B → T → Bool} {null : Bool} (Q : List A → Family T B) (found : List A) where
     -- the rule says the list plainly
-    pub as_list : Reads D n (λ depth. many (P depth) >>= (λ vs. Q (fold appended found vs) depth)) p first last null → Reads D n (λ depth. many (P depth) >>= (λ vs. Q (found ++ vs) depth)) p first last null
+    pub as_list : Reads D n (λ depth. many (P depth) >>= (λ vs. Q (fold appended found vs) depth)) p first last null → Reads D n
+        (λ depth. many (P depth) >>= (λ vs. Q (found ++ vs) depth)) p first last null
     as_list good =
         same_rule good (λ depth. many (P depth) >>= (λ vs. Q (found ++ vs) depth))
         (λ depth at w v h. (h.0, h.1, h.2, h.3, h.4, subst (λ l. Q l depth at h.2 v) (fold-appended found h.0) h.5))

@@ -1,11 +1,11 @@
 -- The rules without parts, the same reading under other sets, and what joins rules most often.
-use Rattle.std.proofs.Common.{◌≡◌, ℕ, zero, suc, ◌+◌, ◌<◌, ◌≤◌, List, [], ◌∷◌, ◌++◌, length, Option, Some, None, Bool, true, false, refl, sym, ap, ◌∙◌, subst, ◌⊎◌, inl, inr, ⊎_elim, append_assoc, length-append, arith}
-use Rattle.std.specs.Prelude.{Result, Ok, Err, if◌then◌else◌, ◌||◌, ◌&&◌}
-use Rattle.grammar.specs.Rules.{Placed, Rule, Family, pure, one, ◌>>=◌}
-use Rattle.grammar.specs.Sentences.{plain, Within, Spelled, Starts}
-use Rattle.grammar.specs.Readers.{Stop, Syntax, Deep, Reading, Reader, and_then, reads_pure, taken, reads_one, reads_both}
-use Rattle.grammar.proofs.Lists.{false_true, or_left, or_right, or_cases, and_both, and_parts, not_true, length-plain, Agrees}
-use Rattle.grammar.proofs.Good.{Reads, Answers, Dead, Avoids, Calm, Begun, ◌∘>◌, avoids_wider}
+use Rattle.std.proofs.Common.{◌≡◌, ℕ, suc, ◌+◌, ◌<◌, ◌≤◌, List, [], ◌∷◌, ◌++◌, length, Option, Some, None, Bool, true, false, refl, sym, ap, ◌∙◌, subst, ◌⊎◌, inl, inr, length-append, arith}
+use Rattle.std.specs.Prelude.{Ok, Err, if◌then◌else◌, ◌||◌, ◌&&◌}
+use Rattle.grammar.specs.Rules.{Placed, Family, pure, one}
+use Rattle.grammar.specs.Sentences.{plain, Spelled, Starts}
+use Rattle.grammar.specs.Readers.{Syntax, Deep, Reading, Reader, and_then, reads_pure, taken, reads_one, reads_both}
+use Rattle.grammar.proofs.Lists.{false_true, or_left, or_right, or_cases, and_both, and_parts, length-plain, Agrees}
+use Rattle.grammar.proofs.Good.{Reads, Answers, Dead, Calm, Begun, ◌∘>◌, avoids_wider}
 use Rattle.grammar.proofs.Both.{both_in}
 
 abbrev pub gives : {A : Type 0} → Option A → Bool
@@ -41,7 +41,8 @@ module _ {T : Type 0} where
 
   module _ {D : ℕ → Type 0} {A : Type 0} {n : ℕ} {P : Family T A} {p : ℕ → Reader T A} {first : T → Bool} {last : A → T → Bool} {null : Bool} (good : Reads D n P p first last null) where
     -- the same sets, or a larger one of what goes on
-    pub resize : (first' : T → Bool) (last' : A → T → Bool) (null' : Bool) → ((t : T) → first t ≡ first' t) → ((v : A) (t : T) → last v t ≡ true → last' v t ≡ true) → null ≡ null' → Reads D n P p first' last' null'
+    pub resize : (first' : T → Bool) (last' : A → T → Bool) (null' : Bool) → ((t : T) → first t ≡ first' t) →
+        ((v : A) (t : T) → last v t ≡ true → last' v t ≡ true) → null ≡ null' → Reads D n P p first' last' null'
     resize first' last' null' f l z = record {
       whole = good.whole;
       deeper = good.deeper;
@@ -78,7 +79,8 @@ module _ {T : Type 0} where
     }
 
     -- an equal rule
-    module _ (P' : Family T A) (to : (depth at : ℕ) (w : List (Placed T)) (v : A) → P depth at w v → P' depth at w v) (from : (depth at : ℕ) (w : List (Placed T)) (v : A) → P' depth at w v → P depth at w v) where
+    module _ (P' : Family T A) (to : (depth at : ℕ) (w : List (Placed T)) (v : A) → P depth at w v → P' depth at w v)
+        (from : (depth at : ℕ) (w : List (Placed T)) (v : A) → P' depth at w v → P depth at w v) where
       dead_same : (at : ℕ) (done rest : List T) → Dead P at done rest → Dead P' at done rest
       dead_same at done [] dead = tt
       dead_same at done (t ∷ rest) dead = λ depth w more v e h. dead depth w more v e (from depth at w v h)
@@ -92,7 +94,7 @@ module _ {T : Type 0} where
       answers_same : (at limit : ℕ) (ts : List T) (r : Reading T A) → Answers P at limit ts r → Answers P' at limit ts r
       answers_same at limit ts (Ok x) k = (k.0, k.1, spelled_same at k.0 x.0 k.2, k.3, dead_same at (plain k.0) x.1 k.4)
       answers_same at limit ts (Err (Syntax rest)) k = (k.0, k.1, starts_same at k.0 k.2, k.3, dead_same at (plain k.0) rest k.4)
-      answers_same at limit ts (Err (Deep rest)) k = (k.0, k.1, k.2, k.3, k.4, k.5, starts_same at (k.0 ++ ((k.1, k.2) ∷ [])) k.6, k.7, k.8)
+      answers_same at limit ts (Err (Deep above rest)) k = (k.0, k.1, k.2, k.3, k.4, k.5, starts_same at (k.0 ++ ((k.1, k.2) ∷ [])) k.6, k.7, k.8)
 
       pub same_rule : Reads D n P' p first last null
       same_rule = record {
@@ -202,12 +204,17 @@ module _ {T : Type 0} where
 
     one_sound : (at limit : ℕ) → at ≤ limit → (t : T) (rest : List T) → Starts Token at [] → (o : Option A) → f t ≡ o → Answers Token at limit (t ∷ rest) (taken t rest o)
     one_sound at limit low t rest some (Some a) e = ((t, at) ∷ [], refl, (0, (t, refl, e)), (low, tt), one_dead at t rest)
-    one_sound at limit low t rest some None e =
-        ([], refl, some, tt, λ depth w more v s h.
-            let only : plain w ≡ h.0 ∷ [] = ap plain h.1 in
-            let same : t ≡ h.0 = cc (only, s) in
-            let same' = ap f same in
-            let no : ⊥ = cc (e, same', h.2) in no)
+    one_sound at limit low t rest some None e = (
+      [],
+      refl,
+      some,
+      tt,
+      λ depth w more v s h.
+          let only : plain w ≡ h.0 ∷ [] = ap plain h.1 in
+          let same : t ≡ h.0 = cc (only, s) in
+          let same' = ap f same in
+          let no : ⊥ = cc (e, same', h.2) in no,
+    )
 
     one_sound_at : (at limit : ℕ) → at ≤ limit → (ts : List T) → Starts Token at [] → Answers Token at limit ts (reads_one f ts)
     one_sound_at at limit low [] some = ([], refl, some, tt, tt)
@@ -242,7 +249,8 @@ module _ {T : Type 0} where
 
   -- ---- one rule after the other, where the first is never empty
 
-  module _ {D : ℕ → Type 0} {A B : Type 0} {n m : ℕ} {P : Family T A} {Q : A → Family T B} {p : ℕ → Reader T A} {q : A → ℕ → Reader T B} {first : T → Bool} {last : A → T → Bool} {first' : A → T → Bool} {last' : B → T → Bool} {null' : Bool}
+  module _ {D : ℕ → Type 0} {A B : Type 0} {n m : ℕ} {P : Family T A} {Q : A → Family T B} {p : ℕ → Reader T A} {q : A → ℕ → Reader T B} {first : T → Bool}
+      {last : A → T → Bool} {first' : A → T → Bool} {last' : B → T → Bool} {null' : Bool}
       (le : n ≤ suc m) (before : Reads D n P p first last false) (after : (a : A) → Reads D m (Q a) (q a) (first' a) last' null')
       (apart : (a : A) (t : T) → last a t ≡ true → first' a t ≡ true → ⊥) where
     -- what goes on after both, given for an empty second rule too
@@ -252,14 +260,16 @@ module _ {T : Type 0} where
     some_then Last last_in early_in =
         both_in before after apart (shorter before refl m le) first Last (λ t e. e) (λ a t z e. cc) (λ lt at t e. inl e) last_in early_in
 
-  module _ {D : ℕ → Type 0} {A B : Type 0} {n : ℕ} {P : Family T A} {Q : A → Family T B} {p : ℕ → Reader T A} {q : A → ℕ → Reader T B} {first : T → Bool} {last : A → T → Bool} {first' : A → T → Bool} {last' : B → T → Bool}
+  module _ {D : ℕ → Type 0} {A B : Type 0} {n : ℕ} {P : Family T A} {Q : A → Family T B} {p : ℕ → Reader T A} {q : A → ℕ → Reader T B} {first : T → Bool}
+      {last : A → T → Bool} {first' : A → T → Bool} {last' : B → T → Bool}
       (before : Reads D n P p first last false) (after : (a : A) → Reads D n (Q a) (q a) (first' a) last' false)
       (apart : (a : A) (t : T) → last a t ≡ true → first' a t ≡ true → ⊥) where
     -- two rules that are never empty
     pub in_turn : Reads D n (P ∘> Q) (λ room. reads_both (p room) (λ a. q a room)) first last' false
     in_turn = both_in before after apart (no_longer before) first last' (λ t e. e) (λ a t z e. cc) (λ lt at t e. inl e) (λ b t e. e) (λ a depth at b t z h e. cc)
 
-  module _ {D : ℕ → Type 0} {A B : Type 0} {n : ℕ} {P : Family T A} {Q : A → Family T B} {p : ℕ → Reader T A} {q : A → ℕ → Reader T B} {first : T → Bool} {last : A → T → Bool} {first' : T → Bool} {last' : B → T → Bool} {null null' : Bool}
+  module _ {D : ℕ → Type 0} {A B : Type 0} {n : ℕ} {P : Family T A} {Q : A → Family T B} {p : ℕ → Reader T A} {q : A → ℕ → Reader T B} {first : T → Bool}
+      {last : A → T → Bool} {first' : T → Bool} {last' : B → T → Bool} {null null' : Bool}
       (before : Reads D n P p first last null) (after : (a : A) → Reads D n (Q a) (q a) first' last' null')
       (apart : (a : A) (t : T) → last a t ≡ true → first' t ≡ true → ⊥) where
     begins_with : 0 < n → (at : ℕ) (t : T) → (first t || if_so null first' t) ≡ true → (first t ≡ true) ⊎ ((a : A) × Spelled P at [] a × (first' t ≡ true) × (0 < n))
@@ -284,13 +294,13 @@ module _ {T : Type 0} where
         (both good (λ a. reads_nothing {n = n} good.whole (g a)) (λ a t l f. cc) Last (λ b t e. cc) (λ a depth at b t z h e. subst (λ x. Last x t ≡ true) (sym h.1) (last_in a t e)))
         first Last null (λ t. end_first null (first t)) (λ v t h. h) (end_null null)
       where
-      end_first : (null b : Bool) → (b || (null && false)) ≡ b
-      end_first true b = or_nothing b
-      end_first false b = or_nothing b
+        end_first : (null b : Bool) → (b || (null && false)) ≡ b
+        end_first true b = or_nothing b
+        end_first false b = or_nothing b
 
-      end_null : (null : Bool) → (null && true) ≡ null
-      end_null true = refl
-      end_null false = refl
+        end_null : (null : Bool) → (null && true) ≡ null
+        end_null true = refl
+        end_null false = refl
 
   -- ---- a token, and a rule after it
 

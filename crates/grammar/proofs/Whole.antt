@@ -1,15 +1,16 @@
 -- Whole texts: what the answer of a reader says of them.
-use Rattle.std.proofs.Common.{◌≡◌, ℕ, zero, suc, ◌+◌, ◌-◌, ◌<◌, ◌≤◌, List, [], ◌∷◌, ◌++◌, length, take, refl, sym, ap, ◌∙◌, subst, append_assoc, length-append, arith}
+use Rattle.std.proofs.Common.{◌≡◌, ℕ, suc, ◌+◌, ◌-◌, ◌<◌, ◌≤◌, List, [], ◌∷◌, ◌++◌, length, take, refl, sym, ap, ◌∙◌, subst, append_assoc, length-append, arith}
 use Rattle.std.proofs.Math.Seq.{take-append_seam, take-append-add}
-use Rattle.std.specs.Prelude.{Result, Ok, Err, Bool}
+use Rattle.std.specs.Prelude.{Ok, Err, Bool}
 use Rattle.grammar.specs.Rules.{Placed, Family}
-use Rattle.grammar.specs.Sentences.{plain, Within, Spelled, Starts, Sentence, SentenceWithin, StartsSentence, StartsWithin, FaultAt, TooDeepAt}
+use Rattle.grammar.specs.Sentences.{plain, Within, Spelled, Starts, Sentence, SentenceWithin, StartsWithin, FaultAt, TooDeepAt}
 use Rattle.grammar.specs.Readers.{Stop, Syntax, Deep, Reading, Reader}
 use Rattle.grammar.proofs.Lists.{append_nil, plain-append, length-plain}
 use Rattle.grammar.proofs.Good.{Reads, Answers, Dead, Calm, calm_complete}
 
 module _ {T : Type 0} where
-  module _ {A : Type 0} {P : Family T A} {p : ℕ → Reader T A} {first : T → Bool} {last : A → T → Bool} {null : Bool} (limit : ℕ) (ts : List T) (good : Reads (λ depth. Unit {0}) (suc (length ts)) P p first last null) where
+  module _ {A : Type 0} {P : Family T A} {p : ℕ → Reader T A} {first : T → Bool} {last : A → T → Bool} {null : Bool} (limit : ℕ) (ts : List T)
+      (good : Reads (λ depth. Unit {0}) (suc (length ts)) P p first last null) where
     abbrev reading : Reading T A
     reading = p limit ts
 
@@ -42,7 +43,8 @@ module _ {T : Type 0} where
     found v e = found_from v reading answers e
 
     -- the tokens before the rest start a sentence, and none goes on with the next one
-    fault_from : (before : List (Placed T)) (rest : List T) → ts ≡ plain before ++ rest → Starts P 0 before → Within limit before → Dead P 0 (plain before) rest → (rest ≡ [] → (v : A) → Sentence P ts v → ⊥) → FaultAt P limit ts (length ts - length rest)
+    fault_from : (before : List (Placed T)) (rest : List T) → ts ≡ plain before ++ rest → Starts P 0 before → Within limit before → Dead P 0
+        (plain before) rest → (rest ≡ [] → (v : A) → Sentence P ts v → ⊥) → FaultAt P limit ts (length ts - length rest)
     fault_from before [] e begun low dead cut =
         let all : length ts - 0 ≡ length (plain before) = omega (arith, ap length e, length-append (plain before) []) in
         let whole : take (length (plain before)) ts ≡ plain before = ap (take (length (plain before))) e ∙ take-append_seam (plain before) [] in
@@ -72,7 +74,8 @@ module _ {T : Type 0} where
     ok_fault_from v t rest (Ok x) k e =
         let is : A × List T = (v, t ∷ rest) in
         let same : x ≡ is = cc in
-        fault_from k.0 (t ∷ rest) (k.1 ∙ ap (λ y. plain k.0 ++ y.1) same) ([], x.0, (k.2.0, subst (λ l. P k.2.0 0 l x.0) (sym (append_nil k.0)) k.2.1)) k.3 (subst (λ y. Dead P 0 (plain k.0) y.1) same k.4) (λ none. cc)
+        fault_from k.0 (t ∷ rest) (k.1 ∙ ap (λ y. plain k.0 ++ y.1) same) ([], x.0, (k.2.0, subst (λ l. P k.2.0 0 l x.0) (sym (append_nil k.0)) k.2.1)) k.3
+        (subst (λ y. Dead P 0 (plain k.0) y.1) same k.4) (λ none. cc)
     ok_fault_from v t rest (Err stop) k e = cc
 
     -- the sentence ended before the last token
@@ -85,16 +88,18 @@ module _ {T : Type 0} where
         let same : rest' ≡ rest = cc in
         let calm : Calm reading = subst Calm (sym read) tt in
         fault_from k.0 rest (k.1 ∙ ap (λ l. plain k.0 ++ l) same) k.2 k.3 (subst (Dead P 0 (plain k.0)) same k.4) (λ none v h. let got = calm_whole v h calm in let clash : ⊥ = cc (got, read) in clash)
-    err_fault_from rest (Err (Deep rest')) read k e = cc
+    err_fault_from rest (Err (Deep above' rest')) read k e = cc
 
     pub err_fault : (rest : List T) → reading ≡ Err (Syntax rest) → FaultAt P limit ts (length ts - length rest)
     err_fault rest e = err_fault_from rest reading refl answers e
 
-    deep_from : (rest : List T) (r : Reading T A) → Answers P 0 limit ts r → r ≡ Err (Deep rest) → TooDeepAt P limit ts (length ts - length rest)
-    deep_from rest (Ok x) k e = cc
-    deep_from rest (Err (Syntax rest')) k e = cc
-    deep_from rest (Err (Deep rest')) k e =
+    deep_from : (above : ℕ) (rest : List T) (r : Reading T A) → Answers P 0 limit ts r → r ≡ Err (Deep above rest) → TooDeepAt P limit ts (length ts - length rest) (limit + above)
+    deep_from above rest (Ok x) k e = cc
+    deep_from above rest (Err (Syntax rest')) k e = cc
+    deep_from above rest (Err (Deep above' rest')) k e =
         let same : rest' ≡ rest = cc in
+        let levels : above' ≡ above = cc in
+        let count : k.2 ≡ limit + above = k.8.0 ∙ ap (λ a. limit + a) levels in
         let cut : ts ≡ plain k.0 ++ (k.1 ∷ k.3) = k.5 ∙ ap (λ l. plain k.0 ++ l) k.4 in
         let size : length rest ≡ suc (length k.3) = ap length (sym same ∙ k.4) in
         let at : length ts - length rest ≡ length (plain k.0) = omega (arith, ap length cut, length-append (plain k.0) (k.1 ∷ k.3), size) in
@@ -102,16 +107,15 @@ module _ {T : Type 0} where
         record {
           front = k.0;
           token = k.1;
-          nesting = k.2;
-          begun = k.6;
+          begun = subst (λ n. Starts P 0 (k.0 ++ ((k.1, n) ∷ []))) count k.6;
           place = sym (at ∙ length-plain k.0);
           is = sym (ap (λ j. take (j + 1) ts) at ∙ more);
           before = k.7;
-          deep = k.8;
+          deep = subst (λ n. limit < n) count k.8.1;
         }
 
-    pub err_deep : (rest : List T) → reading ≡ Err (Deep rest) → TooDeepAt P limit ts (length ts - length rest)
-    err_deep rest e = deep_from rest reading answers e
+    pub err_deep : (above : ℕ) (rest : List T) → reading ≡ Err (Deep above rest) → TooDeepAt P limit ts (length ts - length rest) (limit + above)
+    err_deep above rest e = deep_from above rest reading answers e
 
     -- ---- for the caller, by what is left
 
@@ -132,21 +136,21 @@ module _ {T : Type 0} where
         let same : rest' ≡ rest = cc in
         let cut : ts ≡ plain k.0 ++ rest = k.1 ∙ ap (λ l. plain k.0 ++ l) same in
         omega (arith, ap length cut, length-append (plain k.0) rest)
-    within_syntax_from (Err (Deep rest')) rest k e = cc
+    within_syntax_from (Err (Deep above' rest')) rest k e = cc
 
     pub within_syntax : (rest : List T) → reading ≡ Err (Syntax rest) → length rest ≤ length ts
     within_syntax rest e = within_syntax_from reading rest answers e
 
-    within_deep_from : (r : Reading T A) (rest : List T) → Answers P 0 limit ts r → r ≡ Err (Deep rest) → length rest ≤ length ts
-    within_deep_from (Ok x) rest k e = cc
-    within_deep_from (Err (Syntax rest')) rest k e = cc
-    within_deep_from (Err (Deep rest')) rest k e =
+    within_deep_from : (r : Reading T A) (above : ℕ) (rest : List T) → Answers P 0 limit ts r → r ≡ Err (Deep above rest) → length rest ≤ length ts
+    within_deep_from (Ok x) above rest k e = cc
+    within_deep_from (Err (Syntax rest')) above rest k e = cc
+    within_deep_from (Err (Deep above' rest')) above rest k e =
         let same : rest' ≡ rest = cc in
         let cut : ts ≡ plain k.0 ++ rest = k.5 ∙ ap (λ l. plain k.0 ++ l) same in
         omega (arith, ap length cut, length-append (plain k.0) rest)
 
-    pub within_deep : (rest : List T) → reading ≡ Err (Deep rest) → length rest ≤ length ts
-    within_deep rest e = within_deep_from reading rest answers e
+    pub within_deep : (above : ℕ) (rest : List T) → reading ≡ Err (Deep above rest) → length rest ≤ length ts
+    within_deep above rest e = within_deep_from reading above rest answers e
 
     pub all_read : (v : A) (new : List T) → reading ≡ Ok (v, new) → length new ≡ 0 → SentenceWithin P limit ts v
     all_read v [] e none = found v e

@@ -1,38 +1,19 @@
 -- Readers: functions that read a value from the front of a list of tokens, top down.
 --
--- A reading stands beside its rule in the same do-notation. It has a parameter `room`: how many levels of nesting are
--- left, the one that the phrase stands at among them. What the rule puts into `nested` is read by a function of its own:
+-- The head of Rules.antt shows a reading beside its rule and its program. It has a parameter `room`: how many levels of
+-- nesting are left, the one that the phrase stands at among them. What the rule puts into `nested` is read by a reader of
+-- its own: a bracket by `reads_within`; what refers to itself by cases on the room,
 --
---     read_parenthesized : ℕ → Reader T Expr
---     read_parenthesized room = reads_within (is OpenRound) room (do
---       expect OpenRound
---       inner ← read_expr room
---       expect CloseRound
---       reads_pure inner)
---
--- and in the program
---
---     fn parenthesized(&mut self, room: usize) -> Result<Expr, Fault>
---         ensures { Steps (read_parenthesized room self.old.rest.now) result self.new.rest.now }
---     {
---         if room == 0 {
---             return Err(too_deep(self.sees(OpenRound)));
---         }
---         self.expect(OpenRound)?;
---         let inner = self.expr(room)?;
---         self.expect(CloseRound)?;
---         Ok(inner)
---     }
---
--- What refers to itself is by cases on the room, `read_cast (suc room) = read_operand (read_cast room) room`.
+--     read_cast zero = too_deep_or (is OpenRound) begins_cast
+--     read_cast (suc room) = read_operand (read_cast room) room
 use Rattle.std.specs.Prelude.{ℕ, zero, suc, Bool, true, false, if◌then◌else◌, ◌&&◌, ◌==◌, List, [], ◌∷◌, ◌++◌, length, Option, Some, None, Result, Ok, Err}
 
 -- why reading stopped, and the tokens from the faulty one on
 pub data Stop (T : Type 0) : Type 0 where
   -- no sentence goes on with the first of these tokens
   Syntax : List T → Stop T
-  -- a sentence goes on with the first of these tokens, but it is nested too deep
-  Deep : List T → Stop T
+  -- a sentence goes on with the first of these tokens, but it is nested too deep, by so many levels
+  Deep : ℕ → List T → Stop T
 
 abbrev pub Reading : Type 0 → Type 0 → Type 0
 Reading T A = Result (A × List T) (Stop T)
@@ -97,7 +78,11 @@ module _ {T : Type 0} where
 
   -- no level of nesting is left for a rule whose sentences begin with the tokens of the set
   abbrev pub too_deep : {A : Type 0} → (T → Bool) → Reader T A
-  too_deep f ts = if sees f ts then Err (Deep ts) else Err (Syntax ts)
+  too_deep f ts = if sees f ts then Err (Deep 1 ts) else Err (Syntax ts)
+
+  -- the same where those of a second set, which open a bracket, stand one level deeper still
+  abbrev pub too_deep_or : {A : Type 0} → (T → Bool) → (T → Bool) → Reader T A
+  too_deep_or opens f ts = if sees opens ts then Err (Deep 2 ts) else too_deep f ts
 
   -- a rule one level deeper, by how many levels are left for it
   abbrev pub reads_within : {A : Type 0} → (T → Bool) → ℕ → Reader T A → Reader T A

@@ -46,11 +46,11 @@ module _ {T : Type 0} where
       pub stuck : k < length ts → StartsSentence (take (k + 1) ts) → ⊥
       pub cut : k ≡ length ts → (v : A) → Sentence ts v → ⊥
 
-    -- Token k is the first one nested deeper than the limit, in a sentence that starts with the first k + 1 tokens.
-    pub record TooDeepAt (limit : ℕ) (ts : List T) (k : ℕ) : Type 0 where
+    -- Token k has this nesting and is the first one nested deeper than the limit, in a sentence that starts with the
+    -- first k + 1 tokens.
+    pub record TooDeepAt (limit : ℕ) (ts : List T) (k : ℕ) (nesting : ℕ) : Type 0 where
       pub front : List (Placed T)
       pub token : T
-      pub nesting : ℕ
       pub begun : Starts 0 (front ++ ((token, nesting) ∷ []))
       pub place : length front ≡ k
       pub is : plain front ++ (token ∷ []) ≡ take (k + 1) ts

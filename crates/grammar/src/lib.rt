@@ -12,8 +12,8 @@ use std::alloc::AllocError;
 pub enum Fault {
     /// No sentence goes on with the token ahead.
     Syntax,
-    /// A sentence goes on with the token ahead, but it is nested deeper than the limit.
-    Nesting,
+    /// A sentence goes on with the token ahead, but it is nested deeper than the limit, by so many levels.
+    Nesting(u8),
     /// Memory ran out.
     Memory,
 }
@@ -28,9 +28,16 @@ impl From<AllocError> for Fault {
     }
 }
 
-/// The fault where no level of nesting is left for a phrase: the token ahead may begin it or not.
-pub fn too_deep(begins: bool) -> Fault
-    ensures { result ≡ too_deep_fault begins }
+/// The fault where no level of nesting is left for a phrase: the token ahead may begin it or not, or open a bracket that
+/// is one level deeper than the phrase.
+pub fn too_deep(begins: bool, opens: bool) -> Fault
+    ensures { result ≡ too_deep_fault begins opens }
 {
-    if begins { Fault::Nesting } else { Fault::Syntax }
+    if opens {
+        Fault::Nesting(2)
+    } else if begins {
+        Fault::Nesting(1)
+    } else {
+        Fault::Syntax
+    }
 }
