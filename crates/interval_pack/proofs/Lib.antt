@@ -1,0 +1,4 @@
+pub mod Keys
+pub mod Counts
+pub mod Packed
+pub mod Unique

@@ -1,0 +1,3 @@
+pub mod LeftEdge
+pub mod Packing
+pub mod Order
