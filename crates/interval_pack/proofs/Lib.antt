@@ -2,3 +2,6 @@ pub mod Keys
 pub mod Counts
 pub mod Packed
 pub mod Unique
+pub mod KeySets
+pub mod Vacated
+pub mod Placing

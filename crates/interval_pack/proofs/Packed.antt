@@ -44,7 +44,7 @@ module _ (intervals : List Interval) (keys : List (ℕ × ℕ)) where
     pub others : (q : ℕ) → q ≢ r → q < length new → (q < length ends) × (get_or new q 0 ≡ get_or ends q 0)
 
   module _ (order : IsOrder intervals keys) (solid : All (λ a. a.start < a.end) intervals) (k : ℕ) (l : k < length keys) where
-    sooner : (a : ℕ) → a < k → (item a).start ≤ (item k).start
+    pub sooner : (a : ℕ) → a < k → (item a).start ≤ (item k).start
     sooner a m = by_order (order.rising a k m l)
       where
         by_order : ((key keys a).0 < (key keys k).0) ⊎ (((key keys a).0 ≡ (key keys k).0) × ((key keys a).1 < (key keys k).1)) → (item a).start ≤ (item k).start

@@ -4,6 +4,7 @@
 pub mod interval;
 mod left_edge;
 mod order;
+mod rows;
 
 pub use interval::{Interval, Packing};
 pub use left_edge::pack;
