@@ -34,7 +34,8 @@ some test (a ∷ xs) [] i n l e = absurd (omega arith)
 some test (a ∷ xs) (r ∷ rows) zero n l e = let e' : test a r ≡ true = e in rw e' (omega arith)
 some test (a ∷ xs) (r ∷ rows) (suc i) n l e = let h = some test xs rows i (omega arith) (omega arith) e in omega (arith, h)
 
-most_by : (test : Test) (a : Interval) (r : ℕ) (xs : List Interval) (rows : List ℕ) → length rows ≡ length xs → (test a r ≡ true → (i : ℕ) → i < length xs → test (get_or xs i nowhere) (get_or rows i 0) ≡ false) → passing test xs rows ≤ 1 → (b : Bool) → test a r ≡ b → one_if b + passing test xs rows ≤ 1
+most_by : (test : Test) (a : Interval) (r : ℕ) (xs : List Interval) (rows : List ℕ) → length rows ≡ length xs → (test a r ≡ true → (i : ℕ) → i < length xs
+    → test (get_or xs i nowhere) (get_or rows i 0) ≡ false) → passing test xs rows ≤ 1 → (b : Bool) → test a r ≡ b → one_if b + passing test xs rows ≤ 1
 most_by test a r xs rows n f h true e = let z = none test xs rows n (f e) in omega (arith, z)
 most_by test a r xs rows n f h false e = omega (arith, h)
 
@@ -42,14 +43,17 @@ bool_false : (b : Bool) → (b ≡ true → ⊥) → b ≡ false
 bool_false true f = absurd (f refl)
 bool_false false f = refl
 
-pub at_most : (test : Test) (xs : List Interval) (rows : List ℕ) → length rows ≡ length xs → ((i j : ℕ) → i < length xs → j < length xs → test (get_or xs i nowhere) (get_or rows i 0) ≡ true → test (get_or xs j nowhere) (get_or rows j 0) ≡ true → i ≡ j) → passing test xs rows ≤ 1
+pub at_most : (test : Test) (xs : List Interval) (rows : List ℕ) → length rows ≡ length xs → ((i j : ℕ) → i < length xs → j < length xs
+    → test (get_or xs i nowhere) (get_or rows i 0) ≡ true → test (get_or xs j nowhere) (get_or rows j 0) ≡ true → i ≡ j) → passing test xs rows ≤ 1
 at_most test [] rows n f = omega arith
 at_most test (a ∷ xs) [] n f = omega arith
 at_most test (a ∷ xs) (r ∷ rows) n f =
     let h = at_most test xs rows (omega arith) (λ i j l m p q. (let e : suc i ≡ suc j = f (suc i) (suc j) (omega arith) (omega arith) p q in omega arith)) in
-    most_by test a r xs rows (omega arith) (λ e i l. bool_false (test (get_or xs i nowhere) (get_or rows i 0)) (λ p. (let q : 0 ≡ suc i = f 0 (suc i) (omega arith) (omega arith) e p in omega arith))) h (test a r) refl
+    most_by test a r xs rows (omega arith) (λ e i l. bool_false (test (get_or xs i nowhere) (get_or rows i 0)) (λ p. (let q : 0 ≡ suc i = f 0 (suc i) (omega arith)
+    (omega arith) e p in omega arith))) h (test a r) refl
 
-pub same_passing : (s t : Test) (xs : List Interval) (rows : List ℕ) → length rows ≡ length xs → ((i : ℕ) → i < length xs → s (get_or xs i nowhere) (get_or rows i 0) ≡ t (get_or xs i nowhere) (get_or rows i 0)) → passing s xs rows ≡ passing t xs rows
+pub same_passing : (s t : Test) (xs : List Interval) (rows : List ℕ) → length rows ≡ length xs → ((i : ℕ) → i < length xs
+    → s (get_or xs i nowhere) (get_or rows i 0) ≡ t (get_or xs i nowhere) (get_or rows i 0)) → passing s xs rows ≡ passing t xs rows
 same_passing s t [] rows n f = refl
 same_passing s t (a ∷ xs) [] n f = refl
 same_passing s t (a ∷ xs) (r ∷ rows) n f =
@@ -57,7 +61,8 @@ same_passing s t (a ∷ xs) (r ∷ rows) n f =
     let h : passing s xs rows ≡ passing t xs rows = same_passing s t xs rows (omega arith) (λ i l. f (suc i) (omega arith)) in
     rw e (omega (arith, h))
 
-pub sum_passing : (s t u : Test) (xs : List Interval) (rows : List ℕ) → ((a : Interval) (r : ℕ) → one_if (s a r) ≡ one_if (t a r) + one_if (u a r)) → passing s xs rows ≡ passing t xs rows + passing u xs rows
+pub sum_passing : (s t u : Test) (xs : List Interval) (rows : List ℕ) → ((a : Interval) (r : ℕ) → one_if (s a r) ≡ one_if (t a r) + one_if (u a r))
+    → passing s xs rows ≡ passing t xs rows + passing u xs rows
 sum_passing s t u [] rows f = refl
 sum_passing s t u (a ∷ xs) [] f = refl
 sum_passing s t u (a ∷ xs) (r ∷ rows) f = let e = f a r in let h = sum_passing s t u xs rows f in omega (arith, e, h)
@@ -93,7 +98,8 @@ split_at : (p k : ℕ) (a : Interval) (r : ℕ) (b : Bool) → one_if (b && nat_
 split_at p k a r true = grind arith
 split_at p k a r false = refl
 
-module _ (p : ℕ) (xs : List Interval) (rows : List ℕ) (n : length rows ≡ length xs) (one : (i j : ℕ) → i < length xs → j < length xs → holds p (get_or xs i nowhere) ≡ true → holds p (get_or xs j nowhere) ≡ true → get_or rows i 0 ≡ get_or rows j 0 → i ≡ j) where
+module _ (p : ℕ) (xs : List Interval) (rows : List ℕ) (n : length rows ≡ length xs) (one : (i j : ℕ) → i < length xs → j < length xs → holds p (get_or xs i nowhere) ≡ true
+    → holds p (get_or xs j nowhere) ≡ true → get_or rows i 0 ≡ get_or rows j 0 → i ≡ j) where
   one_of : (k : ℕ) → passing (exactly p k) xs rows ≤ 1
   one_of k = at_most (exactly p k) xs rows n (λ i j l m e f. one i j l m (grind arith) (grind arith) (grind arith))
 

@@ -143,7 +143,8 @@ module _ (intervals : List Interval) (keys : List (ℕ × ℕ)) where
           let t : (item k).end ≤ get_or new (row_of row' k) 0 = rw its_row (omega (arith, takes.here)) in
           subst (λ (z : ℕ). (item z).end ≤ get_or new (row_of row' z) 0) (sym e) t
 
-      still_opened : length new ≡ length ends → ((length ends ≡ 0) × (crowded ≡ 0)) ⊎ Opened k row (length ends) crowded → ((length new ≡ 0) × (crowded ≡ 0)) ⊎ Opened (k + 1) row' (length new) crowded
+      still_opened : length new ≡ length ends → ((length ends ≡ 0) × (crowded ≡ 0)) ⊎ Opened k row (length ends) crowded
+          → ((length new ≡ 0) × (crowded ≡ 0)) ⊎ Opened (k + 1) row' (length new) crowded
       still_opened e (inl h) = inl (omega (arith, h.0), h.1)
       still_opened e (inr o) = inr (record {
         by = o.by;
@@ -244,7 +245,8 @@ module _ (intervals : List Interval) (keys : List (ℕ × ℕ)) where
         let h : get_or row (key keys a.0).1 0 ≢ get_or row (key keys b.0).1 0 = packed.apart a.0 b.0 ab b.1 meet' in
         rw (a.2, b.2) at h
 
-    final_least : (j r : ℕ) → j < length intervals → r < get_or row j 0 → (i : ℕ) × (i < length intervals) × IsBefore (start_of intervals) i j × Meet (at intervals i) (at intervals j) × (get_or row i 0 ≡ r)
+    final_least : (j r : ℕ) → j < length intervals → r < get_or row j 0 → (i : ℕ) × (i < length intervals) × IsBefore (start_of intervals) i j × Meet (at intervals i)
+        (at intervals j) × (get_or row i 0 ≡ r)
     final_least j r lj lt =
         let b = order.covers j lj in
         let lt' : r < row_of row b.0 = rw b.2 lt in
@@ -256,7 +258,9 @@ module _ (intervals : List Interval) (keys : List (ℕ × ℕ)) where
     final_below : (i : ℕ) → i < length intervals → get_or row i 0 < length ends
     final_below i li = let a = order.covers i li in let h : row_of row a.0 < length ends = packed.below a.0 a.1 in rw a.2 at h
 
-    before_or : (i j : ℕ) → ((at intervals i).start < (at intervals j).start) ⊎ ((at intervals j).start ≤ (at intervals i).start) → ((at intervals j).start < (at intervals i).start) ⊎ ((at intervals i).start ≤ (at intervals j).start) → (i < j) ⊎ (j ≤ i) → (IsBefore (start_of intervals) i j) ⊎ ((i ≡ j) ⊎ IsBefore (start_of intervals) j i)
+    before_or : (i j : ℕ) → ((at intervals i).start < (at intervals j).start) ⊎ ((at intervals j).start ≤ (at intervals i).start)
+        → ((at intervals j).start < (at intervals i).start) ⊎ ((at intervals i).start ≤ (at intervals j).start) → (i < j) ⊎ (j ≤ i)
+        → (IsBefore (start_of intervals) i j) ⊎ ((i ≡ j) ⊎ IsBefore (start_of intervals) j i)
     before_or i j (inl x) y z = inl (inl x)
     before_or i j (inr x) (inl y) z = inr (inr (inl y))
     before_or i j (inr x) (inr y) (inl z) = inl (inr (omega arith, z))
@@ -277,7 +281,8 @@ module _ (intervals : List Interval) (keys : List (ℕ × ℕ)) where
         by_order (inr (inl e)) = e
         by_order (inr (inr b)) = absurd (final_apart j i lj li b (meet.1, meet.0) (sym same))
 
-    witness : (o : Opened (length keys) row (length ends) crowded) → (r : ℕ) → r < length ends → (r < row_of row o.by) ⊎ (row_of row o.by ≤ r) → (i : ℕ) × (i < length intervals) × (holds crowded (at intervals i) ≡ true) × (get_or row i 0 ≡ r)
+    witness : (o : Opened (length keys) row (length ends) crowded) → (r : ℕ) → r < length ends → (r < row_of row o.by) ⊎ (row_of row o.by ≤ r)
+        → (i : ℕ) × (i < length intervals) × (holds crowded (at intervals i) ≡ true) × (get_or row i 0 ≡ r)
     witness o r l (inl m) =
         let w = packed.least o.by r o.within m in
         let lw : w.0 < length keys = omega (arith, w.1, o.within) in
@@ -338,13 +343,18 @@ start_packed intervals keys row ends n e =
       opened = inl (z, refl);
     }
 
-module _ (intervals : List Interval) (keys : List (ℕ × ℕ)) (order : IsOrder intervals keys) (solid : All (λ a. a.start < a.end) intervals) (k : ℕ) (l : k < length keys) (row ends : List ℕ) (crowded : ℕ) (packed : Packed intervals keys k row ends crowded) (row' ends' : List ℕ) (crowded' : ℕ) where
-  put_by : (r : ℕ) → row' ≡ set row (key keys k).1 r → ((q : ℕ) → q < r → (item intervals keys k).start < get_or ends q 0) → ((r < length ends) × (get_or ends r 0 ≤ (item intervals keys k).start) × (ends' ≡ set ends r (item intervals keys k).end) × (crowded' ≡ crowded)) ⊎ ((r ≡ length ends) × (ends' ≡ ends ++ (item intervals keys k).end ∷ []) × (crowded' ≡ (item intervals keys k).start)) → Packed intervals keys (k + 1) row' ends' crowded'
+module _ (intervals : List Interval) (keys : List (ℕ × ℕ)) (order : IsOrder intervals keys) (solid : All (λ a. a.start < a.end) intervals) (k : ℕ) (l : k < length keys)
+    (row ends : List ℕ) (crowded : ℕ) (packed : Packed intervals keys k row ends crowded) (row' ends' : List ℕ) (crowded' : ℕ) where
+  put_by : (r : ℕ) → row' ≡ set row (key keys k).1 r → ((q : ℕ) → q < r → (item intervals keys k).start < get_or ends q 0)
+      → ((r < length ends) × (get_or ends r 0 ≤ (item intervals keys k).start) × (ends' ≡ set ends r (item intervals keys k).end) × (crowded' ≡ crowded)) ⊎ ((r ≡ length ends) ×
+      (ends' ≡ ends ++ (item intervals keys k).end ∷ []) × (crowded' ≡ (item intervals keys k).start)) → Packed intervals keys (k + 1) row' ends' crowded'
   put_by r e busy (inl h) =
-      rw (e, h.2, h.3) (old_row intervals keys order solid k l row ends crowded packed r _ (takes_free intervals keys order solid k l ends r h.0 h.1 busy) (length-set ends r (item intervals keys k).end))
+      rw (e, h.2, h.3) (old_row intervals keys order solid k l row ends crowded packed r _ (takes_free intervals keys order solid k l ends r h.0 h.1 busy) (length-set ends r
+      (item intervals keys k).end))
   put_by r e busy (inr h) =
       let busy' : (q : ℕ) → q < length ends → (item intervals keys k).start < get_or ends q 0 = λ q m. busy q (omega (arith, h.0)) in
-      rw (e, h.0, h.1, h.2) (new_row intervals keys order solid k l row ends crowded packed (length ends) _ (takes_new intervals keys order solid k l ends busy') refl (length_push ends (item intervals keys k).end))
+      rw (e, h.0, h.1, h.2) (new_row intervals keys order solid k l row ends crowded packed (length ends) _ (takes_new intervals keys order solid k l ends busy') refl
+      (length_push ends (item intervals keys k).end))
 
   pub put_packed : IsPut (key keys k).1 (item intervals keys k) row ends crowded row' ends' crowded' → Packed intervals keys (k + 1) row' ends' crowded'
   put_packed p = put_by p.0 p.1 p.2 p.3

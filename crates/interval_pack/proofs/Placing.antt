@@ -16,7 +16,8 @@ pub record Placing (intervals : List Interval) (keys : List (ℕ × ℕ)) (k : �
   pub ahead : (a : ℕ) → k ≤ a → a < length keys → place ≤ (item intervals keys a).start
   pub count : rows.count ≤ k
 
-pub start_placing : (intervals : List Interval) (keys : List (ℕ × ℕ)) (row : List ℕ) (rows : Rows) → length row ≡ length intervals → rows.free.keys ≡ [] → rows.busy.keys ≡ [] → rows.count ≡ 0 → Placing intervals keys 0 row rows 0
+pub start_placing : (intervals : List Interval) (keys : List (ℕ × ℕ)) (row : List ℕ) (rows : Rows) → length row ≡ length intervals → rows.free.keys ≡ [] → rows.busy.keys ≡ []
+    → rows.count ≡ 0 → Placing intervals keys 0 row rows 0
 start_placing intervals keys row rows n free busy count = record {
   ends = [];
   place = 0;

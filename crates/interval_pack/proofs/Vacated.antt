@@ -25,7 +25,8 @@ at_later ends before place rows le are = record {
 }
 
 -- the first busy row has ended and becomes free
-module _ (ends : List ℕ) (place end row : ℕ) (old new : Rows) (are : AreRows ends place old) (ended : end ≤ place) (popped : old.busy.keys ≡ (end, row) ∷ new.busy.keys) (keys : new.free.keys ≡ insert_key nat_cmp old.free.keys row) (updates : Updates nat_cmp old.free new.free row true) (count : new.count ≡ old.count) where
+module _ (ends : List ℕ) (place end row : ℕ) (old new : Rows) (are : AreRows ends place old) (ended : end ≤ place) (popped : old.busy.keys ≡ (end, row) ∷ new.busy.keys)
+    (keys : new.free.keys ≡ insert_key nat_cmp old.free.keys row) (updates : Updates nat_cmp old.free new.free row true) (count : new.count ≡ old.count) where
   was_busy : Contains old.busy.keys (end, row)
   was_busy = rw popped (cons_head (end, row) new.busy.keys)
 
@@ -83,7 +84,9 @@ less_from_cmp : (a b : ℕ) → IsLtBy nat_cmp a b → a < b
 less_from_cmp a b e = grind arith
 
 -- the least free row is taken up to `end`
-module _ (ends : List ℕ) (place end row : ℕ) (old new : Rows) (are : AreRowsAt ends place old) (popped : old.free.keys ≡ row ∷ new.free.keys) (above : All (IsLtBy nat_cmp row) new.free.keys) (keys : new.busy.keys ≡ insert_key pair_cmp old.busy.keys (end, row)) (updates : Updates pair_cmp old.busy new.busy (end, row) true) (count : new.count ≡ old.count) where
+module _ (ends : List ℕ) (place end row : ℕ) (old new : Rows) (are : AreRowsAt ends place old) (popped : old.free.keys ≡ row ∷ new.free.keys) (above : All
+    (IsLtBy nat_cmp row) new.free.keys) (keys : new.busy.keys ≡ insert_key pair_cmp old.busy.keys (end, row)) (updates : Updates pair_cmp old.busy new.busy (end, row) true)
+    (count : new.count ≡ old.count) where
   was_free : Contains old.free.keys row
   was_free = rw popped (cons_head row new.free.keys)
 
@@ -155,7 +158,8 @@ module _ (ends : List ℕ) (place end row : ℕ) (old new : Rows) (are : AreRows
   }
 
 -- a new row up to `end`
-module _ (ends : List ℕ) (place end row : ℕ) (old new : Rows) (are : AreRowsAt ends place old) (is_row : row ≡ old.count) (free : new.free.keys ≡ old.free.keys) (keys : new.busy.keys ≡ insert_key pair_cmp old.busy.keys (end, row)) (updates : Updates pair_cmp old.busy new.busy (end, row) true) (count : new.count ≡ old.count + 1) where
+module _ (ends : List ℕ) (place end row : ℕ) (old new : Rows) (are : AreRowsAt ends place old) (is_row : row ≡ old.count) (free : new.free.keys ≡ old.free.keys)
+    (keys : new.busy.keys ≡ insert_key pair_cmp old.busy.keys (end, row)) (updates : Updates pair_cmp old.busy new.busy (end, row) true) (count : new.count ≡ old.count + 1) where
   last : length ends ≡ row
   last = are.rows_are.count ∙ sym is_row
 

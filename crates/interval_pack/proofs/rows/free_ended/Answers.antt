@@ -8,7 +8,8 @@ loop-row-init c = record { are = λ ends before le are. at_later ends before _ _
 
 pub loop-row-preserved : goal.loop-row-preserved
 loop-row-preserved c = record {
-  are = λ ends before le are. one_freed ends _ _ _ _ _ (c.loop-row.invariant.are ends before le are) c.in-Some.ensures.1 c.in-Some.ensures.0 c.in_ok-insert.ensures.keys c.in_ok-insert.ensures.updates refl;
+  are = λ ends before le are. one_freed ends _ _ _ _ _
+      (c.loop-row.invariant.are ends before le are) c.in-Some.ensures.1 c.in-Some.ensures.0 c.in_ok-insert.ensures.keys c.in_ok-insert.ensures.updates refl;
   count = c.loop-row.invariant.count;
 }
 
