@@ -33,7 +33,9 @@ pub fn later_start(from: u128, gap: i64, to: u128) -> Option<u128>
     if start <= to { None } else { Some(start) }
 }
 
-/// The least starts, where as many rounds as there are places reach them.
+/// The least starts, where few rounds reach them: one, one more for each constraint that does not lead to
+/// a higher place, and one that finds all of them met. If the constraints are listed by the places that they
+/// lead from, and have a solution, that is enough.
 pub fn settle(
     alloc: Global,
     places: usize,
@@ -43,7 +45,8 @@ pub fn settle(
     ensures { IfOk result (λ found. IfSome found (λ starts. IsLeast places list.now starts.items)) }
 {
     let mut starts: Vec<u64> = vec![in alloc; 0; places]?;
-    for _round in 0..places {
+    let backward = list.iter().filter(|c| c.to <= c.from).count();
+    for _round in 0..places.min(backward.saturating_add(2)) {
         match one_round(&mut starts, list) {
             Lift::Kept => return Ok(Some(starts)),
             Lift::Raised => {}
