@@ -1,5 +1,5 @@
 // The rows of a packing while its intervals are placed.
-ghost use Rattle.std.specs.Prelude.{◌≡◌, ℕ, ◌+◌, ◌^◌, ◌<◌, ◌≤◌, List, [], length, IfOk, OnOk};
+ghost use Rattle.std.specs.Prelude.{◌≡◌, ◌+◌, ◌^◌, ◌<◌, [], IfOk, OnOk};
 ghost use Rattle.interval_pack.specs.FreeRows.{IsVacated, IsPopped, IsReuse, IsOpening};
 
 use crate::interval::Interval;

@@ -3,6 +3,6 @@ pub mod Gaps
 pub mod Seen
 pub mod Back
 pub mod Rounds
-pub mod Quickly
+pub mod RelaxedRounds
 pub mod Ordered
 pub mod GapSums

@@ -1,5 +1,5 @@
 // A closed walk from the history of a step.
-ghost use Rattle.std.specs.Prelude.{◌≡◌, ℕ, ◌<◌, ◌≤◌, length, IfOk, List};
+ghost use Rattle.std.specs.Prelude.{ℕ, ◌<◌, length, IfOk, List};
 ghost use Rattle.schedule_sdc.specs.Solution.{IsPositiveCycle};
 ghost use Rattle.schedule_sdc.specs.declared.constraint.Constraint.{Constraint};
 ghost use Rattle.schedule_sdc.specs.History.{IsReturn, IsHistory, IsMeeting, IsCycleBehind};

@@ -1,5 +1,5 @@
 // The starts so far, with the history of each.
-ghost use Rattle.std.specs.Prelude.{◌≡◌, ℕ, ◌+◌, ◌*◌, ◌^◌, ◌<◌, ◌≤◌, length, IfOk};
+ghost use Rattle.std.specs.Prelude.{length, IfOk};
 ghost use Rattle.std.specs.List.{All, Contains};
 ghost use Rattle.schedule_sdc.specs.Solution.{IsWithin};
 ghost use Rattle.schedule_sdc.specs.History.{IsSound, IsShallow, IsChange};

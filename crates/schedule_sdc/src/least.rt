@@ -1,8 +1,7 @@
 // The least starts, by raising them until every constraint is met.
-ghost use Rattle.std.specs.Prelude.{◌≡◌, ℕ, ◌+◌, ◌*◌, ◌^◌, ◌<◌, ◌≤◌, length, IfOk};
+ghost use Rattle.std.specs.Prelude.{◌≡◌, ◌^◌, ◌<◌, IfOk};
 ghost use Rattle.std.specs.List.{All};
 ghost use Rattle.schedule_sdc.specs.Solution.{IsWithin, IsAnswer, FitsIfSolvable};
-ghost use Rattle.schedule_sdc.specs.History.{IsSound, IsShallow};
 
 use crate::constraint::{Constraint, Solved};
 use crate::cycle::positive_cycle;

@@ -1,5 +1,5 @@
 // The least starts, where a few rounds over the constraints reach them: nothing is kept but the starts.
-ghost use Rattle.std.specs.Prelude.{◌≡◌, ℕ, ◌+◌, ◌^◌, ◌<◌, ◌≤◌, pos, ◌+ℤ◌, ◌≤ℤ◌, length, slice_index, IfOk, IfSome, MatchOption};
+ghost use Rattle.std.specs.Prelude.{◌≡◌, ◌+◌, ◌^◌, ◌<◌, ◌≤◌, pos, ◌+ℤ◌, ◌≤ℤ◌, length, IfOk, IfSome, MatchOption};
 ghost use Rattle.std.specs.List.{All};
 ghost use Rattle.schedule_sdc.specs.Solution.{IsWithin, IsLeast};
 ghost use Rattle.schedule_sdc.specs.Relaxed.{IsLift, IsRoundOf, AreEarly};

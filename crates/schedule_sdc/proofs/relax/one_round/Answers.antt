@@ -1,7 +1,7 @@
 use Rattle.std.proofs.Common.{◌≡◌, ◌<◌, length, get_or, sym}
 use Rattle.std.proofs.lemmas.List.{get_or_default}
 use Rattle.schedule_sdc.proofs.Rounds.{origin}
-use Rattle.schedule_sdc.proofs.Quickly.{lift_kept, lift_raised}
+use Rattle.schedule_sdc.proofs.RelaxedRounds.{lift_kept, lift_raised}
 use Rattle.schedule_sdc.proofs.relax.one_round.Goals as goal
 use Rattle.schedule_sdc.proofs.relax.one_round.Goals.{in-Kept, in-Raised}
 

@@ -9,15 +9,15 @@ use Rattle.schedule_sdc.specs.Solution.{IsSolution}
 use Rattle.schedule_sdc.specs.Relaxed.{AreEarly, IsLift, IsRise}
 use Rattle.schedule_sdc.proofs.Rounds.{IsRound, round_kept, round_raised, still_early, larger}
 
-pub record InQuickRound (list : List Constraint) (first starts : List ℕ) (raised : Bool) (old : List ℕ) (k : ℕ) : Type 0 where
+pub record InRelaxedRound (list : List Constraint) (first starts : List ℕ) (raised : Bool) (old : List ℕ) (k : ℕ) : Type 0 where
   pub count : length starts ≡ length first
   pub early : AreEarly list (length first) starts
   pub round : IsRound raised old starts (take k list)
 
-module _ (list : List Constraint) (first starts : List ℕ) (raised : Bool) (old : List ℕ) (k : ℕ) (now : InQuickRound list first starts raised old k) (l : k < length list)
+module _ (list : List Constraint) (first starts : List ℕ) (raised : Bool) (old : List ℕ) (k : ℕ) (now : InRelaxedRound list first starts raised old k) (l : k < length list)
     (c : Constraint) (is : c ≡ get_or list k c) (inside : All (λ d. (d.from < length first) × (d.to < length first)) list) (newer : List ℕ) (change : Lift)
     (does : IsLift c starts newer change) where
-  pub lift_kept : (b : Bool) → change ≡ Kept → b ≡ raised → InQuickRound list first newer b old (k + 1)
+  pub lift_kept : (b : Bool) → change ≡ Kept → b ≡ raised → InRelaxedRound list first newer b old (k + 1)
   lift_kept b e f =
       let d : IsLift c starts newer Kept = rw e at does in
       let s : newer ≡ starts = sym d.0 in
@@ -27,7 +27,7 @@ module _ (list : List Constraint) (first starts : List ℕ) (raised : Bool) (old
         round = rw f (round_kept raised old starts newer list k c l is d.0 d.1 now.round);
       }
 
-  pub lift_raised : (b : Bool) → change ≡ Raised → b ≡ true → InQuickRound list first newer b old (k + 1)
+  pub lift_raised : (b : Bool) → change ≡ Raised → b ≡ true → InRelaxedRound list first newer b old (k + 1)
   lift_raised b e f =
       let d : IsLift c starts newer Raised = rw e at does in
       let listed : Contains list c = (k, l, sym is) in
