@@ -1,0 +1,4 @@
+pub mod LeftEdge
+pub mod Packing
+pub mod Order
+pub mod FreeRows
