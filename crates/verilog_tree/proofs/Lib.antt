@@ -6,3 +6,4 @@ pub mod Unique
 pub mod UniqueExpressions
 pub mod UniqueItems
 pub mod Fronts
+pub mod Examples
