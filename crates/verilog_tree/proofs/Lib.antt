@@ -1,6 +1,6 @@
 pub mod Tests
 pub mod Names
-pub mod Trees
+pub mod Fold
 pub mod Splitting
 pub mod Unique
 pub mod UniqueExpressions
