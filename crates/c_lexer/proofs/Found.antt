@@ -1,5 +1,5 @@
 -- The lexeme that is found is the one that the definition speaks of.
-use Rattle.std.proofs.Common.{◌≡◌, ℕ, suc, ◌+◌, ◌-◌, ◌<◌, ◌≤◌, List, [], ◌∷◌, ◌++◌, length, take, drop, get_or, Option, Some, None, Bool, true, false, refl, sym, ap, ◌∙◌, subst, append_assoc, length-append, length-take-le, zero, eq-eqb, arith}
+use Rattle.std.proofs.Common.{◌≡◌, ℕ, suc, ◌+◌, ◌<◌, ◌≤◌, [], ◌∷◌, ◌++◌, length, take, drop, get_or, Option, Some, None, Bool, true, false, refl, sym, ap, ◌∙◌, subst, append_assoc, length-append, length-take-le, zero, eq-eqb, arith}
 use Rattle.std.specs.Prelude.{cond, ◌==◌, ◌&&◌, nat_lt, nat_eq, is_some, option_map, codes}
 use Rattle.std.specs.List.{starts_with}
 use Rattle.std.proofs.Math.Seq.{take-append_seam, drop-append_seam}
@@ -12,7 +12,7 @@ use Rattle.c_lexer.specs.declared.lexeme.Class.TheVariants as c
 use Rattle.c_lexer.specs.declared.lexeme.Run.{Run}
 use Rattle.c_lexer.specs.declared.lexeme.Run.TheVariants as r
 use Rattle.c_lexer.specs.Lexemes.{goes_on, is_splice, is_comment_end, is_text_body, class_at, IsRun, IsOf, IsLexeme}
-use Rattle.c_lexer.specs.Finding.{run_len, text_len, block_len, header_len, begins_with, character_span, character_len, len_of, Found, found_of, lexeme_at}
+use Rattle.c_lexer.specs.Finding.{run_len, text_len, block_len, header_len, begins_with, character_span, len_of, Found, found_of, lexeme_at}
 use Rattle.c_lexer.proofs.Runs.{run_found, run_cut, run_within, run_some}
 use Rattle.c_token.specs.declared.punctuator.Punctuator.{Punctuator}
 use Rattle.c_token.specs.Spelling.{punctuator_at}

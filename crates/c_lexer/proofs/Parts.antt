@@ -1,8 +1,7 @@
 -- What stands at the front of a text: string literals, character constants, punctuators, and what a class tells of it.
-use Rattle.std.proofs.Common.{◌≡◌, ℕ, suc, ◌+◌, ◌-◌, ◌<◌, ◌≤◌, List, [], ◌∷◌, ◌++◌, length, take, drop, get_or, Option, Some, None, Bool, true, false, refl, sym, ap, ◌∙◌, subst, arith, lit≤}
-use Rattle.std.specs.Prelude.{cond, ◌==◌, ◌&&◌, not, nat_eq, is_some, option_map}
+use Rattle.std.proofs.Common.{◌≡◌, ℕ, ◌+◌, ◌≤◌, List, [], ◌∷◌, ◌++◌, length, drop, get_or, Option, Some, None, Bool, true, false, refl, sym, ap, ◌∙◌, subst, arith, lit≤}
+use Rattle.std.specs.Prelude.{cond, ◌==◌, ◌&&◌, not, nat_eq, is_some}
 use Rattle.std.specs.List.{find, starts_with}
-use Rattle.std.specs.Char.{is_ascii_digit}
 use Rattle.std.proofs.lemmas.Bool.{eqb-true}
 use Rattle.std.proofs.lemmas.Bool.Decides.{Decides-eqb}
 use Rattle.std.proofs.lemmas.Slice.Eq.{starts_is}
@@ -11,10 +10,7 @@ use Rattle.c_token.specs.declared.punctuator.Punctuator.TheVariants as p
 use Rattle.c_token.specs.Spelling.{Bytes, punctuator_spelling, punctuators, punctuator_at}
 use Rattle.c_token.specs.Constants.{character_of, is_plain_character, is_escaped_character, is_between_quotes, is_character_byte}
 use Rattle.c_token.specs.declared.constant.Constant.{Constant}
-use Rattle.c_lexer.specs.declared.lexeme.Class.{Class}
-use Rattle.c_lexer.specs.declared.lexeme.Class.TheVariants as c
-use Rattle.c_lexer.specs.declared.lexeme.Run.TheVariants as r
-use Rattle.c_lexer.specs.Lexemes.{is_printable, is_blank, is_letter, is_text_body, goes_on, class_at, comment_or_mark, header_or_mark, header_or_text}
+use Rattle.c_lexer.specs.Lexemes.{is_printable, is_text_body}
 use Rattle.c_lexer.specs.Finding.{text_len, begins_with, character_span}
 
 -- ---- prefixes

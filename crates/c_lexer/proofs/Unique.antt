@@ -1,14 +1,14 @@
 -- A text is one thing: its tokens, or its first fault.
-use Rattle.std.proofs.Common.{◌≡◌, ℕ, zero, suc, ◌+◌, ◌-◌, ◌<◌, ◌≤◌, List, [], ◌∷◌, ◌++◌, length, take, drop, Option, Some, None, Bool, true, false, ◌⊎◌, inl, inr, refl, sym, ap, ◌∙◌, subst, length-append, arith}
+use Rattle.std.proofs.Common.{◌≡◌, ℕ, ◌+◌, List, [], ◌∷◌, ◌++◌, length, drop, Option, Some, None, true, false, ◌⊎◌, inl, inr, refl, sym, ap, ◌∙◌, subst, length-append, arith}
 use Rattle.std.specs.Prelude.{Result, Ok, Err}
-use Rattle.std.proofs.Math.Seq.{take-append_seam, drop-append_seam}
+use Rattle.std.proofs.Math.Seq.{drop-append_seam}
 use Rattle.c_token.specs.declared.token.Token.{Token}
 use Rattle.c_token.specs.Spelling.{Bytes}
 use Rattle.c_lexer.specs.declared.fault.TextLimit.{TextLimit}
 use Rattle.c_lexer.specs.declared.fault.LexFault.{LexFault}
 use Rattle.c_lexer.specs.declared.fault.LexFault.TheVariants.{Bad, Limit, Memory}
 use Rattle.c_lexer.specs.Meaning.{State, start, after}
-use Rattle.c_lexer.specs.Texts.{Piece, IsPiece, Splits, with_token, tokens, with_end, may_end, Passed, limit_of, IsWithin, Reaches, IsStuck, fault_place, EndsAs, AreTokens, LexesAs, Lexed, Finds, FindsTokens}
+use Rattle.c_lexer.specs.Texts.{Piece, IsPiece, Splits, with_token, tokens, with_end, may_end, Passed, limit_of, IsWithin, Reaches, EndsAs, AreTokens, LexesAs, Lexed, Finds, FindsTokens}
 use Rattle.c_lexer.specs.Stepping.{next_piece}
 use Rattle.c_lexer.proofs.Steps.{piece_found}
 use Rattle.c_lexer.proofs.Whole.{count_more, no_first}
@@ -97,10 +97,10 @@ compare at n s text (p ∷ ps) [] t u rest rest' h k = inr (inr (first_follows a
 compare at n s text (p ∷ ps) (q ∷ qs) t u rest rest' h k =
     let same = same_piece at s p q h.0 k.0 (sym h.1 ∙ k.1) h.2 k.2 in
     let other : Splits (at + length p.bytes) (after p.effect p.bytes s) h.0 qs u rest' =
-      subst (λ y. Splits (at + length p.bytes) (after p.effect p.bytes s) y qs u rest') (sym same.rest)
-        (subst (λ x. Splits (at + length x.bytes) (after x.effect x.bytes s) k.0 qs u rest') (sym same.piece) k.3) in
+    subst (λ y. Splits (at + length p.bytes) (after p.effect p.bytes s) y qs u rest') (sym same.rest)
+    (subst (λ x. Splits (at + length x.bytes) (after x.effect x.bytes s) k.0 qs u rest') (sym same.piece) k.3) in
     compare_on at n text p q ps qs t u rest rest' h.0 k.0 h.1 k.1 same
-      (compare (at + length p.bytes) (length (with_token 0 p.effect.action []) + n) (after p.effect p.bytes s) h.0 ps qs t u rest rest' h.3 other)
+    (compare (at + length p.bytes) (length (with_token 0 p.effect.action []) + n) (after p.effect p.bytes s) h.0 ps qs t u rest rest' h.3 other)
 
 -- ---- ends
 
@@ -175,7 +175,7 @@ compared text ps qs at at' s t rest rest' a b e f h k (inr (inr more)) = absurd 
 pub one_answer : (text : Bytes) (a b : Answer) → LexesAs text a → LexesAs text b → a ≡ b
 one_answer text a b h k =
     compared text h.0 k.0 h.1 k.1 h.2 k.2 h.3 k.3 a b h.4 k.4 h.5 k.5
-      (compare 0 0 start text h.0 k.0 h.2 k.2 h.3 k.3 h.4.split k.4.split)
+    (compare 0 0 start text h.0 k.0 h.2 k.2 h.3 k.3 h.4.split k.4.split)
 
 -- what holds of a text is found
 pub finds : (text : Bytes) (answer : Answer) → Lexed text answer → (r : Answer) → LexesAs text r → Finds r answer

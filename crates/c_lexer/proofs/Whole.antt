@@ -1,7 +1,6 @@
 -- What the loop keeps: the tokens so far are those of the pieces before the rest.
-use Rattle.std.proofs.Common.{◌≡◌, ℕ, zero, suc, ◌+◌, ◌-◌, ◌<◌, ◌≤◌, List, [], ◌∷◌, ◌++◌, length, take, drop, Option, Some, None, Bool, true, false, refl, sym, ap, ◌∙◌, subst, length-append, arith}
-use Rattle.std.specs.Prelude.{Result, Ok, Err}
-use Rattle.c_token.specs.declared.token.Kind.TheVariants.{End}
+use Rattle.std.proofs.Common.{◌≡◌, ℕ, ◌+◌, ◌-◌, ◌<◌, ◌≤◌, List, [], ◌∷◌, ◌++◌, length, drop, Some, None, true, false, refl, sym, ap, ◌∙◌, subst, length-append, arith}
+use Rattle.std.specs.Prelude.{Ok, Err}
 use Rattle.c_token.specs.declared.token.Token.{Token}
 use Rattle.c_token.specs.Spelling.{Bytes}
 use Rattle.c_lexer.specs.declared.meaning.Action.{Action}
@@ -9,9 +8,9 @@ use Rattle.c_lexer.specs.declared.meaning.Action.TheVariants as action
 use Rattle.c_lexer.specs.declared.fault.LexFault.{LexFault}
 use Rattle.c_lexer.specs.declared.fault.LexFault.TheVariants.{Bad, Limit, Memory}
 use Rattle.c_lexer.specs.Meaning.{State, start, after}
-use Rattle.c_lexer.specs.Texts.{Piece, IsPiece, Splits, with_token, tokens, with_end, may_end, limit_of, IsWithin, Reaches, IsStuck, fault_place, EndsAs, LexesAs, Lexed}
-use Rattle.c_lexer.specs.Stepping.{next_piece, Steps, StepFails}
-use Rattle.c_lexer.proofs.Steps.{IsFirst, piece_found, piece_cut, no_piece}
+use Rattle.c_lexer.specs.Texts.{Piece, IsPiece, Splits, with_token, tokens, with_end, may_end, limit_of, IsWithin, Reaches, fault_place, Lexed}
+use Rattle.c_lexer.specs.Stepping.{Steps, StepFails}
+use Rattle.c_lexer.proofs.Steps.{piece_found, piece_cut, no_piece}
 
 -- ---- one more piece
 
@@ -82,9 +81,9 @@ one_done text ts s rest t us more done h =
     let place : k + length rest ≡ 0 + length text = omega (arith, done.within) in
     let fewer : length behind + length p.bytes ≡ length rest = omega (arith, ap length first.whole, length-append p.bytes behind) in
     let split : Splits 0 start text (done.pieces ++ (p ∷ [])) (after p.effect p.bytes s) behind =
-      split_more 0 k start text done.pieces s rest p behind done.reaches.split place first.whole first.is in
+    split_more 0 k start text done.pieces s rest p behind done.reaches.split place first.whole first.is in
     let here : limit_of (length (tokens 0 done.pieces) + 0) p ≡ None =
-      subst (λ n. limit_of n p ≡ None) (let e : length ts ≡ length (tokens 0 done.pieces) + 0 = omega (arith, ap length done.are) in e) h.takes.within in
+    subst (λ n. limit_of n p ≡ None) (let e : length ts ≡ length (tokens 0 done.pieces) + 0 = omega (arith, ap length done.are) in e) h.takes.within in
     let there : Done text us t behind = record {
       pieces = done.pieces ++ (p ∷ []);
       reaches = record {

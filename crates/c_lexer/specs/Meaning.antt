@@ -92,7 +92,6 @@ definition_name hash is_taken = if is_taken then None else Some (gives (Directiv
 abbrev pub definition_value : ℕ → Bytes → Option Effect
 definition_value hash word = option_map (λ n. gives (Directive hash awaits.LineEnd) (action.Value n)) (integer_of word)
 
-
 -- A reserved word is taken, and so is a name that is defined already.
 abbrev pub in_directive : Awaits → ℕ → State → Class → Bytes → Option Effect
 in_directive awaits.Word hash s c.Word word = directive_word hash word

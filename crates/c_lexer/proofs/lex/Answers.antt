@@ -1,10 +1,8 @@
-use Rattle.std.proofs.Common.{◌≡◌, ◌<◌, ◌∙◌, sym, ap, refl, arith, length, false-eqb}
-use Rattle.std.specs.Prelude.{Ok, Err, not, false, Bool, true}
+use Rattle.std.proofs.Common.{◌∙◌, sym, arith, false-eqb}
+use Rattle.std.specs.Prelude.{Ok, Err}
 use Rattle.std.proofs.lemmas.Bool.{eqb-true}
 use Rattle.c_lexer.specs.declared.fault.LexFault.TheVariants.{Bad}
-use Rattle.c_lexer.specs.Texts.{Lexed}
-use Rattle.c_lexer.specs.Contexts.{state_of}
-use Rattle.c_lexer.proofs.Whole.{Done, one_done, moves, step_failed, unfinished, finished}
+use Rattle.c_lexer.proofs.Whole.{one_done, moves, step_failed, unfinished, finished}
 use Rattle.c_lexer.proofs.Unique.{finds, finds_tokens}
 use Rattle.c_lexer.proofs.lex.Goals as goal
 
