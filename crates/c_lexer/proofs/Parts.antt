@@ -59,7 +59,8 @@ both true true h k = refl
 both true false h k = cc
 both false y h k = cc
 
-one_more : (escaped next : Bool) (b : ℕ) (z : Bytes) (m n : ℕ) → ((inside : Bytes) → is_text_body next inside ≡ true → is_text_body escaped (b ∷ inside) ≡ true) → IsText next z (m + 1) n → IsText escaped (b ∷ z) m n
+one_more : (escaped next : Bool) (b : ℕ) (z : Bytes) (m n : ℕ) → ((inside : Bytes) → is_text_body next inside ≡ true → is_text_body escaped (b ∷ inside) ≡ true)
+    → IsText next z (m + 1) n → IsText escaped (b ∷ z) m n
 one_more escaped next b z m n goes more = (b ∷ more.0, more.1, ap (λ y. b ∷ y) more.2, goes more.0 more.3, omega (arith, more.4))
 
 escaped_byte : (b : ℕ) → is_printable b ≡ true → (inside : Bytes) → is_text_body false inside ≡ true → is_text_body true (b ∷ inside) ≡ true
@@ -74,15 +75,18 @@ no_byte : is_text_body false [] ≡ true
 unfolding is_text_body
 no_byte = refl
 
-escaped_at : (b : ℕ) (z : Bytes) (m n : ℕ) (more : text_len (m + 1) false z ≡ Some n → IsText false z (m + 1) n) (x : Bool) → is_printable b ≡ x → cond x (text_len (m + 1) false z) None ≡ Some n → IsText true (b ∷ z) m n
+escaped_at : (b : ℕ) (z : Bytes) (m n : ℕ) (more : text_len (m + 1) false z ≡ Some n → IsText false z (m + 1) n) (x : Bool)
+    → is_printable b ≡ x → cond x (text_len (m + 1) false z) None ≡ Some n → IsText true (b ∷ z) m n
 escaped_at b z m n more true e g = one_more true false b z m n (escaped_byte b e) (more g)
 escaped_at b z m n more false e g = cc
 
-byte_at : (b : ℕ) (z : Bytes) (m n : ℕ) (more : text_len (m + 1) (b == 92) z ≡ Some n → IsText (b == 92) z (m + 1) n) → (b == 34) ≡ false → (x : Bool) → is_printable b ≡ x → cond x (text_len (m + 1) (b == 92) z) None ≡ Some n → IsText false (b ∷ z) m n
+byte_at : (b : ℕ) (z : Bytes) (m n : ℕ) (more : text_len (m + 1) (b == 92) z ≡ Some n → IsText (b == 92) z (m + 1) n) → (b == 34) ≡ false
+    → (x : Bool) → is_printable b ≡ x → cond x (text_len (m + 1) (b == 92) z) None ≡ Some n → IsText false (b ∷ z) m n
 byte_at b z m n more q true e g = one_more false (b == 92) b z m n (plain_byte b q e) (more g)
 byte_at b z m n more q false e g = cc
 
-quote_at : (b : ℕ) (z : Bytes) (m n : ℕ) (more : text_len (m + 1) (b == 92) z ≡ Some n → IsText (b == 92) z (m + 1) n) (x : Bool) → (b == 34) ≡ x → cond x (Some (m + 1)) (cond (is_printable b) (text_len (m + 1) (b == 92) z) None) ≡ Some n → IsText false (b ∷ z) m n
+quote_at : (b : ℕ) (z : Bytes) (m n : ℕ) (more : text_len (m + 1) (b == 92) z ≡ Some n → IsText (b == 92) z (m + 1) n) (x : Bool) → (b == 34) ≡ x
+    → cond x (Some (m + 1)) (cond (is_printable b) (text_len (m + 1) (b == 92) z) None) ≡ Some n → IsText false (b ∷ z) m n
 quote_at b z m n more true q g =
     let same : m + 1 ≡ n = cc in
     ([], z, ap (λ x. x ∷ z) (eqb-true b 34 q), no_byte, omega (arith, same))
@@ -110,7 +114,8 @@ is_four w h =
     let mark = both_true (is_between_quotes w) (get_or w 1 0 == 92) four.1 in
     eqb-true (length w) 4 four.0 ∙ sym (ap (λ x. cond x 4 3) mark.1)
 
-character_at : (w : Bytes) (x y : Bool) (a b : Option Constant) → is_plain_character w ≡ x → is_escaped_character w ≡ y → is_some (cond x a (cond y b None)) ≡ true → length w ≡ character_span w
+character_at : (w : Bytes) (x y : Bool) (a b : Option Constant) → is_plain_character w ≡ x → is_escaped_character w ≡ y
+    → is_some (cond x a (cond y b None)) ≡ true → length w ≡ character_span w
 character_at w true y a b e f h = is_three w e
 character_at w false true a b e f h = is_four w f
 character_at w false false a b e f h = cc

@@ -37,7 +37,8 @@ pub record IsFirst (at : ℕ) (s : State) (p : Piece) (z : Bytes) : Type 0 where
   pub some : 1 ≤ length p.bytes
   pub within : length p.bytes ≤ length z
 
-effect_at : (at : ℕ) (s : State) (z : Bytes) (p : Piece) (k : Class) (n : ℕ) (o : Option Effect) → lexeme_at (awaits_header s) z ≡ Some (k, n) → effect_of at s k (take n z) ≡ o → option_map (piece_of k (take n z)) o ≡ Some p → IsFirst at s p z
+effect_at : (at : ℕ) (s : State) (z : Bytes) (p : Piece) (k : Class) (n : ℕ) (o : Option Effect) → lexeme_at (awaits_header s) z ≡ Some (k, n)
+    → effect_of at s k (take n z) ≡ o → option_map (piece_of k (take n z)) o ≡ Some p → IsFirst at s p z
 effect_at at s z p k n None found e h = cc
 effect_at at s z p k n (Some effect) found e h =
     let cut = lexeme_cut (awaits_header s) z k n found in
