@@ -1,9 +1,9 @@
 -- What the class of a text's front tells of its first bytes.
-use Rattle.std.proofs.Common.{◌≡◌, ℕ, List, [], ◌∷◌, Option, Some, None, Bool, true, false, length, ◌≤◌, refl, sym, ap, ◌∙◌, subst, arith}
+use Rattle.std.proofs.Common.{◌≡◌, ℕ, [], ◌∷◌, Option, Some, None, Bool, true, false, length, ◌≤◌, refl, subst, arith}
 use Rattle.std.specs.Prelude.{cond, ◌==◌, nat_eq, option_map, codes}
 use Rattle.std.specs.List.{starts_with}
 use Rattle.std.specs.Char.{is_ascii_digit}
-use Rattle.std.proofs.lemmas.Bool.{eqb-true, or_left, or_right}
+use Rattle.std.proofs.lemmas.Bool.{or_left, or_right}
 use Rattle.c_token.specs.declared.punctuator.Punctuator.{Punctuator}
 use Rattle.c_token.specs.Spelling.{Bytes, punctuator_at}
 use Rattle.c_lexer.specs.declared.lexeme.Class.{Class}

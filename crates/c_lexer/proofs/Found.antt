@@ -1,5 +1,6 @@
 -- The lexeme that is found is the one that the definition speaks of.
-use Rattle.std.proofs.Common.{◌≡◌, ℕ, suc, ◌+◌, ◌-◌, ◌<◌, ◌≤◌, List, [], ◌∷◌, ◌++◌, length, take, drop, get_or, Option, Some, None, Bool, true, false, refl, sym, ap, ◌∙◌, subst, append_assoc, length-append, length-take-le, zero, eq-eqb, arith}
+use Rattle.std.proofs.Common.{◌≡◌, ℕ, suc, ◌+◌, ◌<◌, ◌≤◌, [], ◌∷◌, ◌++◌, length, take, drop, get_or, Option, Some}
+use Rattle.std.proofs.Common.{None, Bool, true, false, refl, sym, ap, ◌∙◌, subst, append_assoc, length-append, length-take-le, zero, eq-eqb, arith}
 use Rattle.std.specs.Prelude.{cond, ◌==◌, ◌&&◌, nat_lt, nat_eq, is_some, option_map, codes}
 use Rattle.std.specs.List.{starts_with}
 use Rattle.std.proofs.Math.Seq.{take-append_seam, drop-append_seam}
@@ -12,7 +13,7 @@ use Rattle.c_lexer.specs.declared.lexeme.Class.TheVariants as c
 use Rattle.c_lexer.specs.declared.lexeme.Run.{Run}
 use Rattle.c_lexer.specs.declared.lexeme.Run.TheVariants as r
 use Rattle.c_lexer.specs.Lexemes.{goes_on, is_splice, is_comment_end, is_text_body, class_at, IsRun, IsOf, IsLexeme}
-use Rattle.c_lexer.specs.Finding.{run_len, text_len, block_len, header_len, begins_with, character_span, character_len, len_of, Found, found_of, lexeme_at}
+use Rattle.c_lexer.specs.Finding.{run_len, text_len, block_len, header_len, begins_with, character_span, len_of, Found, found_of, lexeme_at}
 use Rattle.c_lexer.proofs.Runs.{run_found, run_cut, run_within, run_some}
 use Rattle.c_token.specs.declared.punctuator.Punctuator.{Punctuator}
 use Rattle.c_token.specs.Spelling.{punctuator_at}
@@ -34,7 +35,8 @@ block_found inside rest run =
     ap (λ m. cond (is_comment_end (drop m (inside ++ (codes "*/" ++ rest)))) (Some (m + 2)) None) n
     ∙ ap (λ y. cond (is_comment_end y) (Some (length inside + 2)) None) (drop-append_seam inside (codes "*/" ++ rest))
 
-comment_found : (bytes rest inside : Bytes) → bytes ≡ codes "/*" ++ (inside ++ codes "*/") → IsRun r.Block inside (codes "*/" ++ rest) → len_of c.BlockComment (bytes ++ rest) ≡ Some (length bytes)
+comment_found : (bytes rest inside : Bytes) → bytes ≡ codes "/*" ++ (inside ++ codes "*/")
+    → IsRun r.Block inside (codes "*/" ++ rest) → len_of c.BlockComment (bytes ++ rest) ≡ Some (length bytes)
 comment_found bytes rest inside e run =
     let whole : drop 2 (bytes ++ rest) ≡ inside ++ (codes "*/" ++ rest) = ap (λ x. drop 2 (x ++ rest)) e ∙ append_assoc inside (codes "*/") rest in
     let long : length inside + 2 + 2 ≡ length bytes = omega (arith, ap length e, length-append inside (codes "*/")) in
@@ -73,7 +75,8 @@ header_there close inside rest some run =
     ∙ ap (λ x. cond (x && (close == close)) (Some (length inside + 1)) None) (lt-ltb 0 (length inside) some)
     ∙ ap (λ x. cond x (Some (length inside + 1)) None) (eq-eqb close close refl)
 
-header_found : (close first : ℕ) (bytes rest inside : Bytes) → bytes ≡ first ∷ (inside ++ (close ∷ [])) → 0 < length inside → IsRun (r.Header close) inside (close ∷ rest) → len_of (c.Header close) (bytes ++ rest) ≡ Some (length bytes)
+header_found : (close first : ℕ) (bytes rest inside : Bytes) → bytes ≡ first ∷ (inside ++ (close ∷ [])) → 0 < length inside
+    → IsRun (r.Header close) inside (close ∷ rest) → len_of (c.Header close) (bytes ++ rest) ≡ Some (length bytes)
 header_found close first bytes rest inside e some run =
     let whole : drop 1 (bytes ++ rest) ≡ inside ++ (close ∷ rest) = ap (λ x. drop 1 (x ++ rest)) e ∙ append_assoc inside (close ∷ []) rest in
     let long : length inside + 1 + 1 ≡ length bytes = omega (arith, ap length e, length-append inside (close ∷ [])) in
@@ -119,7 +122,8 @@ one_byte k (b ∷ z) n is some h =
     let one = same_number 1 n h in
     record { bytes = b ∷ []; rest = z; whole = refl; len = sym one; is = is (b ∷ []) z refl; some = omega (arith, one) }
 
-run_there : (k : Class) (run : Run) (z : Bytes) (n : ℕ) → ((bytes rest : Bytes) → IsRun run bytes rest → IsOf k bytes rest) → goes_on run z ≡ true → just (run_len run z) ≡ just n → IsCut k z n
+run_there : (k : Class) (run : Run) (z : Bytes) (n : ℕ) → ((bytes rest : Bytes) → IsRun run bytes rest → IsOf k bytes rest)
+    → goes_on run z ≡ true → just (run_len run z) ≡ just n → IsCut k z n
 run_there k run z n is goes h =
     let same = same_number (run_len run z) n h in
     record {
@@ -282,7 +286,8 @@ len_at : (z : Bytes) (k l : Class) (n : ℕ) (o : Option ℕ) → len_of l z ≡
 len_at z k l n None e h = cc
 len_at z k l n (Some m) e h = let same = same_found l k m n h in (same.0, e ∙ ap Some same.1)
 
-class_there : (header : Bool) (z : Bytes) (k : Class) (n : ℕ) (o : Option Class) → class_at header z ≡ o → found_of z o ≡ found_pair k n → (class_at header z ≡ Some k) × (len_of k z ≡ Some n)
+class_there : (header : Bool) (z : Bytes) (k : Class) (n : ℕ) (o : Option Class) → class_at header z ≡ o
+    → found_of z o ≡ found_pair k n → (class_at header z ≡ Some k) × (len_of k z ≡ Some n)
 class_there header z k n None e h = cc
 class_there header z k n (Some l) e h =
     let len = len_at z k l n (len_of l z) refl h in

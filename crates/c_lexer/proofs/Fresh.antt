@@ -1,5 +1,5 @@
 -- A name that a directive defines is new.
-use Rattle.std.proofs.Common.{◌≡◌, ℕ, List, Option, Some, None, Bool, true, false, refl, sym, ap, ◌∙◌}
+use Rattle.std.proofs.Common.{◌≡◌, ℕ, Option, Some, None, Bool, true, false, refl, ap, ◌∙◌}
 use Rattle.std.specs.Prelude.{cond, ◌||◌, option_map, codes}
 use Rattle.std.specs.Str.{bytes_eq}
 use Rattle.c_token.specs.declared.token.Kind.{Kind}
@@ -15,7 +15,7 @@ use Rattle.c_lexer.specs.declared.meaning.Mode.TheVariants.{LineStart, InLine, D
 use Rattle.c_lexer.specs.declared.meaning.Action.{Action}
 use Rattle.c_lexer.specs.declared.meaning.Action.TheVariants as action
 use Rattle.c_lexer.specs.declared.meaning.Effect.{Effect}
-use Rattle.c_lexer.specs.Meaning.{State, is_defined, is_reserved, token_of, only, gives, in_line, at_line_start, directive_word, definition_name, definition_value, in_directive, by_mode, effect_of}
+use Rattle.c_lexer.specs.Meaning.{State, is_defined, is_reserved, token_of, only, gives, in_line, at_line_start, definition_name, in_directive, by_mode, effect_of}
 use Rattle.c_lexer.specs.Stepping.{IsFresh}
 
 abbrev some : Effect → Option Effect

@@ -1,8 +1,7 @@
 -- What stands at the front of a text: string literals, character constants, punctuators, and what a class tells of it.
-use Rattle.std.proofs.Common.{◌≡◌, ℕ, suc, ◌+◌, ◌-◌, ◌<◌, ◌≤◌, List, [], ◌∷◌, ◌++◌, length, take, drop, get_or, Option, Some, None, Bool, true, false, refl, sym, ap, ◌∙◌, subst, arith, lit≤}
-use Rattle.std.specs.Prelude.{cond, ◌==◌, ◌&&◌, not, nat_eq, is_some, option_map}
+use Rattle.std.proofs.Common.{◌≡◌, ℕ, ◌+◌, ◌≤◌, List, [], ◌∷◌, ◌++◌, length, drop, get_or, Option, Some, None, Bool, true, false, refl, sym, ap, ◌∙◌, subst, arith, lit≤}
+use Rattle.std.specs.Prelude.{cond, ◌==◌, ◌&&◌, not, nat_eq, is_some}
 use Rattle.std.specs.List.{find, starts_with}
-use Rattle.std.specs.Char.{is_ascii_digit}
 use Rattle.std.proofs.lemmas.Bool.{eqb-true}
 use Rattle.std.proofs.lemmas.Bool.Decides.{Decides-eqb}
 use Rattle.std.proofs.lemmas.Slice.Eq.{starts_is}
@@ -11,10 +10,7 @@ use Rattle.c_token.specs.declared.punctuator.Punctuator.TheVariants as p
 use Rattle.c_token.specs.Spelling.{Bytes, punctuator_spelling, punctuators, punctuator_at}
 use Rattle.c_token.specs.Constants.{character_of, is_plain_character, is_escaped_character, is_between_quotes, is_character_byte}
 use Rattle.c_token.specs.declared.constant.Constant.{Constant}
-use Rattle.c_lexer.specs.declared.lexeme.Class.{Class}
-use Rattle.c_lexer.specs.declared.lexeme.Class.TheVariants as c
-use Rattle.c_lexer.specs.declared.lexeme.Run.TheVariants as r
-use Rattle.c_lexer.specs.Lexemes.{is_printable, is_blank, is_letter, is_text_body, goes_on, class_at, comment_or_mark, header_or_mark, header_or_text}
+use Rattle.c_lexer.specs.Lexemes.{is_printable, is_text_body}
 use Rattle.c_lexer.specs.Finding.{text_len, begins_with, character_span}
 
 -- ---- prefixes
@@ -63,7 +59,8 @@ both true true h k = refl
 both true false h k = cc
 both false y h k = cc
 
-one_more : (escaped next : Bool) (b : ℕ) (z : Bytes) (m n : ℕ) → ((inside : Bytes) → is_text_body next inside ≡ true → is_text_body escaped (b ∷ inside) ≡ true) → IsText next z (m + 1) n → IsText escaped (b ∷ z) m n
+one_more : (escaped next : Bool) (b : ℕ) (z : Bytes) (m n : ℕ) → ((inside : Bytes) → is_text_body next inside ≡ true → is_text_body escaped (b ∷ inside) ≡ true)
+    → IsText next z (m + 1) n → IsText escaped (b ∷ z) m n
 one_more escaped next b z m n goes more = (b ∷ more.0, more.1, ap (λ y. b ∷ y) more.2, goes more.0 more.3, omega (arith, more.4))
 
 escaped_byte : (b : ℕ) → is_printable b ≡ true → (inside : Bytes) → is_text_body false inside ≡ true → is_text_body true (b ∷ inside) ≡ true
@@ -78,15 +75,18 @@ no_byte : is_text_body false [] ≡ true
 unfolding is_text_body
 no_byte = refl
 
-escaped_at : (b : ℕ) (z : Bytes) (m n : ℕ) (more : text_len (m + 1) false z ≡ Some n → IsText false z (m + 1) n) (x : Bool) → is_printable b ≡ x → cond x (text_len (m + 1) false z) None ≡ Some n → IsText true (b ∷ z) m n
+escaped_at : (b : ℕ) (z : Bytes) (m n : ℕ) (more : text_len (m + 1) false z ≡ Some n → IsText false z (m + 1) n) (x : Bool)
+    → is_printable b ≡ x → cond x (text_len (m + 1) false z) None ≡ Some n → IsText true (b ∷ z) m n
 escaped_at b z m n more true e g = one_more true false b z m n (escaped_byte b e) (more g)
 escaped_at b z m n more false e g = cc
 
-byte_at : (b : ℕ) (z : Bytes) (m n : ℕ) (more : text_len (m + 1) (b == 92) z ≡ Some n → IsText (b == 92) z (m + 1) n) → (b == 34) ≡ false → (x : Bool) → is_printable b ≡ x → cond x (text_len (m + 1) (b == 92) z) None ≡ Some n → IsText false (b ∷ z) m n
+byte_at : (b : ℕ) (z : Bytes) (m n : ℕ) (more : text_len (m + 1) (b == 92) z ≡ Some n → IsText (b == 92) z (m + 1) n) → (b == 34) ≡ false
+    → (x : Bool) → is_printable b ≡ x → cond x (text_len (m + 1) (b == 92) z) None ≡ Some n → IsText false (b ∷ z) m n
 byte_at b z m n more q true e g = one_more false (b == 92) b z m n (plain_byte b q e) (more g)
 byte_at b z m n more q false e g = cc
 
-quote_at : (b : ℕ) (z : Bytes) (m n : ℕ) (more : text_len (m + 1) (b == 92) z ≡ Some n → IsText (b == 92) z (m + 1) n) (x : Bool) → (b == 34) ≡ x → cond x (Some (m + 1)) (cond (is_printable b) (text_len (m + 1) (b == 92) z) None) ≡ Some n → IsText false (b ∷ z) m n
+quote_at : (b : ℕ) (z : Bytes) (m n : ℕ) (more : text_len (m + 1) (b == 92) z ≡ Some n → IsText (b == 92) z (m + 1) n) (x : Bool) → (b == 34) ≡ x
+    → cond x (Some (m + 1)) (cond (is_printable b) (text_len (m + 1) (b == 92) z) None) ≡ Some n → IsText false (b ∷ z) m n
 quote_at b z m n more true q g =
     let same : m + 1 ≡ n = cc in
     ([], z, ap (λ x. x ∷ z) (eqb-true b 34 q), no_byte, omega (arith, same))
@@ -114,7 +114,8 @@ is_four w h =
     let mark = both_true (is_between_quotes w) (get_or w 1 0 == 92) four.1 in
     eqb-true (length w) 4 four.0 ∙ sym (ap (λ x. cond x 4 3) mark.1)
 
-character_at : (w : Bytes) (x y : Bool) (a b : Option Constant) → is_plain_character w ≡ x → is_escaped_character w ≡ y → is_some (cond x a (cond y b None)) ≡ true → length w ≡ character_span w
+character_at : (w : Bytes) (x y : Bool) (a b : Option Constant) → is_plain_character w ≡ x → is_escaped_character w ≡ y
+    → is_some (cond x a (cond y b None)) ≡ true → length w ≡ character_span w
 character_at w true y a b e f h = is_three w e
 character_at w false true a b e f h = is_four w f
 character_at w false false a b e f h = cc

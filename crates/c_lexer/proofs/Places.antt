@@ -1,5 +1,5 @@
 -- Places in a mapped list.
-use Rattle.std.proofs.Common.{◌≡◌, ℕ, suc, ◌+◌, List, [], ◌∷◌, ◌++◌, map, length, refl, ap, ◌∙◌, Bool, true, false, Some, None}
+use Rattle.std.proofs.Common.{◌≡◌, suc, ◌+◌, List, [], ◌∷◌, ◌++◌, map, length, refl, ap, Bool, Some, None}
 use Rattle.std.specs.Prelude.{position, cond, nat_lt, not, ◌||◌}
 use Rattle.std.specs.List.{prefix_len, list_any}
 

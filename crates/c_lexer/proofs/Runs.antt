@@ -1,5 +1,5 @@
 -- The longest run is found, and what is found is the longest run.
-use Rattle.std.proofs.Common.{◌≡◌, ℕ, suc, ◌+◌, ◌≤◌, List, [], ◌∷◌, ◌++◌, length, take, drop, Bool, true, false, refl, sym, ap, ◌∙◌, subst, arith}
+use Rattle.std.proofs.Common.{◌≡◌, ℕ, suc, ◌+◌, ◌≤◌, [], ◌∷◌, ◌++◌, length, take, drop, Bool, true, false, refl, sym, ap, ◌∙◌, subst, arith}
 use Rattle.std.specs.Prelude.{cond}
 use Rattle.std.proofs.lemmas.List.{take-append-drop}
 use Rattle.c_token.specs.Spelling.{Bytes}
@@ -24,7 +24,8 @@ run_found run (b ∷ body) rest h =
     ap (λ x. cond x (1 + run_len run (body ++ rest)) 0) h.0.0 ∙ ap (λ n. 1 + n) (run_found run body rest (h.0.1, h.1))
     ∙ (let e : 1 + length body ≡ suc (length body) = omega arith in e)
 
-front_at : (run : Run) (b : ℕ) (z : Bytes) → GoesOver run (take (run_len run z) z) (drop (run_len run z) z) → (x : Bool) → goes_on run (b ∷ z) ≡ x → GoesOver run (take (cond x (1 + run_len run z) 0) (b ∷ z)) (drop (cond x (1 + run_len run z) 0) (b ∷ z))
+front_at : (run : Run) (b : ℕ) (z : Bytes) → GoesOver run (take (run_len run z) z) (drop (run_len run z) z) → (x : Bool) → goes_on run (b ∷ z) ≡ x
+    → GoesOver run (take (cond x (1 + run_len run z) 0) (b ∷ z)) (drop (cond x (1 + run_len run z) 0) (b ∷ z))
 front_at run b z more true e =
     let one : 1 + run_len run z ≡ suc (run_len run z) = omega arith in
     let whole : goes_on run (b ∷ (take (run_len run z) z ++ drop (run_len run z) z)) ≡ true = subst (λ y. goes_on run (b ∷ y) ≡ true) (sym (take-append-drop (run_len run z) z)) e in
@@ -36,7 +37,8 @@ unfolding run_len
 run_front run [] = tt
 run_front run (b ∷ z) = front_at run b z (run_front run z) (goes_on run (b ∷ z)) refl
 
-back_at : (run : Run) (b : ℕ) (z : Bytes) → goes_on run (drop (run_len run z) z) ≡ false → (x : Bool) → goes_on run (b ∷ z) ≡ x → goes_on run (drop (cond x (1 + run_len run z) 0) (b ∷ z)) ≡ false
+back_at : (run : Run) (b : ℕ) (z : Bytes) → goes_on run (drop (run_len run z) z) ≡ false → (x : Bool)
+    → goes_on run (b ∷ z) ≡ x → goes_on run (drop (cond x (1 + run_len run z) 0) (b ∷ z)) ≡ false
 back_at run b z more true e = let one : 1 + run_len run z ≡ suc (run_len run z) = omega arith in subst (λ n. goes_on run (drop n (b ∷ z)) ≡ false) (sym one) more
 back_at run b z more false e = e
 

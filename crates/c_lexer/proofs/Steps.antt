@@ -1,7 +1,7 @@
 -- The piece that is found is the one that the definition speaks of.
-use Rattle.std.proofs.Common.{◌≡◌, ℕ, suc, ◌+◌, ◌≤◌, List, [], ◌∷◌, ◌++◌, length, take, drop, Option, Some, None, refl, sym, ap, ◌∙◌, subst, length-take-le, length-append, arith}
+use Rattle.std.proofs.Common.{◌≡◌, ℕ, ◌≤◌, List, ◌++◌, length, take, drop, Option, Some, None, refl, sym, ap, ◌∙◌, subst, length-take-le, arith}
 use Rattle.std.specs.Prelude.{option_map}
-use Rattle.std.proofs.Math.Seq.{take-append_seam, drop-append_seam}
+use Rattle.std.proofs.Math.Seq.{take-append_seam}
 use Rattle.std.proofs.lemmas.List.{take-append-drop}
 use Rattle.c_token.specs.declared.token.Token.{Token}
 use Rattle.c_token.specs.Spelling.{Bytes}
@@ -14,7 +14,7 @@ use Rattle.c_lexer.specs.Meaning.{State, awaits_header, effect_of}
 use Rattle.c_lexer.specs.Texts.{Piece, IsPiece}
 use Rattle.c_lexer.specs.Finding.{Found, lexeme_at}
 use Rattle.c_lexer.specs.Stepping.{piece_of, piece_by, next_piece, TakeFails, StepFails}
-use Rattle.c_lexer.proofs.Found.{IsFound, lexeme_found, lexeme_cut}
+use Rattle.c_lexer.proofs.Found.{lexeme_found, lexeme_cut}
 
 -- a piece that fails to be taken fails the step
 pub fails : (at : ℕ) (z : Bytes) (s : State) (ts : List Token) (p : Piece) (fault : LexFault) → next_piece at s z ≡ Some p → TakeFails at p ts fault → StepFails at z s ts fault
@@ -37,7 +37,8 @@ pub record IsFirst (at : ℕ) (s : State) (p : Piece) (z : Bytes) : Type 0 where
   pub some : 1 ≤ length p.bytes
   pub within : length p.bytes ≤ length z
 
-effect_at : (at : ℕ) (s : State) (z : Bytes) (p : Piece) (k : Class) (n : ℕ) (o : Option Effect) → lexeme_at (awaits_header s) z ≡ Some (k, n) → effect_of at s k (take n z) ≡ o → option_map (piece_of k (take n z)) o ≡ Some p → IsFirst at s p z
+effect_at : (at : ℕ) (s : State) (z : Bytes) (p : Piece) (k : Class) (n : ℕ) (o : Option Effect) → lexeme_at (awaits_header s) z ≡ Some (k, n)
+    → effect_of at s k (take n z) ≡ o → option_map (piece_of k (take n z)) o ≡ Some p → IsFirst at s p z
 effect_at at s z p k n None found e h = cc
 effect_at at s z p k n (Some effect) found e h =
     let cut = lexeme_cut (awaits_header s) z k n found in

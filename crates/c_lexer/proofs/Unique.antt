@@ -1,14 +1,14 @@
 -- A text is one thing: its tokens, or its first fault.
-use Rattle.std.proofs.Common.{◌≡◌, ℕ, zero, suc, ◌+◌, ◌-◌, ◌<◌, ◌≤◌, List, [], ◌∷◌, ◌++◌, length, take, drop, Option, Some, None, Bool, true, false, ◌⊎◌, inl, inr, refl, sym, ap, ◌∙◌, subst, length-append, arith}
+use Rattle.std.proofs.Common.{◌≡◌, ℕ, ◌+◌, List, [], ◌∷◌, ◌++◌, length, drop, Option, Some, None, true, false, ◌⊎◌, inl, inr, refl, sym, ap, ◌∙◌, subst, length-append, arith}
 use Rattle.std.specs.Prelude.{Result, Ok, Err}
-use Rattle.std.proofs.Math.Seq.{take-append_seam, drop-append_seam}
+use Rattle.std.proofs.Math.Seq.{drop-append_seam}
 use Rattle.c_token.specs.declared.token.Token.{Token}
 use Rattle.c_token.specs.Spelling.{Bytes}
 use Rattle.c_lexer.specs.declared.fault.TextLimit.{TextLimit}
 use Rattle.c_lexer.specs.declared.fault.LexFault.{LexFault}
 use Rattle.c_lexer.specs.declared.fault.LexFault.TheVariants.{Bad, Limit, Memory}
 use Rattle.c_lexer.specs.Meaning.{State, start, after}
-use Rattle.c_lexer.specs.Texts.{Piece, IsPiece, Splits, with_token, tokens, with_end, may_end, Passed, limit_of, IsWithin, Reaches, IsStuck, fault_place, EndsAs, AreTokens, LexesAs, Lexed, Finds, FindsTokens}
+use Rattle.c_lexer.specs.Texts.{Piece, IsPiece, Splits, with_token, tokens, with_end, may_end, Passed, limit_of, IsWithin, Reaches, EndsAs, AreTokens, LexesAs, Lexed, Finds, FindsTokens}
 use Rattle.c_lexer.specs.Stepping.{next_piece}
 use Rattle.c_lexer.proofs.Steps.{piece_found}
 use Rattle.c_lexer.proofs.Whole.{count_more, no_first}
@@ -65,7 +65,8 @@ first_follows at n s text t rest q qs u rest' h k =
 follows_on : (at n : ℕ) (text : Bytes) (p : Piece) (ps qs : List Piece) (t : State) (rest more : Bytes) → text ≡ p.bytes ++ more
     → Follows (at + length p.bytes) (length (with_token 0 p.effect.action []) + n) more ps qs t rest → Follows at n text (p ∷ ps) (p ∷ qs) t rest
 follows_on at n text p ps qs t rest more e h =
-    let count : length (tokens (at + length p.bytes) ps) + (length (with_token 0 p.effect.action []) + n) ≡ length (tokens at (p ∷ ps)) + n = omega (arith, count_more at p.effect.action (tokens (at + length p.bytes) ps)) in
+    let count : length (tokens (at + length p.bytes) ps) + (length (with_token 0 p.effect.action []) + n) ≡ length (tokens at (p ∷ ps)) + n =
+    omega (arith, count_more at p.effect.action (tokens (at + length p.bytes) ps)) in
     record {
       offset = h.offset;
       place = omega (arith, h.place, ap length e, length-append p.bytes more);
@@ -80,7 +81,8 @@ same_on : (p q : Piece) (ps qs : List Piece) (t u : State) (rest rest' : Bytes) 
 same_on p q ps qs t u rest rest' e h = record { pieces = (λ i. e i ∷ h.pieces i); state = h.state; rest_is = h.rest_is }
 
 -- the rest of two splits, whose first piece is the same
-compare_on : (at n : ℕ) (text : Bytes) (p q : Piece) (ps qs : List Piece) (t u : State) (rest rest' more more' : Bytes) → text ≡ p.bytes ++ more → text ≡ q.bytes ++ more' → SamePiece p q more more'
+compare_on : (at n : ℕ) (text : Bytes) (p q : Piece) (ps qs : List Piece) (t u : State) (rest rest' more more' : Bytes)
+    → text ≡ p.bytes ++ more → text ≡ q.bytes ++ more' → SamePiece p q more more'
     → Compared (at + length p.bytes) (length (with_token 0 p.effect.action []) + n) more ps qs t u rest rest'
     → Compared at n text (p ∷ ps) (q ∷ qs) t u rest rest'
 compare_on at n text p q ps qs t u rest rest' more more' e f same (inl h) = inl (same_on p q ps qs t u rest rest' same.piece h)
@@ -97,10 +99,10 @@ compare at n s text (p ∷ ps) [] t u rest rest' h k = inr (inr (first_follows a
 compare at n s text (p ∷ ps) (q ∷ qs) t u rest rest' h k =
     let same = same_piece at s p q h.0 k.0 (sym h.1 ∙ k.1) h.2 k.2 in
     let other : Splits (at + length p.bytes) (after p.effect p.bytes s) h.0 qs u rest' =
-      subst (λ y. Splits (at + length p.bytes) (after p.effect p.bytes s) y qs u rest') (sym same.rest)
-        (subst (λ x. Splits (at + length x.bytes) (after x.effect x.bytes s) k.0 qs u rest') (sym same.piece) k.3) in
+    subst (λ y. Splits (at + length p.bytes) (after p.effect p.bytes s) y qs u rest') (sym same.rest)
+    (subst (λ x. Splits (at + length x.bytes) (after x.effect x.bytes s) k.0 qs u rest') (sym same.piece) k.3) in
     compare_on at n text p q ps qs t u rest rest' h.0 k.0 h.1 k.1 same
-      (compare (at + length p.bytes) (length (with_token 0 p.effect.action []) + n) (after p.effect p.bytes s) h.0 ps qs t u rest rest' h.3 other)
+    (compare (at + length p.bytes) (length (with_token 0 p.effect.action []) + n) (after p.effect p.bytes s) h.0 ps qs t u rest rest' h.3 other)
 
 -- ---- ends
 
@@ -160,7 +162,8 @@ none_behind text ps qs at s rest a place h w f =
     let count : length (tokens 0 ps) + 0 ≡ length (tokens 0 ps) = omega arith in
     none_follows text ps at s rest a f.piece f.more h f.whole (subst (λ n. IsPiece n s f.piece f.more) here f.is) (subst (λ n. limit_of n f.piece ≡ None) count (f.within w))
 
-end_moved : (text : Bytes) (ps qs : List Piece) (at at' : ℕ) (s t : State) (rest rest' : Bytes) (a : Answer) → ps ≡ qs → at ≡ at' → s ≡ t → rest ≡ rest' → EndsAs text ps at s rest a → EndsAs text qs at' t rest' a
+end_moved : (text : Bytes) (ps qs : List Piece) (at at' : ℕ) (s t : State) (rest rest' : Bytes) (a : Answer) → ps ≡ qs
+    → at ≡ at' → s ≡ t → rest ≡ rest' → EndsAs text ps at s rest a → EndsAs text qs at' t rest' a
 end_moved text ps qs at at' s t rest rest' a e f g j h =
     subst (λ x. EndsAs text qs at' t x a) j (subst (λ x. EndsAs text qs at' x rest a) g (subst (λ x. EndsAs text qs x s rest a) f (subst (λ x. EndsAs text x at s rest a) e h)))
 
@@ -174,8 +177,8 @@ compared text ps qs at at' s t rest rest' a b e f h k (inr (inr more)) = absurd 
 
 pub one_answer : (text : Bytes) (a b : Answer) → LexesAs text a → LexesAs text b → a ≡ b
 one_answer text a b h k =
-    compared text h.0 k.0 h.1 k.1 h.2 k.2 h.3 k.3 a b h.4 k.4 h.5 k.5
-      (compare 0 0 start text h.0 k.0 h.2 k.2 h.3 k.3 h.4.split k.4.split)
+    compared text h.pieces k.pieces h.at k.at h.state k.state h.rest k.rest a b h.reaches k.reaches h.ends k.ends
+    (compare 0 0 start text h.pieces k.pieces h.state k.state h.rest k.rest h.reaches.split k.reaches.split)
 
 -- what holds of a text is found
 pub finds : (text : Bytes) (answer : Answer) → Lexed text answer → (r : Answer) → LexesAs text r → Finds r answer
@@ -202,10 +205,13 @@ tokens_by text ps qs at s t rest ts (Err (Bad n)) e h may k (inr (inr f)) = no_f
 tokens_by text ps qs at s t rest ts (Err (Limit which count n)) e h may k c = tt
 tokens_by text ps qs at s t rest ts (Err Memory) e h may k c = tt
 
+tokens_of : (text : Bytes) (a : Answer) (ts : List Token) → LexesAs text a → AreTokens text ts → FindsTokens ts a
+tokens_of text a ts h k =
+    tokens_by text h.pieces k.pieces h.at h.state k.state h.rest ts a h.reaches h.ends k.ended k.are
+    (compare 0 0 start text h.pieces k.pieces h.state k.state h.rest [] h.reaches.split k.split)
+
 pub finds_tokens : (text : Bytes) (answer : Answer) → Lexed text answer → (ts : List Token) → AreTokens text ts → FindsTokens ts answer
-finds_tokens text (Ok us) h ts k =
-    tokens_by text h.0 k.0 h.1 h.2 k.1 h.3 ts (Ok us) h.4 h.5 k.3 k.4 (compare 0 0 start text h.0 k.0 h.2 k.1 h.3 [] h.4.split k.2)
-finds_tokens text (Err (Bad n)) h ts k =
-    tokens_by text h.0 k.0 h.1 h.2 k.1 h.3 ts (Err (Bad n)) h.4 h.5 k.3 k.4 (compare 0 0 start text h.0 k.0 h.2 k.1 h.3 [] h.4.split k.2)
+finds_tokens text (Ok us) h ts k = tokens_of text (Ok us) ts h k
+finds_tokens text (Err (Bad n)) h ts k = tokens_of text (Err (Bad n)) ts h k
 finds_tokens text (Err (Limit which count n)) h ts k = tt
 finds_tokens text (Err Memory) h ts k = tt

@@ -1,7 +1,6 @@
 -- What the loop keeps: the tokens so far are those of the pieces before the rest.
-use Rattle.std.proofs.Common.{◌≡◌, ℕ, zero, suc, ◌+◌, ◌-◌, ◌<◌, ◌≤◌, List, [], ◌∷◌, ◌++◌, length, take, drop, Option, Some, None, Bool, true, false, refl, sym, ap, ◌∙◌, subst, length-append, arith}
-use Rattle.std.specs.Prelude.{Result, Ok, Err}
-use Rattle.c_token.specs.declared.token.Kind.TheVariants.{End}
+use Rattle.std.proofs.Common.{◌≡◌, ℕ, ◌+◌, ◌-◌, ◌<◌, ◌≤◌, List, [], ◌∷◌, ◌++◌, length, drop, Some, None, true, false, refl, sym, ap, ◌∙◌, subst, length-append, arith}
+use Rattle.std.specs.Prelude.{Ok, Err}
 use Rattle.c_token.specs.declared.token.Token.{Token}
 use Rattle.c_token.specs.Spelling.{Bytes}
 use Rattle.c_lexer.specs.declared.meaning.Action.{Action}
@@ -9,9 +8,9 @@ use Rattle.c_lexer.specs.declared.meaning.Action.TheVariants as action
 use Rattle.c_lexer.specs.declared.fault.LexFault.{LexFault}
 use Rattle.c_lexer.specs.declared.fault.LexFault.TheVariants.{Bad, Limit, Memory}
 use Rattle.c_lexer.specs.Meaning.{State, start, after}
-use Rattle.c_lexer.specs.Texts.{Piece, IsPiece, Splits, with_token, tokens, with_end, may_end, limit_of, IsWithin, Reaches, IsStuck, fault_place, EndsAs, LexesAs, Lexed}
-use Rattle.c_lexer.specs.Stepping.{next_piece, Steps, StepFails}
-use Rattle.c_lexer.proofs.Steps.{IsFirst, piece_found, piece_cut, no_piece}
+use Rattle.c_lexer.specs.Texts.{Piece, IsPiece, Splits, with_token, tokens, with_end, may_end, limit_of, IsWithin, Reaches, IsStuck, fault_place, Lexed}
+use Rattle.c_lexer.specs.Stepping.{Steps, StepFails}
+use Rattle.c_lexer.proofs.Steps.{piece_found, piece_cut, no_piece}
 
 -- ---- one more piece
 
@@ -48,7 +47,8 @@ count_more at (action.Value n) ts = omega arith
 within_more : (at n : ℕ) (ps : List Piece) (p : Piece) → IsWithin n ps → limit_of (length (tokens at ps) + n) p ≡ None → IsWithin n (ps ++ (p ∷ []))
 within_more at n [] p h last = let same : 0 + n ≡ n = omega arith in (subst (λ m. limit_of m p ≡ None) same last, tt)
 within_more at n (q ∷ ps) p h last =
-    let same : length (tokens at (q ∷ ps)) + n ≡ length (tokens (at + length q.bytes) ps) + (length (with_token 0 q.effect.action []) + n) = omega (arith, count_more at q.effect.action (tokens (at + length q.bytes) ps)) in
+    let same : length (tokens at (q ∷ ps)) + n ≡ length (tokens (at + length q.bytes) ps) + (length (with_token 0 q.effect.action []) + n) =
+    omega (arith, count_more at q.effect.action (tokens (at + length q.bytes) ps)) in
     (h.0, within_more (at + length q.bytes) (length (with_token 0 q.effect.action []) + n) ps p h.1 (subst (λ m. limit_of m p ≡ None) same last))
 
 -- ---- the loop
@@ -82,9 +82,9 @@ one_done text ts s rest t us more done h =
     let place : k + length rest ≡ 0 + length text = omega (arith, done.within) in
     let fewer : length behind + length p.bytes ≡ length rest = omega (arith, ap length first.whole, length-append p.bytes behind) in
     let split : Splits 0 start text (done.pieces ++ (p ∷ [])) (after p.effect p.bytes s) behind =
-      split_more 0 k start text done.pieces s rest p behind done.reaches.split place first.whole first.is in
+    split_more 0 k start text done.pieces s rest p behind done.reaches.split place first.whole first.is in
     let here : limit_of (length (tokens 0 done.pieces) + 0) p ≡ None =
-      subst (λ n. limit_of n p ≡ None) (let e : length ts ≡ length (tokens 0 done.pieces) + 0 = omega (arith, ap length done.are) in e) h.takes.within in
+    subst (λ n. limit_of n p ≡ None) (let e : length ts ≡ length (tokens 0 done.pieces) + 0 = omega (arith, ap length done.are) in e) h.takes.within in
     let there : Done text us t behind = record {
       pieces = done.pieces ++ (p ∷ []);
       reaches = record {
@@ -106,12 +106,21 @@ pub step_failed : (text : Bytes) (ts : List Token) (s : State) (rest : Bytes) (f
     → Done text ts s rest → 0 < length rest → StepFails (length text - length rest) rest s ts fault → Lexed text (Err fault)
 step_failed text ts s rest (Bad k) done some h =
     let at : ℕ = length text - length rest in
-    (done.pieces, at, s, rest, done.reaches, (record { none = λ p more e is. no_piece at s rest p more h.0 e is; unfinished = λ e. nonempty rest some e }, h.1))
+    let stuck : IsStuck at s rest = record { none = λ p more e is. no_piece at s rest p more h.0 e is; unfinished = λ e. nonempty rest some e } in
+    record { pieces = done.pieces; at = at; state = s; rest = rest; reaches = done.reaches; ends = (stuck, h.1) }
 step_failed text ts s rest (Limit which count k) done some h =
     let at : ℕ = length text - length rest in
     let p : Piece = h.0 in
     let first = piece_cut at s rest p h.1 in
-    (done.pieces, at, s, rest, done.reaches, (p, drop (length p.bytes) rest, first.whole, first.is, subst (λ n. limit_of n p ≡ Some (which, count)) (ap length done.are) h.2, h.3))
+    let passed : limit_of (length (tokens 0 done.pieces)) p ≡ Some (which, count) = subst (λ n. limit_of n p ≡ Some (which, count)) (ap length done.are) h.2 in
+    record {
+      pieces = done.pieces;
+      at = at;
+      state = s;
+      rest = rest;
+      reaches = done.reaches;
+      ends = (p, drop (length p.bytes) rest, first.whole, first.is, passed, h.3);
+    }
 step_failed text ts s rest Memory done some h = tt
 
 pub no_first : {A : Type 0} (at : ℕ) (s : State) (p : Piece) (z more : Bytes) → length z ≡ 0 → z ≡ p.bytes ++ more → IsPiece at s p more → A
@@ -128,9 +137,17 @@ pub unfinished : (text : Bytes) (ts : List Token) (s : State) (rest : Bytes) (k 
 unfinished text ts s rest k done none more h =
     let at : ℕ = length text - length rest in
     let place : length text ≡ at = omega (arith, none) in
-    (done.pieces, at, s, rest, done.reaches, (record { none = λ p more e is. no_first at s p rest more none e is; unfinished = λ e. more }, h ∙ ap (λ n. fault_place s.mode n rest) place))
+    let stuck : IsStuck at s rest = record { none = λ p more e is. no_first at s p rest more none e is; unfinished = λ e. more } in
+    record { pieces = done.pieces; at = at; state = s; rest = rest; reaches = done.reaches; ends = (stuck, h ∙ ap (λ n. fault_place s.mode n rest) place) }
 
 pub finished : (text : Bytes) (ts us : List Token) (s : State) (rest : Bytes)
     → Done text ts s rest → length rest ≡ 0 → may_end s.mode ≡ true → us ≡ with_end text ts → Lexed text (Ok us)
 finished text ts us s rest done none may h =
-    (done.pieces, length text - length rest, s, rest, done.reaches, (empty_list rest none, may, h ∙ ap (with_end text) done.are))
+    record {
+      pieces = done.pieces;
+      at = length text - length rest;
+      state = s;
+      rest = rest;
+      reaches = done.reaches;
+      ends = (empty_list rest none, may, h ∙ ap (with_end text) done.are);
+    }

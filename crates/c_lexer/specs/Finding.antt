@@ -1,5 +1,5 @@
 -- How the lexer finds the lexeme at the front of a text, and its length.
-use Rattle.std.specs.Prelude.{ℕ, ◌+◌, Bool, true, false, ◌==◌, ◌&&◌, nat_lt, if◌then◌else◌, List, [], ◌∷◌, length, take, drop, slice_index, Option, Some, None, option_map, is_some}
+use Rattle.std.specs.Prelude.{ℕ, ◌+◌, Bool, true, false, ◌==◌, ◌&&◌, nat_lt, if◌then◌else◌, [], ◌∷◌, length, take, drop, slice_index, Option, Some, None, option_map, is_some}
 use Rattle.c_token.specs.Spelling.{Bytes, punctuator_spelling}
 use Rattle.c_token.specs.Constants.{character_of}
 use Rattle.c_lexer.specs.declared.lexeme.Class.{Class}

@@ -1,5 +1,5 @@
 -- Lexemes: what a C text is split into (C99 6.4): tokens, blanks, comments and the parts of a directive.
-use Rattle.std.specs.Prelude.{◌≡◌, ℕ, ◌+◌, ◌-◌, ◌<◌, Bool, true, false, not, ◌==◌, ◌&&◌, ◌||◌, nat_eq, nat_le, if◌then◌else◌, List, [], ◌∷◌, ◌++◌, length, Option, Some, None, option_map, is_some, codes}
+use Rattle.std.specs.Prelude.{◌≡◌, ℕ, ◌<◌, Bool, true, false, not, ◌==◌, ◌&&◌, ◌||◌, nat_eq, nat_le, if◌then◌else◌, [], ◌∷◌, ◌++◌, length, Option, Some, None, option_map, is_some, codes}
 use Rattle.std.specs.List.{starts_with}
 use Rattle.std.specs.Char.{is_ascii_digit, is_ascii_alphabetic}
 use Rattle.c_token.specs.Spelling.{Bytes, punctuator_spelling, punctuator_at}

@@ -1,5 +1,6 @@
 -- What a lexeme means where it stands (C99 6.4, and 6.10 as far as the profile takes directives).
-use Rattle.std.specs.Prelude.{ℕ, ◌-◌, Bool, true, false, ◌||◌, if◌then◌else◌, List, [], ◌∷◌, ◌++◌, length, take, drop, position, slice_get, Option, Some, None, option_map, option_and_then, is_some, codes}
+use Rattle.std.specs.Prelude.{ℕ, ◌-◌, Bool, true, false, ◌||◌, if◌then◌else◌, List, [], ◌∷◌, ◌++◌}
+use Rattle.std.specs.Prelude.{length, take, drop, position, slice_get, Option, Some, None, option_map, option_and_then, is_some, codes}
 use Rattle.std.specs.List.{list_any}
 use Rattle.std.specs.Str.{bytes_eq}
 use Rattle.c_token.specs.declared.token.Kind.{Kind}
@@ -91,7 +92,6 @@ definition_name hash is_taken = if is_taken then None else Some (gives (Directiv
 
 abbrev pub definition_value : ℕ → Bytes → Option Effect
 definition_value hash word = option_map (λ n. gives (Directive hash awaits.LineEnd) (action.Value n)) (integer_of word)
-
 
 -- A reserved word is taken, and so is a name that is defined already.
 abbrev pub in_directive : Awaits → ℕ → State → Class → Bytes → Option Effect

@@ -89,10 +89,13 @@ IsWithin n (p ∷ ps) = (limit_of n p ≡ None) × IsWithin (length (with_token 
 
 -- ---- what a text is
 
--- The text splits into lexemes, and these are its tokens.
-abbrev pub AreTokens : Bytes → List Token → Type 0
-AreTokens text ts =
-    (ps : List Piece) × (s : State) × Splits 0 start text ps s [] × (may_end s.mode ≡ true) × (ts ≡ with_end text (tokens 0 ps))
+-- The text splits into lexemes to its end, and these are its tokens.
+pub record AreTokens (text : Bytes) (ts : List Token) : Type 0 where
+  pub pieces : List Piece
+  pub state : State
+  pub split : Splits 0 start text pieces state []
+  pub ended : may_end state.mode ≡ true
+  pub are : ts ≡ with_end text (tokens 0 pieces)
 
 -- The first pieces of the text, within the limits, lead to the rest, which begins at the offset in this state.
 pub record Reaches (text : Bytes) (pieces : List Piece) (at : ℕ) (state : State) (rest : Bytes) : Type 0 where
@@ -122,8 +125,13 @@ EndsAs text ps at s rest (Err (Limit which count k)) =
 EndsAs text ps at s rest (Err Memory) = ⊥
 
 -- From left to right, the text is this: its tokens, or its first fault. Of a text one such answer holds.
-abbrev pub LexesAs : Bytes → Result (List Token) LexFault → Type 0
-LexesAs text r = (ps : List Piece) × (at : ℕ) × (s : State) × (rest : Bytes) × Reaches text ps at s rest × EndsAs text ps at s rest r
+pub record LexesAs (text : Bytes) (r : Result (List Token) LexFault) : Type 0 where
+  pub pieces : List Piece
+  pub at : ℕ
+  pub state : State
+  pub rest : Bytes
+  pub reaches : Reaches text pieces at state rest
+  pub ends : EndsAs text pieces at state rest r
 
 -- ---- answers
 

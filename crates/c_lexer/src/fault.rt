@@ -21,7 +21,9 @@ pub enum TextLimit {
 #[derive(Clone, Copy, Debug, PartialEq, Eq)]
 pub enum LexFault {
     /// No token, comment or directive starts at the offset, or it isn't closed.
-    Bad { offset: usize },
+    Bad {
+        offset: usize,
+    },
     /// The token at the offset is the first to pass the limit, by this count.
     Limit {
         limit: TextLimit,

@@ -11,10 +11,10 @@ ghost use Rattle.c_token.specs.declared.token.Token as token;
 ghost use Rattle.c_lexer.specs.declared.fault.LexFault as fault;
 ghost use Rattle.c_lexer.specs.Texts.{AreTokens, LexesAs, Lexed, Finds, FindsTokens};
 
-use crate::fault::LexFault;
 use crate::meaning::Context;
 use crate::step::{fault_place, may_end, step};
 use c_token::{Kind, Token};
+pub use fault::{LexFault, TextLimit};
 use sqlite_items::Items;
 use std::alloc::Global;
 
@@ -46,3 +46,6 @@ pub fn lex(alloc: Global, text: &[u8]) -> Result<Items<Token>, LexFault>
     })?;
     Ok(tokens)
 }
+
+#[cfg(test)]
+mod tests;

@@ -1,5 +1,5 @@
 -- How keywords (C99 6.4.1) and punctuators (C99 6.4.6) are spelled.
-use Rattle.std.specs.Prelude.{ℕ, Bool, List, [], ◌∷◌, Option, codes, nat_eq}
+use Rattle.std.specs.Prelude.{ℕ, List, [], ◌∷◌, Option, codes, nat_eq}
 use Rattle.std.specs.List.{find, starts_with}
 use Rattle.std.specs.Str.{bytes_eq}
 use Rattle.c_token.specs.declared.keyword.Keyword.{Keyword}

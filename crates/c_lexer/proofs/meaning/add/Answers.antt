@@ -7,7 +7,8 @@ use Rattle.c_lexer.proofs.meaning.add.Goals as goal
 
 pub returns : goal.returns
 returns c =
-    let fresh : list_any (λ (k : Bor (List ℕ)). bytes_eq c.args.name.now k.now) c.args.names.now.keys ≡ false = sym (any-map (λ k. k.now) (bytes_eq c.args.name.now) c.args.names.now.keys) ∙ c.requires in
+    let fresh : list_any (λ (k : Bor (List ℕ)). bytes_eq c.args.name.now k.now) c.args.names.now.keys ≡ false =
+    sym (any-map (λ k. k.now) (bytes_eq c.args.name.now) c.args.names.now.keys) ∙ c.requires in
     ap (map (λ k. k.now)) c.in_ok-insert.ensures.keys
     ∙ ap (λ b. map (λ (k : Bor (List ℕ)). k.now) (cond b c.args.names.now.keys (c.args.names.now.keys ++ (c.args.name ∷ [])))) fresh
     ∙ pushed (λ k. k.now) c.args.name c.args.names.now.keys

@@ -12,4 +12,4 @@ pub returns-in-Err-clause-fails : goal.returns-in-Err-clause-fails
 unfolding next_piece
 returns-in-Err-clause-fails c =
     fails c.args.at c.args.rest.now (state_of c.args.context.now) c.args.tokens.now (piece_of c.in-Some.class c.front-word.result.now c.in-Some-2.effect) c.in-Err.fault
-      (search rules) c.in-Err.ensures.fails
+    (search rules) c.in-Err.ensures.fails

@@ -1,4 +1,4 @@
-use Rattle.std.proofs.Common.{◌≡◌, None, sym, ◌∙◌, ap}
+use Rattle.std.proofs.Common.{sym, ◌∙◌, ap}
 use Rattle.c_token.specs.Constants.{below_two_to_64}
 use Rattle.c_token.proofs.Numbers.{too_large}
 use Rattle.c_token.proofs.constant.number.Goals as goal
