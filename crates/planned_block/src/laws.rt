@@ -5,7 +5,7 @@ ghost use Rattle.interleaving.specs.Memory.{Location, Memory};
 ghost use Rattle.interleaving.specs.Source.{Source};
 ghost use Rattle.planned_block.specs.Block.{Block, size, IsOrdered};
 ghost use Rattle.planned_block.specs.Plan.{Plan, KeepsOrders};
-ghost use Rattle.planned_block.specs.Table.{MeetsTable, IsPacked, latencies_before, sequential};
+ghost use Rattle.planned_block.specs.Table.{MeetsTable, IsPacked, HasRows, latencies_before, sequential};
 ghost use Rattle.planned_block.specs.Slot.{Slot, AreBanks};
 ghost use Rattle.planned_block.specs.Advance.{Advances, wires, advance};
 ghost use Rattle.planned_block.specs.Closed.{IsClosedAlone};
@@ -25,6 +25,11 @@ pub fn block_cycles()
 /// A plan whose starts meet the table of constraints, and whose registers are packed, keeps the orders of the block.
 pub fn orders_kept()
     ensures { (b : Block) (p : Plan) → IsOrdered b → MeetsTable b p → IsPacked b p → KeepsOrders b p }
+{}
+
+/// Registers that are the rows of a packing of the values' intervals are packed.
+pub fn rows_pack()
+    ensures { (b : Block) (p : Plan) (row : ℕ → ℕ) → HasRows b p row → IsPacked b p }
 {}
 
 /// The sequential plan of every block meets the table, is packed and keeps the orders. It has at least one state, and at
