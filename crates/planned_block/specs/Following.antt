@@ -44,7 +44,8 @@ pub record AreChains (blocks : ℕ → ℕ → Block) (plans : ℕ → ℕ → P
   pub holds : (f l : ℕ) → own_latencies (blocks f l) ≤ chain f l
   -- the stage after a stepless block, wherever it leads, is in the chain of that block
   pub stepless : (f l : ℕ) → (blocks f l).steps ≡ 0 → (value : Operand → ℤ) → own_latencies (blocks f l) + chain f (leads_to value (blocks f l).next) ≤ chain f l
-  pub bounded : (f l : ℕ) → chain f l ≤ 32 * weight
+  -- the chain of an act has room for that of the stage after it, to which a waiting slot may go on
+  pub bounded : (f l : ℕ) → chain f l ≤ 32 * (weight + 1)
 
 -- FOLLOWING: code that follows its thread for ever is lowered code, with 64 times (the weight and 1) changes for each step
 abbrev pub FollowersAreLowered : {Local State : Type 0} → Source ℤ Local State → (Memory ℤ → Type 0) → Type 0

@@ -145,7 +145,8 @@ module _ (variables : ℕ → ℤ) where
       let v = r.globals x (code_index (code_value variables r.values i)) in
       record {
         count = count_next n r s a v;
-        values = values_next n r s a (s.memory (element x (operand_value variables s.values (operand_view i)))) v (ap s.memory place ∙ a.memory (record { object = x; index = code_index (code_value variables r.values i) }));
+        values = values_next n r s a (s.memory (element x (operand_value variables s.values (operand_view i)))) v
+            (ap s.memory place ∙ a.memory (record { object = x; index = code_index (code_value variables r.values i) }));
         arrays = a.arrays;
         memory = a.memory;
         accesses = accesses_next n r s a (Read (element x (operand_value variables s.values (operand_view i)))) (CodeRead x (code_index (code_value variables r.values i))) (ap Read place);
@@ -170,7 +171,8 @@ module _ (variables : ℕ → ℤ) where
       let v = r.arrays x (code_index (code_value variables r.values i)) in
       record {
         count = count_next n r s a v;
-        values = values_next n r s a (s.arrays (element x (operand_value variables s.values (operand_view i)))) v (ap s.arrays place ∙ a.arrays (record { object = x; index = code_index (code_value variables r.values i) }));
+        values = values_next n r s a (s.arrays (element x (operand_value variables s.values (operand_view i)))) v
+            (ap s.arrays place ∙ a.arrays (record { object = x; index = code_index (code_value variables r.values i) }));
         arrays = a.arrays;
         memory = a.memory;
         accesses = append-nil s.accesses ∙ a.accesses;
@@ -223,7 +225,8 @@ runs_alike b variables arrays globals =
     let v = planned_view b in
     let first : Alike variables 0 (code_started arrays globals) (started (memory_of arrays) (memory_of globals)) =
     record { count = refl; values = λ k. refl; arrays = λ l. refl; memory = λ l. refl; accesses = refl } in
-    let all = all_steps variables b.operations v 0 (code_started arrays globals) (started (memory_of arrays) (memory_of globals)) (λ k. ap (operation_at v) (let e : k ≡ 0 + k = omega arith in e)) first in
+    let all = all_steps variables b.operations v 0 (code_started arrays globals) (started (memory_of arrays) (memory_of globals))
+    (λ k. ap (operation_at v) (let e : k ≡ 0 + k = omega arith in e)) first in
     let a = subst (λ n. Alike variables all.0 (operations_run variables b.operations (code_started arrays globals)) (run_from v variables n 0 (started (memory_of arrays) (memory_of globals))))
     (sym (size-view b.operations)) all.1 in
     record {
