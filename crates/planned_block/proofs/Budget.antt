@@ -10,7 +10,7 @@ use Rattle.planned_block.specs.Run.{block_run}
 use Rattle.planned_block.specs.Slot.{is_request}
 use Rattle.planned_block.specs.Table.{latencies_before, greater, sequential}
 use Rattle.planned_block.specs.Hardware.{count_below, changes_of}
-use Rattle.planned_block.specs.Following.{own_latencies, code_of, AreChains, FollowersAreLowered}
+use Rattle.planned_block.specs.Following.{AtStage, own_latencies, code_of, AreChains, FollowersAreLowered}
 
 -- each request has a latency of its own
 requests_fit : (b : Block) (n : ℕ) → count_below (λ k. is_request (operation_at b k).kind) n ≤ latencies_before b n
@@ -41,14 +41,17 @@ module _ (blocks : ℕ → ℕ → Block) (plans : ℕ → ℕ → Plan) (chain 
   bounded f l = let t = within_chain f l in let c = chains.bounded f l in omega arith
 
 -- FOLLOWING
-pub followers_are_lowered : {Local State : Type 0} (P : Source ℤ Local State) (Typed : Memory ℤ → Type 0) → FollowersAreLowered P Typed
-followers_are_lowered P Typed blocks plans chain weight typed ordered chains = record {
+pub followers_are_lowered : {Local State : Type 0} (P : Source ℤ Local State) (Typed : Memory ℤ → Type 0)
+    (AtAct : AtStage Local → Local → ℕ → ℕ → (ℕ → ℤ) → Memory ℤ → Type 0) → FollowersAreLowered P Typed AtAct
+followers_are_lowered P Typed AtAct blocks plans chain weight typed ordered chains = record {
   blocks = λ s i f l variables arrays at starts some. record {
-    only_moves = (starts 1 (P.memory s) (typed s at)).only_moves;
+    only_moves = ((starts 1).0 some (P.memory s) (typed s at)).only_moves;
     block_runs = λ hs run n. record {
-      accesses = (starts 1 (P.memory s) (typed s at)).accesses hs run n;
-      ends = λ k. (starts (suc k) (P.memory s) (typed s at)).leads hs run n;
-      fits = λ z. fits blocks plans chain weight chains f l _ (chains.stepless f l (sym n ∙ ap length z) (operand_value variables (block_run (blocks f l) variables arrays (P.memory s)).values));
+      accesses = ((starts 1).0 some (P.memory s) (typed s at)).accesses hs run n;
+      ends = λ k. ((starts (suc k)).0 some (P.memory s) (typed s at)).leads hs run n;
+      fits = λ z.
+          fits blocks plans chain weight chains f l _
+          (chains.stepless f l some (sym n ∙ ap length z) (operand_value variables (block_run (blocks f l) variables arrays (P.memory s)).values));
     };
   };
   bounded = bounded blocks plans chain weight chains;

@@ -13,7 +13,7 @@ ghost use Rattle.planned_block.specs.Example.{RunReadsAndWrites, StallsTwice, Se
 ghost use Rattle.planned_block.specs.Law.{BlockKeepsToRun};
 ghost use Rattle.planned_block.specs.Hardware.{PlannedThreads};
 ghost use Rattle.planned_block.specs.Net.{IsChain, SomebodyMoves, MovesChange};
-ghost use Rattle.planned_block.specs.Following.{FollowersAreLowered};
+ghost use Rattle.planned_block.specs.Following.{AtStage, FollowersAreLowered};
 ghost use Rattle.planned_block.specs.Headline.{BlocksArePlanned, PlannedProgram, PlannedRunsAsOne};
 
 /// The law of a planned block, for any list of cycles: with any stalls, and grants in any order, it makes only accesses of
@@ -53,21 +53,23 @@ pub fn closed_alone()
     ensures { (bank : Location → ℕ) (b : Block) (p : Plan) → KeepsOrders b p → IsClosedAlone bank b p }
 {}
 
-/// A program of threads, and a predicate that its reachable memories meet.
-pub trait Typed {
+/// A program of threads, what its reachable memories meet, and what it is for a thread to be at an act of its code.
+pub trait Followed {
     ghost Local: { Type 0 };
 
     ghost State: { Type 0 };
 
     ghost source: { Source ℤ Local State };
 
-    ghost IsTyped: { Memory ℤ → Type 0 };
+    ghost Typed: { Memory ℤ → Type 0 };
+
+    ghost AtAct: { AtStage Local → Local → ℕ → ℕ → (ℕ → ℤ) → Memory ℤ → Type 0 };
 }
 
 /// Code that follows its thread, block after block, is lowered code: its slots change at most 64 times (the weight and 1)
 /// times for each step.
-pub fn followers_are_lowered<P: Typed>()
-    ensures { FollowersAreLowered P.source P.IsTyped }
+pub fn followers_are_lowered<P: Followed>()
+    ensures { FollowersAreLowered P.source P.Typed P.AtAct }
 {}
 
 /// Planned threads, and what runs them.

@@ -3,4 +3,4 @@ use Rattle.planned_block.proofs.Budget.{followers_are_lowered}
 use Rattle.planned_block.proofs.laws.followers_are_lowered.Goals as goal
 
 pub returns : goal.returns
-returns g c = followers_are_lowered g.P.Typed.source g.P.Typed.IsTyped
+returns g c = followers_are_lowered g.P.Followed.source g.P.Followed.Typed g.P.Followed.AtAct
