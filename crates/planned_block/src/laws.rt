@@ -2,7 +2,6 @@
 
 ghost use Rattle.std.specs.Prelude.{◌≡◌, ℕ, ◌<◌, ◌≤◌, ◌+◌, ℤ, Bool};
 ghost use Rattle.interleaving.specs.Memory.{Location, Memory};
-ghost use Rattle.interleaving.specs.Source.{Source};
 ghost use Rattle.planned_block.specs.Block.{Block, size, IsOrdered};
 ghost use Rattle.planned_block.specs.Plan.{Plan, KeepsOrders};
 ghost use Rattle.planned_block.specs.Table.{MeetsTable, IsPacked, HasRows, latencies_before, sequential};
@@ -11,10 +10,6 @@ ghost use Rattle.planned_block.specs.Advance.{Advances, wires, advance};
 ghost use Rattle.planned_block.specs.Closed.{IsClosedAlone};
 ghost use Rattle.planned_block.specs.Example.{RunReadsAndWrites, StallsTwice, SequentialRows};
 ghost use Rattle.planned_block.specs.Law.{BlockKeepsToRun};
-ghost use Rattle.planned_block.specs.Hardware.{PlannedThreads};
-ghost use Rattle.planned_block.specs.Net.{IsChain, SomebodyMoves, MovesChange};
-ghost use Rattle.planned_block.specs.Following.{AtStage, FollowersAreLowered};
-ghost use Rattle.planned_block.specs.Headline.{BlocksArePlanned, PlannedProgram, PlannedRunsAsOne};
 
 /// The law of a planned block, for any list of cycles: with any stalls, and grants in any order, it makes only accesses of
 /// its run and ends with its effect, provided that meanwhile nobody else writes what the run touches.
@@ -51,61 +46,6 @@ pub fn advance_advances()
 /// In a state that asks no core and takes no word, the next slot is told by the slot alone.
 pub fn closed_alone()
     ensures { (bank : Location → ℕ) (b : Block) (p : Plan) → KeepsOrders b p → IsClosedAlone bank b p }
-{}
-
-/// A program of threads, what its reachable memories meet, and what it is for a thread to be at an act of its code.
-pub trait Followed {
-    ghost Local: { Type 0 };
-
-    ghost State: { Type 0 };
-
-    ghost source: { Source ℤ Local State };
-
-    ghost Typed: { Memory ℤ → Type 0 };
-
-    ghost AtAct: { AtStage Local → Local → ℕ → ℕ → (ℕ → ℤ) → Memory ℤ → Type 0 };
-}
-
-/// Code that follows its thread, block after block, is lowered code: its slots change at most 64 times (the weight and 1)
-/// times for each step.
-pub fn followers_are_lowered<P: Followed>()
-    ensures { FollowersAreLowered P.source P.Typed P.AtAct }
-{}
-
-/// Planned threads, and what runs them.
-pub trait Planned {
-    ghost threads: { PlannedThreads };
-}
-
-/// Hardware of planned blocks is an instance of the hardware of the theory of interleavings.
-pub fn blocks_are_planned<P: Planned>()
-    ensures { BlocksArePlanned P.threads }
-{}
-
-/// A cycle of a net of planned threads, in which each bank and each core is granted to at most one thread,
-/// is a chain of the threads' moves by thread number.
-pub fn cycle_is_chain<P: Planned>()
-    ensures { IsChain P.threads }
-{}
-
-/// Where each request that waits lets some request be granted, an enabled thread in a block makes some thread move.
-pub fn somebody_moves<P: Planned>()
-    ensures { SomebodyMoves P.threads }
-{}
-
-/// Each move of a thread in a block changes its slot.
-pub fn moves_change<P: Planned>()
-    ensures { MovesChange P.threads }
-{}
-
-/// A threaded program of planned blocks, and the machine that runs it.
-pub trait PlannedMachine {
-    ghost program: { PlannedProgram };
-}
-
-/// The headline's second sentence for planned blocks: every run of the machine of a good program shows one interleaving.
-pub fn planned_runs<P: PlannedMachine>()
-    ensures { PlannedRunsAsOne P.program }
 {}
 
 /// A small block worked out by the definitions: `a = g; g = a + 1`, with two stalls; and the sequential plan of `a = g`.

@@ -7,7 +7,7 @@ use Rattle.interleaving.specs.Progress.{IsTimed, IsClocked, Moment}
 use Rattle.interleaving.specs.Run.{FollowsOne}
 use Rattle.interleaving.specs.Headline.{Views, Shows, IsSeen}
 use Rattle.planned_block.specs.Slot.{Slot}
-use Rattle.planned_block.specs.Hardware.{changes_left, PlannedThreads, hardware_of}
+use Rattle.planned_hardware.specs.Hardware.{changes_left, PlannedThreads, hardware_of}
 
 -- PLANNED: hardware of planned blocks is what the theory of interleavings asks for, and no slot changes more often than the steps pay for
 abbrev pub BlocksArePlanned : PlannedThreads → Type 0

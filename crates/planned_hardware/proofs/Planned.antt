@@ -12,9 +12,9 @@ use Rattle.planned_block.specs.Plan.{Plan}
 use Rattle.planned_block.specs.Run.{block_run}
 use Rattle.planned_block.specs.Slot.{Slot, is_request, starts_now, was_granted, stayed, gone_on, AllGranted, Works, Turns, Stays, GoesOn, Leaves}
 use Rattle.planned_block.specs.InFlight.{InFlight}
-use Rattle.planned_block.specs.Hardware.{Code, block_of, plan_of, is_open, changes_left, changes_of, Begins, Flies, IsBlockRun, PlannedThreads, hardware_of}
+use Rattle.planned_hardware.specs.Hardware.{Code, block_of, plan_of, is_open, changes_left, changes_of, Begins, Flies, IsBlockRun, PlannedThreads, hardware_of}
 use Rattle.planned_block.proofs.Bits.{both_true, is_same, not_less_is}
-use Rattle.planned_block.proofs.Counting.{count_le, count_less, open_before, granted_stays, granted_goes}
+use Rattle.planned_hardware.proofs.Counting.{count_le, count_less, open_before, granted_stays, granted_goes}
 use Rattle.planned_block.proofs.Passing.{stays, goes_on, IsDone, leaves, stored_next}
 use Rattle.planned_block.proofs.BlockLaw.{at_start}
 use Rattle.planned_block.proofs.Running.{run_arrays}

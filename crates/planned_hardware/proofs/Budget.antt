@@ -1,16 +1,15 @@
 -- What a slot has left is bounded by the latencies; code that follows its thread is lowered code.
 use Rattle.std.specs.Prelude.{ℤ, Bool, true, false, if◌then◌else◌}
 use Rattle.std.proofs.Common.{ℕ, zero, suc, ◌+◌, ◌*◌, ◌<◌, ◌≤◌, length, sym, ap, ◌∙◌, arith}
-use Rattle.std.proofs.lemmas.Bool.Decides.{nat_tests}
 use Rattle.interleaving.specs.Memory.{Memory}
 use Rattle.interleaving.specs.Source.{Source}
 use Rattle.planned_block.specs.Block.{Block, operation_at, size, operand_value}
 use Rattle.planned_block.specs.Plan.{Plan}
 use Rattle.planned_block.specs.Run.{block_run}
 use Rattle.planned_block.specs.Slot.{is_request}
-use Rattle.planned_block.specs.Table.{latencies_before, greater, sequential}
-use Rattle.planned_block.specs.Hardware.{count_below, changes_of}
-use Rattle.planned_block.specs.Following.{AtStage, own_latencies, code_of, AreChains, FollowersAreLowered}
+use Rattle.planned_block.specs.Table.{latencies_before}
+use Rattle.planned_hardware.specs.Hardware.{count_below, changes_of}
+use Rattle.planned_hardware.specs.Following.{AtStage, own_latencies, code_of, AreChains, FollowersAreLowered}
 
 -- each request has a latency of its own
 requests_fit : (b : Block) (n : ℕ) → count_below (λ k. is_request (operation_at b k).kind) n ≤ latencies_before b n
@@ -56,16 +55,3 @@ followers_are_lowered P Typed AtAct blocks plans chain weight typed ordered chai
   };
   bounded = bounded blocks plans chain weight chains;
 }
-
--- the sequential plan is short
-pub sequential_short : (b : Block) → (sequential b).states ≤ latencies_before b (size b) + 1
-sequential_short b = greater_short (latencies_before b (size b))
-  where
-    greater_short : (n : ℕ) → greater 1 n ≤ n + 1
-    greater_short n = grind (arith, nat_tests)
-
-pub sequential_some : (b : Block) → 0 < (sequential b).states
-sequential_some b = greater_some (latencies_before b (size b))
-  where
-    greater_some : (n : ℕ) → 0 < greater 1 n
-    greater_some n = grind (arith, nat_tests)

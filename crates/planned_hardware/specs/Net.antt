@@ -1,13 +1,12 @@
 -- One cycle of a net of planned threads, as a chain of their moves by thread number.
-use Rattle.std.specs.Prelude.{◌≡◌, ◌≢◌, ℕ, ◌<◌, ◌≤◌, ℤ, List, [], Bool, true, false, ◌&&◌, ◌||◌, ◌⊎◌, if◌then◌else◌}
-use Rattle.interleaving.specs.Memory.{Location, Access, memory_after, Touches}
+use Rattle.std.specs.Prelude.{◌≡◌, ◌≢◌, ℕ, ◌<◌, ◌≤◌, ℤ, [], Bool, true, false, ◌&&◌, ◌||◌, ◌⊎◌, if◌then◌else◌}
+use Rattle.interleaving.specs.Memory.{Location, memory_after, Touches}
 use Rattle.interleaving.specs.Hardware.{World}
 use Rattle.interleaving.specs.Cycle.{movers, Chain, TurnsInCycle, ActsInCycle}
-use Rattle.planned_block.specs.Block.{Block, size}
-use Rattle.planned_block.specs.Plan.{Plan}
-use Rattle.planned_block.specs.Slot.{Slot, accesses_where, bank_access_now}
-use Rattle.planned_block.specs.Advance.{requests, answered, is_ready, is_answered, Advances}
-use Rattle.planned_block.specs.Hardware.{block_of, plan_of, PlannedThreads, hardware_of}
+use Rattle.planned_block.specs.Block.{size}
+use Rattle.planned_block.specs.Slot.{Slot, bank_access_now}
+use Rattle.planned_block.specs.Advance.{accesses_of_cycle, requests, answered, is_ready, is_answered, Advances}
+use Rattle.planned_hardware.specs.Hardware.{block_of, plan_of, PlannedThreads, hardware_of}
 
 -- what one cycle of the net was given: who is enabled; who moves outside blocks; which requests are granted, by thread and operation;
 -- what the wires show; and to which thread each bank and each core is granted, with as many as there are threads, or more, for nobody
@@ -18,10 +17,6 @@ pub record Grants : Type 0 where
   pub wire : ℕ → ℕ → ℤ
   pub bank_owner : ℕ → ℕ
   pub core_owner : ℕ → ℕ
-
--- the accesses that an enabled slot makes under these grants
-abbrev pub accesses_of_cycle : Block → Plan → Slot → (ℕ → Bool) → (ℕ → ℤ) → List (Access ℤ)
-accesses_of_cycle b p q grant wire = accesses_where (answered b p q grant) (bank_access_now b p q wire) (size b) 0
 
 module _ (M : PlannedThreads) (w v : World ℤ Slot (ℕ → M.Core)) (g : Grants) where
   abbrev pub place_owner : Location → ℕ

@@ -8,7 +8,7 @@ use Rattle.planned_block.specs.Block.{Operand, Block, size, operand_value, finis
 use Rattle.planned_block.specs.Plan.{Plan}
 use Rattle.planned_block.specs.Run.{block_run}
 use Rattle.planned_block.specs.Table.{latencies_before}
-use Rattle.planned_block.specs.Hardware.{Code, IsLowered}
+use Rattle.planned_hardware.specs.Hardware.{Code, IsLowered}
 
 -- what may be said of a local state at a stage, with these variables and arrays
 abbrev pub AtStage : Type 0 → Type 1

@@ -10,12 +10,12 @@ use Rattle.interleaving.proofs.Headline.{runs_as_one}
 use Rattle.planned_block.specs.Block.{Block, size}
 use Rattle.planned_block.specs.Plan.{Plan}
 use Rattle.planned_block.specs.Slot.{Slot, bank_access_now}
-use Rattle.planned_block.specs.Advance.{answered, is_ready, is_answered}
-use Rattle.planned_block.specs.Hardware.{changes_left, block_of, plan_of, PlannedThreads, hardware_of}
-use Rattle.planned_block.specs.Net.{Grants, accesses_of_cycle, place_owner, RunsInCycle, NetCycle, moves, IsChain, SomebodyMoves, MovesChange}
-use Rattle.planned_block.specs.Headline.{BlocksArePlanned, PlannedProgram, PlannedRunsAsOne}
+use Rattle.planned_block.specs.Advance.{accesses_of_cycle, answered, is_ready, is_answered}
+use Rattle.planned_hardware.specs.Hardware.{changes_left, block_of, plan_of, PlannedThreads, hardware_of}
+use Rattle.planned_hardware.specs.Net.{Grants, place_owner, RunsInCycle, NetCycle, moves, IsChain, SomebodyMoves, MovesChange}
+use Rattle.planned_hardware.specs.Headline.{BlocksArePlanned, PlannedProgram, PlannedRunsAsOne}
 use Rattle.planned_block.proofs.Advancing.{advances, ready_or_asks, some_tells, touched_by_one, turns_frame, turns_change}
-use Rattle.planned_block.proofs.Planned.{blocks_planned, blocks_timed}
+use Rattle.planned_hardware.proofs.Planned.{blocks_planned, blocks_timed}
 
 differ : (a : Bool) → a ≡ true → a ≡ false → ⊥
 differ true e z = cc

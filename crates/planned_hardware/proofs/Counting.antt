@@ -2,7 +2,7 @@
 use Rattle.std.specs.Prelude.{nat_eq, nat_lt, ◌&&◌, Bool, true, false, ◌||◌, not, if◌then◌else◌}
 use Rattle.std.proofs.Common.{◌≡◌, ◌≢◌, ℕ, zero, suc, ◌<◌, ◌≤◌, refl, sym, ap, ◌∙◌, ⊎_elim, arith}
 use Rattle.interleaving.proofs.Update.{same_or_not}
-use Rattle.planned_block.specs.Hardware.{count_below}
+use Rattle.planned_hardware.specs.Hardware.{count_below}
 use Rattle.planned_block.proofs.Bits.{both_true, is_same, less_is, not_less_is, less_or_not}
 
 one_more : (a c : Bool) → (a ≡ true → c ≡ true) → (if a then 1 else 0) ≤ (if c then 1 else 0)
