@@ -8,8 +8,7 @@ use Rattle.planned_block.specs.Block.{Block, operation_at, size, element}
 use Rattle.planned_block.specs.Plan.{Plan}
 use Rattle.planned_block.specs.Run.{bank_access}
 use Rattle.planned_block.specs.Slot.{Slot, accesses_where, operand_now, bank_access_now, asks, granted_with, AllGranted, Works, Turns}
-use Rattle.planned_block.specs.Advance.{all_below, any_below, requests, answered, is_granted, is_ready, is_answered, Advances}
-use Rattle.planned_block.specs.Net.{accesses_of_cycle}
+use Rattle.planned_block.specs.Advance.{accesses_of_cycle, all_below, any_below, requests, answered, is_granted, is_ready, is_answered, Advances}
 use Rattle.planned_block.proofs.Bits.{both_true}
 
 all_tells : (f : ℕ → Bool) (n k : ℕ) → all_below f n ≡ true → k < n → f k ≡ true

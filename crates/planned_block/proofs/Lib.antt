@@ -6,10 +6,6 @@ pub mod Running
 pub mod Passing
 pub mod BlockLaw
 pub mod Tables
-pub mod Counting
-pub mod Planned
 pub mod Advancing
-pub mod Chaining
-pub mod Budget
 pub mod Total
 pub mod Examples

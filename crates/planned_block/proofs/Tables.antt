@@ -6,7 +6,7 @@ use Rattle.interleaving.proofs.Update.{same_or_not}
 use Rattle.planned_block.specs.Block.{Operand, Constant, Variable, Value, Through, Kind, Simple, Multiply, Divide, BankRead, BankWrite, ArrayRead, ArrayWrite}
 use Rattle.planned_block.specs.Block.{Final, Block, operation_at, size, Uses, UsesIn, IsAmong, IsUsedAtEnd, IsOrdered}
 use Rattle.planned_block.specs.Plan.{Plan, further_states, last_state, is_simple, target_of, OfGlobal, gap_after, KeepsOrders}
-use Rattle.planned_block.specs.Table.{MeetsTable, IsPacked, latency, greater, uses_in, last_user, any_final, next_uses, last_use, latencies_before, sequential}
+use Rattle.planned_block.specs.Table.{MeetsTable, IsPacked, HasRows, latency, greater, uses_in, last_user, any_final, next_uses, last_use, latencies_before, sequential}
 use Rattle.planned_block.proofs.Bits.{same_is, less_is}
 
 simple_now : (kind : Kind) → is_simple kind ≡ true → further_states kind ≡ 0
@@ -160,19 +160,30 @@ sequential_packed b = record {
 pub sequential_keeps : (b : Block) → IsOrdered b → KeepsOrders b (sequential b)
 sequential_keeps b o = keeps_orders b (sequential b) o (sequential_meets b o) (sequential_packed b)
 
+-- the sequential plan is short
+pub sequential_short : (b : Block) → (sequential b).states ≤ latencies_before b (size b) + 1
+sequential_short b = greater_short (latencies_before b (size b))
+  where
+    greater_short : (n : ℕ) → greater 1 n ≤ n + 1
+    greater_short n = grind (arith, nat_tests)
+
+pub sequential_some : (b : Block) → 0 < (sequential b).states
+sequential_some b = greater_some (latencies_before b (size b))
+  where
+    greater_some : (n : ℕ) → 0 < greater 1 n
+    greater_some n = grind (arith, nat_tests)
+
 -- rows of a packing of the intervals from the state after an operation's last one to the state after the last use
-pub packed : (b : Block) (p : Plan) (row : ℕ → ℕ) → ((k : ℕ) → k < size b → p.until k ≡ last_use b p k) →
-    ((k : ℕ) → k < size b → p.register k ≡ (if nat_lt (last_state b p k) (p.until k) then Some (row k) else None)) →
-    ((j k : ℕ) → j < size b → k < size b → j ≢ k → suc (last_state b p j) < suc (p.until k) → suc (last_state b p k) < suc (p.until j) → row j ≢ row k) → IsPacked b p
-packed b p row until register differ = record {
-  until = until;
-  has = λ k lt less. (row k, register k lt ∙ ap (λ (c : Bool). if c then Some (row k) else None) (less_is (last_state b p k) (p.until k) less));
-  short = λ k r lt e. (of_bit k r (nat_lt (last_state b p k) (p.until k)) refl (sym (register k lt) ∙ e)).0;
+pub packed : (b : Block) (p : Plan) (row : ℕ → ℕ) → HasRows b p row → IsPacked b p
+packed b p row rows = record {
+  until = rows.until;
+  has = λ k lt less. (row k, rows.register k lt ∙ ap (λ (c : Bool). if c then Some (row k) else None) (less_is (last_state b p k) (p.until k) less));
+  short = λ k r lt e. (of_bit k r (nat_lt (last_state b p k) (p.until k)) refl (sym (rows.register k lt) ∙ e)).0;
   apart = λ j k r lj lk ne ej ek.
-      let own_j = (of_bit j r (nat_lt (last_state b p j) (p.until j)) refl (sym (register j lj) ∙ ej)).1 in
-      let own_k = (of_bit k r (nat_lt (last_state b p k) (p.until k)) refl (sym (register k lk) ∙ ek)).1 in
+      let own_j = (of_bit j r (nat_lt (last_state b p j) (p.until j)) refl (sym (rows.register j lj) ∙ ej)).1 in
+      let own_k = (of_bit k r (nat_lt (last_state b p k) (p.until k)) refl (sym (rows.register k lk) ∙ ek)).1 in
       ⊎_elim (λ le. inl le) (λ (less : last_state b p k < p.until j). ⊎_elim (λ le. inr le)
-      (λ (more : last_state b p j < p.until k). absurd (differ j k lj lk ne (omega arith) (omega arith) (own_j ∙ sym own_k))) (le_or (p.until k) (last_state b p j)))
+      (λ (more : last_state b p j < p.until k). absurd (rows.differ j k lj lk ne (omega arith) (omega arith) (own_j ∙ sym own_k))) (le_or (p.until k) (last_state b p j)))
       (le_or (p.until j) (last_state b p k));
 }
   where

@@ -1,9 +1,9 @@
 -- What the module of a thread does in a cycle in which it is enabled, grants given: as a relation, and as a function.
-use Rattle.std.specs.Prelude.{◌≡◌, ℕ, zero, suc, nat_eq, ℤ, pos, Bool, true, false, not, ◌&&◌, ◌||◌, ◌⊎◌, if◌then◌else◌, Option, Some, None}
-use Rattle.interleaving.specs.Memory.{Location, Memory}
+use Rattle.std.specs.Prelude.{◌≡◌, ℕ, zero, suc, nat_eq, ℤ, pos, List, Bool, true, false, not, ◌&&◌, ◌||◌, ◌⊎◌, if◌then◌else◌, Option, Some, None}
+use Rattle.interleaving.specs.Memory.{Location, Memory, Access}
 use Rattle.planned_block.specs.Block.{Kind, Simple, Multiply, Divide, BankRead, BankWrite, ArrayRead, ArrayWrite, Block, operation_at, size, finished, leads_to, element}
 use Rattle.planned_block.specs.Plan.{Plan, last_state}
-use Rattle.planned_block.specs.Slot.{Slot, asks, granted_with, operand_now, arrays_next, stayed, gone_on, IsWired, result_now, WordsAfter, Stays, GoesOn, Leaves}
+use Rattle.planned_block.specs.Slot.{Slot, accesses_where, bank_access_now, asks, granted_with, operand_now, arrays_next, stayed, gone_on, IsWired, result_now, WordsAfter, Stays, GoesOn, Leaves}
 
 abbrev pub all_below : (ℕ → Bool) → ℕ → Bool
 all_below test zero = true
@@ -31,6 +31,10 @@ module _ (b : Block) (p : Plan) where
 
   abbrev pub is_answered : Slot → (ℕ → Bool) → Bool
   is_answered q grant = any_below (answered q grant) (size b)
+
+-- the accesses that an enabled slot makes under these grants
+abbrev pub accesses_of_cycle : Block → Plan → Slot → (ℕ → Bool) → (ℕ → ℤ) → List (Access ℤ)
+accesses_of_cycle b p q grant wire = accesses_where (answered b p q grant) (bank_access_now b p q wire) (size b) 0
 
 -- the state is left as soon as all its requests are granted; until then each grant is remembered
 pub record Advances (bank : Location → ℕ) (b : Block) (p : Plan) (q : Slot) (m : Memory ℤ) (grant : ℕ → Bool) (wire : ℕ → ℤ) (r : Slot) : Type 0 where

@@ -7,8 +7,4 @@ pub mod Advance
 pub mod Closed
 pub mod Law
 pub mod InFlight
-pub mod Hardware
-pub mod Net
-pub mod Headline
-pub mod Following
 pub mod Example

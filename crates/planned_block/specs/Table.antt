@@ -63,6 +63,13 @@ pub record IsPacked (b : Block) (p : Plan) : Type 0 where
   pub short : (k r : ℕ) → k < size b → p.register k ≡ Some r → last_state b p k < p.until k
   pub apart : (j k r : ℕ) → j < size b → k < size b → j ≢ k → p.register j ≡ Some r → p.register k ≡ Some r → (p.until j ≤ last_state b p k) ⊎ (p.until k ≤ last_state b p j)
 
+-- rows of a packing of intervals: a value whose interval, from the state after its operation's last one to the state after its last use,
+-- has a state gets the row of it; two values whose intervals meet have different rows
+pub record HasRows (b : Block) (p : Plan) (row : ℕ → ℕ) : Type 0 where
+  pub until : (k : ℕ) → k < size b → p.until k ≡ last_use b p k
+  pub register : (k : ℕ) → k < size b → p.register k ≡ (if nat_lt (last_state b p k) (p.until k) then Some (row k) else None)
+  pub differ : (j k : ℕ) → j < size b → k < size b → j ≢ k → suc (last_state b p j) < suc (p.until k) → suc (last_state b p k) < suc (p.until j) → row j ≢ row k
+
 -- the latencies of the first n operations
 abbrev pub latencies_before : Block → ℕ → ℕ
 latencies_before b zero = 0

@@ -2,19 +2,14 @@
 
 ghost use Rattle.std.specs.Prelude.{◌≡◌, ℕ, ◌<◌, ◌≤◌, ◌+◌, ℤ, Bool};
 ghost use Rattle.interleaving.specs.Memory.{Location, Memory};
-ghost use Rattle.interleaving.specs.Source.{Source};
 ghost use Rattle.planned_block.specs.Block.{Block, size, IsOrdered};
 ghost use Rattle.planned_block.specs.Plan.{Plan, KeepsOrders};
-ghost use Rattle.planned_block.specs.Table.{MeetsTable, IsPacked, latencies_before, sequential};
+ghost use Rattle.planned_block.specs.Table.{MeetsTable, IsPacked, HasRows, latencies_before, sequential};
 ghost use Rattle.planned_block.specs.Slot.{Slot, AreBanks};
 ghost use Rattle.planned_block.specs.Advance.{Advances, wires, advance};
 ghost use Rattle.planned_block.specs.Closed.{IsClosedAlone};
 ghost use Rattle.planned_block.specs.Example.{RunReadsAndWrites, StallsTwice, SequentialRows};
 ghost use Rattle.planned_block.specs.Law.{BlockKeepsToRun};
-ghost use Rattle.planned_block.specs.Hardware.{PlannedThreads};
-ghost use Rattle.planned_block.specs.Net.{IsChain, SomebodyMoves, MovesChange};
-ghost use Rattle.planned_block.specs.Following.{FollowersAreLowered};
-ghost use Rattle.planned_block.specs.Headline.{BlocksArePlanned, PlannedProgram, PlannedRunsAsOne};
 
 /// The law of a planned block, for any list of cycles: with any stalls, and grants in any order, it makes only accesses of
 /// its run and ends with its effect, provided that meanwhile nobody else writes what the run touches.
@@ -25,6 +20,11 @@ pub fn block_cycles()
 /// A plan whose starts meet the table of constraints, and whose registers are packed, keeps the orders of the block.
 pub fn orders_kept()
     ensures { (b : Block) (p : Plan) → IsOrdered b → MeetsTable b p → IsPacked b p → KeepsOrders b p }
+{}
+
+/// Registers that are the rows of a packing of the values' intervals are packed.
+pub fn rows_pack()
+    ensures { (b : Block) (p : Plan) (row : ℕ → ℕ) → HasRows b p row → IsPacked b p }
 {}
 
 /// The sequential plan of every block meets the table, is packed and keeps the orders. It has at least one state, and at
@@ -46,59 +46,6 @@ pub fn advance_advances()
 /// In a state that asks no core and takes no word, the next slot is told by the slot alone.
 pub fn closed_alone()
     ensures { (bank : Location → ℕ) (b : Block) (p : Plan) → KeepsOrders b p → IsClosedAlone bank b p }
-{}
-
-/// A program of threads, and a predicate that its reachable memories meet.
-pub trait Typed {
-    ghost Local: { Type 0 };
-
-    ghost State: { Type 0 };
-
-    ghost source: { Source ℤ Local State };
-
-    ghost IsTyped: { Memory ℤ → Type 0 };
-}
-
-/// Code that follows its thread, block after block, is lowered code: its slots change at most 64 times (the weight and 1)
-/// times for each step.
-pub fn followers_are_lowered<P: Typed>()
-    ensures { FollowersAreLowered P.source P.IsTyped }
-{}
-
-/// Planned threads, and what runs them.
-pub trait Planned {
-    ghost threads: { PlannedThreads };
-}
-
-/// Hardware of planned blocks is an instance of the hardware of the theory of interleavings.
-pub fn blocks_are_planned<P: Planned>()
-    ensures { BlocksArePlanned P.threads }
-{}
-
-/// A cycle of a net of planned threads, in which each bank and each core is granted to at most one thread,
-/// is a chain of the threads' moves by thread number.
-pub fn cycle_is_chain<P: Planned>()
-    ensures { IsChain P.threads }
-{}
-
-/// Where each request that waits lets some request be granted, an enabled thread in a block makes some thread move.
-pub fn somebody_moves<P: Planned>()
-    ensures { SomebodyMoves P.threads }
-{}
-
-/// Each move of a thread in a block changes its slot.
-pub fn moves_change<P: Planned>()
-    ensures { MovesChange P.threads }
-{}
-
-/// A threaded program of planned blocks, and the machine that runs it.
-pub trait PlannedMachine {
-    ghost program: { PlannedProgram };
-}
-
-/// The headline's second sentence for planned blocks: every run of the machine of a good program shows one interleaving.
-pub fn planned_runs<P: PlannedMachine>()
-    ensures { PlannedRunsAsOne P.program }
 {}
 
 /// A small block worked out by the definitions: `a = g; g = a + 1`, with two stalls; and the sequential plan of `a = g`.

@@ -1,6 +1,0 @@
--- The law stands in proofs/Budget.
-use Rattle.planned_block.proofs.Budget.{followers_are_lowered}
-use Rattle.planned_block.proofs.laws.followers_are_lowered.Goals as goal
-
-pub returns : goal.returns
-returns g c = followers_are_lowered g.P.Typed.source g.P.Typed.IsTyped

@@ -1,0 +1,4 @@
+pub mod Counting
+pub mod Planned
+pub mod Chaining
+pub mod Budget

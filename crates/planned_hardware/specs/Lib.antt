@@ -1,0 +1,4 @@
+pub mod Hardware
+pub mod Net
+pub mod Headline
+pub mod Following
