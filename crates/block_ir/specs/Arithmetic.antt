@@ -1,12 +1,13 @@
 -- What an operator gives in hardware, on all operands. Where C gives a value it is the same.
-use Rattle.std.specs.Prelude.{ℕ, ◌*◌, ◌^◌, Bool, not, if◌then◌else◌, nat_lt, ℤ, pos, negsuc, ◌+ℤ◌, ◌-ℤ◌, ◌*ℤ◌, neg_ℤ, int_lt, int_le, int_div, int_rem, unsigned_abs}
+use Rattle.std.specs.Prelude.{◌^◌, Bool, if◌then◌else◌, ℤ, pos, negsuc, ◌+ℤ◌, ◌-ℤ◌, ◌*ℤ◌, neg_ℤ, int_lt, int_le, int_div, int_rem, unsigned_abs}
 use Rattle.hls_ints.specs.Residues.{floor_quotient, bit_of}
 use Rattle.hls_ints.specs.Types.{IntegerType, width_of, wrapped}
 use Rattle.hls_ints.specs.Operators.{is_zero, is_count, complement_of, and_of, exclusive_or_of, inclusive_or_of, less_of, equal_of}
 use Rattle.c_program.specs.declared.tree.UnaryOperator.{UnaryOperator}
 use Rattle.c_program.specs.declared.tree.UnaryOperator.TheVariants.{Plus, Minus, Complement, Not}
 use Rattle.c_program.specs.declared.tree.BinaryOperator.{BinaryOperator}
-use Rattle.c_program.specs.declared.tree.BinaryOperator.TheVariants.{Multiply, Divide, Remainder, Add, Subtract, ShiftLeft, ShiftRight, Less, Greater, LessEqual, GreaterEqual, Equal, NotEqual, And, ExclusiveOr, InclusiveOr}
+use Rattle.c_program.specs.declared.tree.BinaryOperator.TheVariants.{Multiply, Divide, Remainder, Add, Subtract, ShiftLeft, ShiftRight}
+use Rattle.c_program.specs.declared.tree.BinaryOperator.TheVariants.{Less, Greater, LessEqual, GreaterEqual, Equal, NotEqual, And, ExclusiveOr, InclusiveOr}
 
 abbrev pub truth : Bool → ℤ
 truth b = pos (bit_of b)

@@ -1,5 +1,5 @@
 -- What a run of a block does: the values of its operations, its reads and writes in order, and what it leaves.
-use Rattle.std.specs.Prelude.{ℕ, ◌==◌, ◌&&◌, nat_eq, if◌then◌else◌, List, [], ◌∷◌, ◌++◌, length, ℤ, pos, negsuc, Option, Some, None, slice_get, fold}
+use Rattle.std.specs.Prelude.{ℕ, ◌&&◌, nat_eq, if◌then◌else◌, List, [], ◌∷◌, ◌++◌, ℤ, pos, negsuc, Option, Some, None, slice_get}
 use Rattle.hls_ints.specs.Types.{IntegerType, wrapped}
 use Rattle.hls_ints.specs.Operators.{is_zero}
 use Rattle.block_ir.specs.Arithmetic.{unary_total, binary_total}

@@ -16,16 +16,39 @@ pub enum ActOperand {
 #[derive(Drop)]
 pub enum Act {
     /// The output of a printf, by the number of its site in the text.
-    Print { site: u32, values: Items<ActOperand> },
-    Create { thread: ActOperand, argument: ActOperand },
-    Join { thread: ActOperand },
-    MutexInit { mutex: ActOperand },
-    MutexDestroy { mutex: ActOperand },
-    MutexLock { mutex: ActOperand },
-    MutexUnlock { mutex: ActOperand },
-    BarrierInit { barrier: ActOperand, count: ActOperand },
-    BarrierDestroy { barrier: ActOperand },
-    BarrierWait { barrier: ActOperand },
+    Print {
+        site: u32,
+        values: Items<ActOperand>,
+    },
+    Create {
+        thread: ActOperand,
+        argument: ActOperand,
+    },
+    Join {
+        thread: ActOperand,
+    },
+    MutexInit {
+        mutex: ActOperand,
+    },
+    MutexDestroy {
+        mutex: ActOperand,
+    },
+    MutexLock {
+        mutex: ActOperand,
+    },
+    MutexUnlock {
+        mutex: ActOperand,
+    },
+    BarrierInit {
+        barrier: ActOperand,
+        count: ActOperand,
+    },
+    BarrierDestroy {
+        barrier: ActOperand,
+    },
+    BarrierWait {
+        barrier: ActOperand,
+    },
     Return,
 }
 
