@@ -1,0 +1,8 @@
+pub mod Lists
+pub mod Shape
+pub mod Depends
+pub mod Works
+pub mod Moves
+pub mod Acts
+pub mod Sound
+pub mod Threaded

@@ -1,0 +1,11 @@
+//! The laws of races. Each function takes and answers nothing: its contract is the law.
+
+ghost use Rattle.c_program.specs.Tree.{Program};
+ghost use Rattle.c_program.specs.Resolved.{IsResolved};
+ghost use Rattle.interleaving.specs.Threaded.{IsThreaded};
+ghost use Rattle.race_model.specs.Source.{c_source};
+
+/// A C program is a program of threads: each law that the theory of interleavings asks for holds of its steps.
+pub fn is_threaded()
+    ensures { (P : Program) → IsResolved P → IsThreaded (c_source P) }
+{}
