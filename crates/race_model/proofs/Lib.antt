@@ -6,3 +6,4 @@ pub mod Moves
 pub mod Acts
 pub mod Sound
 pub mod Threaded
+pub mod Agreement

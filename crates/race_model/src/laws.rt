@@ -4,8 +4,11 @@ ghost use Rattle.c_program.specs.Tree.{Program};
 ghost use Rattle.c_program.specs.Resolved.{IsResolved};
 ghost use Rattle.interleaving.specs.Threaded.{IsThreaded};
 ghost use Rattle.race_model.specs.Source.{c_source};
+ghost use Rattle.race_model.specs.Agreement.{IsSameMeaning};
 
 /// A C program is a program of threads: each law that the theory of interleavings asks for holds of its steps.
 pub fn is_threaded()
     ensures { (P : Program) → IsResolved P → IsThreaded (c_source P) }
 {}
+
+/// What the theory says of that source it says of the C program: where interleavings lead, what is deadlocked, what
