@@ -7,3 +7,4 @@ pub mod Acts
 pub mod Sound
 pub mod Threaded
 pub mod Agreement
+pub mod FirstConflict

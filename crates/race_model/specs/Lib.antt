@@ -1,2 +1,3 @@
 pub mod Source
 pub mod Agreement
+pub mod FirstConflict

@@ -5,6 +5,7 @@ ghost use Rattle.c_program.specs.Resolved.{IsResolved};
 ghost use Rattle.interleaving.specs.Threaded.{IsThreaded};
 ghost use Rattle.race_model.specs.Source.{c_source};
 ghost use Rattle.race_model.specs.Agreement.{IsSameMeaning};
+ghost use Rattle.race_model.specs.FirstConflict.{FirstConflict};
 
 /// A C program is a program of threads: each law that the theory of interleavings asks for holds of its steps.
 pub fn is_threaded()
@@ -12,3 +13,13 @@ pub fn is_threaded()
 {}
 
 /// What the theory says of that source it says of the C program: where interleavings lead, what is deadlocked, what
+/// races, and which programs are good.
+pub fn is_same_meaning()
+    ensures { (P : Program) → IsResolved P → IsSameMeaning P }
+{}
+
+/// First conflict: where two threads, each by itself, would touch one element of a global that one of them writes,
+/// a race of the two is reachable.
+pub fn first_conflict()
+    ensures { (P : Program) → IsResolved P → FirstConflict P }
+{}
