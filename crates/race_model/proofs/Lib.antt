@@ -8,3 +8,4 @@ pub mod Sound
 pub mod Threaded
 pub mod Agreement
 pub mod FirstConflict
+pub mod Orderly

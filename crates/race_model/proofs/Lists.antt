@@ -1,8 +1,8 @@
 -- Lists, and elements of rows, where one is changed.
 use Rattle.std.proofs.Common.{◌≡◌, ◌≢◌, ℕ, zero, suc, ◌<◌, List, [], ◌∷◌, map, length, refl, ap, sym, ◌∙◌, subst, ⊎_elim, inl, inr, arith}
-use Rattle.std.specs.Prelude.{◌⊎◌, Bool, true, Option, Some, None, slice_get, slice_set}
-use Rattle.std.specs.List.{AllByRecursion, list_all}
-use Rattle.std.proofs.lemmas.Bool.{and_parts}
+use Rattle.std.specs.Prelude.{◌⊎◌, Bool, true, false, Option, Some, None, slice_get, slice_set}
+use Rattle.std.specs.List.{AllByRecursion, list_any, list_all}
+use Rattle.std.proofs.lemmas.Bool.{and_parts, or_parts}
 use Rattle.interleaving.proofs.Update.{same_or_not}
 use Rattle.thread_semantics.specs.Memory.{element, row_element, with_row, with_element}
 
@@ -20,13 +20,14 @@ module _ {A : Type 0} where
   get-set_same (x ∷ xs) (suc i) a b e = get-set_same xs i a b e
 
   -- what stands at j once a stands at i
-  pub get-set_cases : (xs : List A) (i j : ℕ) (a b : A) → slice_get (slice_set xs i a) j ≡ Some b → (a ≡ b) ⊎ ((i ≢ j) × (slice_get xs j ≡ Some b))
+  pub get-set_cases : (xs : List A) (i j : ℕ) (a b : A) → slice_get (slice_set xs i a) j ≡ Some b →
+      ((i ≡ j) × (a ≡ b)) ⊎ ((i ≢ j) × (slice_get xs j ≡ Some b))
   get-set_cases [] i j a b e = absurd cc
-  get-set_cases (x ∷ xs) zero zero a b e = inl cc
+  get-set_cases (x ∷ xs) zero zero a b e = inl (refl, cc)
   get-set_cases (x ∷ xs) zero (suc j) a b e = inr ((λ q. absurd (omega arith)), e)
   get-set_cases (x ∷ xs) (suc i) zero a b e = inr ((λ q. absurd (omega arith)), e)
   get-set_cases (x ∷ xs) (suc i) (suc j) a b e =
-      ⊎_elim (λ same. inl same) (λ r. inr ((λ (q : suc i ≡ suc j). r.0 (omega arith)), r.1)) (get-set_cases xs i j a b e)
+      ⊎_elim (λ same. inl (ap suc same.0, same.1)) (λ r. inr ((λ (q : suc i ≡ suc j). r.0 (omega arith)), r.1)) (get-set_cases xs i j a b e)
 
   pub get_below : (xs : List A) (i : ℕ) → i < length xs → (a : A) × (slice_get xs i ≡ Some a)
   get_below [] i lt = absurd (omega arith)
@@ -37,6 +38,11 @@ module _ {A : Type 0} where
   all_at P [] i a h e = absurd cc
   all_at P (x ∷ xs) zero a h e = let same : x ≡ a = cc in subst P same h.0
   all_at P (x ∷ xs) (suc i) a h e = all_at P xs i a h.1 e
+
+  pub list_any_at : (p : A → Bool) (xs : List A) (i : ℕ) (a : A) → list_any p xs ≡ false → slice_get xs i ≡ Some a → p a ≡ false
+  list_any_at p [] i a h e = absurd cc
+  list_any_at p (x ∷ xs) zero a h e = let same : x ≡ a = cc in subst (λ y. p y ≡ false) same (or_parts (p x) (list_any p xs) h).0
+  list_any_at p (x ∷ xs) (suc i) a h e = list_any_at p xs i a (or_parts (p x) (list_any p xs) h).1 e
 
   pub list_all_at : (p : A → Bool) (xs : List A) (i : ℕ) (a : A) → list_all p xs ≡ true → slice_get xs i ≡ Some a → p a ≡ true
   list_all_at p [] i a h e = absurd cc
@@ -79,7 +85,7 @@ module _ {A : Type 0} where
       ap (λ (n : ℕ). n ∷ map length rows) (l ∙ ap length (sym same))
   lengths_set (r ∷ rows) (suc x) new row e l = ap (λ (ns : List ℕ). length r ∷ ns) (lengths_set rows x new row e l)
 
-  length_set : (xs : List A) (i : ℕ) (a : A) → length (slice_set xs i a) ≡ length xs
+  pub length_set : (xs : List A) (i : ℕ) (a : A) → length (slice_set xs i a) ≡ length xs
   length_set [] i a = refl
   length_set (x ∷ xs) zero a = refl
   length_set (x ∷ xs) (suc i) a = ap suc (length_set xs i a)

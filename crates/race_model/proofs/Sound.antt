@@ -95,7 +95,7 @@ module _ (P : Program) (R : IsResolved P) where
       subst (AreFrames P) same (started_is P R (slice_get P.functions P.main) P.main [] refl)
   start_calls (suc i) frames at = absurd (none_runs (sum_by (λ (object : ThreadObject). object.length) P.threads) i frames at)
 
-  start_sound : IsSound P (start P)
+  pub start_sound : IsSound P (start P)
   start_sound = record { shape = first_shape P R.globals; calls = start_calls; quiet = λ e. absurd cc }
 
   -- who steps sees the program run on
@@ -114,7 +114,7 @@ module _ (P : Program) (R : IsResolved P) where
       ((frames : List Frame) → slot ≡ Running frames → AreFrames P frames) →
       (j : ℕ) (frames : List Frame) → slice_get (slice_set slots i slot) j ≡ Some (Running frames) → AreFrames P frames
   changed_calls slots i slot old new j frames at =
-      ⊎_elim (λ same. new frames same) (λ other. old j frames other.1) (get-set_cases slots i j slot (Running frames) at)
+      ⊎_elim (λ same. new frames same.1) (λ other. old j frames other.1) (get-set_cases slots i j slot (Running frames) at)
 
   ended_sound : (s t : State) (i offset : ℕ) → IsSound P s → s.ended ≡ false → finished s i offset ≡ Steps t → IsSound P t
   ended_sound s t zero offset sound on e =
@@ -145,7 +145,7 @@ module _ (P : Program) (R : IsResolved P) where
       })
   moved_sound s t i (Move.Acts offset act operands frames) sound on is e =
       let u : State = with_slot s i (Running frames) in
-      let a = act_acts P u t i offset act operands e in
+      let a = act_acts P u i t offset act operands e in
       record {
         shape = subst (HasShape P) (sym a.globals) sound.shape;
         calls = λ j fs at.

@@ -232,7 +232,7 @@ module _ (P : Program) (R : IsResolved P) where
     where
       go : (mv : Move) → IsSynchronizing (view_of_move mv) → moved P s i mv ≡ Steps t → t.globals ≡ s.globals
       go (Move.Moves frames reads write) k x = absurd k
-      go (Move.Acts offset act operands frames) k x = (act_acts P (with_slot s i (Running frames)) t i offset act operands x).globals
+      go (Move.Acts offset act operands frames) k x = (act_acts P (with_slot s i (Running frames)) i t offset act operands x).globals
       go (Move.Ends offset reads) k x = finished_globals s t i offset x
       go (Move.Faults offset cause) k x = absurd k
 

@@ -1,3 +1,4 @@
 pub mod Source
 pub mod Agreement
 pub mod FirstConflict
+pub mod Orderly

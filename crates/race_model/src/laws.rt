@@ -2,8 +2,11 @@
 
 ghost use Rattle.c_program.specs.Tree.{Program};
 ghost use Rattle.c_program.specs.Resolved.{IsResolved};
+ghost use Rattle.thread_semantics.specs.State.{State};
+ghost use Rattle.interleaving.specs.Interleaving.{Reachable};
 ghost use Rattle.interleaving.specs.Threaded.{IsThreaded};
 ghost use Rattle.race_model.specs.Source.{c_source};
+ghost use Rattle.race_model.specs.Orderly.{IsOrderly};
 ghost use Rattle.race_model.specs.Agreement.{IsSameMeaning};
 ghost use Rattle.race_model.specs.FirstConflict.{FirstConflict};
 
@@ -22,4 +25,10 @@ pub fn is_same_meaning()
 /// a race of the two is reachable.
 pub fn first_conflict()
     ensures { (P : Program) → IsResolved P → FirstConflict P }
+{}
+
+/// What holds in each state that an interleaving reaches: main runs until its own local state shows the end, no thread
+/// runs after that, and who waits runs, is counted once and waits at one barrier.
+pub fn is_orderly()
+    ensures { (P : Program) → IsResolved P → (s : State) → Reachable (c_source P) s → IsOrderly P s }
 {}
