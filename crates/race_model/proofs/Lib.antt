@@ -9,3 +9,4 @@ pub mod Threaded
 pub mod Agreement
 pub mod FirstConflict
 pub mod Orderly
+mod Rows
