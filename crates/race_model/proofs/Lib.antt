@@ -9,4 +9,6 @@ pub mod Threaded
 pub mod Agreement
 pub mod FirstConflict
 pub mod Orderly
+pub mod Shared
+pub mod Alone
 mod Rows

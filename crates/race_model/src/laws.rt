@@ -7,6 +7,8 @@ ghost use Rattle.interleaving.specs.Interleaving.{Reachable};
 ghost use Rattle.interleaving.specs.Threaded.{IsThreaded};
 ghost use Rattle.race_model.specs.Source.{c_source};
 ghost use Rattle.race_model.specs.Orderly.{IsOrderly};
+ghost use Rattle.race_model.specs.Shared.{MovesKeepShared};
+ghost use Rattle.race_model.specs.Alone.{AloneMakes};
 ghost use Rattle.race_model.specs.Agreement.{IsSameMeaning};
 ghost use Rattle.race_model.specs.FirstConflict.{FirstConflict};
 
@@ -31,4 +33,14 @@ pub fn first_conflict()
 /// runs after that, and who waits runs, is counted once and waits at one barrier.
 pub fn is_orderly()
     ensures { (P : Program) → IsResolved P → (s : State) → Reachable (c_source P) s → IsOrderly P s }
+{}
+
+/// A move changes no mutex, no barrier, no thread id and no output.
+pub fn moves_keep_shared()
+    ensures { (P : Program) → IsResolved P → MovesKeepShared P }
+{}
+
+/// How a thread of the source runs alone is how its C steps go on, each on the globals that the one before it left.
+pub fn alone_makes()
+    ensures { (P : Program) → IsResolved P → AloneMakes P }
 {}
