@@ -102,7 +102,7 @@ module _ {Value Local State : Type 0} (P : Source Value Local State) (law : IsTh
       ⊎_elim
       (λ c. record { route = L; state = s; reached = at; races = race_of P s u m.0 i j (Ends ps) (Moves f.to f.accesses) lives.0 ne lives.1 other.1 goes m.1.steps v r.0 c })
       (λ a.
-      let stays = law.end_stays s m.0 u i j ps f.to f.accesses (L, at) v goes (λ e. ne (sym e)) r.0 m.1 in
+      let stays = law.end_stays s m.0 u i j ps f.to f.accesses (L, at) v goes (λ e. ne (sym e)) r.0 (apart_swap (reads_of ps) f.accesses a) m.1 in
       let own : P.local m.0 i ≡ P.local s i = m.1.others i ne in
       let still : view_at P m.0 i ≡ Ends ps =
       subst (λ x. P.view x (P.memory m.0) ≡ Ends ps) (sym own)

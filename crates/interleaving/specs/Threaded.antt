@@ -7,11 +7,11 @@
 --   mover_lives   who moves lives, and the program runs on
 --   end_lives     so it is at a return that ends its thread, which is never blocked
 --   end_alone     after it the thread has no step that is no act
---   end_stays     where it is defined it stays defined when another thread moves
+--   end_stays     where it is defined it stays defined when another thread moves and writes nothing that it reads
 --   fails         what fails by its view is undefined, and its thread lives
 --   keeps_memory  an act, or a return that ends its thread, leaves the memory
 use Rattle.std.specs.Prelude.{◌≡◌, ◌≢◌, ℕ, List, true, false}
-use Rattle.interleaving.specs.Memory.{Location, Memory, Access, reads_of, memory_after, AgreeOn}
+use Rattle.interleaving.specs.Memory.{Location, Memory, Access, reads_of, memory_after, AreApart, AgreeOn}
 use Rattle.interleaving.specs.Source.{StepsTo, Blocked, Undefined, View, Moves, Acts, Ends, Fails, Source, view_at}
 use Rattle.interleaving.specs.Interleaving.{Reachable}
 
@@ -38,6 +38,6 @@ module _ {Value Local State : Type 0} (P : Source Value Local State) where
     pub end_lives : (s : State) (i : ℕ) (ps : List Location) → Reachable P s → view_at P s i ≡ Ends ps → (P.is_ended s ≡ false) × (P.is_live s i ≡ true) × (P.step s i ≢ Blocked)
     pub end_alone : (s t : State) (i : ℕ) (ps : List Location) → Reachable P s → view_at P s i ≡ Ends ps → P.step s i ≡ StepsTo t → view_at P t i ≡ Acts
     pub end_stays : (s t u : State) (i j : ℕ) (ps : List Location) (y : Local) (es : List (Access Value)) → Reachable P s → view_at P s i ≡ Ends ps →
-        P.step s i ≡ StepsTo u → j ≢ i → view_at P s j ≡ Moves y es → Moved s j y es t → (v : State) × (P.step t i ≡ StepsTo v)
+        P.step s i ≡ StepsTo u → j ≢ i → view_at P s j ≡ Moves y es → AreApart es (reads_of ps) → Moved s j y es t → (v : State) × (P.step t i ≡ StepsTo v)
     pub fails : (s : State) (i : ℕ) → Reachable P s → view_at P s i ≡ Fails → (P.is_ended s ≡ false) × (P.is_live s i ≡ true) × (P.step s i ≡ Undefined)
     pub keeps_memory : (s t : State) (i : ℕ) (p : Location) → Reachable P s → IsSynchronizing (view_at P s i) → P.step s i ≡ StepsTo t → P.memory t p ≡ P.memory s p

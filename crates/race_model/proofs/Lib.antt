@@ -1,0 +1,14 @@
+pub mod Lists
+pub mod Shape
+pub mod Depends
+pub mod Works
+pub mod Moves
+pub mod Acts
+pub mod Sound
+pub mod Threaded
+pub mod Agreement
+pub mod FirstConflict
+pub mod Orderly
+pub mod Shared
+pub mod Alone
+mod Rows
