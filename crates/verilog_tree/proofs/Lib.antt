@@ -1,8 +1,9 @@
 pub mod Tests
 pub mod Names
-pub mod Trees
+pub mod Fold
 pub mod Splitting
 pub mod Unique
 pub mod UniqueExpressions
 pub mod UniqueItems
 pub mod Fronts
+pub mod Examples

@@ -14,12 +14,11 @@ splits_same text [] [] h k = refl
 splits_same text [] (u ∷ us) h k = absurd (nothing_here k.0 u _ h k.1)
 splits_same text (t ∷ ts) [] h k = absurd (nothing_here h.0 t _ k h.1)
 splits_same text (t ∷ ts) (u ∷ us) h k =
-    let one : Some (t, h.0) ≡ Some (u, k.0) = sym h.1 ∙ k.1 in
-    let pair = some_same one in
+    let pair : (t, h.0) ≡ (u, k.0) = some_same (sym h.1 ∙ k.1) in
+    let token : t ≡ u = ap (λ p. p.0) pair in
     let rest : h.0 ≡ k.0 = ap (λ p. p.1) pair in
     let same : ts ≡ us = splits_same h.0 ts us h.2 (subst (λ z. Splits z us) (sym rest) k.2) in
-    let token : t ≡ u = ap (λ p. p.0) pair in
-    cc (same, token)
+    λ i. token i ∷ same i
   where
     some_same : {p q : Token × Text} → Some p ≡ Some q → p ≡ q
     some_same e = cc

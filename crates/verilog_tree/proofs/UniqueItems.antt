@@ -20,7 +20,7 @@ use Rattle.verilog_tree.specs.declared.tree.Module.{Module}
 use Rattle.verilog_tree.specs.declared.tree.Net.{Net}
 use Rattle.verilog_tree.specs.Spelling.{Text}
 use Rattle.verilog_tree.specs.Reads.{Each, Reads}
-use Rattle.verilog_tree.proofs.Trees.{induct, level, view, statement_set, statement_store, statement_if, statement_write}
+use Rattle.verilog_tree.proofs.Fold.{induct, level, view, statement_set, statement_store, statement_if, statement_write}
 use Rattle.verilog_tree.proofs.Splitting.{splits_same}
 use Rattle.verilog_tree.proofs.Unique.{Unique, IsKnown, all_known, all_unique, all_whole, more_unique, commas_unique, tail_two, tail_more, same_quoted, same_name, same_number, same_mark, same_rest}
 use Rattle.verilog_tree.proofs.UniqueExpressions.{constant_same, expression_unique}

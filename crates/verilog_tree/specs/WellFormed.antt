@@ -11,6 +11,7 @@ use Rattle.verilog_tree.specs.declared.tree.Item.TheVariants as i
 use Rattle.verilog_tree.specs.declared.tree.Module.{Module}
 use Rattle.verilog_tree.specs.declared.tree.Net.{Net}
 use Rattle.verilog_tree.specs.Grammar.{clk}
+use Rattle.verilog_tree.specs.Reads.{IsFull}
 use Rattle.verilog_tree.specs.Scope.{Name, Names, is_known, is_clk, Scope, is_declared, declaration, width_of}
 use Rattle.verilog_tree.specs.Rules.{all_right, has_port, assign_right, statement_right, initial_constant_right, connections_right}
 use Rattle.verilog_tree.specs.Facts.{Place, is_place, place_of, words_below, with_name, Interface, interface_named, ports_of, is_top, drives, written_by}
@@ -118,5 +119,7 @@ pub record IsModule (whole before : Facts) (m : Module) : Type 0 where
   pub ports : EachAfter (IsPort (module_facts before m)) after_port (head_facts before) m.ports
   pub items : EachAfter (IsItem (module_facts before m)) after_item (port_facts before m) m.items
 
-unfoldable pub IsWellFormed : Net → Type 0
-IsWellFormed n = EachAfter (IsModule (after after_module nothing n.modules)) after_module nothing n.modules
+pub record IsWellFormed (n : Net) : Type 0 where
+  -- no list is empty of which the grammar asks for one
+  pub full : IsFull n
+  pub modules : EachAfter (IsModule (after after_module nothing n.modules)) after_module nothing n.modules

@@ -218,7 +218,7 @@ fn system_write(
     out.mark(Mark::Semicolon)
 }
 
-#[tactic(auto, using(verilog_tree::proofs::Trees::statement_set, verilog_tree::proofs::Trees::statement_store, verilog_tree::proofs::Trees::statement_write, verilog_tree::proofs::Trees::statement_if))]
+#[tactic(auto, using(verilog_tree::proofs::Fold::statement_set, verilog_tree::proofs::Fold::statement_store, verilog_tree::proofs::Fold::statement_write, verilog_tree::proofs::Fold::statement_if))]
 #[cycle(statements)]
 fn statement(out: &mut Text, statement: &Statement) -> Result<(), AllocError>
     ensures text { OnOk result (out.new ≡ put_all out.old (g.statement statement.now)) }
