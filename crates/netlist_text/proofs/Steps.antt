@@ -1,7 +1,7 @@
 -- One element more.
-use Rattle.std.proofs.Common.{◌≡◌, ℕ, suc, ◌+◌, ◌<◌, List, [], ◌∷◌, ◌++◌, refl, sym, ap, ◌∙◌, append_assoc, add-zero, length, take, get_or, map, arith}
+use Rattle.std.proofs.Common.{◌≡◌, ℕ, suc, ◌+◌, ◌<◌, List, [], ◌∷◌, ◌++◌, refl, sym, ap, ◌∙◌, append_assoc, add-zero, subst, length, take, get_or, map, arith}
 use Rattle.std.specs.List.{flat_map}
-use Rattle.std.proofs.lemmas.List.{take_more, map-append, append-nil, length-take-le}
+use Rattle.std.proofs.lemmas.List.{take_more, map-append, append-nil, length-take-le, get_or_default}
 use Rattle.std.proofs.lemmas.List.Concat.{flat_map-append}
 use Rattle.netlist_text.specs.LaidOut.{with_places, block}
 
@@ -62,3 +62,11 @@ block_none f xs ys a e h = sym (ap (λ l. a ++ block f l) (sym e ∙ h) ∙ appe
 pub block_some : {A B : Type 0} (f : List A → B) (xs : List A) (a : List B) → (xs ≡ [] → ⊥) → a ++ f xs ∷ [] ≡ a ++ block f xs
 block_some f [] a h = absurd (h refl)
 block_some f (x ∷ xs) a h = refl
+
+-- ---- of a list of numbers that is read by its places
+
+pub places_numbers : {B : Type 0} (f : ℕ → ℕ → B) (k : ℕ) (a b c : List B) (xs read : List ℕ) (i j : ℕ) → read ≡ xs → b ≡ a ++ with_places f k (take i xs)
+    → c ≡ b ++ f j (get_or read i 0) ∷ [] → j ≡ k + i → i < length read → c ≡ a ++ with_places f k (take (i + 1) xs)
+places_numbers f k a b c xs read i j same e h at lt =
+    let below : i < length xs = subst (λ (l : List ℕ). i < length l) same lt in
+    places_onto f k a b c xs i j (get_or xs i 0) e (h ∙ ap (λ l. b ++ f j (get_or l i 0) ∷ []) same) at (get_or_default xs i 0 (get_or xs i 0) below) below
