@@ -1,6 +1,6 @@
 -- A netlist that a text can tell: its names tell its parts apart, the signals of a module stand in the order of a
 -- text's declarations, and each place that it speaks of is one of its module.
-use Rattle.std.specs.Prelude.{◌≡◌, ℕ, ◌+◌, ◌-◌, ◌<◌, ◌≤◌, Bool, true, false, if◌then◌else◌, List, [], ◌∷◌, ◌++◌, length, map, filter, take, Option, Some, None, option_map, slice_get}
+use Rattle.std.specs.Prelude.{◌≡◌, ℕ, ◌+◌, ◌-◌, ◌<◌, ◌≤◌, Bool, true, false, if◌then◌else◌, List, [], ◌∷◌, ◌++◌, length, map, filter, take, Option, Some, option_map, slice_get}
 use Rattle.netlist.specs.declared.netlist.Value.{Value}
 use Rattle.netlist.specs.declared.netlist.Value.TheVariants as v
 use Rattle.netlist.specs.declared.netlist.Source.{Source}

@@ -1,9 +1,9 @@
 -- The netlist of the text that is laid out is the given one.
-use Rattle.std.proofs.Common.{◌≡◌, ℕ, zero, suc, ◌+◌, ◌-◌, ◌<◌, ◌≤◌, List, [], ◌∷◌, ◌++◌, Bool, true, false, Option, Some, None, refl, sym, ap, ◌∙◌, subst, length, map, take, append_assoc, add-zero, arith}
-use Rattle.std.specs.Prelude.{slice_get, nat_lt, if◌then◌else◌, Result, Ok, Err, IfOk}
+use Rattle.std.proofs.Common.{◌≡◌, ℕ, ◌+◌, ◌-◌, ◌<◌, ◌≤◌, List, [], ◌∷◌, ◌++◌, Bool, true, false, Some, None, refl, sym, ap, ◌∙◌, subst, length, map, take, append_assoc, add-zero, arith}
+use Rattle.std.specs.Prelude.{slice_get, nat_lt, if◌then◌else◌}
 use Rattle.std.specs.List.{flat_map}
 use Rattle.std.proofs.lemmas.Bool.Decides.{nat_tests}
-use Rattle.std.proofs.lemmas.Option.{same_Some, none-some, slice_get_within}
+use Rattle.std.proofs.lemmas.Option.{slice_get_within}
 use Rattle.std.proofs.lemmas.List.{take_at, map-append}
 use Rattle.verilog_tree.specs.declared.tree.Memory as text_memory
 use Rattle.verilog_tree.specs.declared.tree.Module as text_module
@@ -18,14 +18,14 @@ use Rattle.netlist.specs.declared.netlist.Module.{Module}
 use Rattle.netlist.specs.declared.netlist.Netlist.{Netlist}
 use Rattle.netlist.specs.NetlistOf as n
 use Rattle.netlist.specs.NetlistOf.{Name, Declaration, OutputPort, PlainWire, is_output_port, place, connected, module_of, modules_of, netlist_of}
-use Rattle.netlist.specs.Laid.{EachAt, AreApart, IsSource, IsLaidSignal, IsLaidMemory, IsLaidInstance, IsLaidModule, IsLaid, kind_by, kind_of, source_at, input_signals, output_signals, signal_names, memory_names, instance_names, module_names}
+use Rattle.netlist.specs.Laid.{AreApart, IsSource, IsLaidInstance, IsLaidModule, IsLaid, kind_by, kind_of, source_at, input_signals, output_signals, signal_names, memory_names, instance_names, module_names}
 use Rattle.netlist_text.specs.LaidOut as laid
 use Rattle.netlist_text.specs.LaidOut.{net_of}
-use Rattle.netlist_text.proofs.Places.{get_front, get_back, get_mapped, map_map, map_back, map_against, place_at, apart_front, apart_back}
+use Rattle.netlist_text.proofs.Places.{get_front, get_back, map_map, map_back, map_against, apart_front, apart_back}
 use Rattle.netlist_text.proofs.Told.{told_declaration, told_declarations, told_ports_in, told_ports_out, told_memories, told_assigns, told_constants, told_instances, told_actions, told_signal_names}
 use Rattle.netlist_text.proofs.Constants.{register_back, memory_words_back}
 use Rattle.netlist_text.proofs.Values.{signal_back, value_back, actions_back}
-use Rattle.netlist_text.proofs.Connections.{IsOrdered, AreBefore, texts, instance_is, place_is, of_instance_is, input_connected, output_connected}
+use Rattle.netlist_text.proofs.Connections.{AreBefore, texts, instance_is, place_is, of_instance_is, input_connected, output_connected}
 use Rattle.netlist_text.proofs.Sources.{assigned_right, assigned_at, mapped_some, tied_back}
 
 width_by : (w : ℕ) → 1 ≤ w → (b : Bool) → nat_lt 1 w ≡ b → n.width_of (if b then Some (w - 1) else None) ≡ w
@@ -143,11 +143,11 @@ module _ (all before : List Module) (m : Module) (known : AreBefore all before) 
       let inputs : map tie (n.of_instance n.input_ports earlier (laid.instance_by m x h.of)) ≡ x.inputs =
       ap (map tie) (of_instance_is all before m known n.input_ports x h.of h.earlier ∙ told_ports_in all h.of) ∙ same (input_signals h.of)
       ∙ map_against at (input_signals h.of) x.inputs (sym h.inputs) (λ k s p q r.
-        ap (place (signal_names m)) (input_connected m h.of x ordered h.inputs h.outputs k p s q r) ∙ find p (h.input_places k p r)) in
+      ap (place (signal_names m)) (input_connected m h.of x ordered h.inputs h.outputs k p s q r) ∙ find p (h.input_places k p r)) in
       let outputs : map tie (n.of_instance n.output_ports earlier (laid.instance_by m x h.of)) ≡ x.outputs =
       ap (map tie) (of_instance_is all before m known n.output_ports x h.of h.earlier ∙ told_ports_out all h.of) ∙ same (output_signals h.of)
       ∙ map_against at (output_signals h.of) x.outputs (sym h.outputs) (λ k s p q r.
-        ap (place (signal_names m)) (output_connected m h.of x ordered h.inputs h.outputs k p s q r) ∙ find p (driven_within m p _ (h.drives k p r))) in
+      ap (place (signal_names m)) (output_connected m h.of x ordered h.inputs h.outputs k p s q r) ∙ find p (driven_within m p _ (h.drives k p r))) in
       let make : ℕ → List ℕ → List ℕ → Instance = λ o a b. record { name = x.name; of = o; inputs = a; outputs = b } in
       ap (λ o. make o (map tie (n.of_instance n.input_ports earlier (laid.instance_by m x h.of))) (map tie (n.of_instance n.output_ports earlier (laid.instance_by m x h.of))))
       (place_is all before m known x.of h.of h.earlier)
@@ -178,11 +178,11 @@ module _ (all before : List Module) (m : Module) (known : AreBefore all before) 
 before_are : (x : Netlist) → IsLaid x → (front back : List Module) → x.modules ≡ front ++ back → AreBefore x.modules front
 before_are x h front back e = record {
   names = apart_front (module_names front) (module_names back)
-  (subst (λ (l : List Name). AreApart l) (ap module_names e ∙ map-append (λ (y : Module). y.name) front back) h.names);
+      (subst (λ (l : List Name). AreApart l) (ap module_names e ∙ map-append (λ (y : Module). y.name) front back) h.names);
   among = λ k y q. ap (λ l. slice_get l k) e ∙ get_front front back k y q;
   ordered = λ k y q.
-    (let ok = h.modules k y (ap (λ l. slice_get l k) e ∙ get_front front back k y q) in
-    record { names = apart_front (signal_names y) (memory_names y) (apart_front (signal_names y ++ memory_names y) (instance_names y) ok.names); order = ok.order });
+      (let ok = h.modules k y (ap (λ l. slice_get l k) e ∙ get_front front back k y q) in
+      record { names = apart_front (signal_names y) (memory_names y) (apart_front (signal_names y ++ memory_names y) (instance_names y) ok.names); order = ok.order });
 }
 
 module _ (x : Netlist) (h : IsLaid x) where

@@ -1,8 +1,8 @@
 -- What is connected to the ports of an instance.
-use Rattle.std.proofs.Common.{◌≡◌, ℕ, zero, suc, ◌+◌, ◌-◌, ◌<◌, ◌≤◌, ◌⊎◌, List, [], ◌∷◌, ◌++◌, Bool, true, false, Option, Some, None, refl, sym, ap, ◌∙◌, subst, length, map, add-zero, zero-add, arith}
-use Rattle.std.specs.Prelude.{slice_get, unwrap_or, option_map, if◌then◌else◌}
+use Rattle.std.proofs.Common.{◌≡◌, ℕ, zero, suc, ◌+◌, ◌-◌, ◌<◌, ◌≤◌, List, [], ◌∷◌, ◌++◌, false, Some, refl, sym, ap, ◌∙◌, length, map, add-zero, zero-add, arith}
+use Rattle.std.specs.Prelude.{slice_get, unwrap_or, if◌then◌else◌}
 use Rattle.std.specs.Str.{bytes_eq}
-use Rattle.std.proofs.lemmas.Option.{same_Some, none-some, slice_get_within}
+use Rattle.std.proofs.lemmas.Option.{same_Some, none-some}
 use Rattle.std.proofs.lemmas.List.{append-nil, length-append}
 use Rattle.verilog_tree.specs.declared.tree.Connection.{Connection}
 use Rattle.verilog_tree.specs.declared.tree.Module as text_module
@@ -11,7 +11,7 @@ use Rattle.netlist.specs.declared.netlist.Instance.{Instance}
 use Rattle.netlist.specs.declared.netlist.Module.{Module}
 use Rattle.netlist.specs.NetlistOf as n
 use Rattle.netlist.specs.NetlistOf.{Name, place, connected}
-use Rattle.netlist.specs.Laid.{EachAt, AreApart, input_signals, inner_signals, output_signals, first_output, signal_names, module_names}
+use Rattle.netlist.specs.Laid.{AreApart, input_signals, inner_signals, output_signals, first_output, signal_names, module_names}
 use Rattle.netlist_text.specs.LaidOut as laid
 use Rattle.netlist_text.proofs.Places.{get_front, get_back, get_there, get_mapped, place_at, map_map, same_name, other_name}
 use Rattle.netlist_text.proofs.Values.{signal_name_at}
@@ -50,7 +50,7 @@ module _ (m of : Module) (apart : AreApart (signal_names of)) where
       let t = get_there of.signals k lt in
       let at : slice_get (signal_names of) k ≡ Some t.0.name = get_mapped (λ (y : Signal). y.name) of.signals k t.0 t.1 in
       other_name s.name (laid.signal_name of k) (λ e.
-        ne (apart k q s.name (at ∙ ap Some (sym (signal_name_at of k t.0 t.1)) ∙ ap Some (sym e)) (get_mapped (λ (y : Signal). y.name) of.signals q s h)))
+      ne (apart k q s.name (at ∙ ap Some (sym (signal_name_at of k t.0 t.1)) ∙ ap Some (sym e)) (get_mapped (λ (y : Signal). y.name) of.signals q s h)))
 
   skipped : (ps : List ℕ) (k : ℕ) (rest : List Connection) (q : ℕ) (s : Signal) → slice_get of.signals q ≡ Some s → k + length ps ≤ length of.signals → k + length ps ≤ q
       → connected (ties k ps ++ rest) s.name ≡ connected rest s.name

@@ -1,12 +1,11 @@
 -- The initial constants of a module are found again.
-use Rattle.std.proofs.Common.{◌≡◌, ℕ, zero, suc, ◌+◌, ◌-◌, ◌≤◌, List, [], ◌∷◌, ◌++◌, Bool, true, false, Some, None, refl, sym, ap, ◌∙◌, subst, length, map, add-zero, zero-add, append_assoc, arith}
+use Rattle.std.proofs.Common.{◌≡◌, ℕ, zero, suc, ◌+◌, List, [], ◌∷◌, ◌++◌, Bool, true, false, Some, None, refl, sym, ap, ◌∙◌, subst, length, map, add-zero, zero-add, arith}
 use Rattle.std.specs.Prelude.{slice_get, nat_eq, ◌&&◌, if◌then◌else◌}
 use Rattle.std.specs.List.{flat_map}
 use Rattle.std.specs.Str.{bytes_eq}
 use Rattle.std.proofs.lemmas.Bool.{eq-eqb}
 use Rattle.std.proofs.lemmas.Bool.Decides.{nat_tests}
 use Rattle.std.proofs.lemmas.Option.{same_Some, none-some}
-use Rattle.std.proofs.lemmas.List.{append-nil}
 use Rattle.verilog_tree.specs.declared.tree.InitialConstant.{InitialConstant}
 use Rattle.netlist.specs.declared.netlist.Source.{Source}
 use Rattle.netlist.specs.declared.netlist.Source.TheVariants as source
@@ -87,7 +86,7 @@ word_found [] j c apart h i v is = absurd (none-some c h)
 word_found (t ∷ cs) zero c apart h i v is =
     let P : Memory → Type 0 = λ u. slice_get u.initial i ≡ Some v → initial_of (flat_map laid.memory_constants (t ∷ cs)) u.name (Some i) ≡ v in
     subst P (same_Some t c h) (λ e.
-      ap (λ k. initial_of (flat_map laid.memory_constants (t ∷ cs)) t.name (Some k)) (sym (zero-add i)) ∙ word_here t 0 t.initial (flat_map laid.memory_constants cs) i v e) is
+    ap (λ k. initial_of (flat_map laid.memory_constants (t ∷ cs)) t.name (Some k)) (sym (zero-add i)) ∙ word_here t 0 t.initial (flat_map laid.memory_constants cs) i v e) is
 word_found (t ∷ cs) (suc j) c apart h i v is =
     let names = map (λ (x : Memory). x.name) cs in
     word_other t c.name i 0 t.initial (flat_map laid.memory_constants cs) (head_other t.name names j c.name apart (get_mapped (λ (x : Memory). x.name) cs j c h))

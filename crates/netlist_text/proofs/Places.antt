@@ -1,5 +1,5 @@
 -- Names find their places; elements of lists at their places.
-use Rattle.std.proofs.Common.{◌≡◌, ℕ, zero, suc, ◌+◌, ◌<◌, ◌⊎◌, List, [], ◌∷◌, ◌++◌, Bool, true, false, cond, Option, Some, None, refl, sym, ap, ◌∙◌, subst, inl, inr, length, map, arith}
+use Rattle.std.proofs.Common.{◌≡◌, ℕ, zero, suc, ◌+◌, ◌<◌, ◌⊎◌, List, [], ◌∷◌, ◌++◌, Bool, true, false, cond, Some, refl, sym, ap, ◌∙◌, subst, inl, inr, length, map, arith}
 use Rattle.std.specs.Prelude.{not, filter, slice_get, option_map}
 use Rattle.std.specs.Str.{bytes_eq}
 use Rattle.std.proofs.lemmas.Slice.Eq.{bytes_eq-Decides}
@@ -29,9 +29,9 @@ pub get_either : {A : Type 0} (xs ys : List A) (i : ℕ) (x : A) → slice_get (
 get_either [] ys i x h = inr (record { at = i; is = omega arith; found = h })
 get_either (y ∷ xs) ys zero x h = inl h
 get_either (y ∷ xs) ys (suc i) x h = elim (get_either xs ys i x h) [
-    inl p ↦ inl p
+  | inl p ↦ inl p
   | inr p ↦ inr (let e : i ≡ length xs + p.at = p.is in record { at = p.at; is = omega arith; found = p.found })
-  ]
+]
 
 pub get_there : {A : Type 0} (xs : List A) (k : ℕ) → k < length xs → (x : A) × (slice_get xs k ≡ Some x)
 get_there [] k lt = absurd (omega arith)

@@ -128,11 +128,11 @@ output_place : (m : Module) → IsOrdered m → (i : ℕ) (s : Signal) → slice
 output_place m h i s q output =
     let r : slice_get (input_signals m ++ inner_signals m ++ output_signals m) i ≡ Some s = ap (λ l. slice_get l i) (sym h.order) ∙ q in
     elim (get_either (input_signals m ++ inner_signals m) (output_signals m) i s r) [
-      inl front ↦ elim (get_either (input_signals m) (inner_signals m) i s front) [
-        inl p ↦ absurd (no_input (kind_of s) (get_filtered (λ (x : Signal). is_input_port (kind_of x)) m.signals i s p) output)
-      | inr p ↦ absurd (no_inner (kind_of s) (get_filtered (λ (x : Signal). is_inner (kind_of x)) m.signals p.at s p.found) output)
+      | inl front ↦ elim (get_either (input_signals m) (inner_signals m) i s front) [
+        | inl p ↦ absurd (no_input (kind_of s) (get_filtered (λ (x : Signal). is_input_port (kind_of x)) m.signals i s p) output)
+        | inr p ↦ absurd (no_inner (kind_of s) (get_filtered (λ (x : Signal). is_inner (kind_of x)) m.signals p.at s p.found) output)
       ]
-    | inr p ↦ (p.at, p.is ∙ ap (λ k. k + p.at) (sym (first_is m h)), p.found)
+      | inr p ↦ (p.at, p.is ∙ ap (λ k. k + p.at) (sym (first_is m h)), p.found)
     ]
 
 pub mapped_some : {A B : Type 0} (f : A → B) (o : Option A) (y : B) → option_map f o ≡ Some y → (x : A) × (o ≡ Some x) × (f x ≡ y)

@@ -1,6 +1,6 @@
 -- What the text of a module tells: its declarations, memories, assigns, constants, actions and instances.
-use Rattle.std.proofs.Common.{◌≡◌, ℕ, List, [], ◌∷◌, ◌++◌, Bool, true, false, refl, sym, ap, ◌∙◌, map}
-use Rattle.std.specs.Prelude.{filter, if◌then◌else◌}
+use Rattle.std.proofs.Common.{◌≡◌, List, [], ◌∷◌, ◌++◌, refl, sym, ap, ◌∙◌, map}
+use Rattle.std.specs.Prelude.{if◌then◌else◌}
 use Rattle.std.specs.List.{flat_map}
 use Rattle.std.proofs.lemmas.List.{append-nil, map-append}
 use Rattle.verilog_tree.specs.declared.tree.Port.{Port}
@@ -12,12 +12,11 @@ use Rattle.verilog_tree.specs.declared.tree.Item.TheVariants as i
 use Rattle.netlist.specs.declared.netlist.Source.{Source}
 use Rattle.netlist.specs.declared.netlist.Source.TheVariants as source
 use Rattle.netlist.specs.declared.netlist.Signal.{Signal}
-use Rattle.netlist.specs.declared.netlist.Memory.{Memory}
 use Rattle.netlist.specs.declared.netlist.Action.{Action}
 use Rattle.netlist.specs.declared.netlist.Module.{Module}
 use Rattle.netlist.specs.NetlistOf as n
 use Rattle.netlist.specs.NetlistOf.{Name, Kind, InputPort, OutputPort, PlainWire, Reg, Declaration, is_output_port}
-use Rattle.netlist.specs.Laid.{kind_of, is_input_port, is_inner, input_signals, inner_signals, output_signals, signal_names, memory_names}
+use Rattle.netlist.specs.Laid.{kind_of, is_input_port, is_inner, input_signals, inner_signals, output_signals, signal_names}
 use Rattle.netlist_text.specs.LaidOut as laid
 use Rattle.netlist_text.proofs.Places.{map_map}
 use Rattle.netlist_text.proofs.Parts.{flat_flat, flat_none, flat_filter, map_none, map_single, block_none, block_all, parts}

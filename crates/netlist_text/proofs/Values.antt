@@ -1,12 +1,11 @@
 -- Right sides and statements read back as the places that they were made from.
-use Rattle.std.proofs.Common.{◌≡◌, ℕ, zero, suc, ◌+◌, ◌<◌, List, [], ◌∷◌, ◌++◌, Bool, true, false, Some, None, refl, sym, ap, ◌∙◌, subst, length, map, append_assoc, arith}
+use Rattle.std.proofs.Common.{◌≡◌, ℕ, suc, ◌<◌, List, [], ◌∷◌, ◌++◌, Bool, true, false, Some, refl, sym, ap, ◌∙◌, length, map, append_assoc}
 use Rattle.std.specs.Prelude.{slice_get, option_map, unwrap_or, nat_eq, if◌then◌else◌}
 use Rattle.std.specs.List.{flat_map}
 use Rattle.std.proofs.lemmas.Bool.{eqb-true}
 use Rattle.std.proofs.lemmas.List.{append-nil}
 use Rattle.verilog_tree.specs.declared.tree.Expression.{Expression}
 use Rattle.verilog_tree.specs.declared.tree.Expression.TheVariants as e
-use Rattle.verilog_tree.specs.declared.tree.WriteArgument.{WriteArgument}
 use Rattle.verilog_tree.specs.declared.tree.Statement.{Statement}
 use Rattle.verilog_tree.specs.declared.tree.Statement.TheVariants as s
 use Rattle.verilog_tree.specs.declared.tree.Statement.TheOpen.{Statement-F}
@@ -25,7 +24,7 @@ use Rattle.netlist.specs.NetlistOf as n
 use Rattle.netlist.specs.NetlistOf.{Name, place}
 use Rattle.netlist.specs.Laid.{AreApart, AreSignals, AreMemories, IsLaidAction, operands, memories_read, argument_place, effect_signals, memories_stored, signal_names, memory_names}
 use Rattle.netlist_text.specs.LaidOut as laid
-use Rattle.netlist_text.proofs.Places.{get_there, get_mapped, place_at, map_back, map_map}
+use Rattle.netlist_text.proofs.Places.{get_there, get_mapped, place_at, map_back}
 
 -- the name of the signal at a place
 pub signal_name_at : (m : Module) (x : ℕ) (s : Signal) → slice_get m.signals x ≡ Some s → laid.signal_name m x ≡ s.name

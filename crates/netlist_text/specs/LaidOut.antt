@@ -1,6 +1,6 @@
 -- The tree of the text that tells a netlist: ports, wires and registers, memories, assigns in order of their targets,
 -- one initial block, one always block, instances.
-use Rattle.std.specs.Prelude.{ℕ, zero, suc, ◌+◌, ◌-◌, Bool, nat_eq, nat_lt, if◌then◌else◌, List, [], ◌∷◌, ◌++◌, length, map, Option, Some, None, option_map, unwrap_or, slice_get}
+use Rattle.std.specs.Prelude.{ℕ, ◌+◌, ◌-◌, nat_eq, nat_lt, if◌then◌else◌, List, [], ◌∷◌, ◌++◌, length, map, Option, Some, None, option_map, unwrap_or, slice_get}
 use Rattle.std.specs.List.{flat_map}
 use Rattle.verilog_tree.specs.declared.tree.Constant.{Constant}
 use Rattle.verilog_tree.specs.declared.tree.Direction.{Direction}
@@ -14,7 +14,6 @@ use Rattle.verilog_tree.specs.declared.tree.WriteArgument.TheVariants as w
 use Rattle.verilog_tree.specs.declared.tree.Statement.{Statement}
 use Rattle.verilog_tree.specs.declared.tree.Statement.TheVariants as s
 use Rattle.verilog_tree.specs.declared.tree.Connection.{Connection}
-use Rattle.verilog_tree.specs.declared.tree.Assign.{Assign}
 use Rattle.verilog_tree.specs.declared.tree.Instance as text_instance
 use Rattle.verilog_tree.specs.declared.tree.Memory as text_memory
 use Rattle.verilog_tree.specs.declared.tree.Module as text_module

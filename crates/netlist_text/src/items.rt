@@ -27,7 +27,11 @@ fn port(direction: Direction, signal: &Signal) -> Result<Port, AllocError>
     })
 }
 
-fn put_port(ports: &mut Items<Port>, direction: Direction, signal: &Signal) -> Result<(), AllocError>
+fn put_port(
+    ports: &mut Items<Port>,
+    direction: Direction,
+    signal: &Signal,
+) -> Result<(), AllocError>
     ensures { OnOk result (ports.new ≡ ports.old ++ laid.port direction signal.now ∷ []) }
 {
     ports.push(port(direction, signal)?)
@@ -235,10 +239,7 @@ fn word_constants(out: &mut Items<InitialConstant>, memory: &Memory) -> Result<(
     Ok(())
 }
 
-fn memory_constants(
-    out: &mut Items<InitialConstant>,
-    memories: &[Memory],
-) -> Result<(), AllocError>
+fn memory_constants(out: &mut Items<InitialConstant>, memories: &[Memory]) -> Result<(), AllocError>
     ensures { OnOk result (out.new ≡ out.old ++ flat_map laid.memory_constants memories.now) }
 {
     for memory in memories {
@@ -273,11 +274,7 @@ pub fn initial_block(
 }
 
 /// The always block, where there are actions.
-pub fn always_block(
-    alloc: Global,
-    out: &mut Items<Item>,
-    parent: &Module,
-) -> Result<(), AllocError>
+pub fn always_block(alloc: Global, out: &mut Items<Item>, parent: &Module) -> Result<(), AllocError>
     ensures { OnOk result (out.new ≡ out.old ++ laid.block laid.always_item (map (laid.statement parent.now) parent.now.actions)) }
 {
     let body = statements(alloc, parent)?;

@@ -11,6 +11,8 @@ mod items;
 mod modules;
 mod names;
 mod statements;
+#[cfg(test)]
+mod tests;
 
 use netlist::netlist::Netlist;
 use std::alloc::{AllocError, Global};

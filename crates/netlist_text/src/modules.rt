@@ -3,9 +3,7 @@
 ghost use Rattle.std.specs.Prelude.{◌≡◌, ◌+◌, ◌-◌, ◌^◌, ◌<◌, [], ◌∷◌, ◌++◌, length, IfOk, OnOk, map};
 ghost use Rattle.netlist_text.specs.LaidOut as laid;
 
-use crate::items::{
-    always_block, assigns, declarations, initial_block, memories, ports,
-};
+use crate::items::{always_block, assigns, declarations, initial_block, memories, ports};
 use crate::names::{module_at, signal_name};
 use netlist::netlist::{Instance, Module};
 use sqlite_items::Items;
@@ -140,10 +138,7 @@ fn text_module(
 }
 
 /// The text's modules, in order.
-pub fn text_modules(
-    alloc: Global,
-    modules: &[Module],
-) -> Result<Items<tree::Module>, AllocError>
+pub fn text_modules(alloc: Global, modules: &[Module]) -> Result<Items<tree::Module>, AllocError>
     ensures { IfOk result (λ all. all ≡ map (laid.text_of_module modules.now) modules.now) }
 {
     let mut all = Items::new(alloc);

@@ -1,4 +1,4 @@
-use Rattle.std.proofs.Common.{◌≡◌, ◌+◌, sym, zero-add}
+use Rattle.std.proofs.Common.{sym, zero-add}
 use Rattle.netlist_text.specs.LaidOut as laid
 use Rattle.netlist_text.proofs.Steps.{places_numbers}
 use Rattle.netlist_text.proofs.items.word_constants.Goals as goal
