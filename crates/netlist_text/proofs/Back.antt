@@ -18,7 +18,8 @@ use Rattle.netlist.specs.declared.netlist.Module.{Module}
 use Rattle.netlist.specs.declared.netlist.Netlist.{Netlist}
 use Rattle.netlist.specs.NetlistOf as n
 use Rattle.netlist.specs.NetlistOf.{Name, Declaration, OutputPort, PlainWire, is_output_port, place, connected, module_of, modules_of, netlist_of}
-use Rattle.netlist.specs.Laid.{AreApart, IsSource, IsLaidInstance, IsLaidModule, IsLaid, kind_by, kind_of, source_at, input_signals, output_signals, signal_names, memory_names, instance_names, module_names}
+use Rattle.netlist.specs.Laid.{AreApart, IsSource, IsLaidInstance, IsLaidModule, IsLaid, kind_by, kind_of, source_at}
+use Rattle.netlist.specs.Laid.{input_signals, output_signals, signal_names, memory_names, instance_names, module_names}
 use Rattle.netlist_text.specs.LaidOut as laid
 use Rattle.netlist_text.specs.LaidOut.{net_of}
 use Rattle.netlist_text.proofs.Places.{get_front, get_back, map_map, map_back, map_against, apart_front, apart_back}
@@ -70,7 +71,8 @@ module _ (all before : List Module) (m : Module) (known : AreBefore all before) 
 
   -- ---- signals
 
-  driven_back : (k : ℕ) (s : Signal) → slice_get m.signals k ≡ Some s → n.driven earlier text (n.assigned (n.assign_items text) s.name) s.name ≡ n.driven earlier text (assigned_right m s s.source) s.name
+  driven_back : (k : ℕ) (s : Signal) → slice_get m.signals k ≡ Some s
+      → n.driven earlier text (n.assigned (n.assign_items text) s.name) s.name ≡ n.driven earlier text (assigned_right m s s.source) s.name
   driven_back k s h = ap (λ o. n.driven earlier text o s.name) (ap (λ l. n.assigned l s.name) (told_assigns all m) ∙ assigned_at m k s signals_apart h)
 
   by_output : (out : Bool) (x : Name) → n.source_of earlier text (if out then OutputPort else PlainWire) x ≡ n.driven earlier text (n.assigned (n.assign_items text) x) x

@@ -166,7 +166,8 @@ module _ (all before : List Module) (m : Module) (known : AreBefore all before) 
       let drives : source_at m p.0 ≡ Some (source.Port j (first_output h.of + o.0)) = h.drives o.0 p.0 p.1 in
       let u = mapped_some (λ (y : Signal). y.source) (slice_get m.signals p.0) (source.Port j (first_output h.of + o.0)) drives in
       let name : s.name ≡ u.0.name =
-      f.name ∙ ap (λ (d : Declaration). connected (laid.connections m h.of x) d.name) (sym t.2) ∙ output_connected m h.of x ordered h.inputs h.outputs o.0 p.0 t.0 o.2 p.1 ∙ signal_name_at m p.0 u.0 u.1 in
+      f.name ∙ ap (λ (d : Declaration). connected (laid.connections m h.of x) d.name) (sym t.2)
+      ∙ output_connected m h.of x ordered h.inputs h.outputs o.0 p.0 t.0 o.2 p.1 ∙ signal_name_at m p.0 u.0 u.1 in
       let same : place ≡ p.0 = apart place p.0 u.0.name (get_mapped (λ (y : Signal). y.name) m.signals place s at ∙ ap Some name) (get_mapped (λ (y : Signal). y.name) m.signals p.0 u.0 u.1) in
       let port : first_output h.of + o.0 ≡ q = sym (f.place ∙ zero-add f.at ∙ o.1) in
       ap (source_at m) same ∙ drives ∙ ap (λ k. Some (source.Port j k)) port
