@@ -1,1 +1,2 @@
 pub mod NetlistOf
+pub mod Laid

@@ -1,8 +1,9 @@
 -- The netlist of a text: each name is looked up in its module, and each signal gets what drives it.
 -- Of a well-formed text each name is found and each signal has one driver; the answers elsewhere are of no account.
-use Rattle.std.specs.Prelude.{ℕ, ◌+◌, zero, suc, Bool, true, false, nat_eq, ◌&&◌, if◌then◌else◌, List, [], ◌∷◌, ◌++◌, length, map, position, Option, Some, None, slice_get}
+use Rattle.std.specs.Prelude.{ℕ, ◌+◌, zero, suc, Bool, true, false, nat_eq, ◌&&◌, if◌then◌else◌, List, [], ◌∷◌, ◌++◌, map, Option, Some, None, slice_get}
+use Rattle.std.specs.List.{flat_map, position_or_len}
 use Rattle.std.specs.Str.{bytes_eq}
-use Rattle.verilog_tree.specs.declared.tree.Constant.{Constant}
+use Rattle.verilog_tree.specs.declared.tree.Assign.{Assign}
 use Rattle.verilog_tree.specs.declared.tree.Direction.{Direction}
 use Rattle.verilog_tree.specs.declared.tree.Direction.TheVariants as direction
 use Rattle.verilog_tree.specs.declared.tree.Expression.{Expression}
@@ -38,15 +39,6 @@ use Rattle.netlist.specs.declared.netlist.Netlist.{Netlist}
 abbrev pub Name : Type 0
 Name = List ℕ
 
-abbrev pub or_else : {A : Type 0} → A → Option A → A
-or_else other None = other
-or_else other (Some a) = a
-
--- one list after another, of each element
-abbrev pub each : {A B : Type 0} → (A → List B) → List A → List B
-each f [] = []
-each f (x ∷ xs) = f x ++ each f xs
-
 abbrev pub some : {A : Type 0} → Option A → List A
 some None = []
 some (Some a) = a ∷ []
@@ -58,6 +50,10 @@ pub data Kind : Type 0 where
   OutputPort : Kind
   PlainWire : Kind
   Reg : Kind
+
+abbrev pub is_output_port : Kind → Bool
+is_output_port OutputPort = true
+is_output_port _ = false
 
 pub record Declaration : Type 0 where
   pub name : Name
@@ -81,10 +77,10 @@ output_port direction.Input p = []
 output_port direction.Output p = declaration OutputPort p ∷ []
 
 abbrev pub input_ports : text_module.Module → List Declaration
-input_ports m = each (λ (p : Port). input_port p.direction p) m.ports
+input_ports m = flat_map (λ (p : Port). input_port p.direction p) m.ports
 
 abbrev pub output_ports : text_module.Module → List Declaration
-output_ports m = each (λ (p : Port). output_port p.direction p) m.ports
+output_ports m = flat_map (λ (p : Port). output_port p.direction p) m.ports
 
 abbrev pub item_declaration : Item → Option Declaration
 item_declaration (i.Wire x) = Some (record { name = x.name; width = width_of x.high; kind = PlainWire })
@@ -92,7 +88,7 @@ item_declaration (i.Register x) = Some (record { name = x.name; width = width_of
 item_declaration _ = None
 
 abbrev pub declarations : text_module.Module → List Declaration
-declarations m = input_ports m ++ each (λ x. some (item_declaration x)) m.items ++ output_ports m
+declarations m = input_ports m ++ flat_map (λ x. some (item_declaration x)) m.items ++ output_ports m
 
 abbrev pub memory_item : Item → Option text_memory.Memory
 memory_item (i.Memory x) = Some x
@@ -102,19 +98,26 @@ abbrev pub instance_item : Item → Option text_instance.Instance
 instance_item (i.Instance x) = Some x
 instance_item _ = None
 
+abbrev pub assign_item : Item → Option Assign
+assign_item (i.Assign x) = Some x
+assign_item _ = None
+
 abbrev pub memory_items : text_module.Module → List text_memory.Memory
-memory_items m = each (λ x. some (memory_item x)) m.items
+memory_items m = flat_map (λ x. some (memory_item x)) m.items
 
 abbrev pub instance_items : text_module.Module → List text_instance.Instance
-instance_items m = each (λ x. some (instance_item x)) m.items
+instance_items m = flat_map (λ x. some (instance_item x)) m.items
+
+abbrev pub assign_items : text_module.Module → List Assign
+assign_items m = flat_map (λ x. some (assign_item x)) m.items
 
 abbrev pub initial_constants : Item → List InitialConstant
 initial_constants (i.Initial x) = x.constants
 initial_constants _ = []
 
--- the place of a name among these
+-- the first place of a name among these, and past them where it is none of them
 abbrev pub place : List Name → Name → ℕ
-place names x = or_else (length names) (position (bytes_eq x) names)
+place names x = position_or_len (bytes_eq x) names
 
 -- ---- initial constants
 
@@ -163,30 +166,25 @@ module _ (signals memories : List Name) where
   abbrev pub statement_step : Statement-F (List ℕ → List Action) → List ℕ → List Action
   statement_step (Statement-F.Set x y) conditions = record { conditions = conditions; effect = effect.Set (at x) (at y) } ∷ []
   statement_step (Statement-F.Store m x y) conditions = record { conditions = conditions; effect = effect.Store (place memories m) (at x) (at y) } ∷ []
-  statement_step (Statement-F.If c body) conditions = each (λ f. f (conditions ++ at c ∷ [])) body
+  statement_step (Statement-F.If c body) conditions = flat_map (λ f. f (conditions ++ at c ∷ [])) body
   statement_step (Statement-F.Write text arguments) conditions = record { conditions = conditions; effect = effect.Write text (map argument arguments) } ∷ []
 
   abbrev pub statement_actions : Statement → List ℕ → List Action
   statement_actions = fold-Statement (List ℕ → List Action) statement_step
 
   abbrev pub item_actions : Item → List Action
-  item_actions (i.Always x) = each (λ s. statement_actions s []) x.body
+  item_actions (i.Always x) = flat_map (λ s. statement_actions s []) x.body
   item_actions _ = []
 
 -- the right side that is assigned to a name
-abbrev pub assigned : List Item → Name → Option Expression
+abbrev pub assigned : List Assign → Name → Option Expression
 assigned [] x = None
-assigned (i.Assign a ∷ items) x = if bytes_eq x a.target then Some a.value else assigned items x
-assigned (_ ∷ items) x = assigned items x
+assigned (a ∷ assigns) x = if bytes_eq x a.target then Some a.value else assigned assigns x
 
 -- what a connection ties to a port
 abbrev pub connected : List Connection → Name → Name
 connected [] port = []
 connected (c ∷ cs) port = if bytes_eq port c.port then c.signal else connected cs port
-
-abbrev pub is_output_port : Kind → Bool
-is_output_port OutputPort = true
-is_output_port _ = false
 
 -- the first output port, from place k on, that these connections tie to the name
 abbrev pub tied_output : List Declaration → List Connection → Name → ℕ → Option ℕ
@@ -222,7 +220,7 @@ module _ (modules : List text_module.Module) (m : text_module.Module) where
   memory_names = map (λ (x : text_memory.Memory). x.name) (memory_items m)
 
   abbrev pub constants : List InitialConstant
-  constants = each initial_constants m.items
+  constants = flat_map initial_constants m.items
 
   abbrev pub driven : Option Expression → Name → Source
   driven None x = tied modules (instance_items m) x 0
@@ -231,8 +229,8 @@ module _ (modules : List text_module.Module) (m : text_module.Module) where
   abbrev pub source_of : Kind → Name → Source
   source_of InputPort x = source.Input
   source_of Reg x = source.Register (initial_of constants x None)
-  source_of OutputPort x = driven (assigned m.items x) x
-  source_of PlainWire x = driven (assigned m.items x) x
+  source_of OutputPort x = driven (assigned (assign_items m) x) x
+  source_of PlainWire x = driven (assigned (assign_items m) x) x
 
   abbrev pub signal_of : Declaration → Signal
   signal_of d = record { name = d.name; width = d.width; is_output = is_output_port d.kind; source = source_of d.kind d.name }
@@ -254,7 +252,7 @@ module _ (modules : List text_module.Module) (m : text_module.Module) where
     name = m.name;
     signals = map signal_of (declarations m);
     memories = map memory_of (memory_items m);
-    actions = each (item_actions signal_names memory_names) m.items;
+    actions = flat_map (item_actions signal_names memory_names) m.items;
     instances = map instance_of (instance_items m);
   }
 

@@ -1,0 +1,112 @@
+-- Names find their places; elements of lists at their places.
+use Rattle.std.proofs.Common.{◌≡◌, ℕ, zero, suc, ◌+◌, ◌<◌, ◌⊎◌, List, [], ◌∷◌, ◌++◌, Bool, true, false, cond, Some, refl, sym, ap, ◌∙◌, subst, inl, inr, length, map, arith}
+use Rattle.std.specs.Prelude.{not, filter, slice_get, option_map}
+use Rattle.std.specs.Str.{bytes_eq}
+use Rattle.std.proofs.lemmas.Slice.Eq.{bytes_eq-Decides}
+use Rattle.std.proofs.lemmas.Option.{slice_get-map, same_Some, none-some}
+use Rattle.netlist.specs.NetlistOf.{Name, place}
+use Rattle.netlist.specs.Laid.{AreApart}
+
+-- ---- elements
+
+pub get_front : {A : Type 0} (xs ys : List A) (i : ℕ) (x : A) → slice_get xs i ≡ Some x → slice_get (xs ++ ys) i ≡ Some x
+get_front [] ys i x h = absurd (none-some x h)
+get_front (y ∷ xs) ys zero x h = h
+get_front (y ∷ xs) ys (suc i) x h = get_front xs ys i x h
+
+pub get_back : {A : Type 0} (xs ys : List A) (i : ℕ) (x : A) → slice_get ys i ≡ Some x → slice_get (xs ++ ys) (length xs + i) ≡ Some x
+get_back [] ys i x h = let e : i ≡ 0 + i = omega arith in subst (λ (k : ℕ). slice_get ys k ≡ Some x) e h
+get_back (y ∷ xs) ys i x h =
+    let e : suc (length xs + i) ≡ suc (length xs) + i = omega arith in
+    subst (λ (k : ℕ). slice_get (y ∷ (xs ++ ys)) k ≡ Some x) e (get_back xs ys i x h)
+
+pub record IsBehind {A : Type 0} (xs ys : List A) (i : ℕ) (x : A) : Type 0 where
+  pub at : ℕ
+  pub is : i ≡ length xs + at
+  pub found : slice_get ys at ≡ Some x
+
+pub get_either : {A : Type 0} (xs ys : List A) (i : ℕ) (x : A) → slice_get (xs ++ ys) i ≡ Some x → (slice_get xs i ≡ Some x) ⊎ IsBehind xs ys i x
+get_either [] ys i x h = inr (record { at = i; is = omega arith; found = h })
+get_either (y ∷ xs) ys zero x h = inl h
+get_either (y ∷ xs) ys (suc i) x h = elim (get_either xs ys i x h) [
+  | inl p ↦ inl p
+  | inr p ↦ inr (let e : i ≡ length xs + p.at = p.is in record { at = p.at; is = omega arith; found = p.found })
+]
+
+pub get_there : {A : Type 0} (xs : List A) (k : ℕ) → k < length xs → (x : A) × (slice_get xs k ≡ Some x)
+get_there [] k lt = absurd (omega arith)
+get_there (y ∷ xs) zero lt = (y, refl)
+get_there (y ∷ xs) (suc k) lt = get_there xs k (omega arith)
+
+pub get_mapped : {A B : Type 0} (f : A → B) (xs : List A) (k : ℕ) (x : A) → slice_get xs k ≡ Some x → slice_get (map f xs) k ≡ Some (f x)
+get_mapped f xs k x h = slice_get-map f xs k ∙ ap (option_map f) h
+
+pub get_unmapped : {A B : Type 0} (f : A → B) (xs : List A) (k : ℕ) (y : B) → slice_get (map f xs) k ≡ Some y → (x : A) × (slice_get xs k ≡ Some x) × (f x ≡ y)
+get_unmapped f [] k y h = absurd (none-some y h)
+get_unmapped f (x ∷ xs) zero y h = (x, refl, same_Some (f x) y h)
+get_unmapped f (x ∷ xs) (suc k) y h = get_unmapped f xs k y h
+
+filtered_step : {A : Type 0} (p : A → Bool) (y : A) (xs : List A) (x : A) → ((j : ℕ) → slice_get xs j ≡ Some x → p x ≡ true) → (b : Bool) (k : ℕ) → p y ≡ b
+    → slice_get (cond b (y ∷ xs) xs) k ≡ Some x → p x ≡ true
+filtered_step p y xs x next true zero e q = ap p (sym (same_Some y x q)) ∙ e
+filtered_step p y xs x next true (suc k) e q = next k q
+filtered_step p y xs x next false k e q = next k q
+
+-- what a test lets through passes it
+pub get_filtered : {A : Type 0} (p : A → Bool) (xs : List A) (k : ℕ) (x : A) → slice_get (filter p xs) k ≡ Some x → p x ≡ true
+get_filtered p [] k x h = absurd (none-some x h)
+get_filtered p (y ∷ xs) k x h = filtered_step p y (filter p xs) x (λ j q. get_filtered p xs j x q) (p y) k refl h
+
+pub map_map : {A B C : Type 0} (f : B → C) (g : A → B) (xs : List A) → map f (map g xs) ≡ map (λ x. f (g x)) xs
+map_map f g [] = refl
+map_map f g (x ∷ xs) = ap (λ l. f (g x) ∷ l) (map_map f g xs)
+
+pub map_back : {A B : Type 0} (f : B → A) (g : A → B) (xs : List A) → ((k : ℕ) (x : A) → slice_get xs k ≡ Some x → f (g x) ≡ x) → map f (map g xs) ≡ xs
+map_back f g [] h = refl
+map_back f g (x ∷ xs) h = ap (λ y. y ∷ map f (map g xs)) (h 0 x refl) ∙ ap (λ l. x ∷ l) (map_back f g xs (λ k y q. h (suc k) y q))
+
+pub map_against : {A B : Type 0} (f : A → B) (xs : List A) (ys : List B) → length xs ≡ length ys
+    → ((k : ℕ) (x : A) (y : B) → slice_get xs k ≡ Some x → slice_get ys k ≡ Some y → f x ≡ y) → map f xs ≡ ys
+map_against f [] [] e h = refl
+map_against f [] (y ∷ ys) e h = absurd (omega arith)
+map_against f (x ∷ xs) [] e h = absurd (omega arith)
+map_against f (x ∷ xs) (y ∷ ys) e h =
+    ap (λ z. z ∷ map f xs) (h 0 x y refl refl) ∙ ap (λ l. y ∷ l) (map_against f xs ys (omega arith) (λ k a b p q. h (suc k) a b p q))
+
+-- ---- names
+
+false_from : (b : Bool) → (b ≡ true → ⊥) → b ≡ false
+false_from true h = absurd (h refl)
+false_from false h = refl
+
+pub same_name : (x : Name) → bytes_eq x x ≡ true
+same_name x = (bytes_eq-Decides x x).1 refl
+
+pub other_name : (x n : Name) → (x ≡ n → ⊥) → bytes_eq x n ≡ false
+other_name x n h = false_from (bytes_eq x n) (λ e. h ((bytes_eq-Decides x n).0 e))
+
+pub is_name : (x n : Name) → bytes_eq x n ≡ true → x ≡ n
+is_name x n h = (bytes_eq-Decides x n).0 h
+
+pub apart_rest : (n : Name) (names : List Name) → AreApart (n ∷ names) → AreApart names
+apart_rest n names apart = λ i j x p q. let e : suc i ≡ suc j = apart (suc i) (suc j) x p q in omega arith
+
+pub apart_front : (xs ys : List Name) → AreApart (xs ++ ys) → AreApart xs
+apart_front xs ys apart = λ i j x p q. apart i j x (get_front xs ys i x p) (get_front xs ys j x q)
+
+pub apart_back : (xs ys : List Name) → AreApart (xs ++ ys) → AreApart ys
+apart_back xs ys apart = λ i j x p q.
+    let e : length xs + i ≡ length xs + j = apart (length xs + i) (length xs + j) x (get_back xs ys i x p) (get_back xs ys j x q) in omega arith
+
+-- the first of names that stand apart is none of the others
+pub head_other : (n : Name) (names : List Name) (k : ℕ) (x : Name) → AreApart (n ∷ names) → slice_get names k ≡ Some x → bytes_eq x n ≡ false
+head_other n names k x apart h = other_name x n (λ e. let z : 0 ≡ suc k = apart 0 (suc k) x (ap Some (sym e)) h in absurd (omega arith))
+
+pub place_at : (names : List Name) (k : ℕ) (x : Name) → AreApart names → slice_get names k ≡ Some x → place names x ≡ k
+place_at [] k x apart h = absurd (none-some x h)
+place_at (n ∷ names) zero x apart h =
+    ap (λ b. cond (not b) (1 + place names x) 0) (subst (λ (y : Name). bytes_eq x y ≡ true) (sym (same_Some n x h)) (same_name x))
+place_at (n ∷ names) (suc k) x apart h =
+    let e : place names x ≡ k = place_at names k x (apart_rest n names apart) h in
+    let f : 1 + place names x ≡ suc k = omega arith in
+    ap (λ b. cond (not b) (1 + place names x) 0) (head_other n names k x apart h) ∙ f

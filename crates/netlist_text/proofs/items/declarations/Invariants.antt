@@ -1,0 +1,7 @@
+use Rattle.std.proofs.Common.{◌≡◌, ◌++◌, take}
+use Rattle.std.specs.List.{flat_map}
+use Rattle.netlist_text.specs.LaidOut as laid
+use Rattle.netlist_text.proofs.items.declarations.Given as goal
+
+abbrev pub invariant-loop-signal : goal.invariant-loop-signal
+invariant-loop-signal l = l.out ≡ l.fn.out ++ flat_map laid.declared (take l.signal-index l.signals)

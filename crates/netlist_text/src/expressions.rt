@@ -1,0 +1,206 @@
+// The right side of an assign.
+
+ghost use Rattle.std.specs.Prelude.{◌≡◌, IfOk};
+ghost use Rattle.netlist_text.specs.LaidOut as laid;
+ghost use Rattle.netlist.specs.declared.netlist.Value.TheVariants as v;
+
+use crate::names::{memory_name, signal_name, signal_names, signal_width, word_count};
+use netlist::netlist::{Module, Value};
+use std::alloc::{AllocError, Global};
+use verilog_tree::tree::{BinaryOperator, Constant, DivisionOperator, Expression};
+
+fn binary(
+    parent: &Module,
+    operator: BinaryOperator,
+    left: usize,
+    right: usize,
+) -> Result<Expression, AllocError>
+    ensures { IfOk result (λ e. e ≡ laid.expression parent.now 0 (v.Binary operator left right)) }
+{
+    let left = signal_name(parent, left)?;
+    let right = signal_name(parent, right)?;
+    Ok(Expression::Binary {
+        operator,
+        left,
+        right,
+    })
+}
+
+fn signed_less(parent: &Module, left: usize, right: usize) -> Result<Expression, AllocError>
+    ensures { IfOk result (λ e. e ≡ laid.expression parent.now 0 (v.SignedLess left right)) }
+{
+    let left = signal_name(parent, left)?;
+    let right = signal_name(parent, right)?;
+    Ok(Expression::SignedLess { left, right })
+}
+
+fn arithmetic_shift(parent: &Module, left: usize, right: usize) -> Result<Expression, AllocError>
+    ensures { IfOk result (λ e. e ≡ laid.expression parent.now 0 (v.ArithmeticShiftRight left right)) }
+{
+    let left = signal_name(parent, left)?;
+    let right = signal_name(parent, right)?;
+    Ok(Expression::ArithmeticShiftRight { left, right })
+}
+
+fn conditional(
+    parent: &Module,
+    condition: usize,
+    if_true: usize,
+    if_false: usize,
+) -> Result<Expression, AllocError>
+    ensures { IfOk result (λ e. e ≡ laid.expression parent.now 0 (v.Conditional condition if_true if_false)) }
+{
+    let condition = signal_name(parent, condition)?;
+    let if_true = signal_name(parent, if_true)?;
+    let if_false = signal_name(parent, if_false)?;
+    Ok(Expression::Conditional {
+        condition,
+        if_true,
+        if_false,
+    })
+}
+
+/// 0 of a width.
+fn zero(width: u64) -> Constant
+    ensures { result ≡ laid.sized width 0 }
+{
+    Constant { width, value: 0 }
+}
+
+fn division(
+    parent: &Module,
+    width: u64,
+    operator: DivisionOperator,
+    left: usize,
+    right: usize,
+) -> Result<Expression, AllocError>
+    ensures { IfOk result (λ e. e ≡ laid.expression parent.now width (v.Division operator left right)) }
+{
+    let tested = signal_name(parent, right)?;
+    let left = signal_name(parent, left)?;
+    let right = signal_name(parent, right)?;
+    Ok(Expression::Division {
+        tested,
+        zero: zero(width),
+        guarded: zero(width),
+        operator,
+        left,
+        right,
+    })
+}
+
+fn signed_division(
+    parent: &Module,
+    width: u64,
+    operator: DivisionOperator,
+    left: usize,
+    right: usize,
+) -> Result<Expression, AllocError>
+    ensures { IfOk result (λ e. e ≡ laid.expression parent.now width (v.SignedDivision operator left right)) }
+{
+    let tested = signal_name(parent, right)?;
+    let left = signal_name(parent, left)?;
+    let right = signal_name(parent, right)?;
+    Ok(Expression::SignedDivision {
+        tested,
+        zero: zero(width),
+        guarded: zero(width),
+        operator,
+        left,
+        right,
+    })
+}
+
+/// The bound is the number of words, as a constant of the address's width.
+fn bound(parent: &Module, memory: usize, address: usize) -> Constant
+    ensures { result ≡ laid.sized (laid.signal_width parent.now address) (laid.words parent.now memory) }
+{
+    Constant {
+        width: signal_width(parent, address),
+        value: word_count(parent, memory),
+    }
+}
+
+fn memory_read(
+    parent: &Module,
+    width: u64,
+    memory: usize,
+    address: usize,
+) -> Result<Expression, AllocError>
+    ensures { IfOk result (λ e. e ≡ laid.expression parent.now width (v.MemoryRead memory address)) }
+{
+    let tested = signal_name(parent, address)?;
+    let bound = bound(parent, memory, address);
+    let memory = memory_name(parent, memory)?;
+    let address = signal_name(parent, address)?;
+    Ok(Expression::MemoryRead {
+        tested,
+        bound,
+        memory,
+        address,
+        guarded: zero(width),
+    })
+}
+
+fn select(parent: &Module, of: usize, high: u64, low: u64) -> Result<Expression, AllocError>
+    ensures { IfOk result (λ e. e ≡ laid.select parent.now of high low) }
+{
+    let of = signal_name(parent, of)?;
+    if high == low {
+        Ok(Expression::BitSelect { of, bit: high })
+    } else {
+        Ok(Expression::PartSelect { of, high, low })
+    }
+}
+
+/// The right side at a target of a width.
+pub fn expression(
+    alloc: Global,
+    parent: &Module,
+    width: u64,
+    value: &Value,
+) -> Result<Expression, AllocError>
+    ensures { IfOk result (λ e. e ≡ laid.expression parent.now width value.now) }
+{
+    match value {
+        Value::Copy(of) => Ok(Expression::Copy(signal_name(parent, *of)?)),
+        Value::Constant(value) => Ok(Expression::Constant(Constant {
+            width,
+            value: *value,
+        })),
+        Value::BitwiseNot(of) => Ok(Expression::BitwiseNot(signal_name(parent, *of)?)),
+        Value::Binary {
+            operator,
+            left,
+            right,
+        } => binary(parent, *operator, *left, *right),
+        Value::SignedLess { left, right } => signed_less(parent, *left, *right),
+        Value::ArithmeticShiftRight { left, right } => arithmetic_shift(parent, *left, *right),
+        Value::Conditional {
+            condition,
+            if_true,
+            if_false,
+        } => conditional(parent, *condition, *if_true, *if_false),
+        Value::Division {
+            operator,
+            left,
+            right,
+        } => division(parent, width, *operator, *left, *right),
+        Value::SignedDivision {
+            operator,
+            left,
+            right,
+        } => signed_division(parent, width, *operator, *left, *right),
+        Value::MemoryRead { memory, address } => memory_read(parent, width, *memory, *address),
+        Value::Select { of, high, low } => select(parent, *of, *high, *low),
+        Value::Concatenation(parts) => Ok(Expression::Concatenation(signal_names(
+            alloc,
+            parent,
+            parts.as_slice(),
+        )?)),
+        Value::Replication { count, of } => Ok(Expression::Replication {
+            count: *count,
+            of: signal_name(parent, *of)?,
+        }),
+    }
+}

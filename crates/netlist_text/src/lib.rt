@@ -1,0 +1,31 @@
+//! A netlist laid out as the tree of a Verilog text, whose netlist it is.
+#![tactic(auto)]
+
+ghost use Rattle.std.specs.Prelude.{◌≡◌, IfOk, map};
+ghost use Rattle.netlist.specs.Laid.{IsLaid};
+ghost use Rattle.netlist.specs.NetlistOf.{netlist_of};
+ghost use Rattle.netlist_text.specs.LaidOut as laid;
+
+mod expressions;
+mod items;
+mod modules;
+mod names;
+mod statements;
+#[cfg(test)]
+mod tests;
+
+use netlist::netlist::Netlist;
+use std::alloc::{AllocError, Global};
+use verilog_tree::tree::Net;
+
+/// The text's tree of a netlist: of each module its ports, its wires and registers, its memories, the assigns in order
+/// of their targets, one initial block, one always block where there are actions, and the instances.
+///
+/// A signal of one bit has no range. A place that is none of its module's gets the module's name.
+pub fn text_of(alloc: Global, netlist: &Netlist) -> Result<Net, AllocError>
+    ensures form { IfOk result (λ net. net ≡ laid.net_of netlist.now) }
+    ensures netlist { IfOk result (λ net. IsLaid netlist.now → netlist_of net ≡ netlist.now) }
+{
+    let modules = modules::text_modules(alloc, netlist.modules.as_slice())?;
+    Ok(Net { modules })
+}

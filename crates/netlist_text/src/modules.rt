@@ -1,0 +1,149 @@
+// Instances and modules.
+
+ghost use Rattle.std.specs.Prelude.{◌≡◌, ◌+◌, ◌-◌, ◌^◌, ◌<◌, [], ◌∷◌, ◌++◌, length, IfOk, OnOk, map};
+ghost use Rattle.netlist_text.specs.LaidOut as laid;
+
+use crate::items::{always_block, assigns, declarations, initial_block, memories, ports};
+use crate::names::{module_at, signal_name};
+use netlist::netlist::{Instance, Module};
+use sqlite_items::Items;
+use std::alloc::{AllocError, Global};
+use verilog_tree::tree;
+use verilog_tree::tree::{Connection, Item};
+
+/// `.port(signal)`
+fn tie(
+    out: &mut Items<Connection>,
+    parent: &Module,
+    of: &Module,
+    port: usize,
+    signal: usize,
+) -> Result<(), AllocError>
+    ensures { OnOk result (out.new ≡ out.old ++ laid.tie parent.now of.now port signal ∷ []) }
+{
+    let port = signal_name(of, port)?;
+    let signal = signal_name(parent, signal)?;
+    out.push(Connection { port, signal })
+}
+
+/// The ports from a place on, each at its signal.
+fn ties(
+    out: &mut Items<Connection>,
+    parent: &Module,
+    of: &Module,
+    first: usize,
+    signals: &[usize],
+) -> Result<(), AllocError>
+    requires { first + length signals.now < 2 ^ 64 }
+    ensures { OnOk result (out.new ≡ out.old ++ laid.with_places (laid.tie parent.now of.now) first signals.now) }
+{
+    for (k, signal) in signals.iter().enumerate() {
+        tie(out, parent, of, first + k, *signal)?;
+    }
+    Ok(())
+}
+
+/// The place of the first output port, where there are so many.
+fn first_output(of: &Module, outputs: &[usize]) -> usize
+    ensures place { result ≡ length of.now.signals - length outputs.now }
+    ensures room { result + length outputs.now < 2 ^ 64 }
+{
+    of.signals.len().saturating_sub(outputs.len())
+}
+
+/// All input ports and all output ports of the instance's module.
+fn connections(
+    alloc: Global,
+    parent: &Module,
+    of: &Module,
+    instance: &Instance,
+) -> Result<Items<Connection>, AllocError>
+    ensures { IfOk result (λ all. all ≡ laid.connections parent.now of.now instance.now) }
+{
+    let mut all = Items::new(alloc);
+    let outputs = instance.outputs.as_slice();
+    ties(&mut all, parent, of, 0, instance.inputs.as_slice())?;
+    ties(&mut all, parent, of, first_output(of, outputs), outputs)?;
+    Ok(all)
+}
+
+fn instance_by(
+    alloc: Global,
+    parent: &Module,
+    instance: &Instance,
+    of: &Module,
+) -> Result<tree::Instance, AllocError>
+    ensures { IfOk result (λ x. x ≡ laid.instance_by parent.now instance.now of.now) }
+{
+    let module_name = of.name.clone()?;
+    let name = instance.name.clone()?;
+    let connections = connections(alloc, parent, of, instance)?;
+    Ok(tree::Instance {
+        module_name,
+        name,
+        connections,
+    })
+}
+
+fn instance(
+    alloc: Global,
+    modules: &[Module],
+    parent: &Module,
+    instance: &Instance,
+) -> Result<Item, AllocError>
+    ensures { IfOk result (λ x. x ≡ laid.instance_item modules.now parent.now instance.now) }
+{
+    let of = module_at(modules, parent, instance.of);
+    Ok(Item::Instance(instance_by(alloc, parent, instance, of)?))
+}
+
+fn instances(
+    alloc: Global,
+    out: &mut Items<Item>,
+    modules: &[Module],
+    parent: &Module,
+) -> Result<(), AllocError>
+    ensures { OnOk result (out.new ≡ out.old ++ map (laid.instance_item modules.now parent.now) parent.now.instances) }
+{
+    for one in parent.instances.as_slice() {
+        out.push(instance(alloc, modules, parent, one)?)?;
+    }
+    Ok(())
+}
+
+fn items(alloc: Global, modules: &[Module], parent: &Module) -> Result<Items<Item>, AllocError>
+    ensures { IfOk result (λ items. items ≡ laid.items modules.now parent.now) }
+{
+    let mut items = Items::new(alloc);
+    declarations(&mut items, parent.signals.as_slice())?;
+    memories(&mut items, parent.memories.as_slice())?;
+    assigns(alloc, &mut items, parent)?;
+    initial_block(alloc, &mut items, parent)?;
+    always_block(alloc, &mut items, parent)?;
+    instances(alloc, &mut items, modules, parent)?;
+    Ok(items)
+}
+
+fn text_module(
+    alloc: Global,
+    modules: &[Module],
+    parent: &Module,
+) -> Result<tree::Module, AllocError>
+    ensures { IfOk result (λ m. m ≡ laid.text_of_module modules.now parent.now) }
+{
+    let name = parent.name.clone()?;
+    let ports = ports(alloc, parent.signals.as_slice())?;
+    let items = items(alloc, modules, parent)?;
+    Ok(tree::Module { name, ports, items })
+}
+
+/// The text's modules, in order.
+pub fn text_modules(alloc: Global, modules: &[Module]) -> Result<Items<tree::Module>, AllocError>
+    ensures { IfOk result (λ all. all ≡ map (laid.text_of_module modules.now) modules.now) }
+{
+    let mut all = Items::new(alloc);
+    for module in modules {
+        all.push(text_module(alloc, modules, module)?)?;
+    }
+    Ok(all)
+}

@@ -1,0 +1,142 @@
+// The always block of a module.
+
+ghost use Rattle.std.specs.Prelude.{◌≡◌, [], ◌∷◌, IfOk, map};
+ghost use Rattle.netlist_text.specs.LaidOut as laid;
+ghost use Rattle.netlist.specs.declared.netlist.Effect.TheVariants as effect;
+ghost use Rattle.verilog_tree.specs.declared.tree.Statement.TheVariants as s;
+
+use crate::names::{memory_name, signal_name};
+use netlist::netlist::{Action, Argument, Effect, Module};
+use sqlite_items::Items;
+use std::alloc::{AllocError, Global};
+use verilog_tree::name::Quoted;
+use verilog_tree::tree::{Statement, WriteArgument};
+
+fn argument(parent: &Module, argument: Argument) -> Result<WriteArgument, AllocError>
+    ensures { IfOk result (λ a. a ≡ laid.argument parent.now argument) }
+{
+    match argument {
+        Argument::Unsigned(place) => Ok(WriteArgument::Unsigned(signal_name(parent, place)?)),
+        Argument::Signed(place) => Ok(WriteArgument::Signed(signal_name(parent, place)?)),
+    }
+}
+
+fn arguments(
+    alloc: Global,
+    parent: &Module,
+    arguments: &[Argument],
+) -> Result<Items<WriteArgument>, AllocError>
+    ensures { IfOk result (λ all. all ≡ map (laid.argument parent.now) arguments.now) }
+{
+    let mut all = Items::new(alloc);
+    for one in arguments {
+        all.push(argument(parent, *one)?)?;
+    }
+    Ok(all)
+}
+
+fn set(parent: &Module, register: usize, source: usize) -> Result<Statement, AllocError>
+    ensures { IfOk result (λ x. x ≡ laid.effect_statement parent.now (effect.Set register source)) }
+{
+    let register = signal_name(parent, register)?;
+    let source = signal_name(parent, source)?;
+    Ok(Statement::Set { register, source })
+}
+
+fn store(
+    parent: &Module,
+    memory: usize,
+    address: usize,
+    source: usize,
+) -> Result<Statement, AllocError>
+    ensures { IfOk result (λ x. x ≡ laid.effect_statement parent.now (effect.Store memory address source)) }
+{
+    let memory = memory_name(parent, memory)?;
+    let address = signal_name(parent, address)?;
+    let source = signal_name(parent, source)?;
+    Ok(Statement::Store {
+        memory,
+        address,
+        source,
+    })
+}
+
+fn print(
+    alloc: Global,
+    parent: &Module,
+    text: &Quoted,
+    values: &Items<Argument>,
+) -> Result<Statement, AllocError>
+    ensures { IfOk result (λ x. x ≡ laid.effect_statement parent.now (effect.Write text.now values.now)) }
+{
+    let text = text.clone()?;
+    let arguments = arguments(alloc, parent, values.as_slice())?;
+    Ok(Statement::Write { text, arguments })
+}
+
+fn effect_statement(
+    alloc: Global,
+    parent: &Module,
+    effect: &Effect,
+) -> Result<Statement, AllocError>
+    ensures { IfOk result (λ x. x ≡ laid.effect_statement parent.now effect.now) }
+{
+    match effect {
+        Effect::Set { register, source } => set(parent, *register, *source),
+        Effect::Store {
+            memory,
+            address,
+            source,
+        } => store(parent, *memory, *address, *source),
+        Effect::Write { text, arguments } => print(alloc, parent, text, arguments),
+    }
+}
+
+/// `if (condition) begin .. end` round one statement.
+fn conditional(
+    alloc: Global,
+    parent: &Module,
+    condition: usize,
+    inner: Statement,
+) -> Result<Statement, AllocError>
+    ensures { IfOk result (λ x. x ≡ s.If (laid.signal_name parent.now condition) (inner ∷ [])) }
+{
+    let condition = signal_name(parent, condition)?;
+    let mut body = Items::new(alloc);
+    body.push(inner)?;
+    Ok(Statement::If { condition, body })
+}
+
+fn guarded(
+    alloc: Global,
+    parent: &Module,
+    conditions: &[usize],
+    effect: &Effect,
+) -> Result<Statement, AllocError>
+    ensures { IfOk result (λ x. x ≡ laid.guarded parent.now conditions.now effect.now) }
+{
+    match conditions {
+        [] => effect_statement(alloc, parent, effect),
+        [outermost, others @ ..] => {
+            let inner = guarded(alloc, parent, others, effect)?;
+            conditional(alloc, parent, *outermost, inner)
+        }
+    }
+}
+
+fn statement(alloc: Global, parent: &Module, action: &Action) -> Result<Statement, AllocError>
+    ensures { IfOk result (λ x. x ≡ laid.statement parent.now action.now) }
+{
+    guarded(alloc, parent, action.conditions.as_slice(), &action.effect)
+}
+
+/// A statement for each action, in order.
+pub fn statements(alloc: Global, parent: &Module) -> Result<Items<Statement>, AllocError>
+    ensures { IfOk result (λ body. body ≡ map (laid.statement parent.now) parent.now.actions) }
+{
+    let mut body = Items::new(alloc);
+    for action in parent.actions.as_slice() {
+        body.push(statement(alloc, parent, action)?)?;
+    }
+    Ok(body)
+}
