@@ -1,2 +1,3 @@
 pub mod NetlistOf
 pub mod Laid
+pub mod Sound

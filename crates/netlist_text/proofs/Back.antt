@@ -23,7 +23,8 @@ use Rattle.netlist.specs.Laid.{input_signals, output_signals, signal_names, memo
 use Rattle.netlist_text.specs.LaidOut as laid
 use Rattle.netlist_text.specs.LaidOut.{net_of}
 use Rattle.netlist_text.proofs.Places.{get_front, get_back, map_map, map_back, map_against, apart_front, apart_back}
-use Rattle.netlist_text.proofs.Told.{told_declaration, told_declarations, told_ports_in, told_ports_out, told_memories, told_assigns, told_constants, told_instances, told_actions, told_signal_names}
+use Rattle.netlist_text.proofs.Told.{told_declaration, told_declarations, told_ports_in, told_ports_out, told_memories}
+use Rattle.netlist_text.proofs.Told.{told_assigns, told_constants, told_instances, told_actions, told_signal_names}
 use Rattle.netlist_text.proofs.Constants.{register_back, memory_words_back}
 use Rattle.netlist_text.proofs.Values.{signal_back, value_back, actions_back}
 use Rattle.netlist_text.proofs.Connections.{AreBefore, texts, instance_is, place_is, of_instance_is, input_connected, output_connected}
@@ -177,7 +178,7 @@ module _ (all before : List Module) (m : Module) (known : AreBefore all before) 
 
 -- ---- all modules
 
-before_are : (x : Netlist) → IsLaid x → (front back : List Module) → x.modules ≡ front ++ back → AreBefore x.modules front
+pub before_are : (x : Netlist) → IsLaid x → (front back : List Module) → x.modules ≡ front ++ back → AreBefore x.modules front
 before_are x h front back e = record {
   names = apart_front (module_names front) (module_names back)
       (subst (λ (l : List Name). AreApart l) (ap module_names e ∙ map-append (λ (y : Module). y.name) front back) h.names);
@@ -191,7 +192,7 @@ module _ (x : Netlist) (h : IsLaid x) where
   abbrev make_text : Module → text_module.Module
   make_text = laid.text_of_module x.modules
 
-  fits_at : (front : List Module) (m : Module) (back : List Module) → x.modules ≡ front ++ m ∷ back → IsLaidModule front m
+  pub fits_at : (front : List Module) (m : Module) (back : List Module) → x.modules ≡ front ++ m ∷ back → IsLaidModule front m
   fits_at front m back e =
       let found : slice_get (front ++ m ∷ back) (length front) ≡ Some m = ap (slice_get (front ++ m ∷ back)) (sym (add-zero (length front))) ∙ get_back front (m ∷ back) 0 m refl in
       subst (λ (l : List Module). IsLaidModule l m) (ap (take (length front)) e ∙ take_at front (m ∷ back) (length front) refl)

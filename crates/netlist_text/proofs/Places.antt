@@ -75,7 +75,7 @@ map_against f (x ∷ xs) (y ∷ ys) e h =
 
 -- ---- names
 
-false_from : (b : Bool) → (b ≡ true → ⊥) → b ≡ false
+pub false_from : (b : Bool) → (b ≡ true → ⊥) → b ≡ false
 false_from true h = absurd (h refl)
 false_from false h = refl
 

@@ -56,7 +56,7 @@ none_declared_by g wire register x OutputPort = refl
 none_declared_by g wire register x PlainWire = ap (λ l. l ++ []) (wire _)
 none_declared_by g wire register x Reg = ap (λ l. l ++ []) (register _)
 
-none_declared : {B : Type 0} (g : Item → List B) → ((y : Wire) → g (i.Wire y) ≡ []) → ((y : Register) → g (i.Register y) ≡ []) → (ss : List Signal)
+pub none_declared : {B : Type 0} (g : Item → List B) → ((y : Wire) → g (i.Wire y) ≡ []) → ((y : Register) → g (i.Register y) ≡ []) → (ss : List Signal)
     → flat_map g (flat_map laid.declared ss) ≡ []
 none_declared g wire register ss = flat_flat g laid.declared ss ∙ flat_none (λ x. flat_map g (laid.declared x)) (λ x. none_declared_by g wire register x (kind_of x)) ss
 
@@ -66,7 +66,7 @@ none_assigned_by g assign m x (source.Register c) = refl
 none_assigned_by g assign m x (source.Assigned right) = ap (λ l. l ++ []) (assign _)
 none_assigned_by g assign m x (source.Port j port) = refl
 
-none_assigned : {B : Type 0} (g : Item → List B) → ((y : Assign) → g (i.Assign y) ≡ []) → (m : Module) (ss : List Signal) → flat_map g (flat_map (laid.assign_of m) ss) ≡ []
+pub none_assigned : {B : Type 0} (g : Item → List B) → ((y : Assign) → g (i.Assign y) ≡ []) → (m : Module) (ss : List Signal) → flat_map g (flat_map (laid.assign_of m) ss) ≡ []
 none_assigned g assign m ss = flat_flat g (laid.assign_of m) ss ∙ flat_none (λ x. flat_map g (laid.assign_of m x)) (λ x. none_assigned_by g assign m x x.source) ss
 
 -- ---- a module among all
@@ -89,7 +89,8 @@ module _ (all : List Module) (m : Module) where
   told_outputs : n.output_ports (laid.text_of_module all m) ≡ map told_declaration (output_signals m)
   told_outputs =
       flat_flat (λ (p : Port). n.output_port p.direction p) laid.port_of m.signals
-      ∙ flat_filter (λ (x : Signal). is_output_port (kind_of x)) told_declaration (λ x. flat_map (λ (p : Port). n.output_port p.direction p) (laid.port_of x)) (λ x. output_of x (kind_of x)) m.signals
+      ∙ flat_filter (λ (x : Signal). is_output_port (kind_of x)) told_declaration (λ x. flat_map (λ (p : Port). n.output_port p.direction p) (laid.port_of x)) (λ x. output_of x
+      (kind_of x)) m.signals
 
   told_inner : flat_map (λ (y : Item). n.some (n.item_declaration y)) (laid.items all m) ≡ map told_declaration (inner_signals m)
   told_inner =

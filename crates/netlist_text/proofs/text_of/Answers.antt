@@ -1,6 +1,9 @@
-use Rattle.std.proofs.Common.{ap, ◌∙◌}
+use Rattle.std.proofs.Common.{ap, sym, subst, ◌∙◌}
+use Rattle.verilog_tree.specs.declared.tree.Net.{Net}
+use Rattle.verilog_tree.specs.WellFormed.{IsWellFormed}
 use Rattle.netlist.specs.NetlistOf.{netlist_of}
 use Rattle.netlist_text.proofs.Back.{form_is, netlist_back}
+use Rattle.netlist_text.proofs.NetFormed.{net_formed}
 use Rattle.netlist_text.proofs.text_of.Goals as goal
 
 pub returns-clause-form : goal.returns-clause-form
@@ -9,3 +12,8 @@ returns-clause-form c = form_is c.args.netlist.now c.as_slice.result.now c.in_ok
 pub returns-clause-netlist : goal.returns-clause-netlist
 returns-clause-netlist c = λ laid.
     ap netlist_of (form_is c.args.netlist.now c.as_slice.result.now c.in_ok-modules.modules c.as_slice.ensures c.in_ok-modules.ensures) ∙ netlist_back c.args.netlist.now laid
+
+pub returns-clause-well_formed : goal.returns-clause-well_formed
+returns-clause-well_formed c = λ sound.
+    let P : Net → Type 0 = λ net. IsWellFormed net in
+    subst P (sym (form_is c.args.netlist.now c.as_slice.result.now c.in_ok-modules.modules c.as_slice.ensures c.in_ok-modules.ensures)) (net_formed c.args.netlist.now sound)

@@ -1,0 +1,9 @@
+use Rattle.std.proofs.Common.{◌≡◌, take, map, sum_by}
+use Rattle.c_program.specs.Plain.{function_of}
+use Rattle.c_program.specs.Tree.{Function}
+use Rattle.c_program.specs.Counting.{capped}
+use Rattle.c_program.specs.Limits.{print_count}
+use Rattle.c_limits.proofs.counts.print_sites.Given as goal
+
+abbrev pub invariant-loop-function : goal.invariant-loop-function
+invariant-loop-function l = l.total ≡ capped (sum_by (λ (f : Function). print_count f.body) (map function_of (take l.function-index l.functions)))

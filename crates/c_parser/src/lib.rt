@@ -1,0 +1,107 @@
+//! A parser from the top down: the tree of a C text's tokens, or the token at which they depart from the grammar or
+//! nest too deep.
+#![tactic(auto)]
+
+mod cursor;
+mod declarations;
+mod expressions;
+mod plain;
+mod statements;
+mod tokens;
+
+ghost use Rattle.std.specs.Prelude.{◌≡◌, ◌≤◌, ◌+◌, ◌-◌, ℕ, length};
+ghost use Rattle.grammar.specs.Sentences.{SentenceWithin, FaultAt, TooDeepAt};
+ghost use Rattle.c_tree.specs.declared.declaration.TranslationUnit as tree;
+ghost use Rattle.c_tree.specs.Declarations.{unit};
+ghost use Rattle.c_parser.specs.Parsed as spec;
+ghost use Rattle.c_parser.specs.declared.ParseError.TheVariants.{Syntax, Nesting};
+
+use c_token::Token;
+use c_tree::TranslationUnit;
+use cursor::Cursor;
+use grammar::Fault;
+use std::alloc::Global;
+
+/// How deep a token may be nested.
+pub const NESTING_LIMIT: usize = 64;
+
+/// Why tokens have no tree. The tokens are counted from 0, and the offset is that of the token in the text; it is 0 where
+/// there is no such token, since the tokens end without the end of a text.
+#[derive(Clone, Copy, Debug, PartialEq, Eq)]
+pub enum ParseError {
+    /// Some sentence starts with the tokens before this one, and none with this one too. At the number of tokens where
+    /// they end too early.
+    Syntax {
+        token: usize,
+        offset: usize,
+    },
+    /// This token is the first one that is nested deeper than the limit; the count is its nesting.
+    Nesting {
+        token: usize,
+        count: usize,
+        offset: usize,
+    },
+    /// Memory ran out.
+    Memory,
+}
+
+/// The place of a token in the text.
+fn offset_at(tokens: &[Token], k: usize) -> usize
+    ensures { result ≡ spec.offset_at tokens.now k }
+{
+    match tokens.get(k) {
+        Some(token) => token.offset,
+        None => 0,
+    }
+}
+
+/// The syntax fault where so many tokens are left.
+fn syntax(tokens: &[Token], left: usize) -> ParseError
+    requires { left ≤ length tokens.now }
+    ensures { result ≡ Syntax (length tokens.now - left) (spec.offset_at tokens.now (length tokens.now - left)) }
+{
+    let token = tokens.len() - left;
+    ParseError::Syntax {
+        token,
+        offset: offset_at(tokens, token),
+    }
+}
+
+/// The fault of a token so many levels above the limit where so many tokens are left.
+fn nesting(tokens: &[Token], left: usize, above: u8) -> ParseError
+    requires { left ≤ length tokens.now }
+    ensures { result ≡ Nesting (length tokens.now - left) (64 + above) (spec.offset_at tokens.now (length tokens.now - left)) }
+{
+    let token = tokens.len() - left;
+    ParseError::Nesting {
+        token,
+        count: NESTING_LIMIT + above as usize,
+        offset: offset_at(tokens, token),
+    }
+}
+
+/// The tree of the tokens, the end of the text among them.
+pub fn parse(alloc: Global, tokens: &[Token]) -> Result<TranslationUnit, ParseError>
+    ensures answer { spec.Parsed tokens.now result }
+    ensures every { (v : tree.TranslationUnit) → SentenceWithin unit 64 tokens.now v → spec.Finds v result }
+    ensures syntax { (k : ℕ) → FaultAt unit 64 tokens.now k → spec.AnswersOnly (Syntax k (spec.offset_at tokens.now k)) result }
+    ensures nesting { (k count : ℕ) → TooDeepAt unit 64 tokens.now k count → spec.AnswersOnly (Nesting k count (spec.offset_at tokens.now k)) result }
+{
+    let mut cursor = Cursor { rest: tokens };
+    match cursor.unit(alloc, NESTING_LIMIT + 1) {
+        Ok(tree) => {
+            let left = cursor.left();
+            if left == 0 {
+                Ok(tree)
+            } else {
+                Err(syntax(tokens, left))
+            }
+        }
+        Err(Fault::Syntax) => Err(syntax(tokens, cursor.left())),
+        Err(Fault::Nesting(above)) => Err(nesting(tokens, cursor.left(), above)),
+        Err(Fault::Memory) => Err(ParseError::Memory),
+    }
+}
+
+#[cfg(test)]
+mod tests;

@@ -1,0 +1,11 @@
+// Tokens with one spelling.
+
+use c_token::{Keyword, Punctuator};
+
+/// A token with one spelling, or the end of the text.
+#[derive(Clone, Copy, Debug, PartialEq, Eq)]
+pub enum Sign {
+    Word(Keyword),
+    Mark(Punctuator),
+    End,
+}

@@ -1,0 +1,87 @@
+// Statements (C99 6.8).
+
+use crate::declaration::Declaration;
+use crate::expression::{BinaryOperator, Call, Expression, Place, Pointer};
+use sqlite_items::{Boxed, Items};
+
+/// `=`, or a compound assignment by its binary operator.
+#[derive(Clone, Copy, Debug, PartialEq, Eq)]
+pub enum AssignmentOperator {
+    Set,
+    Compound(BinaryOperator),
+}
+
+/// Up for `++`, down for `--`.
+#[derive(Clone, Copy, Debug, PartialEq, Eq)]
+pub enum Direction {
+    Up,
+    Down,
+}
+
+/// What stands as a statement by itself, or in the head of a `for`.
+#[derive(Debug, Drop)]
+pub struct SimpleStatement {
+    pub form: SimpleForm,
+    /// Of its first byte.
+    pub offset: usize,
+}
+
+#[derive(Debug, Drop)]
+pub enum SimpleForm {
+    Assign(Place, AssignmentOperator, Expression),
+    /// `++` or `--`, before the place or behind it.
+    Step(Place, Direction),
+    Call(Call),
+}
+
+/// What a `return` gives back.
+#[derive(Debug, Drop)]
+pub enum Returned {
+    Nothing,
+    Value(Expression),
+    Pointer(Pointer),
+}
+
+/// What the head of a `for` begins with.
+#[derive(Debug, Drop)]
+pub enum ForStart {
+    Nothing,
+    Declaration(Declaration),
+    Simple(SimpleStatement),
+}
+
+/// `{`, declarations and statements, `}`.
+#[cycle(statements)]
+#[derive(Debug, Drop)]
+pub struct Block {
+    pub items: Items<BlockItem>,
+    /// Of the closing brace.
+    pub close: usize,
+}
+
+#[cycle(statements)]
+#[derive(Debug, Drop)]
+pub enum BlockItem {
+    Declaration(Declaration),
+    Statement(Statement),
+}
+
+/// The numbers are the places of the first words, `if` and so on.
+#[cycle(statements)]
+#[derive(Debug, Drop)]
+pub enum Statement {
+    Block(Block),
+    /// `;`
+    Empty,
+    Simple(SimpleStatement),
+    Break(usize),
+    Continue(usize),
+    /// The condition, the statement where it holds, and the one behind `else`.
+    If(Expression, Boxed<Statement>, Option<Boxed<Statement>>),
+    While(Expression, Boxed<Statement>),
+    /// `do` the statement `while` the condition holds.
+    DoWhile(Boxed<Statement>, Expression),
+    /// The start, the condition, the step and the body.
+    For(ForStart, Option<Expression>, Option<SimpleStatement>, Boxed<Statement>),
+    Return(Returned, usize),
+}

@@ -1,0 +1,10 @@
+pub mod Growth
+pub mod Tables
+pub mod Chains
+pub mod Arbitration
+pub mod Widths
+pub mod Within
+pub mod Stepping
+pub mod Staged
+pub mod Running
+pub mod States

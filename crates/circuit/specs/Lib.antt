@@ -1,0 +1,7 @@
+pub mod Rows
+pub mod Modules
+pub mod Arbitration
+pub mod Machines
+pub mod Nets
+pub mod Wiring
+pub mod Staging

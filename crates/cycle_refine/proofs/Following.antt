@@ -1,0 +1,128 @@
+-- The net follows the program where its machine does.
+use Rattle.std.proofs.Common.{◌≡◌, ◌⊎◌, ℕ, ◌+◌, ◌/◌, ◌<◌, ◌≤◌, Bool, true, false, List, [], length, take, Some, slice_get, refl, sym, ap, ◌∙◌, subst, inl, inr, arith}
+use Rattle.std.specs.Prelude.{◌↔◌}
+use Rattle.std.specs.List.{All}
+use Rattle.std.proofs.lemmas.Option.{slice_get_within, get_or_from_slice_get}
+use Rattle.std.proofs.lemmas.List.Elements.{All-nil, All-take, All-get_or}
+use Rattle.hls_ints.specs.Residues.{bit_of}
+use Rattle.c_program.specs.Tree.{GlobalVariable, Program}
+use Rattle.c_program.specs.Weight.{bound}
+use Rattle.block_ir.specs.declared.code.ThreadCode.{ThreadCode}
+use Rattle.block_ir.specs.declared.plan.Planned.{Planned}
+use Rattle.netlist.specs.declared.netlist.Module.{Module}
+use Rattle.verilog_meaning.specs.Cycles.{Valuation, Choice, IsState, Reaches, ShowsDone, initial_state}
+use Rattle.verilog_meaning.specs.Threads.{IsChoice, Counted, all_enabled}
+use Rattle.verilog_meaning.specs.Follows.{Lively}
+use Rattle.verilog_meaning.specs.Follows as net
+use Rattle.circuit.specs.Wiring.{start}
+use Rattle.circuit.proofs.Staged.{staged_settles}
+use Rattle.leaf_machine.specs.Leaves.{LeafPorts, leaf_thread}
+use Rattle.print_core.specs.declared.printer.Shape.{Shape}
+use Rattle.good_verilog.specs.Program.{seen_of}
+use Rattle.program_machine.specs.Following as machine
+use Rattle.program_machine.specs.Following.{threads_of, cores_of, Machine, machine_after, printed_after, IsStill, enabled_count, MachineFollows}
+use Rattle.cycle_refine.specs.Whole.{IsWhole, NetFollows}
+use Rattle.cycle_refine.proofs.Determined.{done_is, shown_is, determined}
+use Rattle.cycle_refine.proofs.Cycles.{Shows, initial_shows, run_shows, initial_is_state, run_state}
+use Rattle.cycle_refine.proofs.Slots.{changes, rests}
+use Rattle.cycle_refine.proofs.Counting.{counted}
+
+bit_set : (b : Bool) → 1 ≡ bit_of b → b ≡ true
+bit_set true e = refl
+bit_set false e = absurd (omega arith)
+
+in_last : {A B C D : Type 0} → A ⊎ (B ⊎ C) → (C → D) → A ⊎ (B ⊎ D)
+in_last (inl a) f = inl a
+in_last (inr (inl b)) f = inr (inl b)
+in_last (inr (inr c)) f = inr (inr (f c))
+
+no_global : (P : Program) → P.globals ≡ [] → (k : ℕ) (v : GlobalVariable) → slice_get P.globals k ≡ Some v → ⊥
+no_global P none k v e =
+    let past : slice_get [] k ≡ Some v = sym (ap (λ (vs : List GlobalVariable). slice_get vs k) none) ∙ e in
+    absurd cc
+
+module _ (P : Program) (code : ThreadCode) (plan : Planned) (m : Module) (inputs : ℕ) (leaf : LeafPorts) (shape : Shape) (modules : List Module) (top : Module)
+    (whole : IsWhole P code plan m inputs leaf shape modules top) where
+  -- done is shown exactly where the machine is done
+  done_both : (h : Valuation) (s : Machine P m leaf shape) → IsState modules top h → Shows P code plan m inputs leaf shape modules top whole h s
+      → ShowsDone modules top h (all_enabled 1 []) 1 ↔ ((leaf_thread m leaf).is_done (s.slots 0) ≡ true)
+  done_both h s state shown =
+      let before = shown.slots 0 (omega arith) in (
+        λ shows. bit_set ((leaf_thread m leaf).is_done (s.slots 0))
+            (shown_is P code plan m inputs leaf shape modules top whole h (all_enabled 1 []) 1 shows (s.slots 0) before),
+        λ done.
+            let c = all_enabled 1 [] in
+            let choice : IsChoice 1 c = ((let l : 1 < 2 = omega arith in l), All-nil (λ p. p < 16)) in
+            let v = staged_settles modules top whole.stages whole.staged h c state (whole.fits c choice) in
+            record {
+              place = whole.done.place;
+              signal = whole.done.signal;
+              is = whole.done.is;
+              through = v.0;
+              settled = v.1;
+              number = done_is P code plan m inputs leaf shape modules top whole h v.0 c v.1 (s.slots 0) before ∙ ap bit_of done;
+            },
+      )
+
+  module _ (choices : List Choice) (all : All (IsChoice 1) choices) (follows : machine.Follows P m leaf shape choices) where
+    module _ (n : ℕ) (h : Valuation) (out : List ℕ) (reaches : Reaches modules top (take n choices) h out) where
+      shown : Shows P code plan m inputs leaf shape modules top whole h (machine_after P m leaf shape (take n choices))
+      shown = (run_shows P code plan m inputs leaf shape modules top whole (take n choices) h out reaches).0
+
+      state_here : IsState modules top h
+      state_here =
+          run_state P code plan m inputs leaf shape modules top whole (take n choices) (initial_state modules top) h out reaches
+          (initial_is_state P code plan m inputs leaf shape modules top whole)
+
+      -- the counted cycles so far are the choices that enable the thread
+      count_is : (k : ℕ) → Counted modules top 1 (initial_state modules top) (take n choices) k → k ≡ enabled_count P m leaf shape (take n choices)
+      count_is k count =
+          counted P code plan m inputs leaf shape modules top whole (initial_state modules top) (take n choices) k count
+          (start 1 1 (threads_of P m leaf shape) (cores_of P m leaf shape)) (All-take (IsChoice 1) n choices all)
+          (initial_is_state P code plan m inputs leaf shape modules top whole) (initial_shows P code plan m inputs leaf shape modules top whole)
+
+      -- where no enabled step is still, every choice of all threads would change the slot
+      lively : ((c : Choice) → c.mask ≡ 1 → IsStill P m leaf shape (machine_after P m leaf shape (take n choices)) c → ⊥) → Lively modules top 1 (seen_of P) h
+      lively moves prefs g written within cycle =
+          changes P code plan m inputs leaf shape modules top whole h g (all_enabled 1 prefs) written (machine_after P m leaf shape (take n choices)) cycle shown
+          (moves (all_enabled 1 prefs) refl)
+
+      matches_here : machine.Matches P m leaf shape (machine_after P m leaf shape (take n choices)) (printed_after P m leaf shape (take n choices)) (take (follows.steps n) follows.interleaving)
+          (enabled_count P m leaf shape (take n choices)) → net.Matches modules top 1 (seen_of P) (take n choices) h out (take (follows.steps n) follows.interleaving)
+      matches_here q =
+          let both = done_both h (machine_after P m leaf shape (take n choices)) state_here shown in
+          record {
+            state = q.state;
+            after = q.after_;
+            printed = (run_shows P code plan m inputs leaf shape modules top whole (take n choices) h out reaches).1 ∙ q.printed;
+            done = (λ shows. q.done.0 (both.0 shows), λ ended. both.1 (q.done.1 ended));
+            globals = λ ended x j word bits. absurd (no_global P whole.built.single.globals bits.number bits.global bits.declared);
+            progress = in_last q.progress
+                (λ moves. (lively moves.0, λ k count. subst (λ z. z / bound P ≤ length (take (follows.steps n) follows.interleaving) + 1) (sym (count_is k count)) moves.1));
+          }
+
+    net_follows_it : net.Follows modules top 1 (seen_of P) choices
+    net_follows_it = record {
+      interleaving = follows.interleaving;
+      steps = follows.steps;
+      rises = follows.rises;
+      rests = λ n c h g out written at reaches cycle never.
+          follows.rests n c at
+          (rests P code plan m inputs leaf shape modules top whole h g c written (machine_after P m leaf shape (take n choices)) cycle (shown n h out reaches) never);
+      matches = λ n h out l reaches. matches_here n h out reaches (follows.matches n l);
+    }
+
+-- a mask of one thread is at most 1
+masks : (choices : List Choice) → All (IsChoice 1) choices → (n : ℕ) (c : Choice) → slice_get choices n ≡ Some c → c.mask ≤ 1
+masks choices all n c e =
+    let choice : IsChoice 1 c = subst (IsChoice 1) (get_or_from_slice_get choices n c c e) (All-get_or (IsChoice 1) choices n c (slice_get_within choices n c e) all) in
+    let low : c.mask < 2 = choice.0 in
+    omega arith
+
+pub net_follows : MachineFollows → NetFollows
+net_follows law P code plan m inputs leaf shape modules top whole = (
+  determined P code plan m inputs leaf shape modules top whole,
+  λ good choices all.
+      net_follows_it P code plan m inputs leaf shape modules top whole choices all
+      (law P code plan m inputs leaf shape whole.built good choices (masks choices all)),
+)

@@ -1,0 +1,6 @@
+pub mod Agreeing
+pub mod Determined
+pub mod Cycles
+pub mod Slots
+pub mod Counting
+pub mod Following

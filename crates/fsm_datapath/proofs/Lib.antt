@@ -1,0 +1,5 @@
+pub mod Seeing
+pub mod Working
+pub mod Walking
+pub mod Chaining
+pub mod Leaving

@@ -1,0 +1,4 @@
+mod Marking
+mod Sums
+mod Stages
+mod Keeps

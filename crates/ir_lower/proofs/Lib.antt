@@ -1,0 +1,17 @@
+mod Operators
+mod Conversions
+mod Running
+mod Values
+mod Cells
+mod Stores
+mod Steps
+mod Finals
+mod Puts
+mod Words
+mod Shapes
+mod Resuming
+mod Leading
+mod LocalHomes
+mod Whole
+mod Sizes
+mod Straightness

@@ -1,0 +1,127 @@
+-- Each local has a home of its own.
+use Rattle.std.proofs.Common.{◌≡◌, ℕ, zero, suc, ◌+◌, ◌<◌, ◌≤◌, Bool, true, false, not, nat_eq, List, [], ◌∷◌, ◌++◌, length, Option, Some, None, refl, sym, ap, ◌∙◌, subst, ⊎_elim, arith, append_assoc, append-nil, length-append, sum_by, cond}
+use Rattle.std.specs.Prelude.{count_by, slice_get}
+use Rattle.std.proofs.lemmas.List.Sums.{sum_by-append}
+use Rattle.std.proofs.lemmas.Bool.Decides.{eqb_tells}
+use Rattle.c_program.specs.declared.tree.LocalVariable.{LocalVariable}
+use Rattle.ir_lower.specs.declared.homes.Home.{Home}
+use Rattle.ir_lower.specs.declared.homes.Home.TheVariants.{Variable, Array}
+use Rattle.ir_lower.specs.declared.homes.Homes.{Homes}
+use Rattle.ir_lower.specs.Locals.{is_scalar, is_array, home_in, homes_after, AreHomesOf}
+use Rattle.ir_lower.proofs.Words.{sum_cons}
+use Rattle.ir_lower.specs.Resuming.{IsHomeOf, AreHomes}
+
+count_last : (p : LocalVariable → Bool) (before : List LocalVariable) (l : LocalVariable) (b : Bool) → p l ≡ b → count_by p (before ++ l ∷ []) ≡ count_by p before + cond b 1 0
+count_last p before l b e =
+    let all : count_by p (before ++ l ∷ []) ≡ count_by p before + (0 + cond (p l) 1 0) = sum_by-append (λ x. cond (p x) 1 0) before (l ∷ []) in
+    let this : cond {A = ℕ} (p l) 1 0 ≡ cond b 1 0 = ap (λ c. cond c 1 0) e in
+    omega (arith, all, this)
+
+pub homes_append : (before xs : List LocalVariable) (l : LocalVariable) → homes_after before (xs ++ l ∷ []) ≡ homes_after before xs ++ home_in (is_scalar l) (before ++ xs) ∷ []
+homes_append before [] l = ap (λ bs. home_in (is_scalar l) bs ∷ []) (sym (append-nil before))
+homes_append before (x ∷ xs) l =
+    ap (λ hs. home_in (is_scalar x) before ∷ hs)
+    (homes_append (before ++ x ∷ []) xs l ∙ ap (λ bs. homes_after (before ++ x ∷ []) xs ++ home_in (is_scalar l) bs ∷ []) (append_assoc before (x ∷ []) xs))
+
+-- one more local
+pub scalar_more : (locals : List LocalVariable) (l : LocalVariable) (h h' : Homes) → is_scalar l ≡ true → AreHomesOf locals h → h'.homes ≡ h.homes ++ Variable (length h.variables) ∷ [] →
+    length h'.variables ≡ suc (length h.variables) → length h'.arrays ≡ length h.arrays → AreHomesOf (locals ++ l ∷ []) h'
+scalar_more locals l h h' is are homes variables arrays = record {
+  homes =
+      homes ∙ ap (λ n. h.homes ++ Variable n ∷ []) are.variables ∙ ap (λ hs. hs ++ Variable (count_by is_scalar locals) ∷ []) are.homes
+      ∙ sym (homes_append [] locals l ∙ ap (λ b. homes_after [] locals ++ home_in b locals ∷ []) is);
+  variables = (let e = count_last is_scalar locals l true is in let v = are.variables in omega (arith, e, v, variables));
+  arrays = (let e = count_last is_array locals l false (ap not is) in let v = are.arrays in omega (arith, e, v, arrays));
+}
+
+pub array_more : (locals : List LocalVariable) (l : LocalVariable) (h h' : Homes) → is_scalar l ≡ false → AreHomesOf locals h → h'.homes ≡ h.homes ++ Array (length h.arrays) ∷ [] →
+    length h'.variables ≡ length h.variables → length h'.arrays ≡ suc (length h.arrays) → AreHomesOf (locals ++ l ∷ []) h'
+array_more locals l h h' is are homes variables arrays = record {
+  homes =
+      homes ∙ ap (λ n. h.homes ++ Array n ∷ []) are.arrays ∙ ap (λ hs. hs ++ Array (count_by is_array locals) ∷ []) are.homes
+      ∙ sym (homes_append [] locals l ∙ ap (λ b. homes_after [] locals ++ home_in b locals ∷ []) is);
+  variables = (let e = count_last is_scalar locals l false is in let v = are.variables in omega (arith, e, v, variables));
+  arrays = (let e = count_last is_array locals l true (ap not is) in let v = are.arrays in omega (arith, e, v, arrays));
+}
+
+-- numbers go up
+variable_least : (before ls : List LocalVariable) (x n : ℕ) → slice_get (homes_after before ls) x ≡ Some (Variable n) → count_by is_scalar before ≤ n
+variable_least before [] x n e = cc
+variable_least before (l ∷ ls) zero n e = by (is_scalar l) e
+  where
+    by : (b : Bool) → Some (home_in b before) ≡ Some (Variable n) → count_by is_scalar before ≤ n
+    by true q = (let same : count_by is_scalar before ≡ n = cc in omega arith)
+    by false q = cc
+variable_least before (l ∷ ls) (suc x) n e =
+    let rest = variable_least (before ++ l ∷ []) ls x n e in
+    let more = sum_by-append (λ (z : LocalVariable). cond (is_scalar z) 1 0) before (l ∷ []) in
+    omega (arith, rest, more)
+
+array_least : (before ls : List LocalVariable) (x n : ℕ) → slice_get (homes_after before ls) x ≡ Some (Array n) → count_by is_array before ≤ n
+array_least before [] x n e = cc
+array_least before (l ∷ ls) zero n e = by (is_scalar l) e
+  where
+    by : (b : Bool) → Some (home_in b before) ≡ Some (Array n) → count_by is_array before ≤ n
+    by true q = cc
+    by false q = (let same : count_by is_array before ≡ n = cc in omega arith)
+array_least before (l ∷ ls) (suc x) n e =
+    let rest = array_least (before ++ l ∷ []) ls x n e in
+    let more = sum_by-append (λ (z : LocalVariable). cond (is_array z) 1 0) before (l ∷ []) in
+    omega (arith, rest, more)
+
+variable_alone : (before ls : List LocalVariable) (l : LocalVariable) (y n : ℕ) (b : Bool) → is_scalar l ≡ b → Some (home_in b before) ≡ Some (Variable n) → slice_get (homes_after (before ++ l ∷ []) ls) y ≡ Some (Variable n) → ⊥
+variable_alone before ls l y n true is e q =
+    let same : count_by is_scalar before ≡ n = cc in
+    let least = variable_least (before ++ l ∷ []) ls y n q in
+    let more = count_last is_scalar before l true is in
+    omega (arith, least, more)
+variable_alone before ls l y n false is e q = cc
+
+array_alone : (before ls : List LocalVariable) (l : LocalVariable) (y n : ℕ) (b : Bool) → is_scalar l ≡ b → Some (home_in b before) ≡ Some (Array n) → slice_get (homes_after (before ++ l ∷ []) ls) y ≡ Some (Array n) → ⊥
+array_alone before ls l y n true is e q = cc
+array_alone before ls l y n false is e q =
+    let same : count_by is_array before ≡ n = cc in
+    let least = array_least (before ++ l ∷ []) ls y n q in
+    let more = count_last is_array before l true (ap not is) in
+    omega (arith, least, more)
+
+variables_apart : (before ls : List LocalVariable) (x y n : ℕ) → slice_get (homes_after before ls) x ≡ Some (Variable n) → slice_get (homes_after before ls) y ≡ Some (Variable n) → x ≡ y
+variables_apart before [] x y n e q = cc
+variables_apart before (l ∷ ls) zero zero n e q = refl
+variables_apart before (l ∷ ls) zero (suc y) n e q = absurd (variable_alone before ls l y n (is_scalar l) refl e q)
+variables_apart before (l ∷ ls) (suc x) zero n e q = absurd (variable_alone before ls l x n (is_scalar l) refl q e)
+variables_apart before (l ∷ ls) (suc x) (suc y) n e q = ap suc (variables_apart (before ++ l ∷ []) ls x y n e q)
+
+arrays_apart : (before ls : List LocalVariable) (x y n : ℕ) → slice_get (homes_after before ls) x ≡ Some (Array n) → slice_get (homes_after before ls) y ≡ Some (Array n) → x ≡ y
+arrays_apart before [] x y n e q = cc
+arrays_apart before (l ∷ ls) zero zero n e q = refl
+arrays_apart before (l ∷ ls) zero (suc y) n e q = absurd (array_alone before ls l y n (is_scalar l) refl e q)
+arrays_apart before (l ∷ ls) (suc x) zero n e q = absurd (array_alone before ls l x n (is_scalar l) refl q e)
+arrays_apart before (l ∷ ls) (suc x) (suc y) n e q = ap suc (arrays_apart (before ++ l ∷ []) ls x y n e q)
+
+each_home : (before ls : List LocalVariable) (size x : ℕ) (l : LocalVariable) → count_by is_scalar (before ++ ls) ≤ size → slice_get ls x ≡ Some l → IsHomeOf size l (slice_get (homes_after before ls) x)
+each_home before [] size x l room at = absurd cc
+each_home before (d ∷ ls) size zero l room at =
+    let same : d ≡ l = cc in
+    subst (λ z. IsHomeOf size z (Some (home_in (is_scalar d) before))) same (by (is_scalar d) refl)
+  where
+    by : (b : Bool) → is_scalar d ≡ b → IsHomeOf size d (Some (home_in b before))
+    by true is =
+        let one : d.length ≡ 1 = ⊎_elim (λ t. t.1) (λ t. absurd (let wrong : true ≡ false = sym is ∙ t.0 in cc)) (eqb_tells d.length 1) in
+        let more = sum_by-append (λ (z : LocalVariable). cond (is_scalar z) 1 0) before (d ∷ ls) in
+        let this : cond {A = ℕ} (is_scalar d) 1 0 ≡ 1 = ap (λ b. cond b 1 0) is in
+        let next = sum_cons (λ (z : LocalVariable). cond (is_scalar z) 1 0) d ls in
+        (one, omega (arith, more, next, this, room))
+    by false is = tt
+each_home before (d ∷ ls) size (suc x) l room at =
+    each_home (before ++ d ∷ []) ls size x l (let e = ap (count_by is_scalar) (append_assoc before (d ∷ []) ls) in omega (arith, e, room)) at
+
+pub are_homes : (locals : List LocalVariable) (h : Homes) → AreHomesOf locals h → AreHomes locals h.homes (length h.variables)
+are_homes locals h are = subst (λ hs. AreHomes locals hs (length h.variables)) (sym are.homes) (record {
+  each = λ x l at. each_home [] locals (length h.variables) x l (let e = are.variables in omega arith) at;
+  variables = λ x y n e q. variables_apart [] locals x y n e q;
+  arrays = λ x y n e q. arrays_apart [] locals x y n e q;
+})
+
+pub one_longer : {A : Type 0} (xs ys : List A) (x : A) → ys ≡ xs ++ x ∷ [] → length ys ≡ suc (length xs)
+one_longer xs ys x e = let l = ap length e ∙ length-append xs (x ∷ []) in omega (arith, l)

@@ -1,0 +1,23 @@
+use Rattle.std.proofs.Common.{ap, sym, ◌∙◌}
+use Rattle.c_program.specs.Plain.{expression_of}
+use Rattle.c_program.specs.Tree.{Expression}
+use Rattle.ir_lower.proofs.Values.{unary_at, binary_at}
+use Rattle.ir_lower.proofs.expressions.+lower_expression.Goals as goal
+
+pub returns-in_ok-value-in-Unary-2 : goal.returns-in_ok-value-in-Unary-2
+returns-in_ok-value-in-Unary-2 t c =
+    unary_at c.args.homes.now (expression_of c.deref-in-Unary.result.now) (expression_of c.args.expression.now) c.in-Unary.operator c.in-Unary.ty c.expression_type.result
+    c.args.block.now c.lower_expression-in-Unary.new.block c.put.new.self c.in_ok-operand-in-Unary.operand c.in_ok-value-in-Unary-2.value
+    (ap expression_of c.in-Unary.is ∙ ap (λ z. Expression.Unary c.in-Unary.operator c.in-Unary.ty (expression_of z)) (sym c.deref-in-Unary.ensures))
+    c.in_ok-operand-in-Unary.ensures c.in_ok-value-in-Unary-2.ensures.block c.in_ok-value-in-Unary-2.ensures.value
+
+pub returns-in_ok-value-in-Binary : goal.returns-in_ok-value-in-Binary
+returns-in_ok-value-in-Binary t c =
+    binary_at c.args.homes.now (expression_of c.deref-in-Binary.result.now) (expression_of c.deref-in-Binary-2.result.now) (expression_of c.args.expression.now)
+    c.in-Binary.operator c.in-Binary.ty c.expression_type-in-Binary.result
+    c.args.block.now c.lower_expression-in-Binary.new.block c.lower_expression-in-Binary-2.new.block c.put-in-Binary.new.self
+    c.in_ok-left-in-Binary.left c.in_ok-right-in-Binary.right c.in_ok-value-in-Binary.value
+    (ap expression_of c.in-Binary.is
+    ∙ ap (λ z. Expression.Binary c.in-Binary.operator c.in-Binary.ty (expression_of z) (expression_of c.in-Binary.right.value)) (sym c.deref-in-Binary.ensures)
+    ∙ ap (λ z. Expression.Binary c.in-Binary.operator c.in-Binary.ty (expression_of c.deref-in-Binary.result.now) (expression_of z)) (sym c.deref-in-Binary-2.ensures))
+    c.in_ok-left-in-Binary.ensures c.in_ok-right-in-Binary.ensures c.in_ok-value-in-Binary.ensures.block c.in_ok-value-in-Binary.ensures.value

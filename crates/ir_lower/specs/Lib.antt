@@ -1,0 +1,10 @@
+pub mod Taken
+pub mod Printing
+pub mod Following
+pub mod Resuming
+pub mod Locals
+pub mod Needs
+pub mod Evaluating
+pub mod Arithmetic
+pub mod Assigning
+pub mod Closing

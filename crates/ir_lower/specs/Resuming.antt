@@ -1,0 +1,179 @@
+-- Code in the making, and what of a thread's steps its whole does from there on.
+use Rattle.std.specs.Prelude.{◌≡◌, ℕ, ◌+◌, ◌<◌, ◌≤◌, Bool, true, false, List, [], ◌∷◌, ◌++◌, length, map, ℤ, Option, Some, None, slice_get, ◌⊎◌}
+use Rattle.c_program.specs.declared.tree.LocalVariable.{LocalVariable}
+use Rattle.c_program.specs.Tree.{Piece, Statement, Function, Program}
+use Rattle.c_program.specs.Limits.{print_count}
+use Rattle.c_program.specs.Resolved.{IsStatement}
+use Rattle.thread_semantics.specs.Memory.{Memory, element}
+use Rattle.thread_semantics.specs.Work.{Work, Do, settled, Onward}
+use Rattle.thread_semantics.specs.State.{Frame}
+use Rattle.block_ir.specs.declared.block.Operation.{Operation}
+use Rattle.block_ir.specs.declared.block.Next.TheVariants.{Jump}
+use Rattle.block_ir.specs.declared.block.Block.{Block}
+use Rattle.block_ir.specs.declared.code.Act.{Act}
+use Rattle.block_ir.specs.declared.code.Act.TheVariants.{Return}
+use Rattle.block_ir.specs.declared.code.Stage.{Stage}
+use Rattle.block_ir.specs.declared.code.Stage.TheVariants as stage
+use Rattle.block_ir.specs.Run.{Cells, Access, Running, operations_run, variables_after, stage_after}
+use Rattle.ir_lower.specs.declared.homes.Home.{Home}
+use Rattle.ir_lower.specs.declared.homes.Home.TheVariants as home
+use Rattle.ir_lower.specs.declared.homes.Homes.{Homes}
+use Rattle.ir_lower.specs.declared.open_block.OpenBlock.{OpenBlock}
+use Rattle.ir_lower.specs.declared.straight.StraightCode.{StraightCode}
+use Rattle.ir_lower.specs.Needs.{AreBelow}
+use Rattle.ir_lower.specs.Evaluating.{Holds}
+use Rattle.ir_lower.specs.Closing.{HasNoted, IsFresh, Closes}
+use Rattle.ir_lower.specs.Printing.{held_by}
+use Rattle.ir_lower.specs.Following.{AfterMoves, formats_of, print_formats, Follows}
+
+-- Locals and their homes.
+
+abbrev pub IsHomeOf : ℕ → LocalVariable → Option Home → Type 0
+IsHomeOf size l None = ⊥
+IsHomeOf size l (Some (home.Variable n)) = (l.length ≡ 1) × (n < size)
+IsHomeOf size l (Some (home.Array a)) = Unit {0}
+
+-- each local has a home of its own, those of one element a variable below size
+pub record AreHomes (locals : List LocalVariable) (homes : List Home) (size : ℕ) : Type 0 where
+  pub each : (x : ℕ) (l : LocalVariable) → slice_get locals x ≡ Some l → IsHomeOf size l (slice_get homes x)
+  pub variables : (x y n : ℕ) → slice_get homes x ≡ Some (home.Variable n) → slice_get homes y ≡ Some (home.Variable n) → x ≡ y
+  pub arrays : (x y a : ℕ) → slice_get homes x ≡ Some (home.Array a) → slice_get homes y ≡ Some (home.Array a) → x ≡ y
+
+-- a call's locals have as many elements as they were declared with
+abbrev pub HasShape : List LocalVariable → List (List (Option ℤ)) → Type 0
+HasShape locals rows = map length rows ≡ map (λ (l : LocalVariable). l.length) locals
+
+-- what stands for element j of local x between two blocks
+abbrev pub home_value : Option Home → (ℕ → ℤ) → Cells → ℕ → ℕ → ℤ
+home_value (Some (home.Array a)) variables arrays x j = arrays a j
+home_value (Some (home.Variable n)) variables arrays x j = variables n
+home_value None variables arrays x j = variables x
+
+abbrev pub HoldLocals : List Home → (ℕ → ℤ) → Cells → List (List (Option ℤ)) → Type 0
+HoldLocals homes variables arrays locals =
+    (x j : ℕ) (v : ℤ) → element locals x j ≡ Some (Some v) → home_value (slice_get homes x) variables arrays x j ≡ v
+
+-- a function of a program, and the stages of its whole code
+pub record Setting : Type 0 where
+  pub program : Program
+  pub function : Function
+  pub stages : List Stage
+
+-- what the variables hold of the values that a step kept for the next one
+abbrev pub Keeping : Type 1
+Keeping = (ℕ → ℤ) → List ℤ → Type 0
+
+abbrev pub nothing_kept : Keeping
+nothing_kept variables kept = Unit {0}
+
+module _ (S : Setting) (homes : List Home) (Kept : Keeping) where
+  -- a run of an open block so far stands for a call
+  pub record IsMid (b : OpenBlock) (variables : ℕ → ℤ) (r : Running) (f : Frame) (globals : List (List ℤ)) : Type 0 where
+    pub shape : HasShape S.function.locals f.locals
+    pub values : length r.values ≡ length b.operations
+    pub holds : Holds homes b.current variables (record { locals = f.locals; globals = globals }) r
+    pub kept : Kept (held_by b.current variables r.values) f.kept
+
+  -- what the rest of a block's run comes to, and the j stages after it
+  abbrev pub Comes : Block → ℕ → (ℕ → ℤ) → Running → List Frame → List Access → Type 0
+  Comes b j variables s frames made =
+      (s.accesses ≡ made) × Follows S.program S.stages j (stage_after b variables s) (variables_after b variables s) s.arrays frames
+
+  -- the open block is the beginning of stage l, whose rest does the steps of a call with this work; and so on for fewer
+  -- than n stages
+  pub record InBlock (n l : ℕ) (b : OpenBlock) (k : List Work) : Type 0 where
+    pub block : Block
+    pub at : slice_get S.stages l ≡ Some (stage.Run block)
+    pub rest : List Operation
+    pub operations : block.operations ≡ b.operations ++ rest
+    pub count : ℕ
+    pub steps : block.steps ≡ b.steps + count
+    pub busy : 0 < block.steps
+    pub goes : (j : ℕ) → j < n → (variables : ℕ → ℤ) (r : Running) (f : Frame) (globals : List (List ℤ)) → f.work ≡ k → IsMid b variables r f globals →
+        AfterMoves S.program count (f ∷ []) globals r.accesses (λ frames made. Comes block j variables (operations_run variables rest r) frames made)
+
+  -- the n stages from l on do the steps of a call with this work
+  abbrev pub AtFresh : ℕ → ℕ → List Work → Type 0
+  AtFresh n l k =
+      (variables : ℕ → ℤ) (arrays : Cells) (f : Frame) → f.work ≡ k → HasShape S.function.locals f.locals → HoldLocals homes variables arrays f.locals →
+      Kept variables f.kept → Follows S.program S.stages n l variables arrays (f ∷ [])
+
+  -- the place at hand is one where a call with this work goes on
+  pub record Resumes (n : ℕ) (c : StraightCode) (k : List Work) : Type 0 where
+    pub fresh : c.block.steps ≡ 0 → AtFresh n (length c.stages) k
+    pub busy : 0 < c.block.steps → InBlock n (length c.stages) c.block k
+
+  abbrev pub ResumesUpTo : ℕ → StraightCode → List Work → Type 0
+  ResumesUpTo n c k = (j : ℕ) → j ≤ n → Resumes j c k
+
+-- How the code grows.
+
+-- the block at hand, in code with so many variables and 4 for words
+pub record IsSound (variables : ℕ) (b : OpenBlock) : Type 0 where
+  pub size : length b.current ≡ variables + 4
+  pub noted : HasNoted b
+  pub below : AreBelow (length b.operations) b.current
+  pub fresh : b.steps ≡ 0 → IsFresh (variables + 4) b
+
+pub record PushesBlock (old new : StraightCode) : Type 0 where
+  pub busy : 0 < old.block.steps
+  pub block : Block
+  pub closes : Closes old.block (Jump (length old.stages + 1)) block
+  pub stages : new.stages ≡ old.stages ++ stage.Run block ∷ []
+  pub left : HasNoted old.block → IsFresh (length old.block.current) new.block
+  pub site : new.site ≡ old.site
+
+pub record PushesNothing (old new : StraightCode) : Type 0 where
+  pub idle : old.block.steps ≡ 0
+  pub same : new ≡ old
+
+-- the block at hand is a stage, unless it does nothing yet
+abbrev pub EndsBlock : StraightCode → StraightCode → Type 0
+EndsBlock old new = PushesNothing old new ⊎ PushesBlock old new
+
+abbrev pub with_stage : StraightCode → Stage → StraightCode
+with_stage c s = record c { stages = c.stages ++ s ∷ [] }
+
+-- and then this act is one, which leads to the stage after it
+pub record PushesAct (act : Act) (old new : StraightCode) : Type 0 where
+  pub mid : StraightCode
+  pub ends : EndsBlock old mid
+  pub acted : new ≡ with_stage mid (stage.Act act (length mid.stages + 1))
+
+pub record PushesReturn (old new : StraightCode) : Type 0 where
+  pub mid : StraightCode
+  pub ends : EndsBlock old mid
+  pub acted : new ≡ with_stage mid (stage.Act Return 0)
+
+pub record IsPart (stages all : List Stage) : Type 0 where
+  pub more : List Stage
+  pub is : all ≡ stages ++ more
+
+-- the printf calls of the statement are those of the program from that number on
+pub record HasSites (P : Program) (s : Statement) (site : ℕ) : Type 0 where
+  pub before : List (List Piece)
+  pub after : List (List Piece)
+  pub all : print_formats P ≡ before ++ (formats_of s ++ after)
+  pub number : site ≡ length before
+
+-- the code of a statement was added; where it goes on past it, the place after it is one where the work after it goes on
+pub record Leads (homes : Homes) (s : Statement) (old new : StraightCode) (goes : Bool) : Type 0 where
+  pub more : List Stage
+  pub stages : new.stages ≡ old.stages ++ more
+  pub sound : IsSound (length homes.variables) old.block → IsSound (length homes.variables) new.block
+  pub site : goes ≡ true → new.site ≡ old.site + print_count s
+  pub leads : (S : Setting) (n : ℕ) (k : List Work) → AreHomes S.function.locals homes.homes (length homes.variables) →
+      IsStatement S.program S.function false s → IsSound (length homes.variables) old.block → IsPart new.stages S.stages → HasSites S.program s old.site →
+      (goes ≡ true → ResumesUpTo S homes.homes nothing_kept n new (settled Onward k)) → ResumesUpTo S homes.homes nothing_kept n old (settled Onward (Do s ∷ k))
+
+-- nothing yet, in code with so many variables
+pub record IsNew (variables site : ℕ) (c : StraightCode) : Type 0 where
+  pub block : IsFresh (variables + 4) c.block
+  pub stages : c.stages ≡ []
+  pub site_ : c.site ≡ site
+
+-- the stages do the steps of a call that begins with the statement and does no more
+pub record AreStages (homes : Homes) (s : Statement) (site : ℕ) (stages : List Stage) : Type 0 where
+  pub follow : (P : Program) (f : Function) → AreHomes f.locals homes.homes (length homes.variables) → IsStatement P f false s → HasSites P s site →
+      (n : ℕ) (variables : ℕ → ℤ) (arrays : Cells) (g : Frame) → g.work ≡ settled Onward (Do s ∷ []) → HasShape f.locals g.locals →
+      HoldLocals homes.homes variables arrays g.locals → Follows P stages n 0 variables arrays (g ∷ [])

@@ -1,0 +1,65 @@
+-- What lowering takes: programs in which main calls no function of the program.
+use Rattle.std.specs.Prelude.{ℕ, Bool, true, false, ◌&&◌, nat_eq, nat_le, List, length, count_by, Option, Some, None, slice_get}
+use Rattle.c_program.specs.Tree.{Expression, RightSide, Piece, Statement, Function, Program}
+use Rattle.c_program.specs.Resolved.{is_conversion}
+
+abbrev pub is_value : RightSide → Bool
+is_value (RightSide.Value expression) = true
+is_value (RightSide.Call function arguments) = false
+
+abbrev pub is_value_or_none : Option RightSide → Bool
+is_value_or_none None = true
+is_value_or_none (Some right) = is_value right
+
+abbrev pub conversion_count : List Piece → ℕ
+conversion_count format = count_by is_conversion format
+
+-- as many values as the format converts, and at most 4
+abbrev pub fits_format : List Piece → List Expression → Bool
+fits_format format arguments = nat_eq (conversion_count format) (length arguments) && nat_le (length arguments) 4
+
+-- a statement, in a loop or not: no call of a function of the program; break and continue in loops alone
+abbrev pub is_taken : Bool → Statement → Bool
+is_taken in_loop (Statement.Sequence first rest) = is_taken in_loop first && is_taken in_loop rest
+is_taken in_loop (Statement.Block body) = is_taken in_loop body
+is_taken in_loop (Statement.Assign offset place right) = is_value right
+is_taken in_loop (Statement.If condition consequent alternative) =
+    is_taken in_loop consequent && is_taken in_loop alternative
+is_taken in_loop (Statement.While condition body) = is_taken true body
+is_taken in_loop (Statement.DoWhile body condition) = is_taken true body
+is_taken in_loop (Statement.For first condition last body) =
+    is_taken false first && (is_taken false last && is_taken true body)
+is_taken in_loop Statement.Break = in_loop
+is_taken in_loop Statement.Continue = in_loop
+is_taken in_loop (Statement.Return offset right) = is_value_or_none right
+is_taken in_loop (Statement.Call offset function arguments) = false
+is_taken in_loop (Statement.Print offset format arguments) = fits_format format arguments
+is_taken in_loop statement = true
+
+abbrev pub is_taken_function : Option Function → Bool
+is_taken_function None = false
+is_taken_function (Some function) = is_taken false function.body
+
+-- no control either, and no pthread call: from its first statement to its last
+abbrev pub is_straight : Statement → Bool
+is_straight (Statement.Sequence first rest) = is_straight first && is_straight rest
+is_straight (Statement.Block body) = is_straight body
+is_straight (Statement.Assign offset place right) = is_value right
+is_straight (Statement.If condition consequent alternative) = false
+is_straight (Statement.While condition body) = false
+is_straight (Statement.DoWhile body condition) = false
+is_straight (Statement.For first condition last body) = false
+is_straight Statement.Break = false
+is_straight Statement.Continue = false
+is_straight (Statement.Return offset right) = is_value_or_none right
+is_straight (Statement.Call offset function arguments) = false
+is_straight (Statement.Print offset format arguments) = fits_format format arguments
+is_straight (Statement.Thread offset call) = false
+is_straight statement = true
+
+abbrev pub is_straight_function : Option Function → Bool
+is_straight_function None = false
+is_straight_function (Some function) = is_straight function.body
+
+abbrev pub is_straight_program : Program → Bool
+is_straight_program P = is_straight_function (slice_get P.functions P.main)

@@ -1,0 +1,172 @@
+// Acts: a step that evaluates their operands, and the act itself.
+
+use crate::expressions::lower_expression;
+use crate::fault::LoweringFault;
+use crate::homes::Home;
+use crate::lowering::Lowering;
+use crate::objects::first_of;
+use crate::operands::plain;
+use crate::printing::{conversions_of, lower_values, word_operands};
+use block_ir::block::Operation;
+use block_ir::code::{Act, ActOperand};
+use block_ir::operand::Source;
+use c_program::tree::{BinaryOperator, Expression, ObjectPlace, Piece, Storage, ThreadCall};
+use hls_ints::CType;
+use std::alloc::Global;
+
+/// An operand of an act: a constant, a variable that holds it, or a value that is put into a variable for it.
+fn lower_operand(
+    alloc: Global,
+    code: &mut Lowering,
+    position: usize,
+    expression: &Expression,
+) -> Result<ActOperand, LoweringFault> {
+    if let Expression::Constant(ty, number) = expression {
+        return Ok(ActOperand::Constant(*ty, *number));
+    }
+    if let Expression::Variable(Storage::Automatic, variable, ty) = expression {
+        if let Some(Home::Variable(home)) = code.homes.get(*variable as usize) {
+            return Ok(ActOperand::Variable(*home, *ty));
+        }
+    }
+    let value = lower_expression(alloc, code.homes.as_slice(), &mut code.block, expression)?;
+    code.act_operand(alloc, position, &value)
+}
+
+/// The number of an object, or of an element of an array of them that begins with that number.
+fn lower_object(
+    alloc: Global,
+    code: &mut Lowering,
+    first: u64,
+    place: &ObjectPlace,
+) -> Result<ActOperand, LoweringFault> {
+    match place {
+        ObjectPlace::Single(_) => Ok(ActOperand::Constant(CType::LONG, i128::from(first))),
+        ObjectPlace::Element(_, _, index) => {
+            let homes = code.homes.as_slice();
+            let left = lower_expression(alloc, homes, &mut code.block, index)?;
+            let right = plain(alloc, Source::Constant(CType::LONG, i128::from(first)));
+            let operation = Operation::Binary {
+                operator: BinaryOperator::Add,
+                ty: CType::LONG,
+                left,
+                right,
+            };
+            let number = code.block.put(alloc, operation, CType::LONG)?;
+            code.act_operand(alloc, 0, &number)
+        }
+    }
+}
+
+fn object_of(place: &ObjectPlace) -> u32 {
+    match place {
+        ObjectPlace::Single(object) | ObjectPlace::Element(object, _, _) => *object,
+    }
+}
+
+fn lower_thread(
+    alloc: Global,
+    code: &mut Lowering,
+    place: &ObjectPlace,
+) -> Result<ActOperand, LoweringFault> {
+    let first = first_of(code.objects.threads.as_slice(), object_of(place));
+    lower_object(alloc, code, first, place)
+}
+
+fn lower_mutex(
+    alloc: Global,
+    code: &mut Lowering,
+    place: &ObjectPlace,
+) -> Result<ActOperand, LoweringFault> {
+    let first = first_of(code.objects.mutexes.as_slice(), object_of(place));
+    lower_object(alloc, code, first, place)
+}
+
+fn lower_barrier(
+    alloc: Global,
+    code: &mut Lowering,
+    place: &ObjectPlace,
+) -> Result<ActOperand, LoweringFault> {
+    let first = first_of(code.objects.barriers.as_slice(), object_of(place));
+    lower_object(alloc, code, first, place)
+}
+
+/// The act of a pthread call, whose operands are at hand after the block.
+fn lower_call(alloc: Global, code: &mut Lowering, call: &ThreadCall) -> Result<Act, LoweringFault> {
+    match call {
+        ThreadCall::Create(thread, _, argument) => {
+            let thread = lower_thread(alloc, code, thread)?;
+            let argument = lower_operand(alloc, code, 1, argument)?;
+            Ok(Act::Create { thread, argument })
+        }
+        ThreadCall::Join(thread) => {
+            let thread = lower_thread(alloc, code, thread)?;
+            Ok(Act::Join { thread })
+        }
+        ThreadCall::MutexInit(mutex) => {
+            let mutex = lower_mutex(alloc, code, mutex)?;
+            Ok(Act::MutexInit { mutex })
+        }
+        ThreadCall::MutexDestroy(mutex) => {
+            let mutex = lower_mutex(alloc, code, mutex)?;
+            Ok(Act::MutexDestroy { mutex })
+        }
+        ThreadCall::MutexLock(mutex) => {
+            let mutex = lower_mutex(alloc, code, mutex)?;
+            Ok(Act::MutexLock { mutex })
+        }
+        ThreadCall::MutexUnlock(mutex) => {
+            let mutex = lower_mutex(alloc, code, mutex)?;
+            Ok(Act::MutexUnlock { mutex })
+        }
+        ThreadCall::BarrierInit(barrier, count) => {
+            let barrier = lower_barrier(alloc, code, barrier)?;
+            let count = lower_operand(alloc, code, 1, count)?;
+            Ok(Act::BarrierInit { barrier, count })
+        }
+        ThreadCall::BarrierDestroy(barrier) => {
+            let barrier = lower_barrier(alloc, code, barrier)?;
+            Ok(Act::BarrierDestroy { barrier })
+        }
+        ThreadCall::BarrierWait(barrier) => {
+            let barrier = lower_barrier(alloc, code, barrier)?;
+            Ok(Act::BarrierWait { barrier })
+        }
+    }
+}
+
+/// A pthread call.
+pub fn lower_thread_call(
+    alloc: Global,
+    code: &mut Lowering,
+    call: &ThreadCall,
+) -> Result<(), LoweringFault> {
+    let act = lower_call(alloc, code, call)?;
+    code.block.step()?;
+    code.act(alloc, act)?;
+    Ok(())
+}
+
+/// A printf with these values, each converted to its conversion's type.
+pub fn lower_print(
+    alloc: Global,
+    code: &mut Lowering,
+    format: &[Piece],
+    arguments: &[Expression],
+) -> Result<(), LoweringFault> {
+    let site = code.next_site()?;
+    let first = code.words(arguments.len())?;
+    let types = conversions_of(alloc, format)?;
+    lower_values(
+        alloc,
+        code.homes.as_slice(),
+        &mut code.block,
+        first,
+        types.as_slice(),
+        arguments,
+    )?;
+    code.block.step()?;
+    let values = word_operands(alloc, first, arguments.len())?;
+    code.act(alloc, Act::Print { site, values })?;
+    Ok(())
+}

@@ -1,0 +1,62 @@
+// The operations of assignments.
+
+ghost use Rattle.std.specs.Prelude.{◌≡◌, IfOk};
+ghost use Rattle.c_program.specs.Plain.{expression_of, place_of};
+ghost use Rattle.thread_semantics.specs.Move.{assignment, update};
+ghost use Rattle.ir_lower.specs.Assigning as assigning;
+
+use crate::expressions::lower_expression;
+use crate::fault::LoweringFault;
+use crate::homes::Home;
+use crate::open_block::OpenBlock;
+use crate::places::{load, lower_place, store};
+use block_ir::block::Operation;
+use c_program::tree::{BinaryOperator, Expression, Place};
+use hls_ints::CType;
+use std::alloc::Global;
+
+/// A step that assigns: the right side, the index, the store.
+#[tactic(auto, using(crate::proofs::Steps::assignment_at))]
+pub fn lower_assignment(
+    alloc: Global,
+    homes: &[Home],
+    block: &mut OpenBlock,
+    place: &Place,
+    right: &Expression,
+) -> Result<(), LoweringFault>
+    ensures { IfOk result (λ _. assigning.Assigns homes.now (assignment (place_of place.now) (expression_of right.now)) block.old block.new) }
+{
+    let value = lower_expression(alloc, homes, block, right)?;
+    let target = lower_place(alloc, homes, block, place)?;
+    store(alloc, block, target, &value)?;
+    block.step()?;
+    Ok(())
+}
+
+/// A step that works on the old value: the right side, the index, the old value, the operator, the store.
+#[tactic(auto, using(crate::proofs::Steps::update_at))]
+pub fn lower_update(
+    alloc: Global,
+    homes: &[Home],
+    block: &mut OpenBlock,
+    place: &Place,
+    operator: BinaryOperator,
+    ty: CType,
+    right: &Expression,
+) -> Result<(), LoweringFault>
+    ensures { IfOk result (λ _. assigning.Assigns homes.now (update (place_of place.now) operator ty (expression_of right.now)) block.old block.new) }
+{
+    let right = lower_expression(alloc, homes, block, right)?;
+    let target = lower_place(alloc, homes, block, place)?;
+    let left = load(alloc, block, &target)?;
+    let operation = Operation::Binary {
+        operator,
+        ty,
+        left,
+        right,
+    };
+    let value = block.put(alloc, operation, ty)?;
+    store(alloc, block, target, &value)?;
+    block.step()?;
+    Ok(())
+}

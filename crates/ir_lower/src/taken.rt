@@ -1,0 +1,129 @@
+// Which programs are lowered.
+
+ghost use Rattle.std.specs.Prelude.{◌≡◌, slice_get};
+ghost use Rattle.c_program.specs.Plain.{expressions_of, pieces_of, program_of, returned_of, right_side_of, statement_of};
+ghost use Rattle.ir_lower.specs.Taken as taken;
+
+use c_program::tree::{Expression, Piece, Program, RightSide, Statement};
+
+fn is_value(right: &RightSide) -> bool
+    ensures { result ≡ taken.is_value (right_side_of right.now) }
+{
+    match right {
+        RightSide::Value(_) => true,
+        RightSide::Call(_, _) => false,
+    }
+}
+
+pub fn is_value_or_none(right: &Option<RightSide>) -> bool
+    ensures { result ≡ taken.is_value_or_none (returned_of right.now) }
+{
+    match right {
+        None => true,
+        Some(right) => is_value(right),
+    }
+}
+
+fn conversion_count(format: &[Piece]) -> usize
+    ensures { result ≡ taken.conversion_count (pieces_of format.now) }
+{
+    let mut count = 0;
+    for piece in format {
+        if let Piece::Conversion(_) = piece {
+            count += 1;
+        }
+    }
+    count
+}
+
+fn fits_format(format: &[Piece], arguments: &[Expression]) -> bool
+    ensures { result ≡ taken.fits_format (pieces_of format.now) (expressions_of arguments.now) }
+{
+    conversion_count(format) == arguments.len() && arguments.len() <= 4
+}
+
+/// Whether a statement, in a loop or not, is lowered.
+fn is_taken(in_loop: bool, statement: &Statement) -> bool
+    ensures { result ≡ taken.is_taken in_loop (statement_of statement.now) }
+{
+    let mut rest = statement;
+    while let Statement::Sequence(first, next) = rest {
+        if !is_taken(in_loop, first) {
+            return false;
+        }
+        rest = next;
+    }
+    match rest {
+        Statement::Done
+        | Statement::Sequence(_, _)
+        | Statement::Empty
+        | Statement::Declare(_, _, _)
+        | Statement::Update(_, _, _, _, _)
+        | Statement::Thread(_, _) => true,
+        Statement::Block(body) => is_taken(in_loop, body),
+        Statement::Assign(_, _, right) => is_value(right),
+        Statement::If(_, consequent, alternative) => {
+            is_taken(in_loop, consequent) && is_taken(in_loop, alternative)
+        }
+        Statement::While(_, body) | Statement::DoWhile(body, _) => is_taken(true, body),
+        Statement::For(first, _, last, body) => {
+            is_taken(false, first) && is_taken(false, last) && is_taken(true, body)
+        }
+        Statement::Break | Statement::Continue => in_loop,
+        Statement::Return(_, right) => is_value_or_none(right),
+        Statement::Call(_, _, _) => false,
+        Statement::Print(_, format, arguments) => fits_format(format, arguments),
+    }
+}
+
+/// Whether the code of the function of that number is lowered.
+pub fn is_taken_function(program: &Program, number: usize) -> bool
+    ensures { result ≡ taken.is_taken_function (slice_get (program_of program.now).functions number) }
+{
+    match program.functions.get(number) {
+        None => false,
+        Some(function) => is_taken(false, &function.body),
+    }
+}
+
+/// Whether a statement is straight.
+fn is_straight(statement: &Statement) -> bool
+    ensures { result ≡ taken.is_straight (statement_of statement.now) }
+{
+    let mut rest = statement;
+    while let Statement::Sequence(first, next) = rest {
+        if !is_straight(first) {
+            return false;
+        }
+        rest = next;
+    }
+    match rest {
+        Statement::Done
+        | Statement::Sequence(_, _)
+        | Statement::Empty
+        | Statement::Declare(_, _, _)
+        | Statement::Update(_, _, _, _, _) => true,
+        Statement::Block(body) => is_straight(body),
+        Statement::Assign(_, _, right) => is_value(right),
+        Statement::Return(_, right) => is_value_or_none(right),
+        Statement::Print(_, format, arguments) => fits_format(format, arguments),
+        Statement::If(_, _, _)
+        | Statement::While(_, _)
+        | Statement::DoWhile(_, _)
+        | Statement::For(_, _, _, _)
+        | Statement::Break
+        | Statement::Continue
+        | Statement::Call(_, _, _)
+        | Statement::Thread(_, _) => false,
+    }
+}
+
+/// Whether main is straight: no control, no call, and no act but printf.
+pub fn is_straight_program(program: &Program) -> bool
+    ensures { result ≡ taken.is_straight_program (program_of program.now) }
+{
+    match program.functions.get(program.main as usize) {
+        None => false,
+        Some(main) => is_straight(&main.body),
+    }
+}

@@ -1,0 +1,4 @@
+//! The module of a thread as a machine whose slot is its reading.
+#![tactic(auto)]
+
+pub mod law;

@@ -1,0 +1,3 @@
+pub mod Giving
+pub mod Resizing
+pub mod Making

@@ -1,0 +1,133 @@
+// Words: signals that show values of integer types by their residues, and their conversions.
+
+ghost use Rattle.std.specs.Prelude.{◌≡◌, ◌+◌, ◌-◌, ◌*◌, ◌/◌, ◌%◌, ◌^◌, true, IfOk};
+ghost use Rattle.hls_ints.specs.Types.{width_of, wrapped};
+ghost use Rattle.verilog_meaning.specs.Readings.{width, repeated};
+ghost use Rattle.operator_wires.specs.Gives.{Gives};
+ghost use Rattle.operator_wires.specs.Words.{Resizes, Makes, Holds, TestsZero, Becomes};
+
+use crate::wires::Wires;
+use hls_ints::{CType, residue};
+use netlist::netlist::Value;
+use std::alloc::AllocError;
+
+/// A signal that is as wide as a type, and shows a value of the type modulo 2 to the width.
+#[derive(Clone, Copy, Debug, PartialEq, Eq)]
+pub struct Word {
+    pub place: usize,
+    pub width: u64,
+    /// Whether the type has negative values.
+    pub signed: bool,
+}
+
+impl Word {
+    /// The signal at a place, which shows a value of a type.
+    pub fn of_type(place: usize, ty: CType) -> Word
+        ensures place { result.place ≡ place }
+        ensures width { result.width ≡ width_of ty }
+        ensures signed { result.signed ≡ ty.signed }
+    {
+        Word {
+            place,
+            width: u64::from(ty.bits()),
+            signed: ty.is_signed(),
+        }
+    }
+}
+
+impl Wires {
+    /// The low bits of a signal, or the signal with more bits, which are copies of the sign or zeros.
+    #[tactic(auto, using(crate::proofs::Resizing::resizes_low, crate::proofs::Resizing::resizes_sign, crate::proofs::Resizing::resizes_zeros, crate::proofs::Resizing::resizes_not))]
+    pub fn resized(
+        &mut self,
+        of: usize,
+        from: u64,
+        to: u64,
+        signed: bool,
+    ) -> Result<usize, AllocError>
+        ensures { IfOk result (Resizes self.old.signals self.new.signals of from to signed) }
+    {
+        if to < from {
+            let place = self.low_bits(of, to)?;
+            Ok(place)
+        } else if from == to {
+            Ok(of)
+        } else if signed {
+            let place = self.with_sign(of, from, to)?;
+            Ok(place)
+        } else {
+            let place = self.with_zeros(of, from, to)?;
+            Ok(place)
+        }
+    }
+
+    fn low_bits(&mut self, of: usize, to: u64) -> Result<usize, AllocError>
+        ensures { IfOk result (λ place. Gives self.old.signals self.new.signals place to (λ m r. r.signal of % 2 ^ (to - 1 + 1))) }
+    {
+        let high = to.saturating_sub(1);
+        self.wire(to, Value::Select { of, high, low: 0 })
+    }
+
+    #[tactic(auto, using(crate::proofs::Resizing::sign_gives))]
+    fn with_sign(&mut self, of: usize, from: u64, to: u64) -> Result<usize, AllocError>
+        ensures { IfOk result (λ place. Gives self.old.signals self.new.signals place to (λ m r. repeated (to - from) 1 ((r.signal of / 2 ^ (from - 1)) % 2 ^ 1) * 2 ^ width m of + r.signal of)) }
+    {
+        let top = from.saturating_sub(1);
+        let select = Value::Select {
+            of,
+            high: top,
+            low: top,
+        };
+        let sign = self.wire(1, select)?;
+        let count = to.saturating_sub(from);
+        let fill = self.wire(count, Value::Replication { count, of: sign })?;
+        let place = self.beside(to, fill, of)?;
+        Ok(place)
+    }
+
+    #[tactic(auto, using(crate::proofs::Resizing::zeros_give))]
+    fn with_zeros(&mut self, of: usize, from: u64, to: u64) -> Result<usize, AllocError>
+        ensures { IfOk result (λ place. Gives self.old.signals self.new.signals place to (λ m r. r.signal of)) }
+    {
+        let zeros = self.constant(to.saturating_sub(from), 0)?;
+        let place = self.beside(to, zeros, of)?;
+        Ok(place)
+    }
+
+    /// The value converted to a type (C99 6.3.1.3).
+    pub fn converted(&mut self, word: Word, ty: CType) -> Result<Word, AllocError>
+        ensures { IfOk result (Becomes self.old.signals self.new.signals word ty (wrapped ty)) }
+    {
+        let width = u64::from(ty.bits());
+        let place = self.resized(word.place, word.width, width, word.signed)?;
+        Ok(Word::of_type(place, ty))
+    }
+
+    /// A number modulo 2 to the width of a type.
+    pub fn constant_word(&mut self, ty: CType, number: i128) -> Result<Word, AllocError>
+        ensures { IfOk result (Holds self.old.signals self.new.signals ty (wrapped ty number)) }
+    {
+        let place = self.constant(u64::from(ty.bits()), residue(ty.bits(), number))?;
+        Ok(Word::of_type(place, ty))
+    }
+
+    /// The int 1 or 0 of a bit.
+    pub fn truth(&mut self, bit: usize) -> Result<Word, AllocError>
+        ensures { IfOk result (Makes self.old.signals self.new.signals 32 true (λ m r. r.signal bit)) }
+    {
+        let place = self.with_zeros(bit, 1, 32)?;
+        Ok(Word {
+            place,
+            width: 32,
+            signed: true,
+        })
+    }
+
+    /// Whether the value is 0.
+    pub fn is_zero(&mut self, word: Word) -> Result<usize, AllocError>
+        ensures { IfOk result (TestsZero self.old.signals self.new.signals word) }
+    {
+        let place = self.is_number(word.width, word.place, 0)?;
+        Ok(place)
+    }
+}

@@ -1,0 +1,5 @@
+pub mod Residues
+pub mod Typed
+pub mod Resized
+pub mod Shifts
+pub mod Operators

@@ -1,0 +1,4 @@
+pub mod Spelling
+pub mod Sites
+pub mod Writing
+pub mod Printing

@@ -1,0 +1,10 @@
+//! The machine of a program of one thread, its module and the printer, follows the program.
+#![tactic(auto)]
+
+ghost use Rattle.program_machine.specs.Following.{MachineFollows};
+
+/// What is built of a good program follows it: under every list of choices one interleaving has printed what the machine
+/// has printed, is ended where it is done, and has taken steps by a count of cycles.
+pub fn machine_follows()
+    ensures { MachineFollows }
+{}

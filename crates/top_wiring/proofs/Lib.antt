@@ -1,0 +1,15 @@
+pub mod Growing
+pub mod Steps
+pub mod Lists
+pub mod Standing
+pub mod InputLists
+pub mod InstanceKinds
+pub mod SignalKinds
+pub mod Joining
+pub mod Netting
+pub mod Running
+pub mod Settling
+pub mod Naming
+pub mod Soundness
+pub mod Rounding
+pub mod Netted

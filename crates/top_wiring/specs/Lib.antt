@@ -1,0 +1,9 @@
+pub mod Parts
+pub mod Wires
+pub mod Top
+pub mod Round
+pub mod Wired
+pub mod Ports
+pub mod Machine
+pub mod Leaves
+pub mod Sound

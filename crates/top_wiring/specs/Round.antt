@@ -1,0 +1,42 @@
+-- The module top_rr: all threads are enabled, and every preference is a counter.
+use Rattle.std.specs.Prelude.{◌≡◌, ℕ, ◌-◌, ◌^◌, false, List, [], ◌∷◌, ◌++◌, replicate, codes}
+use Rattle.verilog_tree.specs.declared.tree.BinaryOperator.TheVariants.{Add}
+use Rattle.netlist.specs.declared.netlist.Value.TheVariants.{Constant, Binary}
+use Rattle.netlist.specs.declared.netlist.Source.{Source}
+use Rattle.netlist.specs.declared.netlist.Source.TheVariants.{Register, Assigned, Port}
+use Rattle.netlist.specs.declared.netlist.Signal.{Signal}
+use Rattle.netlist.specs.declared.netlist.Effect.TheVariants.{Set}
+use Rattle.netlist.specs.declared.netlist.Action.{Action}
+use Rattle.netlist.specs.declared.netlist.Instance.{Instance}
+use Rattle.netlist.specs.declared.netlist.Module.{Module}
+use Rattle.verilog_meaning.specs.Names.{numbered}
+use Rattle.top_wiring.specs.Top.{input, output}
+
+abbrev pub inner : List ℕ → ℕ → ℕ → Source → Signal
+inner stem place width source = record { name = numbered stem place; width = width; is_output = false; source = source }
+
+-- of a top of n threads, whose output done stands at a place
+abbrev pub round_signals : ℕ → ℕ → List Signal
+round_signals n done =
+    input (codes "clk") 1
+    ∷ inner (codes "counter") 1 4 (Register 0)
+    ∷ inner (codes "w") 2 4 (Assigned (Constant 1))
+    ∷ inner (codes "w") 3 4 (Assigned (Binary Add 1 2))
+    ∷ inner (codes "w") 4 n (Assigned (Constant (2 ^ n - 1)))
+    ∷ inner (codes "w") 5 1 (Port 0 done)
+    ∷ output 5
+    ∷ []
+
+-- the top of k cores, which is module number `top`
+abbrev pub top_instance : ℕ → ℕ → Instance
+top_instance top k = record { name = numbered (codes "dut") 0; of = top; inputs = 0 ∷ 4 ∷ [] ++ replicate k 1; outputs = 5 ∷ [] }
+
+abbrev pub count : Action
+count = record { conditions = []; effect = Set 1 3 }
+
+pub record IsRound (n top done k : ℕ) (m : Module) : Type 0 where
+  pub named : m.name ≡ codes "top_rr"
+  pub signals : m.signals ≡ round_signals n done
+  pub memories : m.memories ≡ []
+  pub actions : m.actions ≡ count ∷ []
+  pub instances : m.instances ≡ top_instance top k ∷ []

@@ -1,0 +1,148 @@
+// The instances of `top`: their modules, and their output ports.
+
+ghost use Rattle.std.specs.Prelude.{◌≡◌, ◌++◌, nat_eq, if◌then◌else◌, replicate, IfOk, OnOk, map};
+ghost use Rattle.circuit.specs.Rows.{spread};
+ghost use Rattle.top_wiring.specs.Parts.{group_widths, ask_widths, thread_outputs, core_outputs, thread_part, core_part, arbiter_part, each_from, parts};
+
+use crate::layout::{Core, Group, Layout};
+use sqlite_items::Items;
+use std::alloc::{AllocError, Global};
+
+/// An instance: the number of its module, and the widths of its output ports.
+#[derive(Drop)]
+pub struct Part {
+    pub of: usize,
+    pub outputs: Items<u64>,
+}
+
+/// So many of a width.
+pub fn push_copies(
+    alloc: Global,
+    widths: &mut Items<u64>,
+    width: u64,
+    count: usize,
+) -> Result<(), AllocError>
+    ensures { OnOk result (widths.new ≡ widths.old ++ replicate count width) }
+{
+    widths.append(Items::from_vec(vec![in alloc; width; count]?))
+}
+
+fn push_group_widths(
+    alloc: Global,
+    widths: &mut Items<u64>,
+    groups: &[Group],
+) -> Result<(), AllocError>
+    ensures { OnOk result (widths.new ≡ widths.old ++ group_widths groups.now) }
+{
+    for group in groups {
+        push_copies(alloc, widths, group.width, group.count)?;
+    }
+    Ok(())
+}
+
+/// The widths of all numbers that a thread hands to cores.
+fn ask_widths(alloc: Global, cores: &[Core]) -> Result<Items<u64>, AllocError>
+    ensures { IfOk result (λ widths. widths ≡ ask_widths cores.now) }
+{
+    let mut widths = Items::new(alloc);
+    for core in cores {
+        push_group_widths(alloc, &mut widths, core.groups.as_slice())?;
+    }
+    Ok(widths)
+}
+
+fn thread_outputs(alloc: Global, asks: &[u64], thread: usize) -> Result<Items<u64>, AllocError>
+    ensures { IfOk result (λ widths. widths ≡ thread_outputs asks.now thread) }
+{
+    let mut widths = Items::from_slice(alloc, asks)?;
+    let more = if thread == 0 { 2 } else { 1 };
+    push_copies(alloc, &mut widths, 1, more)?;
+    Ok(widths)
+}
+
+fn core_outputs(alloc: Global, threads: usize, core: &Core) -> Result<Items<u64>, AllocError>
+    ensures { IfOk result (λ widths. widths ≡ core_outputs threads core.now) }
+{
+    let mut widths = Items::new(alloc);
+    push_copies(alloc, &mut widths, 1, threads)?;
+    for width in core.told.as_slice() {
+        push_copies(alloc, &mut widths, *width, threads)?;
+    }
+    Ok(widths)
+}
+
+fn push_threads(
+    alloc: Global,
+    parts: &mut Items<Part>,
+    threads: &[usize],
+    asks: &[u64],
+) -> Result<(), AllocError>
+    ensures { OnOk result (parts.new ≡ parts.old ++ each_from (thread_part asks.now) 0 threads.now) }
+{
+    for (thread, number) in threads.iter().enumerate() {
+        let outputs = thread_outputs(alloc, asks, thread)?;
+        parts.push(Part {
+            of: *number,
+            outputs,
+        })?;
+    }
+    Ok(())
+}
+
+fn push_cores(
+    alloc: Global,
+    parts: &mut Items<Part>,
+    threads: usize,
+    cores: &[Core],
+) -> Result<(), AllocError>
+    ensures { OnOk result (parts.new ≡ parts.old ++ map (core_part threads) cores.now) }
+{
+    for core in cores {
+        let outputs = core_outputs(alloc, threads, core)?;
+        parts.push(Part {
+            of: core.module,
+            outputs,
+        })?;
+    }
+    Ok(())
+}
+
+fn push_arbiters(
+    alloc: Global,
+    parts: &mut Items<Part>,
+    threads: usize,
+    arbiter: usize,
+    count: usize,
+) -> Result<(), AllocError>
+    ensures { OnOk result (parts.new ≡ parts.old ++ spread (arbiter_part threads arbiter) 0 count) }
+{
+    for _number in 0..count {
+        let mut outputs = Items::new(alloc);
+        push_copies(alloc, &mut outputs, 1, threads)?;
+        parts.push(Part {
+            of: arbiter,
+            outputs,
+        })?;
+    }
+    Ok(())
+}
+
+/// The threads, then the cores, then an arbiter for each core.
+pub fn parts(alloc: Global, layout: &Layout) -> Result<Items<Part>, AllocError>
+    ensures { IfOk result (λ all. all ≡ parts layout.now) }
+{
+    let threads = layout.threads.as_slice();
+    let cores = layout.cores.as_slice();
+    let asks = ask_widths(alloc, cores)?;
+    let mut parts = Items::new(alloc);
+    push_threads(alloc, &mut parts, threads, asks.as_slice())?;
+    push_cores(alloc, &mut parts, threads.len(), cores)?;
+    push_arbiters(
+        alloc,
+        &mut parts,
+        threads.len(),
+        layout.arbiter,
+        cores.len(),
+    )?;
+    Ok(parts)
+}

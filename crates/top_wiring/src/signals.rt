@@ -1,0 +1,144 @@
+// The signals of `top`.
+
+ghost use Rattle.std.specs.Prelude.{◌≡◌, [], ◌∷◌, ◌++◌, true, length, codes, IfOk, OnOk};
+ghost use Rattle.verilog_tree.specs.Spelling.{is_name};
+ghost use Rattle.verilog_meaning.specs.Names.{numbered};
+ghost use Rattle.circuit.specs.Rows.{spread};
+ghost use Rattle.top_wiring.specs.Parts.{each_from};
+ghost use Rattle.top_wiring.specs.Wires.{width_of, source_of, wire_signal};
+ghost use Rattle.top_wiring.specs.Top.{input, preference, output, top_signals};
+
+use crate::wires::Wire;
+use netlist::netlist::{Signal, Source, Value};
+use sqlite_items::Items;
+use std::alloc::{AllocError, Global};
+use verilog_tree::name::Identifier;
+
+/// A name as it stands.
+pub fn named(alloc: Global, name: &str) -> Result<Identifier, AllocError>
+    requires { is_name name.now ≡ true }
+    ensures { IfOk result (λ it. it ≡ name.now) }
+{
+    Identifier::from_text(alloc, name)
+}
+
+/// A name with a number.
+pub fn numbered(alloc: Global, stem: &str, number: usize) -> Result<Identifier, AllocError>
+    requires { is_name stem.now ≡ true }
+    ensures { IfOk result (λ it. it ≡ numbered stem.now number) }
+{
+    let stem = Identifier::from_text(alloc, stem)?;
+    stem.with_number(alloc, number as u64)
+}
+
+/// An input port.
+pub fn input(name: Identifier, width: u64) -> Signal
+    ensures { result ≡ input name width }
+{
+    Signal {
+        name,
+        width,
+        is_output: false,
+        source: Source::Input,
+    }
+}
+
+/// The output port `done`, which copies a signal.
+pub fn output(alloc: Global, place: usize) -> Result<Signal, AllocError>
+    ensures { IfOk result (λ signal. signal ≡ output place) }
+{
+    Ok(Signal {
+        name: named(alloc, "done")?,
+        width: 1,
+        is_output: true,
+        source: Source::Assigned(Value::Copy(place)),
+    })
+}
+
+fn width_of(wire: Wire) -> u64
+    ensures { result ≡ width_of wire }
+{
+    match wire {
+        Wire::Whole | Wire::Bit { .. } => 1,
+        Wire::Port { width, .. } => width,
+    }
+}
+
+fn source_of(wire: Wire) -> Source
+    ensures { result ≡ source_of wire }
+{
+    match wire {
+        Wire::Whole => Source::Assigned(Value::Copy(1)),
+        Wire::Bit { thread } => Source::Assigned(Value::Select {
+            of: 1,
+            high: thread as u64,
+            low: thread as u64,
+        }),
+        Wire::Port { instance, port, .. } => Source::Port { instance, port },
+    }
+}
+
+fn wire_signal(alloc: Global, place: usize, wire: Wire) -> Result<Signal, AllocError>
+    ensures { IfOk result (λ signal. signal ≡ wire_signal place wire) }
+{
+    Ok(Signal {
+        name: numbered(alloc, "w", place)?,
+        width: width_of(wire),
+        is_output: false,
+        source: source_of(wire),
+    })
+}
+
+fn push_preferences(
+    alloc: Global,
+    signals: &mut Items<Signal>,
+    count: usize,
+) -> Result<(), AllocError>
+    ensures { OnOk result (signals.new ≡ signals.old ++ spread preference 0 count) }
+{
+    for number in 0..count {
+        let name = numbered(alloc, "pref", number)?;
+        signals.push(input(name, 4))?;
+    }
+    Ok(())
+}
+
+fn push_wires(alloc: Global, signals: &mut Items<Signal>, wires: &[Wire]) -> Result<(), AllocError>
+    ensures { OnOk result (signals.new ≡ signals.old ++ each_from wire_signal (length signals.old) wires.now) }
+{
+    for wire in wires {
+        let signal = wire_signal(alloc, signals.len(), *wire)?;
+        signals.push(signal)?;
+    }
+    Ok(())
+}
+
+/// The inputs `clk` and `en`.
+fn heads(alloc: Global, threads: usize) -> Result<Items<Signal>, AllocError>
+    ensures { IfOk result (λ signals. signals ≡ input (codes "clk") 1 ∷ input (codes "en") threads ∷ []) }
+{
+    let mut signals = Items::new(alloc);
+    let clock = input(named(alloc, "clk")?, 1);
+    signals.push(clock)?;
+    let mask = input(named(alloc, "en")?, threads as u64);
+    signals.push(mask)?;
+    Ok(signals)
+}
+
+/// The signals of `top`: `clk`, `en`, the preferred thread of each arbiter, the wires, and `done`.
+pub fn signals(
+    alloc: Global,
+    threads: usize,
+    cores: usize,
+    wires: &[Wire],
+    done: usize,
+) -> Result<Items<Signal>, AllocError>
+    ensures { IfOk result (λ signals. signals ≡ top_signals threads cores wires.now done) }
+{
+    let mut signals = heads(alloc, threads)?;
+    push_preferences(alloc, &mut signals, cores)?;
+    push_wires(alloc, &mut signals, wires)?;
+    let shown = output(alloc, done)?;
+    signals.push(shown)?;
+    Ok(signals)
+}
