@@ -1,5 +1,5 @@
 -- The arbiter's module: its table of rows.
-use Rattle.std.specs.Prelude.{◌≡◌, ℕ, ◌+◌, Bool, false, List, [], ◌∷◌, codes}
+use Rattle.std.specs.Prelude.{◌≡◌, ℕ, ◌+◌, Bool, false, replicate, List, [], ◌∷◌, codes}
 use Rattle.verilog_tree.specs.declared.tree.BinaryOperator.TheVariants.{Less}
 use Rattle.netlist.specs.declared.netlist.Module.{Module}
 use Rattle.circuit.specs.declared.rows.Role.TheVariants as role
@@ -80,6 +80,14 @@ module _ (n : ℕ) where
 
   abbrev pub inputs : ℕ
   inputs = asks + n
+
+  -- the clock, the preferred thread, and whether each thread asks
+  abbrev pub input_widths : List ℕ
+  input_widths = 1 ∷ 4 ∷ replicate n 1
+
+  -- whether each is granted
+  abbrev pub output_widths : List ℕ
+  output_widths = replicate n 1
 
 -- no signal of an arbiter is later than another
 abbrev pub never : ℕ → Bool

@@ -3,8 +3,9 @@
 ghost use Rattle.std.specs.Prelude.{◌≡◌, ◌≤◌, IfOk};
 ghost use Rattle.circuit.specs.Rows.{laid};
 ghost use Rattle.circuit.specs.Modules.{IsLeaf};
+ghost use Rattle.circuit.specs.Interfaces.{IsTableModule};
 ghost use Rattle.circuit.specs.Arbitration.{Arbitrates};
-ghost use Rattle.bank_arbiter.specs.Arbiter.{rows, places, inputs, never, IsArbiter};
+ghost use Rattle.bank_arbiter.specs.Arbiter.{rows, places, inputs, input_widths, output_widths, never, IsArbiter};
 
 use circuit::rows::{Form, Operand, Role, Row, lay};
 use netlist::netlist::{Module, Signal};
@@ -17,12 +18,13 @@ use verilog_tree::tree::BinaryOperator;
 /// is none the first of all; it grants none exactly where none asks.
 ///
 /// Its inputs are `clk`, the preferred thread of 4 bits and for each thread whether it asks; its outputs are for each
-/// thread whether it is granted.
+/// thread whether it is granted. The module is laid out soundly, whatever modules stand before it.
 pub fn module(alloc: Global, threads: usize) -> Result<Module, AllocError>
     requires few { threads ≤ 64 }
     ensures arbitrates { IfOk result (Arbitrates threads (places threads)) }
     ensures leaf { IfOk result (λ m. IsLeaf m (inputs threads) never) }
     ensures table { IfOk result (IsArbiter threads) }
+    ensures stands { IfOk result (λ m. IsTableModule m (input_widths threads) (output_widths threads)) }
 {
     table(alloc, threads)
 }

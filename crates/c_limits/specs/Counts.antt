@@ -6,7 +6,8 @@ use Rattle.c_program.specs.Counting.{capped}
 use Rattle.c_program.specs.Limits.{thread_ids, mutex_elements, barrier_elements, global_elements, longest_array, print_sites, local_elements}
 use Rattle.c_program.specs.Weight.{thread_functions, function_weight}
 use Rattle.c_limits.specs.declared.limit.Limit.{Limit}
-use Rattle.c_limits.specs.declared.limit.Limit.TheVariants.{Tokens, NameLength, Nesting, Functions, ThreadIds, MutexElements, BarrierElements, OneArray, GlobalElements, PrintSites, LocalElements, Weight}
+use Rattle.c_limits.specs.declared.limit.Limit.TheVariants.{Tokens, NameLength, Nesting, Functions, ThreadIds, MutexElements, BarrierElements, OneArray, GlobalElements, PrintSites}
+use Rattle.c_limits.specs.declared.limit.Limit.TheVariants.{LocalElements, Weight}
 use Rattle.c_limits.specs.declared.limit.Passed.{Passed}
 
 -- the greatest count that is within a limit

@@ -1,5 +1,11 @@
 pub mod Growth
 pub mod Tables
+pub mod Filters
+pub mod Forming
+pub mod Places
+pub mod Fitting
+pub mod TableModules
+pub mod RowModules
 pub mod Chains
 pub mod Arbitration
 pub mod Widths

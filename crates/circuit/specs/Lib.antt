@@ -1,5 +1,6 @@
 pub mod Rows
 pub mod Modules
+pub mod Interfaces
 pub mod Arbitration
 pub mod Machines
 pub mod Nets

@@ -1,7 +1,9 @@
-pub mod Types
-pub mod Seen
+pub mod Links
+pub mod Stages
 pub mod Slots
-pub mod Operations
-pub mod Promise
-pub mod Chains
-pub mod Ending
+pub mod Control
+pub mod Outputs
+pub mod Actions
+pub mod Modules
+pub mod Thread
+pub mod Leaf

@@ -1,77 +1,95 @@
--- The slot of planned blocks that a reading of a thread's module shows.
-use Rattle.std.specs.Prelude.{◌≡◌, ℕ, ◌%◌, ◌^◌, ◌<◌, ◌≤◌, List, ℤ, pos, Some, slice_get}
-use Rattle.hls_ints.specs.Residues.{residue_of, bit_of}
-use Rattle.hls_ints.specs.Types.{IntegerType, HasType, width_of}
-use Rattle.interleaving.specs.Memory.{Location}
-use Rattle.block_ir.specs.declared.operand.Operand.{Operand}
+-- The registers of a slot: where they stand, and how wide they are.
+use Rattle.std.specs.Prelude.{◌≡◌, ℕ, ◌+◌, ◌<◌, ◌≤◌, ◌^◌, List, length, map, Option, Some, slice_get}
+use Rattle.hls_ints.specs.Types.{IntegerType, width_of}
 use Rattle.block_ir.specs.declared.block.Operation.{Operation}
-use Rattle.block_ir.specs.declared.block.Operation.TheVariants.{Unary, Binary, ReadGlobal, WriteGlobal, ReadArray, WriteArray}
 use Rattle.block_ir.specs.declared.block.Block.{Block}
-use Rattle.block_ir.specs.declared.code.Array.{Array}
+use Rattle.block_ir.specs.declared.code.Stage.{Stage}
+use Rattle.block_ir.specs.declared.code.Stage.TheVariants as stage
 use Rattle.block_ir.specs.declared.code.ThreadCode.{ThreadCode}
 use Rattle.block_ir.specs.declared.plan.BlockPlan.{BlockPlan}
-use Rattle.planned_block.specs.Plan.{last_state}
-use Rattle.planned_block.specs.Slot.{Slot, operand_now}
-use Rattle.planned_view.specs.View.{planned_view, plan_view, operand_view}
-use Rattle.verilog_meaning.specs.Readings.{Reading}
-use Rattle.fsm_datapath.specs.Types.{value_type}
+use Rattle.block_ir.specs.declared.plan.StagePlan.{StagePlan}
+use Rattle.block_ir.specs.declared.plan.StagePlan.TheVariants as planned
+use Rattle.block_ir.specs.declared.plan.Planned.{Planned}
+use Rattle.planned_view.specs.View.{register_at}
+use Rattle.netlist.specs.declared.netlist.Signal.{Signal}
+use Rattle.netlist.specs.declared.netlist.Source.{Source}
+use Rattle.netlist.specs.declared.netlist.Source.TheVariants as source
+use Rattle.operator_wires.specs.Gives.{Grows, Stands}
+use Rattle.thread_promise.specs.Types.{value_type}
+use Rattle.block_datapath.specs.declared.registers.Held.{Held}
+use Rattle.block_datapath.specs.declared.registers.Registers.{Registers}
 
--- where registers stand among the signals; memory a is array a
-pub record Places : Type 0 where
-  pub stage : ℕ
-  pub state : ℕ
-  pub beat : ℕ
-  pub variable : ℕ → ℕ
-  pub kept : ℕ → ℕ
+-- a signal of this width stands at a place, driven so
+pub record StandsAt (signals : List Signal) (place w : ℕ) (driver : Source) : Type 0 where
+  pub signal : Signal
+  pub listed : slice_get signals place ≡ Some signal
+  pub wide : signal.width ≡ w
+  pub drives : signal.source ≡ driver
 
--- an array's word shows an element
-abbrev pub element_at : ℕ → ℕ → Location
-element_at a i = record { object = a; index = i }
+-- ---- one behind the other
 
--- the value of operation k is alive in a register: past the last state of the operation, up to its last use
-pub record IsAlive (b : Block) (p : BlockPlan) (q : Slot) (k n : ℕ) : Type 0 where
-  pub operation : Operation
-  pub listed : slice_get b.operations k ≡ Some operation
-  pub register : (plan_view b p).register k ≡ Some n
-  pub past : last_state (planned_view b) (plan_view b p) k < q.state
-  pub used : q.state ≤ (plan_view b p).until k
+pub record LaysRegister (old new : List Signal) (w initial : ℕ) (h : Held) : Type 0 where
+  pub width : h.width ≡ w
+  pub stands : Stands old new w (source.Register initial) h.register
+
+-- registers of these widths stand one behind the other from a place on
+abbrev pub StandFrom : List Signal → ℕ → List ℕ → List Held → ℕ → Type 0
+StandFrom signals from widths registers n =
+    (k w : ℕ) → k < n → slice_get widths k ≡ Some w → (h : Held) × (slice_get registers k ≡ Some h) × (h.width ≡ w) × (h.register ≡ from + k) × StandsAt signals (from + k) w (source.Register 0)
+
+-- a register for each of the first n widths
+pub record LaysAll (old new : List Signal) (widths : List ℕ) (n : ℕ) (registers : List Held) : Type 0 where
+  pub grows : Grows old new
+  pub long : length new ≡ length old + n
+  pub count : length registers ≡ n
+  pub each : StandFrom new (length old) widths registers n
+
+-- the register of a number that a width has room for
+pub record IsHeldAt (signals : List Signal) (h : Held) (place initial : ℕ) : Type 0 where
+  pub register : h.register ≡ place
+  pub stands : StandsAt signals place h.width (source.Register initial)
+
+-- THE SLOT: the stage, which begins with a first one, the state, the beat, the variables, the registers for values
+pub record LaysSlot (code : ThreadCode) (plan : Planned) (first : ℕ) (kept_widths : List ℕ) (old new : List Signal) (registers : Registers) : Type 0 where
+  pub grows : Grows old new
+  pub stage : IsHeldAt new registers.stage (length old) first
+  pub state : IsHeldAt new registers.state (length old + 1) 0
+  pub beat : registers.beat ≡ length old + 2
+  pub beat_stands : StandsAt new (length old + 2) 1 (source.Register 0)
+  pub variables_count : length registers.variables ≡ length code.variables
+  pub variables : StandFrom new (length old + 3) (map width_of code.variables) registers.variables (length code.variables)
+  pub kept_count : length registers.kept ≡ length kept_widths
+  pub kept : StandFrom new (length old + 3 + length code.variables) kept_widths registers.kept (length kept_widths)
+  -- the stage and the state have room for all that there are
+  pub stage_room : length code.stages < 2 ^ registers.stage.width
+  pub state_room : (l : ℕ) (p : BlockPlan) → slice_get plan.stages l ≡ Some (planned.Run p) → p.states ≤ 2 ^ registers.state.width
+  pub states_fit : (l : ℕ) (p : BlockPlan) → slice_get plan.stages l ≡ Some (planned.Run p) → p.states < 2 ^ 64
+
+-- ---- widths of registers for values
+
+-- register x, if there is one, has so many bits
+abbrev pub HasRoomAt : List ℕ → ℕ → ℕ → Type 0
+HasRoomAt widths x w = x < length widths → (v : ℕ) × (slice_get widths x ≡ Some v) × (w ≤ v)
+
+-- no width is less than before
+pub record Widens (before after : List ℕ) : Type 0 where
+  pub count : length after ≡ length before
+  pub more : (x w : ℕ) → HasRoomAt before x w → HasRoomAt after x w
 
 module _ (globals : List IntegerType) (code : ThreadCode) where
-  module _ (places : Places) where
-    -- the parts that outlive a stage
-    pub record ShowsData (r : Reading) (q : Slot) : Type 0 where
-      pub stage : r.signal places.stage ≡ q.stage
-      pub state : r.signal places.state ≡ q.state
-      pub beat : r.signal places.beat ≡ bit_of q.beat
-      pub variables : (x : ℕ) (ty : IntegerType) → slice_get code.variables x ≡ Some ty → r.signal (places.variable x) ≡ residue_of (width_of ty) (q.variables x)
-      pub typed : (x : ℕ) (ty : IntegerType) → slice_get code.variables x ≡ Some ty → HasType ty (q.variables x)
-      pub words : (a i : ℕ) (array : Array) → slice_get code.arrays a ≡ Some array → i < array.length →
-          r.word a i ≡ residue_of (width_of array.ty) (q.arrays (element_at a i))
-      pub typed_words : (a i : ℕ) (array : Array) → slice_get code.arrays a ≡ Some array → i < array.length → HasType array.ty (q.arrays (element_at a i))
+  -- registers have room for the values of the first n operations
+  pub record KeepsOperations (b : Block) (p : BlockPlan) (before after : List ℕ) (n : ℕ) : Type 0 where
+    pub widens : Widens before after
+    pub room : (k x : ℕ) (o : Operation) → k < n → slice_get b.operations k ≡ Some o → register_at p.registers k ≡ Some x → HasRoomAt after x (width_of (value_type globals code o))
 
-    -- within a block, the values that are alive too
-    pub record ShowsInBlock (b : Block) (p : BlockPlan) (r : Reading) (q : Slot) : Type 0 where
-      pub shown : ShowsData r q
-      pub alive : (k n : ℕ) (t : IsAlive b p q k n) →
-          r.signal (places.kept n) % 2 ^ width_of (value_type globals code t.operation) ≡ residue_of (width_of (value_type globals code t.operation)) (q.registers n)
-      pub typed_alive : (k n : ℕ) (t : IsAlive b p q k n) → HasType (value_type globals code t.operation) (q.registers n)
+  -- the same of a stage, where it is a block with a plan of one
+  pub record WidensStage (s : Stage) (plan : Option StagePlan) (before after : List ℕ) : Type 0 where
+    pub widens : Widens before after
+    pub room : (b : Block) (p : BlockPlan) (k x : ℕ) (o : Operation) → s ≡ stage.Run b → plan ≡ Some (planned.Run p) → slice_get b.operations k ≡ Some o → register_at p.registers k ≡ Some x →
+        HasRoomAt after x (width_of (value_type globals code o))
 
-module _ (code : ThreadCode) where
-  -- an index lies within its array
-  abbrev pub IsIndex : ℕ → ℤ → Type 0
-  IsIndex x v = (array : Array) × (i : ℕ) × (slice_get code.arrays x ≡ Some array) × (v ≡ pos i) × (i < array.length)
-
-  -- an access of an array is within it
-  abbrev pub IsWithin : (Operand → ℤ) → Operation → Type 0
-  IsWithin see (Unary operator ty a) = Unit {0}
-  IsWithin see (Binary operator ty a b) = Unit {0}
-  IsWithin see (ReadGlobal x i) = Unit {0}
-  IsWithin see (WriteGlobal x i a) = Unit {0}
-  IsWithin see (ReadArray x i) = IsIndex x (see i)
-  IsWithin see (WriteArray x i a) = IsIndex x (see i)
-
-  -- the accesses of arrays in this state are within them: outside the source's step is undefined
-  abbrev pub AreWithin : Block → BlockPlan → Slot → (ℕ → ℤ) → Type 0
-  AreWithin b p q wire =
-      (k : ℕ) (o : Operation) → slice_get b.operations k ≡ Some o → (plan_view b p).start k ≡ q.state →
-      IsWithin (λ i. operand_now (planned_view b) (plan_view b p) q wire (operand_view i)) o
+  -- the same of the first n stages
+  pub record AreKeptWidths (plan : Planned) (n : ℕ) (widths : List ℕ) : Type 0 where
+    pub count : length widths ≡ plan.registers
+    pub room : (l : ℕ) (b : Block) (p : BlockPlan) (k x : ℕ) (o : Operation) → l < n → slice_get code.stages l ≡ Some (stage.Run b) → slice_get plan.stages l ≡ Some (planned.Run p) →
+        slice_get b.operations k ≡ Some o → register_at p.registers k ≡ Some x → HasRoomAt widths x (width_of (value_type globals code o))

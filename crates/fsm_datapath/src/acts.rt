@@ -1,10 +1,16 @@
 // The wires of acts, and of what a thread asks of cores.
 
-use crate::blocks::Machine;
-use crate::ending::stage_number;
-use crate::operands::variable_word;
-use crate::shape::{Printer, Shape};
-use crate::states::at_stage;
+ghost use Rattle.std.specs.Prelude.{List, ◌+◌, ◌^◌, ◌<◌, length, Some, IfOk, OnOk};
+ghost use Rattle.hls_ints.specs.Types.{IntegerType};
+ghost use Rattle.block_ir.specs.declared.code.Stage.TheVariants as taken;
+ghost use Rattle.fsm_datapath.specs.Stages.{ShowsActOperand, AsksValues, AsksValue, AsksSite, Asks, Idles, TakesReturn, TakesPrint, TakesAct};
+
+use crate::chains::Chains;
+use crate::shape::Printer;
+use block_datapath::ending::stage_number;
+use block_datapath::operands::variable_word;
+use block_datapath::registers::{Registers, set_next};
+use block_datapath::states::at_stage;
 use block_ir::code::{Act, ActOperand, ThreadCode};
 use hls_ints::CType;
 use operator_wires::wires::Wires;
@@ -12,140 +18,184 @@ use operator_wires::words::Word;
 use sqlite_items::Items;
 use std::alloc::AllocError;
 
-/// What a thread asks of a core: whether it wants something there in this state, and what, field by field.
-#[derive(Drop)]
-pub struct Request {
-    pub wants: usize,
-    pub fields: Items<Field>,
-}
-
-/// A part of what is asked for: its width, and the wire that shows it.
-#[derive(Clone, Copy, Debug, PartialEq, Eq)]
-pub struct Field {
-    pub width: u64,
-    pub place: usize,
-}
-
-impl Request {
-    /// A request that is never raised so far, with fields of these widths.
-    pub fn none(wires: &mut Wires, widths: &[u64]) -> Result<Request, AllocError> {
-        let wants = wires.constant(1, 0)?;
-        let mut fields = Items::new(wires.alloc);
-        for width in widths {
-            let place = wires.constant(*width, 0)?;
-            fields.push(Field {
-                width: *width,
-                place,
-            })?;
+/// The wires of an act at a stage, which takes one state.
+pub fn take_act(
+    wires: &mut Wires,
+    registers: &Registers,
+    chains: &mut Chains,
+    code: &ThreadCode,
+    printer: Option<Printer>,
+    stage: usize,
+    act: &Act,
+    next: usize,
+) -> Result<(), AllocError>
+    ensures { OnOk result ((globals : List IntegerType) → TakesAct globals code.now registers.now printer stage (taken.Act act.now next) wires.old.signals wires.new.signals chains.old chains.new) }
+{
+    match act {
+        Act::Print { site, values } => {
+            let values = values.as_slice();
+            take_print(
+                wires, registers, chains, code, printer, stage, *site, values, next,
+            )
         }
-        Ok(Request { wants, fields })
-    }
-
-    /// Where the condition holds the request is raised.
-    fn want(&mut self, wires: &mut Wires, condition: usize) -> Result<(), AllocError> {
-        self.wants = wires.either(self.wants, condition)?;
-        Ok(())
-    }
-
-    /// Where the condition holds the field is what a signal of its width shows.
-    fn ask_for(
-        &mut self,
-        wires: &mut Wires,
-        field: usize,
-        condition: usize,
-        source: usize,
-    ) -> Result<(), AllocError> {
-        let Some(old) = self.fields.get(field).copied() else {
-            return Ok(());
-        };
-        let place = wires.choice(old.width, condition, source, old.place)?;
-        if field < self.fields.len() {
-            self.fields.set(
-                field,
-                Field {
-                    width: old.width,
-                    place,
-                },
-            );
-        }
-        Ok(())
+        Act::Return => take_return(wires, registers, chains, code, stage),
+        _ => idle(wires, registers, chains, stage),
     }
 }
 
-impl Machine {
-    /// The wires of an act at a stage, which takes one state.
-    pub fn act(
-        &mut self,
-        code: &ThreadCode,
-        shape: &Shape,
-        printing: &mut Request,
-        stage: usize,
-        act: &Act,
-        next: usize,
-    ) -> Result<(), AllocError> {
-        let at = at_stage(&mut self.wires, &self.slot, stage as u64)?;
-        match act {
-            Act::Print { site, values } => {
-                self.print(code, shape, printing, at, *site, values.as_slice())?;
-                let target = stage_number(&mut self.wires, &self.slot, code, next)?;
-                self.leads(at, target)
-            }
-            Act::Return => {
-                let target = stage_number(&mut self.wires, &self.slot, code, code.stages.len())?;
-                self.leads(at, target)
-            }
-            _ => self.wait(at),
-        }
-    }
+/// A stage in which the thread waits forever.
+pub fn idle(
+    wires: &mut Wires,
+    registers: &Registers,
+    chains: &mut Chains,
+    stage: usize,
+) -> Result<(), AllocError>
+    ensures { OnOk result (Idles registers.now stage wires.old.signals wires.new.signals chains.old chains.new) }
+{
+    let at = at_stage(wires, registers, stage as u64)?;
+    chains.wait(wires, at)
+}
 
-    /// Where the condition holds the thread waits at a core, and the state is not left.
-    pub fn wait(&mut self, condition: usize) -> Result<(), AllocError> {
-        self.needs = self.wires.either(self.needs, condition)?;
-        self.waits = self.wires.either(self.waits, condition)?;
-        Ok(())
-    }
+/// A return leads past the last stage.
+fn take_return(
+    wires: &mut Wires,
+    registers: &Registers,
+    chains: &mut Chains,
+    code: &ThreadCode,
+    stage: usize,
+) -> Result<(), AllocError>
+    ensures { OnOk result (TakesReturn code.now registers.now stage wires.old.signals wires.new.signals chains.old chains.new) }
+{
+    let at = at_stage(wires, registers, stage as u64)?;
+    let target = stage_number(wires, registers, code, code.stages.len())?;
+    chains.lead(wires, registers, at, target)
+}
 
-    /// The printer is asked to print a site with its values.
-    fn print(
-        &mut self,
-        code: &ThreadCode,
-        shape: &Shape,
-        printing: &mut Request,
-        at: usize,
-        site: u32,
-        values: &[ActOperand],
-    ) -> Result<(), AllocError> {
-        let Some(printer) = shape.printer else {
-            return self.wait(at);
-        };
-        self.needs = self.wires.either(self.needs, at)?;
-        printing.want(&mut self.wires, at)?;
-        let site = self.site_number(printer, site)?;
-        printing.ask_for(&mut self.wires, 0, at, site)?;
-        for (number, value) in values.iter().enumerate().take(printer.values) {
-            let word = self.act_word(code, *value)?;
-            let wide = self.wires.converted(word, CType::LONG)?;
-            printing.ask_for(&mut self.wires, number + 1, at, wide.place)?;
-        }
-        Ok(())
+/// A printf, where there is a printer.
+fn take_print(
+    wires: &mut Wires,
+    registers: &Registers,
+    chains: &mut Chains,
+    code: &ThreadCode,
+    printer: Option<Printer>,
+    stage: usize,
+    site: u32,
+    values: &[ActOperand],
+    next: usize,
+) -> Result<(), AllocError>
+    ensures { OnOk result (TakesPrint code.now registers.now printer stage site values.now next wires.old.signals wires.new.signals chains.old chains.new) }
+{
+    match printer {
+        Some(printer) => print(
+            wires, registers, chains, code, printer, stage, site, values, next,
+        ),
+        None => idle(wires, registers, chains, stage),
     }
+}
 
-    fn site_number(&mut self, printer: Printer, site: u32) -> Result<usize, AllocError> {
-        let whole = self.wires.constant(32, u64::from(site))?;
-        self.wires.resized(whole, 32, printer.site_width, false)
+/// The printer is asked to print a site with its values.
+fn print(
+    wires: &mut Wires,
+    registers: &Registers,
+    chains: &mut Chains,
+    code: &ThreadCode,
+    printer: Printer,
+    stage: usize,
+    site: u32,
+    values: &[ActOperand],
+    next: usize,
+) -> Result<(), AllocError>
+    ensures { OnOk result (TakesPrint code.now registers.now (Some printer) stage site values.now next wires.old.signals wires.new.signals chains.old chains.new) }
+{
+    let at = at_stage(wires, registers, stage as u64)?;
+    chains.want(wires, at)?;
+    ask(wires, registers, chains, code, printer, at, site, values)?;
+    let target = stage_number(wires, registers, code, next)?;
+    chains.lead(wires, registers, at, target)
+}
+
+/// The fields of a request: the site, and behind it the values.
+fn ask(
+    wires: &mut Wires,
+    registers: &Registers,
+    chains: &mut Chains,
+    code: &ThreadCode,
+    printer: Printer,
+    at: usize,
+    site: u32,
+    values: &[ActOperand],
+) -> Result<(), AllocError>
+    ensures { OnOk result (Asks code.now registers.now printer at site values.now wires.old.signals wires.new.signals chains.old chains.new) }
+{
+    ask_site(wires, &mut chains.fields, printer.site_width, at, site)?;
+    ask_values(wires, registers, &mut chains.fields, code, at, values)
+}
+
+fn ask_site(
+    wires: &mut Wires,
+    fields: &mut Items<usize>,
+    site_width: u64,
+    at: usize,
+    site: u32,
+) -> Result<(), AllocError>
+    ensures { OnOk result (AsksSite wires.old.signals wires.new.signals at fields.old fields.new site_width site) }
+{
+    let whole = wires.constant(32, u64::from(site))?;
+    let source = wires.resized(whole, 32, site_width, false)?;
+    set_next(wires, fields, 0, site_width, at, source)
+}
+
+fn ask_values(
+    wires: &mut Wires,
+    registers: &Registers,
+    fields: &mut Items<usize>,
+    code: &ThreadCode,
+    at: usize,
+    values: &[ActOperand],
+) -> Result<(), AllocError>
+    ensures { OnOk result (AsksValues code.now registers.now wires.old.signals wires.new.signals at fields.old fields.new values.now (length values.now)) }
+{
+    for (number, value) in values.iter().enumerate() {
+        ask_value(wires, registers, fields, code, at, number, *value)?;
     }
+    Ok(())
+}
 
-    /// What an act works on.
-    fn act_word(&mut self, code: &ThreadCode, operand: ActOperand) -> Result<Word, AllocError> {
-        match operand {
-            ActOperand::Constant(ty, number) => self.wires.constant_word(ty, number),
-            ActOperand::Variable(number, ty) => variable_word(
-                &mut self.wires,
-                &self.slot,
-                code.variables.as_slice(),
-                number as usize,
-                ty,
-            ),
-        }
+/// A value is asked for as a number of 64 bits.
+fn ask_value(
+    wires: &mut Wires,
+    registers: &Registers,
+    fields: &mut Items<usize>,
+    code: &ThreadCode,
+    at: usize,
+    number: usize,
+    value: ActOperand,
+) -> Result<(), AllocError>
+    requires { number + 1 < 2 ^ 64 }
+    ensures { OnOk result (AsksValue code.now registers.now wires.old.signals wires.new.signals at fields.old fields.new number value) }
+{
+    let word = act_word(wires, registers, code, value)?;
+    let wide = wires.converted(word, CType::LONG)?;
+    set_next(wires, fields, number + 1, 64, at, wide.place)
+}
+
+/// What an act works on.
+fn act_word(
+    wires: &mut Wires,
+    registers: &Registers,
+    code: &ThreadCode,
+    operand: ActOperand,
+) -> Result<Word, AllocError>
+    ensures { IfOk result (ShowsActOperand code.now registers.now wires.old.signals wires.new.signals operand) }
+{
+    match operand {
+        ActOperand::Constant(ty, number) => wires.constant_word(ty, number),
+        ActOperand::Variable(number, ty) => variable_word(
+            wires,
+            registers,
+            code.variables.as_slice(),
+            number as usize,
+            ty,
+        ),
     }
 }

@@ -12,10 +12,7 @@
 // (narrower ones stand in its low bits); and, once there are banks, one bit for each global, which remembers a grant: a
 // plan that keeps the orders has at most one access of a global in a state. A local array is a memory.
 //
-// Wires. A stage has `at`, that it is this stage. Each operation has the wires of its operands, as they are in the one
-// state in which they matter (of an operator its last state, of an access its first one), and of its value, right in its
-// last state. So each operand is chosen when the module is made: the value of an earlier operation is its wire where that
-// one's last state is this state, and else its register; conversions are selects and copies of the sign.
+// Wires. A stage has `at`, that it is this stage. A block of operations has the wires that `block_datapath` lays.
 //
 // What a register holds next is a chain of conditionals, one link for each place in the code that sets it: under "this
 // stage and this state" the value, else what the chain said before. All chains, and all that is asked of cores, read
@@ -26,38 +23,33 @@
 //
 // # How it is proved
 //
-// Signals are put one behind another, each reads earlier ones, and a place never changes. So what a function that adds
-// signals promises is not a layout: it says that the signals grow (`Grows`) and that in every module that begins with
-// them, and every reading which that module obeys, the new place has this number (`Gives`), or shows this value of a
-// type (`IsWord`). Such promises compose, and hold for all that comes behind. There is one layer for each file:
+// A function that adds signals promises what they show in every module that begins with them and every reading which that
+// module obeys. There is one layer for each file:
 //
-// - wires, words and operators stand in `operator_wires`: a gate has the number that Verilog gives it; a word of a value
-//   becomes the word of the value converted, or of what the block's operator gives (by the laws of `operator_words`);
-// - operands: in a reading that shows a slot of this stage and state, an operand's word shows `operand_now` of the
-//   planned block: an earlier value is on its wire, or alive in its register;
-// - operations: the same of each operation's word and the wires of the planned block, by induction over the operations;
-// - states: bits tell the stage and the state;
-// - keeping, ending: what a register for values and a variable hold next is the last of the links of its chain whose bit
-//   is set, and the stage that follows is the one to which the block leads.
-//
-// No contract carries yet: acts and requests, the walk over the stages (in a reading of another stage no chain changes),
-// and what an edge leaves in the registers. `specs/Promise` says what they have to come to.
+// - chains: one more link of what registers hold next, and of what holds in a state;
+// - acts, stages: in a reading of another stage a stage's links change nothing (`StepsOver`); in a reading of this stage
+//   they show what the state leaves (`DoesStage`): of a block what the planned block says, of an act the stage that
+//   follows it, and of a printf its request. So, by induction over the stages, all chains show what the stage of the
+//   reading does (`WalksAll`);
+// - slots: where registers stand, and that each has room for what it keeps;
+// - control, outputs, actions: when a state is left, the ports, and what an edge sets;
+// - module: all of it together (`IsModule`), from which follows that the module runs the code by its plan (`RunsCode`).
 //
 // The slot of a reading: `stage`, `state` and `beat` are its numbers; a variable's register shows a value of its type;
 // a register of the plan shows, in its low bits, the value of each operation that is alive there in this state, and
-// whatever it likes where none is; a word of a memory shows the element. Of accesses past an array's end nothing is said:
-// a step of the source that makes one is undefined.
+// whatever it likes where none is. The promise is made of the code of main without accesses of memory (`IsPlain`); of
+// memories that are written nothing is said yet.
 
+mod actions;
 mod acts;
-mod blocks;
-mod ending;
-mod keeping;
+mod chains;
+mod control;
+pub mod leaf;
 pub mod module;
-mod operands;
-mod operations;
-mod registers;
+mod outputs;
 pub mod shape;
-mod states;
+mod slots;
+mod stages;
+mod stores;
 #[cfg(test)]
 mod tests;
-mod timing;

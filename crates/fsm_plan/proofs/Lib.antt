@@ -1,4 +1,4 @@
 mod Marking
 mod Sums
 mod Stages
-mod Keeps
+pub mod Keeps

@@ -48,7 +48,8 @@ module _ {A : Type 0} (rows : List (List A)) (x j : ℕ) (v : A) (y i : ℕ) (w 
       (set_element row j i v w (ap (λ l. slice_get l i) (sym p.1) ∙ e))
   in_row row r at e (inr p) = inr (λ h k. p.0 h, ap (λ o. row_element o i) p.1 ∙ e)
 
-  in_found : (row : List A) (found : Option (List A)) → slice_get rows x ≡ Some row → slice_get (slice_set rows x (slice_set row j v)) y ≡ found → row_element found i ≡ Some w → Written rows x j v y i w
+  in_found : (row : List A) (found : Option (List A)) → slice_get rows x ≡ Some row → slice_get (slice_set rows x (slice_set row j v)) y ≡ found → row_element found i ≡ Some w →
+      Written rows x j v y i w
   in_found row (Some r) at is e = in_row row r at e (set_element rows x y (slice_set row j v) r is)
   in_found row None at is e = cc
 

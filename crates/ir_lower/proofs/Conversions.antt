@@ -9,6 +9,7 @@ use Rattle.hls_ints.specs.Types.{IntegerType, width_of, wrapped}
 use Rattle.hls_ints.proofs.Conversions.{residue_of-wrapped}
 use Rattle.block_ir.specs.Run.{converted}
 use Rattle.block_ir.specs.declared.operand.Operand.{Operand}
+use Rattle.ir_lower.specs.Typed.{source_type, last_type}
 use Rattle.ir_lower.specs.Needs.{IsConverted, is_narrower}
 
 -- the last number below a multiple of N, less m, is the same modulo N
@@ -70,10 +71,17 @@ converted_last : (ty : IntegerType) (cs : List IntegerType) (v : ℤ) → conver
 converted_last ty [] v = refl
 converted_last ty (c ∷ cs) v = converted_last ty cs (wrapped c v)
 
+last_is : (ty first : IntegerType) (cs : List IntegerType) → last_type first (cs ++ ty ∷ []) ≡ ty
+last_is ty first [] = refl
+last_is ty first (c ∷ cs) = last_is ty c cs
+
 pub conversions_right : (ty : IntegerType) (before after : Operand) → after.source ≡ before.source →
     after.conversions ≡ filter (is_narrower ty) before.conversions ++ ty ∷ [] → IsConverted ty before after
 conversions_right ty before after same is = record {
   source = same;
+  type =
+      ap (λ s. last_type (source_type s) after.conversions) same ∙ ap (last_type (source_type before.source)) is
+      ∙ last_is ty (source_type before.source) (filter (is_narrower ty) before.conversions);
   value = λ v.
       ap (λ cs. converted cs v) is ∙ converted_last ty (filter (is_narrower ty) before.conversions) v
       ∙ wrapped_by_bits ty (converted (filter (is_narrower ty) before.conversions) v) (converted before.conversions v) (kept_bits ty before.conversions v v refl);

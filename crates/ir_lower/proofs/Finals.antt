@@ -1,5 +1,5 @@
 -- The finals of a block leave in each variable what it holds.
-use Rattle.std.proofs.Common.{◌≡◌, ℕ, Bool, List, [], ◌∷◌, ◌++◌, length, ℤ, Option, Some, None, refl, sym, ap, ◌∙◌, subst, ⊎_elim, inl, inr}
+use Rattle.std.proofs.Common.{◌≡◌, ℕ, zero, suc, Bool, List, [], ◌∷◌, ◌++◌, length, ℤ, Option, Some, None, refl, sym, ap, ◌∙◌, subst, ⊎_elim, inl, inr}
 use Rattle.std.specs.Prelude.{nat_eq, ◌⊎◌, if◌then◌else◌, slice_get, slice_set}
 use Rattle.std.proofs.lemmas.Bool.Decides.{eqb_tells}
 use Rattle.block_ir.specs.declared.operand.Operand.{Operand}
@@ -46,7 +46,8 @@ module _ (current : List (Option Operand)) (variables : ℕ → ℤ) (values : L
   one_kept None y x after e h = h
   one_kept (Some (Some a)) y x after e h =
       ⊎_elim
-      (λ t. ap (λ (b : Bool). if b then operand_value variables values a else after x) t.0 ∙ ap (λ z. current_value z variables values x) (sym e) ∙ ap (λ z. current_value (slice_get current z) variables values x) (sym t.1))
+      (λ t. ap (λ (b : Bool). if b then operand_value variables values a else after x) t.0 ∙ ap (λ z. current_value z variables values x) (sym e)
+      ∙ ap (λ z. current_value (slice_get current z) variables values x) (sym t.1))
       (λ t. ap (λ (b : Bool). if b then operand_value variables values a else after x) t.0 ∙ h)
       (eqb_tells x y)
 
@@ -87,11 +88,28 @@ module _ (current : List (Option Operand)) (variables : ℕ → ℤ) (values : L
   pub finals_right : (changed : List ℕ) (x : ℕ) → Covers current changed → finished variables values (finals_of current changed) variables x ≡ held x
   finals_right changed x covers = by_held changed x (slice_get current x) covers refl
 
-pub closes_at : (open_ : OpenBlock) (next : Next) (b : Block) → b.operations ≡ open_.operations → b.steps ≡ open_.steps → b.next ≡ next → b.finals ≡ finals_of open_.current open_.changed → Closes open_ next b
+-- each final is what its variable holds
+module _ (current : List (Option Operand)) where
+  from_one : (o : Option (Option Operand)) (x : ℕ) (more : List Final) → slice_get current x ≡ o →
+      ((k : ℕ) (f : Final) → slice_get more k ≡ Some f → slice_get current f.variable ≡ Some (Some f.value)) →
+      (k : ℕ) (f : Final) → slice_get (final_at o x ++ more) k ≡ Some f → slice_get current f.variable ≡ Some (Some f.value)
+  from_one None x more at rest k f e = rest k f e
+  from_one (Some None) x more at rest k f e = rest k f e
+  from_one (Some (Some a)) x more at rest zero f e =
+      subst (λ (g : Final). slice_get current g.variable ≡ Some (Some g.value)) (let same : record { variable = x; value = a } ≡ f = cc in same) at
+  from_one (Some (Some a)) x more at rest (suc k) f e = rest k f e
+
+  final_from : (changed : List ℕ) (k : ℕ) (f : Final) → slice_get (finals_of current changed) k ≡ Some f → slice_get current f.variable ≡ Some (Some f.value)
+  final_from [] k f e = cc
+  final_from (x ∷ xs) k f e = from_one (slice_get current x) x (finals_of current xs) refl (final_from xs) k f e
+
+pub closes_at : (open_ : OpenBlock) (next : Next) (b : Block) → b.operations ≡ open_.operations → b.steps ≡ open_.steps → b.next ≡ next → b.finals ≡ finals_of open_.current open_.changed →
+    Closes open_ next b
 closes_at open_ next b operations steps next_ finals = record {
   operations = operations;
   steps = steps;
   next_ = next_;
+  from = λ k f e. final_from open_.current open_.changed k f (ap (λ fs. slice_get fs k) (sym finals) ∙ e);
   finals = λ covers variables values x.
       ap (λ fs. finished variables values fs variables x) finals ∙ finals_right open_.current variables values open_.changed x covers;
 }

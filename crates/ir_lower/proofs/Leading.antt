@@ -1,20 +1,20 @@
 -- Straight statements.
-use Rattle.std.proofs.Common.{◌≡◌, ℕ, zero, suc, ◌+◌, ◌<◌, ◌≤◌, Bool, true, false, List, [], ◌∷◌, ◌++◌, length, map, ℤ, Option, Some, None, refl, sym, ap, ◌∙◌, subst, ⊎_elim, inl, inr, arith, append-nil, append_assoc, length-append, cond}
-use Rattle.std.specs.Prelude.{count_by, slice_get, ◌⊎◌}
-use Rattle.std.specs.List.{flat_map}
+use Rattle.std.proofs.Common.{◌≡◌, ℕ, zero, suc, ◌+◌, ◌*◌, ◌≤◌, Bool, true, false, List, [], ◌∷◌, ◌++◌, length, ℤ, Option, Some, None, refl, sym, ap}
+use Rattle.std.proofs.Common.{◌∙◌, subst, inl, inr, arith, append-nil, append_assoc, length-append}
+use Rattle.std.specs.Prelude.{slice_get}
 use Rattle.hls_ints.specs.Types.{IntegerType, wrapped}
 use Rattle.c_program.specs.declared.tree.BinaryOperator.{BinaryOperator}
 use Rattle.c_program.specs.declared.tree.Storage.{Storage}
 use Rattle.c_program.specs.declared.tree.Storage.TheVariants.{Automatic, Static}
 use Rattle.c_program.specs.Tree.{Expression, Place, RightSide, Piece, Statement, Function, Program}
 use Rattle.c_program.specs.Limits.{print_count}
-use Rattle.c_program.specs.Resolved.{is_conversion, IsStatement}
+use Rattle.c_program.specs.Weight.{statement_weight}
+use Rattle.c_program.specs.Resolved.{IsExpression, IsPlace, IsUpdate, IsStatement}
 use Rattle.thread_semantics.specs.Memory.{Location, Memory, Evaluation, Gives, Fails, and_then, with_element}
 use Rattle.thread_semantics.specs.Value.{value, values}
 use Rattle.thread_semantics.specs.Work.{Work, Do, Perform, Print, Going, Onward, Leaving, Turning, in_order, opened, settled}
 use Rattle.thread_semantics.specs.State.{Frame}
 use Rattle.thread_semantics.specs.Move.{Assignment, assignment, update, moving, stored, stored_in, prepared, returned, without_values, going_on, statement_move, work_move, move}
-use Rattle.block_ir.specs.declared.block.Operation.{Operation}
 use Rattle.block_ir.specs.declared.block.Block.{Block}
 use Rattle.block_ir.specs.declared.block.Next.TheVariants.{Jump}
 use Rattle.block_ir.specs.declared.code.Act.{Act}
@@ -22,35 +22,43 @@ use Rattle.block_ir.specs.declared.code.Act.TheVariants as code
 use Rattle.block_ir.specs.declared.code.ActOperand.{ActOperand}
 use Rattle.block_ir.specs.declared.code.Stage.{Stage}
 use Rattle.block_ir.specs.declared.code.Stage.TheVariants as stage
-use Rattle.block_ir.specs.Run.{Cells, Access, Running, operations_run}
-use Rattle.ir_lower.specs.declared.homes.Home.{Home}
+use Rattle.block_ir.specs.Run.{Access, Running, operations_run}
 use Rattle.ir_lower.specs.declared.homes.Homes.{Homes}
 use Rattle.ir_lower.specs.declared.open_block.OpenBlock.{OpenBlock}
 use Rattle.ir_lower.specs.declared.straight.StraightCode.{StraightCode}
-use Rattle.ir_lower.specs.Evaluating.{Holds, reads_of}
+use Rattle.ir_lower.specs.Evaluating.{Holds}
 use Rattle.ir_lower.specs.Assigning.{HaveHomes, IsThere, memory_after, writes_of, Assigned, Assigns}
 use Rattle.ir_lower.specs.Closing.{HasNoted, IsFresh, Closes}
 use Rattle.ir_lower.specs.Taken.{is_value, is_value_or_none}
-use Rattle.ir_lower.specs.Printing.{conversion_of, conversions_of, converted_values, HoldWords, word_operands, held_by, PutsValues}
-use Rattle.ir_lower.specs.Following.{AfterMove, AfterMoves, formats_of, print_formats, AreValues, IsAct, IsEnd, DoesStage, Follows}
-use Rattle.ir_lower.specs.Resuming.{AreHomes, HasShape, HoldLocals, Setting, Keeping, nothing_kept, IsMid, InBlock, AtFresh, Resumes, ResumesUpTo, IsSound, EndsBlock, with_stage, PushesAct, PushesReturn, IsPart, HasSites, Leads, IsNew, AreStages}
-use Rattle.ir_lower.proofs.Running.{parts, run_length, get_left, get_last}
+use Rattle.ir_lower.specs.Values.{most_values}
+use Rattle.ir_lower.specs.Typing.{Typing, Fits, HasWords, WorksOnAssignment, WorksOnUpdate, WorksOnValues, IsTypedSoFar}
+use Rattle.ir_lower.specs.Printing.{HoldWords, word_operands, held_by, PutsValues}
+use Rattle.code_following.specs.Following.{reads_of, conversions_of, converted_values, AfterMove, print_formats}
+use Rattle.code_following.specs.Following.{AreValues, IsAct, IsEnd, DoesStage, Follows}
+use Rattle.ir_lower.specs.Resuming.{AreHomes, HasShape, Setting, Keeping, nothing_kept, IsMid, InBlock, AtFresh, Resumes, ResumesUpTo, IsSound}
+use Rattle.ir_lower.specs.Resuming.{EndsBlock, with_stage, PushesAct, PushesReturn, IsPart, HasSites, StaysTyped, Leads, IsNew, AreTypedStages, AreStages}
+use Rattle.ir_lower.proofs.Running.{parts, run_length}
 use Rattle.ir_lower.proofs.Steps.{gives_is}
 use Rattle.ir_lower.proofs.Puts.{homes_more, arguments_converted}
-use Rattle.ir_lower.proofs.Words.{sum_cons, words_are_values}
+use Rattle.ir_lower.proofs.Words.{words_are_values}
+use Rattle.ir_lower.proofs.Sites.{first_sites, rest_sites, site_at, conversions_length}
+use Rattle.ir_lower.proofs.Staying.{works_stays, idle_works, nothing_stays, sequence_stays, stops_stays, block_stays, return_stays, print_stays, return_typed, fresh_typed}
 use Rattle.ir_lower.proofs.Shapes.{lengths_with_element, lengths_without, element_without, have_homes, assignment_there, update_there}
 use Rattle.ir_lower.proofs.Resuming.{stage_at, resumes_of_in, closes_up, Goes, in_more}
 
 -- Steps that assign.
 
-module _ (homes : Homes) (s : Statement) (offset : ℕ) (F : Memory → Evaluation Assignment) (old new : StraightCode) (a : Assigns homes.homes F old.block new.block) (same : new ≡ record old { block = new.block })
+module _ (homes : Homes) (s : Statement) (offset : ℕ) (F : Memory → Evaluation Assignment) (old new : StraightCode) (a : Assigns homes.homes F old.block new.block)
+    (same : new ≡ record old { block = new.block })
     (moves : (P : Program) (m : Memory) (f : Frame) (k : List Work) → statement_move P m f [] k s ≡ stored offset (F m) f [] k)
     (there : (P : Program) (f : Function) (m : Memory) → IsStatement P f false s → HasShape f.locals m.locals → (x : Assignment) (ls : List Location) → F m ≡ Gives x ls →
     IsThere x.target.storage m.locals x.target.variable x.target.index) where
-  module _ (S : Setting) (k : List Work) (are : AreHomes S.function.locals homes.homes (length homes.variables)) (is : IsStatement S.program S.function false s) (sound : IsSound (length homes.variables) old.block)
+  module _ (S : Setting) (k : List Work) (are : AreHomes S.function.locals homes.homes (length homes.variables)) (is : IsStatement S.program S.function false s)
+      (sound : IsSound (length homes.variables) old.block)
       (variables : ℕ → ℤ) (r : Running) (f : Frame) (globals : List (List ℤ)) (mid : IsMid S homes.homes nothing_kept old.block variables r f globals)
       (Cont : List Frame → List (List ℤ) → List Access → Type 0)
-      (then_ : (g : Frame) (left : List (List ℤ)) (made : List Access) → g.work ≡ settled Onward k → IsMid S homes.homes nothing_kept new.block variables (operations_run variables a.operations r) g left →
+      (then_ : (g : Frame) (left : List (List ℤ)) (made : List Access) → g.work ≡ settled Onward k →
+      IsMid S homes.homes nothing_kept new.block variables (operations_run variables a.operations r) g left →
       (operations_run variables a.operations r).accesses ≡ r.accesses ++ made → Cont (g ∷ []) left made) where
     abbrev seen : Memory
     seen = record { locals = f.locals; globals = globals }
@@ -76,7 +84,8 @@ module _ (homes : Homes) (s : Statement) (offset : ℕ) (F : Memory → Evaluati
 
       by_storage : (storage : Storage) → x.target.storage ≡ storage → AfterMove (stored_in storage x ls f [] k) globals Cont
       by_storage Automatic e =
-          let d = subst (λ z. (ran.accesses ≡ r.accesses ++ (reads_of ls ++ writes_of z x)) × Holds homes.homes new.block.current variables (memory_after z x seen) ran) e (done.accesses, done.holds) in
+          let d = subst (λ z. (ran.accesses ≡ r.accesses ++ (reads_of ls ++ writes_of z x)) × Holds homes.homes new.block.current variables (memory_after z x seen) ran) e
+          (done.accesses, done.holds) in
           then_ (record (going_on f k) { locals = with_element f.locals x.target.variable x.target.index (Some (wrapped x.target.ty x.value)) }) globals (reads_of ls ++ []) refl
           (record {
             shape = lengths_with_element f.locals x.target.variable x.target.index (Some (wrapped x.target.ty x.value)) ∙ mid.shape;
@@ -86,7 +95,8 @@ module _ (homes : Homes) (s : Statement) (offset : ℕ) (F : Memory → Evaluati
           })
           d.0
       by_storage Static e =
-          let d = subst (λ z. (ran.accesses ≡ r.accesses ++ (reads_of ls ++ writes_of z x)) × Holds homes.homes new.block.current variables (memory_after z x seen) ran) e (done.accesses, done.holds) in
+          let d = subst (λ z. (ran.accesses ≡ r.accesses ++ (reads_of ls ++ writes_of z x)) × Holds homes.homes new.block.current variables (memory_after z x seen) ran) e
+          (done.accesses, done.holds) in
           then_ (going_on f k) (with_element globals x.target.variable x.target.index (wrapped x.target.ty x.value)) (reads_of ls ++ writes_of Static x) refl
           (record { shape = mid.shape; values = lengths; holds = d.1; kept = tt })
           d.0
@@ -100,8 +110,8 @@ module _ (homes : Homes) (s : Statement) (offset : ℕ) (F : Memory → Evaluati
         subst (λ w. AfterMove (work_move S.program seen f [] w) globals Cont) (sym work)
         (subst (λ v. AfterMove v globals Cont) (sym (moves S.program seen f k)) (after_stored (F seen) refl))
 
-  pub assigning_leads : print_count s ≡ 0 → ((k : List Work) → settled Onward (Do s ∷ k) ≡ Do s ∷ k) → Leads homes s old new true
-  assigning_leads none opens = record {
+  pub assigning_leads : print_count s ≡ 0 → ((k : List Work) → settled Onward (Do s ∷ k) ≡ Do s ∷ k) → StaysTyped homes s old new true → Leads homes s old new true
+  assigning_leads none opens typed = record {
     more = [];
     stages = ap (λ (z : StraightCode). z.stages) same ∙ sym (append-nil old.stages);
     sound = λ sound. record {
@@ -111,6 +121,7 @@ module _ (homes : Homes) (s : Statement) (offset : ℕ) (F : Memory → Evaluati
       fresh = λ idle. absurd (let e = a.steps in omega arith);
     };
     site = λ e. (let is = ap (λ (z : StraightCode). z.site) same in omega (arith, is, none));
+    typed = typed;
     leads = λ S n k are is sound part sites after.
         λ j le.
         subst (λ w. Resumes S homes.homes nothing_kept j old w) (sym (opens k))
@@ -123,17 +134,22 @@ module _ (homes : Homes) (s : Statement) (offset : ℕ) (F : Memory → Evaluati
   }
 
 pub assign_at : (homes : Homes) (place : Place) (right : RightSide) (e : Expression) (old new : StraightCode) → right ≡ RightSide.Value e →
-    Assigns homes.homes (λ m. assignment place e m) old.block new.block → new ≡ record old { block = new.block } → (offset : ℕ) → Leads homes (Statement.Assign offset place right) old new true
-assign_at homes place right e old new is a same offset =
+    Assigns homes.homes (λ m. assignment place e m) old.block new.block → WorksOnAssignment homes.homes place e old.block new.block → new ≡ record old { block = new.block } →
+    (offset : ℕ) → Leads homes (Statement.Assign offset place right) old new true
+assign_at homes place right e old new is a works same offset =
     rw is
     (assigning_leads homes (Statement.Assign offset place (RightSide.Value e)) offset (λ m. assignment place e m) old new a same (λ P m f k. refl)
-    (λ P f m ok shape x ls gives. assignment_there P f m shape place e x ls ok.0 gives) refl (λ k. refl))
+    (λ P f m ok shape x ls gives. assignment_there P f m shape place e x ls ok.0 gives) refl (λ k. refl)
+    (works_stays homes (Statement.Assign offset place (RightSide.Value e)) (λ S. IsPlace S.program S.function place × IsExpression S.program S.function e) old new same works (λ S ok. ok)))
 
 pub update_at : (homes : Homes) (place : Place) (operator : BinaryOperator) (ty : IntegerType) (e : Expression) (old new : StraightCode) →
-    Assigns homes.homes (λ m. update place operator ty e m) old.block new.block → new ≡ record old { block = new.block } → (offset : ℕ) → Leads homes (Statement.Update offset place operator ty e) old new true
-update_at homes place operator ty e old new a same offset =
+    Assigns homes.homes (λ m. update place operator ty e m) old.block new.block → WorksOnUpdate homes.homes place operator ty e old.block new.block →
+    new ≡ record old { block = new.block } → (offset : ℕ) →
+    Leads homes (Statement.Update offset place operator ty e) old new true
+update_at homes place operator ty e old new a works same offset =
     assigning_leads homes (Statement.Update offset place operator ty e) offset (λ m. update place operator ty e m) old new a same (λ P m f k. refl)
     (λ P f m ok shape x ls gives. update_there P f m shape place operator ty e x ls ok.target gives) refl (λ k. refl)
+    (works_stays homes (Statement.Update offset place operator ty e) (λ S. IsUpdate S.program S.function place operator ty e) old new same works (λ S ok. ok))
 
 -- A declarator: no element of the local is written any more.
 
@@ -149,6 +165,9 @@ declare_at homes old new b stepped same offset local operators = record {
     fresh = λ idle. absurd cc;
   });
   site = λ e. (let is = ap (λ (z : StraightCode). z.site) same in omega arith);
+  typed =
+      works_stays homes (Statement.Declare offset local operators) (λ S. Unit {0}) old new (same ∙ ap (λ (z : OpenBlock). record old { block = z }) (sym (ap (λ (z : StraightCode). z.block) same)))
+      (idle_works homes.homes (4 * statement_weight (Statement.Declare offset local operators)) old.block new.block block_is) (λ S ok. tt);
   leads = λ S n k are is sound part sites after.
       λ j le.
       resumes_of_in S homes.homes nothing_kept (length homes.variables) j old (Do (Statement.Declare offset local operators) ∷ k) sound
@@ -163,7 +182,8 @@ declare_at homes old new b stepped same offset local operators = record {
     block_is : new.block ≡ record old.block { steps = suc old.block.steps }
     block_is = ap (λ (z : StraightCode). z.block) same ∙ stepped
 
-    declares : (S : Setting) (k : List Work) → Goes S homes.homes nothing_kept nothing_kept old.block (record old.block { steps = suc old.block.steps }) [] (Do (Statement.Declare offset local operators) ∷ k) (settled Onward k)
+    declares : (S : Setting) (k : List Work) →
+        Goes S homes.homes nothing_kept nothing_kept old.block (record old.block { steps = suc old.block.steps }) [] (Do (Statement.Declare offset local operators) ∷ k) (settled Onward k)
     declares S k variables r f globals is mid Cont then_ =
         subst (λ w. AfterMove (work_move S.program (record { locals = f.locals; globals = globals }) f [] w) globals Cont) (sym is)
         (then_ (record (going_on f k) { locals = without_values f.locals local }) globals [] refl
@@ -224,7 +244,8 @@ module _ (homes : Homes) (old new : StraightCode) (pushes : PushesReturn old new
           (sym (stage_at pushes.mid.stages part.more S.stages (stage.Act code.Return 0) (part.is ∙ ap (λ l. l ++ part.more) return_stages)))
           (λ globals. ends f globals is)
 
-return_ends : (P : Program) (m : Memory) (f : Frame) (k : List Work) (offset : ℕ) (right : Option RightSide) → is_value_or_none right ≡ true → IsEnd (statement_move P m f [] k (Statement.Return offset right))
+return_ends : (P : Program) (m : Memory) (f : Frame) (k : List Work) (offset : ℕ) (right : Option RightSide) → is_value_or_none right ≡ true →
+    IsEnd (statement_move P m f [] k (Statement.Return offset right))
 return_ends P m f k offset None is = tt
 return_ends P m f k offset (Some (RightSide.Value e)) is = by (value e m)
   where
@@ -241,6 +262,7 @@ return_at homes right old new pushes is_value offset = record {
   sound = λ sound. subst (λ (z : StraightCode). IsSound (length homes.variables) z.block) (sym pushes.acted)
       (fresh_sound (length homes.variables) pushes.mid.block (ended_sound (length homes.variables) old pushes.mid sound pushes.ends));
   site = λ e. cc;
+  typed = return_stays homes right offset old new pushes;
   leads = λ S n k are is sound part sites after.
       return_resumes homes old new pushes S n (Do (Statement.Return offset right) ∷ k) sound part
       (λ f globals work. subst (λ w. IsEnd (work_move S.program (record { locals = f.locals; globals = globals }) f [] w)) (sym work)
@@ -260,47 +282,6 @@ onward b k Turning = refl
 pub settled_sequence : (a b : Statement) (k : List Work) → settled Onward (Do (Statement.Sequence a b) ∷ k) ≡ settled Onward (Do a ∷ Do b ∷ k)
 settled_sequence a b k = λ d. opened a (Do b ∷ k) (λ going. onward b k going d)
 
-pub formats_length : (s : Statement) → length (formats_of s) ≡ print_count s
-formats_length Statement.Done = refl
-formats_length (Statement.Sequence first rest) = length-append (formats_of first) (formats_of rest) ∙ (let a = formats_length first in let b = formats_length rest in omega arith)
-formats_length Statement.Empty = refl
-formats_length (Statement.Block body) = formats_length body
-formats_length (Statement.Declare offset local operators) = refl
-formats_length (Statement.Assign offset place right) = refl
-formats_length (Statement.Update offset place operator ty right) = refl
-formats_length (Statement.If condition consequent alternative) =
-    length-append (formats_of consequent) (formats_of alternative) ∙ (let a = formats_length consequent in let b = formats_length alternative in omega arith)
-formats_length (Statement.While condition body) = formats_length body
-formats_length (Statement.DoWhile body condition) = formats_length body
-formats_length (Statement.For first condition last body) =
-    length-append (formats_of first) (formats_of last ++ formats_of body)
-    ∙ (let l = length-append (formats_of last) (formats_of body) in let a = formats_length first in let b = formats_length last in let c = formats_length body in omega arith)
-formats_length Statement.Break = refl
-formats_length Statement.Continue = refl
-formats_length (Statement.Return offset right) = refl
-formats_length (Statement.Call offset function arguments) = refl
-formats_length (Statement.Print offset format arguments) = refl
-formats_length (Statement.Thread offset call) = refl
-
-module _ (P : Program) (a b : Statement) (site : ℕ) (sites : HasSites P (Statement.Sequence a b) site) where
-  first_sites : HasSites P a site
-  first_sites = record {
-    before = sites.before;
-    after = formats_of b ++ sites.after;
-    all = sites.all ∙ ap (λ l. sites.before ++ l) (append_assoc (formats_of a) (formats_of b) sites.after);
-    number = sites.number;
-  }
-
-  rest_sites : (next : ℕ) → next ≡ site + print_count a → HasSites P b next
-  rest_sites next is = record {
-    before = sites.before ++ formats_of a;
-    after = sites.after;
-    all =
-        sites.all ∙ ap (λ l. sites.before ++ l) (append_assoc (formats_of a) (formats_of b) sites.after)
-        ∙ sym (append_assoc sites.before (formats_of a) (formats_of b ++ sites.after));
-    number = (let l = length-append sites.before (formats_of a) in let c = formats_length a in let n = sites.number in omega arith);
-  }
-
 pub sequence_leads : (homes : Homes) (a b : Statement) (old mid new : StraightCode) (goes : Bool) → Leads homes a old mid true → Leads homes b mid new goes →
     Leads homes (Statement.Sequence a b) old new goes
 sequence_leads homes a b old mid new goes first second = record {
@@ -308,6 +289,7 @@ sequence_leads homes a b old mid new goes first second = record {
   stages = second.stages ∙ ap (λ l. l ++ second.more) first.stages ∙ append_assoc old.stages first.more second.more;
   sound = λ sound. second.sound (first.sound sound);
   site = λ e. (let x = first.site refl in let y = second.site e in omega arith);
+  typed = sequence_stays homes a b old mid new goes first.sound (first.site refl) first.typed second.typed;
   leads = λ S n k are is sound part sites after.
       subst (λ w. ResumesUpTo S homes.homes nothing_kept n old w) (sym (settled_sequence a b k))
       (first.leads S n (Do b ∷ k) are is.0 sound (part_before mid.stages second.more S.stages new.stages second.stages part) (first_sites S.program a b old.site sites)
@@ -320,6 +302,7 @@ sequence_stops homes a b old new first = record {
   stages = first.stages;
   sound = first.sound;
   site = λ e. cc;
+  typed = stops_stays homes a b old new first.typed;
   leads = λ S n k are is sound part sites after.
       subst (λ w. ResumesUpTo S homes.homes nothing_kept n old w) (sym (settled_sequence a b k))
       (first.leads S n (Do b ∷ k) are is.0 sound part (first_sites S.program a b old.site sites) (λ e. absurd cc));
@@ -331,6 +314,7 @@ block_leads homes body old new goes inner = record {
   stages = inner.stages;
   sound = inner.sound;
   site = inner.site;
+  typed = block_stays homes body old new goes inner.typed;
   leads = λ S n k are is sound part sites after.
       inner.leads S n k are is sound part (record { before = sites.before; after = sites.after; all = sites.all; number = sites.number }) after;
 }
@@ -341,6 +325,7 @@ nothing_leads homes s c none opens = record {
   stages = sym (append-nil c.stages);
   sound = λ sound. sound;
   site = λ e. omega arith;
+  typed = nothing_stays homes s c;
   leads = λ S n k are is sound part sites after. subst (λ w. ResumesUpTo S homes.homes nothing_kept n c w) (sym (opens k)) (after refl);
 }
 
@@ -354,13 +339,6 @@ pub leads_is : (homes : Homes) (s t : Statement) (old new : StraightCode) (goes 
 leads_is homes s t old new goes e h = subst (λ z. Leads homes z old new goes) (sym e) h
 
 -- printf.
-
-conversions_length : (format : List Piece) → length (conversions_of format) ≡ count_by is_conversion format
-conversions_length [] = refl
-conversions_length (Piece.Text bytes ∷ pieces) =
-    conversions_length pieces ∙ sym (sum_cons (λ (p : Piece). cond (is_conversion p) 1 0) (Piece.Text bytes) pieces ∙ (omega arith))
-conversions_length (Piece.Conversion ty ∷ pieces) =
-    ap suc (conversions_length pieces) ∙ sym (sum_cons (λ (p : Piece). cond (is_conversion p) 1 0) (Piece.Conversion ty) pieces ∙ (omega arith))
 
 values_length : (es : List Expression) (m : Memory) (vs : List ℤ) (ls : List Location) → values es m ≡ Gives vs ls → length vs ≡ length es
 values_length [] m vs ls e = ap length (sym (gives_is [] vs ls e).0)
@@ -383,6 +361,7 @@ words_kept n count format variables kept = HoldWords variables n (converted_valu
 
 module _ (homes : Homes) (format : List Piece) (arguments : List Expression) (old mid acted new : StraightCode) (b : OpenBlock) (types : List IntegerType) (operands : List ActOperand) (site : ℕ)
     (types_are : types ≡ conversions_of format) (puts : PutsValues homes.homes (length homes.variables) types arguments old.block b)
+    (works : WorksOnValues homes.homes (length homes.variables) arguments old.block b)
     (stepped : mid ≡ record old { block = record b { steps = suc b.steps } }) (operands_are : operands ≡ word_operands (length homes.variables) (length arguments))
     (site_is : site ≡ old.site) (pushes : PushesAct (code.Print site operands) mid acted) (counted : new ≡ record acted { site = old.site + 1 }) (offset : ℕ) where
   abbrev statement : Statement
@@ -420,22 +399,16 @@ module _ (homes : Homes) (format : List Piece) (arguments : List Expression) (ol
   module _ (S : Setting) (n : ℕ) (k : List Work) (are : AreHomes S.function.locals homes.homes (length homes.variables)) (is : IsStatement S.program S.function false statement)
       (sound : IsSound (length homes.variables) old.block) (part : IsPart new.stages S.stages) (sites : HasSites S.program statement old.site)
       (after : ResumesUpTo S homes.homes nothing_kept n new (settled Onward k)) where
-    site_at : slice_get (print_formats S.program) site ≡ Some format
-    site_at =
-        ap (λ i. slice_get (print_formats S.program) i) (site_is ∙ sites.number)
-        ∙ ap (λ l. slice_get l (length sites.before)) (sites.all ∙ sym (append_assoc sites.before (format ∷ []) sites.after))
-        ∙ get_left (sites.before ++ format ∷ []) sites.after (length sites.before) (let long = length-append sites.before (format ∷ []) in omega (arith, long))
-        ∙ get_last sites.before format
-
     print_acts : (i : ℕ) → i ≤ n → AtFresh S homes.homes keeping i (length pushes.mid.stages) (Perform offset (Print format) ∷ k)
     print_acts zero le variables arrays f work shape locals kept = tt
     print_acts (suc i) le variables arrays f work shape locals kept =
         subst (λ o. DoesStage S.program (Follows S.program S.stages i) o variables arrays (f ∷ []))
         (sym (stage_at pushes.mid.stages part.more S.stages last (part.is ∙ ap (λ l. l ++ part.more) acted_stages)))
         (λ globals.
-        subst (λ w. IsAct S.program variables (code.Print site operands) (work_move S.program (record { locals = f.locals; globals = globals }) f [] w) (λ frames. Follows S.program S.stages i (length pushes.mid.stages + 1) variables arrays frames)) (sym work) (
+        subst (λ w. IsAct S.program variables (code.Print site operands) (work_move S.program (record { locals = f.locals; globals = globals }) f [] w)
+        (λ frames. Follows S.program S.stages i (length pushes.mid.stages + 1) variables arrays frames)) (sym work) (
           (
-            site_at,
+            ap (λ i. slice_get (print_formats S.program) i) site_is ∙ site_at S.program format arguments offset old.site sites,
             subst (λ os. AreValues variables os (converted_values (conversions_of format) f.kept)) (sym operands_are)
                 (words_are_values variables (length homes.variables) (length arguments) (converted_values (conversions_of format) f.kept) kept.1 kept.0),
           ),
@@ -463,9 +436,11 @@ module _ (homes : Homes) (format : List Piece) (arguments : List Expression) (ol
             then_ (record f { work = Perform offset (Print format) ∷ k; kept = vs }) globals (reads_of ls ++ []) refl
             (record {
               shape = m.shape;
-              values = (let l = run_length variables puts.operations r in let a = ap length puts.added ∙ length-append old.block.operations puts.operations in let v = m.values in omega (arith, l, a, v));
+              values = (let l = run_length variables puts.operations r in let a = ap length puts.added
+                  ∙ length-append old.block.operations puts.operations in let v = m.values in omega (arith, l, a, v));
               holds = held.holds;
-              kept = subst (λ tys. HoldWords (held_by b.current variables s.values) (length homes.variables) (converted_values tys vs) × (length arguments ≡ length (converted_values tys vs))) types_are (held.words, sym ws_long);
+              kept = subst (λ tys. HoldWords (held_by b.current variables s.values) (length homes.variables) (converted_values tys vs) ×
+                  (length arguments ≡ length (converted_values tys vs))) types_are (held.words, sym ws_long);
             })
             (held.reads.accesses ∙ ap (λ l. r.accesses ++ l) (sym (append-nil (reads_of ls))))
 
@@ -489,15 +464,33 @@ module _ (homes : Homes) (format : List Piece) (arguments : List Expression) (ol
     stages = print_stages.1;
     sound = λ sound. fresh_sound (length homes.variables) new.block (new_fresh sound);
     site = λ e. ap (λ (z : StraightCode). z.site) counted;
+    typed = print_stays homes format arguments offset old mid acted new b operands site works stepped operands_are site_is mid_sound pushes counted;
     leads = λ S n k are is sound part sites after. print_resumes S n k are is sound part sites (after refl);
   }
 
 -- The whole.
 
 module _ (homes : Homes) (s : Statement) (site : ℕ) (first new : StraightCode) (begins : IsNew (length homes.variables) site first) where
-  starts : (goes : Bool) → Leads homes s first new goes → (all : List Stage) → IsPart new.stages all →
+  begins_typed : (S : Typing) → IsTypedSoFar S 0 true first
+  begins_typed S = record {
+    block = fresh_typed S.types (length homes.variables + 4) first.block begins.block;
+    size = (let e = ap length begins.block.operations in omega (arith, e));
+    stages = λ l t e. absurd (let none : slice_get [] l ≡ Some t = ap (λ xs. slice_get xs l) (sym begins.stages) ∙ e in cc);
+    ended = λ e. cc;
+  }
+
+  -- the stages of the statement are typed where they are the whole code
+  typed_to : (goes : Bool) → Leads homes s first new goes → (S : Typing) → Fits S homes.homes → HasWords S.types (length homes.variables) (most_values s) → IsStatement S.program S.function false s →
+      HasSites S.program s site → IsTypedSoFar S (statement_weight s) goes new
+  typed_to goes leads S fits words ok sites =
+      subst (λ w. IsTypedSoFar S w goes new) (let e : 0 + statement_weight s ≡ statement_weight s = omega arith in e)
+      (leads.typed S 0 fits words ok (fresh_sound (length homes.variables) first.block begins.block) (subst (HasSites S.program s) (sym begins.site_) sites) (begins_typed S))
+
+  starts : (goes : Bool) → Leads homes s first new goes → (all : List Stage) → IsPart new.stages all → ((S : Typing) → Fits S homes.homes → HasWords S.types (length homes.variables) (most_values s) →
+      IsStatement S.program S.function false s → HasSites S.program s site → AreTypedStages S.types S.program (4 * statement_weight s) all) →
       ((S : Setting) (n : ℕ) → S.stages ≡ all → goes ≡ true → IsSound (length homes.variables) new.block → ResumesUpTo S homes.homes nothing_kept n new []) → AreStages homes s site all
-  starts goes leads all part ends = record {
+  starts goes leads all part typed ends = record {
+    typed = typed;
     follow = λ P f are is sites n variables arrays g work shape locals.
         let S : Setting = record { program = P; function = f; stages = all } in
         let sound = fresh_sound (length homes.variables) first.block begins.block in
@@ -507,12 +500,20 @@ module _ (homes : Homes) (s : Statement) (site : ℕ) (first new : StraightCode)
   }
 
   pub stages_end : Leads homes s first new false → AreStages homes s site new.stages
-  stages_end leads = starts false leads new.stages (record { more = []; is = sym (append-nil new.stages) }) (λ S n same e sound. cc)
+  stages_end leads =
+      starts false leads new.stages (record { more = []; is = sym (append-nil new.stages) })
+      (λ S fits words ok sites. let h = typed_to false leads S fits words ok sites in (h.ended refl, h.stages))
+      (λ S n same e sound. cc)
 
   -- the closing brace
   pub stages_return : (last : StraightCode) → Leads homes s first new true → PushesReturn new last → AreStages homes s site last.stages
   stages_return last leads pushes =
       starts true leads last.stages part
+      (λ S fits words ok sites.
+      let h =
+      return_typed S (length homes.variables) (statement_weight s) new last (leads.sound (fresh_sound (length homes.variables) first.block begins.block)) pushes
+      (typed_to true leads S fits words ok sites) in
+      (h.ended refl, h.stages))
       (λ S n same e sound. return_resumes homes new last pushes S n [] sound (record { more = []; is = same ∙ sym (append-nil last.stages) })
       (λ f globals work. subst (λ w. IsEnd (work_move S.program (record { locals = f.locals; globals = globals }) f [] w)) (sym work) tt))
     where

@@ -9,6 +9,10 @@ mod Finals
 mod Puts
 mod Words
 mod Shapes
+mod Typing
+mod Working
+mod Sites
+mod Staying
 mod Resuming
 mod Leading
 mod LocalHomes

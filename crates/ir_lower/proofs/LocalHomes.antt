@@ -1,13 +1,16 @@
 -- Each local has a home of its own.
-use Rattle.std.proofs.Common.{◌≡◌, ℕ, zero, suc, ◌+◌, ◌<◌, ◌≤◌, Bool, true, false, not, nat_eq, List, [], ◌∷◌, ◌++◌, length, Option, Some, None, refl, sym, ap, ◌∙◌, subst, ⊎_elim, arith, append_assoc, append-nil, length-append, sum_by, cond}
+use Rattle.std.proofs.Common.{◌≡◌, ℕ, zero, suc, ◌+◌, ◌≤◌, Bool, true, false, not, if◌then◌else◌, List, [], ◌∷◌, ◌++◌, length, Option, Some, None, refl, sym}
+use Rattle.std.proofs.Common.{ap, ◌∙◌, subst, ⊎_elim, arith, append_assoc, append-nil, length-append, cond}
 use Rattle.std.specs.Prelude.{count_by, slice_get}
+use Rattle.std.proofs.lemmas.List.Concat.{flat_map-append}
 use Rattle.std.proofs.lemmas.List.Sums.{sum_by-append}
 use Rattle.std.proofs.lemmas.Bool.Decides.{eqb_tells}
 use Rattle.c_program.specs.declared.tree.LocalVariable.{LocalVariable}
+use Rattle.block_ir.specs.declared.code.Array.{Array as CodeArray}
 use Rattle.ir_lower.specs.declared.homes.Home.{Home}
 use Rattle.ir_lower.specs.declared.homes.Home.TheVariants.{Variable, Array}
 use Rattle.ir_lower.specs.declared.homes.Homes.{Homes}
-use Rattle.ir_lower.specs.Locals.{is_scalar, is_array, home_in, homes_after, AreHomesOf}
+use Rattle.ir_lower.specs.Locals.{is_scalar, is_array, home_in, homes_after, variable_of, variables_of, array_of, arrays_of, AreHomesOf}
 use Rattle.ir_lower.proofs.Words.{sum_cons}
 use Rattle.ir_lower.specs.Resuming.{IsHomeOf, AreHomes}
 
@@ -23,25 +26,68 @@ homes_append before (x ∷ xs) l =
     ap (λ hs. home_in (is_scalar x) before ∷ hs)
     (homes_append (before ++ x ∷ []) xs l ∙ ap (λ bs. homes_after (before ++ x ∷ []) xs ++ home_in (is_scalar l) bs ∷ []) (append_assoc before (x ∷ []) xs))
 
+get_behind : {A : Type 0} (xs ys : List A) (x : A) (n : ℕ) → length xs ≡ n → slice_get (xs ++ x ∷ ys) n ≡ Some x
+get_behind [] ys x zero e = refl
+get_behind [] ys x (suc n) e = absurd (omega arith)
+get_behind (z ∷ xs) ys x zero e = absurd (omega arith)
+get_behind (z ∷ xs) ys x (suc n) e = get_behind xs ys x n (omega arith)
+
+-- how many variables and arrays there are
+pub variables_count : (ls : List LocalVariable) → length (variables_of ls) ≡ count_by is_scalar ls
+variables_count [] = refl
+variables_count (l ∷ ls) =
+    let rest = variables_count ls in
+    let both = length-append (variable_of l) (variables_of ls) in
+    let next = sum_cons (λ (z : LocalVariable). cond (is_scalar z) 1 0) l ls in
+    let one = this (is_scalar l) in
+    omega (arith, rest, both, next, one)
+  where
+    this : (b : Bool) → length (if b then l.ty ∷ [] else []) ≡ cond b 1 0
+    this true = refl
+    this false = refl
+
+pub arrays_count : (ls : List LocalVariable) → length (arrays_of ls) ≡ count_by is_array ls
+arrays_count [] = refl
+arrays_count (l ∷ ls) =
+    let rest = arrays_count ls in
+    let both = length-append (array_of l) (arrays_of ls) in
+    let next = sum_cons (λ (z : LocalVariable). cond (is_array z) 1 0) l ls in
+    let one = this (is_scalar l) in
+    omega (arith, rest, both, next, one)
+  where
+    this : (b : Bool) → length {A = CodeArray} (if b then [] else record { ty = l.ty; length = l.length } ∷ []) ≡ cond (not b) 1 0
+    this true = refl
+    this false = refl
+
+variables_last : (before : List LocalVariable) (l : LocalVariable) (b : Bool) → is_scalar l ≡ b → variables_of (before ++ l ∷ []) ≡ variables_of before ++ (if b then l.ty ∷ [] else [])
+variables_last before l b is =
+    flat_map-append variable_of before (l ∷ []) ∙ ap (λ ts. variables_of before ++ ts) (append-nil (variable_of l) ∙ ap (λ c. if c then l.ty ∷ [] else []) is)
+
+arrays_last : (before : List LocalVariable) (l : LocalVariable) (b : Bool) → is_scalar l ≡ b →
+    arrays_of (before ++ l ∷ []) ≡ arrays_of before ++ (if b then [] else record { ty = l.ty; length = l.length } ∷ [])
+arrays_last before l b is =
+    flat_map-append array_of before (l ∷ [])
+    ∙ ap (λ ts. arrays_of before ++ ts) (append-nil (array_of l) ∙ ap (λ c. if c then [] else record { ty = l.ty; length = l.length } ∷ []) is)
+
 -- one more local
 pub scalar_more : (locals : List LocalVariable) (l : LocalVariable) (h h' : Homes) → is_scalar l ≡ true → AreHomesOf locals h → h'.homes ≡ h.homes ++ Variable (length h.variables) ∷ [] →
-    length h'.variables ≡ suc (length h.variables) → length h'.arrays ≡ length h.arrays → AreHomesOf (locals ++ l ∷ []) h'
+    h'.variables ≡ h.variables ++ l.ty ∷ [] → h'.arrays ≡ h.arrays → AreHomesOf (locals ++ l ∷ []) h'
 scalar_more locals l h h' is are homes variables arrays = record {
   homes =
-      homes ∙ ap (λ n. h.homes ++ Variable n ∷ []) are.variables ∙ ap (λ hs. hs ++ Variable (count_by is_scalar locals) ∷ []) are.homes
+      homes ∙ ap (λ n. h.homes ++ Variable n ∷ []) (ap length are.variables ∙ variables_count locals) ∙ ap (λ hs. hs ++ Variable (count_by is_scalar locals) ∷ []) are.homes
       ∙ sym (homes_append [] locals l ∙ ap (λ b. homes_after [] locals ++ home_in b locals ∷ []) is);
-  variables = (let e = count_last is_scalar locals l true is in let v = are.variables in omega (arith, e, v, variables));
-  arrays = (let e = count_last is_array locals l false (ap not is) in let v = are.arrays in omega (arith, e, v, arrays));
+  variables = variables ∙ ap (λ ts. ts ++ l.ty ∷ []) are.variables ∙ sym (variables_last locals l true is);
+  arrays = arrays ∙ are.arrays ∙ sym (arrays_last locals l true is ∙ append-nil (arrays_of locals));
 }
 
 pub array_more : (locals : List LocalVariable) (l : LocalVariable) (h h' : Homes) → is_scalar l ≡ false → AreHomesOf locals h → h'.homes ≡ h.homes ++ Array (length h.arrays) ∷ [] →
-    length h'.variables ≡ length h.variables → length h'.arrays ≡ suc (length h.arrays) → AreHomesOf (locals ++ l ∷ []) h'
+    h'.variables ≡ h.variables → h'.arrays ≡ h.arrays ++ record { ty = l.ty; length = l.length } ∷ [] → AreHomesOf (locals ++ l ∷ []) h'
 array_more locals l h h' is are homes variables arrays = record {
   homes =
-      homes ∙ ap (λ n. h.homes ++ Array n ∷ []) are.arrays ∙ ap (λ hs. hs ++ Array (count_by is_array locals) ∷ []) are.homes
+      homes ∙ ap (λ n. h.homes ++ Array n ∷ []) (ap length are.arrays ∙ arrays_count locals) ∙ ap (λ hs. hs ++ Array (count_by is_array locals) ∷ []) are.homes
       ∙ sym (homes_append [] locals l ∙ ap (λ b. homes_after [] locals ++ home_in b locals ∷ []) is);
-  variables = (let e = count_last is_scalar locals l false is in let v = are.variables in omega (arith, e, v, variables));
-  arrays = (let e = count_last is_array locals l true (ap not is) in let v = are.arrays in omega (arith, e, v, arrays));
+  variables = variables ∙ are.variables ∙ sym (variables_last locals l false is ∙ append-nil (variables_of locals));
+  arrays = arrays ∙ ap (λ ts. ts ++ record { ty = l.ty; length = l.length } ∷ []) are.arrays ∙ sym (arrays_last locals l false is);
 }
 
 -- numbers go up
@@ -69,7 +115,8 @@ array_least before (l ∷ ls) (suc x) n e =
     let more = sum_by-append (λ (z : LocalVariable). cond (is_array z) 1 0) before (l ∷ []) in
     omega (arith, rest, more)
 
-variable_alone : (before ls : List LocalVariable) (l : LocalVariable) (y n : ℕ) (b : Bool) → is_scalar l ≡ b → Some (home_in b before) ≡ Some (Variable n) → slice_get (homes_after (before ++ l ∷ []) ls) y ≡ Some (Variable n) → ⊥
+variable_alone : (before ls : List LocalVariable) (l : LocalVariable) (y n : ℕ) (b : Bool) → is_scalar l ≡ b → Some (home_in b before) ≡ Some (Variable n) →
+    slice_get (homes_after (before ++ l ∷ []) ls) y ≡ Some (Variable n) → ⊥
 variable_alone before ls l y n true is e q =
     let same : count_by is_scalar before ≡ n = cc in
     let least = variable_least (before ++ l ∷ []) ls y n q in
@@ -77,7 +124,8 @@ variable_alone before ls l y n true is e q =
     omega (arith, least, more)
 variable_alone before ls l y n false is e q = cc
 
-array_alone : (before ls : List LocalVariable) (l : LocalVariable) (y n : ℕ) (b : Bool) → is_scalar l ≡ b → Some (home_in b before) ≡ Some (Array n) → slice_get (homes_after (before ++ l ∷ []) ls) y ≡ Some (Array n) → ⊥
+array_alone : (before ls : List LocalVariable) (l : LocalVariable) (y n : ℕ) (b : Bool) → is_scalar l ≡ b → Some (home_in b before) ≡ Some (Array n) →
+    slice_get (homes_after (before ++ l ∷ []) ls) y ≡ Some (Array n) → ⊥
 array_alone before ls l y n true is e q = cc
 array_alone before ls l y n false is e q =
     let same : count_by is_array before ≡ n = cc in
@@ -99,7 +147,8 @@ arrays_apart before (l ∷ ls) zero (suc y) n e q = absurd (array_alone before l
 arrays_apart before (l ∷ ls) (suc x) zero n e q = absurd (array_alone before ls l x n (is_scalar l) refl q e)
 arrays_apart before (l ∷ ls) (suc x) (suc y) n e q = ap suc (arrays_apart (before ++ l ∷ []) ls x y n e q)
 
-each_home : (before ls : List LocalVariable) (size x : ℕ) (l : LocalVariable) → count_by is_scalar (before ++ ls) ≤ size → slice_get ls x ≡ Some l → IsHomeOf size l (slice_get (homes_after before ls) x)
+each_home : (before ls : List LocalVariable) (size x : ℕ) (l : LocalVariable) → count_by is_scalar (before ++ ls) ≤ size → slice_get ls x ≡ Some l →
+    IsHomeOf size l (slice_get (homes_after before ls) x)
 each_home before [] size x l room at = absurd cc
 each_home before (d ∷ ls) size zero l room at =
     let same : d ≡ l = cc in
@@ -118,10 +167,30 @@ each_home before (d ∷ ls) size (suc x) l room at =
 
 pub are_homes : (locals : List LocalVariable) (h : Homes) → AreHomesOf locals h → AreHomes locals h.homes (length h.variables)
 are_homes locals h are = subst (λ hs. AreHomes locals hs (length h.variables)) (sym are.homes) (record {
-  each = λ x l at. each_home [] locals (length h.variables) x l (let e = are.variables in omega arith) at;
+  each = λ x l at. each_home [] locals (length h.variables) x l (let e = ap length are.variables ∙ variables_count locals in omega arith) at;
   variables = λ x y n e q. variables_apart [] locals x y n e q;
   arrays = λ x y n e q. arrays_apart [] locals x y n e q;
 })
 
-pub one_longer : {A : Type 0} (xs ys : List A) (x : A) → ys ≡ xs ++ x ∷ [] → length ys ≡ suc (length xs)
-one_longer xs ys x e = let l = ap length e ∙ length-append xs (x ∷ []) in omega (arith, l)
+-- each local has a variable of its type, or an array of its own
+abbrev pub IsDeclaredHome : List LocalVariable → LocalVariable → Option Home → Type 0
+IsDeclaredHome locals l None = ⊥
+IsDeclaredHome locals l (Some (Variable n)) = slice_get (variables_of locals) n ≡ Some l.ty
+IsDeclaredHome locals l (Some (Array a)) = slice_get (arrays_of locals) a ≡ Some (record { ty = l.ty; length = l.length })
+
+pub declared_home : (before ls : List LocalVariable) (x : ℕ) (l : LocalVariable) → slice_get ls x ≡ Some l → IsDeclaredHome (before ++ ls) l (slice_get (homes_after before ls) x)
+declared_home before [] x l at = absurd cc
+declared_home before (d ∷ ls) zero l at =
+    let same : d ≡ l = cc in
+    subst (λ z. IsDeclaredHome (before ++ d ∷ ls) z (Some (home_in (is_scalar d) before))) same (by (is_scalar d) refl)
+  where
+    by : (b : Bool) → is_scalar d ≡ b → IsDeclaredHome (before ++ d ∷ ls) d (Some (home_in b before))
+    by true is =
+        ap (λ ts. slice_get ts (count_by is_scalar before)) (flat_map-append variable_of before (d ∷ ls) ∙ ap (λ c. variables_of before ++ ((if c then d.ty ∷ [] else []) ++ variables_of ls)) is)
+        ∙ get_behind (variables_of before) (variables_of ls) d.ty (count_by is_scalar before) (variables_count before)
+    by false is =
+        let array : CodeArray = record { ty = d.ty; length = d.length } in
+        ap (λ ts. slice_get ts (count_by is_array before)) (flat_map-append array_of before (d ∷ ls) ∙ ap (λ c. arrays_of before ++ ((if c then [] else array ∷ []) ++ arrays_of ls)) is)
+        ∙ get_behind (arrays_of before) (arrays_of ls) array (count_by is_array before) (arrays_count before)
+declared_home before (d ∷ ls) (suc x) l at =
+    subst (λ all. IsDeclaredHome all l (slice_get (homes_after (before ++ d ∷ []) ls) x)) (append_assoc before (d ∷ []) ls) (declared_home (before ++ d ∷ []) ls x l at)

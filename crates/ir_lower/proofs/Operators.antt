@@ -11,7 +11,8 @@ use Rattle.hls_ints.proofs.Conversions.{wrapped-same}
 use Rattle.c_program.specs.declared.tree.UnaryOperator.{UnaryOperator}
 use Rattle.c_program.specs.declared.tree.UnaryOperator.TheVariants.{Plus, Minus, Complement, Not}
 use Rattle.c_program.specs.declared.tree.BinaryOperator.{BinaryOperator}
-use Rattle.c_program.specs.declared.tree.BinaryOperator.TheVariants.{Multiply, Divide, Remainder, Add, Subtract, ShiftLeft, ShiftRight, Less, Greater, LessEqual, GreaterEqual, Equal, NotEqual, And, ExclusiveOr, InclusiveOr}
+use Rattle.c_program.specs.declared.tree.BinaryOperator.TheVariants.{Multiply, Divide, Remainder, Add, Subtract, ShiftLeft, ShiftRight, Less, Greater}
+use Rattle.c_program.specs.declared.tree.BinaryOperator.TheVariants.{LessEqual, GreaterEqual, Equal, NotEqual, And, ExclusiveOr, InclusiveOr}
 use Rattle.thread_semantics.specs.Memory.{Location, Gives}
 use Rattle.thread_semantics.specs.Value.{calculated, unary_value, binary_value}
 use Rattle.block_ir.specs.Arithmetic.{unary_total, binary_total}

@@ -1,5 +1,6 @@
 -- The values of a printf are put into variables.
-use Rattle.std.proofs.Common.{◌≡◌, ◌≢◌, ℕ, suc, ◌+◌, ◌<◌, ◌≤◌, List, [], ◌∷◌, ◌++◌, length, ℤ, Option, Some, None, refl, sym, ap, ◌∙◌, subst, ⊎_elim, arith, append-nil, append_assoc, length-append, ◌-◌, take, drop, get_or}
+use Rattle.std.proofs.Common.{◌≡◌, ℕ, suc, ◌+◌, ◌<◌, ◌≤◌, List, [], ◌∷◌, ◌++◌, length, ℤ, Option, Some, None, refl, sym, ap, ◌∙◌, subst, ⊎_elim, arith}
+use Rattle.std.proofs.Common.{append-nil, append_assoc, length-append, ◌-◌, take, drop, get_or}
 use Rattle.std.specs.Prelude.{slice_get, slice_set}
 use Rattle.hls_ints.specs.Types.{IntegerType, long_int, wrapped}
 use Rattle.hls_ints.proofs.Conversions.{residue_of-wrapped}
@@ -9,8 +10,8 @@ use Rattle.c_program.specs.Tree.{Expression}
 use Rattle.thread_semantics.specs.Memory.{Location, Memory, Evaluation, Gives, and_then, after_reads}
 use Rattle.thread_semantics.specs.Value.{value, values}
 use Rattle.block_ir.specs.declared.operand.Operand.{Operand}
-use Rattle.block_ir.specs.declared.operand.Source.{Source}
 use Rattle.block_ir.specs.Run.{Running, operand_value, operations_run}
+use Rattle.code_following.specs.Following.{converted_values}
 use Rattle.ir_lower.specs.declared.homes.Home.{Home}
 use Rattle.ir_lower.specs.declared.homes.Home.TheVariants as home
 use Rattle.ir_lower.specs.declared.open_block.OpenBlock.{OpenBlock}
@@ -18,18 +19,19 @@ use Rattle.ir_lower.specs.Needs.{IsConverted, SourceIsBelow, IsBelow, AreBelow}
 use Rattle.ir_lower.specs.Evaluating.{current_value, local_value, Holds, Reads, Evaluates}
 use Rattle.ir_lower.specs.Assigning.{IsHomed, HaveHomes}
 use Rattle.ir_lower.specs.Closing.{HasNoted}
-use Rattle.ir_lower.specs.Printing.{converted_values, HoldWords, converted_argument, converted_arguments, held_by, Held, Puts, PutsValue, PutsValues}
+use Rattle.ir_lower.specs.Printing.{HoldWords, converted_argument, converted_arguments, held_by, Held, Puts, PutsValue, PutsValues}
 use Rattle.ir_lower.proofs.Conversions.{wrapped_by_bits}
-use Rattle.ir_lower.proofs.Running.{parts, current_kept, below_more, are_below_more, run_append, run_length, reads_none, reads_both}
+use Rattle.ir_lower.proofs.Running.{parts, current_kept, run_append, run_length, reads_none, reads_both}
 use Rattle.ir_lower.proofs.Cells.{set_element, set_same, set_other, set_length, row_of}
 use Rattle.ir_lower.proofs.Stores.{conversion_right}
-use Rattle.ir_lower.proofs.Steps.{gives_is, longer, fits_on, length_on, hold_on}
+use Rattle.ir_lower.proofs.Steps.{gives_is, fits_on, hold_on}
 
 pub wrapped_twice : (ty : IntegerType) (v : ℤ) → wrapped ty (wrapped ty v) ≡ wrapped ty v
 wrapped_twice ty v = wrapped_by_bits ty (wrapped ty v) v (residue_of-wrapped ty v)
 
 -- a variable that no local has may change
-module _ (homes : List Home) (current new : List (Option Operand)) (variables : ℕ → ℤ) (n : ℕ) (w : Operand) (m : Memory) (s : Running) (is : new ≡ slice_set current n (Some w)) (homed : HaveHomes homes n m.locals) where
+module _ (homes : List Home) (current new : List (Option Operand)) (variables : ℕ → ℤ) (n : ℕ) (w : Operand) (m : Memory) (s : Running) (is : new ≡ slice_set current n (Some w))
+    (homed : HaveHomes homes n m.locals) where
   spare_local : (x j : ℕ) (row : List (Option ℤ)) (h : Option Home) → IsHomed n h row → local_value h new variables s x j ≡ local_value h current variables s x j
   spare_local x j row None fit = absurd fit
   spare_local x j row (Some (home.Array a)) fit = refl
@@ -94,7 +96,8 @@ module _ (homes : List Home) (n : ℕ) (ty : IntegerType) (e : Expression) (old 
         let one_word : length ws ≡ 1 = sym (ap length g.0) in
         let known : n < length mid.current = (let size = ap (λ (z : OpenBlock). length z.current) first.added in omega (arith, size, room, one_word)) in
         let at : slice_get new.current n ≡ Some (Some w) = ap (λ c. slice_get c n) current ∙ set_same mid.current n (Some w) known in
-        let right : operand_value variables s.values w ≡ wrapped long_int (wrapped ty p.value) = conversion_right variables s.values long_int b w (wrapped ty p.value) two (conversion_right variables s.values ty a b p.value one gives) in
+        let right : operand_value variables s.values w ≡ wrapped long_int (wrapped ty p.value) = conversion_right variables s.values long_int b w (wrapped ty p.value) two
+        (conversion_right variables s.values ty a b p.value one gives) in
         let word : wrapped long_int (held_by new.current variables s.values n) ≡ wrapped long_int (wrapped ty p.value) =
         ap (λ o. wrapped long_int (current_value o variables s.values n)) at ∙ ap (wrapped long_int) right ∙ wrapped_twice long_int (wrapped ty p.value) in
         record {
@@ -143,7 +146,8 @@ module _ (homes : List Home) (n : ℕ) (ty : IntegerType) (types : List IntegerT
         let is1 : converted_argument ty e m ≡ Gives (wrapped ty p.value ∷ []) (p.first ++ []) = ap (λ z. and_then z (λ v. Gives (wrapped ty v ∷ []) [])) p.is in
         let room1 : n + 1 ≤ length old.current = omega (arith, long, room) in
         let one = first.does variables r m (wrapped ty p.value ∷ []) (p.first ++ []) fits len homed room1 holds is1 in
-        let len' : length s.values ≡ length mid.operations = (let l = run_length variables first.operations r in let k = ap length first.added ∙ length-append old.operations first.operations in omega (arith, l, k, len)) in
+        let len' : length s.values ≡ length mid.operations =
+        (let l = run_length variables first.operations r in let k = ap length first.added ∙ length-append old.operations first.operations in omega (arith, l, k, len)) in
         let room2 : suc n + length q.value ≤ length mid.current = (let size = first.size in omega (arith, size, long, room)) in
         let two = second.does variables s m q.value q.first (first.below fits) len' (homes_more homes n (suc n) m.locals (omega arith) homed) room2 one.holds q.is in
         let all : ls ≡ (p.first ++ []) ++ q.first =
@@ -179,7 +183,7 @@ all_taken [] = refl
 all_taken (x ∷ xs) = ap (λ l. x ∷ l) (all_taken xs)
 
 -- the lists behind their first elements
-rest_is : {A : Type 0} (x : A) (xs : List A) → take (suc (length xs) - 1) xs ≡ xs
+pub rest_is : {A : Type 0} (x : A) (xs : List A) → take (suc (length xs) - 1) xs ≡ xs
 rest_is x xs = ap (λ k. take k xs) (let e : suc (length xs) - 1 ≡ length xs = omega arith in e) ∙ all_taken xs
 
 pub values_more : (homes : List Home) (n next : ℕ) (types rest : List IntegerType) (trees others : List ExpressionTree) (ty : IntegerType) (e : ExpressionTree) (old mid new : OpenBlock) →

@@ -1,14 +1,13 @@
 -- Where the code in the making goes on.
-use Rattle.std.proofs.Common.{◌≡◌, ℕ, zero, suc, ◌+◌, ◌<◌, ◌≤◌, Bool, true, false, List, [], ◌∷◌, ◌++◌, length, map, ℤ, Option, Some, None, refl, sym, ap, ◌∙◌, subst, ⊎_elim, inl, inr, arith, append-nil, append_assoc, length-append}
-use Rattle.std.specs.Prelude.{slice_get, ◌⊎◌}
+use Rattle.std.proofs.Common.{◌≡◌, ℕ, zero, suc, ◌+◌, ◌<◌, ◌≤◌, List, [], ◌∷◌, ◌++◌, length, ℤ, Option, Some, None, refl, sym, ap}
+use Rattle.std.proofs.Common.{◌∙◌, subst, inl, inr, arith, append-nil, append_assoc, length-append}
+use Rattle.std.specs.Prelude.{slice_get}
 use Rattle.thread_semantics.specs.Work.{Work}
 use Rattle.thread_semantics.specs.State.{Frame}
 use Rattle.thread_semantics.specs.Move.{move}
 use Rattle.block_ir.specs.declared.operand.Operand.{Operand}
 use Rattle.block_ir.specs.declared.block.Operation.{Operation}
 use Rattle.block_ir.specs.declared.block.Next.{Next}
-use Rattle.block_ir.specs.declared.block.Next.TheVariants.{Jump}
-use Rattle.block_ir.specs.declared.block.Block.{Block}
 use Rattle.block_ir.specs.declared.code.Stage.{Stage}
 use Rattle.block_ir.specs.declared.code.Stage.TheVariants as stage
 use Rattle.block_ir.specs.Run.{Cells, Access, Running, operations_run, started, block_run, leads_to, variables_after, stage_after}
@@ -16,11 +15,11 @@ use Rattle.ir_lower.specs.declared.homes.Home.{Home}
 use Rattle.ir_lower.specs.declared.homes.Home.TheVariants as home
 use Rattle.ir_lower.specs.declared.open_block.OpenBlock.{OpenBlock}
 use Rattle.ir_lower.specs.declared.straight.StraightCode.{StraightCode}
-use Rattle.ir_lower.specs.Evaluating.{current_value, local_value, Holds}
-use Rattle.ir_lower.specs.Closing.{HasNoted, IsUnchanged, IsFresh, Closes}
+use Rattle.ir_lower.specs.Evaluating.{current_value, local_value}
+use Rattle.ir_lower.specs.Closing.{IsUnchanged, IsFresh}
 use Rattle.ir_lower.specs.Printing.{held_by}
-use Rattle.ir_lower.specs.Following.{AfterMove, AfterMoves, DoesStage, Follows}
-use Rattle.ir_lower.specs.Resuming.{HasShape, home_value, HoldLocals, Setting, Keeping, IsMid, Comes, InBlock, AtFresh, Resumes, IsSound, PushesBlock, PushesNothing, EndsBlock, IsPart}
+use Rattle.code_following.specs.Following.{AfterMove, AfterMoves, DoesStage, Follows}
+use Rattle.ir_lower.specs.Resuming.{HasShape, home_value, HoldLocals, Setting, Keeping, IsMid, Comes, InBlock, AtFresh, Resumes, IsSound, PushesBlock, EndsBlock, IsPart}
 use Rattle.ir_lower.proofs.Running.{get_left, get_last, run_append}
 
 pub same_function : (f g : ℕ → ℤ) → ((x : ℕ) → f x ≡ g x) → f ≡ g
@@ -33,7 +32,8 @@ stage_at xs zs all y e =
     ∙ get_left (xs ++ y ∷ []) zs (length xs) (let long = length-append xs (y ∷ []) in omega (arith, long))
     ∙ get_last xs y
 
-unchanged_value : (current : List (Option Operand)) (variables : ℕ → ℤ) (values : List ℤ) (x : ℕ) (o : Option (Option Operand)) → slice_get current x ≡ o → IsUnchanged current → current_value o variables values x ≡ variables x
+unchanged_value : (current : List (Option Operand)) (variables : ℕ → ℤ) (values : List ℤ) (x : ℕ) (o : Option (Option Operand)) → slice_get current x ≡ o → IsUnchanged current →
+    current_value o variables values x ≡ variables x
 unchanged_value current variables values x (Some (Some a)) e unchanged = absurd (unchanged x a e)
 unchanged_value current variables values x (Some None) e unchanged = refl
 unchanged_value current variables values x None e unchanged = refl
@@ -63,9 +63,9 @@ module _ (S : Setting) (homes : List Home) (Kept : Keeping) where
       begins j lt f is shape locals kept =
           subst (λ o. DoesStage S.program (Follows S.program S.stages j) o variables arrays (f ∷ [])) (sym inside.at)
           (record {
-            busy = inside.busy;
             steps = λ globals cells hold.
-                subst (λ count. AfterMoves S.program count (f ∷ []) globals [] (λ frames made. Comes S homes Kept inside.block j variables (block_run inside.block variables arrays cells) frames made)) count_is
+                subst (λ count. AfterMoves S.program count (f ∷ []) globals []
+                (λ frames made. Comes S homes Kept inside.block j variables (block_run inside.block variables arrays cells) frames made)) count_is
                 (subst (λ s. AfterMoves S.program inside.count (f ∷ []) globals [] (λ frames made. Comes S homes Kept inside.block j variables s frames made)) (run_is cells)
                 (inside.goes j lt variables (started arrays cells) f globals is
                 (record {
@@ -129,7 +129,6 @@ module _ (S : Setting) (homes : List Home) (Kept : Keeping) where
         operations = p.closes.operations ∙ sym (append-nil c.block.operations);
         count = 0;
         steps = (let e = p.closes.steps in omega arith);
-        busy = (let e = p.closes.steps in omega arith);
         goes = λ j lt variables r f globals is m. lands p variables r j lt f globals is m;
       };
     }
@@ -153,10 +152,10 @@ module _ (S : Setting) (homes : List Home) (Kept After : Keeping) (old new : Ope
     operations = inside.operations ∙ ap (λ os. os ++ inside.rest) added ∙ append_assoc old.operations more inside.rest;
     count = suc inside.count;
     steps = (let e = inside.steps in omega arith);
-    busy = inside.busy;
     goes = λ j lt variables r f globals is mid.
         goes variables r f globals is mid
-        (λ next left made. AfterMoves S.program inside.count next left (r.accesses ++ made) (λ frames all. Comes S homes Kept inside.block j variables (operations_run variables (more ++ inside.rest) r) frames all))
+        (λ next left made. AfterMoves S.program inside.count next left (r.accesses ++ made)
+        (λ frames all. Comes S homes Kept inside.block j variables (operations_run variables (more ++ inside.rest) r) frames all))
         (λ g left made is' mid' same.
         subst (λ a. AfterMoves S.program inside.count (g ∷ []) left a (λ frames all. Comes S homes Kept inside.block j variables (operations_run variables (more ++ inside.rest) r) frames all)) same
         (subst (λ s. AfterMoves S.program inside.count (g ∷ []) left (operations_run variables more r).accesses (λ frames all. Comes S homes Kept inside.block j variables s frames all))

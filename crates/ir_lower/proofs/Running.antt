@@ -8,10 +8,11 @@ use Rattle.block_ir.specs.declared.operand.Operand.{Operand}
 use Rattle.block_ir.specs.declared.block.Operation.{Operation}
 use Rattle.block_ir.specs.declared.block.Operation.TheVariants.{Unary, Binary, ReadGlobal, WriteGlobal, ReadArray, WriteArray}
 use Rattle.block_ir.specs.Run.{Read, Running, or_zero, converted, source_value, operand_value, operation_run, operations_run}
+use Rattle.code_following.specs.Following.{reads_of}
 use Rattle.ir_lower.specs.declared.homes.Home.{Home}
 use Rattle.ir_lower.specs.declared.homes.Home.TheVariants as home
 use Rattle.ir_lower.specs.Needs.{SourceIsBelow, IsBelow, AreBelow}
-use Rattle.ir_lower.specs.Evaluating.{current_value, local_value, Holds, reads_of, Reads}
+use Rattle.ir_lower.specs.Evaluating.{current_value, local_value, Holds, Reads}
 
 -- a part of an evaluation, and what follows it
 pub record Parts {A B : Type 0} (p : Evaluation A) (k : A → Evaluation B) (v : B) (ls : List Location) : Type 0 where
@@ -22,7 +23,8 @@ pub record Parts {A B : Type 0} (p : Evaluation A) (k : A → Evaluation B) (v :
   pub then_ : k value ≡ Gives v rest
   pub reads : ls ≡ first ++ rest
 
-after_first : {B : Type 0} (before : List Location) (q : Evaluation B) (v : B) (ls : List Location) → after_reads before q ≡ Gives v ls → (rest : List Location) × (q ≡ Gives v rest) × (ls ≡ before ++ rest)
+after_first : {B : Type 0} (before : List Location) (q : Evaluation B) (v : B) (ls : List Location) → after_reads before q ≡ Gives v ls →
+    (rest : List Location) × (q ≡ Gives v rest) × (ls ≡ before ++ rest)
 after_first before (Gives w rest) v ls e = (rest, ap (λ z. Gives z rest) (let g : w ≡ v = cc in g), let g : ls ≡ before ++ rest = cc in g)
 after_first before (Fails cause) v ls e = cc
 

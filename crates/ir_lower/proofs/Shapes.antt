@@ -1,5 +1,6 @@
 -- The shape of a call's locals, and the homes that they have.
-use Rattle.std.proofs.Common.{◌≡◌, ℕ, zero, suc, ◌<◌, ◌≤◌, Bool, true, false, List, [], ◌∷◌, length, map, ℤ, pos, negsuc, nat_lt, if◌then◌else◌, Option, Some, None, refl, sym, ap, ◌∙◌, subst, ⊎_elim, arith}
+use Rattle.std.proofs.Common.{◌≡◌, ℕ, zero, suc, ◌<◌, Bool, true, false, List, [], ◌∷◌, length, map, ℤ, pos, negsuc, nat_lt, if◌then◌else◌, Option}
+use Rattle.std.proofs.Common.{Some, None, refl, sym, ap, ◌∙◌, subst, ⊎_elim, arith}
 use Rattle.std.specs.Prelude.{replicate, slice_get, slice_set}
 use Rattle.hls_ints.specs.Types.{IntegerType}
 use Rattle.c_program.specs.declared.tree.LocalVariable.{LocalVariable}
@@ -9,13 +10,13 @@ use Rattle.c_program.specs.declared.tree.BinaryOperator.{BinaryOperator}
 use Rattle.c_program.specs.Tree.{Expression, Place, Function, Program}
 use Rattle.c_program.specs.Resolved.{IsPlace}
 use Rattle.thread_semantics.specs.declared.cause.UndefinedCause.TheVariants.{Index}
-use Rattle.thread_semantics.specs.Memory.{Location, Memory, Evaluation, Gives, Fails, and_then, row_element, element, with_element, with_row}
+use Rattle.thread_semantics.specs.Memory.{Location, Memory, Gives, Fails, and_then, row_element, element, with_element, with_row}
 use Rattle.thread_semantics.specs.Value.{value, load, checked_index, binary_value}
 use Rattle.thread_semantics.specs.State.{fresh_locals}
 use Rattle.thread_semantics.specs.Move.{Target, Assignment, target_of, assignment, update, blank_row, without_values}
 use Rattle.ir_lower.specs.declared.homes.Home.{Home}
 use Rattle.ir_lower.specs.declared.homes.Home.TheVariants as home
-use Rattle.ir_lower.specs.Assigning.{IsHomed, HaveHomes, HasElement, IsThere}
+use Rattle.ir_lower.specs.Assigning.{IsHomed, HaveHomes, IsThere}
 use Rattle.ir_lower.specs.Resuming.{IsHomeOf, AreHomes, HasShape}
 use Rattle.ir_lower.proofs.Running.{parts}
 use Rattle.ir_lower.proofs.Cells.{set_element, set_length}
@@ -166,9 +167,13 @@ module _ (P : Program) (f : Function) (m : Memory) (shape : HasShape f.locals m.
   pub update_there : (place : Place) (operator : BinaryOperator) (ty : IntegerType) (right : Expression) (a : Assignment) (ls : List Location) → IsPlace P f place →
       update place operator ty right m ≡ Gives a ls → IsThere a.target.storage m.locals a.target.variable a.target.index
   update_there place operator ty right a ls is e =
-      let p = parts (value right m) (λ v. and_then (target_of place m) (λ target. and_then (load m target.storage target.variable target.index) (λ old. and_then (binary_value operator ty old v) (λ r. Gives (record { target = target; value = r }) [])))) a ls e in
-      let q = parts (target_of place m) (λ target. and_then (load m target.storage target.variable target.index) (λ old. and_then (binary_value operator ty old p.value) (λ r. Gives (record { target = target; value = r }) []))) a p.rest p.then_ in
-      let u = parts (load m q.value.storage q.value.variable q.value.index) (λ old. and_then (binary_value operator ty old p.value) (λ r. Gives (record { target = q.value; value = r }) [])) a q.rest q.then_ in
+      let p = parts (value right m) (λ v. and_then (target_of place m)
+      (λ target. and_then (load m target.storage target.variable target.index)
+      (λ old. and_then (binary_value operator ty old v) (λ r. Gives (record { target = target; value = r }) [])))) a ls e in
+      let q = parts (target_of place m) (λ target. and_then (load m target.storage target.variable target.index)
+      (λ old. and_then (binary_value operator ty old p.value) (λ r. Gives (record { target = target; value = r }) []))) a p.rest p.then_ in
+      let u = parts (load m q.value.storage q.value.variable q.value.index)
+      (λ old. and_then (binary_value operator ty old p.value) (λ r. Gives (record { target = q.value; value = r }) [])) a q.rest q.then_ in
       let w = parts (binary_value operator ty u.value p.value) (λ r. Gives (record { target = q.value; value = r }) []) a u.rest u.then_ in
       let g = gives_is (record { target = q.value; value = w.value }) a w.rest w.then_ in
       subst (λ (z : Assignment). IsThere z.target.storage m.locals z.target.variable z.target.index) g.0 (target_there place q.value q.first is q.is)

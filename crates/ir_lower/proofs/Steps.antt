@@ -14,12 +14,13 @@ use Rattle.block_ir.specs.declared.block.Operation.{Operation}
 use Rattle.block_ir.specs.declared.block.Operation.TheVariants.{Binary, WriteArray, WriteGlobal}
 use Rattle.block_ir.specs.Arithmetic.{binary_total}
 use Rattle.block_ir.specs.Run.{Running, index_of, operand_value, with_value, operations_run}
+use Rattle.code_following.specs.Following.{reads_of}
 use Rattle.ir_lower.specs.declared.homes.Home.{Home}
 use Rattle.ir_lower.specs.declared.places.Target.{Target}
 use Rattle.ir_lower.specs.declared.places.Target.TheVariants as target
 use Rattle.ir_lower.specs.declared.open_block.OpenBlock.{OpenBlock}
 use Rattle.ir_lower.specs.Needs.{plain, IsConverted, IsBelow, AreBelow}
-use Rattle.ir_lower.specs.Evaluating.{target_at, load_block, loaded, with_more, Holds, reads_of, Reads, Evaluates}
+use Rattle.ir_lower.specs.Evaluating.{target_at, load_block, loaded, with_more, Holds, Reads, Evaluates}
 use Rattle.ir_lower.specs.Closing.{HasNoted}
 use Rattle.ir_lower.specs.Assigning.{Stores, Places, HaveHomes, IsThere, writes_of, Assigned, Assigns}
 use Rattle.ir_lower.proofs.Operators.{binary_right}
@@ -140,7 +141,8 @@ assignment_prepares homes place e old mid new t a first loc = record {
       let reads = first.reads variables r m p.value p.first fits len holds p.is in
       let gives = first.gives variables r m p.value p.first fits len holds p.is in
       let len' = length_on homes old mid first.operations first.added variables r len in
-      let last = loc.part variables s m q.value q.first (fits_on homes old mid first.operations first.added fits) len' (hold_on homes old mid first.operations first.added variables r m p.first fits len reads holds) q.is in
+      let last = loc.part variables s m q.value q.first (fits_on homes old mid first.operations first.added fits) len'
+      (hold_on homes old mid first.operations first.added variables r m p.first fits len reads holds) q.is in
       let u = operations_run variables loc.operations s in
       let kept : operand_value variables u.values a ≡ p.value = operand_kept variables s u q.first a last.0 (subst (λ n. IsBelow n a) (sym len') (first.below fits)) ∙ gives in
       let all : ls ≡ p.first ++ q.first = p.reads ∙ ap (λ l. p.first ++ l) (q.reads ∙ ap (λ l. q.first ++ l) g.1 ∙ append-nil q.first) in
@@ -258,9 +260,13 @@ update_prepares homes place operator ty ty' e old mid found read new t a b c fir
   at = loc.at;
   below = λ fits. rw is_value (last_below read new (Binary operator ty a b) is_new);
   part = λ variables r m v ls fits len holds is.
-      let p1 = parts (value e m) (λ x. and_then (target_of place m) (λ target. and_then (load m target.storage target.variable target.index) (λ before. and_then (binary_value operator ty before x) (λ z. Gives (record { target = target; value = z }) [])))) v ls is in
-      let p2 = parts (target_of place m) (λ target. and_then (load m target.storage target.variable target.index) (λ before. and_then (binary_value operator ty before p1.value) (λ z. Gives (record { target = target; value = z }) []))) v p1.rest p1.then_ in
-      let p3 = parts (load m p2.value.storage p2.value.variable p2.value.index) (λ before. and_then (binary_value operator ty before p1.value) (λ z. Gives (record { target = p2.value; value = z }) [])) v p2.rest p2.then_ in
+      let p1 = parts (value e m) (λ x. and_then (target_of place m)
+      (λ target. and_then (load m target.storage target.variable target.index)
+      (λ before. and_then (binary_value operator ty before x) (λ z. Gives (record { target = target; value = z }) [])))) v ls is in
+      let p2 = parts (target_of place m) (λ target. and_then (load m target.storage target.variable target.index)
+      (λ before. and_then (binary_value operator ty before p1.value) (λ z. Gives (record { target = target; value = z }) []))) v p1.rest p1.then_ in
+      let p3 = parts (load m p2.value.storage p2.value.variable p2.value.index)
+      (λ before. and_then (binary_value operator ty before p1.value) (λ z. Gives (record { target = p2.value; value = z }) [])) v p2.rest p2.then_ in
       let p4 = parts (binary_value operator ty p3.value p1.value) (λ z. Gives (record { target = p2.value; value = z }) []) v p3.rest p3.then_ in
       let g = gives_is (record { target = p2.value; value = p4.value }) v p4.rest p4.then_ in
       let total = binary_right operator ty p3.value p1.value p4.value p4.first p4.is in
@@ -287,14 +293,16 @@ update_prepares homes place operator ty ty' e old mid found read new t a b c fir
       omega (arith, k, l, len2)) in
       let left : operand_value variables s3.values a ≡ p3.value = ap (operand_value variables s3.values) is_loaded ∙ comes.gives in
       let right1 : operand_value variables s2.values b ≡ p1.value = operand_kept variables s1 s2 p2.first b last.0 (subst (λ n. IsBelow n b) (sym len1) (first.below fits)) ∙ gives1 in
-      let b_below : IsBelow (length s2.values) b = below_more (length mid.operations) (length s2.values) b (let l = longer homes mid found loc.operations loc.added in omega (arith, l, len2)) (first.below fits) in
+      let b_below : IsBelow (length s2.values) b = below_more (length mid.operations) (length s2.values) b (let l = longer homes mid found loc.operations loc.added in omega (arith, l, len2))
+      (first.below fits) in
       let right : operand_value variables s3.values b ≡ p1.value = operand_kept variables s2 s3 p3.first b comes.reads b_below ∙ right1 in
       let w = binary_total operator ty (operand_value variables s3.values a) (operand_value variables s3.values b) in
       let s4 = with_value variables w s3 in
       let w_is : w ≡ p4.value = ap (λ z. binary_total operator ty z (operand_value variables s3.values b)) left ∙ ap (binary_total operator ty p3.value) right ∙ total.0 in
       let reads4 = pure_reads s3 w p4.first total.1 variables in
       let index3 : operand_value variables s3.values loc.index ≡ i = operand_kept variables s2 s3 p3.first loc.index comes.reads (subst (λ n. IsBelow n loc.index) (sym len2) (loc.below fits1)) in
-      let i_below : IsBelow (length s3.values) loc.index = below_more (length found.operations) (length s3.values) loc.index (let l = run_length variables (load_operations t) s2 in omega (arith, l, len2)) (loc.below fits1) in
+      let i_below : IsBelow (length s3.values) loc.index = below_more (length found.operations) (length s3.values) loc.index
+      (let l = run_length variables (load_operations t) s2 in omega (arith, l, len2)) (loc.below fits1) in
       let index4 : operand_value variables s4.values loc.index ≡ i = operand_kept variables s3 s4 p4.first loc.index reads4 i_below ∙ index3 in
       let value4 : operand_value variables s4.values c ≡ p4.value = ap (operand_value variables s4.values) is_value ∙ last_value variables s3.values w (length read.operations) len3 ∙ w_is in
       let run =

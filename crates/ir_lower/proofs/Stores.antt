@@ -22,7 +22,8 @@ use Rattle.ir_lower.specs.Assigning.{Stores, IsHomed, HaveHomes, HasElement, IsT
 use Rattle.ir_lower.proofs.Running.{operand_stays}
 use Rattle.ir_lower.proofs.Cells.{set_element, set_same, set_other, set_length, get_within, element_with, row_of, cell_same, cell_other}
 
-pub conversion_right : (variables : ℕ → ℤ) (values : List ℤ) (ty : IntegerType) (a b : Operand) (v : ℤ) → IsConverted ty a b → operand_value variables values a ≡ v → operand_value variables values b ≡ wrapped ty v
+pub conversion_right : (variables : ℕ → ℤ) (values : List ℤ) (ty : IntegerType) (a b : Operand) (v : ℤ) → IsConverted ty a b → operand_value variables values a ≡ v →
+    operand_value variables values b ≡ wrapped ty v
 conversion_right variables values ty a b v h e =
     ap (λ s. converted b.conversions (source_value variables values s)) h.source ∙ h.value (source_value variables values a.source) ∙ ap (wrapped ty) e
 
@@ -62,7 +63,8 @@ store_below (target.Array a ty index) value old new k h below fits = subst (AreB
 store_below (target.Global g ty index) value old new k h below fits = subst (AreBelow k) (sym (ap (λ (z : OpenBlock). z.current) h.added)) fits
 
 -- what a local has is kept by a write of something else
-module _ (homes : List Home) (b : OpenBlock) (variables : ℕ → ℤ) (r : Running) (m : Memory) (fits : AreBelow (length r.values) b.current) (homed : HaveHomes homes (length b.current) m.locals) (holds : Holds homes b.current variables m r) where
+module _ (homes : List Home) (b : OpenBlock) (variables : ℕ → ℤ) (r : Running) (m : Memory) (fits : AreBelow (length r.values) b.current) (homed : HaveHomes homes (length b.current) m.locals)
+    (holds : Holds homes b.current variables m r) where
   values_kept : (w : ℤ) (n : ℕ) (o : Option (Option Operand)) → slice_get b.current n ≡ o → current_value o variables (r.values ++ w ∷ []) n ≡ current_value o variables r.values n
   values_kept w n (Some (Some o)) e = operand_stays variables r.values (w ∷ []) o (fits n o e)
   values_kept w n (Some None) e = refl
@@ -73,14 +75,16 @@ module _ (homes : List Home) (b : OpenBlock) (variables : ℕ → ℤ) (r : Runn
     assignment_to storage = record { target = record { storage = storage; variable = x; index = j; ty = ty }; value = v }
 
     -- a variable
-    module _ (n : ℕ) (is : slice_get homes x ≡ Some (home.Variable n)) (there : HasElement m.locals x j) (stored : Operand) (new : List (Option Operand)) (current : new ≡ slice_set b.current n (Some stored)) (right : operand_value variables r.values stored ≡ wrapped ty v) where
+    module _ (n : ℕ) (is : slice_get homes x ≡ Some (home.Variable n)) (there : HasElement m.locals x j) (stored : Operand) (new : List (Option Operand))
+        (current : new ≡ slice_set b.current n (Some stored)) (right : operand_value variables r.values stored ≡ wrapped ty v) where
       known : n < length b.current
       known = (subst (λ h. IsHomed (length b.current) h there.row) is (homed.homed x there.row there.found)).1
 
       single : length there.row ≤ 1
       single = (subst (λ h. IsHomed (length b.current) h there.row) is (homed.homed x there.row there.found)).0
 
-      other : (y i : ℕ) (row : List (Option ℤ)) (u : ℤ) (h : Option Home) → slice_get homes y ≡ h → IsHomed (length b.current) h row → slice_get m.locals y ≡ Some row → slice_get row i ≡ Some (Some u) → (y ≡ x → i ≡ j → ⊥) →
+      other : (y i : ℕ) (row : List (Option ℤ)) (u : ℤ) (h : Option Home) → slice_get homes y ≡ h → IsHomed (length b.current) h row → slice_get m.locals y ≡ Some row →
+          slice_get row i ≡ Some (Some u) → (y ≡ x → i ≡ j → ⊥) →
           local_value h new variables r y i ≡ local_value h b.current variables r y i
       other y i row u None at fit found e apart = absurd fit
       other y i row u (Some (home.Array a)) at fit found e apart = refl
@@ -115,7 +119,8 @@ module _ (homes : List Home) (b : OpenBlock) (variables : ℕ → ℤ) (r : Runn
       }
 
     -- an array
-    module _ (a : ℕ) (is : slice_get homes x ≡ Some (home.Array a)) (s : Running) (w z : ℤ) (right : w ≡ wrapped ty v) (values : s.values ≡ r.values ++ z ∷ []) (arrays : s.arrays ≡ with_cell a j w r.arrays) (globals : s.globals ≡ r.globals) where
+    module _ (a : ℕ) (is : slice_get homes x ≡ Some (home.Array a)) (s : Running) (w z : ℤ) (right : w ≡ wrapped ty v) (values : s.values ≡ r.values ++ z ∷ [])
+        (arrays : s.arrays ≡ with_cell a j w r.arrays) (globals : s.globals ≡ r.globals) where
       array_other : (y i : ℕ) (h : Option Home) → slice_get homes y ≡ h → (y ≡ x → i ≡ j → ⊥) → local_value h b.current variables s y i ≡ local_value h b.current variables r y i
       array_other y i None at apart = ap (λ vs. current_value (slice_get b.current y) variables vs y) values ∙ values_kept z y (slice_get b.current y) refl
       array_other y i (Some (home.Variable k)) at apart = ap (λ vs. current_value (slice_get b.current k) variables vs k) values ∙ values_kept z k (slice_get b.current k) refl
@@ -177,7 +182,8 @@ module _ (homes : List Home) (b : OpenBlock) (variables : ℕ → ℤ) (r : Runn
       pub store_done : (storage : Storage) → IsThere storage m.locals x j → (t : Target) → t ≡ target_at homes storage x ty index → (st : Stores t value b new) →
           Assigned homes new.current variables m r (operations_run variables (store_operations t value b new st) r) (assignment_to storage) []
       store_done storage there t at st =
-          subst (λ q. (st : Stores q value b new) → Assigned homes new.current variables m r (operations_run variables (store_operations q value b new st) r) (assignment_to storage) []) (sym at) (by storage there) st
+          subst (λ q. (st : Stores q value b new) → Assigned homes new.current variables m r (operations_run variables (store_operations q value b new st) r) (assignment_to storage) []) (sym at)
+          (by storage there) st
         where
           by : (storage : Storage) → IsThere storage m.locals x j → (st : Stores (target_at homes storage x ty index) value b new) →
               Assigned homes new.current variables m r (operations_run variables (store_operations (target_at homes storage x ty index) value b new st) r) (assignment_to storage) []

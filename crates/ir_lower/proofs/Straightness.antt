@@ -1,7 +1,7 @@
 -- What is straight is taken.
 use Rattle.std.proofs.Common.{◌≡◌, Bool, true, false, ◌&&◌, Option, Some, None, refl}
 use Rattle.c_program.specs.Tree.{Statement, Function}
-use Rattle.ir_lower.specs.Taken.{is_value, is_value_or_none, is_taken, is_taken_function, is_straight, is_straight_function}
+use Rattle.ir_lower.specs.Taken.{is_taken, is_taken_function, is_straight, is_straight_function}
 
 both : (a b c d : Bool) → (a && b) ≡ true → (a ≡ true → c ≡ true) → (b ≡ true → d ≡ true) → (c && d) ≡ true
 both true true c d e f g = let p : c ≡ true = f refl in let q : d ≡ true = g refl in cc

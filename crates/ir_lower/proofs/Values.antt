@@ -1,5 +1,6 @@
 -- The operations of each kind of expression.
-use Rattle.std.proofs.Common.{◌≡◌, ℕ, ◌+◌, ◌<◌, Bool, true, false, nat_lt, if◌then◌else◌, List, [], ◌∷◌, ◌++◌, length, ℤ, pos, negsuc, Option, Some, None, refl, sym, ap, ◌∙◌, subst, arith, append-nil, append_assoc, length-append}
+use Rattle.std.proofs.Common.{◌≡◌, ℕ, ◌+◌, ◌^◌, ◌<◌, Bool, true, false, nat_lt, if◌then◌else◌, List, [], ◌∷◌, ◌++◌, length, ℤ, pos, negsuc, Option, Some, None}
+use Rattle.std.proofs.Common.{refl, sym, ap, ◌∙◌, subst, arith, append-nil, append_assoc, length-append}
 use Rattle.std.specs.Prelude.{slice_get}
 use Rattle.hls_ints.specs.Types.{IntegerType, int_type, wrapped}
 use Rattle.c_program.specs.declared.tree.Storage.{Storage}
@@ -8,6 +9,7 @@ use Rattle.c_program.specs.declared.tree.UnaryOperator.{UnaryOperator}
 use Rattle.c_program.specs.declared.tree.UnaryOperator.TheVariants.{Plus}
 use Rattle.c_program.specs.declared.tree.BinaryOperator.{BinaryOperator}
 use Rattle.c_program.specs.Tree.{Expression}
+use Rattle.c_program.specs.Types.{type_of}
 use Rattle.thread_semantics.specs.declared.cause.UndefinedCause.TheVariants.{Index}
 use Rattle.thread_semantics.specs.Memory.{Location, Memory, Evaluation, Gives, Fails, and_then, element}
 use Rattle.thread_semantics.specs.Value.{value, load, local_value as c_local_value, global_value, checked_index, unary_value, binary_value}
@@ -17,13 +19,16 @@ use Rattle.block_ir.specs.declared.block.Operation.{Operation}
 use Rattle.block_ir.specs.declared.block.Operation.TheVariants.{Unary, Binary, ReadGlobal, ReadArray}
 use Rattle.block_ir.specs.Arithmetic.{unary_total, binary_total}
 use Rattle.block_ir.specs.Run.{Read, Running, converted, index_of, source_value, operand_value, with_value, operations_run}
+use Rattle.code_following.specs.Following.{reads_of}
 use Rattle.ir_lower.specs.declared.homes.Home.{Home}
 use Rattle.ir_lower.specs.declared.homes.Home.TheVariants as home
 use Rattle.ir_lower.specs.declared.places.Target.{Target}
 use Rattle.ir_lower.specs.declared.places.Target.TheVariants as target
 use Rattle.ir_lower.specs.declared.open_block.OpenBlock.{OpenBlock}
 use Rattle.ir_lower.specs.Needs.{plain, IsConverted, IsBelow, AreBelow}
-use Rattle.ir_lower.specs.Evaluating.{current_operand, current_value, local_target, target_at, load_block, loaded, with_more, local_value, Holds, reads_of, Reads, Evaluates}
+use Rattle.ir_lower.specs.Typing.{Computes}
+use Rattle.ir_lower.specs.Evaluating.{current_operand, current_value, local_target, target_at, load_block, loaded, with_more, local_value, Holds, Reads, Evaluates}
+use Rattle.ir_lower.proofs.Typing.{constant_computes, variable_computes, element_computes, unary_computes, converted_computes, binary_computes}
 use Rattle.ir_lower.proofs.Operators.{gives_same, unary_right, binary_right}
 use Rattle.ir_lower.proofs.Running.{parts, last_value, run_append, run_length, operand_kept, holds_on, are_below_more, reads_none, reads_both}
 
@@ -36,13 +41,15 @@ pub nothing_added : (b : OpenBlock) → b ≡ with_more b []
 nothing_added b = ap (λ os. record b { operations = os }) (sym (append-nil b.operations))
 
 -- an expression that takes no operation
-pub no_operation : (homes : List Home) (e : Expression) (b : OpenBlock) (a : Operand) →
+pub no_operation : (homes : List Home) (e : Expression) (b : OpenBlock) (a : Operand) → Computes homes e b b a →
     (AreBelow (length b.operations) b.current → IsBelow (length b.operations) a) →
-    ((variables : ℕ → ℤ) (r : Running) (m : Memory) (v : ℤ) (ls : List Location) → Holds homes b.current variables m r → value e m ≡ Gives v ls → (operand_value variables r.values a ≡ v) × (ls ≡ [])) →
+    ((variables : ℕ → ℤ) (r : Running) (m : Memory) (v : ℤ) (ls : List Location) → Holds homes b.current variables m r → value e m ≡ Gives v ls →
+    (operand_value variables r.values a ≡ v) × (ls ≡ [])) →
     Evaluates homes e b b a
-no_operation homes e b a below gives = record {
+no_operation homes e b a computes below gives = record {
   operations = [];
   added = nothing_added b;
+  computes = computes;
   below = below;
   reads = λ variables r m v ls fits len holds is. reads_none r ls (gives variables r m v ls holds is).1;
   gives = λ variables r m v ls fits len holds is. (gives variables r m v ls holds is).0;
@@ -50,14 +57,15 @@ no_operation homes e b a below gives = record {
 
 -- some operations after those of an expression e, which make of its value what F makes of it
 module _ (homes : List Home) (e e' : Expression) (F : ℤ → Memory → Evaluation ℤ) (old mid new : OpenBlock) (a b : Operand) (more : List Operation) where
-  pub after_one : ((m : Memory) → value e' m ≡ and_then (value e m) (λ x. F x m)) → new ≡ with_more mid more → Evaluates homes e old mid a →
+  pub after_one : ((m : Memory) → value e' m ≡ and_then (value e m) (λ x. F x m)) → new ≡ with_more mid more → Evaluates homes e old mid a → Computes homes e' old new b →
       (AreBelow (length mid.operations) mid.current → IsBelow (length mid.operations) a → IsBelow (length new.operations) b) →
       ((variables : ℕ → ℤ) (r : Running) (m : Memory) (x v : ℤ) (ls : List Location) → AreBelow (length mid.operations) mid.current → IsBelow (length mid.operations) a →
       length r.values ≡ length mid.operations → Holds homes mid.current variables m r → operand_value variables r.values a ≡ x → F x m ≡ Gives v ls →
       Comes variables r (operations_run variables more r) b v ls) →
       Evaluates homes e' old new b
-  after_one same added first below comes = record {
+  after_one same added first computes below comes = record {
     operations = first.operations ++ more;
+    computes = computes;
     added = added ∙ ap (λ z. with_more z more) first.added ∙ ap (λ os. record old { operations = os }) (append_assoc old.operations first.operations more);
     below = λ fits. below (fits_on fits) (first.below fits);
     reads = λ variables r m v ls fits len holds is. (all variables r m v ls fits len holds is).reads;
@@ -73,7 +81,8 @@ module _ (homes : List Home) (e e' : Expression) (F : ℤ → Memory → Evaluat
       fits_on : AreBelow (length old.operations) old.current → AreBelow (length mid.operations) mid.current
       fits_on fits = subst (AreBelow (length mid.operations)) (sym current_same) (are_below_more (length old.operations) (length mid.operations) old.current (omega (arith, longer)) fits)
 
-      all : (variables : ℕ → ℤ) (r : Running) (m : Memory) (v : ℤ) (ls : List Location) → AreBelow (length old.operations) old.current → length r.values ≡ length old.operations → Holds homes old.current variables m r →
+      all : (variables : ℕ → ℤ) (r : Running) (m : Memory) (v : ℤ) (ls : List Location) → AreBelow (length old.operations) old.current → length r.values ≡ length old.operations →
+          Holds homes old.current variables m r →
           value e' m ≡ Gives v ls → Comes variables r (operations_run variables (first.operations ++ more) r) b v ls
       all variables r m v ls fits len holds is =
           let p = parts (value e m) (λ x. F x m) v ls (sym (same m) ∙ is) in
@@ -108,15 +117,16 @@ pub constant_at : (homes : List Home) (e : Expression) (b : OpenBlock) (ty : Int
     e ≡ Expression.Constant ty n → a ≡ plain (FromConstant ty n) → Evaluates homes e b b a
 constant_at homes e b ty n a is place =
     rw (is, place)
-    (no_operation homes (Expression.Constant ty n) b (plain (FromConstant ty n)) (λ fits. tt)
+    (no_operation homes (Expression.Constant ty n) b (plain (FromConstant ty n)) (constant_computes homes ty n b) (λ fits. tt)
     (λ variables r m v ls holds q. gives_same n v ls q))
 
 pub unary_at : (homes : List Home) (e e' : Expression) (operator : UnaryOperator) (ty ty' : IntegerType) (old mid new : OpenBlock) (a b : Operand) →
     e' ≡ Expression.Unary operator ty e → Evaluates homes e old mid a → new ≡ with_more mid (Unary operator ty a ∷ []) → b ≡ plain (FromValue (length mid.operations) ty') →
-    Evaluates homes e' old new b
-unary_at homes e e' operator ty ty' old mid new a b is first added place =
+    ty' ≡ type_of e' → length new.operations < 2 ^ 32 → Evaluates homes e' old new b
+unary_at homes e e' operator ty ty' old mid new a b is first added place is_type few =
     after_one homes e e' (λ x m. unary_value operator ty x) old mid new a b (Unary operator ty a ∷ [])
     (λ m. ap (λ z. value z m) is) added first
+    (subst (λ z. Computes homes z old new b) (sym is) (unary_computes homes e operator ty ty' old mid new a b first.computes added place (is_type ∙ ap type_of is) few))
     (λ fits below. rw place (last_below mid new (Unary operator ty a) added))
     (λ variables r m x v ls fits below len holds gives q.
     let right = unary_right operator ty x v ls q in
@@ -128,9 +138,9 @@ unary_at homes e e' operator ty ty' old mid new a b is first added place =
 -- a conversion takes no operation
 converts : (homes : List Home) (e e' : Expression) (F : ℤ → Memory → Evaluation ℤ) (ty : IntegerType) (old mid : OpenBlock) (a b : Operand) →
     ((m : Memory) → value e' m ≡ and_then (value e m) (λ x. F x m)) → ((x v : ℤ) (m : Memory) (ls : List Location) → F x m ≡ Gives v ls → (wrapped ty x ≡ v) × (ls ≡ [])) →
-    Evaluates homes e old mid a → IsConverted ty a b → Evaluates homes e' old mid b
-converts homes e e' F ty old mid a b same right first converted_ =
-    after_one homes e e' F old mid mid a b [] same (nothing_added mid) first
+    Evaluates homes e old mid a → IsConverted ty a b → Computes homes e' old mid b → Evaluates homes e' old mid b
+converts homes e e' F ty old mid a b same right first converted_ computes =
+    after_one homes e e' F old mid mid a b [] same (nothing_added mid) first computes
     (λ fits below. subst (λ s. IsBelow (length mid.operations) (record { source = s; conversions = b.conversions })) (sym converted_.source) below)
     (λ variables r m x v ls fits below len holds gives q.
     record {
@@ -146,21 +156,29 @@ pub cast_at : (homes : List Home) (e e' : Expression) (ty : IntegerType) (old mi
 cast_at homes e e' ty old mid a b is first converted_ =
     converts homes e e' (λ x m. Gives (wrapped ty x) []) ty old mid a b (λ m. ap (λ z. value z m) is)
     (λ x v m ls q. gives_same (wrapped ty x) v ls q) first converted_
+    (subst (λ z. Computes homes z old mid b) (sym is)
+    (converted_computes homes e (Expression.Cast ty e) ty old mid a b (omega arith) refl (λ S ok. ok) first.computes converted_))
 
 pub plus_at : (homes : List Home) (e e' : Expression) (ty : IntegerType) (old mid : OpenBlock) (a b : Operand) →
     e' ≡ Expression.Unary Plus ty e → Evaluates homes e old mid a → IsConverted ty a b → Evaluates homes e' old mid b
 plus_at homes e e' ty old mid a b is first converted_ =
     converts homes e e' (λ x m. unary_value Plus ty x) ty old mid a b (λ m. ap (λ z. value z m) is)
     (λ x v m ls q. unary_right Plus ty x v ls q) first converted_
+    (subst (λ z. Computes homes z old mid b) (sym is)
+    (converted_computes homes e (Expression.Unary Plus ty e) ty old mid a b (omega arith) refl (λ S ok. ok.1) first.computes converted_))
 
 pub binary_at : (homes : List Home) (e f e' : Expression) (operator : BinaryOperator) (ty ty' : IntegerType) (old mid last new : OpenBlock) (a b c : Operand) →
     e' ≡ Expression.Binary operator ty e f → Evaluates homes e old mid a → Evaluates homes f mid last b →
-    new ≡ with_more last (Binary operator ty a b ∷ []) → c ≡ plain (FromValue (length last.operations) ty') → Evaluates homes e' old new c
-binary_at homes e f e' operator ty ty' old mid last new a b c is first second added place =
+    new ≡ with_more last (Binary operator ty a b ∷ []) → c ≡ plain (FromValue (length last.operations) ty') → ty' ≡ type_of e' → length new.operations < 2 ^ 32 →
+    Evaluates homes e' old new c
+binary_at homes e f e' operator ty ty' old mid last new a b c is first second added place is_type few =
     after_one homes e e' (λ x m. and_then (value f m) (λ y. binary_value operator ty x y)) old mid new a c (second.operations ++ Binary operator ty a b ∷ [])
     (λ m. ap (λ z. value z m) is)
     (added ∙ ap (λ z. with_more z (Binary operator ty a b ∷ [])) second.added ∙ ap (λ os. record mid { operations = os }) (append_assoc mid.operations second.operations (Binary operator ty a b ∷ [])))
     first
+    (subst (λ z. Computes homes z old new c) (sym is)
+    (binary_computes homes e f operator ty ty' old mid last new second.operations a b c first.computes second.computes (ap (λ (z : OpenBlock). z.operations) second.added) added place
+    (is_type ∙ ap type_of is) few))
     (λ fits below. rw place (last_below last new (Binary operator ty a b) added))
     (λ variables r m x v ls fits below len holds gives q.
     let p = parts (value f m) (λ y. binary_value operator ty x y) v ls q in
@@ -196,7 +214,8 @@ load_added (target.Variable n ty) b = nothing_added b
 load_added (target.Array a ty index) b = refl
 load_added (target.Global g ty index) b = refl
 
-current_below : (o : Option (Option Operand)) (b : OpenBlock) (n : ℕ) (ty : IntegerType) → slice_get b.current n ≡ o → AreBelow (length b.operations) b.current → IsBelow (length b.operations) (current_operand o n ty)
+current_below : (o : Option (Option Operand)) (b : OpenBlock) (n : ℕ) (ty : IntegerType) → slice_get b.current n ≡ o → AreBelow (length b.operations) b.current →
+    IsBelow (length b.operations) (current_operand o n ty)
 current_below (Some (Some a)) b n ty e fits = fits n a e
 current_below (Some None) b n ty e fits = tt
 current_below None b n ty e fits = tt
@@ -207,7 +226,8 @@ loaded_below (target.Variable n ty) b new e fits =
 loaded_below (target.Array a ty index) b new e fits = last_below b new (ReadArray a index) e
 loaded_below (target.Global g ty index) b new e fits = last_below b new (ReadGlobal g index) e
 
-current_right : (o : Option (Option Operand)) (variables : ℕ → ℤ) (values : List ℤ) (n : ℕ) (ty : IntegerType) → operand_value variables values (current_operand o n ty) ≡ current_value o variables values n
+current_right : (o : Option (Option Operand)) (variables : ℕ → ℤ) (values : List ℤ) (n : ℕ) (ty : IntegerType) →
+    operand_value variables values (current_operand o n ty) ≡ current_value o variables values n
 current_right (Some (Some a)) variables values n ty = refl
 current_right (Some None) variables values n ty = refl
 current_right None variables values n ty = refl
@@ -270,11 +290,12 @@ module _ (homes : List Home) (b : OpenBlock) (variables : ℕ → ℤ) (r : Runn
 
 pub variable_at : (homes : List Home) (e : Expression) (storage : Storage) (x : ℕ) (ty : IntegerType) (b new : OpenBlock) (index a : Operand) (t : Target) →
     e ≡ Expression.Variable storage x ty → index ≡ plain (FromConstant int_type (pos 0)) → t ≡ target_at homes storage x ty index →
-    new ≡ load_block t b → a ≡ loaded t b → Evaluates homes e b new a
-variable_at homes e storage x ty b new index a t is first at added place =
+    new ≡ load_block t b → a ≡ loaded t b → (length b.operations < 2 ^ 32 → length new.operations < 2 ^ 32) → Evaluates homes e b new a
+variable_at homes e storage x ty b new index a t is first at added place few =
     rw (is, place) record {
       operations = load_operations t;
       added = added ∙ load_added t b;
+      computes = variable_computes homes storage x ty b new index (loaded t b) t first at added refl few;
       below = λ fits. loaded_below t b new added fits;
       reads = λ variables r m v ls fits len holds q. (comes variables r m v ls len holds q).reads;
       gives = λ variables r m v ls fits len holds q. (comes variables r m v ls len holds q).gives;
@@ -288,11 +309,12 @@ variable_at homes e storage x ty b new index a t is first at added place =
 
 pub element_at : (homes : List Home) (e e' : Expression) (storage : Storage) (x n : ℕ) (ty : IntegerType) (old mid new : OpenBlock) (index a : Operand) (t : Target) →
     e' ≡ Expression.Element storage x n ty e → Evaluates homes e old mid index → t ≡ target_at homes storage x ty index →
-    new ≡ load_block t mid → a ≡ loaded t mid → Evaluates homes e' old new a
-element_at homes e e' storage x n ty old mid new index a t is first at added place =
+    new ≡ load_block t mid → a ≡ loaded t mid → (length mid.operations < 2 ^ 32 → length new.operations < 2 ^ 32) → Evaluates homes e' old new a
+element_at homes e e' storage x n ty old mid new index a t is first at added place few =
     after_one homes e e' (λ i m. and_then (checked_index n i) (λ j. load m storage x j)) old mid new index a (load_operations t)
     (λ m. ap (λ z. value z m) is)
     (added ∙ load_added t mid) first
+    (subst (λ z. Computes homes z old new a) (sym is) (element_computes homes e storage x n ty old mid new index a t first.computes at added place few))
     (λ fits below. rw place (loaded_below t mid new added fits))
     (λ variables r m i v ls fits below len holds gives q.
     let p = parts (checked_index n i) (λ j. load m storage x j) v ls q in
@@ -303,3 +325,6 @@ element_at homes e e' storage x n ty old mid new index a t is first at added pla
     rw place
     (subst (λ z. Comes variables r (operations_run variables (load_operations z) r) (loaded z mid) v ls) (sym at)
     (load_comes homes mid variables r m x p.value ty index len holds j storage v ls q')))
+
+-- what each kind of expression comes to
+pub ruleset expression_steps = (constant_at, variable_at, element_at, unary_at, plus_at, binary_at, cast_at)

@@ -1,11 +1,10 @@
 -- Variables for words, as operands of an act.
-use Rattle.std.proofs.Common.{◌≡◌, ℕ, zero, suc, ◌+◌, List, [], ◌∷◌, ◌++◌, length, map, ℤ, refl, sym, ap, ◌∙◌, subst, arith, sum_by}
+use Rattle.std.proofs.Common.{◌≡◌, ℕ, zero, suc, ◌+◌, List, [], ◌∷◌, ◌++◌, length, map, ℤ, refl, ap, ◌∙◌, arith, sum_by}
 use Rattle.std.proofs.lemmas.List.Sums.{sum_by-append}
-use Rattle.hls_ints.specs.Types.{long_int, wrapped}
-use Rattle.block_ir.specs.declared.code.ActOperand.{ActOperand}
+use Rattle.hls_ints.specs.Types.{long_int}
 use Rattle.block_ir.specs.declared.code.ActOperand.TheVariants.{Variable}
 use Rattle.ir_lower.specs.Printing.{HoldWords, word_operands}
-use Rattle.ir_lower.specs.Following.{AreValues}
+use Rattle.code_following.specs.Following.{AreValues}
 
 pub sum_cons : {A : Type 0} (f : A → ℕ) (x : A) (xs : List A) → sum_by f (x ∷ xs) ≡ f x + sum_by f xs
 sum_cons f x xs =

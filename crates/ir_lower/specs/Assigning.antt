@@ -11,13 +11,14 @@ use Rattle.block_ir.specs.declared.operand.Source.TheVariants.{Constant as FromC
 use Rattle.block_ir.specs.declared.block.Operation.{Operation}
 use Rattle.block_ir.specs.declared.block.Operation.TheVariants.{WriteArray, WriteGlobal}
 use Rattle.block_ir.specs.Run.{Access, Write, Running, operations_run}
+use Rattle.code_following.specs.Following.{reads_of}
 use Rattle.ir_lower.specs.declared.homes.Home.{Home}
 use Rattle.ir_lower.specs.declared.homes.Home.TheVariants as home
 use Rattle.ir_lower.specs.declared.places.Target.{Target}
 use Rattle.ir_lower.specs.declared.places.Target.TheVariants as target
 use Rattle.ir_lower.specs.declared.open_block.OpenBlock.{OpenBlock}
 use Rattle.ir_lower.specs.Needs.{plain, IsConverted, AreBelow}
-use Rattle.ir_lower.specs.Evaluating.{target_at, with_more, Holds, reads_of, Evaluates}
+use Rattle.ir_lower.specs.Evaluating.{target_at, with_more, Holds, Evaluates}
 use Rattle.ir_lower.specs.Closing.{HasNoted}
 
 -- the variable n holds the value, converted to the type, from now on

@@ -38,6 +38,7 @@ pub record Closes (open_ : OpenBlock) (next : Next) (b : Block) : Type 0 where
   pub operations : b.operations ≡ open_.operations
   pub steps : b.steps ≡ open_.steps
   pub next_ : b.next ≡ next
+  pub from : (k : ℕ) (f : Final) → slice_get b.finals k ≡ Some f → slice_get open_.current f.variable ≡ Some (Some f.value)
   pub finals : HasNoted open_ → (variables : ℕ → ℤ) (values : List ℤ) (x : ℕ) →
       finished variables values b.finals variables x ≡ current_value (slice_get open_.current x) variables values x
 

@@ -10,12 +10,14 @@ use Rattle.block_ir.specs.declared.operand.Operand.{Operand}
 use Rattle.block_ir.specs.declared.operand.Source.TheVariants.{Variable as FromVariable, Value as FromValue}
 use Rattle.block_ir.specs.declared.block.Operation.{Operation}
 use Rattle.block_ir.specs.declared.block.Operation.TheVariants.{ReadArray, ReadGlobal}
-use Rattle.block_ir.specs.Run.{Access, Read, Running, operand_value, operations_run}
+use Rattle.block_ir.specs.Run.{Running, operand_value, operations_run}
+use Rattle.code_following.specs.Following.{reads_of}
 use Rattle.ir_lower.specs.declared.homes.Home.{Home}
 use Rattle.ir_lower.specs.declared.homes.Home.TheVariants as home
 use Rattle.ir_lower.specs.declared.places.Target.{Target}
 use Rattle.ir_lower.specs.declared.places.Target.TheVariants as target
 use Rattle.ir_lower.specs.declared.open_block.OpenBlock.{OpenBlock}
+use Rattle.ir_lower.specs.Typing.{Computes}
 use Rattle.ir_lower.specs.Needs.{plain, IsBelow, AreBelow}
 
 -- what a variable holds by now: the operand that the block has put there, or what the block found
@@ -64,10 +66,6 @@ pub record Holds (homes : List Home) (current : List (Option Operand)) (variable
   pub locals : (x j : ℕ) (v : ℤ) → element m.locals x j ≡ Some (Some v) → local_value (slice_get homes x) current variables r x j ≡ v
   pub globals : (x j : ℕ) (v : ℤ) → element m.globals x j ≡ Some v → r.globals x j ≡ v
 
-abbrev pub reads_of : List Location → List Access
-reads_of [] = []
-reads_of (l ∷ ls) = Read l.variable l.index ∷ reads_of ls
-
 -- from r to s nothing is written, and these globals are read
 pub record Reads (r s : Running) (reads : List Location) : Type 0 where
   pub more : List ℤ
@@ -80,6 +78,7 @@ pub record Reads (r s : Running) (reads : List Location) : Type 0 where
 pub record Evaluates (homes : List Home) (e : Expression) (old new : OpenBlock) (a : Operand) : Type 0 where
   pub operations : List Operation
   pub added : new ≡ with_more old operations
+  pub computes : Computes homes e old new a
   pub below : AreBelow (length old.operations) old.current → IsBelow (length new.operations) a
   pub reads : (variables : ℕ → ℤ) (r : Running) (m : Memory) (v : ℤ) (ls : List Location) →
       AreBelow (length old.operations) old.current → length r.values ≡ length old.operations → Holds homes old.current variables m r →

@@ -1,8 +1,10 @@
 pub mod Taken
 pub mod Printing
-pub mod Following
 pub mod Resuming
 pub mod Locals
+pub mod Typed
+pub mod Typing
+pub mod Values
 pub mod Needs
 pub mod Evaluating
 pub mod Arithmetic

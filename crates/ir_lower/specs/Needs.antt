@@ -5,6 +5,7 @@ use Rattle.block_ir.specs.Run.{converted}
 use Rattle.block_ir.specs.declared.operand.Source.{Source}
 use Rattle.block_ir.specs.declared.operand.Source.TheVariants.{Constant, Variable, Value}
 use Rattle.block_ir.specs.declared.operand.Operand.{Operand}
+use Rattle.ir_lower.specs.Typed.{operand_type}
 
 -- what a source has, not converted
 abbrev pub plain : Source → Operand
@@ -17,6 +18,7 @@ is_narrower ty conversion = nat_lt (width_of conversion) (width_of ty)
 -- the operand after is the one before, converted to a type
 pub record IsConverted (ty : IntegerType) (before after : Operand) : Type 0 where
   pub source : after.source ≡ before.source
+  pub type : operand_type after ≡ ty
   pub value : (v : ℤ) → converted after.conversions v ≡ wrapped ty (converted before.conversions v)
 
 -- it needs no value but those of the first n operations

@@ -1,8 +1,7 @@
 -- What the act of a printf works on: variables of 64 bits that hold its values.
-use Rattle.std.specs.Prelude.{◌≡◌, ℕ, zero, suc, ◌+◌, ◌<◌, ◌≤◌, List, [], ◌∷◌, ◌++◌, length, ℤ, Option, Some, slice_get}
-use Rattle.std.specs.List.{flat_map}
+use Rattle.std.specs.Prelude.{◌≡◌, ℕ, zero, suc, ◌+◌, ◌<◌, ◌≤◌, List, [], ◌∷◌, ◌++◌, length, ℤ, Option, slice_get}
 use Rattle.hls_ints.specs.Types.{IntegerType, long_int, wrapped}
-use Rattle.c_program.specs.Tree.{Expression, Piece}
+use Rattle.c_program.specs.Tree.{Expression}
 use Rattle.thread_semantics.specs.Memory.{Location, Memory, Evaluation, Gives, and_then}
 use Rattle.thread_semantics.specs.Value.{value}
 use Rattle.block_ir.specs.declared.operand.Operand.{Operand}
@@ -16,20 +15,6 @@ use Rattle.ir_lower.specs.Needs.{AreBelow}
 use Rattle.ir_lower.specs.Evaluating.{current_value, Holds, Reads}
 use Rattle.ir_lower.specs.Assigning.{HaveHomes}
 use Rattle.ir_lower.specs.Closing.{HasNoted}
-
--- the types of a format's conversions
-abbrev pub conversion_of : Piece → List IntegerType
-conversion_of (Piece.Text bytes) = []
-conversion_of (Piece.Conversion ty) = ty ∷ []
-
-abbrev pub conversions_of : List Piece → List IntegerType
-conversions_of format = flat_map conversion_of format
-
--- the values, each converted to its type
-abbrev pub converted_values : List IntegerType → List ℤ → List ℤ
-converted_values [] vs = []
-converted_values (ty ∷ types) [] = []
-converted_values (ty ∷ types) (v ∷ vs) = wrapped ty v ∷ converted_values types vs
 
 -- the variables from n on hold these words of 64 bits
 abbrev pub HoldWords : (ℕ → ℤ) → ℕ → List ℤ → Type 0

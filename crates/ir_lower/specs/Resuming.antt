@@ -1,10 +1,11 @@
 -- Code in the making, and what of a thread's steps its whole does from there on.
-use Rattle.std.specs.Prelude.{◌≡◌, ℕ, ◌+◌, ◌<◌, ◌≤◌, Bool, true, false, List, [], ◌∷◌, ◌++◌, length, map, ℤ, Option, Some, None, slice_get, ◌⊎◌}
+use Rattle.std.specs.Prelude.{◌≡◌, ℕ, ◌+◌, ◌*◌, ◌<◌, ◌≤◌, Bool, true, false, List, [], ◌∷◌, ◌++◌, length, map, ℤ, Option, Some, None, slice_get, ◌⊎◌}
 use Rattle.c_program.specs.declared.tree.LocalVariable.{LocalVariable}
 use Rattle.c_program.specs.Tree.{Piece, Statement, Function, Program}
 use Rattle.c_program.specs.Limits.{print_count}
 use Rattle.c_program.specs.Resolved.{IsStatement}
-use Rattle.thread_semantics.specs.Memory.{Memory, element}
+use Rattle.c_program.specs.Weight.{statement_weight}
+use Rattle.thread_semantics.specs.Memory.{element}
 use Rattle.thread_semantics.specs.Work.{Work, Do, settled, Onward}
 use Rattle.thread_semantics.specs.State.{Frame}
 use Rattle.block_ir.specs.declared.block.Operation.{Operation}
@@ -15,16 +16,19 @@ use Rattle.block_ir.specs.declared.code.Act.TheVariants.{Return}
 use Rattle.block_ir.specs.declared.code.Stage.{Stage}
 use Rattle.block_ir.specs.declared.code.Stage.TheVariants as stage
 use Rattle.block_ir.specs.Run.{Cells, Access, Running, operations_run, variables_after, stage_after}
+use Rattle.code_following.specs.Following.{AfterMoves, formats_of, print_formats, Follows}
 use Rattle.ir_lower.specs.declared.homes.Home.{Home}
 use Rattle.ir_lower.specs.declared.homes.Home.TheVariants as home
 use Rattle.ir_lower.specs.declared.homes.Homes.{Homes}
 use Rattle.ir_lower.specs.declared.open_block.OpenBlock.{OpenBlock}
 use Rattle.ir_lower.specs.declared.straight.StraightCode.{StraightCode}
+use Rattle.ir_lower.specs.Typed.{Types, IsTypedStage}
+use Rattle.ir_lower.specs.Typing.{Typing, Fits, HasWords, IsTypedSoFar}
+use Rattle.ir_lower.specs.Values.{most_values}
 use Rattle.ir_lower.specs.Needs.{AreBelow}
 use Rattle.ir_lower.specs.Evaluating.{Holds}
 use Rattle.ir_lower.specs.Closing.{HasNoted, IsFresh, Closes}
 use Rattle.ir_lower.specs.Printing.{held_by}
-use Rattle.ir_lower.specs.Following.{AfterMoves, formats_of, print_formats, Follows}
 
 -- Locals and their homes.
 
@@ -88,7 +92,6 @@ module _ (S : Setting) (homes : List Home) (Kept : Keeping) where
     pub operations : block.operations ≡ b.operations ++ rest
     pub count : ℕ
     pub steps : block.steps ≡ b.steps + count
-    pub busy : 0 < block.steps
     pub goes : (j : ℕ) → j < n → (variables : ℕ → ℤ) (r : Running) (f : Frame) (globals : List (List ℤ)) → f.work ≡ k → IsMid b variables r f globals →
         AfterMoves S.program count (f ∷ []) globals r.accesses (λ frames made. Comes block j variables (operations_run variables rest r) frames made)
 
@@ -156,12 +159,19 @@ pub record HasSites (P : Program) (s : Statement) (site : ℕ) : Type 0 where
   pub all : print_formats P ≡ before ++ (formats_of s ++ after)
   pub number : site ≡ length before
 
+-- the stages so far, and the block at hand, stay typed
+abbrev pub StaysTyped : Homes → Statement → StraightCode → StraightCode → Bool → Type 0
+StaysTyped homes s old new goes =
+    (S : Typing) (w : ℕ) → Fits S homes.homes → HasWords S.types (length homes.variables) (most_values s) → IsStatement S.program S.function false s →
+    IsSound (length homes.variables) old.block → HasSites S.program s old.site → IsTypedSoFar S w true old → IsTypedSoFar S (w + statement_weight s) goes new
+
 -- the code of a statement was added; where it goes on past it, the place after it is one where the work after it goes on
 pub record Leads (homes : Homes) (s : Statement) (old new : StraightCode) (goes : Bool) : Type 0 where
   pub more : List Stage
   pub stages : new.stages ≡ old.stages ++ more
   pub sound : IsSound (length homes.variables) old.block → IsSound (length homes.variables) new.block
   pub site : goes ≡ true → new.site ≡ old.site + print_count s
+  pub typed : StaysTyped homes s old new goes
   pub leads : (S : Setting) (n : ℕ) (k : List Work) → AreHomes S.function.locals homes.homes (length homes.variables) →
       IsStatement S.program S.function false s → IsSound (length homes.variables) old.block → IsPart new.stages S.stages → HasSites S.program s old.site →
       (goes ≡ true → ResumesUpTo S homes.homes nothing_kept n new (settled Onward k)) → ResumesUpTo S homes.homes nothing_kept n old (settled Onward (Do s ∷ k))
@@ -172,8 +182,14 @@ pub record IsNew (variables site : ℕ) (c : StraightCode) : Type 0 where
   pub stages : c.stages ≡ []
   pub site_ : c.site ≡ site
 
+-- one stage or more, each typed, with at most so many operations in a block
+abbrev pub AreTypedStages : Types → Program → ℕ → List Stage → Type 0
+AreTypedStages T P most stages = (0 < length stages) × ((l : ℕ) (s : Stage) → slice_get stages l ≡ Some s → IsTypedStage T P (length stages) most s)
+
 -- the stages do the steps of a call that begins with the statement and does no more
 pub record AreStages (homes : Homes) (s : Statement) (site : ℕ) (stages : List Stage) : Type 0 where
   pub follow : (P : Program) (f : Function) → AreHomes f.locals homes.homes (length homes.variables) → IsStatement P f false s → HasSites P s site →
       (n : ℕ) (variables : ℕ → ℤ) (arrays : Cells) (g : Frame) → g.work ≡ settled Onward (Do s ∷ []) → HasShape f.locals g.locals →
       HoldLocals homes.homes variables arrays g.locals → Follows P stages n 0 variables arrays (g ∷ [])
+  pub typed : (S : Typing) → Fits S homes.homes → HasWords S.types (length homes.variables) (most_values s) → IsStatement S.program S.function false s → HasSites S.program s site →
+      AreTypedStages S.types S.program (4 * statement_weight s) stages

@@ -4,6 +4,7 @@ ghost use Rattle.std.specs.Prelude.{◌≡◌, IfOk};
 ghost use Rattle.c_program.specs.Plain.{expression_of, place_of};
 ghost use Rattle.thread_semantics.specs.Move.{assignment, update};
 ghost use Rattle.ir_lower.specs.Assigning as assigning;
+ghost use Rattle.ir_lower.specs.Typing as typing;
 
 use crate::expressions::lower_expression;
 use crate::fault::LoweringFault;
@@ -16,7 +17,7 @@ use hls_ints::CType;
 use std::alloc::Global;
 
 /// A step that assigns: the right side, the index, the store.
-#[tactic(auto, using(crate::proofs::Steps::assignment_at))]
+#[tactic(auto, using(crate::proofs::Steps::assignment_at, crate::proofs::Working::assignment_works))]
 pub fn lower_assignment(
     alloc: Global,
     homes: &[Home],
@@ -24,7 +25,8 @@ pub fn lower_assignment(
     place: &Place,
     right: &Expression,
 ) -> Result<(), LoweringFault>
-    ensures { IfOk result (λ _. assigning.Assigns homes.now (assignment (place_of place.now) (expression_of right.now)) block.old block.new) }
+    ensures assigns { IfOk result (λ _. assigning.Assigns homes.now (assignment (place_of place.now) (expression_of right.now)) block.old block.new) }
+    ensures typed { IfOk result (λ _. typing.WorksOnAssignment homes.now (place_of place.now) (expression_of right.now) block.old block.new) }
 {
     let value = lower_expression(alloc, homes, block, right)?;
     let target = lower_place(alloc, homes, block, place)?;
@@ -34,7 +36,7 @@ pub fn lower_assignment(
 }
 
 /// A step that works on the old value: the right side, the index, the old value, the operator, the store.
-#[tactic(auto, using(crate::proofs::Steps::update_at))]
+#[tactic(auto, using(crate::proofs::Steps::update_at, crate::proofs::Working::update_works))]
 pub fn lower_update(
     alloc: Global,
     homes: &[Home],
@@ -44,7 +46,8 @@ pub fn lower_update(
     ty: CType,
     right: &Expression,
 ) -> Result<(), LoweringFault>
-    ensures { IfOk result (λ _. assigning.Assigns homes.now (update (place_of place.now) operator ty (expression_of right.now)) block.old block.new) }
+    ensures assigns { IfOk result (λ _. assigning.Assigns homes.now (update (place_of place.now) operator ty (expression_of right.now)) block.old block.new) }
+    ensures typed { IfOk result (λ _. typing.WorksOnUpdate homes.now (place_of place.now) operator ty (expression_of right.now) block.old block.new) }
 {
     let right = lower_expression(alloc, homes, block, right)?;
     let target = lower_place(alloc, homes, block, place)?;

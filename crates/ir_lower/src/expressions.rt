@@ -26,7 +26,7 @@ pub fn first_index(alloc: Global) -> Operand
 }
 
 /// The operations that an expression takes are added to the block; the answer is its value.
-#[tactic(auto, using(crate::proofs::Values::constant_at, crate::proofs::Values::variable_at, crate::proofs::Values::element_at, crate::proofs::Values::unary_at, crate::proofs::Values::plus_at, crate::proofs::Values::binary_at, crate::proofs::Values::cast_at))]
+#[tactic(auto, using(crate::proofs::Values::expression_steps))]
 pub fn lower_expression(
     alloc: Global,
     homes: &[Home],

@@ -1,6 +1,6 @@
 // A block in the making.
 
-ghost use Rattle.std.specs.Prelude.{◌≡◌, ◌↔◌, ℕ, suc, [], ◌∷◌, ◌++◌, length, slice_get, slice_set, IsTrue, IfOk, OnOk};
+ghost use Rattle.std.specs.Prelude.{◌≡◌, ◌↔◌, ◌^◌, ◌<◌, ℕ, suc, [], ◌∷◌, ◌++◌, length, slice_get, slice_set, IsTrue, IfOk, OnOk};
 ghost use Rattle.ir_lower.specs.Needs as operands;
 ghost use Rattle.ir_lower.specs.Evaluating as evaluating;
 ghost use Rattle.ir_lower.specs.Closing as closing;
@@ -70,6 +70,7 @@ impl OpenBlock {
     ) -> Result<Operand, LoweringFault>
         ensures block { IfOk result (λ _. self.new ≡ evaluating.with_more self.old (operation ∷ [])) }
         ensures value { IfOk result (λ a. a ≡ operands.plain (Source.Value (length self.old.operations) ty)) }
+        ensures few { IfOk result (λ _. length self.new.operations < 2 ^ 32) }
     {
         let number = number_of(self.operations.len())?;
         self.operations.push(operation)?;

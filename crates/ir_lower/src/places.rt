@@ -1,6 +1,6 @@
 // What is read and written: variables, elements of local arrays, elements of globals.
 
-ghost use Rattle.std.specs.Prelude.{◌≡◌, IfOk};
+ghost use Rattle.std.specs.Prelude.{◌≡◌, ◌^◌, ◌<◌, length, IfOk};
 ghost use Rattle.c_program.specs.Plain.{place_of};
 ghost use Rattle.ir_lower.specs.Assigning as assigning;
 ghost use Rattle.ir_lower.specs.Evaluating as evaluating;
@@ -72,6 +72,7 @@ pub fn lower_place(
 pub fn load(alloc: Global, block: &mut OpenBlock, target: &Target) -> Result<Operand, LoweringFault>
     ensures block { IfOk result (λ _. block.new ≡ evaluating.load_block target.now block.old) }
     ensures value { IfOk result (λ a. a ≡ evaluating.loaded target.now block.old) }
+    ensures few { IfOk result (λ _. length block.old.operations < 2 ^ 32 → length block.new.operations < 2 ^ 32) }
 {
     match target {
         Target::Variable(variable, ty) => {
@@ -107,7 +108,8 @@ pub fn store(
     target: Target,
     value: &Operand,
 ) -> Result<(), LoweringFault>
-    ensures { IfOk result (λ _. assigning.Stores target value.now block.old block.new) }
+    ensures stores { IfOk result (λ _. assigning.Stores target value.now block.old block.new) }
+    ensures few { IfOk result (λ _. length block.old.operations < 2 ^ 32 → length block.new.operations < 2 ^ 32) }
 {
     match target {
         Target::Variable(variable, ty) => {

@@ -2,7 +2,9 @@
 
 ghost use Rattle.std.specs.Prelude.{◌≡◌, ℕ, ◌+◌, ◌++◌, length, IfOk, OnOk};
 ghost use Rattle.c_program.specs.Plain.{expression_of, expressions_of, piece_of, pieces_of};
+ghost use Rattle.code_following.specs.Following as following;
 ghost use Rattle.ir_lower.specs.Printing as printing;
+ghost use Rattle.ir_lower.specs.Typing as typing;
 
 use crate::expressions::lower_expression;
 use crate::fault::{LoweringFault, number_of};
@@ -17,7 +19,7 @@ use std::alloc::{AllocError, Global};
 
 /// The type of a piece that is a conversion.
 fn push_conversion(types: &mut Items<CType>, piece: &Piece) -> Result<(), AllocError>
-    ensures { OnOk result (types.new ≡ types.old ++ printing.conversion_of (piece_of piece.now)) }
+    ensures { OnOk result (types.new ≡ types.old ++ following.conversion_of (piece_of piece.now)) }
 {
     if let Piece::Conversion(ty) = piece {
         types.push(*ty)?;
@@ -27,7 +29,7 @@ fn push_conversion(types: &mut Items<CType>, piece: &Piece) -> Result<(), AllocE
 
 /// The types of a format's conversions.
 pub fn conversions_of(alloc: Global, format: &[Piece]) -> Result<Items<CType>, AllocError>
-    ensures { IfOk result (λ types. types ≡ printing.conversions_of (pieces_of format.now)) }
+    ensures { IfOk result (λ types. types ≡ following.conversions_of (pieces_of format.now)) }
 {
     let mut types = Items::new(alloc);
     for piece in format {
@@ -37,7 +39,7 @@ pub fn conversions_of(alloc: Global, format: &[Piece]) -> Result<Items<CType>, A
 }
 
 /// The value of an argument, converted to its conversion's type, is put into a variable of 64 bits.
-#[tactic(auto, using(crate::proofs::Puts::puts_value))]
+#[tactic(auto, using(crate::proofs::Puts::puts_value, crate::proofs::Working::value_works))]
 fn lower_value(
     alloc: Global,
     homes: &[Home],
@@ -46,7 +48,8 @@ fn lower_value(
     ty: CType,
     argument: &Expression,
 ) -> Result<(), LoweringFault>
-    ensures { IfOk result (λ _. printing.PutsValue homes.now variable ty (expression_of argument.now) block.old block.new) }
+    ensures puts { IfOk result (λ _. printing.PutsValue homes.now variable ty (expression_of argument.now) block.old block.new) }
+    ensures typed { IfOk result (λ _. typing.WorksOnValue homes.now variable (expression_of argument.now) block.old block.new) }
 {
     let value = lower_expression(alloc, homes, block, argument)?;
     let value = converted(alloc, &value, ty)?;
@@ -56,7 +59,7 @@ fn lower_value(
 }
 
 /// The values of a printf are put into the variables from that number on, each converted to its conversion's type.
-#[tactic(auto, using(crate::proofs::Puts::puts_none, crate::proofs::Puts::puts_more))]
+#[tactic(auto, using(crate::proofs::Working::values_done))]
 pub fn lower_values(
     alloc: Global,
     homes: &[Home],
@@ -65,7 +68,8 @@ pub fn lower_values(
     types: &[CType],
     arguments: &[Expression],
 ) -> Result<(), LoweringFault>
-    ensures { IfOk result (λ _. printing.PutsValues homes.now first types.now (expressions_of arguments.now) block.old block.new) }
+    ensures puts { IfOk result (λ _. printing.PutsValues homes.now first types.now (expressions_of arguments.now) block.old block.new) }
+    ensures typed { IfOk result (λ _. typing.WorksOnValues homes.now first (expressions_of arguments.now) block.old block.new) }
 {
     let [ty, types @ ..] = types else {
         return Ok(());

@@ -4,6 +4,7 @@ ghost use Rattle.std.specs.Prelude.{◌≡◌, ◌+◌, map, take, sum_by, IfOk}
 ghost use Rattle.c_program.specs.Plain.{function_of, statement_of};
 ghost use Rattle.c_program.specs.Limits.{print_count};
 ghost use Rattle.c_program.specs.Tree as tree;
+ghost use Rattle.ir_lower.specs.Values as values;
 
 use crate::fault::LoweringFault;
 use c_program::tree::{Function, Program, Statement};
@@ -42,7 +43,9 @@ pub fn print_count(statement: &Statement) -> Result<u32, LoweringFault>
 }
 
 /// The most values that a printf of the statement has.
-pub fn most_values(statement: &Statement) -> usize {
+pub fn most_values(statement: &Statement) -> usize
+    ensures { result ≡ values.most_values (statement_of statement.now) }
+{
     let mut most = 0;
     let mut rest = statement;
     while let Statement::Sequence(first, next) = rest {

@@ -3,8 +3,9 @@
 ghost use Rattle.std.specs.Prelude.{◌≡◌, true, false, slice_get, IfOk, OnOk};
 ghost use Rattle.c_program.specs.Plain.{program_of};
 ghost use Rattle.c_program.specs.Resolved.{IsResolved};
-ghost use Rattle.ir_lower.specs.Following.{IsLowered};
+ghost use Rattle.code_following.specs.Following.{IsLowered};
 ghost use Rattle.ir_lower.specs.Taken.{is_straight_program, is_taken_function};
+ghost use Rattle.ir_lower.specs.Typed.{IsTypedCode};
 
 use crate::acts::{lower_print, lower_thread_call};
 use crate::assignments::{lower_assignment, lower_update};
@@ -227,12 +228,13 @@ pub fn lower_function(
     Ok(code)
 }
 
-/// The code of main. That of a straight main is proved to do its steps.
+/// The code of main. That of a straight main is proved to do its steps, and to be typed.
 #[tactic(auto, using(crate::proofs::Straightness::straight_function_is_taken))]
 pub fn lower(alloc: Global, program: &Program) -> Result<ThreadCode, LoweringFault>
     ensures taken { OnOk result (is_taken_function (slice_get (program_of program.now).functions program.now.main) ≡ true) }
     ensures not_yet { is_taken_function (slice_get (program_of program.now).functions program.now.main) ≡ false → result ≡ Err LoweringFault.NotYet }
     ensures lowered { IfOk result (λ code. is_straight_program (program_of program.now) ≡ true → IsResolved (program_of program.now) → IsLowered (program_of program.now) code) }
+    ensures typed { IfOk result (λ code. is_straight_program (program_of program.now) ≡ true → IsResolved (program_of program.now) → IsTypedCode (program_of program.now) code) }
 {
     if is_straight_program(program) {
         return lower_straight(alloc, program);

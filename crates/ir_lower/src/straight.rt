@@ -1,11 +1,13 @@
 // Straight programs: main from its first statement to its last, with no control.
 
-ghost use Rattle.std.specs.Prelude.{◌≡◌, ℕ, ◌+◌, true, false, length, OnOk, IfOk};
+ghost use Rattle.std.specs.Prelude.{◌≡◌, ℕ, ◌+◌, ◌++◌, true, false, length, replicate, OnOk, IfOk};
+ghost use Rattle.hls_ints.specs.Types.{long_int};
 ghost use Rattle.c_program.specs.Plain.{expression_of, expressions_of, pieces_of, place_of, program_of, returned_of, right_side_of, statement_of};
 ghost use Rattle.c_program.specs.Resolved.{IsResolved};
 ghost use Rattle.c_program.specs.Tree as tree;
 ghost use Rattle.ir_lower.specs.Taken.{is_straight_program};
-ghost use Rattle.ir_lower.specs.Following.{IsLowered};
+ghost use Rattle.ir_lower.specs.Typed.{IsTypedCode};
+ghost use Rattle.code_following.specs.Following.{IsLowered};
 ghost use Rattle.ir_lower.specs.Resuming as resuming;
 
 use crate::assignments::{lower_assignment, lower_update};
@@ -292,12 +294,24 @@ fn stages_of(
     Ok(stages)
 }
 
+/// Those variables, and so many of 64 bits.
+fn with_words(variables: Items<CType>, count: usize) -> Result<Items<CType>, LoweringFault>
+    ensures { IfOk result (λ all. all ≡ variables ++ replicate count long_int) }
+{
+    let mut all = variables;
+    for done in 0..count {
+        all.push(CType::LONG)?;
+    }
+    Ok(all)
+}
+
 /// The code of main, where it is straight: no control, no call, and no act but printf.
-#[tactic(auto, using(crate::proofs::Whole::lowered_at))]
+#[tactic(auto, using(crate::proofs::Whole::lowered_at, crate::proofs::Whole::typed_at))]
 pub fn lower_straight(alloc: Global, program: &Program) -> Result<ThreadCode, LoweringFault>
     ensures straight { OnOk result (is_straight_program (program_of program.now) ≡ true) }
     ensures not_yet { is_straight_program (program_of program.now) ≡ false → result ≡ Err LoweringFault.NotYet }
     ensures lowered { IfOk result (λ code. IsResolved (program_of program.now) → IsLowered (program_of program.now) code) }
+    ensures typed { IfOk result (λ code. IsResolved (program_of program.now) → IsTypedCode (program_of program.now) code) }
 {
     if !is_straight_program(program) {
         return Err(LoweringFault::NotYet);
@@ -311,12 +325,10 @@ pub fn lower_straight(alloc: Global, program: &Program) -> Result<ThreadCode, Lo
     let stages = stages_of(alloc, &homes, site, &main.body)?;
     let Homes {
         homes: _,
-        mut variables,
+        variables,
         arrays,
     } = homes;
-    for _ in 0..most_values(&main.body) {
-        variables.push(CType::LONG)?;
-    }
+    let variables = with_words(variables, most_values(&main.body))?;
     Ok(ThreadCode {
         variables,
         arrays,

@@ -1,3 +1,4 @@
 pub mod Settled
 pub mod Leaves
 pub mod Example
+pub mod Standing

@@ -3,6 +3,7 @@
 ghost use Rattle.std.specs.Prelude.{◌≡◌, ◌∷◌, [], true, nat_eq, if◌then◌else◌, IfOk};
 ghost use Rattle.verilog_tree.specs.Spelling.{is_name};
 ghost use Rattle.netlist.specs.declared.netlist.Source.TheVariants as source;
+ghost use Rattle.netlist.specs.declared.netlist.Value.TheVariants as right_side;
 ghost use Rattle.hls_ints.specs.Words.{word_complement, word_and, word_inclusive_or, word_equal};
 ghost use Rattle.verilog_meaning.specs.Readings.{width, value, binary, joined};
 ghost use Rattle.operator_wires.specs.Gives.{Stands, Gives};
@@ -142,9 +143,8 @@ impl Wires {
     }
 
     /// An output that copies a signal of its width.
-    #[tactic(auto, using(crate::proofs::Giving::stands_gives))]
     pub fn output(&mut self, role: Role, bits: u64, of: usize) -> Result<usize, AllocError>
-        ensures { IfOk result (λ place. Gives self.old.signals self.new.signals place bits (λ m r. r.signal of)) }
+        ensures { IfOk result (Stands self.old.signals self.new.signals bits (source.Assigned (right_side.Copy of))) }
     {
         self.push(role, bits, true, Source::Assigned(Value::Copy(of)))
     }

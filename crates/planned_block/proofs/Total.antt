@@ -90,7 +90,7 @@ module _ (bank : Location → ℕ) (b : Block) (p : Plan) (keeps : KeepsOrders b
   settled q (suc n) k lt below =
       result_same q (wires_after bank b p q (suc n)) (wires_after bank b p q n) k (λ j u s. let early = keeps.earlier j k below u in settled q n j (omega arith) (omega arith))
 
-  wires_wired : (q : Slot) → IsWired bank b p q (wires bank b p q)
+  pub wires_wired : (q : Slot) → IsWired bank b p q (wires bank b p q)
   wires_wired q k lt s = sym (settled q (size b) k lt lt)
 
   module _ (banks : AreBanks bank) (q : Slot) (m : Memory ℤ) (grants : ℕ → Bool) (ask : (k : ℕ) → grants k ≡ true → asks b p q k ≡ true) where
@@ -161,7 +161,7 @@ module _ (bank : Location → ℕ) (b : Block) (p : Plan) (keeps : KeepsOrders b
   abbrev ends_now : Slot → ℕ → ℕ → Bool
   ends_now q r k = nat_eq (last_state b p k) q.state && is_register (p.register k) r
 
-  registers_right : (q : Slot) → RegistersAfter b p q (wires bank b p q) (registers_next bank b p q)
+  pub registers_right : (q : Slot) → RegistersAfter b p q (wires bank b p q) (registers_next bank b p q)
   registers_right q = record {
     written = λ k r lt s e.
         last_of-hit (ends_now q r) (wires bank b p q) (q.registers r) (size b) k lt

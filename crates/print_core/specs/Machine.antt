@@ -1,5 +1,5 @@
 -- The printer as a machine: a thread asks for a site with its values, and a grant writes them as the site says.
-use Rattle.std.specs.Prelude.{ℕ, zero, suc, ◌+◌, ◌*◌, Bool, ◌||◌, nat_lt, List, [], ◌∷◌, ◌++◌, Option, Some, None, slice_get, decimal, length}
+use Rattle.std.specs.Prelude.{ℕ, zero, suc, ◌+◌, ◌*◌, Bool, ◌||◌, nat_lt, replicate, List, [], ◌∷◌, ◌++◌, Option, Some, None, slice_get, decimal, length}
 use Rattle.std.specs.Fmt.{signed_decimal}
 use Rattle.hls_ints.specs.Words.{signed_word}
 use Rattle.circuit.specs.Rows.{spread}
@@ -65,6 +65,15 @@ printer_places shape = record {
 -- the input ports stand before this place
 abbrev pub inputs : Shape → ℕ
 inputs shape = one shape.threads shape.values
+
+-- the clock, whether each thread asks, their sites, their values, and whether each is granted
+abbrev pub input_widths : Shape → List ℕ
+input_widths shape =
+    1 ∷ (replicate shape.threads 1 ++ (replicate shape.threads 16 ++ (replicate (shape.threads * shape.values) 64 ++ replicate shape.threads 1)))
+
+-- whether each may be granted
+abbrev pub output_widths : Shape → List ℕ
+output_widths shape = replicate shape.threads 1
 
 -- the grants, and what follows from them
 abbrev pub is_late : Shape → ℕ → Bool

@@ -4,8 +4,9 @@ ghost use Rattle.std.specs.Prelude.{◌≡◌, ◌+◌, ◌*◌, ◌^◌, ◌<�
 ghost use Rattle.circuit.specs.Rows.{EachOf, laid};
 ghost use Rattle.print_core.specs.Format.{IsSite};
 ghost use Rattle.circuit.specs.Modules.{IsLeaf};
+ghost use Rattle.circuit.specs.Interfaces.{IsTableModule};
 ghost use Rattle.circuit.specs.Machines.{IsCore};
-ghost use Rattle.print_core.specs.Machine.{printer_machine, printer_places, inputs, is_late};
+ghost use Rattle.print_core.specs.Machine.{printer_machine, printer_places, inputs, input_widths, output_widths, is_late};
 ghost use Rattle.print_core.specs.Printer.{rows, results, hits, write, writes_from, IsShape, IsPrinter};
 
 use crate::format::{Part, arguments, string};
@@ -29,12 +30,13 @@ pub struct Shape {
 /// Under a grant it writes the text of the site that the thread asks for, with the thread's values; without a grant it
 /// writes nothing. Its inputs are `clk`, then for each thread whether it asks, for each its site, for each its values of
 /// 64 bits one after another, and for each whether it is granted; its outputs are for each thread whether its request
-/// may be granted.
+/// may be granted. The module is laid out soundly, whatever modules stand before it.
 pub fn module(alloc: Global, shape: &Shape) -> Result<Module, AllocError>
     requires { IsShape shape.now }
     ensures core { IfOk result (IsCore (printer_machine shape.now) (printer_places shape.now) shape.now.threads) }
     ensures leaf { IfOk result (λ m. IsLeaf m (inputs shape.now) (is_late shape.now)) }
     ensures table { IfOk result (IsPrinter shape.now) }
+    ensures stands { IfOk result (λ m. IsTableModule m (input_widths shape.now) (output_widths shape.now)) }
 {
     table(alloc, shape)
 }

@@ -110,7 +110,11 @@ pub begun_sound : (list : List Constraint) (n : ℕ) (starts last : List ℕ) (s
 begun_sound list n starts last steps e b = record {
   starts_length = rw e (length-replicate n 0);
   last_length = b.last_length;
-  latest = λ v l. rw (b.last_at v l) (record { within = omega (arith, b.steps_length); place = ap (λ (s : Step). s.place) (b.step_at v l); start = ap (λ (s : Step). s.start) (b.step_at v l) ∙ sym (zero_at v l) });
+  latest = λ v l. rw (b.last_at v l) (record {
+    within = omega (arith, b.steps_length);
+    place = ap (λ (s : Step). s.place) (b.step_at v l);
+    start = ap (λ (s : Step). s.start) (b.step_at v l) ∙ sym (zero_at v l);
+  });
   history = record {
     step = λ i l. first_step i (omega (arith, b.steps_length));
     rising = λ i j lt l same. absurd (apart i j lt (omega (arith, b.steps_length)) same);

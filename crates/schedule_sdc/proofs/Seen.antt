@@ -78,7 +78,13 @@ module _ (list : List Constraint) (n : ℕ) (steps : List Step) (history : IsHis
     met_at v later (inr ne) h =
         let ne' : v ≢ (at steps here).place = ne in
         let m = behind v later (rw (get_or-set_other seen (at steps here).place v (Some here) None ne') at h) in
-        record { order = omega (arith, given.earlier, m.order); within = m.within; place = m.place; count = suc m.count; behind = (back_more steps m.count later here m.behind.0, omega (arith, m.behind.1, given.deeper)) }
+        record {
+          order = omega (arith, given.earlier, m.order);
+          within = m.within;
+          place = m.place;
+          count = suc m.count;
+          behind = (back_more steps m.count later here m.behind.0, omega (arith, m.behind.1, given.deeper));
+        }
 
     pub still_behind : AreBehind steps (set seen (at steps here).place (Some here)) (at steps here).before
     still_behind v later h = met_at v later (cases_eq v (at steps here).place) h

@@ -8,7 +8,9 @@ pub mod SignalKinds
 pub mod Joining
 pub mod Netting
 pub mod Running
+pub mod Choices
 pub mod Settling
+pub mod Finding
 pub mod Naming
 pub mod Soundness
 pub mod Rounding

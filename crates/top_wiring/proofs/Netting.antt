@@ -22,7 +22,8 @@ use Rattle.top_wiring.specs.declared.wires.Wire.TheVariants.{Whole, Bit, Port}
 use Rattle.top_wiring.specs.Parts.{group_widths, ask_widths, thread_outputs, core_outputs, thread_part, core_part, arbiter_part, parts}
 use Rattle.top_wiring.specs.Wires.{ports_from, first_port, wire_signal}
 use Rattle.top_wiring.specs.Top.{input, preference, thread_instance, core_instance, arbiter_instance, starts}
-use Rattle.top_wiring.specs.Ports.{asked_before, told_before, arbiter_outputs, first_of}
+use Rattle.circuit.specs.Interfaces.{first_of}
+use Rattle.top_wiring.specs.Ports.{asked_before, told_before, arbiter_outputs}
 use Rattle.top_wiring.specs.Machine.{IsThreadAt, IsCoreAt, IsArbiterAt, KeepPromises}
 use Rattle.top_wiring.specs.Wired.{IsWired}
 use Rattle.top_wiring.proofs.Lists.{get_front, get_there, get_copies, copies_back, flat_map_back}
@@ -131,14 +132,14 @@ module _ (layout : Layout) (modules : List Module) (n : Netlist) (w : IsWired mo
         inr (
           (let z : i ≡ 0 = omega arith in z),
           record { signal = input (codes "en") T; listed = standing.mask_stands modules layout w.top w.is_top; wide = one },
-          fed_same i (p.thread_at i) 1 (p.thread i).enable (source.Assigned (Copy 1)) (source.Assigned (Copy 1)) (keep.thread_at i) m.2.enable refl
+          fed_same i (p.thread_at i) 1 (p.thread i).enable (source.Assigned (Copy 1)) (source.Assigned (Copy 1)) (keep.thread_at i l) m.2.enable refl
               (fed_at i 1 (thread_instance S T K (parts layout) layout.cores i number) (2 + K + i) (wire_signal (2 + K + i) Whole) (source.Assigned (Copy 1))
               (standing.thread_stands modules layout w.top w.is_top i number e) refl s refl),
         )
     enabled_one i number false l e q s =
         let m = keep.each.thread i number e in
         inl (
-        fed_same i (p.thread_at i) 1 (p.thread i).enable (source.Assigned (Select 1 i i)) (source.Assigned (Select 1 i i)) (keep.thread_at i) m.2.enable refl
+        fed_same i (p.thread_at i) 1 (p.thread i).enable (source.Assigned (Select 1 i i)) (source.Assigned (Select 1 i i)) (keep.thread_at i l) m.2.enable refl
         (fed_at i 1 (thread_instance S T K (parts layout) layout.cores i number) (2 + K + i) (wire_signal (2 + K + i) (Bit i)) (source.Assigned (Select 1 i i))
         (standing.thread_stands modules layout w.top w.is_top i number e) refl s refl)
         )
@@ -153,9 +154,9 @@ module _ (layout : Layout) (modules : List Module) (n : Netlist) (w : IsWired mo
         let a = keep.each.arbiter k b in
         let place = slice_index S (T + K + k) + i in
         let port : source.Port (T + K + k) (first_of a.0 (arbiter_outputs layout) + i) ≡ source.Port (p.arbiter_at k) ((p.arbiter k).grant i) =
-        ap (λ z. source.Port z (first_of a.0 (arbiter_outputs layout) + i)) (sym (keep.arbiter_at k)) ∙ ap (λ z. source.Port (p.arbiter_at k) z) (sym (a.2.grant i l)) in
+        ap (λ z. source.Port z (first_of a.0 (arbiter_outputs layout) + i)) (sym (keep.arbiter_at k b)) ∙ ap (λ z. source.Port (p.arbiter_at k) z) (sym (a.2.grant i l)) in
         fed_same i (p.thread_at i) (2 + k) ((p.thread i).grant k) (source.Port (T + K + k) (first_of a.0 (arbiter_outputs layout) + i))
-        (source.Port (p.arbiter_at k) ((p.arbiter k).grant i)) (keep.thread_at i) (m.2.grant k b) port
+        (source.Port (p.arbiter_at k) ((p.arbiter k).grant i)) (keep.thread_at i l) (m.2.grant k b) port
         (fed_at i (2 + k) (thread_instance S T K (parts layout) layout.cores i t.0) place (wire_signal place (Port 1 (T + K + k) (first_of a.0 (arbiter_outputs layout) + i)))
         (source.Port (T + K + k) (first_of a.0 (arbiter_outputs layout) + i))
         (standing.thread_stands modules layout w.top w.is_top i t.0 t.1) (inputs.grant_input S T K layout.cores i k b) (grant_source k i a.0 b a.1 l) refl)
@@ -171,9 +172,9 @@ module _ (layout : Layout) (modules : List Module) (n : Netlist) (w : IsWired mo
         let place = slice_index S (T + k) + (T + (j * T + i)) in
         let q = first_of x.0 (core_outputs T c.0) + (T + (j * T + i)) in
         let port : source.Port (T + k) q ≡ source.Port (p.core_at k) ((p.core k).tell j i) =
-        ap (λ z. source.Port z q) (sym (keep.core_at k)) ∙ ap (λ z. source.Port (p.core_at k) z) (sym (x.2.tell j i few l)) in
+        ap (λ z. source.Port z q) (sym (keep.core_at k b)) ∙ ap (λ z. source.Port (p.core_at k) z) (sym (x.2.tell j i few l)) in
         fed_same i (p.thread_at i) (2 + K + (told_before layout k + j)) ((p.thread i).told k j) (source.Port (T + k) q) (source.Port (p.core_at k) ((p.core k).tell j i))
-        (keep.thread_at i) (m.2.told k j b d) port
+        (keep.thread_at i l) (m.2.told k j b d) port
         (fed_at i (2 + K + (told_before layout k + j)) (thread_instance S T K (parts layout) layout.cores i t.0) place (wire_signal place (Port v.0 (T + k) q)) (source.Port (T + k) q)
         (standing.thread_stands modules layout w.top w.is_top i t.0 t.1) (inputs.told_input S T K layout.cores i k j c.0 c.1 few) (tell_source k j i v.0 c.0 x.0 c.1 x.1 v.1 l) refl)
 
@@ -192,10 +193,10 @@ module _ (layout : Layout) (modules : List Module) (n : Netlist) (w : IsWired mo
         let same : slice_index S i + (asked_before layout k + at) + j ≡ place = omega arith in
         let q = first_of m.0 outputs + behind in
         let port : source.Port i q ≡ source.Port (p.thread_at i) ((p.thread i).ask k (at + j)) =
-        ap (λ z. source.Port z q) (sym (keep.thread_at i)) ∙ ap (λ z. source.Port (p.thread_at i) z) (sym (m.2.ask k (at + j) b few)) in
+        ap (λ z. source.Port z q) (sym (keep.thread_at i l)) ∙ ap (λ z. source.Port (p.thread_at i) z) (sym (m.2.ask k (at + j) b few)) in
         let input = 1 + (T * at + (i * group.count + j)) in
         fed_same (T + k) (p.core_at k) input ((p.core k).ask (at + j) i) (source.Port i q) (source.Port (p.thread_at i) ((p.thread i).ask k (at + j)))
-        (keep.core_at k) (x.2.ask g j i group h d l) port
+        (keep.core_at k b) (x.2.ask g j i group h d l) port
         (fed_at (T + k) input (core_instance S T K (parts layout) (asked_before layout k) k c) place (wire_signal place (Port group.width i q)) (source.Port i q)
         (standing.core_stands modules layout w.top w.is_top k c e)
         (inputs.ask_input S T K (asked_before layout k) c.groups k g j i group h d l ∙ ap (λ z. Some z) same)
@@ -227,10 +228,10 @@ module _ (layout : Layout) (modules : List Module) (n : Netlist) (w : IsWired mo
         let place = slice_index S (T + K + k) + i in
         let q = first_of a.0 (arbiter_outputs layout) + i in
         let port : source.Port (T + K + k) q ≡ source.Port (p.arbiter_at k) ((p.arbiter k).grant i) =
-        ap (λ z. source.Port z q) (sym (keep.arbiter_at k)) ∙ ap (λ z. source.Port (p.arbiter_at k) z) (sym (a.2.grant i l)) in
+        ap (λ z. source.Port z q) (sym (keep.arbiter_at k b)) ∙ ap (λ z. source.Port (p.arbiter_at k) z) (sym (a.2.grant i l)) in
         let input = 1 + (T * length (group_widths c.0.groups) + i) in
         fed_same (T + k) (p.core_at k) input ((p.core k).grant i) (source.Port (T + K + k) q) (source.Port (p.arbiter_at k) ((p.arbiter k).grant i))
-        (keep.core_at k) (x.2.grant i l) port
+        (keep.core_at k b) (x.2.grant i l) port
         (fed_at (T + k) input (core_instance S T K (parts layout) (asked_before layout k) k c.0) place (wire_signal place (Port 1 (T + K + k) q)) (source.Port (T + K + k) q)
         (standing.core_stands modules layout w.top w.is_top k c.0 c.1)
         (inputs.granting_input S T K (asked_before layout k) c.0.groups k i l) (grant_source k i a.0 b a.1 l) refl)
@@ -243,9 +244,9 @@ module _ (layout : Layout) (modules : List Module) (n : Netlist) (w : IsWired mo
         let place = slice_index S (T + k) + i in
         let q = first_of x.0 (core_outputs T c.0) + i in
         let port : source.Port (T + k) q ≡ source.Port (p.core_at k) ((p.core k).offer i) =
-        ap (λ z. source.Port z q) (sym (keep.core_at k)) ∙ ap (λ z. source.Port (p.core_at k) z) (sym (x.2.offer i l)) in
+        ap (λ z. source.Port z q) (sym (keep.core_at k b)) ∙ ap (λ z. source.Port (p.core_at k) z) (sym (x.2.offer i l)) in
         fed_same (T + K + k) (p.arbiter_at k) (2 + i) ((p.arbiter k).ask i) (source.Port (T + k) q) (source.Port (p.core_at k) ((p.core k).offer i))
-        (keep.arbiter_at k) (a.2.ask i l) port
+        (keep.arbiter_at k b) (a.2.ask i l) port
         (fed_at (T + K + k) (2 + i) (arbiter_instance S T K (parts layout) layout.arbiter k) place (wire_signal place (Port 1 (T + k) q)) (source.Port (T + k) q)
         (standing.arbiter_stands modules layout w.top w.is_top k b) (inputs.offer_input S T K k i l) (offer_source k i c.0 x.0 c.1 x.1 l) refl)
 
@@ -254,22 +255,22 @@ module _ (layout : Layout) (modules : List Module) (n : Netlist) (w : IsWired mo
         let a = keep.each.arbiter k b in
         let x = arbiter_instance S T K (parts layout) layout.arbiter k in (
           x,
-          subst (λ z. slice_get w.top.instances z ≡ Some x) (sym (keep.arbiter_at k)) (standing.arbiter_stands modules layout w.top w.is_top k b),
+          subst (λ z. slice_get w.top.instances z ≡ Some x) (sym (keep.arbiter_at k b)) (standing.arbiter_stands modules layout w.top w.is_top k b),
           ap (slice_get x.inputs) a.2.preferred,
         )
 
     -- each instance is one of these
     kind_is : (j : ℕ) (x : Instance) → Kind layout modules (λ i m. IsThreadAt layout (M i) (p.thread i) C i m) (λ k c m. IsCoreAt layout (C k) (p.core k) c m)
         (λ k m. IsArbiterAt layout (p.arbiter k) m) j x → IsInstanceOf T K M C p n.modules w.top j
-    kind_is j x (of_thread number m e i h q) = inl (j, slice_get_within layout.threads j number e, sym (keep.thread_at j))
-    kind_is j x (of_core k c m e f i h q) = inr (inl (k, slice_get_within layout.cores k c f, e ∙ sym (keep.core_at k)))
-    kind_is j x (of_arbiter k m e l i h q) = inr (inr (k, l, e ∙ sym (keep.arbiter_at k)))
+    kind_is j x (of_thread number m e i h q) = let l = slice_get_within layout.threads j number e in inl (j, l, sym (keep.thread_at j l))
+    kind_is j x (of_core k c m e f i h q) = let l = slice_get_within layout.cores k c f in inr (inl (k, l, e ∙ sym (keep.core_at k l)))
+    kind_is j x (of_arbiter k m e l i h q) = inr (inr (k, l, e ∙ sym (keep.arbiter_at k l)))
 
     pub is_net : IsNet T K M C p n.modules w.top
     is_net = record {
-      threads_stand = λ i l. subst (λ j. Stands T K M C p n.modules w.top j (IsThread (M i) (p.thread i) K (λ k. (C k).parts) (λ k. (C k).told))) (sym (keep.thread_at i)) (thread_module i l);
-      cores_stand = λ k l. subst (λ j. Stands T K M C p n.modules w.top j (IsCore (C k) (p.core k) T)) (sym (keep.core_at k)) (core_module k l);
-      arbiters_stand = λ k l. subst (λ j. Stands T K M C p n.modules w.top j (Arbitrates T (p.arbiter k))) (sym (keep.arbiter_at k)) (arbiter_module k l);
+      threads_stand = λ i l. subst (λ j. Stands T K M C p n.modules w.top j (IsThread (M i) (p.thread i) K (λ k. (C k).parts) (λ k. (C k).told))) (sym (keep.thread_at i l)) (thread_module i l);
+      cores_stand = λ k l. subst (λ j. Stands T K M C p n.modules w.top j (IsCore (C k) (p.core k) T)) (sym (keep.core_at k l)) (core_module k l);
+      arbiters_stand = λ k l. subst (λ j. Stands T K M C p n.modules w.top j (Arbitrates T (p.arbiter k))) (sym (keep.arbiter_at k l)) (arbiter_module k l);
       mask_at = 1;
       mask = record { signal = input (codes "en") T; stands = standing.mask_stands modules layout w.top w.is_top; input = refl; named = refl };
       enables = enabled;

@@ -19,7 +19,8 @@ use Rattle.top_wiring.specs.declared.wires.Wire.TheVariants.{Port}
 use Rattle.top_wiring.specs.Parts.{ask_widths, thread_outputs, thread_part}
 use Rattle.top_wiring.specs.Wires.{wire_signal}
 use Rattle.top_wiring.specs.Top.{preference, output, done_place}
-use Rattle.top_wiring.specs.Ports.{threads, cores, first_of}
+use Rattle.circuit.specs.Interfaces.{first_of}
+use Rattle.top_wiring.specs.Ports.{threads, cores}
 use Rattle.top_wiring.specs.Machine.{IsThreadAt, IsCoreAt, IsArbiterAt, KeepPromises, IsMachine, IsOneMachine}
 use Rattle.top_wiring.specs.Wired.{IsWired}
 use Rattle.top_wiring.proofs.Lists.{get_there}
@@ -106,7 +107,7 @@ module _ (layout : Layout) (modules : List Module) (n : Netlist) (w : IsWired mo
         let driven : (v []).signal place ≡ (v (0 ∷ [])).signal q =
         d.settled.signals [] w.top place wire (record { stands = refl; listed = done_wire t.0 m.0 t.1 m.1 }) in
         let here : module_at n.modules w.top (0 ∷ []) ≡ Some m.0 = module_there layout modules n w 0 _ m.0 (standing.thread_stands modules layout w.top w.is_top 0 t.0 t.1) m.1 in
-        let shows : (p.thread 0).shows (h (0 ∷ [])) (s.slots 0) = subst (λ j. (p.thread 0).shows (h (j ∷ [])) (s.slots 0)) (keep.thread_at 0) (shown.slots 0 (omega arith)) in
+        let shows : (p.thread 0).shows (h (0 ∷ [])) (s.slots 0) = subst (λ j. (p.thread 0).shows (h (j ∷ [])) (s.slots 0)) (keep.thread_at 0 (omega arith)) (shown.slots 0 (omega arith)) in
         let now = m.2.is.keeps (h (0 ∷ [])) (v (0 ∷ [])) (s.slots 0) (holds n.modules w.top h v c d.settled (0 ∷ []) m.0 here) shows in
         sym d.number ∙ copied ∙ driven ∙ m.2.done refl (v (0 ∷ [])) (s.slots 0) (obeys n.modules w.top h v c d.settled (0 ∷ []) m.0 here) now
 

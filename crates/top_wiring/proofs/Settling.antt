@@ -1,23 +1,18 @@
 -- The net of leaf modules can be put in stages, so it has exactly one settled valuation.
-use Rattle.std.proofs.Common.{◌≡◌, ℕ, suc, ◌+◌, ◌-◌, ◌^◌, ◌<◌, ◌≤◌, ◌⊎◌, Bool, true, false, nat_lt, if◌then◌else◌}
+use Rattle.std.proofs.Common.{◌≡◌, ℕ, ◌+◌, ◌-◌, ◌<◌, ◌≤◌, ◌⊎◌, Bool, true, false, nat_lt, if◌then◌else◌}
 use Rattle.std.proofs.Common.{List, [], ◌∷◌, length, Option, Some, refl, sym, ap, ◌∙◌, subst, inl, inr, ⊎_elim, arith}
-use Rattle.std.specs.Prelude.{slice_get, codes, All}
-use Rattle.std.specs.Str.{bytes_eq}
+use Rattle.std.specs.Prelude.{slice_get, codes}
 use Rattle.std.proofs.lemmas.Bool.Decides.{nat_tests}
 use Rattle.std.proofs.lemmas.Option.{same_Some, slice_get_within}
-use Rattle.netlist.specs.declared.netlist.Value.TheVariants.{Copy}
 use Rattle.netlist.specs.declared.netlist.Source.TheVariants as source
 use Rattle.netlist.specs.declared.netlist.Signal.{Signal}
 use Rattle.netlist.specs.declared.netlist.Instance.{Instance}
 use Rattle.netlist.specs.declared.netlist.Module.{Module}
 use Rattle.netlist.specs.declared.netlist.Netlist.{Netlist}
 use Rattle.verilog_meaning.specs.Readings.{or_zero}
-use Rattle.verilog_meaning.specs.Names.{numbered}
-use Rattle.verilog_meaning.specs.Cycles.{Choice, module_at, instance_at, connected, pref_number, choice_number}
-use Rattle.verilog_meaning.specs.Threads.{IsChoice}
+use Rattle.verilog_meaning.specs.Cycles.{module_at, instance_at, connected}
 use Rattle.circuit.specs.Rows.{EachOf}
 use Rattle.circuit.specs.Modules.{Has, IsLeaf, IsSoundSource, FitsAction, FitsMemory}
-use Rattle.circuit.specs.Nets.{FitsChoice}
 use Rattle.circuit.specs.Staging.{Stages, port_stage, ReadsWire, ReadsPort, IsStagedSource, IsConnected, IsStaged}
 use Rattle.circuit.proofs.Staged.{from_then, net_fits, net_statements, staged_settles, staged_same}
 use Rattle.circuit.proofs.States.{keeps_states}
@@ -25,13 +20,13 @@ use Rattle.top_wiring.specs.declared.layout.Core.{Core}
 use Rattle.top_wiring.specs.declared.layout.Layout.{Layout}
 use Rattle.top_wiring.specs.declared.parts.Part.{Part}
 use Rattle.top_wiring.specs.declared.wires.Wire.{Wire}
-use Rattle.top_wiring.specs.declared.wires.Wire.TheVariants.{Whole, Bit, Port}
+use Rattle.top_wiring.specs.declared.wires.Wire.TheVariants.{Port}
 use Rattle.top_wiring.specs.Parts.{ask_widths, thread_outputs, core_outputs, thread_part, core_part, arbiter_part, parts}
-use Rattle.top_wiring.specs.Wires.{first_port, source_of, wire_signal}
+use Rattle.top_wiring.specs.Wires.{first_port, wire_signal}
 use Rattle.top_wiring.specs.Top.{input, output, starts, all_wires, done_place, thread_instance, core_instance, arbiter_instance}
 use Rattle.top_wiring.specs.Ports as ports
-use Rattle.top_wiring.specs.Ports.{HasPorts, first_of}
-use Rattle.top_wiring.specs.Leaves.{IsThreadLeaf, IsCoreLeaf, IsArbiterLeaf, AreLeaves, SettlesOnce, NetsSettle}
+use Rattle.circuit.specs.Interfaces.{first_of, HasPorts}
+use Rattle.top_wiring.specs.Leaves.{IsThreadLeaf, IsCoreLeaf, IsArbiterLeaf, AreLeaves, NetsHaveStages, SettlesOnce, NetsSettle}
 use Rattle.top_wiring.specs.Wired.{IsWired}
 use Rattle.top_wiring.proofs.Lists.{get_there}
 use Rattle.top_wiring.proofs.InstanceKinds as kinds
@@ -42,6 +37,7 @@ use Rattle.top_wiring.proofs.SignalKinds.WireKind.{whole, bit, port}
 use Rattle.top_wiring.proofs.Standing as standing
 use Rattle.top_wiring.proofs.Joining as joining
 use Rattle.top_wiring.proofs.Netting.{module_there, first_is}
+use Rattle.top_wiring.proofs.Choices.{choice_fits}
 
 module _ (layout : Layout) (modules : List Module) (n : Netlist) (w : IsWired modules layout n) (leaves : AreLeaves layout modules) where
   abbrev T : ℕ
@@ -342,51 +338,19 @@ module _ (layout : Layout) (modules : List Module) (n : Netlist) (w : IsWired mo
     begins = subst (EachOf FitsMemory) (sym w.is_top.memories) tt;
   }
 
-  -- ---- choices fit
-
-  either_low : (b : Bool) (p q : ℕ) → p < 16 → q < 16 → (if b then p else q) < 16
-  either_low true p q a c = a
-  either_low false p q a c = c
-
-  pref_low : (name : List ℕ) (prefs : List ℕ) (k : ℕ) → All (λ p. p < 16) prefs → pref_number name prefs k < 16
-  pref_low name [] k all = omega arith
-  pref_low name (p ∷ prefs) k all =
-      either_low (bytes_eq name (numbered (codes "pref") k)) p (pref_number name prefs (k + 1)) (all 0 p (omega arith))
-      (pref_low name prefs (k + 1) (λ j d l. all (suc j) d (omega arith)))
-
-  no_pref : (prefs : List ℕ) (k : ℕ) → pref_number (codes "clk") prefs k ≡ 0
-  no_pref [] k = refl
-  no_pref (p ∷ prefs) k = no_pref prefs (k + 1)
-
-  wire_no_input : (v : Wire) → source_of v ≡ source.Input → ⊥
-  wire_no_input Whole e = cc
-  wire_no_input (Bit i) e = cc
-  wire_no_input (Port v j q) e = cc
-
-  choice_low : (c : Choice) → IsChoice T c → (x : ℕ) (s : Signal) → s.source ≡ source.Input → signals.SignalKind modules layout x s → choice_number c s.name < 2 ^ s.width
-  choice_low c is x s input (clock e q) =
-      subst (λ (z : Signal). choice_number c z.name < 2 ^ z.width) (sym q) (let z : choice_number c (codes "clk") ≡ 0 = no_pref c.prefs 0 in subst (λ y. y < 2 ^ 1) (sym z) (omega arith))
-  choice_low c is x s input (mask e q) = subst (λ (z : Signal). choice_number c z.name < 2 ^ z.width) (sym q) is.0
-  choice_low c is x s input (chosen k l e q) =
-      subst (λ (z : Signal). choice_number c z.name < 2 ^ z.width) (sym q) (pref_low (numbered (codes "pref") k) c.prefs 0 is.1)
-  choice_low c is x s input (wire y v f e q) = absurd (wire_no_input v (ap (λ (z : Signal). z.source) (sym q) ∙ input))
-  choice_low c is x s input (done e q) = let z : source.Assigned (Copy (done_place modules layout)) ≡ source.Input = ap (λ (z : Signal). z.source) (sym q) ∙ input in absurd cc
-
-  choice_fits : (c : Choice) → IsChoice T c → FitsChoice n.modules w.top c
-  choice_fits c is m x s at input =
-      let same : w.top ≡ m = same_Some w.top m at.stands in
-      choice_low c is x s input (signals.signal_kind modules layout w.top w.is_top x s (ap (λ (z : Module). slice_get z.signals x) same ∙ at.listed))
-
   pub settles : 1 ≤ T → SettlesOnce n.modules w.top T
   settles some =
       let is = staged some in
       let keeps = keeps_states n.modules w.top (net_fits n.modules w.top stages is) (net_statements n.modules w.top stages is) in
       record {
-        exists = λ h c state choice. staged_settles n.modules w.top stages is h c state (choice_fits c choice);
+        exists = λ h c state choice. staged_settles n.modules w.top stages is h c state (choice_fits layout modules n w c choice);
         unique = λ h c v u a b path m x s at. staged_same n.modules w.top stages is h c v u a b path m x s at;
         starts = keeps.0;
         keeps = keeps.1;
       }
+
+pub nets_have_stages : NetsHaveStages
+nets_have_stages layout modules n w some leaves = (stages layout modules n w leaves, staged layout modules n w leaves some)
 
 pub nets_settle : NetsSettle
 nets_settle layout modules n w some leaves = settles layout modules n w leaves some

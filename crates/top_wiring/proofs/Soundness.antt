@@ -29,8 +29,8 @@ use Rattle.top_wiring.specs.Parts.{each_from, group_widths, ask_widths, told_wid
 use Rattle.top_wiring.specs.Wires.{ports_from, first_port, wire_signal}
 use Rattle.top_wiring.specs.Top.{input, preference, output, run, starts, all_wires, done_place, thread_inputs, core_inputs, arbiter_inputs, outputs_at, thread_instance, IsTop}
 use Rattle.top_wiring.specs.Ports as ports
-use Rattle.top_wiring.specs.Ports.{HasPorts, first_of}
-use Rattle.top_wiring.specs.Sound.{AreSound, HasInterface}
+use Rattle.circuit.specs.Interfaces.{HasInterface}
+use Rattle.top_wiring.specs.Sound.{AreSound}
 use Rattle.top_wiring.proofs.Lists.{get_there, get_either, each_back, spread_back, get_spread}
 use Rattle.top_wiring.proofs.InstanceKinds as kinds
 use Rattle.top_wiring.proofs.InstanceKinds.Kind.{of_thread, of_core, of_arbiter}

@@ -6,10 +6,12 @@ use Rattle.netlist.specs.declared.netlist.Netlist.{Netlist}
 use Rattle.verilog_meaning.specs.Cycles.{Valuation, Choice, IsAt, IsSettled, IsState, Cycle, initial_state}
 use Rattle.verilog_meaning.specs.Threads.{IsChoice}
 use Rattle.circuit.specs.Modules.{IsLeaf}
+use Rattle.circuit.specs.Staging.{Stages, IsStaged}
 use Rattle.top_wiring.specs.declared.layout.Core.{Core}
 use Rattle.top_wiring.specs.declared.layout.Layout.{Layout}
 use Rattle.top_wiring.specs.Parts.{group_widths, ask_widths, thread_outputs, core_outputs}
-use Rattle.top_wiring.specs.Ports.{HasPorts, first_of, threads, cores, told, thread_inputs, core_inputs, arbiter_inputs, arbiter_outputs, EachModule}
+use Rattle.circuit.specs.Interfaces.{first_of, HasPorts}
+use Rattle.top_wiring.specs.Ports.{threads, cores, told, thread_inputs, core_inputs, arbiter_inputs, arbiter_outputs, EachModule}
 use Rattle.top_wiring.specs.Wired.{IsWired}
 
 -- only late signals may depend on what is late
@@ -39,6 +41,12 @@ pub record AreLeaves (layout : Layout) (modules : List Module) : Type 0 where
   pub late : ℕ → ℕ → Bool
   pub each : EachModule layout modules (λ i m. IsThreadLeaf layout (late i) i m) (λ k c m. IsCoreLeaf layout (late (threads layout + k)) c m)
       (λ k m. IsArbiterLeaf layout (late (threads layout + cores layout + k)) m)
+
+-- the signals of the net can be put in stages, where the modules are such leaves
+abbrev pub NetsHaveStages : Type 0
+NetsHaveStages =
+    (layout : Layout) (modules : List Module) (n : Netlist) (w : IsWired modules layout n) → 1 ≤ threads layout → AreLeaves layout modules
+    → (stages : Stages) × IsStaged n.modules w.top stages
 
 -- a state for each choice of n threads has exactly one settled valuation, and cycles lead from states to states
 pub record SettlesOnce (modules : List Module) (top : Module) (n : ℕ) : Type 0 where

@@ -7,3 +7,4 @@ pub mod Ports
 pub mod Machine
 pub mod Leaves
 pub mod Sound
+pub mod Found

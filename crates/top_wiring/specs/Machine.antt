@@ -6,6 +6,7 @@ use Rattle.verilog_meaning.specs.Readings.{Reading}
 use Rattle.verilog_meaning.specs.Cycles.{Valuation, Choice, Cycle, Runs, ShowsDone, initial_state}
 use Rattle.hls_ints.specs.Residues.{bit_of}
 use Rattle.circuit.specs.Modules.{Obeys}
+use Rattle.circuit.specs.Interfaces.{first_of}
 use Rattle.circuit.specs.Arbitration.{ArbiterPlaces, Arbitrates}
 use Rattle.circuit.specs.Machines.{CoreMachine, CorePlaces, IsCore, ThreadMachine, ThreadPlaces, IsThread}
 use Rattle.circuit.specs.Wiring.{NetState, stepped, output, start, run, outputs, PrintsAlone, NetPlaces, IsNet, ShowsAll}
@@ -13,7 +14,7 @@ use Rattle.top_wiring.specs.declared.layout.Group.{Group}
 use Rattle.top_wiring.specs.declared.layout.Core.{Core}
 use Rattle.top_wiring.specs.declared.layout.Layout.{Layout}
 use Rattle.top_wiring.specs.Parts.{group_widths, ask_widths, thread_outputs, core_outputs}
-use Rattle.top_wiring.specs.Ports.{threads, cores, asked, asked_before, told_before, arbiter_outputs, first_of, EachModule}
+use Rattle.top_wiring.specs.Ports.{threads, cores, asked, asked_before, told_before, arbiter_outputs, EachModule}
 use Rattle.top_wiring.specs.Wired.{IsWired}
 
 module _ (layout : Layout) where
@@ -52,9 +53,9 @@ module _ (layout : Layout) where
   module _ (T : ℕ → ThreadMachine) (C : ℕ → CoreMachine) (p : NetPlaces (threads layout) (cores layout) T C) where
     -- the modules keep their promises at these places, and none has instances
     pub record KeepPromises (modules : List Module) : Type 0 where
-      pub thread_at : (i : ℕ) → p.thread_at i ≡ i
-      pub core_at : (k : ℕ) → p.core_at k ≡ threads layout + k
-      pub arbiter_at : (k : ℕ) → p.arbiter_at k ≡ threads layout + cores layout + k
+      pub thread_at : (i : ℕ) → i < threads layout → p.thread_at i ≡ i
+      pub core_at : (k : ℕ) → k < cores layout → p.core_at k ≡ threads layout + k
+      pub arbiter_at : (k : ℕ) → k < cores layout → p.arbiter_at k ≡ threads layout + cores layout + k
       pub each : EachModule layout modules (λ i m. IsThreadAt (T i) (p.thread i) C i m) (λ k core m. IsCoreAt (C k) (p.core k) core m) (λ k m. IsArbiterAt (p.arbiter k) m)
       pub alone : (number : ℕ) (m : Module) → slice_get modules number ≡ Some m → m.instances ≡ []
 

@@ -1,10 +1,8 @@
 -- Modules whose net is sound: each is, their names are apart from those of top, and one of them alone writes, in one instance.
-use Rattle.std.specs.Prelude.{◌≡◌, ◌≢◌, ℕ, true, nat_eq, List, [], length, take, Some, slice_get, slice_index, codes}
-use Rattle.verilog_tree.specs.Scope.{is_clk}
-use Rattle.netlist.specs.declared.netlist.Signal.{Signal}
+use Rattle.std.specs.Prelude.{◌≡◌, ◌≢◌, ℕ, true, List, [], take, Some, slice_get, slice_index, codes}
 use Rattle.netlist.specs.declared.netlist.Action.{Action}
 use Rattle.netlist.specs.declared.netlist.Module.{Module}
-use Rattle.netlist.specs.Laid.{AreApart, IsLaidModule, input_signals, output_signals, module_names}
+use Rattle.netlist.specs.Laid.{AreApart, IsLaidModule, module_names}
 use Rattle.netlist.specs.Sound.{IsSoundModule, is_write, IsSound}
 use Rattle.top_wiring.specs.declared.layout.Core.{Core}
 use Rattle.top_wiring.specs.declared.layout.Layout.{Layout}
@@ -13,14 +11,8 @@ use Rattle.top_wiring.specs.Parts.{ask_widths, thread_outputs, core_outputs, par
 use Rattle.top_wiring.specs.Top.{IsSmall}
 use Rattle.top_wiring.specs.Wired.{IsWired}
 use Rattle.netlist.specs.declared.netlist.Netlist.{Netlist}
-use Rattle.top_wiring.specs.Ports.{HasPorts, threads, thread_inputs, core_inputs, arbiter_inputs, arbiter_outputs, EachModule}
-
--- a module has these input ports and these output ports, and the first input alone is the clock
-pub record HasInterface (m : Module) (inputs outputs : List ℕ) : Type 0 where
-  pub ports : HasPorts m inputs outputs
-  pub input_count : length (input_signals m) ≡ length inputs
-  pub output_count : length (output_signals m) ≡ length outputs
-  pub clock : (x : ℕ) (s : Signal) → slice_get m.signals x ≡ Some s → is_clk s.name ≡ nat_eq x 0
+use Rattle.circuit.specs.Interfaces.{HasInterface}
+use Rattle.top_wiring.specs.Ports.{threads, thread_inputs, core_inputs, arbiter_inputs, arbiter_outputs, EachModule}
 
 module _ (layout : Layout) (modules : List Module) where
   -- an action of module k writes

@@ -4,7 +4,8 @@ ghost use Rattle.std.specs.Prelude.{ℕ, length};
 ghost use Rattle.circuit.specs.Machines.{CoreMachine, ThreadMachine};
 ghost use Rattle.circuit.specs.Wiring.{NetPlaces};
 ghost use Rattle.top_wiring.specs.declared.layout.Layout.{Layout};
-ghost use Rattle.top_wiring.specs.Leaves.{NetsSettle};
+ghost use Rattle.top_wiring.specs.Found.{TopsAreFound};
+ghost use Rattle.top_wiring.specs.Leaves.{NetsHaveStages, NetsSettle};
 ghost use Rattle.top_wiring.specs.Machine.{IsOneMachine};
 ghost use Rattle.top_wiring.specs.Sound.{NetsAreSound};
 
@@ -21,6 +22,16 @@ pub trait Machines {
 /// each cycle is one step of all of them.
 pub fn is_one_machine<M: Machines>()
     ensures { IsOneMachine M.threads M.cores M.places }
+{}
+
+/// `top`, its inputs, the slots of the threads and `done` are found by their names.
+pub fn tops_are_found()
+    ensures { TopsAreFound }
+{}
+
+/// Where no module puts out what depends on its grants, the signals can be put in stages, so that none depends on itself.
+pub fn nets_have_stages()
+    ensures { NetsHaveStages }
 {}
 
 /// Where no module puts out what depends on its grants, each state has exactly one settled valuation for each choice.

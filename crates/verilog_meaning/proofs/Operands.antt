@@ -1,7 +1,8 @@
 -- A right side has the same value in two readings that agree at its operands and at all words.
 use Rattle.std.proofs.Common.{◌≡◌, ℕ, ◌+◌, ◌*◌, ◌^◌, ◌<◌, ◌⊎◌, List, [], ◌∷◌, nat_lt, nat_eq, if◌then◌else◌, refl, ap, sym, ◌∙◌, inl, inr, slice_get}
 use Rattle.netlist.specs.declared.netlist.Value.{Value}
-use Rattle.netlist.specs.declared.netlist.Value.TheVariants.{Copy, Constant, BitwiseNot, Binary, SignedLess, ArithmeticShiftRight, Conditional, Division, SignedDivision, MemoryRead, Select, Concatenation, Replication}
+use Rattle.netlist.specs.declared.netlist.Value.TheVariants.{Copy, Constant, BitwiseNot, Binary, SignedLess, ArithmeticShiftRight, Conditional, Division, SignedDivision, MemoryRead, Select}
+use Rattle.netlist.specs.declared.netlist.Value.TheVariants.{Concatenation, Replication}
 use Rattle.netlist.specs.declared.netlist.Module.{Module}
 use Rattle.verilog_meaning.specs.Readings.{Reading, value, joined, width, binary, divided, signed_divided, repeated, memory_words}
 use Rattle.hls_ints.specs.Words.{word_complement, signed_less, arithmetic_shift}

@@ -45,7 +45,8 @@ module _ (modules : List Module) (top : Module) where
     equation_is f p m s at = ap (of_module f p) at.stands ∙ ap (of_signal f p m) at.listed
 
     -- a source gives the same in two valuations that agree at what it names
-    same_number : (f g : Place → ℕ) (path : Path) (m : Module) (x : ℕ) (s : Signal) (source : Source) → ((q : Place) → Names modules top path x source q → f q ≡ g q) → number modules top h c (seen f) path m x s source ≡ number modules top h c (seen g) path m x s source
+    same_number : (f g : Place → ℕ) (path : Path) (m : Module) (x : ℕ) (s : Signal) (source : Source) → ((q : Place) → Names modules top path x source q → f q ≡ g q)
+        → number modules top h c (seen f) path m x s source ≡ number modules top h c (seen g) path m x s source
     same_number f g path m x s (Register n) same = refl
     same_number f g path m x s (Assigned right) same =
         let agree : Agree (operands right) (seen f path) (seen g path) = record { signals = λ y i. same (path, y) (refl, i); words = λ j k. refl } in
@@ -69,7 +70,8 @@ module _ (modules : List Module) (top : Module) where
         ∙ equation_is solved (path, x) m s at
 
     -- a number by its source is the same in a valuation with the state's words and in its signals alone
-    flat_number : (v : Valuation) → ((path : Path) (j k : ℕ) → (v path).word j k ≡ (h path).word j k) → (path : Path) (m : Module) (x : ℕ) (s : Signal) (source : Source) → number modules top h c v path m x s source ≡ number modules top h c (seen (λ p. (v p.0).signal p.1)) path m x s source
+    flat_number : (v : Valuation) → ((path : Path) (j k : ℕ) → (v path).word j k ≡ (h path).word j k) → (path : Path) (m : Module) (x : ℕ) (s : Signal) (source : Source)
+        → number modules top h c v path m x s source ≡ number modules top h c (seen (λ p. (v p.0).signal p.1)) path m x s source
     flat_number v words path m x s (Register n) = refl
     flat_number v words path m x s (Assigned right) =
         let agree : Agree (operands right) (v path) (seen (λ p. (v p.0).signal p.1) path) = record { signals = λ y i. refl; words = words path } in

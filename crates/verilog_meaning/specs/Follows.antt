@@ -62,7 +62,8 @@ module _ (modules : List Module) (top : Module) (threads : ℕ) {State : Type 0}
     pub interleaving : List ℕ
     pub steps : ℕ → ℕ
     pub rises : (n : ℕ) → steps n ≤ steps (suc n)
-    pub rests : (n : ℕ) (c : Choice) (h g : Valuation) (out written : List ℕ) → slice_get choices n ≡ Some c → Reaches modules top (take n choices) h out → Cycle modules top h c g written → (ChangesSlot modules top threads h g → ⊥) → steps (suc n) ≡ steps n
+    pub rests : (n : ℕ) (c : Choice) (h g : Valuation) (out written : List ℕ) → slice_get choices n ≡ Some c → Reaches modules top (take n choices) h out → Cycle modules top h c g written
+        → (ChangesSlot modules top threads h g → ⊥) → steps (suc n) ≡ steps n
     pub matches : (n : ℕ) (h : Valuation) (out : List ℕ) → n ≤ length choices → Reaches modules top (take n choices) h out → Matches (take n choices) h out (take (steps n) interleaving)
 
   abbrev pub FollowsAlways : Type 0
@@ -73,5 +74,6 @@ module _ (modules : List Module) (top : Module) (threads : ℕ) {State : Type 0}
 -- every state has exactly one settled valuation for each choice, with one value of done
 pub record IsDetermined (modules : List Module) (top : Module) (threads : ℕ) : Type 0 where
   pub exists : (h : Valuation) (c : Choice) → IsState modules top h → IsChoice threads c → (v : Valuation) × IsSettled modules top h c v
-  pub unique : (h : Valuation) (c : Choice) (v w : Valuation) → IsSettled modules top h c v → IsSettled modules top h c w → (path : List ℕ) (m : Module) (x : ℕ) (s : Signal) → IsAt modules top path m x s → (v path).signal x ≡ (w path).signal x
+  pub unique : (h : Valuation) (c : Choice) (v w : Valuation) → IsSettled modules top h c v → IsSettled modules top h c w → (path : List ℕ) (m : Module) (x : ℕ) (s : Signal)
+      → IsAt modules top path m x s → (v path).signal x ≡ (w path).signal x
   pub done : (h : Valuation) (c d : Choice) (a b : ℕ) → ShowsDone modules top h c a → ShowsDone modules top h d b → a ≡ b

@@ -5,7 +5,8 @@ use Rattle.netlist.specs.declared.netlist.Signal.{Signal}
 use Rattle.netlist.specs.declared.netlist.Source.{Source}
 use Rattle.netlist.specs.declared.netlist.Source.TheVariants.{Input, Register, Assigned, Port}
 use Rattle.netlist.specs.declared.netlist.Value.{Value}
-use Rattle.netlist.specs.declared.netlist.Value.TheVariants.{Copy, Constant, BitwiseNot, Binary, SignedLess, ArithmeticShiftRight, Conditional, Division, SignedDivision, MemoryRead, Select, Concatenation, Replication}
+use Rattle.netlist.specs.declared.netlist.Value.TheVariants.{Copy, Constant, BitwiseNot, Binary, SignedLess, ArithmeticShiftRight, Conditional, Division, SignedDivision, MemoryRead, Select}
+use Rattle.netlist.specs.declared.netlist.Value.TheVariants.{Concatenation, Replication}
 use Rattle.netlist.specs.declared.netlist.Instance.{Instance}
 use Rattle.netlist.specs.declared.netlist.Module.{Module}
 use Rattle.verilog_meaning.specs.Names.{numbered, IsSignal, IsInstance}
@@ -114,23 +115,30 @@ module _ (modules : List Module) (top : Module) where
     pub record IsThreaded : Type 0 where
       pub has : (i : ℕ) → i < threads → HasThread i
       pub loopless : (p : Place) → Depends p p → ⊥
-      pub stays : (h g : Valuation) (c : Choice) (out : List ℕ) (i : ℕ) → IsState modules top h → IsChoice threads c → i < threads → Cycle modules top h c g out → bit_of c.mask i ≡ 0 → IsSameSlot i h g
+      pub stays : (h g : Valuation) (c : Choice) (out : List ℕ) (i : ℕ) → IsState modules top h → IsChoice threads c → i < threads → Cycle modules top h c g out → bit_of c.mask i ≡ 0
+          → IsSameSlot i h g
       pub needs : (h g : Valuation) (i a b : ℕ) → i < threads → IsSameSlot i h g → Needs h i a → Needs g i b → a ≡ b
-      pub closed_moves : (h g : Valuation) (c : Choice) (out : List ℕ) (i : ℕ) → IsState modules top h → IsChoice threads c → i < threads → Cycle modules top h c g out → bit_of c.mask i ≡ 1 → Needs h i 0 → IsSameSlot i h g → ⊥
-      pub closed_alike : (h h' g g' : Valuation) (c c' : Choice) (out out' : List ℕ) (i : ℕ) → IsState modules top h → IsState modules top h' → i < threads → Cycle modules top h c g out → Cycle modules top h' c' g' out' → bit_of c.mask i ≡ 1 → bit_of c'.mask i ≡ 1 → Needs h i 0 → IsSameSlot i h h' → IsSameSlot i g g'
-      pub closed_alone : (h g : Valuation) (out : List ℕ) (i : ℕ) → IsState modules top h → i < threads → Cycle modules top h (alone i) g out → Needs h i 0 → (out ≡ []) × ((path : Path) (j : ℕ) → (j ∷ [] ≢ slot i) → IsSameIn modules top (j ∷ []) h g)
+      pub closed_moves : (h g : Valuation) (c : Choice) (out : List ℕ) (i : ℕ) → IsState modules top h → IsChoice threads c → i < threads → Cycle modules top h c g out → bit_of c.mask i ≡ 1
+          → Needs h i 0 → IsSameSlot i h g → ⊥
+      pub closed_alike : (h h' g g' : Valuation) (c c' : Choice) (out out' : List ℕ) (i : ℕ) → IsState modules top h → IsState modules top h' → i < threads → Cycle modules top h c g out
+          → Cycle modules top h' c' g' out' → bit_of c.mask i ≡ 1 → bit_of c'.mask i ≡ 1 → Needs h i 0 → IsSameSlot i h h' → IsSameSlot i g g'
+      pub closed_alone : (h g : Valuation) (out : List ℕ) (i : ℕ) → IsState modules top h → i < threads → Cycle modules top h (alone i) g out → Needs h i 0
+          → (out ≡ []) × ((path : Path) (j : ℕ) → (j ∷ [] ≢ slot i) → IsSameIn modules top (j ∷ []) h g)
       pub open_moves : (h g : Valuation) (out : List ℕ) (i : ℕ) → IsState modules top h → i < threads → Cycle modules top h (alone i) g out → Needs h i 1 → IsSameSlot i h g → IsSame h g
       pub idle : (h g : Valuation) (c : Choice) (out : List ℕ) → IsState modules top h → c.mask ≡ 0 → Cycle modules top h c g out → IsSame h g
       pub done_alike : (h g : Valuation) (c d : Choice) (a b : ℕ) → IsSameSlot 0 h g → ShowsDone modules top h c a → ShowsDone modules top g d b → a ≡ b
       pub done_stays : (h g : Valuation) (c : Choice) (out : List ℕ) → IsState modules top h → ShowsDone modules top h c 1 → Cycle modules top h (alone 0) g out → IsSame h g
-      pub stuck : (h : Valuation) → IsState modules top h → ((i : ℕ) (g : Valuation) (out : List ℕ) → i < threads → Cycle modules top h (alone i) g out → IsSame h g) → (g : Valuation) (c : Choice) (out : List ℕ) → IsChoice threads c → Cycle modules top h c g out → IsSame h g × (out ≡ [])
+      pub stuck : (h : Valuation) → IsState modules top h → ((i : ℕ) (g : Valuation) (out : List ℕ) → i < threads → Cycle modules top h (alone i) g out → IsSame h g)
+          → (g : Valuation) (c : Choice) (out : List ℕ) → IsChoice threads c → Cycle modules top h c g out → IsSame h g × (out ≡ [])
 
     -- ---- counted cycles: all bits are set, or a slot changes
 
     pub data Counted : Valuation → List Choice → ℕ → Type 0 where
       none : {h : Valuation} → Counted h [] 0
-      counts : {h g : Valuation} {c : Choice} {choices : List Choice} {n : ℕ} {out : List ℕ} → Cycle modules top h c g out → (c.mask ≡ 2 ^ threads - 1) ⊎ ChangesSlot h g → Counted g choices n → Counted h (c ∷ choices) (suc n)
-      passes : {h g : Valuation} {c : Choice} {choices : List Choice} {n : ℕ} {out : List ℕ} → Cycle modules top h c g out → c.mask ≢ 2 ^ threads - 1 → (ChangesSlot h g → ⊥) → Counted g choices n → Counted h (c ∷ choices) n
+      counts : {h g : Valuation} {c : Choice} {choices : List Choice} {n : ℕ} {out : List ℕ} → Cycle modules top h c g out → (c.mask ≡ 2 ^ threads - 1) ⊎ ChangesSlot h g
+          → Counted g choices n → Counted h (c ∷ choices) (suc n)
+      passes : {h g : Valuation} {c : Choice} {choices : List Choice} {n : ℕ} {out : List ℕ} → Cycle modules top h c g out → c.mask ≢ 2 ^ threads - 1 → (ChangesSlot h g → ⊥)
+          → Counted g choices n → Counted h (c ∷ choices) n
 
     -- ---- journals
 

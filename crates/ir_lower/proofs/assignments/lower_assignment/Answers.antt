@@ -1,8 +1,16 @@
 use Rattle.c_program.specs.Plain.{expression_of, place_of}
 use Rattle.ir_lower.proofs.Steps.{assignment_at}
+use Rattle.ir_lower.proofs.Working.{assignment_works}
 use Rattle.ir_lower.proofs.assignments.lower_assignment.Goals as goal
 
 pub returns : goal.returns
-returns c =
-    assignment_at c.args.homes.now (place_of c.args.place.now) (expression_of c.args.right.now) c.args.block.now c.lower_expression.new.block c.lower_place.new.block c.store.new.block c.step.new.self
-    c.in_ok-target.target c.in_ok-value.value c.in_ok-value.ensures c.in_ok-target.ensures c.in_ok-store.ensures c.in_ok-step.ensures
+returns c = record {
+  assigns =
+      assignment_at c.args.homes.now (place_of c.args.place.now) (expression_of c.args.right.now)
+      c.args.block.now c.lower_expression.new.block c.lower_place.new.block c.store.new.block c.step.new.self
+      c.in_ok-target.target c.in_ok-value.value c.in_ok-value.ensures c.in_ok-target.ensures c.in_ok-store.ensures.stores c.in_ok-step.ensures;
+  typed =
+      assignment_works c.args.homes.now (place_of c.args.place.now) (expression_of c.args.right.now)
+      c.args.block.now c.lower_expression.new.block c.lower_place.new.block c.store.new.block c.step.new.self
+      c.in_ok-target.target c.in_ok-value.value c.in_ok-value.ensures c.in_ok-target.ensures c.in_ok-store.ensures.stores c.in_ok-store.ensures.few c.in_ok-step.ensures;
+}

@@ -1,6 +1,6 @@
 use Rattle.std.proofs.Common.{◌≡◌, take, map}
 use Rattle.c_program.specs.Plain.{piece_of}
-use Rattle.ir_lower.specs.Printing.{conversions_of}
+use Rattle.code_following.specs.Following.{conversions_of}
 use Rattle.ir_lower.proofs.printing.conversions_of.Given as goal
 
 abbrev pub invariant-loop-piece : goal.invariant-loop-piece

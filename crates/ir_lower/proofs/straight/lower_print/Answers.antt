@@ -1,9 +1,8 @@
-use Rattle.std.proofs.Common.{◌≡◌, ℕ, suc, ◌+◌, List, length, refl, sym, ap, ◌∙◌, subst}
-use Rattle.block_ir.specs.declared.code.ActOperand.{ActOperand}
+use Rattle.std.proofs.Common.{◌≡◌, suc, ◌+◌, length, refl, sym, ap, ◌∙◌, subst}
 use Rattle.c_program.specs.Plain.{expression_of, expressions_of, pieces_of}
 use Rattle.ir_lower.specs.declared.open_block.OpenBlock.{OpenBlock}
-use Rattle.ir_lower.specs.declared.straight.StraightCode.{StraightCode}
 use Rattle.ir_lower.specs.Printing.{word_operands, PutsValues}
+use Rattle.ir_lower.specs.Typing.{WorksOnValues}
 use Rattle.ir_lower.proofs.Words.{map_length}
 use Rattle.ir_lower.proofs.Leading.{print_at}
 use Rattle.ir_lower.proofs.straight.lower_print.Goals as goal
@@ -21,7 +20,9 @@ returns c = λ offset.
     c.in_ok-types.ensures
     (subst (λ hs. PutsValues hs (length c.args.homes.now.variables) c.in_ok-types.types es old.block c.lower_values.new.block) c.as_slice.ensures
     (subst (λ n. PutsValues c.as_slice.result.now n c.in_ok-types.types es old.block c.lower_values.new.block) c.in_ok-first.ensures
-    (subst (λ ts. PutsValues c.as_slice.result.now c.in_ok-first.first ts es old.block c.lower_values.new.block) c.as_slice-words.ensures c.in_ok-lower_values.ensures)))
+    (subst (λ ts. PutsValues c.as_slice.result.now c.in_ok-first.first ts es old.block c.lower_values.new.block) c.as_slice-words.ensures c.in_ok-lower_values.ensures.puts)))
+    (subst (λ hs. WorksOnValues hs (length c.args.homes.now.variables) es old.block c.lower_values.new.block) c.as_slice.ensures
+    (subst (λ n. WorksOnValues c.as_slice.result.now n es old.block c.lower_values.new.block) c.in_ok-first.ensures c.in_ok-lower_values.ensures.typed))
     stepped operands refl c.in_ok-act.ensures
     (ap (λ n. record c.act.new.self { site = n + 1 }) c.in_ok-code.ensures.value)
     offset

@@ -1,9 +1,11 @@
 use Rattle.circuit.specs.Modules.{IsLeaf}
+use Rattle.circuit.specs.Interfaces.{IsTableModule}
 use Rattle.circuit.specs.Machines.{IsCore}
 use Rattle.circuit.proofs.Growth.{of_ok}
 use Rattle.print_core.specs.Printer.{IsPrinter}
-use Rattle.print_core.specs.Machine.{printer_machine, printer_places, inputs, is_late}
+use Rattle.print_core.specs.Machine.{printer_machine, printer_places, inputs, input_widths, output_widths, is_late}
 use Rattle.print_core.proofs.Printing.{printer_core, printer_leaf}
+use Rattle.print_core.proofs.Standing.{printer_stands}
 use Rattle.print_core.proofs.printer.module.Goals as goal
 
 pub returns : goal.returns
@@ -13,4 +15,5 @@ returns c =
       core = of_ok c.table.result (IsPrinter shape) (IsCore (printer_machine shape) (printer_places shape) shape.threads) (λ m is. printer_core shape c.requires m is) c.table.ensures;
       leaf = of_ok c.table.result (IsPrinter shape) (λ m. IsLeaf m (inputs shape) (is_late shape)) (λ m is. printer_leaf shape c.requires m is) c.table.ensures;
       table = c.table.ensures;
+      stands = of_ok c.table.result (IsPrinter shape) (λ m. IsTableModule m (input_widths shape) (output_widths shape)) (λ m is. printer_stands shape c.requires m is) c.table.ensures;
     }

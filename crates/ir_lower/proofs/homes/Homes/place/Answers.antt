@@ -1,19 +1,17 @@
-use Rattle.std.proofs.Common.{◌≡◌, ℕ, suc, ◌+◌, List, [], ◌∷◌, ◌++◌, length, refl, ap, ◌∙◌, ⊎_elim, arith, length-append, eq-eqb}
+use Rattle.std.proofs.Common.{ℕ, [], ◌∷◌, ◌++◌, refl, ap, ◌∙◌, ⊎_elim, eq-eqb}
 use Rattle.std.proofs.lemmas.Bool.Decides.{eqb_tells}
-use Rattle.ir_lower.specs.declared.homes.Home.{Home}
 use Rattle.ir_lower.specs.declared.homes.Home.TheVariants as home
-use Rattle.ir_lower.specs.declared.homes.Homes.{Homes}
-use Rattle.ir_lower.proofs.LocalHomes.{scalar_more, array_more, one_longer}
+use Rattle.ir_lower.proofs.LocalHomes.{scalar_more, array_more}
 use Rattle.ir_lower.proofs.homes.Homes.place.Goals as goal
 
 pub returns-then-length-eq1 : goal.returns-then-length-eq1
 returns-then-length-eq1 c = λ before are.
     scalar_more before c.args.local c.args.self.now _ (eq-eqb c.args.local.length 1 c.if-length-eq1.true) are
     (c.in_ok-push.ensures.ok ∙ ap (λ (n : ℕ). c.args.self.now.homes ++ home.Variable n ∷ []) (c.in_ok-number.ensures.value ∙ c.len.ensures))
-    (one_longer _ _ _ c.in_ok-push-2.ensures.ok) refl
+    c.in_ok-push-2.ensures.ok refl
 
 pub returns : goal.returns
 returns c = λ before are.
     array_more before c.args.local c.args.self.now _ (⊎_elim (λ t. absurd (c.if-length-eq1.false t.1)) (λ t. t.0) (eqb_tells c.args.local.length 1)) are
     (c.in_ok-push-3.ensures.ok ∙ ap (λ (n : ℕ). c.args.self.now.homes ++ home.Array n ∷ []) (c.in_ok-number-2.ensures.value ∙ c.len-2.ensures))
-    refl (one_longer _ _ _ c.in_ok-push-4.ensures.ok)
+    refl c.in_ok-push-4.ensures.ok

@@ -1,0 +1,218 @@
+-- Operations give what they give: lemmas of each function that puts the word of an operation together.
+use Rattle.std.proofs.Common.{◌≡◌, ℕ, zero, suc, ◌+◌, ◌^◌, ◌<◌, ◌≤◌, Bool, true, nat_lt, if◌then◌else◌, List, [], ◌∷◌, slice_get}
+use Rattle.std.proofs.Common.{slice_index, Option, Some, None, ℤ, pos, refl, sym, ap, subst, ◌∙◌, arith}
+use Rattle.std.specs.Prelude.{Result, IfOk}
+use Rattle.std.proofs.Math.Nat.{mod-eq_of_lt}
+use Rattle.interleaving.specs.Memory.{Memory}
+use Rattle.netlist.specs.declared.netlist.Signal.{Signal}
+use Rattle.netlist.specs.declared.netlist.Value.TheVariants.{MemoryRead}
+use Rattle.netlist.specs.declared.netlist.Module.{Module}
+use Rattle.verilog_meaning.specs.Readings.{Reading, width, value, memory_words}
+use Rattle.hls_ints.specs.Types.{IntegerType, width_of, wrapped}
+use Rattle.c_program.specs.declared.tree.UnaryOperator.{UnaryOperator}
+use Rattle.c_program.specs.declared.tree.BinaryOperator.{BinaryOperator}
+use Rattle.block_ir.specs.Arithmetic.{unary_total, binary_total}
+use Rattle.block_ir.specs.declared.operand.Operand.{Operand}
+use Rattle.block_ir.specs.declared.block.Operation.{Operation}
+use Rattle.block_ir.specs.declared.block.Operation.TheVariants.{Unary, Binary, ReadArray}
+use Rattle.block_ir.specs.declared.code.Array.{Array}
+use Rattle.block_ir.specs.declared.code.ThreadCode.{ThreadCode}
+use Rattle.operator_words.specs.Shown.{unary_result, binary_result}
+use Rattle.operator_words.proofs.Residues.{residue_of-word}
+use Rattle.operator_words.proofs.Typed.{has_zero}
+use Rattle.operator_wires.specs.declared.words.Word.{Word}
+use Rattle.operator_wires.specs.Gives.{Gives}
+use Rattle.operator_wires.specs.Words.{IsWord, Holds, Becomes, Combine, Resizes, resized_word}
+use Rattle.operator_wires.proofs.Giving.{grows_refl, grows_then}
+use Rattle.operator_wires.proofs.Resizing.{resized_shows}
+use Rattle.operator_wires.proofs.Making.{of_ok}
+use Rattle.block_datapath.specs.declared.registers.Registers.{Registers}
+use Rattle.block_datapath.specs.declared.operands.Given.{Given}
+use Rattle.thread_promise.specs.Types.{value_type, operand_type}
+use Rattle.block_datapath.specs.Seen.{ShowsOperand}
+use Rattle.thread_promise.specs.Slots.{element_at}
+use Rattle.block_ir.specs.declared.plan.BlockPlan.{BlockPlan}
+use Rattle.planned_block.specs.Plan.{further_states}
+use Rattle.planned_view.specs.View.{operation_view, register_at}
+use Rattle.block_datapath.specs.Operations.{seen_value, operation_value, Addresses, ReadsArray, ShowsOperation, GivesOperation}
+use Rattle.block_datapath.proofs.Seeing.{own_word}
+
+-- whatever the globals are, and in whatever state it starts or ends
+abbrev pub AtAnyStart : List Signal → List Signal → ThreadCode → Registers → List Given → ℕ → Operation → Word → Type 0
+AtAnyStart a b code registers values last operation out = (globals : List IntegerType) (start : ℕ) → ShowsOperation a b globals code registers values start last operation out
+
+abbrev pub AtAnyEnd : List Signal → List Signal → ThreadCode → Registers → List Given → ℕ → Operation → Word → Type 0
+AtAnyEnd a b code registers values start operation out = (globals : List IntegerType) (last : ℕ) → ShowsOperation a b globals code registers values start last operation out
+
+-- ---- operators
+
+pub unary_given : {E : Type 0} (x : Result Word E) (a b c : List Signal) (code : ThreadCode) (registers : Registers) (values : List Given) (last : ℕ)
+    (operator : UnaryOperator) (ty : IntegerType) (operand : Operand) (word : Word) → ShowsOperand a b registers code.variables values last operand word
+    → IfOk x (Becomes b c word (unary_result operator ty) (unary_total operator ty)) → IfOk x (AtAnyStart a c code registers values last (Unary operator ty operand))
+unary_given x a b c code registers values last operator ty operand word t made =
+    of_ok x (Becomes b c word (unary_result operator ty) (unary_total operator ty)) (AtAnyStart a c code registers values last (Unary operator ty operand))
+    (λ out u globals start. record {
+      grows = grows_then a b c t.grows u.grows;
+      shows = λ m r variables given arrays g o has seen within.
+          u.shows m r (operand_type operand) (seen_value variables given operand) g o (t.shows m r variables given (grows_then b c m.signals u.grows g) o seen);
+    }) made
+
+pub binary_given : {E : Type 0} (x : Result Word E) (a b c d : List Signal) (code : ThreadCode) (registers : Registers) (values : List Given) (last : ℕ)
+    (operator : BinaryOperator) (ty : IntegerType) (left right : Operand) (first second : Word) → ShowsOperand a b registers code.variables values last left first
+    → ShowsOperand b c registers code.variables values last right second → IfOk x (Combine c d first second (binary_result operator ty) (binary_total operator ty))
+    → IfOk x (AtAnyStart a d code registers values last (Binary operator ty left right))
+binary_given x a b c d code registers values last operator ty left right first second t u made =
+    of_ok x (Combine c d first second (binary_result operator ty) (binary_total operator ty)) (AtAnyStart a d code registers values last (Binary operator ty left right))
+    (λ out v globals start. record {
+      grows = grows_then a b d t.grows (grows_then b c d u.grows v.grows);
+      shows = λ m r variables given arrays g o has seen within.
+          let later = grows_then c d m.signals v.grows g in
+          v.shows m r (operand_type left) (operand_type right) (seen_value variables given left) (seen_value variables given right) g o
+          (t.shows m r variables given (grows_then b c m.signals u.grows later) o seen.0) (u.shows m r variables given later o seen.1);
+    }) made
+
+-- ---- elements of arrays
+
+pub element_given : {E : Type 0} (x : Result Word E) (a b c : List Signal) (code : ThreadCode) (registers : Registers) (values : List Given) (start array : ℕ)
+    (index : Operand) (word : Word) → ShowsOperand a b registers code.variables values start index word → IfOk x (ReadsArray b c code array word)
+    → IfOk x (AtAnyEnd a c code registers values start (ReadArray array index))
+element_given x a b c code registers values start array index word t made =
+    of_ok x (ReadsArray b c code array word) (AtAnyEnd a c code registers values start (ReadArray array index))
+    (λ out u globals last. record {
+      grows = grows_then a b c t.grows u.grows;
+      shows = λ m r variables given arrays g o has seen within.
+          let own : Array = within.0 in
+          let i : ℕ = within.1 in
+          let first = t.shows m r variables given (grows_then b c m.signals u.grows g) o seen in
+          let at : IsWord m r word (operand_type index) (pos i) = subst (λ (z : ℤ). IsWord m r word (operand_type index) z) within.3 first in
+          element_word m r code globals array index out own i variables given arrays within.2 within.3 (u.shows m r (operand_type index) i own arrays g o has within.2 within.4 at);
+    }) made
+  where
+    element_word : (m : Module) (r : Reading) (code : ThreadCode) (globals : List IntegerType) (array : ℕ) (index : Operand) (out : Word) (own : Array) (i : ℕ) (variables given : ℕ → ℤ)
+        (arrays : Memory ℤ) → slice_get code.arrays array ≡ Some own → seen_value variables given index ≡ pos i → IsWord m r out own.ty (arrays (element_at array i))
+        → IsWord m r out (value_type globals code (ReadArray array index)) (operation_value variables given arrays (ReadArray array index))
+    element_word m r code globals array index out own i variables given arrays e f is = rw (e, f) is
+
+pub no_array : {E : Type 0} (x : Result Word E) (a b : List Signal) (code : ThreadCode) (array : ℕ) (index : Word) (ty : IntegerType) (v : ℤ)
+    → slice_get code.arrays array ≡ None → IfOk x (Holds a b ty v) → IfOk x (ReadsArray a b code array index)
+no_array x a b code array index ty v e made =
+    of_ok x (Holds a b ty v) (ReadsArray a b code array index)
+    (λ out t. record { grows = t.grows; shows = λ m r k i own arrays g o has listed below is. absurd (cc (e, listed)) }) made
+
+pub array_read : (a b c : List Signal) (code : ThreadCode) (array address place w : ℕ) (index out : Word) (own : Array) → slice_get code.arrays array ≡ Some own
+    → Addresses a b index own.length address
+    → Gives b c place w (λ m r. value m r (MemoryRead array address)) → w ≡ width_of own.ty → out.place ≡ place → out.width ≡ width_of own.ty → out.signed ≡ own.ty.signed
+    → ReadsArray a c code array index out
+array_read a b c code array address place w index out own e t u wide at says sign = record {
+  grows = grows_then a b c t.grows u.grows;
+  shows = λ m r ty i array' arrays g o has listed below is.
+      let same : array' ≡ own = cc in
+      let less : i < own.length = subst (λ (k : Array). i < k.length) same below in
+      let there = t.shows m r ty i (grows_then b c m.signals u.grows g) o is less in
+      let memory = has.declared array own e in
+      let count : memory_words (slice_get m.memories array) ≡ own.length = ap memory_words memory.1 ∙ memory.2 in
+      subst (λ (k : Array). IsWord m r out k.ty (arrays (element_at array i))) (sym same)
+      (record {
+        says = says;
+        sign = sign;
+        wide = ap (width m) at ∙ u.wide m g ∙ wide;
+        shows = ap r.signal at ∙ u.shows m r g o ∙ word_at m r array (r.signal address) i own.length there count less ∙ has.words array i own e less;
+        typed = has.typed array i own e less;
+      });
+}
+  where
+    word_at : (m : Module) (r : Reading) (array n i size : ℕ) → n ≡ i → memory_words (slice_get m.memories array) ≡ size → i < size
+        → (if nat_lt n (memory_words (slice_get m.memories array)) then r.word array n else 0) ≡ r.word array i
+    word_at m r array n i size e f less =
+        let test : nat_lt n (memory_words (slice_get m.memories array)) ≡ true = grind arith in
+        ap (λ (t : Bool). if t then r.word array n else 0) test ∙ ap (r.word array) e
+
+-- an index that is wide enough is its own address
+pub address_kept : (a : List Signal) (index : Word) (size : ℕ) → size ≤ 2 ^ index.width → Addresses a a index size index.place
+address_kept a index size room = record {
+  grows = grows_refl a;
+  shows = λ m r ty i g o is below.
+      let less : i < 2 ^ width_of ty = subst (λ (w : ℕ). i < 2 ^ w) is.says (omega arith) in
+      is.shows ∙ residue_of-word (width_of ty) i ∙ mod-eq_of_lt less;
+}
+
+pub address_widened : {E : Type 0} (x : Result ℕ E) (a b : List Signal) (index : Word) (size : ℕ) → size < 2 ^ 64 → IfOk x (Resizes a b index.place index.width 64 index.signed)
+    → IfOk x (Addresses a b index size)
+address_widened x a b index size small made =
+    of_ok x (Resizes a b index.place index.width 64 index.signed) (Addresses a b index size)
+    (λ place t. record {
+      grows = t.grows;
+      shows = λ m r ty i g o is below.
+          let wide : width m index.place ≡ index.width = is.wide ∙ sym is.says in
+          let less : i < 2 ^ 64 = omega arith in
+          t.shows m r g o wide ∙ ap (λ (s : Bool). resized_word s index.width 64 (r.signal index.place)) is.sign ∙ ap (λ w. resized_word ty.signed w 64 (r.signal index.place)) is.says
+          ∙ ap (resized_word ty.signed (width_of ty) 64) is.shows ∙ resized_shows ty 64 (pos i) (omega arith) is.typed ∙ residue_of-word 64 i ∙ mod-eq_of_lt less;
+    }) made
+
+-- ---- what gives nothing
+
+-- a word of 0
+pub zero_given : {E : Type 0} (x : Result Word E) (a b : List Signal) (globals : List IntegerType) (code : ThreadCode) (registers : Registers) (values : List Given) (start last : ℕ)
+    (operation known : Operation) (ty : IntegerType) (z : ℤ) → operation ≡ known → ((variables given : ℕ → ℤ) (arrays : Memory ℤ) → operation_value variables given arrays known ≡ pos 0)
+    → IfOk x (Holds a b ty (wrapped ty z)) → ty ≡ value_type globals code operation → z ≡ pos 0 → IfOk x (ShowsOperation a b globals code registers values start last operation)
+zero_given x a b globals code registers values start last operation known ty z is f made e g =
+    of_ok x (Holds a b ty (wrapped ty z)) (ShowsOperation a b globals code registers values start last operation)
+    (λ out t. record {
+      grows = t.grows;
+      shows = λ m r variables given arrays grows o has seen within.
+          let zeroed : IsWord m r out ty (wrapped ty (pos 0)) = subst (λ (k : ℤ). IsWord m r out ty (wrapped ty k)) g (t.shows m r grows o) in
+          subst (λ (k : ℤ). IsWord m r out (value_type globals code operation) k) (sym (ap (operation_value variables given arrays) is ∙ f variables given arrays))
+          (subst (λ (k : IntegerType). IsWord m r out k (pos 0)) e (own_word m r out ty (pos 0) (has_zero ty) zeroed));
+    }) made
+
+-- an operation of this form
+pub of_start : {E : Type 0} (x : Result Word E) (a b : List Signal) (globals : List IntegerType) (code : ThreadCode) (registers : Registers) (values : List Given) (start last : ℕ)
+    (operation known : Operation) → operation ≡ known → IfOk x (AtAnyStart a b code registers values last known) → IfOk x (ShowsOperation a b globals code registers values start last operation)
+of_start x a b globals code registers values start last operation known e made =
+    subst (λ (o : Operation). IfOk x (ShowsOperation a b globals code registers values start last o)) (sym e)
+    (of_ok x (AtAnyStart a b code registers values last known) (ShowsOperation a b globals code registers values start last known) (λ out t. t globals start) made)
+
+pub of_end : {E : Type 0} (x : Result Word E) (a b : List Signal) (globals : List IntegerType) (code : ThreadCode) (registers : Registers) (values : List Given) (start last : ℕ)
+    (operation known : Operation) → operation ≡ known → IfOk x (AtAnyEnd a b code registers values start known) → IfOk x (ShowsOperation a b globals code registers values start last operation)
+of_end x a b globals code registers values start last operation known e made =
+    subst (λ (o : Operation). IfOk x (ShowsOperation a b globals code registers values start last o)) (sym e)
+    (of_ok x (AtAnyEnd a b code registers values start known) (ShowsOperation a b globals code registers values start last known) (λ out t. t globals last) made)
+
+-- ---- what is kept of an operation
+
+retyped : (a b : List Signal) (globals : List IntegerType) (code : ThreadCode) (registers : Registers) (values : List Given) (start last : ℕ) (operation : Operation) (word out : Word)
+    → ShowsOperation a b globals code registers values start last operation word → out.place ≡ word.place → out.width ≡ width_of (value_type globals code operation)
+    → out.signed ≡ (value_type globals code operation).signed → ShowsOperation a b globals code registers values start last operation out
+retyped a b globals code registers values start last operation word out t place says sign = record {
+  grows = t.grows;
+  shows = λ m r variables given arrays g o has seen within.
+      let is = t.shows m r variables given arrays g o has seen within in
+      record { says = says; sign = sign; wide = ap (width m) place ∙ is.wide; shows = ap r.signal place ∙ is.shows; typed = is.typed };
+}
+
+pub operation_kept : (a b : List Signal) (globals : List IntegerType) (code : ThreadCode) (registers : Registers) (values : List Given) (plan : BlockPlan) (k start : ℕ) (operation : Operation)
+    (word : Word) (given : Given) (ty : IntegerType) → ShowsOperation a b globals code registers values start given.last operation word → start ≡ slice_index plan.starts k
+    → ty ≡ value_type globals code operation → given.word.place ≡ word.place → given.word.width ≡ width_of ty → given.word.signed ≡ ty.signed → given.register ≡ register_at plan.registers k
+    → (start + further_states (operation_view operation).kind < 2 ^ 64 → given.last ≡ start + further_states (operation_view operation).kind)
+    → GivesOperation a b globals code registers values plan k operation given
+operation_kept a b globals code registers values plan k start operation word given ty t first e place says sign register last =
+    let wide : given.word.width ≡ width_of (value_type globals code operation) = says ∙ ap width_of e in
+    let signed : given.word.signed ≡ (value_type globals code operation).signed = sign ∙ ap (λ (x : IntegerType). x.signed) e in
+    record {
+      says = wide;
+      sign = signed;
+      last = λ small. subst (λ (n : ℕ). n + further_states (operation_view operation).kind < 2 ^ 64 → given.last ≡ n + further_states (operation_view operation).kind) first last small;
+      register = register;
+      shows = subst (λ (n : ℕ). ShowsOperation a b globals code registers values n given.last operation given.word) first
+          (retyped a b globals code registers values start given.last operation word given.word t place wide signed);
+    }
+
+pub register_got : (registers : List (Option ℕ)) (k : ℕ) (x : Option ℕ) → slice_get registers k ≡ Some x → x ≡ register_at registers k
+register_got [] k x e = absurd cc
+register_got (y ∷ registers) zero x e = cc
+register_got (y ∷ registers) (suc k) x e = register_got registers k x e
+
+pub register_none : (registers : List (Option ℕ)) (k : ℕ) → slice_get registers k ≡ None → None ≡ register_at registers k
+register_none [] k e = refl
+register_none (y ∷ registers) zero e = absurd cc
+register_none (y ∷ registers) (suc k) e = register_none registers k e

@@ -1,0 +1,5 @@
+pub mod Seen
+pub mod Operations
+pub mod Chains
+pub mod Ending
+pub mod Leave

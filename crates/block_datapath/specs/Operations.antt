@@ -1,0 +1,129 @@
+-- What the operations of a block give, and what their words show.
+use Rattle.std.specs.Prelude.{◌≡◌, ℕ, ◌<◌, ◌+◌, ◌^◌, List, length, Some, slice_get, slice_index, ℤ, pos}
+use Rattle.interleaving.specs.Memory.{Location, Memory}
+use Rattle.hls_ints.specs.Residues.{residue_of}
+use Rattle.hls_ints.specs.Types.{IntegerType, HasType, width_of}
+use Rattle.block_ir.specs.Arithmetic.{unary_total, binary_total}
+use Rattle.block_ir.specs.declared.operand.Operand.{Operand}
+use Rattle.block_ir.specs.declared.block.Operation.{Operation}
+use Rattle.block_ir.specs.declared.block.Operation.TheVariants.{Unary, Binary, ReadGlobal, WriteGlobal, ReadArray, WriteArray}
+use Rattle.block_ir.specs.declared.block.Block.{Block}
+use Rattle.block_ir.specs.declared.code.Array.{Array}
+use Rattle.block_ir.specs.declared.code.ThreadCode.{ThreadCode}
+use Rattle.block_ir.specs.declared.plan.BlockPlan.{BlockPlan}
+use Rattle.planned_block.specs.Block.{operand_value, element}
+use Rattle.planned_block.specs.Plan.{last_state, further_states, KeepsOrders}
+use Rattle.planned_block.specs.Slot.{Slot, IsWired}
+use Rattle.planned_view.specs.View.{operand_view, operation_view, planned_view, plan_view, register_at}
+use Rattle.netlist.specs.declared.netlist.Signal.{Signal}
+use Rattle.netlist.specs.declared.netlist.Memory.{Memory as Words}
+use Rattle.netlist.specs.declared.netlist.Module.{Module}
+use Rattle.verilog_meaning.specs.Readings.{Reading}
+use Rattle.circuit.specs.Modules.{Obeys}
+use Rattle.operator_wires.specs.declared.words.Word.{Word}
+use Rattle.operator_wires.specs.Gives.{Grows}
+use Rattle.operator_wires.specs.Words.{IsWord}
+use Rattle.block_datapath.specs.declared.registers.Registers.{Registers}
+use Rattle.block_datapath.specs.declared.operands.Given.{Given}
+use Rattle.thread_promise.specs.Types.{value_type, IsTypedBlock}
+use Rattle.block_datapath.specs.Seen.{IsVariable, IsKept, SeesSource}
+use Rattle.thread_promise.specs.Slots.{element_at, IsAlive, IsWithin, AreWithin}
+
+-- the value of an operand, where the variables and the values of operations are these
+abbrev pub seen_value : (ℕ → ℤ) → (ℕ → ℤ) → Operand → ℤ
+seen_value variables given o = operand_value variables given (operand_view o)
+
+-- what an operation gives; accesses of globals are made elsewhere
+abbrev pub operation_value : (ℕ → ℤ) → (ℕ → ℤ) → Memory ℤ → Operation → ℤ
+operation_value variables given arrays (Unary operator ty a) = unary_total operator ty (seen_value variables given a)
+operation_value variables given arrays (Binary operator ty a b) = binary_total operator ty (seen_value variables given a) (seen_value variables given b)
+operation_value variables given arrays (ReadGlobal x i) = pos 0
+operation_value variables given arrays (WriteGlobal x i a) = pos 0
+operation_value variables given arrays (ReadArray x i) = arrays (element x (seen_value variables given i))
+operation_value variables given arrays (WriteArray x i a) = pos 0
+
+-- the memories of a module are the arrays of the code, and show these elements
+pub record HasArrays (code : ThreadCode) (m : Module) (r : Reading) (arrays : Memory ℤ) : Type 0 where
+  pub declared : (a : ℕ) (array : Array) → slice_get code.arrays a ≡ Some array → (s : Words) × (slice_get m.memories a ≡ Some s) × (length s.initial ≡ array.length)
+  pub words : (a i : ℕ) (array : Array) → slice_get code.arrays a ≡ Some array → i < array.length → r.word a i ≡ residue_of (width_of array.ty) (arrays (element_at a i))
+  pub typed : (a i : ℕ) (array : Array) → slice_get code.arrays a ≡ Some array → i < array.length → HasType array.ty (arrays (element_at a i))
+
+-- the operands that an operation's value needs can be seen: of an operator in its last state, of an access in its first one
+module _ (m : Module) (r : Reading) (registers : Registers) (code : ThreadCode) (values : List Given) (start last : ℕ) (variables given : ℕ → ℤ) where
+  abbrev pub Sees : ℕ → Operand → Type 0
+  Sees state o = SeesSource m r registers code.variables values state variables given o.source
+
+  abbrev pub SeesOperands : Operation → Type 0
+  SeesOperands (Unary operator ty a) = Sees last a
+  SeesOperands (Binary operator ty a b) = Sees last a × Sees last b
+  SeesOperands (ReadGlobal x i) = Unit {0}
+  SeesOperands (WriteGlobal x i a) = Unit {0}
+  SeesOperands (ReadArray x i) = Sees start i
+  SeesOperands (WriteArray x i a) = Unit {0}
+
+module _ (old new : List Signal) where
+  -- the address of an element, where the index is one
+  pub record Addresses (index : Word) (size place : ℕ) : Type 0 where
+    pub grows : Grows old new
+    pub shows : (m : Module) (r : Reading) (ty : IntegerType) (i : ℕ) → Grows new m.signals → Obeys m r → IsWord m r index ty (pos i) → i < size → r.signal place ≡ i
+
+  pub record ReadsArray (code : ThreadCode) (a : ℕ) (index out : Word) : Type 0 where
+    pub grows : Grows old new
+    pub shows : (m : Module) (r : Reading) (ty : IntegerType) (i : ℕ) (array : Array) (arrays : Memory ℤ) → Grows new m.signals → Obeys m r → HasArrays code m r arrays →
+        slice_get code.arrays a ≡ Some array → i < array.length → IsWord m r index ty (pos i) → IsWord m r out array.ty (arrays (element_at a i))
+
+  -- THE WORD OF AN OPERATION shows what it gives, in each reading in which its operands can be seen
+  pub record ShowsOperation (globals : List IntegerType) (code : ThreadCode) (registers : Registers) (values : List Given) (start last : ℕ) (operation : Operation) (out : Word) : Type 0 where
+    pub grows : Grows old new
+    pub shows : (m : Module) (r : Reading) (variables given : ℕ → ℤ) (arrays : Memory ℤ) → Grows new m.signals → Obeys m r → HasArrays code m r arrays →
+        SeesOperands m r registers code values start last variables given operation → IsWithin globals code (seen_value variables given) operation →
+        IsWord m r out (value_type globals code operation) (operation_value variables given arrays operation)
+
+  -- the same of what is kept of it
+  pub record GivesOperation (globals : List IntegerType) (code : ThreadCode) (registers : Registers) (values : List Given) (plan : BlockPlan) (k : ℕ) (operation : Operation) (given :
+      Given) : Type 0 where
+    pub says : given.word.width ≡ width_of (value_type globals code operation)
+    pub sign : given.word.signed ≡ (value_type globals code operation).signed
+    pub last : slice_index plan.starts k + further_states (operation_view operation).kind < 2 ^ 64 → given.last ≡ slice_index plan.starts k + further_states (operation_view operation).kind
+    pub register : given.register ≡ register_at plan.registers k
+    pub shows : ShowsOperation globals code registers values (slice_index plan.starts k) given.last operation given.word
+
+-- ---- the operations of a block
+
+abbrev pub IsLocal : Operation → Type 0
+IsLocal (Unary operator ty a) = Unit {0}
+IsLocal (Binary operator ty a b) = Unit {0}
+IsLocal (ReadGlobal x i) = ⊥
+IsLocal (WriteGlobal x i a) = ⊥
+IsLocal (ReadArray x i) = Unit {0}
+IsLocal (WriteArray x i a) = Unit {0}
+
+module _ (globals : List IntegerType) (code : ThreadCode) (registers : Registers) (b : Block) (p : BlockPlan) where
+  -- a reading shows a slot in this block
+  pub record SeesSlot (m : Module) (r : Reading) (q : Slot) : Type 0 where
+    pub variables : (x : ℕ) (ty : IntegerType) → slice_get code.variables x ≡ Some ty → IsVariable m r registers code.variables x ty (q.variables x)
+    pub arrays : HasArrays code m r q.arrays
+    pub alive : (k n : ℕ) (t : IsAlive b p q k n) → IsKept m r registers (Some n) (value_type globals code t.operation) (q.registers n)
+
+  -- the block is right: its operands have the types that they say, it accesses no global, and its plan keeps its orders
+  pub record IsRight : Type 0 where
+    pub typed : IsTypedBlock globals code b
+    pub locals : (k : ℕ) (o : Operation) → slice_get b.operations k ≡ Some o → IsLocal o
+    pub keeps : KeepsOrders (planned_view b) (plan_view b p)
+    pub small : p.states < 2 ^ 64
+
+  -- the value of operation k: its word shows what the planned block's wire has in the operation's last state
+  pub record IsShown (new : List Signal) (k : ℕ) (o : Operation) (given : Given) : Type 0 where
+    pub says : given.word.width ≡ width_of (value_type globals code o)
+    pub sign : given.word.signed ≡ (value_type globals code o).signed
+    pub last : IsRight → given.last ≡ last_state (planned_view b) (plan_view b p) k
+    pub register : given.register ≡ (plan_view b p).register k
+    pub shows : (bank : Location → ℕ) (m : Module) (r : Reading) (q : Slot) (wire : ℕ → ℤ) → IsRight → Grows new m.signals → Obeys m r → SeesSlot m r q →
+        IsWired bank (planned_view b) (plan_view b p) q wire → AreWithin globals code b p q wire → last_state (planned_view b) (plan_view b p) k ≡ q.state →
+        IsWord m r given.word (value_type globals code o) (wire k)
+
+  -- THE VALUES OF THE FIRST n OPERATIONS, one after the other
+  pub record ShowsFirst (old new : List Signal) (n : ℕ) (values : List Given) : Type 0 where
+    pub grows : Grows old new
+    pub count : length values ≡ n
+    pub each : (k : ℕ) (o : Operation) → k < n → slice_get b.operations k ≡ Some o → (given : Given) × (slice_get values k ≡ Some given) × IsShown new k o given

@@ -1,0 +1,69 @@
+// The registers of a slot, and what they hold next if the state is left.
+
+ghost use Rattle.std.specs.Prelude.{◌≡◌, ◌<◌, slice_get, length, Some, OnOk};
+ghost use Rattle.block_datapath.specs.Chains.{SetsNext};
+
+use operator_wires::wires::Wires;
+use sqlite_items::Items;
+use std::alloc::AllocError;
+
+/// A register and its width.
+#[derive(Clone, Copy, Debug, PartialEq, Eq)]
+pub struct Held {
+    pub register: usize,
+    pub width: u64,
+}
+
+/// Where the parts of a slot stand.
+#[derive(Drop)]
+pub struct Registers {
+    pub stage: Held,
+    pub state: Held,
+    pub beat: usize,
+    /// The scalar variables, each as wide as its type.
+    pub variables: Items<Held>,
+    /// Registers for values of operations, each as wide as the widest of them.
+    pub kept: Items<Held>,
+}
+
+/// Where a condition holds the register of that number, if there is one, gets what another signal of its width shows,
+/// else what it would get so far.
+pub fn set_next(
+    wires: &mut Wires,
+    nexts: &mut Items<usize>,
+    number: usize,
+    width: u64,
+    condition: usize,
+    source: usize,
+) -> Result<(), AllocError>
+    ensures { OnOk result (SetsNext wires.old.signals wires.new.signals nexts.old nexts.new number condition source) }
+{
+    match place_at(nexts.as_slice(), number) {
+        Some(old) => set_present(wires, nexts, number, width, condition, source, old),
+        None => Ok(()),
+    }
+}
+
+fn place_at(places: &[usize], number: usize) -> Option<usize>
+    ensures { result ≡ slice_get places.now number }
+{
+    places.get(number).copied()
+}
+
+fn set_present(
+    wires: &mut Wires,
+    nexts: &mut Items<usize>,
+    number: usize,
+    width: u64,
+    condition: usize,
+    source: usize,
+    old: usize,
+) -> Result<(), AllocError>
+    requires present { slice_get nexts.old number ≡ Some old }
+    requires within { number < length nexts.old }
+    ensures { OnOk result (SetsNext wires.old.signals wires.new.signals nexts.old nexts.new number condition source) }
+{
+    let next = wires.choice(width, condition, source, old)?;
+    nexts.set(number, next);
+    Ok(())
+}

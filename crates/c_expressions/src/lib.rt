@@ -1,0 +1,6 @@
+//! Expressions, places, conditions and calls of a text as those of its program, and the rules that they break.
+#![tactic(auto)]
+
+pub mod callees;
+pub mod calls;
+pub mod expressions;

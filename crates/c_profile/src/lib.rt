@@ -1,0 +1,8 @@
+//! The profile of C that the compiler takes: a text's program and its weight, or the first reason why it is refused.
+#![tactic(auto)]
+
+mod refusal;
+mod text;
+
+pub use refusal::Refusal;
+pub use text::{Accepted, ProfileError, accept};

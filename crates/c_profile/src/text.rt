@@ -1,0 +1,137 @@
+// The texts of the profile.
+
+ghost use Rattle.std.specs.Prelude.{◌≡◌, ◌≤◌, List, IfOk, IfErr, Ok, length};
+ghost use Rattle.c_token.specs.declared.token.Token as token;
+ghost use Rattle.c_lexer.specs.Texts.{LexesAs};
+ghost use Rattle.c_program.specs.Plain.{program_of};
+ghost use Rattle.grammar.specs.Sentences.{SentenceWithin};
+ghost use Rattle.c_tree.specs.Declarations.{unit};
+ghost use Rattle.c_profile.specs.Profile.{IsAccepted, IsPassed, IsRefused, IsTreeOf, IsWithin, limit_of_text};
+ghost use Rattle.c_profile.specs.declared.text.ProfileError.TheVariants as error;
+ghost use Rattle.c_profile.specs.declared.refusal.Refusal as refusal;
+ghost use Rattle.c_profile.specs.declared.refusal.Refusal.TheVariants as refusals;
+
+use crate::refusal::Refusal;
+use c_lexer::{LexFault, TextLimit};
+use c_limits::{Limit, Passed, first_passed};
+use c_parser::ParseError;
+use c_program::threads::weight;
+use c_program::tree::Program;
+use c_token::Token;
+use c_tree::TranslationUnit;
+use c_types::{Fault, ResolveError};
+use sqlite_items::Items;
+use std::alloc::Global;
+use thiserror::Error;
+
+/// The most bytes of a text.
+pub const MOST_BYTES: usize = 65_536;
+
+/// A program of the profile.
+#[derive(Drop)]
+pub struct Accepted {
+    pub program: Program,
+    /// The weight, which bounds the cycles between two steps of the program. It stops at 1,000,000.
+    pub weight: u32,
+}
+
+/// Why a text gives no program.
+#[derive(Clone, Copy, Debug, PartialEq, Eq, Error)]
+pub enum ProfileError {
+    #[error("refused")]
+    Refused(Refusal),
+    #[error("out of memory")]
+    Memory,
+}
+
+fn limit_of_text(limit: TextLimit) -> Limit
+    ensures { result ≡ limit_of_text limit }
+{
+    match limit {
+        TextLimit::Tokens => Limit::Tokens,
+        TextLimit::NameLength => Limit::NameLength,
+    }
+}
+
+/// The tokens of a text, within the limits on tokens.
+fn tokens_of(alloc: Global, text: &[u8]) -> Result<Items<Token>, ProfileError>
+    requires { length text.now ≤ 65536 }
+    ensures ok { IfOk result (λ ts. LexesAs text.now (Ok ts)) }
+    ensures refused { IfErr result (λ e. (r : refusal.Refusal) → e ≡ error.Refused r → IsRefused text.now r) }
+{
+    match c_lexer::lex(alloc, text) {
+        Ok(tokens) => Ok(tokens),
+        Err(LexFault::Bad { offset }) => Err(ProfileError::Refused(Refusal::NoToken { offset })),
+        Err(
+            LexFault::Limit {
+                limit,
+                count,
+                offset,
+            },
+        ) => {
+            let passed = Passed {
+                limit: limit_of_text(limit),
+                count: count as u128,
+            };
+            Err(ProfileError::Refused(Refusal::LimitAt { passed, offset }))
+        }
+        Err(LexFault::Memory) => Err(ProfileError::Memory),
+    }
+}
+
+/// The tree of the tokens of a text.
+fn tree_of(alloc: Global, text: &[u8]) -> Result<TranslationUnit, ProfileError>
+    requires { length text.now ≤ 65536 }
+    ensures ok { IfOk result (IsTreeOf text.now) }
+    ensures refused { IfErr result (λ e. (r : refusal.Refusal) → e ≡ error.Refused r → IsRefused text.now r) }
+{
+    let tokens = tokens_of(alloc, text)?;
+    match c_parser::parse(alloc, tokens.as_slice()) {
+        Ok(tree) => Ok(tree),
+        Err(ParseError::Syntax { offset, .. }) => {
+            Err(ProfileError::Refused(Refusal::Syntax { offset }))
+        }
+        Err(ParseError::Nesting { count, offset, .. }) => {
+            let passed = Passed {
+                limit: Limit::Nesting,
+                count: count as u128,
+            };
+            Err(ProfileError::Refused(Refusal::LimitAt { passed, offset }))
+        }
+        Err(ParseError::Memory) => Err(ProfileError::Memory),
+    }
+}
+
+/// The program within the limits, with its weight.
+fn within(alloc: Global, program: Program) -> Result<Accepted, ProfileError>
+    ensures ok { IfOk result (λ a. IsWithin (program_of a.program) a.weight) }
+    ensures refused { IfErr result (λ e. (r : refusal.Refusal) → e ≡ error.Refused r → IsPassed (program_of program) r) }
+{
+    match first_passed(alloc, &program) {
+        Ok(Some(passed)) => Err(ProfileError::Refused(Refusal::Limit(passed))),
+        Ok(None) => match weight(alloc, &program) {
+            Ok(weight) => Ok(Accepted { program, weight }),
+            Err(_) => Err(ProfileError::Memory),
+        },
+        Err(_) => Err(ProfileError::Memory),
+    }
+}
+
+/// The program of a text of the profile with its weight, or the first reason why the text is refused.
+pub fn accept(alloc: Global, text: &[u8]) -> Result<Accepted, ProfileError>
+    ensures ok { IfOk result (λ a. IsAccepted text.now (program_of a.program) a.weight) }
+    ensures refused { IfErr result (λ e. (r : refusal.Refusal) → e ≡ error.Refused r → IsRefused text.now r) }
+{
+    if text.len() > MOST_BYTES {
+        return Err(ProfileError::Refused(Refusal::TooLong));
+    }
+    let tree = tree_of(alloc, text)?;
+    match c_types::resolve(alloc, &tree) {
+        Ok(program) => within(alloc, program),
+        Err(ResolveError::Broken(Fault { rule, offset })) => {
+            Err(ProfileError::Refused(Refusal::Broken { rule, offset }))
+        }
+        Err(ResolveError::NoMain) => Err(ProfileError::Refused(Refusal::NoMain)),
+        Err(ResolveError::Memory) => Err(ProfileError::Memory),
+    }
+}

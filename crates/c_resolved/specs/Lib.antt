@@ -1,0 +1,3 @@
+pub mod Nodes
+pub mod Tests
+pub mod Wholes

@@ -1,0 +1,30 @@
+-- What is found in a part of a text: the first fault so far, and the calls that are judged once the whole text is seen.
+use Rattle.std.specs.Prelude.{ℕ, Bool, true, false, Option, Some, None, List, [], ◌∷◌, ◌++◌}
+use Rattle.c_rules.specs.declared.fault.Rule.{Rule}
+use Rattle.c_rules.specs.declared.findings.Findings.{Findings}
+use Rattle.c_rules.specs.declared.findings.CallSite.{CallSite}
+use Rattle.c_rules.specs.declared.findings.ThreadSite.{ThreadSite}
+use Rattle.c_rules.specs.Faults.{first}
+
+abbrev pub nothing : Findings
+nothing = record { fault = None; calls = []; threads = []; creations = [] }
+
+-- a rule is broken at the place
+unfoldable pub broken : Rule → ℕ → Findings → Findings
+broken rule at f = record f { fault = first f.fault (Some (record { rule = rule; offset = at })) }
+
+-- the same, if so
+abbrev pub broken_if : Bool → Rule → ℕ → Findings → Findings
+broken_if true rule at f = broken rule at f
+broken_if false rule at f = f
+
+-- a call of a defined function; one at file scope has no caller
+abbrev pub called : Option ℕ → ℕ → ℕ → Findings → Findings
+called None callee at f = f
+called (Some caller) callee at f =
+    record f { calls = f.calls ++ (record { caller = caller; callee = callee; offset = at }) ∷ [] }
+
+-- a create or a join
+abbrev pub starting : Option ℕ → ℕ → Findings → Findings
+starting None at f = f
+starting (Some function) at f = record f { threads = f.threads ++ (record { function = function; offset = at }) ∷ [] }

@@ -1,0 +1,304 @@
+// Constants, and the values of constant expressions (C99 6.6).
+
+ghost use Rattle.std.specs.Prelude.{◌≡◌, map, fold};
+ghost use Rattle.hls_ints.specs.Types.{HasType};
+ghost use Rattle.c_rules.specs.Constants as spec;
+
+use crate::specifiers::{BasicType, plain_integer};
+use c_token::{Constant, ConstantType};
+use c_tree::{BinaryOperator, Expression, Form, Term, UnaryOperator};
+use hls_ints::{
+    CType, c_add, c_and, c_div, c_equal, c_less, c_mul, c_neg, c_not, c_or, c_rem, c_shl, c_shr,
+    c_sub, c_xor, promote, usual, wrap,
+};
+
+/// A value of a type.
+#[derive(Clone, Copy, PartialEq, Eq, Debug)]
+pub struct Typed {
+    pub ty: CType,
+    pub number: i128,
+}
+
+/// What an expression is as a constant expression.
+#[derive(Clone, Copy, PartialEq, Eq, Debug)]
+pub enum Constancy {
+    Constant(Typed),
+    /// A constant or a type in it breaks a rule of its own, so that it has no value.
+    Unknown,
+    /// It is none: it has a name, a call, a short circuit or a choice, or an undefined step.
+    NotConstant,
+}
+
+/// The type of a constant.
+pub fn constant_type(ty: ConstantType) -> CType
+    ensures { result ≡ spec.constant_type ty }
+{
+    match ty {
+        ConstantType::Int => CType::INT,
+        ConstantType::Unsigned => CType::UNSIGNED_INT,
+        ConstantType::Long => CType::LONG,
+        ConstantType::UnsignedLong => CType::UNSIGNED_LONG,
+    }
+}
+
+/// The value of a constant; none of one that has no type.
+pub fn constant_value(constant: Constant) -> Option<Typed>
+    ensures { result ≡ spec.constant_value constant }
+{
+    match constant {
+        Constant::Typed(value, ty) => Some(Typed {
+            ty: constant_type(ty),
+            number: i128::from(value),
+        }),
+        Constant::TooLarge => None,
+    }
+}
+
+fn from_value(value: Option<Typed>) -> Constancy
+    ensures { result ≡ spec.from_value value }
+{
+    match value {
+        Some(value) => Constancy::Constant(value),
+        None => Constancy::NotConstant,
+    }
+}
+
+/// 1 for 0, else 0.
+fn opposite(number: i128) -> i128
+    ensures { result ≡ spec.opposite number }
+{
+    if number == 0 { 1 } else { 0 }
+}
+
+/// A unary operator on a value of the type.
+fn unary_value(operator: UnaryOperator, ty: CType, a: i128) -> Option<i128>
+    requires { HasType ty a }
+    ensures { result ≡ spec.unary_value operator ty a }
+{
+    match operator {
+        UnaryOperator::Plus => Some(a),
+        UnaryOperator::Minus => c_neg(ty, a),
+        UnaryOperator::Complement => c_not(ty, a),
+        UnaryOperator::Not => Some(opposite(a)),
+    }
+}
+
+/// The type of what a unary operator gives on a value of the type.
+fn unary_type(operator: UnaryOperator, ty: CType) -> CType
+    ensures { result ≡ spec.unary_type operator ty }
+{
+    match operator {
+        UnaryOperator::Not => CType::INT,
+        UnaryOperator::Plus | UnaryOperator::Minus | UnaryOperator::Complement => ty,
+    }
+}
+
+fn typed_if(ty: CType, number: Option<i128>) -> Option<Typed>
+    ensures { result ≡ spec.typed_if ty number }
+{
+    match number {
+        Some(number) => Some(Typed { ty, number }),
+        None => None,
+    }
+}
+
+fn unary(operator: UnaryOperator, operand: Typed) -> Option<Typed>
+    ensures { result ≡ spec.unary operator operand }
+{
+    let ty = promote(operand.ty);
+    typed_if(
+        unary_type(operator, ty),
+        unary_value(operator, ty, wrap(ty, operand.number)),
+    )
+}
+
+/// The type of what an operator gives that works in the type.
+fn binary_type(operator: BinaryOperator, ty: CType) -> CType
+    ensures { result ≡ spec.binary_type operator ty }
+{
+    match operator {
+        BinaryOperator::Equal
+        | BinaryOperator::NotEqual
+        | BinaryOperator::Less
+        | BinaryOperator::Greater
+        | BinaryOperator::LessEqual
+        | BinaryOperator::GreaterEqual => CType::INT,
+        _ => ty,
+    }
+}
+
+fn is_shift(operator: BinaryOperator) -> bool
+    ensures { result ≡ spec.is_shift operator }
+{
+    matches!(
+        operator,
+        BinaryOperator::ShiftLeft | BinaryOperator::ShiftRight
+    )
+}
+
+/// A shift of a value of the type by the count.
+fn shift_value(operator: BinaryOperator, ty: CType, a: i128, count: i128) -> Option<i128>
+    requires { HasType ty a }
+    ensures { result ≡ spec.shift_value operator ty a count }
+{
+    match operator {
+        BinaryOperator::ShiftLeft => c_shl(ty, a, count),
+        _ => c_shr(ty, a, count),
+    }
+}
+
+fn shift(operator: BinaryOperator, left: Typed, right: Typed) -> Option<Typed>
+    ensures { result ≡ spec.shift operator left right }
+{
+    let ty = promote(left.ty);
+    let count = wrap(promote(right.ty), right.number);
+    typed_if(ty, shift_value(operator, ty, wrap(ty, left.number), count))
+}
+
+/// An operator on two values of the type.
+fn binary_value(operator: BinaryOperator, ty: CType, a: i128, b: i128) -> Option<i128>
+    requires left { HasType ty a }
+    requires right { HasType ty b }
+    ensures { result ≡ spec.binary_value operator ty a b }
+{
+    match operator {
+        BinaryOperator::BitOr => c_or(ty, a, b),
+        BinaryOperator::BitXor => c_xor(ty, a, b),
+        BinaryOperator::BitAnd => c_and(ty, a, b),
+        BinaryOperator::Equal => c_equal(ty, a, b),
+        BinaryOperator::NotEqual => Some(opposite(c_equal(ty, a, b)?)),
+        BinaryOperator::Less => c_less(ty, a, b),
+        BinaryOperator::Greater => c_less(ty, b, a),
+        BinaryOperator::LessEqual => Some(opposite(c_less(ty, b, a)?)),
+        BinaryOperator::GreaterEqual => Some(opposite(c_less(ty, a, b)?)),
+        BinaryOperator::Add => c_add(ty, a, b),
+        BinaryOperator::Subtract => c_sub(ty, a, b),
+        BinaryOperator::Multiply => c_mul(ty, a, b),
+        BinaryOperator::Divide => c_div(ty, a, b),
+        BinaryOperator::Remainder => c_rem(ty, a, b),
+        BinaryOperator::LogicalOr
+        | BinaryOperator::LogicalAnd
+        | BinaryOperator::ShiftLeft
+        | BinaryOperator::ShiftRight => None,
+    }
+}
+
+/// An operator on two values that are converted to their common type.
+fn common(operator: BinaryOperator, left: Typed, right: Typed) -> Option<Typed>
+    ensures { result ≡ spec.common operator left right }
+{
+    let ty = usual(left.ty, right.ty);
+    let a = wrap(ty, left.number);
+    let b = wrap(ty, right.number);
+    typed_if(binary_type(operator, ty), binary_value(operator, ty, a, b))
+}
+
+fn binary(operator: BinaryOperator, left: Typed, right: Typed) -> Option<Typed>
+    ensures { result ≡ spec.binary operator left right }
+{
+    if is_shift(operator) {
+        shift(operator, left, right)
+    } else {
+        common(operator, left, right)
+    }
+}
+
+fn is_short_circuit(operator: BinaryOperator) -> bool
+    ensures { result ≡ spec.is_short_circuit operator }
+{
+    matches!(
+        operator,
+        BinaryOperator::LogicalOr | BinaryOperator::LogicalAnd
+    )
+}
+
+/// A unary operator on an operand.
+fn operated(operator: UnaryOperator, operand: Constancy) -> Constancy
+    ensures { result ≡ spec.operated operator operand }
+{
+    match operand {
+        Constancy::Constant(value) => from_value(unary(operator, value)),
+        Constancy::Unknown => Constancy::Unknown,
+        Constancy::NotConstant => Constancy::NotConstant,
+    }
+}
+
+/// An operator between two operands.
+fn joined(operator: BinaryOperator, left: Constancy, right: Constancy) -> Constancy
+    ensures { result ≡ spec.joined operator left right }
+{
+    if is_short_circuit(operator) {
+        return Constancy::NotConstant;
+    }
+    match (left, right) {
+        (Constancy::NotConstant, _) | (_, Constancy::NotConstant) => Constancy::NotConstant,
+        (Constancy::Constant(left), Constancy::Constant(right)) => from_value(binary(
+            operator, left, right,
+        )),
+        _ => Constancy::Unknown,
+    }
+}
+
+/// A cast of an operand; the type is none where its words spell none.
+fn cast(ty: Option<CType>, operand: Constancy) -> Constancy
+    ensures { result ≡ spec.cast ty operand }
+{
+    match (ty, operand) {
+        (_, Constancy::NotConstant) => Constancy::NotConstant,
+        (Some(ty), Constancy::Constant(value)) => Constancy::Constant(Typed {
+            ty,
+            number: wrap(ty, value.number),
+        }),
+        _ => Constancy::Unknown,
+    }
+}
+
+#[cycle(constants)]
+fn terms(terms: &[Term], first: Constancy) -> Constancy
+    ensures { result ≡ fold spec.next first (map spec.term_constancy terms.now) }
+{
+    let mut value = first;
+    for term in terms {
+        value = joined(term.operator, value, constancy_of(&term.operand));
+    }
+    value
+}
+
+/// What the expression is as a constant expression, and its value.
+#[cycle(constants)]
+pub fn constancy_of(expression: &Expression) -> Constancy
+    ensures { result ≡ spec.constancy expression.now }
+{
+    match &expression.form {
+        Form::Constant(constant, _) => constant_value(*constant).map_or(
+            Constancy::Unknown,
+            Constancy::Constant,
+        ),
+        Form::Place(_) | Form::Call(_) | Form::Conditional(_, _) => Constancy::NotConstant,
+        Form::Unary(operator, operand) => operated(*operator, constancy_of(operand.get())),
+        Form::Cast(specifiers, operand) => {
+            let ty = plain_integer(specifiers).map(BasicType::c_type);
+            cast(ty, constancy_of(operand.get()))
+        }
+        Form::Binary(first, more) => terms(more.as_slice(), constancy_of(first.get())),
+    }
+}
+
+/// How many operators and casts the expression has.
+pub fn operator_count(expression: &Expression) -> u32 {
+    match &expression.form {
+        Form::Constant(_, _) | Form::Place(_) | Form::Call(_) | Form::Conditional(_, _) => 0,
+        Form::Unary(_, operand) | Form::Cast(_, operand) => operator_count(
+            operand.get(),
+        ).saturating_add(1),
+        Form::Binary(first, more) => {
+            let mut count = operator_count(first.get());
+            for term in more.as_slice() {
+                count = count
+                    .saturating_add(operator_count(&term.operand))
+                    .saturating_add(1);
+            }
+            count
+        }
+    }
+}

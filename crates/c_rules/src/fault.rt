@@ -1,0 +1,108 @@
+// Which rule a text breaks, and where.
+
+ghost use Rattle.std.specs.Prelude.{◌≡◌};
+ghost use Rattle.c_rules.specs.Faults as spec;
+
+use std::alloc::AllocError;
+use thiserror::Error;
+
+/// A rule on names, kinds and types that a text can break, in the order in which rules that are broken at one place
+/// are reported.
+#[derive(Clone, Copy, PartialEq, Eq, Debug, Error)]
+pub enum Rule {
+    /// A name that is not declared before, or a function that is called or started and never defined.
+    #[error("unknown name")]
+    Unknown,
+    /// A second declaration of a name in one scope, or one of a function of the library.
+    #[error("declared twice")]
+    Twice,
+    /// A name, a type, an argument or a return of another kind than its place takes.
+    #[error("wrong kind")]
+    Kind,
+    /// Another number of arguments than the function takes.
+    #[error("argument count")]
+    Arguments,
+    /// A call that leads back to its caller.
+    #[error("recursion")]
+    Recursive,
+    /// A rule on threads and their objects.
+    #[error("thread rule")]
+    Threads,
+    /// A call, an operator or a jump where none may stand.
+    #[error("out of place")]
+    Place,
+    /// A constant, a length or an initial value that is out of range.
+    #[error("constant out of range")]
+    Constant,
+    /// The format of a printf.
+    #[error("format")]
+    Format,
+}
+
+impl Rule {
+    /// Its number among the refusals of a text.
+    pub fn number(self) -> u8
+        ensures { result ≡ spec.number self }
+    {
+        match self {
+            Rule::Unknown => 4,
+            Rule::Twice => 5,
+            Rule::Kind => 6,
+            Rule::Arguments => 7,
+            Rule::Recursive => 8,
+            Rule::Threads => 9,
+            Rule::Place => 10,
+            Rule::Constant => 11,
+            Rule::Format => 13,
+        }
+    }
+}
+
+/// A rule that is broken, and the place of that in the text.
+#[derive(Clone, Copy, PartialEq, Eq, Debug)]
+pub struct Fault {
+    pub rule: Rule,
+    pub offset: usize,
+}
+
+impl Fault {
+    /// Whether it is reported before the other: by place, and at one place by number.
+    fn is_before(self, other: Fault) -> bool
+        ensures { result ≡ spec.is_before self other }
+    {
+        self.offset < other.offset
+            || (self.offset == other.offset && self.rule.number() < other.rule.number())
+    }
+}
+
+/// The first of two faults.
+#[tactic(auto, unfolding(crate::specs::Faults::first))]
+pub fn first(a: Option<Fault>, b: Option<Fault>) -> Option<Fault>
+    ensures { result ≡ spec.first a b }
+{
+    match (a, b) {
+        (None, b) => b,
+        (Some(a), None) => Some(a),
+        (Some(a), Some(b)) => { if b.is_before(a) { Some(b) } else { Some(a) } }
+    }
+}
+
+/// Why a tree has no program.
+#[derive(Clone, Copy, PartialEq, Eq, Debug, Error)]
+pub enum ResolveError {
+    /// The first rule that is broken, by place and then by number.
+    #[error("{0:?}")]
+    Broken(Fault),
+    /// No rule is broken, but no main is defined.
+    #[error("no main")]
+    NoMain,
+    /// Memory ran out.
+    #[error("out of memory")]
+    Memory,
+}
+
+impl From<AllocError> for ResolveError {
+    fn from(_error: AllocError) -> ResolveError {
+        ResolveError::Memory
+    }
+}

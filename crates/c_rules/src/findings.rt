@@ -1,0 +1,105 @@
+// What the walk over a text finds: the first fault, and what can be judged only once the whole text is seen.
+
+ghost use Rattle.std.specs.Prelude.{◌≡◌, min, OnOk};
+ghost use Rattle.c_rules.specs.Findings as spec;
+
+use crate::fault::{Fault, Rule, first};
+use sqlite_items::Items;
+use std::alloc::{AllocError, Global};
+
+/// A call in a defined function: the numbers of both definitions, and the place of the called name.
+#[derive(Clone, Copy, PartialEq, Eq, Debug)]
+pub struct CallSite {
+    pub caller: u32,
+    pub callee: u32,
+    pub offset: usize,
+}
+
+/// A create or a join in a defined function.
+#[derive(Clone, Copy, PartialEq, Eq, Debug)]
+pub struct ThreadSite {
+    pub function: u32,
+    pub offset: usize,
+}
+
+/// A create: the number of the thread object, that of the start routine's definition, and the place of its name.
+#[derive(Clone, Copy, PartialEq, Eq, Debug)]
+pub struct Creation {
+    pub thread: u32,
+    pub routine: u32,
+    pub offset: usize,
+}
+
+#[derive(Drop)]
+pub struct Findings {
+    /// The first fault so far.
+    pub fault: Option<Fault>,
+    /// In the order of the text.
+    pub calls: Items<CallSite>,
+    pub threads: Items<ThreadSite>,
+    pub creations: Items<Creation>,
+}
+
+impl Findings {
+    pub fn new(alloc: Global) -> Findings
+        ensures { result ≡ spec.nothing }
+    {
+        Findings {
+            fault: None,
+            calls: Items::new(alloc),
+            threads: Items::new(alloc),
+            creations: Items::new(alloc),
+        }
+    }
+
+    /// A rule is broken at the place.
+    #[tactic(auto, unfolding(crate::specs::Findings::broken))]
+    pub fn add(&mut self, rule: Rule, offset: usize)
+        ensures { self.new ≡ spec.broken rule offset self.old }
+    {
+        self.fault = first(self.fault, Some(Fault { rule, offset }));
+    }
+
+    /// A rule is broken at the place, if so.
+    pub fn add_if(&mut self, is_broken: bool, rule: Rule, offset: usize)
+        ensures { self.new ≡ spec.broken_if is_broken rule offset self.old }
+    {
+        if is_broken {
+            self.add(rule, offset);
+        }
+    }
+
+    pub fn add_call(
+        &mut self,
+        caller: Option<u32>,
+        callee: u32,
+        offset: usize,
+    ) -> Result<(), AllocError>
+        ensures { OnOk result (self.new ≡ spec.called caller callee offset self.old) }
+    {
+        if let Some(caller) = caller {
+            self.calls.push(CallSite {
+                caller,
+                callee,
+                offset,
+            })?;
+        }
+        Ok(())
+    }
+
+    pub fn add_thread(&mut self, function: Option<u32>, offset: usize) -> Result<(), AllocError>
+        ensures { OnOk result (self.new ≡ spec.starting function offset self.old) }
+    {
+        if let Some(function) = function {
+            self.threads.push(ThreadSite { function, offset })?;
+        }
+        Ok(())
+    }
+}
+
+/// A place as the program's tree has it.
+pub fn place(offset: usize) -> u32
+    ensures { result ≡ min offset 0xffff_ffff }
+{
+    offset.min(0xffff_ffff) as u32
+}

@@ -1,0 +1,279 @@
+-- The stages of acts.
+use Rattle.std.proofs.Common.{◌≡◌, ◌≢◌, ℕ, suc, ◌+◌, ◌<◌, Bool, true, false, not, ◌&&◌, nat_eq, if◌then◌else◌, List, length, slice_get, Option, Some, None, ℤ, min}
+use Rattle.std.proofs.Common.{refl, sym, ap, subst, ◌∙◌, arith, ⊎_elim}
+use Rattle.std.specs.Prelude.{Result, IfOk}
+use Rattle.std.proofs.lemmas.Option.{slice_get_within}
+use Rattle.interleaving.proofs.Update.{same_or_not}
+use Rattle.hls_ints.specs.Residues.{residue_of}
+use Rattle.hls_ints.specs.Types.{IntegerType, HasType, wrapped, long_int}
+use Rattle.hls_ints.proofs.Conversions.{residue_of-wrapped}
+use Rattle.block_ir.specs.declared.code.ActOperand.{ActOperand}
+use Rattle.block_ir.specs.declared.code.ActOperand.TheVariants as act_operand
+use Rattle.block_ir.specs.declared.code.ThreadCode.{ThreadCode}
+use Rattle.netlist.specs.declared.netlist.Signal.{Signal}
+use Rattle.netlist.specs.declared.netlist.Module.{Module}
+use Rattle.verilog_meaning.specs.Readings.{Reading, width}
+use Rattle.planned_block.proofs.Bits.{same_is, other_is}
+use Rattle.circuit.specs.Modules.{Obeys}
+use Rattle.operator_wires.specs.declared.words.Word.{Word}
+use Rattle.operator_wires.specs.Gives.{Grows, Gives}
+use Rattle.operator_wires.specs.Words.{IsWord, Holds, Becomes, Resizes, resized_word}
+use Rattle.operator_wires.proofs.Giving.{grows_refl, grows_then}
+use Rattle.operator_wires.proofs.Making.{of_ok}
+use Rattle.thread_promise.specs.Promise.{operand_of_act}
+use Rattle.block_datapath.specs.declared.registers.Registers.{Registers}
+use Rattle.block_datapath.specs.Seen.{ShowsVariable}
+use Rattle.block_datapath.specs.Chains.{next_number, is_set, SetsNext, TellsStage}
+use Rattle.block_datapath.proofs.Seeing.{own_word}
+use Rattle.fsm_datapath.specs.declared.shape.Printer.{Printer}
+use Rattle.fsm_datapath.specs.declared.chains.Chains.{Chains}
+use Rattle.fsm_datapath.specs.Links.{AreBits, LeadsTo, WaitsAt, WantsAt}
+use Rattle.fsm_datapath.specs.Stages.{IsTypedActOperand, act_type, ShowsActOperand, AsksValues, AsksValue, AsksSite, Idles, EndsAt}
+use Rattle.fsm_datapath.specs.Stages.{TakesReturn, TakesPrint, Asks}
+use Rattle.fsm_datapath.proofs.Linking.{OffAt, off_then, off_grown, off_steps, stage_on, has_stage, lead_off, wait_off, want_off, lead_on, bits_later, same_everywhere}
+
+-- ---- operands
+
+pub constant_act : {E : Type 0} (x : Result Word E) (a b : List Signal) (code : ThreadCode) (registers : Registers) (operand : ActOperand) (ty : IntegerType) (v z : ℤ) → (HasType ty v → z ≡ v)
+    → operand ≡ act_operand.Constant ty v → IfOk x (Holds a b ty (wrapped ty z)) → IfOk x (ShowsActOperand code registers a b operand)
+constant_act x a b code registers operand ty v z same e made =
+    subst (λ (s : ActOperand). IfOk x (ShowsActOperand code registers a b s)) (sym e)
+    (of_ok x (Holds a b ty (wrapped ty z)) (ShowsActOperand code registers a b (act_operand.Constant ty v))
+    (λ out t. record {
+      grows = t.grows;
+      shows = λ m r variables g o seen typed. own_word m r out ty v typed (subst (λ (k : ℤ). IsWord m r out ty (wrapped ty k)) (same typed) (t.shows m r g o));
+    }) made)
+
+pub variable_act : {E : Type 0} (x : Result Word E) (a b : List Signal) (code : ThreadCode) (registers : Registers) (operand : ActOperand) (k : ℕ) (ty : IntegerType) (types : List IntegerType)
+    → types ≡ code.variables → operand ≡ act_operand.Variable k ty → IfOk x (ShowsVariable a b registers types k ty) → IfOk x (ShowsActOperand code registers a b operand)
+variable_act x a b code registers operand k ty types same e made =
+    subst (λ (s : ActOperand). IfOk x (ShowsActOperand code registers a b s)) (sym e)
+    (of_ok x (ShowsVariable a b registers code.variables k ty) (ShowsActOperand code registers a b (act_operand.Variable k ty))
+    (λ out t. record { grows = t.grows; shows = λ m r variables g o seen typed. t.shows m r (variables k) g o (seen k ty typed) })
+    (subst (λ (z : List IntegerType). IfOk x (ShowsVariable a b registers z k ty)) same made))
+
+-- ---- fields
+
+off_link : (c : Bool) (S O : ℕ) → (if c && false then S else O) ≡ O
+off_link true S O = refl
+off_link false S O = refl
+
+-- a link whose bit is not set, and one of another register
+module _ (a b : List Signal) (before after : List ℕ) (number condition source : ℕ) (t : SetsNext a b before after number condition source) (m : Module) (r : Reading) (g : Grows b m.signals)
+    (o : Obeys m r) (x : ℕ) (less : x < length before) where
+  pub link_off : r.signal condition ≡ 0 → next_number r after x ≡ next_number r before x
+  link_off unset =
+      t.shows m r x g o less
+      ∙ ap (λ n. if nat_eq x number && not (nat_eq n 0) then r.signal source else next_number r before x) unset
+      ∙ off_link (nat_eq x number) (r.signal source) (next_number r before x)
+
+  pub link_other : x ≢ number → next_number r after x ≡ next_number r before x
+  link_other ne = t.shows m r x g o less ∙ ap (λ c. if c && is_set r condition then r.signal source else next_number r before x) (other_is x number ne)
+
+  pub link_on : x ≡ number → r.signal condition ≡ 1 → next_number r after x ≡ r.signal source
+  link_on same hit =
+      t.shows m r x g o less
+      ∙ ap (λ c. if c && is_set r condition then r.signal source else next_number r before x) (same_is x number same)
+      ∙ ap (λ n. if not (nat_eq n 0) then r.signal source else next_number r before x) hit
+
+pub site_asked : (a b c d : List Signal) (at : ℕ) (before after : List ℕ) (site_width site number whole source : ℕ) → number ≡ site → Gives a b whole 32 (λ m r. number) → Resizes b c whole 32 site_width false source
+    → SetsNext c d before after 0 at source → AsksSite a d at before after site_width site
+site_asked a b c d at before after site_width site number whole source same t u v = record {
+  grows = grows_then a b d t.grows (grows_then b c d u.grows v.grows);
+  count = v.count;
+  rests = λ m r x g o unset less. link_off c d before after 0 at source v m r g o x less unset;
+  asks = λ m r g o hit some.
+      let later = grows_then c d m.signals v.grows g in
+      let first = grows_then b c m.signals u.grows later in
+      link_on c d before after 0 at source v m r g o 0 some refl hit ∙ u.shows m r later o (t.wide m first) ∙ ap (resized_word false 32 site_width) (t.shows m r first o ∙ same);
+}
+
+pub value_asked : (a b c d : List Signal) (code : ThreadCode) (registers : Registers) (at : ℕ) (before after : List ℕ) (j number : ℕ) (v : ActOperand) (word wide : Word)
+    → number ≡ suc j → ShowsActOperand code registers a b v word → Becomes b c word long_int (wrapped long_int) wide → SetsNext c d before after number at wide.place
+    → AsksValue code registers a d at before after j v
+value_asked a b c d code registers at before after j number v word wide e t u w = record {
+  grows = grows_then a b d t.grows (grows_then b c d u.grows w.grows);
+  count = w.count;
+  rests = λ m r x g o unset less. link_off c d before after number at wide.place w m r g o x less unset;
+  others = λ m r x g o ne less. link_other c d before after number at wide.place w m r g o x less (λ same. ne (same ∙ e));
+  asks = λ m r variables g o hit seen typed less.
+      let later = grows_then c d m.signals w.grows g in
+      let first = t.shows m r variables (grows_then b c m.signals u.grows later) o seen typed in
+      let long = u.shows m r (act_type v) (operand_of_act variables v) later o first in
+      link_on c d before after number at wide.place w m r g o (suc j) less (sym e) hit ∙ long.shows ∙ residue_of-wrapped long_int (operand_of_act variables v);
+}
+
+pub values_none : (a : List Signal) (code : ThreadCode) (registers : Registers) (at : ℕ) (before : List ℕ) (values : List ActOperand) → AsksValues code registers a a at before before values 0
+values_none a code registers at before values = record {
+  grows = grows_refl a;
+  count = refl;
+  rests = λ m r x g o unset less. refl;
+  first = λ m r g o some. refl;
+  asks = λ m r variables j v g o hit seen below. absurd (omega arith);
+}
+
+pub values_more : (a b c : List Signal) (code : ThreadCode) (registers : Registers) (at : ℕ) (before middle after : List ℕ) (values : List ActOperand) (n : ℕ) (v : ActOperand)
+    → AsksValues code registers a b at before middle values n → slice_get values n ≡ Some v → AsksValue code registers b c at middle after n v
+    → AsksValues code registers a c at before after values (n + 1)
+values_more a b c code registers at before middle after values n v t listed u = record {
+  grows = grows_then a b c t.grows u.grows;
+  count = u.count ∙ t.count;
+  rests = λ m r x g o unset less. u.rests m r x g o unset (inside x less) ∙ t.rests m r x (back m g) o unset less;
+  first = λ m r g o some. u.others m r 0 g o (λ e. absurd cc) (inside 0 some) ∙ t.first m r (back m g) o some;
+  asks = λ m r variables j w g o hit seen below there typed less. ⊎_elim
+      (λ (same : j ≡ n).
+      let one : v ≡ w = (let h = ap (slice_get values) same in cc) in
+      ap (λ k. next_number r after (suc k)) same
+      ∙ u.asks m r variables g o hit seen (subst (λ (z : ActOperand). IsTypedActOperand code z) (sym one) typed)
+      (subst (λ (k : ℕ). suc k < length middle) same (inside (suc j) less))
+      ∙ ap (λ (z : ActOperand). residue_of 64 (operand_of_act variables z)) one)
+      (λ (ne : j ≢ n).
+      let smaller : j < n = omega arith in
+      u.others m r (suc j) g o (λ e. ne (let h : j ≡ n = omega arith in h)) (inside (suc j) less) ∙ t.asks m r variables j w (back m g) o hit seen smaller there typed less)
+      (same_or_not j n);
+}
+  where
+    back : (m : Module) → Grows c m.signals → Grows b m.signals
+    back m g = grows_then b c m.signals u.grows g
+
+    inside : (x : ℕ) → x < length before → x < length middle
+    inside x less = subst (λ (z : ℕ). x < z) (sym t.count) less
+
+pub all_asked : (a b c : List Signal) (code : ThreadCode) (registers : Registers) (printer : Printer) (at site : ℕ) (values : List ActOperand) (before after : Chains) (middle : List ℕ)
+    → after ≡ record before { fields = after.fields } → AsksSite a b at before.fields middle printer.site_width site
+    → AsksValues code registers b c at middle after.fields values (length values) → Asks code registers printer at site values a c before after
+all_asked a b c code registers printer at site values before after middle same t u = record {
+  grows = grows_then a b c t.grows u.grows;
+  same = same;
+  count = u.count ∙ t.count;
+  rests = λ m r x g o unset less. u.rests m r x g o unset (inside x less) ∙ t.rests m r x (back m g) o unset less;
+  site_is = λ m r g o hit some. u.first m r g o (inside 0 some) ∙ t.asks m r (back m g) o hit some;
+  values_are = λ m r variables j v g o hit seen listed typed less. u.asks m r variables j v g o hit seen (within_list values j v listed) listed typed (inside (suc j) less);
+}
+  where
+    back : (m : Module) → Grows c m.signals → Grows b m.signals
+    back m g = grows_then b c m.signals u.grows g
+
+    inside : (x : ℕ) → x < length before.fields → x < length middle
+    inside x less = subst (λ (z : ℕ). x < z) (sym t.count) less
+
+    within_list : (vs : List ActOperand) (k : ℕ) (v : ActOperand) → slice_get vs k ≡ Some v → k < length vs
+    within_list vs k v e = slice_get_within vs k v e
+
+asks_off : (a b : List Signal) (code : ThreadCode) (registers : Registers) (printer : Printer) (at site : ℕ) (values : List ActOperand) (before after : Chains)
+    → Asks code registers printer at site values a b before after → OffAt at a b before after
+asks_off a b code registers printer at site values before after t = record {
+  grows = t.grows;
+  many = record { variables = ap (λ (c : Chains). length c.variables) t.same; kept = ap (λ (c : Chains). length c.kept) t.same; fields = t.count };
+  bits = λ e.
+      let later = bits_later a b before t.grows e in
+      record {
+        is_last = λ m g. ap (λ (c : Chains). width m c.is_last) t.same ∙ later.is_last m g;
+        needs = λ m g. ap (λ (c : Chains). width m c.needs) t.same ∙ later.needs m g;
+        waits = λ m g. ap (λ (c : Chains). width m c.waits) t.same ∙ later.waits m g;
+        wants = λ m g. ap (λ (c : Chains). width m c.wants) t.same ∙ later.wants m g;
+      };
+  off = λ m r g o e unset. record {
+    stage = ap (λ (c : Chains). r.signal c.stage) t.same;
+    variables = λ x. ap (λ (c : Chains). next_number r c.variables x) t.same;
+    kept = λ x. ap (λ (c : Chains). next_number r c.kept x) t.same;
+    fields = same_everywhere r before.fields after.fields t.count (λ x less. t.rests m r x g o unset less);
+    is_last = λ v is. ap (λ (c : Chains). r.signal c.is_last) t.same ∙ is;
+    waits = λ v is. ap (λ (c : Chains). r.signal c.waits) t.same ∙ is;
+    wants = λ v is. ap (λ (c : Chains). r.signal c.wants) t.same ∙ is;
+  };
+}
+
+-- ---- stages
+
+pub idle_made : (a b c : List Signal) (registers : Registers) (l at : ℕ) (before after : Chains) → TellsStage a b registers l at → WaitsAt b c before after at
+    → Idles registers l a c before after
+idle_made a b c registers l at before after told t = record {
+  step = off_steps registers l at a b c before after told (wait_off b c before after at t);
+  wants = ap (λ (x : Chains). x.wants) t.same;
+  waits = λ m r g o e has here none.
+      let later = grows_then b c m.signals t.grows g in
+      t.bit.shows m r false true g o (e.waits m (grows_then a b m.signals told.grows later)) none (stage_on registers l at a b m r told later o has here);
+}
+
+pub end_made : (a b c : List Signal) (code : ThreadCode) (registers : Registers) (l at : ℕ) (before after : Chains) → l ≡ length code.stages → TellsStage a b registers l at
+    → WaitsAt b c before after at → EndsAt code registers a c before after at
+end_made a b c code registers l at before after same told t =
+    let told' : TellsStage a b registers (length code.stages) at = subst (λ (n : ℕ). TellsStage a b registers n at) same told in
+    record {
+      idles = idle_made a b c registers (length code.stages) at before after told' t;
+      told = record {
+        grows = grows_then a b c told'.grows t.grows;
+        wide = λ m g. told'.wide m (grows_then b c m.signals t.grows g);
+        shows = λ m r g. told'.shows m r (grows_then b c m.signals t.grows g);
+      };
+    }
+
+pub return_made : (a b c d : List Signal) (code : ThreadCode) (registers : Registers) (l at to target : ℕ) (before after : Chains) → to ≡ length code.stages → TellsStage a b registers l at
+    → Gives b c target registers.stage.width (λ m r. min to (length code.stages)) → LeadsTo c d before after at target → TakesReturn code registers l a d before after
+return_made a b c d code registers l at to target before after same told u t = record {
+  step =
+      off_steps registers l at a b d before after told
+      (off_then at b c d before before after (off_grown at b c before u.grows) (lead_off c d before after at target t));
+  wants = ap (λ (x : Chains). x.wants) t.same;
+  returns = λ e m r g o knows still le here.
+      let gc = grows_then c d m.signals t.grows g in
+      let gb = grows_then b c m.signals u.grows gc in
+      let on = stage_on registers l at a b m r told gb o (has_stage code registers l m r knows le) here in
+      let lead = lead_on c d before after at target m r t (bits_later a c before (grows_then a b c told.grows u.grows) e) g o still.is_last on in
+      let whole : min to (length code.stages) ≡ length code.stages = omega arith in
+      record {
+        is_last = lead.0;
+        stage = lead.1 ∙ u.shows m r gc o ∙ whole;
+        variables = λ x. ap (λ (z : Chains). next_number r z.variables x) t.same;
+        waits = ap (λ (z : Chains). r.signal z.waits) t.same ∙ still.waits;
+      };
+}
+
+pub print_made : (a b c d e f : List Signal) (code : ThreadCode) (registers : Registers) (printer : Printer) (l at site : ℕ) (values : List ActOperand) (next target : ℕ) (x y z w : Chains)
+    → TellsStage a b registers l at → WantsAt b c x y at → Asks code registers printer at site values c d y z
+    → Gives d e target registers.stage.width (λ m r. min next (length code.stages)) → LeadsTo e f z w at target → TakesPrint code registers (Some printer) l site values next a f x w
+print_made a b c d e f code registers printer l at site values next target x y z w told wanted asked u t = record {
+  step =
+      off_steps registers l at a b f x w told
+      (off_then at b c f x y w (want_off b c x y at wanted)
+      (off_then at c d f y z w (asks_off c d code registers printer at site values y z asked)
+      (off_then at d e f z z w (off_grown at d e z u.grows) (lead_off e f z w at target t))));
+  prints = λ bits known same m r variables g o knows still le here seen.
+      let ge = grows_then e f m.signals t.grows g in
+      let gd = grows_then d e m.signals u.grows ge in
+      let gc = grows_then c d m.signals asked.grows gd in
+      let gb = grows_then b c m.signals wanted.grows gc in
+      let on = stage_on registers l at a b m r told gb o (has_stage code registers l m r knows le) here in
+      let bits_b : AreBits b x = bits_later a b x told.grows bits in
+      let bits_z : AreBits e z =
+      bits_later d e z u.grows ((asks_off c d code registers printer at site values y z asked).bits ((want_off b c x y at wanted).bits bits_b)) in
+      let none : r.signal z.is_last ≡ 0 = ap (λ (k : Chains). r.signal k.is_last) asked.same ∙ ap (λ (k : Chains). r.signal k.is_last) wanted.same ∙ still.is_last in
+      let lead = lead_on e f z w at target m r t bits_z g o none on in
+      let fields_are : (n : ℕ) → next_number r w.fields n ≡ next_number r z.fields n = λ n. ap (λ (k : Chains). next_number r k.fields n) t.same in
+      let fields_first : length y.fields ≡ length x.fields = ap (λ (k : Chains). length k.fields) wanted.same in
+      let one : printer ≡ known = cc in
+      record {
+        leaves = record {
+          is_last = lead.0;
+          stage = lead.1 ∙ u.shows m r ge o;
+          variables = λ n.
+              ap (λ (k : Chains). next_number r k.variables n) t.same ∙ ap (λ (k : Chains). next_number r k.variables n) asked.same
+              ∙ ap (λ (k : Chains). next_number r k.variables n) wanted.same;
+          waits =
+              ap (λ (k : Chains). r.signal k.waits) t.same ∙ ap (λ (k : Chains). r.signal k.waits) asked.same ∙ ap (λ (k : Chains). r.signal k.waits) wanted.same ∙ still.waits;
+        };
+        wants =
+            ap (λ (k : Chains). r.signal k.wants) t.same ∙ ap (λ (k : Chains). r.signal k.wants) asked.same
+            ∙ wanted.bit.shows m r false true gc o (bits_b.wants m gb) still.wants on;
+        site_is = λ some.
+            fields_are 0 ∙ asked.site_is m r gd o on (subst (λ (n : ℕ). 0 < n) (sym fields_first) some) ∙ ap (λ (k : Printer). resized_word false 32 k.site_width site) one;
+        values_are = λ j v listed typed less.
+            fields_are (suc j) ∙ asked.values_are m r variables j v gd o on seen listed typed (subst (λ (n : ℕ). suc j < n) (sym fields_first) less);
+      };
+}
+
+-- without a printer a printf waits forever
+pub print_idle : (a b : List Signal) (code : ThreadCode) (registers : Registers) (printer : Option Printer) (l site : ℕ) (values : List ActOperand) (next : ℕ) (before after : Chains)
+    → printer ≡ None → Idles registers l a b before after → TakesPrint code registers printer l site values next a b before after
+print_idle a b code registers printer l site values next before after none t = record { step = t.step; prints = λ bits known same. absurd cc }

@@ -1,0 +1,264 @@
+-- One more link of a chain.
+use Rattle.std.proofs.Common.{◌≡◌, ℕ, ◌<◌, ◌≤◌, Bool, true, false, ◌||◌, nat_eq, if◌then◌else◌, List, length, refl, sym, ap, ◌∙◌, arith, ⊎_elim}
+use Rattle.std.proofs.lemmas.List.{get_or_past}
+use Rattle.std.proofs.lemmas.Bool.{cases_lt}
+use Rattle.netlist.specs.declared.netlist.Signal.{Signal}
+use Rattle.netlist.specs.declared.netlist.Module.{Module}
+use Rattle.verilog_meaning.specs.Readings.{Reading, width}
+use Rattle.hls_ints.specs.Residues.{bit_of}
+use Rattle.hls_ints.specs.Words.{word_inclusive_or}
+use Rattle.circuit.specs.Modules.{Obeys}
+use Rattle.operator_wires.specs.Gives.{Grows, Gives}
+use Rattle.operator_wires.proofs.Giving.{grows_then}
+use Rattle.block_datapath.specs.declared.registers.Registers.{Registers}
+use Rattle.block_datapath.specs.Chains.{next_number, TellsStage}
+use Rattle.block_datapath.specs.Leave.{HasStage}
+use Rattle.block_ir.specs.declared.code.ThreadCode.{ThreadCode}
+use Rattle.planned_block.proofs.Bits.{same_is, other_is}
+use Rattle.fsm_datapath.specs.declared.chains.Chains.{Chains}
+use Rattle.fsm_datapath.specs.Links.{AreBits, AddsBit, LeadsTo, WaitsAt, WantsAt, IsStill, ShowSame, AreAsMany}
+use Rattle.fsm_datapath.specs.Stages.{KnowsStage, StepsOver}
+
+-- ---- bits
+
+or_bits : (t u : Bool) → word_inclusive_or 1 (bit_of t) (bit_of u) ≡ bit_of (t || u)
+or_bits true true = refl
+or_bits true false = refl
+or_bits false true = refl
+or_bits false false = refl
+
+or_false : (t : Bool) → (t || false) ≡ t
+or_false true = refl
+or_false false = refl
+
+pub bit_added : (a b : List Signal) (before after condition : ℕ) → Gives a b after 1 (λ m r. word_inclusive_or (width m before) (r.signal before) (r.signal condition))
+    → AddsBit b before after condition
+bit_added a b before after condition t = record {
+  wide = t.wide;
+  shows = λ m r x y g o wide e f.
+      t.shows m r g o
+      ∙ ap (λ w. word_inclusive_or w (r.signal before) (r.signal condition)) wide
+      ∙ ap (λ n. word_inclusive_or 1 n (r.signal condition)) e
+      ∙ ap (word_inclusive_or 1 (bit_of x)) f
+      ∙ or_bits x y;
+}
+
+pub bit_later : (a b : List Signal) (before after condition : ℕ) → Grows a b → AddsBit a before after condition → AddsBit b before after condition
+bit_later a b before after condition more t = record {
+  wide = λ m g. t.wide m (grows_then a b m.signals more g);
+  shows = λ m r x y g. t.shows m r x y (grows_then a b m.signals more g);
+}
+
+-- ---- links
+
+pub lead_made : (a b c : List Signal) (before after : Chains) (w last target : ℕ)
+    → Gives a b after.is_last 1 (λ m r. word_inclusive_or (width m before.is_last) (r.signal before.is_last) (r.signal last))
+    → Gives b c after.stage w (λ m r. if nat_eq (r.signal last) 0 then r.signal before.stage else r.signal target)
+    → after ≡ record before { is_last = after.is_last; stage = after.stage } → LeadsTo a c before after last target
+lead_made a b c before after w last target t u same = record {
+  grows = grows_then a b c t.grows u.grows;
+  bit = bit_later b c before.is_last after.is_last last u.grows (bit_added a b before.is_last after.is_last last t);
+  stage = u.shows;
+  same = same;
+}
+
+pub wait_made : (a b c : List Signal) (before after : Chains) (condition : ℕ)
+    → Gives a b after.needs 1 (λ m r. word_inclusive_or (width m before.needs) (r.signal before.needs) (r.signal condition))
+    → Gives b c after.waits 1 (λ m r. word_inclusive_or (width m before.waits) (r.signal before.waits) (r.signal condition))
+    → after ≡ record before { needs = after.needs; waits = after.waits } → WaitsAt a c before after condition
+wait_made a b c before after condition t u same = record {
+  grows = grows_then a b c t.grows u.grows;
+  needs = bit_later b c before.needs after.needs condition u.grows (bit_added a b before.needs after.needs condition t);
+  bit = bit_added b c before.waits after.waits condition u;
+  same = same;
+}
+
+pub want_made : (a b c : List Signal) (before after : Chains) (condition : ℕ)
+    → Gives a b after.needs 1 (λ m r. word_inclusive_or (width m before.needs) (r.signal before.needs) (r.signal condition))
+    → Gives b c after.wants 1 (λ m r. word_inclusive_or (width m before.wants) (r.signal before.wants) (r.signal condition))
+    → after ≡ record before { needs = after.needs; wants = after.wants } → WantsAt a c before after condition
+want_made a b c before after condition t u same = record {
+  grows = grows_then a b c t.grows u.grows;
+  needs = bit_later b c before.needs after.needs condition u.grows (bit_added a b before.needs after.needs condition t);
+  bit = bit_added b c before.wants after.wants condition u;
+  same = same;
+}
+
+-- ---- what chains show
+
+pub same_refl : (r : Reading) (c : Chains) → ShowSame r c c
+same_refl r c = record { stage = refl; variables = λ x. refl; kept = λ x. refl; fields = λ x. refl; is_last = λ t e. e; waits = λ t e. e; wants = λ t e. e }
+
+pub same_then : (r : Reading) (a b c : Chains) → ShowSame r a b → ShowSame r b c → ShowSame r a c
+same_then r a b c t u = record {
+  stage = u.stage ∙ t.stage;
+  variables = λ x. u.variables x ∙ t.variables x;
+  kept = λ x. u.kept x ∙ t.kept x;
+  fields = λ x. u.fields x ∙ t.fields x;
+  is_last = λ v e. u.is_last v (t.is_last v e);
+  waits = λ v e. u.waits v (t.waits v e);
+  wants = λ v e. u.wants v (t.wants v e);
+}
+
+pub still_later : (r : Reading) (registers : Registers) (a b : Chains) → ShowSame r a b → IsStill r registers a → IsStill r registers b
+still_later r registers a b t still = record {
+  stage = t.stage ∙ still.stage;
+  variables = λ x h e. t.variables x ∙ still.variables x h e;
+  kept = λ x h e. t.kept x ∙ still.kept x h e;
+  is_last = t.is_last false still.is_last;
+  waits = t.waits false still.waits;
+  wants = t.wants false still.wants;
+}
+
+pub many_refl : (c : Chains) → AreAsMany c c
+many_refl c = record { variables = refl; kept = refl; fields = refl }
+
+pub many_then : (a b c : Chains) → AreAsMany a b → AreAsMany b c → AreAsMany a c
+many_then a b c t u = record { variables = u.variables ∙ t.variables; kept = u.kept ∙ t.kept; fields = u.fields ∙ t.fields }
+
+-- past the end of two lists of one length nothing differs
+pub same_everywhere : (r : Reading) (before after : List ℕ) → length after ≡ length before → ((x : ℕ) → x < length before → next_number r after x ≡ next_number r before x)
+    → (x : ℕ) → next_number r after x ≡ next_number r before x
+same_everywhere r before after count same x =
+    ⊎_elim
+    (λ (less : x < length before). same x less)
+    (λ (past : length before ≤ x).
+    let later : length after ≤ x = omega arith in
+    ap r.signal (get_or_past after x 0 later) ∙ sym (ap r.signal (get_or_past before x 0 past)))
+    (cases_lt x (length before))
+
+-- ---- links whose condition does not hold
+
+-- chains that show the same where a bit is not set
+pub record OffAt (at : ℕ) (old new : List Signal) (before after : Chains) : Type 0 where
+  pub grows : Grows old new
+  pub many : AreAsMany before after
+  pub bits : AreBits old before → AreBits new after
+  pub off : (m : Module) (r : Reading) → Grows new m.signals → Obeys m r → AreBits old before → r.signal at ≡ 0 → ShowSame r before after
+
+pub off_then : (at : ℕ) (a b c : List Signal) (x y z : Chains) → OffAt at a b x y → OffAt at b c y z → OffAt at a c x z
+off_then at a b c x y z t u = record {
+  grows = grows_then a b c t.grows u.grows;
+  many = many_then x y z t.many u.many;
+  bits = λ e. u.bits (t.bits e);
+  off = λ m r g o e no. same_then r x y z (t.off m r (grows_then b c m.signals u.grows g) o e no) (u.off m r g o (t.bits e) no);
+}
+
+pub bits_later : (a b : List Signal) (c : Chains) → Grows a b → AreBits a c → AreBits b c
+bits_later a b c grows e = record {
+  is_last = λ m g. e.is_last m (grows_then a b m.signals grows g);
+  needs = λ m g. e.needs m (grows_then a b m.signals grows g);
+  waits = λ m g. e.waits m (grows_then a b m.signals grows g);
+  wants = λ m g. e.wants m (grows_then a b m.signals grows g);
+}
+
+-- signals alone are put behind others
+pub off_grown : (at : ℕ) (a b : List Signal) (c : Chains) → Grows a b → OffAt at a b c c
+off_grown at a b c grows = record {
+  grows = grows;
+  many = many_refl c;
+  bits = λ e. bits_later a b c grows e;
+  off = λ m r g o e no. same_refl r c;
+}
+
+-- links behind a stage's bit
+pub off_steps : (registers : Registers) (l at : ℕ) (a b c : List Signal) (x y : Chains) → TellsStage a b registers l at → OffAt at b c x y → StepsOver registers l a c x y
+off_steps registers l at a b c x y told t = record {
+  grows = grows_then a b c told.grows t.grows;
+  many = t.many;
+  bits = λ e. t.bits (bits_later a b x told.grows e);
+  rests = λ m r g o e has ne.
+      let off = told.shows m r (grows_then b c m.signals t.grows g) o has.wide has.room has.fits ∙ ap bit_of (other_is (r.signal registers.stage.register) l ne) in
+      t.off m r g o (bits_later a b x told.grows e) off;
+}
+
+pub stage_on : (registers : Registers) (l at : ℕ) (a b : List Signal) (m : Module) (r : Reading) → TellsStage a b registers l at → Grows b m.signals → Obeys m r → HasStage registers l m r
+    → r.signal registers.stage.register ≡ l → r.signal at ≡ 1
+stage_on registers l at a b m r told g o has here = told.shows m r g o has.wide has.room has.fits ∙ ap bit_of (same_is (r.signal registers.stage.register) l here)
+
+pub has_stage : (code : ThreadCode) (registers : Registers) (l : ℕ) (m : Module) (r : Reading) → KnowsStage code registers m r → l ≤ length code.stages → HasStage registers l m r
+has_stage code registers l m r knows le = record { wide = knows.wide; room = (let room = knows.room in omega arith); fits = knows.fits }
+
+pub lead_off : (a b : List Signal) (before after : Chains) (last target : ℕ) → LeadsTo a b before after last target → OffAt last a b before after
+lead_off a b before after last target t = record {
+  grows = t.grows;
+  many = record {
+    variables = ap (λ (c : Chains). length c.variables) t.same;
+    kept = ap (λ (c : Chains). length c.kept) t.same;
+    fields = ap (λ (c : Chains). length c.fields) t.same;
+  };
+  bits = λ e. record {
+    is_last = t.bit.wide;
+    needs = λ m g. ap (λ (c : Chains). width m c.needs) t.same ∙ e.needs m (grows_then a b m.signals t.grows g);
+    waits = λ m g. ap (λ (c : Chains). width m c.waits) t.same ∙ e.waits m (grows_then a b m.signals t.grows g);
+    wants = λ m g. ap (λ (c : Chains). width m c.wants) t.same ∙ e.wants m (grows_then a b m.signals t.grows g);
+  };
+  off = λ m r g o e no. record {
+    stage = t.stage m r g o ∙ ap (λ n. if nat_eq n 0 then r.signal before.stage else r.signal target) no;
+    variables = λ x. ap (λ (c : Chains). next_number r c.variables x) t.same;
+    kept = λ x. ap (λ (c : Chains). next_number r c.kept x) t.same;
+    fields = λ x. ap (λ (c : Chains). next_number r c.fields x) t.same;
+    is_last = λ v is. t.bit.shows m r v false g o (e.is_last m (grows_then a b m.signals t.grows g)) is no ∙ ap bit_of (or_false v);
+    waits = λ v is. ap (λ (c : Chains). r.signal c.waits) t.same ∙ is;
+    wants = λ v is. ap (λ (c : Chains). r.signal c.wants) t.same ∙ is;
+  };
+}
+
+pub wait_off : (a b : List Signal) (before after : Chains) (condition : ℕ) → WaitsAt a b before after condition → OffAt condition a b before after
+wait_off a b before after condition t = record {
+  grows = t.grows;
+  many = record {
+    variables = ap (λ (c : Chains). length c.variables) t.same;
+    kept = ap (λ (c : Chains). length c.kept) t.same;
+    fields = ap (λ (c : Chains). length c.fields) t.same;
+  };
+  bits = λ e. record {
+    is_last = λ m g. ap (λ (c : Chains). width m c.is_last) t.same ∙ e.is_last m (grows_then a b m.signals t.grows g);
+    needs = t.needs.wide;
+    waits = t.bit.wide;
+    wants = λ m g. ap (λ (c : Chains). width m c.wants) t.same ∙ e.wants m (grows_then a b m.signals t.grows g);
+  };
+  off = λ m r g o e no. record {
+    stage = ap (λ (c : Chains). r.signal c.stage) t.same;
+    variables = λ x. ap (λ (c : Chains). next_number r c.variables x) t.same;
+    kept = λ x. ap (λ (c : Chains). next_number r c.kept x) t.same;
+    fields = λ x. ap (λ (c : Chains). next_number r c.fields x) t.same;
+    is_last = λ v is. ap (λ (c : Chains). r.signal c.is_last) t.same ∙ is;
+    waits = λ v is. t.bit.shows m r v false g o (e.waits m (grows_then a b m.signals t.grows g)) is no ∙ ap bit_of (or_false v);
+    wants = λ v is. ap (λ (c : Chains). r.signal c.wants) t.same ∙ is;
+  };
+}
+
+pub want_off : (a b : List Signal) (before after : Chains) (condition : ℕ) → WantsAt a b before after condition → OffAt condition a b before after
+want_off a b before after condition t = record {
+  grows = t.grows;
+  many = record {
+    variables = ap (λ (c : Chains). length c.variables) t.same;
+    kept = ap (λ (c : Chains). length c.kept) t.same;
+    fields = ap (λ (c : Chains). length c.fields) t.same;
+  };
+  bits = λ e. record {
+    is_last = λ m g. ap (λ (c : Chains). width m c.is_last) t.same ∙ e.is_last m (grows_then a b m.signals t.grows g);
+    needs = t.needs.wide;
+    waits = λ m g. ap (λ (c : Chains). width m c.waits) t.same ∙ e.waits m (grows_then a b m.signals t.grows g);
+    wants = t.bit.wide;
+  };
+  off = λ m r g o e no. record {
+    stage = ap (λ (c : Chains). r.signal c.stage) t.same;
+    variables = λ x. ap (λ (c : Chains). next_number r c.variables x) t.same;
+    kept = λ x. ap (λ (c : Chains). next_number r c.kept x) t.same;
+    fields = λ x. ap (λ (c : Chains). next_number r c.fields x) t.same;
+    is_last = λ v is. ap (λ (c : Chains). r.signal c.is_last) t.same ∙ is;
+    waits = λ v is. ap (λ (c : Chains). r.signal c.waits) t.same ∙ is;
+    wants = λ v is. t.bit.shows m r v false g o (e.wants m (grows_then a b m.signals t.grows g)) is no ∙ ap bit_of (or_false v);
+  };
+}
+
+-- ---- links whose condition holds
+
+pub lead_on : (a b : List Signal) (before after : Chains) (last target : ℕ) (m : Module) (r : Reading) → LeadsTo a b before after last target → AreBits a before → Grows b m.signals → Obeys m r
+    → r.signal before.is_last ≡ 0 → r.signal last ≡ 1 → (r.signal after.is_last ≡ 1) × (r.signal after.stage ≡ r.signal target)
+lead_on a b before after last target m r t e g o none on = (
+  t.bit.shows m r false true g o (e.is_last m (grows_then a b m.signals t.grows g)) none on,
+  t.stage m r g o ∙ ap (λ n. if nat_eq n 0 then r.signal before.stage else r.signal target) on,
+)

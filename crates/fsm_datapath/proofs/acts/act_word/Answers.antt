@@ -1,0 +1,18 @@
+use Rattle.std.proofs.Common.{to_z, of_z}
+use mir.Syntax.{w128}
+use Rattle.std.proofs.lemmas.Int.{to_z-of_z}
+use Rattle.block_datapath.proofs.Seeing.{fits_typed}
+use Rattle.fsm_datapath.proofs.Acting.{constant_act, variable_act}
+use Rattle.fsm_datapath.proofs.acts.act_word.Goals as goal
+
+pub returns-in-Constant : goal.returns-in-Constant
+returns-in-Constant c =
+    let n = c.in-Constant.number in
+    let ty = c.in-Constant.ty in
+    constant_act c.constant_word.result c.args.wires.now.signals c.constant_word.new.self.signals c.args.code.now c.args.registers.now c.args.operand ty n (to_z w128 (of_z w128 n))
+    (λ t. to_z-of_z w128 n (fits_typed ty n t)) c.in-Constant.is c.constant_word.ensures
+
+pub returns-in-Variable : goal.returns-in-Variable
+returns-in-Variable c =
+    variable_act c.variable_word.result c.args.wires.now.signals c.variable_word.new.wires.signals c.args.code.now c.args.registers.now c.args.operand c.in-Variable.number c.in-Variable.ty
+    c.as_slice.result.now c.as_slice.ensures c.in-Variable.is c.variable_word.ensures

@@ -1,0 +1,23 @@
+use Rattle.operator_wires.proofs.Making.{of_ok}
+use Rattle.fsm_datapath.specs.Modules.{IsModule}
+use Rattle.fsm_datapath.specs.Thread.{RunsPlainCode, HasShapeOfPlainCode}
+use Rattle.fsm_datapath.specs.Leaf.{IsLeafWhereChecked}
+use Rattle.fsm_datapath.proofs.Placed.{shape_is}
+use Rattle.fsm_datapath.proofs.Promising.{runs_code}
+use Rattle.fsm_datapath.proofs.Leafing.{leaf_is}
+use Rattle.fsm_datapath.proofs.module.module.Goals as goal
+
+pub returns-clause-runs : goal.returns-clause-runs
+returns-clause-runs c =
+    of_ok c.assembled.result (IsModule c.args.shape.now c.args.code.now c.args.planned.now) (RunsPlainCode c.args.shape.now c.args.code.now c.args.planned.now)
+    (λ m t printer plain. runs_code c.args.shape.now c.args.code.now c.args.planned.now printer m t plain) c.assembled.ensures
+
+pub returns-clause-leaf : goal.returns-clause-leaf
+returns-clause-leaf c =
+    of_ok c.assembled.result (IsModule c.args.shape.now c.args.code.now c.args.planned.now) (IsLeafWhereChecked c.args.shape.now c.args.code.now c.args.planned.now)
+    (λ m t printer plain checked. leaf_is c.args.shape.now c.args.code.now c.args.planned.now printer m t plain checked) c.assembled.ensures
+
+pub returns-clause-shape : goal.returns-clause-shape
+returns-clause-shape c =
+    of_ok c.assembled.result (IsModule c.args.shape.now c.args.code.now c.args.planned.now) (HasShapeOfPlainCode c.args.shape.now c.args.code.now c.args.planned.now)
+    (λ m t printer plain. shape_is c.args.shape.now c.args.code.now c.args.planned.now printer m t plain) c.assembled.ensures

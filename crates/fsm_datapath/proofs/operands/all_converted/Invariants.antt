@@ -1,6 +1,0 @@
-use Rattle.std.proofs.Common.{take}
-use Rattle.fsm_datapath.specs.Seen.{Converts}
-use Rattle.fsm_datapath.proofs.operands.all_converted.Given as goal
-
-abbrev pub invariant-loop-ty : goal.invariant-loop-ty
-invariant-loop-ty l = Converts l.fn.wires.signals l.wires.signals l.fn.word (take l.ty-index l.types) l.out

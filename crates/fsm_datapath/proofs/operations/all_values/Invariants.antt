@@ -1,5 +1,0 @@
-use Rattle.fsm_datapath.specs.Operations.{ShowsFirst}
-use Rattle.fsm_datapath.proofs.operations.all_values.Given as goal
-
-abbrev pub invariant-loop-operation : goal.invariant-loop-operation
-invariant-loop-operation l = ShowsFirst l.shape.globals l.code l.registers l.block l.plan l.fn.wires.signals l.wires.signals l.operation-index l.values

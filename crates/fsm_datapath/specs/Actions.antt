@@ -1,0 +1,31 @@
+-- What an edge does where the state is left: each register gets what its chain shows.
+use Rattle.std.specs.Prelude.{ℕ, suc, List, [], ◌∷◌, ◌++◌, map, Option, Some, None, slice_get}
+use Rattle.netlist.specs.declared.netlist.Effect.TheVariants as effect
+use Rattle.netlist.specs.declared.netlist.Action.{Action}
+use Rattle.block_datapath.specs.declared.registers.Held.{Held}
+use Rattle.block_datapath.specs.declared.registers.Registers.{Registers}
+use Rattle.fsm_datapath.specs.declared.chains.Chains.{Chains}
+use Rattle.fsm_datapath.specs.declared.control.Edge.{Edge}
+use Rattle.fsm_datapath.specs.declared.stores.Store.{Store}
+
+abbrev pub set_action : ℕ → ℕ → ℕ → Action
+set_action condition register source = record { conditions = condition ∷ []; effect = effect.Set register source }
+
+abbrev pub sets_of : ℕ → Held → Option ℕ → List Action
+sets_of condition h None = []
+sets_of condition h (Some next) = set_action condition h.register next ∷ []
+
+-- of these registers, whose chains have these numbers from n on
+abbrev pub sets_from : ℕ → List ℕ → ℕ → List Held → List Action
+sets_from condition nexts n [] = []
+sets_from condition nexts n (h ∷ hs) = sets_of condition h (slice_get nexts n) ++ sets_from condition nexts (suc n) hs
+
+abbrev pub store_action : ℕ → Store → Action
+store_action condition s = record { conditions = condition ∷ s.condition ∷ []; effect = effect.Store s.memory s.address s.source }
+
+abbrev pub actions_of : Registers → Chains → List Store → Edge → List Action
+actions_of registers c stores edge =
+    set_action edge.leave registers.stage.register c.stage
+    ∷ set_action edge.leave registers.state.register edge.state
+    ∷ set_action edge.leave registers.beat edge.beat
+    ∷ [] ++ sets_from edge.leave c.variables 0 registers.variables ++ sets_from edge.leave c.kept 0 registers.kept ++ map (store_action edge.leave) stores

@@ -1,0 +1,4 @@
+pub mod Good
+pub mod Main
+pub mod Plain
+pub mod Printable

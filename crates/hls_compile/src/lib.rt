@@ -1,0 +1,138 @@
+//! The compiler from bytes to bytes: the Verilog text of a C text, or why there is none.
+#![tactic(auto)]
+
+mod parts;
+mod sites;
+mod unbuilt;
+
+ghost use Rattle.std.specs.Prelude.{◌≡◌, ◌≢◌, true, IfOk, IfErr, OnOk};
+ghost use Rattle.c_program.specs.Resolved.{IsResolved};
+ghost use Rattle.code_following.specs.Following.{IsLowered};
+ghost use Rattle.ir_lower.specs.Taken.{is_straight_program};
+ghost use Rattle.ir_lower.specs.Typed.{IsTypedCode};
+ghost use Rattle.program_machine.specs.Built.{IsSingle};
+ghost use Rattle.good_verilog.specs.GoodVerilog.{IsGoodVerilog};
+ghost use Rattle.c_program.specs.Plain.{program_of};
+ghost use Rattle.c_profile.specs.declared.refusal.Refusal as refusal;
+ghost use Rattle.c_profile.specs.Profile.{IsAccepted, IsRefused};
+ghost use Rattle.hls_compile.specs.Compiled.{IsCompiled, IsStraight, IsUnbuilt};
+ghost use Rattle.hls_compile.specs.declared.CompileError.TheVariants as error;
+ghost use Rattle.hls_compile.specs.declared.unbuilt.Construct as construct;
+
+use block_ir::code::ThreadCode;
+use c_profile::{Accepted, ProfileError, accept};
+use c_program::threads::thread_count;
+use c_program::tree::Program;
+use c_resolved::is_resolved;
+use hls_io::Bytes;
+use ir_lower::fault::LoweringFault;
+use std::alloc::{AllocError, Global};
+use thiserror::Error;
+pub use unbuilt::Construct;
+use whole_net::text::verilog;
+
+/// What a text compiles to.
+#[derive(Drop)]
+pub struct Compiled {
+    /// The Verilog text.
+    pub text: Bytes,
+    /// The number of hardware threads.
+    pub threads: u128,
+    /// The weight of the program.
+    pub weight: u32,
+}
+
+/// Why a text does not compile.
+#[derive(Clone, Copy, Debug, PartialEq, Eq, Error)]
+pub enum CompileError {
+    /// The text is not of the profile.
+    #[error("refused")]
+    Refused(c_profile::Refusal),
+    /// It has a construct that is not built yet.
+    #[error("not built yet")]
+    NotBuilt(Construct),
+    #[error("out of memory")]
+    Memory,
+}
+
+/// Why an accepted program has no text.
+#[derive(Clone, Copy, Debug, PartialEq, Eq)]
+enum BuildError {
+    NotBuilt(Construct),
+    Memory,
+}
+
+impl From<AllocError> for BuildError {
+    fn from(_error: AllocError) -> BuildError {
+        BuildError::Memory
+    }
+}
+
+/// The code of main.
+fn code_of(alloc: Global, program: &Program) -> Result<ThreadCode, BuildError>
+    ensures resolved { OnOk result (IsResolved (program_of program.now)) }
+    ensures single { OnOk result (IsSingle (program_of program.now)) }
+    ensures lowered { IfOk result (λ code. is_straight_program (program_of program.now) ≡ true → IsResolved (program_of program.now) → IsLowered (program_of program.now) code) }
+    ensures typed { IfOk result (λ code. is_straight_program (program_of program.now) ≡ true → IsResolved (program_of program.now) → IsTypedCode (program_of program.now) code) }
+{
+    if !is_resolved(alloc, program)? {
+        return Err(BuildError::NotBuilt(Construct::Unchecked));
+    }
+    if let Some(construct) = unbuilt::unbuilt(program) {
+        return Err(BuildError::NotBuilt(construct));
+    }
+    match ir_lower::statements::lower(alloc, program) {
+        Ok(code) => Ok(code),
+        Err(LoweringFault::Memory) => Err(BuildError::Memory),
+        Err(LoweringFault::NotYet | LoweringFault::TooLarge) => {
+            Err(BuildError::NotBuilt(Construct::Size))
+        }
+    }
+}
+
+/// The Verilog of a program.
+fn text_of(alloc: Global, program: &Program) -> Result<Bytes, BuildError>
+    ensures { IfOk result (λ text. IsStraight (program_of program.now) → IsGoodVerilog (program_of program.now) text) }
+{
+    let code = code_of(alloc, program)?;
+    let Some(main) = parts::main_module(alloc, &code)? else {
+        return Err(BuildError::NotBuilt(Construct::Unchecked));
+    };
+    let Some(printer) = parts::printer_module(alloc, program)? else {
+        return Err(BuildError::NotBuilt(Construct::Size));
+    };
+    let arbiter = parts::arbiter_module(alloc)?;
+    let text = verilog(alloc, main, arbiter, printer)?;
+    Ok(text)
+}
+
+/// The program of a text, within all limits, or why there is none.
+fn program_in(alloc: Global, text: &[u8]) -> Result<Accepted, CompileError>
+    ensures ok { IfOk result (λ a. IsAccepted text.now (program_of a.program) a.weight) }
+    ensures refused { IfErr result (λ e. (r : refusal.Refusal) → e ≡ error.Refused r → IsRefused text.now r) }
+    ensures built { IfErr result (λ e. (c : construct.Construct) → e ≢ error.NotBuilt c) }
+{
+    match accept(alloc, text) {
+        Ok(accepted) => Ok(accepted),
+        Err(ProfileError::Refused(refusal)) => Err(CompileError::Refused(refusal)),
+        Err(ProfileError::Memory) => Err(CompileError::Memory),
+    }
+}
+
+/// The Verilog of a C text.
+pub fn compile(alloc: Global, text: &[u8]) -> Result<Compiled, CompileError>
+    ensures ok { IfOk result (λ c. IsCompiled text.now c.threads c.weight c.text) }
+    ensures refused { IfErr result (λ e. (r : refusal.Refusal) → e ≡ error.Refused r → IsRefused text.now r) }
+    ensures unbuilt { IfErr result (λ e. (c : construct.Construct) → e ≡ error.NotBuilt c → IsUnbuilt text.now) }
+{
+    let accepted = program_in(alloc, text)?;
+    match text_of(alloc, &accepted.program) {
+        Ok(text) => Ok(Compiled {
+            text,
+            threads: thread_count(&accepted.program),
+            weight: accepted.weight,
+        }),
+        Err(BuildError::NotBuilt(construct)) => Err(CompileError::NotBuilt(construct)),
+        Err(BuildError::Memory) => Err(CompileError::Memory),
+    }
+}

@@ -1,0 +1,72 @@
+-- What a call owes for the task that its words ask for and the text that its source gives.
+use Rattle.std.specs.Prelude.{◌≡◌, ℕ, ◌<◌, List, [], length, Option, Some, None, IfSome, IsSome}
+use Rattle.hls_words.specs.declared.task.Task.{Task}
+use Rattle.hls_words.specs.declared.task.Task.TheVariants.{Build}
+use Rattle.c_profile.specs.declared.refusal.Refusal.{Refusal}
+use Rattle.c_profile.specs.declared.refusal.Refusal.TheVariants as refusal
+use Rattle.c_profile.specs.Profile.{most_bytes, IsRefused}
+use Rattle.hls_compile.specs.Compiled.{IsCompiled, IsUnbuilt}
+use Rattle.hls_tool.specs.declared.status.Status.{Status}
+use Rattle.hls_tool.specs.declared.status.Status.TheVariants as status
+use Rattle.hls_tool.specs.Lines.{built_line, memory_line, read_fault_line, refusal_line, unbuilt_line, usage_line}
+
+-- what a call owes: its status, the Verilog, the bytes for out and the line for err
+pub record Due : Type 0 where
+  pub status : Status
+  pub text : List ℕ
+  pub out : List ℕ
+  pub err : List ℕ
+
+-- no text, nothing for out, and this line
+pub record IsPlain (d : Due) (line : List ℕ) : Type 0 where
+  pub text : d.text ≡ []
+  pub out : d.out ≡ []
+  pub err : d.err ≡ line
+
+-- ---- the text read
+
+-- the source gave this text to its end, where it tells
+abbrev pub Gave : Option (List ℕ) → List ℕ → Type 0
+Gave left text = IfSome left (λ bytes. text ≡ bytes)
+
+-- the source gave a text with this refusal, or one that is too long, of which the rest was not read
+abbrev pub IsRefusedBy : Option (List ℕ) → Refusal → Type 0
+IsRefusedBy left refusal.TooLong = IfSome left (λ bytes. most_bytes < length bytes)
+IsRefusedBy left r = (text : List ℕ) × Gave left text × IsRefused text r
+
+-- it gave a text of the profile that is not built yet
+abbrev pub IsUnbuiltBy : Option (List ℕ) → Type 0
+IsUnbuiltBy left = (text : List ℕ) × Gave left text × IsUnbuilt text
+
+-- ---- what each command owes
+
+-- the text is accepted as a program of so many threads and this weight, and its Verilog, good Verilog of a straight program,
+-- goes to out
+pub record IsBuilt (left : Option (List ℕ)) (d : Due) : Type 0 where
+  pub text : List ℕ
+  pub threads : ℕ
+  pub weight : ℕ
+  pub gave : Gave left text
+  pub compiled : IsCompiled text threads weight d.text
+  pub out : d.out ≡ d.text
+  pub err : d.err ≡ built_line threads weight (length d.text)
+
+-- the task did all that it asks for
+abbrev pub Succeeds : Option Task → Option (List ℕ) → Due → Type 0
+Succeeds None left d = ⊥
+Succeeds (Some Build) left d = IsBuilt left d
+
+-- ---- one line for each status
+
+-- `task` is what the words ask for, `left` what the source has, and `rose` that its count of faults rose
+abbrev pub OwesAt : Option Task → Option (List ℕ) → Type 0 → Due → Status → Type 0
+OwesAt task left rose d status.Ok = Succeeds task left d
+OwesAt task left rose d (status.Refused r) = IsSome task × IsRefusedBy left r × IsPlain d (refusal_line r)
+OwesAt task left rose d (status.NotBuilt c) = IsSome task × IsUnbuiltBy left × IsPlain d (unbuilt_line c)
+OwesAt task left rose d status.Usage = (task ≡ None) × IsPlain d usage_line
+OwesAt task left rose d status.ReadFault = IsSome task × rose × IsPlain d read_fault_line
+OwesAt task left rose d (status.WriteFault out err) = ⊥
+OwesAt task left rose d status.Memory = IsPlain d memory_line
+
+abbrev pub Owes : Option Task → Option (List ℕ) → Type 0 → Due → Type 0
+Owes task left rose d = OwesAt task left rose d d.status

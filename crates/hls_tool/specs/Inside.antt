@@ -1,0 +1,51 @@
+-- How the code holds what it owes, and the parts of a command.
+use Rattle.std.specs.Prelude.{◌≡◌, ℕ, List, [], string_bytes, Option, ⊤}
+use Rattle.hls_tool.specs.declared.status.Status.{Status}
+use Rattle.hls_tool.specs.declared.status.Status.TheVariants as status
+use Rattle.hls_tool.specs.declared.commands.Stop.{Stop}
+use Rattle.hls_tool.specs.declared.commands.Stop.TheVariants as stop
+use Rattle.hls_tool.specs.declared.answer.Answer.{Answer}
+use Rattle.hls_tool.specs.declared.answer.Out.{Out}
+use Rattle.hls_tool.specs.declared.answer.Out.TheVariants as to_out
+use Rattle.hls_tool.specs.declared.answer.Line.{Line}
+use Rattle.hls_tool.specs.declared.answer.Line.TheVariants as line
+use Rattle.hls_tool.specs.Answers.{Due, IsPlain, IsRefusedBy, IsUnbuiltBy}
+use Rattle.hls_tool.specs.Lines.{memory_line, read_fault_line, refusal_line, unbuilt_line}
+
+-- ---- the bytes that an answer owes
+
+abbrev pub out_bytes : List ℕ → Out → List ℕ
+out_bytes text to_out.Nothing = []
+out_bytes text to_out.Text = text
+
+abbrev pub line_bytes : Line → List ℕ
+line_bytes (line.Fixed bytes) = bytes.now
+line_bytes (line.Made text) = string_bytes text
+
+abbrev pub due_of : Answer → Due
+due_of a = record {
+  status = a.status;
+  text = a.text;
+  out = out_bytes a.text a.out;
+  err = line_bytes a.line;
+}
+
+-- ---- the parts of a command
+
+-- a command that stops early has a cause
+abbrev pub StopsBy : Option (List ℕ) → Type 0 → Stop → Type 0
+StopsBy left rose stop.ReadFault = rose
+StopsBy left rose (stop.Refused r) = IsRefusedBy left r
+StopsBy left rose (stop.NotBuilt c) = IsUnbuiltBy left
+StopsBy left rose stop.Memory = ⊤
+
+-- the answer to a stop; want of memory may stand in its place
+abbrev pub StopStatus : Stop → Due → Status → Type 0
+StopStatus s a status.Memory = IsPlain a memory_line
+StopStatus s a status.ReadFault = (s ≡ stop.ReadFault) × IsPlain a read_fault_line
+StopStatus s a (status.Refused r) = (s ≡ stop.Refused r) × IsPlain a (refusal_line r)
+StopStatus s a (status.NotBuilt c) = (s ≡ stop.NotBuilt c) × IsPlain a (unbuilt_line c)
+StopStatus s a _ = ⊥
+
+abbrev pub AnswersStop : Stop → Due → Type 0
+AnswersStop s a = StopStatus s a a.status

@@ -1,0 +1,5 @@
+pub mod Lines
+pub mod Answers
+pub mod Delivery
+pub mod Call
+pub mod Inside

@@ -1,0 +1,82 @@
+-- The numbers of the statuses, and the lines on err.
+use Rattle.std.specs.Prelude.{ℕ, List, ◌++◌, codes, decimal}
+use Rattle.c_rules.specs.declared.fault.Rule.{Rule}
+use Rattle.c_rules.specs.declared.fault.Rule.TheVariants as rule
+use Rattle.c_rules.specs.Faults.{number}
+use Rattle.c_limits.specs.declared.limit.Passed.{Passed}
+use Rattle.c_limits.specs.Counts.{name_of, most}
+use Rattle.c_profile.specs.declared.refusal.Refusal.{Refusal}
+use Rattle.c_profile.specs.declared.refusal.Refusal.TheVariants as refusal
+use Rattle.hls_compile.specs.declared.unbuilt.Construct.{Construct}
+use Rattle.hls_compile.specs.declared.unbuilt.Construct.TheVariants as construct
+use Rattle.hls_tool.specs.declared.status.Status.{Status}
+use Rattle.hls_tool.specs.declared.status.Status.TheVariants as status
+
+abbrev pub status_number : Status → ℕ
+status_number status.Ok = 0
+status_number (status.Refused refusal) = 1
+status_number (status.NotBuilt construct) = 1
+status_number status.Usage = 2
+status_number status.ReadFault = 3
+status_number (status.WriteFault out err) = 4
+status_number status.Memory = 5
+
+abbrev pub usage_line : List ℕ
+usage_line = codes "hls: usage\n"
+
+abbrev pub read_fault_line : List ℕ
+read_fault_line = codes "hls: read fault\n"
+
+abbrev pub write_fault_line : List ℕ
+write_fault_line = codes "hls: write fault\n"
+
+abbrev pub memory_line : List ℕ
+memory_line = codes "hls: out of memory\n"
+
+-- ---- refusals
+
+abbrev pub words_of : Rule → List ℕ
+words_of rule.Unknown = codes "unknown name"
+words_of rule.Twice = codes "declared twice"
+words_of rule.Kind = codes "wrong kind"
+words_of rule.Arguments = codes "argument count"
+words_of rule.Recursive = codes "recursion"
+words_of rule.Threads = codes "thread rule"
+words_of rule.Place = codes "out of place"
+words_of rule.Constant = codes "constant out of range"
+words_of rule.Format = codes "format"
+
+abbrev pub refused_at : ℕ → ℕ → List ℕ → List ℕ
+refused_at n at words =
+    codes "hls: refused E" ++ (decimal n ++ (codes " at byte " ++ (decimal at ++ (codes ": " ++ (words ++ codes "\n")))))
+
+abbrev pub limit_words : Passed → List ℕ
+limit_words p = name_of p.limit ++ (codes " " ++ (decimal p.count ++ (codes ", at most " ++ decimal (most p.limit))))
+
+abbrev pub limit_line : Passed → List ℕ
+limit_line p = codes "hls: refused E12: " ++ (limit_words p ++ codes "\n")
+
+abbrev pub refusal_line : Refusal → List ℕ
+refusal_line refusal.TooLong = codes "hls: refused E1: longer than 65536 bytes\n"
+refusal_line (refusal.NoToken at) = refused_at 2 at (codes "no token")
+refusal_line (refusal.Syntax at) = refused_at 3 at (codes "syntax")
+refusal_line (refusal.Broken r at) = refused_at (number r) at (words_of r)
+refusal_line refusal.NoMain = codes "hls: refused E14: no main\n"
+refusal_line (refusal.LimitAt p at) = refused_at 12 at (limit_words p)
+refusal_line (refusal.Limit p) = limit_line p
+
+abbrev pub construct_words : Construct → List ℕ
+construct_words construct.Threads = codes "pthread objects and calls"
+construct_words construct.Globals = codes "globals"
+construct_words construct.Calls = codes "calls of functions"
+construct_words construct.Unchecked = codes "a program that is not seen to be in order"
+construct_words construct.Size = codes "so large a function"
+
+abbrev pub unbuilt_line : Construct → List ℕ
+unbuilt_line c = codes "hls: refused: not built yet: " ++ (construct_words c ++ codes "\n")
+
+-- ---- what a command did
+
+abbrev pub built_line : ℕ → ℕ → ℕ → List ℕ
+built_line threads weight bytes =
+    codes "hls: built, " ++ (decimal threads ++ (codes " threads, weight " ++ (decimal weight ++ (codes ", " ++ (decimal bytes ++ codes " bytes\n")))))

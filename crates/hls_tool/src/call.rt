@@ -1,0 +1,34 @@
+ghost use Rattle.std.specs.Prelude.{◌≡◌, ◌⊎◌, None, map, string_bytes};
+ghost use Rattle.hls_io.specs.Causes.{Rose};
+ghost use Rattle.hls_words.specs.Line.{task_of};
+ghost use Rattle.hls_tool.specs.Call.{Answered, IsWriteFault};
+ghost use Rattle.hls_tool.specs.Delivery.{passage};
+ghost use Rattle.hls_tool.specs.Answers.{IsRefusedBy, IsUnbuiltBy};
+
+use crate::commands::answer;
+use crate::deliver::deliver;
+use crate::{Outcome, Status};
+use hls_io::{Sink, Source};
+use std::alloc::Global;
+
+/// Does all that the program does.
+pub fn hls<S: Source, O: Sink, E: Sink>(
+    alloc: Global,
+    words: &[String],
+    source: &mut S,
+    out: &mut O,
+    err: &mut E,
+) -> Outcome
+    ensures usage { result.status ≡ Status.Usage → task_of (map string_bytes words.now) ≡ None }
+    ensures read_fault { result.status ≡ Status.ReadFault → Rose (S.faults source.old) (S.faults source.new) }
+    ensures refused { (r : _) → result.status ≡ Status.Refused r → IsRefusedBy (S.left source.old) r }
+    ensures write_fault { IsWriteFault result.status → Rose (O.faults out.old) (O.faults out.new) ⊎ Rose (E.faults err.old) (E.faults err.new) }
+    ensures unbuilt { (c : _) → result.status ≡ Status.NotBuilt c → IsUnbuiltBy (S.left source.old) }
+    ensures answered { Answered (task_of (map string_bytes words.now)) (S.left source.old)
+        (Rose (S.faults source.old) (S.faults source.new))
+        (passage (O.held out.old) (O.held out.new) (O.faults out.old) (O.faults out.new))
+        (passage (E.held err.old) (E.held err.new) (E.faults err.old) (E.faults err.new)) result }
+{
+    let answer = answer(alloc, words, source);
+    deliver(answer, out, err)
+}

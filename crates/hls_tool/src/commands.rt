@@ -1,0 +1,150 @@
+// What each command owes.
+ghost use Rattle.std.specs.Prelude.{◌≡◌, ◌≤◌, Some, map, string_bytes, IfOk, IfErr};
+ghost use Rattle.hls_io.specs.Causes.{Rose};
+ghost use Rattle.hls_words.specs.Line.{task_of};
+ghost use Rattle.hls_tool.specs.Answers.{Gave, IsBuilt, IsPlain, Owes};
+ghost use Rattle.hls_tool.specs.Inside.{AnswersStop, StopsBy, due_of, line_bytes};
+ghost use Rattle.hls_tool.specs.declared.commands.Stop.TheVariants.{Memory};
+ghost use Rattle.hls_compile.specs.Compiled.{IsCompiled};
+
+use crate::Status;
+use crate::answer::{Answer, Line, Out};
+use crate::lines::{MEMORY, READ_FAULT, USAGE, built_line, refusal_line, unbuilt_line};
+use c_profile::Refusal;
+use hls_compile::{CompileError, Compiled, Construct, compile};
+use hls_io::{Bytes, ReadAllError, Source, read_all};
+use hls_words::{Task, WordsError, parse};
+use std::alloc::{AllocError, Global};
+use thiserror::Error;
+
+/// Why a command stops before it has an answer of its own.
+#[derive(Clone, Copy, Debug, PartialEq, Eq, Error)]
+pub enum Stop {
+    #[error("a read failed")]
+    ReadFault,
+    #[error("the text is refused")]
+    Refused(Refusal),
+    #[error("the text is not built yet")]
+    NotBuilt(Construct),
+    #[error("out of memory")]
+    Memory,
+}
+
+impl From<AllocError> for Stop {
+    ghost from_gives = { λ _ e. e ≡ Memory };
+
+    fn from(_: AllocError) -> Self {
+        Stop::Memory
+    }
+}
+
+/// The most bytes of a text.
+const MOST_BYTES: usize = 65_536;
+
+fn plain(alloc: Global, status: Status, line: Line) -> Answer
+    ensures status { result.status ≡ status }
+    ensures plain { IsPlain (due_of result) (line_bytes line) }
+{
+    Answer {
+        status,
+        text: Bytes::new(alloc),
+        out: Out::Nothing,
+        line,
+    }
+}
+
+/// Reads the text to its end.
+fn text_read<S: Source>(alloc: Global, source: &mut S) -> Result<Bytes, Stop>
+    ensures ok { IfOk result (Gave (S.left source.old)) }
+    ensures stop { IfErr result (StopsBy (S.left source.old) (Rose (S.faults source.old) (S.faults source.new))) }
+    ensures later { S.faults source.old ≤ S.faults source.new }
+{
+    match read_all(alloc, source, MOST_BYTES) {
+        Ok(text) => Ok(text),
+        Err(ReadAllError::TooLong) => Err(Stop::Refused(Refusal::TooLong)),
+        Err(ReadAllError::ReadFault) => Err(Stop::ReadFault),
+        Err(ReadAllError::Mem) => Err(Stop::Memory),
+    }
+}
+
+/// Reads the text and compiles it.
+fn compiled<S: Source>(alloc: Global, source: &mut S) -> Result<Compiled, Stop>
+    ensures ok { IfOk result (λ c. (text : _) × Gave (S.left source.old) text × IsCompiled text c.threads c.weight c.text) }
+    ensures stop { IfErr result (StopsBy (S.left source.old) (Rose (S.faults source.old) (S.faults source.new))) }
+    ensures later { S.faults source.old ≤ S.faults source.new }
+{
+    let text = text_read(alloc, source)?;
+    match compile(alloc, text.as_slice()) {
+        Ok(compiled) => Ok(compiled),
+        Err(CompileError::Refused(refusal)) => Err(Stop::Refused(refusal)),
+        Err(CompileError::NotBuilt(construct)) => Err(Stop::NotBuilt(construct)),
+        Err(CompileError::Memory) => Err(Stop::Memory),
+    }
+}
+
+fn build<S: Source>(alloc: Global, source: &mut S) -> Result<Answer, Stop>
+    ensures ok { IfOk result (λ a. (a.status ≡ Status.Ok) × IsBuilt (S.left source.old) (due_of a)) }
+    ensures stop { IfErr result (StopsBy (S.left source.old) (Rose (S.faults source.old) (S.faults source.new))) }
+    ensures later { S.faults source.old ≤ S.faults source.new }
+{
+    let made = compiled(alloc, source)?;
+    let line = built_line(alloc, made.threads, made.weight, made.text.len())?;
+    Ok(Answer {
+        status: Status::Ok,
+        text: made.text,
+        out: Out::Text,
+        line: Line::Made(line),
+    })
+}
+
+/// The answer to a stop, where there is memory for its line.
+fn stop_answer(alloc: Global, stop: Stop) -> Result<Answer, AllocError>
+    ensures { IfOk result (λ a. AnswersStop stop (due_of a)) }
+{
+    match stop {
+        Stop::ReadFault => Ok(plain(alloc, Status::ReadFault, Line::Fixed(READ_FAULT))),
+        Stop::Memory => Ok(plain(alloc, Status::Memory, Line::Fixed(MEMORY))),
+        Stop::Refused(refusal) => {
+            let line = refusal_line(alloc, refusal)?;
+            Ok(plain(alloc, Status::Refused(refusal), Line::Made(line)))
+        }
+        Stop::NotBuilt(construct) => {
+            let line = unbuilt_line(alloc, construct)?;
+            Ok(plain(alloc, Status::NotBuilt(construct), Line::Made(line)))
+        }
+    }
+}
+
+fn stopped(alloc: Global, stop: Stop) -> Answer
+    ensures { AnswersStop stop (due_of result) }
+{
+    match stop_answer(alloc, stop) {
+        Ok(answer) => answer,
+        Err(_) => plain(alloc, Status::Memory, Line::Fixed(MEMORY)),
+    }
+}
+
+fn run_task<S: Source>(alloc: Global, task: Task, source: &mut S) -> Answer
+    ensures owes { Owes (Some task) (S.left source.old) (Rose (S.faults source.old) (S.faults source.new)) (due_of result) }
+    ensures later { S.faults source.old ≤ S.faults source.new }
+{
+    let done = match task {
+        Task::Build => build(alloc, source),
+    };
+    match done {
+        Ok(answer) => answer,
+        Err(stop) => stopped(alloc, stop),
+    }
+}
+
+/// All that the call owes, before a byte is written.
+pub fn answer<S: Source>(alloc: Global, words: &[String], source: &mut S) -> Answer
+    ensures owes { Owes (task_of (map string_bytes words.now)) (S.left source.old) (Rose (S.faults source.old) (S.faults source.new)) (due_of result) }
+    ensures later { S.faults source.old ≤ S.faults source.new }
+{
+    match parse(alloc, words) {
+        Ok(task) => run_task(alloc, task, source),
+        Err(WordsError::Usage) => plain(alloc, Status::Usage, Line::Fixed(USAGE)),
+        Err(WordsError::Mem) => plain(alloc, Status::Memory, Line::Fixed(MEMORY)),
+    }
+}

@@ -1,0 +1,76 @@
+ghost use Rattle.std.specs.Prelude.{◌≡◌, ◌≤◌};
+ghost use Rattle.hls_tool.specs.Inside.{due_of, out_bytes, line_bytes};
+ghost use Rattle.hls_tool.specs.Delivery.{Ends, MayBeOwed, passage};
+
+use crate::answer::{Answer, Line, Out};
+use crate::lines::WRITE_FAULT;
+use crate::{Outcome, Status};
+use hls_io::{Bytes, Sink, write_all};
+
+impl Out {
+    fn as_slice<'a>(&'a self, text: &'a Bytes) -> &'a [u8]
+        ensures { result.now ≡ out_bytes text.now self.now }
+    {
+        match self {
+            Out::Nothing => &[],
+            Out::Text => text.as_slice(),
+        }
+    }
+}
+
+impl Line {
+    fn as_slice(&self) -> &[u8]
+        ensures { result.now ≡ line_bytes self.now }
+    {
+        match self {
+            Line::Fixed(bytes) => *bytes,
+            Line::Made(text) => text.as_bytes(),
+        }
+    }
+}
+
+/// Writes to out, then to err, and says how the call ends.
+fn send<O: Sink, E: Sink>(owed: Status, due: &[u8], line: &[u8], out: &mut O, err: &mut E) -> Status
+    requires { MayBeOwed owed }
+    ensures ends { Ends owed due.now line.now
+        (passage (O.held out.old) (O.held out.new) (O.faults out.old) (O.faults out.new))
+        (passage (E.held err.old) (E.held err.new) (E.faults err.old) (E.faults err.new)) result }
+    ensures out_later { O.faults out.old ≤ O.faults out.new }
+    ensures err_later { E.faults err.old ≤ E.faults err.new }
+{
+    if let Err(fault) = write_all(out, due) {
+        let line_written = match write_all(err, WRITE_FAULT) {
+            Ok(()) => WRITE_FAULT.len(),
+            Err(second) => second.written,
+        };
+        return Status::WriteFault {
+            out: fault.written,
+            err: line_written,
+        };
+    }
+    match (write_all(err, line), owed) {
+        (Ok(()), _) => owed,
+        (Err(_), Status::Memory) => Status::Memory,
+        (Err(fault), _) => Status::WriteFault {
+            out: due.len(),
+            err: fault.written,
+        },
+    }
+}
+
+pub fn deliver<O: Sink, E: Sink>(answer: Answer, out: &mut O, err: &mut E) -> Outcome
+    requires { MayBeOwed answer.status }
+    ensures ends { Ends answer.status (due_of answer).out (due_of answer).err
+        (passage (O.held out.old) (O.held out.new) (O.faults out.old) (O.faults out.new))
+        (passage (E.held err.old) (E.held err.new) (E.faults err.old) (E.faults err.new)) result.status }
+    ensures text { result.text ≡ answer.text }
+    ensures out_later { O.faults out.old ≤ O.faults out.new }
+    ensures err_later { E.faults err.old ≤ E.faults err.new }
+{
+    let due = answer.out.as_slice(&answer.text);
+    let status = send(answer.status, due, answer.line.as_slice(), out, err);
+    Outcome {
+        status,
+        text: answer.text,
+    }
+}

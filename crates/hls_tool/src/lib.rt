@@ -1,0 +1,15 @@
+//! The tool as one call: the words, the source, the sinks, and the answer.
+#![tactic(auto)]
+
+mod answer;
+mod call;
+mod commands;
+mod deliver;
+mod lines;
+mod status;
+
+pub use call::hls;
+pub use status::{Outcome, Status};
+
+#[cfg(test)]
+mod tests;

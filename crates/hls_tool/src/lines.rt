@@ -1,0 +1,114 @@
+// The lines on err.
+
+ghost use Rattle.std.specs.Prelude.{◌≡◌, IfOk, string_bytes};
+ghost use Rattle.hls_tool.specs.Lines as lines;
+
+use c_limits::Passed;
+use c_profile::Refusal;
+use c_types::Rule;
+use hls_compile::Construct;
+use std::alloc::{AllocError, Global};
+
+pub const USAGE: &[u8] = b"hls: usage\n";
+
+pub const READ_FAULT: &[u8] = b"hls: read fault\n";
+
+pub const WRITE_FAULT: &[u8] = b"hls: write fault\n";
+
+pub const MEMORY: &[u8] = b"hls: out of memory\n";
+
+/// What a rule says.
+fn words_of(rule: Rule) -> &'static str
+    ensures { result.now ≡ lines.words_of rule }
+{
+    match rule {
+        Rule::Unknown => "unknown name",
+        Rule::Twice => "declared twice",
+        Rule::Kind => "wrong kind",
+        Rule::Arguments => "argument count",
+        Rule::Recursive => "recursion",
+        Rule::Threads => "thread rule",
+        Rule::Place => "out of place",
+        Rule::Constant => "constant out of range",
+        Rule::Format => "format",
+    }
+}
+
+/// What is not built yet.
+fn construct_words(construct: Construct) -> &'static str
+    ensures { result.now ≡ lines.construct_words construct }
+{
+    match construct {
+        Construct::Threads => "pthread objects and calls",
+        Construct::Globals => "globals",
+        Construct::Calls => "calls of functions",
+        Construct::Unchecked => "a program that is not seen to be in order",
+        Construct::Size => "so large a function",
+    }
+}
+
+fn refused_at(alloc: Global, number: u8, offset: usize, words: &str) -> Result<String, AllocError>
+    ensures { IfOk result (λ s. string_bytes s ≡ lines.refused_at number offset words.now) }
+{
+    format!(in alloc; "hls: refused E{number} at byte {offset}: {words}\n")
+}
+
+fn limit_words(alloc: Global, passed: Passed) -> Result<String, AllocError>
+    ensures { IfOk result (λ s. string_bytes s ≡ lines.limit_words passed) }
+{
+    let name = passed.limit.name();
+    let count = passed.count;
+    let most = passed.limit.most();
+    format!(in alloc; "{name} {count}, at most {most}")
+}
+
+fn limit_line(alloc: Global, passed: Passed) -> Result<String, AllocError>
+    ensures { IfOk result (λ s. string_bytes s ≡ lines.limit_line passed) }
+{
+    let words = limit_words(alloc, passed)?;
+    format!(in alloc; "hls: refused E12: {words}\n")
+}
+
+fn limit_line_at(alloc: Global, passed: Passed, offset: usize) -> Result<String, AllocError>
+    ensures { IfOk result (λ s. string_bytes s ≡ lines.refused_at 12 offset (lines.limit_words passed)) }
+{
+    let words = limit_words(alloc, passed)?;
+    refused_at(alloc, 12, offset, &words)
+}
+
+/// The line of a refusal.
+pub fn refusal_line(alloc: Global, refusal: Refusal) -> Result<String, AllocError>
+    ensures { IfOk result (λ s. string_bytes s ≡ lines.refusal_line refusal) }
+{
+    match refusal {
+        Refusal::TooLong => String::from_str(alloc, "hls: refused E1: longer than 65536 bytes\n"),
+        Refusal::NoToken { offset } => refused_at(alloc, 2, offset, "no token"),
+        Refusal::Syntax { offset } => refused_at(alloc, 3, offset, "syntax"),
+        Refusal::Broken { rule, offset } => {
+            refused_at(alloc, rule.number(), offset, words_of(rule))
+        }
+        Refusal::NoMain => String::from_str(alloc, "hls: refused E14: no main\n"),
+        Refusal::LimitAt { passed, offset } => limit_line_at(alloc, passed, offset),
+        Refusal::Limit(passed) => limit_line(alloc, passed),
+    }
+}
+
+/// The line for what is not built yet.
+pub fn unbuilt_line(alloc: Global, construct: Construct) -> Result<String, AllocError>
+    ensures { IfOk result (λ s. string_bytes s ≡ lines.unbuilt_line construct) }
+{
+    let words = construct_words(construct);
+    format!(in alloc; "hls: refused: not built yet: {words}\n")
+}
+
+/// The line of a build.
+pub fn built_line(
+    alloc: Global,
+    threads: u128,
+    weight: u32,
+    bytes: usize,
+) -> Result<String, AllocError>
+    ensures { IfOk result (λ s. string_bytes s ≡ lines.built_line threads weight bytes) }
+{
+    format!(in alloc; "hls: built, {threads} threads, weight {weight}, {bytes} bytes\n")
+}

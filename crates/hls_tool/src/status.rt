@@ -1,0 +1,46 @@
+ghost use Rattle.std.specs.Prelude.{◌≡◌};
+ghost use Rattle.hls_tool.specs.Lines.{status_number};
+
+use c_profile::Refusal;
+use hls_compile::Construct;
+use hls_io::Bytes;
+
+/// How a call ended.
+#[derive(Clone, Copy, Debug, PartialEq, Eq)]
+pub enum Status {
+    Ok,
+    /// The text is not of the profile.
+    Refused(Refusal),
+    /// The text is of the profile, and has a construct that the compiler does not build yet.
+    NotBuilt(Construct),
+    /// The words are not of the command line.
+    Usage,
+    /// A read failed.
+    ReadFault,
+    /// A write failed; how many of the due bytes each sink took.
+    WriteFault { out: usize, err: usize },
+    Memory,
+}
+
+impl Status {
+    /// The program's exit status.
+    pub fn number(self) -> u8
+        ensures { result ≡ status_number self }
+    {
+        match self {
+            Status::Ok => 0,
+            Status::Refused(_) | Status::NotBuilt(_) => 1,
+            Status::Usage => 2,
+            Status::ReadFault => 3,
+            Status::WriteFault { .. } => 4,
+            Status::Memory => 5,
+        }
+    }
+}
+
+/// What a call answers: its status, and the Verilog text once there was one.
+#[derive(Drop)]
+pub struct Outcome {
+    pub status: Status,
+    pub text: Bytes,
+}

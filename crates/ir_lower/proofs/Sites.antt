@@ -1,0 +1,66 @@
+-- The numbers of the printf calls of a statement.
+use Rattle.std.proofs.Common.{◌≡◌, ℕ, suc, ◌+◌, List, [], ◌∷◌, ◌++◌, length, Some, refl, sym, ap, ◌∙◌, arith, append_assoc, length-append, cond}
+use Rattle.std.specs.Prelude.{count_by, slice_get}
+use Rattle.c_program.specs.Tree.{Expression, Piece, Statement, Program}
+use Rattle.c_program.specs.Limits.{print_count}
+use Rattle.c_program.specs.Resolved.{is_conversion}
+use Rattle.code_following.specs.Following.{conversions_of, formats_of, print_formats}
+use Rattle.ir_lower.specs.Resuming.{HasSites}
+use Rattle.ir_lower.proofs.Running.{get_left, get_last}
+use Rattle.ir_lower.proofs.Words.{sum_cons}
+
+pub formats_length : (s : Statement) → length (formats_of s) ≡ print_count s
+formats_length Statement.Done = refl
+formats_length (Statement.Sequence first rest) = length-append (formats_of first) (formats_of rest) ∙ (let a = formats_length first in let b = formats_length rest in omega arith)
+formats_length Statement.Empty = refl
+formats_length (Statement.Block body) = formats_length body
+formats_length (Statement.Declare offset local operators) = refl
+formats_length (Statement.Assign offset place right) = refl
+formats_length (Statement.Update offset place operator ty right) = refl
+formats_length (Statement.If condition consequent alternative) =
+    length-append (formats_of consequent) (formats_of alternative) ∙ (let a = formats_length consequent in let b = formats_length alternative in omega arith)
+formats_length (Statement.While condition body) = formats_length body
+formats_length (Statement.DoWhile body condition) = formats_length body
+formats_length (Statement.For first condition last body) =
+    length-append (formats_of first) (formats_of last ++ formats_of body)
+    ∙ (let l = length-append (formats_of last) (formats_of body) in let a = formats_length first in let b = formats_length last in let c = formats_length body in omega arith)
+formats_length Statement.Break = refl
+formats_length Statement.Continue = refl
+formats_length (Statement.Return offset right) = refl
+formats_length (Statement.Call offset function arguments) = refl
+formats_length (Statement.Print offset format arguments) = refl
+formats_length (Statement.Thread offset call) = refl
+
+module _ (P : Program) (a b : Statement) (site : ℕ) (sites : HasSites P (Statement.Sequence a b) site) where
+  pub first_sites : HasSites P a site
+  first_sites = record {
+    before = sites.before;
+    after = formats_of b ++ sites.after;
+    all = sites.all ∙ ap (λ l. sites.before ++ l) (append_assoc (formats_of a) (formats_of b) sites.after);
+    number = sites.number;
+  }
+
+  pub rest_sites : (next : ℕ) → next ≡ site + print_count a → HasSites P b next
+  rest_sites next is = record {
+    before = sites.before ++ formats_of a;
+    after = sites.after;
+    all =
+        sites.all ∙ ap (λ l. sites.before ++ l) (append_assoc (formats_of a) (formats_of b) sites.after)
+        ∙ sym (append_assoc sites.before (formats_of a) (formats_of b ++ sites.after));
+    number = (let l = length-append sites.before (formats_of a) in let c = formats_length a in let n = sites.number in omega arith);
+  }
+
+pub site_at : (P : Program) (format : List Piece) (arguments : List Expression) (offset site : ℕ) → HasSites P (Statement.Print offset format arguments) site →
+    slice_get (print_formats P) site ≡ Some format
+site_at P format arguments offset site sites =
+    ap (λ i. slice_get (print_formats P) i) sites.number
+    ∙ ap (λ l. slice_get l (length sites.before)) (sites.all ∙ sym (append_assoc sites.before (format ∷ []) sites.after))
+    ∙ get_left (sites.before ++ format ∷ []) sites.after (length sites.before) (let long = length-append sites.before (format ∷ []) in omega (arith, long))
+    ∙ get_last sites.before format
+
+pub conversions_length : (format : List Piece) → length (conversions_of format) ≡ count_by is_conversion format
+conversions_length [] = refl
+conversions_length (Piece.Text bytes ∷ pieces) =
+    conversions_length pieces ∙ sym (sum_cons (λ (p : Piece). cond (is_conversion p) 1 0) (Piece.Text bytes) pieces ∙ (omega arith))
+conversions_length (Piece.Conversion ty ∷ pieces) =
+    ap suc (conversions_length pieces) ∙ sym (sum_cons (λ (p : Piece). cond (is_conversion p) 1 0) (Piece.Conversion ty) pieces ∙ (omega arith))

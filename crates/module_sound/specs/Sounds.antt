@@ -1,0 +1,32 @@
+-- A module that a text can tell, and whose text is well formed, by itself: it has no instances and no memories.
+use Rattle.std.specs.Prelude.{◌≡◌, ℕ, ◌-◌, ◌<◌, true, false, nat_eq, List, [], length, Some, slice_get}
+use Rattle.verilog_tree.specs.Scope.{is_clk}
+use Rattle.netlist.specs.declared.netlist.Source.TheVariants.{Input}
+use Rattle.netlist.specs.declared.netlist.Signal.{Signal}
+use Rattle.netlist.specs.declared.netlist.Module.{Module}
+use Rattle.netlist.specs.Laid.{IsLaidModule, input_signals, output_signals}
+use Rattle.netlist.specs.Sound.{IsSoundModule}
+use Rattle.circuit.specs.Rows.{EachOf}
+use Rattle.module_check.specs.Grades.{AreGrades, ActsRight}
+use Rattle.module_sound.specs.Kinds.{IsPlaced}
+
+-- signal 0 is the clock
+pub record BeginsWithClock (m : Module) : Type 0 where
+  pub signal : Signal
+  pub listed : slice_get m.signals 0 ≡ Some signal
+  pub named : is_clk signal.name ≡ true
+  pub input : signal.source ≡ Input
+  pub wide : signal.width ≡ 1
+
+pub record IsSoundAlone (m : Module) (inputs first : ℕ) : Type 0 where
+  pub laid : (before : List Module) → IsLaidModule before m
+  pub sound : is_clk m.name ≡ false → (before : List Module) → IsSoundModule m before
+  pub input_count : length (input_signals m) ≡ inputs
+  pub output_count : length (output_signals m) ≡ length m.signals - first
+  pub clock : (x : ℕ) (s : Signal) → slice_get m.signals x ≡ Some s → is_clk s.name ≡ nat_eq x 0
+
+-- THE LAW: a module whose signals are graded and stand at their places is sound
+abbrev pub PlacedIsSound : Type 0
+PlacedIsSound =
+    (m : Module) (inputs first : ℕ) (grades : List ℕ) → AreGrades m inputs (length m.signals) grades → EachOf (ActsRight m) m.actions → m.instances ≡ [] → m.memories ≡ []
+    → IsPlaced m inputs first → BeginsWithClock m → IsSoundAlone m inputs first

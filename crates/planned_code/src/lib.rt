@@ -1,0 +1,11 @@
+//! Typed code by the sequential plan is what the machine of a program of one thread is built of.
+#![tactic(auto)]
+
+ghost use Rattle.planned_code.specs.Planned.{SequentialIsCode, PlansAreSmall};
+
+/// The code of main alone, without globals and local arrays, that does its steps and is typed, is code as the machine needs
+/// it, by its sequential plan. The number of states of a block has 64 bits.
+pub fn planned_code()
+    ensures code { SequentialIsCode }
+    ensures small { PlansAreSmall }
+{}

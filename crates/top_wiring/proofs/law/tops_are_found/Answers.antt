@@ -1,0 +1,5 @@
+use Rattle.top_wiring.proofs.Finding.{tops_are_found}
+use Rattle.top_wiring.proofs.law.tops_are_found.Goals as goal
+
+pub returns : goal.returns
+returns c = tops_are_found

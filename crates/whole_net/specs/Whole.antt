@@ -1,0 +1,42 @@
+-- The text of a program of one thread is good Verilog of it.
+use Rattle.std.specs.Prelude.{◌≡◌, ℕ, List, [], ◌∷◌}
+use Rattle.c_program.specs.Tree.{Program}
+use Rattle.block_ir.specs.declared.code.ThreadCode.{ThreadCode}
+use Rattle.block_ir.specs.declared.plan.Planned.{Planned}
+use Rattle.verilog_tree.specs.declared.tree.Net.{Net}
+use Rattle.verilog_tree.specs.Reads.{IsFull, Reads}
+use Rattle.verilog_tree.specs.WellFormed.{IsWellFormed}
+use Rattle.netlist.specs.declared.netlist.Module.{Module}
+use Rattle.netlist.specs.declared.netlist.Netlist.{Netlist}
+use Rattle.netlist.specs.NetlistOf.{netlist_of}
+use Rattle.netlist.specs.Laid.{IsLaid}
+use Rattle.netlist.specs.Sound.{IsSound}
+use Rattle.top_wiring.specs.Sound.{AreSound}
+use Rattle.top_wiring.specs.Wired.{IsWired}
+use Rattle.leaf_machine.specs.Standing.{IsMainModule}
+use Rattle.leaf_machine.specs.Leaves.{LeafPorts}
+use Rattle.print_core.specs.declared.printer.Shape.{Shape}
+use Rattle.program_machine.specs.Built.{IsBuilt, IsPrinterOf}
+use Rattle.good_verilog.specs.GoodVerilog.{IsGoodVerilog}
+use Rattle.whole_net.specs.Layouts.{printing_layout}
+use Rattle.whole_net.specs.Table.{IsArbiterModule, IsPrinterModule}
+
+-- a net of these modules, its text's tree and the text, as they are promised: by `wire` of the net, by `text_of` of the tree,
+-- and by `write` of the text
+pub record IsWritten (modules : List Module) (n : Netlist) (net : Net) (text : List ℕ) : Type 0 where
+  pub wired : IsWired modules printing_layout n
+  pub sound : AreSound printing_layout modules → IsSound n
+  pub netlist : IsLaid n → netlist_of net ≡ n
+  pub formed : IsSound n → IsWellFormed net
+  pub reads : IsFull net → Reads text net
+
+-- a text is good Verilog of each program of which the modules of main, the arbiter and the printer are the parts
+abbrev pub IsGoodOfParts : Module → Module → Module → List ℕ → Type 0
+IsGoodOfParts m arbiter printer text =
+    (P : Program) (code : ThreadCode) (plan : Planned) (inputs : ℕ) (leaf : LeafPorts) (shape : Shape) →
+    IsBuilt P code plan m inputs leaf shape → IsPrinterOf P 4 shape → IsMainModule 4 m inputs leaf → IsArbiterModule arbiter → IsPrinterModule shape printer → IsGoodVerilog P text
+
+-- THE TEXT IS GOOD: so it is where it is written of the net of these modules
+abbrev pub NetIsGood : Type 0
+NetIsGood =
+    (m arbiter printer : Module) (n : Netlist) (net : Net) (text : List ℕ) → IsWritten (m ∷ arbiter ∷ printer ∷ []) n net text → IsGoodOfParts m arbiter printer text
