@@ -5,3 +5,5 @@ pub mod Chaining
 pub mod Leaving
 pub mod Ends
 pub mod Kept
+pub mod Wiring
+pub mod Linking

@@ -3,3 +3,4 @@ pub mod Operations
 pub mod Chains
 pub mod Ending
 pub mod Leave
+pub mod Wired

@@ -1,6 +1,7 @@
 // What the end of a block leaves: variables, and the stage that follows.
 
 ghost use Rattle.std.specs.Prelude.{◌≡◌, slice_get, length, min, IfOk, OnOk};
+ghost use Rattle.block_datapath.specs.Wired.{IsFinishAdded, AreFinishesAdded, IsOwnAdded, SetsLinks, IsTarget, IsStageNumber};
 ghost use Rattle.operator_wires.specs.Gives.{Gives};
 ghost use Rattle.block_datapath.specs.Ending.{BecomesOwn, ShowsFinal, ShowsFinals, ShowsNext, SetsFirst};
 ghost use Rattle.block_ir.specs.declared.block.Next.TheVariants as next;
@@ -32,7 +33,8 @@ pub fn final_words(
     finals: &[Final],
     state: u64,
 ) -> Result<Items<Finish>, AllocError>
-    ensures { IfOk result (ShowsFinals registers.now code.now values.now state wires.old.signals wires.new.signals finals.now (length finals.now)) }
+    ensures shows { IfOk result (ShowsFinals registers.now code.now values.now state wires.old.signals wires.new.signals finals.now (length finals.now)) }
+    ensures wired { IfOk result (AreFinishesAdded wires.old.signals wires.new.signals code.now registers.now values.now) }
 {
     let mut finishes = Items::new(wires.alloc);
     for finish in finals {
@@ -50,7 +52,8 @@ fn final_word(
     finish: &Final,
     state: u64,
 ) -> Result<Finish, AllocError>
-    ensures { IfOk result (ShowsFinal registers.now code.now values.now state wires.old.signals wires.new.signals finish.now) }
+    ensures shows { IfOk result (ShowsFinal registers.now code.now values.now state wires.old.signals wires.new.signals finish.now) }
+    ensures wired { IfOk result (λ f. IsFinishAdded wires.old.signals wires.new.signals code.now registers.now values.now f.variable f.word) }
 {
     let types = code.variables.as_slice();
     let number = finish.variable as usize;
@@ -69,7 +72,8 @@ fn own_word(
     number: usize,
     word: Word,
 ) -> Result<Word, AllocError>
-    ensures { IfOk result (BecomesOwn wires.old.signals wires.new.signals types.now number word) }
+    ensures shows { IfOk result (BecomesOwn wires.old.signals wires.new.signals types.now number word) }
+    ensures wired { IfOk result (IsOwnAdded wires.old.signals wires.new.signals types.now number word) }
 {
     match type_at(types, number) {
         Some(own) => wires.converted(word, own),
@@ -84,7 +88,8 @@ pub fn set_finals(
     finishes: &[Finish],
     last: usize,
 ) -> Result<(), AllocError>
-    ensures { OnOk result (SetsFirst wires.old.signals wires.new.signals last nexts.old nexts.new finishes.now (length finishes.now)) }
+    ensures shows { OnOk result (SetsFirst wires.old.signals wires.new.signals last nexts.old nexts.new finishes.now (length finishes.now)) }
+    ensures wired { OnOk result (SetsLinks wires.old.signals wires.new.signals last nexts.old nexts.new finishes.now) }
 {
     for finish in finishes {
         set_next(
@@ -108,7 +113,8 @@ pub fn target(
     next: &Next,
     state: u64,
 ) -> Result<usize, AllocError>
-    ensures { IfOk result (ShowsNext registers.now code.now values.now state wires.old.signals wires.new.signals next.now) }
+    ensures shows { IfOk result (ShowsNext registers.now code.now values.now state wires.old.signals wires.new.signals next.now) }
+    ensures wired { IfOk result (IsTarget wires.old.signals wires.new.signals code.now registers.now values.now) }
 {
     match next {
         Next::Jump(stage) => stage_number(wires, registers, code, *stage),
@@ -130,7 +136,8 @@ fn branch(
     zero: usize,
     state: u64,
 ) -> Result<usize, AllocError>
-    ensures { IfOk result (ShowsNext registers.now code.now values.now state wires.old.signals wires.new.signals (next.Branch test.now nonzero zero)) }
+    ensures shows { IfOk result (ShowsNext registers.now code.now values.now state wires.old.signals wires.new.signals (next.Branch test.now nonzero zero)) }
+    ensures wired { IfOk result (IsTarget wires.old.signals wires.new.signals code.now registers.now values.now) }
 {
     let types = code.variables.as_slice();
     let word = operand_word(wires, registers, types, values, test, state)?;
@@ -147,7 +154,8 @@ pub fn stage_number(
     code: &ThreadCode,
     stage: usize,
 ) -> Result<usize, AllocError>
-    ensures { IfOk result (λ place. Gives wires.old.signals wires.new.signals place registers.now.stage.width (λ m r. min stage (length code.now.stages))) }
+    ensures shows { IfOk result (λ place. Gives wires.old.signals wires.new.signals place registers.now.stage.width (λ m r. min stage (length code.now.stages))) }
+    ensures wired { IfOk result (IsStageNumber wires.old.signals wires.new.signals code.now registers.now) }
 {
     let number = stage.min(code.stages.len());
     wires.constant(registers.stage.width, number as u64)

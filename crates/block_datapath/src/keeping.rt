@@ -1,6 +1,7 @@
 // What the registers for values hold next.
 
 ghost use Rattle.std.specs.Prelude.{◌≡◌, slice_get, length, Some, OnOk};
+ghost use Rattle.block_datapath.specs.Wired.{KeepsLinks, GivenStands, ValuesStand};
 ghost use Rattle.block_datapath.specs.Chains.{KeepsOne, KeepsFirst};
 
 use crate::operands::{Given, held_at};
@@ -18,7 +19,8 @@ pub fn keep_all(
     values: &[Given],
     end: Moment,
 ) -> Result<(), AllocError>
-    ensures { OnOk result (KeepsFirst wires.old.signals wires.new.signals registers.now end.at end.states nexts.old nexts.new values.now (length values.now)) }
+    ensures shows { OnOk result (KeepsFirst wires.old.signals wires.new.signals registers.now end.at end.states nexts.old nexts.new values.now (length values.now)) }
+    ensures wired { OnOk result (KeepsLinks wires.old.signals wires.new.signals registers.now end.at end.states nexts.old nexts.new (ValuesStand wires.old.signals values.now)) }
 {
     for given in values {
         keep(wires, registers, nexts, *given, end)?;
@@ -33,7 +35,8 @@ fn keep(
     given: Given,
     end: Moment,
 ) -> Result<(), AllocError>
-    ensures { OnOk result (KeepsOne wires.old.signals wires.new.signals registers.now end.at end.states nexts.old nexts.new given) }
+    ensures shows { OnOk result (KeepsOne wires.old.signals wires.new.signals registers.now end.at end.states nexts.old nexts.new given) }
+    ensures wired { OnOk result (KeepsLinks wires.old.signals wires.new.signals registers.now end.at end.states nexts.old nexts.new (GivenStands wires.old.signals given)) }
 {
     match given.register {
         Some(number) => keep_at(wires, registers, nexts, given, number as usize, end),
@@ -50,7 +53,8 @@ fn keep_at(
     end: Moment,
 ) -> Result<(), AllocError>
     requires { given.register ≡ Some number }
-    ensures { OnOk result (KeepsOne wires.old.signals wires.new.signals registers.now end.at end.states nexts.old nexts.new given) }
+    ensures shows { OnOk result (KeepsOne wires.old.signals wires.new.signals registers.now end.at end.states nexts.old nexts.new given) }
+    ensures wired { OnOk result (KeepsLinks wires.old.signals wires.new.signals registers.now end.at end.states nexts.old nexts.new (GivenStands wires.old.signals given)) }
 {
     match held_at(registers.kept.as_slice(), number) {
         Some(held) => keep_in(wires, registers, nexts, given, number, held, end),
@@ -69,7 +73,8 @@ fn keep_in(
 ) -> Result<(), AllocError>
     requires register { given.register ≡ Some number }
     requires held { slice_get registers.now.kept number ≡ Some held }
-    ensures { OnOk result (KeepsOne wires.old.signals wires.new.signals registers.now end.at end.states nexts.old nexts.new given) }
+    ensures shows { OnOk result (KeepsOne wires.old.signals wires.new.signals registers.now end.at end.states nexts.old nexts.new given) }
+    ensures wired { OnOk result (KeepsLinks wires.old.signals wires.new.signals registers.now end.at end.states nexts.old nexts.new (GivenStands wires.old.signals given)) }
 {
     let moment = Moment {
         at: end.at,

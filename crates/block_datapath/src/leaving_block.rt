@@ -1,6 +1,7 @@
 // A block at a stage: its values, and what its last state leaves.
 
 ghost use Rattle.std.specs.Prelude.{◌≡◌, ◌-◌, max, length, IfOk};
+ghost use Rattle.block_datapath.specs.Wired.{IsBlockAdded, IsKeptBlockAdded};
 ghost use Rattle.block_datapath.specs.Leave.{FinishesBlock, LeavesBlock};
 
 use crate::ending::{final_words, set_finals, target};
@@ -52,7 +53,8 @@ fn finish_block(
     block: &Block,
     plan: &BlockPlan,
 ) -> Result<Left, AllocError>
-    ensures { IfOk result (λ left. FinishesBlock globals.now code.now registers.now stage block.now plan.now variables.old variables.new left wires.old.signals wires.new.signals) }
+    ensures shows { IfOk result (λ left. FinishesBlock globals.now code.now registers.now stage block.now plan.now variables.old variables.new left wires.old.signals wires.new.signals) }
+    ensures wired { IfOk result (IsBlockAdded wires.old.signals wires.new.signals code.now registers.now stage plan.now variables.old variables.new) }
 {
     let at = at_stage(wires, registers, stage)?;
     let end = end_of(at, plan);
@@ -85,7 +87,8 @@ pub fn leave_block(
     block: &Block,
     plan: &BlockPlan,
 ) -> Result<Left, AllocError>
-    ensures { IfOk result (λ left. LeavesBlock globals.now code.now registers.now stage block.now plan.now variables.old variables.new left kept.old kept.new wires.old.signals wires.new.signals) }
+    ensures shows { IfOk result (λ left. LeavesBlock globals.now code.now registers.now stage block.now plan.now variables.old variables.new left kept.old kept.new wires.old.signals wires.new.signals) }
+    ensures wired { IfOk result (IsKeptBlockAdded wires.old.signals wires.new.signals code.now registers.now stage plan.now variables.old variables.new kept.old kept.new) }
 {
     let left = finish_block(
         wires, registers, variables, code, globals, stage, block, plan,

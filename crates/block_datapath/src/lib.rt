@@ -25,6 +25,10 @@
 // - leaving_block: in a reading of another stage a block changes nothing, and in one of this stage the variables and the
 //   registers for values are what the planned block says when its state is left.
 //
+// Beside what is shown (`shows`) each function promises how it is put together (`wired`): what it adds is wires, each of
+// which reads earlier signals of right widths, and none of the first ones, the inputs; and the words, bits and last links
+// that it answers stand, as wide as they say. Of a code with arrays nothing is said there.
+//
 // Of accesses past an array's end nothing is said: a step of the source that makes one is undefined. Arrays that are
 // written are not spoken of yet.
 

@@ -1,7 +1,10 @@
 // Operands of operations as words.
 
 ghost use Rattle.std.specs.Prelude.{◌≡◌, ℕ, false, slice_get, IfOk};
+ghost use Rattle.thread_promise.specs.Types.{source_type, operand_type};
 ghost use Rattle.operator_wires.specs.Words.{Makes};
+ghost use Rattle.operator_wires.specs.Added.{LikeOne};
+ghost use Rattle.block_datapath.specs.Wired.{IsSourced, AreConverted, IsVariableWord, IsValueWord, IsGivenWord, IsNarrow};
 ghost use Rattle.block_datapath.specs.Seen.{kept_register, ShowsVariable, ShowsKept, ShowsGiven, ShowsValue, ShowsSource, ShowsOperand, Converts, Narrows};
 
 use crate::registers::{Held, Registers};
@@ -29,14 +32,16 @@ pub fn operand_word(
     operand: &Operand,
     state: u64,
 ) -> Result<Word, AllocError>
-    ensures { IfOk result (ShowsOperand wires.old.signals wires.new.signals registers.now types.now values.now state operand.now) }
+    ensures shows { IfOk result (ShowsOperand wires.old.signals wires.new.signals registers.now types.now values.now state operand.now) }
+    ensures wired { IfOk result (IsSourced wires.old.signals wires.new.signals types.now registers.now values.now (operand_type operand.now)) }
 {
     let word = source_word(wires, registers, types, values, operand.source, state)?;
     all_converted(wires, word, operand.conversions.as_slice())
 }
 
 fn all_converted(wires: &mut Wires, word: Word, types: &[CType]) -> Result<Word, AllocError>
-    ensures { IfOk result (Converts wires.old.signals wires.new.signals word types.now) }
+    ensures shows { IfOk result (Converts wires.old.signals wires.new.signals word types.now) }
+    ensures wired { IfOk result (AreConverted wires.old.signals wires.new.signals word types.now) }
 {
     let mut out = word;
     for ty in types {
@@ -53,7 +58,8 @@ fn source_word(
     source: Source,
     state: u64,
 ) -> Result<Word, AllocError>
-    ensures { IfOk result (ShowsSource wires.old.signals wires.new.signals registers.now types.now values.now state source) }
+    ensures shows { IfOk result (ShowsSource wires.old.signals wires.new.signals registers.now types.now values.now state source) }
+    ensures wired { IfOk result (IsSourced wires.old.signals wires.new.signals types.now registers.now values.now (source_type source)) }
 {
     match source {
         Source::Constant(ty, number) => wires.constant_word(ty, number),
@@ -72,7 +78,8 @@ pub fn variable_word(
     number: usize,
     ty: CType,
 ) -> Result<Word, AllocError>
-    ensures { IfOk result (ShowsVariable wires.old.signals wires.new.signals registers.now types.now number ty) }
+    ensures shows { IfOk result (ShowsVariable wires.old.signals wires.new.signals registers.now types.now number ty) }
+    ensures wired { IfOk result (IsVariableWord wires.old.signals wires.new.signals types.now registers.now ty) }
 {
     let Some(held) = held_at(registers.variables.as_slice(), number) else {
         return wires.constant_word(ty, 0);
@@ -92,7 +99,8 @@ fn value_word(
     ty: CType,
     state: u64,
 ) -> Result<Word, AllocError>
-    ensures { IfOk result (ShowsValue wires.old.signals wires.new.signals registers.now values.now state number ty) }
+    ensures shows { IfOk result (ShowsValue wires.old.signals wires.new.signals registers.now values.now state number ty) }
+    ensures wired { IfOk result (IsValueWord wires.old.signals wires.new.signals registers.now values.now ty) }
 {
     let Some(given) = given_at(values, number) else {
         return wires.constant_word(ty, 0);
@@ -107,7 +115,8 @@ fn given_word(
     given: Given,
     state: u64,
 ) -> Result<Word, AllocError>
-    ensures { IfOk result (ShowsGiven wires.old.signals wires.new.signals registers.now given state) }
+    ensures shows { IfOk result (ShowsGiven wires.old.signals wires.new.signals registers.now given state) }
+    ensures wired { IfOk result (IsGivenWord wires.old.signals wires.new.signals registers.now given) }
 {
     if given.last == state {
         Ok(given.word)
@@ -118,7 +127,8 @@ fn given_word(
 
 /// The value that a register keeps, in its low bits.
 fn kept_word(wires: &mut Wires, registers: &Registers, given: Given) -> Result<Word, AllocError>
-    ensures { IfOk result (ShowsKept wires.old.signals wires.new.signals registers.now given) }
+    ensures shows { IfOk result (ShowsKept wires.old.signals wires.new.signals registers.now given) }
+    ensures wired { IfOk result (IsGivenWord wires.old.signals wires.new.signals registers.now given) }
 {
     match kept_in(registers, given.register) {
         Some(held) => narrowed(wires, held, given.word),
@@ -127,7 +137,8 @@ fn kept_word(wires: &mut Wires, registers: &Registers, given: Given) -> Result<W
 }
 
 fn narrowed(wires: &mut Wires, held: Held, word: Word) -> Result<Word, AllocError>
-    ensures { IfOk result (Narrows wires.old.signals wires.new.signals held word) }
+    ensures shows { IfOk result (Narrows wires.old.signals wires.new.signals held word) }
+    ensures wired { IfOk result (IsNarrow wires.old.signals wires.new.signals held word) }
 {
     let place = wires.resized(held.register, held.width, word.width, false)?;
     Ok(Word {
@@ -138,7 +149,8 @@ fn narrowed(wires: &mut Wires, held: Held, word: Word) -> Result<Word, AllocErro
 }
 
 fn zero_like(wires: &mut Wires, word: Word) -> Result<Word, AllocError>
-    ensures { IfOk result (Makes wires.old.signals wires.new.signals word.width word.signed (λ m r. 0)) }
+    ensures shows { IfOk result (Makes wires.old.signals wires.new.signals word.width word.signed (λ m r. 0)) }
+    ensures wired { IfOk result (LikeOne wires.old.signals wires.new.signals word) }
 {
     let place = wires.constant(word.width, 0)?;
     Ok(Word {

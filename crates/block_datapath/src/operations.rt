@@ -1,6 +1,8 @@
 // The values of the operations of a block.
 
 ghost use Rattle.std.specs.Prelude.{◌≡◌, ◌≤◌, ◌^◌, ℕ, ℤ, slice_get, slice_index, length, List, IfOk, IsTrue};
+ghost use Rattle.operator_words.specs.Shown.{truth_type, unary_result, binary_result};
+ghost use Rattle.block_datapath.specs.Wired.{IsSourced, IsBareSourced, IsBareConstant, AreGiven};
 ghost use Rattle.hls_ints.specs.Types.{IntegerType};
 ghost use Rattle.planned_view.specs.View.{register_at};
 ghost use Rattle.thread_promise.specs.Types.{value_type, or_int, element_type};
@@ -70,7 +72,8 @@ pub fn all_values(
     block: &Block,
     plan: &BlockPlan,
 ) -> Result<Items<Given>, AllocError>
-    ensures { IfOk result (ShowsFirst globals.now code.now registers.now block.now plan.now wires.old.signals wires.new.signals (length block.now.operations)) }
+    ensures shows { IfOk result (ShowsFirst globals.now code.now registers.now block.now plan.now wires.old.signals wires.new.signals (length block.now.operations)) }
+    ensures wired { IfOk result (AreGiven wires.old.signals wires.new.signals code.now registers.now) }
 {
     let mut values = Items::new(wires.alloc);
     let operations = block.operations.as_slice();
@@ -95,7 +98,8 @@ fn given_value(
     number: usize,
     operation: &Operation,
 ) -> Result<Given, AllocError>
-    ensures { IfOk result (GivesOperation wires.old.signals wires.new.signals globals.now code.now registers.now values.now plan.now number operation.now) }
+    ensures shows { IfOk result (GivesOperation wires.old.signals wires.new.signals globals.now code.now registers.now values.now plan.now number operation.now) }
+    ensures wired { IfOk result (λ given. IsBareSourced wires.old.signals wires.new.signals code.now registers.now values.now (value_type globals.now code.now operation.now) given.word) }
 {
     let start = start_of(plan, number);
     let last = start.saturating_add(further_states(operation));
@@ -150,7 +154,8 @@ fn operation_word(
     last: u64,
     operation: &Operation,
 ) -> Result<Word, AllocError>
-    ensures { IfOk result (ShowsOperation wires.old.signals wires.new.signals globals.now code.now registers.now values.now start last operation.now) }
+    ensures shows { IfOk result (ShowsOperation wires.old.signals wires.new.signals globals.now code.now registers.now values.now start last operation.now) }
+    ensures wired { IfOk result (IsBareSourced wires.old.signals wires.new.signals code.now registers.now values.now (value_type globals.now code.now operation.now)) }
 {
     match operation {
         Operation::Unary {
@@ -198,8 +203,9 @@ fn unary_value(
     ty: CType,
     operand: &Operand,
 ) -> Result<Word, AllocError>
-    ensures { IfOk result (λ out. (globals : List IntegerType) (start : ℕ) → ShowsOperation wires.old.signals wires.new.signals globals code.now registers.now values.now start last
+    ensures shows { IfOk result (λ out. (globals : List IntegerType) (start : ℕ) → ShowsOperation wires.old.signals wires.new.signals globals code.now registers.now values.now start last
         (operation.Unary operator ty operand.now) out) }
+    ensures wired { IfOk result (IsSourced wires.old.signals wires.new.signals code.now.variables registers.now values.now (unary_result operator ty)) }
 {
     let types = code.variables.as_slice();
     let word = operand_word(wires, registers, types, values, operand, last)?;
@@ -217,8 +223,9 @@ fn binary_value(
     left: &Operand,
     right: &Operand,
 ) -> Result<Word, AllocError>
-    ensures { IfOk result (λ out. (globals : List IntegerType) (start : ℕ) → ShowsOperation wires.old.signals wires.new.signals globals code.now registers.now values.now start last
+    ensures shows { IfOk result (λ out. (globals : List IntegerType) (start : ℕ) → ShowsOperation wires.old.signals wires.new.signals globals code.now registers.now values.now start last
         (operation.Binary operator ty left.now right.now) out) }
+    ensures wired { IfOk result (IsSourced wires.old.signals wires.new.signals code.now.variables registers.now values.now (binary_result operator ty)) }
 {
     let types = code.variables.as_slice();
     let first = operand_word(wires, registers, types, values, left, last)?;
@@ -236,8 +243,9 @@ fn element_value(
     array: usize,
     index: &Operand,
 ) -> Result<Word, AllocError>
-    ensures { IfOk result (λ out. (globals : List IntegerType) (last : ℕ) → ShowsOperation wires.old.signals wires.new.signals globals code.now registers.now values.now start last
+    ensures shows { IfOk result (λ out. (globals : List IntegerType) (last : ℕ) → ShowsOperation wires.old.signals wires.new.signals globals code.now registers.now values.now start last
         (operation.ReadArray array index.now) out) }
+    ensures wired { IfOk result (IsBareSourced wires.old.signals wires.new.signals code.now registers.now values.now truth_type) }
 {
     let types = code.variables.as_slice();
     let word = operand_word(wires, registers, types, values, index, start)?;
@@ -250,7 +258,8 @@ fn read_array(
     array: usize,
     index: Word,
 ) -> Result<Word, AllocError>
-    ensures { IfOk result (ReadsArray wires.old.signals wires.new.signals code.now array index) }
+    ensures shows { IfOk result (ReadsArray wires.old.signals wires.new.signals code.now array index) }
+    ensures wired { IfOk result (IsBareConstant wires.old.signals wires.new.signals code.now) }
 {
     let Some(own) = array_at(code.arrays.as_slice(), array) else {
         return wires.constant_word(CType::INT, 0);

@@ -1,6 +1,7 @@
 // The registers of a slot, and what they hold next if the state is left.
 
 ghost use Rattle.std.specs.Prelude.{◌≡◌, ◌<◌, slice_get, length, Some, OnOk};
+ghost use Rattle.block_datapath.specs.Wired.{IsLinked};
 ghost use Rattle.block_datapath.specs.Chains.{SetsNext};
 
 use operator_wires::wires::Wires;
@@ -36,7 +37,8 @@ pub fn set_next(
     condition: usize,
     source: usize,
 ) -> Result<(), AllocError>
-    ensures { OnOk result (SetsNext wires.old.signals wires.new.signals nexts.old nexts.new number condition source) }
+    ensures shows { OnOk result (SetsNext wires.old.signals wires.new.signals nexts.old nexts.new number condition source) }
+    ensures wired { OnOk result (IsLinked wires.old.signals wires.new.signals number width condition source nexts.old nexts.new) }
 {
     match place_at(nexts.as_slice(), number) {
         Some(old) => set_present(wires, nexts, number, width, condition, source, old),
@@ -61,7 +63,8 @@ fn set_present(
 ) -> Result<(), AllocError>
     requires present { slice_get nexts.old number ≡ Some old }
     requires within { number < length nexts.old }
-    ensures { OnOk result (SetsNext wires.old.signals wires.new.signals nexts.old nexts.new number condition source) }
+    ensures shows { OnOk result (SetsNext wires.old.signals wires.new.signals nexts.old nexts.new number condition source) }
+    ensures wired { OnOk result (IsLinked wires.old.signals wires.new.signals number width condition source nexts.old nexts.new) }
 {
     let next = wires.choice(width, condition, source, old)?;
     nexts.set(number, next);

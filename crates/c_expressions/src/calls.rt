@@ -1,502 +1,669 @@
-// Calls: of functions of the text, of printf and of POSIX threads (C99 6.5.2.2).
+// Calls of functions of the text, of printf and of POSIX threads, as statements and as right sides (C99 6.5.2.2).
 
-use crate::callees::{function_name, library_name};
-use crate::expressions::{
-    argument as look_through, arguments as look_through_all, expression, index, null,
+ghost use Rattle.std.specs.Prelude.{◌≡◌, option_map, IfOk};
+ghost use Rattle.std.specs.Option.{option_copied};
+ghost use Rattle.c_program.specs.Plain.{expression_of, expressions_of, object_place_of, pieces_of, statement_of, thread_call_of, right_side_of};
+ghost use Rattle.c_program.specs.Resolved.{object_of};
+ghost use Rattle.c_rules.specs.Walks.{Walks};
+ghost use Rattle.c_expressions.specs.Calls as spec;
+
+use crate::arguments::{
+    address_argument, argument_offset, is_unknown, is_usable, null, null_argument,
+    pointer_argument, routine_argument, thread_argument, value_argument, value_arguments,
 };
+use crate::callees::{function_name, library_name};
+use crate::expressions::{argument as look_through, arguments as look_through_all, expression};
 use c_program::tree as resolved;
 use c_rules::fault::Rule;
-use c_rules::findings::{Creation, Findings};
+use c_rules::findings::Findings;
 use c_rules::format::{conversions, pieces};
 use c_rules::library::LibraryFunction;
-use c_rules::names::{Header, Known, Meaning, Object, ObjectKind, Scope};
-use c_tree::{Argument, Call, Expression, Form, Name, Place};
+use c_rules::names::{Known, Meaning, ObjectKind, Scope};
+use c_tree::{Argument, Call, Expression, Form};
 use std::alloc::{AllocError, Global};
 
-/// What a call is; a call that breaks a rule may be anything.
-#[derive(Drop)]
-pub enum Called {
-    /// The number of the function, and the arguments.
-    Function(u32, Vec<resolved::Expression>),
-    Print(Vec<resolved::Piece>, Vec<resolved::Expression>),
-    Thread(resolved::ThreadCall),
-    /// `pthread_exit`: the value that the start routine returns.
-    Exit(resolved::Expression),
-    Nothing,
-}
-
-/// The place of an argument's first token.
-fn argument_offset(argument: &Argument) -> usize {
-    match argument {
-        Argument::Value(value) => value.offset,
-        Argument::Text(_, offset) | Argument::Address(_, offset) => *offset,
-        Argument::Pointer(pointer) => pointer.offset,
+/// The first argument and the rest.
+fn front(arguments: &[Argument]) -> Option<(&Argument, &[Argument])>
+    ensures { option_map (λ r. (r.0.now, r.1.now)) result ≡ spec.front arguments.now }
+{
+    match arguments {
+        [] => None,
+        [first, rest @ ..] => Some((first, rest)),
     }
 }
 
-/// An argument of another form than the call has.
-fn refuse(
-    alloc: Global,
-    scope: &Scope<'_>,
-    found: &mut Findings,
-    argument: &Argument,
-) -> Result<(), AllocError> {
-    found.add(Rule::Kind, argument_offset(argument));
-    look_through(alloc, scope, found, argument)
-}
-
-/// An argument that is an integer.
-fn value_argument(
-    alloc: Global,
-    scope: &Scope<'_>,
-    found: &mut Findings,
-    argument: &Argument,
-) -> Result<resolved::Expression, AllocError> {
-    match argument {
-        Argument::Value(value) => expression(alloc, scope, found, value),
-        _ => {
-            refuse(alloc, scope, found, argument)?;
-            Ok(null())
-        }
-    }
-}
-
-fn value_arguments(
-    alloc: Global,
-    scope: &Scope<'_>,
-    found: &mut Findings,
-    arguments: &[Argument],
-) -> Result<Vec<resolved::Expression>, AllocError> {
-    let mut values = Vec::new(alloc);
-    for argument in arguments {
-        values.push(value_argument(alloc, scope, found, argument)?)?;
-    }
-    Ok(values)
-}
-
-/// `NULL`.
-fn null_argument(
-    alloc: Global,
-    scope: &Scope<'_>,
-    found: &mut Findings,
-    argument: &Argument,
-) -> Result<(), AllocError> {
-    match argument {
-        Argument::Pointer(pointer) if pointer.operand.is_none() => Ok(()),
-        _ => refuse(alloc, scope, found, argument),
-    }
-}
-
-/// `NULL` or `(void *)` and a value.
-fn pointer_argument(
-    alloc: Global,
-    scope: &Scope<'_>,
-    found: &mut Findings,
-    argument: &Argument,
-) -> Result<resolved::Expression, AllocError> {
-    match argument {
-        Argument::Pointer(pointer) => match &pointer.operand {
-            Some(operand) => expression(alloc, scope, found, operand.get()),
-            None => Ok(null()),
-        },
-        _ => {
-            refuse(alloc, scope, found, argument)?;
-            Ok(null())
-        }
-    }
-}
-
-/// An object of the kind by its name and index; its first token is at the offset.
-fn object(
-    found: &mut Findings,
-    name: &Name,
-    object: Object,
-    index: Option<resolved::Expression>,
-) -> resolved::ObjectPlace {
-    match (object.length, index) {
-        (None, None) => resolved::ObjectPlace::Single(object.number),
-        (Some(length), Some(index)) => resolved::ObjectPlace::Element(object.number, length, index),
-        _ => {
-            found.add(Rule::Kind, name.offset);
-            resolved::ObjectPlace::Single(object.number)
-        }
-    }
-}
-
-/// A place of an object of the kind; the argument's first token is at the offset.
-fn object_place(
-    alloc: Global,
-    scope: &Scope<'_>,
-    found: &mut Findings,
-    kind: ObjectKind,
-    place: &Place,
-    offset: usize,
-) -> Result<resolved::ObjectPlace, AllocError> {
-    let index = index(alloc, scope, found, place)?;
-    match scope.look_up(place.name.bytes.as_slice()) {
-        Known::Declared(Meaning::Object(named)) if named.kind == kind => Ok(object(
-            found,
-            &place.name,
-            named,
-            index,
-        )),
-        Known::Declared(Meaning::Unusable) => Ok(resolved::ObjectPlace::Single(0)),
-        Known::Unknown => {
-            found.add(Rule::Unknown, place.name.offset);
-            Ok(resolved::ObjectPlace::Single(0))
-        }
-        _ => {
-            found.add(Rule::Kind, offset);
-            Ok(resolved::ObjectPlace::Single(0))
-        }
-    }
-}
-
-/// `&` and an object of the kind.
-fn address_argument(
-    alloc: Global,
-    scope: &Scope<'_>,
-    found: &mut Findings,
-    kind: ObjectKind,
-    argument: &Argument,
-) -> Result<resolved::ObjectPlace, AllocError> {
-    match argument {
-        Argument::Address(place, offset) => object_place(alloc, scope, found, kind, place, *offset),
-        _ => {
-            refuse(alloc, scope, found, argument)?;
-            Ok(resolved::ObjectPlace::Single(0))
-        }
-    }
-}
-
-/// A thread by its name.
-fn thread_argument(
-    alloc: Global,
-    scope: &Scope<'_>,
-    found: &mut Findings,
-    argument: &Argument,
-) -> Result<resolved::ObjectPlace, AllocError> {
-    if let Argument::Value(value) = argument {
-        if let Form::Place(place) = &value.form {
-            return object_place(alloc, scope, found, ObjectKind::Thread, place, value.offset);
-        }
-    }
-    refuse(alloc, scope, found, argument)?;
-    Ok(resolved::ObjectPlace::Single(0))
-}
-
-/// The number of the definition of the start routine with that header.
-fn routine(found: &mut Findings, header: &Header, name: &Name, offset: usize) -> Option<u32> {
-    found.add_if(!header.is_start_routine(), Rule::Kind, offset);
-    found.add_if(header.definition.is_none(), Rule::Unknown, name.offset);
-    header.definition
-}
-
-/// The header of the function that the expression names, and the name.
-fn named_function<'s, 'e>(
-    scope: &'s Scope<'_>,
-    value: &'e Expression,
-) -> Option<(&'s Header, &'e Name)> {
-    let Form::Place(place) = &value.form else {
-        return None;
-    };
-    if place.index.is_some() {
-        return None;
-    }
-    match scope.look_up(place.name.bytes.as_slice()) {
-        Known::Declared(Meaning::Function(number)) => {
-            let header = scope.headers.get(number)?;
-            Some((header, &place.name))
-        }
+/// An argument that stands alone.
+fn one(arguments: &[Argument]) -> Option<&Argument>
+    ensures { option_copied result ≡ spec.one arguments.now }
+{
+    match arguments {
+        [a] => Some(a),
         _ => None,
     }
 }
 
-/// The name of a start routine: the number of its definition, and the name's place.
-fn routine_argument(
-    alloc: Global,
-    scope: &Scope<'_>,
-    found: &mut Findings,
-    argument: &Argument,
-) -> Result<Option<(u32, usize)>, AllocError> {
-    if let Argument::Value(value) = argument {
-        if let Some((header, name)) = named_function(scope, value) {
-            let definition = routine(found, header, name, value.offset);
-            return Ok(definition.map(|number| (number, name.offset)));
-        }
-    }
-    refuse(alloc, scope, found, argument)?;
-    Ok(None)
-}
-
-/// The number of the object that a place names.
-fn object_number(place: &resolved::ObjectPlace) -> u32 {
-    match place {
-        resolved::ObjectPlace::Single(number) | resolved::ObjectPlace::Element(number, _, _) =>
-            *number,
+fn two(arguments: &[Argument]) -> Option<(&Argument, &Argument)>
+    ensures { option_map (λ r. (r.0.now, r.1.now)) result ≡ spec.two arguments.now }
+{
+    match arguments {
+        [a, b] => Some((a, b)),
+        _ => None,
     }
 }
 
-fn create(
-    alloc: Global,
-    scope: &Scope<'_>,
-    found: &mut Findings,
-    arguments: [&Argument; 4],
-) -> Result<Called, AllocError> {
-    let [thread, attributes, routine, value] = arguments;
-    let thread = address_argument(alloc, scope, found, ObjectKind::Thread, thread)?;
-    null_argument(alloc, scope, found, attributes)?;
-    let routine = routine_argument(alloc, scope, found, routine)?;
-    let value = pointer_argument(alloc, scope, found, value)?;
-    let Some((number, offset)) = routine else {
-        return Ok(Called::Nothing);
-    };
-    found.creations.push(Creation {
-        thread: object_number(&thread),
-        routine: number,
-        offset,
-    })?;
-    Ok(Called::Thread(resolved::ThreadCall::Create(thread, number, value)))
+fn three(arguments: &[Argument]) -> Option<(&Argument, &Argument, &Argument)>
+    ensures { option_map (λ r. (r.0.now, r.1.now, r.2.now)) result ≡ spec.three arguments.now }
+{
+    match arguments {
+        [a, b, c] => Some((a, b, c)),
+        _ => None,
+    }
 }
 
-fn join(
-    alloc: Global,
-    scope: &Scope<'_>,
-    found: &mut Findings,
-    thread: &Argument,
-    outcome: &Argument,
-) -> Result<Called, AllocError> {
-    let thread = thread_argument(alloc, scope, found, thread)?;
-    null_argument(alloc, scope, found, outcome)?;
-    Ok(Called::Thread(resolved::ThreadCall::Join(thread)))
+fn four(arguments: &[Argument]) -> Option<(&Argument, &Argument, &Argument, &Argument)>
+    ensures { option_map (λ r. (r.0.now, r.1.now, r.2.now, r.3.now)) result ≡ spec.four arguments.now }
+{
+    match arguments {
+        [a, b, c, d] => Some((a, b, c, d)),
+        _ => None,
+    }
 }
 
-fn mutex_init(
-    alloc: Global,
-    scope: &Scope<'_>,
-    found: &mut Findings,
-    mutex: &Argument,
-    attributes: &Argument,
-) -> Result<Called, AllocError> {
-    let mutex = address_argument(alloc, scope, found, ObjectKind::Mutex, mutex)?;
-    null_argument(alloc, scope, found, attributes)?;
-    Ok(Called::Thread(resolved::ThreadCall::MutexInit(mutex)))
-}
-
-fn barrier_init(
-    alloc: Global,
-    scope: &Scope<'_>,
-    found: &mut Findings,
-    arguments: [&Argument; 3],
-) -> Result<Called, AllocError> {
-    let [barrier, attributes, count] = arguments;
-    let barrier = address_argument(alloc, scope, found, ObjectKind::Barrier, barrier)?;
-    null_argument(alloc, scope, found, attributes)?;
-    let count = value_argument(alloc, scope, found, count)?;
-    Ok(Called::Thread(resolved::ThreadCall::BarrierInit(barrier, count)))
+/// The kind of object that a call with one object has.
+fn object_kind(function: LibraryFunction) -> ObjectKind
+    ensures { result ≡ spec.object_kind function }
+{
+    match function {
+        LibraryFunction::BarrierDestroy | LibraryFunction::BarrierWait => ObjectKind::Barrier,
+        _ => ObjectKind::Mutex,
+    }
 }
 
 /// A call with one object.
-fn object_call(
-    alloc: Global,
-    scope: &Scope<'_>,
-    found: &mut Findings,
-    function: LibraryFunction,
-    argument: &Argument,
-) -> Result<Called, AllocError> {
-    let kind = match function {
-        LibraryFunction::BarrierDestroy | LibraryFunction::BarrierWait => ObjectKind::Barrier,
-        _ => ObjectKind::Mutex,
-    };
-    let place = address_argument(alloc, scope, found, kind, argument)?;
-    Ok(Called::Thread(match function {
+fn on_object(function: LibraryFunction, place: resolved::ObjectPlace) -> resolved::ThreadCall
+    ensures { thread_call_of result ≡ spec.on_object function (object_place_of place) }
+{
+    match function {
         LibraryFunction::MutexDestroy => resolved::ThreadCall::MutexDestroy(place),
         LibraryFunction::MutexLock => resolved::ThreadCall::MutexLock(place),
         LibraryFunction::MutexUnlock => resolved::ThreadCall::MutexUnlock(place),
         LibraryFunction::BarrierDestroy => resolved::ThreadCall::BarrierDestroy(place),
         _ => resolved::ThreadCall::BarrierWait(place),
-    }))
+    }
 }
 
-/// A call of POSIX threads.
-fn thread_call(
-    alloc: Global,
-    scope: &Scope<'_>,
-    found: &mut Findings,
-    function: LibraryFunction,
-    arguments: &[Argument],
-) -> Result<Called, AllocError> {
-    match (function, arguments) {
-        (LibraryFunction::Create, [thread, attributes, routine, value]) => {
-            create(alloc, scope, found, [thread, attributes, routine, value])
-        }
-        (LibraryFunction::Join, [thread, outcome]) => join(alloc, scope, found, thread, outcome),
-        (LibraryFunction::Exit, [value]) => Ok(Called::Exit(pointer_argument(
-            alloc, scope, found, value,
-        )?)),
-        (LibraryFunction::MutexInit, [mutex, attributes]) => mutex_init(
-            alloc, scope, found, mutex, attributes,
-        ),
-        (LibraryFunction::BarrierInit, [barrier, attributes, count]) => {
-            barrier_init(alloc, scope, found, [barrier, attributes, count])
-        }
-        (
-            LibraryFunction::MutexDestroy
-            | LibraryFunction::MutexLock
-            | LibraryFunction::MutexUnlock
-            | LibraryFunction::BarrierDestroy
-            | LibraryFunction::BarrierWait,
-            [place],
-        ) => object_call(alloc, scope, found, function, place),
-        _ => {
-            look_through_all(alloc, scope, found, arguments)?;
-            Ok(Called::Nothing)
-        }
+/// The number of the object that a place names.
+fn object_number(place: &resolved::ObjectPlace) -> u32
+    ensures { result ≡ object_of (object_place_of place.now) }
+{
+    match place {
+        resolved::ObjectPlace::Single(number) => *number,
+        resolved::ObjectPlace::Element(number, _, _) => *number,
+    }
+}
+
+/// The pieces of the format that the text is; none where it is none of the profile.
+fn text_pieces(alloc: Global, text: &[u8]) -> Result<Option<Vec<resolved::Piece>>, AllocError>
+    ensures { IfOk result (λ r. option_map (λ v. pieces_of v.items) r ≡ spec.text_pieces text.now) }
+{
+    if text.is_empty() {
+        Ok(None)
+    } else {
+        pieces(alloc, text)
     }
 }
 
 /// The pieces of the format that the argument is; none where it is none of the profile.
-fn format(alloc: Global, argument: &Argument) -> Result<Option<Vec<resolved::Piece>>, AllocError> {
+fn format(alloc: Global, argument: &Argument) -> Result<Option<Vec<resolved::Piece>>, AllocError>
+    ensures { IfOk result (λ r. option_map (λ v. pieces_of v.items) r ≡ spec.format argument.now) }
+{
     match argument {
-        Argument::Text(bytes, _) if !bytes.is_empty() => pieces(alloc, bytes.as_slice()),
-        _ => Ok(None),
+        Argument::Text(bytes, _) => text_pieces(alloc, bytes.as_slice()),
+        Argument::Value(_) | Argument::Address(_, _) | Argument::Pointer(_) => Ok(None),
     }
 }
 
 /// Whether a printf with the format may have so many values.
-fn takes(format: &Option<Vec<resolved::Piece>>, values: usize) -> bool {
+fn takes(format: &Option<Vec<resolved::Piece>>, values: usize) -> bool
+    ensures { result ≡ spec.takes (option_map (λ v. pieces_of v.items) format.now) values }
+{
     match format {
         Some(pieces) => conversions(pieces.as_slice()) == values && values <= 4,
         None => false,
     }
 }
 
-fn print(
+fn printed(
+    at: u32,
+    format: Option<Vec<resolved::Piece>>,
+    values: Vec<resolved::Expression>,
+) -> resolved::Statement
+    ensures { statement_of result ≡ spec.printed at (option_map (λ v. pieces_of v.items) format) (expressions_of values.items) }
+{
+    match format {
+        Some(pieces) => resolved::Statement::Print(at, pieces, values),
+        None => resolved::Statement::Empty,
+    }
+}
+
+/// A create, if it names a routine.
+#[tactic(auto, unfolding(crate::specs::Calls::created))]
+fn created(
+    found: &mut Findings,
+    at: u32,
+    thread: resolved::ObjectPlace,
+    argument: resolved::Expression,
+    routine: Option<(u32, usize)>,
+) -> Result<resolved::Statement, AllocError>
+    ensures { Walks statement_of (spec.created at (object_place_of thread) (expression_of argument) routine found.old) result found.new }
+{
+    let Some((number, offset)) = routine else {
+        return Ok(resolved::Statement::Empty);
+    };
+    found.add_creation(object_number(&thread), number, offset)?;
+    let call = resolved::ThreadCall::Create(thread, number, argument);
+    Ok(resolved::Statement::Thread(at, call))
+}
+
+fn called(at: u32, function: Option<u32>, values: Vec<resolved::Expression>) -> resolved::Statement
+    ensures { statement_of result ≡ spec.called at function (expressions_of values.items) }
+{
+    match function {
+        Some(function) => resolved::Statement::Call(at, function, values),
+        None => resolved::Statement::Empty,
+    }
+}
+
+fn right_called(function: Option<u32>, values: Vec<resolved::Expression>) -> resolved::RightSide
+    ensures { right_side_of result ≡ spec.right_called function (expressions_of values.items) }
+{
+    match function {
+        Some(function) => resolved::RightSide::Call(function, values),
+        None => resolved::RightSide::Value(null()),
+    }
+}
+
+/// A call with the wrong number of arguments.
+#[tactic(auto, unfolding(crate::specs::Calls::looked_call))]
+fn looked_call(
     alloc: Global,
     scope: &Scope<'_>,
     found: &mut Findings,
-    call: &Call,
-) -> Result<Called, AllocError> {
-    let [first, values @ ..] = call.arguments.as_slice() else {
-        found.add(Rule::Format, call.name.offset);
-        return Ok(Called::Nothing);
-    };
+    arguments: &[Argument],
+) -> Result<resolved::Statement, AllocError>
+    ensures { Walks statement_of (spec.looked_call scope.now arguments.now found.old) result found.new }
+{
+    look_through_all(alloc, scope, found, arguments)?;
+    Ok(resolved::Statement::Empty)
+}
+
+/// `pthread_create`
+#[tactic(auto, unfolding(crate::specs::Calls::create))]
+fn create(
+    alloc: Global,
+    scope: &Scope<'_>,
+    found: &mut Findings,
+    at: u32,
+    thread: &Argument,
+    attributes: &Argument,
+    routine: &Argument,
+    value: &Argument,
+) -> Result<resolved::Statement, AllocError>
+    ensures { Walks statement_of (spec.create scope.now at thread.now attributes.now routine.now value.now found.old) result found.new }
+{
+    let thread = address_argument(alloc, scope, found, ObjectKind::Thread, thread)?;
+    null_argument(alloc, scope, found, attributes)?;
+    let routine = routine_argument(alloc, scope, found, routine)?;
+    let value = pointer_argument(alloc, scope, found, value)?;
+    created(found, at, thread, value, routine)
+}
+
+#[tactic(auto, unfolding(crate::specs::Calls::create_call))]
+fn create_call(
+    alloc: Global,
+    scope: &Scope<'_>,
+    found: &mut Findings,
+    at: u32,
+    arguments: &[Argument],
+) -> Result<resolved::Statement, AllocError>
+    ensures { Walks statement_of (spec.create_call scope.now at arguments.now found.old) result found.new }
+{
+    match four(arguments) {
+        Some((thread, attributes, routine, value)) => {
+            create(alloc, scope, found, at, thread, attributes, routine, value)
+        }
+        None => looked_call(alloc, scope, found, arguments),
+    }
+}
+
+/// `pthread_join`
+#[tactic(auto, unfolding(crate::specs::Calls::join))]
+fn join(
+    alloc: Global,
+    scope: &Scope<'_>,
+    found: &mut Findings,
+    at: u32,
+    thread: &Argument,
+    outcome: &Argument,
+) -> Result<resolved::Statement, AllocError>
+    ensures { Walks statement_of (spec.join scope.now at thread.now outcome.now found.old) result found.new }
+{
+    let thread = thread_argument(alloc, scope, found, thread)?;
+    null_argument(alloc, scope, found, outcome)?;
+    Ok(resolved::Statement::Thread(at, resolved::ThreadCall::Join(thread)))
+}
+
+#[tactic(auto, unfolding(crate::specs::Calls::join_call))]
+fn join_call(
+    alloc: Global,
+    scope: &Scope<'_>,
+    found: &mut Findings,
+    at: u32,
+    arguments: &[Argument],
+) -> Result<resolved::Statement, AllocError>
+    ensures { Walks statement_of (spec.join_call scope.now at arguments.now found.old) result found.new }
+{
+    match two(arguments) {
+        Some((thread, outcome)) => join(alloc, scope, found, at, thread, outcome),
+        None => looked_call(alloc, scope, found, arguments),
+    }
+}
+
+/// `pthread_exit`, which is a return
+#[tactic(auto, unfolding(crate::specs::Calls::exit))]
+fn exit(
+    alloc: Global,
+    scope: &Scope<'_>,
+    found: &mut Findings,
+    at: u32,
+    value: &Argument,
+) -> Result<resolved::Statement, AllocError>
+    ensures { Walks statement_of (spec.exit scope.now at value.now found.old) result found.new }
+{
+    let value = pointer_argument(alloc, scope, found, value)?;
+    let right = resolved::RightSide::Value(value);
+    Ok(resolved::Statement::Return(at, Some(right)))
+}
+
+#[tactic(auto, unfolding(crate::specs::Calls::exit_call))]
+fn exit_call(
+    alloc: Global,
+    scope: &Scope<'_>,
+    found: &mut Findings,
+    at: u32,
+    arguments: &[Argument],
+) -> Result<resolved::Statement, AllocError>
+    ensures { Walks statement_of (spec.exit_call scope.now at arguments.now found.old) result found.new }
+{
+    match one(arguments) {
+        Some(value) => exit(alloc, scope, found, at, value),
+        None => looked_call(alloc, scope, found, arguments),
+    }
+}
+
+/// `pthread_mutex_init`
+#[tactic(auto, unfolding(crate::specs::Calls::mutex_init))]
+fn mutex_init(
+    alloc: Global,
+    scope: &Scope<'_>,
+    found: &mut Findings,
+    at: u32,
+    mutex: &Argument,
+    attributes: &Argument,
+) -> Result<resolved::Statement, AllocError>
+    ensures { Walks statement_of (spec.mutex_init scope.now at mutex.now attributes.now found.old) result found.new }
+{
+    let mutex = address_argument(alloc, scope, found, ObjectKind::Mutex, mutex)?;
+    null_argument(alloc, scope, found, attributes)?;
+    Ok(resolved::Statement::Thread(at, resolved::ThreadCall::MutexInit(mutex)))
+}
+
+#[tactic(auto, unfolding(crate::specs::Calls::mutex_init_call))]
+fn mutex_init_call(
+    alloc: Global,
+    scope: &Scope<'_>,
+    found: &mut Findings,
+    at: u32,
+    arguments: &[Argument],
+) -> Result<resolved::Statement, AllocError>
+    ensures { Walks statement_of (spec.mutex_init_call scope.now at arguments.now found.old) result found.new }
+{
+    match two(arguments) {
+        Some((mutex, attributes)) => mutex_init(alloc, scope, found, at, mutex, attributes),
+        None => looked_call(alloc, scope, found, arguments),
+    }
+}
+
+/// `pthread_barrier_init`
+#[tactic(auto, unfolding(crate::specs::Calls::barrier_init))]
+fn barrier_init(
+    alloc: Global,
+    scope: &Scope<'_>,
+    found: &mut Findings,
+    at: u32,
+    barrier: &Argument,
+    attributes: &Argument,
+    count: &Argument,
+) -> Result<resolved::Statement, AllocError>
+    ensures { Walks statement_of (spec.barrier_init scope.now at barrier.now attributes.now count.now found.old) result found.new }
+{
+    let barrier = address_argument(alloc, scope, found, ObjectKind::Barrier, barrier)?;
+    null_argument(alloc, scope, found, attributes)?;
+    let count = value_argument(alloc, scope, found, count)?;
+    Ok(resolved::Statement::Thread(at, resolved::ThreadCall::BarrierInit(barrier, count)))
+}
+
+#[tactic(auto, unfolding(crate::specs::Calls::barrier_init_call))]
+fn barrier_init_call(
+    alloc: Global,
+    scope: &Scope<'_>,
+    found: &mut Findings,
+    at: u32,
+    arguments: &[Argument],
+) -> Result<resolved::Statement, AllocError>
+    ensures { Walks statement_of (spec.barrier_init_call scope.now at arguments.now found.old) result found.new }
+{
+    match three(arguments) {
+        Some((barrier, attributes, count)) => {
+            barrier_init(alloc, scope, found, at, barrier, attributes, count)
+        }
+        None => looked_call(alloc, scope, found, arguments),
+    }
+}
+
+/// A call with one object.
+#[tactic(auto, unfolding(crate::specs::Calls::object_statement))]
+fn object_statement(
+    alloc: Global,
+    scope: &Scope<'_>,
+    found: &mut Findings,
+    function: LibraryFunction,
+    at: u32,
+    object: &Argument,
+) -> Result<resolved::Statement, AllocError>
+    ensures { Walks statement_of (spec.object_statement scope.now function at object.now found.old) result found.new }
+{
+    let place = address_argument(alloc, scope, found, object_kind(function), object)?;
+    Ok(resolved::Statement::Thread(at, on_object(function, place)))
+}
+
+#[tactic(auto, unfolding(crate::specs::Calls::object_call))]
+fn object_call(
+    alloc: Global,
+    scope: &Scope<'_>,
+    found: &mut Findings,
+    function: LibraryFunction,
+    at: u32,
+    arguments: &[Argument],
+) -> Result<resolved::Statement, AllocError>
+    ensures { Walks statement_of (spec.object_call scope.now function at arguments.now found.old) result found.new }
+{
+    match one(arguments) {
+        Some(object) => object_statement(alloc, scope, found, function, at, object),
+        None => looked_call(alloc, scope, found, arguments),
+    }
+}
+
+/// A printf by its first argument and its values.
+#[tactic(auto, unfolding(crate::specs::Calls::print_arguments))]
+fn print_arguments(
+    alloc: Global,
+    scope: &Scope<'_>,
+    found: &mut Findings,
+    at: u32,
+    first: &Argument,
+    values: &[Argument],
+) -> Result<resolved::Statement, AllocError>
+    ensures { Walks statement_of (spec.print_arguments scope.now at first.now values.now found.old) result found.new }
+{
     let format = format(alloc, first)?;
-    found.add_if(
-        !takes(&format, values.len()),
-        Rule::Format,
-        argument_offset(first),
-    );
+    let is_taken = takes(&format, values.len());
+    found.add_if(!is_taken, Rule::Format, argument_offset(first));
     look_through(alloc, scope, found, first)?;
     let values = value_arguments(alloc, scope, found, values)?;
-    match format {
-        Some(pieces) => Ok(Called::Print(pieces, values)),
-        None => Ok(Called::Nothing),
+    Ok(printed(at, format, values))
+}
+
+/// A printf whose name stands at the offset.
+#[tactic(auto, unfolding(crate::specs::Calls::print_call))]
+fn print_call(
+    alloc: Global,
+    scope: &Scope<'_>,
+    found: &mut Findings,
+    at: u32,
+    offset: usize,
+    arguments: &[Argument],
+) -> Result<resolved::Statement, AllocError>
+    ensures { Walks statement_of (spec.print_call scope.now at offset arguments.now found.old) result found.new }
+{
+    match front(arguments) {
+        Some((first, values)) => print_arguments(alloc, scope, found, at, first, values),
+        None => {
+            found.add(Rule::Format, offset);
+            Ok(resolved::Statement::Empty)
+        }
     }
 }
 
 /// A call of a function of the library as a statement.
+#[tactic(auto, unfolding(crate::specs::Calls::library_statement))]
+fn library_statement(
+    alloc: Global,
+    scope: &Scope<'_>,
+    found: &mut Findings,
+    function: LibraryFunction,
+    at: u32,
+    offset: usize,
+    arguments: &[Argument],
+) -> Result<resolved::Statement, AllocError>
+    ensures { Walks statement_of (spec.library_statement scope.now function at offset arguments.now found.old) result found.new }
+{
+    match function {
+        LibraryFunction::Print => print_call(alloc, scope, found, at, offset, arguments),
+        LibraryFunction::Create => create_call(alloc, scope, found, at, arguments),
+        LibraryFunction::Join => join_call(alloc, scope, found, at, arguments),
+        LibraryFunction::Exit => exit_call(alloc, scope, found, at, arguments),
+        LibraryFunction::MutexInit => mutex_init_call(alloc, scope, found, at, arguments),
+        LibraryFunction::BarrierInit => barrier_init_call(alloc, scope, found, at, arguments),
+        LibraryFunction::MutexDestroy
+        | LibraryFunction::MutexLock
+        | LibraryFunction::MutexUnlock
+        | LibraryFunction::BarrierDestroy
+        | LibraryFunction::BarrierWait => {
+            object_call(alloc, scope, found, function, at, arguments)
+        }
+    }
+}
+
+#[tactic(auto, unfolding(crate::specs::Calls::library_call))]
 fn library_call(
     alloc: Global,
     scope: &Scope<'_>,
     found: &mut Findings,
     function: LibraryFunction,
-    call: &Call,
-) -> Result<Called, AllocError> {
-    library_name(
-        scope,
-        found,
-        function,
-        call.arguments.len(),
-        call.name.offset,
-    )?;
-    if function == LibraryFunction::Print {
-        print(alloc, scope, found, call)
-    } else {
-        thread_call(alloc, scope, found, function, call.arguments.as_slice())
-    }
+    at: u32,
+    offset: usize,
+    arguments: &[Argument],
+) -> Result<resolved::Statement, AllocError>
+    ensures { Walks statement_of (spec.library_call scope.now function at offset arguments.now found.old) result found.new }
+{
+    library_name(scope, found, function, arguments.len(), offset)?;
+    library_statement(alloc, scope, found, function, at, offset, arguments)
 }
 
-/// A call of a function of the text.
+/// A call of a function of the text: the number of its definition, and the arguments.
+#[tactic(auto, unfolding(crate::specs::Calls::function_call))]
 fn function_call(
     alloc: Global,
     scope: &Scope<'_>,
     found: &mut Findings,
     number: usize,
     is_value: bool,
-    call: &Call,
-) -> Result<Option<(u32, Vec<resolved::Expression>)>, AllocError> {
-    let definition = function_name(
-        scope,
-        found,
-        number,
-        call.arguments.len(),
-        is_value,
-        call.name.offset,
+    offset: usize,
+    arguments: &[Argument],
+) -> Result<(Option<u32>, Vec<resolved::Expression>), AllocError>
+    ensures { Walks (λ r. (r.0, expressions_of r.1.items)) (spec.function_call scope.now number is_value offset arguments.now found.old) result found.new }
+{
+    let definition = function_name(scope, found, number, arguments.len(), is_value, offset)?;
+    let values = value_arguments(alloc, scope, found, arguments)?;
+    Ok((definition, values))
+}
+
+#[tactic(auto, unfolding(crate::specs::Calls::function_statement))]
+fn function_statement(
+    alloc: Global,
+    scope: &Scope<'_>,
+    found: &mut Findings,
+    number: usize,
+    at: u32,
+    offset: usize,
+    arguments: &[Argument],
+) -> Result<resolved::Statement, AllocError>
+    ensures { Walks statement_of (spec.function_statement scope.now number at offset arguments.now found.old) result found.new }
+{
+    let (definition, values) = function_call(
+        alloc, scope, found, number, false, offset, arguments,
     )?;
-    let arguments = value_arguments(alloc, scope, found, call.arguments.as_slice())?;
-    Ok(definition.map(|number| (number, arguments)))
+    Ok(called(at, definition, values))
 }
 
 /// A call of a name that stands for no function.
+#[tactic(auto, unfolding(crate::specs::Calls::no_function))]
 fn no_function(
     alloc: Global,
     scope: &Scope<'_>,
     found: &mut Findings,
     known: Known,
-    call: &Call,
-) -> Result<Called, AllocError> {
-    let rule = if known == Known::Unknown {
-        Rule::Unknown
-    } else {
-        Rule::Kind
-    };
-    found.add_if(
-        known != Known::Declared(Meaning::Unusable),
-        rule,
-        call.name.offset,
-    );
-    look_through_all(alloc, scope, found, call.arguments.as_slice())?;
-    Ok(Called::Nothing)
+    offset: usize,
+    arguments: &[Argument],
+) -> Result<resolved::Statement, AllocError>
+    ensures { Walks statement_of (spec.no_function scope.now known offset arguments.now found.old) result found.new }
+{
+    found.add_if(is_unknown(known), Rule::Unknown, offset);
+    found.add_if(is_usable(known), Rule::Kind, offset);
+    looked_call(alloc, scope, found, arguments)
 }
 
-/// A call as a statement.
+/// A call by what its name stands for.
+#[tactic(auto, unfolding(crate::specs::Calls::call_of))]
+fn call_of(
+    alloc: Global,
+    scope: &Scope<'_>,
+    found: &mut Findings,
+    known: Known,
+    at: u32,
+    offset: usize,
+    arguments: &[Argument],
+) -> Result<resolved::Statement, AllocError>
+    ensures { Walks statement_of (spec.call_of scope.now known at offset arguments.now found.old) result found.new }
+{
+    match known {
+        Known::Library(function) => {
+            library_call(alloc, scope, found, function, at, offset, arguments)
+        }
+        Known::Declared(Meaning::Function(number)) => {
+            function_statement(alloc, scope, found, number, at, offset, arguments)
+        }
+        Known::Declared(
+            Meaning::Variable(_) | Meaning::Argument | Meaning::Object(_) | Meaning::Unusable,
+        )
+        | Known::Unknown => no_function(alloc, scope, found, known, offset, arguments),
+    }
+}
+
+/// A call as a statement at the place.
+#[tactic(auto, unfolding(crate::specs::Calls::call))]
 pub fn call(
     alloc: Global,
     scope: &Scope<'_>,
     found: &mut Findings,
+    at: u32,
     call: &Call,
-) -> Result<Called, AllocError> {
-    match scope.look_up(call.name.bytes.as_slice()) {
-        Known::Library(function) => library_call(alloc, scope, found, function, call),
-        Known::Declared(Meaning::Function(number)) => {
-            match function_call(alloc, scope, found, number, false, call)? {
-                Some((definition, arguments)) => Ok(Called::Function(definition, arguments)),
-                None => Ok(Called::Nothing),
-            }
-        }
-        known => no_function(alloc, scope, found, known, call),
+) -> Result<resolved::Statement, AllocError>
+    ensures { Walks statement_of (spec.call scope.now at call.now found.old) result found.new }
+{
+    let known = scope.look_up(call.name.bytes.as_slice());
+    call_of(
+        alloc,
+        scope,
+        found,
+        known,
+        at,
+        call.name.offset,
+        call.arguments.as_slice(),
+    )
+}
+
+/// The number of the header of the function that a name stands for.
+fn number_of(known: Known) -> Option<usize>
+    ensures { result ≡ spec.number_of known }
+{
+    match known {
+        Known::Declared(Meaning::Function(number)) => Some(number),
+        _ => None,
     }
 }
 
+/// The call of a function of the text that an expression is, by the number of the function's header.
+fn function_called<'e>(scope: &Scope<'_>, e: &'e Expression) -> Option<(usize, &'e Call)>
+    ensures { option_map (λ r. (r.0, r.1.now)) result ≡ spec.function_called scope.now e.now }
+{
+    match &e.form {
+        Form::Call(call) => {
+            let known = scope.look_up(call.name.bytes.as_slice());
+            number_of(known).map(|number| (number, call))
+        }
+        _ => None,
+    }
+}
+
+/// The value of a call of a function of the text.
+#[tactic(auto, unfolding(crate::specs::Calls::right_call))]
+fn right_call(
+    alloc: Global,
+    scope: &Scope<'_>,
+    found: &mut Findings,
+    number: usize,
+    call: &Call,
+) -> Result<resolved::RightSide, AllocError>
+    ensures { Walks right_side_of (spec.right_call scope.now number call.now found.old) result found.new }
+{
+    let (definition, values) = function_call(
+        alloc,
+        scope,
+        found,
+        number,
+        true,
+        call.name.offset,
+        call.arguments.as_slice(),
+    )?;
+    Ok(right_called(definition, values))
+}
+
+#[tactic(auto, unfolding(crate::specs::Calls::right_value))]
+fn right_value(
+    alloc: Global,
+    scope: &Scope<'_>,
+    found: &mut Findings,
+    e: &Expression,
+) -> Result<resolved::RightSide, AllocError>
+    ensures { Walks right_side_of (spec.right_value scope.now e.now found.old) result found.new }
+{
+    Ok(resolved::RightSide::Value(expression(alloc, scope, found, e)?))
+}
+
 /// A value that may be the value of a call: the right side of an assignment, an initialiser or the operand of a return.
+#[tactic(auto, unfolding(crate::specs::Calls::right_side))]
 pub fn right_side(
     alloc: Global,
     scope: &Scope<'_>,
     found: &mut Findings,
     e: &Expression,
-) -> Result<resolved::RightSide, AllocError> {
-    if let Form::Call(call) = &e.form {
-        if let Known::Declared(Meaning::Function(number)) = scope.look_up(
-            call.name.bytes.as_slice(),
-        ) {
-            return match function_call(alloc, scope, found, number, true, call)? {
-                Some((definition, arguments)) => Ok(resolved::RightSide::Call(
-                    definition, arguments,
-                )),
-                None => Ok(resolved::RightSide::Value(null())),
-            };
-        }
+) -> Result<resolved::RightSide, AllocError>
+    ensures { Walks right_side_of (spec.right_side scope.now e.now found.old) result found.new }
+{
+    match function_called(scope, e) {
+        Some((number, call)) => right_call(alloc, scope, found, number, call),
+        None => right_value(alloc, scope, found, e),
     }
-    Ok(resolved::RightSide::Value(expression(alloc, scope, found, e)?))
 }

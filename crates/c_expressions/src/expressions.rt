@@ -1,4 +1,11 @@
-// Expressions, places and conditions (C99 6.5).
+// Expressions and conditions (C99 6.5).
+
+ghost use Rattle.std.specs.Prelude.{◌≡◌, map, option_map, IfOk};
+ghost use Rattle.c_program.specs.Plain.{expression_of, condition_of};
+ghost use Rattle.c_program.specs.Types.{working_type as working_type_of};
+ghost use Rattle.c_tree.specs.declared.expression.Term.{out-Term};
+ghost use Rattle.c_rules.specs.Walks.{Outcome, Walks};
+ghost use Rattle.c_expressions.specs.Expressions as spec;
 
 use crate::callees::misplaced;
 use c_program::tree as resolved;
@@ -10,29 +17,108 @@ use c_rules::names::{Known, Meaning, Scope, Variable};
 use c_rules::specifiers::{BasicType, plain_integer};
 use c_token::Constant;
 use c_tree::{
-    Argument, BinaryOperator, Choice, Expression, Form, Name, Place, Specifiers, Term,
-    UnaryOperator,
+    Argument, BinaryOperator, Choice, Expression, Form, Name, Place, Term, UnaryOperator,
 };
 use hls_ints::{CType, promote, usual};
 use std::alloc::{AllocError, Global};
 
 /// What stands for an expression that breaks a rule.
-pub fn nothing() -> resolved::Expression {
+pub fn nothing() -> resolved::Expression
+    ensures { expression_of result ≡ spec.nothing }
+{
     resolved::Expression::Constant(CType::INT, 0)
 }
 
-/// The null pointer's value as a long.
-pub fn null() -> resolved::Expression {
-    resolved::Expression::Constant(CType::LONG, 0)
+/// A rule is broken at the place; what stands for the expression.
+fn refused(found: &mut Findings, rule: Rule, offset: usize) -> resolved::Expression
+    ensures { spec.refused rule offset found.old ≡ Outcome.Gives (expression_of result) found.new }
+{
+    found.add(rule, offset);
+    nothing()
 }
 
-fn constant(found: &mut Findings, constant: Constant, offset: usize) -> resolved::Expression {
+#[tactic(auto, unfolding(crate::specs::Expressions::constant))]
+fn constant(found: &mut Findings, constant: Constant, offset: usize) -> resolved::Expression
+    ensures { spec.constant constant offset found.old ≡ Outcome.Gives (expression_of result) found.new }
+{
     match constant_value(constant) {
         Some(value) => resolved::Expression::Constant(value.ty, value.number),
-        None => {
-            found.add(Rule::Constant, offset);
-            nothing()
+        None => refused(found, Rule::Constant, offset),
+    }
+}
+
+/// The value of a variable or of an element of one.
+#[tactic(auto, unfolding(crate::specs::Expressions::object_value))]
+fn object_value(
+    alloc: Global,
+    found: &mut Findings,
+    offset: usize,
+    variable: Variable,
+    index: Option<resolved::Expression>,
+) -> Result<resolved::Expression, AllocError>
+    ensures { Walks expression_of (spec.object_value offset variable variable.length (option_map expression_of index) found.old) result found.new }
+{
+    let ty = variable.ty.c_type();
+    match (variable.length, index) {
+        (None, None) => Ok(resolved::Expression::Variable(variable.storage, variable.number, ty)),
+        (Some(length), Some(index)) => {
+            let index = Box::new(alloc, index)?;
+            Ok(resolved::Expression::Element(variable.storage, variable.number, length, ty, index))
         }
+        (None, Some(_)) | (Some(_), None) => Ok(refused(found, Rule::Kind, offset)),
+    }
+}
+
+/// The rule that is broken where a name that stands for no variable is used as a value.
+fn misuse(known: Known, has_index: bool) -> Option<Rule>
+    ensures { result ≡ spec.misuse known has_index }
+{
+    match known {
+        Known::Unknown => Some(Rule::Unknown),
+        Known::Declared(Meaning::Argument) if !has_index => Some(Rule::Threads),
+        Known::Declared(Meaning::Unusable) => None,
+        _ => Some(Rule::Kind),
+    }
+}
+
+/// A name that stands for no variable, used as a value.
+#[tactic(auto, unfolding(crate::specs::Expressions::misused))]
+fn misused(
+    found: &mut Findings,
+    known: Known,
+    has_index: bool,
+    offset: usize,
+) -> resolved::Expression
+    ensures { spec.misused known has_index offset found.old ≡ Outcome.Gives (expression_of result) found.new }
+{
+    found.add_any(misuse(known, has_index), offset);
+    nothing()
+}
+
+/// The integer object that a name stands for, if it is one.
+pub fn variable_of(known: Known) -> Option<Variable>
+    ensures { result ≡ spec.variable_of known }
+{
+    match known {
+        Known::Declared(Meaning::Variable(variable)) => Some(variable),
+        _ => None,
+    }
+}
+
+/// The value of what a name stands for.
+#[tactic(auto, unfolding(crate::specs::Expressions::named_value))]
+fn named_value(
+    alloc: Global,
+    found: &mut Findings,
+    known: Known,
+    offset: usize,
+    index: Option<resolved::Expression>,
+) -> Result<resolved::Expression, AllocError>
+    ensures { Walks expression_of (spec.named_value known offset (option_map expression_of index) found.old) result found.new }
+{
+    match variable_of(known) {
+        Some(variable) => object_value(alloc, found, offset, variable, index),
+        None => Ok(misused(found, known, index.is_some(), offset)),
     }
 }
 
@@ -43,123 +129,86 @@ pub fn index(
     scope: &Scope<'_>,
     found: &mut Findings,
     place: &Place,
-) -> Result<Option<resolved::Expression>, AllocError> {
+) -> Result<Option<resolved::Expression>, AllocError>
+    ensures { Walks (option_map expression_of) (spec.index scope.now place.now found.old) result found.new }
+{
     match &place.index {
         Some(index) => Ok(Some(expression(alloc, scope, found, index.get())?)),
         None => Ok(None),
     }
 }
 
-/// The value of a variable or of an element of one.
-fn variable_value(
-    alloc: Global,
-    found: &mut Findings,
-    name: &Name,
-    variable: Variable,
-    index: Option<resolved::Expression>,
-) -> Result<resolved::Expression, AllocError> {
-    let Variable {
-        storage,
-        number,
-        ty,
-        length,
-        ..
-    } = variable;
-    let ty = ty.c_type();
-    match (length, index) {
-        (None, None) => Ok(resolved::Expression::Variable(storage, number, ty)),
-        (Some(length), Some(index)) => {
-            let index = Box::new(alloc, index)?;
-            Ok(resolved::Expression::Element(storage, number, length, ty, index))
-        }
-        _ => {
-            found.add(Rule::Kind, name.offset);
-            Ok(nothing())
-        }
-    }
-}
-
-/// The rule that is broken where a name that stands for no variable is used as a value.
-fn misuse(known: Known, has_index: bool) -> Option<Rule> {
-    match known {
-        Known::Unknown => Some(Rule::Unknown),
-        Known::Declared(Meaning::Argument) if !has_index => Some(Rule::Threads),
-        Known::Declared(Meaning::Unusable) => None,
-        _ => Some(Rule::Kind),
-    }
-}
-
-/// The value of a place.
-#[cycle(expressions)]
+/// The value of a place with its index.
 fn place_value(
     alloc: Global,
     scope: &Scope<'_>,
     found: &mut Findings,
-    place: &Place,
-) -> Result<resolved::Expression, AllocError> {
-    let index = index(alloc, scope, found, place)?;
-    match scope.look_up(place.name.bytes.as_slice()) {
-        Known::Declared(Meaning::Variable(variable)) => variable_value(
-            alloc,
-            found,
-            &place.name,
-            variable,
-            index,
-        ),
-        known => {
-            if let Some(rule) = misuse(known, index.is_some()) {
-                found.add(rule, place.name.offset);
-            }
-            Ok(nothing())
-        }
-    }
+    name: &Name,
+    index: Option<resolved::Expression>,
+) -> Result<resolved::Expression, AllocError>
+    ensures { Walks expression_of (spec.name_value scope.now name.now (option_map expression_of index) found.old) result found.new }
+{
+    let known = scope.look_up(name.bytes.as_slice());
+    named_value(alloc, found, known, name.offset, index)
 }
 
 /// Whether the expression is the parameter of the start routine at hand.
-fn is_argument(scope: &Scope<'_>, expression: &Expression) -> bool {
-    let Form::Place(place) = &expression.form else {
-        return false;
-    };
-    place.index.is_none()
-        && scope.look_up(place.name.bytes.as_slice()) == Known::Declared(Meaning::Argument)
-}
-
-/// A value converted to a type.
-fn converted(
-    alloc: Global,
-    found: &mut Findings,
-    specifiers: &Specifiers,
-    ty: Option<BasicType>,
-    value: resolved::Expression,
-) -> Result<resolved::Expression, AllocError> {
-    match ty {
-        Some(ty) => Ok(resolved::Expression::Cast(ty.c_type(), Box::new(alloc, value)?)),
-        None => {
-            found.add(Rule::Kind, specifiers.offset);
-            Ok(nothing())
+fn is_argument(scope: &Scope<'_>, expression: &Expression) -> bool
+    ensures { result ≡ spec.is_argument_name scope.now (spec.meant scope.now expression.now).name }
+{
+    match &expression.form {
+        Form::Place(place) if place.index.is_none() => {
+            scope.look_up(place.name.bytes.as_slice()).is_argument()
         }
+        _ => false,
     }
 }
 
-/// A cast. The parameter of a start routine may be read as a long where it is cast to one.
+/// Whether the type is `long`.
+fn is_long(ty: Option<BasicType>) -> bool
+    ensures { result ≡ spec.is_long ty }
+{
+    matches!(ty, Some(BasicType::Long))
+}
+
+/// A value converted to a type.
+#[tactic(auto, unfolding(crate::specs::Expressions::converted))]
+fn converted(
+    alloc: Global,
+    found: &mut Findings,
+    offset: usize,
+    ty: Option<BasicType>,
+    value: resolved::Expression,
+) -> Result<resolved::Expression, AllocError>
+    ensures { Walks expression_of (spec.converted offset ty (expression_of value) found.old) result found.new }
+{
+    match ty {
+        Some(ty) => Ok(resolved::Expression::Cast(ty.c_type(), Box::new(alloc, value)?)),
+        None => Ok(refused(found, Rule::Kind, offset)),
+    }
+}
+
+/// The operand of a cast to the type. The parameter of a start routine may be read as a long where it is cast to one.
 #[cycle(expressions)]
-fn cast(
+fn cast_operand(
     alloc: Global,
     scope: &Scope<'_>,
     found: &mut Findings,
     operand: &Expression,
-    specifiers: &Specifiers,
-) -> Result<resolved::Expression, AllocError> {
-    let ty = plain_integer(specifiers);
-    let value = if ty == Some(BasicType::Long) && is_argument(scope, operand) {
-        resolved::Expression::Variable(resolved::Storage::Automatic, 0, CType::LONG)
+    ty: Option<BasicType>,
+) -> Result<resolved::Expression, AllocError>
+    ensures { Walks expression_of (spec.cast_operand scope.now ty (spec.meant scope.now operand.now) found.old) result found.new }
+{
+    if is_long(ty) && is_argument(scope, operand) {
+        Ok(resolved::Expression::Variable(resolved::Storage::Automatic, 0, CType::LONG))
     } else {
-        expression(alloc, scope, found, operand)?
-    };
-    converted(alloc, found, specifiers, ty, value)
+        expression(alloc, scope, found, operand)
+    }
 }
 
-fn unary_operator(operator: UnaryOperator) -> resolved::UnaryOperator {
+fn unary_operator(operator: UnaryOperator) -> resolved::UnaryOperator
+    ensures { result ≡ spec.unary_operator operator }
+{
     match operator {
         UnaryOperator::Plus => resolved::UnaryOperator::Plus,
         UnaryOperator::Minus => resolved::UnaryOperator::Minus,
@@ -172,14 +221,18 @@ fn unary(
     alloc: Global,
     operator: UnaryOperator,
     operand: resolved::Expression,
-) -> Result<resolved::Expression, AllocError> {
+) -> Result<resolved::Expression, AllocError>
+    ensures { IfOk result (λ e. expression_of e ≡ spec.unary operator (expression_of operand)) }
+{
     let ty = promote(expression_type(&operand));
     let operand = Box::new(alloc, operand)?;
     Ok(resolved::Expression::Unary(unary_operator(operator), ty, operand))
 }
 
 /// The operator without a short circuit, if it is one.
-pub fn binary_operator(operator: BinaryOperator) -> Option<resolved::BinaryOperator> {
+pub fn binary_operator(operator: BinaryOperator) -> Option<resolved::BinaryOperator>
+    ensures { result ≡ spec.binary_operator operator }
+{
     match operator {
         BinaryOperator::LogicalOr | BinaryOperator::LogicalAnd => None,
         BinaryOperator::BitOr => Some(resolved::BinaryOperator::InclusiveOr),
@@ -202,7 +255,9 @@ pub fn binary_operator(operator: BinaryOperator) -> Option<resolved::BinaryOpera
 }
 
 /// The type in which an operator works on operands of the two types (C99 6.3.1.8, 6.5.7).
-pub fn working_type(operator: resolved::BinaryOperator, left: CType, right: CType) -> CType {
+pub fn working_type(operator: resolved::BinaryOperator, left: CType, right: CType) -> CType
+    ensures { result ≡ working_type_of operator left right }
+{
     match operator {
         resolved::BinaryOperator::ShiftLeft | resolved::BinaryOperator::ShiftRight => promote(left),
         _ => usual(left, right),
@@ -214,7 +269,9 @@ fn binary(
     operator: resolved::BinaryOperator,
     left: resolved::Expression,
     right: resolved::Expression,
-) -> Result<resolved::Expression, AllocError> {
+) -> Result<resolved::Expression, AllocError>
+    ensures { IfOk result (λ e. expression_of e ≡ spec.binary operator (expression_of left) (expression_of right)) }
+{
     let ty = working_type(operator, expression_type(&left), expression_type(&right));
     let left = Box::new(alloc, left)?;
     let right = Box::new(alloc, right)?;
@@ -222,31 +279,36 @@ fn binary(
 }
 
 /// An operator between two values; a short circuit is out of place.
+#[tactic(auto, unfolding(crate::specs::Expressions::operated))]
 fn operated(
     alloc: Global,
     found: &mut Findings,
     term: &Term,
     left: resolved::Expression,
     right: resolved::Expression,
-) -> Result<resolved::Expression, AllocError> {
+) -> Result<resolved::Expression, AllocError>
+    ensures { Walks expression_of
+        (spec.operated (out-Term term.now).operator (out-Term term.now).offset (expression_of left) (expression_of right) found.old)
+        result found.new }
+{
     match binary_operator(term.operator) {
         Some(operator) => binary(alloc, operator, left, right),
-        None => {
-            found.add(Rule::Place, term.offset);
-            Ok(nothing())
-        }
+        None => Ok(refused(found, Rule::Place, term.offset)),
     }
 }
 
 /// Operators and their right operands behind a value.
 #[cycle(expressions)]
+#[tactic(auto, unfolding(crate::specs::Expressions::terms_value))]
 fn terms(
     alloc: Global,
     scope: &Scope<'_>,
     found: &mut Findings,
     terms: &[Term],
     first: resolved::Expression,
-) -> Result<resolved::Expression, AllocError> {
+) -> Result<resolved::Expression, AllocError>
+    ensures { Walks expression_of (spec.terms_value scope.now (expression_of first) (map (spec.term scope.now) terms.now) found.old) result found.new }
+{
     let mut value = first;
     for term in terms {
         let right = expression(alloc, scope, found, &term.operand)?;
@@ -257,12 +319,15 @@ fn terms(
 
 /// Choices, which are out of place.
 #[cycle(expressions)]
+#[tactic(auto, unfolding(crate::specs::Expressions::choices_value))]
 fn choices(
     alloc: Global,
     scope: &Scope<'_>,
     found: &mut Findings,
     choices: &[Choice],
-) -> Result<(), AllocError> {
+) -> Result<(), AllocError>
+    ensures { Walks (λ x. x) (spec.choices_value scope.now (map (spec.choice scope.now) choices.now) found.old) result found.new }
+{
     for choice in choices {
         found.add(Rule::Place, choice.offset);
         expression(alloc, scope, found, &choice.condition)?;
@@ -278,22 +343,26 @@ pub fn argument(
     scope: &Scope<'_>,
     found: &mut Findings,
     argument: &Argument,
-) -> Result<(), AllocError> {
+) -> Result<(), AllocError>
+    ensures { Walks (λ x. x) (spec.argument scope.now argument.now found.old) result found.new }
+{
     match argument {
         Argument::Value(value) => {
             expression(alloc, scope, found, value)?;
+            Ok(())
         }
-        Argument::Text(_, _) => {}
+        Argument::Text(_, _) => Ok(()),
         Argument::Address(place, _) => {
             index(alloc, scope, found, place)?;
+            Ok(())
         }
         Argument::Pointer(pointer) => {
             if let Some(operand) = &pointer.operand {
                 expression(alloc, scope, found, operand.get())?;
             }
+            Ok(())
         }
     }
-    Ok(())
 }
 
 #[cycle(expressions)]
@@ -302,7 +371,9 @@ pub fn arguments(
     scope: &Scope<'_>,
     found: &mut Findings,
     arguments: &[Argument],
-) -> Result<(), AllocError> {
+) -> Result<(), AllocError>
+    ensures { Walks (λ x. x) (spec.arguments scope.now arguments.now found.old) result found.new }
+{
     for next in arguments {
         argument(alloc, scope, found, next)?;
     }
@@ -311,15 +382,21 @@ pub fn arguments(
 
 /// The value of an expression in which no call and no short circuit may stand.
 #[cycle(expressions)]
+#[tactic(auto, unfolding(crate::specs::Expressions::place_value, crate::specs::Expressions::cast, crate::specs::Expressions::call_value))]
 pub fn expression(
     alloc: Global,
     scope: &Scope<'_>,
     found: &mut Findings,
     e: &Expression,
-) -> Result<resolved::Expression, AllocError> {
+) -> Result<resolved::Expression, AllocError>
+    ensures { Walks expression_of (spec.value scope.now e.now found.old) result found.new }
+{
     match &e.form {
         Form::Constant(value, offset) => Ok(constant(found, *value, *offset)),
-        Form::Place(place) => place_value(alloc, scope, found, place),
+        Form::Place(place) => {
+            let index = index(alloc, scope, found, place)?;
+            place_value(alloc, scope, found, &place.name, index)
+        }
         Form::Call(call) => {
             misplaced(scope, found, &call.name, call.arguments.len())?;
             arguments(alloc, scope, found, call.arguments.as_slice())?;
@@ -329,138 +406,19 @@ pub fn expression(
             let operand = expression(alloc, scope, found, operand.get())?;
             unary(alloc, *operator, operand)
         }
-        Form::Cast(specifiers, operand) => cast(alloc, scope, found, operand.get(), specifiers),
+        Form::Cast(specifiers, operand) => {
+            let ty = plain_integer(specifiers);
+            let value = cast_operand(alloc, scope, found, operand.get(), ty)?;
+            converted(alloc, found, specifiers.offset, ty, value)
+        }
         Form::Binary(first, more) => {
             let first = expression(alloc, scope, found, first.get())?;
             terms(alloc, scope, found, more.as_slice(), first)
         }
-        Form::Conditional(value, outer) => {
-            expression(alloc, scope, found, value.get())?;
+        Form::Conditional(first, outer) => {
+            expression(alloc, scope, found, first.get())?;
             choices(alloc, scope, found, outer.as_slice())?;
             Ok(nothing())
         }
-    }
-}
-
-fn is_short_circuit(operator: BinaryOperator) -> bool {
-    matches!(
-        operator,
-        BinaryOperator::LogicalOr | BinaryOperator::LogicalAnd
-    )
-}
-
-fn are_short_circuits(terms: &[Term]) -> bool {
-    terms.iter().all(|term| is_short_circuit(term.operator))
-}
-
-/// A short circuit between two conditions.
-fn joined(
-    alloc: Global,
-    operator: BinaryOperator,
-    first: resolved::Condition,
-    second: resolved::Condition,
-) -> Result<resolved::Condition, AllocError> {
-    let first = Box::new(alloc, first)?;
-    let second = Box::new(alloc, second)?;
-    if operator == BinaryOperator::LogicalOr {
-        Ok(resolved::Condition::Either(first, second))
-    } else {
-        Ok(resolved::Condition::Both(first, second))
-    }
-}
-
-/// Short circuits and their right operands behind a condition.
-#[cycle(conditions)]
-fn joined_terms(
-    alloc: Global,
-    scope: &Scope<'_>,
-    found: &mut Findings,
-    terms: &[Term],
-    first: resolved::Condition,
-) -> Result<resolved::Condition, AllocError> {
-    let mut whole = first;
-    for term in terms {
-        let second = condition(alloc, scope, found, &term.operand)?;
-        whole = joined(alloc, term.operator, whole, second)?;
-    }
-    Ok(whole)
-}
-
-fn operand(
-    alloc: Global,
-    scope: &Scope<'_>,
-    found: &mut Findings,
-    e: &Expression,
-) -> Result<resolved::Condition, AllocError> {
-    let value = expression(alloc, scope, found, e)?;
-    Ok(resolved::Condition::Operand(place(e.offset), value))
-}
-
-/// A condition: operands joined by short circuits and `!` from the top.
-#[cycle(conditions)]
-pub fn condition(
-    alloc: Global,
-    scope: &Scope<'_>,
-    found: &mut Findings,
-    e: &Expression,
-) -> Result<resolved::Condition, AllocError> {
-    match &e.form {
-        Form::Unary(UnaryOperator::Not, inner) => {
-            let inner = condition(alloc, scope, found, inner.get())?;
-            Ok(resolved::Condition::Opposite(Box::new(alloc, inner)?))
-        }
-        Form::Binary(first, more) if are_short_circuits(more.as_slice()) => {
-            let first = condition(alloc, scope, found, first.get())?;
-            joined_terms(alloc, scope, found, more.as_slice(), first)
-        }
-        _ => operand(alloc, scope, found, e),
-    }
-}
-
-/// Where the name may not be assigned to, or has the wrong number of indices.
-fn target_fault(scope: &Scope<'_>, place: &Place) -> Option<Rule> {
-    match scope.look_up(place.name.bytes.as_slice()) {
-        Known::Declared(Meaning::Variable(variable)) => {
-            if variable.is_const || variable.length.is_some() != place.index.is_some() {
-                Some(Rule::Kind)
-            } else {
-                None
-            }
-        }
-        Known::Declared(Meaning::Unusable) => None,
-        Known::Unknown => Some(Rule::Unknown),
-        _ => Some(Rule::Kind),
-    }
-}
-
-fn variable_place(variable: Variable, index: Option<resolved::Expression>) -> resolved::Place {
-    let Variable {
-        storage,
-        number,
-        ty,
-        length,
-        ..
-    } = variable;
-    let ty = ty.c_type();
-    match (length, index) {
-        (Some(length), Some(index)) => resolved::Place::Element(storage, number, length, ty, index),
-        _ => resolved::Place::Scalar(storage, number, ty),
-    }
-}
-
-/// A place that is assigned to.
-pub fn target(
-    alloc: Global,
-    scope: &Scope<'_>,
-    found: &mut Findings,
-    place: &Place,
-) -> Result<resolved::Place, AllocError> {
-    let index = index(alloc, scope, found, place)?;
-    if let Some(rule) = target_fault(scope, place) {
-        found.add(rule, place.name.offset);
-    }
-    match scope.look_up(place.name.bytes.as_slice()) {
-        Known::Declared(Meaning::Variable(variable)) => Ok(variable_place(variable, index)),
-        _ => Ok(resolved::Place::Scalar(resolved::Storage::Automatic, 0, CType::INT)),
     }
 }

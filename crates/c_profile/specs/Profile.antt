@@ -17,6 +17,7 @@ use Rattle.c_limits.specs.Counts.{first_passed}
 use Rattle.c_limits.specs.declared.limit.Limit.{Limit}
 use Rattle.c_limits.specs.declared.limit.Limit.TheVariants.{Tokens, NameLength, Nesting}
 use Rattle.c_limits.specs.declared.limit.Passed.{Passed}
+use Rattle.c_types.specs.Resolving.{IsFirstFault, Spells, LacksMain}
 use Rattle.c_profile.specs.declared.refusal.Refusal.{Refusal}
 use Rattle.c_profile.specs.declared.refusal.Refusal.TheVariants as refusal
 
@@ -36,9 +37,11 @@ pub record IsWithin (P : Program) (w : ℕ) : Type 0 where
   pub limits : first_passed P ≡ None
   pub weighs : w ≡ capped (weight P)
 
+-- the tree of the text breaks no rule on names, kinds and types, and this is its program
 pub record IsAccepted (text : Bytes) (P : Program) (w : ℕ) : Type 0 where
   pub tree : TranslationUnit
   pub is : IsTreeOf text tree
+  pub spelled : Spells tree P
   pub within : IsWithin P w
 
 -- of a program that a limit refuses
@@ -58,15 +61,15 @@ IsPassedAt text Nesting count at =
     (ts : List Token) × (k : ℕ) × LexesAs text (Ok ts) × TooDeepAt unit 64 ts k count × (at ≡ offset_at ts k)
 IsPassedAt text _ count at = ⊥
 
--- the cause of a refusal; of a rule on names, kinds and types, and of a missing main, no more is said here than that the text
--- is a tree of the grammar
+-- the cause of a refusal
 abbrev pub IsRefused : Bytes → Refusal → Type 0
 IsRefused text refusal.TooLong = most_bytes < length text
 IsRefused text (refusal.NoToken at) = (length text ≤ most_bytes) × LexesAs text (Err (lex.Bad at))
 IsRefused text (refusal.Syntax at) =
     (length text ≤ most_bytes) × ((ts : List Token) × (k : ℕ) × LexesAs text (Ok ts) × FaultAt unit 64 ts k × (at ≡ offset_at ts k))
-IsRefused text (refusal.Broken rule at) = (tree : TranslationUnit) × IsTreeOf text tree
-IsRefused text refusal.NoMain = (tree : TranslationUnit) × IsTreeOf text tree
+IsRefused text (refusal.Broken rule at) =
+    (tree : TranslationUnit) × IsTreeOf text tree × IsFirstFault tree (Some (record { rule = rule; offset = at }))
+IsRefused text refusal.NoMain = (tree : TranslationUnit) × IsTreeOf text tree × LacksMain tree
 IsRefused text (refusal.LimitAt passed at) = (length text ≤ most_bytes) × IsPassedAt text passed.limit passed.count at
 IsRefused text (refusal.Limit passed) =
-    (tree : TranslationUnit) × IsTreeOf text tree × ((P : Program) × (first_passed P ≡ Some passed))
+    (tree : TranslationUnit) × IsTreeOf text tree × ((P : Program) × Spells tree P × (first_passed P ≡ Some passed))

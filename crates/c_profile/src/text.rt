@@ -6,6 +6,7 @@ ghost use Rattle.c_lexer.specs.Texts.{LexesAs};
 ghost use Rattle.c_program.specs.Plain.{program_of};
 ghost use Rattle.grammar.specs.Sentences.{SentenceWithin};
 ghost use Rattle.c_tree.specs.Declarations.{unit};
+ghost use Rattle.c_profile.specs.Stops.{answer_to};
 ghost use Rattle.c_profile.specs.Profile.{IsAccepted, IsPassed, IsRefused, IsTreeOf, IsWithin, limit_of_text};
 ghost use Rattle.c_profile.specs.declared.text.ProfileError.TheVariants as error;
 ghost use Rattle.c_profile.specs.declared.refusal.Refusal as refusal;
@@ -104,6 +105,7 @@ fn tree_of(alloc: Global, text: &[u8]) -> Result<TranslationUnit, ProfileError>
 
 /// The program within the limits, with its weight.
 fn within(alloc: Global, program: Program) -> Result<Accepted, ProfileError>
+    ensures same { IfOk result (λ a. program_of a.program ≡ program_of program) }
     ensures ok { IfOk result (λ a. IsWithin (program_of a.program) a.weight) }
     ensures refused { IfErr result (λ e. (r : refusal.Refusal) → e ≡ error.Refused r → IsPassed (program_of program) r) }
 {
@@ -114,6 +116,19 @@ fn within(alloc: Global, program: Program) -> Result<Accepted, ProfileError>
             Err(_) => Err(ProfileError::Memory),
         },
         Err(_) => Err(ProfileError::Memory),
+    }
+}
+
+/// The answer for a tree that has no program.
+fn answer_to(error: ResolveError) -> ProfileError
+    ensures { result ≡ answer_to error }
+{
+    match error {
+        ResolveError::Broken(Fault { rule, offset }) => {
+            ProfileError::Refused(Refusal::Broken { rule, offset })
+        }
+        ResolveError::NoMain => ProfileError::Refused(Refusal::NoMain),
+        ResolveError::Memory => ProfileError::Memory,
     }
 }
 
@@ -128,10 +143,6 @@ pub fn accept(alloc: Global, text: &[u8]) -> Result<Accepted, ProfileError>
     let tree = tree_of(alloc, text)?;
     match c_types::resolve(alloc, &tree) {
         Ok(program) => within(alloc, program),
-        Err(ResolveError::Broken(Fault { rule, offset })) => {
-            Err(ProfileError::Refused(Refusal::Broken { rule, offset }))
-        }
-        Err(ResolveError::NoMain) => Err(ProfileError::Refused(Refusal::NoMain)),
-        Err(ResolveError::Memory) => Err(ProfileError::Memory),
+        Err(error) => Err(answer_to(error)),
     }
 }

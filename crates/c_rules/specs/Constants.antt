@@ -1,6 +1,6 @@
 -- Constants and constant expressions (C99 6.4.4, 6.6): constants and operators, without short circuits and without an
 -- undefined step.
-use Rattle.std.specs.Prelude.{ℕ, Bool, true, false, if◌then◌else◌, Option, Some, None, option_map, ℤ, pos, List, fold}
+use Rattle.std.specs.Prelude.{ℕ, ◌+◌, min, Bool, true, false, if◌then◌else◌, Option, Some, None, option_map, ℤ, pos, List, fold}
 use Rattle.std.specs.Result.{result_ok}
 use Rattle.hls_ints.specs.Types.{IntegerType, int_type, unsigned_int, long_int, unsigned_long, promoted, usual_type, wrapped}
 use Rattle.hls_ints.specs.Operators.{negation_of, sum_of, difference_of, product_of, quotient_of, remainder_of, left_shift_of}
@@ -184,3 +184,32 @@ abbrev pub term_constancy : Term → Operand
 term_constancy =
     fold-Term Nothing Constancy Nothing Nothing Constancy Nothing Nothing Operand
     (λ _. tt) form_step (λ _. tt) (λ _. tt) (λ e. e.form) (λ _. tt) (λ _. tt) (λ t. (t.operator, t.operand))
+
+-- ---- how many operators and casts an expression has
+
+-- the sum, as far as a u32 goes
+abbrev pub plus : ℕ → ℕ → ℕ
+plus a b = min (a + b) 0xffff_ffff
+
+-- one more operator, whose right operand has so many
+abbrev pub next_operators : ℕ → ℕ → ℕ
+next_operators n more = plus (plus n more) 1
+
+abbrev pub form_operators : Form-F Nothing ℕ Nothing Nothing ℕ Nothing Nothing ℕ → ℕ
+form_operators (Form-F.Constant value at) = 0
+form_operators (Form-F.Place place) = 0
+form_operators (Form-F.Call call) = 0
+form_operators (Form-F.Unary operator x) = plus x 1
+form_operators (Form-F.Cast words x) = plus x 1
+form_operators (Form-F.Binary x terms) = fold next_operators x terms
+form_operators (Form-F.Conditional x choices) = 0
+
+abbrev pub operator_count : Expression → ℕ
+operator_count =
+    fold-Expression Nothing ℕ Nothing Nothing ℕ Nothing Nothing ℕ
+    (λ _. tt) form_operators (λ _. tt) (λ _. tt) (λ e. e.form) (λ _. tt) (λ _. tt) (λ t. t.operand)
+
+abbrev pub term_operators : Term → ℕ
+term_operators =
+    fold-Term Nothing ℕ Nothing Nothing ℕ Nothing Nothing ℕ
+    (λ _. tt) form_operators (λ _. tt) (λ _. tt) (λ e. e.form) (λ _. tt) (λ _. tt) (λ t. t.operand)

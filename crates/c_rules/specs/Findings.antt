@@ -18,6 +18,11 @@ abbrev pub broken_if : Bool → Rule → ℕ → Findings → Findings
 broken_if true rule at f = broken rule at f
 broken_if false rule at f = f
 
+-- the rule, if there is one
+abbrev pub broken_any : Option Rule → ℕ → Findings → Findings
+broken_any (Some rule) at f = broken rule at f
+broken_any None at f = f
+
 -- a call of a defined function; one at file scope has no caller
 abbrev pub called : Option ℕ → ℕ → ℕ → Findings → Findings
 called None callee at f = f
@@ -28,3 +33,8 @@ called (Some caller) callee at f =
 abbrev pub starting : Option ℕ → ℕ → Findings → Findings
 starting None at f = f
 starting (Some function) at f = record f { threads = f.threads ++ (record { function = function; offset = at }) ∷ [] }
+
+-- a create of the thread object by the start routine
+abbrev pub created : ℕ → ℕ → ℕ → Findings → Findings
+created thread routine at f =
+    record f { creations = f.creations ++ (record { thread = thread; routine = routine; offset = at }) ∷ [] }

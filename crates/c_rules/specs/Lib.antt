@@ -1,6 +1,9 @@
 pub mod Faults
 pub mod Findings
+pub mod Formats
 pub mod Specifiers
+pub mod Levels
 pub mod Names
+pub mod Walks
 pub mod Constants
 pub mod Library

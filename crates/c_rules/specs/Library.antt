@@ -1,5 +1,5 @@
 -- The functions that are known without an include: printf, and those of POSIX threads.
-use Rattle.std.specs.Prelude.{ℕ, List, [], ◌∷◌, Option, Some, None, codes}
+use Rattle.std.specs.Prelude.{ℕ, Bool, true, nat_eq, List, [], ◌∷◌, Option, Some, None, codes}
 use Rattle.std.specs.List.{find}
 use Rattle.std.specs.Str.{bytes_eq}
 use Rattle.c_rules.specs.declared.library.LibraryFunction.{LibraryFunction}
@@ -34,3 +34,11 @@ arity BarrierInit = Some 3
 arity Join = Some 2
 arity MutexInit = Some 2
 arity function = Some 1
+
+abbrev pub fits : Option ℕ → ℕ → Bool
+fits None count = true
+fits (Some n) count = nat_eq n count
+
+-- whether it may be called with so many arguments
+abbrev pub takes : LibraryFunction → ℕ → Bool
+takes function count = fits (arity function) count

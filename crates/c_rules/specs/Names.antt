@@ -1,39 +1,44 @@
 -- What names stand for, by scope (C99 6.2.1).
-use Rattle.std.specs.Prelude.{ℕ, fold, Bool, ◌&&◌, nat_eq, if◌then◌else◌, List, [], ◌∷◌, ◌++◌, Option, Some, None}
-use Rattle.std.specs.Str.{bytes_eq}
-use denote.Bor.{Bor}
+use Rattle.std.specs.Prelude.{ℕ, ◌-◌, length, remove, slice_get, fold, Bool, true, false, not, ◌&&◌, ◌||◌, is_some, List, [], ◌∷◌, ◌++◌, Option, Some, None}
+use Rattle.c_rules.specs.declared.names.ObjectKind.{ObjectKind}
+use Rattle.c_rules.specs.declared.names.ObjectKind.TheVariants.{Thread, Mutex, Barrier}
 use Rattle.c_rules.specs.declared.names.Meaning.{Meaning}
+use Rattle.c_rules.specs.declared.names.Meaning.TheVariants as meaning
 use Rattle.c_rules.specs.declared.names.Known.{Known}
 use Rattle.c_rules.specs.declared.names.Known.TheVariants as known
+use Rattle.c_rules.specs.declared.names.DeclaredType.{DeclaredType}
+use Rattle.c_rules.specs.declared.names.Header.{Header}
+use Rattle.c_rules.specs.declared.names.Gives.{Gives}
+use Rattle.c_rules.specs.declared.names.Gives.TheVariants as gives
+use Rattle.c_rules.specs.declared.names.Scope.{Scope}
+use Rattle.c_rules.specs.declared.specifiers.BasicType.{BasicType}
+use Rattle.c_rules.specs.declared.specifiers.BasicType.TheVariants.{Int}
+use Rattle.c_rules.specs.declared.specifiers.BaseType.{BaseType}
+use Rattle.c_rules.specs.declared.specifiers.BaseType.TheVariants as base
 use Rattle.c_rules.specs.declared.library.LibraryFunction.{LibraryFunction}
+use Rattle.c_rules.specs.Levels.{named_in, inserted}
 use Rattle.c_rules.specs.Library.{function_named}
 
--- the number of a scope, a name, and what it stands for there
-abbrev pub Named : Type 0
-Named = (ℕ × List ℕ) × Meaning
+abbrev pub same_kind : ObjectKind → ObjectKind → Bool
+same_kind Thread Thread = true
+same_kind Mutex Mutex = true
+same_kind Barrier Barrier = true
+same_kind a b = false
 
--- an entry of a table whose keys refer to their names
-abbrev pub named : (ℕ × Bor (List ℕ)) × Meaning → Named
-named e = ((e.0.0, e.0.1.now), e.1)
-
-abbrev pub is_named : ℕ → List ℕ → Named → Bool
-is_named scope name d = nat_eq scope d.0.0 && bytes_eq name d.0.1
-
--- what a name stands for in a scope
-abbrev pub named_in : List Named → ℕ → List ℕ → Option Meaning
-named_in [] scope name = None
-named_in (d ∷ more) scope name = if is_named scope name d then Some d.1 else named_in more scope name
+-- the names of one scope
+abbrev pub Names : Type 0
+Names = List (List ℕ × Meaning)
 
 abbrev pub or_else : {A : Type 0} → Option A → Option A → Option A
 or_else None other = other
 or_else (Some a) other = Some a
 
--- what the innermost declaration of a name says, for blocks that are listed from the outermost; the file is scope 0
-abbrev pub within : List Named → List ℕ → Option Meaning → ℕ → Option Meaning
-within names name outer block = or_else (named_in names block name) outer
+-- what the innermost of some scopes, the outermost of which comes first, says of a name
+abbrev pub declared_outside : List Names → List ℕ → Option Meaning
+declared_outside levels name = fold (λ found level. or_else (named_in level name) found) None levels
 
-abbrev pub declared : List Named → List ℕ → List ℕ → Option Meaning
-declared names blocks name = fold (within names name) (named_in names 0 name) blocks
+abbrev pub declared : Scope → List ℕ → Option Meaning
+declared s name = or_else (named_in s.inner name) (declared_outside s.outer name)
 
 abbrev pub from_declaration : Option Meaning → Known
 from_declaration None = known.Unknown
@@ -44,10 +49,76 @@ known_by (Some function) meaning = known.Library function
 known_by None meaning = from_declaration meaning
 
 -- what a name stands for: no declaration hides a function of the library
-unfoldable pub look_up : List Named → List ℕ → List ℕ → Known
-look_up names blocks name = known_by (function_named name) (declared names blocks name)
+unfoldable pub look_up : Scope → List ℕ → Known
+look_up s name = known_by (function_named name) (declared s name)
 
--- the innermost scope, for blocks that are listed from the outermost
-abbrev pub innermost_from : ℕ → List ℕ → ℕ
-innermost_from outer [] = outer
-innermost_from outer (block ∷ inner) = innermost_from block inner
+abbrev pub is_argument : Known → Bool
+is_argument (known.Declared meaning.Argument) = true
+is_argument other = false
+
+-- whether a name may not be declared in the innermost scope
+unfoldable pub is_taken : Scope → List ℕ → Bool
+is_taken s name = is_some (function_named name) || is_some (named_in s.inner name)
+
+-- ---- how scopes change
+
+abbrev pub empty_scope : Scope
+empty_scope = record {
+  definitions = [];
+  outer = [];
+  inner = [];
+  headers = [];
+  function = None;
+  gives = gives.Unlisted;
+  locals = [];
+  loops = 0;
+}
+
+-- a name in the innermost scope
+unfoldable pub declaring : List ℕ → Meaning → Scope → Scope
+declaring name meaning s = record s { inner = inserted s.inner name meaning }
+
+-- a block in the innermost scope
+unfoldable pub opened : Scope → Scope
+opened s = record s { outer = s.outer ++ s.inner ∷ []; inner = [] }
+
+abbrev pub closed_to : Option Names → Scope → Scope
+closed_to None s = s
+closed_to (Some level) s = record s { outer = remove s.outer (length s.outer - 1); inner = level }
+
+-- the scope round the innermost one, if there is one
+unfoldable pub closed : Scope → Scope
+closed s = closed_to (slice_get s.outer (length s.outer - 1)) s
+
+-- ---- types and functions
+
+abbrev pub is_void_base : BaseType → Bool
+is_void_base base.Void = true
+is_void_base other = false
+
+abbrev pub is_void_type : DeclaredType → Bool
+is_void_type t = is_void_base t.base && not t.is_pointer
+
+abbrev pub is_void_pointer : DeclaredType → Bool
+is_void_pointer t = is_void_base t.base && t.is_pointer
+
+abbrev pub is_int_base : BaseType → Bool
+is_int_base (base.Integer Int) = true
+is_int_base other = false
+
+abbrev pub is_int : DeclaredType → Bool
+is_int t = is_int_base t.base && not t.is_pointer
+
+-- whether the parameters are a pointer alone
+abbrev pub is_pointer_alone : List DeclaredType → Bool
+is_pointer_alone [] = false
+is_pointer_alone (only ∷ []) = is_void_pointer only
+is_pointer_alone (first ∷ next ∷ more) = false
+
+-- a function of a pointer that returns a pointer
+abbrev pub is_start_routine : Header → Bool
+is_start_routine h = is_void_pointer h.returns && is_pointer_alone h.parameters
+
+abbrev pub gives_pointer : Gives → Bool
+gives_pointer gives.Pointer = true
+gives_pointer other = false

@@ -284,21 +284,36 @@ pub fn constancy_of(expression: &Expression) -> Constancy
     }
 }
 
+/// The sum, as far as it goes.
+fn plus(a: u32, b: u32) -> u32
+    ensures { result ≡ spec.plus a b }
+{
+    a.saturating_add(b)
+}
+
+#[cycle(operators)]
+fn term_operators(terms: &[Term], first: u32) -> u32
+    ensures { result ≡ fold spec.next_operators first (map spec.term_operators terms.now) }
+{
+    let mut count = first;
+    for term in terms {
+        count = plus(plus(count, operator_count(&term.operand)), 1);
+    }
+    count
+}
+
 /// How many operators and casts the expression has.
-pub fn operator_count(expression: &Expression) -> u32 {
+#[cycle(operators)]
+pub fn operator_count(expression: &Expression) -> u32
+    ensures { result ≡ spec.operator_count expression.now }
+{
     match &expression.form {
         Form::Constant(_, _) | Form::Place(_) | Form::Call(_) | Form::Conditional(_, _) => 0,
-        Form::Unary(_, operand) | Form::Cast(_, operand) => operator_count(
-            operand.get(),
-        ).saturating_add(1),
+        Form::Unary(_, operand) => plus(operator_count(operand.get()), 1),
+        Form::Cast(_, operand) => plus(operator_count(operand.get()), 1),
         Form::Binary(first, more) => {
-            let mut count = operator_count(first.get());
-            for term in more.as_slice() {
-                count = count
-                    .saturating_add(operator_count(&term.operand))
-                    .saturating_add(1);
-            }
-            count
+            let first = operator_count(first.get());
+            term_operators(more.as_slice(), first)
         }
     }
 }

@@ -102,6 +102,10 @@ pub enum ResolveError {
 }
 
 impl From<AllocError> for ResolveError {
+    ghost use Rattle.c_rules.specs.declared.fault.ResolveError.TheVariants.{Memory};
+
+    ghost from_gives = { λ _ e. e ≡ Memory };
+
     fn from(_error: AllocError) -> ResolveError {
         ResolveError::Memory
     }

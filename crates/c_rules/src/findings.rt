@@ -69,6 +69,15 @@ impl Findings {
         }
     }
 
+    /// The rule, if there is one, is broken at the place.
+    pub fn add_any(&mut self, rule: Option<Rule>, offset: usize)
+        ensures { self.new ≡ spec.broken_any rule offset self.old }
+    {
+        if let Some(rule) = rule {
+            self.add(rule, offset);
+        }
+    }
+
     pub fn add_call(
         &mut self,
         caller: Option<u32>,
@@ -94,6 +103,22 @@ impl Findings {
             self.threads.push(ThreadSite { function, offset })?;
         }
         Ok(())
+    }
+
+    /// A create of the thread object by the start routine, whose name stands at the place.
+    pub fn add_creation(
+        &mut self,
+        thread: u32,
+        routine: u32,
+        offset: usize,
+    ) -> Result<(), AllocError>
+        ensures { OnOk result (self.new ≡ spec.created thread routine offset self.old) }
+    {
+        self.creations.push(Creation {
+            thread,
+            routine,
+            offset,
+        })
     }
 }
 

@@ -1,95 +1,187 @@
 // The format of a printf (C99 7.19.6.1, 6.4.4.4): text and conversions.
 
-ghost use Rattle.std.specs.Prelude.{◌<◌, ◌≤◌, length, IfSome};
+ghost use Rattle.std.specs.Prelude.{◌≡◌, [], option_map, count_by, IfOk, OnOk};
+ghost use Rattle.c_program.specs.Plain.{piece_of, pieces_of};
+ghost use Rattle.c_program.specs.Resolved.{is_conversion};
+ghost use Rattle.c_rules.specs.Formats as spec;
 
+use crate::specifiers::BasicType;
 use c_program::tree::Piece;
-use hls_ints::CType;
 use std::alloc::{AllocError, Global};
+use std::mem;
 
 /// What stands at the front of a format as it is written.
 #[derive(Clone, Copy, PartialEq, Eq, Debug)]
-enum Part {
+pub enum Part {
     Byte(u8),
-    Conversion(CType),
+    Conversion(BasicType),
+}
+
+/// The first byte of a text, and the rest.
+fn front(text: &[u8]) -> Option<(u8, &[u8])>
+    ensures { option_map (λ r. (r.0, r.1.now)) result ≡ spec.front text.now }
+{
+    match text {
+        [] => None,
+        [byte, rest @ ..] => Some((*byte, rest)),
+    }
 }
 
 /// The byte that the escape with this byte stands for.
-fn escaped(byte: u8) -> Option<u8> {
+fn escaped(byte: u8) -> Option<u8>
+    ensures { result ≡ spec.escaped byte }
+{
     match byte {
         b'n' => Some(b'\n'),
         b't' => Some(b'\t'),
-        b'\\' | b'"' => Some(byte),
+        b'\\' => Some(b'\\'),
+        b'"' => Some(b'"'),
         _ => None,
+    }
+}
+
+/// A conversion by its letter to one of two types, and the rest.
+fn lettered(signed: BasicType, unsigned: BasicType, text: &[u8]) -> Option<(Part, &[u8])>
+    ensures { option_map (λ r. (r.0, r.1.now)) result ≡ spec.lettered signed unsigned text.now }
+{
+    let (byte, rest) = front(text)?;
+    match byte {
+        b'd' => Some((Part::Conversion(signed), rest)),
+        b'u' => Some((Part::Conversion(unsigned), rest)),
+        _ => None,
+    }
+}
+
+/// What stands behind `%l`, and the rest.
+fn long(text: &[u8]) -> Option<(Part, &[u8])>
+    ensures { option_map (λ r. (r.0, r.1.now)) result ≡ spec.long text.now }
+{
+    let (byte, rest) = front(text)?;
+    if byte == b'l' {
+        lettered(BasicType::Long, BasicType::UnsignedLong, rest)
+    } else {
+        lettered(BasicType::Long, BasicType::UnsignedLong, text)
     }
 }
 
 /// What stands behind a `%`, and the rest.
 fn conversion(text: &[u8]) -> Option<(Part, &[u8])>
-    ensures { IfSome result (λ r. length r.1.now < length text.now) }
+    ensures { option_map (λ r. (r.0, r.1.now)) result ≡ spec.conversion text.now }
 {
-    match text {
-        [b'%', rest @ ..] => Some((Part::Byte(b'%'), rest)),
-        [b'd', rest @ ..] => Some((Part::Conversion(CType::INT), rest)),
-        [b'u', rest @ ..] => Some((Part::Conversion(CType::UNSIGNED_INT), rest)),
-        [b'l', b'd', rest @ ..] | [b'l', b'l', b'd', rest @ ..] => Some((
-            Part::Conversion(CType::LONG),
-            rest,
-        )),
-        [b'l', b'u', rest @ ..] | [b'l', b'l', b'u', rest @ ..] => Some((
-            Part::Conversion(CType::UNSIGNED_LONG),
-            rest,
-        )),
-        _ => None,
+    let (byte, rest) = front(text)?;
+    match byte {
+        b'%' => Some((Part::Byte(b'%'), rest)),
+        b'l' => long(rest),
+        _ => lettered(BasicType::Int, BasicType::UnsignedInt, text),
     }
+}
+
+/// What stands behind a backslash, and the rest.
+fn escape(text: &[u8]) -> Option<(Part, &[u8])>
+    ensures { option_map (λ r. (r.0, r.1.now)) result ≡ spec.escape text.now }
+{
+    let (byte, rest) = front(text)?;
+    let byte = escaped(byte)?;
+    Some((Part::Byte(byte), rest))
 }
 
 /// The first part of a format, and the rest; none where it is no part of a format of the profile.
 fn first_part(text: &[u8]) -> Option<(Part, &[u8])>
-    ensures { IfSome result (λ r. length r.1.now < length text.now) }
+    ensures { option_map (λ r. (r.0, r.1.now)) result ≡ spec.first_part text.now }
 {
-    match text {
-        [b'\\', byte, rest @ ..] => Some((Part::Byte(escaped(*byte)?), rest)),
-        [b'\\'] | [] => None,
-        [b'%', rest @ ..] => conversion(rest),
-        [byte, rest @ ..] => Some((Part::Byte(*byte), rest)),
+    let (byte, rest) = front(text)?;
+    match byte {
+        b'\\' => escape(rest),
+        b'%' => conversion(rest),
+        _ => Some((Part::Byte(byte), rest)),
     }
 }
 
-/// Adds the part behind the pieces.
-fn add(alloc: Global, pieces: &mut Vec<Piece>, part: Part) -> Result<(), AllocError> {
-    let byte = match part {
-        Part::Byte(byte) => byte,
-        Part::Conversion(ty) => {
-            pieces.push(Piece::Conversion(ty))?;
-            return Ok(());
-        }
-    };
-    if let Some(Piece::Text(bytes)) = pieces.last_mut() {
-        bytes.push(byte)?;
+/// Adds the text behind the pieces, unless it is empty, and begins a new one.
+fn flush(alloc: Global, pieces: &mut Vec<Piece>, text: &mut Vec<u8>) -> Result<(), AllocError>
+    ensures pieces { OnOk result (pieces_of pieces.new.items ≡ spec.flushed (pieces_of pieces.old.items) text.old.items) }
+    ensures text { OnOk result (text.new.items ≡ []) }
+{
+    if text.is_empty() {
         return Ok(());
     }
-    let mut bytes = Vec::new(alloc);
-    bytes.push(byte)?;
-    pieces.push(Piece::Text(bytes))?;
+    let whole = mem::replace(text, Vec::new(alloc));
+    pieces.push(Piece::Text(whole))?;
     Ok(())
 }
 
-/// The pieces of a format; none where an escape or a conversion in it is none of the profile.
-pub fn pieces(alloc: Global, text: &[u8]) -> Result<Option<Vec<Piece>>, AllocError> {
-    let mut pieces = Vec::new(alloc);
-    let mut left = text;
-    while !left.is_empty() {
-        let Some((next, rest)) = first_part(left) else {
-            return Ok(None);
-        };
-        add(alloc, &mut pieces, next)?;
-        left = rest;
+/// Adds the conversion behind the pieces and the text.
+fn add_conversion(
+    alloc: Global,
+    pieces: &mut Vec<Piece>,
+    text: &mut Vec<u8>,
+    ty: BasicType,
+) -> Result<(), AllocError>
+    ensures { OnOk result ((pieces_of pieces.new.items, text.new.items) ≡ spec.with_conversion (pieces_of pieces.old.items) text.old.items ty) }
+{
+    flush(alloc, pieces, text)?;
+    pieces.push(Piece::Conversion(ty.c_type()))?;
+    Ok(())
+}
+
+/// Adds the part behind the pieces and the text.
+fn add(
+    alloc: Global,
+    pieces: &mut Vec<Piece>,
+    text: &mut Vec<u8>,
+    part: Part,
+) -> Result<(), AllocError>
+    ensures { OnOk result ((pieces_of pieces.new.items, text.new.items) ≡ spec.with_part (pieces_of pieces.old.items) text.old.items part) }
+{
+    match part {
+        Part::Byte(byte) => {
+            text.push(byte)?;
+            Ok(())
+        }
+        Part::Conversion(ty) => add_conversion(alloc, pieces, text, ty),
     }
+}
+
+/// The pieces with the text behind them.
+fn finished(
+    alloc: Global,
+    mut pieces: Vec<Piece>,
+    mut text: Vec<u8>,
+) -> Result<Option<Vec<Piece>>, AllocError>
+    ensures { IfOk result (λ r. option_map (λ v. pieces_of v.items) r ≡ Some (spec.flushed (pieces_of pieces.items) text.items)) }
+{
+    flush(alloc, &mut pieces, &mut text)?;
     Ok(Some(pieces))
 }
 
+/// The pieces of a format; none where an escape or a conversion in it is none of the profile.
+pub fn pieces(alloc: Global, format: &[u8]) -> Result<Option<Vec<Piece>>, AllocError>
+    ensures { IfOk result (λ r. option_map (λ v. pieces_of v.items) r ≡ spec.pieces_in format.now) }
+{
+    let mut pieces = Vec::new(alloc);
+    let mut text = Vec::new(alloc);
+    let mut left = format;
+    for _turn in 0..format.len() {
+        if left.is_empty() {
+            return finished(alloc, pieces, text);
+        }
+        let Some((part, rest)) = first_part(left) else {
+            return Ok(None);
+        };
+        add(alloc, &mut pieces, &mut text, part)?;
+        left = rest;
+    }
+    if left.is_empty() {
+        finished(alloc, pieces, text)
+    } else {
+        Ok(None)
+    }
+}
+
 /// How many of the pieces are conversions.
-pub fn conversions(pieces: &[Piece]) -> usize {
+pub fn conversions(pieces: &[Piece]) -> usize
+    ensures { result ≡ count_by (λ p. is_conversion (piece_of p)) pieces.now }
+{
     pieces
         .iter()
         .filter(|piece| matches!(piece, Piece::Conversion(_)))

@@ -68,6 +68,16 @@ impl LibraryFunction {
         }
     }
 
+    /// Whether it may be called with so many arguments.
+    pub fn takes(self, count: usize) -> bool
+        ensures { result ≡ spec.takes self count }
+    {
+        match self.arity() {
+            None => true,
+            Some(arity) => arity == count,
+        }
+    }
+
     /// The function of that name.
     #[tactic(auto, unfolding(crate::specs::Library::function_named))]
     pub fn from_name(name: &[u8]) -> Option<LibraryFunction>

@@ -1,13 +1,16 @@
 // What names stand for, by scope (C99 6.2.1).
 
-ghost use Rattle.std.specs.Prelude.{◌≡◌, map};
+ghost use Rattle.std.specs.Prelude.{◌≡◌, ◌||◌, is_some, OnOk};
+ghost use Rattle.c_rules.specs.Levels.{named_in};
 ghost use Rattle.c_rules.specs.Names as spec;
 
+use crate::level::{Definitions, Level};
 use crate::library::LibraryFunction;
 use crate::specifiers::{BaseType, BasicType};
 use c_program::tree::{LocalVariable, Storage};
-use indexmap::IndexMap;
+use sqlite_items::Items;
 use std::alloc::{AllocError, Global};
+use std::mem;
 
 /// An integer object: its number among those of its storage, and its length where it is an array.
 #[derive(Clone, Copy, PartialEq, Eq, Debug)]
@@ -25,6 +28,20 @@ pub enum ObjectKind {
     Thread,
     Mutex,
     Barrier,
+}
+
+impl ObjectKind {
+    /// Whether it is the same kind.
+    pub fn is(self, other: ObjectKind) -> bool
+        ensures { result ≡ spec.same_kind self other }
+    {
+        match (self, other) {
+            (ObjectKind::Thread, ObjectKind::Thread)
+            | (ObjectKind::Mutex, ObjectKind::Mutex)
+            | (ObjectKind::Barrier, ObjectKind::Barrier) => true,
+            _ => false,
+        }
+    }
 }
 
 /// An object of POSIX threads: its number among those of its kind, and its length where it is an array.
@@ -56,6 +73,15 @@ pub enum Known {
     Unknown,
 }
 
+impl Known {
+    /// Whether it is the parameter of a start routine.
+    pub fn is_argument(self) -> bool
+        ensures { result ≡ spec.is_argument self }
+    {
+        matches!(self, Known::Declared(Meaning::Argument))
+    }
+}
+
 /// A type with the `*` that may stand behind it.
 #[derive(Clone, Copy, PartialEq, Eq, Debug)]
 pub struct DeclaredType {
@@ -64,47 +90,65 @@ pub struct DeclaredType {
 }
 
 impl DeclaredType {
-    /// `void *`
-    pub const POINTER: DeclaredType = DeclaredType {
-        base: BaseType::Void,
-        is_pointer: true,
-    };
+    /// Whether it is `void`.
+    pub fn is_void(self) -> bool
+        ensures { result ≡ spec.is_void_type self }
+    {
+        matches!(
+            self,
+            DeclaredType {
+                base: BaseType::Void,
+                is_pointer: false,
+            }
+        )
+    }
 
-    /// `void`
-    pub const VOID: DeclaredType = DeclaredType {
-        base: BaseType::Void,
-        is_pointer: false,
-    };
+    /// Whether it is `void *`.
+    pub fn is_void_pointer(self) -> bool
+        ensures { result ≡ spec.is_void_pointer self }
+    {
+        matches!(
+            self,
+            DeclaredType {
+                base: BaseType::Void,
+                is_pointer: true,
+            }
+        )
+    }
 
-    /// `int`
-    pub const INT: DeclaredType = DeclaredType {
-        base: BaseType::Integer(BasicType::Int),
-        is_pointer: false,
-    };
+    /// Whether it is `int`.
+    pub fn is_int(self) -> bool
+        ensures { result ≡ spec.is_int self }
+    {
+        matches!(
+            self,
+            DeclaredType {
+                base: BaseType::Integer(BasicType::Int),
+                is_pointer: false,
+            }
+        )
+    }
 }
 
 /// What is known of a function from its declarations so far.
 #[derive(Drop)]
 pub struct Header {
     pub returns: DeclaredType,
-    pub parameters: Vec<DeclaredType>,
+    pub parameters: Items<DeclaredType>,
     pub is_main: bool,
-    /// Whether its body was seen.
-    pub has_body: bool,
     /// The number of its definition, which may come later in the text.
     pub definition: Option<u32>,
 }
 
 impl Header {
     /// Whether it is a function of a pointer that returns a pointer.
-    pub fn is_start_routine(&self) -> bool {
-        self.returns == DeclaredType::POINTER
-            && matches!(self.parameters.as_slice(), [parameter] if *parameter == DeclaredType::POINTER)
-    }
-
-    /// Whether the other declares a function of the same type.
-    pub fn has_type_of(&self, other: &Header) -> bool {
-        self.returns == other.returns && self.parameters.as_slice() == other.parameters.as_slice()
+    pub fn is_start_routine(&self) -> bool
+        ensures { result ≡ spec.is_start_routine self.now }
+    {
+        match self.parameters.as_slice() {
+            [only] => self.returns.is_void_pointer() && only.is_void_pointer(),
+            _ => false,
+        }
     }
 }
 
@@ -127,78 +171,72 @@ pub enum Gives {
     Unlisted,
 }
 
-/// The number of the file scope among the scopes.
-const FILE: u32 = 0;
+impl Gives {
+    /// Whether it is a start routine.
+    pub fn is_pointer(self) -> bool
+        ensures { result ≡ spec.gives_pointer self }
+    {
+        matches!(self, Gives::Pointer)
+    }
+}
 
 /// The names in scope at a place of the text, and the function that it stands in.
 #[derive(Drop)]
 pub struct Scope<'t> {
-    /// The functions that the text defines, each with the number of its first definition.
-    pub definitions: IndexMap<&'t [u8], u32>,
-    /// What each name stands for in each scope that declares it.
-    names: IndexMap<(u32, &'t [u8]), Meaning>,
-    /// The numbers of the blocks that the place stands in, the innermost last.
-    blocks: Vec<u32>,
-    /// How many scopes there were so far, the file scope among them.
-    scopes: u32,
-    pub headers: Vec<Header>,
+    /// The functions that the text defines.
+    pub definitions: Definitions<'t>,
+    /// The scopes round the innermost one, that of the file first.
+    pub outer: Items<Level<'t>>,
+    /// The innermost scope.
+    pub inner: Level<'t>,
+    pub headers: Items<Header>,
     /// The number of the function's definition; none at file scope.
     pub function: Option<u32>,
     pub gives: Gives,
-    pub locals: Vec<LocalVariable>,
+    pub locals: Items<LocalVariable>,
     /// How many loops of the function the place stands in.
     pub loops: usize,
 }
 
 impl<'t> Scope<'t> {
-    pub fn new(alloc: Global) -> Scope<'t> {
+    /// The file's scope, where no name is declared yet.
+    pub fn new(alloc: Global) -> Scope<'t>
+        ensures { result ≡ spec.empty_scope }
+    {
         Scope {
-            definitions: IndexMap::new(alloc),
-            names: IndexMap::new(alloc),
-            blocks: Vec::new(alloc),
-            scopes: 1,
-            headers: Vec::new(alloc),
+            definitions: Definitions::new(alloc),
+            outer: Items::new(alloc),
+            inner: Level::new(alloc),
+            headers: Items::new(alloc),
             function: None,
             gives: Gives::Unlisted,
-            locals: Vec::new(alloc),
+            locals: Items::new(alloc),
             loops: 0,
         }
     }
 
-    /// What the name stands for in a scope.
-    fn named_in(&self, scope: u32, name: &[u8]) -> Option<Meaning>
-        ensures { result ≡ spec.named_in (map spec.named self.now.names.entries) scope name.now }
+    /// What the innermost of the scopes round the innermost one says of the name.
+    fn declared_outside(&self, name: &[u8]) -> Option<Meaning>
+        ensures { result ≡ spec.declared_outside self.now.outer name.now }
     {
-        self.names.get(&(scope, name)).copied()
-    }
-
-    /// What the innermost declaration of the name says.
-    fn declared(&self, name: &[u8]) -> Option<Meaning>
-        ensures { result ≡ spec.declared (map spec.named self.now.names.entries) self.now.blocks.items name.now }
-    {
-        let mut found = self.named_in(FILE, name);
-        for block in &self.blocks {
-            found = either(self.named_in(*block, name), found);
+        let mut found = None;
+        for level in self.outer.as_slice() {
+            found = either(level.get(name), found);
         }
         found
     }
 
-    /// What the name stands for at file scope.
-    pub fn at_file_scope(&self, name: &[u8]) -> Option<Meaning>
-        ensures { result ≡ spec.named_in (map spec.named self.now.names.entries) 0 name.now }
+    /// What the innermost declaration of the name says.
+    fn declared(&self, name: &[u8]) -> Option<Meaning>
+        ensures { result ≡ spec.declared self.now name.now }
     {
-        self.named_in(FILE, name)
-    }
-
-    /// The innermost scope.
-    fn innermost(&self) -> u32 {
-        self.blocks.last().copied().unwrap_or(FILE)
+        either(self.inner.get(name), self.declared_outside(name))
     }
 
     /// What the name stands for.
     #[tactic(auto, unfolding(crate::specs::Names::look_up))]
     pub fn look_up(&self, name: &[u8]) -> Known
-        ensures { result ≡ spec.look_up (map spec.named self.now.names.entries) self.now.blocks.items name.now }
+        ensures { result ≡ spec.look_up self.now name.now }
     {
         if let Some(function) = LibraryFunction::from_name(name) {
             return Known::Library(function);
@@ -210,25 +248,39 @@ impl<'t> Scope<'t> {
     }
 
     /// Whether the name may not be declared in the innermost scope.
-    pub fn is_taken(&self, name: &[u8]) -> bool {
-        LibraryFunction::from_name(name).is_some()
-            || self.named_in(self.innermost(), name).is_some()
+    #[tactic(auto, unfolding(crate::specs::Names::is_taken))]
+    pub fn is_taken(&self, name: &[u8]) -> bool
+        ensures { result ≡ spec.is_taken self.now name.now }
+    {
+        LibraryFunction::from_name(name).is_some() || self.inner.get(name).is_some()
     }
 
-    /// Declares a name that is not taken in the innermost scope.
-    pub fn declare(&mut self, name: &'t [u8], meaning: Meaning) -> Result<(), AllocError> {
-        let scope = self.innermost();
-        self.names.insert((scope, name), meaning)?;
-        Ok(())
+    /// Declares a name in the innermost scope.
+    #[tactic(auto, unfolding(crate::specs::Names::declaring))]
+    pub fn declare(&mut self, name: &'t [u8], meaning: Meaning) -> Result<(), AllocError>
+        ensures { OnOk result (self.new ≡ spec.declaring name.now meaning self.old) }
+    {
+        self.inner.insert(name, meaning)
     }
 
-    pub fn open_block(&mut self) -> Result<(), AllocError> {
-        self.blocks.push(self.scopes)?;
-        self.scopes = self.scopes.saturating_add(1);
-        Ok(())
+    /// Enters a block.
+    #[tactic(auto, unfolding(crate::specs::Names::opened))]
+    pub fn open_block(&mut self, alloc: Global) -> Result<(), AllocError>
+        ensures { OnOk result (self.new ≡ spec.opened self.old) }
+    {
+        let outer = mem::replace(&mut self.inner, Level::new(alloc));
+        self.outer.push(outer)
     }
 
-    pub fn close_block(&mut self) {
-        let _ = self.blocks.pop();
+    /// Leaves a block.
+    #[tactic(auto, unfolding(crate::specs::Names::closed))]
+    pub fn close_block(&mut self)
+        ensures { self.new ≡ spec.closed self.old }
+    {
+        if !self.outer.is_empty() {
+            let last = self.outer.len() - 1;
+            let outer = self.outer.remove(last);
+            let _left = mem::replace(&mut self.inner, outer);
+        }
     }
 }

@@ -1,5 +1,5 @@
 -- The stages of acts.
-use Rattle.std.proofs.Common.{◌≡◌, ◌≢◌, ℕ, suc, ◌+◌, ◌<◌, Bool, true, false, not, ◌&&◌, nat_eq, if◌then◌else◌, List, length, slice_get, Option, Some, None, ℤ, min}
+use Rattle.std.proofs.Common.{◌≡◌, ◌≢◌, ℕ, suc, ◌+◌, ◌<◌, ◌≤◌, Bool, true, false, not, ◌&&◌, nat_eq, if◌then◌else◌, List, length, slice_get, Option, Some, None, ℤ, min}
 use Rattle.std.proofs.Common.{refl, sym, ap, subst, ◌∙◌, arith, ⊎_elim}
 use Rattle.std.specs.Prelude.{Result, IfOk}
 use Rattle.std.proofs.lemmas.Option.{slice_get_within}
@@ -27,6 +27,11 @@ use Rattle.block_datapath.specs.Chains.{next_number, is_set, SetsNext, TellsStag
 use Rattle.block_datapath.proofs.Seeing.{own_word}
 use Rattle.fsm_datapath.specs.declared.shape.Printer.{Printer}
 use Rattle.fsm_datapath.specs.declared.chains.Chains.{Chains}
+use Rattle.operator_wires.specs.Built.{IsEarlier, AddsWord}
+use Rattle.operator_wires.proofs.Building.{wires_none, room_of}
+use Rattle.block_ir.specs.declared.plan.StagePlan.{StagePlan}
+use Rattle.fsm_datapath.specs.Wired.{LinkFields, AreSlots, AreLinked, KeepsFields, KeepsLinks, StepIsWired}
+use Rattle.fsm_datapath.proofs.Taken.{of_two, Told, Keeps, idle_linked, end_linked, values_linked, asked_linked}
 use Rattle.fsm_datapath.specs.Links.{AreBits, LeadsTo, WaitsAt, WantsAt}
 use Rattle.fsm_datapath.specs.Stages.{IsTypedActOperand, act_type, ShowsActOperand, AsksValues, AsksValue, AsksSite, Idles, EndsAt}
 use Rattle.fsm_datapath.specs.Stages.{TakesReturn, TakesPrint, Asks}
@@ -35,22 +40,26 @@ use Rattle.fsm_datapath.proofs.Linking.{OffAt, off_then, off_grown, off_steps, s
 -- ---- operands
 
 pub constant_act : {E : Type 0} (x : Result Word E) (a b : List Signal) (code : ThreadCode) (registers : Registers) (operand : ActOperand) (ty : IntegerType) (v z : ℤ) → (HasType ty v → z ≡ v)
-    → operand ≡ act_operand.Constant ty v → IfOk x (Holds a b ty (wrapped ty z)) → IfOk x (ShowsActOperand code registers a b operand)
-constant_act x a b code registers operand ty v z same e made =
+    → operand ≡ act_operand.Constant ty v → IfOk x (Holds a b ty (wrapped ty z))
+    → IfOk x (λ out. (least : ℕ) → least ≤ length a → AddsWord least a b ty out) → IfOk x (ShowsActOperand code registers a b operand)
+constant_act x a b code registers operand ty v z same e made wired =
     subst (λ (s : ActOperand). IfOk x (ShowsActOperand code registers a b s)) (sym e)
-    (of_ok x (Holds a b ty (wrapped ty z)) (ShowsActOperand code registers a b (act_operand.Constant ty v))
-    (λ out t. record {
+    (of_two x (Holds a b ty (wrapped ty z)) (λ out. (least : ℕ) → least ≤ length a → AddsWord least a b ty out) (ShowsActOperand code registers a b (act_operand.Constant ty v))
+    (λ out t u. record {
       grows = t.grows;
       shows = λ m r variables g o seen typed. own_word m r out ty v typed (subst (λ (k : ℤ). IsWord m r out ty (wrapped ty k)) (same typed) (t.shows m r g o));
-    }) made)
+      wired = λ least slots. u least (room_of a least registers.stage.register registers.stage.width slots.stage);
+    }) made wired)
 
 pub variable_act : {E : Type 0} (x : Result Word E) (a b : List Signal) (code : ThreadCode) (registers : Registers) (operand : ActOperand) (k : ℕ) (ty : IntegerType) (types : List IntegerType)
-    → types ≡ code.variables → operand ≡ act_operand.Variable k ty → IfOk x (ShowsVariable a b registers types k ty) → IfOk x (ShowsActOperand code registers a b operand)
-variable_act x a b code registers operand k ty types same e made =
+    → types ≡ code.variables → operand ≡ act_operand.Variable k ty → IfOk x (ShowsVariable a b registers types k ty)
+    → IfOk x (λ out. (least : ℕ) → AreSlots least a code registers → AddsWord least a b ty out) → IfOk x (ShowsActOperand code registers a b operand)
+variable_act x a b code registers operand k ty types same e made wired =
     subst (λ (s : ActOperand). IfOk x (ShowsActOperand code registers a b s)) (sym e)
-    (of_ok x (ShowsVariable a b registers code.variables k ty) (ShowsActOperand code registers a b (act_operand.Variable k ty))
-    (λ out t. record { grows = t.grows; shows = λ m r variables g o seen typed. t.shows m r (variables k) g o (seen k ty typed) })
-    (subst (λ (z : List IntegerType). IfOk x (ShowsVariable a b registers z k ty)) same made))
+    (of_two x (ShowsVariable a b registers code.variables k ty) (λ out. (least : ℕ) → AreSlots least a code registers → AddsWord least a b ty out)
+    (ShowsActOperand code registers a b (act_operand.Variable k ty))
+    (λ out t u. record { grows = t.grows; shows = λ m r variables g o seen typed. t.shows m r (variables k) g o (seen k ty typed); wired = u })
+    (subst (λ (z : List IntegerType). IfOk x (ShowsVariable a b registers z k ty)) same made) wired)
 
 -- ---- fields
 
@@ -77,8 +86,11 @@ module _ (a b : List Signal) (before after : List ℕ) (number condition source 
       ∙ ap (λ n. if not (nat_eq n 0) then r.signal source else next_number r before x) hit
 
 pub site_asked : (a b c d : List Signal) (at : ℕ) (before after : List ℕ) (site_width site number whole source : ℕ) → number ≡ site → Gives a b whole 32 (λ m r. number) → Resizes b c whole 32 site_width false source
-    → SetsNext c d before after 0 at source → AsksSite a d at before after site_width site
-site_asked a b c d at before after site_width site number whole source same t u v = record {
+    → SetsNext c d before after 0 at source
+    → ((least : ℕ) → IsEarlier a least at 1 → 1 ≤ site_width → site_width ≤ 64 → LinkFields least a site_width before → KeepsFields least a d site_width after)
+    → AsksSite a d at before after site_width site
+site_asked a b c d at before after site_width site number whole source same t u v wired = record {
+  wired = wired;
   grows = grows_then a b d t.grows (grows_then b c d u.grows v.grows);
   count = v.count;
   rests = λ m r x g o unset less. link_off c d before after 0 at source v m r g o x less unset;
@@ -90,8 +102,10 @@ site_asked a b c d at before after site_width site number whole source same t u 
 
 pub value_asked : (a b c d : List Signal) (code : ThreadCode) (registers : Registers) (at : ℕ) (before after : List ℕ) (j number : ℕ) (v : ActOperand) (word wide : Word)
     → number ≡ suc j → ShowsActOperand code registers a b v word → Becomes b c word long_int (wrapped long_int) wide → SetsNext c d before after number at wide.place
+    → ((least site_width : ℕ) → AreSlots least a code registers → IsEarlier a least at 1 → LinkFields least a site_width before → KeepsFields least a d site_width after)
     → AsksValue code registers a d at before after j v
-value_asked a b c d code registers at before after j number v word wide e t u w = record {
+value_asked a b c d code registers at before after j number v word wide e t u w wired = record {
+  wired = wired;
   grows = grows_then a b d t.grows (grows_then b c d u.grows w.grows);
   count = w.count;
   rests = λ m r x g o unset less. link_off c d before after number at wide.place w m r g o x less unset;
@@ -110,6 +124,7 @@ values_none a code registers at before values = record {
   rests = λ m r x g o unset less. refl;
   first = λ m r g o some. refl;
   asks = λ m r variables j v g o hit seen below. absurd (omega arith);
+  wired = λ least site_width slots bit linked. record { wires = wires_none least a; linked = linked };
 }
 
 pub values_more : (a b c : List Signal) (code : ThreadCode) (registers : Registers) (at : ℕ) (before middle after : List ℕ) (values : List ActOperand) (n : ℕ) (v : ActOperand)
@@ -131,6 +146,7 @@ values_more a b c code registers at before middle after values n v t listed u = 
       let smaller : j < n = omega arith in
       u.others m r (suc j) g o (λ e. ne (let h : j ≡ n = omega arith in h)) (inside (suc j) less) ∙ t.asks m r variables j w (back m g) o hit seen smaller there typed less)
       (same_or_not j n);
+  wired = values_linked a b c code registers at before middle after t.wired u.wired;
 }
   where
     back : (m : Module) → Grows c m.signals → Grows b m.signals
@@ -149,6 +165,7 @@ all_asked a b c code registers printer at site values before after middle same t
   rests = λ m r x g o unset less. u.rests m r x g o unset (inside x less) ∙ t.rests m r x (back m g) o unset less;
   site_is = λ m r g o hit some. u.first m r g o (inside 0 some) ∙ t.asks m r (back m g) o hit some;
   values_are = λ m r variables j v g o hit seen listed typed less. u.asks m r variables j v g o hit seen (within_list values j v listed) listed typed (inside (suc j) less);
+  wired = asked_linked a b c code registers printer at before after middle same t.wired u.wired;
 }
   where
     back : (m : Module) → Grows c m.signals → Grows b m.signals
@@ -187,8 +204,10 @@ asks_off a b code registers printer at site values before after t = record {
 -- ---- stages
 
 pub idle_made : (a b c : List Signal) (registers : Registers) (l at : ℕ) (before after : Chains) → TellsStage a b registers l at → WaitsAt b c before after at
+    → ((least site_width : ℕ) (code : ThreadCode) → AreLinked least a code registers site_width before → l ≤ length code.stages → KeepsLinks least a c code registers site_width after)
     → Idles registers l a c before after
-idle_made a b c registers l at before after told t = record {
+idle_made a b c registers l at before after told t wired = record {
+  wired = wired;
   step = off_steps registers l at a b c before after told (wait_off b c before after at t);
   wants = ap (λ (x : Chains). x.wants) t.same;
   waits = λ m r g o e has here none.
@@ -197,11 +216,13 @@ idle_made a b c registers l at before after told t = record {
 }
 
 pub end_made : (a b c : List Signal) (code : ThreadCode) (registers : Registers) (l at : ℕ) (before after : Chains) → l ≡ length code.stages → TellsStage a b registers l at
-    → WaitsAt b c before after at → EndsAt code registers a c before after at
-end_made a b c code registers l at before after same told t =
+    → WaitsAt b c before after at → Told a b registers l at → Keeps b c before after at → EndsAt code registers a c before after at
+end_made a b c code registers l at before after same told t bit waits =
     let told' : TellsStage a b registers (length code.stages) at = subst (λ (n : ℕ). TellsStage a b registers n at) same told in
     record {
-      idles = idle_made a b c registers (length code.stages) at before after told' t;
+      idles = idle_made a b c registers (length code.stages) at before after told' t
+          (idle_linked a b c registers (length code.stages) at before after (subst (λ (n : ℕ). Told a b registers n at) same bit) waits);
+      wired = end_linked a b c code registers l at before after same bit waits;
       told = record {
         grows = grows_then a b c told'.grows t.grows;
         wide = λ m g. told'.wide m (grows_then b c m.signals t.grows g);
@@ -210,8 +231,11 @@ end_made a b c code registers l at before after same told t =
     }
 
 pub return_made : (a b c d : List Signal) (code : ThreadCode) (registers : Registers) (l at to target : ℕ) (before after : Chains) → to ≡ length code.stages → TellsStage a b registers l at
-    → Gives b c target registers.stage.width (λ m r. min to (length code.stages)) → LeadsTo c d before after at target → TakesReturn code registers l a d before after
-return_made a b c d code registers l at to target before after same told u t = record {
+    → Gives b c target registers.stage.width (λ m r. min to (length code.stages)) → LeadsTo c d before after at target
+    → ((least site_width : ℕ) → AreLinked least a code registers site_width before → l ≤ length code.stages → KeepsLinks least a d code registers site_width after)
+    → TakesReturn code registers l a d before after
+return_made a b c d code registers l at to target before after same told u t wired = record {
+  wired = wired;
   step =
       off_steps registers l at a b d before after told
       (off_then at b c d before before after (off_grown at b c before u.grows) (lead_off c d before after at target t));
@@ -232,8 +256,10 @@ return_made a b c d code registers l at to target before after same told u t = r
 
 pub print_made : (a b c d e f : List Signal) (code : ThreadCode) (registers : Registers) (printer : Printer) (l at site : ℕ) (values : List ActOperand) (next target : ℕ) (x y z w : Chains)
     → TellsStage a b registers l at → WantsAt b c x y at → Asks code registers printer at site values c d y z
-    → Gives d e target registers.stage.width (λ m r. min next (length code.stages)) → LeadsTo e f z w at target → TakesPrint code registers (Some printer) l site values next a f x w
-print_made a b c d e f code registers printer l at site values next target x y z w told wanted asked u t = record {
+    → Gives d e target registers.stage.width (λ m r. min next (length code.stages)) → LeadsTo e f z w at target
+    → ((plan : Option StagePlan) → l ≤ length code.stages → StepIsWired code registers (Some printer) plan a f x w) → TakesPrint code registers (Some printer) l site values next a f x w
+print_made a b c d e f code registers printer l at site values next target x y z w told wanted asked u t wired = record {
+  wired = wired;
   step =
       off_steps registers l at a b f x w told
       (off_then at b c f x y w (want_off b c x y at wanted)
@@ -276,4 +302,8 @@ print_made a b c d e f code registers printer l at site values next target x y z
 -- without a printer a printf waits forever
 pub print_idle : (a b : List Signal) (code : ThreadCode) (registers : Registers) (printer : Option Printer) (l site : ℕ) (values : List ActOperand) (next : ℕ) (before after : Chains)
     → printer ≡ None → Idles registers l a b before after → TakesPrint code registers printer l site values next a b before after
-print_idle a b code registers printer l site values next before after none t = record { step = t.step; prints = λ bits known same. absurd cc }
+print_idle a b code registers printer l site values next before after none t = record {
+  step = t.step;
+  prints = λ bits known same. absurd cc;
+  wired = λ plan le least site_width known fits linked. t.wired least site_width code linked le;
+}

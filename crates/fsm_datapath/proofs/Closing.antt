@@ -15,7 +15,7 @@ use Rattle.verilog_meaning.specs.Readings.{Reading, width}
 use Rattle.circuit.specs.Modules.{Obeys}
 use Rattle.circuit.proofs.Growth.{take-next}
 use Rattle.operator_wires.specs.Gives.{Grows, Stands, Gives}
-use Rattle.operator_wires.proofs.Giving.{grows_then}
+use Rattle.operator_wires.proofs.Giving.{grows_refl, grows_then}
 use Rattle.block_datapath.specs.declared.registers.Held.{Held}
 use Rattle.block_datapath.specs.declared.registers.Registers.{Registers}
 use Rattle.fsm_datapath.specs.declared.shape.Printer.{Printer}
@@ -132,6 +132,9 @@ control_made a b c d e f h registers inputs x edge blocked free t u v w y z = re
         (grows_then c d m.signals v.grows (grows_then d e m.signals w.grows (grows_then e f m.signals y.grows (grows_then f h m.signals z.grows g))))
 
 -- ---- outputs
+
+pub fields_none : (a : List Signal) (site_width : ℕ) (fields : List ℕ) → LaysFields a a site_width fields 0
+fields_none a site_width fields = record { grows = grows_refl a; long = omega arith; each = λ k x lt there. absurd (omega arith) }
 
 pub fields_more : (a b c : List Signal) (site_width : ℕ) (fields : List ℕ) (n w place x : ℕ) → LaysFields a b site_width fields n → slice_get fields n ≡ Some x → w ≡ field_width site_width n
     → Stands b c w (Assigned (Copy x)) place → LaysFields a c site_width fields (n + 1)

@@ -18,7 +18,7 @@ use Rattle.netlist.specs.declared.netlist.Signal.{Signal}
 use Rattle.netlist.specs.declared.netlist.Source.{Source}
 use Rattle.netlist.specs.declared.netlist.Source.TheVariants as source
 use Rattle.operator_wires.specs.Gives.{Grows, Stands}
-use Rattle.operator_wires.proofs.Giving.{grows_then, listed}
+use Rattle.operator_wires.proofs.Giving.{grows_refl, grows_then, listed}
 use Rattle.thread_promise.specs.Types.{value_type}
 use Rattle.block_datapath.specs.declared.registers.Held.{Held}
 use Rattle.block_datapath.specs.declared.registers.Registers.{Registers}
@@ -46,6 +46,9 @@ stands_later a b place w d g t = record { signal = t.signal; listed = listed a b
 
 pub stand_later : (a b : List Signal) (from : ℕ) (widths : List ℕ) (registers : List Held) (n : ℕ) → Grows a b → StandFrom a from widths registers n → StandFrom b from widths registers n
 stand_later a b from widths registers n g t k w lt e = let f = t k w lt e in (f.0, f.1, f.2, f.3, stands_later a b (from + k) w (source.Register 0) g f.4)
+
+pub lays_none : (a : List Signal) (widths : List ℕ) (registers : List Held) → registers ≡ [] → LaysAll a a widths 0 registers
+lays_none a widths registers e = record { grows = grows_refl a; long = omega arith; count = ap length e; each = λ k w lt there. absurd (omega arith) }
 
 pub lays_more : (a b c : List Signal) (widths : List ℕ) (n : ℕ) (registers after : List Held) (w : ℕ) (h : Held) → LaysAll a b widths n registers → slice_get widths n ≡ Some w
     → LaysRegister b c w 0 h → after ≡ registers ++ h ∷ [] → LaysAll a c widths (n + 1) after

@@ -236,6 +236,7 @@ module _ (shape : Shape) (code : ThreadCode) (plan : Planned) (printer : Printer
     };
     done = slot_bit (first_output printer m + (printer.values + 3)) checked.ports.done;
     early = early_output;
+    acts = checked.ports.acts;
     alone =
         placed_is_sound m 3 (first_output printer m) checked.grades checked.are checked.ports.acts t.alone (shape_is shape code plan printer m t plain).memories checked.ports.placed
         checked.ports.begins;

@@ -1,3 +1,8 @@
+pub mod Wiring
+pub mod Linked
+pub mod Taken
+pub mod Between
+pub mod Steering
 pub mod Linking
 pub mod Acting
 pub mod Stepping
@@ -10,4 +15,7 @@ pub mod Placed
 pub mod Sight
 pub mod Ready
 pub mod Promising
+pub mod Grading
+pub mod Setting
+pub mod Forming
 pub mod Leafing

@@ -80,10 +80,10 @@ module _ (shape : Shape) (code : ThreadCode) (plan : Planned) (printer : Printer
   pub from_slot : Grows t.laid.with_slot m.signals
   from_slot = grows_then t.laid.with_slot t.laid.with_start m.signals t.laid.begins.grows from_start
 
-  from_inputs : Grows t.laid.with_inputs m.signals
+  pub from_inputs : Grows t.laid.with_inputs m.signals
   from_inputs = grows_then t.laid.with_inputs t.laid.with_slot m.signals t.laid.slot.grows from_slot
 
-  three : length t.laid.with_inputs ≡ 3
+  pub three : length t.laid.with_inputs ≡ 3
   three = t.laid.inputs.long printer plain.printer_is
 
   -- inputs
@@ -202,7 +202,7 @@ module _ (shape : Shape) (code : ThreadCode) (plan : Planned) (printer : Printer
   pub fields_count : length t.inside.chains.fields ≡ printer.values + 1
   fields_count = t.laid.walks.many.fields ∙ start_fields
 
-  before_outputs : length t.closed.with_control ≡ first_output printer m
+  pub before_outputs : length t.closed.with_control ≡ first_output printer m
   before_outputs =
       let long = t.closed.outputs.long printer plain.printer_is plain.main in
       let count = fields_count in
@@ -222,7 +222,7 @@ module _ (shape : Shape) (code : ThreadCode) (plan : Planned) (printer : Printer
       let at : length t.closed.with_control + 2 + length t.inside.chains.fields ≡ first_output printer m + (printer.values + 3) = omega arith in
       subst (λ (n : ℕ). CopiesAt m.signals n 1 t.inside.done) at (t.closed.outputs.done_at printer plain.printer_is plain.main)
 
-  need_stands : CopiesAt m.signals (first_output printer m + (printer.values + 2)) 1 t.inside.chains.needs
+  pub need_stands : CopiesAt m.signals (first_output printer m + (printer.values + 2)) 1 t.inside.chains.needs
   need_stands =
       let before = before_outputs in
       let count = fields_count in

@@ -30,7 +30,9 @@ use Rattle.block_datapath.specs.Chains.{next_number}
 use Rattle.block_datapath.specs.Leave.{HasRoom, LeavesBlock}
 use Rattle.fsm_datapath.specs.declared.shape.Printer.{Printer}
 use Rattle.fsm_datapath.specs.declared.chains.Chains.{Chains}
+use Rattle.operator_wires.proofs.Building.{wires_none, wires_then}
 use Rattle.fsm_datapath.specs.Links.{AreBits, LeadsTo, ShowSame, AreAsMany}
+use Rattle.fsm_datapath.specs.Wired.{StepIsWired}
 use Rattle.fsm_datapath.specs.Stages.{KnowsStage, StepsOver, Idles, EndsAt, LeavesAct, Prints, TakesReturn, TakesPrint, Runs, RunsBlock, DoesStage, TakesStage, WalksFirst, WalksAll}
 use Rattle.fsm_datapath.proofs.Linking.{lead_off, bits_later, same_refl, same_then, same_everywhere, still_later, has_stage, many_refl, many_then}
 
@@ -46,7 +48,8 @@ chosen_stage false S T L l e f = e
 module _ (globals : List IntegerType) (code : ThreadCode) (registers : Registers) (l : ℕ) (b : Block) (p : BlockPlan) (s0 s1 s2 s3 : List Signal) (before middle after : Chains) (left : Left)
     (same : middle ≡ record before { variables = middle.variables; kept = middle.kept })
     (leaves : LeavesBlock globals code registers l b p before.variables middle.variables left before.kept middle.kept s0 s1) (stores : Grows s1 s2)
-    (leads : LeadsTo s2 s3 middle after left.last left.target) where
+    (leads : LeadsTo s2 s3 middle after left.last left.target)
+    (wired : (printer : Option Printer) → l ≤ length code.stages → StepIsWired code registers printer (Some (planned.Run p)) s0 s3 before after) where
   back_1 : (m : Module) → Grows s3 m.signals → Grows s1 m.signals
   back_1 m g = grows_then s1 s2 m.signals stores (grows_then s2 s3 m.signals leads.grows g)
 
@@ -114,7 +117,7 @@ module _ (globals : List IntegerType) (code : ThreadCode) (registers : Registers
       }
 
   pub run_made : RunsBlock globals code registers l b p s0 s3 before after
-  run_made = record { step = block_step; wants = ap (λ (c : Chains). c.wants) leads.same ∙ ap (λ (c : Chains). c.wants) same; runs = block_runs }
+  run_made = record { step = block_step; wants = ap (λ (c : Chains). c.wants) leads.same ∙ ap (λ (c : Chains). c.wants) same; runs = block_runs; wired = wired }
 
 -- ---- stages of each kind
 
@@ -132,6 +135,7 @@ module _ (globals : List IntegerType) (code : ThreadCode) (registers : Registers
       returns = λ next e. absurd cc;
       quiet = λ none m r g o knows still here. ap r.signal t.wants ∙ still.wants;
     };
+    wired = subst (λ (z : StagePlan). l ≤ length code.stages → StepIsWired code registers printer (Some z) old new before after) (sym same) (t.wired printer);
   }
 
   -- a block without a plan of a block
@@ -145,6 +149,7 @@ module _ (globals : List IntegerType) (code : ThreadCode) (registers : Registers
       returns = λ next e. absurd cc;
       quiet = λ no m r g o knows still here. ap r.signal t.wants ∙ still.wants;
     };
+    wired = λ le least site_width known fits linked. t.wired least site_width code linked le;
   }
 
   -- an act that is neither a printf nor a return
@@ -158,6 +163,7 @@ module _ (globals : List IntegerType) (code : ThreadCode) (registers : Registers
       returns = λ to e. absurd (no_return cc);
       quiet = λ no m r g o knows still here. ap r.signal t.wants ∙ still.wants;
     };
+    wired = λ le least site_width known fits linked. t.wired least site_width code linked le;
   }
 
   pub return_taken : (a : Act) (next : ℕ) (plan : Option StagePlan) → a ≡ Return → TakesReturn code registers l old new before after
@@ -170,6 +176,7 @@ module _ (globals : List IntegerType) (code : ThreadCode) (registers : Registers
       returns = λ to e m r g o knows still here. t.returns bits m r g o knows still le here;
       quiet = λ no m r g o knows still here. ap r.signal t.wants ∙ still.wants;
     };
+    wired = λ le least site_width known fits linked. t.wired least site_width linked le;
   }
 
   pub print_taken : (a : Act) (next : ℕ) (plan : Option StagePlan) (site : ℕ) (values given : List ActOperand) → a ≡ Print site values → given ≡ values
@@ -188,6 +195,7 @@ module _ (globals : List IntegerType) (code : ThreadCode) (registers : Registers
       returns = λ to e. absurd cc;
       quiet = λ no. absurd (let clash : is_print (Some (stage.Act (Print site values) next)) ≡ false = ap (λ (z : Act). is_print (Some (stage.Act z next))) (sym same) ∙ no in cc);
     };
+    wired = λ le least site_width known fits linked. t.wired plan le least site_width known fits linked;
   }
 
 -- ---- one more stage
@@ -276,6 +284,7 @@ module _ (globals : List IntegerType) (code : ThreadCode) (registers : Registers
       bits = λ e. e;
       still = λ m r g o e knows none. same_refl r start;
       does = λ e variables kept k s lt. absurd (omega arith);
+      wired = λ least site_width known fits linked le. record { wires = wires_none least a; linked = linked };
     }
 
     pub walks_more : (b c : List Signal) (middle after : Chains) (n : ℕ) (s : Stage) → WalksFirst globals code registers printer plan a b start middle n → slice_get code.stages n ≡ Some s
@@ -299,6 +308,10 @@ module _ (globals : List IntegerType) (code : ThreadCode) (registers : Registers
           lifted k n x (slice_get plan.stages k) b c start middle after ne inside (t.bits e) u.step
           (t.does e variables kept k x (let less : k < n = omega arith in less) there))
           (same_or_not k n);
+      wired = λ least site_width known fits linked le.
+          let before = t.wired least site_width known fits linked inside in
+          let last = u.wired inside least site_width known (fits n) before.linked in
+          record { wires = wires_then least a b c before.wires last.wires; linked = last.linked };
     }
       where
         back : (m : Module) → Grows c m.signals → Grows b m.signals
@@ -324,6 +337,10 @@ module _ (globals : List IntegerType) (code : ThreadCode) (registers : Registers
           ((t.still m r (back m g) o e knows (λ k less is. absurd (let z : k ≡ length code.stages = sym is ∙ here in omega arith))).waits false still.waits);
       done_wide = u.told.wide;
       done_is = λ m r g o knows. u.told.shows m r g o knows.wide knows.room knows.fits;
+      wired = λ least site_width known fits linked.
+          let before = t.wired least site_width known fits linked (omega arith) in
+          let last = u.idles.wired least site_width code before.linked (omega arith) in
+          (record { wires = wires_then least a b c before.wires last.wires; linked = last.linked }, u.wired least site_width before.linked);
     }
       where
         back : (m : Module) → Grows c m.signals → Grows b m.signals

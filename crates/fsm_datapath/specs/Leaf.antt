@@ -1,4 +1,4 @@
--- The module of main, which prints, as a leaf of a net: its ports, and what is checked of it.
+-- The module of main, which prints, as a leaf of a net: its ports, and the order of its signals.
 use Rattle.std.specs.Prelude.{◌≡◌, ℕ, suc, ◌+◌, ◌<◌, false, nat_eq, if◌then◌else◌, List, length}
 use Rattle.block_ir.specs.declared.code.ThreadCode.{ThreadCode}
 use Rattle.block_ir.specs.declared.plan.Planned.{Planned}
@@ -51,9 +51,11 @@ pub record IsLeafOf (printer : Printer) (m : Module) : Type 0 where
   pub fits : FitsPorts m (leaf_of printer m) 1 (λ k. suc (suc printer.values)) (λ k. 0) (λ k j. 0)
   -- a text can tell it, and is well formed
   pub alone : IsSoundAlone m 3 (first_output printer m)
+  -- each statement sets a register to a number of its width
+  pub acts : EachOf (ActsRight m) m.actions
   -- no output hangs on an answer
   pub early : (x : ℕ) → x < printer.values + 4 → thread.late (first_output printer m + x) ≡ false
 
--- THE MODULE IS A LEAF where the check says so
-abbrev pub IsLeafWhereChecked : Shape → ThreadCode → Planned → Module → Type 0
-IsLeafWhereChecked shape code plan m = (printer : Printer) → IsPlain shape code plan printer → IsChecked printer m → IsLeafOf printer m
+-- THE MODULE IS A LEAF
+abbrev pub IsLeafOfPlainCode : Shape → ThreadCode → Planned → Module → Type 0
+IsLeafOfPlainCode shape code plan m = (printer : Printer) → IsPlain shape code plan printer → IsLeafOf printer m

@@ -6,4 +6,5 @@ pub mod Outputs
 pub mod Actions
 pub mod Modules
 pub mod Thread
+pub mod Wired
 pub mod Leaf

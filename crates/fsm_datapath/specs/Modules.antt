@@ -1,9 +1,11 @@
 -- A thread's module as its parts: ports, registers, the wires of its stages, when a state is left, and what an edge does.
-use Rattle.std.specs.Prelude.{◌≡◌, ℕ, if◌then◌else◌, List, [], length}
+use Rattle.std.specs.Prelude.{◌≡◌, ℕ, ◌+◌, ◌^◌, ◌≤◌, true, if◌then◌else◌, List, [], length, Some}
 use Rattle.block_ir.specs.declared.code.ThreadCode.{ThreadCode}
 use Rattle.block_ir.specs.declared.plan.Planned.{Planned}
 use Rattle.netlist.specs.declared.netlist.Signal.{Signal}
 use Rattle.netlist.specs.declared.netlist.Module.{Module}
+use Rattle.operator_wires.specs.Built.{IsEarlier, AreWires}
+use Rattle.fsm_datapath.specs.declared.shape.Printer.{Printer}
 use Rattle.fsm_datapath.specs.declared.shape.Shape.{Shape}
 use Rattle.fsm_datapath.specs.declared.chains.Chains.{Chains}
 use Rattle.fsm_datapath.specs.declared.control.Edge.{Edge}
@@ -14,6 +16,17 @@ use Rattle.fsm_datapath.specs.Slots.{LaysSlot, AreKeptWidths}
 use Rattle.fsm_datapath.specs.Control.{LaysInputs, Controls}
 use Rattle.fsm_datapath.specs.Outputs.{HasFieldWidths, LaysOutputs}
 use Rattle.fsm_datapath.specs.Actions.{actions_of}
+use Rattle.fsm_datapath.specs.Wired.{Behind, LaysThree, IsSlotRegister, IsNamedOutput, AreLinked, IsSteered, WiresControl}
+
+-- the inside stands in order, of a code without arrays: three inputs, registers, and wires that read signals behind the inputs
+pub record IsWiredInside (code : ThreadCode) (printer : Printer) (with_inputs with_slot new : List Signal) (inside : Inside) : Type 0 where
+  pub inputs : LaysThree [] with_inputs
+  pub registers : Behind IsSlotRegister with_inputs with_slot
+  pub long : length with_slot ≡ 6 + length code.variables + length inside.slot.kept
+  pub wires : AreWires 3 with_slot new
+  pub linked : AreLinked 3 new code inside.slot printer.site_width inside.chains
+  pub done : IsEarlier new 3 inside.done 1
+  pub stores : inside.stores ≡ []
 
 -- inputs, then registers, then the wires of all stages
 pub record LaysInside (shape : Shape) (code : ThreadCode) (plan : Planned) (old new : List Signal) (inside : Inside) : Type 0 where
@@ -29,12 +42,17 @@ pub record LaysInside (shape : Shape) (code : ThreadCode) (plan : Planned) (old 
   pub fields : HasFieldWidths shape.printer field_widths
   pub begins : Begins with_slot with_start inside.slot field_widths start
   pub walks : WalksAll shape.globals code inside.slot shape.printer plan with_start new start inside.chains inside.done
+  pub wired : (known : Printer) → shape.printer ≡ Some known → 1 ≤ known.site_width → known.site_width ≤ 64 → code.arrays ≡ [] → old ≡ []
+      → IsWiredInside code known with_inputs with_slot new inside
 
 -- then when a state is left, and the outputs
 pub record Closes (shape : Shape) (inside : Inside) (old new : List Signal) (edge : Edge) : Type 0 where
   pub with_control : List Signal
   pub controls : Controls old with_control inside.slot inside.inputs inside.chains edge
   pub outputs : LaysOutputs shape.printer shape.is_main with_control new edge.asks inside.chains.fields inside.chains.needs inside.done
+  pub wired : IsSteered 1 old inside.slot inside.inputs inside.chains → WiresControl 1 old with_control inside.slot inside.inputs inside.chains edge
+  pub named : shape.is_main ≡ true → Behind (IsNamedOutput (length new)) with_control new
+  pub few : shape.is_main ≡ true → length new ≤ 2 ^ 64
 
 -- THE MODULE, by its parts
 pub record IsModule (shape : Shape) (code : ThreadCode) (plan : Planned) (m : Module) : Type 0 where

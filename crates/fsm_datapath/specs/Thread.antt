@@ -64,6 +64,8 @@ pub record IsPlain (shape : Shape) (code : ThreadCode) (plan : Planned) (printer
   pub locals : (l k : ℕ) (b : Block) (o : Operation) → slice_get code.stages l ≡ Some (stage.Run b) → slice_get b.operations k ≡ Some o → IsLocal o
   pub registers : (l k x : ℕ) (b : Block) (p : BlockPlan) (o : Operation) → slice_get code.stages l ≡ Some (stage.Run b) → slice_get plan.stages l ≡ Some (planned.Run p) →
       slice_get b.operations k ≡ Some o → register_at p.registers k ≡ Some x → x < plan.registers
+  pub site_low : 1 ≤ printer.site_width
+  pub site_high : printer.site_width ≤ 64
   pub prints : (l site next : ℕ) (values : List ActOperand) → slice_get code.stages l ≡ Some (stage.Act (Print site values) next) → IsPrintable code printer site values next
 
 -- THE PROMISE of the module

@@ -1,6 +1,9 @@
 // When a state is left, and what follows it then.
 
-ghost use Rattle.std.specs.Prelude.{Some, IfOk};
+ghost use Rattle.std.specs.Prelude.{◌≡◌, ℕ, Some, IfOk};
+ghost use Rattle.operator_wires.specs.Built.{IsEarlier, Adds};
+ghost use Rattle.fsm_datapath.specs.declared.shape.Printer.{Printer};
+ghost use Rattle.fsm_datapath.specs.Wired.{LaysThree, IsSteered, WiresControl};
 ghost use Rattle.fsm_datapath.specs.Control.{LaysInputs, Blocks, Follows, Controls};
 
 use crate::chains::Chains;
@@ -32,7 +35,8 @@ pub struct Edge {
 }
 
 pub fn lay_inputs(wires: &mut Wires, printer: Option<Printer>) -> Result<Inputs, AllocError>
-    ensures { IfOk result (LaysInputs printer wires.old.signals wires.new.signals) }
+    ensures lays { IfOk result (LaysInputs printer wires.old.signals wires.new.signals) }
+    ensures wired { IfOk result (λ inputs. (known : Printer) → printer ≡ Some known → LaysThree wires.old.signals wires.new.signals) }
 {
     wires.input(Role::Clock, 1)?;
     let enable = wires.input(Role::Enable, 1)?;
@@ -58,7 +62,8 @@ pub fn control(
     inputs: Inputs,
     chains: &Chains,
 ) -> Result<Edge, AllocError>
-    ensures { IfOk result (Controls wires.old.signals wires.new.signals registers.now inputs chains.now) }
+    ensures controls { IfOk result (Controls wires.old.signals wires.new.signals registers.now inputs chains.now) }
+    ensures wired { IfOk result (λ edge. (least : ℕ) → IsSteered least wires.old.signals registers.now inputs chains.now → WiresControl least wires.old.signals wires.new.signals registers.now inputs chains.now edge) }
 {
     let asks = wires.both(chains.wants, inputs.enable)?;
     let blocked = blocked(wires, inputs.printed, chains.waits, chains.wants, asks)?;
@@ -82,7 +87,9 @@ fn blocked(
     wants: usize,
     asks: usize,
 ) -> Result<usize, AllocError>
-    ensures { IfOk result (Blocks wires.old.signals wires.new.signals printed waits wants asks) }
+    ensures blocks { IfOk result (Blocks wires.old.signals wires.new.signals printed waits wants asks) }
+    ensures wired { IfOk result (λ place. (least : ℕ) → IsEarlier wires.old.signals least waits 1 → IsEarlier wires.old.signals least wants 1 → IsEarlier wires.old.signals least asks 1
+        → ((grant : ℕ) → printed ≡ Some grant → IsEarlier wires.old.signals least grant 1) → Adds least wires.old.signals wires.new.signals 1 place) }
 {
     match printed {
         Some(grant) => unmet(wires, grant, waits, wants, asks),
@@ -97,7 +104,9 @@ fn unmet(
     wants: usize,
     asks: usize,
 ) -> Result<usize, AllocError>
-    ensures { IfOk result (Blocks wires.old.signals wires.new.signals (Some grant) waits wants asks) }
+    ensures blocks { IfOk result (Blocks wires.old.signals wires.new.signals (Some grant) waits wants asks) }
+    ensures wired { IfOk result (λ place. (least : ℕ) → IsEarlier wires.old.signals least waits 1 → IsEarlier wires.old.signals least wants 1 → IsEarlier wires.old.signals least asks 1
+        → IsEarlier wires.old.signals least grant 1 → Adds least wires.old.signals wires.new.signals 1 place) }
 {
     let granted = wires.both(asks, grant)?;
     let missing = wires.not(1, granted)?;
@@ -107,7 +116,9 @@ fn unmet(
 
 /// The state after this one: the first one of the next stage, or the next one of this stage.
 fn next_state(wires: &mut Wires, registers: &Registers, is_last: usize) -> Result<usize, AllocError>
-    ensures { IfOk result (Follows wires.old.signals wires.new.signals registers.now.state is_last) }
+    ensures follows { IfOk result (Follows wires.old.signals wires.new.signals registers.now.state is_last) }
+    ensures wired { IfOk result (λ place. (least : ℕ) → IsEarlier wires.old.signals least registers.now.state.register registers.now.state.width → IsEarlier wires.old.signals least is_last 1
+        → Adds least wires.old.signals wires.new.signals registers.now.state.width place) }
 {
     let state = registers.state;
     let one = wires.constant(state.width, 1)?;

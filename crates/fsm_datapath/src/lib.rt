@@ -35,6 +35,11 @@
 // - control, outputs, actions: when a state is left, the ports, and what an edge sets;
 // - module: all of it together (`IsModule`), from which follows that the module runs the code by its plan (`RunsCode`).
 //
+// The same functions promise, in clauses `wired`, that signals stand in order (specs/Wired): three inputs, registers,
+// wires each of which reads earlier signals of right widths behind the inputs, wires of control, and outputs, each under a
+// name that tells its place. So the signals have grades by their places: 0 is what registers alone reach, 1 what the enable
+// reaches, 2 what a grant reaches; and the module is a leaf of the net (`IsLeafOf`): no grant reaches a request.
+//
 // The slot of a reading: `stage`, `state` and `beat` are its numbers; a variable's register shows a value of its type;
 // a register of the plan shows, in its low bits, the value of each operation that is alive there in this state, and
 // whatever it likes where none is. The promise is made of the code of main without accesses of memory (`IsPlain`); of
@@ -44,7 +49,6 @@ mod actions;
 mod acts;
 mod chains;
 mod control;
-pub mod leaf;
 pub mod module;
 mod outputs;
 pub mod shape;

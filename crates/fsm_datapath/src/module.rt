@@ -1,10 +1,10 @@
 // The module of a thread.
 
-ghost use Rattle.std.specs.Prelude.{◌≡◌, length, IfOk};
+ghost use Rattle.std.specs.Prelude.{◌≡◌, [], length, IfOk};
 ghost use Rattle.fsm_datapath.specs.Stages.{WalksAll};
 ghost use Rattle.fsm_datapath.specs.Modules.{LaysInside, Closes, IsModule};
 ghost use Rattle.fsm_datapath.specs.Thread.{RunsPlainCode, HasShapeOfPlainCode};
-ghost use Rattle.fsm_datapath.specs.Leaf.{IsLeafWhereChecked};
+ghost use Rattle.fsm_datapath.specs.Leaf.{IsLeafOfPlainCode};
 
 use crate::actions::actions;
 use crate::chains::Chains;
@@ -33,7 +33,7 @@ pub fn module(
 ) -> Result<Module, AllocError>
     ensures runs { IfOk result (RunsPlainCode shape.now code.now planned.now) }
     ensures shape { IfOk result (HasShapeOfPlainCode shape.now code.now planned.now) }
-    ensures leaf { IfOk result (IsLeafWhereChecked shape.now code.now planned.now) }
+    ensures leaf { IfOk result (IsLeafOfPlainCode shape.now code.now planned.now) }
 {
     assembled(alloc, shape, code, planned)
 }
@@ -119,7 +119,8 @@ fn walk(
     printer: Option<Printer>,
     planned: &Planned,
 ) -> Result<usize, AllocError>
-    ensures { IfOk result (WalksAll globals.now code.now registers.now printer planned.now wires.old.signals wires.new.signals chains.old chains.new) }
+    ensures walks { IfOk result (WalksAll globals.now code.now registers.now printer planned.now wires.old.signals wires.new.signals chains.old chains.new) }
+    ensures stores { IfOk result (λ done. code.now.arrays ≡ [] → stores.new ≡ stores.old) }
 {
     take_stages(
         wires, registers, chains, stores, code, globals, printer, planned,

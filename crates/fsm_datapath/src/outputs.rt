@@ -1,6 +1,8 @@
 // The output ports.
 
-ghost use Rattle.std.specs.Prelude.{◌≡◌, ◌+◌, Some, length, IfOk, OnOk};
+ghost use Rattle.std.specs.Prelude.{◌≡◌, ℕ, ◌+◌, ◌≤◌, ◌^◌, true, Some, slice_get, length, IfOk, OnOk};
+ghost use Rattle.fsm_datapath.specs.declared.shape.Printer.{Printer};
+ghost use Rattle.fsm_datapath.specs.Wired.{Behind, IsNamedOutput};
 ghost use Rattle.fsm_datapath.specs.Outputs.{HasFieldWidths, LaysFields, LaysRequest, LaysDone, LaysOutputs, field_width};
 
 use crate::shape::Printer;
@@ -10,7 +12,8 @@ use std::alloc::{AllocError, Global};
 
 /// The widths of the fields of a request: of the site's number, then of each value.
 pub fn field_widths(alloc: Global, printer: Option<Printer>) -> Result<Items<u64>, AllocError>
-    ensures { IfOk result (HasFieldWidths printer) }
+    ensures count { IfOk result (HasFieldWidths printer) }
+    ensures each { IfOk result (λ widths. (known : Printer) (k w : ℕ) → printer ≡ Some known → slice_get widths k ≡ Some w → w ≡ field_width known.site_width k) }
 {
     match printer {
         Some(printer) => printed_widths(alloc, printer),
@@ -19,7 +22,8 @@ pub fn field_widths(alloc: Global, printer: Option<Printer>) -> Result<Items<u64
 }
 
 fn printed_widths(alloc: Global, printer: Printer) -> Result<Items<u64>, AllocError>
-    ensures { IfOk result (λ widths. length widths ≡ printer.values + 1) }
+    ensures count { IfOk result (λ widths. length widths ≡ printer.values + 1) }
+    ensures each { IfOk result (λ widths. (k w : ℕ) → slice_get widths k ≡ Some w → w ≡ field_width printer.site_width k) }
 {
     let mut widths = Items::from_slice(alloc, &[printer.site_width])?;
     widths.append(Items::from_vec(vec![in alloc; 64; printer.values]?))?;
@@ -36,7 +40,9 @@ pub fn lay_outputs(
     needs: usize,
     done: usize,
 ) -> Result<(), AllocError>
-    ensures { OnOk result (LaysOutputs printer is_main wires.old.signals wires.new.signals asks fields.now needs done) }
+    ensures lays { OnOk result (LaysOutputs printer is_main wires.old.signals wires.new.signals asks fields.now needs done) }
+    ensures named { OnOk result (is_main ≡ true → Behind (IsNamedOutput (length wires.new.signals)) wires.old.signals wires.new.signals) }
+    ensures few { OnOk result (is_main ≡ true → length wires.new.signals ≤ 2 ^ 64) }
 {
     lay_request(wires, printer, asks, fields)?;
     wires.output(Role::Need, 1, needs)?;
@@ -44,7 +50,9 @@ pub fn lay_outputs(
 }
 
 fn lay_done(wires: &mut Wires, is_main: bool, done: usize) -> Result<(), AllocError>
-    ensures { OnOk result (LaysDone is_main wires.old.signals wires.new.signals done) }
+    ensures lays { OnOk result (LaysDone is_main wires.old.signals wires.new.signals done) }
+    ensures named { OnOk result (is_main ≡ true → Behind (IsNamedOutput (length wires.old.signals + 1)) wires.old.signals wires.new.signals) }
+    ensures few { OnOk result (is_main ≡ true → length wires.new.signals ≤ 2 ^ 64) }
 {
     if is_main {
         wires.output(Role::Done, 1, done)?;
@@ -61,7 +69,8 @@ fn lay_request(
     asks: usize,
     fields: &[usize],
 ) -> Result<(), AllocError>
-    ensures { OnOk result (LaysRequest printer wires.old.signals wires.new.signals asks fields.now) }
+    ensures lays { OnOk result (LaysRequest printer wires.old.signals wires.new.signals asks fields.now) }
+    ensures named { OnOk result ((n : ℕ) → Behind (IsNamedOutput n) wires.old.signals wires.new.signals) }
 {
     match printer {
         Some(printer) => lay_ask(wires, printer, asks, fields),
@@ -75,14 +84,16 @@ fn lay_ask(
     asks: usize,
     fields: &[usize],
 ) -> Result<(), AllocError>
-    ensures { OnOk result (LaysRequest (Some printer) wires.old.signals wires.new.signals asks fields.now) }
+    ensures lays { OnOk result (LaysRequest (Some printer) wires.old.signals wires.new.signals asks fields.now) }
+    ensures named { OnOk result ((n : ℕ) → Behind (IsNamedOutput n) wires.old.signals wires.new.signals) }
 {
     wires.output(Role::Ask, 1, asks)?;
     lay_fields(wires, printer.site_width, fields)
 }
 
 fn lay_fields(wires: &mut Wires, site_width: u64, fields: &[usize]) -> Result<(), AllocError>
-    ensures { OnOk result (LaysFields wires.old.signals wires.new.signals site_width fields.now (length fields.now)) }
+    ensures lays { OnOk result (LaysFields wires.old.signals wires.new.signals site_width fields.now (length fields.now)) }
+    ensures named { OnOk result ((n : ℕ) → Behind (IsNamedOutput n) wires.old.signals wires.new.signals) }
 {
     for (number, field) in fields.iter().enumerate() {
         let width = width_of_field(site_width, number);

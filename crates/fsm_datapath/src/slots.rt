@@ -1,11 +1,13 @@
 // The registers of a slot, and how wide they are.
 
-ghost use Rattle.std.specs.Prelude.{◌≡◌, ℕ, ◌+◌, ◌^◌, ◌<◌, ◌≤◌, map, length, slice_get, Some, IfOk, if◌then◌else◌};
+ghost use Rattle.std.specs.Prelude.{◌≡◌, ℕ, ◌+◌, ◌^◌, ◌<◌, ◌≤◌, false, map, length, slice_get, Some, IfOk, if◌then◌else◌};
 ghost use Rattle.hls_ints.specs.Types.{width_of as type_width};
 ghost use Rattle.planned_view.specs.View.{register_at};
 ghost use Rattle.block_ir.specs.declared.plan.BlockPlan.{BlockPlan};
 ghost use Rattle.block_ir.specs.declared.code.Stage.TheVariants as taken;
 ghost use Rattle.block_ir.specs.declared.plan.StagePlan.TheVariants as planned;
+ghost use Rattle.operator_wires.specs.Built.{is_single};
+ghost use Rattle.fsm_datapath.specs.Wired.{Behind, AreFit, IsSlotRegister};
 ghost use Rattle.fsm_datapath.specs.Slots.{LaysRegister, LaysAll, LaysSlot, Widens, HasRoomAt, KeepsOperations, WidensStage, AreKeptWidths};
 
 use block_datapath::operations::{register_of, value_type};
@@ -20,7 +22,9 @@ use std::alloc::{AllocError, Global};
 
 /// The least width, from 1 on, in which a number can be written.
 fn width_of(number: u64) -> u64
-    ensures { number < 2 ^ result }
+    ensures room { number < 2 ^ result }
+    ensures low { 1 ≤ result }
+    ensures high { result ≤ 64 }
 {
     for width in 1..64u32 {
         if number >> width == 0 {
@@ -58,7 +62,9 @@ pub fn lay_registers(
     is_main: bool,
     kept_widths: &[u64],
 ) -> Result<Registers, AllocError>
-    ensures { IfOk result (LaysSlot code.now planned.now (if is_main then 0 else length code.now.stages) kept_widths.now wires.old.signals wires.new.signals) }
+    ensures slot { IfOk result (LaysSlot code.now planned.now (if is_main then 0 else length code.now.stages) kept_widths.now wires.old.signals wires.new.signals) }
+    ensures long { IfOk result (λ registers. length wires.new.signals ≡ length wires.old.signals + 3 + length code.now.variables + length kept_widths.now) }
+    ensures wired { IfOk result (λ registers. length wires.old.signals ≡ 3 → AreFit kept_widths.now → Behind IsSlotRegister wires.old.signals wires.new.signals) }
 {
     let end = code.stages.len() as u64;
     let width = width_of(end);
@@ -84,6 +90,8 @@ pub fn lay_registers(
 fn state_width(states: u64) -> u64
     ensures room { states ≤ 2 ^ result }
     ensures fits { states < 2 ^ 64 }
+    ensures low { 1 ≤ result }
+    ensures high { result ≤ 64 }
 {
     width_of(states.saturating_sub(1))
 }
@@ -95,7 +103,8 @@ fn first_stage(is_main: bool, end: u64) -> u64
 }
 
 fn lay_register(wires: &mut Wires, role: Role, width: u64, initial: u64) -> Result<Held, AllocError>
-    ensures { IfOk result (LaysRegister wires.old.signals wires.new.signals width initial) }
+    ensures lays { IfOk result (LaysRegister wires.old.signals wires.new.signals width initial) }
+    ensures wired { IfOk result (λ held. is_single role ≡ false → initial < 2 ^ width → 1 ≤ width → width ≤ 64 → Behind IsSlotRegister wires.old.signals wires.new.signals) }
 {
     let register = wires.register(role, width, initial)?;
     Ok(Held { register, width })
@@ -103,7 +112,8 @@ fn lay_register(wires: &mut Wires, role: Role, width: u64, initial: u64) -> Resu
 
 /// A register for each width, which begins with 0.
 fn lay_all(wires: &mut Wires, role: Role, widths: &[u64]) -> Result<Items<Held>, AllocError>
-    ensures { IfOk result (LaysAll wires.old.signals wires.new.signals widths.now (length widths.now)) }
+    ensures lays { IfOk result (LaysAll wires.old.signals wires.new.signals widths.now (length widths.now)) }
+    ensures wired { IfOk result (λ registers. is_single role ≡ false → AreFit widths.now → Behind IsSlotRegister wires.old.signals wires.new.signals) }
 {
     let mut registers = Items::new(wires.alloc);
     for width in widths {
@@ -132,7 +142,8 @@ pub fn kept_widths(
     planned: &Planned,
     globals: &[CType],
 ) -> Result<Items<u64>, AllocError>
-    ensures { IfOk result (AreKeptWidths globals.now code.now planned.now (length code.now.stages)) }
+    ensures widths { IfOk result (AreKeptWidths globals.now code.now planned.now (length code.now.stages)) }
+    ensures fit { IfOk result AreFit }
 {
     let mut widths = Items::from_vec(vec![in alloc; 1; planned.registers as usize]?);
     for (number, stage) in code.stages.as_slice().iter().enumerate() {
@@ -149,7 +160,8 @@ fn widen_stage(
     number: usize,
     stage: &Stage,
 )
-    ensures { WidensStage globals.now code.now stage.now (slice_get planned.now.stages number) widths.old widths.new }
+    ensures room { WidensStage globals.now code.now stage.now (slice_get planned.now.stages number) widths.old widths.new }
+    ensures fit { AreFit widths.old → AreFit widths.new }
 {
     match stage {
         Stage::Run(block) => match planned.stages.get(number) {
@@ -167,7 +179,8 @@ fn widen_block(
     block: &Block,
     plan: &StagePlan,
 )
-    ensures { WidensStage globals.now code.now (taken.Run block.now) (Some plan.now) widths.old widths.new }
+    ensures room { WidensStage globals.now code.now (taken.Run block.now) (Some plan.now) widths.old widths.new }
+    ensures fit { AreFit widths.old → AreFit widths.new }
 {
     match plan {
         StagePlan::Run(plan) => widen(widths, code, globals, block, plan),
@@ -182,7 +195,8 @@ fn widen(
     block: &Block,
     plan: &BlockPlan,
 )
-    ensures { KeepsOperations globals.now code.now block.now plan.now widths.old widths.new (length block.now.operations) }
+    ensures room { KeepsOperations globals.now code.now block.now plan.now widths.old widths.new (length block.now.operations) }
+    ensures fit { AreFit widths.old → AreFit widths.new }
 {
     for (number, operation) in block.operations.as_slice().iter().enumerate() {
         let width = u64::from(value_type(operation, code, globals).bits());
@@ -193,6 +207,7 @@ fn widen(
 fn widen_value(widths: &mut Items<u64>, plan: &BlockPlan, number: usize, width: u64)
     ensures more { Widens widths.old widths.new }
     ensures room { (x : ℕ) → register_at plan.now.registers number ≡ Some x → HasRoomAt widths.new x width }
+    ensures fit { width ≤ 64 → AreFit widths.old → AreFit widths.new }
 {
     match register_of(plan, number) {
         Some(register) => widen_one(widths, register as usize, width),
@@ -203,6 +218,7 @@ fn widen_value(widths: &mut Items<u64>, plan: &BlockPlan, number: usize, width: 
 fn widen_one(widths: &mut Items<u64>, register: usize, width: u64)
     ensures more { Widens widths.old widths.new }
     ensures room { HasRoomAt widths.new register width }
+    ensures fit { width ≤ 64 → AreFit widths.old → AreFit widths.new }
 {
     match width_at(widths.as_slice(), register) {
         Some(old) => widths.set(register, width.max(old)),

@@ -1,6 +1,6 @@
 // The wires of all stages, one after the other.
 
-ghost use Rattle.std.specs.Prelude.{length, slice_get, Option, Some, IfOk, OnOk};
+ghost use Rattle.std.specs.Prelude.{◌≡◌, [], length, slice_get, Option, Some, IfOk, OnOk};
 ghost use Rattle.block_ir.specs.declared.code.Stage.TheVariants as taken;
 ghost use Rattle.fsm_datapath.specs.declared.shape.Printer.{Printer};
 ghost use Rattle.fsm_datapath.specs.Stages.{RunsBlock, TakesStage, WalksFirst, EndsAt};
@@ -31,7 +31,8 @@ pub fn take_stages(
     printer: Option<Printer>,
     planned: &Planned,
 ) -> Result<(), AllocError>
-    ensures { OnOk result (WalksFirst globals.now code.now registers.now printer planned.now wires.old.signals wires.new.signals chains.old chains.new (length code.now.stages)) }
+    ensures walks { OnOk result (WalksFirst globals.now code.now registers.now printer planned.now wires.old.signals wires.new.signals chains.old chains.new (length code.now.stages)) }
+    ensures stores { OnOk result (code.now.arrays ≡ [] → stores.new ≡ stores.old) }
 {
     for (number, stage) in code.stages.as_slice().iter().enumerate() {
         take_stage(
@@ -68,7 +69,8 @@ fn take_stage(
     number: usize,
     stage: &Stage,
 ) -> Result<(), AllocError>
-    ensures { OnOk result (TakesStage globals.now code.now registers.now printer number stage.now (slice_get planned.now.stages number) wires.old.signals wires.new.signals chains.old chains.new) }
+    ensures takes { OnOk result (TakesStage globals.now code.now registers.now printer number stage.now (slice_get planned.now.stages number) wires.old.signals wires.new.signals chains.old chains.new) }
+    ensures stores { OnOk result (code.now.arrays ≡ [] → stores.new ≡ stores.old) }
 {
     match stage {
         Stage::Run(block) => match planned.stages.get(number) {
@@ -95,8 +97,9 @@ fn take_block(
     block: &Block,
     plan: &StagePlan,
 ) -> Result<(), AllocError>
-    ensures { OnOk result ((printer : Option Printer) → TakesStage globals.now code.now registers.now printer number (taken.Run block.now) (Some plan.now) wires.old.signals wires.new.signals
+    ensures takes { OnOk result ((printer : Option Printer) → TakesStage globals.now code.now registers.now printer number (taken.Run block.now) (Some plan.now) wires.old.signals wires.new.signals
         chains.old chains.new) }
+    ensures stores { OnOk result (code.now.arrays ≡ [] → stores.new ≡ stores.old) }
 {
     match plan {
         StagePlan::Run(plan) => run(
@@ -118,7 +121,8 @@ fn run(
     block: &Block,
     plan: &BlockPlan,
 ) -> Result<(), AllocError>
-    ensures { OnOk result (RunsBlock globals.now code.now registers.now number block.now plan.now wires.old.signals wires.new.signals chains.old chains.new) }
+    ensures runs { OnOk result (RunsBlock globals.now code.now registers.now number block.now plan.now wires.old.signals wires.new.signals chains.old chains.new) }
+    ensures stores { OnOk result (code.now.arrays ≡ [] → stores.new ≡ stores.old) }
 {
     let left = leave_block(
         wires,

@@ -1,6 +1,8 @@
 // Stores into the memories of a module.
 
-ghost use Rattle.std.specs.Prelude.{OnOk};
+ghost use Rattle.std.specs.Prelude.{◌≡◌, [], ℕ, slice_get, OnOk};
+ghost use Rattle.operator_wires.specs.Built.{AreWires};
+ghost use Rattle.fsm_datapath.specs.Wired.{AreSlots, ValuesStand};
 ghost use Rattle.operator_wires.specs.Gives.{Grows};
 
 use block_datapath::operands::{Given, operand_word};
@@ -36,7 +38,9 @@ pub fn store_all(
     values: &[Given],
     end: Moment,
 ) -> Result<(), AllocError>
-    ensures { OnOk result (Grows wires.old.signals wires.new.signals) }
+    ensures grows { OnOk result (Grows wires.old.signals wires.new.signals) }
+    ensures bare { OnOk result (code.now.arrays ≡ [] → stores.new ≡ stores.old) }
+    ensures wired { OnOk result ((least : ℕ) → AreSlots least wires.old.signals code.now registers.now → ValuesStand least wires.old.signals values.now → AreWires least wires.old.signals wires.new.signals) }
 {
     for (number, operation) in block.operations.as_slice().iter().enumerate() {
         let start = plan.starts.get(number).copied().unwrap_or(0);
@@ -60,7 +64,9 @@ fn store_one(
     operation: &Operation,
     moment: Moment,
 ) -> Result<(), AllocError>
-    ensures { OnOk result (Grows wires.old.signals wires.new.signals) }
+    ensures grows { OnOk result (Grows wires.old.signals wires.new.signals) }
+    ensures bare { OnOk result (code.now.arrays ≡ [] → stores.new ≡ stores.old) }
+    ensures wired { OnOk result ((least : ℕ) → AreSlots least wires.old.signals code.now registers.now → ValuesStand least wires.old.signals values.now → AreWires least wires.old.signals wires.new.signals) }
 {
     match operation {
         Operation::WriteArray {
@@ -93,15 +99,23 @@ fn write_array(
     value: &Operand,
     moment: Moment,
 ) -> Result<(), AllocError>
-    ensures { OnOk result (Grows wires.old.signals wires.new.signals) }
+    ensures grows { OnOk result (Grows wires.old.signals wires.new.signals) }
+    ensures bare { OnOk result (code.now.arrays ≡ [] → stores.new ≡ stores.old) }
+    ensures wired { OnOk result ((least : ℕ) → AreSlots least wires.old.signals code.now registers.now → ValuesStand least wires.old.signals values.now → AreWires least wires.old.signals wires.new.signals) }
 {
     let types = code.variables.as_slice();
     let index = operand_word(wires, registers, types, values, index, moment.state)?;
     let value = operand_word(wires, registers, types, values, value, moment.state)?;
-    match code.arrays.get(array).copied() {
+    match array_at(code.arrays.as_slice(), array) {
         Some(own) => put(wires, registers, stores, array, own, index, value, moment),
         None => Ok(()),
     }
+}
+
+fn array_at(arrays: &[Array], number: usize) -> Option<Array>
+    ensures { result ≡ slice_get arrays.now number }
+{
+    arrays.get(number).copied()
 }
 
 fn put(
@@ -114,7 +128,7 @@ fn put(
     value: Word,
     moment: Moment,
 ) -> Result<(), AllocError>
-    ensures { OnOk result (Grows wires.old.signals wires.new.signals) }
+    ensures grows { OnOk result (Grows wires.old.signals wires.new.signals) }
 {
     let condition = in_state(wires, registers, moment)?;
     let address = address(wires, index, array.length)?;

@@ -1,5 +1,4 @@
 // The module of a small thread.
-use crate::leaf::is_sound_leaf;
 use crate::module::module;
 use crate::shape::{Printer, Shape};
 use block_ir::block::{Block, Final, Next, Operation};
@@ -122,22 +121,5 @@ fn ports_and_registers(rt: HostRuntime) -> Result<(), Fail> {
     assert!(rt; is_named(done, "done"));
     assert_eq!(rt; built.actions.len(), 4);
     assert_eq!(rt; built.instances.len(), 0);
-    Ok(())
-}
-
-/// The module passes the check of a leaf; with a printer of other values it does not.
-#[test]
-fn passes_its_check(rt: HostRuntime) -> Result<(), Fail> {
-    let built = built(rt.alloc())?;
-    let printer = Printer {
-        site_width: 4,
-        values: 2,
-    };
-    assert!(rt; is_sound_leaf(rt.alloc(), &built, printer)?);
-    let other = Printer {
-        site_width: 4,
-        values: 3,
-    };
-    assert!(rt; !is_sound_leaf(rt.alloc(), &built, other)?);
     Ok(())
 }

@@ -6,7 +6,7 @@ use Rattle.c_program.specs.Resolved.{IsResolved}
 use Rattle.block_ir.specs.declared.code.ThreadCode.{ThreadCode}
 use Rattle.netlist.specs.declared.netlist.Module.{Module}
 use Rattle.code_following.specs.Following.{IsLowered, print_formats}
-use Rattle.ir_lower.specs.Taken.{is_straight_program}
+use Rattle.ir_lower.specs.Taken.{is_sequential_program}
 use Rattle.ir_lower.specs.Typed.{IsTypedCode}
 use Rattle.program_machine.specs.Built.{IsSingle, IsCode, IsThreadModule, part_of}
 use Rattle.planned_code.specs.Planned.{HasScalars}
@@ -15,8 +15,8 @@ use Rattle.fsm_datapath.specs.Leaf.{leaf_of}
 use Rattle.whole_net.specs.Table.{IsArbiterModule}
 use Rattle.whole_net.specs.Whole.{IsGoodOfParts}
 use Rattle.good_verilog.specs.GoodVerilog.{IsGoodVerilog}
-use Rattle.hls_compile.specs.Parts.{main_printer, IsMainOf, IsPrinterFor}
-use Rattle.hls_compile.specs.Compiled.{IsStraight}
+use Rattle.hls_compile.specs.Parts.{main_printer, IsMadeOf, IsPrinterFor}
+use Rattle.hls_compile.specs.Compiled.{IsScalar}
 use Rattle.hls_compile.proofs.Plain.{is_plain}
 use Rattle.hls_compile.proofs.Main.{stands, is_thread}
 
@@ -28,32 +28,30 @@ few_formats P printer is =
     (let few = is.few in omega (arith, long, same, few))
 
 module _ (P : Program) (code : ThreadCode) (main arbiter printer : Module) (text : List ℕ)
-    (resolved : IsResolved P) (single : IsSingle P) (is_main : IsMainOf code main) (is_arbiter : IsArbiterModule arbiter) (is_printer : IsPrinterFor P printer) where
+    (resolved : IsResolved P) (single : IsSingle P) (is_main : IsMadeOf code main) (is_arbiter : IsArbiterModule arbiter) (is_printer : IsPrinterFor P printer) where
   module _ (scalars : HasScalars P) (lowered : IsLowered P code) (typed : IsTypedCode P code) where
-    coded : IsCode P code is_main.made.plan 4
-    coded = sequential_is_code P code is_main.made.plan resolved single scalars lowered typed is_main.made.sequential
+    coded : IsCode P code is_main.plan 4
+    coded = sequential_is_code P code is_main.plan resolved single scalars lowered typed is_main.sequential
 
     is_good : IsGoodOfParts main arbiter printer text → IsGoodVerilog P text
     is_good good =
-        let plain = is_plain P code is_main.made.plan (few_formats P printer is_printer) coded typed is_main.made.sequential in
-        let shape = is_main.made.shape main_printer plain in
-        let checked = is_main.checked coded.arrays in
-        let leaf = is_main.made.leaf main_printer plain checked in
-        let acts = checked.ports.acts in
-        let runs = is_main.made.runs main_printer plain in
-        let thread = is_thread main shape leaf acts code is_main.made.plan runs in
+        let plain = is_plain P code is_main.plan (few_formats P printer is_printer) coded typed is_main.sequential in
+        let shape = is_main.shape main_printer plain in
+        let leaf = is_main.leaf main_printer plain in
+        let runs = is_main.runs main_printer plain in
+        let thread = is_thread main shape leaf code is_main.plan runs in
         let wide = is_printer.of_program.wide in
-        good P code is_main.made.plan 3 (leaf_of main_printer main) is_printer.shape
+        good P code is_main.plan 3 (leaf_of main_printer main) is_printer.shape
         (record {
           resolved = resolved;
           single = single;
-          coded = subst (IsCode P code is_main.made.plan) (sym wide) coded;
-          module_ = subst (λ v. IsThreadModule code is_main.made.plan v main 3 (leaf_of main_printer main)) (sym wide) thread;
+          coded = subst (IsCode P code is_main.plan) (sym wide) coded;
+          module_ = subst (λ v. IsThreadModule code is_main.plan v main 3 (leaf_of main_printer main)) (sym wide) thread;
           printer = record { threads = is_printer.of_program.threads; wide = refl; sites = is_printer.of_program.sites };
         })
-        is_printer.of_program (stands main shape leaf acts) is_arbiter is_printer.is
+        is_printer.of_program (stands main shape leaf) is_arbiter is_printer.is
 
   -- as the functions of lowering and of the text promise them
-  pub text_is_good : (is_straight_program P ≡ true → IsResolved P → IsLowered P code) → (is_straight_program P ≡ true → IsResolved P → IsTypedCode P code) →
-      IsGoodOfParts main arbiter printer text → IsStraight P → IsGoodVerilog P text
-  text_is_good lowered typed good straight = is_good straight.scalars (lowered straight.straight resolved) (typed straight.straight resolved) good
+  pub text_is_good : (is_sequential_program P ≡ true → IsResolved P → IsLowered P code) → (is_sequential_program P ≡ true → IsResolved P → IsTypedCode P code) →
+      IsGoodOfParts main arbiter printer text → IsScalar P → IsGoodVerilog P text
+  text_is_good lowered typed good scalar = is_good scalar.scalars (lowered scalar.sequential resolved) (typed scalar.sequential resolved) good

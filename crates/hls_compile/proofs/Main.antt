@@ -45,7 +45,7 @@ module _ (m : Module) (shape : HasShape main_shape main_printer m) where
   at_output (suc (suc (suc (suc (suc (suc (suc zero))))))) w e = let q : 1 ≡ w = cc in there (first + 7) (first + 7) 1 w refl q shape.done
   at_output (suc (suc (suc (suc (suc (suc (suc (suc x)))))))) w e = absurd cc
 
-  module _ (leaf : IsLeafOf main_printer m) (acts : EachOf (ActsRight m) m.actions) where
+  module _ (leaf : IsLeafOf main_printer m) where
     pub stands : IsMainModule 4 m 3 (leaf_of main_printer m)
     stands = record {
       named = shape.named;
@@ -60,7 +60,7 @@ module _ (m : Module) (shape : HasShape main_shape main_printer m) where
         laid = leaf.alone.laid;
         sound = leaf.alone.sound (ap is_clk shape.named);
       };
-      silent = silent_each m m.actions acts;
+      silent = silent_each m m.actions leaf.acts;
       inputs_are = refl;
       enable = refl;
       grant = refl;

@@ -111,5 +111,7 @@ module _ (P : Program) (code : ThreadCode) (plan : Planned) (few : length (print
     arrays = coded.arrays;
     locals = λ l k b o at listed. is_local o ((coded.stages l (stage.Run b) at).0 k o listed);
     registers = enough;
+    site_low = (let some : 1 ≤ 16 = omega arith in some);
+    site_high = (let few : 16 ≤ 64 = omega arith in few);
     prints = printable;
   }

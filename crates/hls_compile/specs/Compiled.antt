@@ -2,22 +2,22 @@
 use Rattle.std.specs.Prelude.{◌≡◌, ℕ, List, true}
 use Rattle.c_program.specs.Tree.{Program}
 use Rattle.c_program.specs.Weight.{thread_count}
-use Rattle.ir_lower.specs.Taken.{is_straight_program}
+use Rattle.ir_lower.specs.Taken.{is_sequential_program}
 use Rattle.planned_code.specs.Planned.{HasScalars}
 use Rattle.good_verilog.specs.GoodVerilog.{IsGoodVerilog}
 use Rattle.c_profile.specs.Profile.{IsAccepted}
 
--- main does without control and calls, and its locals are scalars
-pub record IsStraight (P : Program) : Type 0 where
-  pub straight : is_straight_program P ≡ true
+-- main makes no pthread call, and its locals are scalars
+pub record IsScalar (P : Program) : Type 0 where
+  pub sequential : is_sequential_program P ≡ true
   pub scalars : HasScalars P
 
--- the text is accepted as a program of so many threads and this weight; and what is written is good Verilog of a straight one
+-- the text is accepted as a program of so many threads and this weight; and what is written is good Verilog of a scalar one
 pub record IsCompiled (text : List ℕ) (threads weight : ℕ) (written : List ℕ) : Type 0 where
   pub program : Program
   pub accepted : IsAccepted text program weight
   pub counted : threads ≡ thread_count program
-  pub good : IsStraight program → IsGoodVerilog program written
+  pub good : IsScalar program → IsGoodVerilog program written
 
 -- the text is accepted, though not all of it is built
 pub record IsUnbuilt (text : List ℕ) : Type 0 where

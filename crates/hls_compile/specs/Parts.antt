@@ -7,7 +7,7 @@ use Rattle.block_ir.specs.declared.code.ThreadCode.{ThreadCode}
 use Rattle.block_ir.specs.declared.plan.Planned.{Planned}
 use Rattle.fsm_plan.specs.Sequential.{IsSequential}
 use Rattle.fsm_datapath.specs.Thread.{RunsPlainCode, HasShapeOfPlainCode}
-use Rattle.fsm_datapath.specs.Leaf.{IsChecked, IsLeafWhereChecked}
+use Rattle.fsm_datapath.specs.Leaf.{IsLeafOfPlainCode}
 use Rattle.fsm_datapath.specs.declared.shape.Printer.{Printer}
 use Rattle.fsm_datapath.specs.declared.shape.Shape.{Shape as ThreadShape}
 use Rattle.program_machine.specs.Built.{IsPrinterOf}
@@ -27,14 +27,10 @@ main_printer = record { site_width = 16; values = 4 }
 abbrev pub main_shape : ThreadShape
 main_shape = record { name = codes "fn_main"; is_main = true; globals = []; printer = Some main_printer }
 
--- main's module by the sequential plan of its code, as `module` makes it; and as it is checked, where there are no arrays
+-- main's module by the sequential plan of its code, as `module` makes it
 pub record IsMadeOf (code : ThreadCode) (m : Module) : Type 0 where
   pub plan : Planned
   pub sequential : IsSequential code plan
   pub runs : RunsPlainCode main_shape code plan m
   pub shape : HasShapeOfPlainCode main_shape code plan m
-  pub leaf : IsLeafWhereChecked main_shape code plan m
-
-pub record IsMainOf (code : ThreadCode) (m : Module) : Type 0 where
-  pub made : IsMadeOf code m
-  pub checked : code.arrays ≡ [] → IsChecked main_printer m
+  pub leaf : IsLeafOfPlainCode main_shape code plan m

@@ -8,14 +8,14 @@ mod unbuilt;
 ghost use Rattle.std.specs.Prelude.{◌≡◌, ◌≢◌, true, IfOk, IfErr, OnOk};
 ghost use Rattle.c_program.specs.Resolved.{IsResolved};
 ghost use Rattle.code_following.specs.Following.{IsLowered};
-ghost use Rattle.ir_lower.specs.Taken.{is_straight_program};
+ghost use Rattle.ir_lower.specs.Taken.{is_sequential_program};
 ghost use Rattle.ir_lower.specs.Typed.{IsTypedCode};
 ghost use Rattle.program_machine.specs.Built.{IsSingle};
 ghost use Rattle.good_verilog.specs.GoodVerilog.{IsGoodVerilog};
 ghost use Rattle.c_program.specs.Plain.{program_of};
 ghost use Rattle.c_profile.specs.declared.refusal.Refusal as refusal;
 ghost use Rattle.c_profile.specs.Profile.{IsAccepted, IsRefused};
-ghost use Rattle.hls_compile.specs.Compiled.{IsCompiled, IsStraight, IsUnbuilt};
+ghost use Rattle.hls_compile.specs.Compiled.{IsCompiled, IsScalar, IsUnbuilt};
 ghost use Rattle.hls_compile.specs.declared.CompileError.TheVariants as error;
 ghost use Rattle.hls_compile.specs.declared.unbuilt.Construct as construct;
 
@@ -72,8 +72,8 @@ impl From<AllocError> for BuildError {
 fn code_of(alloc: Global, program: &Program) -> Result<ThreadCode, BuildError>
     ensures resolved { OnOk result (IsResolved (program_of program.now)) }
     ensures single { OnOk result (IsSingle (program_of program.now)) }
-    ensures lowered { IfOk result (λ code. is_straight_program (program_of program.now) ≡ true → IsResolved (program_of program.now) → IsLowered (program_of program.now) code) }
-    ensures typed { IfOk result (λ code. is_straight_program (program_of program.now) ≡ true → IsResolved (program_of program.now) → IsTypedCode (program_of program.now) code) }
+    ensures lowered { IfOk result (λ code. is_sequential_program (program_of program.now) ≡ true → IsResolved (program_of program.now) → IsLowered (program_of program.now) code) }
+    ensures typed { IfOk result (λ code. is_sequential_program (program_of program.now) ≡ true → IsResolved (program_of program.now) → IsTypedCode (program_of program.now) code) }
 {
     if !is_resolved(alloc, program)? {
         return Err(BuildError::NotBuilt(Construct::Unchecked));
@@ -84,7 +84,7 @@ fn code_of(alloc: Global, program: &Program) -> Result<ThreadCode, BuildError>
     match ir_lower::statements::lower(alloc, program) {
         Ok(code) => Ok(code),
         Err(LoweringFault::Memory) => Err(BuildError::Memory),
-        Err(LoweringFault::NotYet | LoweringFault::TooLarge) => {
+        Err(LoweringFault::NotYet | LoweringFault::TooLarge | LoweringFault::Label) => {
             Err(BuildError::NotBuilt(Construct::Size))
         }
     }
@@ -92,12 +92,10 @@ fn code_of(alloc: Global, program: &Program) -> Result<ThreadCode, BuildError>
 
 /// The Verilog of a program.
 fn text_of(alloc: Global, program: &Program) -> Result<Bytes, BuildError>
-    ensures { IfOk result (λ text. IsStraight (program_of program.now) → IsGoodVerilog (program_of program.now) text) }
+    ensures { IfOk result (λ text. IsScalar (program_of program.now) → IsGoodVerilog (program_of program.now) text) }
 {
     let code = code_of(alloc, program)?;
-    let Some(main) = parts::main_module(alloc, &code)? else {
-        return Err(BuildError::NotBuilt(Construct::Unchecked));
-    };
+    let main = parts::main_module(alloc, &code)?;
     let Some(printer) = parts::printer_module(alloc, program)? else {
         return Err(BuildError::NotBuilt(Construct::Size));
     };

@@ -1,16 +1,14 @@
 // The parts of the hardware of a program.
 
-ghost use Rattle.std.specs.Prelude.{◌≡◌, [], IfOk, IfSome, IsTrue};
+ghost use Rattle.std.specs.Prelude.{◌≡◌, IfOk, IfSome};
 ghost use Rattle.c_program.specs.Plain.{program_of};
 ghost use Rattle.whole_net.specs.Table.{IsArbiterModule};
-ghost use Rattle.fsm_datapath.specs.Leaf.{IsChecked};
-ghost use Rattle.hls_compile.specs.Parts.{main_printer, main_shape, IsMadeOf, IsMainOf, IsPrinterFor};
+ghost use Rattle.hls_compile.specs.Parts.{main_shape, IsMadeOf, IsPrinterFor};
 
 use crate::sites::{PRINT_VALUES, fit_printer, print_sites};
 use bank_arbiter::arbiter;
 use block_ir::code::ThreadCode;
 use c_program::tree::Program;
-use fsm_datapath::leaf::is_sound_leaf;
 use fsm_datapath::module::module;
 use fsm_datapath::shape as thread;
 use fsm_plan::sequential::plan;
@@ -39,32 +37,13 @@ fn main_shape(alloc: Global) -> Result<thread::Shape, AllocError>
 }
 
 /// The module of main by the sequential plan of its code.
-fn made_module(alloc: Global, code: &ThreadCode) -> Result<Module, AllocError>
+pub fn main_module(alloc: Global, code: &ThreadCode) -> Result<Module, AllocError>
     ensures { IfOk result (IsMadeOf code.now) }
 {
     let plan = plan(alloc, code)?;
     let shape = main_shape(alloc)?;
     let made = module(alloc, &shape, code, &plan)?;
     Ok(made)
-}
-
-/// Whether the module of main is seen to stand in the net. One with arrays is taken unseen.
-fn is_in_order(alloc: Global, code: &ThreadCode, made: &Module) -> Result<bool, AllocError>
-    ensures { IfOk result (λ t. IsTrue t → code.now.arrays ≡ [] → IsChecked main_printer made.now) }
-{
-    if code.arrays.is_empty() {
-        return is_sound_leaf(alloc, made, PRINTER);
-    }
-    Ok(true)
-}
-
-/// The module of main, where it is in order.
-pub fn main_module(alloc: Global, code: &ThreadCode) -> Result<Option<Module>, AllocError>
-    ensures { IfOk result (λ found. IfSome found (IsMainOf code.now)) }
-{
-    let made = made_module(alloc, code)?;
-    let is_fit = is_in_order(alloc, code, &made)?;
-    if is_fit { Ok(Some(made)) } else { Ok(None) }
 }
 
 /// The module of the printer's arbiter.

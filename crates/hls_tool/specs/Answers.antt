@@ -1,14 +1,22 @@
 -- What a call owes for the task that its words ask for and the text that its source gives.
 use Rattle.std.specs.Prelude.{◌≡◌, ℕ, ◌<◌, List, [], length, Option, Some, None, IfSome, IsSome}
 use Rattle.hls_words.specs.declared.task.Task.{Task}
-use Rattle.hls_words.specs.declared.task.Task.TheVariants.{Build}
+use Rattle.hls_words.specs.declared.task.Task.TheVariants.{Build, Walk}
+use Rattle.turns.specs.declared.Turn.{Turn}
+use Rattle.turns.specs.Turns.{threads_of}
+use Rattle.c_program.specs.Tree.{Program}
+use Rattle.c_interpreter.specs.declared.walk.WalkEnd.{WalkEnd as Ends}
+use Rattle.c_interpreter.specs.declared.walk.WalkEnd.TheVariants as ends
+use Rattle.c_interpreter.specs.Walk.{IsWalk}
 use Rattle.c_profile.specs.declared.refusal.Refusal.{Refusal}
 use Rattle.c_profile.specs.declared.refusal.Refusal.TheVariants as refusal
-use Rattle.c_profile.specs.Profile.{most_bytes, IsRefused}
+use Rattle.c_profile.specs.Profile.{most_bytes, IsAccepted, IsRefused}
 use Rattle.hls_compile.specs.Compiled.{IsCompiled, IsUnbuilt}
 use Rattle.hls_tool.specs.declared.status.Status.{Status}
 use Rattle.hls_tool.specs.declared.status.Status.TheVariants as status
-use Rattle.hls_tool.specs.Lines.{built_line, memory_line, read_fault_line, refusal_line, unbuilt_line, usage_line}
+use Rattle.hls_tool.specs.declared.status.WalkEnd.{WalkEnd}
+use Rattle.hls_tool.specs.declared.status.WalkEnd.TheVariants as walked
+use Rattle.hls_tool.specs.Lines.{built_line, memory_line, read_fault_line, refusal_line, unbuilt_line, usage_line, walk_line}
 
 -- what a call owes: its status, the Verilog, the bytes for out and the line for err
 pub record Due : Type 0 where
@@ -40,7 +48,7 @@ IsUnbuiltBy left = (text : List ℕ) × Gave left text × IsUnbuilt text
 
 -- ---- what each command owes
 
--- the text is accepted as a program of so many threads and this weight, and its Verilog, good Verilog of a straight program,
+-- the text is accepted as a program of so many threads and this weight, and its Verilog, good Verilog of a scalar program,
 -- goes to out
 pub record IsBuilt (left : Option (List ℕ)) (d : Due) : Type 0 where
   pub text : List ℕ
@@ -51,10 +59,40 @@ pub record IsBuilt (left : Option (List ℕ)) (d : Due) : Type 0 where
   pub out : d.out ≡ d.text
   pub err : d.err ≡ built_line threads weight (length d.text)
 
+-- main returned, or the walk ended before
+abbrev pub status_of : Ends → Status
+status_of (ends.Ended steps) = status.Ok
+status_of (ends.Listed steps) = status.Walked (walked.Listed steps)
+status_of (ends.Blocked index thread cause) = status.Walked (walked.Blocked index thread cause)
+status_of (ends.Undefined index offset cause) = status.Walked (walked.Undefined index offset cause)
+
+-- the text is accepted as a program, the listed threads took steps of it up to this end, and what was printed goes to out
+pub record IsWalked (turns : List Turn) (left : Option (List ℕ)) (d : Due) (s : Status) : Type 0 where
+  pub text : List ℕ
+  pub program : Program
+  pub weight : ℕ
+  pub gave : Gave left text
+  pub accepted : IsAccepted text program weight
+  pub end : Ends
+  pub walked : IsWalk program (threads_of turns) end d.out
+  pub status : s ≡ status_of end
+  pub plain : d.text ≡ []
+  pub err : d.err ≡ walk_line end
+
 -- the task did all that it asks for
 abbrev pub Succeeds : Option Task → Option (List ℕ) → Due → Type 0
 Succeeds None left d = ⊥
 Succeeds (Some Build) left d = IsBuilt left d
+Succeeds (Some (Walk turns)) left d = IsWalked turns left d status.Ok
+
+-- a walk ended so, before main returned
+abbrev pub Halts : Option Task → Option (List ℕ) → Due → Status → Type 0
+Halts (Some (Walk turns)) left d s = IsWalked turns left d s
+Halts other left d s = ⊥
+
+-- the words ask for a walk, and the program of the text comes to this end by it
+abbrev pub IsWalkEnd : Option Task → Option (List ℕ) → WalkEnd → Type 0
+IsWalkEnd task left end = (d : Due) × Halts task left d (status.Walked end)
 
 -- ---- one line for each status
 
@@ -67,6 +105,7 @@ OwesAt task left rose d status.Usage = (task ≡ None) × IsPlain d usage_line
 OwesAt task left rose d status.ReadFault = IsSome task × rose × IsPlain d read_fault_line
 OwesAt task left rose d (status.WriteFault out err) = ⊥
 OwesAt task left rose d status.Memory = IsPlain d memory_line
+OwesAt task left rose d (status.Walked end) = Halts task left d (status.Walked end)
 
 abbrev pub Owes : Option Task → Option (List ℕ) → Type 0 → Due → Type 0
 Owes task left rose d = OwesAt task left rose d d.status

@@ -17,6 +17,7 @@ use Rattle.hls_tool.specs.Lines.{memory_line, read_fault_line, refusal_line, unb
 abbrev pub out_bytes : List ℕ → Out → List ℕ
 out_bytes text to_out.Nothing = []
 out_bytes text to_out.Text = text
+out_bytes text (to_out.Printed bytes) = bytes
 
 abbrev pub line_bytes : Line → List ℕ
 line_bytes (line.Fixed bytes) = bytes.now

@@ -9,6 +9,14 @@ use Rattle.c_profile.specs.declared.refusal.Refusal.{Refusal}
 use Rattle.c_profile.specs.declared.refusal.Refusal.TheVariants as refusal
 use Rattle.hls_compile.specs.declared.unbuilt.Construct.{Construct}
 use Rattle.hls_compile.specs.declared.unbuilt.Construct.TheVariants as construct
+use Rattle.hls_ints.specs.declared.fault.ArithmeticFault.{ArithmeticFault}
+use Rattle.hls_ints.specs.declared.fault.ArithmeticFault.TheVariants as arithmetic
+use Rattle.thread_semantics.specs.declared.cause.UndefinedCause.{UndefinedCause}
+use Rattle.thread_semantics.specs.declared.cause.UndefinedCause.TheVariants as undefined
+use Rattle.thread_semantics.specs.declared.cause.BlockedCause.{BlockedCause}
+use Rattle.thread_semantics.specs.declared.cause.BlockedCause.TheVariants as blocked
+use Rattle.c_interpreter.specs.declared.walk.WalkEnd.{WalkEnd}
+use Rattle.c_interpreter.specs.declared.walk.WalkEnd.TheVariants as ends
 use Rattle.hls_tool.specs.declared.status.Status.{Status}
 use Rattle.hls_tool.specs.declared.status.Status.TheVariants as status
 
@@ -20,6 +28,7 @@ status_number status.Usage = 2
 status_number status.ReadFault = 3
 status_number (status.WriteFault out err) = 4
 status_number status.Memory = 5
+status_number (status.Walked end) = 10
 
 abbrev pub usage_line : List ℕ
 usage_line = codes "hls: usage\n"
@@ -80,3 +89,43 @@ unbuilt_line c = codes "hls: refused: not built yet: " ++ (construct_words c ++ 
 abbrev pub built_line : ℕ → ℕ → ℕ → List ℕ
 built_line threads weight bytes =
     codes "hls: built, " ++ (decimal threads ++ (codes " threads, weight " ++ (decimal weight ++ (codes ", " ++ (decimal bytes ++ codes " bytes\n")))))
+
+-- ---- walks
+
+abbrev pub arithmetic_words : ArithmeticFault → List ℕ
+arithmetic_words arithmetic.Overflow = codes "overflow"
+arithmetic_words arithmetic.Divisor = codes "divisor"
+arithmetic_words arithmetic.Shift = codes "shift"
+
+abbrev pub undefined_words : UndefinedCause → List ℕ
+undefined_words (undefined.Arithmetic fault) = arithmetic_words fault
+undefined_words undefined.Index = codes "index"
+undefined_words undefined.Unwritten = codes "unwritten"
+undefined_words undefined.NoValue = codes "no value"
+undefined_words undefined.ThreadId = codes "thread id"
+undefined_words undefined.Mutex = codes "mutex"
+undefined_words undefined.Barrier = codes "barrier"
+undefined_words undefined.LiveThread = codes "live thread"
+
+abbrev pub blocked_words : BlockedCause → List ℕ
+blocked_words blocked.Join = codes "join"
+blocked_words blocked.Mutex = codes "mutex"
+blocked_words blocked.Barrier = codes "barrier"
+blocked_words blocked.NotRunning = codes "not running"
+
+abbrev pub steps_line : List ℕ → ℕ → List ℕ
+steps_line word steps = codes "hls: " ++ (word ++ (codes ", " ++ (decimal steps ++ codes " steps\n")))
+
+abbrev pub blocked_line : ℕ → ℕ → BlockedCause → List ℕ
+blocked_line index thread cause =
+    codes "hls: blocked at step " ++ (decimal index ++ (codes ", thread " ++ (decimal thread ++ (codes ": " ++ (blocked_words cause ++ codes "\n")))))
+
+abbrev pub undefined_line : ℕ → ℕ → UndefinedCause → List ℕ
+undefined_line index offset cause =
+    codes "hls: undefined at step " ++ (decimal index ++ (codes ", byte " ++ (decimal offset ++ (codes ": " ++ (undefined_words cause ++ codes "\n")))))
+
+abbrev pub walk_line : WalkEnd → List ℕ
+walk_line (ends.Ended steps) = steps_line (codes "ended") steps
+walk_line (ends.Listed steps) = steps_line (codes "listed") steps
+walk_line (ends.Blocked index thread cause) = blocked_line index thread cause
+walk_line (ends.Undefined index offset cause) = undefined_line index offset cause

@@ -7,6 +7,8 @@ pub enum Out {
     Nothing,
     /// The Verilog text.
     Text,
+    /// What the program printed.
+    Printed(Bytes),
 }
 
 /// The line that goes to err.

@@ -2,20 +2,24 @@
 ghost use Rattle.std.specs.Prelude.{◌≡◌, ◌≤◌, Some, map, string_bytes, IfOk, IfErr};
 ghost use Rattle.hls_io.specs.Causes.{Rose};
 ghost use Rattle.hls_words.specs.Line.{task_of};
-ghost use Rattle.hls_tool.specs.Answers.{Gave, IsBuilt, IsPlain, Owes};
+ghost use Rattle.c_program.specs.Plain.{program_of};
+ghost use Rattle.c_profile.specs.Profile.{IsAccepted};
+ghost use Rattle.hls_tool.specs.Answers.{Gave, IsBuilt, IsPlain, IsWalked, Owes, status_of};
 ghost use Rattle.hls_tool.specs.Inside.{AnswersStop, StopsBy, due_of, line_bytes};
 ghost use Rattle.hls_tool.specs.declared.commands.Stop.TheVariants.{Memory};
 ghost use Rattle.hls_compile.specs.Compiled.{IsCompiled};
 
-use crate::Status;
 use crate::answer::{Answer, Line, Out};
-use crate::lines::{MEMORY, READ_FAULT, USAGE, built_line, refusal_line, unbuilt_line};
-use c_profile::Refusal;
+use crate::lines::{MEMORY, READ_FAULT, USAGE, built_line, refusal_line, unbuilt_line, walk_line};
+use crate::{Status, WalkEnd};
+use c_interpreter::walk::{WalkEnd as Ends, walk};
+use c_profile::{Accepted, ProfileError, Refusal, accept};
 use hls_compile::{CompileError, Compiled, Construct, compile};
 use hls_io::{Bytes, ReadAllError, Source, read_all};
 use hls_words::{Task, WordsError, parse};
 use std::alloc::{AllocError, Global};
 use thiserror::Error;
+use turns::Turn;
 
 /// Why a command stops before it has an answer of its own.
 #[derive(Clone, Copy, Debug, PartialEq, Eq, Error)]
@@ -97,6 +101,65 @@ fn build<S: Source>(alloc: Global, source: &mut S) -> Result<Answer, Stop>
     })
 }
 
+/// Reads the text, of which the program is within all limits.
+fn accepted<S: Source>(alloc: Global, source: &mut S) -> Result<Accepted, Stop>
+    ensures ok { IfOk result (λ a. (text : _) × Gave (S.left source.old) text × IsAccepted text (program_of a.program) a.weight) }
+    ensures stop { IfErr result (StopsBy (S.left source.old) (Rose (S.faults source.old) (S.faults source.new))) }
+    ensures later { S.faults source.old ≤ S.faults source.new }
+{
+    let text = text_read(alloc, source)?;
+    match accept(alloc, text.as_slice()) {
+        Ok(accepted) => Ok(accepted),
+        Err(ProfileError::Refused(refusal)) => Err(Stop::Refused(refusal)),
+        Err(ProfileError::Memory) => Err(Stop::Memory),
+    }
+}
+
+/// The status of a walk.
+fn status_of(end: Ends) -> Status
+    ensures { result ≡ status_of end }
+{
+    match end {
+        Ends::Ended { .. } => Status::Ok,
+        Ends::Listed { steps } => Status::Walked(WalkEnd::Listed { steps }),
+        Ends::Blocked {
+            index,
+            thread,
+            cause,
+        } => Status::Walked(WalkEnd::Blocked {
+            index,
+            thread,
+            cause,
+        }),
+        Ends::Undefined {
+            index,
+            offset,
+            cause,
+        } => Status::Walked(WalkEnd::Undefined {
+            index,
+            offset,
+            cause,
+        }),
+    }
+}
+
+/// Takes steps of the listed threads.
+fn walk_turns<S: Source>(alloc: Global, source: &mut S, turns: &[Turn]) -> Result<Answer, Stop>
+    ensures ok { IfOk result (λ a. IsWalked turns.now (S.left source.old) (due_of a) a.status) }
+    ensures stop { IfErr result (StopsBy (S.left source.old) (Rose (S.faults source.old) (S.faults source.new))) }
+    ensures later { S.faults source.old ≤ S.faults source.new }
+{
+    let accepted = accepted(alloc, source)?;
+    let walked = walk(alloc, &accepted.program, turns)?;
+    let line = walk_line(alloc, walked.end)?;
+    Ok(Answer {
+        status: status_of(walked.end),
+        text: Bytes::new(alloc),
+        out: Out::Printed(walked.output),
+        line: Line::Made(line),
+    })
+}
+
 /// The answer to a stop, where there is memory for its line.
 fn stop_answer(alloc: Global, stop: Stop) -> Result<Answer, AllocError>
     ensures { IfOk result (λ a. AnswersStop stop (due_of a)) }
@@ -130,6 +193,7 @@ fn run_task<S: Source>(alloc: Global, task: Task, source: &mut S) -> Answer
 {
     let done = match task {
         Task::Build => build(alloc, source),
+        Task::Walk(turns) => walk_turns(alloc, source, turns.as_slice()),
     };
     match done {
         Ok(answer) => answer,

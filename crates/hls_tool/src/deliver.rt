@@ -14,6 +14,7 @@ impl Out {
         match self {
             Out::Nothing => &[],
             Out::Text => text.as_slice(),
+            Out::Printed(bytes) => bytes.as_slice(),
         }
     }
 }

@@ -9,7 +9,7 @@ mod lines;
 mod status;
 
 pub use call::hls;
-pub use status::{Outcome, Status};
+pub use status::{Outcome, Status, WalkEnd};
 
 #[cfg(test)]
 mod tests;

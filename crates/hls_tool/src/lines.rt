@@ -3,11 +3,14 @@
 ghost use Rattle.std.specs.Prelude.{◌≡◌, IfOk, string_bytes};
 ghost use Rattle.hls_tool.specs.Lines as lines;
 
+use c_interpreter::walk::WalkEnd;
 use c_limits::Passed;
 use c_profile::Refusal;
 use c_types::Rule;
 use hls_compile::Construct;
+use hls_ints::ArithmeticFault;
 use std::alloc::{AllocError, Global};
+use thread_semantics::{BlockedCause, UndefinedCause};
 
 pub const USAGE: &[u8] = b"hls: usage\n";
 
@@ -111,4 +114,92 @@ pub fn built_line(
     ensures { IfOk result (λ s. string_bytes s ≡ lines.built_line threads weight bytes) }
 {
     format!(in alloc; "hls: built, {threads} threads, weight {weight}, {bytes} bytes\n")
+}
+
+fn arithmetic_words(fault: ArithmeticFault) -> &'static str
+    ensures { result.now ≡ lines.arithmetic_words fault }
+{
+    match fault {
+        ArithmeticFault::Overflow => "overflow",
+        ArithmeticFault::Divisor => "divisor",
+        ArithmeticFault::Shift => "shift",
+    }
+}
+
+/// Why a step is undefined.
+fn undefined_words(cause: UndefinedCause) -> &'static str
+    ensures { result.now ≡ lines.undefined_words cause }
+{
+    match cause {
+        UndefinedCause::Arithmetic(fault) => arithmetic_words(fault),
+        UndefinedCause::Index => "index",
+        UndefinedCause::Unwritten => "unwritten",
+        UndefinedCause::NoValue => "no value",
+        UndefinedCause::ThreadId => "thread id",
+        UndefinedCause::Mutex => "mutex",
+        UndefinedCause::Barrier => "barrier",
+        UndefinedCause::LiveThread => "live thread",
+    }
+}
+
+/// What a thread waits for.
+fn blocked_words(cause: BlockedCause) -> &'static str
+    ensures { result.now ≡ lines.blocked_words cause }
+{
+    match cause {
+        BlockedCause::Join => "join",
+        BlockedCause::Mutex => "mutex",
+        BlockedCause::Barrier => "barrier",
+        BlockedCause::NotRunning => "not running",
+    }
+}
+
+fn steps_line(alloc: Global, word: &str, steps: u128) -> Result<String, AllocError>
+    ensures { IfOk result (λ s. string_bytes s ≡ lines.steps_line word.now steps) }
+{
+    format!(in alloc; "hls: {word}, {steps} steps\n")
+}
+
+fn blocked_line(
+    alloc: Global,
+    index: u128,
+    thread: u32,
+    cause: BlockedCause,
+) -> Result<String, AllocError>
+    ensures { IfOk result (λ s. string_bytes s ≡ lines.blocked_line index thread cause) }
+{
+    let words = blocked_words(cause);
+    format!(in alloc; "hls: blocked at step {index}, thread {thread}: {words}\n")
+}
+
+fn undefined_line(
+    alloc: Global,
+    index: u128,
+    offset: u32,
+    cause: UndefinedCause,
+) -> Result<String, AllocError>
+    ensures { IfOk result (λ s. string_bytes s ≡ lines.undefined_line index offset cause) }
+{
+    let words = undefined_words(cause);
+    format!(in alloc; "hls: undefined at step {index}, byte {offset}: {words}\n")
+}
+
+/// The line of a walk.
+pub fn walk_line(alloc: Global, end: WalkEnd) -> Result<String, AllocError>
+    ensures { IfOk result (λ s. string_bytes s ≡ lines.walk_line end) }
+{
+    match end {
+        WalkEnd::Ended { steps } => steps_line(alloc, "ended", steps),
+        WalkEnd::Listed { steps } => steps_line(alloc, "listed", steps),
+        WalkEnd::Blocked {
+            index,
+            thread,
+            cause,
+        } => blocked_line(alloc, index, thread, cause),
+        WalkEnd::Undefined {
+            index,
+            offset,
+            cause,
+        } => undefined_line(alloc, index, offset, cause),
+    }
 }

@@ -4,6 +4,28 @@ ghost use Rattle.hls_tool.specs.Lines.{status_number};
 use c_profile::Refusal;
 use hls_compile::Construct;
 use hls_io::Bytes;
+use thread_semantics::{BlockedCause, UndefinedCause};
+
+/// How a walk ended whose steps did not end main. Steps are counted from 0.
+#[derive(Clone, Copy, Debug, PartialEq, Eq)]
+pub enum WalkEnd {
+    /// All listed steps are taken.
+    Listed {
+        steps: u128,
+    },
+    /// The step of that index is blocked.
+    Blocked {
+        index: u128,
+        thread: u32,
+        cause: BlockedCause,
+    },
+    /// The step of that index is undefined, by the statement, operand or brace at an offset.
+    Undefined {
+        index: u128,
+        offset: u32,
+        cause: UndefinedCause,
+    },
+}
 
 /// How a call ended.
 #[derive(Clone, Copy, Debug, PartialEq, Eq)]
@@ -20,6 +42,8 @@ pub enum Status {
     /// A write failed; how many of the due bytes each sink took.
     WriteFault { out: usize, err: usize },
     Memory,
+    /// Main has not returned in the steps of the walk.
+    Walked(WalkEnd),
 }
 
 impl Status {
@@ -34,6 +58,7 @@ impl Status {
             Status::ReadFault => 3,
             Status::WriteFault { .. } => 4,
             Status::Memory => 5,
+            Status::Walked(_) => 10,
         }
     }
 }
@@ -42,5 +67,6 @@ impl Status {
 #[derive(Drop)]
 pub struct Outcome {
     pub status: Status,
+    /// The Verilog text of a build; else it is empty.
     pub text: Bytes,
 }

@@ -179,3 +179,105 @@ fn has_a_number_for_each_status(rt: HostRuntime) -> Result<(), Fail> {
     }
     Ok(())
 }
+
+/// What a walk of the text along a list prints, and its line.
+fn walked<'a>(
+    alloc: Global,
+    text: &'a str,
+    list: &str,
+) -> Result<(Status, MemSink<'a>, MemSink<'a>), AllocError> {
+    let mut source = MemSource::new(text.as_bytes(), 4096, &[]);
+    let mut out = MemSink::new(alloc, 1000, 4096, &[])?;
+    let mut err = MemSink::new(alloc, 1000, 4096, &[])?;
+    let words = ["hls", "walk", "--threads", list];
+    let outcome = call(alloc, &words, &mut source, &mut out, &mut err)?;
+    Ok((outcome.status, out, err))
+}
+
+const COUNTING: &str =
+    "int main(void){int i; for (i = 1; i < 4; i++) printf(\"%d\\n\", i); return 0;}";
+
+const WAITING: &str =
+    "pthread_t t; pthread_barrier_t b; void *w(void *arg){pthread_barrier_wait(&b); return NULL;} int main(void){pthread_barrier_init(&b, NULL, 2); pthread_create(&t, NULL, w, NULL); pthread_join(t, NULL); return 0;}";
+
+const ADDING: &str =
+    "pthread_t t[3]; pthread_mutex_t m = PTHREAD_MUTEX_INITIALIZER; int s; void *w(void *arg){pthread_mutex_lock(&m); s = s + 1; pthread_mutex_unlock(&m); return NULL;} int main(void){int i; for (i = 0; i < 3; i++) pthread_create(&t[i], NULL, w, NULL); for (i = 0; i < 3; i++) pthread_join(t[i], NULL); printf(\"%d\\n\", s); return 0;}";
+
+#[test]
+fn walks(rt: HostRuntime) -> Result<(), Fail> {
+    let alloc = rt.alloc();
+    for (text, list, number, printed, line) in [
+        (MAIN, "0", 0u8, "", "hls: ended, 1 steps\n"),
+        (
+            "int main(void){int x = 1 << 31; return 0;}",
+            "0",
+            10,
+            "",
+            "hls: undefined at step 0, byte 19: shift\n",
+        ),
+        (
+            "int g[4]; int main(void){int i = 4; if (i < 4 && g[i]) i = 9; printf(\"%d\\n\", i); return 0;}",
+            "0*9",
+            0,
+            "4\n",
+            "hls: ended, 5 steps\n",
+        ),
+        (
+            COUNTING,
+            "0*1000000",
+            0,
+            "1\n2\n3\n",
+            "hls: ended, 16 steps\n",
+        ),
+        (COUNTING, "0*15", 10, "1\n2\n3\n", "hls: listed, 15 steps\n"),
+        (
+            WAITING,
+            "0*4,1*2,0*2",
+            10,
+            "",
+            "hls: blocked at step 7, thread 0: join\n",
+        ),
+        (
+            WAITING,
+            "3",
+            10,
+            "",
+            "hls: blocked at step 0, thread 3: not running\n",
+        ),
+        (
+            "pthread_t t; void *w(void *arg){return NULL;} int main(void){pthread_create(&t, NULL, w, NULL); return 0;}",
+            "0*3",
+            10,
+            "",
+            "hls: undefined at step 2, byte 96: live thread\n",
+        ),
+        (
+            "int x; pthread_barrier_t b; int main(void){pthread_barrier_init(&b, NULL, 0); return 0;}",
+            "0*2",
+            10,
+            "",
+            "hls: undefined at step 1, byte 43: barrier\n",
+        ),
+        (
+            "int main(void){int a = 0; printf(\"%d\\n\", 1 / a); return 0;}",
+            "0*9",
+            10,
+            "",
+            "hls: undefined at step 1, byte 26: divisor\n",
+        ),
+        (
+            ADDING,
+            "0*15,1*6,2*6,3*6,0*17",
+            0,
+            "3\n",
+            "hls: ended, 50 steps\n",
+        ),
+        ("int x;", "0", 1, "", "hls: refused E14: no main\n"),
+    ] {
+        let (status, out, err) = walked(alloc, text, list)?;
+        assert_eq!(rt; err.held(), line.as_bytes(), "at {text}");
+        assert_eq!(rt; out.held(), printed.as_bytes(), "at {text}");
+        assert_eq!(rt; status.number(), number, "at {text}");
+    }
+    Ok(())
+}

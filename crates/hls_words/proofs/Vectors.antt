@@ -3,7 +3,8 @@ use Rattle.std.proofs.Common.{◌≡◌, ℕ, List, [], ◌∷◌, refl, codes}
 use Rattle.std.specs.Prelude.{Some, None}
 use Rattle.clap.proofs.OnLiterals.{clap_on_literals}
 use Rattle.hls_words.specs.declared.task.Request.TheVariants.{Step}
-use Rattle.hls_words.specs.declared.task.Task.TheVariants.{Build}
+use Rattle.turns.specs.Turns.{turn}
+use Rattle.hls_words.specs.declared.task.Task.TheVariants.{Build, Walk}
 use Rattle.hls_words.specs.Line.{command_line, request_of, task_of}
 
 builds : task_of (codes "hls" ∷ codes "build" ∷ []) ≡ Some Build
@@ -112,3 +113,16 @@ below_zero = refl
 cycles_twice : request_of (codes "hls" ∷ codes "step" ∷ codes "--cycles=1" ∷ codes "--cycles=1" ∷ []) ≡ None
 unfolding clap_on_literals command_line
 cycles_twice = refl
+
+-- turns of a walk
+walks : task_of (codes "hls" ∷ codes "walk" ∷ codes "--threads" ∷ codes "0*11,1" ∷ []) ≡ Some (Walk (turn 0 11 ∷ turn 1 1 ∷ []))
+unfolding clap_on_literals command_line
+walks = refl
+
+walks_without_turns : task_of (codes "hls" ∷ codes "walk" ∷ []) ≡ None
+unfolding clap_on_literals command_line
+walks_without_turns = refl
+
+no_turn : task_of (codes "hls" ∷ codes "walk" ∷ codes "--threads=0*0" ∷ []) ≡ None
+unfolding clap_on_literals command_line
+no_turn = refl

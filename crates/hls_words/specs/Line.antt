@@ -7,8 +7,10 @@ use Rattle.clap.specs.ValueTests.{is_numeral}
 use Rattle.clap.specs.Faults.{fault_of}
 use Rattle.clap.specs.Kinds.{Kinds}
 use Rattle.clap.specs.Simple.{App, new_app, new_rule, on_top, subcommand_of, with_rule, with_subcommand}
-use Rattle.clap.specs.Walk.{Row, Rule, Text, one_of}
+use Rattle.clap.specs.Walk.{Row, Rule, Text, first_of, one_of}
 use Rattle.clap.specs.declared.builder.value_parser.ValueParser.TheVariants.{Signed}
+use Rattle.turns.specs.declared.Turn.{Turn}
+use Rattle.turns.specs.Turns.{turns_of}
 use Rattle.hls_words.specs.declared.task.Request.{Request}
 use Rattle.hls_words.specs.declared.task.Request.TheVariants as request
 use Rattle.hls_words.specs.declared.task.Task.{Task}
@@ -34,8 +36,16 @@ abbrev pub step_line : App
 step_line =
     with_rule (new_app (codes "step")) (required (number_rule (codes "cycles") 0 4294967295))
 
+-- `--NAME TEXT`
+abbrev pub text_rule : Text → Rule
+text_rule name = record (new_rule name) { long = Some name }
+
+-- walk --threads list
+abbrev pub walk_line : App
+walk_line = with_rule (new_app (codes "walk")) (required (text_rule (codes "threads")))
+
 abbrev pub commands : List App
-commands = build_line ∷ step_line ∷ []
+commands = build_line ∷ step_line ∷ walk_line ∷ []
 
 -- the program without its commands, of which one has to be given
 abbrev pub program_line : App
@@ -70,12 +80,20 @@ abbrev pub step_in : List Row → Option Request
 step_in rows = option_map (λ n. request.Step n)
     (number_in 0 4294967295 None (one_of (codes "cycles") rows))
 
+abbrev pub turns_in : Option Text → Option (List Turn)
+turns_in None = None
+turns_in (Some list) = turns_of list
+
+abbrev pub walk_in : List Row → Option Request
+walk_in rows = option_map (λ turns. request.Walk turns) (turns_in (first_of (codes "threads") rows))
+
 -- the command of this name with the values given to its options
 abbrev pub request_in : Text → List Row → Option Request
 request_in name rows =
     if bytes_eq name (codes "build") then Some request.Build
     else (if bytes_eq name (codes "step") then step_in rows
-    else None)
+    else (if bytes_eq name (codes "walk") then walk_in rows
+    else None))
 
 -- x where clap finds no fault
 abbrev pub unless_fails : Kinds → Option Request → Option Request
@@ -91,6 +109,7 @@ request_of words = unless_fails (fault_of command_line words)
 abbrev pub task_for : Request → Option Task
 task_for request.Build = Some task.Build
 task_for (request.Step cycles) = None
+task_for (request.Walk turns) = Some (task.Walk turns)
 
 -- what the words ask for, if they are of the grammar: of the table, with a command that exists
 abbrev pub task_of : List Text → Option Task

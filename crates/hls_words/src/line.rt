@@ -1,14 +1,16 @@
-ghost use Rattle.std.specs.Prelude.{◌≡◌, Option, Some, None, false, map, string_bytes, IfOk, IsErrOf, ◌≢◌, is_some, option_and_then};
-ghost use Rattle.clap.specs.Words.{app_of, rule_of, rows_of, one_of, found_of, kind_of, subcommand_rows_of, with_rule, with_subcommand};
+ghost use Rattle.std.specs.Prelude.{◌≡◌, Option, Some, None, false, map, string_bytes, IfOk, IsErrOf, ◌≢◌, is_some, option_and_then, option_map};
+ghost use Rattle.clap.specs.Words.{app_of, rule_of, rows_of, one_of, first_of, found_of, kind_of, subcommand_rows_of, with_rule, with_subcommand};
 ghost use Rattle.clap.specs.declared.builder.command.Command.TheViews.{out-Command as fields_of};
 ghost use Rattle.clap.specs.declared.error.kind.ErrorKind.TheVariants.{OutOfMemory};
-ghost use Rattle.hls_words.specs.Line.{build_line, command_line, in_range, number_in, number_of, number_rule, request_in, request_of, required, step_in, step_line, task_of};
+ghost use Rattle.hls_words.specs.Line.{build_line, command_line, in_range, number_in, number_of, number_rule, request_in, request_of, required, step_in, step_line, task_of, text_rule, turns_in, walk_in, walk_line};
 
 use crate::task::Request;
 use crate::{Task, WordsError};
 use clap::error::ErrorKind;
 use clap::{Arg, ArgMatches, Command, Error, value_parser};
+use sqlite_items::Items;
 use std::alloc::{AllocError, Global};
+use turns::{Turn, turns};
 
 /// `--NAME n`, n from low to high.
 fn number_option<'a>(alloc: Global, name: &'a str, low: u32, high: u32) -> Arg<'a>
@@ -42,6 +44,21 @@ fn step_command<'a>(alloc: Global) -> Result<Command<'a>, AllocError>
     Command::new(alloc, "step").arg(cycles)
 }
 
+/// `--NAME TEXT`, which has to be given.
+fn required_text<'a>(alloc: Global, name: &'a str) -> Arg<'a>
+    ensures rule { rule_of result ≡ required (text_rule name.entry.now) }
+    ensures local { result.global ≡ false }
+{
+    Arg::new(alloc, name).long(name).required(true)
+}
+
+fn walk_command<'a>(alloc: Global) -> Result<Command<'a>, AllocError>
+    ensures { IfOk result (λ c. (app_of c ≡ walk_line) × ((fields_of c).has_globals ≡ false)) }
+{
+    let threads = required_text(alloc, "threads");
+    Command::new(alloc, "walk").arg(threads)
+}
+
 /// Adds a command that has no global argument.
 fn with_command<'a>(program: Command<'a>, command: Command<'a>) -> Result<Command<'a>, AllocError>
     requires { (fields_of command).has_globals ≡ false }
@@ -56,7 +73,8 @@ fn whole_command<'a>(alloc: Global) -> Result<Command<'a>, AllocError>
 {
     let program = Command::new(alloc, "hls").subcommand_required(true);
     let build = with_command(program, build_command(alloc))?;
-    with_command(build, step_command(alloc)?)
+    let step = with_command(build, step_command(alloc)?)?;
+    with_command(step, walk_command(alloc)?)
 }
 
 fn is_given(matches: &ArgMatches<'_>, id: &str) -> bool
@@ -104,22 +122,64 @@ fn step_request(matches: &ArgMatches<'_>) -> Option<Request>
     Some(Request::Step { cycles })
 }
 
-/// What the command of this name asks for with these values.
-fn request(name: &str, matches: &ArgMatches<'_>) -> Option<Request>
-    ensures { result ≡ request_in name.now (rows_of (found_of matches.now)) }
+fn text<'a>(matches: &ArgMatches<'a>, id: &str) -> Option<&'a str>
+    ensures { option_map (λ t. t.now) result ≡ first_of id.now (rows_of (found_of matches.now)) }
 {
-    match name {
-        "build" => Some(Request::Build),
-        "step" => step_request(matches),
-        _ => None,
+    matches.get_str(id)
+}
+
+/// The turns that a text lists, where it is there.
+fn listed(alloc: Global, list: Option<&str>) -> Result<Option<Items<Turn>>, AllocError>
+    ensures { IfOk result (λ turns. turns ≡ turns_in (option_map (λ t. t.now) list.entry)) }
+{
+    match list {
+        Some(list) => turns(alloc, list),
+        None => Ok(None),
     }
 }
 
-fn request_met(matches: &ArgMatches<'_>) -> Option<Request>
-    ensures { result ≡ option_and_then (λ p. request_in p.0 p.1) (subcommand_rows_of matches.now) }
+fn walk_request(alloc: Global, matches: &ArgMatches<'_>) -> Result<Option<Request>, AllocError>
+    ensures { IfOk result (λ r. r ≡ walk_in (rows_of (found_of matches.now))) }
 {
-    let (name, inner) = matches.subcommand()?;
-    request(name, inner)
+    let turns = listed(alloc, text(matches, "threads"))?;
+    Ok(turns.map(Request::Walk))
+}
+
+/// What the command of this name asks for with these values.
+fn request(
+    alloc: Global,
+    name: &str,
+    matches: &ArgMatches<'_>,
+) -> Result<Option<Request>, AllocError>
+    ensures { IfOk result (λ r. r ≡ request_in name.now (rows_of (found_of matches.now))) }
+{
+    match name {
+        "build" => Ok(Some(Request::Build)),
+        "step" => Ok(step_request(matches)),
+        "walk" => walk_request(alloc, matches),
+        _ => Ok(None),
+    }
+}
+
+fn request_met(alloc: Global, matches: &ArgMatches<'_>) -> Result<Option<Request>, AllocError>
+    ensures { IfOk result (λ r. r ≡ option_and_then (λ p. request_in p.0 p.1) (subcommand_rows_of matches.now)) }
+{
+    match matches.subcommand() {
+        Some((name, inner)) => request(alloc, name, inner),
+        None => Ok(None),
+    }
+}
+
+/// What matched words ask for, and `Usage` only where they aren't of the table.
+fn request_or_usage(alloc: Global, matches: &ArgMatches<'_>) -> Result<Request, WordsError>
+    ensures ok { IfOk result (λ r. option_and_then (λ p. request_in p.0 p.1) (subcommand_rows_of matches.now) ≡ Some r) }
+    ensures usage { IsErrOf result WordsError.Usage → option_and_then (λ p. request_in p.0 p.1) (subcommand_rows_of matches.now) ≡ None }
+{
+    match request_met(alloc, matches) {
+        Ok(Some(request)) => Ok(request),
+        Ok(None) => Err(WordsError::Usage),
+        Err(_) => Err(WordsError::Mem),
+    }
 }
 
 /// What clap refuses for another cause than memory, a request for help among it, is `Usage`.
@@ -142,7 +202,7 @@ pub(crate) fn requested(alloc: Global, words: &[String]) -> Result<Request, Word
         return Err(WordsError::Mem);
     };
     match command.try_get_matches_from(words) {
-        Ok(matches) => request_met(&matches).ok_or(WordsError::Usage),
+        Ok(matches) => request_or_usage(alloc, &matches),
         Err(error) => Err(refusal(&error)),
     }
 }

@@ -1,19 +1,24 @@
 ghost use Rattle.std.specs.Prelude.{◌≡◌};
 
+use sqlite_items::Items;
 use thiserror::Error;
+use turns::Turn;
 
 /// What the program is asked to do.
-#[derive(Clone, Copy, Debug, PartialEq, Eq)]
+#[derive(Debug, Drop)]
 pub enum Task {
     /// Write the Verilog text of the C text.
     Build,
+    /// Take C steps of threads, in these turns.
+    Walk(Items<Turn>),
 }
 
 /// A line of the table of commands, with its numbers. Some commands of the table are still to come.
-#[derive(Clone, Copy, Debug, PartialEq, Eq)]
+#[derive(Debug, Drop)]
 pub(crate) enum Request {
     Build,
     Step { cycles: u32 },
+    Walk(Items<Turn>),
 }
 
 impl Request {
@@ -26,6 +31,7 @@ impl Request {
         match self {
             Request::Build => Some(Task::Build),
             Request::Step { .. } => None,
+            Request::Walk(turns) => Some(Task::Walk(turns)),
         }
     }
 }

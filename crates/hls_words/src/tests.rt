@@ -1,8 +1,10 @@
 use crate::line::requested;
 use crate::task::Request;
 use crate::{Task, WordsError, parse};
+use sqlite_items::Items;
 use std::alloc::{AllocError, Global};
 use std::test::Fail;
+use turns::Turn;
 
 fn words_of(alloc: Global, line: &str) -> Result<Vec<String>, AllocError> {
     let mut words = Vec::new(alloc);
@@ -13,35 +15,65 @@ fn words_of(alloc: Global, line: &str) -> Result<Vec<String>, AllocError> {
 }
 
 #[test]
-fn takes_build_alone(rt: HostRuntime) -> Result<(), Fail> {
+fn takes_the_commands(rt: HostRuntime) -> Result<(), Fail> {
     let alloc = rt.alloc();
-    for (line, want) in [
-        ("hls build", Ok(Task::Build)),
-        ("", Err(WordsError::Usage)),
-        ("hls", Err(WordsError::Usage)),
-        ("hls step --cycles 3136", Err(WordsError::Usage)),
-        ("hls build --jobs=2", Err(WordsError::Usage)),
-        ("hls --help", Err(WordsError::Usage)),
+    let words = words_of(alloc, "hls build")?;
+    assert_eq!(rt;
+        matches!(parse(alloc, words.as_slice()), Ok(Task::Build)),
+        true
+    );
+    let words = words_of(alloc, "hls walk --threads 0*3,1")?;
+    let turns = match parse(alloc, words.as_slice()) {
+        Ok(Task::Walk(turns)) => turns,
+        _ => Items::new(alloc),
+    };
+    let wanted = [
+        Turn {
+            thread: 0,
+            steps: 3,
+        },
+        Turn {
+            thread: 1,
+            steps: 1,
+        },
+    ];
+    assert_eq!(rt; turns.as_slice() == &wanted[..], true);
+    for line in [
+        "",
+        "hls",
+        "hls step --cycles 3136",
+        "hls build --jobs=2",
+        "hls walk",
+        "hls walk --threads 0*0",
+        "hls --help",
     ] {
         let words = words_of(alloc, line)?;
-        assert_eq!(rt; parse(alloc, words.as_slice()), want, "at {line}");
+        assert_eq!(rt;
+            matches!(parse(alloc, words.as_slice()), Err(WordsError::Usage)),
+            true,
+            "at {line}"
+        );
     }
     Ok(())
+}
+
+fn cycles_of(alloc: Global, line: &str) -> Result<Option<u32>, AllocError> {
+    let words = words_of(alloc, line)?;
+    match requested(alloc, words.as_slice()) {
+        Ok(Request::Step { cycles }) => Ok(Some(cycles)),
+        _ => Ok(None),
+    }
 }
 
 #[test]
 fn reads_the_number_of_cycles(rt: HostRuntime) -> Result<(), Fail> {
     let alloc = rt.alloc();
     for (line, want) in [
-        ("hls step --cycles 3136", Ok(Request::Step { cycles: 3136 })),
-        (
-            "hls step --cycles=4294967295",
-            Ok(Request::Step { cycles: u32::MAX }),
-        ),
-        ("hls step --cycles=4294967296", Err(WordsError::Usage)),
+        ("hls step --cycles 3136", Some(3136)),
+        ("hls step --cycles=4294967295", Some(u32::MAX)),
+        ("hls step --cycles=4294967296", None),
     ] {
-        let words = words_of(alloc, line)?;
-        assert_eq!(rt; requested(alloc, words.as_slice()), want, "at {line}");
+        assert_eq!(rt; cycles_of(alloc, line)?, want, "at {line}");
     }
     Ok(())
 }

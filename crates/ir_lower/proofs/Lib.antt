@@ -14,8 +14,12 @@ mod Working
 mod Sites
 mod Staying
 mod Resuming
-mod Leading
 mod LocalHomes
 mod Whole
 mod Sizes
-mod Straightness
+mod Labelling
+mod Controlling
+mod Deciding
+mod Growing
+mod Stepping
+mod Nesting

@@ -1,25 +1,22 @@
 -- Where the code in the making goes on.
-use Rattle.std.proofs.Common.{◌≡◌, ℕ, zero, suc, ◌+◌, ◌<◌, ◌≤◌, List, [], ◌∷◌, ◌++◌, length, ℤ, Option, Some, None, refl, sym, ap}
-use Rattle.std.proofs.Common.{◌∙◌, subst, inl, inr, arith, append-nil, append_assoc, length-append}
+use Rattle.std.proofs.Common.{◌≡◌, ℕ, zero, suc, ◌+◌, ◌<◌, List, [], ◌∷◌, ◌++◌, length, ℤ, Option, Some, None, refl, sym, ap}
+use Rattle.std.proofs.Common.{◌∙◌, subst, arith, append_assoc, length-append}
 use Rattle.std.specs.Prelude.{slice_get}
 use Rattle.thread_semantics.specs.Work.{Work}
 use Rattle.thread_semantics.specs.State.{Frame}
 use Rattle.thread_semantics.specs.Move.{move}
 use Rattle.block_ir.specs.declared.operand.Operand.{Operand}
 use Rattle.block_ir.specs.declared.block.Operation.{Operation}
-use Rattle.block_ir.specs.declared.block.Next.{Next}
 use Rattle.block_ir.specs.declared.code.Stage.{Stage}
-use Rattle.block_ir.specs.declared.code.Stage.TheVariants as stage
-use Rattle.block_ir.specs.Run.{Cells, Access, Running, operations_run, started, block_run, leads_to, variables_after, stage_after}
+use Rattle.block_ir.specs.Run.{Cells, Access, Running, operations_run, started, block_run}
 use Rattle.ir_lower.specs.declared.homes.Home.{Home}
 use Rattle.ir_lower.specs.declared.homes.Home.TheVariants as home
 use Rattle.ir_lower.specs.declared.open_block.OpenBlock.{OpenBlock}
-use Rattle.ir_lower.specs.declared.straight.StraightCode.{StraightCode}
 use Rattle.ir_lower.specs.Evaluating.{current_value, local_value}
 use Rattle.ir_lower.specs.Closing.{IsUnchanged, IsFresh}
 use Rattle.ir_lower.specs.Printing.{held_by}
 use Rattle.code_following.specs.Following.{AfterMove, AfterMoves, DoesStage, Follows}
-use Rattle.ir_lower.specs.Resuming.{HasShape, home_value, HoldLocals, Setting, Keeping, IsMid, Comes, InBlock, AtFresh, Resumes, IsSound, PushesBlock, EndsBlock, IsPart}
+use Rattle.ir_lower.specs.Resuming.{HasShape, home_value, HoldLocals, Setting, Keeping, IsMid, Comes, InBlock, AtFresh, IsSound}
 use Rattle.ir_lower.proofs.Running.{get_left, get_last, run_append}
 
 pub same_function : (f g : ℕ → ℤ) → ((x : ℕ) → f x ≡ g x) → f ≡ g
@@ -83,55 +80,13 @@ module _ (S : Setting) (homes : List Home) (Kept : Keeping) where
   fresh_of_in size zero l b k fresh inside = λ variables arrays f is shape locals kept. tt
   fresh_of_in size (suc j) l b k fresh inside = λ variables arrays f is shape locals kept. begins size l b k fresh variables arrays (suc j) inside j (omega arith) f is shape locals kept
 
-  pub resumes_of_in : (size n : ℕ) (c : StraightCode) (k : List Work) → IsSound size c.block → InBlock S homes Kept n (length c.stages) c.block k → Resumes S homes Kept n c k
-  resumes_of_in size n c k sound inside = record {
-    fresh = λ idle. fresh_of_in (size + 4) n (length c.stages) c.block k (sound.fresh idle) inside;
-    busy = λ h. inside;
-  }
-
-  -- the block at hand ends, and the thread goes on with the stage after it
-  module _ (size n : ℕ) (c mid : StraightCode) (k : List Work) (sound : IsSound size c.block) (part : IsPart mid.stages S.stages)
-      (after : (j : ℕ) → j ≤ n → AtFresh S homes Kept j (length mid.stages) k) where
-    module _ (p : PushesBlock c mid) (variables : ℕ → ℤ) (r : Running) where
-      after_is : (x : ℕ) → variables_after p.block variables r x ≡ held_by c.block.current variables r.values x
-      after_is x = p.closes.finals sound.noted variables r.values x
-
-      after_local : (x j : ℕ) (o : Option Home) → home_value o (variables_after p.block variables r) r.arrays x j ≡ local_value o c.block.current variables r x j
-      after_local x j (Some (home.Array a)) = refl
-      after_local x j (Some (home.Variable i)) = after_is i
-      after_local x j None = after_is x
-
-      next_is : length mid.stages ≡ stage_after p.block variables r
-      next_is =
-          ap length p.stages ∙ length-append c.stages (stage.Run p.block ∷ [])
-          ∙ ap (λ (z : Next). leads_to variables r.values z) (sym p.closes.next_)
-
-      lands : (j : ℕ) → j < n → (f : Frame) (globals : List (List ℤ)) → f.work ≡ k → IsMid S homes Kept c.block variables r f globals → Comes S homes Kept p.block j variables r (f ∷ []) r.accesses
-      lands j lt f globals is m = (
-        refl,
-        subst (λ l. Follows S.program S.stages j l (variables_after p.block variables r) r.arrays (f ∷ [])) next_is
-            (after j (omega arith) (variables_after p.block variables r) r.arrays f is m.shape
-            (λ x i v e. after_local x i (slice_get homes x) ∙ m.holds.locals x i v e)
-            (subst (λ vs. Kept vs f.kept) (same_function (held_by c.block.current variables r.values) (variables_after p.block variables r) (λ x. sym (after_is x))) m.kept)),
-      )
-
-    pub closes_up : EndsBlock c mid → Resumes S homes Kept n c k
-    closes_up (inl p) = record {
-      fresh = λ idle. subst (λ (z : StraightCode). AtFresh S homes Kept n (length z.stages) k) p.same (after n (omega arith));
-      busy = λ h. absurd (let idle = p.idle in omega arith);
-    }
-    closes_up (inr p) = record {
-      fresh = λ idle. absurd (let h = p.busy in omega arith);
-      busy = λ h. record {
-        block = p.block;
-        at = stage_at c.stages part.more S.stages (stage.Run p.block) (part.is ∙ ap (λ xs. xs ++ part.more) p.stages);
-        rest = [];
-        operations = p.closes.operations ∙ sym (append-nil c.block.operations);
-        count = 0;
-        steps = (let e = p.closes.steps in omega arith);
-        goes = λ j lt variables r f globals is m. lands p variables r j lt f globals is m;
-      };
-    }
+pub fresh_sound : (size : ℕ) (b : OpenBlock) → IsFresh (size + 4) b → IsSound size b
+fresh_sound size b fresh = record {
+  size = fresh.size;
+  noted = λ x o e. absurd (fresh.current x o e);
+  below = λ x o e. absurd (fresh.current x o e);
+  fresh = λ idle. fresh;
+}
 
 -- a step that adds operations
 abbrev pub Goes : Setting → List Home → Keeping → Keeping → OpenBlock → OpenBlock → List Operation → List Work → List Work → Type 1

@@ -31,24 +31,17 @@ formats_length (Statement.Call offset function arguments) = refl
 formats_length (Statement.Print offset format arguments) = refl
 formats_length (Statement.Thread offset call) = refl
 
-module _ (P : Program) (a b : Statement) (site : ℕ) (sites : HasSites P (Statement.Sequence a b) site) where
-  pub first_sites : HasSites P a site
-  first_sites = record {
-    before = sites.before;
-    after = formats_of b ++ sites.after;
-    all = sites.all ∙ ap (λ l. sites.before ++ l) (append_assoc (formats_of a) (formats_of b) sites.after);
-    number = sites.number;
-  }
-
-  pub rest_sites : (next : ℕ) → next ≡ site + print_count a → HasSites P b next
-  rest_sites next is = record {
-    before = sites.before ++ formats_of a;
-    after = sites.after;
-    all =
-        sites.all ∙ ap (λ l. sites.before ++ l) (append_assoc (formats_of a) (formats_of b) sites.after)
-        ∙ sym (append_assoc sites.before (formats_of a) (formats_of b ++ sites.after));
-    number = (let l = length-append sites.before (formats_of a) in let c = formats_length a in let n = sites.number in omega arith);
-  }
+-- a part of a statement, whose printf calls come after these
+pub part_sites : (P : Program) (s t : Statement) (xs ys : List (List Piece)) (site next : ℕ) → HasSites P s site → formats_of s ≡ xs ++ (formats_of t ++ ys) → next ≡ site + length xs → HasSites P t next
+part_sites P s t xs ys site next sites is number = record {
+  before = sites.before ++ xs;
+  after = ys ++ sites.after;
+  all =
+      sites.all ∙ ap (λ z. sites.before ++ (z ++ sites.after)) is
+      ∙ ap (λ z. sites.before ++ z) (append_assoc xs (formats_of t ++ ys) sites.after ∙ ap (λ z. xs ++ z) (append_assoc (formats_of t) ys sites.after))
+      ∙ sym (append_assoc sites.before xs (formats_of t ++ (ys ++ sites.after)));
+  number = (let l = length-append sites.before xs in let n = sites.number in omega arith);
+}
 
 pub site_at : (P : Program) (format : List Piece) (arguments : List Expression) (offset site : ℕ) → HasSites P (Statement.Print offset format arguments) site →
     slice_get (print_formats P) site ≡ Some format

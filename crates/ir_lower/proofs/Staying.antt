@@ -1,33 +1,32 @@
--- Code of straight statements is typed.
-use Rattle.std.proofs.Common.{◌≡◌, ℕ, zero, suc, ◌+◌, ◌*◌, ◌<◌, ◌≤◌, Bool, true, false, List, [], ◌∷◌, ◌++◌, length, max, Option, Some, refl, sym, ap, ◌∙◌, subst, ⊎_elim, inl, inr}
-use Rattle.std.proofs.Common.{arith, length-append}
+-- Code in the making stays typed.
+use Rattle.std.proofs.Common.{◌≡◌, ℕ, zero, suc, ◌+◌, ◌*◌, ◌<◌, ◌≤◌, List, [], ◌∷◌, ◌++◌, length, Some, refl, sym, ap, ◌∙◌, subst, ⊎_elim, inl, inr}
+use Rattle.std.proofs.Common.{arith}
 use Rattle.std.specs.Prelude.{◌⊎◌, slice_get}
 use Rattle.std.specs.List.{AllByRecursion}
 use Rattle.hls_ints.specs.Types.{long_int}
-use Rattle.c_program.specs.Tree.{Expression, RightSide, Piece, Statement, Program}
-use Rattle.c_program.specs.Weight.{statement_weight}
-use Rattle.c_program.specs.Limits.{print_count}
-use Rattle.c_program.specs.Resolved.{IsStatement}
+use Rattle.c_program.specs.Tree.{Expression, Piece, Statement, Program}
+use Rattle.c_program.specs.Resolved.{IsPrint}
+use Rattle.block_ir.specs.declared.block.Operation.{Operation}
 use Rattle.block_ir.specs.declared.block.Next.{Next}
 use Rattle.block_ir.specs.declared.block.Next.TheVariants.{Jump, Branch}
 use Rattle.block_ir.specs.declared.block.Block.{Block}
-use Rattle.block_ir.specs.declared.code.Act.{Act}
 use Rattle.block_ir.specs.declared.code.Act.TheVariants as code
 use Rattle.block_ir.specs.declared.code.ActOperand.{ActOperand}
 use Rattle.block_ir.specs.declared.code.Stage.{Stage}
 use Rattle.block_ir.specs.declared.code.Stage.TheVariants as stage
 use Rattle.code_following.specs.Following.{conversions_of, print_formats}
 use Rattle.ir_lower.specs.declared.homes.Home.{Home}
-use Rattle.ir_lower.specs.declared.homes.Homes.{Homes}
 use Rattle.ir_lower.specs.declared.open_block.OpenBlock.{OpenBlock}
-use Rattle.ir_lower.specs.declared.straight.StraightCode.{StraightCode}
-use Rattle.ir_lower.specs.Closing.{IsFresh, Closes}
+use Rattle.ir_lower.specs.declared.lowering.Lowering.{Lowering}
+use Rattle.ir_lower.specs.Closing.{HasNoted, IsFresh, Closes}
 use Rattle.ir_lower.specs.Printing.{word_operands}
-use Rattle.ir_lower.specs.Values.{most_values}
-use Rattle.ir_lower.specs.Typed.{Types, IsTypedOperand, AreTyped, IsTypedNext, IsTypedBlock, IsTypedValue, IsTypedPrint, IsTypedStage}
-use Rattle.ir_lower.specs.Typing.{Typing, Fits, HasWords, IsTypedOpen, Works, WorksOnValues, reach, IsTypedSoFar}
-use Rattle.ir_lower.specs.Resuming.{IsSound, EndsBlock, PushesAct, PushesReturn, HasSites, StaysTyped}
-use Rattle.ir_lower.proofs.Sites.{first_sites, rest_sites, site_at, conversions_length}
+use Rattle.ir_lower.specs.Typed.{Types, IsTypedOperand, AreTyped, IsTypedNext, IsTypedValue, IsTypedPrint, IsTypedStage}
+use Rattle.ir_lower.specs.Typing.{Typing, Fits, HasWords, IsTypedOpen, Works}
+use Rattle.ir_lower.specs.Resuming.{HasSites}
+use Rattle.ir_lower.specs.Labels.{led_next, led_stage}
+use Rattle.ir_lower.specs.Apart.{IsTypedAnywhere, IsTypedNow}
+use Rattle.ir_lower.specs.Control.{EndsAt}
+use Rattle.ir_lower.proofs.Sites.{site_at, conversions_length}
 
 -- More stages and more operations.
 
@@ -57,12 +56,14 @@ module _ (T : Types) (P : Program) (n k m w : ℕ) (stages : n ≤ k) (operation
   stage_more (stage.Act (code.BarrierDestroy barrier) next) h = absurd h
   stage_more (stage.Act (code.BarrierWait barrier) next) h = absurd h
 
-so_far_more : (S : Typing) (w v : ℕ) (goes : Bool) (c : StraightCode) → w ≤ v → IsTypedSoFar S w goes c → IsTypedSoFar S v goes c
-so_far_more S w v goes c more so_far = record {
-  block = so_far.block;
-  size = (let a = so_far.size in omega arith);
-  stages = λ l s e. stage_more S.types S.program (reach goes (length c.stages)) (reach goes (length c.stages)) (4 * w) (4 * v) (omega arith) (omega arith) s (so_far.stages l s e);
-  ended = so_far.ended;
+pub anywhere_more : (T : Types) (P : Program) (m w : ℕ) → m ≤ w → (s : Stage) → IsTypedAnywhere T P m s → IsTypedAnywhere T P w s
+anywhere_more T P m w le s h = λ n stage_of below. stage_more T P n n m w (omega arith) le (led_stage stage_of s) (h n stage_of below)
+
+pub now_more : (S : Typing) (w v : ℕ) (c : Lowering) → w ≤ v → IsTypedNow S w c → IsTypedNow S v c
+now_more S w v c more now = record {
+  block = now.block;
+  size = (let a = now.size in omega arith);
+  stages = λ l s e. anywhere_more S.types S.program (4 * w) (4 * v) (omega arith) s (now.stages l s e);
 }
 
 -- a stage of one more is one of those before, or the last
@@ -72,21 +73,12 @@ last_or [] y x (suc l) e = cc
 last_or (z ∷ xs) y x zero e = inl e
 last_or (z ∷ xs) y x (suc l) e = last_or xs y x l e
 
-module _ (S : Typing) (w : ℕ) (old new : StraightCode) (last : Stage) (goes : Bool) (added : new.stages ≡ old.stages ++ last ∷ []) where
-  longer : length new.stages ≡ suc (length old.stages)
-  longer = let e = ap length added ∙ length-append old.stages (last ∷ []) in omega (arith, e)
-
-  reached : (goes : Bool) → suc (length old.stages) ≤ reach goes (length new.stages)
-  reached true = let e = longer in omega arith
-  reached false = let e = longer in omega arith
-
-  stages_more : IsTypedSoFar S w true old → IsTypedStage S.types S.program (reach goes (length new.stages)) (4 * w) last →
-      (l : ℕ) (s : Stage) → slice_get new.stages l ≡ Some s → IsTypedStage S.types S.program (reach goes (length new.stages)) (4 * w) s
-  stages_more so_far typed l s e =
-      ⊎_elim
-      (λ h. stage_more S.types S.program (suc (length old.stages)) (reach goes (length new.stages)) (4 * w) (4 * w) (reached goes) (omega arith) s (so_far.stages l s h))
-      (λ h. subst (IsTypedStage S.types S.program (reach goes (length new.stages)) (4 * w)) (sym h) typed)
-      (last_or old.stages last s l (ap (λ xs. slice_get xs l) (sym added) ∙ e))
+pub stages_more : (S : Typing) (w : ℕ) (old new : Lowering) (last : Stage) → new.stages.stages.items ≡ old.stages.stages.items ++ last ∷ [] → IsTypedNow S w old →
+    IsTypedAnywhere S.types S.program (4 * w) last →
+    (l : ℕ) (s : Stage) → slice_get new.stages.stages.items l ≡ Some s → IsTypedAnywhere S.types S.program (4 * w) s
+stages_more S w old new last added now typed l s e =
+    ⊎_elim (λ h. now.stages l s h) (λ h. subst (IsTypedAnywhere S.types S.program (4 * w)) (sym h) typed)
+    (last_or old.stages.stages.items last s l (ap (λ xs. slice_get xs l) (sym added) ∙ e))
 
 -- The end of the block at hand.
 
@@ -97,70 +89,48 @@ fresh_typed T size b fresh = record {
   current = λ x a e. absurd (fresh.current x a e);
 }
 
-block_typed : (S : Typing) (w : ℕ) (old : StraightCode) (b : Block) → 0 < old.block.steps → Closes old.block (Jump (length old.stages + 1)) b → IsTypedSoFar S w true old →
-    IsTypedBlock S.types (suc (suc (length old.stages))) (4 * w) b
-block_typed S w old b busy closes so_far = record {
+-- typed, wherever it leads
+abbrev pub IsTypedNextAnywhere : Types → List Operation → Next → Type 0
+IsTypedNextAnywhere T before next = (n : ℕ) (stage_of : ℕ → ℕ) → ((label : ℕ) → stage_of label < n) → IsTypedNext T n before (led_next stage_of next)
+
+pub jump_typed : (T : Types) (before : List Operation) (label : ℕ) → IsTypedNextAnywhere T before (Jump label)
+jump_typed T before label = λ n stage_of below. below label
+
+block_typed : (S : Typing) (w : ℕ) (old : Lowering) (next : Next) (b : Block) → 0 < old.block.steps → Closes old.block next b → IsTypedNextAnywhere S.types old.block.operations next →
+    IsTypedNow S w old → IsTypedAnywhere S.types S.program (4 * w) (stage.Run b)
+block_typed S w old next b busy closes leads now = λ n stage_of below. record {
   busy = (let e = closes.steps in omega arith);
-  operations = subst (AreTyped S.types []) (sym closes.operations) so_far.block.operations;
-  few = (let e = ap length closes.operations in let f = so_far.block.few in omega (arith, e, f));
-  size = (let e = ap length closes.operations in let f = so_far.size in omega (arith, e, f));
+  operations = subst (AreTyped S.types []) (sym closes.operations) now.block.operations;
+  few = (let e = ap length closes.operations in let f = now.block.few in omega (arith, e, f));
+  size = (let e = ap length closes.operations in let f = now.size in omega (arith, e, f));
   finals = λ k f e.
-      let h = so_far.block.current f.variable f.value (closes.from k f e) in
+      let h = now.block.current f.variable f.value (closes.from k f e) in
       (subst (λ os. IsTypedOperand S.types os f.value) (sym closes.operations) h.0, h.1);
-  next = subst (IsTypedNext S.types (suc (suc (length old.stages))) b.operations) (sym closes.next_) (let h : length old.stages + 1 < suc (suc (length old.stages)) = omega arith in h);
+  next = subst (λ os. IsTypedNext S.types n os (led_next stage_of b.next)) (sym closes.operations)
+      (subst (λ z. IsTypedNext S.types n old.block.operations (led_next stage_of z)) (sym closes.next_) (leads n stage_of below));
 }
 
-pub ended_typed : (S : Typing) (size w : ℕ) (old mid : StraightCode) → IsSound size old.block → EndsBlock old mid → IsTypedSoFar S w true old → IsTypedSoFar S w true mid
-ended_typed S size w old mid sound (inl p) so_far = subst (IsTypedSoFar S w true) (sym p.same) so_far
-ended_typed S size w old mid sound (inr p) so_far =
-    let fresh = p.left sound.noted in
+pub ends_typed : (S : Typing) (w : ℕ) (next : Next) (old new : Lowering) → 0 < old.block.steps → HasNoted old.block → EndsAt next old new → IsTypedNextAnywhere S.types old.block.operations next →
+    IsTypedNow S w old → IsTypedNow S w new
+ends_typed S w next old new busy noted e leads now =
+    let fresh = e.left noted in
     record {
-      block = fresh_typed S.types (length old.block.current) mid.block fresh;
-      size = (let e = ap length fresh.operations in omega (arith, e));
-      stages = stages_more S w old mid (stage.Run p.block) true p.stages so_far
-          (let e = longer S w old mid (stage.Run p.block) true p.stages in
-          subst (λ n. IsTypedBlock S.types (suc n) (4 * w) p.block) (sym e) (block_typed S w old p.block p.busy p.closes so_far));
-      ended = λ e. cc;
-    }
-
--- an act, or the return, behind it
-act_typed : (S : Typing) (size w : ℕ) (old new : StraightCode) (act : Act) → IsSound size old.block → (pushes : PushesAct act old new) → IsTypedSoFar S w true old →
-    IsTypedStage S.types S.program (suc (length new.stages)) (4 * w) (stage.Act act (length pushes.mid.stages + 1)) → IsTypedSoFar S w true new
-act_typed S size w old new act sound pushes so_far typed =
-    let h = ended_typed S size w old pushes.mid sound pushes.ends so_far in
-    record {
-      block = subst (λ (z : StraightCode). IsTypedOpen S.types z.block) (sym pushes.acted) h.block;
-      size = (let e = ap (λ (z : StraightCode). length z.block.operations) pushes.acted in let f = h.size in omega (arith, e, f));
-      stages = stages_more S w pushes.mid new (stage.Act act (length pushes.mid.stages + 1)) true (ap (λ (z : StraightCode). z.stages) pushes.acted) h typed;
-      ended = λ e. cc;
-    }
-
-pub return_typed : (S : Typing) (size w : ℕ) (old new : StraightCode) → IsSound size old.block → PushesReturn old new → IsTypedSoFar S w true old → IsTypedSoFar S w false new
-return_typed S size w old new sound pushes so_far =
-    let h = ended_typed S size w old pushes.mid sound pushes.ends so_far in
-    let added : new.stages ≡ pushes.mid.stages ++ stage.Act code.Return 0 ∷ [] = ap (λ (z : StraightCode). z.stages) pushes.acted in
-    record {
-      block = subst (λ (z : StraightCode). IsTypedOpen S.types z.block) (sym pushes.acted) h.block;
-      size = (let e = ap (λ (z : StraightCode). length z.block.operations) pushes.acted in let f = h.size in omega (arith, e, f));
-      stages = stages_more S w pushes.mid new (stage.Act code.Return 0) false added h tt;
-      ended = λ e. (let l = longer S w pushes.mid new (stage.Act code.Return 0) false added in omega (arith, l));
+      block = fresh_typed S.types (length old.block.current) new.block fresh;
+      size = (let f = ap length fresh.operations in omega (arith, f));
+      stages = stages_more S w old new (stage.Run e.block) e.pushes.stages now (block_typed S w old next e.block busy e.closes leads now);
     }
 
 -- Statements.
 
 -- the block at hand works on
-pub works_stays : (homes : Homes) (s : Statement) (Is : Typing → Type 0) (old new : StraightCode) → new ≡ record old { block = new.block } →
-    Works homes.homes (4 * statement_weight s) Is old.block new.block → ((S : Typing) → IsStatement S.program S.function false s → Is S) → StaysTyped homes s old new true
-works_stays homes s Is old new same works is = λ S w fits words ok sound sites so_far.
-    record {
-      block = works.typed S fits (is S ok) so_far.block;
-      size = (let c = works.count in let f = so_far.size in omega (arith, c, f));
-      stages = λ l t e.
-          subst (λ n. IsTypedStage S.types S.program (suc n) (4 * (w + statement_weight s)) t) (ap (λ (z : StraightCode). length z.stages) (sym same))
-          (stage_more S.types S.program (suc (length old.stages)) (suc (length old.stages)) (4 * w) (4 * (w + statement_weight s)) (omega arith) (omega arith) t
-          (so_far.stages l t (ap (λ (z : StraightCode). slice_get z.stages l) (sym same) ∙ e)));
-      ended = λ e. cc;
-    }
+pub works_typed : (S : Typing) (w most : ℕ) (homes : List Home) (Is : Typing → Type 0) (old new : Lowering) → new ≡ record old { block = new.block } → homes ≡ old.homes →
+    Works homes (4 * most) Is old.block new.block → Fits S old.homes → Is S → IsTypedNow S w old → IsTypedNow S (w + most) new
+works_typed S w most homes Is old new same housed works fits is now = record {
+  block = works.typed S (subst (Fits S) (sym housed) fits) is now.block;
+  size = (let c = works.count in let f = now.size in omega (arith, c, f));
+  stages = λ l t e.
+      anywhere_more S.types S.program (4 * w) (4 * (w + most)) (omega arith) t (now.stages l t (ap (λ (z : Lowering). slice_get z.stages.stages.items l) (sym same) ∙ e));
+}
 
 -- a step that does nothing there
 pub idle_works : (homes : List Home) (most : ℕ) (b new : OpenBlock) → new ≡ record b { steps = suc b.steps } → Works homes most (λ S. Unit {0}) b new
@@ -169,37 +139,8 @@ idle_works homes most b new is = record {
   typed = λ S fits ok open_. subst (IsTypedOpen S.types) (sym is) (record { operations = open_.operations; few = open_.few; current = open_.current });
 }
 
-pub nothing_stays : (homes : Homes) (s : Statement) (c : StraightCode) → StaysTyped homes s c c true
-nothing_stays homes s c = λ S w fits words ok sound sites so_far. so_far_more S w (w + statement_weight s) true c (omega arith) so_far
-
-words_less : (T : Types) (n a b : ℕ) → a ≤ b → HasWords T n b → HasWords T n a
+pub words_less : (T : Types) (n a b : ℕ) → a ≤ b → HasWords T n b → HasWords T n a
 words_less T n a b less words = λ j lt. words j (omega arith)
-
-pub sequence_stays : (homes : Homes) (a b : Statement) (old mid new : StraightCode) (goes : Bool) → (IsSound (length homes.variables) old.block → IsSound (length homes.variables) mid.block) →
-    mid.site ≡ old.site + print_count a → StaysTyped homes a old mid true → StaysTyped homes b mid new goes → StaysTyped homes (Statement.Sequence a b) old new goes
-sequence_stays homes a b old mid new goes sounds site first second = λ S w fits words ok sound sites so_far.
-    let n = length homes.variables in
-    let h = first S w fits (words_less S.types n (most_values a) (max (most_values a) (most_values b)) (omega arith) words) ok.0 sound (first_sites S.program a b old.site sites) so_far in
-    let k =
-    second S (w + statement_weight a) fits (words_less S.types n (most_values b) (max (most_values a) (most_values b)) (omega arith) words) ok.1 (sounds sound)
-    (rest_sites S.program a b old.site sites mid.site site) h in
-    subst (λ v. IsTypedSoFar S v goes new) (let e : w + statement_weight a + statement_weight b ≡ w + (statement_weight a + statement_weight b) = omega arith in e) k
-
-pub stops_stays : (homes : Homes) (a b : Statement) (old new : StraightCode) → StaysTyped homes a old new false → StaysTyped homes (Statement.Sequence a b) old new false
-stops_stays homes a b old new first = λ S w fits words ok sound sites so_far.
-    so_far_more S (w + statement_weight a) (w + (statement_weight a + statement_weight b)) false new (omega arith)
-    (first S w fits (words_less S.types (length homes.variables) (most_values a) (max (most_values a) (most_values b)) (omega arith) words) ok.0 sound
-    (first_sites S.program a b old.site sites) so_far)
-
-pub block_stays : (homes : Homes) (body : Statement) (old new : StraightCode) (goes : Bool) → StaysTyped homes body old new goes → StaysTyped homes (Statement.Block body) old new goes
-block_stays homes body old new goes inner = λ S w fits words ok sound sites so_far.
-    so_far_more S (w + statement_weight body) (w + (statement_weight body + 1)) goes new (omega arith)
-    (inner S w fits words ok sound (record { before = sites.before; after = sites.after; all = sites.all; number = sites.number }) so_far)
-
-pub return_stays : (homes : Homes) (right : Option RightSide) (offset : ℕ) (old new : StraightCode) → PushesReturn old new → StaysTyped homes (Statement.Return offset right) old new false
-return_stays homes right offset old new pushes = λ S w fits words ok sound sites so_far.
-    let v = w + statement_weight (Statement.Return offset right) in
-    return_typed S (length homes.variables) v old new sound pushes (so_far_more S w v true old (omega arith) so_far)
 
 -- printf.
 
@@ -214,46 +155,17 @@ words_length : (n count : ℕ) → length (word_operands n count) ≡ count
 words_length n zero = refl
 words_length n (suc count) = ap suc (words_length (suc n) count)
 
-module _ (homes : Homes) (format : List Piece) (arguments : List Expression) (offset : ℕ) (old mid acted new : StraightCode) (b : OpenBlock) (operands : List ActOperand) (site : ℕ)
-    (works : WorksOnValues homes.homes (length homes.variables) arguments old.block b) (stepped : mid ≡ record old { block = record b { steps = suc b.steps } })
-    (operands_are : operands ≡ word_operands (length homes.variables) (length arguments)) (site_is : site ≡ old.site)
-    (sounds : IsSound (length homes.variables) old.block → IsSound (length homes.variables) mid.block) (pushes : PushesAct (code.Print site operands) mid acted)
-    (counted : new ≡ record acted { site = old.site + 1 }) where
-  abbrev statement : Statement
-  statement = Statement.Print offset format arguments
-
-  module _ (S : Typing) (w : ℕ) (fits : Fits S homes.homes) (words : HasWords S.types (length homes.variables) (length arguments)) (ok : IsStatement S.program S.function false statement)
-      (sites : HasSites S.program statement old.site) (so_far : IsTypedSoFar S w true old) where
-    print_typed : IsTypedPrint S.types S.program site operands
-    print_typed =
-        subst (IsTypedPrint S.types S.program site) (sym operands_are) (record {
-          few = (let l = words_length (length homes.variables) (length arguments) in let m = ok.most in omega (arith, l, m));
-          typed = words_typed S.types (length homes.variables) (length arguments) words;
-          format = format;
-          listed = ap (slice_get (print_formats S.program)) site_is ∙ site_at S.program format arguments offset old.site sites;
-          counted = λ f at.
-              let same : Some f ≡ Some format = sym at ∙ ap (slice_get (print_formats S.program)) site_is ∙ site_at S.program format arguments offset old.site sites in
-              words_length (length homes.variables) (length arguments) ∙ sym ok.count ∙ sym (conversions_length format)
-              ∙ ap (λ g. length (conversions_of g)) (let g : format ≡ f = cc in g);
-        })
-
-    values_typed : IsTypedSoFar S (w + statement_weight statement) true mid
-    values_typed =
-        subst (IsTypedSoFar S (w + statement_weight statement) true) (sym stepped)
-        (let open_ = works.typed S fits (ok.passed, words) so_far.block in
-        record {
-          block = record { operations = open_.operations; few = open_.few; current = open_.current };
-          size = (let c = works.count in let f = so_far.size in let m = ok.most in omega (arith, c, f, m));
-          stages = (so_far_more S w (w + statement_weight statement) true old (omega arith) so_far).stages;
-          ended = λ e. cc;
-        })
-
-  pub print_stays : StaysTyped homes statement old new true
-  print_stays = λ S w fits words ok sound sites so_far.
-      let v = w + statement_weight statement in
-      let typed = print_typed S w fits words ok sites so_far in
-      let long : length pushes.mid.stages + 1 < suc (length acted.stages) =
-      (let e = ap (λ (z : StraightCode). length z.stages) pushes.acted
-      ∙ length-append pushes.mid.stages (stage.Act (code.Print site operands) (length pushes.mid.stages + 1) ∷ []) in omega (arith, e)) in
-      let h = act_typed S (length homes.variables) v mid acted (code.Print site operands) (sounds sound) pushes (values_typed S w fits words ok sites so_far) (typed, long) in
-      subst (IsTypedSoFar S v true) (sym counted) (record { block = h.block; size = h.size; stages = h.stages; ended = λ e. cc })
+pub print_typed : (S : Typing) (size : ℕ) (format : List Piece) (arguments : List Expression) (offset site site_ : ℕ) (operands : List ActOperand) → HasWords S.types size (length arguments) →
+    IsPrint S.program S.function format arguments → HasSites S.program (Statement.Print offset format arguments) site → operands ≡ word_operands size (length arguments) → site_ ≡ site →
+    IsTypedPrint S.types S.program site_ operands
+print_typed S size format arguments offset site site_ operands words ok sites operands_are site_is =
+    subst (IsTypedPrint S.types S.program site_) (sym operands_are) (record {
+      few = (let l = words_length size (length arguments) in let m = ok.most in omega (arith, l, m));
+      typed = words_typed S.types size (length arguments) words;
+      format = format;
+      listed = ap (slice_get (print_formats S.program)) site_is ∙ site_at S.program format arguments offset site sites;
+      counted = λ f at.
+          let same : Some f ≡ Some format = sym at ∙ ap (slice_get (print_formats S.program)) site_is ∙ site_at S.program format arguments offset site sites in
+          words_length size (length arguments) ∙ sym ok.count ∙ sym (conversions_length format)
+          ∙ ap (λ g. length (conversions_of g)) (let g : format ≡ f = cc in g);
+    })

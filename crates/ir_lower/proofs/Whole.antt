@@ -1,7 +1,7 @@
 -- The code of main is that of the program.
-use Rattle.std.proofs.Common.{◌≡◌, ℕ, zero, suc, ◌+◌, ◌*◌, ◌<◌, ◌≤◌, List, [], ◌∷◌, ◌++◌, length, map, take, drop, replicate, Option, Some, None, refl, sym, ap, ◌∙◌, subst}
-use Rattle.std.proofs.Common.{arith, append_assoc, length-append, sum_by}
-use Rattle.std.specs.Prelude.{slice_get}
+use Rattle.std.proofs.Common.{◌≡◌, true, false, ℕ, zero, suc, ◌+◌, ◌*◌, ◌<◌, ◌≤◌, List, [], ◌∷◌, ◌++◌, length, map, take, drop, replicate, Option, Some, None, refl, sym, ap, ◌∙◌, subst}
+use Rattle.std.proofs.Common.{inl, inr, arith, append-nil, append_assoc, length-append, sum_by}
+use Rattle.std.specs.Prelude.{slice_get, slice_index}
 use Rattle.std.specs.List.{flat_map, AllByRecursion}
 use Rattle.std.proofs.lemmas.List.Sums.{sum_by-append}
 use Rattle.hls_ints.specs.Types.{IntegerType, long_int}
@@ -9,18 +9,24 @@ use Rattle.c_program.specs.declared.tree.LocalVariable.{LocalVariable}
 use Rattle.c_program.specs.declared.tree.Function.{Function as FunctionTree}
 use Rattle.c_program.specs.declared.tree.Program.{Program as ProgramTree}
 use Rattle.c_program.specs.Plain.{function_of, program_of, statement_of}
-use Rattle.c_program.specs.Tree.{Function, Program}
+use Rattle.c_program.specs.Tree.{Statement, Function, Program}
 use Rattle.c_program.specs.Limits.{print_count}
 use Rattle.c_program.specs.Weight.{statement_weight, own_weight, with_callees, inlined, function_weight, routines, weight}
 use Rattle.c_program.specs.Resolved.{IsFunction, IsResolved}
 use Rattle.thread_semantics.specs.State.{begun, started}
+use Rattle.thread_semantics.specs.Move.{work_move}
+use Rattle.thread_semantics.specs.Work.{Do, Onward, settled}
 use Rattle.block_ir.specs.declared.code.Array.{Array}
 use Rattle.block_ir.specs.declared.code.Stage.{Stage}
 use Rattle.block_ir.specs.declared.code.ThreadCode.{ThreadCode}
-use Rattle.ir_lower.specs.declared.homes.Homes.{Homes}
-use Rattle.code_following.specs.Following.{formats_of, Follows, IsLowered}
-use Rattle.ir_lower.specs.Resuming.{HasSites, AreStages}
-use Rattle.ir_lower.specs.Locals.{arrays_of, AreHomesOf}
+use Rattle.code_following.specs.Following.{formats_of, IsEnd, Follows, IsLowered}
+use Rattle.ir_lower.specs.Resuming.{nothing_kept, HasSites}
+use Rattle.ir_lower.specs.Taken.{is_sequential_function, is_sequential_program}
+use Rattle.ir_lower.specs.Labels.{led_stage, led}
+use Rattle.ir_lower.specs.Apart.{IsTypedNow, IsGood}
+use Rattle.ir_lower.specs.Control.{Whole, IsIn, AtLabel}
+use Rattle.ir_lower.specs.Doing.{Grows, Shifts, OnwardUpTo, Suits, SuitsTyping, Leads, Ends, IsCodeOf}
+use Rattle.ir_lower.specs.Locals.{arrays_of}
 use Rattle.ir_lower.specs.declared.homes.Home.{Home}
 use Rattle.ir_lower.specs.declared.homes.Home.TheVariants as home
 use Rattle.ir_lower.specs.Values.{most_values}
@@ -28,7 +34,11 @@ use Rattle.ir_lower.specs.Typed.{types_of, IsTypedStage, IsTypedCode}
 use Rattle.ir_lower.specs.Typing.{Typing, IsTypedHome, Fits, HasWords}
 use Rattle.ir_lower.proofs.Words.{sum_cons}
 use Rattle.ir_lower.proofs.Typing.{get_more, map_at}
-use Rattle.ir_lower.proofs.Staying.{stage_more}
+use Rattle.ir_lower.proofs.Staying.{stage_more, fresh_typed}
+use Rattle.ir_lower.proofs.Resuming.{fresh_sound}
+use Rattle.ir_lower.proofs.Controlling.{led_length, begin_at, begun_idle}
+use Rattle.ir_lower.proofs.Growing.{grows_both, shifts_refl, shifts_both, begins_shifts, begun_reached, call_shifts}
+use Rattle.ir_lower.proofs.Stepping.{call_goes}
 use Rattle.ir_lower.proofs.Shapes.{shape_fresh, nothing_written}
 use Rattle.ir_lower.proofs.Sites.{formats_length}
 use Rattle.ir_lower.proofs.LocalHomes.{are_homes, IsDeclaredHome, declared_home}
@@ -90,74 +100,194 @@ word_at [] count j n e lt = ap (slice_get (replicate count long_int)) (let same 
 word_at (x ∷ xs) count j zero e lt = absurd (omega arith)
 word_at (x ∷ xs) count j (suc n) e lt = word_at xs count j n (omega arith) lt
 
-module _ (p : ProgramTree) (f : FunctionTree) (homes : Homes) (site : ℕ) (stages : List Stage) (code : ThreadCode) (at : slice_get p.functions.items p.main ≡ Some f)
-    (housed : AreHomesOf f.locals.items homes) (site_is : site ≡ sum_by (λ (g : Function). print_count g.body) (map function_of (take p.main p.functions.items)))
-    (does : AreStages homes (statement_of f.body) site stages) (same : code.stages ≡ stages) where
+-- a stage of the whole is one of those that led to labels
+led_at : (stage_of : ℕ → ℕ) (xs : List Stage) (l : ℕ) (s : Stage) → slice_get (led stage_of xs) l ≡ Some s → (x : Stage) × (slice_get xs l ≡ Some x) × (s ≡ led_stage stage_of x)
+led_at stage_of [] l s e = absurd cc
+led_at stage_of (x ∷ xs) zero s e = (x, refl, let same : s ≡ led_stage stage_of x = cc in same)
+led_at stage_of (x ∷ xs) (suc l) s e = led_at stage_of xs l s e
+
+module _ (p : ProgramTree) (code : ThreadCode) (made : IsCodeOf p p.main code) (own : is_sequential_program (program_of p) ≡ true) where
   abbrev P : Program
   P = program_of p
 
-  found : slice_get P.functions p.main ≡ Some (function_of f)
-  found = get_map function_of p.functions.items p.main f at
+  abbrev f : FunctionTree
+  f = made.function
 
-  sites : HasSites P (statement_of f.body) site
+  abbrev body : Statement
+  body = statement_of f.body
+
+  abbrev homes : List Home
+  homes = made.is_new.homed.homes
+
+  abbrev size : ℕ
+  size = length made.is_new.homed.variables
+
+  found : slice_get P.functions p.main ≡ Some (function_of f)
+  found = get_map function_of p.functions.items p.main f made.at
+
+  leads : Leads None body made.begun made.lowered
+  leads = made.lowers (sym (ap is_sequential_function found) ∙ own)
+
+  sites : HasSites P body made.site
   sites = record {
     before = flat_map (λ (g : Function). formats_of g.body) (take p.main P.functions);
     after = flat_map (λ (g : Function). formats_of g.body) (drop (suc p.main) P.functions);
     all = formats_split P.functions p.main (function_of f) found;
     number =
-        site_is ∙ ap (λ l. sum_by (λ (g : Function). print_count g.body) l) (sym (take_map function_of p.main p.functions.items))
+        made.site_is ∙ ap (λ l. sum_by (λ (g : Function). print_count g.body) l) (sym (take_map function_of p.main p.functions.items))
         ∙ sym (formats_count (take p.main P.functions));
   }
+
+  first_begun : Shifts made.first made.begun
+  first_begun =
+      shifts_both made.first made.starts.labelled made.begun made.starts.relabels.shifts (begins_shifts made.start made.starts.labelled made.begun made.starts.begins)
+
+  good_first : IsGood size made.first
+  good_first = record {
+    variables = ap length made.is_new.variables;
+    sound = fresh_sound size made.first.block made.is_new.block;
+    idle = λ off. made.is_new.block.steps;
+  }
+
+  begun_sites : HasSites P body made.begun.site
+  begun_sites = subst (HasSites P body) (sym (first_begun.site ∙ made.is_new.site_)) sites
+
+  ended : Shifts made.lowered made.ended
+  ended = by made.ends
+    where
+      by : Ends made.lowered made.ended → Shifts made.lowered made.ended
+      by (inl e) = subst (Shifts made.lowered) (sym e.same) (shifts_refl made.lowered)
+      by (inr e) = call_shifts made.lowered made.ended e.ends
+
+  first_ended : Grows made.first made.ended
+  first_ended = grows_both made.first made.lowered made.ended (grows_both made.first made.begun made.lowered first_begun.grows leads.grows) ended.grows
+
+  abbrev stage_of : ℕ → ℕ
+  stage_of = slice_index made.finished.finishes.table
+
+  abbrev W : Whole
+  W = record { setting = record { program = P; function = function_of f; stages = code.stages }; stage_of = stage_of }
+
+  whole : IsIn W made.ended
+  whole = record {
+    part = record { more = []; is = made.finished.finishes.stages ∙ sym (append-nil (led stage_of made.ended.stages.stages.items)) };
+    obeys = made.finished.finishes.labels;
+  }
+
+  good_lowered : IsGood size made.lowered
+  good_lowered = leads.grows.good size (first_begun.grows.good size good_first)
+
+  -- the closing brace
+  after : (n : ℕ) → OnwardUpTo W homes n made.lowered []
+  after n = by made.ends
+    where
+      by : Ends made.lowered made.ended → OnwardUpTo W homes n made.lowered []
+      by (inl e) = λ on. absurd (let off = e.off in cc)
+      by (inr e) =
+          call_goes W homes size n [] made.lowered made.ended e.ends good_lowered whole
+          (λ g globals work. subst (λ w. IsEnd (work_move P (record { locals = g.locals; globals = globals }) g [] w)) (sym work) tt)
 
   module _ (resolved : IsResolved P) where
     is : IsFunction P (function_of f)
     is = all_at (IsFunction P) P.functions p.main (function_of f) resolved.functions found
 
+    suits : Suits W homes size body made.begun
+    suits = record {
+      homes_ = first_begun.grows.homes ∙ made.is_new.homes;
+      good = first_begun.grows.good size good_first;
+      locals = are_homes f.locals.items made.is_new.homed made.is_new.are;
+      in_loop = false;
+      resolved = is.body;
+      sites = begun_sites;
+    }
+
+    begins : (n : ℕ) → AtLabel W homes n made.start (settled Onward (Do body ∷ []))
+    begins n =
+        let reached = begun_reached made.start made.starts.labelled made.begun made.starts.begins in
+        let idle = begun_idle made.start size made.starts.labelled made.begun (made.starts.relabels.shifts.grows.good size good_first) made.starts.begins in
+        begin_at W homes n (settled Onward (Do body ∷ [])) nothing_kept made.start made.starts.labelled made.begun idle made.starts.begins
+        (leads.leads W homes size n [] suits (ended.grows.whole W whole) tt (after n) reached n (omega arith))
+
     pub lowered_at : IsLowered P code
     lowered_at = λ n variables arrays.
-        subst (λ l. Follows P l n 0 variables arrays (started (slice_get P.functions p.main) p.main [])) (sym same)
-        (subst (λ o. Follows P stages n 0 variables arrays (started o p.main [])) (sym found)
-        (does.follow P (function_of f) (are_homes f.locals.items homes housed) is.body sites n variables arrays (begun (function_of f) p.main []) refl
-        (shape_fresh f.locals.items) (λ x j v e. absurd (nothing_written f.locals.items x j v e))))
+        subst (λ o. Follows P code.stages n 0 variables arrays (started o p.main [])) (sym found)
+        (subst (λ l. Follows P code.stages n l variables arrays (begun (function_of f) p.main [] ∷ [])) made.finished.finishes.first
+        (begins n variables arrays (begun (function_of f) p.main []) refl (shape_fresh f.locals.items) (λ x j v e. absurd (nothing_written f.locals.items x j v e)) tt))
 
-  -- its types are those of the program's objects
+    -- its types are those of the program's objects
 
-  module _ (variables : code.variables ≡ homes.variables ++ replicate (most_values (statement_of f.body)) long_int) (arrays : code.arrays ≡ homes.arrays) where
+    variables_are : code.variables ≡ made.is_new.homed.variables ++ replicate (most_values body) long_int
+    variables_are =
+        made.finished.variables ∙ ap (λ vs. vs ++ replicate made.ended.act_operands long_int) (first_ended.variables ∙ made.is_new.variables)
+        ∙ ap (λ n. made.is_new.homed.variables ++ replicate n long_int) (first_ended.words ∙ made.is_new.words)
+
+    arrays_are : code.arrays ≡ arrays_of f.locals.items
+    arrays_are = made.finished.arrays ∙ first_ended.arrays ∙ made.is_new.arrays ∙ made.is_new.are.arrays
+
     abbrev typing : Typing
     typing = record { program = P; function = function_of f; types = types_of P code }
 
     home_typed : (l : LocalVariable) (o : Option Home) → IsDeclaredHome f.locals.items l o → IsTypedHome (types_of P code) l o
     home_typed l None h = absurd h
     home_typed l (Some (home.Variable n)) h =
-        ap (λ ts. slice_get ts n) variables ∙ get_more homes.variables (replicate (most_values (statement_of f.body)) long_int) n l.ty (ap (λ ts. slice_get ts n) housed.variables ∙ h)
+        ap (λ ts. slice_get ts n) variables_are
+        ∙ get_more made.is_new.homed.variables (replicate (most_values body) long_int) n l.ty (ap (λ ts. slice_get ts n) made.is_new.are.variables ∙ h)
     home_typed l (Some (home.Array a)) h =
-        ap (λ arrays. slice_get (map (λ (x : Array). x.ty) arrays) a) (arrays ∙ housed.arrays)
+        ap (λ arrays. slice_get (map (λ (x : Array). x.ty) arrays) a) arrays_are
         ∙ map_at (λ (x : Array). x.ty) (arrays_of f.locals.items) a (record { ty = l.ty; length = l.length }) h
 
-    fits : Fits typing homes.homes
+    fits : Fits typing homes
     fits = record {
       locals = λ x l e.
-          home_typed l (slice_get homes.homes x)
-          (subst (λ hs. IsDeclaredHome f.locals.items l (slice_get hs x)) (sym housed.homes) (declared_home [] f.locals.items x l e));
+          home_typed l (slice_get homes x)
+          (subst (λ hs. IsDeclaredHome f.locals.items l (slice_get hs x)) (sym made.is_new.are.homes) (declared_home [] f.locals.items x l e));
       globals = refl;
     }
 
-    words : HasWords (types_of P code) (length homes.variables) (most_values (statement_of f.body))
-    words = λ j lt. ap (λ ts. slice_get ts (length homes.variables + j)) variables ∙ word_at homes.variables (most_values (statement_of f.body)) j (length homes.variables + j) refl lt
+    words : HasWords (types_of P code) size (most_values body)
+    words = λ j lt. ap (λ ts. slice_get ts (size + j)) variables_are ∙ word_at made.is_new.homed.variables (most_values body) j (size + j) refl lt
 
-    light : statement_weight (statement_of f.body) ≤ weight P
+    light : statement_weight body ≤ weight P
     light = main_weighs P (function_of f) found
 
-    pub typed_at : IsResolved P → IsTypedCode P code
-    typed_at resolved =
-        let h = does.typed typing fits words (is resolved).body sites in
-        let m = 4 * statement_weight (statement_of f.body) in
-        record {
-          some = subst (λ (l : List Stage). 0 < length l) (sym same) h.0;
-          stages = λ l s e.
-              subst (λ (z : List Stage). IsTypedStage (types_of P code) P (length z) (4 * weight P) s) (sym same)
-              (stage_more (types_of P code) P (length stages) (length stages) m (4 * weight P) (omega arith) (let w = light in omega arith) s
-              (h.1 l s (ap (λ z. slice_get z l) (sym same) ∙ e)));
-          arrays = λ main at_main.
-              arrays ∙ housed.arrays ∙ ap arrays_of (let g : function_of f ≡ main = (let both : Some (function_of f) ≡ Some main = sym found ∙ at_main in cc) in ap (λ (z : Function). z.locals) g);
-        }
+    suits_typing : SuitsTyping typing size body made.begun
+    suits_typing = record {
+      fits = subst (Fits typing) (sym (first_begun.grows.homes ∙ made.is_new.homes)) fits;
+      words = words;
+      good = first_begun.grows.good size good_first;
+      in_loop = false;
+      resolved = is.body;
+      sites = begun_sites;
+    }
+
+    first_typed : IsTypedNow typing 0 made.first
+    first_typed = record {
+      block = fresh_typed typing.types (size + 4) made.first.block made.is_new.block;
+      size = (let e = ap length made.is_new.block.operations in omega (arith, e));
+      stages = λ l t e. absurd (let none : slice_get [] l ≡ Some t = ap (λ xs. slice_get xs l) (sym made.is_new.items) ∙ e in cc);
+    }
+
+    ended_typed : IsTypedNow typing (0 + statement_weight body) made.ended
+    ended_typed =
+        ended.typed typing (0 + statement_weight body) size good_lowered
+        (leads.typed typing 0 size suits_typing (first_begun.typed typing 0 size good_first first_typed))
+
+    long : length code.stages ≡ length made.ended.stages.stages.items
+    long = ap length made.finished.finishes.stages ∙ led_length stage_of made.ended.stages.stages.items
+
+    stage_typed : (l : ℕ) (s : Stage) → slice_get code.stages l ≡ Some s → IsTypedStage (types_of P code) P (length code.stages) (4 * weight P) s
+    stage_typed l s e =
+        let h = led_at stage_of made.ended.stages.stages.items l s (ap (λ z. slice_get z l) (sym made.finished.finishes.stages) ∙ e) in
+        let m = 4 * (0 + statement_weight body) in
+        subst (λ n. IsTypedStage (types_of P code) P n (4 * weight P) s) (sym long)
+        (subst (IsTypedStage (types_of P code) P (length made.ended.stages.stages.items) (4 * weight P)) (sym h.2)
+        (stage_more (types_of P code) P (length made.ended.stages.stages.items) (length made.ended.stages.stages.items) m (4 * weight P) (omega arith) (let w = light in omega arith)
+        (led_stage stage_of h.0) (ended_typed.stages l h.0 h.1 (length made.ended.stages.stages.items) stage_of made.finished.finishes.below)))
+
+    pub typed_at : IsTypedCode P code
+    typed_at = record {
+      some = (let e = long in let b = made.finished.finishes.below 0 in omega (arith, e, b));
+      stages = stage_typed;
+      arrays = λ main at_main.
+          arrays_are ∙ ap arrays_of (let g : function_of f ≡ main = (let both : Some (function_of f) ≡ Some main = sym found ∙ at_main in cc) in ap (λ (z : Function). z.locals) g);
+    }

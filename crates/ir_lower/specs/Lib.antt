@@ -2,6 +2,10 @@ pub mod Taken
 pub mod Printing
 pub mod Resuming
 pub mod Locals
+pub mod Labels
+pub mod Apart
+pub mod Control
+pub mod Doing
 pub mod Typed
 pub mod Typing
 pub mod Values

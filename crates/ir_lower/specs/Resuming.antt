@@ -1,33 +1,22 @@
 -- Code in the making, and what of a thread's steps its whole does from there on.
-use Rattle.std.specs.Prelude.{◌≡◌, ℕ, ◌+◌, ◌*◌, ◌<◌, ◌≤◌, Bool, true, false, List, [], ◌∷◌, ◌++◌, length, map, ℤ, Option, Some, None, slice_get, ◌⊎◌}
+use Rattle.std.specs.Prelude.{◌≡◌, ℕ, ◌+◌, ◌<◌, List, [], ◌∷◌, ◌++◌, length, map, ℤ, Option, Some, None, slice_get}
 use Rattle.c_program.specs.declared.tree.LocalVariable.{LocalVariable}
 use Rattle.c_program.specs.Tree.{Piece, Statement, Function, Program}
-use Rattle.c_program.specs.Limits.{print_count}
-use Rattle.c_program.specs.Resolved.{IsStatement}
-use Rattle.c_program.specs.Weight.{statement_weight}
 use Rattle.thread_semantics.specs.Memory.{element}
-use Rattle.thread_semantics.specs.Work.{Work, Do, settled, Onward}
+use Rattle.thread_semantics.specs.Work.{Work}
 use Rattle.thread_semantics.specs.State.{Frame}
 use Rattle.block_ir.specs.declared.block.Operation.{Operation}
-use Rattle.block_ir.specs.declared.block.Next.TheVariants.{Jump}
 use Rattle.block_ir.specs.declared.block.Block.{Block}
-use Rattle.block_ir.specs.declared.code.Act.{Act}
-use Rattle.block_ir.specs.declared.code.Act.TheVariants.{Return}
 use Rattle.block_ir.specs.declared.code.Stage.{Stage}
 use Rattle.block_ir.specs.declared.code.Stage.TheVariants as stage
 use Rattle.block_ir.specs.Run.{Cells, Access, Running, operations_run, variables_after, stage_after}
 use Rattle.code_following.specs.Following.{AfterMoves, formats_of, print_formats, Follows}
 use Rattle.ir_lower.specs.declared.homes.Home.{Home}
 use Rattle.ir_lower.specs.declared.homes.Home.TheVariants as home
-use Rattle.ir_lower.specs.declared.homes.Homes.{Homes}
 use Rattle.ir_lower.specs.declared.open_block.OpenBlock.{OpenBlock}
-use Rattle.ir_lower.specs.declared.straight.StraightCode.{StraightCode}
-use Rattle.ir_lower.specs.Typed.{Types, IsTypedStage}
-use Rattle.ir_lower.specs.Typing.{Typing, Fits, HasWords, IsTypedSoFar}
-use Rattle.ir_lower.specs.Values.{most_values}
 use Rattle.ir_lower.specs.Needs.{AreBelow}
 use Rattle.ir_lower.specs.Evaluating.{Holds}
-use Rattle.ir_lower.specs.Closing.{HasNoted, IsFresh, Closes}
+use Rattle.ir_lower.specs.Closing.{HasNoted, IsFresh}
 use Rattle.ir_lower.specs.Printing.{held_by}
 
 -- Locals and their homes.
@@ -101,14 +90,6 @@ module _ (S : Setting) (homes : List Home) (Kept : Keeping) where
       (variables : ℕ → ℤ) (arrays : Cells) (f : Frame) → f.work ≡ k → HasShape S.function.locals f.locals → HoldLocals homes variables arrays f.locals →
       Kept variables f.kept → Follows S.program S.stages n l variables arrays (f ∷ [])
 
-  -- the place at hand is one where a call with this work goes on
-  pub record Resumes (n : ℕ) (c : StraightCode) (k : List Work) : Type 0 where
-    pub fresh : c.block.steps ≡ 0 → AtFresh n (length c.stages) k
-    pub busy : 0 < c.block.steps → InBlock n (length c.stages) c.block k
-
-  abbrev pub ResumesUpTo : ℕ → StraightCode → List Work → Type 0
-  ResumesUpTo n c k = (j : ℕ) → j ≤ n → Resumes j c k
-
 -- How the code grows.
 
 -- the block at hand, in code with so many variables and 4 for words
@@ -117,36 +98,6 @@ pub record IsSound (variables : ℕ) (b : OpenBlock) : Type 0 where
   pub noted : HasNoted b
   pub below : AreBelow (length b.operations) b.current
   pub fresh : b.steps ≡ 0 → IsFresh (variables + 4) b
-
-pub record PushesBlock (old new : StraightCode) : Type 0 where
-  pub busy : 0 < old.block.steps
-  pub block : Block
-  pub closes : Closes old.block (Jump (length old.stages + 1)) block
-  pub stages : new.stages ≡ old.stages ++ stage.Run block ∷ []
-  pub left : HasNoted old.block → IsFresh (length old.block.current) new.block
-  pub site : new.site ≡ old.site
-
-pub record PushesNothing (old new : StraightCode) : Type 0 where
-  pub idle : old.block.steps ≡ 0
-  pub same : new ≡ old
-
--- the block at hand is a stage, unless it does nothing yet
-abbrev pub EndsBlock : StraightCode → StraightCode → Type 0
-EndsBlock old new = PushesNothing old new ⊎ PushesBlock old new
-
-abbrev pub with_stage : StraightCode → Stage → StraightCode
-with_stage c s = record c { stages = c.stages ++ s ∷ [] }
-
--- and then this act is one, which leads to the stage after it
-pub record PushesAct (act : Act) (old new : StraightCode) : Type 0 where
-  pub mid : StraightCode
-  pub ends : EndsBlock old mid
-  pub acted : new ≡ with_stage mid (stage.Act act (length mid.stages + 1))
-
-pub record PushesReturn (old new : StraightCode) : Type 0 where
-  pub mid : StraightCode
-  pub ends : EndsBlock old mid
-  pub acted : new ≡ with_stage mid (stage.Act Return 0)
 
 pub record IsPart (stages all : List Stage) : Type 0 where
   pub more : List Stage
@@ -158,38 +109,3 @@ pub record HasSites (P : Program) (s : Statement) (site : ℕ) : Type 0 where
   pub after : List (List Piece)
   pub all : print_formats P ≡ before ++ (formats_of s ++ after)
   pub number : site ≡ length before
-
--- the stages so far, and the block at hand, stay typed
-abbrev pub StaysTyped : Homes → Statement → StraightCode → StraightCode → Bool → Type 0
-StaysTyped homes s old new goes =
-    (S : Typing) (w : ℕ) → Fits S homes.homes → HasWords S.types (length homes.variables) (most_values s) → IsStatement S.program S.function false s →
-    IsSound (length homes.variables) old.block → HasSites S.program s old.site → IsTypedSoFar S w true old → IsTypedSoFar S (w + statement_weight s) goes new
-
--- the code of a statement was added; where it goes on past it, the place after it is one where the work after it goes on
-pub record Leads (homes : Homes) (s : Statement) (old new : StraightCode) (goes : Bool) : Type 0 where
-  pub more : List Stage
-  pub stages : new.stages ≡ old.stages ++ more
-  pub sound : IsSound (length homes.variables) old.block → IsSound (length homes.variables) new.block
-  pub site : goes ≡ true → new.site ≡ old.site + print_count s
-  pub typed : StaysTyped homes s old new goes
-  pub leads : (S : Setting) (n : ℕ) (k : List Work) → AreHomes S.function.locals homes.homes (length homes.variables) →
-      IsStatement S.program S.function false s → IsSound (length homes.variables) old.block → IsPart new.stages S.stages → HasSites S.program s old.site →
-      (goes ≡ true → ResumesUpTo S homes.homes nothing_kept n new (settled Onward k)) → ResumesUpTo S homes.homes nothing_kept n old (settled Onward (Do s ∷ k))
-
--- nothing yet, in code with so many variables
-pub record IsNew (variables site : ℕ) (c : StraightCode) : Type 0 where
-  pub block : IsFresh (variables + 4) c.block
-  pub stages : c.stages ≡ []
-  pub site_ : c.site ≡ site
-
--- one stage or more, each typed, with at most so many operations in a block
-abbrev pub AreTypedStages : Types → Program → ℕ → List Stage → Type 0
-AreTypedStages T P most stages = (0 < length stages) × ((l : ℕ) (s : Stage) → slice_get stages l ≡ Some s → IsTypedStage T P (length stages) most s)
-
--- the stages do the steps of a call that begins with the statement and does no more
-pub record AreStages (homes : Homes) (s : Statement) (site : ℕ) (stages : List Stage) : Type 0 where
-  pub follow : (P : Program) (f : Function) → AreHomes f.locals homes.homes (length homes.variables) → IsStatement P f false s → HasSites P s site →
-      (n : ℕ) (variables : ℕ → ℤ) (arrays : Cells) (g : Frame) → g.work ≡ settled Onward (Do s ∷ []) → HasShape f.locals g.locals →
-      HoldLocals homes.homes variables arrays g.locals → Follows P stages n 0 variables arrays (g ∷ [])
-  pub typed : (S : Typing) → Fits S homes.homes → HasWords S.types (length homes.variables) (most_values s) → IsStatement S.program S.function false s → HasSites S.program s site →
-      AreTypedStages S.types S.program (4 * statement_weight s) stages

@@ -40,26 +40,22 @@ abbrev pub is_taken_function : Option Function → Bool
 is_taken_function None = false
 is_taken_function (Some function) = is_taken false function.body
 
--- no control either, and no pthread call: from its first statement to its last
-abbrev pub is_straight : Statement → Bool
-is_straight (Statement.Sequence first rest) = is_straight first && is_straight rest
-is_straight (Statement.Block body) = is_straight body
-is_straight (Statement.Assign offset place right) = is_value right
-is_straight (Statement.If condition consequent alternative) = false
-is_straight (Statement.While condition body) = false
-is_straight (Statement.DoWhile body condition) = false
-is_straight (Statement.For first condition last body) = false
-is_straight Statement.Break = false
-is_straight Statement.Continue = false
-is_straight (Statement.Return offset right) = is_value_or_none right
-is_straight (Statement.Call offset function arguments) = false
-is_straight (Statement.Print offset format arguments) = fits_format format arguments
-is_straight (Statement.Thread offset call) = false
-is_straight statement = true
+-- no pthread call
+abbrev pub is_sequential : Statement → Bool
+is_sequential (Statement.Sequence first rest) = is_sequential first && is_sequential rest
+is_sequential (Statement.Block body) = is_sequential body
+is_sequential (Statement.If condition consequent alternative) = is_sequential consequent && is_sequential alternative
+is_sequential (Statement.While condition body) = is_sequential body
+is_sequential (Statement.DoWhile body condition) = is_sequential body
+is_sequential (Statement.For first condition last body) =
+    is_sequential first && (is_sequential last && is_sequential body)
+is_sequential (Statement.Thread offset call) = false
+is_sequential statement = true
 
-abbrev pub is_straight_function : Option Function → Bool
-is_straight_function None = false
-is_straight_function (Some function) = is_straight function.body
+abbrev pub is_sequential_function : Option Function → Bool
+is_sequential_function None = false
+is_sequential_function (Some function) = is_sequential function.body
 
-abbrev pub is_straight_program : Program → Bool
-is_straight_program P = is_straight_function (slice_get P.functions P.main)
+-- main calls no function of pthreads
+abbrev pub is_sequential_program : Program → Bool
+is_sequential_program P = is_sequential_function (slice_get P.functions P.main)

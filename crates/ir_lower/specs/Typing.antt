@@ -1,5 +1,5 @@
 -- Typed code in the making.
-use Rattle.std.specs.Prelude.{◌≡◌, ℕ, suc, ◌+◌, ◌*◌, ◌^◌, ◌<◌, ◌≤◌, Bool, true, false, List, [], length, map, Option, Some, None, slice_get}
+use Rattle.std.specs.Prelude.{◌≡◌, ℕ, ◌+◌, ◌*◌, ◌^◌, ◌<◌, ◌≤◌, List, [], length, map, Option, Some, None, slice_get}
 use Rattle.hls_ints.specs.Types.{IntegerType, long_int}
 use Rattle.c_program.specs.declared.tree.BinaryOperator.{BinaryOperator}
 use Rattle.c_program.specs.declared.tree.LocalVariable.{LocalVariable}
@@ -8,12 +8,10 @@ use Rattle.c_program.specs.Types.{type_of}
 use Rattle.c_program.specs.Weight.{expression_weight, expressions_weight, place_weight}
 use Rattle.c_program.specs.Resolved.{IsExpression, AreExpressions, IsPlace, IsUpdate}
 use Rattle.block_ir.specs.declared.operand.Operand.{Operand}
-use Rattle.block_ir.specs.declared.code.Stage.{Stage}
 use Rattle.ir_lower.specs.declared.homes.Home.{Home}
 use Rattle.ir_lower.specs.declared.homes.Home.TheVariants as home
 use Rattle.ir_lower.specs.declared.open_block.OpenBlock.{OpenBlock}
-use Rattle.ir_lower.specs.declared.straight.StraightCode.{StraightCode}
-use Rattle.ir_lower.specs.Typed.{Types, operand_type, IsTypedOperand, AreTyped, IsTypedStage}
+use Rattle.ir_lower.specs.Typed.{Types, operand_type, IsTypedOperand, AreTyped}
 
 -- a function of a program, and the types of what its code works on
 pub record Typing : Type 0 where
@@ -73,15 +71,3 @@ WorksOnValue homes n e old new =
 abbrev pub WorksOnValues : List Home → ℕ → List Expression → OpenBlock → OpenBlock → Type 0
 WorksOnValues homes n es old new =
     Works homes (2 * expressions_weight es + length es) (λ S. AreExpressions S.program S.function es × HasWords S.types n (length es)) old new
-
--- how many stages there are at least once the code is whole
-abbrev pub reach : Bool → ℕ → ℕ
-reach true n = suc n
-reach false n = n
-
--- code of statements that weigh w
-pub record IsTypedSoFar (S : Typing) (w : ℕ) (goes : Bool) (c : StraightCode) : Type 0 where
-  pub block : IsTypedOpen S.types c.block
-  pub size : length c.block.operations ≤ 4 * w
-  pub stages : (l : ℕ) (s : Stage) → slice_get c.stages l ≡ Some s → IsTypedStage S.types S.program (reach goes (length c.stages)) (4 * w) s
-  pub ended : goes ≡ false → 0 < length c.stages

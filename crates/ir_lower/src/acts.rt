@@ -1,5 +1,10 @@
 // Acts: a step that evaluates their operands, and the act itself.
 
+ghost use Rattle.std.specs.Prelude.{◌≡◌, ℕ, IfOk};
+ghost use Rattle.c_program.specs.Plain.{expressions_of, pieces_of};
+ghost use Rattle.c_program.specs.Tree as tree;
+ghost use Rattle.ir_lower.specs.Doing as doing;
+
 use crate::expressions::lower_expression;
 use crate::fault::LoweringFault;
 use crate::homes::Home;
@@ -147,26 +152,30 @@ pub fn lower_thread_call(
     Ok(())
 }
 
-/// A printf with these values, each converted to its conversion's type.
+/// A printf: a step that evaluates its arguments, each converted to its conversion's type, and the act.
 pub fn lower_print(
     alloc: Global,
     code: &mut Lowering,
     format: &[Piece],
     arguments: &[Expression],
-) -> Result<(), LoweringFault> {
-    let site = code.next_site()?;
-    let first = code.words(arguments.len())?;
+) -> Result<(), LoweringFault>
+    ensures { IfOk result (λ _. (offset : ℕ) (around : _) → doing.LowersHere around (tree.Statement.Print offset (pieces_of format.now) (expressions_of arguments.now)) code.old code.new) }
+{
+    let first = code.first_word()?;
     let types = conversions_of(alloc, format)?;
+    let words = types.as_slice();
     lower_values(
         alloc,
         code.homes.as_slice(),
         &mut code.block,
         first,
-        types.as_slice(),
+        words,
         arguments,
     )?;
     code.block.step()?;
     let values = word_operands(alloc, first, arguments.len())?;
+    let site = code.site();
+    code.skip_sites(1)?;
     code.act(alloc, Act::Print { site, values })?;
     Ok(())
 }

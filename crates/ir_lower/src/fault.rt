@@ -16,6 +16,10 @@ pub enum LoweringFault {
     /// There are more operations, variables or steps than a `u32` counts.
     #[error("too large")]
     TooLarge,
+    /// A label of the code has two places or none, its places lead round, or the first place is not the first stage. That
+    /// this never comes is not proved.
+    #[error("label")]
+    Label,
 }
 
 impl From<AllocError> for LoweringFault {

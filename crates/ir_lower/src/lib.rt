@@ -3,6 +3,7 @@
 
 pub mod acts;
 pub mod assignments;
+pub mod branching;
 pub mod conditions;
 pub mod expressions;
 pub mod fault;
@@ -15,9 +16,9 @@ pub mod operands;
 pub mod places;
 pub mod printing;
 pub mod prints;
+pub mod simple;
 pub mod stages;
 pub mod statements;
-pub mod straight;
 pub mod taken;
 #[cfg(test)]
 mod tests;

@@ -1,5 +1,10 @@
 // The code of a thread in the making: the block at hand, and the stages before it.
 
+ghost use Rattle.std.specs.Prelude.{◌≡◌, ◌+◌, ◌++◌, length, replicate, true, false, IsTrue, IfOk, OnOk};
+ghost use Rattle.hls_ints.specs.Types.{long_int};
+ghost use Rattle.ir_lower.specs.Control as control;
+ghost use Rattle.ir_lower.specs.Doing as doing;
+
 use crate::fault::{LoweringFault, number_of};
 use crate::homes::{Home, Homes, homes_of};
 use crate::objects::Objects;
@@ -36,13 +41,18 @@ pub struct Lowering {
 }
 
 impl Lowering {
-    /// The code of a function with these locals, before its first statement. The first printf in it has that number.
+    /// The code of a function with these locals, before its first statement. The first printf in it has that number, and
+    /// one has so many values at most.
+    #[tactic(auto, using(crate::proofs::Growing::is_new))]
     pub fn new(
         alloc: Global,
         locals: &[LocalVariable],
         objects: Objects,
         site: u32,
-    ) -> Result<Lowering, LoweringFault> {
+        values: usize,
+    ) -> Result<Lowering, LoweringFault>
+        ensures { IfOk result (λ c. doing.IsNew locals.now site values c) }
+    {
         let Homes {
             homes,
             variables,
@@ -57,7 +67,7 @@ impl Lowering {
             objects,
             variables,
             arrays,
-            act_operands: 0,
+            act_operands: values,
             block,
             stages: Stages::new(alloc),
             reached: true,
@@ -65,37 +75,36 @@ impl Lowering {
         })
     }
 
-    pub fn is_reached(&self) -> bool {
+    pub fn is_reached(&self) -> bool
+        ensures { result ≡ self.now.reached }
+    {
         self.reached
     }
 
-    pub fn site(&self) -> u32 {
+    pub fn site(&self) -> u32
+        ensures { result ≡ self.now.site }
+    {
         self.site
     }
 
-    pub fn set_site(&mut self, site: u32) {
+    pub fn set_site(&mut self, site: u32)
+        ensures { self.new ≡ record self.old { site = site } }
+    {
         self.site = site;
     }
 
-    /// The number of a printf at hand.
-    pub fn next_site(&mut self) -> Result<u32, LoweringFault> {
-        let site = self.site;
-        self.skip_sites(1)?;
-        Ok(site)
-    }
-
     /// So many printf calls of the text stand where the program never comes.
-    pub fn skip_sites(&mut self, count: u32) -> Result<(), LoweringFault> {
+    pub fn skip_sites(&mut self, count: u32) -> Result<(), LoweringFault>
+        ensures { OnOk result (self.new ≡ record self.old { site = self.old.site + count }) }
+    {
         self.site = self.site.checked_add(count).ok_or(LoweringFault::TooLarge)?;
         Ok(())
     }
 
-    /// The first of so many variables for operands of acts.
-    pub fn words(&mut self, count: usize) -> Result<u32, LoweringFault> {
-        if count > ACT_OPERANDS {
-            return Err(LoweringFault::TooLarge);
-        }
-        self.act_operands = self.act_operands.max(count);
+    /// The first of the variables for operands of acts.
+    pub fn first_word(&self) -> Result<u32, LoweringFault>
+        ensures { IfOk result (λ n. n ≡ length self.now.variables) }
+    {
         number_of(self.variables.len())
     }
 
@@ -117,12 +126,17 @@ impl Lowering {
         Ok(ActOperand::Variable(variable, CType::LONG))
     }
 
-    pub fn new_label(&mut self) -> Result<usize, AllocError> {
+    pub fn new_label(&mut self) -> Result<usize, AllocError>
+        ensures { OnOk result (self.new ≡ control.with_label self.old) }
+    {
         self.stages.new_label()
     }
 
     /// The block at hand ends and leads there. The place after it is reached by labels alone.
-    fn close(&mut self, alloc: Global, next: Next) -> Result<(), AllocError> {
+    #[tactic(auto, using(crate::proofs::Controlling::ends_at))]
+    fn close(&mut self, alloc: Global, next: Next) -> Result<(), LoweringFault>
+        ensures { OnOk result (control.EndsAt next self.old self.new) }
+    {
         let block = self.block.close(alloc, next)?;
         self.stages.push_block(alloc, block)?;
         self.reached = false;
@@ -130,85 +144,165 @@ impl Lowering {
     }
 
     /// The program goes on at one of two labels: the first where the value isn't 0.
+    #[tactic(auto, using(crate::proofs::Controlling::branches_at))]
     pub fn branch(
         &mut self,
         alloc: Global,
         test: Operand,
         nonzero: usize,
         zero: usize,
-    ) -> Result<(), AllocError> {
-        self.stages.mark(nonzero);
-        self.stages.mark(zero);
+    ) -> Result<(), LoweringFault>
+        ensures { OnOk result (control.Branches test nonzero zero self.old self.new) }
+    {
+        self.stages.mark(nonzero)?;
+        self.stages.mark(zero)?;
         let next = Next::Branch {
             test,
             nonzero,
             zero,
         };
-        self.close(alloc, next)
+        self.close(alloc, next)?;
+        Ok(())
     }
 
     /// The program goes on at the label. A block that does nothing yet is none.
-    pub fn jump(&mut self, alloc: Global, label: usize) -> Result<(), AllocError> {
-        self.stages.mark(label);
+    #[tactic(auto, using(crate::proofs::Controlling::jumps_idle, crate::proofs::Controlling::jumps_busy))]
+    pub fn jump(&mut self, alloc: Global, label: usize) -> Result<(), LoweringFault>
+        ensures { OnOk result (control.Jumps label self.old self.new) }
+    {
+        self.stages.mark(label)?;
         if self.block.is_empty() {
-            self.stages.lead_on(alloc, label);
+            self.stages.lead_on(alloc, label)?;
             self.reached = false;
-            Ok(())
-        } else {
-            self.close(alloc, Next::Jump(label))
+            return Ok(());
         }
+        self.close(alloc, Next::Jump(label))?;
+        Ok(())
     }
 
     /// The label is the place at hand, where something leads to it: then a block begins here.
-    pub fn bind(&mut self, alloc: Global, label: usize) -> Result<(), AllocError> {
-        if self.stages.is_used(label) {
-            self.begin(alloc, label)?;
+    #[tactic(auto, using(crate::proofs::Growing::binds_nothing, crate::proofs::Growing::binds_used))]
+    pub fn bind(&mut self, alloc: Global, label: usize) -> Result<(), LoweringFault>
+        ensures { OnOk result (control.Binds label self.old self.new) }
+    {
+        if !self.stages.is_used(label) {
+            return Ok(());
         }
+        self.begin(alloc, label)?;
+        Ok(())
+    }
+
+    /// The program goes on at the label, if it comes to the place at hand.
+    #[tactic(auto, using(crate::proofs::Growing::leaps_not, crate::proofs::Growing::leaps_to))]
+    pub fn leap(&mut self, alloc: Global, label: usize) -> Result<(), LoweringFault>
+        ensures { OnOk result (control.Leaps label self.old self.new) }
+    {
+        if !self.reached {
+            return Ok(());
+        }
+        self.jump(alloc, label)?;
         Ok(())
     }
 
     /// A block begins here, which has the label.
-    pub fn begin(&mut self, alloc: Global, label: usize) -> Result<(), AllocError> {
-        self.stages.mark(label);
-        if self.reached && !self.block.is_empty() {
-            self.close(alloc, Next::Jump(label))?;
+    #[tactic(auto, using(crate::proofs::Controlling::begins_here, crate::proofs::Controlling::begins_after))]
+    pub fn begin(&mut self, alloc: Global, label: usize) -> Result<(), LoweringFault>
+        ensures { OnOk result (control.Begins label self.old self.new) }
+    {
+        self.stages.mark(label)?;
+        if self.is_idle() {
+            self.place(label)?;
+            return Ok(());
         }
+        self.close(alloc, Next::Jump(label))?;
+        self.place(label)?;
+        Ok(())
+    }
+
+    /// Whether nothing is lost where the place at hand is another: the block does nothing yet, or isn't reached.
+    fn is_idle(&self) -> bool
+        ensures idle { IsTrue result → self.now.reached ≡ true → self.now.block.steps ≡ 0 }
+        ensures reached { result ≡ false → self.now.reached ≡ true }
+        ensures busy { result ≡ false → self.now.block.steps ≡ 0 → ⊥ }
+    {
+        !self.reached || self.block.is_empty()
+    }
+
+    /// The label is one of the place at hand, which is reached.
+    fn place(&mut self, label: usize) -> Result<(), AllocError>
+        ensures { OnOk result (self.new ≡ control.placed label self.old) }
+    {
         self.stages.bind(label)?;
         self.reached = true;
         Ok(())
     }
 
     /// An act, after the block at hand.
-    pub fn act(&mut self, alloc: Global, act: Act) -> Result<(), AllocError> {
+    #[tactic(auto, using(crate::proofs::Growing::acts_at))]
+    pub fn act(&mut self, alloc: Global, act: Act) -> Result<(), LoweringFault>
+        ensures { OnOk result (control.ActsAt act self.old self.new) }
+    {
         self.begin_stage(alloc)?;
         let next = self.stages.new_label()?;
         self.stages.push_act(alloc, act, next)?;
-        self.stages.bind(next)
+        self.stages.bind(next)?;
+        Ok(())
     }
 
     /// The return of the thread's outermost function, after the block at hand.
-    pub fn end(&mut self, alloc: Global) -> Result<(), AllocError> {
+    #[tactic(auto, using(crate::proofs::Growing::ends_call))]
+    pub fn end(&mut self, alloc: Global) -> Result<(), LoweringFault>
+        ensures { OnOk result (control.EndsCall self.old self.new) }
+    {
         self.begin_stage(alloc)?;
         self.stages.push_act(alloc, Act::Return, 0)?;
         self.reached = false;
         Ok(())
     }
 
-    /// The block at hand ends, unless it does nothing, and leads to the next stage.
-    fn begin_stage(&mut self, alloc: Global) -> Result<(), AllocError> {
-        if !self.block.is_empty() {
-            let next = self.stages.new_label()?;
-            self.begin(alloc, next)?;
+    /// The same, if the program comes to the place at hand.
+    #[tactic(auto, using(crate::proofs::Growing::ends_not, crate::proofs::Growing::ends_here))]
+    pub fn end_reached(&mut self, alloc: Global) -> Result<(), LoweringFault>
+        ensures { OnOk result (doing.Ends self.old self.new) }
+    {
+        if !self.reached {
+            return Ok(());
         }
+        self.end(alloc)?;
         Ok(())
     }
 
-    /// The whole code.
-    pub fn finish(self) -> Result<ThreadCode, AllocError> {
+    /// The block at hand ends, unless it does nothing, and leads to the next stage.
+    #[tactic(auto, using(crate::proofs::Growing::begins_idle, crate::proofs::Growing::begins_busy))]
+    fn begin_stage(&mut self, alloc: Global) -> Result<(), LoweringFault>
+        ensures { OnOk result (control.BeginsStage self.old self.new) }
+    {
+        if self.block.is_empty() {
+            return Ok(());
+        }
+        let next = self.new_label()?;
+        self.begin(alloc, next)?;
+        Ok(())
+    }
+
+    /// The label is the first place of the code.
+    #[tactic(auto, using(crate::proofs::Growing::starts_at))]
+    pub fn start(&mut self, alloc: Global) -> Result<usize, LoweringFault>
+        ensures { IfOk result (λ start. doing.Starts start self.old self.new) }
+    {
+        let start = self.new_label()?;
+        self.begin(alloc, start)?;
+        Ok(start)
+    }
+
+    /// The whole code, which begins at the label.
+    pub fn finish(self, alloc: Global, start: usize) -> Result<ThreadCode, LoweringFault>
+        ensures { IfOk result (λ code. doing.IsFinished start self code) }
+    {
         let Lowering {
             homes: _,
             objects: _,
-            mut variables,
+            variables,
             arrays,
             act_operands,
             block: _,
@@ -216,13 +310,23 @@ impl Lowering {
             reached: _,
             site: _,
         } = self;
-        for _ in 0..act_operands {
-            variables.push(CType::LONG)?;
-        }
+        let variables = with_words(variables, act_operands)?;
+        let stages = stages.finish(alloc, start)?;
         Ok(ThreadCode {
             variables,
             arrays,
-            stages: stages.finish(),
+            stages,
         })
     }
+}
+
+/// Those variables, and so many of 64 bits.
+fn with_words(variables: Items<CType>, count: usize) -> Result<Items<CType>, LoweringFault>
+    ensures { IfOk result (λ all. all ≡ variables ++ replicate count long_int) }
+{
+    let mut all = variables;
+    for done in 0..count {
+        all.push(CType::LONG)?;
+    }
+    Ok(all)
 }

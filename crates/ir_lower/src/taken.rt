@@ -86,44 +86,48 @@ pub fn is_taken_function(program: &Program, number: usize) -> bool
     }
 }
 
-/// Whether a statement is straight.
-fn is_straight(statement: &Statement) -> bool
-    ensures { result ≡ taken.is_straight (statement_of statement.now) }
+/// Whether a statement makes no pthread call.
+fn is_sequential(statement: &Statement) -> bool
+    ensures { result ≡ taken.is_sequential (statement_of statement.now) }
 {
     let mut rest = statement;
     while let Statement::Sequence(first, next) = rest {
-        if !is_straight(first) {
+        if !is_sequential(first) {
             return false;
         }
         rest = next;
     }
     match rest {
+        Statement::Thread(_, _) => false,
+        Statement::Block(body) | Statement::While(_, body) | Statement::DoWhile(body, _) => {
+            is_sequential(body)
+        }
+        Statement::If(_, consequent, alternative) => {
+            is_sequential(consequent) && is_sequential(alternative)
+        }
+        Statement::For(first, _, last, body) => {
+            is_sequential(first) && is_sequential(last) && is_sequential(body)
+        }
         Statement::Done
         | Statement::Sequence(_, _)
         | Statement::Empty
         | Statement::Declare(_, _, _)
-        | Statement::Update(_, _, _, _, _) => true,
-        Statement::Block(body) => is_straight(body),
-        Statement::Assign(_, _, right) => is_value(right),
-        Statement::Return(_, right) => is_value_or_none(right),
-        Statement::Print(_, format, arguments) => fits_format(format, arguments),
-        Statement::If(_, _, _)
-        | Statement::While(_, _)
-        | Statement::DoWhile(_, _)
-        | Statement::For(_, _, _, _)
+        | Statement::Assign(_, _, _)
+        | Statement::Update(_, _, _, _, _)
         | Statement::Break
         | Statement::Continue
+        | Statement::Return(_, _)
         | Statement::Call(_, _, _)
-        | Statement::Thread(_, _) => false,
+        | Statement::Print(_, _, _) => true,
     }
 }
 
-/// Whether main is straight: no control, no call, and no act but printf.
-pub fn is_straight_program(program: &Program) -> bool
-    ensures { result ≡ taken.is_straight_program (program_of program.now) }
+/// Whether main makes no pthread call.
+pub fn is_sequential_program(program: &Program) -> bool
+    ensures { result ≡ taken.is_sequential_program (program_of program.now) }
 {
     match program.functions.get(program.main as usize) {
         None => false,
-        Some(main) => is_straight(&main.body),
+        Some(main) => is_sequential(&main.body),
     }
 }

@@ -1,7 +1,7 @@
 // Small programs and their code.
 use crate::fault::LoweringFault;
 use crate::statements::lower;
-use crate::taken::is_straight_program;
+use crate::taken::is_sequential_program;
 use block_ir::block::Next;
 use block_ir::code::{Act, Stage, ThreadCode};
 use c_program::tree::{
@@ -132,7 +132,7 @@ fn shapes(alloc: Global, code: &ThreadCode) -> Result<Vec<(usize, usize, u32)>, 
 #[test]
 fn lowers_straight_code(rt: HostRuntime) -> Result<(), Fail> {
     let program = straight(rt.alloc())?;
-    assert!(rt; is_straight_program(&program));
+    assert!(rt; is_sequential_program(&program));
     let code = lower(rt.alloc(), &program)?;
     let found = shapes(rt.alloc(), &code)?;
     assert_eq!(rt;
@@ -212,7 +212,7 @@ fn lowers_a_long_body(rt: HostRuntime) -> Result<(), Fail> {
 #[test]
 fn lowers_a_loop(rt: HostRuntime) -> Result<(), Fail> {
     let program = counting(rt.alloc())?;
-    assert!(rt; !is_straight_program(&program));
+    assert!(rt; is_sequential_program(&program));
     let code = lower(rt.alloc(), &program)?;
     let found = shapes(rt.alloc(), &code)?;
     let wanted = [

@@ -1,11 +1,11 @@
 -- The place of a signal, as its name tells it.
-use Rattle.std.specs.Prelude.{ℕ, ◌+◌, ◌-◌, ◌*◌, ◌^◌, Bool, ◌==◌, ◌&&◌, nat_lt, nat_le, if◌then◌else◌, List, Option, Some, None, fold, codes}
+use Rattle.std.specs.Prelude.{ℕ, ◌+◌, ◌-◌, ◌*◌, Bool, ◌==◌, ◌&&◌, nat_le, if◌then◌else◌, List, Option, Some, None, fold, codes}
 use Rattle.std.specs.Str.{bytes_eq}
 
 -- a digit behind a number
 abbrev pub digit_behind : Option ℕ → ℕ → Option ℕ
 digit_behind None b = None
-digit_behind (Some n) b = if nat_lt n (2 ^ 59) && (nat_le 48 b && nat_le b 57) then Some (n * 10 + (b - 48)) else None
+digit_behind (Some n) b = if nat_le 48 b && nat_le b 57 then Some (n * 10 + (b - 48)) else None
 
 -- the number behind the last underscore, byte by byte
 abbrev pub number_behind : Option ℕ → ℕ → Option ℕ

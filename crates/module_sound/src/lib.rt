@@ -1,11 +1,7 @@
-//! Checks of a module that is put together signal by signal: that a text can tell it, and that its text is well formed.
+//! The law of a module that is put together signal by signal: a text can tell it, and its text is well formed.
 #![tactic(auto)]
 
 // Inputs stand first and outputs last; the name of each signal tells its place, so no two are the same; and each register
 // is set by the statement of its own number, counted from the first register.
 
-mod kinds;
 pub mod law;
-mod names;
-
-pub use kinds::{begins_with_clock, is_placed};

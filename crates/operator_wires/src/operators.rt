@@ -8,6 +8,7 @@ ghost use Rattle.verilog_meaning.specs.Readings.{width, binary, divided, signed_
 ghost use Rattle.operator_words.specs.Shown.{unary_result, binary_result, IsRight};
 ghost use Rattle.operator_wires.specs.Gives.{Gives};
 ghost use Rattle.operator_wires.specs.Words.{Makes, Becomes, Combine, Applies, Joins, TakesRight};
+ghost use Rattle.operator_wires.specs.Added.{IsConverted, IsOfTwo, LikeOne, LikeTwo, LikeLeft, TruthOf, TruthOfOne, TruthOfTwo, BitOfTwo, QuotientOf, GateAdds, UnaryAdds, OwnAdds, RightAdds};
 ghost use Rattle.operator_wires.specs.Numbers.{less_number};
 
 use crate::wires::Wires;
@@ -82,7 +83,8 @@ impl Wires {
         ty: CType,
         operand: Word,
     ) -> Result<Word, AllocError>
-        ensures { IfOk result (Becomes self.old.signals self.new.signals operand (unary_result operator ty) (unary_total operator ty)) }
+        ensures shows { IfOk result (Becomes self.old.signals self.new.signals operand (unary_result operator ty) (unary_total operator ty)) }
+        ensures wired { IfOk result (IsConverted self.old.signals self.new.signals operand (unary_result operator ty)) }
     {
         let own = self.converted(operand, ty)?;
         self.unary_own(operator, own)
@@ -90,7 +92,8 @@ impl Wires {
 
     /// A unary operator on a word of the type at which it works.
     fn unary_own(&mut self, operator: UnaryOperator, own: Word) -> Result<Word, AllocError>
-        ensures { IfOk result (λ out. (ty : IntegerType) → Applies self.old.signals self.new.signals own ty (unary_result operator ty) (unary_at operator ty) out) }
+        ensures shows { IfOk result (λ out. (ty : IntegerType) → Applies self.old.signals self.new.signals own ty (unary_result operator ty) (unary_at operator ty) out) }
+        ensures wired { IfOk result (UnaryAdds self.old.signals self.new.signals operator own) }
     {
         match operator {
             UnaryOperator::Plus => Ok(own),
@@ -101,7 +104,8 @@ impl Wires {
     }
 
     fn negated(&mut self, own: Word) -> Result<Word, AllocError>
-        ensures { IfOk result (Makes self.old.signals self.new.signals own.width own.signed (λ m r. word_difference own.width 0 (r.signal own.place))) }
+        ensures shows { IfOk result (Makes self.old.signals self.new.signals own.width own.signed (λ m r. word_difference own.width 0 (r.signal own.place))) }
+        ensures wired { IfOk result (LikeOne self.old.signals self.new.signals own) }
     {
         let zero = self.constant(own.width, 0)?;
         let place = self.binary(own.width, Gate::Subtract, zero, own.place)?;
@@ -109,7 +113,8 @@ impl Wires {
     }
 
     fn complement(&mut self, own: Word) -> Result<Word, AllocError>
-        ensures { IfOk result (Makes self.old.signals self.new.signals own.width own.signed (λ m r. word_complement (width m own.place) (r.signal own.place))) }
+        ensures shows { IfOk result (Makes self.old.signals self.new.signals own.width own.signed (λ m r. word_complement (width m own.place) (r.signal own.place))) }
+        ensures wired { IfOk result (LikeOne self.old.signals self.new.signals own) }
     {
         let place = self.not(own.width, own.place)?;
         Ok(at_place(own, place))
@@ -117,7 +122,8 @@ impl Wires {
 
     /// The int 1 of a value that is 0, and else 0.
     fn zero_word(&mut self, own: Word) -> Result<Word, AllocError>
-        ensures { IfOk result (Makes self.old.signals self.new.signals 32 true (λ m r. word_equal (width m own.place) (r.signal own.place) 0)) }
+        ensures shows { IfOk result (Makes self.old.signals self.new.signals 32 true (λ m r. word_equal (width m own.place) (r.signal own.place) 0)) }
+        ensures wired { IfOk result (TruthOfOne self.old.signals self.new.signals own) }
     {
         let bit = self.is_number(own.width, own.place, 0)?;
         let word = self.truth(bit)?;
@@ -132,7 +138,8 @@ impl Wires {
         left: Word,
         right: Word,
     ) -> Result<Word, AllocError>
-        ensures { IfOk result (Combine self.old.signals self.new.signals left right (binary_result operator ty) (binary_total operator ty)) }
+        ensures shows { IfOk result (Combine self.old.signals self.new.signals left right (binary_result operator ty) (binary_total operator ty)) }
+        ensures wired { IfOk result (IsOfTwo self.old.signals self.new.signals left right (binary_result operator ty)) }
     {
         let own = self.converted(left, ty)?;
         let other = self.right_operand(operator, ty, right)?;
@@ -146,7 +153,8 @@ impl Wires {
         ty: CType,
         right: Word,
     ) -> Result<Word, AllocError>
-        ensures { IfOk result (TakesRight self.old.signals self.new.signals operator ty right) }
+        ensures shows { IfOk result (TakesRight self.old.signals self.new.signals operator ty right) }
+        ensures wired { IfOk result (RightAdds self.old.signals self.new.signals operator ty right) }
     {
         if is_shift(operator) {
             Ok(right)
@@ -162,7 +170,8 @@ impl Wires {
         left: Word,
         right: Word,
     ) -> Result<Word, AllocError>
-        ensures { IfOk result (λ out. (s t : IntegerType) → IsRight operator s t → Joins self.old.signals self.new.signals left right s t (binary_result operator s) (binary_at operator s) out) }
+        ensures shows { IfOk result (λ out. (s t : IntegerType) → IsRight operator s t → Joins self.old.signals self.new.signals left right s t (binary_result operator s) (binary_at operator s) out) }
+        ensures wired { IfOk result (OwnAdds self.old.signals self.new.signals operator left right) }
     {
         match operator {
             BinaryOperator::Multiply => self.gate(Gate::Multiply, left, right),
@@ -186,7 +195,8 @@ impl Wires {
 
     /// An operator whose result has the type of the left operand.
     fn gate(&mut self, operator: Gate, left: Word, right: Word) -> Result<Word, AllocError>
-        ensures { IfOk result (Makes self.old.signals self.new.signals left.width left.signed (λ m r. binary operator (width m left.place) (r.signal left.place) (r.signal right.place))) }
+        ensures shows { IfOk result (Makes self.old.signals self.new.signals left.width left.signed (λ m r. binary operator (width m left.place) (r.signal left.place) (r.signal right.place))) }
+        ensures wired { IfOk result (GateAdds self.old.signals self.new.signals operator left right) }
     {
         let place = self.binary(left.width, operator, left.place, right.place)?;
         Ok(at_place(left, place))
@@ -199,37 +209,48 @@ impl Wires {
         left: Word,
         right: Word,
     ) -> Result<Word, AllocError>
-        ensures { IfOk result (Makes self.old.signals self.new.signals left.width left.signed (λ m r. if left.signed then signed_divided operator (width m left.place) (r.signal
+        ensures shows { IfOk result (Makes self.old.signals self.new.signals left.width left.signed (λ m r. if left.signed then signed_divided operator (width m left.place) (r.signal
             left.place) (r.signal right.place) else divided operator (width m left.place) (r.signal left.place) (r.signal right.place))) }
+        ensures wired { IfOk result (LikeTwo self.old.signals self.new.signals left right) }
+    {
+        let place = self.division(operator, left, right)?;
+        Ok(at_place(left, place))
+    }
+
+    fn division(
+        &mut self,
+        operator: DivisionOperator,
+        left: Word,
+        right: Word,
+    ) -> Result<usize, AllocError>
+        ensures shows { IfOk result (λ place. Gives self.old.signals self.new.signals place left.width (λ m r. if left.signed then signed_divided operator (width m left.place) (r.signal
+            left.place) (r.signal right.place) else divided operator (width m left.place) (r.signal left.place) (r.signal right.place))) }
+        ensures wired { IfOk result (QuotientOf self.old.signals self.new.signals left right) }
     {
         let left_place = left.place;
         let right_place = right.place;
-        let place = if left.signed {
-            self.wire(
-                left.width,
-                Value::SignedDivision {
-                    operator,
-                    left: left_place,
-                    right: right_place,
-                },
-            )?
+        if left.signed {
+            let value = Value::SignedDivision {
+                operator,
+                left: left_place,
+                right: right_place,
+            };
+            self.wire(left.width, value)
         } else {
-            self.wire(
-                left.width,
-                Value::Division {
-                    operator,
-                    left: left_place,
-                    right: right_place,
-                },
-            )?
-        };
-        Ok(at_place(left, place))
+            let value = Value::Division {
+                operator,
+                left: left_place,
+                right: right_place,
+            };
+            self.wire(left.width, value)
+        }
     }
 
     /// Zeros come in, or copies of the sign.
     fn shifted_right(&mut self, left: Word, right: Word) -> Result<Word, AllocError>
-        ensures { IfOk result (Makes self.old.signals self.new.signals left.width left.signed (λ m r. if left.signed then arithmetic_shift (width m left.place) (r.signal left.place)
+        ensures shows { IfOk result (Makes self.old.signals self.new.signals left.width left.signed (λ m r. if left.signed then arithmetic_shift (width m left.place) (r.signal left.place)
             (r.signal right.place) else right_shift (width m left.place) (r.signal left.place) (r.signal right.place))) }
+        ensures wired { IfOk result (LikeLeft self.old.signals self.new.signals left right) }
     {
         if left.signed {
             self.sign_shifted(left, right)
@@ -239,7 +260,8 @@ impl Wires {
     }
 
     fn sign_shifted(&mut self, left: Word, right: Word) -> Result<Word, AllocError>
-        ensures { IfOk result (Makes self.old.signals self.new.signals left.width left.signed (λ m r. arithmetic_shift (width m left.place) (r.signal left.place) (r.signal right.place))) }
+        ensures shows { IfOk result (Makes self.old.signals self.new.signals left.width left.signed (λ m r. arithmetic_shift (width m left.place) (r.signal left.place) (r.signal right.place))) }
+        ensures wired { IfOk result (LikeLeft self.old.signals self.new.signals left right) }
     {
         let value = Value::ArithmeticShiftRight {
             left: left.place,
@@ -251,7 +273,8 @@ impl Wires {
 
     /// Whether a value is less than another one of its type.
     fn less(&mut self, left: Word, right: Word) -> Result<usize, AllocError>
-        ensures { IfOk result (λ place. Gives self.old.signals self.new.signals place 1 (λ m r. less_number left.signed (width m left.place) (r.signal left.place) (r.signal right.place))) }
+        ensures shows { IfOk result (λ place. Gives self.old.signals self.new.signals place 1 (λ m r. less_number left.signed (width m left.place) (r.signal left.place) (r.signal right.place))) }
+        ensures wired { IfOk result (BitOfTwo self.old.signals self.new.signals left right) }
     {
         if left.signed {
             let value = Value::SignedLess {
@@ -265,7 +288,8 @@ impl Wires {
     }
 
     fn less_word(&mut self, left: Word, right: Word) -> Result<Word, AllocError>
-        ensures { IfOk result (Makes self.old.signals self.new.signals 32 true (λ m r. less_number left.signed (width m left.place) (r.signal left.place) (r.signal right.place))) }
+        ensures shows { IfOk result (Makes self.old.signals self.new.signals 32 true (λ m r. less_number left.signed (width m left.place) (r.signal left.place) (r.signal right.place))) }
+        ensures wired { IfOk result (TruthOfTwo self.old.signals self.new.signals left right) }
     {
         let bit = self.less(left, right)?;
         let word = self.truth(bit)?;
@@ -273,7 +297,8 @@ impl Wires {
     }
 
     fn not_less_word(&mut self, left: Word, right: Word) -> Result<Word, AllocError>
-        ensures { IfOk result (Makes self.old.signals self.new.signals 32 true (λ m r. word_complement 1 (less_number left.signed (width m left.place) (r.signal left.place) (r.signal right.place)))) }
+        ensures shows { IfOk result (Makes self.old.signals self.new.signals 32 true (λ m r. word_complement 1 (less_number left.signed (width m left.place) (r.signal left.place) (r.signal right.place)))) }
+        ensures wired { IfOk result (TruthOfTwo self.old.signals self.new.signals left right) }
     {
         let bit = self.less(left, right)?;
         let word = self.turned_word(bit)?;
@@ -281,7 +306,8 @@ impl Wires {
     }
 
     fn equal_word(&mut self, left: Word, right: Word) -> Result<Word, AllocError>
-        ensures { IfOk result (Makes self.old.signals self.new.signals 32 true (λ m r. word_equal (width m left.place) (r.signal left.place) (r.signal right.place))) }
+        ensures shows { IfOk result (Makes self.old.signals self.new.signals 32 true (λ m r. word_equal (width m left.place) (r.signal left.place) (r.signal right.place))) }
+        ensures wired { IfOk result (TruthOfTwo self.old.signals self.new.signals left right) }
     {
         let bit = self.binary(1, Gate::Equal, left.place, right.place)?;
         let word = self.truth(bit)?;
@@ -289,7 +315,8 @@ impl Wires {
     }
 
     fn unequal_word(&mut self, left: Word, right: Word) -> Result<Word, AllocError>
-        ensures { IfOk result (Makes self.old.signals self.new.signals 32 true (λ m r. word_complement 1 (word_equal (width m left.place) (r.signal left.place) (r.signal right.place)))) }
+        ensures shows { IfOk result (Makes self.old.signals self.new.signals 32 true (λ m r. word_complement 1 (word_equal (width m left.place) (r.signal left.place) (r.signal right.place)))) }
+        ensures wired { IfOk result (TruthOfTwo self.old.signals self.new.signals left right) }
     {
         let bit = self.binary(1, Gate::Equal, left.place, right.place)?;
         let word = self.turned_word(bit)?;
@@ -298,7 +325,8 @@ impl Wires {
 
     /// The int 1 or 0 of a bit that is turned.
     fn turned_word(&mut self, bit: usize) -> Result<Word, AllocError>
-        ensures { IfOk result (Makes self.old.signals self.new.signals 32 true (λ m r. word_complement (width m bit) (r.signal bit))) }
+        ensures shows { IfOk result (Makes self.old.signals self.new.signals 32 true (λ m r. word_complement (width m bit) (r.signal bit))) }
+        ensures wired { IfOk result (TruthOf self.old.signals self.new.signals bit) }
     {
         let turned = self.not(1, bit)?;
         let word = self.truth(turned)?;

@@ -1,12 +1,16 @@
 // Signals of a module that is being put together: inputs, then registers, then wires, each of which reads signals before it.
 
-ghost use Rattle.std.specs.Prelude.{◌≡◌, ◌∷◌, [], true, nat_eq, if◌then◌else◌, IfOk};
+ghost use Rattle.std.specs.Prelude.{◌≡◌, ◌∷◌, [], true, false, nat_eq, if◌then◌else◌, IfOk};
 ghost use Rattle.verilog_tree.specs.Spelling.{is_name};
 ghost use Rattle.netlist.specs.declared.netlist.Source.TheVariants as source;
 ghost use Rattle.netlist.specs.declared.netlist.Value.TheVariants as right_side;
+ghost use Rattle.verilog_tree.specs.declared.tree.BinaryOperator.TheVariants as gate;
+ghost use Rattle.operator_wires.specs.declared.wires.Role.TheVariants as role_of;
 ghost use Rattle.hls_ints.specs.Words.{word_complement, word_and, word_inclusive_or, word_equal};
 ghost use Rattle.verilog_meaning.specs.Readings.{width, value, binary, joined};
 ghost use Rattle.operator_wires.specs.Gives.{Stands, Gives};
+ghost use Rattle.operator_wires.specs.Built.{stem_of, is_single, name_at, Lays};
+ghost use Rattle.operator_wires.specs.Added.{IsAdded, ConstantAdds, NotAdds, BinaryAdds, BothAdds, NumberAdds, ChoiceAdds, BesideAdds};
 
 use netlist::netlist::{Signal, Source, Value};
 use sqlite_items::Items;
@@ -51,7 +55,8 @@ pub enum Role {
 
 impl Role {
     fn stem(self) -> &'static str
-        ensures { is_name result.now ≡ true }
+        ensures name { is_name result.now ≡ true }
+        ensures stem { result.now ≡ stem_of self }
     {
         match self {
             Role::Clock => "clk",
@@ -73,7 +78,9 @@ impl Role {
     }
 
     /// Whether a module has one signal of it, whose name has no number.
-    fn is_single(self) -> bool {
+    fn is_single(self) -> bool
+        ensures { result ≡ is_single self }
+    {
         matches!(
             self,
             Role::Clock | Role::Enable | Role::Need | Role::Done | Role::Beat
@@ -81,7 +88,9 @@ impl Role {
     }
 
     /// The name of the signal at a place.
-    fn name(self, alloc: Global, place: usize) -> Result<Identifier, AllocError> {
+    fn name(self, alloc: Global, place: usize) -> Result<Identifier, AllocError>
+        ensures { IfOk result (λ name. name ≡ name_at self place) }
+    {
         let stem = Identifier::from_text(alloc, self.stem())?;
         if self.is_single() {
             Ok(stem)
@@ -117,7 +126,8 @@ impl Wires {
         is_output: bool,
         driver: Source,
     ) -> Result<usize, AllocError>
-        ensures { IfOk result (Stands self.old.signals self.new.signals bits driver) }
+        ensures stands { IfOk result (Stands self.old.signals self.new.signals bits driver) }
+        ensures laid { IfOk result (Lays self.old.signals self.new.signals role bits is_output driver) }
     {
         let place = self.signals.len();
         let name = role.name(self.alloc, place)?;
@@ -131,39 +141,46 @@ impl Wires {
     }
 
     pub fn input(&mut self, role: Role, bits: u64) -> Result<usize, AllocError>
-        ensures { IfOk result (Stands self.old.signals self.new.signals bits source.Input) }
+        ensures stands { IfOk result (Stands self.old.signals self.new.signals bits source.Input) }
+        ensures laid { IfOk result (Lays self.old.signals self.new.signals role bits false source.Input) }
     {
         self.push(role, bits, false, Source::Input)
     }
 
     pub fn register(&mut self, role: Role, bits: u64, initial: u64) -> Result<usize, AllocError>
-        ensures { IfOk result (Stands self.old.signals self.new.signals bits (source.Register initial)) }
+        ensures stands { IfOk result (Stands self.old.signals self.new.signals bits (source.Register initial)) }
+        ensures laid { IfOk result (Lays self.old.signals self.new.signals role bits false (source.Register initial)) }
     {
         self.push(role, bits, false, Source::Register(initial))
     }
 
     /// An output that copies a signal of its width.
     pub fn output(&mut self, role: Role, bits: u64, of: usize) -> Result<usize, AllocError>
-        ensures { IfOk result (Stands self.old.signals self.new.signals bits (source.Assigned (right_side.Copy of))) }
+        ensures stands { IfOk result (Stands self.old.signals self.new.signals bits (source.Assigned (right_side.Copy of))) }
+        ensures laid { IfOk result (Lays self.old.signals self.new.signals role bits true (source.Assigned (right_side.Copy of))) }
     {
         self.push(role, bits, true, Source::Assigned(Value::Copy(of)))
     }
 
     /// A wire of `bits` bits.
     pub fn wire(&mut self, bits: u64, right: Value) -> Result<usize, AllocError>
-        ensures { IfOk result (λ place. Gives self.old.signals self.new.signals place bits (λ m r. value m r right)) }
+        ensures shows { IfOk result (λ place. Gives self.old.signals self.new.signals place bits (λ m r. value m r right)) }
+        ensures laid { IfOk result (Lays self.old.signals self.new.signals role_of.Wire bits false (source.Assigned right)) }
+        ensures wired { IfOk result (IsAdded self.old.signals self.new.signals bits right) }
     {
         self.push(Role::Wire, bits, false, Source::Assigned(right))
     }
 
     pub fn constant(&mut self, bits: u64, number: u64) -> Result<usize, AllocError>
-        ensures { IfOk result (λ place. Gives self.old.signals self.new.signals place bits (λ m r. number)) }
+        ensures shows { IfOk result (λ place. Gives self.old.signals self.new.signals place bits (λ m r. number)) }
+        ensures wired { IfOk result (ConstantAdds self.old.signals self.new.signals bits number) }
     {
         self.wire(bits, Value::Constant(number))
     }
 
     pub fn not(&mut self, bits: u64, of: usize) -> Result<usize, AllocError>
-        ensures { IfOk result (λ place. Gives self.old.signals self.new.signals place bits (λ m r. word_complement (width m of) (r.signal of))) }
+        ensures shows { IfOk result (λ place. Gives self.old.signals self.new.signals place bits (λ m r. word_complement (width m of) (r.signal of))) }
+        ensures wired { IfOk result (NotAdds self.old.signals self.new.signals bits of) }
     {
         self.wire(bits, Value::BitwiseNot(of))
     }
@@ -176,7 +193,9 @@ impl Wires {
         left: usize,
         right: usize,
     ) -> Result<usize, AllocError>
-        ensures { IfOk result (λ place. Gives self.old.signals self.new.signals place bits (λ m r. binary operator (width m left) (r.signal left) (r.signal right))) }
+        ensures shows { IfOk result (λ place. Gives self.old.signals self.new.signals place bits (λ m r. binary operator (width m left) (r.signal left) (r.signal right))) }
+        ensures laid { IfOk result (Lays self.old.signals self.new.signals role_of.Wire bits false (source.Assigned (right_side.Binary operator left right))) }
+        ensures wired { IfOk result (BinaryAdds self.old.signals self.new.signals operator bits left right) }
     {
         self.wire(
             bits,
@@ -190,21 +209,25 @@ impl Wires {
 
     /// Both of two bits.
     pub fn both(&mut self, left: usize, right: usize) -> Result<usize, AllocError>
-        ensures { IfOk result (λ place. Gives self.old.signals self.new.signals place 1 (λ m r. word_and (width m left) (r.signal left) (r.signal right))) }
+        ensures shows { IfOk result (λ place. Gives self.old.signals self.new.signals place 1 (λ m r. word_and (width m left) (r.signal left) (r.signal right))) }
+        ensures laid { IfOk result (Lays self.old.signals self.new.signals role_of.Wire 1 false (source.Assigned (right_side.Binary gate.And left right))) }
+        ensures wired { IfOk result (BothAdds self.old.signals self.new.signals left right) }
     {
         self.binary(1, BinaryOperator::And, left, right)
     }
 
     /// One of two bits.
     pub fn either(&mut self, left: usize, right: usize) -> Result<usize, AllocError>
-        ensures { IfOk result (λ place. Gives self.old.signals self.new.signals place 1 (λ m r. word_inclusive_or (width m left) (r.signal left) (r.signal right))) }
+        ensures shows { IfOk result (λ place. Gives self.old.signals self.new.signals place 1 (λ m r. word_inclusive_or (width m left) (r.signal left) (r.signal right))) }
+        ensures wired { IfOk result (BothAdds self.old.signals self.new.signals left right) }
     {
         self.binary(1, BinaryOperator::Or, left, right)
     }
 
     /// Whether a signal has a number.
     pub fn is_number(&mut self, bits: u64, of: usize, number: u64) -> Result<usize, AllocError>
-        ensures { IfOk result (λ place. Gives self.old.signals self.new.signals place 1 (λ m r. word_equal (width m of) (r.signal of) number)) }
+        ensures shows { IfOk result (λ place. Gives self.old.signals self.new.signals place 1 (λ m r. word_equal (width m of) (r.signal of) number)) }
+        ensures wired { IfOk result (NumberAdds self.old.signals self.new.signals bits of number) }
     {
         let constant = self.constant(bits, number)?;
         self.binary(1, BinaryOperator::Equal, of, constant)
@@ -217,7 +240,8 @@ impl Wires {
         if_true: usize,
         if_false: usize,
     ) -> Result<usize, AllocError>
-        ensures { IfOk result (λ place. Gives self.old.signals self.new.signals place bits (λ m r. if nat_eq (r.signal condition) 0 then r.signal if_false else r.signal if_true)) }
+        ensures shows { IfOk result (λ place. Gives self.old.signals self.new.signals place bits (λ m r. if nat_eq (r.signal condition) 0 then r.signal if_false else r.signal if_true)) }
+        ensures wired { IfOk result (ChoiceAdds self.old.signals self.new.signals bits condition if_true if_false) }
     {
         self.wire(
             bits,
@@ -231,7 +255,8 @@ impl Wires {
 
     /// Two signals beside each other, the first with the higher bits.
     pub fn beside(&mut self, bits: u64, high: usize, low: usize) -> Result<usize, AllocError>
-        ensures { IfOk result (λ place. Gives self.old.signals self.new.signals place bits (λ m r. joined m r (high ∷ low ∷ []) 0)) }
+        ensures shows { IfOk result (λ place. Gives self.old.signals self.new.signals place bits (λ m r. joined m r (high ∷ low ∷ []) 0)) }
+        ensures wired { IfOk result (BesideAdds self.old.signals self.new.signals bits high low) }
     {
         let parts = Items::from_slice(self.alloc, &[high, low])?;
         self.wire(bits, Value::Concatenation(parts))

@@ -5,6 +5,7 @@ ghost use Rattle.hls_ints.specs.Types.{width_of, wrapped};
 ghost use Rattle.verilog_meaning.specs.Readings.{width, repeated};
 ghost use Rattle.operator_wires.specs.Gives.{Gives};
 ghost use Rattle.operator_wires.specs.Words.{Resizes, Makes, Holds, TestsZero, Becomes};
+ghost use Rattle.operator_wires.specs.Added.{ResizedAdds, LowAdds, SignAdds, ZerosAdds, IsConverted, IsConstant, TruthOf, BitOfOne};
 
 use crate::wires::Wires;
 use hls_ints::{CType, residue};
@@ -45,7 +46,8 @@ impl Wires {
         to: u64,
         signed: bool,
     ) -> Result<usize, AllocError>
-        ensures { IfOk result (Resizes self.old.signals self.new.signals of from to signed) }
+        ensures shows { IfOk result (Resizes self.old.signals self.new.signals of from to signed) }
+        ensures wired { IfOk result (ResizedAdds self.old.signals self.new.signals of from to signed) }
     {
         if to < from {
             let place = self.low_bits(of, to)?;
@@ -62,7 +64,8 @@ impl Wires {
     }
 
     fn low_bits(&mut self, of: usize, to: u64) -> Result<usize, AllocError>
-        ensures { IfOk result (λ place. Gives self.old.signals self.new.signals place to (λ m r. r.signal of % 2 ^ (to - 1 + 1))) }
+        ensures shows { IfOk result (λ place. Gives self.old.signals self.new.signals place to (λ m r. r.signal of % 2 ^ (to - 1 + 1))) }
+        ensures wired { IfOk result (LowAdds self.old.signals self.new.signals of to) }
     {
         let high = to.saturating_sub(1);
         self.wire(to, Value::Select { of, high, low: 0 })
@@ -70,7 +73,8 @@ impl Wires {
 
     #[tactic(auto, using(crate::proofs::Resizing::sign_gives))]
     fn with_sign(&mut self, of: usize, from: u64, to: u64) -> Result<usize, AllocError>
-        ensures { IfOk result (λ place. Gives self.old.signals self.new.signals place to (λ m r. repeated (to - from) 1 ((r.signal of / 2 ^ (from - 1)) % 2 ^ 1) * 2 ^ width m of + r.signal of)) }
+        ensures shows { IfOk result (λ place. Gives self.old.signals self.new.signals place to (λ m r. repeated (to - from) 1 ((r.signal of / 2 ^ (from - 1)) % 2 ^ 1) * 2 ^ width m of + r.signal of)) }
+        ensures wired { IfOk result (SignAdds self.old.signals self.new.signals of from to) }
     {
         let top = from.saturating_sub(1);
         let select = Value::Select {
@@ -87,7 +91,8 @@ impl Wires {
 
     #[tactic(auto, using(crate::proofs::Resizing::zeros_give))]
     fn with_zeros(&mut self, of: usize, from: u64, to: u64) -> Result<usize, AllocError>
-        ensures { IfOk result (λ place. Gives self.old.signals self.new.signals place to (λ m r. r.signal of)) }
+        ensures shows { IfOk result (λ place. Gives self.old.signals self.new.signals place to (λ m r. r.signal of)) }
+        ensures wired { IfOk result (ZerosAdds self.old.signals self.new.signals of from to) }
     {
         let zeros = self.constant(to.saturating_sub(from), 0)?;
         let place = self.beside(to, zeros, of)?;
@@ -96,7 +101,8 @@ impl Wires {
 
     /// The value converted to a type (C99 6.3.1.3).
     pub fn converted(&mut self, word: Word, ty: CType) -> Result<Word, AllocError>
-        ensures { IfOk result (Becomes self.old.signals self.new.signals word ty (wrapped ty)) }
+        ensures shows { IfOk result (Becomes self.old.signals self.new.signals word ty (wrapped ty)) }
+        ensures wired { IfOk result (IsConverted self.old.signals self.new.signals word ty) }
     {
         let width = u64::from(ty.bits());
         let place = self.resized(word.place, word.width, width, word.signed)?;
@@ -105,7 +111,8 @@ impl Wires {
 
     /// A number modulo 2 to the width of a type.
     pub fn constant_word(&mut self, ty: CType, number: i128) -> Result<Word, AllocError>
-        ensures { IfOk result (Holds self.old.signals self.new.signals ty (wrapped ty number)) }
+        ensures shows { IfOk result (Holds self.old.signals self.new.signals ty (wrapped ty number)) }
+        ensures wired { IfOk result (IsConstant self.old.signals self.new.signals ty) }
     {
         let place = self.constant(u64::from(ty.bits()), residue(ty.bits(), number))?;
         Ok(Word::of_type(place, ty))
@@ -113,7 +120,8 @@ impl Wires {
 
     /// The int 1 or 0 of a bit.
     pub fn truth(&mut self, bit: usize) -> Result<Word, AllocError>
-        ensures { IfOk result (Makes self.old.signals self.new.signals 32 true (λ m r. r.signal bit)) }
+        ensures shows { IfOk result (Makes self.old.signals self.new.signals 32 true (λ m r. r.signal bit)) }
+        ensures wired { IfOk result (TruthOf self.old.signals self.new.signals bit) }
     {
         let place = self.with_zeros(bit, 1, 32)?;
         Ok(Word {
@@ -125,7 +133,8 @@ impl Wires {
 
     /// Whether the value is 0.
     pub fn is_zero(&mut self, word: Word) -> Result<usize, AllocError>
-        ensures { IfOk result (TestsZero self.old.signals self.new.signals word) }
+        ensures shows { IfOk result (TestsZero self.old.signals self.new.signals word) }
+        ensures wired { IfOk result (BitOfOne self.old.signals self.new.signals word) }
     {
         let place = self.is_number(word.width, word.place, 0)?;
         Ok(place)

@@ -9,4 +9,4 @@ pub returns-else-is_wide_enough : goal.returns-else-is_wide_enough
 returns-else-is_wide_enough c =
     let fits = c.ranges.length in
     let small : c.args.length < 2 ^ 64 = omega arith in
-    address_widened c.resized.result c.args.wires.now.signals c.resized.new.self.signals c.args.index c.args.length small c.resized.ensures
+    address_widened c.resized.result c.args.wires.now.signals c.resized.new.self.signals c.args.index c.args.length small c.resized.ensures.shows

@@ -1,5 +1,5 @@
 use Rattle.block_datapath.proofs.Chaining.{stage_answer}
 use Rattle.block_datapath.proofs.states.at_stage.Goals as goal
 
-pub returns : goal.returns
-returns c = stage_answer c.is_number.result c.args.wires.now.signals c.is_number.new.self.signals c.args.registers.now c.args.stage c.is_number.ensures
+pub returns-clause-shows : goal.returns-clause-shows
+returns-clause-shows c = stage_answer c.is_number.result c.args.wires.now.signals c.is_number.new.self.signals c.args.registers.now c.args.stage c.is_number.ensures.shows

@@ -1,4 +1,10 @@
-use Rattle.std.proofs.Common.{to_z, of_z}
+use Rattle.std.proofs.Common.{ℕ, List, sym, subst, to_z, of_z}
+use Rattle.hls_ints.specs.Types.{IntegerType}
+use Rattle.operator_wires.specs.Built.{AddsWord}
+use Rattle.operator_wires.proofs.Making.{of_ok}
+use Rattle.block_datapath.specs.Wired.{AreRegisters}
+use Rattle.fsm_datapath.specs.Wired.{AreSlots}
+use Rattle.fsm_datapath.proofs.Between.{registers_of}
 use mir.Syntax.{w128}
 use Rattle.std.proofs.lemmas.Int.{to_z-of_z}
 use Rattle.block_datapath.proofs.Seeing.{fits_typed}
@@ -10,9 +16,15 @@ returns-in-Constant c =
     let n = c.in-Constant.number in
     let ty = c.in-Constant.ty in
     constant_act c.constant_word.result c.args.wires.now.signals c.constant_word.new.self.signals c.args.code.now c.args.registers.now c.args.operand ty n (to_z w128 (of_z w128 n))
-    (λ t. to_z-of_z w128 n (fits_typed ty n t)) c.in-Constant.is c.constant_word.ensures
+    (λ t. to_z-of_z w128 n (fits_typed ty n t)) c.in-Constant.is c.constant_word.ensures.shows c.constant_word.ensures.wired
 
 pub returns-in-Variable : goal.returns-in-Variable
 returns-in-Variable c =
     variable_act c.variable_word.result c.args.wires.now.signals c.variable_word.new.wires.signals c.args.code.now c.args.registers.now c.args.operand c.in-Variable.number c.in-Variable.ty
-    c.as_slice.result.now c.as_slice.ensures c.in-Variable.is c.variable_word.ensures
+    c.as_slice.result.now c.as_slice.ensures c.in-Variable.is c.variable_word.ensures.shows
+    (of_ok c.variable_word.result (λ out. (least : ℕ) → AreRegisters c.args.wires.now.signals least c.as_slice.result.now c.args.registers.now
+    → AddsWord least c.args.wires.now.signals c.variable_word.new.wires.signals c.in-Variable.ty out)
+    (λ out. (least : ℕ) → AreSlots least c.args.wires.now.signals c.args.code.now c.args.registers.now
+    → AddsWord least c.args.wires.now.signals c.variable_word.new.wires.signals c.in-Variable.ty out)
+    (λ out t least slots. t least (subst (λ (z : List IntegerType). AreRegisters c.args.wires.now.signals least z c.args.registers.now) (sym c.as_slice.ensures)
+    (registers_of least c.args.wires.now.signals c.args.code.now c.args.registers.now slots))) c.variable_word.ensures.wired)

@@ -1,13 +1,19 @@
-use Rattle.block_datapath.proofs.Chaining.{on_ok}
+use Rattle.std.proofs.Common.{◌<◌, ◌^◌, ℕ, sym, subst}
 use Rattle.block_datapath.specs.Chains.{SetsNext}
 use Rattle.fsm_datapath.specs.Stages.{AsksSite}
 use Rattle.fsm_datapath.proofs.Acting.{site_asked}
+use Rattle.fsm_datapath.proofs.Taken.{on_two, SetsFields, site_linked}
 use Rattle.fsm_datapath.proofs.acts.ask_site.Goals as goal
 
 pub returns : goal.returns
 returns c =
-    on_ok c.set_next.result (SetsNext c.resized.new.self.signals c.set_next.new.wires.signals c.args.fields.now c.set_next.new.nexts 0 c.args.at c.in_ok-source.source)
+    on_two c.set_next.result (SetsNext c.resized.new.self.signals c.set_next.new.wires.signals c.args.fields.now c.set_next.new.nexts 0 c.args.at c.in_ok-source.source)
+    (SetsFields c.resized.new.self.signals c.set_next.new.wires.signals c.args.fields.now c.set_next.new.nexts 0 c.args.site_width c.args.at c.in_ok-source.source)
     (AsksSite c.args.wires.now.signals c.set_next.new.wires.signals c.args.at c.args.fields.now c.set_next.new.nexts c.args.site_width c.args.site)
-    (site_asked c.args.wires.now.signals c.constant.new.self.signals c.resized.new.self.signals c.set_next.new.wires.signals c.args.at c.args.fields.now c.set_next.new.nexts c.args.site_width
-    c.args.site c.from.result c.in_ok-whole.whole c.in_ok-source.source c.from.ensures c.in_ok-whole.ensures c.in_ok-source.ensures)
-    c.set_next.ensures
+    (λ t u.
+    site_asked c.args.wires.now.signals c.constant.new.self.signals c.resized.new.self.signals c.set_next.new.wires.signals c.args.at c.args.fields.now c.set_next.new.nexts c.args.site_width
+    c.args.site c.from.result c.in_ok-whole.whole c.in_ok-source.source c.from.ensures c.in_ok-whole.ensures.shows c.in_ok-source.ensures.shows t
+    (site_linked c.args.wires.now.signals c.constant.new.self.signals c.resized.new.self.signals c.set_next.new.wires.signals c.args.at c.in_ok-whole.whole c.in_ok-source.source
+    c.args.site_width c.from.result c.args.fields.now c.set_next.new.nexts c.in_ok-whole.ensures.wired
+    (subst (λ (n : ℕ). n < 2 ^ 32) (sym c.from.ensures) c.ranges.site.fits) c.in_ok-source.ensures.wired u))
+    c.set_next.ensures.shows c.set_next.ensures.wired

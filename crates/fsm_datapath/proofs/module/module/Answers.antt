@@ -1,9 +1,10 @@
 use Rattle.operator_wires.proofs.Making.{of_ok}
 use Rattle.fsm_datapath.specs.Modules.{IsModule}
 use Rattle.fsm_datapath.specs.Thread.{RunsPlainCode, HasShapeOfPlainCode}
-use Rattle.fsm_datapath.specs.Leaf.{IsLeafWhereChecked}
+use Rattle.fsm_datapath.specs.Leaf.{IsLeafOfPlainCode}
 use Rattle.fsm_datapath.proofs.Placed.{shape_is}
 use Rattle.fsm_datapath.proofs.Promising.{runs_code}
+use Rattle.fsm_datapath.proofs.Forming.{checked_is}
 use Rattle.fsm_datapath.proofs.Leafing.{leaf_is}
 use Rattle.fsm_datapath.proofs.module.module.Goals as goal
 
@@ -14,8 +15,8 @@ returns-clause-runs c =
 
 pub returns-clause-leaf : goal.returns-clause-leaf
 returns-clause-leaf c =
-    of_ok c.assembled.result (IsModule c.args.shape.now c.args.code.now c.args.planned.now) (IsLeafWhereChecked c.args.shape.now c.args.code.now c.args.planned.now)
-    (λ m t printer plain checked. leaf_is c.args.shape.now c.args.code.now c.args.planned.now printer m t plain checked) c.assembled.ensures
+    of_ok c.assembled.result (IsModule c.args.shape.now c.args.code.now c.args.planned.now) (IsLeafOfPlainCode c.args.shape.now c.args.code.now c.args.planned.now)
+    (λ m t printer plain. leaf_is c.args.shape.now c.args.code.now c.args.planned.now printer m t plain (checked_is c.args.shape.now c.args.code.now c.args.planned.now printer m t plain)) c.assembled.ensures
 
 pub returns-clause-shape : goal.returns-clause-shape
 returns-clause-shape c =

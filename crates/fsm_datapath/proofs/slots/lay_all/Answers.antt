@@ -1,8 +1,22 @@
 use Rattle.circuit.proofs.Growth.{got}
-use Rattle.fsm_datapath.proofs.Laying.{lays_more}
+use Rattle.fsm_datapath.specs.Wired.{IsSlotRegister}
+use Rattle.fsm_datapath.proofs.Laying.{lays_none, lays_more, stands_grow}
+use Rattle.fsm_datapath.proofs.Wiring.{behind_none, behind_then, power_some}
 use Rattle.fsm_datapath.proofs.slots.lay_all.Goals as goal
 
 pub loop-width-preserved : goal.loop-width-preserved
-loop-width-preserved c =
-    lays_more c.args.wires.now.signals c.loop-width.wires.signals c.lay_register.new.wires.signals c.args.widths.now c.loop-width.width-index c.loop-width.registers c.push.new.self _
-    c.in_ok-held.held c.loop-width.invariant (got c.args.widths.now c.loop-width.width-index _ c.loop-width-test.true) c.in_ok-held.ensures c.in_ok-push.ensures.ok
+loop-width-preserved c = record {
+  laid =
+      lays_more c.args.wires.now.signals c.loop-width.wires.signals c.lay_register.new.wires.signals c.args.widths.now c.loop-width.width-index c.loop-width.registers c.push.new.self _
+      c.in_ok-held.held c.loop-width.invariant.laid (got c.args.widths.now c.loop-width.width-index _ c.loop-width-test.true) c.in_ok-held.ensures.lays c.in_ok-push.ensures.ok;
+  wired = λ many fit.
+      let own = fit c.loop-width.width-index _ (got c.args.widths.now c.loop-width.width-index _ c.loop-width-test.true) in
+      behind_then IsSlotRegister c.args.wires.now.signals c.loop-width.wires.signals c.lay_register.new.wires.signals (stands_grow c.loop-width.wires.signals c.lay_register.new.wires.signals _ c.in_ok-held.held.register _ c.in_ok-held.ensures.lays.stands) (c.loop-width.invariant.wired many fit)
+      (c.in_ok-held.ensures.wired many (power_some _) own.0 own.1);
+}
+
+pub loop-width-init : goal.loop-width-init
+loop-width-init c = record {
+  laid = lays_none c.args.wires.now.signals c.args.widths.now c.new-registers.result c.new-registers.ensures;
+  wired = λ many fit. behind_none IsSlotRegister c.args.wires.now.signals;
+}

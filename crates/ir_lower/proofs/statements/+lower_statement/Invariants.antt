@@ -1,6 +1,14 @@
 use Rattle.std.proofs.Common.{◌≤◌}
-use Rattle.c_program.proofs.tree.Statement.TheLaws.{the_size}
+use Rattle.c_program.specs.Plain.{statement_of}
+use Rattle.ir_lower.proofs.Nesting.{IsVia}
+use Rattle.ir_lower.proofs.Sizes.{nested_size}
 use Rattle.ir_lower.proofs.statements.+lower_statement.Given as goal
 
+abbrev pub decreases-lower_statement : goal.decreases-lower_statement
+decreases-lower_statement l = nested_size (statement_of l.statement.now)
+
 abbrev pub invariant-loop-rest : goal.invariant-loop-rest
-invariant-loop-rest l = the_size l.rest ≤ the_size l.fn.statement
+invariant-loop-rest l = record {
+  less : nested_size (statement_of l.rest) ≤ nested_size (statement_of l.fn.statement);
+  via : IsVia l.around (statement_of l.fn.statement) (statement_of l.rest) l.fn.code l.code;
+}

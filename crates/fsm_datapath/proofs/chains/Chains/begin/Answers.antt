@@ -1,9 +1,12 @@
 use Rattle.std.proofs.Common.{refl}
+use Rattle.operator_wires.proofs.Building.{room_of, longer}
+use Rattle.fsm_datapath.specs.declared.chains.Chains.{Chains}
 use Rattle.fsm_datapath.proofs.Beginning.{begin_made}
+use Rattle.fsm_datapath.proofs.Linked.{begun}
 use Rattle.fsm_datapath.proofs.chains.Chains.begin.Goals as goal
 
-pub returns : goal.returns
-returns c =
+pub returns-clause-begins : goal.returns-clause-begins
+returns-clause-begins c =
     begin_made c.args.wires.now.signals c.constant.new.self.signals c.zeros.new.wires.signals c.constant-2.new.self.signals c.constant-3.new.self.signals c.constant-4.new.self.signals
     c.args.registers.now c.args.field_widths.now c.as_slice.result.now c.as_slice-2.result.now
     (record {
@@ -16,5 +19,27 @@ returns c =
       wants = c.in_ok-wants.wants;
       fields = c.in_ok-fields.fields;
     })
-    c.as_slice.ensures c.as_slice-2.ensures c.in_ok-variables.ensures c.in_ok-kept.ensures c.in_ok-wants.ensures c.in_ok-fields.ensures c.in_ok-is_last.ensures c.in_ok-needs.ensures
-    c.in_ok-waits.ensures refl
+    c.as_slice.ensures c.as_slice-2.ensures c.in_ok-variables.ensures c.in_ok-kept.ensures c.in_ok-wants.ensures.shows c.in_ok-fields.ensures.more c.in_ok-is_last.ensures.shows
+    c.in_ok-needs.ensures.shows c.in_ok-waits.ensures.shows refl
+
+pub returns-clause-wired : goal.returns-clause-wired
+returns-clause-wired c = λ least site_width code slots low high each.
+    let chains : Chains = record {
+      stage = c.args.registers.now.stage.register;
+      variables = c.in_ok-variables.variables;
+      kept = c.in_ok-kept.kept;
+      is_last = c.in_ok-is_last.is_last;
+      needs = c.in_ok-needs.needs;
+      waits = c.in_ok-waits.waits;
+      wants = c.in_ok-wants.wants;
+      fields = c.in_ok-fields.fields;
+    } in
+    let begins =
+    begin_made c.args.wires.now.signals c.constant.new.self.signals c.zeros.new.wires.signals c.constant-2.new.self.signals c.constant-3.new.self.signals c.constant-4.new.self.signals
+    c.args.registers.now c.args.field_widths.now c.as_slice.result.now c.as_slice-2.result.now chains
+    c.as_slice.ensures c.as_slice-2.ensures c.in_ok-variables.ensures c.in_ok-kept.ensures c.in_ok-wants.ensures.shows c.in_ok-fields.ensures.more c.in_ok-is_last.ensures.shows
+    c.in_ok-needs.ensures.shows c.in_ok-waits.ensures.shows refl in
+    begun least site_width c.args.wires.now.signals c.constant.new.self.signals c.zeros.new.wires.signals c.constant-2.new.self.signals c.constant-3.new.self.signals c.constant-4.new.self.signals
+    code c.args.registers.now c.args.field_widths.now c.as_slice.result.now c.as_slice-2.result.now chains c.as_slice.ensures c.as_slice-2.ensures c.in_ok-variables.ensures c.in_ok-kept.ensures
+    begins slots low high each (c.in_ok-wants.ensures.wired least) (c.in_ok-fields.ensures.wired least) (c.in_ok-is_last.ensures.wired least) (c.in_ok-needs.ensures.wired least)
+    (c.in_ok-waits.ensures.wired least) c.in_ok-wants.ensures.shows.grows c.in_ok-fields.ensures.more.grows c.in_ok-is_last.ensures.shows.grows c.in_ok-needs.ensures.shows.grows refl

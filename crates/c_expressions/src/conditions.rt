@@ -1,0 +1,124 @@
+// Conditions (C99 6.8.4, 6.8.5): operands joined by short circuits and `!` from the top.
+
+ghost use Rattle.std.specs.Prelude.{◌≡◌, map, IfOk};
+ghost use Rattle.std.specs.List.{list_all};
+ghost use Rattle.c_program.specs.Plain.{condition_of};
+ghost use Rattle.c_tree.specs.declared.expression.Term.{out-Term};
+ghost use Rattle.c_rules.specs.Walks.{Walks};
+ghost use Rattle.c_expressions.specs.Expressions as spec;
+
+use crate::expressions::expression;
+use c_program::tree as resolved;
+use c_rules::findings::{Findings, place};
+use c_rules::names::Scope;
+use c_tree::{BinaryOperator, Expression, Form, Term, UnaryOperator};
+use std::alloc::{AllocError, Global};
+
+fn is_short_circuit(operator: BinaryOperator) -> bool
+    ensures { result ≡ spec.is_short_circuit operator }
+{
+    matches!(
+        operator,
+        BinaryOperator::LogicalOr | BinaryOperator::LogicalAnd
+    )
+}
+
+fn is_not(operator: UnaryOperator) -> bool
+    ensures { result ≡ spec.is_not operator }
+{
+    matches!(operator, UnaryOperator::Not)
+}
+
+fn are_short_circuits(terms: &[Term]) -> bool
+    ensures { result ≡ list_all (λ t. spec.is_short_circuit (out-Term t).operator) terms.now }
+{
+    terms.iter().all(|term| is_short_circuit(term.operator))
+}
+
+/// A short circuit between two conditions.
+fn joined(
+    alloc: Global,
+    operator: BinaryOperator,
+    first: resolved::Condition,
+    second: resolved::Condition,
+) -> Result<resolved::Condition, AllocError>
+    ensures { IfOk result (λ c. condition_of c ≡ spec.joined operator (condition_of first) (condition_of second)) }
+{
+    let first = Box::new(alloc, first)?;
+    let second = Box::new(alloc, second)?;
+    match operator {
+        BinaryOperator::LogicalOr => Ok(resolved::Condition::Either(first, second)),
+        _ => Ok(resolved::Condition::Both(first, second)),
+    }
+}
+
+fn opposite(alloc: Global, inner: resolved::Condition) -> Result<resolved::Condition, AllocError>
+    ensures { IfOk result (λ c. condition_of c ≡ spec.opposite_of (condition_of inner)) }
+{
+    Ok(resolved::Condition::Opposite(Box::new(alloc, inner)?))
+}
+
+/// Short circuits and their right operands behind a condition.
+#[cycle(conditions)]
+#[tactic(auto, unfolding(crate::specs::Expressions::terms_condition))]
+fn terms(
+    alloc: Global,
+    scope: &Scope<'_>,
+    found: &mut Findings,
+    terms: &[Term],
+    first: resolved::Condition,
+) -> Result<resolved::Condition, AllocError>
+    ensures { Walks condition_of (spec.terms_condition scope.now (condition_of first) (map (spec.term scope.now) terms.now) found.old) result found.new }
+{
+    let mut whole = first;
+    for term in terms {
+        let second = condition(alloc, scope, found, &term.operand)?;
+        whole = joined(alloc, term.operator, whole, second)?;
+    }
+    Ok(whole)
+}
+
+fn operand(
+    alloc: Global,
+    scope: &Scope<'_>,
+    found: &mut Findings,
+    e: &Expression,
+) -> Result<resolved::Condition, AllocError>
+    ensures { Walks condition_of (spec.operand scope.now e.now found.old) result found.new }
+{
+    let value = expression(alloc, scope, found, e)?;
+    Ok(resolved::Condition::Operand(place(e.offset), value))
+}
+
+/// What an expression is as a condition.
+#[cycle(conditions)]
+pub fn condition(
+    alloc: Global,
+    scope: &Scope<'_>,
+    found: &mut Findings,
+    e: &Expression,
+) -> Result<resolved::Condition, AllocError>
+    ensures { Walks condition_of (spec.condition scope.now e.now found.old) result found.new }
+{
+    match &e.form {
+        Form::Unary(operator, inner) => {
+            if !is_not(*operator) {
+                return operand(alloc, scope, found, e);
+            }
+            let inner = condition(alloc, scope, found, inner.get())?;
+            opposite(alloc, inner)
+        }
+        Form::Binary(first, more) => {
+            if !are_short_circuits(more.as_slice()) {
+                return operand(alloc, scope, found, e);
+            }
+            let first = condition(alloc, scope, found, first.get())?;
+            terms(alloc, scope, found, more.as_slice(), first)
+        }
+        Form::Constant(_, _)
+        | Form::Place(_)
+        | Form::Call(_)
+        | Form::Cast(_, _)
+        | Form::Conditional(_, _) => operand(alloc, scope, found, e),
+    }
+}

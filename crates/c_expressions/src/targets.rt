@@ -1,0 +1,77 @@
+// What is assigned to (C99 6.5.16).
+
+ghost use Rattle.std.specs.Prelude.{◌≡◌, option_map};
+ghost use Rattle.c_program.specs.Plain.{expression_of, place_of};
+ghost use Rattle.c_rules.specs.Walks.{Walks};
+ghost use Rattle.c_expressions.specs.Expressions as spec_value;
+ghost use Rattle.c_expressions.specs.Targets as spec;
+
+use crate::expressions::{index, variable_of};
+use c_program::tree as resolved;
+use c_rules::fault::Rule;
+use c_rules::findings::Findings;
+use c_rules::names::{Known, Meaning, Scope, Variable};
+use c_tree::Place;
+use hls_ints::CType;
+use std::alloc::{AllocError, Global};
+
+/// The rule that is broken where a variable may not be assigned to, or has the wrong number of indices.
+fn variable_fault(variable: Variable, has_index: bool) -> Option<Rule>
+    ensures { result ≡ spec.variable_fault variable has_index }
+{
+    if variable.is_const || variable.length.is_some() != has_index {
+        Some(Rule::Kind)
+    } else {
+        None
+    }
+}
+
+/// The same of a name.
+fn target_fault(known: Known, has_index: bool) -> Option<Rule>
+    ensures { result ≡ spec.target_fault known has_index }
+{
+    match known {
+        Known::Declared(Meaning::Variable(variable)) => variable_fault(variable, has_index),
+        Known::Declared(Meaning::Unusable) => None,
+        Known::Unknown => Some(Rule::Unknown),
+        _ => Some(Rule::Kind),
+    }
+}
+
+fn variable_place(variable: Variable, index: Option<resolved::Expression>) -> resolved::Place
+    ensures { place_of result ≡ spec.variable_place variable variable.length (option_map expression_of index) }
+{
+    let ty = variable.ty.c_type();
+    match (variable.length, index) {
+        (Some(length), Some(index)) => {
+            resolved::Place::Element(variable.storage, variable.number, length, ty, index)
+        }
+        _ => resolved::Place::Scalar(variable.storage, variable.number, ty),
+    }
+}
+
+/// What a name stands for, as a place that is assigned to.
+fn named_place(known: Known, index: Option<resolved::Expression>) -> resolved::Place
+    ensures { place_of result ≡ spec.named_place (spec_value.variable_of known) (option_map expression_of index) }
+{
+    match variable_of(known) {
+        Some(variable) => variable_place(variable, index),
+        None => resolved::Place::Scalar(resolved::Storage::Automatic, 0, CType::INT),
+    }
+}
+
+/// A place that is assigned to.
+#[tactic(auto, unfolding(crate::specs::Targets::target))]
+pub fn target(
+    alloc: Global,
+    scope: &Scope<'_>,
+    found: &mut Findings,
+    place: &Place,
+) -> Result<resolved::Place, AllocError>
+    ensures { Walks place_of (spec.target scope.now place.now found.old) result found.new }
+{
+    let index = index(alloc, scope, found, place)?;
+    let known = scope.look_up(place.name.bytes.as_slice());
+    found.add_any(target_fault(known, index.is_some()), place.name.offset);
+    Ok(named_place(known, index))
+}

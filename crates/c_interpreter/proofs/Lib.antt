@@ -1,0 +1,5 @@
+pub mod Rows
+pub mod Locals
+pub mod Slots
+pub mod Steps
+pub mod Walking

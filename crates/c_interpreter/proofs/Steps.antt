@@ -1,0 +1,40 @@
+-- The parts of a step, put together.
+use Rattle.std.proofs.Common.{◌≡◌, ℕ, false, List, [], ◌∷◌, refl, ap, sym, ◌∙◌, Some, None, ℤ}
+use Rattle.std.specs.Prelude.{Result, Ok, Err, OnErr, slice_get}
+use Rattle.std.specs.List.{list_any}
+use Rattle.c_program.specs.Tree.{Program}
+use Rattle.thread_semantics.specs.State.{Frame, Running, State}
+use Rattle.thread_semantics.specs.Move.{Move, Moves, Acts, Ends, Faults, move, returned}
+use Rattle.thread_semantics.specs.Step.{Steps, with_slot, moved, is_waiter, step}
+use Rattle.c_interpreter.specs.declared.step.Rest.{Rest}
+use Rattle.c_interpreter.specs.declared.plan.Plan.{Plan}
+use Rattle.c_interpreter.specs.Plan.{erased, plan_of}
+use Rattle.c_interpreter.specs.Stepping.{rest_frame, Resumes, IsPlan}
+
+pub moved-erased : (P : Program) (s : State) (i : ℕ) (m : Move) → moved P s i (erased m) ≡ moved P s i m
+moved-erased P s i (Moves frames reads write) = refl
+moved-erased P s i (Acts offset act operands frames) = refl
+moved-erased P s i (Ends offset reads) = refl
+moved-erased P s i (Faults offset cause) = refl
+
+pub step_runs : (P : Program) (s : State) (i : ℕ) (frames : List Frame) → slice_get s.slots i ≡ Some (Running frames) → list_any (is_waiter i) s.barriers ≡ false → step P s i ≡ moved P s i (move P s.globals frames)
+step_runs P s i frames running calm = rw (running, calm) refl
+
+pub step_planned : (P : Program) (s : State) (i : ℕ) (plan : Plan) (p : IsPlan P s i plan) → moved P s i (plan_of P plan p.call p.callers) ≡ step P s i
+step_planned P s i plan p =
+    ap (moved P s i) p.planned
+    ∙ moved-erased P s i (move P s.globals (p.call ∷ p.callers))
+    ∙ sym (step_runs P s i (p.call ∷ p.callers) p.running p.calm)
+
+pub no_caller : (P : Program) (vs : List ℤ) (f : Frame) (fs : List Frame) → Resumes P vs f fs None → fs ≡ []
+no_caller P vs f [] h = refl
+no_caller P vs f (g ∷ gs) h = absurd h
+
+pub return_resumes : (P : Program) (s new : State) (i offset : ℕ) (vs : List ℤ) (f : Frame) (fs : List Frame) (rest : Rest) → Resumes P vs f fs (Some rest) → ((g : Frame) (gs : List Frame) → fs ≡ g ∷ gs → new ≡ with_slot s i (Running (rest_frame rest g ∷ gs))) → Steps new ≡ moved P s i (erased (returned P offset vs [] f fs))
+return_resumes P s new i offset vs f [] rest r h = absurd r
+return_resumes P s new i offset vs f (g ∷ gs) rest r h =
+    ap Steps (h g gs refl ∙ ap (λ x. with_slot s i (Running (x ∷ gs))) r)
+
+pub on_any_err : {A E : Type 0} {Fact : Type 0} (r : Result A E) → Fact → OnErr r Fact
+on_any_err (Ok v) fact = tt
+on_any_err (Err e) fact = fact

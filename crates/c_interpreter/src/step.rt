@@ -1,0 +1,563 @@
+// The next step of a thread.
+ghost use Rattle.std.specs.Prelude.{◌≡◌, ◌≢◌, nat_eq, Some, MatchOption, [], ◌∷◌, drop, map, slice_get, slice_set, IfOk, OnErr};
+ghost use Rattle.std.specs.Option.{option_to_list};
+ghost use Rattle.std.specs.List.{list_any, list_all};
+ghost use Rattle.c_program.specs.Plain.{program_of};
+ghost use Rattle.thread_semantics.specs.State.{Frame as Frames, Running};
+ghost use Rattle.thread_semantics.specs.Move.{returned_value, return_type, resumed, returned, going_on};
+ghost use Rattle.thread_semantics.specs.Step.{with_slot, is_unused, created_slots, finished, written_to, acted, moved, is_waiter, step};
+ghost use Rattle.c_evaluation.specs.Outcome.{rows_of};
+ghost use Rattle.c_evaluation.specs.View.{work_of, act_of};
+ghost use Rattle.c_interpreter.specs.View.{frame_of, slot_of, barrier_of, state_of};
+ghost use Rattle.c_interpreter.specs.Change.{change_write};
+ghost use Rattle.c_interpreter.specs.Plan.{Callers, gone_on, waiting, plan_of, erased};
+ghost use Rattle.c_interpreter.specs.Effect.{effect_of};
+ghost use Rattle.c_interpreter.specs.Stepping.{stepped_of, rest_frame, IsKept, StaysUnlessStepped, is_dropping, Resumes, with_frames, IsPlanned};
+
+use crate::act::{Effect, effect_of_act, slot_at};
+use crate::memory::{Change, carry_out};
+use crate::plan::{Plan, next_plan, rest_of};
+use crate::state::{Barrier, Frame, Slot, State};
+use c_evaluation::work::{Act, Item, settle};
+use c_program::tree::{Program, ReturnType};
+use hls_ints::wrap;
+use std::alloc::{AllocError, Global};
+use std::collections::VecDeque;
+use thread_semantics::{BlockedCause, MutexState, UndefinedCause};
+
+/// What a step comes to: it is taken, it is blocked, or it is undefined.
+#[derive(Clone, Copy, PartialEq, Eq, Debug)]
+pub enum Stepped {
+    Stepped,
+    Blocked(BlockedCause),
+    /// The offset of the statement, operand or closing brace, and the first cause.
+    Undefined { offset: u32, cause: UndefinedCause },
+}
+
+/// What a call has still to do and the values that it keeps.
+#[derive(Drop)]
+struct Rest<'p> {
+    work: VecDeque<Item<'p>>,
+    kept: Vec<i128>,
+}
+
+/// A call goes on with this work and these values, after a change of memory.
+fn frame_goes_on<'p>(
+    frame: &mut Frame<'p>,
+    globals: &mut Vec<Vec<i128>>,
+    work: VecDeque<Item<'p>>,
+    kept: Vec<i128>,
+    change: Change,
+)
+    ensures frame { frame_of frame.new ≡ gone_on change (work_of work.entry.items) kept.items (frame_of frame.old) }
+    ensures globals { rows_of globals.new.items ≡ written_to (rows_of globals.old.items) (change_write change) }
+{
+    carry_out(&change, &mut frame.locals, globals);
+    frame.work = work;
+    frame.kept = kept;
+}
+
+/// A call waits with this work.
+fn frame_waits<'p>(frame: &mut Frame<'p>, work: VecDeque<Item<'p>>)
+    ensures { frame_of frame.new ≡ waiting (work_of work.entry.items) (frame_of frame.old) }
+{
+    frame.work = work;
+    frame.kept.clear();
+}
+
+/// The innermost call of a running thread goes on.
+fn slot_goes_on<'p>(
+    slot: &mut Slot<'p>,
+    globals: &mut Vec<Vec<i128>>,
+    work: VecDeque<Item<'p>>,
+    kept: Vec<i128>,
+    change: Change,
+)
+    ensures slot { (f : Frames) (fs : Callers) → slot_of slot.old ≡ Running (f ∷ fs) → slot_of slot.new ≡ Running (gone_on change (work_of work.entry.items) kept.items f ∷ fs) }
+    ensures globals { (f : Frames) (fs : Callers) → slot_of slot.old ≡ Running (f ∷ fs) → rows_of globals.new.items ≡ written_to (rows_of globals.old.items) (change_write change) }
+{
+    if let Slot::Running(frames) = slot {
+        if let Some(frame) = frames.front_mut() {
+            frame_goes_on(frame, globals, work, kept, change);
+        }
+    }
+}
+
+/// The innermost call of a running thread waits with this work.
+fn slot_waits<'p>(slot: &mut Slot<'p>, work: VecDeque<Item<'p>>)
+    ensures { (f : Frames) (fs : Callers) → slot_of slot.old ≡ Running (f ∷ fs) → slot_of slot.new ≡ Running (waiting (work_of work.entry.items) f ∷ fs) }
+{
+    if let Slot::Running(frames) = slot {
+        if let Some(frame) = frames.front_mut() {
+            frame_waits(frame, work);
+        }
+    }
+}
+
+/// A call begins in a running thread, whose innermost call waits for it with this work.
+fn slot_enters<'p>(
+    slot: &mut Slot<'p>,
+    work: VecDeque<Item<'p>>,
+    callee: Frame<'p>,
+) -> Result<(), AllocError>
+    ensures entered { IfOk result (λ _. (f : Frames) (fs : Callers) → slot_of slot.old ≡ Running (f ∷ fs) → slot_of slot.new ≡ Running (frame_of callee.entry ∷ waiting (work_of work.entry.items) f ∷ fs)) }
+    ensures unchanged { OnErr result (slot_of slot.new ≡ slot_of slot.old) }
+{
+    if let Slot::Running(frames) = slot {
+        frames.push_front(callee)?;
+        if let Some(caller) = frames.get_mut(1) {
+            frame_waits(caller, work);
+        }
+    }
+    Ok(())
+}
+
+/// The innermost call of a running thread ends, and its caller goes on.
+fn slot_leaves<'p>(slot: &mut Slot<'p>, rest: Rest<'p>)
+    ensures { (f g : Frames) (gs : Callers) → slot_of slot.old ≡ Running (f ∷ g ∷ gs) → slot_of slot.new ≡ Running (rest_frame rest.entry g ∷ gs) }
+{
+    if let Slot::Running(frames) = slot {
+        frames.pop_front();
+        if let Some(caller) = frames.front_mut() {
+            caller.work = rest.work;
+            caller.kept = rest.kept;
+        }
+    }
+}
+
+/// Gives a thread id a state, where there is one of that number.
+fn put_slot<'p>(slots: &mut Vec<Slot<'p>>, n: u128, slot: Slot<'p>)
+    ensures { map slot_of slots.new.items ≡ slice_set (map slot_of slots.old.items) n (slot_of slot.entry) }
+{
+    if n < slots.len() as u128 {
+        slots[n as usize] = slot;
+    }
+}
+
+fn put_mutex(mutexes: &mut Vec<MutexState>, n: u128, mutex: MutexState)
+    ensures { mutexes.new.items ≡ slice_set mutexes.old.items n mutex }
+{
+    if n < mutexes.len() as u128 {
+        mutexes[n as usize] = mutex;
+    }
+}
+
+fn put_barrier(barriers: &mut Vec<Barrier>, n: u128, barrier: Barrier)
+    ensures { map barrier_of barriers.new.items ≡ slice_set (map barrier_of barriers.old.items) n (barrier_of barrier) }
+{
+    if n < barriers.len() as u128 {
+        barriers[n as usize] = barrier;
+    }
+}
+
+/// The innermost call of thread i goes on.
+fn goes_on<'p>(s: &mut State<'p>, i: u32, work: VecDeque<Item<'p>>, kept: Vec<i128>, change: Change)
+    ensures { (f : Frames) (fs : Callers) → slice_get (state_of s.old).slots i ≡ Some (Running (f ∷ fs)) → state_of s.new ≡ with_frames (state_of s.old) i (change_write change) (gone_on change (work_of work.entry.items) kept.items f ∷ fs) }
+{
+    let k = i as usize;
+    if k < s.slots.len() {
+        slot_goes_on(&mut s.slots[k], &mut s.globals, work, kept, change);
+    }
+}
+
+/// The innermost call of thread i waits with this work.
+fn waits_with<'p>(s: &mut State<'p>, i: u32, work: VecDeque<Item<'p>>)
+    ensures { (f : Frames) (fs : Callers) → slice_get (state_of s.old).slots i ≡ Some (Running (f ∷ fs)) → state_of s.new ≡ with_slot (state_of s.old) i (Running (waiting (work_of work.entry.items) f ∷ fs)) }
+{
+    let k = i as usize;
+    if k < s.slots.len() {
+        slot_waits(&mut s.slots[k], work);
+    }
+}
+
+/// A call begins in thread i.
+fn enters<'p>(
+    s: &mut State<'p>,
+    i: u32,
+    work: VecDeque<Item<'p>>,
+    callee: Frame<'p>,
+) -> Result<(), AllocError>
+    ensures entered { IfOk result (λ _. (f : Frames) (fs : Callers) → slice_get (state_of s.old).slots i ≡ Some (Running (f ∷ fs)) → state_of s.new ≡ with_slot (state_of s.old) i (Running (frame_of callee.entry ∷ waiting (work_of work.entry.items) f ∷ fs))) }
+    ensures unchanged { OnErr result (state_of s.new ≡ state_of s.old) }
+{
+    let k = i as usize;
+    if k < s.slots.len() {
+        slot_enters(&mut s.slots[k], work, callee)?;
+    }
+    Ok(())
+}
+
+/// The innermost call of thread i ends, and its caller goes on.
+fn leaves<'p>(s: &mut State<'p>, i: u32, rest: Rest<'p>)
+    ensures { (f g : Frames) (gs : Callers) → slice_get (state_of s.old).slots i ≡ Some (Running (f ∷ g ∷ gs)) → state_of s.new ≡ with_slot (state_of s.old) i (Running (rest_frame rest.entry g ∷ gs)) }
+{
+    let k = i as usize;
+    if k < s.slots.len() {
+        slot_leaves(&mut s.slots[k], rest);
+    }
+}
+
+/// The calls of thread i, where it runs.
+fn running<'a, 'p>(slots: &'a [Slot<'p>], i: u32) -> Option<&'a VecDeque<Frame<'p>>>
+    ensures { MatchOption result ((fs : Callers) → slice_get (map slot_of slots.now) i ≢ Some (Running fs)) (λ frames. slice_get (map slot_of slots.now) i ≡ Some (Running (map frame_of frames.now.items))) }
+{
+    match slot_at(slots, u128::from(i)) {
+        Some(Slot::Running(frames)) => Some(frames),
+        Some(Slot::Unused) | Some(Slot::Finished) | None => None,
+    }
+}
+
+/// The innermost of the calls.
+fn innermost<'a, 'p>(frames: &'a VecDeque<Frame<'p>>) -> Option<&'a Frame<'p>>
+    ensures { MatchOption result (frames.now.items ≡ []) (λ frame. frames.now.items ≡ frame.now ∷ drop 1 frames.now.items) }
+{
+    frames.front()
+}
+
+/// The call that the innermost one returns to.
+fn first_caller<'a, 'p>(frames: &'a VecDeque<Frame<'p>>) -> Option<&'a Frame<'p>>
+    ensures { MatchOption result (drop 1 frames.now.items ≡ []) (λ frame. drop 1 frames.now.items ≡ frame.now ∷ drop 2 frames.now.items) }
+{
+    frames.get(1)
+}
+
+/// A value that is converted to what a function returns, if that is an integer.
+fn converted(returns: ReturnType, value: Option<i128>) -> Option<i128>
+    ensures { option_to_list result ≡ returned_value returns (option_to_list value) }
+{
+    match returns {
+        ReturnType::Integer(ty) => match value {
+            Some(v) => Some(wrap(ty, v)),
+            None => None,
+        },
+        ReturnType::Void | ReturnType::Pointer => None,
+    }
+}
+
+/// What the function of that number returns.
+fn return_type(program: &Program, function: u32) -> ReturnType
+    ensures { result ≡ return_type (slice_get (program_of program.now).functions function) }
+{
+    match program.functions.get(function as usize) {
+        Some(code) => code.returns,
+        None => ReturnType::Void,
+    }
+}
+
+/// Whether what waits for the value of a call drops it.
+fn is_dropping(work: &VecDeque<Item>) -> bool
+    ensures { result ≡ is_dropping (work_of work.now.items) }
+{
+    match work.front() {
+        None => false,
+        Some(item) => matches!(item, Item::Discard),
+    }
+}
+
+/// A caller that drops the value of a call goes on.
+fn after_dropped<'p>(alloc: Global, caller: &Frame<'p>) -> Result<Rest<'p>, AllocError>
+    ensures { IfOk result (λ rest. rest_frame rest (frame_of caller.now) ≡ going_on (frame_of caller.now) (drop 1 (work_of caller.now.work.items))) }
+{
+    let mut work = rest_of(&caller.work)?;
+    settle(&mut work)?;
+    Ok(Rest {
+        work,
+        kept: Vec::new(alloc),
+    })
+}
+
+/// A caller keeps the value of a call, if any.
+fn after_kept<'p>(
+    alloc: Global,
+    caller: &Frame<'p>,
+    value: Option<i128>,
+) -> Result<Rest<'p>, AllocError>
+    ensures { IfOk result (λ rest. rest_frame rest (frame_of caller.now) ≡ record (frame_of caller.now) { kept = option_to_list value }) }
+{
+    let work = copied(&caller.work)?;
+    let mut kept = Vec::new(alloc);
+    if let Some(v) = value {
+        kept.push(v)?;
+    }
+    Ok(Rest { work, kept })
+}
+
+fn copied<'p>(work: &VecDeque<Item<'p>>) -> Result<VecDeque<Item<'p>>, AllocError>
+    ensures { IfOk result (λ copy. copy.items ≡ work.now.items) }
+{
+    work.clone()
+}
+
+/// How a caller goes on with the value of a call.
+fn resumed<'p>(
+    alloc: Global,
+    caller: &Frame<'p>,
+    value: Option<i128>,
+) -> Result<Rest<'p>, AllocError>
+    ensures { IfOk result (λ rest. rest_frame rest (frame_of caller.now) ≡ resumed (option_to_list value) (work_of caller.now.work.items) (frame_of caller.now)) }
+{
+    if is_dropping(&caller.work) {
+        after_dropped(alloc, caller)
+    } else {
+        after_kept(alloc, caller, value)
+    }
+}
+
+/// How the caller of the innermost call of thread i goes on with that call's value; none where it has no caller.
+fn resumption<'p>(
+    alloc: Global,
+    program: &Program,
+    slots: &[Slot<'p>],
+    i: u32,
+    value: Option<i128>,
+) -> Result<Option<Rest<'p>>, AllocError>
+    ensures { IfOk result (λ r. (f : Frames) (fs : Callers) → slice_get (map slot_of slots.now) i ≡ Some (Running (f ∷ fs)) → Resumes (program_of program.now) (option_to_list value) f fs r) }
+{
+    let Some(frames) = running(slots, i) else {
+        return Ok(None);
+    };
+    let Some(callee) = innermost(frames) else {
+        return Ok(None);
+    };
+    let Some(caller) = first_caller(frames) else {
+        return Ok(None);
+    };
+    let value = converted(return_type(program, callee.function), value);
+    let rest = resumed(alloc, caller, value)?;
+    Ok(Some(rest))
+}
+
+fn all_unused(slots: &[Slot]) -> bool
+    ensures { result ≡ list_all is_unused (map slot_of slots.now) }
+{
+    for slot in slots {
+        match slot {
+            Slot::Unused => {}
+            Slot::Running(_) | Slot::Finished => return false,
+        }
+    }
+    true
+}
+
+/// The threads but main.
+fn created<'a, 'p>(slots: &'a [Slot<'p>]) -> &'a [Slot<'p>]
+    ensures { map slot_of result.now ≡ created_slots (map slot_of slots.now) }
+{
+    match slots {
+        [] => slots,
+        [_, others @ ..] => others,
+    }
+}
+
+/// Main returns: each created thread is joined.
+fn end_main(s: &mut State, offset: u32) -> Stepped
+    ensures step { stepped_of result (state_of s.new) ≡ finished (state_of s.old) 0 offset }
+    ensures unchanged { StaysUnlessStepped result (state_of s.old) (state_of s.new) }
+{
+    if !all_unused(created(&s.slots)) {
+        return Stepped::Undefined {
+            offset,
+            cause: UndefinedCause::LiveThread,
+        };
+    }
+    put_slot(&mut s.slots, 0, Slot::Finished);
+    s.ended = true;
+    Stepped::Stepped
+}
+
+/// The outermost call of thread i returns.
+fn end_thread(s: &mut State, i: u32, offset: u32) -> Stepped
+    ensures step { stepped_of result (state_of s.new) ≡ finished (state_of s.old) i offset }
+    ensures unchanged { StaysUnlessStepped result (state_of s.old) (state_of s.new) }
+{
+    if i == 0 {
+        return end_main(s, offset);
+    }
+    put_slot(&mut s.slots, u128::from(i), Slot::Finished);
+    Stepped::Stepped
+}
+
+/// The innermost call of thread i returns.
+fn returns<'p>(
+    alloc: Global,
+    program: &'p Program,
+    s: &mut State<'p>,
+    i: u32,
+    offset: u32,
+    value: Option<i128>,
+) -> Result<Stepped, AllocError>
+    ensures step { IfOk result (λ r. (f : Frames) (fs : Callers) → slice_get (state_of s.old).slots i ≡ Some (Running (f ∷ fs)) → stepped_of r (state_of s.new) ≡ moved (program_of program.now) (state_of s.old) i (erased (returned (program_of program.now) offset (option_to_list value) [] f fs))) }
+    ensures unchanged { IsKept result (state_of s.old) (state_of s.new) }
+{
+    match resumption(alloc, program, &s.slots, i, value)? {
+        None => Ok(end_thread(s, i, offset)),
+        Some(rest) => {
+            leaves(s, i, rest);
+            Ok(Stepped::Stepped)
+        }
+    }
+}
+
+/// The values that the innermost call of thread i keeps.
+fn kept_by<'a>(slots: &'a [Slot], i: u32) -> &'a [i128]
+    ensures { (f : Frames) (fs : Callers) → slice_get (map slot_of slots.now) i ≡ Some (Running (f ∷ fs)) → result.now ≡ f.kept }
+{
+    let Some(frames) = running(slots, i) else {
+        return &[];
+    };
+    let Some(frame) = innermost(frames) else {
+        return &[];
+    };
+    &frame.kept
+}
+
+/// An effect, after which thread i goes on with this work.
+fn take_effect<'p>(
+    s: &mut State<'p>,
+    i: u32,
+    offset: u32,
+    effect: Effect<'p>,
+    work: VecDeque<Item<'p>>,
+) -> Result<Stepped, AllocError>
+    ensures step { IfOk result (λ r. (f : Frames) (fs : Callers) → slice_get (state_of s.old).slots i ≡ Some (Running (f ∷ fs)) → stepped_of r (state_of s.new) ≡ effect_of effect.entry (with_slot (state_of s.old) i (Running (waiting (work_of work.entry.items) f ∷ fs))) offset) }
+    ensures unchanged { IsKept result (state_of s.old) (state_of s.new) }
+{
+    match effect {
+        Effect::Blocks(cause) => return Ok(Stepped::Blocked(cause)),
+        Effect::Undefines(cause) => return Ok(Stepped::Undefined { offset, cause }),
+        Effect::Prints(text) => {
+            s.output.put(text.as_slice())?;
+            waits_with(s, i, work);
+        }
+        Effect::PutSlot(n, slot) => {
+            waits_with(s, i, work);
+            put_slot(&mut s.slots, n, slot);
+        }
+        Effect::PutMutex(n, mutex) => {
+            waits_with(s, i, work);
+            put_mutex(&mut s.mutexes, n, mutex);
+        }
+        Effect::PutBarrier(n, barrier) => {
+            waits_with(s, i, work);
+            put_barrier(&mut s.barriers, n, barrier);
+        }
+    }
+    Ok(Stepped::Stepped)
+}
+
+/// An act of thread i, which then goes on with this work.
+fn acts<'p>(
+    alloc: Global,
+    program: &'p Program,
+    s: &mut State<'p>,
+    i: u32,
+    offset: u32,
+    act: Act<'p>,
+    work: VecDeque<Item<'p>>,
+) -> Result<Stepped, AllocError>
+    ensures step { IfOk result (λ r. (f : Frames) (fs : Callers) → slice_get (state_of s.old).slots i ≡ Some (Running (f ∷ fs)) → stepped_of r (state_of s.new) ≡ acted (program_of program.now) (with_slot (state_of s.old) i (Running (waiting (work_of work.entry.items) f ∷ fs))) i offset (act_of act.entry) f.kept) }
+    ensures unchanged { IsKept result (state_of s.old) (state_of s.new) }
+{
+    let effect = effect_of_act(alloc, program, s, i, act, kept_by(&s.slots, i))?;
+    take_effect(s, i, offset, effect, work)
+}
+
+/// Carries out a plan for thread i.
+fn carry_out_plan<'p>(
+    alloc: Global,
+    program: &'p Program,
+    s: &mut State<'p>,
+    i: u32,
+    plan: Plan<'p>,
+) -> Result<Stepped, AllocError>
+    ensures step { IfOk result (λ r. (f : Frames) (fs : Callers) → slice_get (state_of s.old).slots i ≡ Some (Running (f ∷ fs)) → stepped_of r (state_of s.new) ≡ moved (program_of program.now) (state_of s.old) i (plan_of (program_of program.now) plan.entry f fs)) }
+    ensures unchanged { IsKept result (state_of s.old) (state_of s.new) }
+{
+    match plan {
+        Plan::Onward(work, kept, change) => {
+            goes_on(s, i, work, kept, change);
+            Ok(Stepped::Stepped)
+        }
+        Plan::Enter(work, callee) => {
+            enters(s, i, work, callee)?;
+            Ok(Stepped::Stepped)
+        }
+        Plan::Return(offset, value) => returns(alloc, program, s, i, offset, value),
+        Plan::Perform(offset, act, work) => acts(alloc, program, s, i, offset, act, work),
+        Plan::Fault(offset, cause) => Ok(Stepped::Undefined { offset, cause }),
+    }
+}
+
+fn is_among(i: u32, threads: &[u32]) -> bool
+    ensures { result ≡ list_any (nat_eq i) threads.now }
+{
+    threads.iter().any(|x| i == *x)
+}
+
+/// Whether thread i waits at the barrier.
+fn is_waiter(i: u32, barrier: &Barrier) -> bool
+    ensures { result ≡ is_waiter i (barrier_of barrier.now) }
+{
+    match barrier {
+        Barrier::Uninitialised => false,
+        Barrier::Awaits(_, waiters) => is_among(i, waiters),
+    }
+}
+
+/// Whether thread i waits at a barrier.
+fn waits(i: u32, barriers: &[Barrier]) -> bool
+    ensures { result ≡ list_any (is_waiter i) (map barrier_of barriers.now) }
+{
+    for barrier in barriers {
+        if is_waiter(i, barrier) {
+            return true;
+        }
+    }
+    false
+}
+
+/// The thread's own part of the next step of thread i, where it runs and doesn't wait at a barrier, or the answer.
+fn plan_or_answer<'p>(
+    alloc: Global,
+    program: &'p Program,
+    s: &State<'p>,
+    i: u32,
+) -> Result<Result<Plan<'p>, Stepped>, AllocError>
+    ensures { IfOk result (λ r. IsPlanned (program_of program.now) (state_of s.now) i r) }
+{
+    let Some(frames) = running(&s.slots, i) else {
+        return Ok(Err(Stepped::Blocked(BlockedCause::NotRunning)));
+    };
+    if waits(i, &s.barriers) {
+        return Ok(Err(Stepped::Blocked(BlockedCause::Barrier)));
+    }
+    match innermost(frames) {
+        None => {
+            Ok(Err(Stepped::Undefined {
+                offset: 0,
+                cause: UndefinedCause::NoValue,
+            }))
+        }
+        Some(frame) => {
+            let plan = next_plan(alloc, program, frame, &s.globals)?;
+            Ok(Ok(plan))
+        }
+    }
+}
+
+/// The next step of thread i, any number: a number that is no thread doesn't run. The state is changed where the step is
+/// taken, and stays as it is else, also where memory is wanting.
+pub fn step<'p>(
+    alloc: Global,
+    program: &'p Program,
+    s: &mut State<'p>,
+    i: u32,
+) -> Result<Stepped, AllocError>
+    ensures step { IfOk result (λ r. stepped_of r (state_of s.new) ≡ step (program_of program.now) (state_of s.old) i) }
+    ensures unchanged { IsKept result (state_of s.old) (state_of s.new) }
+{
+    match plan_or_answer(alloc, program, s, i)? {
+        Err(answer) => Ok(answer),
+        Ok(plan) => carry_out_plan(alloc, program, s, i, plan),
+    }
+}

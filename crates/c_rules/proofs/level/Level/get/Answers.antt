@@ -1,0 +1,8 @@
+use Rattle.std.proofs.Common.{◌∙◌}
+use Rattle.c_rules.proofs.LevelLemmas.{lookup-plain}
+use Rattle.c_rules.proofs.level.Level.get.Goals as goal
+
+pub returns : goal.returns
+returns c =
+    let found = c.copied.ensures ∙ (c.get.ensures.value ∙ lookup-plain c.args.name.now c.self.inside.names.entries) in
+    cc

@@ -1,0 +1,102 @@
+// The names of one scope (C99 6.2.1), and those of the functions that a text defines.
+
+ghost use Rattle.std.specs.Prelude.{◌≡◌, [], OnOk};
+ghost use Rattle.c_rules.specs.Levels as spec;
+
+use crate::names::Meaning;
+use indexmap::IndexMap;
+use std::alloc::{AllocError, Global};
+use std::marker::Model;
+
+/// The names that one scope declares, and what each stands for there.
+#[derive(Drop)]
+pub struct Level<'t> {
+    names: IndexMap<&'t [u8], Meaning>,
+}
+
+impl<'t> Model for Level<'t> {
+    ghost use Rattle.std.specs.Prelude.{ℕ, List, map};
+    ghost use Rattle.c_rules.specs.declared.names.Meaning.{Meaning};
+    ghost use Rattle.c_rules.specs.Levels.{plain};
+
+    ghost Value = { List (List ℕ × Meaning) };
+
+    ghost view = { λ l. map plain l.names.entries };
+}
+
+impl<'t> Level<'t> {
+    /// It declares no name.
+    pub fn new(alloc: Global) -> Level<'t>
+        ensures { result ≡ [] }
+    {
+        Level {
+            names: IndexMap::new(alloc),
+        }
+    }
+
+    /// What the name stands for, if it is declared.
+    pub fn get(&self, name: &[u8]) -> Option<Meaning>
+        ensures { result ≡ spec.named_in self.now name.now }
+    {
+        self.names.get(&name).copied()
+    }
+
+    /// Declares a name, or changes what it stands for.
+    pub fn insert(&mut self, name: &'t [u8], meaning: Meaning) -> Result<(), AllocError>
+        ensures { OnOk result (self.new ≡ spec.inserted self.old name.now meaning) }
+    {
+        self.names.insert(name, meaning)?;
+        Ok(())
+    }
+}
+
+/// The functions that a text defines, by their names, each with the number of its first definition.
+#[derive(Drop)]
+pub struct Definitions<'t> {
+    numbers: IndexMap<&'t [u8], u32>,
+}
+
+impl<'t> Model for Definitions<'t> {
+    ghost use Rattle.std.specs.Prelude.{ℕ, List, map};
+    ghost use Rattle.c_rules.specs.Levels.{plain};
+
+    ghost Value = { List (List ℕ × ℕ) };
+
+    ghost view = { λ d. map plain d.numbers.entries };
+}
+
+impl<'t> Definitions<'t> {
+    /// No function is defined.
+    pub fn new(alloc: Global) -> Definitions<'t>
+        ensures { result ≡ [] }
+    {
+        Definitions {
+            numbers: IndexMap::new(alloc),
+        }
+    }
+
+    /// The number of the first definition of a function, if it has one.
+    pub fn get(&self, name: &[u8]) -> Option<u32>
+        ensures { result ≡ spec.named_in self.now name.now }
+    {
+        self.numbers.get(&name).copied()
+    }
+
+    /// Notes the number of a definition.
+    fn insert(&mut self, name: &'t [u8], number: u32) -> Result<(), AllocError>
+        ensures { OnOk result (self.new ≡ spec.inserted self.old name.now number) }
+    {
+        self.numbers.insert(name, number)?;
+        Ok(())
+    }
+
+    /// Notes the number of a definition, unless it is a second one of the function.
+    pub fn note(&mut self, name: &'t [u8], number: u32) -> Result<(), AllocError>
+        ensures { OnOk result (self.new ≡ spec.noted self.old name.now number) }
+    {
+        if self.get(name).is_some() {
+            return Ok(());
+        }
+        self.insert(name, number)
+    }
+}

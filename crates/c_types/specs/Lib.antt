@@ -1,0 +1,13 @@
+pub mod CallRules
+pub mod Files
+pub mod Functions
+pub mod Globals
+pub mod Joined
+pub mod Locals
+pub mod Resolving
+pub mod Routines
+pub mod Simple
+pub mod Statements
+pub mod States
+pub mod Tabled
+pub mod Texts

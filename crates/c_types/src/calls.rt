@@ -1,0 +1,133 @@
+// The rules on calls that only the whole text shows: none leads back to its caller, and what start routines reach neither
+// creates nor joins a thread.
+
+ghost use Rattle.std.specs.Prelude.{◌≡◌, map, fold, length, slice_get, IfOk};
+ghost use Rattle.call_graph.specs.Reaching.{leads};
+ghost use Rattle.c_program.specs.Plain.{function_of};
+ghost use Rattle.c_program.specs.Resolved.{is_pointer as is_pointer_return};
+ghost use Rattle.c_types.specs.CallRules as spec;
+
+use c_program::tree::{Function, ReturnType};
+use c_rules::fault::{Fault, Rule, first};
+use c_rules::findings::{CallSite, Findings, ThreadSite};
+use call_graph::{Call, Reach, reach_of};
+use sqlite_items::Items;
+use std::alloc::{AllocError, Global};
+
+fn call_of(site: CallSite) -> Call
+    ensures { result ≡ spec.call_of site }
+{
+    Call {
+        caller: site.caller,
+        callee: site.callee,
+    }
+}
+
+fn calls_of(alloc: Global, sites: &[CallSite]) -> Result<Items<Call>, AllocError>
+    ensures { IfOk result (λ calls. calls ≡ map spec.call_of sites.now) }
+{
+    let mut calls = Items::new(alloc);
+    for site in sites {
+        calls.push(call_of(*site))?;
+    }
+    Ok(calls)
+}
+
+fn fault_if(is_broken: bool, rule: Rule, offset: usize) -> Option<Fault>
+    ensures { result ≡ spec.fault_if is_broken rule offset }
+{
+    if is_broken {
+        Some(Fault { rule, offset })
+    } else {
+        None
+    }
+}
+
+/// The first fault, with that of a call that leads back to its caller.
+fn with_call(fault: Option<Fault>, reach: &Reach, call: CallSite) -> Option<Fault>
+    ensures { result ≡ spec.with_call (leads reach.now.rows) fault call }
+{
+    let leads_back = reach.leads(call.callee as usize, call.caller as usize);
+    first(fault, fault_if(leads_back, Rule::Recursive, call.offset))
+}
+
+fn with_calls(fault: Option<Fault>, reach: &Reach, calls: &[CallSite]) -> Option<Fault>
+    ensures { result ≡ fold (spec.with_call (leads reach.now.rows)) fault calls.now }
+{
+    let mut fault = fault;
+    for call in calls {
+        fault = with_call(fault, reach, *call);
+    }
+    fault
+}
+
+fn is_pointer(returns: ReturnType) -> bool
+    ensures { result ≡ is_pointer_return returns }
+{
+    matches!(returns, ReturnType::Pointer)
+}
+
+/// Whether the function of the first number is a start routine, and calls lead from it to that of the second.
+#[tactic(auto, using(crate::proofs::Numbers::places))]
+fn is_led_to(functions: &[Function], reach: &Reach, routine: usize, function: u32) -> bool
+    ensures { result ≡ spec.is_led_to (map function_of functions.now) (leads reach.now.rows) function routine }
+{
+    match functions.get(routine) {
+        Some(code) => is_pointer(code.returns) && reach.leads(routine, function as usize),
+        None => false,
+    }
+}
+
+/// Whether calls lead from some start routine to the function.
+fn is_reached(functions: &[Function], reach: &Reach, function: u32) -> bool
+    ensures { result ≡ spec.is_reached (map function_of functions.now) (leads reach.now.rows) function }
+{
+    for routine in 0..functions.len() {
+        if is_led_to(functions, reach, routine, function) {
+            return true;
+        }
+    }
+    false
+}
+
+/// The first fault, with that of a create or a join that a start routine reaches.
+fn with_site(
+    fault: Option<Fault>,
+    functions: &[Function],
+    reach: &Reach,
+    site: ThreadSite,
+) -> Option<Fault>
+    ensures { result ≡ spec.with_site (map function_of functions.now) (leads reach.now.rows) fault site }
+{
+    let is_broken = is_reached(functions, reach, site.function);
+    first(fault, fault_if(is_broken, Rule::Threads, site.offset))
+}
+
+fn with_sites(
+    fault: Option<Fault>,
+    functions: &[Function],
+    reach: &Reach,
+    sites: &[ThreadSite],
+) -> Option<Fault>
+    ensures { result ≡ fold (spec.with_site (map function_of functions.now) (leads reach.now.rows)) fault sites.now }
+{
+    let mut fault = fault;
+    for site in sites {
+        fault = with_site(fault, functions, reach, *site);
+    }
+    fault
+}
+
+/// The first fault, those of calls among them.
+pub fn with_call_faults(
+    alloc: Global,
+    found: &Findings,
+    functions: &[Function],
+) -> Result<Option<Fault>, AllocError>
+    ensures { IfOk result (spec.IsCallFault (map function_of functions.now) found.now) }
+{
+    let calls = calls_of(alloc, found.calls.as_slice())?;
+    let reach = reach_of(alloc, functions.len(), calls.as_slice())?;
+    let fault = with_calls(found.fault, &reach, found.calls.as_slice());
+    Ok(with_sites(fault, functions, &reach, found.threads.as_slice()))
+}

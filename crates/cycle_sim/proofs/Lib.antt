@@ -1,0 +1,16 @@
+pub mod Words
+pub mod Settles
+pub mod Lift
+pub mod Edges
+pub mod Stores
+pub mod Cycles
+pub mod Calls
+pub mod Orders
+pub mod Trees
+pub mod Placing
+pub mod Wiring
+pub mod Givens
+pub mod Writers
+pub mod Opening
+pub mod Loopless
+pub mod Right

@@ -1,0 +1,37 @@
+use Rattle.std.proofs.Common.{◌≡◌, ℕ, List, ◌++◌, length, take, drop, ap, sym, ◌∙◌, subst, arith}
+use Rattle.cycle_sim.specs.Flat.{all_numbers, all_words}
+use Rattle.cycle_sim.specs.Running.{Running, Stands, flat, advanced}
+use Rattle.cycle_sim.proofs.Cycles.{advanced_stands}
+use Rattle.cycle_sim.proofs.Calls.{whole_back}
+use Rattle.cycle_sim.proofs.sim.Sim.advance.Goals as goal
+
+pub invariant_of-self : goal.invariant_of-self
+invariant_of-self c =
+    let i = c.self.inside in
+    let r : Running = record { modules = i.modules.now; parts = i.parts.items; steps = i.steps.items; numbers = i.numbers.items; words = i.words.items; starts = i.starts.items; prefs = i.prefs; done = i.done } in
+    let view : c.args.self.now ≡ r = (let h = c.self.view_is in cc) in
+    let settled = c.requires.2 in
+    let stands : Stands (advanced r) =
+    subst (λ (t : Running). Stands (advanced t)) (sym settled.is ∙ view) (advanced_stands c.requires.1 settled.stands c.requires.0 settled.fits) in
+    let numbers_of = c.pass_edge.new.numbers in
+    let words_of = c.pass_edge.new.words in
+    let next_of = c.pass_edge.new.next in
+    let b = c.as_slice.ensures.value in
+    let d = c.as_mut_slice.ensures.value in
+    let e = c.as_mut_slice-2.ensures.value in
+    let f = c.as_mut_slice-3.ensures.value in
+    let g = c.as_slice-2.ensures.value in
+    let numbers : numbers_of ≡ all_numbers r.modules (flat r) r.numbers r.parts = (let a = c.pass_edge.ensures.numbers in cc) in
+    let words : words_of ≡ all_words r.modules (flat r) r.parts = (let a = c.pass_edge.ensures.words in cc) in
+    let n_long : length numbers_of ≡ length i.numbers.items = c.pass_edge.auto.numbers ∙ ap length d in
+    let x_long : length next_of ≡ length i.next.items = c.pass_edge.auto.next ∙ ap length e in
+    let w_long : length words_of ≡ length i.words.items = c.pass_edge.auto.words ∙ ap length f in
+    let n_whole = whole_back i.numbers.len numbers_of (drop (length numbers_of) i.numbers.items) (omega (arith, i.numbers.ok.0)) in
+    let x_whole = whole_back i.next.len next_of (drop (length next_of) i.next.items) (omega (arith, i.next.ok.0)) in
+    let w_whole = whole_back i.words.len words_of (drop (length words_of) i.words.items) (omega (arith, i.words.ok.0)) in (
+      subst (λ (ws : List ℕ). Stands (record { modules = r.modules; parts = r.parts; steps = r.steps; numbers = take i.numbers.len (numbers_of ++ drop (length numbers_of) i.numbers.items); words = ws; starts = r.starts; prefs = r.prefs; done = r.done }))
+          (sym (w_whole ∙ words))
+          (subst (λ (ns : List ℕ). Stands (record { modules = r.modules; parts = r.parts; steps = r.steps; numbers = ns; words = all_words r.modules (flat r) r.parts; starts = r.starts; prefs = r.prefs; done = r.done }))
+          (sym (n_whole ∙ numbers)) stands),
+      ap length x_whole ∙ x_long ∙ c.self.invariant.1 ∙ sym (ap length n_whole ∙ n_long),
+    )

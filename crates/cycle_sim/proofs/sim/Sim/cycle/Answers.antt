@@ -1,0 +1,34 @@
+use Rattle.std.proofs.Common.{◌≡◌, ◌++◌, sym, subst}
+use Rattle.verilog_meaning.specs.Cycles.{Choice, Cycle}
+use Rattle.cycle_sim.specs.Flat.{all_written}
+use Rattle.cycle_sim.specs.Running.{Running, flat, state_of, choice_of, advanced, IsSameState}
+use Rattle.cycle_sim.proofs.Cycles.{run_cycle, settled_same}
+use Rattle.cycle_sim.proofs.Calls.{on_err, if_ok}
+use Rattle.cycle_sim.proofs.sim.Sim.cycle.Goals as goal
+
+pub returns-in_err-write-clause-state : goal.returns-in_err-write-clause-state
+returns-in_err-write-clause-state c =
+    let under = c.settle_under.ensures in
+    let r = c.args.self.now in
+    on_err c.from_residual.result (IsSameState r c.settle_under.new.self)
+    (subst (IsSameState r) (sym under.is) (settled_same r under.stands (choice_of c.args.choice.now) under.fits))
+
+pub returns-clause-ok : goal.returns-clause-ok
+returns-clause-ok c =
+    let under = c.settle_under.ensures in
+    let r = c.args.self.now in
+    let choice : Choice = choice_of c.args.choice.now in
+    let s = c.settle_under.new.self in
+    let bytes = all_written s.modules (flat s) s.parts in
+    let new : c.advance.new.self ≡ advanced s = c.advance.ensures in
+    let appended : c.write.new.out ≡ c.args.out.now ++ bytes = if_ok c.write.result _ (c.args.out.now ++ bytes) c.args.out.now c.write.new.out c.in_ok-write.was c.write.ensures in
+    let cycle : Cycle r.modules under.stands.top (state_of r) choice (state_of (advanced s)) bytes =
+    subst (λ (t : Running). Cycle r.modules under.stands.top (state_of r) choice (state_of (advanced t)) (all_written t.modules (flat t) t.parts)) (sym under.is)
+    (run_cycle r under.stands choice under.fits) in
+    record {
+      top = under.stands.top;
+      is_top = under.stands.is_top;
+      bytes = bytes;
+      appended = appended;
+      cycle = subst (λ (t : Running). Cycle r.modules under.stands.top (state_of r) choice (state_of t) bytes) (sym new) cycle;
+    }

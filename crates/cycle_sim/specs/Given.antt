@@ -1,0 +1,32 @@
+-- What gives the inputs of the outermost module their numbers.
+use Rattle.std.specs.Prelude.{◌≡◌, ℕ, ◌+◌, ◌<◌, true, false, List, Option, Some, None, slice_get, codes}
+use Rattle.std.specs.Str.{bytes_eq}
+use Rattle.netlist.specs.declared.netlist.Source.TheVariants.{Input}
+use Rattle.netlist.specs.declared.netlist.Signal.{Signal}
+use Rattle.netlist.specs.declared.netlist.Module.{Module}
+use Rattle.verilog_meaning.specs.Names.{numbered}
+use Rattle.cycle_sim.specs.declared.settle.Feed.{Feed}
+use Rattle.cycle_sim.specs.declared.settle.Step.{Step}
+use Rattle.cycle_sim.specs.Order.{Takes}
+use Rattle.cycle_sim.specs.Stands.{IsGiven, step}
+
+abbrev pub is_pref : List ℕ → ℕ → Type 0
+is_pref name k = bytes_eq name (numbered (codes "pref") k) ≡ true
+
+-- the first of so many numbers k for which this is the name pref_k
+abbrev pub IsPrefOf : List ℕ → ℕ → Option ℕ → Type 0
+IsPrefOf name most None = (k : ℕ) → k < most → bytes_eq name (numbered (codes "pref") k) ≡ false
+IsPrefOf name most (Some j) = is_pref name j × ((k : ℕ) → k < j → bytes_eq name (numbered (codes "pref") k) ≡ false)
+
+-- a feed gives what each choice of at most so many prefs gives the input of a name
+pub record IsInput (most : ℕ) (name : List ℕ) (feed : Feed) : Type 0 where
+  pub always : (modules : List Module) → IsGiven modules most name feed
+
+-- a step gives the word at a place what a choice gives the input of a name
+pub record IsRooted (wires : List Step) (place most : ℕ) (name : List ℕ) : Type 0 where
+  pub feed : Feed
+  pub takes : Takes wires (step place feed)
+  pub given : IsInput most name feed
+
+abbrev pub AreRooted : List Step → ℕ → ℕ → List Signal → Type 0
+AreRooted wires base most signals = (x : ℕ) (s : Signal) → slice_get signals x ≡ Some s → s.source ≡ Input → IsRooted wires (base + x) most s.name

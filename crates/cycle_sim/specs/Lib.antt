@@ -1,0 +1,11 @@
+pub mod Flat
+pub mod Order
+pub mod Stands
+pub mod Print
+pub mod Running
+pub mod Tree
+pub mod Placed
+pub mod Wires
+pub mod Given
+pub mod Opened
+pub mod Right

@@ -1,0 +1,54 @@
+-- What a simulator of a net is when it is opened.
+use Rattle.std.specs.Prelude.{◌≡◌, ℕ, ◌<◌, ◌≤◌, Bool, true, false, List, [], Option, Some, None, slice_get, codes}
+use Rattle.netlist.specs.declared.netlist.Signal.{Signal}
+use Rattle.netlist.specs.declared.netlist.Module.{Module}
+use Rattle.verilog_meaning.specs.Names.{top_of}
+use Rattle.verilog_meaning.specs.Cycles.{IsSameIn, initial_state}
+use Rattle.verilog_meaning.specs.Threads.{Place, Depends}
+use Rattle.cycle_sim.specs.declared.edge.Part.{Part}
+use Rattle.cycle_sim.specs.Running.{Running, state_of, IsRight, Stands, some_write}
+
+abbrev pub writes_at : Option Module → Bool
+writes_at None = false
+writes_at (Some m) = some_write m.actions
+
+-- no part from a place on, and before another, has a $write
+abbrev pub AreQuiet : List Module → List Part → ℕ → ℕ → Type 0
+AreQuiet modules parts low high = (q : ℕ) (p : Part) → low ≤ q → q < high → slice_get parts q ≡ Some p → writes_at (slice_get modules p.module) ≡ false
+
+-- one instance at most has a $write
+abbrev pub IsOne : List Module → List Part → Type 0
+IsOne modules parts =
+    (q o : ℕ) (p other : Part) → slice_get parts q ≡ Some p → slice_get parts o ≡ Some other → writes_at (slice_get modules p.module) ≡ true → writes_at (slice_get modules other.module) ≡ true → q ≡ o
+
+-- the number of the module `top`
+pub record IsTopNumber (modules : List Module) (number : ℕ) : Type 0 where
+  pub top : Module
+  pub is_top : top_of modules ≡ Some top
+  pub stands : slice_get modules number ≡ Some top
+
+-- the signal `done`
+pub record IsDoneNumber (signals : List Signal) (number : ℕ) : Type 0 where
+  pub signal : Signal
+  pub listed : slice_get signals number ≡ Some signal
+  pub named : signal.name ≡ codes "done"
+
+-- the net with a module `top`, whose widths fit
+abbrev pub IsRightNet : List Module → Type 0
+IsRightNet modules = (top : Module) → top_of modules ≡ Some top → IsRight modules top
+
+-- a simulator of the net, in its initial state
+pub record IsOpened (modules : List Module) (prefs : ℕ) (r : Running) : Type 0 where
+  pub net : r.modules ≡ modules
+  pub prefs_are : r.prefs ≡ prefs
+  pub top : Module
+  pub is_top : top_of modules ≡ Some top
+  pub begins : IsSameIn modules top [] (initial_state modules top) (state_of r)
+  -- no signal depends on itself
+  pub loopless : (p : Place) → Depends modules top p p → ⊥
+
+-- words that stand for the net in its initial state
+pub record IsReady (r : Running) : Type 0 where
+  pub stands : Stands r
+  pub begins : IsSameIn r.modules stands.top [] (initial_state r.modules stands.top) (state_of r)
+  pub loopless : (p : Place) → Depends r.modules stands.top p p → ⊥

@@ -1,0 +1,256 @@
+// The value of a right side in one instance.
+
+ghost use Rattle.std.specs.Prelude.{◌≡◌, ℕ, ◌+◌, ◌-◌, ◌*◌, ◌/◌, ◌%◌, ◌^◌, ◌<◌, ◌≤◌, nat_lt, if◌then◌else◌, slice_index, slice_get, length};
+ghost use Rattle.hls_ints.specs.Words.{word};
+ghost use Rattle.verilog_meaning.specs.Readings.{width, value as value_of, binary, divided, signed_divided, joined, repeated, memory_words};
+ghost use Rattle.verilog_meaning.specs.Threads.{operands};
+ghost use Rattle.cycle_sim.specs.Flat.{Flat, flat_of, reading, EachOf, IsWide, IsNarrow, HasRoom};
+
+use hls_ints::{
+    v_add, v_and, v_div, v_equal, v_less, v_mul, v_not, v_or, v_rem, v_sar, v_sdiv, v_shl, v_shr,
+    v_sless, v_srem, v_sub, v_xor,
+};
+use netlist::netlist::{Memory, Module, Value};
+use sqlite_items::at;
+use verilog_tree::tree::{BinaryOperator, DivisionOperator};
+
+/// Where an instance stands: its signals from word `base` on, its memories from memory `memories` on.
+#[derive(Clone, Copy, Debug, PartialEq, Eq)]
+pub struct Spot {
+    pub base: usize,
+    pub memories: usize,
+}
+
+/// The words of all signals, of all memories, and where each memory starts.
+#[derive(Clone, Copy)]
+pub struct Now<'a> {
+    pub numbers: &'a [u64],
+    pub words: &'a [u64],
+    pub starts: &'a [u64],
+}
+
+/// The number at a place, and 0 where there is none.
+pub fn item_at(numbers: &[u64], place: usize) -> u64
+    ensures { result ≡ slice_index numbers.now place }
+{
+    match numbers.get(place) {
+        Some(number) => *number,
+        None => 0,
+    }
+}
+
+/// The number that stands so far behind a place.
+pub fn number_at(numbers: &[u64], base: usize, signal: usize) -> u64
+    ensures { result ≡ slice_index numbers.now (base + signal) }
+{
+    match base.checked_add(signal) {
+        Some(place) => item_at(numbers, place),
+        None => 0,
+    }
+}
+
+/// The word of a number in a memory that starts at a place.
+fn word_at(words: &[u64], start: u64, number: u64) -> u64
+    ensures { result ≡ slice_index words.now (start + number) }
+{
+    match start.checked_add(number) {
+        Some(place) if place < words.len() as u64 => words[place as usize],
+        _ => 0,
+    }
+}
+
+/// How many words a memory has.
+pub fn memory_size(module: &Module, memory: usize) -> u64
+    ensures { result ≡ memory_words (slice_get module.now.memories memory) }
+{
+    match at(module.memories.as_slice(), memory) {
+        Some(found) => found.initial.len() as u64,
+        None => 0,
+    }
+}
+
+pub fn width_at(module: &Module, signal: usize) -> u32
+    requires { IsWide module.now signal }
+    ensures { result ≡ width module.now signal }
+{
+    match at(module.signals.as_slice(), signal) {
+        Some(found) => found.width as u32,
+        None => 0,
+    }
+}
+
+fn binary_at(operator: BinaryOperator, width: u32, left: u64, right: u64) -> u64
+    requires low { 1 ≤ width }
+    requires high { width ≤ 64 }
+    ensures { result ≡ binary operator width left right }
+{
+    match operator {
+        BinaryOperator::Add => v_add(width, left, right),
+        BinaryOperator::Subtract => v_sub(width, left, right),
+        BinaryOperator::Multiply => v_mul(width, left, right),
+        BinaryOperator::And => v_and(width, left, right),
+        BinaryOperator::Or => v_or(width, left, right),
+        BinaryOperator::Xor => v_xor(width, left, right),
+        BinaryOperator::Equal => v_equal(width, left, right),
+        BinaryOperator::Less => v_less(width, left, right),
+        BinaryOperator::ShiftLeft => v_shl(width, left, right),
+        BinaryOperator::ShiftRight => v_shr(width, left, right),
+    }
+}
+
+fn divided_at(operator: DivisionOperator, width: u32, left: u64, right: u64) -> u64
+    requires low { 1 ≤ width }
+    requires high { width ≤ 64 }
+    ensures { result ≡ divided operator width left right }
+{
+    match operator {
+        DivisionOperator::Quotient => v_div(width, left, right),
+        DivisionOperator::Remainder => v_rem(width, left, right),
+    }
+}
+
+fn signed_divided_at(operator: DivisionOperator, width: u32, left: u64, right: u64) -> u64
+    requires low { 1 ≤ width }
+    requires high { width ≤ 64 }
+    ensures { result ≡ signed_divided operator width left right }
+{
+    match operator {
+        DivisionOperator::Quotient => v_sdiv(width, left, right),
+        DivisionOperator::Remainder => v_srem(width, left, right),
+    }
+}
+
+fn selected(number: u64, high: u64, low: u64) -> u64
+    requires order { low ≤ high }
+    requires room { high < 64 }
+    ensures { result ≡ (number / 2 ^ low) % 2 ^ (high + 1 - low) }
+{
+    let above = number / (1u64 << low);
+    (above as u128 % (1u128 << (high + 1 - low))) as u64
+}
+
+/// A number of so many bits behind those above, modulo 2 to the 64.
+fn beside(above: u64, width: u32, number: u64) -> u64
+    requires { width ≤ 64 }
+    ensures { result ≡ word 64 (above * 2 ^ width + number) }
+{
+    (((above as u128) * (1u128 << width) + number as u128) % (1u128 << 64)) as u64
+}
+
+fn joined_at(module: &Module, spot: Spot, now: &Now, parts: &[usize]) -> u64
+    requires { EachOf (IsWide module.now) parts.now }
+    ensures { result ≡ word 64 (joined module.now (reading spot (flat_of now.now)) parts.now 0) }
+{
+    let mut above = 0;
+    for part in parts {
+        let number = number_at(now.numbers, spot.base, *part);
+        above = beside(above, width_at(module, *part), number);
+    }
+    above
+}
+
+fn repeated_at(count: u64, width: u32, number: u64) -> u64
+    requires { width ≤ 64 }
+    ensures { result ≡ word 64 (repeated count width number) }
+{
+    let mut above = 0;
+    for _copy in 0..count {
+        above = beside(above, width, number);
+    }
+    above
+}
+
+fn read_at(module: &Module, spot: Spot, now: &Now, memory: usize, address: u64) -> u64
+    ensures { result ≡ (if nat_lt address (memory_words (slice_get module.now.memories memory))
+        then slice_index now.now.words.now (slice_index now.now.starts.now (spot.memories + memory) + address) else 0) }
+{
+    if address < memory_size(module, memory) {
+        word_at(
+            now.words,
+            number_at(now.starts, spot.memories, memory),
+            address,
+        )
+    } else {
+        0
+    }
+}
+
+/// The value of a right side in the instance at a spot, modulo 2 to the 64.
+pub fn value_at(module: &Module, spot: Spot, now: &Now, value: &Value) -> u64
+    requires { IsNarrow module.now value.now }
+    ensures { result ≡ word 64 (value_of module.now (reading spot (flat_of now.now)) value.now) }
+{
+    match value {
+        Value::Copy(of) => number_at(now.numbers, spot.base, *of),
+        Value::Constant(number) => *number,
+        Value::BitwiseNot(of) => {
+            let width = width_at(module, *of);
+            v_not(width, number_at(now.numbers, spot.base, *of))
+        }
+        Value::Binary {
+            operator,
+            left,
+            right,
+        } => {
+            let width = width_at(module, *left);
+            let first = number_at(now.numbers, spot.base, *left);
+            let second = number_at(now.numbers, spot.base, *right);
+            binary_at(*operator, width, first, second)
+        }
+        Value::SignedLess { left, right } => {
+            let width = width_at(module, *left);
+            let first = number_at(now.numbers, spot.base, *left);
+            let second = number_at(now.numbers, spot.base, *right);
+            v_sless(width, first, second)
+        }
+        Value::ArithmeticShiftRight { left, right } => {
+            let width = width_at(module, *left);
+            let first = number_at(now.numbers, spot.base, *left);
+            let second = number_at(now.numbers, spot.base, *right);
+            v_sar(width, first, second)
+        }
+        Value::Conditional {
+            condition,
+            if_true,
+            if_false,
+        } => {
+            if number_at(now.numbers, spot.base, *condition) == 0 {
+                number_at(now.numbers, spot.base, *if_false)
+            } else {
+                number_at(now.numbers, spot.base, *if_true)
+            }
+        }
+        Value::Division {
+            operator,
+            left,
+            right,
+        } => {
+            let width = width_at(module, *left);
+            let first = number_at(now.numbers, spot.base, *left);
+            let second = number_at(now.numbers, spot.base, *right);
+            divided_at(*operator, width, first, second)
+        }
+        Value::SignedDivision {
+            operator,
+            left,
+            right,
+        } => {
+            let width = width_at(module, *left);
+            let first = number_at(now.numbers, spot.base, *left);
+            let second = number_at(now.numbers, spot.base, *right);
+            signed_divided_at(*operator, width, first, second)
+        }
+        Value::MemoryRead { memory, address } => {
+            let place = number_at(now.numbers, spot.base, *address);
+            read_at(module, spot, now, *memory, place)
+        }
+        Value::Select { of, high, low } => {
+            selected(number_at(now.numbers, spot.base, *of), *high, *low)
+        }
+        Value::Concatenation(parts) => joined_at(module, spot, now, parts.as_slice()),
+        Value::Replication { count, of } => {
+            let width = width_at(module, *of);
+            repeated_at(*count, width, number_at(now.numbers, spot.base, *of))
+        }
+    }
+}

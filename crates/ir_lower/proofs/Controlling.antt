@@ -1,0 +1,201 @@
+-- Where code with labels goes on.
+use Rattle.std.proofs.Common.{◌≡◌, ℕ, suc, ◌+◌, ◌<◌, ◌≤◌, Bool, true, false, List, [], ◌∷◌, ◌++◌, length, ℤ, Option, Some, None, refl, sym, ap}
+use Rattle.std.proofs.Common.{◌∙◌, subst, inl, inr, arith, append-nil, append_assoc}
+use Rattle.std.specs.Prelude.{slice_get, slice_set, ◌⊎◌}
+use Rattle.thread_semantics.specs.Work.{Work}
+use Rattle.thread_semantics.specs.State.{Frame}
+use Rattle.block_ir.specs.declared.operand.Operand.{Operand}
+use Rattle.block_ir.specs.declared.block.Next.{Next}
+use Rattle.block_ir.specs.declared.block.Next.TheVariants.{Jump, Branch}
+use Rattle.block_ir.specs.declared.block.Block.{Block}
+use Rattle.block_ir.specs.declared.code.Stage.{Stage}
+use Rattle.block_ir.specs.declared.code.Stage.TheVariants as stage
+use Rattle.block_ir.specs.Run.{Running, leads_to, variables_after, stage_after}
+use Rattle.code_following.specs.Following.{Follows}
+use Rattle.ir_lower.specs.declared.homes.Home.{Home}
+use Rattle.ir_lower.specs.declared.homes.Home.TheVariants as home
+use Rattle.ir_lower.specs.declared.stages.Place.{Place}
+use Rattle.ir_lower.specs.declared.stages.Place.TheVariants as place
+use Rattle.ir_lower.specs.declared.stages.Stages.{Stages}
+use Rattle.ir_lower.specs.declared.lowering.Lowering.{Lowering}
+use Rattle.ir_lower.specs.Evaluating.{local_value}
+use Rattle.ir_lower.specs.Closing.{IsAmong, HasNoted, IsFresh, Closes}
+use Rattle.ir_lower.specs.Printing.{held_by}
+use Rattle.ir_lower.specs.Resuming.{home_value, Keeping, nothing_kept, IsMid, InBlock, AtFresh, IsSound}
+use Rattle.ir_lower.specs.Apart.{IsGood}
+use Rattle.ir_lower.specs.Labels.{led_next, led_stage, led, IsWhole, Pushes, Settles}
+use Rattle.ir_lower.specs.Control.{marked, placed, Branches, EndsAt, LeadsOn, EndsBusy, Jumps, BeginsHere, BeginsAfter, Begins, Whole, IsIn, AtLabelUpTo, GoesOn}
+use Rattle.ir_lower.proofs.Cells.{set_length}
+use Rattle.ir_lower.proofs.Finals.{among_left, among_last}
+use Rattle.ir_lower.proofs.Resuming.{same_function, stage_at, fresh_of_in}
+
+led_append : (stage_of : ℕ → ℕ) (xs ys : List Stage) → led stage_of (xs ++ ys) ≡ led stage_of xs ++ led stage_of ys
+led_append stage_of [] ys = refl
+led_append stage_of (x ∷ xs) ys = ap (λ l. led_stage stage_of x ∷ l) (led_append stage_of xs ys)
+
+pub led_length : (stage_of : ℕ → ℕ) (xs : List Stage) → length (led stage_of xs) ≡ length xs
+led_length stage_of [] = refl
+led_length stage_of (x ∷ xs) = ap suc (led_length stage_of xs)
+
+-- what is whole after a change was whole before it
+module _ (stage_of : ℕ → ℕ) (all : List Stage) (old new : Stages) (whole : IsWhole stage_of all new) where
+  pub whole_pushed : (s : Stage) → Pushes s old new → IsWhole stage_of all old
+  whole_pushed s p = record {
+    part = record {
+      more = led_stage stage_of s ∷ whole.part.more;
+      is =
+          whole.part.is ∙ ap (λ l. led stage_of l ++ whole.part.more) p.stages
+          ∙ ap (λ l. l ++ whole.part.more) (led_append stage_of old.stages.items (s ∷ []))
+          ∙ append_assoc (led stage_of old.stages.items) (led_stage stage_of s ∷ []) whole.part.more;
+    };
+    obeys = p.kept stage_of whole.obeys;
+  }
+
+  -- and the stage is there
+  pub pushed_at : (s : Stage) → Pushes s old new → slice_get all (length old.stages.items) ≡ Some (led_stage stage_of s)
+  pushed_at s p =
+      ap (slice_get all) (sym (led_length stage_of old.stages.items))
+      ∙ stage_at (led stage_of old.stages.items) whole.part.more all (led_stage stage_of s)
+      (whole.part.is ∙ ap (λ l. led stage_of l ++ whole.part.more) p.stages ∙ ap (λ l. l ++ whole.part.more) (led_append stage_of old.stages.items (s ∷ [])))
+
+  pub whole_settled : (p : Place) → Settles p old new → IsWhole stage_of all old
+  whole_settled p s = record {
+    part = record { more = whole.part.more; is = whole.part.is ∙ ap (λ v. led stage_of v.items ++ whole.part.more) s.stages };
+    obeys = s.kept stage_of whole.obeys;
+  }
+
+pub goes_of_in : (W : Whole) (homes : List Home) (Kept : Keeping) (size n : ℕ) (c : Lowering) (k : List Work) → IsSound size c.block →
+    InBlock W.setting homes Kept n (length c.stages.stages.items) c.block k →
+    ((label : ℕ) → IsAmong c.stages.here label → W.stage_of label ≡ length c.stages.stages.items) → GoesOn W homes Kept n c k
+goes_of_in W homes Kept size n c k sound inside here = record {
+  fresh = λ idle label among.
+      subst (λ l. AtFresh W.setting homes Kept n l k) (sym (here label among))
+      (fresh_of_in W.setting homes Kept (size + 4) n (length c.stages.stages.items) c.block k (sound.fresh idle) inside);
+  busy = λ h. inside;
+  here = λ h label among. here label among;
+}
+
+module _ (W : Whole) (homes : List Home) (n : ℕ) (k : List Work) where
+  -- the block at hand ends, and where it leads the thread goes on
+  module _ (next : Next) (c new : Lowering) (noted : HasNoted c.block) (busy : 0 < c.block.steps) (e : EndsAt next c new) (whole : IsIn W new) where
+    abbrev final : Block
+    final = record e.block { next = led_next W.stage_of e.block.next }
+
+    module _ (variables : ℕ → ℤ) (r : Running) where
+      after_is : (x : ℕ) → variables_after final variables r x ≡ held_by c.block.current variables r.values x
+      after_is x = e.closes.finals noted variables r.values x
+
+      pub after_local : (x j : ℕ) (o : Option Home) → home_value o (variables_after final variables r) r.arrays x j ≡ local_value o c.block.current variables r x j
+      after_local x j (Some (home.Array a)) = refl
+      after_local x j (Some (home.Variable i)) = after_is i
+      after_local x j None = after_is x
+
+    pub ends_goes_on : (Kept : Keeping) →
+        ((j : ℕ) → j < n → (variables : ℕ → ℤ) (r : Running) (f : Frame) (globals : List (List ℤ)) → f.work ≡ k → IsMid W.setting homes Kept c.block variables r f globals →
+        Follows W.setting.program W.setting.stages j (stage_after final variables r) (variables_after final variables r) r.arrays (f ∷ [])) →
+        GoesOn W homes Kept n c k
+    ends_goes_on Kept lands = record {
+      fresh = λ idle. absurd (omega arith);
+      busy = λ h. record {
+        block = final;
+        at = pushed_at W.stage_of W.setting.stages c.stages new.stages whole (stage.Run e.block) e.pushes;
+        rest = [];
+        operations = e.closes.operations ∙ sym (append-nil c.block.operations);
+        count = 0;
+        steps = (let s = e.closes.steps in omega arith);
+        goes = λ j lt variables r f globals is mid. (refl, lands j lt variables r f globals is mid);
+      };
+      here = λ h label among. e.pushes.placed W.stage_of whole.obeys label among;
+    }
+
+    pub jump_lands : (Kept : Keeping) (label : ℕ) → next ≡ Jump label → ((j : ℕ) → j < n → AtFresh W.setting homes Kept j (W.stage_of label) k) → GoesOn W homes Kept n c k
+    jump_lands Kept label is at = ends_goes_on Kept (λ j lt variables r f globals work mid.
+        subst (λ l. Follows W.setting.program W.setting.stages j l (variables_after final variables r) r.arrays (f ∷ []))
+        (ap (λ (z : Next). leads_to variables r.values (led_next W.stage_of z)) (sym (e.closes.next_ ∙ is)))
+        (at j lt (variables_after final variables r) r.arrays f work mid.shape
+        (λ x i v q. after_local variables r x i (slice_get homes x) ∙ mid.holds.locals x i v q)
+        (subst (λ vs. Kept vs f.kept) (same_function (held_by c.block.current variables r.values) (variables_after final variables r) (λ x. sym (after_is variables r x))) mid.kept)))
+
+  -- JUMP: the place at hand leads to the label
+  pub jump_goes_on : (label : ℕ) (old new : Lowering) → HasNoted old.block → Jumps label old new → IsIn W new → AtLabelUpTo W homes n label k → GoesOn W homes nothing_kept n old k
+  jump_goes_on label old new noted jumps whole at = by jumps.way
+    where
+      by : LeadsOn label (marked label old) new ⊎ EndsBusy label (marked label old) new → GoesOn W homes nothing_kept n old k
+      by (inl p) = record {
+        fresh = λ idle h among.
+            subst (λ l. AtFresh W.setting homes nothing_kept n l k) (sym (p.settles.placed W.stage_of whole.obeys h among)) (at n (omega arith));
+        busy = λ h. absurd (let idle = p.idle in omega arith);
+        here = λ h. absurd (let idle = p.idle in omega arith);
+      }
+      by (inr p) =
+          let g = jump_lands (Jump label) (marked label old) new noted p.busy p.ends whole nothing_kept label refl (λ j lt. at j (omega arith)) in
+          record { fresh = g.fresh; busy = g.busy; here = g.here }
+
+  -- BEGIN: where the thread goes on at the label, so it does at the place before it, and wherever the label is led to
+  pub begin_at : (Kept : Keeping) (label : ℕ) (old new : Lowering) → new.block.steps ≡ 0 → Begins label old new → GoesOn W homes Kept n new k →
+      AtFresh W.setting homes Kept n (W.stage_of label) k
+  begin_at Kept label old new idle (inl p) g =
+      g.fresh idle label (subst (λ (z : Lowering). IsAmong z.stages.here label) (sym p.same) (among_last old.stages.here label))
+  begin_at Kept label old new idle (inr p) g =
+      g.fresh idle label (subst (λ (z : Lowering). IsAmong z.stages.here label) (sym p.same) (among_last p.mid.stages.here label))
+
+-- the whole is whole before a label is bound
+whole_placed : (W : Whole) (label : ℕ) (c : Lowering) → IsIn W (placed label c) → IsIn W c
+whole_placed W label c whole = record { part = record { more = whole.part.more; is = whole.part.is }; obeys = whole.obeys }
+
+pub begun_idle : (label size : ℕ) (old new : Lowering) → IsGood size old → Begins label old new → new.block.steps ≡ 0
+begun_idle label size old new good (inl p) = ap (λ (z : Lowering). z.block.steps) p.same ∙ by old.reached refl
+  where
+    by : (on : Bool) → old.reached ≡ on → old.block.steps ≡ 0
+    by true e = p.idle e
+    by false e = good.idle e
+begun_idle label size old new good (inr p) = ap (λ (z : Lowering). z.block.steps) p.same ∙ (p.ends.ends.left good.sound.noted).steps
+
+-- where the thread goes on at a place that has got a label, so it did before
+pub begin_goes_on : (W : Whole) (homes : List Home) (n : ℕ) (k : List Work) (Kept : Keeping) (label size : ℕ) (old new : Lowering) → IsGood size old → old.reached ≡ true → Begins label old new →
+    IsIn W new → ((j : ℕ) → j ≤ n → GoesOn W homes Kept j new k) → GoesOn W homes Kept n old k
+begin_goes_on W homes n k Kept label size old new good reached (inl p) whole g = record {
+  fresh = λ idle h among.
+      (g n (omega arith)).fresh (begun_idle label size old new good (inl p)) h
+      (subst (λ (z : Lowering). IsAmong z.stages.here h) (sym p.same) (among_left old.stages.here label h among));
+  busy = λ h. absurd (let idle = p.idle reached in omega arith);
+  here = λ h. absurd (let idle = p.idle reached in omega arith);
+}
+begin_goes_on W homes n k Kept label size old new good reached (inr p) whole g =
+    let whole_mid : IsIn W p.mid = whole_placed W label p.mid (subst (IsIn W) p.same whole) in
+    let h =
+    jump_lands W homes n k (Jump label) (marked label old) p.mid good.sound.noted p.ends.busy p.ends.ends whole_mid Kept label refl
+    (λ j lt. begin_at W homes j k Kept label old new (begun_idle label size old new good (inr p)) (inr p) (g j (omega arith))) in
+    record { fresh = h.fresh; busy = h.busy; here = h.here }
+
+-- What the code of the parts gives.
+
+pub ends_at : (next : Next) (old new : Lowering) (block : Block) → Closes old.block next block → (HasNoted old.block → IsFresh (length old.block.current) new.block) →
+    Pushes (stage.Run block) old.stages new.stages → new ≡ record old { block = new.block; stages = new.stages; reached = false } → EndsAt next old new
+ends_at next old new block closes left pushes same = record { block = block; closes = closes; left = left; pushes = pushes; same = same }
+
+pub jumps_idle : (label : ℕ) (old marked_ new : Lowering) → label < length old.stages.used → marked_ ≡ marked label old → marked_.block.steps ≡ 0 → Settles (place.Same label) marked_.stages new.stages →
+    new ≡ record marked_ { stages = new.stages; reached = false } → Jumps label old new
+jumps_idle label old marked_ new known is idle settles same =
+    record { known = known; way = inl (subst (λ (z : Lowering). LeadsOn label z new) is (record { idle = idle; settles = settles; same = same })) }
+
+pub jumps_busy : (label : ℕ) (old marked_ new : Lowering) → label < length old.stages.used → marked_ ≡ marked label old → (marked_.block.steps ≡ 0 → ⊥) → EndsAt (Jump label) marked_ new → Jumps label old new
+jumps_busy label old marked_ new known is busy ends =
+    record { known = known; way = inr (subst (λ (z : Lowering). EndsBusy label z new) is (record { busy = omega arith; ends = ends })) }
+
+pub begins_here : (label : ℕ) (old marked_ new : Lowering) → marked_ ≡ marked label old → (marked_.reached ≡ true → marked_.block.steps ≡ 0) → new ≡ placed label marked_ → Begins label old new
+begins_here label old marked_ new is idle same = inl (subst (λ (z : Lowering). BeginsHere label z new) is (record { idle = idle; same = same }))
+
+pub begins_after : (label : ℕ) (old marked_ mid new : Lowering) → marked_ ≡ marked label old → marked_.reached ≡ true → (marked_.block.steps ≡ 0 → ⊥) → EndsAt (Jump label) marked_ mid →
+    new ≡ placed label mid → Begins label old new
+begins_after label old marked_ mid new is reached busy ends same =
+    inr (subst (λ (z : Lowering). BeginsAfter label z new) is (record { reached = reached; mid = mid; ends = record { busy = omega arith; ends = ends }; same = same }))
+
+pub branches_at : (test : Operand) (nonzero otherwise : ℕ) (old both new : Lowering) → both ≡ marked otherwise (marked nonzero old) → nonzero < length old.stages.used →
+    otherwise < length (slice_set old.stages.used nonzero true) →
+    EndsAt (Branch test nonzero otherwise) both new → Branches test nonzero otherwise old new
+branches_at test nonzero otherwise old both new is first second ends = record {
+  first = first;
+  second = (let l = set_length old.stages.used nonzero true in omega (arith, l, second));
+  ends = subst (λ (z : Lowering). EndsAt (Branch test nonzero otherwise) z new) is ends;
+}

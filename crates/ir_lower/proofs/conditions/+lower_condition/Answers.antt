@@ -1,0 +1,32 @@
+use Rattle.std.proofs.Common.{sym, ap, ◌∙◌}
+use Rattle.c_program.specs.Plain.{condition_of, expression_of}
+use Rattle.c_program.specs.Tree.{Condition}
+use Rattle.ir_lower.proofs.Deciding.{operand_decides, opposite_decides, both_decides, either_decides}
+use Rattle.ir_lower.proofs.conditions.+lower_condition.Goals as goal
+
+pub returns-in_ok-lower_condition-in-Both-2 : goal.returns-in_ok-lower_condition-in-Both-2
+returns-in_ok-lower_condition-in-Both-2 t c =
+    both_decides (condition_of c.args.condition.now) (condition_of c.deref.result.now) (condition_of c.deref-in-Both.result.now) c.in_ok-next-in-Both.next c.args.if_true c.args.if_false
+    c.args.code.now c.new_label.new.self c.lower_condition.new.code c.begin.new.self c.lower_condition-in-Both.new.code
+    (ap condition_of c.in-Both.is ∙ ap (λ z. Condition.Both (condition_of z) (condition_of c.in-Both.second.value)) (sym c.deref.ensures)
+    ∙ ap (λ z. Condition.Both (condition_of c.deref.result.now) (condition_of z)) (sym c.deref-in-Both.ensures))
+    c.in_ok-next-in-Both.ensures c.in_ok-lower_condition-in-Both.ensures c.in_ok-begin-in-Both.ensures c.in_ok-lower_condition-in-Both-2.ensures
+
+pub returns-in_ok-lower_condition-in-Either-2 : goal.returns-in_ok-lower_condition-in-Either-2
+returns-in_ok-lower_condition-in-Either-2 t c =
+    either_decides (condition_of c.args.condition.now) (condition_of c.deref-in-Either.result.now) (condition_of c.deref-in-Either-2.result.now)
+    c.in_ok-next-in-Either.next c.args.if_true c.args.if_false
+    c.args.code.now c.new_label-in-Either.new.self c.lower_condition-in-Either.new.code c.begin-in-Either.new.self c.lower_condition-in-Either-2.new.code
+    (ap condition_of c.in-Either.is ∙ ap (λ z. Condition.Either (condition_of z) (condition_of c.in-Either.second.value)) (sym c.deref-in-Either.ensures)
+    ∙ ap (λ z. Condition.Either (condition_of c.deref-in-Either.result.now) (condition_of z)) (sym c.deref-in-Either-2.ensures))
+    c.in_ok-next-in-Either.ensures c.in_ok-lower_condition-in-Either.ensures c.in_ok-begin-in-Either.ensures c.in_ok-lower_condition-in-Either-2.ensures
+
+pub returns-in_ok-lower_condition-in-Opposite : goal.returns-in_ok-lower_condition-in-Opposite
+returns-in_ok-lower_condition-in-Opposite t c =
+    opposite_decides (condition_of c.args.condition.now) (condition_of c.deref-in-Opposite.result.now) c.args.if_true c.args.if_false c.args.code.now c.lower_condition-in-Opposite.new.code
+    (ap condition_of c.in-Opposite.is ∙ ap (λ z. Condition.Opposite (condition_of z)) (sym c.deref-in-Opposite.ensures)) c.in_ok-lower_condition-in-Opposite.ensures
+
+pub returns-in_ok-lower_test-in-Operand : goal.returns-in_ok-lower_test-in-Operand
+returns-in_ok-lower_test-in-Operand t c =
+    operand_decides (condition_of c.args.condition.now) c.in-Operand.field-0 (expression_of c.in-Operand.operand) c.args.if_true c.args.if_false c.args.code.now c.lower_test.new.code
+    (ap condition_of c.in-Operand.is) c.in_ok-lower_test-in-Operand.ensures

@@ -1,0 +1,5 @@
+use Rattle.ir_lower.proofs.Stepping.{continue_at}
+use Rattle.ir_lower.proofs.simple.lower_continue.Goals as goal
+
+pub returns : goal.returns
+returns c = continue_at c.args.around c.in-Some.labels c.args.code.now c.jump.new.self c.in-Some.is c.in_ok-jump.ensures

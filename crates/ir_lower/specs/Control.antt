@@ -1,0 +1,202 @@
+-- Code in the making whose stages lead to labels, and what of a thread's steps its whole does from there on.
+use Rattle.std.specs.Prelude.{◌≡◌, ℕ, ◌+◌, ◌<◌, ◌≤◌, Bool, true, false, List, [], ◌∷◌, ◌++◌, length, slice_set, ◌⊎◌}
+use Rattle.c_program.specs.Tree.{Expression, Condition}
+use Rattle.c_program.specs.Weight.{expression_weight, condition_weight}
+use Rattle.c_program.specs.Resolved.{IsExpression, IsCondition}
+use Rattle.thread_semantics.specs.Work.{Work, Ask, first_operand, waiting_parts, decided}
+use Rattle.block_ir.specs.declared.operand.Operand.{Operand}
+use Rattle.block_ir.specs.declared.block.Next.{Next}
+use Rattle.block_ir.specs.declared.block.Next.TheVariants.{Jump, Branch}
+use Rattle.block_ir.specs.declared.block.Block.{Block}
+use Rattle.block_ir.specs.declared.code.Act.{Act}
+use Rattle.block_ir.specs.declared.code.Act.TheVariants.{Return}
+use Rattle.block_ir.specs.declared.code.Stage.TheVariants as stage
+use Rattle.ir_lower.specs.declared.homes.Home.{Home}
+use Rattle.ir_lower.specs.declared.stages.Place.TheVariants as place
+use Rattle.ir_lower.specs.declared.stages.Stages.{Stages}
+use Rattle.ir_lower.specs.declared.lowering.Lowering.{Lowering}
+use Rattle.ir_lower.specs.Closing.{IsAmong, HasNoted, IsFresh, Closes}
+use Rattle.ir_lower.specs.Resuming.{Setting, Keeping, nothing_kept, InBlock, AtFresh, IsSound}
+use Rattle.ir_lower.specs.Typing.{Typing, Fits}
+use Rattle.ir_lower.specs.Labels.{Settles, Pushes, IsWhole, is_used}
+use Rattle.ir_lower.specs.Apart.{IsTypedNow, IsGood}
+
+-- What the parts of the code do.
+
+-- something leads to the label
+abbrev pub marked : ℕ → Lowering → Lowering
+marked label c = record c { stages = record c.stages { used = slice_set c.stages.used label true } }
+
+-- the label is one of the place at hand
+abbrev pub placed : ℕ → Lowering → Lowering
+placed label c = record c { stages = record c.stages { here = c.stages.here ++ label ∷ [] }; reached = true }
+
+-- a new label, which has no place yet
+abbrev pub with_label : Lowering → Lowering
+with_label c = record c { stages = record c.stages { places = c.stages.places ++ place.Ahead ∷ []; used = c.stages.used ++ false ∷ [] } }
+
+-- the block at hand is a stage, which leads there
+pub record EndsAt (next : Next) (old new : Lowering) : Type 0 where
+  pub block : Block
+  pub closes : Closes old.block next block
+  pub left : HasNoted old.block → IsFresh (length old.block.current) new.block
+  pub pushes : Pushes (stage.Run block) old.stages new.stages
+  pub same : new ≡ record old { block = new.block; stages = new.stages; reached = false }
+
+-- the block at hand does nothing yet: its labels lead where that label does
+pub record LeadsOn (label : ℕ) (old new : Lowering) : Type 0 where
+  pub idle : old.block.steps ≡ 0
+  pub settles : Settles (place.Same label) old.stages new.stages
+  pub same : new ≡ record old { stages = new.stages; reached = false }
+
+pub record EndsBusy (label : ℕ) (old new : Lowering) : Type 0 where
+  pub busy : 0 < old.block.steps
+  pub ends : EndsAt (Jump label) old new
+
+-- it is gone on at the label, which is known
+pub record Jumps (label : ℕ) (old new : Lowering) : Type 0 where
+  pub known : label < length old.stages.used
+  pub way : LeadsOn label (marked label old) new ⊎ EndsBusy label (marked label old) new
+
+-- the label's place is the place at hand: of the block at hand, where that does nothing yet, or of what comes after it
+pub record BeginsHere (label : ℕ) (old new : Lowering) : Type 0 where
+  pub idle : old.reached ≡ true → old.block.steps ≡ 0
+  pub same : new ≡ placed label old
+
+pub record BeginsAfter (label : ℕ) (old new : Lowering) : Type 0 where
+  pub reached : old.reached ≡ true
+  pub mid : Lowering
+  pub ends : EndsBusy label old mid
+  pub same : new ≡ placed label mid
+
+abbrev pub Begins : ℕ → Lowering → Lowering → Type 0
+Begins label old new = BeginsHere label (marked label old) new ⊎ BeginsAfter label (marked label old) new
+
+-- the label's place is the place at hand, where something leads to it
+pub record BindsNothing (label : ℕ) (old new : Lowering) : Type 0 where
+  pub unused : is_used old.stages.used label ≡ false
+  pub same : new ≡ old
+
+pub record BindsUsed (label : ℕ) (old new : Lowering) : Type 0 where
+  pub used : is_used old.stages.used label ≡ true
+  pub begins : Begins label old new
+
+abbrev pub Binds : ℕ → Lowering → Lowering → Type 0
+Binds label old new = BindsNothing label old new ⊎ BindsUsed label old new
+
+-- it is gone on at the label, if the place at hand is reached
+pub record LeapsNot (old new : Lowering) : Type 0 where
+  pub off : old.reached ≡ false
+  pub same : new ≡ old
+
+pub record LeapsTo (label : ℕ) (old new : Lowering) : Type 0 where
+  pub on : old.reached ≡ true
+  pub jumps : Jumps label old new
+
+abbrev pub Leaps : ℕ → Lowering → Lowering → Type 0
+Leaps label old new = LeapsNot old new ⊎ LeapsTo label old new
+
+-- the block at hand ends, unless it does nothing yet, and leads to the next stage
+pub record BeginsIdle (old new : Lowering) : Type 0 where
+  pub idle : old.block.steps ≡ 0
+  pub same : new ≡ old
+
+pub record BeginsBusy (old new : Lowering) : Type 0 where
+  pub busy : 0 < old.block.steps
+  pub next : ℕ
+  pub begins : Begins next (with_label old) new
+
+abbrev pub BeginsStage : Lowering → Lowering → Type 0
+BeginsStage old new = BeginsIdle old new ⊎ BeginsBusy old new
+
+-- and then this act is a stage, which leads to the place after it
+pub record ActsAt (act : Act) (old new : Lowering) : Type 0 where
+  pub mid : Lowering
+  pub begins : BeginsStage old mid
+  pub next : ℕ
+  pub pushed : Stages
+  pub pushes : Pushes (stage.Act act next) (with_label mid).stages pushed
+  pub same : new ≡ record mid { stages = record pushed { here = pushed.here ++ next ∷ [] } }
+
+-- and then the return is
+pub record EndsCall (old new : Lowering) : Type 0 where
+  pub mid : Lowering
+  pub begins : BeginsStage old mid
+  pub pushes : Pushes (stage.Act Return 0) mid.stages new.stages
+  pub same : new ≡ record mid { stages = new.stages; reached = false }
+
+-- the block at hand is a stage, which leads to one of the two labels; both are known
+pub record Branches (test : Operand) (nonzero otherwise : ℕ) (old new : Lowering) : Type 0 where
+  pub first : nonzero < length old.stages.used
+  pub second : otherwise < length old.stages.used
+  pub ends : EndsAt (Branch test nonzero otherwise) (marked otherwise (marked nonzero old)) new
+
+-- What the whole does.
+
+-- the whole code, and where its labels lead
+pub record Whole : Type 0 where
+  pub setting : Setting
+  pub stage_of : ℕ → ℕ
+
+abbrev pub IsIn : Whole → Lowering → Type 0
+IsIn W c = IsWhole W.stage_of W.setting.stages c.stages
+
+module _ (W : Whole) (homes : List Home) where
+  -- a call with this work goes on at the label
+  abbrev pub AtLabel : ℕ → ℕ → List Work → Type 0
+  AtLabel n label k = AtFresh W.setting homes nothing_kept n (W.stage_of label) k
+
+  abbrev pub AtLabelUpTo : ℕ → ℕ → List Work → Type 0
+  AtLabelUpTo n label k = (j : ℕ) → j ≤ n → AtLabel j label k
+
+  -- a call with this work goes on at the place at hand
+  pub record GoesOn (Kept : Keeping) (n : ℕ) (c : Lowering) (k : List Work) : Type 0 where
+    pub fresh : c.block.steps ≡ 0 → (label : ℕ) → IsAmong c.stages.here label → AtFresh W.setting homes Kept n (W.stage_of label) k
+    pub busy : 0 < c.block.steps → InBlock W.setting homes Kept n (length c.stages.stages.items) c.block k
+    pub here : 0 < c.block.steps → (label : ℕ) → IsAmong c.stages.here label → W.stage_of label ≡ length c.stages.stages.items
+
+-- Conditions.
+
+abbrev pub side : ℕ → ℕ → Bool → ℕ
+side nonzero otherwise true = nonzero
+side nonzero otherwise false = otherwise
+
+-- what every part keeps
+pub record Keeps (old new : Lowering) : Type 0 where
+  pub homes : new.homes ≡ old.homes
+  pub variables : new.variables ≡ old.variables
+  pub arrays : new.arrays ≡ old.arrays
+  pub words : new.act_operands ≡ old.act_operands
+  pub sound : (size : ℕ) → length old.variables ≡ size → IsSound size old.block → IsSound size new.block
+  pub whole : (W : Whole) → IsIn W new → IsIn W old
+  pub used : (label : ℕ) → is_used old.stages.used label ≡ true → is_used new.stages.used label ≡ true
+
+-- the code stays typed
+abbrev pub StaysTyped : ℕ → (Typing → Type 0) → Lowering → Lowering → Type 0
+StaysTyped weight Is old new =
+    (S : Typing) (w size : ℕ) → Fits S old.homes → Is S → IsGood size old → IsTypedNow S w old → IsTypedNow S (w + weight) new
+
+-- code was added that decides the first operand of a condition, which waits for it in these parts: where each truth is
+-- decided at its label, the condition is at the place before the code
+pub record Tests (e : Expression) (nonzero otherwise : ℕ) (old new : Lowering) : Type 0 where
+  pub keeps : Keeps old new
+  pub site : new.site ≡ old.site
+  pub typed : StaysTyped (expression_weight e + 1) (λ S. IsExpression S.program S.function e) old new
+  pub ends : new.reached ≡ false
+  pub idle : (size : ℕ) → length old.variables ≡ size → IsSound size old.block → new.block.steps ≡ 0
+  pub marks : (truth : Bool) → is_used new.stages.used (side nonzero otherwise truth) ≡ true
+  pub asks : (W : Whole) (homes : List Home) (size n : ℕ) (parts : List Work) → old.homes ≡ homes → length old.variables ≡ size → IsIn W new → IsSound size old.block →
+      ((j : ℕ) → j < n → (truth : Bool) → AtLabel W homes j (side nonzero otherwise truth) (decided truth parts)) →
+      (c : Condition) (k : List Work) → first_operand c ≡ e → waiting_parts c k ≡ parts → GoesOn W homes nothing_kept n old (Ask c ∷ k)
+
+-- the same of a whole condition
+pub record Decides (d : Condition) (if_true if_false : ℕ) (old new : Lowering) : Type 0 where
+  pub keeps : Keeps old new
+  pub site : new.site ≡ old.site
+  pub typed : StaysTyped (condition_weight d + 1) (λ S. IsCondition S.program S.function d) old new
+  pub ends : new.reached ≡ false
+  pub idle : (size : ℕ) → length old.variables ≡ size → IsSound size old.block → new.block.steps ≡ 0
+  pub marks : (truth : Bool) → is_used new.stages.used (side if_true if_false truth) ≡ true
+  pub asks : (W : Whole) (homes : List Home) (size n : ℕ) (k : List Work) → old.homes ≡ homes → length old.variables ≡ size → IsIn W new → IsSound size old.block →
+      ((j : ℕ) → j < n → (truth : Bool) → AtLabel W homes j (side if_true if_false truth) (decided truth k)) →
+      (c : Condition) (l : List Work) → first_operand c ≡ first_operand d → waiting_parts c l ≡ waiting_parts d k → GoesOn W homes nothing_kept n old (Ask c ∷ l)

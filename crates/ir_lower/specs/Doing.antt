@@ -1,0 +1,206 @@
+-- What the code of a statement does.
+use Rattle.std.specs.Prelude.{◌≡◌, ℕ, ◌+◌, ◌≤◌, Bool, true, false, List, [], ◌++◌, ◌∷◌, length, map, take, replicate, sum_by, Option, Some, None, slice_get, ◌⊎◌}
+use Rattle.hls_ints.specs.Types.{long_int}
+use Rattle.c_program.specs.declared.tree.Function.{Function as FunctionTree}
+use Rattle.c_program.specs.declared.tree.LocalVariable.{LocalVariable}
+use Rattle.c_program.specs.declared.tree.Program.{Program as ProgramTree}
+use Rattle.c_program.specs.Plain.{function_of, statement_of}
+use Rattle.c_program.specs.Tree.{Condition, Statement, Function}
+use Rattle.c_program.specs.Limits.{print_count}
+use Rattle.c_program.specs.Resolved.{IsStatement}
+use Rattle.c_program.specs.Weight.{statement_weight}
+use Rattle.thread_semantics.specs.Work.{Work, Do, settled, Onward, Leaving, Turning}
+use Rattle.block_ir.specs.declared.code.ThreadCode.{ThreadCode}
+use Rattle.ir_lower.specs.declared.homes.Home.{Home}
+use Rattle.ir_lower.specs.declared.homes.Homes.{Homes}
+use Rattle.ir_lower.specs.declared.branching.Loop.{Loop}
+use Rattle.ir_lower.specs.declared.branching.ChoiceLabels.{ChoiceLabels}
+use Rattle.ir_lower.specs.declared.branching.LoopLabels.{LoopLabels}
+use Rattle.ir_lower.specs.declared.lowering.Lowering.{Lowering}
+use Rattle.ir_lower.specs.Closing.{IsFresh}
+use Rattle.ir_lower.specs.Locals.{AreHomesOf}
+use Rattle.ir_lower.specs.Values.{most_values}
+use Rattle.ir_lower.specs.Taken.{is_sequential}
+use Rattle.ir_lower.specs.Typing.{Typing, Fits, HasWords}
+use Rattle.ir_lower.specs.Resuming.{AreHomes, nothing_kept, HasSites}
+use Rattle.ir_lower.specs.Labels.{Finishes, is_used}
+use Rattle.ir_lower.specs.Apart.{IsTypedNow, IsGood}
+use Rattle.ir_lower.specs.Control.{Begins, Binds, Leaps, EndsCall, Whole, IsIn, AtLabelUpTo, GoesOn, Decides}
+
+-- what parts of the code keep
+pub record Grows (old new : Lowering) : Type 0 where
+  pub homes : new.homes ≡ old.homes
+  pub variables : new.variables ≡ old.variables
+  pub arrays : new.arrays ≡ old.arrays
+  pub words : new.act_operands ≡ old.act_operands
+  pub good : (size : ℕ) → IsGood size old → IsGood size new
+  pub whole : (W : Whole) → IsIn W new → IsIn W old
+  pub used : (label : ℕ) → is_used old.stages.used label ≡ true → is_used new.stages.used label ≡ true
+
+-- and those that do no step
+pub record Shifts (old new : Lowering) : Type 0 where
+  pub grows : Grows old new
+  pub site : new.site ≡ old.site
+  pub typed : (S : Typing) (w size : ℕ) → IsGood size old → IsTypedNow S w old → IsTypedNow S w new
+
+-- there are more labels, or more that are led to
+pub record Relabels (old new : Lowering) : Type 0 where
+  pub shifts : Shifts old new
+  pub block : new.block ≡ old.block
+  pub items : new.stages.stages ≡ old.stages.stages
+  pub here : new.stages.here ≡ old.stages.here
+  pub reached : new.reached ≡ old.reached
+
+-- the parts of an if and of loops
+
+pub record OpensChoice (d : Condition) (l : ChoiceLabels) (old new : Lowering) : Type 0 where
+  pub labelled : Lowering
+  pub relabels : Relabels old labelled
+  pub decided : Lowering
+  pub decides : Decides d l.if_true l.if_false labelled decided
+  pub binds : Binds l.if_true decided new
+
+pub record TurnsChoice (l : ChoiceLabels) (old new : Lowering) : Type 0 where
+  pub mid : Lowering
+  pub leaps : Leaps l.join old mid
+  pub binds : Binds l.if_false mid new
+
+pub record OpensLoop (l : LoopLabels) (old new : Lowering) : Type 0 where
+  pub labelled : Lowering
+  pub relabels : Relabels old labelled
+  pub begins : Begins l.head labelled new
+
+pub record OpensTurn (d : Condition) (l : LoopLabels) (old new : Lowering) : Type 0 where
+  pub begun : Lowering
+  pub opens : OpensLoop l old begun
+  pub decided : Lowering
+  pub decides : Decides d l.body l.leaving begun decided
+  pub binds : Binds l.body decided new
+
+pub record ClosesTurn (l : LoopLabels) (old new : Lowering) : Type 0 where
+  pub mid : Lowering
+  pub leaps : Leaps l.head old mid
+  pub binds : Binds l.leaving mid new
+
+pub record AsksNot (old new : Lowering) : Type 0 where
+  pub off : old.reached ≡ false
+  pub same : new ≡ old
+
+pub record AsksThere (d : Condition) (l : LoopLabels) (old new : Lowering) : Type 0 where
+  pub on : old.reached ≡ true
+  pub decides : Decides d l.head l.leaving old new
+
+abbrev pub Asks : Condition → LoopLabels → Lowering → Lowering → Type 0
+Asks d l old new = AsksNot old new ⊎ AsksThere d l old new
+
+pub record ClosesDo (d : Condition) (l : LoopLabels) (old new : Lowering) : Type 0 where
+  pub turned : Lowering
+  pub turns : Binds l.turning old turned
+  pub asked : Lowering
+  pub asks : Asks d l turned asked
+  pub binds : Binds l.leaving asked new
+
+abbrev pub at_site : ℕ → Lowering → Lowering
+at_site site c = record c { site = site }
+
+-- where the thread goes on
+
+module _ (W : Whole) (homes : List Home) (n : ℕ) where
+  abbrev pub OnwardUpTo : Lowering → List Work → Type 0
+  OnwardUpTo c k = c.reached ≡ true → (j : ℕ) → j ≤ n → GoesOn W homes nothing_kept j c k
+
+  abbrev pub IfUsed : List Bool → ℕ → List Work → Type 0
+  IfUsed used label k = is_used used label ≡ true → AtLabelUpTo W homes n label k
+
+  -- where break and continue lead
+  abbrev pub LeadsOut : List Bool → Option Loop → List Work → Type 0
+  LeadsOut used None k = Unit {0}
+  LeadsOut used (Some l) k = IfUsed used l.leaving (settled Leaving k) × IfUsed used l.turning (settled Turning k)
+
+-- what the code of a statement rests on
+pub record Suits (W : Whole) (homes : List Home) (size : ℕ) (s : Statement) (c : Lowering) : Type 0 where
+  pub homes_ : c.homes ≡ homes
+  pub good : IsGood size c
+  pub locals : AreHomes W.setting.function.locals homes size
+  pub in_loop : Bool
+  pub resolved : IsStatement W.setting.program W.setting.function in_loop s
+  pub sites : HasSites W.setting.program s c.site
+
+-- the same for its types
+pub record SuitsTyping (S : Typing) (size : ℕ) (s : Statement) (c : Lowering) : Type 0 where
+  pub fits : Fits S c.homes
+  pub words : HasWords S.types size (most_values s)
+  pub good : IsGood size c
+  pub in_loop : Bool
+  pub resolved : IsStatement S.program S.function in_loop s
+  pub sites : HasSites S.program s c.site
+
+-- the code of a statement was added: where the work after it goes on behind it, and at the labels where break and
+-- continue lead, the work that begins with the statement goes on before it
+pub record Leads (around : Option Loop) (s : Statement) (old new : Lowering) : Type 0 where
+  pub grows : Grows old new
+  pub site : new.site ≡ old.site + print_count s
+  pub typed : (S : Typing) (w size : ℕ) → SuitsTyping S size s old → IsTypedNow S w old → IsTypedNow S (w + statement_weight s) new
+  pub leads : (W : Whole) (homes : List Home) (size n : ℕ) (k : List Work) → Suits W homes size s old → IsIn W new → LeadsOut W homes n new.stages.used around k →
+      OnwardUpTo W homes n new (settled Onward k) → OnwardUpTo W homes n old (settled Onward (Do s ∷ k))
+
+-- of those that call no function of pthreads
+abbrev pub Lowers : Option Loop → Statement → Lowering → Lowering → Type 0
+Lowers around s old new = is_sequential s ≡ true → Leads around s old new
+
+-- a statement without others in it is lowered where it is reached
+abbrev pub LowersHere : Option Loop → Statement → Lowering → Lowering → Type 0
+LowersHere around s old new = is_sequential s ≡ true → old.reached ≡ true → Leads around s old new
+
+-- nothing yet
+pub record IsNew (locals : List LocalVariable) (site values : ℕ) (c : Lowering) : Type 0 where
+  pub homed : Homes
+  pub are : AreHomesOf locals homed
+  pub homes : c.homes ≡ homed.homes
+  pub variables : c.variables ≡ homed.variables
+  pub arrays : c.arrays ≡ homed.arrays
+  pub block : IsFresh (length homed.variables + 4) c.block
+  pub items : c.stages.stages.items ≡ []
+  pub reached : c.reached ≡ true
+  pub site_ : c.site ≡ site
+  pub words : c.act_operands ≡ values
+
+-- a label that is the first place of the code
+pub record Starts (start : ℕ) (old new : Lowering) : Type 0 where
+  pub labelled : Lowering
+  pub relabels : Relabels old labelled
+  pub begins : Begins start labelled new
+
+-- the return at the closing brace
+pub record EndsNot (old new : Lowering) : Type 0 where
+  pub off : old.reached ≡ false
+  pub same : new ≡ old
+
+pub record EndsHere (old new : Lowering) : Type 0 where
+  pub on : old.reached ≡ true
+  pub ends : EndsCall old new
+
+abbrev pub Ends : Lowering → Lowering → Type 0
+Ends old new = EndsNot old new ⊎ EndsHere old new
+
+pub record IsFinished (start : ℕ) (c : Lowering) (code : ThreadCode) : Type 0 where
+  pub variables : code.variables ≡ c.variables ++ replicate c.act_operands long_int
+  pub arrays : code.arrays ≡ c.arrays
+  pub finishes : Finishes start c.stages code.stages
+
+-- the code was made of the function of that number, step by step
+pub record IsCodeOf (p : ProgramTree) (number : ℕ) (code : ThreadCode) : Type 0 where
+  pub function : FunctionTree
+  pub at : slice_get p.functions.items number ≡ Some function
+  pub site : ℕ
+  pub site_is : site ≡ sum_by (λ (f : Function). print_count f.body) (map function_of (take number p.functions.items))
+  pub first : Lowering
+  pub is_new : IsNew function.locals.items site (most_values (statement_of function.body)) first
+  pub start : ℕ
+  pub begun : Lowering
+  pub starts : Starts start first begun
+  pub lowered : Lowering
+  pub lowers : Lowers None (statement_of function.body) begun lowered
+  pub ended : Lowering
+  pub ends : Ends lowered ended
+  pub finished : IsFinished start ended code

@@ -1,0 +1,224 @@
+// The parts of an if and of loops: their labels, conditions and jumps.
+
+ghost use Rattle.std.specs.Prelude.{◌≡◌, ◌+◌, IfOk, OnOk};
+ghost use Rattle.c_program.specs.Plain.{condition_of, statement_of};
+ghost use Rattle.c_program.specs.Limits.{print_count};
+ghost use Rattle.ir_lower.specs.Control as control;
+ghost use Rattle.ir_lower.specs.Doing as doing;
+
+use crate::conditions::lower_condition;
+use crate::fault::LoweringFault;
+use crate::lowering::Lowering;
+use crate::prints::print_count;
+use c_program::tree::{Condition, Statement};
+use std::alloc::{AllocError, Global};
+
+/// Where break and continue lead.
+#[derive(Clone, Copy, PartialEq, Eq, Debug)]
+pub struct Loop {
+    pub leaving: usize,
+    pub turning: usize,
+}
+
+/// The labels of an if: its two statements, and what comes after it.
+#[derive(Clone, Copy, PartialEq, Eq, Debug)]
+pub struct ChoiceLabels {
+    pub if_true: usize,
+    pub if_false: usize,
+    pub join: usize,
+}
+
+/// The labels of a loop.
+#[derive(Clone, Copy, PartialEq, Eq, Debug)]
+pub struct LoopLabels {
+    /// The first block of each turn.
+    pub head: usize,
+    /// The body, where a condition stands before it.
+    pub body: usize,
+    /// The end of each turn.
+    pub turning: usize,
+    /// What comes after it.
+    pub leaving: usize,
+}
+
+#[tactic(auto, using(crate::proofs::Growing::two_labels))]
+fn two_labels(code: &mut Lowering) -> Result<(usize, usize), AllocError>
+    ensures { OnOk result (doing.Relabels code.old code.new) }
+{
+    let first = code.new_label()?;
+    let second = code.new_label()?;
+    Ok((first, second))
+}
+
+#[tactic(auto, using(crate::proofs::Growing::three_labels))]
+fn choice_labels(code: &mut Lowering) -> Result<ChoiceLabels, AllocError>
+    ensures { OnOk result (doing.Relabels code.old code.new) }
+{
+    let (if_true, if_false) = two_labels(code)?;
+    let join = code.new_label()?;
+    Ok(ChoiceLabels {
+        if_true,
+        if_false,
+        join,
+    })
+}
+
+#[tactic(auto, using(crate::proofs::Growing::relabels_both))]
+fn loop_labels(code: &mut Lowering) -> Result<LoopLabels, AllocError>
+    ensures { OnOk result (doing.Relabels code.old code.new) }
+{
+    let (head, body) = two_labels(code)?;
+    let (turning, leaving) = two_labels(code)?;
+    Ok(LoopLabels {
+        head,
+        body,
+        turning,
+        leaving,
+    })
+}
+
+/// An if up to its first statement.
+#[tactic(auto, using(crate::proofs::Growing::opens_choice))]
+pub fn open_choice(
+    alloc: Global,
+    code: &mut Lowering,
+    condition: &Condition,
+) -> Result<ChoiceLabels, LoweringFault>
+    ensures { IfOk result (λ labels. doing.OpensChoice (condition_of condition.now) labels code.old code.new) }
+{
+    let labels = choice_labels(code)?;
+    lower_condition(alloc, code, condition, labels.if_true, labels.if_false)?;
+    code.bind(alloc, labels.if_true)?;
+    Ok(labels)
+}
+
+/// What stands between the two statements of an if.
+#[tactic(auto, using(crate::proofs::Growing::turns_choice))]
+pub fn turn_choice(
+    alloc: Global,
+    code: &mut Lowering,
+    labels: ChoiceLabels,
+) -> Result<(), LoweringFault>
+    ensures { OnOk result (doing.TurnsChoice labels code.old code.new) }
+{
+    code.leap(alloc, labels.join)?;
+    code.bind(alloc, labels.if_false)?;
+    Ok(())
+}
+
+/// The head of a loop.
+#[tactic(auto, using(crate::proofs::Growing::opens_loop))]
+pub fn open_loop(alloc: Global, code: &mut Lowering) -> Result<LoopLabels, LoweringFault>
+    ensures { IfOk result (λ labels. doing.OpensLoop labels code.old code.new) }
+{
+    let labels = loop_labels(code)?;
+    code.begin(alloc, labels.head)?;
+    Ok(labels)
+}
+
+/// The head of a while or a for, up to its body.
+#[tactic(auto, using(crate::proofs::Growing::opens_turn))]
+pub fn open_turn(
+    alloc: Global,
+    code: &mut Lowering,
+    condition: &Condition,
+) -> Result<LoopLabels, LoweringFault>
+    ensures { IfOk result (λ labels. doing.OpensTurn (condition_of condition.now) labels code.old code.new) }
+{
+    let labels = open_loop(alloc, code)?;
+    lower_condition(alloc, code, condition, labels.body, labels.leaving)?;
+    code.bind(alloc, labels.body)?;
+    Ok(labels)
+}
+
+/// The end of a while or a for.
+#[tactic(auto, using(crate::proofs::Growing::closes_turn))]
+pub fn close_turn(
+    alloc: Global,
+    code: &mut Lowering,
+    labels: LoopLabels,
+) -> Result<(), LoweringFault>
+    ensures { OnOk result (doing.ClosesTurn labels code.old code.new) }
+{
+    code.leap(alloc, labels.head)?;
+    code.bind(alloc, labels.leaving)?;
+    Ok(())
+}
+
+/// The condition at the end of a do, if it is reached.
+#[tactic(auto, using(crate::proofs::Growing::asks_not, crate::proofs::Growing::asks_there))]
+fn ask_reached(
+    alloc: Global,
+    code: &mut Lowering,
+    condition: &Condition,
+    labels: LoopLabels,
+) -> Result<(), LoweringFault>
+    ensures { OnOk result (doing.Asks (condition_of condition.now) labels code.old code.new) }
+{
+    if !code.is_reached() {
+        return Ok(());
+    }
+    lower_condition(alloc, code, condition, labels.head, labels.leaving)?;
+    Ok(())
+}
+
+/// The end of a do.
+#[tactic(auto, using(crate::proofs::Growing::closes_do))]
+pub fn close_do(
+    alloc: Global,
+    code: &mut Lowering,
+    condition: &Condition,
+    labels: LoopLabels,
+) -> Result<(), LoweringFault>
+    ensures { OnOk result (doing.ClosesDo (condition_of condition.now) labels code.old code.new) }
+{
+    code.bind(alloc, labels.turning)?;
+    ask_reached(alloc, code, condition, labels)?;
+    code.bind(alloc, labels.leaving)?;
+    Ok(())
+}
+
+/// The head of a for, whose last part stands before its body in the text.
+#[tactic(auto, using(crate::proofs::Growing::opens_for))]
+pub fn open_for(
+    alloc: Global,
+    code: &mut Lowering,
+    condition: &Condition,
+    last: &Statement,
+) -> Result<LoopLabels, LoweringFault>
+    ensures { IfOk result (λ labels. doing.OpensTurn (condition_of condition.now) labels (doing.at_site (code.old.site + print_count (statement_of last.now)) code.old) code.new) }
+{
+    code.skip_sites(print_count(last)?)?;
+    let labels = open_turn(alloc, code, condition)?;
+    Ok(labels)
+}
+
+/// The place of the last part of a for, whose first printf has that number.
+#[tactic(auto, using(crate::proofs::Growing::turns_for))]
+pub fn turn_for(
+    alloc: Global,
+    code: &mut Lowering,
+    labels: LoopLabels,
+    site: u32,
+) -> Result<(), LoweringFault>
+    ensures { OnOk result (control.Binds labels.turning (doing.at_site site code.old) code.new) }
+{
+    code.set_site(site);
+    code.bind(alloc, labels.turning)?;
+    Ok(())
+}
+
+/// The end of a for, after whose body that is the number of the next printf.
+#[tactic(auto, using(crate::proofs::Growing::closes_for))]
+pub fn close_for(
+    alloc: Global,
+    code: &mut Lowering,
+    labels: LoopLabels,
+    site: u32,
+) -> Result<(), LoweringFault>
+    ensures { OnOk result (doing.ClosesTurn labels (doing.at_site site code.old) code.new) }
+{
+    code.set_site(site);
+    close_turn(alloc, code, labels)?;
+    Ok(())
+}

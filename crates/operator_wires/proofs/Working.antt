@@ -1,0 +1,208 @@
+-- Words of operators behind others.
+use Rattle.std.proofs.Common.{◌≡◌, ℕ, ◌≤◌, true, false, List, refl, sym, subst, ◌∙◌, arith}
+use Rattle.std.specs.Prelude.{Result, Ok, Err, IfOk}
+use Rattle.c_program.specs.declared.tree.UnaryOperator.{UnaryOperator}
+use Rattle.c_program.specs.declared.tree.UnaryOperator.TheVariants.{Plus}
+use Rattle.c_program.specs.declared.tree.BinaryOperator.{BinaryOperator}
+use Rattle.verilog_tree.specs.declared.tree.BinaryOperator.{BinaryOperator as Gate}
+use Rattle.verilog_tree.specs.declared.tree.BinaryOperator.TheVariants as gate
+use Rattle.verilog_tree.specs.declared.tree.DivisionOperator.{DivisionOperator}
+use Rattle.netlist.specs.declared.netlist.Signal.{Signal}
+use Rattle.netlist.specs.declared.netlist.Value.{Value}
+use Rattle.netlist.specs.declared.netlist.Value.TheVariants.{SignedLess, ArithmeticShiftRight, Division, SignedDivision}
+use Rattle.hls_ints.specs.Types.{IntegerType, width_of}
+use Rattle.circuit.specs.Modules.{FitsBinary}
+use Rattle.block_ir.specs.Arithmetic.{is_shift}
+use Rattle.operator_words.specs.Shown.{unary_result, binary_result, truth_type}
+use Rattle.operator_wires.specs.declared.words.Word.{Word}
+use Rattle.operator_wires.specs.Built.{IsEarlier, IsRightSide, StandsAs, AddsWord}
+use Rattle.operator_wires.specs.Added.{IsAdded, ConstantAdds, NotAdds, BinaryAdds, NumberAdds, IsConverted, IsOfTwo, LikeOne, LikeTwo, LikeLeft, TruthOf, TruthOfOne, TruthOfTwo, BitOfTwo, QuotientOf}
+use Rattle.operator_wires.specs.Added.{GateAdds, UnaryAdds, OwnAdds, RightAdds}
+use Rattle.operator_wires.proofs.Building.{stands_after, room_of, wires_then, adds_after}
+use Rattle.operator_wires.proofs.Wording.{some, own, stands_as_after, word_like, word_none, word_after}
+
+-- a weaker fact of an answer
+of_ok : {A E : Type 0} (x : Result A E) (P Q : A → Type 0) → ((a : A) → P a → Q a) → IfOk x P → IfOk x Q
+of_ok (Ok a) P Q h p = h a p
+of_ok (Err e) P Q h p = tt
+
+-- ---- wires of operators
+
+pub negated_adds : (a b c : List Signal) (word out : Word) (zero place : ℕ) → ConstantAdds a b word.width 0 zero → BinaryAdds b c gate.Subtract word.width zero word.place place
+    → out.place ≡ place → out.width ≡ word.width → out.signed ≡ word.signed → LikeOne a c word out
+negated_adds a b c word out zero place t u at wide sign least ty is =
+    let e = own least a ty word is in
+    let none = t least (room_of a least word.place word.width e) e.low e.high (some word.width) in
+    let made = u least (none.stands, stands_after a b least word.place word.width none.wires.grows e) in
+    word_like least a c ty word out place is (adds_after least a b c word.width place none.wires made) at wide sign
+
+pub complement_adds : (a b : List Signal) (word out : Word) (place : ℕ) → NotAdds a b word.width word.place place → out.place ≡ place → out.width ≡ word.width → out.signed ≡ word.signed
+    → LikeOne a b word out
+complement_adds a b word out place t at wide sign least ty is = word_like least a b ty word out place is (t least (own least a ty word is)) at wide sign
+
+pub zero_word_adds : (a b c : List Signal) (word out : Word) (bit : ℕ) → NumberAdds a b word.width word.place 0 bit → TruthOf b c bit out → TruthOfOne a c word out
+zero_word_adds a b c word out bit t u least ty is =
+    let test = t least (own least a ty word is) (some word.width) in
+    word_after least a b c truth_type out test.wires (u least test.stands)
+
+pub gate_adds : (a b : List Signal) (operator : Gate) (left right out : Word) (place : ℕ) → BinaryAdds a b operator left.width left.place right.place place
+    → out.place ≡ place → out.width ≡ left.width → out.signed ≡ left.signed → GateAdds a b operator left right out
+gate_adds a b operator left right out place t at wide sign least ty is fits =
+    word_like least a b ty left out place is
+    (t least (subst (λ n. FitsBinary (IsEarlier a least) operator n left.place right.place) (sym is.says) fits)) at wide sign
+
+two_right : (a : List Signal) (least : ℕ) (ty : IntegerType) (left right : Word) (v : Value) → StandsAs a least ty left → StandsAs a least ty right
+    → (IsEarlier a least left.place left.width → IsEarlier a least right.place left.width → IsRightSide a least left.width v) → IsRightSide a least left.width v
+two_right a least ty left right v is also h =
+    h (own least a ty left is) (subst (λ n. IsEarlier a least right.place n) (sym is.says) also.stands)
+
+pub division_adds : {E : Type 0} (x : Result ℕ E) (a b : List Signal) (operator : DivisionOperator) (left right : Word) → IfOk x (IsAdded a b left.width (Division operator left.place right.place))
+    → IfOk x (QuotientOf a b left right)
+division_adds x a b operator left right t =
+    of_ok x (IsAdded a b left.width (Division operator left.place right.place)) (QuotientOf a b left right)
+    (λ place u least ty is also.
+    u least (two_right a least ty left right (Division operator left.place right.place) is also
+    (λ e f. record { room = room_of a least left.place left.width e; low = e.low; high = e.high; fits = (e, f); selects = tt }))) t
+
+pub signed_division_adds : {E : Type 0} (x : Result ℕ E) (a b : List Signal) (operator : DivisionOperator) (left right : Word)
+    → IfOk x (IsAdded a b left.width (SignedDivision operator left.place right.place)) → IfOk x (QuotientOf a b left right)
+signed_division_adds x a b operator left right t =
+    of_ok x (IsAdded a b left.width (SignedDivision operator left.place right.place)) (QuotientOf a b left right)
+    (λ place u least ty is also.
+    u least (two_right a least ty left right (SignedDivision operator left.place right.place) is also
+    (λ e f. record { room = room_of a least left.place left.width e; low = e.low; high = e.high; fits = (e, f); selects = tt }))) t
+
+pub divided_adds : (a b : List Signal) (left right out : Word) (place : ℕ) → QuotientOf a b left right place → out.place ≡ place → out.width ≡ left.width → out.signed ≡ left.signed
+    → LikeTwo a b left right out
+divided_adds a b left right out place t at wide sign least ty is also = word_like least a b ty left out place is (t least ty is also) at wide sign
+
+pub sign_shifted_adds : (a b : List Signal) (left right out : Word) (place : ℕ) → IsAdded a b left.width (ArithmeticShiftRight left.place right.place) place
+    → out.place ≡ place → out.width ≡ left.width → out.signed ≡ left.signed → LikeLeft a b left right out
+sign_shifted_adds a b left right out place t at wide sign least ty k is also =
+    let e = own least a ty left is in
+    word_like least a b ty left out place is
+    (t least (record { room = room_of a least left.place left.width e; low = e.low; high = e.high; fits = (e, (width_of k, also.stands)); selects = tt })) at wide sign
+
+pub shifted_adds : {E : Type 0} (x : Result Word E) (a b : List Signal) (left right : Word) → IfOk x (GateAdds a b gate.ShiftRight left right) → IfOk x (LikeLeft a b left right)
+shifted_adds x a b left right t =
+    of_ok x (GateAdds a b gate.ShiftRight left right) (LikeLeft a b left right) (λ out u least ty k is also. u least ty is (is.stands, (width_of k, also.stands))) t
+
+pub signed_less_adds : {E : Type 0} (x : Result ℕ E) (a b : List Signal) (left right : Word) → IfOk x (IsAdded a b 1 (SignedLess left.place right.place)) → IfOk x (BitOfTwo a b left right)
+signed_less_adds x a b left right t =
+    of_ok x (IsAdded a b 1 (SignedLess left.place right.place)) (BitOfTwo a b left right)
+    (λ place u least ty is also.
+    u least (record {
+      room = room_of a least left.place (width_of ty) is.stands;
+      low = (let l : 1 ≤ 1 = omega arith in l);
+      high = (let l : 1 ≤ 64 = omega arith in l);
+      fits = (refl, (width_of ty, is.stands, also.stands));
+      selects = tt;
+    })) t
+
+pub less_adds : {E : Type 0} (x : Result ℕ E) (a b : List Signal) (left right : Word) → IfOk x (BinaryAdds a b gate.Less 1 left.place right.place) → IfOk x (BitOfTwo a b left right)
+less_adds x a b left right t =
+    of_ok x (BinaryAdds a b gate.Less 1 left.place right.place) (BitOfTwo a b left right) (λ place u least ty is also. u least (refl, (width_of ty, is.stands, also.stands))) t
+
+-- a bit of two words, and then what it tells
+pub truth_after : (a b c : List Signal) (left right out : Word) (bit : ℕ) → BitOfTwo a b left right bit → TruthOf b c bit out → TruthOfTwo a c left right out
+truth_after a b c left right out bit t u least ty is also =
+    let test = t least ty is also in
+    word_after least a b c truth_type out test.wires (u least test.stands)
+
+pub equal_bit : (a b : List Signal) (left right : Word) (place : ℕ) → BinaryAdds a b gate.Equal 1 left.place right.place place → BitOfTwo a b left right place
+equal_bit a b left right place t least ty is also = t least (refl, (width_of ty, is.stands, also.stands))
+
+pub turned_adds : (a b c : List Signal) (bit turned : ℕ) (out : Word) → NotAdds a b 1 bit turned → TruthOf b c turned out → TruthOf a c bit out
+turned_adds a b c bit turned out t u least e =
+    let first = t least e in
+    word_after least a b c truth_type out first.wires (u least first.stands)
+
+-- ---- operators by cases
+
+pub unary_arm : {E : Type 0} (x : Result Word E) (a b : List Signal) (word : Word) (operator known : UnaryOperator) → operator ≡ known → IfOk x (UnaryAdds a b known word)
+    → IfOk x (UnaryAdds a b operator word)
+unary_arm x a b word operator known e t = subst (λ (o : UnaryOperator). IfOk x (UnaryAdds a b o word)) (sym e) t
+
+unary_none : (a : List Signal) (word : Word) → UnaryAdds a a Plus word word
+unary_none a word least ty is = word_none least a ty word is
+
+pub plus_kept : (a : List Signal) (word : Word) (operator : UnaryOperator) → operator ≡ Plus → UnaryAdds a a operator word word
+plus_kept a word operator e = subst (λ (o : UnaryOperator). UnaryAdds a a o word word) (sym e) (unary_none a word)
+
+pub unary_adds : {E : Type 0} (x : Result Word E) (a b c : List Signal) (operator : UnaryOperator) (ty : IntegerType) (word middle : Word) → IsConverted a b word ty middle
+    → IfOk x (UnaryAdds b c operator middle) → IfOk x (IsConverted a c word (unary_result operator ty))
+unary_adds x a b c operator ty word middle t u =
+    of_ok x (UnaryAdds b c operator middle) (IsConverted a c word (unary_result operator ty))
+    (λ out made least from is.
+    let first = t least from is in
+    word_after least a b c (unary_result operator ty) out first.wires (made least ty first.word)) u
+
+own_arm : {E : Type 0} (x : Result Word E) (a b : List Signal) (left right : Word) (operator known : BinaryOperator) (P : Word → Type 0) → operator ≡ known
+    → ((out : Word) → P out → OwnAdds a b known left right out) → IfOk x P → IfOk x (OwnAdds a b operator left right)
+own_arm x a b left right operator known P e h t =
+    subst (λ (o : BinaryOperator). IfOk x (OwnAdds a b o left right)) (sym e) (of_ok x P (OwnAdds a b known left right) h t)
+
+pub gate_arm : {E : Type 0} (x : Result Word E) (a b : List Signal) (left right : Word) (operator known : BinaryOperator) (g : Gate) → operator ≡ known
+    → IfOk x (GateAdds a b g left right) → ((s : IntegerType) → binary_result known s ≡ s) → is_shift known ≡ false
+    → ((least w : ℕ) → IsEarlier a least left.place w → IsEarlier a least right.place w → FitsBinary (IsEarlier a least) g w left.place right.place)
+    → IfOk x (OwnAdds a b operator left right)
+gate_arm x a b left right operator known g e t same plain fits =
+    own_arm x a b left right operator known (GateAdds a b g left right) e
+    (λ out u least s k right_type is also.
+    let other = subst (λ (z : IntegerType). StandsAs a least z right) (right_type plain) also in
+    subst (λ (z : IntegerType). AddsWord least a b z out) (sym (same s)) (u least s is (fits least (width_of s) is.stands other.stands))) t
+
+pub shift_arm : {E : Type 0} (x : Result Word E) (a b : List Signal) (left right : Word) (operator known : BinaryOperator) → operator ≡ known → IfOk x (LikeLeft a b left right)
+    → ((s : IntegerType) → binary_result known s ≡ s) → IfOk x (OwnAdds a b operator left right)
+shift_arm x a b left right operator known e t same =
+    own_arm x a b left right operator known (LikeLeft a b left right) e
+    (λ out u least s k right_type is also. subst (λ (z : IntegerType). AddsWord least a b z out) (sym (same s)) (u least s k is also)) t
+
+pub shift_left : {E : Type 0} (x : Result Word E) (a b : List Signal) (left right : Word) → IfOk x (GateAdds a b gate.ShiftLeft left right) → IfOk x (LikeLeft a b left right)
+shift_left x a b left right t =
+    of_ok x (GateAdds a b gate.ShiftLeft left right) (LikeLeft a b left right) (λ out u least ty k is also. u least ty is (is.stands, (width_of k, also.stands))) t
+
+pub division_arm : {E : Type 0} (x : Result Word E) (a b : List Signal) (left right : Word) (operator known : BinaryOperator) → operator ≡ known → IfOk x (LikeTwo a b left right)
+    → ((s : IntegerType) → binary_result known s ≡ s) → is_shift known ≡ false → IfOk x (OwnAdds a b operator left right)
+division_arm x a b left right operator known e t same plain =
+    own_arm x a b left right operator known (LikeTwo a b left right) e
+    (λ out u least s k right_type is also.
+    subst (λ (z : IntegerType). AddsWord least a b z out) (sym (same s)) (u least s is (subst (λ (z : IntegerType). StandsAs a least z right) (right_type plain) also))) t
+
+pub test_arm : {E : Type 0} (x : Result Word E) (a b : List Signal) (left right : Word) (operator known : BinaryOperator) → operator ≡ known → IfOk x (TruthOfTwo a b left right)
+    → ((s : IntegerType) → binary_result known s ≡ truth_type) → is_shift known ≡ false → IfOk x (OwnAdds a b operator left right)
+test_arm x a b left right operator known e t same plain =
+    own_arm x a b left right operator known (TruthOfTwo a b left right) e
+    (λ out u least s k right_type is also.
+    subst (λ (z : IntegerType). AddsWord least a b z out) (sym (same s)) (u least s is (subst (λ (z : IntegerType). StandsAs a least z right) (right_type plain) also))) t
+
+-- the same of a test of the right operand and the left one
+pub turned_arm : {E : Type 0} (x : Result Word E) (a b : List Signal) (left right : Word) (operator known : BinaryOperator) → operator ≡ known → IfOk x (TruthOfTwo a b right left)
+    → ((s : IntegerType) → binary_result known s ≡ truth_type) → is_shift known ≡ false → IfOk x (OwnAdds a b operator left right)
+turned_arm x a b left right operator known e t same plain =
+    own_arm x a b left right operator known (TruthOfTwo a b right left) e
+    (λ out u least s k right_type is also.
+    subst (λ (z : IntegerType). AddsWord least a b z out) (sym (same s)) (u least s (subst (λ (z : IntegerType). StandsAs a least z right) (right_type plain) also) is)) t
+
+-- ---- the right operand
+
+pub right_kept : (a : List Signal) (operator : BinaryOperator) (ty : IntegerType) (right : Word) → is_shift operator ≡ true → RightAdds a a operator ty right right
+right_kept a operator ty right shift least t is = record { kind = t; is_right = λ none. absurd (let both : true ≡ false = sym shift ∙ none in cc); adds = word_none least a t right is }
+
+pub right_converted : {E : Type 0} (x : Result Word E) (a b : List Signal) (operator : BinaryOperator) (ty : IntegerType) (right : Word) → IfOk x (IsConverted a b right ty)
+    → IfOk x (RightAdds a b operator ty right)
+right_converted x a b operator ty right t =
+    of_ok x (IsConverted a b right ty) (RightAdds a b operator ty right) (λ out u least from is. record { kind = ty; is_right = λ none. refl; adds = u least from is }) t
+
+pub binary_adds : {E : Type 0} (x : Result Word E) (a b c d : List Signal) (operator : BinaryOperator) (ty : IntegerType) (left right first second : Word) → IsConverted a b left ty first
+    → RightAdds b c operator ty right second → IfOk x (OwnAdds c d operator first second)
+    → IfOk x (IsOfTwo a d left right (binary_result operator ty))
+binary_adds x a b c d operator ty left right first second t u v =
+    of_ok x (OwnAdds c d operator first second)
+    (IsOfTwo a d left right (binary_result operator ty))
+    (λ out made least s k is also.
+    let one = t least s is in
+    let two = u least k (stands_as_after least a b k right one.wires also) in
+    let kept = stands_as_after least b c ty first two.adds.wires one.word in
+    word_after least a c d (binary_result operator ty) out (wires_then least a b c one.wires two.adds.wires)
+    (made least ty two.kind two.is_right kept two.adds.word)) v
