@@ -1,0 +1,4 @@
+pub mod Leaves
+pub mod Orders
+pub mod Gathered
+pub mod Laws

@@ -1,0 +1,142 @@
+-- When a scope within a function of a program is in order: each name stands for a declaration of the program that is as the
+-- name says, and each header for a function that is as the header says.
+use Rattle.std.specs.Prelude.{◌≡◌, ℕ, ◌<◌, Bool, true, false, List, ◌++◌, length, Option, Some, None, slice_get, unwrap_or, Contains, ⊤}
+use Rattle.std.specs.List.{AllByRecursion}
+use Rattle.hls_ints.specs.Types.{long_int}
+use Rattle.c_program.specs.declared.tree.Storage.TheVariants.{Automatic}
+use Rattle.c_program.specs.declared.tree.ReturnType.{ReturnType}
+use Rattle.c_program.specs.declared.tree.ReturnType.TheVariants as returns_as
+use Rattle.c_program.specs.declared.tree.LocalVariable.{LocalVariable}
+use Rattle.c_program.specs.declared.tree.ThreadObject.{ThreadObject}
+use Rattle.c_program.specs.Tree.{Statement, Function, Program}
+use Rattle.c_program.specs.Calls.{calls_of}
+use Rattle.c_program.specs.Resolved.{IsObject, IsStatement, creates_of, starts_or_joins, thread_length, mutex_length, barrier_length}
+use Rattle.c_rules.specs.declared.findings.Findings.{Findings}
+use Rattle.c_rules.specs.declared.findings.CallSite.{CallSite}
+use Rattle.c_rules.specs.declared.findings.ThreadSite.{ThreadSite}
+use Rattle.c_rules.specs.declared.findings.Creation.{Creation}
+use Rattle.c_rules.specs.declared.names.ObjectKind.{ObjectKind}
+use Rattle.c_rules.specs.declared.names.ObjectKind.TheVariants.{Thread, Mutex, Barrier}
+use Rattle.c_rules.specs.declared.names.Meaning.{Meaning}
+use Rattle.c_rules.specs.declared.names.Meaning.TheVariants as meaning
+use Rattle.c_rules.specs.declared.names.Header.{Header}
+use Rattle.c_rules.specs.declared.names.Gives.{Gives}
+use Rattle.c_rules.specs.declared.names.Gives.TheVariants as gives
+use Rattle.c_rules.specs.declared.names.Scope.{Scope}
+use Rattle.c_rules.specs.Names.{Names}
+use Rattle.c_rules.specs.Specifiers.{c_type}
+use Rattle.c_rules.specs.Walks.{Outcome}
+use Rattle.c_types.specs.States.{State}
+use Rattle.c_types.specs.Functions.{gives_of, is_unlisted, return_type}
+
+-- ---- names
+
+-- the number of elements of the thread object, mutex or barrier of that number
+abbrev pub object_length : Program → ObjectKind → ℕ → Option ℕ
+object_length P Thread number = thread_length (slice_get P.threads number)
+object_length P Mutex number = mutex_length (slice_get P.mutexes number)
+object_length P Barrier number = barrier_length (slice_get P.barriers number)
+
+-- what a name stands for is declared so in the program or the function
+abbrev pub IsMeant : Program → Function → Meaning → Type 0
+IsMeant P f (meaning.Variable v) = IsObject P f v.storage v.number (unwrap_or v.length 1) (c_type v.ty)
+IsMeant P f meaning.Argument = IsObject P f Automatic 0 1 long_int
+IsMeant P f (meaning.Object o) = object_length P o.kind o.number ≡ Some (unwrap_or o.length 1)
+IsMeant P f (meaning.Function number) = ⊤
+IsMeant P f meaning.Unusable = ⊥
+
+abbrev pub AreMeant : Program → Function → Names → Type 0
+AreMeant P f names = AllByRecursion (λ (d : List ℕ × Meaning). IsMeant P f d.1) names
+
+-- ---- functions
+
+-- the function of that number is as the header says
+pub record IsDefinition (P : Program) (h : Header) (number : ℕ) : Type 0 where
+  pub code : Function
+  pub found : slice_get P.functions number ≡ Some code
+  pub returns : code.returns ≡ return_type h
+  pub parameters : code.parameters ≡ length h.parameters
+  pub main : number ≡ P.main → h.is_main ≡ true
+
+-- its type is one of the profile, and its definition, if it has one, is as it says
+pub record IsHeader (P : Program) (h : Header) : Type 0 where
+  pub listed : is_unlisted (gives_of h) ≡ false
+  pub definition : (number : ℕ) → h.definition ≡ Some number → IsDefinition P h number
+
+-- what a function gives back, as its returns see it and as the program has it
+abbrev pub IsGiven : Gives → ReturnType → Type 0
+IsGiven gives.Nothing returns = returns ≡ returns_as.Void
+IsGiven gives.Integer (returns_as.Integer ty) = ⊤
+IsGiven gives.Integer returns = ⊥
+IsGiven gives.Pointer returns = returns ≡ returns_as.Pointer
+IsGiven gives.Unlisted returns = ⊥
+
+-- a function that returns a pointer has that number
+abbrev pub IsPointerAt : Program → ℕ → Type 0
+IsPointerAt P number = (code : Function) × (slice_get P.functions number ≡ Some code) × (code.returns ≡ returns_as.Pointer)
+
+-- ---- scopes
+
+-- a scope in the function f of that number of the program P
+pub record IsOrderly (P : Program) (number : ℕ) (f : Function) (s : Scope) : Type 0 where
+  pub inner : AreMeant P f s.inner
+  pub outer : AllByRecursion (AreMeant P f) s.outer
+  pub headers : AllByRecursion (IsHeader P) s.headers
+  pub function : s.function ≡ Some number
+  pub gives : IsGiven s.gives f.returns
+
+-- ---- what is found
+
+-- what is found so far is a part of what is found in the whole text, and no rule is broken
+pub record IsPartOf (whole found : Findings) : Type 0 where
+  pub no_fault : found.fault ≡ None
+  pub calls : (c : CallSite) → Contains found.calls c → Contains whole.calls c
+  pub threads : (t : ThreadSite) → Contains found.threads t → Contains whole.threads t
+  pub creations : (c : Creation) → Contains found.creations c → Contains whole.creations c
+
+-- the calls, the creates and joins, and the routines of creates of the function of that number are found
+abbrev pub IsFoundCall : Findings → ℕ → ℕ → Type 0
+IsFoundCall whole caller callee = (at : ℕ) × Contains whole.calls (record { caller = caller; callee = callee; offset = at })
+
+abbrev pub IsFoundStart : Findings → ℕ → Type 0
+IsFoundStart whole function = (at : ℕ) × Contains whole.threads (record { function = function; offset = at })
+
+abbrev pub IsFoundCreation : Findings → ℕ → ℕ → Type 0
+IsFoundCreation whole thread routine = (at : ℕ) × Contains whole.creations (record { thread = thread; routine = routine; offset = at })
+
+-- ---- what a part leaves and gives
+
+abbrev pub left : {S A : Type 0} → Outcome S A → S
+left (Outcome.Gives a s) = s
+
+abbrev pub given : {S A : Type 0} → Outcome S A → A
+given (Outcome.Gives a s) = a
+
+-- the list begins with these elements
+abbrev pub IsFront : {A : Type 0} → List A → List A → Type 0
+IsFront {A} front list = (more : List A) × (front ++ more ≡ list)
+
+-- within a function: what is known is a part of what is found in the whole text, and of the function's locals
+pub record IsAhead (whole : Findings) (f : Function) (x : State) : Type 0 where
+  pub found : IsPartOf whole x.found
+  pub locals : IsFront x.scope.locals f.locals
+
+-- the scope is in order, in a loop or not
+pub record Holds (P : Program) (number : ℕ) (f : Function) (in_loop : Bool) (x : State) : Type 0 where
+  pub orderly : IsOrderly P number f x.scope
+  pub loops : in_loop ≡ false → x.scope.loops ≡ 0
+  pub lengths : AllByRecursion (λ (l : LocalVariable). 0 < l.length) x.scope.locals
+
+-- ---- statements
+
+-- a statement of the function of that number: in order in a loop or not, and with each call, create and join found
+pub record IsInOrder (whole : Findings) (P : Program) (number : ℕ) (f : Function) (in_loop : Bool) (x : Statement) : Type 0 where
+  pub is : IsStatement P f in_loop x
+  pub calls : (callee : ℕ) → Contains (calls_of x) callee → IsFoundCall whole number callee
+  pub starts : starts_or_joins x ≡ true → IsFoundStart whole number
+  pub creates : (thread routine : ℕ) → Contains (creates_of x) (thread, routine) → IsPointerAt P routine × IsFoundCreation whole thread routine
+
+-- a create that is found has given its routine to its thread object
+abbrev pub GivesRoutines : Findings → Program → Type 0
+GivesRoutines whole P =
+    (thread routine : ℕ) (object : ThreadObject) → IsFoundCreation whole thread routine → slice_get P.threads thread ≡ Some object → object.routine ≡ Some routine

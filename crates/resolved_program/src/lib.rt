@@ -1,0 +1,4 @@
+//! The law of programs that trees spell: they are resolved.
+#![tactic(auto)]
+
+pub mod law;
