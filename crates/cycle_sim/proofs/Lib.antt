@@ -13,4 +13,6 @@ pub mod Givens
 pub mod Writers
 pub mod Opening
 pub mod Loopless
+pub mod Fits
+pub mod Narrow
 pub mod Right

@@ -1,129 +1,62 @@
--- A laid netlist has signals of 1 to 64 bits, and its right sides and values read only these.
-use Rattle.std.specs.Prelude.{◌≡◌, ℕ, zero, suc, ◌+◌, ◌-◌, ◌==◌, ◌<◌, ◌≤◌, Bool, true, false, ◌&&◌, nat_lt, nat_le, List, [], ◌∷◌, map, length, take, Option, Some, None, option_and_then, slice_get, if◌then◌else◌, refl, codes}
-use Rattle.std.proofs.Common.{ap, sym, ◌∙◌, subst, arith}
+-- A sound netlist can be opened: its tests and places say that each width fits.
+use Rattle.std.specs.Prelude.{◌≡◌, ℕ, zero, suc, ◌+◌, ◌^◌, ◌<◌, ◌≤◌, Bool, true, false, cond, List, [], ◌∷◌, ◌++◌, length, filter, take, Option, Some, None, option_and_then, slice_get, if◌then◌else◌, refl, codes}
+use Rattle.std.proofs.Common.{ap, sym, ◌∙◌, subst, inl, inr, ⊎_elim, arith}
 use Rattle.std.specs.Str.{bytes_eq}
-use Rattle.std.proofs.lemmas.Bool.Decides.{nat_tests}
+use Rattle.std.proofs.lemmas.Option.{same_Some, slice_get_within}
 use Rattle.verilog_tree.specs.Scope.{is_clk}
-use Rattle.netlist.specs.declared.netlist.Value.{Value}
-use Rattle.netlist.specs.declared.netlist.Value.TheVariants as v
 use Rattle.netlist.specs.declared.netlist.Source.{Source}
 use Rattle.netlist.specs.declared.netlist.Source.TheVariants as source
 use Rattle.netlist.specs.declared.netlist.Signal.{Signal}
-use Rattle.netlist.specs.declared.netlist.Argument.{Argument}
-use Rattle.netlist.specs.declared.netlist.Argument.TheVariants.{Unsigned, Signed}
-use Rattle.netlist.specs.declared.netlist.Effect.{Effect}
-use Rattle.netlist.specs.declared.netlist.Effect.TheVariants as effect
-use Rattle.netlist.specs.declared.netlist.Action.{Action}
+use Rattle.netlist.specs.declared.netlist.Memory.{Memory}
 use Rattle.netlist.specs.declared.netlist.Instance.{Instance}
 use Rattle.netlist.specs.declared.netlist.Module.{Module}
 use Rattle.netlist.specs.declared.netlist.Netlist.{Netlist}
-use Rattle.netlist.specs.Laid as laid
-use Rattle.netlist.specs.Laid.{AreSignals, EachAt, IsSource, IsLaidModule, argument_place, effect_signals}
-use Rattle.netlist.specs.Sound.{IsSound, IsSoundModule, width_read, value_fits, source_fits}
+use Rattle.netlist.specs.NetlistOf.{is_output_port}
+use Rattle.netlist.specs.Laid.{IsSource, IsDriven, IsLaidModule, kind_by, kind_of, is_inner, input_signals, inner_signals, output_signals, first_output}
+use Rattle.netlist.specs.Sound.{IsSound, IsSoundModule, is_clk_at, source_fits}
 use Rattle.netlist.specs.Sound as sound
 use Rattle.verilog_meaning.specs.Names.{module_named, top_of}
-use Rattle.verilog_meaning.specs.Readings.{width, signal_width}
-use Rattle.verilog_meaning.specs.Threads.{operands}
-use Rattle.verilog_meaning.specs.Cycles.{Path, module_at}
-use Rattle.circuit.specs.Nets.{FitsNet, FitsStatements}
-use Rattle.cycle_sim.specs.Flat.{EachOf, IsWide, HasRoom, IsNarrowSource, IsNarrowArgument, IsNarrowEffect, IsNarrowAction}
+use Rattle.verilog_meaning.specs.Readings.{or_zero}
+use Rattle.verilog_meaning.specs.Cycles.{Path, module_at, instance_at, connected, IsAt}
+use Rattle.circuit.specs.Rows.{EachOf}
+use Rattle.circuit.specs.Modules.{Has, FitsAction, FitsMemory}
+use Rattle.circuit.specs.Nets.{FitsSource, FitsNet, FitsStatements}
 use Rattle.cycle_sim.specs.Running.{IsRight}
-use Rattle.cycle_sim.specs.Right.{HaveFittingActions}
-use Rattle.cycle_sim.proofs.Trees.{opened}
+use Rattle.cycle_sim.specs.Opened.{IsRightNet}
+use Rattle.cycle_sim.proofs.Trees.{opened, get_front, get_back, front_or_back}
+use Rattle.cycle_sim.proofs.Fits.{some_at, each_listed, has_it, wide_read, value_right, action_right, memory_right, below}
+use Rattle.cycle_sim.proofs.Narrow.{narrow_source, narrow_actions}
 
-some_at : {X : Type 0} (xs : List X) (q : ℕ) → q < length xs → (x : X) × (slice_get xs q ≡ Some x)
-some_at [] q l = absurd (omega arith)
-some_at (x ∷ xs) zero l = (x, refl)
-some_at (x ∷ xs) (suc q) l = some_at xs q (omega arith)
+-- ---- lists
 
-left_true : (a b : Bool) → (a && b) ≡ true → a ≡ true
-left_true true b e = refl
-left_true false b e = absurd cc
+taken : {X : Type 0} (xs : List X) (k i : ℕ) (x : X) → slice_get (take k xs) i ≡ Some x → slice_get xs i ≡ Some x
+taken [] zero i x e = absurd cc
+taken [] (suc k) i x e = absurd cc
+taken (y ∷ xs) zero i x e = absurd cc
+taken (y ∷ xs) (suc k) zero x e = e
+taken (y ∷ xs) (suc k) (suc i) x e = taken xs k i x e
 
-right_true : (a b : Bool) → (a && b) ≡ true → b ≡ true
-right_true true b e = e
-right_true false b e = absurd cc
+passed_by : {X : Type 0} (p : X → Bool) (b : Bool) (y : X) (rest : List X) (k : ℕ) (x : X) → p y ≡ b → slice_get (cond b (y ∷ rest) rest) k ≡ Some x
+    → ((i : ℕ) → slice_get rest i ≡ Some x → p x ≡ true) → p x ≡ true
+passed_by p true y rest zero x q e f = subst (λ z. p z ≡ true) (same_Some y x e) q
+passed_by p true y rest (suc k) x q e f = f k e
+passed_by p false y rest k x q e f = f k e
 
-at_most : (a b : ℕ) → nat_le a b ≡ true → a ≤ b
-at_most a b e = grind (arith, nat_tests)
+-- what a filter leaves passes it
+passes : {X : Type 0} (p : X → Bool) (xs : List X) (k : ℕ) (x : X) → slice_get (filter p xs) k ≡ Some x → p x ≡ true
+passes p [] k x e = absurd cc
+passes p (y ∷ xs) k x e = passed_by p (p y) y (filter p xs) k x refl e (λ i h. passes p xs i x h)
 
-below : (a b : ℕ) → nat_lt a b ≡ true → a < b
-below a b e = grind (arith, nat_tests)
+shorter_by : {X : Type 0} (b : Bool) (y : X) (rest : List X) (n : ℕ) → length rest ≤ n → length (cond b (y ∷ rest) rest) ≤ suc n
+shorter_by true y rest n l = omega arith
+shorter_by false y rest n l = omega arith
 
-same_operands : (a : Value) → laid.operands a ≡ operands a
-same_operands (v.Copy x) = refl
-same_operands (v.Constant n) = refl
-same_operands (v.BitwiseNot x) = refl
-same_operands (v.Binary operator x y) = refl
-same_operands (v.SignedLess x y) = refl
-same_operands (v.ArithmeticShiftRight x y) = refl
-same_operands (v.Conditional c x y) = refl
-same_operands (v.Division operator x y) = refl
-same_operands (v.SignedDivision operator x y) = refl
-same_operands (v.MemoryRead j x) = refl
-same_operands (v.Select x high low) = refl
-same_operands (v.Concatenation xs) = refl
-same_operands (v.Replication n x) = refl
+-- and is no longer
+shorter : {X : Type 0} (p : X → Bool) (xs : List X) → length (filter p xs) ≤ length xs
+shorter p [] = omega arith
+shorter p (x ∷ xs) = shorter_by (p x) x (filter p xs) (length xs) (shorter p xs)
 
-module _ (m : Module) (before : List Module) (is : IsLaidModule before m) where
-  one_wide : (x : ℕ) → x < length m.signals → IsWide m x
-  one_wide x l =
-      let s = some_at m.signals x l in
-      let w : width m x ≡ (s.0).width = ap signal_width s.1 in
-      let at = is.signals x s.0 s.1 in
-      (let low = at.low in omega arith, let high = at.high in omega arith)
-
-  all_wide : (xs : List ℕ) → AreSignals m xs → EachOf (IsWide m) xs
-  all_wide [] are = tt
-  all_wide (x ∷ xs) are = (one_wide x (are 0 x refl), all_wide xs (λ k y e. are (suc k) y e))
-
-  read_most : (b : Bool) (w : ℕ) → w ≤ 64 → (if b then 0 else w) ≤ 64
-  read_most true w l = omega arith
-  read_most false w l = l
-
-  width_most : (o : Option Signal) (x : ℕ) → slice_get m.signals x ≡ o → width_read m o ≤ 64
-  width_most None x e = omega arith
-  width_most (Some s) x e = read_most (is_clk s.name) s.width (is.signals x s e).high
-
-  room : (a : Value) (w : ℕ) → value_fits m a w ≡ true → HasRoom a
-  room (v.Select x high low) w e =
-      let rest = right_true (nat_le low high) (nat_lt high (sound.width m x) && (nat_lt 1 (sound.width m x) && w == high - low + 1)) e in
-      let l = below high (sound.width m x) (left_true (nat_lt high (sound.width m x)) (nat_lt 1 (sound.width m x) && w == high - low + 1) rest) in
-      let most : sound.width m x ≤ 64 = width_most (slice_get m.signals x) x refl in
-      (at_most low high (left_true (nat_le low high) (nat_lt high (sound.width m x) && (nat_lt 1 (sound.width m x) && w == high - low + 1)) e), omega arith)
-  room (v.Copy x) w e = tt
-  room (v.Constant n) w e = tt
-  room (v.BitwiseNot x) w e = tt
-  room (v.Binary operator x y) w e = tt
-  room (v.SignedLess x y) w e = tt
-  room (v.ArithmeticShiftRight x y) w e = tt
-  room (v.Conditional c x y) w e = tt
-  room (v.Division operator x y) w e = tt
-  room (v.SignedDivision operator x y) w e = tt
-  room (v.MemoryRead j x) w e = tt
-  room (v.Concatenation xs) w e = tt
-  room (v.Replication n x) w e = tt
-
-  narrow_source : (x w : ℕ) (out : Bool) (s : Source) → IsSource before m x out s → source_fits m s w ≡ true → IsNarrowSource m s
-  narrow_source x w out source.Input h e = tt
-  narrow_source x w out (source.Register n) h e = tt
-  narrow_source x w out (source.Port i port) h e = tt
-  narrow_source x w out (source.Assigned a) h e =
-      record { wide = subst (EachOf (IsWide m)) (same_operands a) (all_wide (laid.operands a) h.0); room = room a w e }
-
-  narrow_arguments : (arguments : List Argument) → AreSignals m (map argument_place arguments) → EachOf (IsNarrowArgument m) arguments
-  narrow_arguments [] are = tt
-  narrow_arguments (Unsigned x ∷ arguments) are = (tt, narrow_arguments arguments (λ k y e. are (suc k) y e))
-  narrow_arguments (Signed x ∷ arguments) are = (one_wide x (are 0 x refl), narrow_arguments arguments (λ k y e. are (suc k) y e))
-
-  narrow_effect : (e : Effect) → AreSignals m (effect_signals e) → IsNarrowEffect m e
-  narrow_effect (effect.Set x y) are = tt
-  narrow_effect (effect.Store j x y) are = tt
-  narrow_effect (effect.Write text arguments) are = narrow_arguments arguments are
-
-  narrow_actions : (actions : List Action) → EachAt actions (λ k a. AreSignals m (effect_signals a.effect)) → EachOf (IsNarrowAction m) actions
-  narrow_actions [] are = tt
-  narrow_actions (a ∷ actions) are = (narrow_effect a.effect (are 0 a refl), narrow_actions actions (λ k b e. are (suc k) b e))
+-- ---- the module of a name and of a path is one of the list
 
 named_by : (b : Bool) (t : Module) (ms : List Module) (name : List ℕ) (m : Module) → bytes_eq name t.name ≡ b → module_named (t ∷ ms) name ≡ Some m
     → (module_named ms name ≡ Some m → (k : ℕ) × (slice_get ms k ≡ Some m)) → (k : ℕ) × (slice_get (t ∷ ms) k ≡ Some m)
@@ -134,19 +67,154 @@ named_at : (ms : List Module) (name : List ℕ) (m : Module) → module_named ms
 named_at [] name m e = absurd cc
 named_at (t ∷ ms) name m e = named_by (bytes_eq name t.name) t ms name m refl e (named_at ms name m)
 
+-- what stands round an instance
+record IsHeld (modules : List Module) (top : Module) (outer : Path) (i : ℕ) (m : Module) : Type 0 where
+  pub holder : Module
+  pub stands : module_at modules top outer ≡ Some holder
+  pub instance : Instance
+  pub listed : slice_get holder.instances i ≡ Some instance
+  pub kind : slice_get modules instance.of ≡ Some m
+
+held : (modules : List Module) (top : Module) (outer : Path) (i : ℕ) (m : Module) → module_at modules top (i ∷ outer) ≡ Some m → IsHeld modules top outer i m
+held modules top outer i m at =
+    let a = opened (λ (k : Module). option_and_then (λ (n : Instance). slice_get modules n.of) (slice_get k.instances i)) (module_at modules top outer) m at in
+    let b = opened (λ (n : Instance). slice_get modules n.of) (slice_get (a.0).instances i) m a.2 in
+    record { holder = a.0; stands = a.1; instance = b.0; listed = b.1; kind = b.2 }
+
 placed_at : (modules : List Module) (top : Module) → top_of modules ≡ Some top → (path : Path) (m : Module) → module_at modules top path ≡ Some m → (k : ℕ) × (slice_get modules k ≡ Some m)
 placed_at modules top is [] m at = let r = named_at modules (codes "top") top is in (r.0, r.1 ∙ at)
-placed_at modules top is (i ∷ outer) m at =
-    let a = opened (λ (k : Module). option_and_then (λ (n : Instance). slice_get modules n.of) (slice_get k.instances i)) (module_at modules top outer) m at in
-    let b = opened (λ (n : Instance). slice_get modules n.of) (slice_get (a.0).instances i) m a.2 in ((b.0).of, b.2)
+placed_at modules top is (i ∷ outer) m at = let h = held modules top outer i m at in (h.instance.of, h.kind)
 
-pub right_of_sound : (n : Netlist) (top : Module) → IsSound n → top_of n.modules ≡ Some top → FitsNet n.modules top → FitsStatements n.modules top → HaveFittingActions n.modules → IsRight n.modules top
-right_of_sound n top is top_is fits statements acts = record {
-  fits = fits;
-  narrow = λ path m x s at. let k = placed_at n.modules top top_is path m at.stands in ((is.laid.modules k.0 m k.1).signals x s at.listed).high;
-  values = λ k x m s at listed.
-      narrow_source m (take k n.modules) (is.laid.modules k m at) x s.width s.is_output s.source ((is.laid.modules k m at).signals x s listed).drives ((is.modules k m at).signals x s listed).fits;
-  prints = λ k m at. narrow_actions m (take k n.modules) (is.laid.modules k m at) m.actions (λ j a e. ((is.laid.modules k m at).actions j a e).signals);
-  statements = statements;
-  acts = acts;
-}
+-- ---- inputs stand first
+
+both : {X : Type 0} {b : Bool} → b ≡ false → b ≡ true → X
+both p q = absurd (let z : false ≡ true = sym p ∙ q in cc)
+
+module _ (m : Module) (x : ℕ) (s : Signal) (is : s.source ≡ source.Input) where
+  not_inner : (k : ℕ) → slice_get (inner_signals m) k ≡ Some s → x < length (input_signals m)
+  not_inner k e =
+      both (ap (λ from. is_inner (kind_by from s.is_output)) is) (passes (λ (t : Signal). is_inner (kind_of t)) m.signals k s e)
+
+  not_output : (k : ℕ) → slice_get (output_signals m) k ≡ Some s → x < length (input_signals m)
+  not_output k e =
+      both (ap (λ from. is_output_port (kind_by from s.is_output)) is) (passes (λ (t : Signal). is_output_port (kind_of t)) m.signals k s e)
+
+  in_front : slice_get (input_signals m ++ inner_signals m) x ≡ Some s → x < length (input_signals m)
+  in_front e =
+      ⊎_elim (λ l. l) (λ i. not_inner i.0 (sym (get_back (input_signals m) (inner_signals m) x i.0 i.1) ∙ e)) (front_or_back x (length (input_signals m)))
+
+  input_first : m.signals ≡ input_signals m ++ inner_signals m ++ output_signals m → slice_get m.signals x ≡ Some s → x < length (input_signals m)
+  input_first order listed =
+      let at : slice_get (input_signals m ++ inner_signals m ++ output_signals m) x ≡ Some s = ap (λ l. slice_get l x) (sym order) ∙ listed in
+      ⊎_elim
+      (λ l. in_front (sym (get_front (input_signals m ++ inner_signals m) (output_signals m) x l) ∙ at))
+      (λ i. not_output i.0 (sym (get_back (input_signals m ++ inner_signals m) (output_signals m) x i.0 i.1) ∙ at))
+      (front_or_back x (length (input_signals m ++ inner_signals m)))
+
+-- ---- the clock, and a signal that is connected to a port
+
+clock_at : (h : Module) (o : Option Signal) → is_clk_at h o ≡ true → (t : Signal) × (o ≡ Some t) × (is_clk t.name ≡ true)
+clock_at h None e = absurd cc
+clock_at h (Some t) e = (t, refl, e)
+
+connected_by : (h : Module) (name : List ℕ) (w y : ℕ) (b : Bool) → (b ≡ true → w ≡ 1) → ((t : Signal) → slice_get h.signals y ≡ Some t → is_clk t.name ≡ true → t.width ≡ 1)
+    → (if b then is_clk_at h (slice_get h.signals y) else sound.has_width h y w) ≡ true → Has h y w
+connected_by h name w y true port own e =
+    let t = clock_at h (slice_get h.signals y) e in
+    record { signal = t.0; listed = t.1; wide = own t.0 t.1 t.2 ∙ sym (port refl) }
+connected_by h name w y false port own e = has_it h y w e
+
+module _ (n : Netlist) (is : IsSound n) (top : Module) (top_is : top_of n.modules ≡ Some top) where
+  module _ (k : ℕ) (m : Module) (listed : slice_get n.modules k ≡ Some m) where
+    laid_module : IsLaidModule (take k n.modules) m
+    laid_module = is.laid.modules k m listed
+
+    sound_module : IsSoundModule m (take k n.modules)
+    sound_module = is.modules k m listed
+
+    clock_wide : (x : ℕ) (s : Signal) → slice_get m.signals x ≡ Some s → is_clk s.name ≡ true → s.width ≡ 1
+    clock_wide x s at clk = ((sound_module.signals x s at).clock clk).1
+
+    acts : EachOf (FitsAction m) m.actions
+    acts = each_listed (FitsAction m) m.actions (λ i a e. action_right m a ((laid_module).actions i a e).memories ((sound_module).actions i a e))
+
+    -- the port that drives a signal
+    port_fits : (path : Path) (x : ℕ) (s : Signal) (i port : ℕ) → IsAt n.modules top path m x s → IsDriven (take k n.modules) m x i port
+        → (sub : Module) × (module_at n.modules top (i ∷ path) ≡ Some sub) × Has sub port s.width
+    port_fits path x s i port at d =
+        let listed_there : slice_get n.modules (d.instance).of ≡ Some d.of = taken n.modules k (d.instance).of d.of d.earlier in
+        let l = (laid_module).instances i d.instance d.stands in
+        let same : l.of ≡ d.of = same_Some l.of d.of (sym l.earlier ∙ d.earlier) in
+        let outputs : length (d.instance).outputs ≡ length (output_signals d.of) = l.outputs ∙ ap (λ (z : Module). length (output_signals z)) same in
+        let few = slice_get_within (d.instance).outputs d.output x d.tied in
+        let room = shorter (λ (t : Signal). is_output_port (kind_of t)) (d.of).signals in
+        let p = some_at (d.of).signals (first_output d.of + d.output) (omega (arith, outputs, few, room)) in
+        let wide : sound.width m x ≡ (p.0).width = ((sound_module).instances i d.instance d.stands).outputs d.of d.earlier d.output x d.tied p.0 p.1 in
+        let low = ((is.laid.modules (d.instance).of d.of listed_there).signals (first_output d.of + d.output) p.0 p.1).low in
+        let own : s.width ≡ sound.width m x = wide_read m x s at.listed (omega (arith, wide, low)) in (
+          d.of,
+          ap (option_and_then (λ (h : Module). option_and_then (λ (c : Instance). slice_get n.modules c.of) (slice_get h.instances i))) at.stands
+              ∙ ap (option_and_then (λ (c : Instance). slice_get n.modules c.of)) d.stands ∙ listed_there,
+          record { signal = p.0; listed = ap (slice_get (d.of).signals) d.port_is ∙ p.1; wide = sym wide ∙ sym own },
+        )
+
+    -- the signal that an input is connected to
+    input_fits_there : (outer : Path) (i x : ℕ) (s : Signal) → slice_get m.signals x ≡ Some s → s.source ≡ source.Input → module_at n.modules top (i ∷ outer) ≡ Some m
+        → (holder : Module) × (module_at n.modules top outer ≡ Some holder) × Has holder (connected n.modules top (instance_at n.modules top outer i) x) s.width
+    input_fits_there outer i x s at input stands =
+        let h = held n.modules top outer i m stands in
+        let r = placed_at n.modules top top_is outer h.holder h.stands in
+        let l = (is.laid.modules r.0 h.holder r.1).instances i h.instance h.listed in
+        let same : l.of ≡ m = same_Some l.of m (sym (taken n.modules r.0 (h.instance).of l.of l.earlier) ∙ h.kind) in
+        let earlier : slice_get (take r.0 n.modules) (h.instance).of ≡ Some m = l.earlier ∙ ap Some same in
+        let inputs : length (h.instance).inputs ≡ length (input_signals m) = l.inputs ∙ ap (λ (z : Module). length (input_signals z)) same in
+        let first = input_first m x s input (laid_module).order at in
+        let y = some_at (h.instance).inputs x (omega (arith, inputs, first)) in
+        let fits = ((is.modules r.0 h.holder r.1).instances i h.instance h.listed).inputs m earlier x y.0 y.1 s at in
+        let there : connected n.modules top (instance_at n.modules top outer i) x ≡ y.0 =
+        ap (λ o. connected n.modules top o x) (ap (option_and_then (λ (z : Module). slice_get z.instances i)) h.stands ∙ h.listed) ∙ ap or_zero y.1 in (
+          h.holder,
+          h.stands,
+          subst (λ z. Has h.holder z s.width) (sym there)
+              (connected_by h.holder s.name s.width y.0 (is_clk s.name) (clock_wide x s at)
+              (λ t e c. (((is.modules r.0 h.holder r.1).signals y.0 t e).clock c).1) fits),
+        )
+
+    module _ (path : Path) (stands : module_at n.modules top path ≡ Some m) where
+      by_path : (x : ℕ) (s : Signal) → slice_get m.signals x ≡ Some s → s.source ≡ source.Input → (q : Path) → module_at n.modules top q ≡ Some m → FitsSource n.modules top q m x s.width source.Input
+      by_path x s at e [] q = tt
+      by_path x s at e (i ∷ outer) q = input_fits_there outer i x s at e q
+
+      drives : (x : ℕ) (s : Signal) (at : slice_get m.signals x ≡ Some s) (from : Source) → s.source ≡ from → IsSource (take k n.modules) m x s.is_output from
+          → source_fits m from s.width ≡ true → FitsSource n.modules top path m x s.width from
+      drives x s at (source.Register initial) e laid fits = below initial (2 ^ s.width) fits
+      drives x s at (source.Assigned a) e laid fits = value_right m s.width a laid.1 fits
+      drives x s at (source.Port i port) e laid fits = port_fits path x s i port (record { stands = stands; listed = at }) laid
+      drives x s at source.Input e laid fits = by_path x s at e path stands
+
+  fits : FitsNet n.modules top
+  fits path m x s at =
+      let k = placed_at n.modules top top_is path m at.stands in
+      drives k.0 m k.1 path at.stands x s at.listed s.source refl (((is.laid.modules k.0 m k.1).signals x s at.listed).drives) (((is.modules k.0 m k.1).signals x s at.listed).fits)
+
+  statements : FitsStatements n.modules top
+  statements = record {
+    acts = λ path m at. let k = placed_at n.modules top top_is path m at in acts k.0 m k.1;
+    begins = λ path m at.
+        let k = placed_at n.modules top top_is path m at in
+        each_listed FitsMemory m.memories (λ j c e. memory_right m c (((is.modules k.0 m k.1).memories j c e).fits));
+  }
+
+  pub right : IsRight n.modules top
+  right = record {
+    fits = fits;
+    narrow = λ path m x s at. let k = placed_at n.modules top top_is path m at.stands in ((is.laid.modules k.0 m k.1).signals x s at.listed).high;
+    values = λ k x m s at listed.
+        narrow_source m (take k n.modules) (is.laid.modules k m at) x s.width s.is_output s.source ((is.laid.modules k m at).signals x s listed).drives ((is.modules k m at).signals x s listed).fits;
+    prints = λ k m at. narrow_actions m (take k n.modules) (is.laid.modules k m at) m.actions (λ j a e. ((is.laid.modules k m at).actions j a e).signals);
+    statements = statements;
+    acts = acts;
+  }
+
+pub right_of_sound : (n : Netlist) → IsSound n → IsRightNet n.modules
+right_of_sound n is top top_is = right n is top top_is

@@ -2,7 +2,7 @@
 
 ghost use Rattle.cycle_sim.specs.Right.{RightOfSound};
 
-/// A sound net whose widths fit can be opened.
+/// A sound netlist can be opened: each of its widths fits.
 pub fn right_of_sound()
     ensures { RightOfSound }
 {}

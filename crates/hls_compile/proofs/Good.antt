@@ -1,7 +1,10 @@
 -- The text of a program of main alone is good Verilog of it.
-use Rattle.std.proofs.Common.{◌≡◌, ℕ, ◌<◌, ◌^◌, List, length, map, true, refl, sym, ap, ◌∙◌, subst, arith}
+use Rattle.std.proofs.Common.{◌≡◌, ℕ, ◌+◌, ◌<◌, ◌^◌, List, length, map, true, refl, sym, ap, ◌∙◌, subst, arith}
 use Rattle.std.proofs.lemmas.List.{length-map}
+use Rattle.std.specs.Prelude.{sum_by}
 use Rattle.c_program.specs.Tree.{Piece, Program}
+use Rattle.c_program.specs.declared.tree.ThreadObject.{ThreadObject}
+use Rattle.c_program.specs.Weight.{thread_count}
 use Rattle.c_program.specs.Resolved.{IsResolved}
 use Rattle.block_ir.specs.declared.code.ThreadCode.{ThreadCode}
 use Rattle.netlist.specs.declared.netlist.Module.{Module}
@@ -13,8 +16,7 @@ use Rattle.planned_code.specs.Planned.{HasScalars}
 use Rattle.planned_code.proofs.Whole.{sequential_is_code}
 use Rattle.fsm_datapath.specs.Leaf.{leaf_of}
 use Rattle.whole_net.specs.Table.{IsArbiterModule}
-use Rattle.whole_net.specs.Whole.{IsGoodOfParts}
-use Rattle.good_verilog.specs.GoodVerilog.{IsGoodVerilog}
+use Rattle.whole_net.specs.Whole.{OfParts}
 use Rattle.hls_compile.specs.Parts.{main_printer, IsMadeOf, IsPrinterFor}
 use Rattle.hls_compile.specs.Compiled.{IsScalar}
 use Rattle.hls_compile.proofs.Plain.{is_plain}
@@ -27,21 +29,21 @@ few_formats P printer is =
     let same = ap length is.of_program.sites in
     (let few = is.few in omega (arith, long, same, few))
 
-module _ (P : Program) (code : ThreadCode) (main arbiter printer : Module) (text : List ℕ)
+module _ (P : Program) (code : ThreadCode) (main arbiter printer : Module)
     (resolved : IsResolved P) (single : IsSingle P) (is_main : IsMadeOf code main) (is_arbiter : IsArbiterModule arbiter) (is_printer : IsPrinterFor P printer) where
   module _ (scalars : HasScalars P) (lowered : IsLowered P code) (typed : IsTypedCode P code) where
     coded : IsCode P code is_main.plan 4
     coded = sequential_is_code P code is_main.plan resolved single scalars lowered typed is_main.sequential
 
-    is_good : IsGoodOfParts main arbiter printer text → IsGoodVerilog P text
-    is_good good =
+    of_parts : (Holds : Program → Type 0) → OfParts Holds main arbiter printer → Holds P
+    of_parts Holds given =
         let plain = is_plain P code is_main.plan (few_formats P printer is_printer) coded typed is_main.sequential in
         let shape = is_main.shape main_printer plain in
         let leaf = is_main.leaf main_printer plain in
         let runs = is_main.runs main_printer plain in
         let thread = is_thread main shape leaf code is_main.plan runs in
         let wide = is_printer.of_program.wide in
-        good P code is_main.plan 3 (leaf_of main_printer main) is_printer.shape
+        given P code is_main.plan 3 (leaf_of main_printer main) is_printer.shape
         (record {
           resolved = resolved;
           single = single;
@@ -51,7 +53,11 @@ module _ (P : Program) (code : ThreadCode) (main arbiter printer : Module) (text
         })
         is_printer.of_program (stands main shape leaf) is_arbiter is_printer.is
 
-  -- as the functions of lowering and of the text promise them
-  pub text_is_good : (is_sequential_program P ≡ true → IsResolved P → IsLowered P code) → (is_sequential_program P ≡ true → IsResolved P → IsTypedCode P code) →
-      IsGoodOfParts main arbiter printer text → IsScalar P → IsGoodVerilog P text
-  text_is_good lowered typed good scalar = is_good scalar.scalars (lowered scalar.sequential resolved) (typed scalar.sequential resolved) good
+  -- as the functions of lowering promise them
+  pub of_scalar_parts : (Holds : Program → Type 0) → (is_sequential_program P ≡ true → IsResolved P → IsLowered P code) → (is_sequential_program P ≡ true → IsResolved P → IsTypedCode P code) →
+      OfParts Holds main arbiter printer → IsScalar P → Holds P
+  of_scalar_parts Holds lowered typed given scalar = of_parts scalar.scalars (lowered scalar.sequential resolved) (typed scalar.sequential resolved) Holds given
+
+-- without thread objects main is the one thread
+pub one_thread : (P : Program) → IsSingle P → thread_count P ≡ 1
+one_thread P single = ap (λ l. 1 + sum_by (λ (object : ThreadObject). object.length) l) single.threads

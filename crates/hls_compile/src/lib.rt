@@ -2,6 +2,7 @@
 #![tactic(auto)]
 
 mod parts;
+mod scalar;
 mod sites;
 mod unbuilt;
 
@@ -15,7 +16,9 @@ ghost use Rattle.good_verilog.specs.GoodVerilog.{IsGoodVerilog};
 ghost use Rattle.c_program.specs.Plain.{program_of};
 ghost use Rattle.c_profile.specs.declared.refusal.Refusal as refusal;
 ghost use Rattle.c_profile.specs.Profile.{IsAccepted, IsRefused};
-ghost use Rattle.hls_compile.specs.Compiled.{IsCompiled, IsScalar, IsUnbuilt};
+ghost use Rattle.c_program.specs.Weight.{thread_count};
+ghost use Rattle.whole_net.specs.Whole.{IsNetOf};
+ghost use Rattle.hls_compile.specs.Compiled.{IsCompiled, IsRunnable, IsScalar, IsUnbuilt};
 ghost use Rattle.hls_compile.specs.declared.CompileError.TheVariants as error;
 ghost use Rattle.hls_compile.specs.declared.unbuilt.Construct as construct;
 
@@ -26,10 +29,12 @@ use c_program::tree::Program;
 use c_resolved::is_resolved;
 use hls_io::Bytes;
 use ir_lower::fault::LoweringFault;
+use netlist::netlist::Netlist;
+use scalar::is_scalar;
 use std::alloc::{AllocError, Global};
 use thiserror::Error;
 pub use unbuilt::Construct;
-use whole_net::text::verilog;
+use whole_net::text::{Written, verilog};
 
 /// What a text compiles to.
 #[derive(Drop)]
@@ -90,9 +95,11 @@ fn code_of(alloc: Global, program: &Program) -> Result<ThreadCode, BuildError>
     }
 }
 
-/// The Verilog of a program.
-fn text_of(alloc: Global, program: &Program) -> Result<Bytes, BuildError>
-    ensures { IfOk result (λ text. IsScalar (program_of program.now) → IsGoodVerilog (program_of program.now) text) }
+/// The net of a program, and its Verilog.
+fn text_of(alloc: Global, program: &Program) -> Result<Written, BuildError>
+    ensures good { IfOk result (λ w. IsScalar (program_of program.now) → IsGoodVerilog (program_of program.now) w.text) }
+    ensures net { IfOk result (λ w. IsScalar (program_of program.now) → IsNetOf 1 w.net w.text) }
+    ensures one { OnOk result (thread_count (program_of program.now) ≡ 1) }
 {
     let code = code_of(alloc, program)?;
     let main = parts::main_module(alloc, &code)?;
@@ -100,8 +107,20 @@ fn text_of(alloc: Global, program: &Program) -> Result<Bytes, BuildError>
         return Err(BuildError::NotBuilt(Construct::Size));
     };
     let arbiter = parts::arbiter_module(alloc)?;
-    let text = verilog(alloc, main, arbiter, printer)?;
-    Ok(text)
+    let written = verilog(alloc, main, arbiter, printer)?;
+    Ok(written)
+}
+
+/// The same of a program of which it is proved what its net does.
+fn scalar_text_of(alloc: Global, program: &Program) -> Result<Written, BuildError>
+    ensures good { IfOk result (λ w. IsGoodVerilog (program_of program.now) w.text) }
+    ensures net { IfOk result (λ w. IsNetOf 1 w.net w.text) }
+    ensures one { OnOk result (thread_count (program_of program.now) ≡ 1) }
+{
+    if !is_scalar(program) {
+        return Err(BuildError::NotBuilt(Construct::Arrays));
+    }
+    text_of(alloc, program)
 }
 
 /// The program of a text, within all limits, or why there is none.
@@ -125,10 +144,37 @@ pub fn compile(alloc: Global, text: &[u8]) -> Result<Compiled, CompileError>
 {
     let accepted = program_in(alloc, text)?;
     match text_of(alloc, &accepted.program) {
-        Ok(text) => Ok(Compiled {
-            text,
+        Ok(written) => Ok(Compiled {
+            text: written.text,
             threads: thread_count(&accepted.program),
             weight: accepted.weight,
+        }),
+        Err(BuildError::NotBuilt(construct)) => Err(CompileError::NotBuilt(construct)),
+        Err(BuildError::Memory) => Err(CompileError::Memory),
+    }
+}
+
+/// A Verilog text, and the net that it reads as.
+#[derive(Drop)]
+pub struct Runnable {
+    pub text: Bytes,
+    pub net: Netlist,
+    /// The number of hardware threads.
+    pub threads: u32,
+}
+
+/// The Verilog of a C text, with its net, to be run. A program with local arrays is not built so yet.
+pub fn compile_to_run(alloc: Global, text: &[u8]) -> Result<Runnable, CompileError>
+    ensures ok { IfOk result (λ r. IsRunnable text.now r.threads r.net r.text) }
+    ensures refused { IfErr result (λ e. (r : refusal.Refusal) → e ≡ error.Refused r → IsRefused text.now r) }
+    ensures unbuilt { IfErr result (λ e. (c : construct.Construct) → e ≡ error.NotBuilt c → IsUnbuilt text.now) }
+{
+    let accepted = program_in(alloc, text)?;
+    match scalar_text_of(alloc, &accepted.program) {
+        Ok(written) => Ok(Runnable {
+            text: written.text,
+            net: written.net,
+            threads: 1,
         }),
         Err(BuildError::NotBuilt(construct)) => Err(CompileError::NotBuilt(construct)),
         Err(BuildError::Memory) => Err(CompileError::Memory),

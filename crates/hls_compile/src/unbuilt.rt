@@ -16,6 +16,9 @@ pub enum Construct {
     Globals,
     #[error("calls of functions")]
     Calls,
+    /// Local arrays, in a program that is to be run.
+    #[error("runs of local arrays")]
+    Arrays,
     /// A program, or its hardware, that a check does not find in order. No program of the profile is known to be such.
     #[error("a program that is not seen to be in order")]
     Unchecked,

@@ -13,3 +13,4 @@ whole-Ends (status.WriteFault n m) due line out err may took = absurd may
 whole-Ends status.Memory due line out err may took = (refl, took.0, inl took.1)
 whole-Ends (status.NotBuilt c) due line out err may took = (refl, took)
 whole-Ends (status.Walked end) due line out err may took = (refl, took)
+whole-Ends (status.Cycles cycles) due line out err may took = (refl, took)

@@ -1,7 +1,7 @@
 -- What a call owes for the task that its words ask for and the text that its source gives.
-use Rattle.std.specs.Prelude.{◌≡◌, ℕ, ◌<◌, List, [], length, Option, Some, None, IfSome, IsSome}
+use Rattle.std.specs.Prelude.{◌≡◌, ℕ, ◌<◌, Bool, true, false, List, [], length, Option, Some, None, IfSome, IsSome}
 use Rattle.hls_words.specs.declared.task.Task.{Task}
-use Rattle.hls_words.specs.declared.task.Task.TheVariants.{Build, Walk}
+use Rattle.hls_words.specs.declared.task.Task.TheVariants.{Build, Step, Walk}
 use Rattle.turns.specs.declared.Turn.{Turn}
 use Rattle.turns.specs.Turns.{threads_of}
 use Rattle.c_program.specs.Tree.{Program}
@@ -11,12 +11,14 @@ use Rattle.c_interpreter.specs.Walk.{IsWalk}
 use Rattle.c_profile.specs.declared.refusal.Refusal.{Refusal}
 use Rattle.c_profile.specs.declared.refusal.Refusal.TheVariants as refusal
 use Rattle.c_profile.specs.Profile.{most_bytes, IsAccepted, IsRefused}
-use Rattle.hls_compile.specs.Compiled.{IsCompiled, IsUnbuilt}
+use Rattle.netlist.specs.declared.netlist.Netlist.{Netlist}
+use Rattle.hls_compile.specs.Compiled.{IsCompiled, IsRunnable, IsUnbuilt}
+use Rattle.round_robin.specs.Round.{IsRound}
 use Rattle.hls_tool.specs.declared.status.Status.{Status}
 use Rattle.hls_tool.specs.declared.status.Status.TheVariants as status
 use Rattle.hls_tool.specs.declared.status.WalkEnd.{WalkEnd}
 use Rattle.hls_tool.specs.declared.status.WalkEnd.TheVariants as walked
-use Rattle.hls_tool.specs.Lines.{built_line, memory_line, read_fault_line, refusal_line, unbuilt_line, usage_line, walk_line}
+use Rattle.hls_tool.specs.Lines.{built_line, cycles_line, memory_line, read_fault_line, refusal_line, unbuilt_line, usage_line, walk_line}
 
 -- what a call owes: its status, the Verilog, the bytes for out and the line for err
 pub record Due : Type 0 where
@@ -79,16 +81,44 @@ pub record IsWalked (turns : List Turn) (left : Option (List ℕ)) (d : Due) (s 
   pub plain : d.text ≡ []
   pub err : d.err ≡ walk_line end
 
+-- the text is accepted as a program; of the net that its good Verilog reads as, so many cycles ran under the choices of `top_rr`,
+-- the fewest after which done is shown, or else so many as were asked for; and what was written goes to out
+pub record IsRun (most : ℕ) (left : Option (List ℕ)) (d : Due) (cycles : ℕ) (done : Bool) : Type 0 where
+  pub text : List ℕ
+  pub threads : ℕ
+  pub net : Netlist
+  pub gave : Gave left text
+  pub compiled : IsRunnable text threads net d.text
+  pub ran : IsRound net.modules threads most cycles done d.out
+  pub err : d.err ≡ cycles_line done cycles
+
+-- done is shown, or not
+abbrev pub run_status : Bool → ℕ → Status
+run_status true cycles = status.Ok
+run_status false cycles = status.Cycles cycles
+
+abbrev pub IsStepped : ℕ → Option (List ℕ) → Due → Status → Type 0
+IsStepped most left d s = (cycles : ℕ) × (done : Bool) × IsRun most left d cycles done × (s ≡ run_status done cycles)
+
 -- the task did all that it asks for
 abbrev pub Succeeds : Option Task → Option (List ℕ) → Due → Type 0
 Succeeds None left d = ⊥
 Succeeds (Some Build) left d = IsBuilt left d
+Succeeds (Some (Step most)) left d = (cycles : ℕ) × IsRun most left d cycles true
 Succeeds (Some (Walk turns)) left d = IsWalked turns left d status.Ok
 
 -- a walk ended so, before main returned
 abbrev pub Halts : Option Task → Option (List ℕ) → Due → Status → Type 0
 Halts (Some (Walk turns)) left d s = IsWalked turns left d s
 Halts other left d s = ⊥
+
+-- all cycles that the words ask for ran, and done is not shown
+abbrev pub RunsOut : Option Task → Option (List ℕ) → Due → ℕ → Type 0
+RunsOut (Some (Step most)) left d cycles = IsRun most left d cycles false
+RunsOut other left d cycles = ⊥
+
+abbrev pub HasRunOut : Option Task → Option (List ℕ) → ℕ → Type 0
+HasRunOut task left cycles = (d : Due) × RunsOut task left d cycles
 
 -- the words ask for a walk, and the program of the text comes to this end by it
 abbrev pub IsWalkEnd : Option Task → Option (List ℕ) → WalkEnd → Type 0
@@ -106,6 +136,7 @@ OwesAt task left rose d status.ReadFault = IsSome task × rose × IsPlain d read
 OwesAt task left rose d (status.WriteFault out err) = ⊥
 OwesAt task left rose d status.Memory = IsPlain d memory_line
 OwesAt task left rose d (status.Walked end) = Halts task left d (status.Walked end)
+OwesAt task left rose d (status.Cycles cycles) = RunsOut task left d cycles
 
 abbrev pub Owes : Option Task → Option (List ℕ) → Type 0 → Due → Type 0
 Owes task left rose d = OwesAt task left rose d d.status

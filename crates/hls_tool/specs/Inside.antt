@@ -1,5 +1,7 @@
 -- How the code holds what it owes, and the parts of a command.
 use Rattle.std.specs.Prelude.{◌≡◌, ℕ, List, [], string_bytes, Option, ⊤}
+use Rattle.hls_compile.specs.declared.CompileError.{CompileError}
+use Rattle.hls_compile.specs.declared.CompileError.TheVariants as error
 use Rattle.hls_tool.specs.declared.status.Status.{Status}
 use Rattle.hls_tool.specs.declared.status.Status.TheVariants as status
 use Rattle.hls_tool.specs.declared.commands.Stop.{Stop}
@@ -39,6 +41,18 @@ StopsBy left rose stop.ReadFault = rose
 StopsBy left rose (stop.Refused r) = IsRefusedBy left r
 StopsBy left rose (stop.NotBuilt c) = IsUnbuiltBy left
 StopsBy left rose stop.Memory = ⊤
+
+-- why a text has no Verilog
+abbrev pub stop_of : CompileError → Stop
+stop_of (error.Refused r) = stop.Refused r
+stop_of (error.NotBuilt c) = stop.NotBuilt c
+stop_of error.Memory = stop.Memory
+
+-- a run stops for want of memory, or since its net has no simulator
+abbrev pub StopsRun : Stop → Type 0
+StopsRun stop.Memory = ⊤
+StopsRun (stop.NotBuilt c) = ⊤
+StopsRun s = ⊥
 
 -- the answer to a stop; want of memory may stand in its place
 abbrev pub StopStatus : Stop → Due → Status → Type 0

@@ -1,5 +1,5 @@
 -- The numbers of the statuses, and the lines on err.
-use Rattle.std.specs.Prelude.{ℕ, List, ◌++◌, codes, decimal}
+use Rattle.std.specs.Prelude.{ℕ, Bool, true, false, List, ◌++◌, codes, decimal}
 use Rattle.c_rules.specs.declared.fault.Rule.{Rule}
 use Rattle.c_rules.specs.declared.fault.Rule.TheVariants as rule
 use Rattle.c_rules.specs.Faults.{number}
@@ -28,6 +28,7 @@ status_number status.Usage = 2
 status_number status.ReadFault = 3
 status_number (status.WriteFault out err) = 4
 status_number status.Memory = 5
+status_number (status.Cycles cycles) = 9
 status_number (status.Walked end) = 10
 
 abbrev pub usage_line : List ℕ
@@ -78,6 +79,7 @@ abbrev pub construct_words : Construct → List ℕ
 construct_words construct.Threads = codes "pthread objects and calls"
 construct_words construct.Globals = codes "globals"
 construct_words construct.Calls = codes "calls of functions"
+construct_words construct.Arrays = codes "runs of local arrays"
 construct_words construct.Unchecked = codes "a program that is not seen to be in order"
 construct_words construct.Size = codes "so large a function"
 
@@ -89,6 +91,12 @@ unbuilt_line c = codes "hls: refused: not built yet: " ++ (construct_words c ++ 
 abbrev pub built_line : ℕ → ℕ → ℕ → List ℕ
 built_line threads weight bytes =
     codes "hls: built, " ++ (decimal threads ++ (codes " threads, weight " ++ (decimal weight ++ (codes ", " ++ (decimal bytes ++ codes " bytes\n")))))
+
+-- ---- runs of the Verilog
+
+abbrev pub cycles_line : Bool → ℕ → List ℕ
+cycles_line true cycles = codes "hls: done, " ++ (decimal cycles ++ codes " cycles\n")
+cycles_line false cycles = codes "hls: not done, " ++ (decimal cycles ++ codes " cycles\n")
 
 -- ---- walks
 

@@ -3,7 +3,7 @@ ghost use Rattle.hls_io.specs.Causes.{Rose};
 ghost use Rattle.hls_words.specs.Line.{task_of};
 ghost use Rattle.hls_tool.specs.Call.{Answered, IsWriteFault};
 ghost use Rattle.hls_tool.specs.Delivery.{passage};
-ghost use Rattle.hls_tool.specs.Answers.{IsRefusedBy, IsUnbuiltBy, IsWalkEnd};
+ghost use Rattle.hls_tool.specs.Answers.{HasRunOut, IsRefusedBy, IsUnbuiltBy, IsWalkEnd};
 
 use crate::commands::answer;
 use crate::deliver::deliver;
@@ -24,6 +24,7 @@ pub fn hls<S: Source, O: Sink, E: Sink>(
     ensures refused { (r : _) → result.status ≡ Status.Refused r → IsRefusedBy (S.left source.old) r }
     ensures write_fault { IsWriteFault result.status → Rose (O.faults out.old) (O.faults out.new) ⊎ Rose (E.faults err.old) (E.faults err.new) }
     ensures unbuilt { (c : _) → result.status ≡ Status.NotBuilt c → IsUnbuiltBy (S.left source.old) }
+    ensures cycles { (n : _) → result.status ≡ Status.Cycles n → HasRunOut (task_of (map string_bytes words.now)) (S.left source.old) n }
     ensures walked { (end : _) → result.status ≡ Status.Walked end → IsWalkEnd (task_of (map string_bytes words.now)) (S.left source.old) end }
     ensures answered { Answered (task_of (map string_bytes words.now)) (S.left source.old)
         (Rose (S.faults source.old) (S.faults source.new))

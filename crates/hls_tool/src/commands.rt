@@ -4,19 +4,24 @@ ghost use Rattle.hls_io.specs.Causes.{Rose};
 ghost use Rattle.hls_words.specs.Line.{task_of};
 ghost use Rattle.c_program.specs.Plain.{program_of};
 ghost use Rattle.c_profile.specs.Profile.{IsAccepted};
-ghost use Rattle.hls_tool.specs.Answers.{Gave, IsBuilt, IsPlain, IsWalked, Owes, status_of};
-ghost use Rattle.hls_tool.specs.Inside.{AnswersStop, StopsBy, due_of, line_bytes};
+ghost use Rattle.hls_tool.specs.Answers.{Gave, IsBuilt, IsPlain, IsStepped, IsWalked, Owes, run_status, status_of};
+ghost use Rattle.hls_tool.specs.Inside.{AnswersStop, StopsBy, StopsRun, due_of, line_bytes, stop_of};
 ghost use Rattle.hls_tool.specs.declared.commands.Stop.TheVariants.{Memory};
-ghost use Rattle.hls_compile.specs.Compiled.{IsCompiled};
+ghost use Rattle.hls_compile.specs.Compiled.{IsCompiled, IsRunnable};
+ghost use Rattle.round_robin.specs.Round.{IsRound};
 
 use crate::answer::{Answer, Line, Out};
-use crate::lines::{MEMORY, READ_FAULT, USAGE, built_line, refusal_line, unbuilt_line, walk_line};
+use crate::lines::{
+    MEMORY, READ_FAULT, USAGE, built_line, cycles_line, refusal_line, unbuilt_line, walk_line,
+};
 use crate::{Status, WalkEnd};
 use c_interpreter::walk::{WalkEnd as Ends, walk};
 use c_profile::{Accepted, ProfileError, Refusal, accept};
-use hls_compile::{CompileError, Compiled, Construct, compile};
+use cycle_sim::sim::OpenError;
+use hls_compile::{CompileError, Compiled, Construct, Runnable, compile, compile_to_run};
 use hls_io::{Bytes, ReadAllError, Source, read_all};
 use hls_words::{Task, WordsError, parse};
+use round_robin::run::{Ran, run};
 use std::alloc::{AllocError, Global};
 use thiserror::Error;
 use turns::Turn;
@@ -71,7 +76,19 @@ fn text_read<S: Source>(alloc: Global, source: &mut S) -> Result<Bytes, Stop>
     }
 }
 
+/// Why a text has no Verilog.
+fn stop_of(error: CompileError) -> Stop
+    ensures { result ≡ stop_of error }
+{
+    match error {
+        CompileError::Refused(refusal) => Stop::Refused(refusal),
+        CompileError::NotBuilt(construct) => Stop::NotBuilt(construct),
+        CompileError::Memory => Stop::Memory,
+    }
+}
+
 /// Reads the text and compiles it.
+#[tactic(auto, using(crate::proofs::RefusalLemmas::stops))]
 fn compiled<S: Source>(alloc: Global, source: &mut S) -> Result<Compiled, Stop>
     ensures ok { IfOk result (λ c. (text : _) × Gave (S.left source.old) text × IsCompiled text c.threads c.weight c.text) }
     ensures stop { IfErr result (StopsBy (S.left source.old) (Rose (S.faults source.old) (S.faults source.new))) }
@@ -80,9 +97,7 @@ fn compiled<S: Source>(alloc: Global, source: &mut S) -> Result<Compiled, Stop>
     let text = text_read(alloc, source)?;
     match compile(alloc, text.as_slice()) {
         Ok(compiled) => Ok(compiled),
-        Err(CompileError::Refused(refusal)) => Err(Stop::Refused(refusal)),
-        Err(CompileError::NotBuilt(construct)) => Err(Stop::NotBuilt(construct)),
-        Err(CompileError::Memory) => Err(Stop::Memory),
+        Err(error) => Err(stop_of(error)),
     }
 }
 
@@ -160,6 +175,64 @@ fn walk_turns<S: Source>(alloc: Global, source: &mut S, turns: &[Turn]) -> Resul
     })
 }
 
+/// Reads the text and compiles it to be run.
+#[tactic(auto, using(crate::proofs::RefusalLemmas::stops))]
+fn runnable<S: Source>(alloc: Global, source: &mut S) -> Result<Runnable, Stop>
+    ensures ok { IfOk result (λ r. (text : _) × Gave (S.left source.old) text × IsRunnable text r.threads r.net r.text) }
+    ensures stop { IfErr result (StopsBy (S.left source.old) (Rose (S.faults source.old) (S.faults source.new))) }
+    ensures later { S.faults source.old ≤ S.faults source.new }
+{
+    let text = text_read(alloc, source)?;
+    match compile_to_run(alloc, text.as_slice()) {
+        Ok(runnable) => Ok(runnable),
+        Err(error) => Err(stop_of(error)),
+    }
+}
+
+/// Runs a net. That it has no simulator is known of no net that is compiled.
+#[tactic(auto, using(crate::proofs::RunLemmas::right_net, crate::proofs::RunLemmas::takes_choices, crate::proofs::RunLemmas::few_threads))]
+fn ran(alloc: Global, built: &Runnable, cycles: u32) -> Result<Ran, Stop>
+    requires { (text : _) × IsRunnable text built.now.threads built.now.net built.now.text }
+    ensures ok { IfOk result (λ r. IsRound built.now.net.modules built.now.threads cycles r.cycles r.is_done r.printed) }
+    ensures stop { IfErr result StopsRun }
+{
+    match run(alloc, built.net.modules.as_slice(), built.threads, cycles) {
+        Ok(ran) => Ok(ran),
+        Err(OpenError::Memory) => Err(Stop::Memory),
+        Err(OpenError::NoTop | OpenError::NoDone | OpenError::Loop | OpenError::Printers) => {
+            Err(Stop::NotBuilt(Construct::Unchecked))
+        }
+    }
+}
+
+/// The status of a run.
+fn run_status(ran: &Ran) -> Status
+    ensures { result ≡ run_status ran.now.is_done ran.now.cycles }
+{
+    if ran.is_done {
+        Status::Ok
+    } else {
+        Status::Cycles { cycles: ran.cycles }
+    }
+}
+
+/// Runs the Verilog for so many cycles at most.
+fn step<S: Source>(alloc: Global, source: &mut S, cycles: u32) -> Result<Answer, Stop>
+    ensures ok { IfOk result (λ a. IsStepped cycles (S.left source.old) (due_of a) a.status) }
+    ensures stop { IfErr result (StopsBy (S.left source.old) (Rose (S.faults source.old) (S.faults source.new))) }
+    ensures later { S.faults source.old ≤ S.faults source.new }
+{
+    let built = runnable(alloc, source)?;
+    let ran = ran(alloc, &built, cycles)?;
+    let line = cycles_line(alloc, ran.is_done, ran.cycles)?;
+    Ok(Answer {
+        status: run_status(&ran),
+        text: built.text,
+        out: Out::Printed(ran.printed),
+        line: Line::Made(line),
+    })
+}
+
 /// The answer to a stop, where there is memory for its line.
 fn stop_answer(alloc: Global, stop: Stop) -> Result<Answer, AllocError>
     ensures { IfOk result (λ a. AnswersStop stop (due_of a)) }
@@ -187,12 +260,14 @@ fn stopped(alloc: Global, stop: Stop) -> Answer
     }
 }
 
+#[tactic(auto, using(crate::proofs::RunLemmas::stepped_owes))]
 fn run_task<S: Source>(alloc: Global, task: Task, source: &mut S) -> Answer
     ensures owes { Owes (Some task) (S.left source.old) (Rose (S.faults source.old) (S.faults source.new)) (due_of result) }
     ensures later { S.faults source.old ≤ S.faults source.new }
 {
     let done = match task {
         Task::Build => build(alloc, source),
+        Task::Step { cycles } => step(alloc, source, cycles),
         Task::Walk(turns) => walk_turns(alloc, source, turns.as_slice()),
     };
     match done {

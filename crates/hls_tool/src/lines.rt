@@ -45,6 +45,7 @@ fn construct_words(construct: Construct) -> &'static str
         Construct::Threads => "pthread objects and calls",
         Construct::Globals => "globals",
         Construct::Calls => "calls of functions",
+        Construct::Arrays => "runs of local arrays",
         Construct::Unchecked => "a program that is not seen to be in order",
         Construct::Size => "so large a function",
     }
@@ -151,6 +152,17 @@ fn blocked_words(cause: BlockedCause) -> &'static str
         BlockedCause::Mutex => "mutex",
         BlockedCause::Barrier => "barrier",
         BlockedCause::NotRunning => "not running",
+    }
+}
+
+/// The line of a run of so many cycles.
+pub fn cycles_line(alloc: Global, is_done: bool, cycles: u32) -> Result<String, AllocError>
+    ensures { IfOk result (λ s. string_bytes s ≡ lines.cycles_line is_done cycles) }
+{
+    if is_done {
+        format!(in alloc; "hls: done, {cycles} cycles\n")
+    } else {
+        format!(in alloc; "hls: not done, {cycles} cycles\n")
     }
 }
 

@@ -44,6 +44,8 @@ pub enum Status {
     Memory,
     /// Main has not returned in the steps of the walk.
     Walked(WalkEnd),
+    /// So many cycles ran, and done is not shown.
+    Cycles { cycles: u32 },
 }
 
 impl Status {
@@ -58,6 +60,7 @@ impl Status {
             Status::ReadFault => 3,
             Status::WriteFault { .. } => 4,
             Status::Memory => 5,
+            Status::Cycles { .. } => 9,
             Status::Walked(_) => 10,
         }
     }
@@ -67,6 +70,6 @@ impl Status {
 #[derive(Drop)]
 pub struct Outcome {
     pub status: Status,
-    /// The Verilog text of a build; else it is empty.
+    /// The Verilog text of a build, and of one that ran; else it is empty.
     pub text: Bytes,
 }

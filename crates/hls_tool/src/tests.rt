@@ -174,6 +174,7 @@ fn has_a_number_for_each_status(rt: HostRuntime) -> Result<(), Fail> {
         (Status::ReadFault, 3),
         (Status::WriteFault { out: 0, err: 0 }, 4),
         (Status::Memory, 5),
+        (Status::Cycles { cycles: 0 }, 9),
     ] {
         assert_eq!(rt; status.number(), number);
     }
@@ -278,6 +279,37 @@ fn walks(rt: HostRuntime) -> Result<(), Fail> {
         assert_eq!(rt; err.held(), line.as_bytes(), "at {text}");
         assert_eq!(rt; out.held(), printed.as_bytes(), "at {text}");
         assert_eq!(rt; status.number(), number, "at {text}");
+    }
+    Ok(())
+}
+
+const FIRST: &str = "int main(void){int x = 6; x = x * 7; printf(\"%d\\n\", x); return 0;}";
+
+#[test]
+fn steps(rt: HostRuntime) -> Result<(), Fail> {
+    let alloc = rt.alloc();
+    for (text, cycles, number, printed, front) in [
+        (FIRST, "3136", 0u8, "42\n", "hls: done, "),
+        (FIRST, "0", 9, "", "hls: not done, 0 cycles\n"),
+        (COUNTING, "11520", 0, "1\n2\n3\n", "hls: done, "),
+        (COUNTING, "0", 9, "", "hls: not done, 0 cycles\n"),
+        (
+            "int main(void){int a[2]; a[0] = 1; return a[0];}",
+            "9",
+            1,
+            "",
+            "hls: refused: not built yet: runs of local arrays\n",
+        ),
+        ("int x;", "9", 1, "", "hls: refused E14: no main\n"),
+    ] {
+        let mut source = MemSource::new(text.as_bytes(), 4096, &[]);
+        let mut out = MemSink::new(alloc, 1000, 4096, &[])?;
+        let mut err = MemSink::new(alloc, 1000, 4096, &[])?;
+        let words = ["hls", "step", "--cycles", cycles];
+        let outcome = call(alloc, &words, &mut source, &mut out, &mut err)?;
+        assert!(rt; err.held().starts_with(front.as_bytes()), "at {text}");
+        assert_eq!(rt; out.held(), printed.as_bytes(), "at {text}");
+        assert_eq!(rt; outcome.status.number(), number, "at {text}");
     }
     Ok(())
 }

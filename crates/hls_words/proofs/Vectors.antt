@@ -2,10 +2,9 @@
 use Rattle.std.proofs.Common.{◌≡◌, ℕ, List, [], ◌∷◌, refl, codes}
 use Rattle.std.specs.Prelude.{Some, None}
 use Rattle.clap.proofs.OnLiterals.{clap_on_literals}
-use Rattle.hls_words.specs.declared.task.Request.TheVariants.{Step}
 use Rattle.turns.specs.Turns.{turn}
-use Rattle.hls_words.specs.declared.task.Task.TheVariants.{Build, Walk}
-use Rattle.hls_words.specs.Line.{command_line, request_of, task_of}
+use Rattle.hls_words.specs.declared.task.Task.TheVariants.{Build, Step, Walk}
+use Rattle.hls_words.specs.Line.{command_line, task_of}
 
 builds : task_of (codes "hls" ∷ codes "build" ∷ []) ≡ Some Build
 unfolding clap_on_literals command_line
@@ -35,10 +34,6 @@ unknown_command = refl
 other_case : task_of (codes "hls" ∷ codes "Build" ∷ []) ≡ None
 unfolding clap_on_literals command_line
 other_case = refl
-
-command_to_come : task_of (codes "hls" ∷ codes "step" ∷ codes "--cycles" ∷ codes "3136" ∷ []) ≡ None
-unfolding clap_on_literals command_line
-command_to_come = refl
 
 option_to_come : task_of (codes "hls" ∷ codes "build" ∷ codes "--jobs" ∷ codes "2" ∷ []) ≡ None
 unfolding clap_on_literals command_line
@@ -76,41 +71,41 @@ help_of_build : task_of (codes "hls" ∷ codes "build" ∷ codes "--help" ∷ []
 unfolding clap_on_literals command_line
 help_of_build = refl
 
--- ---- the command of the table that is still to come
+-- ---- numbers of cycles
 
-steps : request_of (codes "hls" ∷ codes "step" ∷ codes "--cycles" ∷ codes "3136" ∷ []) ≡ Some (Step 3136)
+steps : task_of (codes "hls" ∷ codes "step" ∷ codes "--cycles" ∷ codes "3136" ∷ []) ≡ Some (Step 3136)
 unfolding clap_on_literals command_line
 steps = refl
 
-steps_none : request_of (codes "hls" ∷ codes "step" ∷ codes "--cycles=0" ∷ []) ≡ Some (Step 0)
+steps_none : task_of (codes "hls" ∷ codes "step" ∷ codes "--cycles=0" ∷ []) ≡ Some (Step 0)
 unfolding clap_on_literals command_line
 steps_none = refl
 
-minus_zero : request_of (codes "hls" ∷ codes "step" ∷ codes "--cycles=-0" ∷ []) ≡ Some (Step 0)
+minus_zero : task_of (codes "hls" ∷ codes "step" ∷ codes "--cycles=-0" ∷ []) ≡ Some (Step 0)
 unfolding clap_on_literals command_line
 minus_zero = refl
 
-plus : request_of (codes "hls" ∷ codes "step" ∷ codes "--cycles=+0010" ∷ []) ≡ Some (Step 10)
+plus : task_of (codes "hls" ∷ codes "step" ∷ codes "--cycles=+0010" ∷ []) ≡ Some (Step 10)
 unfolding clap_on_literals command_line
 plus = refl
 
-most_steps : request_of (codes "hls" ∷ codes "step" ∷ codes "--cycles=4294967295" ∷ []) ≡ Some (Step 4294967295)
+most_steps : task_of (codes "hls" ∷ codes "step" ∷ codes "--cycles=4294967295" ∷ []) ≡ Some (Step 4294967295)
 unfolding clap_on_literals command_line
 most_steps = refl
 
-one_step_more : request_of (codes "hls" ∷ codes "step" ∷ codes "--cycles=4294967296" ∷ []) ≡ None
+one_step_more : task_of (codes "hls" ∷ codes "step" ∷ codes "--cycles=4294967296" ∷ []) ≡ None
 unfolding clap_on_literals command_line
 one_step_more = refl
 
-no_cycles : request_of (codes "hls" ∷ codes "step" ∷ []) ≡ None
+no_cycles : task_of (codes "hls" ∷ codes "step" ∷ []) ≡ None
 unfolding clap_on_literals command_line
 no_cycles = refl
 
-below_zero : request_of (codes "hls" ∷ codes "step" ∷ codes "--cycles" ∷ codes "-5" ∷ []) ≡ None
+below_zero : task_of (codes "hls" ∷ codes "step" ∷ codes "--cycles" ∷ codes "-5" ∷ []) ≡ None
 unfolding clap_on_literals command_line
 below_zero = refl
 
-cycles_twice : request_of (codes "hls" ∷ codes "step" ∷ codes "--cycles=1" ∷ codes "--cycles=1" ∷ []) ≡ None
+cycles_twice : task_of (codes "hls" ∷ codes "step" ∷ codes "--cycles=1" ∷ codes "--cycles=1" ∷ []) ≡ None
 unfolding clap_on_literals command_line
 cycles_twice = refl
 

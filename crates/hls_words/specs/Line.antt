@@ -108,7 +108,7 @@ request_of words = unless_fails (fault_of command_line words)
 -- the commands that exist; the others of the table are still to come
 abbrev pub task_for : Request → Option Task
 task_for request.Build = Some task.Build
-task_for (request.Step cycles) = None
+task_for (request.Step cycles) = Some (task.Step cycles)
 task_for (request.Walk turns) = Some (task.Walk turns)
 
 -- what the words ask for, if they are of the grammar: of the table, with a command that exists

@@ -9,6 +9,8 @@ use turns::Turn;
 pub enum Task {
     /// Write the Verilog text of the C text.
     Build,
+    /// Run the Verilog for so many cycles at most.
+    Step { cycles: u32 },
     /// Take C steps of threads, in these turns.
     Walk(Items<Turn>),
 }
@@ -30,7 +32,7 @@ impl Request {
     {
         match self {
             Request::Build => Some(Task::Build),
-            Request::Step { .. } => None,
+            Request::Step { cycles } => Some(Task::Step { cycles }),
             Request::Walk(turns) => Some(Task::Walk(turns)),
         }
     }

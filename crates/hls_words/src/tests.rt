@@ -38,10 +38,18 @@ fn takes_the_commands(rt: HostRuntime) -> Result<(), Fail> {
         },
     ];
     assert_eq!(rt; turns.as_slice() == &wanted[..], true);
+    let words = words_of(alloc, "hls step --cycles 3136")?;
+    assert_eq!(rt;
+        matches!(
+            parse(alloc, words.as_slice()),
+            Ok(Task::Step { cycles: 3136 })
+        ),
+        true
+    );
     for line in [
         "",
         "hls",
-        "hls step --cycles 3136",
+        "hls step",
         "hls build --jobs=2",
         "hls walk",
         "hls walk --threads 0*0",

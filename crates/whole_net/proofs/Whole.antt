@@ -1,6 +1,7 @@
 -- The net of the three modules is the whole net of the program, and its text is good Verilog.
 use Rattle.std.proofs.Common.{◌≡◌, ℕ, ◌+◌, Bool, if◌then◌else◌, nat_eq, List, [], ◌∷◌, refl, sym, ap, ◌∙◌, subst, inr, arith}
-use Rattle.std.specs.Prelude.{codes, sum_by}
+use Rattle.std.specs.Prelude.{codes, sum_by, Some}
+use Rattle.std.proofs.lemmas.Option.{same_Some}
 use Rattle.c_program.specs.Tree.{Program}
 use Rattle.c_program.specs.declared.tree.ThreadObject.{ThreadObject}
 use Rattle.c_program.specs.Weight.{thread_count}
@@ -14,6 +15,7 @@ use Rattle.netlist.specs.NetlistOf.{netlist_of}
 use Rattle.netlist.specs.Sound.{IsSound}
 use Rattle.verilog_meaning.specs.Names.{top_of}
 use Rattle.verilog_meaning.specs.Follows.{IsDetermined, FollowsAlways}
+use Rattle.circuit.specs.Nets.{FitsChoice}
 use Rattle.circuit.specs.Wiring.{IsNet}
 use Rattle.top_wiring.specs.Top.{input, output, done_place}
 use Rattle.top_wiring.specs.Leaves as leaves
@@ -36,7 +38,7 @@ use Rattle.good_verilog.specs.GoodVerilog.{HasEnable, IsGoodVerilog}
 use Rattle.cycle_refine.specs.Whole.{Instances, places_of, HasDone, IsWhole, NetFollows}
 use Rattle.whole_net.specs.Layouts.{printing_layout}
 use Rattle.whole_net.specs.Table.{IsArbiterModule, IsPrinterModule}
-use Rattle.whole_net.specs.Whole.{IsWritten, NetIsGood}
+use Rattle.whole_net.specs.Whole.{IsWritten, IsNetOf, IsNetOfParts, NetIsGood}
 use Rattle.whole_net.proofs.Three.{each_module}
 use Rattle.whole_net.proofs.Main as mains
 use Rattle.whole_net.proofs.Arbiter.{arbiter_at, arbiter_leaf}
@@ -132,6 +134,18 @@ module _ (P : Program) (code : ThreadCode) (plan : Planned) (m : Module) (inputs
   enables : HasEnable top (thread_count P)
   enables = record { place = 1; signal = input (codes "en") 1; is = found.enable; input = refl; wide = sym one_thread }
 
+  top_is : top_of n.modules ≡ Some top
+  top_is = found.top_is (λ k x e. (sound.no_top k x e).0)
+
+  pub is_net_of : IsNetOf 1 n text
+  is_net_of = record {
+    net = net;
+    reads = written.reads (written.formed net_sound).full;
+    is = netlist_is;
+    sound = net_sound;
+    takes = λ t e c choice. subst (λ z. FitsChoice n.modules z c) (same_Some top t (sym top_is ∙ e)) (found.fits c choice);
+  }
+
   module _ (follows : NetFollows) (is_thread : LeafIsThread) (is_done : LeafIsDone) where
     pub is_good : IsGoodVerilog P text
     is_good =
@@ -142,7 +156,7 @@ module _ (P : Program) (code : ThreadCode) (plan : Planned) (m : Module) (inputs
           reads = written.reads formed.full;
           formed = formed;
           top = top;
-          is_top = ap (λ (z : Netlist). top_of z.modules) netlist_is ∙ found.top_is (λ k x e. (sound.no_top k x e).0);
+          is_top = ap (λ (z : Netlist). top_of z.modules) netlist_is ∙ top_is;
           enables = enables;
           determined = subst (λ (z : Netlist). IsDetermined z.modules top (thread_count P)) (sym netlist_is) (subst (IsDetermined n.modules top) (sym one_thread) law.0);
           follows = λ good. subst (λ (z : Netlist). FollowsAlways z.modules top (thread_count P) (seen_of P)) (sym netlist_is)
@@ -152,3 +166,7 @@ module _ (P : Program) (code : ThreadCode) (plan : Planned) (m : Module) (inputs
 pub net_is_good : NetFollows → LeafIsThread → LeafIsDone → NetIsGood
 net_is_good follows is_thread is_done m arbiter printer n net text written P code plan inputs leaf shape built prints main grants printing =
     is_good P code plan m inputs leaf shape arbiter printer n net text built prints main grants printing written follows is_thread is_done
+
+pub net_is_of_parts : (m arbiter printer : Module) (n : Netlist) (net : Net) (text : List ℕ) → IsWritten (m ∷ arbiter ∷ printer ∷ []) n net text → IsNetOfParts m arbiter printer n text
+net_is_of_parts m arbiter printer n net text written P code plan inputs leaf shape built prints main grants printing =
+    is_net_of P code plan m inputs leaf shape arbiter printer n net text built prints main grants printing written

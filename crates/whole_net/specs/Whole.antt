@@ -1,5 +1,5 @@
 -- The text of a program of one thread is good Verilog of it.
-use Rattle.std.specs.Prelude.{◌≡◌, ℕ, List, [], ◌∷◌}
+use Rattle.std.specs.Prelude.{◌≡◌, ℕ, List, [], ◌∷◌, Some}
 use Rattle.c_program.specs.Tree.{Program}
 use Rattle.block_ir.specs.declared.code.ThreadCode.{ThreadCode}
 use Rattle.block_ir.specs.declared.plan.Planned.{Planned}
@@ -11,6 +11,10 @@ use Rattle.netlist.specs.declared.netlist.Netlist.{Netlist}
 use Rattle.netlist.specs.NetlistOf.{netlist_of}
 use Rattle.netlist.specs.Laid.{IsLaid}
 use Rattle.netlist.specs.Sound.{IsSound}
+use Rattle.verilog_meaning.specs.Names.{top_of}
+use Rattle.verilog_meaning.specs.Cycles.{Choice}
+use Rattle.verilog_meaning.specs.Threads.{IsChoice}
+use Rattle.circuit.specs.Nets.{FitsChoice}
 use Rattle.top_wiring.specs.Sound.{AreSound}
 use Rattle.top_wiring.specs.Wired.{IsWired}
 use Rattle.leaf_machine.specs.Standing.{IsMainModule}
@@ -30,11 +34,27 @@ pub record IsWritten (modules : List Module) (n : Netlist) (net : Net) (text : L
   pub formed : IsSound n → IsWellFormed net
   pub reads : IsFull net → Reads text net
 
--- a text is good Verilog of each program of which the modules of main, the arbiter and the printer are the parts
-abbrev pub IsGoodOfParts : Module → Module → Module → List ℕ → Type 0
-IsGoodOfParts m arbiter printer text =
+-- so it is of each program of which the modules of main, the arbiter and the printer are the parts
+abbrev pub OfParts : (Program → Type 0) → Module → Module → Module → Type 0
+OfParts Holds m arbiter printer =
     (P : Program) (code : ThreadCode) (plan : Planned) (inputs : ℕ) (leaf : LeafPorts) (shape : Shape) →
-    IsBuilt P code plan m inputs leaf shape → IsPrinterOf P 4 shape → IsMainModule 4 m inputs leaf → IsArbiterModule arbiter → IsPrinterModule shape printer → IsGoodVerilog P text
+    IsBuilt P code plan m inputs leaf shape → IsPrinterOf P 4 shape → IsMainModule 4 m inputs leaf → IsArbiterModule arbiter → IsPrinterModule shape printer → Holds P
+
+-- a text is good Verilog of each such program
+abbrev pub IsGoodOfParts : Module → Module → Module → List ℕ → Type 0
+IsGoodOfParts m arbiter printer text = OfParts (λ P. IsGoodVerilog P text) m arbiter printer
+
+-- the netlist that a text reads as: it is sound, and takes the choices of so many threads
+pub record IsNetOf (threads : ℕ) (n : Netlist) (text : List ℕ) : Type 0 where
+  pub net : Net
+  pub reads : Reads text net
+  pub is : netlist_of net ≡ n
+  pub sound : IsSound n
+  pub takes : (top : Module) → top_of n.modules ≡ Some top → (c : Choice) → IsChoice threads c → FitsChoice n.modules top c
+
+-- a text reads as a netlist of one thread, where there is such a program
+abbrev pub IsNetOfParts : Module → Module → Module → Netlist → List ℕ → Type 0
+IsNetOfParts m arbiter printer n text = OfParts (λ P. IsNetOf 1 n text) m arbiter printer
 
 -- THE TEXT IS GOOD: so it is where it is written of the net of these modules
 abbrev pub NetIsGood : Type 0

@@ -1,7 +1,10 @@
-use Rattle.std.proofs.Common.{rules}
-use Rattle.hls_tool.proofs.RefusalLemmas.{of_text}
+use Rattle.std.proofs.Common.{rules, subst, sym}
+use Rattle.hls_io.specs.Causes.{Rose}
+use Rattle.hls_tool.specs.Inside.{StopsBy}
+use Rattle.hls_tool.proofs.RefusalLemmas.{stops}
 use Rattle.hls_tool.proofs.commands.compiled.Goals as goal
 
-pub returns-in-Err-Refused-clause-stop : goal.returns-in-Err-Refused-clause-stop
-returns-in-Err-Refused-clause-stop g c =
-    of_text (g.S.Source.left c.args.source.now) c.as_slice.result.now c.in-Err-Refused.refusal (search rules) (c.in-Err-Refused.ensures.refused c.in-Err-Refused.refusal c.in-Err-Refused.field-0-is)
+pub returns-clause-stop : goal.returns-clause-stop
+returns-clause-stop g c =
+    subst (StopsBy (g.S.Source.left c.args.source.now) (Rose (g.S.Source.faults c.args.source.now) (g.S.Source.faults c.text_read.new.source))) (sym c.stop_of.ensures)
+    (stops (g.S.Source.left c.args.source.now) _ c.as_slice.result.now c.in-Err.error (search rules) c.in-Err.ensures.refused c.in-Err.ensures.unbuilt)

@@ -1,12 +1,22 @@
 use Rattle.std.proofs.Common.{[], ◌∷◌}
 use Rattle.whole_net.proofs.Law.{law, written}
+use Rattle.whole_net.proofs.Whole.{net_is_of_parts}
 use Rattle.whole_net.proofs.text.verilog.Goals as goal
 
-pub returns : goal.returns
-returns c =
+pub returns-clause-good : goal.returns-clause-good
+returns-clause-good c =
     let n = c.in_ok-netlist.netlist in
     let net = c.in_ok-net.net in
     let text = c.in_ok-text.text in
     law c.args.main c.args.arbiter c.args.printer n net text
+    (written (c.args.main ∷ c.args.arbiter ∷ c.args.printer ∷ []) c.in_ok-modules.modules c.in_ok-layout.layout n net text c.in_ok-modules.ensures c.in_ok-layout.ensures
+    c.in_ok-netlist.ensures.wired c.in_ok-netlist.ensures.sound c.in_ok-net.ensures.netlist c.in_ok-net.ensures.well_formed c.in_ok-text.ensures.reads)
+
+pub returns-clause-net : goal.returns-clause-net
+returns-clause-net c =
+    let n = c.in_ok-netlist.netlist in
+    let net = c.in_ok-net.net in
+    let text = c.in_ok-text.text in
+    net_is_of_parts c.args.main c.args.arbiter c.args.printer n net text
     (written (c.args.main ∷ c.args.arbiter ∷ c.args.printer ∷ []) c.in_ok-modules.modules c.in_ok-layout.layout n net text c.in_ok-modules.ensures c.in_ok-layout.ensures
     c.in_ok-netlist.ensures.wired c.in_ok-netlist.ensures.sound c.in_ok-net.ensures.netlist c.in_ok-net.ensures.well_formed c.in_ok-text.ensures.reads)

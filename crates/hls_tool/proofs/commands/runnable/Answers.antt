@@ -1,0 +1,10 @@
+use Rattle.std.proofs.Common.{rules, subst, sym}
+use Rattle.hls_io.specs.Causes.{Rose}
+use Rattle.hls_tool.specs.Inside.{StopsBy}
+use Rattle.hls_tool.proofs.RefusalLemmas.{stops}
+use Rattle.hls_tool.proofs.commands.runnable.Goals as goal
+
+pub returns-clause-stop : goal.returns-clause-stop
+returns-clause-stop g c =
+    subst (StopsBy (g.S.Source.left c.args.source.now) (Rose (g.S.Source.faults c.args.source.now) (g.S.Source.faults c.text_read.new.source))) (sym c.stop_of.ensures)
+    (stops (g.S.Source.left c.args.source.now) _ c.as_slice.result.now c.in-Err.error (search rules) c.in-Err.ensures.refused c.in-Err.ensures.unbuilt)

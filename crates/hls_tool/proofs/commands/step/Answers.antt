@@ -1,0 +1,18 @@
+use Rattle.std.proofs.Common.{rules, refl}
+use Rattle.hls_tool.proofs.commands.step.Goals as goal
+
+pub returns-clause-ok : goal.returns-clause-ok
+returns-clause-ok g c = (
+  c.in_ok-ran.ran.cycles,
+  c.in_ok-ran.ran.is_done,
+  record {
+    text = c.in_ok-built.ensures.ok.0;
+    threads = c.in_ok-built.built.threads;
+    net = c.in_ok-built.built.net;
+    gave = c.in_ok-built.ensures.ok.1;
+    compiled = c.in_ok-built.ensures.ok.2;
+    ran = c.in_ok-ran.ensures.ok;
+    err = search rules;
+  },
+  search rules,
+)

@@ -1,0 +1,32 @@
+use Rattle.std.proofs.Common.{rules, refl, arith, true, false}
+use Rattle.std.specs.Prelude.{◌%◌}
+use Rattle.std.proofs.Math.Nat.{mod-lt}
+use Rattle.cycle_sim.specs.Running.{choice_of}
+use Rattle.round_robin.proofs.Turning.{fits_made, told, turned_on, ended}
+use Rattle.round_robin.proofs.run.turn.Goals as goal
+
+pub shows_done-requires : goal.shows_done-requires
+shows_done-requires c =
+    fits_made c.args.sim.now.modules c.loop-number.invariant.top c.args.threads c.args.arbiters c.loop-number.sim c.loop-number.invariant.set
+    (choice_of c.in_ok-all.all) c.mask-mask.result 0 0 c.in_ok-all.ensures c.mask-mask.ensures (omega arith) (omega arith)
+
+pub cycle-requires : goal.cycle-requires
+cycle-requires c =
+    let is = told c.args.sim.now.modules c.args.threads c.args.arbiters c.loop-number.number c.loop-number.sim c.shows_done.new.self c.loop-number.printed
+    (choice_of c.in_ok-all.all) c.mask-mask.result c.shows_done.result false c.in_ok-all.ensures c.mask-mask.ensures c.if-shows_done.false c.loop-number.invariant
+    c.shows_done.ensures.net c.shows_done.ensures.done c.shows_done.ensures.state in
+    fits_made c.args.sim.now.modules is.turning.top c.args.threads c.args.arbiters c.shows_done.new.self is.turning.set
+    (choice_of c.in_ok-choice.choice) c.mask-mask.result c.args.arbiters (c.loop-number.number % 16) c.in_ok-choice.ensures c.mask-mask.ensures (omega arith) (mod-lt c.loop-number.number (omega arith))
+
+pub loop-number-preserved : goal.loop-number-preserved
+loop-number-preserved c =
+    let is = told c.args.sim.now.modules c.args.threads c.args.arbiters c.loop-number.number c.loop-number.sim c.shows_done.new.self c.loop-number.printed
+    (choice_of c.in_ok-all.all) c.mask-mask.result c.shows_done.result false c.in_ok-all.ensures c.mask-mask.ensures c.if-shows_done.false c.loop-number.invariant
+    c.shows_done.ensures.net c.shows_done.ensures.done c.shows_done.ensures.state in
+    turned_on c.args.sim.now.modules c.args.threads c.args.arbiters c.loop-number.number c.shows_done.new.self c.cycle.new.self c.loop-number.printed c.cycle.new.out
+    (choice_of c.in_ok-choice.choice) c.mask-mask.result c.in_ok-choice.ensures c.mask-mask.ensures is c.in_ok-cycle.ensures.net c.in_ok-cycle.ensures.ok
+
+pub shows_done-is_done-requires : goal.shows_done-is_done-requires
+shows_done-is_done-requires c =
+    fits_made c.args.sim.now.modules c.loop-number.invariant.top c.args.threads c.args.arbiters c.loop-number.sim c.loop-number.invariant.set
+    (choice_of c.in_ok-all.all) c.mask-mask.result 0 0 c.in_ok-all.ensures c.mask-mask.ensures (omega arith) (omega arith)
