@@ -58,7 +58,12 @@ pub record IsPlan (P : Program) (s : State) (i : ℕ) (plan : Plan) : Type 0 whe
   pub calm : list_any (is_waiter i) s.barriers ≡ false
   pub planned : plan_of P plan call callers ≡ erased (move P s.globals (call ∷ callers))
 
--- the thread's own part of its next step, or the answer where it has none
+abbrev pub is_taken : Answer → Bool
+is_taken answer.Stepped = true
+is_taken (answer.Blocked cause) = false
+is_taken (answer.Undefined offset cause) = false
+
+-- the thread's own part of its next step, or the answer where it has none: the step isn't taken
 abbrev pub IsPlanned : Program → State → ℕ → Result Plan Answer → Type 0
 IsPlanned P s i (Ok plan) = IsPlan P s i plan
-IsPlanned P s i (Err answer) = stepped_of answer s ≡ step P s i
+IsPlanned P s i (Err answer) = (stepped_of answer s ≡ step P s i) × (is_taken answer ≡ false)

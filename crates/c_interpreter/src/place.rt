@@ -36,7 +36,8 @@ pub struct Assignment {
     pub value: i128,
 }
 
-fn located(
+/// A place, whose index is evaluated, or the first cause why there is none.
+pub fn located(
     place: &Place,
     locals: &[Vec<Option<i128>>],
     globals: &[Vec<i128>],

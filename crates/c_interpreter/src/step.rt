@@ -197,25 +197,25 @@ fn leaves<'p>(s: &mut State<'p>, i: u32, rest: Rest<'p>)
     }
 }
 
-/// The calls of thread i, where it runs.
-fn running<'a, 'p>(slots: &'a [Slot<'p>], i: u32) -> Option<&'a VecDeque<Frame<'p>>>
+/// The calls of thread i, where it runs; the innermost is the first.
+pub fn running<'a, 'p>(slots: &'a [Slot<'p>], i: u128) -> Option<&'a VecDeque<Frame<'p>>>
     ensures { MatchOption result ((fs : Callers) → slice_get (map slot_of slots.now) i ≢ Some (Running fs)) (λ frames. slice_get (map slot_of slots.now) i ≡ Some (Running (map frame_of frames.now.items))) }
 {
-    match slot_at(slots, u128::from(i)) {
+    match slot_at(slots, i) {
         Some(Slot::Running(frames)) => Some(frames),
         Some(Slot::Unused) | Some(Slot::Finished) | None => None,
     }
 }
 
 /// The innermost of the calls.
-fn innermost<'a, 'p>(frames: &'a VecDeque<Frame<'p>>) -> Option<&'a Frame<'p>>
+pub fn innermost<'a, 'p>(frames: &'a VecDeque<Frame<'p>>) -> Option<&'a Frame<'p>>
     ensures { MatchOption result (frames.now.items ≡ []) (λ frame. frames.now.items ≡ frame.now ∷ drop 1 frames.now.items) }
 {
     frames.front()
 }
 
 /// The call that the innermost one returns to.
-fn first_caller<'a, 'p>(frames: &'a VecDeque<Frame<'p>>) -> Option<&'a Frame<'p>>
+pub fn first_caller<'a, 'p>(frames: &'a VecDeque<Frame<'p>>) -> Option<&'a Frame<'p>>
     ensures { MatchOption result (drop 1 frames.now.items ≡ []) (λ frame. drop 1 frames.now.items ≡ frame.now ∷ drop 2 frames.now.items) }
 {
     frames.get(1)
@@ -313,7 +313,7 @@ fn resumption<'p>(
 ) -> Result<Option<Rest<'p>>, AllocError>
     ensures { IfOk result (λ r. (f : Frames) (fs : Callers) → slice_get (map slot_of slots.now) i ≡ Some (Running (f ∷ fs)) → Resumes (program_of program.now) (option_to_list value) f fs r) }
 {
-    let Some(frames) = running(slots, i) else {
+    let Some(frames) = running(slots, i as u128) else {
         return Ok(None);
     };
     let Some(callee) = innermost(frames) else {
@@ -349,12 +349,19 @@ fn created<'a, 'p>(slots: &'a [Slot<'p>]) -> &'a [Slot<'p>]
     }
 }
 
+/// Whether each created thread is joined, so that main may return.
+pub fn all_joined(s: &State) -> bool
+    ensures { result ≡ list_all is_unused (created_slots (state_of s.now).slots) }
+{
+    all_unused(created(&s.slots))
+}
+
 /// Main returns: each created thread is joined.
 fn end_main(s: &mut State, offset: u32) -> Stepped
     ensures step { stepped_of result (state_of s.new) ≡ finished (state_of s.old) 0 offset }
     ensures unchanged { StaysUnlessStepped result (state_of s.old) (state_of s.new) }
 {
-    if !all_unused(created(&s.slots)) {
+    if !all_joined(s) {
         return Stepped::Undefined {
             offset,
             cause: UndefinedCause::LiveThread,
@@ -402,7 +409,7 @@ fn returns<'p>(
 fn kept_by<'a>(slots: &'a [Slot], i: u32) -> &'a [i128]
     ensures { (f : Frames) (fs : Callers) → slice_get (map slot_of slots.now) i ≡ Some (Running (f ∷ fs)) → result.now ≡ f.kept }
 {
-    let Some(frames) = running(slots, i) else {
+    let Some(frames) = running(slots, i as u128) else {
         return &[];
     };
     let Some(frame) = innermost(frames) else {
@@ -488,14 +495,14 @@ fn carry_out_plan<'p>(
     }
 }
 
-fn is_among(i: u32, threads: &[u32]) -> bool
+fn is_among(i: u128, threads: &[u32]) -> bool
     ensures { result ≡ list_any (nat_eq i) threads.now }
 {
-    threads.iter().any(|x| i == *x)
+    threads.iter().any(|x| i == *x as u128)
 }
 
 /// Whether thread i waits at the barrier.
-fn is_waiter(i: u32, barrier: &Barrier) -> bool
+fn is_waiter(i: u128, barrier: &Barrier) -> bool
     ensures { result ≡ is_waiter i (barrier_of barrier.now) }
 {
     match barrier {
@@ -505,7 +512,7 @@ fn is_waiter(i: u32, barrier: &Barrier) -> bool
 }
 
 /// Whether thread i waits at a barrier.
-fn waits(i: u32, barriers: &[Barrier]) -> bool
+fn waits(i: u128, barriers: &[Barrier]) -> bool
     ensures { result ≡ list_any (is_waiter i) (map barrier_of barriers.now) }
 {
     for barrier in barriers {
@@ -516,12 +523,13 @@ fn waits(i: u32, barriers: &[Barrier]) -> bool
     false
 }
 
-/// The thread's own part of the next step of thread i, where it runs and doesn't wait at a barrier, or the answer.
-fn plan_or_answer<'p>(
+/// The thread's own part of the next step of thread i, any number, where it runs and doesn't wait at a barrier; else why
+/// the step isn't taken.
+pub fn plan_or_answer<'p>(
     alloc: Global,
     program: &'p Program,
     s: &State<'p>,
-    i: u32,
+    i: u128,
 ) -> Result<Result<Plan<'p>, Stepped>, AllocError>
     ensures { IfOk result (λ r. IsPlanned (program_of program.now) (state_of s.now) i r) }
 {
@@ -556,7 +564,7 @@ pub fn step<'p>(
     ensures step { IfOk result (λ r. stepped_of r (state_of s.new) ≡ step (program_of program.now) (state_of s.old) i) }
     ensures unchanged { IsKept result (state_of s.old) (state_of s.new) }
 {
-    match plan_or_answer(alloc, program, s, i)? {
+    match plan_or_answer(alloc, program, s, i as u128)? {
         Err(answer) => Ok(answer),
         Ok(plan) => carry_out_plan(alloc, program, s, i, plan),
     }

@@ -1,2 +1,5 @@
 pub mod Accepting
 pub mod Refusing
+pub mod Stages
+pub mod Each
+pub mod Only

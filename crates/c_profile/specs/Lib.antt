@@ -1,2 +1,4 @@
 pub mod Profile
 pub mod Stops
+pub mod Answers
+pub mod Laws

@@ -1,6 +1,7 @@
 //! The profile of C that the compiler takes: a text's program and its weight, or the first reason why it is refused.
 #![tactic(auto)]
 
+pub mod law;
 mod refusal;
 mod text;
 

@@ -1,11 +1,13 @@
 // The texts of the profile.
 
-ghost use Rattle.std.specs.Prelude.{◌≡◌, ◌≤◌, List, IfOk, IfErr, Ok, length};
+ghost use Rattle.std.specs.Prelude.{◌≡◌, ◌≤◌, ℕ, List, IfOk, IfErr, Ok, length};
 ghost use Rattle.c_token.specs.declared.token.Token as token;
 ghost use Rattle.c_lexer.specs.Texts.{LexesAs};
 ghost use Rattle.c_program.specs.Plain.{program_of};
+ghost use Rattle.c_program.specs.Tree as tree;
 ghost use Rattle.grammar.specs.Sentences.{SentenceWithin};
 ghost use Rattle.c_tree.specs.Declarations.{unit};
+ghost use Rattle.c_profile.specs.Answers.{AcceptsOnly, RefusesOnly};
 ghost use Rattle.c_profile.specs.Stops.{answer_to};
 ghost use Rattle.c_profile.specs.Profile.{IsAccepted, IsPassed, IsRefused, IsTreeOf, IsWithin, limit_of_text};
 ghost use Rattle.c_profile.specs.declared.text.ProfileError.TheVariants as error;
@@ -132,8 +134,8 @@ fn answer_to(error: ResolveError) -> ProfileError
     }
 }
 
-/// The program of a text of the profile with its weight, or the first reason why the text is refused.
-pub fn accept(alloc: Global, text: &[u8]) -> Result<Accepted, ProfileError>
+/// The program of a text with its weight, or the first reason why it is refused.
+fn program_or_refusal(alloc: Global, text: &[u8]) -> Result<Accepted, ProfileError>
     ensures ok { IfOk result (λ a. IsAccepted text.now (program_of a.program) a.weight) }
     ensures refused { IfErr result (λ e. (r : refusal.Refusal) → e ≡ error.Refused r → IsRefused text.now r) }
 {
@@ -145,4 +147,15 @@ pub fn accept(alloc: Global, text: &[u8]) -> Result<Accepted, ProfileError>
         Ok(program) => within(alloc, program),
         Err(error) => Err(answer_to(error)),
     }
+}
+
+/// The program of a text of the profile with its weight, or the first reason why the text is refused. A text that is accepted
+/// is answered only so, and so is one that is refused, but for want of memory.
+pub fn accept(alloc: Global, text: &[u8]) -> Result<Accepted, ProfileError>
+    ensures ok { IfOk result (λ a. IsAccepted text.now (program_of a.program) a.weight) }
+    ensures refused { IfErr result (λ e. (r : refusal.Refusal) → e ≡ error.Refused r → IsRefused text.now r) }
+    ensures accepts { (P : tree.Program) (w : ℕ) → IsAccepted text.now P w → AcceptsOnly P w result }
+    ensures refuses { (r : refusal.Refusal) → IsRefused text.now r → RefusesOnly r result }
+{
+    program_or_refusal(alloc, text)
 }

@@ -4,15 +4,16 @@ use Rattle.std.proofs.Common.{ap, sym, ◌∙◌, subst, inl, inr, ⊎_elim, ari
 use Rattle.std.specs.Str.{bytes_eq}
 use Rattle.verilog_meaning.specs.Names.{numbered}
 use Rattle.verilog_meaning.specs.Cycles.{pref_number}
-use Rattle.netlist.specs.declared.netlist.Source.TheVariants.{Input}
+use Rattle.netlist.specs.declared.netlist.Source.{Source}
+use Rattle.netlist.specs.declared.netlist.Source.TheVariants.{Input, Register, Assigned, Port}
 use Rattle.netlist.specs.declared.netlist.Signal.{Signal}
 use Rattle.cycle_sim.specs.declared.settle.Feed.{Feed}
 use Rattle.cycle_sim.specs.declared.settle.Feed.TheVariants.{Zero, Enables, Preferred}
 use Rattle.cycle_sim.specs.declared.settle.Step.{Step}
 use Rattle.cycle_sim.specs.Stands.{step}
-use Rattle.cycle_sim.specs.Given.{IsInput, IsPrefOf, IsRooted}
+use Rattle.cycle_sim.specs.Given.{IsInput, IsPrefOf, IsRooted, IsRoot, AreRoots, IsGivenOne, IsGivenFor}
 use Rattle.cycle_sim.proofs.Settles.{if_true, if_false}
-use Rattle.cycle_sim.proofs.Orders.{get_last, get_more}
+use Rattle.cycle_sim.proofs.Orders.{get_last, get_more, get_snoc}
 use Rattle.cycle_sim.proofs.Trees.{front_or_back}
 
 module _ (name : List ℕ) where
@@ -42,18 +43,20 @@ module _ (name : List ℕ) where
       ∙ no_pref prefs (k + 1) (λ i l. subst other (let z : k + suc i ≡ k + 1 + i = omega arith in z) (h (suc i) (omega arith)))
 
 pub input_en : (most : ℕ) (name : List ℕ) → bytes_eq name (codes "en") ≡ true → IsInput most name Enables
-input_en most name e = record { always = λ modules c f few. sym (if_true (bytes_eq name (codes "en")) c.mask (pref_number name c.prefs 0) e) }
+input_en most name e = record { always = λ modules c f few. sym (if_true (bytes_eq name (codes "en")) c.mask (pref_number name c.prefs 0) e); plain = λ modules. refl }
 
 pub input_pref : (most : ℕ) (name : List ℕ) (j : ℕ) → bytes_eq name (codes "en") ≡ false → IsPrefOf name most (Some j) → IsInput most name (Preferred j)
 input_pref most name j e is = record {
   always = λ modules c f few.
       sym (if_false (bytes_eq name (codes "en")) c.mask (pref_number name c.prefs 0) e ∙ first_pref name c.prefs 0 j (λ i l. subst (other name) (let z : i ≡ 0 + i = omega arith in z) (is.1 i l)) (subst (test name) (let z : j ≡ 0 + j = omega arith in z) is.0));
+  plain = λ modules. refl;
 }
 
 pub input_zero : (most : ℕ) (name : List ℕ) → bytes_eq name (codes "en") ≡ false → IsPrefOf name most None → IsInput most name Zero
 input_zero most name e is = record {
   always = λ modules c f few.
       sym (if_false (bytes_eq name (codes "en")) c.mask (pref_number name c.prefs 0) e ∙ no_pref name c.prefs 0 (λ i l. subst (other name) (let z : i ≡ 0 + i = omega arith in z) (is i (omega arith))));
+  plain = λ modules. refl;
 }
 
 pub rooted_last : (old wires : List Step) (place most : ℕ) (name : List ℕ) (feed : Feed) → IsInput most name feed → wires ≡ old ++ step place feed ∷ [] → IsRooted wires place most name
@@ -63,19 +66,52 @@ rooted_last old wires place most name feed is e =
 rooted_stable : (old more : List Step) (place most : ℕ) (name : List ℕ) → IsRooted old place most name → IsRooted (old ++ more) place most name
 rooted_stable old more place most name r = record { feed = r.feed; takes = ((r.takes).0, get_more old more (r.takes).0 (step place r.feed) (r.takes).1); given = r.given }
 
--- one signal more
-pub roots_more : (old wires more : List Step) (base most at : ℕ) (signals : List Signal) (here : Signal)
-    → ((x : ℕ) (s : Signal) → x < at → slice_get signals x ≡ Some s → s.source ≡ Input → IsRooted old (base + x) most s.name) → wires ≡ old ++ more
-    → slice_get signals at ≡ Some here → (here.source ≡ Input → IsRooted wires (base + at) most here.name)
-    → (x : ℕ) (s : Signal) → x < at + 1 → slice_get signals x ≡ Some s → s.source ≡ Input → IsRooted wires (base + x) most s.name
-roots_more old wires more base most at signals here before e listed last x s l there input = ⊎_elim
-    (λ less. subst (λ (ws : List Step). IsRooted ws (base + x) most s.name) (sym e) (rooted_stable old more (base + x) most s.name (before x s less there input)))
-    (λ same.
-    let one : Some s ≡ Some here = sym there ∙ ap (slice_get signals) same ∙ listed in
-    let is : here ≡ s = cc in
-    subst (λ (k : ℕ). IsRooted wires (base + k) most s.name) (sym same)
-    (subst (λ (u : Signal). IsRooted wires (base + at) most u.name) is (last (ap (λ (u : Signal). u.source) is ∙ input))))
-    (less_or x at l)
-  where
-    less_or : (x at : ℕ) → x < at + 1 → (x < at) ⊎ (x ≡ at)
-    less_or x at l = ⊎_elim (λ a. inl a) (λ b. inr (let z = b.1 in omega arith)) (front_or_back x at)
+less_or : (x at : ℕ) → x < at + 1 → (x < at) ⊎ (x ≡ at)
+less_or x at l = ⊎_elim (λ a. inl a) (λ b. inr (let z = b.1 in omega arith)) (front_or_back x at)
+
+abbrev pub Rooted : List Step → ℕ → ℕ → ℕ → List Signal → Type 0
+Rooted wires base most count signals = (x : ℕ) (s : Signal) → x < count → slice_get signals x ≡ Some s → s.source ≡ Input → IsRooted wires (base + x) most s.name
+
+module _ (old new : List Step) (base most at : ℕ) (signals : List Signal) (here : Signal) (listed : slice_get signals at ≡ Some here) where
+  one_here : (s : Signal) → slice_get signals at ≡ Some s → s ≡ here
+  one_here s there = (let e : Some s ≡ Some here = sym there ∙ listed in cc)
+
+  rooted_same : new ≡ old → (here.source ≡ Input → ⊥) → Rooted old base most at signals → Rooted new base most (at + 1) signals
+  rooted_same e lacks before x s l there input = ⊎_elim
+      (λ less. subst (λ (ws : List Step). IsRooted ws (base + x) most s.name) (sym e) (before x s less there input))
+      (λ same. let is = one_here s (ap (slice_get signals) (sym same) ∙ there) in absurd (lacks (ap (λ (u : Signal). u.source) (sym is) ∙ input)))
+      (less_or x at l)
+
+  rooted_one : IsGivenOne (base + at) most here.name old new → Rooted old base most at signals → Rooted new base most (at + 1) signals
+  rooted_one g before x s l there input = ⊎_elim
+      (λ less. subst (λ (ws : List Step). IsRooted ws (base + x) most s.name) (sym g.2) (rooted_stable old (step (base + at) g.0 ∷ []) (base + x) most s.name (before x s less there input)))
+      (λ same.
+      let is = one_here s (ap (slice_get signals) (sym same) ∙ there) in
+      subst (λ (k : ℕ). IsRooted new (base + k) most s.name) (sym same)
+      (subst (λ (u : Signal). IsRooted new (base + at) most u.name) (sym is) (rooted_last old new (base + at) most here.name g.0 g.1 g.2)))
+      (less_or x at l)
+
+  -- one signal more
+  pub rooted_more : (source : Source) → here.source ≡ source → IsGivenFor (base + at) most here.name source old new → Rooted old base most at signals → Rooted new base most (at + 1) signals
+  rooted_more Input e g before = rooted_one g before
+  rooted_more (Register n) e g before = rooted_same g (λ i. no_input (e ∙ refl) i) before
+    where
+      no_input : here.source ≡ Register n → here.source ≡ Input → ⊥
+      no_input a b = cc
+  rooted_more (Assigned v) e g before = rooted_same g (λ i. no_input e i) before
+    where
+      no_input : here.source ≡ Assigned v → here.source ≡ Input → ⊥
+      no_input a b = cc
+  rooted_more (Port i port) e g before = rooted_same g (λ z. no_input e z) before
+    where
+      no_input : here.source ≡ Port i port → here.source ≡ Input → ⊥
+      no_input a b = cc
+
+  pub only_more : (source : Source) → here.source ≡ source → IsGivenFor (base + at) most here.name source old new → AreRoots base most signals old → AreRoots base most signals new
+  only_more Input e g before = λ k s there. ⊎_elim
+      (λ less. before k s less)
+      (λ same. subst (IsRoot base most signals) (sym same) (record { number = at; signal = here; listed = listed; input = e; target = refl; given = g.1 }))
+      (get_snoc old (step (base + at) g.0) k s (ap (λ (ws : List Step). slice_get ws k) (sym g.2) ∙ there))
+  only_more (Register n) e g before = subst (AreRoots base most signals) (sym g) before
+  only_more (Assigned v) e g before = subst (AreRoots base most signals) (sym g) before
+  only_more (Port i port) e g before = subst (AreRoots base most signals) (sym g) before

@@ -11,8 +11,14 @@ pub mod Placing
 pub mod Wiring
 pub mod Givens
 pub mod Writers
+pub mod Laid
+pub mod Leading
+pub mod Pigeons
+pub mod Stuck
+pub mod Causes
 pub mod Opening
 pub mod Loopless
 pub mod Fits
 pub mod Narrow
 pub mod Right
+pub mod Printing

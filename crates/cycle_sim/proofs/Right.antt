@@ -68,14 +68,14 @@ named_at [] name m e = absurd cc
 named_at (t ∷ ms) name m e = named_by (bytes_eq name t.name) t ms name m refl e (named_at ms name m)
 
 -- what stands round an instance
-record IsHeld (modules : List Module) (top : Module) (outer : Path) (i : ℕ) (m : Module) : Type 0 where
+pub record IsHeld (modules : List Module) (top : Module) (outer : Path) (i : ℕ) (m : Module) : Type 0 where
   pub holder : Module
   pub stands : module_at modules top outer ≡ Some holder
   pub instance : Instance
   pub listed : slice_get holder.instances i ≡ Some instance
   pub kind : slice_get modules instance.of ≡ Some m
 
-held : (modules : List Module) (top : Module) (outer : Path) (i : ℕ) (m : Module) → module_at modules top (i ∷ outer) ≡ Some m → IsHeld modules top outer i m
+pub held : (modules : List Module) (top : Module) (outer : Path) (i : ℕ) (m : Module) → module_at modules top (i ∷ outer) ≡ Some m → IsHeld modules top outer i m
 held modules top outer i m at =
     let a = opened (λ (k : Module). option_and_then (λ (n : Instance). slice_get modules n.of) (slice_get k.instances i)) (module_at modules top outer) m at in
     let b = opened (λ (n : Instance). slice_get modules n.of) (slice_get (a.0).instances i) m a.2 in

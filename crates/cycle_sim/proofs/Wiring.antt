@@ -1,6 +1,8 @@
 -- The steps of a net have one for each signal that is no register and no input of the outermost module.
-use Rattle.std.specs.Prelude.{◌≡◌, ℕ, zero, suc, ◌+◌, List, [], ◌∷◌, ◌++◌, length, Some, slice_get, refl}
-use Rattle.std.proofs.Common.{ap, sym, ◌∙◌, subst, arith}
+use Rattle.std.specs.Prelude.{◌≡◌, ℕ, zero, suc, ◌+◌, ◌≤◌, ◌⊎◌, List, [], ◌∷◌, ◌++◌, length, Some, slice_get, refl}
+use Rattle.std.proofs.Common.{ap, sym, ◌∙◌, subst, inl, inr, ⊎_elim, arith}
+use Rattle.netlist.specs.declared.netlist.Source.{Source}
+use Rattle.netlist.specs.declared.netlist.Source.TheVariants.{Input, Register, Assigned, Port}
 use Rattle.netlist.specs.declared.netlist.Signal.{Signal}
 use Rattle.netlist.specs.declared.netlist.Instance.{Instance}
 use Rattle.netlist.specs.declared.netlist.Module.{Module}
@@ -11,7 +13,7 @@ use Rattle.cycle_sim.specs.Order.{Takes}
 use Rattle.cycle_sim.specs.Stands.{step}
 use Rattle.cycle_sim.specs.Wires.{steps_to, own_feed, own_steps, join_feed, join_steps, instance_steps, all_instances, part_steps, all_steps}
 use Rattle.cycle_sim.proofs.Orders.{get_more}
-use Rattle.cycle_sim.proofs.Trees.{get_back}
+use Rattle.cycle_sim.proofs.Trees.{get_front, get_back, front_or_back}
 
 pub takes_left : (xs ys : List Step) (s : Step) → Takes xs s → Takes (xs ++ ys) s
 takes_left xs ys s t = (t.0, get_more xs ys t.0 s t.1)
@@ -77,3 +79,137 @@ module _ (modules : List Module) (parts : List Part) where
       let same : p ≡ o = cc in
       takes_left (part_steps modules parts o) (all_steps modules parts ps) s (subst (λ (u : Part). Takes (part_steps modules parts u) s) same t)
   parts_have (o ∷ ps) (suc q) p s at t = takes_right (part_steps modules parts o) (all_steps modules parts ps) s (parts_have ps q p s at t)
+
+-- ---- and no other
+
+pub takes_split : (xs ys : List Step) (s : Step) → Takes (xs ++ ys) s → Takes xs s ⊎ Takes ys s
+takes_split xs ys s t = ⊎_elim
+    (λ l. inl (t.0, sym (get_front xs ys t.0 l) ∙ t.1))
+    (λ b. inr (b.0, sym (get_back xs ys t.0 b.0 b.1) ∙ t.1))
+    (front_or_back t.0 (length xs))
+
+-- the one step of at most one feed
+single : (target : ℕ) (feeds : List Feed) (s : Step) → length feeds ≤ 1 → Takes (steps_to target feeds) s → (f : Feed) × (s ≡ step target f) × (feeds ≡ f ∷ [])
+single target [] s l t = (let z = t.1 in absurd cc)
+single target (f ∷ []) s l t = one t.0 t.1
+  where
+    one : (k : ℕ) → slice_get (step target f ∷ []) k ≡ Some s → (g : Feed) × (s ≡ step target g) × (f ∷ [] ≡ g ∷ [])
+    one zero e = (f, (let z : step target f ≡ s = cc in sym z), refl)
+    one (suc k) e = absurd cc
+single target (f ∷ g ∷ feeds) s l t = absurd (omega arith)
+
+module _ (parts : List Part) (p : Part) where
+  pub record FromOwn (k : ℕ) (ss : List Signal) (s : Step) : Type 0 where
+    pub number : ℕ
+    pub signal : Signal
+    pub listed : slice_get ss number ≡ Some signal
+    pub feed : Feed
+    pub is : s ≡ step (p.spot.base + (k + number)) feed
+    pub by : own_feed parts p (k + number) signal.source ≡ feed ∷ []
+
+  own_most : (x : ℕ) (source : Source) → length (own_feed parts p x source) ≤ 1
+  own_most x Input = omega arith
+  own_most x (Register n) = omega arith
+  own_most x (Assigned v) = omega arith
+  own_most x (Port i port) = omega arith
+
+  pub own_back : (k : ℕ) (ss : List Signal) (s : Step) → Takes (own_steps parts p k ss) s → FromOwn k ss s
+  own_back k [] s t = (let z = t.1 in absurd cc)
+  own_back k (u ∷ ss) s t = ⊎_elim
+      (λ first.
+      let o = single (p.spot.base + k) (own_feed parts p k u.source) s (own_most k u.source) first in
+      let here : k ≡ k + 0 = omega arith in
+      record {
+        number = 0;
+        signal = u;
+        listed = refl;
+        feed = o.0;
+        is = o.1 ∙ ap (λ y. step (p.spot.base + y) o.0) here;
+        by = ap (λ y. own_feed parts p y u.source) (sym here) ∙ o.2;
+      })
+      (λ rest.
+      let r = own_back (k + 1) ss s rest in
+      let there : k + 1 + r.number ≡ k + suc r.number = omega arith in
+      record {
+        number = suc r.number;
+        signal = r.signal;
+        listed = r.listed;
+        feed = r.feed;
+        is = r.is ∙ ap (λ y. step (p.spot.base + y) r.feed) there;
+        by = ap (λ y. own_feed parts p y (r.signal).source) (sym there) ∙ r.by;
+      })
+      (takes_split (steps_to (p.spot.base + k) (own_feed parts p k u.source)) (own_steps parts p (k + 1) ss) s t)
+
+module _ (base : ℕ) (inputs : List ℕ) (child : ℕ) where
+  pub record FromJoin (k : ℕ) (ss : List Signal) (s : Step) : Type 0 where
+    pub number : ℕ
+    pub signal : Signal
+    pub listed : slice_get ss number ≡ Some signal
+    pub feed : Feed
+    pub is : s ≡ step (child + (k + number)) feed
+    pub by : join_feed base inputs (k + number) signal.source ≡ feed ∷ []
+
+  join_most : (x : ℕ) (source : Source) → length (join_feed base inputs x source) ≤ 1
+  join_most x Input = omega arith
+  join_most x (Register n) = omega arith
+  join_most x (Assigned v) = omega arith
+  join_most x (Port i port) = omega arith
+
+  pub join_back : (k : ℕ) (ss : List Signal) (s : Step) → Takes (join_steps base inputs child k ss) s → FromJoin k ss s
+  join_back k [] s t = (let z = t.1 in absurd cc)
+  join_back k (u ∷ ss) s t = ⊎_elim
+      (λ first.
+      let o = single (child + k) (join_feed base inputs k u.source) s (join_most k u.source) first in
+      let here : k ≡ k + 0 = omega arith in
+      record {
+        number = 0;
+        signal = u;
+        listed = refl;
+        feed = o.0;
+        is = o.1 ∙ ap (λ y. step (child + y) o.0) here;
+        by = ap (λ y. join_feed base inputs y u.source) (sym here) ∙ o.2;
+      })
+      (λ rest.
+      let r = join_back (k + 1) ss s rest in
+      let there : k + 1 + r.number ≡ k + suc r.number = omega arith in
+      record {
+        number = suc r.number;
+        signal = r.signal;
+        listed = r.listed;
+        feed = r.feed;
+        is = r.is ∙ ap (λ y. step (child + y) r.feed) there;
+        by = ap (λ y. join_feed base inputs y (r.signal).source) (sym there) ∙ r.by;
+      })
+      (takes_split (steps_to (child + k) (join_feed base inputs k u.source)) (join_steps base inputs child (k + 1) ss) s t)
+
+module _ (modules : List Module) (parts : List Part) where
+  pub record FromInstance (p : Part) (k : ℕ) (ns : List Instance) (s : Step) : Type 0 where
+    pub number : ℕ
+    pub instance : Instance
+    pub listed : slice_get ns number ≡ Some instance
+    pub by : Takes (instance_steps modules parts p (k + number) instance) s
+
+  pub instances_back : (p : Part) (k : ℕ) (ns : List Instance) (s : Step) → Takes (all_instances modules parts p k ns) s → FromInstance p k ns s
+  instances_back p k [] s t = (let z = t.1 in absurd cc)
+  instances_back p k (n ∷ ns) s t = ⊎_elim
+      (λ first.
+      let here : k ≡ k + 0 = omega arith in
+      record { number = 0; instance = n; listed = refl; by = subst (λ y. Takes (instance_steps modules parts p y n) s) here first })
+      (λ rest.
+      let r = instances_back p (k + 1) ns s rest in
+      let there : k + 1 + r.number ≡ k + suc r.number = omega arith in
+      record { number = suc r.number; instance = r.instance; listed = r.listed; by = subst (λ y. Takes (instance_steps modules parts p y r.instance) s) there r.by })
+      (takes_split (instance_steps modules parts p k n) (all_instances modules parts p (k + 1) ns) s t)
+
+  pub record FromPart (ps : List Part) (s : Step) : Type 0 where
+    pub number : ℕ
+    pub part : Part
+    pub listed : slice_get ps number ≡ Some part
+    pub by : Takes (part_steps modules parts part) s
+
+  pub parts_back : (ps : List Part) (s : Step) → Takes (all_steps modules parts ps) s → FromPart ps s
+  parts_back [] s t = (let z = t.1 in absurd cc)
+  parts_back (p ∷ ps) s t = ⊎_elim
+      (λ first. record { number = 0; part = p; listed = refl; by = first })
+      (λ rest. let r = parts_back ps s rest in record { number = suc r.number; part = r.part; listed = r.listed; by = r.by })
+      (takes_split (part_steps modules parts p) (all_steps modules parts ps) s t)

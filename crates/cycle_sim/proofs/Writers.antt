@@ -7,26 +7,27 @@ use Rattle.std.proofs.lemmas.Option.{slice_get_within, slice_get-get_or}
 use Rattle.verilog_meaning.specs.Names.{module_named}
 use Rattle.netlist.specs.declared.netlist.Module.{Module}
 use Rattle.cycle_sim.specs.declared.edge.Part.{Part}
-use Rattle.cycle_sim.specs.Opened.{writes_at, AreQuiet, IsOne, IsTopNumber}
-use Rattle.cycle_sim.proofs.Settles.{if_true}
-use Rattle.cycle_sim.proofs.Trees.{front_or_back}
+use Rattle.cycle_sim.specs.Opened.{writes_at, AreQuiet, AreOthersQuiet, IsWriter, IsOne, AreTwo, IsTopNumber}
+use Rattle.cycle_sim.proofs.Settles.{if_true, same_or}
 
 not_both : (b : Bool) → b ≡ true → b ≡ false → ⊥
 not_both b e f = cc
 
-is_first : (modules : List Module) (parts : List Part) (first start : ℕ) → AreQuiet modules parts 0 first → AreQuiet modules parts start (length parts) → start ≤ first + 1
-    → (q : ℕ) (p : Part) → slice_get parts q ≡ Some p → writes_at (slice_get modules p.module) ≡ true → q ≡ first
-is_first modules parts first start before behind near q p at writes = ⊎_elim
-    (λ l. absurd (not_both (writes_at (slice_get modules p.module)) writes (before q p (omega arith) l at)))
-    (λ b. ⊎_elim
-    (λ l. let e = b.1 in omega arith)
-    (λ d. absurd (not_both (writes_at (slice_get modules p.module)) writes (behind q p (let e = b.1 in let g = d.1 in omega arith) (slice_get_within parts q p at) at)))
-    (front_or_back b.0 1))
-    (front_or_back q first)
+pub one_from_quiet : (modules : List Module) (parts : List Part) → AreQuiet modules parts 0 (length parts) → IsOne modules parts
+one_from_quiet modules parts quiet q o p other at there a b =
+    absurd (not_both (writes_at (slice_get modules p.module)) a (quiet q p (omega arith) (slice_get_within parts q p at) at))
 
-pub one_from_quiet : (modules : List Module) (parts : List Part) (first start : ℕ) → AreQuiet modules parts 0 first → AreQuiet modules parts start (length parts) → start ≤ first + 1 → IsOne modules parts
-one_from_quiet modules parts first start before behind near q o p other at there a b =
-    is_first modules parts first start before behind near q p at a ∙ sym (is_first modules parts first start before behind near o other there b)
+pub one_from_others : (modules : List Module) (parts : List Part) (place : ℕ) → AreOthersQuiet modules parts place (length parts) → IsOne modules parts
+one_from_others modules parts place quiet q o p other at there a b = here q p at a ∙ sym (here o other there b)
+  where
+    here : (q : ℕ) (p : Part) → slice_get parts q ≡ Some p → writes_at (slice_get modules p.module) ≡ true → q ≡ place
+    here q p at a = ⊎_elim
+        (λ (e : q ≡ place). e)
+        (λ (ne : q ≡ place → ⊥). absurd (not_both (writes_at (slice_get modules p.module)) a (quiet q p (slice_get_within parts q p at) at ne)))
+        (same_or q place)
+
+pub two_from_writers : (modules : List Module) (parts : List Part) (first other : ℕ) → IsWriter modules parts first → IsWriter modules parts other → (other ≡ first → ⊥) → AreTwo modules parts
+two_from_writers modules parts first other a b apart = record { first = first; other = other; apart = apart; writes = a; writes_too = b }
 
 -- the first module of the name `top`
 pub top_here : (modules : List Module) (i : ℕ) (m : Module) → i < length modules → m ≡ get_or modules i m → bytes_eq (codes "top") m.name ≡ true

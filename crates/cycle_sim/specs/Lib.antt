@@ -9,3 +9,6 @@ pub mod Wires
 pub mod Given
 pub mod Opened
 pub mod Right
+pub mod Loops
+pub mod LaidOut
+pub mod Leads

@@ -3,9 +3,12 @@ use Rattle.std.specs.Prelude.{◌≡◌, ℕ, ◌<◌, ◌≤◌, Bool, true, fa
 use Rattle.netlist.specs.declared.netlist.Signal.{Signal}
 use Rattle.netlist.specs.declared.netlist.Module.{Module}
 use Rattle.verilog_meaning.specs.Names.{top_of}
-use Rattle.verilog_meaning.specs.Cycles.{IsSameIn, initial_state}
+use Rattle.verilog_meaning.specs.Cycles.{Path, module_at, IsSameIn, initial_state}
 use Rattle.verilog_meaning.specs.Threads.{Place, Depends}
 use Rattle.cycle_sim.specs.declared.edge.Part.{Part}
+use Rattle.cycle_sim.specs.declared.sim.OpenError.{OpenError}
+use Rattle.cycle_sim.specs.declared.sim.OpenError.TheVariants as errors
+use Rattle.cycle_sim.specs.Loops.{IsFirstLoop}
 use Rattle.cycle_sim.specs.Running.{Running, state_of, IsRight, Stands, some_write}
 
 abbrev pub writes_at : Option Module → Bool
@@ -21,6 +24,23 @@ abbrev pub IsOne : List Module → List Part → Type 0
 IsOne modules parts =
     (q o : ℕ) (p other : Part) → slice_get parts q ≡ Some p → slice_get parts o ≡ Some other → writes_at (slice_get modules p.module) ≡ true → writes_at (slice_get modules other.module) ≡ true → q ≡ o
 
+-- no part has a $write but perhaps that of a number, among so many
+abbrev pub AreOthersQuiet : List Module → List Part → ℕ → ℕ → Type 0
+AreOthersQuiet modules parts number high = (q : ℕ) (p : Part) → q < high → slice_get parts q ≡ Some p → (q ≡ number → ⊥) → writes_at (slice_get modules p.module) ≡ false
+
+pub record IsWriter (modules : List Module) (parts : List Part) (q : ℕ) : Type 0 where
+  pub part : Part
+  pub listed : slice_get parts q ≡ Some part
+  pub writes : writes_at (slice_get modules part.module) ≡ true
+
+-- two parts have a $write
+pub record AreTwo (modules : List Module) (parts : List Part) : Type 0 where
+  pub first : ℕ
+  pub other : ℕ
+  pub apart : other ≡ first → ⊥
+  pub writes : IsWriter modules parts first
+  pub writes_too : IsWriter modules parts other
+
 -- the number of the module `top`
 pub record IsTopNumber (modules : List Module) (number : ℕ) : Type 0 where
   pub top : Module
@@ -32,6 +52,10 @@ pub record IsDoneNumber (signals : List Signal) (number : ℕ) : Type 0 where
   pub signal : Signal
   pub listed : slice_get signals number ≡ Some signal
   pub named : signal.name ≡ codes "done"
+
+-- no signal has the name `done`
+abbrev pub LacksDone : List Signal → Type 0
+LacksDone signals = (x : ℕ) (s : Signal) → slice_get signals x ≡ Some s → s.name ≡ codes "done" → ⊥
 
 -- the net with a module `top`, whose widths fit
 abbrev pub IsRightNet : List Module → Type 0
@@ -52,3 +76,34 @@ pub record IsReady (r : Running) : Type 0 where
   pub stands : Stands r
   pub begins : IsSameIn r.modules stands.top [] (initial_state r.modules stands.top) (state_of r)
   pub loopless : (p : Place) → Depends r.modules stands.top p p → ⊥
+
+-- ---- why there is none
+
+-- the module `top` has no signal `done`
+pub record HasNoDone (modules : List Module) : Type 0 where
+  pub top : Module
+  pub is_top : top_of modules ≡ Some top
+  pub lacks : LacksDone top.signals
+
+-- the instance at a path has a $write
+pub record Writes (modules : List Module) (top : Module) (path : Path) : Type 0 where
+  pub kind : Module
+  pub stands : module_at modules top path ≡ Some kind
+  pub writes : some_write kind.actions ≡ true
+
+-- two instances have a $write
+pub record HasPrinters (modules : List Module) : Type 0 where
+  pub top : Module
+  pub is_top : top_of modules ≡ Some top
+  pub path : Path
+  pub other : Path
+  pub apart : path ≡ other → ⊥
+  pub writes : Writes modules top path
+  pub writes_too : Writes modules top other
+
+abbrev pub IsCause : List Module → OpenError → Type 0
+IsCause modules errors.NoTop = top_of modules ≡ None
+IsCause modules errors.NoDone = HasNoDone modules
+IsCause modules (errors.Loop k x) = IsFirstLoop modules k x
+IsCause modules errors.Printers = HasPrinters modules
+IsCause modules errors.Memory = Unit {0}

@@ -53,17 +53,51 @@ Known known (s ∷ steps) k = Known (λ j. known j ⊎ (j ≡ s.target)) steps k
 abbrev pub Takes : List Step → Step → Type 0
 Takes steps s = (j : ℕ) × (slice_get steps j ≡ Some s)
 
--- steps in order, what is known after them, and which of the wires they are
-pub record IsPartial (modules : List Module) (wires : List Step) (free marks taken : List Bool) (done : List Step) : Type 0 where
+-- steps in order, which are some of the wires, and what is known after them
+pub record IsPartial (modules : List Module) (wires : List Step) (free marks : List Bool) (done : List Step) : Type 0 where
   pub ordered : InOrder modules (IsMarked free) done
   pub known : (k : ℕ) → IsMarked marks k → Known (IsMarked free) done k
   pub all : (k : ℕ) → Known (IsMarked free) done k → IsMarked marks k
-  pub drawn : (k : ℕ) (s : Step) → slice_get wires k ≡ Some s → IsMarked taken k → Takes done s
+  pub from : (k : ℕ) (s : Step) → slice_get done k ≡ Some s → Takes wires s
   pub targets : EachOf (λ (s : Step). s.target < length free) done
   pub long : length marks ≡ length free
 
--- an order of the wires has each of them
+-- an order of the wires knows the target of each
 pub record IsOrder (modules : List Module) (wires : List Step) (free : List Bool) (steps : List Step) : Type 0 where
   pub ordered : InOrder modules (IsMarked free) steps
-  pub whole : (k : ℕ) (s : Step) → slice_get wires k ≡ Some s → Takes steps s
+  pub covers : (s : Step) → Takes wires s → Known (IsMarked free) steps s.target
+  pub from : (k : ℕ) (s : Step) → slice_get steps k ≡ Some s → Takes wires s
   pub targets : EachOf (λ (s : Step). s.target < length free) steps
+
+-- ---- where no order has them all
+
+abbrev pub IsClear : List Bool → ℕ → Type 0
+IsClear marks k = slice_index_or marks k false ≡ false
+
+abbrev pub SomeOf : {X : Type 0} → (X → Type 0) → List X → Type 0
+SomeOf P [] = ⊥
+SomeOf P (x ∷ xs) = P x ⊎ SomeOf P xs
+
+-- a step whose target is not known reads what is not known
+abbrev pub IsHeld : List Module → List Bool → Step → Type 0
+IsHeld modules marks s = s.target < length marks → IsClear marks s.target → SomeOf (IsClear marks) (reads modules s.feed)
+
+-- no step can be taken
+abbrev pub AreHeld : List Module → List Step → List Bool → ℕ → Type 0
+AreHeld modules wires marks count = (k : ℕ) (s : Step) → k < count → slice_get wires k ≡ Some s → IsHeld modules marks s
+
+-- the target of the step of a number is not known
+pub record IsLeft (wires : List Step) (marks : List Bool) (k : ℕ) : Type 0 where
+  pub step : Step
+  pub listed : slice_get wires k ≡ Some step
+  pub clear : IsClear marks step.target
+
+-- what is free is known, and no other step can be taken, though the target of one is not known
+pub record IsStuck (modules : List Module) (wires : List Step) (free : List Bool) : Type 0 where
+  pub marks : List Bool
+  pub long : length marks ≡ length free
+  pub free_known : (k : ℕ) → IsMarked free k → IsMarked marks k
+  pub held : (s : Step) → Takes wires s → IsHeld modules marks s
+  pub left : Step
+  pub taken : Takes wires left
+  pub clear : IsClear marks left.target

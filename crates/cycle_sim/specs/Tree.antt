@@ -36,6 +36,10 @@ pub record IsGrown (modules : List Module) (top : ℕ) (kinds children : List �
   pub kids : (q i kind : ℕ) (n : Instance) → q < length children → slice_get kinds q ≡ Some kind → slice_get (instances_of (slice_get modules kind)) i ≡ Some n
       → slice_get kinds (slice_index children q + i) ≡ Some n.of
   pub reached : (t : Module) → slice_get modules top ≡ Some t → (q kind : ℕ) → slice_get kinds q ≡ Some kind → IsReached modules t children q kind
+  -- those of one instance stand behind it, and before those of the next
+  pub behind : (q : ℕ) → q < length children → 1 ≤ slice_index children q
+  pub ends : (q kind : ℕ) → q < length children → slice_get kinds q ≡ Some kind → slice_index children q + length (instances_of (slice_get modules kind)) ≤ length kinds
+  pub apart : (q o kind : ℕ) → q < o → o < length children → slice_get kinds q ≡ Some kind → slice_index children q + length (instances_of (slice_get modules kind)) ≤ slice_index children o
 
 -- all have theirs
 pub record IsTree (modules : List Module) (top : ℕ) (kinds children : List ℕ) : Type 0 where

@@ -1,5 +1,5 @@
 -- The steps of a net, one for each signal that is no register.
-use Rattle.std.specs.Prelude.{ℕ, ◌+◌, List, [], ◌∷◌, ◌++◌, Option, Some, None, slice_get}
+use Rattle.std.specs.Prelude.{◌≡◌, ℕ, ◌+◌, List, [], ◌∷◌, ◌++◌, Option, Some, None, slice_get}
 use Rattle.netlist.specs.declared.netlist.Source.{Source}
 use Rattle.netlist.specs.declared.netlist.Source.TheVariants.{Input, Assigned, Port}
 use Rattle.netlist.specs.declared.netlist.Signal.{Signal}
@@ -11,6 +11,7 @@ use Rattle.cycle_sim.specs.declared.settle.Feed.TheVariants.{Copied, Computed}
 use Rattle.cycle_sim.specs.declared.settle.Step.{Step}
 use Rattle.cycle_sim.specs.declared.edge.Part.{Part}
 use Rattle.cycle_sim.specs.Stands.{spot_of, step}
+use Rattle.cycle_sim.specs.Given.{AreRooted, AreRoots}
 use Rattle.cycle_sim.specs.Tree.{instances_of}
 
 abbrev pub signals_of : Option Module → List Signal
@@ -53,3 +54,10 @@ part_steps modules parts p = own_steps parts p 0 (signals_of (slice_get modules 
 abbrev pub all_steps : List Module → List Part → List Part → List Step
 all_steps modules parts [] = []
 all_steps modules parts (p ∷ rest) = part_steps modules parts p ++ all_steps modules parts rest
+
+-- all steps of a net: those for the inputs of the outermost module, and those of the instances
+pub record AreWires (modules : List Module) (parts : List Part) (signals : List Signal) (base most : ℕ) (wires : List Step) : Type 0 where
+  pub roots : List Step
+  pub rooted : AreRooted roots base most signals
+  pub only : AreRoots base most signals roots
+  pub are : wires ≡ roots ++ all_steps modules parts parts

@@ -1,11 +1,9 @@
 // What gives the inputs of the outermost module their numbers: the clock is 0, `en` is the mask of the choice, and
 // `pref_k` is its preferred thread of arbiter k.
 
-ghost use Rattle.std.specs.Prelude.{◌≡◌, ◌++◌, List, IfOk, OnOk};
+ghost use Rattle.std.specs.Prelude.{◌≡◌, IfOk, OnOk};
 ghost use Rattle.std.specs.Str.{bytes_eq};
-ghost use Rattle.netlist.specs.declared.netlist.Source.TheVariants as sources;
-ghost use Rattle.cycle_sim.specs.declared.settle.Step.{Step as Stepping};
-ghost use Rattle.cycle_sim.specs.Given.{IsInput, IsPrefOf, IsRooted, AreRooted};
+ghost use Rattle.cycle_sim.specs.Given.{IsInput, IsPrefOf, IsGivenOne, IsGivenFor, AreRooted, AreRoots};
 
 use crate::settle::{Feed, Step};
 use crate::wires::further;
@@ -47,7 +45,6 @@ fn given(alloc: Global, name: &Identifier, prefs: usize) -> Result<Feed, AllocEr
     }
 }
 
-#[tactic(auto, using(crate::proofs::Givens::rooted_last))]
 fn push_given(
     alloc: Global,
     wires: &mut Vec<Step>,
@@ -55,8 +52,7 @@ fn push_given(
     name: &Identifier,
     prefs: usize,
 ) -> Result<(), AllocError>
-    ensures kept { OnOk result ((more : List Stepping) × (wires.new.items ≡ wires.old.items ++ more)) }
-    ensures rooted { OnOk result (IsRooted wires.new.items place prefs name.now) }
+    ensures { OnOk result (IsGivenOne place prefs name.now wires.old.items wires.new.items) }
 {
     let feed = given(alloc, name, prefs)?;
     wires.push(Step {
@@ -73,8 +69,7 @@ fn push_root(
     signal: &Signal,
     prefs: usize,
 ) -> Result<(), AllocError>
-    ensures kept { OnOk result ((more : List Stepping) × (wires.new.items ≡ wires.old.items ++ more)) }
-    ensures rooted { OnOk result (signal.now.source ≡ sources.Input → IsRooted wires.new.items place prefs signal.now.name) }
+    ensures { OnOk result (IsGivenFor place prefs signal.now.name signal.now.source wires.old.items wires.new.items) }
 {
     match &signal.source {
         Source::Input => push_given(alloc, wires, place, &signal.name, prefs),
@@ -82,19 +77,20 @@ fn push_root(
     }
 }
 
-/// Appends a step for each input of the outermost module, whose words stand from a place on.
-pub fn push_roots(
+/// The steps for the inputs of the outermost module, whose words stand from a place on.
+pub fn roots(
     alloc: Global,
-    wires: &mut Vec<Step>,
     base: usize,
     signals: &[Signal],
     prefs: usize,
-) -> Result<(), AllocError>
-    ensures { OnOk result (AreRooted wires.new.items base prefs signals.now) }
+) -> Result<Vec<Step>, AllocError>
+    ensures rooted { IfOk result (λ wires. AreRooted wires.items base prefs signals.now) }
+    ensures only { IfOk result (λ wires. AreRoots base prefs signals.now wires.items) }
 {
+    let mut wires = Vec::new(alloc);
     for signal in 0..signals.len() {
         let place = further(base, signal)?;
-        push_root(alloc, wires, place, &signals[signal], prefs)?;
+        push_root(alloc, &mut wires, place, &signals[signal], prefs)?;
     }
-    Ok(())
+    Ok(wires)
 }

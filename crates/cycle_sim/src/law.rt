@@ -1,8 +1,13 @@
 // A law of nets that can be opened.
 
-ghost use Rattle.cycle_sim.specs.Right.{RightOfSound};
+ghost use Rattle.cycle_sim.specs.Right.{RightOfSound, OnePrinterOfSound};
 
 /// A sound netlist can be opened: each of its widths fits.
 pub fn right_of_sound()
     ensures { RightOfSound }
+{}
+
+/// In a sound netlist one instance at most has a `$write`.
+pub fn one_printer_of_sound()
+    ensures { OnePrinterOfSound }
 {}

@@ -4,6 +4,7 @@
 pub mod edge;
 pub mod given;
 pub mod law;
+pub mod loops;
 pub mod net;
 pub mod order;
 pub mod place;

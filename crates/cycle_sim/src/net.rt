@@ -1,11 +1,11 @@
 // The outermost module, and the module that writes.
 
-ghost use Rattle.std.specs.Prelude.{◌≡◌, None, MatchOption, IsTrue, IfSome, length, slice_get, codes};
+ghost use Rattle.std.specs.Prelude.{◌≡◌, false, None, MatchOption, IsTrue, length, slice_get, codes};
 ghost use Rattle.std.specs.Str.{bytes_eq};
 ghost use Rattle.verilog_meaning.specs.Names.{top_of};
 ghost use Rattle.netlist.specs.Sound.{is_write};
 ghost use Rattle.cycle_sim.specs.Running.{some_write};
-ghost use Rattle.cycle_sim.specs.Opened.{writes_at, AreQuiet, IsOne, IsTopNumber, IsDoneNumber};
+ghost use Rattle.cycle_sim.specs.Opened.{writes_at, AreQuiet, AreOthersQuiet, IsWriter, IsOne, AreTwo, IsTopNumber, IsDoneNumber, LacksDone};
 
 use crate::edge::Part;
 use netlist::netlist::{Action, Effect, Module, Signal};
@@ -55,49 +55,54 @@ fn kind_writes(modules: &[Module], number: usize) -> bool
     }
 }
 
-/// The place of the first part with a `$write`, or past the last.
-fn first_writer(modules: &[Module], parts: &[Part]) -> usize
-    ensures { AreQuiet modules.now parts.now 0 result }
+/// The place of the first part with a `$write`.
+fn first_writer(modules: &[Module], parts: &[Part]) -> Option<usize>
+    ensures { MatchOption result (AreQuiet modules.now parts.now 0 (length parts.now)) (IsWriter modules.now parts.now) }
 {
     for number in 0..parts.len() {
         if kind_writes(modules, parts[number].module) {
-            return number;
+            return Some(number);
         }
     }
-    parts.len()
+    None
 }
 
-fn are_quiet_from(modules: &[Module], parts: &[Part], start: usize) -> bool
-    ensures { IsTrue result → AreQuiet modules.now parts.now start (length parts.now) }
+/// The place of the first part with a `$write` that is not the one at a place.
+fn other_writer(modules: &[Module], parts: &[Part], place: usize) -> Option<usize>
+    ensures { MatchOption result (AreOthersQuiet modules.now parts.now place (length parts.now)) (λ q. IsWriter modules.now parts.now q × (q ≡ place → ⊥)) }
 {
     for number in 0..parts.len() {
-        if number >= start {
+        if number != place {
             if kind_writes(modules, parts[number].module) {
-                return false;
+                return Some(number);
             }
         }
     }
-    true
+    None
 }
 
-/// Whether one part at most has a `$write`.
-#[tactic(auto, using(crate::proofs::Writers::one_from_quiet))]
-pub fn one_writes(modules: &[Module], parts: &[Part]) -> bool
-    ensures { IsTrue result → IsOne modules.now parts.now }
+/// Whether two parts have a `$write`.
+#[tactic(auto, using(crate::proofs::Writers::one_from_quiet, crate::proofs::Writers::one_from_others, crate::proofs::Writers::two_from_writers))]
+pub fn two_write(modules: &[Module], parts: &[Part]) -> bool
+    ensures one { result ≡ false → IsOne modules.now parts.now }
+    ensures two { IsTrue result → AreTwo modules.now parts.now }
 {
-    let first = first_writer(modules, parts);
-    are_quiet_from(modules, parts, first.saturating_add(1))
+    match first_writer(modules, parts) {
+        Some(first) => other_writer(modules, parts, first).is_some(),
+        None => false,
+    }
 }
 
 fn is_done(signal: &Signal) -> bool
-    ensures { IsTrue result → signal.now.name ≡ codes "done" }
+    ensures named { IsTrue result → signal.now.name ≡ codes "done" }
+    ensures other { result ≡ false → signal.now.name ≡ codes "done" → ⊥ }
 {
     signal.name.as_str() == "done"
 }
 
 /// The number of the signal `done`.
 pub fn done_number(signals: &[Signal]) -> Option<usize>
-    ensures { IfSome result (IsDoneNumber signals.now) }
+    ensures { MatchOption result (LacksDone signals.now) (IsDoneNumber signals.now) }
 {
     for number in 0..signals.len() {
         if is_done(&signals[number]) {

@@ -1,9 +1,10 @@
 // An order of the steps in which each reads only what is known.
 
-ghost use Rattle.std.specs.Prelude.{◌≡◌, ℕ, ◌+◌, ◌<◌, ◌++◌, [], true, false, length, map, slice_get, slice_index_or, IfOk, IfSome, OnOk, IsTrue};
+ghost use Rattle.std.specs.Prelude.{◌≡◌, ℕ, ◌+◌, ◌<◌, ◌≤◌, ◌⊎◌, true, false, length, map, slice_get, slice_index_or, IfOk, MatchOption, OnOk, IsTrue};
+ghost use Rattle.cycle_sim.specs.declared.settle.Step.{Step as Stepping};
 ghost use Rattle.verilog_meaning.specs.Threads.{operands};
 ghost use Rattle.cycle_sim.specs.Flat.{EachOf};
-ghost use Rattle.cycle_sim.specs.Order.{reads, module_reads, signal_reads, source_reads, IsMarked, IsPartial, IsOrder};
+ghost use Rattle.cycle_sim.specs.Order.{reads, module_reads, signal_reads, source_reads, IsMarked, IsClear, SomeOf, Takes, IsPartial, IsOrder, IsHeld, AreHeld, IsLeft, IsStuck};
 
 use crate::settle::{Feed, Step};
 use netlist::netlist::{Module, Source, Value};
@@ -20,7 +21,8 @@ fn is_marked(marks: &[bool], base: usize, signal: usize) -> bool
 }
 
 fn are_marked(marks: &[bool], base: usize, signals: &[usize]) -> bool
-    ensures { IsTrue result → EachOf (IsMarked marks.now) (map (λ y. base + y) signals.now) }
+    ensures ready { IsTrue result → EachOf (IsMarked marks.now) (map (λ y. base + y) signals.now) }
+    ensures blocked { result ≡ false → SomeOf (IsClear marks.now) (map (λ y. base + y) signals.now) }
 {
     for signal in signals {
         if !is_marked(marks, base, *signal) {
@@ -33,12 +35,14 @@ fn are_marked(marks: &[bool], base: usize, signals: &[usize]) -> bool
 fn are_both_marked(marks: &[bool], base: usize, left: usize, right: usize) -> bool
     ensures left { IsTrue result → IsMarked marks.now (base + left) }
     ensures right { IsTrue result → IsMarked marks.now (base + right) }
+    ensures blocked { result ≡ false → IsClear marks.now (base + left) ⊎ IsClear marks.now (base + right) }
 {
     is_marked(marks, base, left) && is_marked(marks, base, right)
 }
 
 fn is_value_ready(marks: &[bool], base: usize, value: &Value) -> bool
-    ensures { IsTrue result → EachOf (IsMarked marks.now) (map (λ y. base + y) (operands value.now)) }
+    ensures ready { IsTrue result → EachOf (IsMarked marks.now) (map (λ y. base + y) (operands value.now)) }
+    ensures blocked { result ≡ false → SomeOf (IsClear marks.now) (map (λ y. base + y) (operands value.now)) }
 {
     match value {
         Value::Constant(_) => true,
@@ -64,7 +68,8 @@ fn is_value_ready(marks: &[bool], base: usize, value: &Value) -> bool
 }
 
 fn is_source_ready(marks: &[bool], base: usize, source: &Source) -> bool
-    ensures { IsTrue result → EachOf (IsMarked marks.now) (source_reads base source.now) }
+    ensures ready { IsTrue result → EachOf (IsMarked marks.now) (source_reads base source.now) }
+    ensures blocked { result ≡ false → SomeOf (IsClear marks.now) (source_reads base source.now) }
 {
     match source {
         Source::Assigned(value) => is_value_ready(marks, base, value),
@@ -73,7 +78,8 @@ fn is_source_ready(marks: &[bool], base: usize, source: &Source) -> bool
 }
 
 fn is_signal_ready(marks: &[bool], base: usize, module: &Module, signal: usize) -> bool
-    ensures { IsTrue result → EachOf (IsMarked marks.now) (signal_reads base (slice_get module.now.signals signal)) }
+    ensures ready { IsTrue result → EachOf (IsMarked marks.now) (signal_reads base (slice_get module.now.signals signal)) }
+    ensures blocked { result ≡ false → SomeOf (IsClear marks.now) (signal_reads base (slice_get module.now.signals signal)) }
 {
     match at(module.signals.as_slice(), signal) {
         Some(found) => is_source_ready(marks, base, &found.source),
@@ -88,7 +94,8 @@ fn is_computed_ready(
     number: usize,
     signal: usize,
 ) -> bool
-    ensures { IsTrue result → EachOf (IsMarked marks.now) (module_reads base signal (slice_get modules.now number)) }
+    ensures ready { IsTrue result → EachOf (IsMarked marks.now) (module_reads base signal (slice_get modules.now number)) }
+    ensures blocked { result ≡ false → SomeOf (IsClear marks.now) (module_reads base signal (slice_get modules.now number)) }
 {
     match at(modules, number) {
         Some(module) => is_signal_ready(marks, base, module, signal),
@@ -96,8 +103,10 @@ fn is_computed_ready(
     }
 }
 
-fn is_ready(marks: &[bool], modules: &[Module], feed: Feed) -> bool
-    ensures { IsTrue result → EachOf (IsMarked marks.now) (reads modules.now feed) }
+/// Whether all that a feed reads is marked.
+pub fn is_ready(marks: &[bool], modules: &[Module], feed: Feed) -> bool
+    ensures ready { IsTrue result → EachOf (IsMarked marks.now) (reads modules.now feed) }
+    ensures blocked { result ≡ false → SomeOf (IsClear marks.now) (reads modules.now feed) }
 {
     match feed {
         Feed::Zero | Feed::Enables | Feed::Preferred(_) => true,
@@ -117,13 +126,14 @@ fn visit(
     free: &[bool],
     number: usize,
     marks: &mut [bool],
-    taken: &mut [bool],
     done: &mut Vec<Step>,
 ) -> Result<(), AllocError>
     requires number { number < length wires.now }
-    requires taken { length taken.old ≡ length wires.now }
-    requires partial { IsPartial modules.now wires.now free.now marks.old taken.old done.old.items }
-    ensures { OnOk result (IsPartial modules.now wires.now free.now marks.new taken.new done.new.items) }
+    requires partial { IsPartial modules.now wires.now free.now marks.old done.old.items }
+    ensures partial { OnOk result (IsPartial modules.now wires.now free.now marks.new done.new.items) }
+    ensures more { OnOk result (length done.old.items ≤ length done.new.items) }
+    ensures marks { OnOk result (length done.new.items ≡ length done.old.items → marks.new ≡ marks.old) }
+    ensures held { OnOk result (length done.new.items ≡ length done.old.items → (s : Stepping) → slice_get wires.now number ≡ Some s → IsHeld modules.now marks.new s) }
 {
     let wire = wires[number];
     if wire.target >= marks.len() {
@@ -137,7 +147,6 @@ fn visit(
     }
     done.push(wire)?;
     marks[wire.target] = true;
-    taken[number] = true;
     Ok(())
 }
 
@@ -147,15 +156,14 @@ fn pass(
     wires: &[Step],
     free: &[bool],
     marks: &mut [bool],
-    taken: &mut [bool],
     done: &mut Vec<Step>,
 ) -> Result<(), AllocError>
-    requires taken { length taken.old ≡ length wires.now }
-    requires partial { IsPartial modules.now wires.now free.now marks.old taken.old done.old.items }
-    ensures { OnOk result (IsPartial modules.now wires.now free.now marks.new taken.new done.new.items) }
+    requires { IsPartial modules.now wires.now free.now marks.old done.old.items }
+    ensures partial { OnOk result (IsPartial modules.now wires.now free.now marks.new done.new.items) }
+    ensures held { OnOk result (length done.new.items ≡ length done.old.items → AreHeld modules.now wires.now marks.new (length wires.now)) }
 {
     for number in 0..wires.len() {
-        visit(modules, wires, free, number, marks, taken, done)?;
+        visit(modules, wires, free, number, marks, done)?;
     }
     Ok(())
 }
@@ -166,56 +174,69 @@ fn grow(
     wires: &[Step],
     free: &[bool],
     marks: &mut [bool],
-    taken: &mut [bool],
     done: &mut Vec<Step>,
 ) -> Result<(), AllocError>
-    requires taken { length taken.old ≡ length wires.now }
-    requires partial { IsPartial modules.now wires.now free.now marks.old taken.old done.old.items }
-    ensures { OnOk result (IsPartial modules.now wires.now free.now marks.new taken.new done.new.items) }
+    requires { IsPartial modules.now wires.now free.now marks.old done.old.items }
+    ensures partial { OnOk result (IsPartial modules.now wires.now free.now marks.new done.new.items) }
+    ensures held { OnOk result (AreHeld modules.now wires.now marks.new (length wires.now)) }
 {
-    for _round in 0..wires.len() {
+    // Each pass but the last takes a step, so memory ends before the turns do.
+    for _turn in 0..usize::MAX {
         let before = done.len();
-        pass(modules, wires, free, marks, taken, done)?;
+        pass(modules, wires, free, marks, done)?;
         if done.len() == before {
             return Ok(());
         }
     }
-    Ok(())
+    Err(AllocError)
 }
 
-fn are_all_taken(taken: &[bool]) -> bool
-    ensures { IsTrue result → (k : ℕ) → k < length taken.now → slice_index_or taken.now k false ≡ true }
+/// The number of a step whose target is not known.
+fn clear_target(marks: &[bool], wires: &[Step]) -> Option<usize>
+    ensures { MatchOption result ((s : Stepping) → Takes wires.now s → IsMarked marks.now s.target) (IsLeft wires.now marks.now) }
 {
-    for number in 0..taken.len() {
-        if !taken[number] {
-            return false;
+    for number in 0..wires.len() {
+        if !is_marked(marks, 0, wires[number].target) {
+            return Some(number);
         }
     }
-    true
+    None
 }
 
-/// Orders the steps, where the places that `free` marks are known before the first. None: some signal depends on itself.
-#[tactic(auto, using(crate::proofs::Orders::partial_none, crate::proofs::Orders::order_whole))]
+/// Takes all steps that can be taken. Whether these are all.
+#[tactic(auto, using(crate::proofs::Orders::order_whole, crate::proofs::Orders::order_stuck))]
+fn take_all(
+    modules: &[Module],
+    wires: &[Step],
+    free: &[bool],
+    marks: &mut [bool],
+    done: &mut Vec<Step>,
+) -> Result<bool, AllocError>
+    requires { IsPartial modules.now wires.now free.now marks.old done.old.items }
+    ensures order { IfOk result (λ whole. whole ≡ true → IsOrder modules.now wires.now free.now done.new.items) }
+    ensures stuck { IfOk result (λ whole. whole ≡ false → IsStuck modules.now wires.now free.now) }
+{
+    grow(modules, wires, free, marks, done)?;
+    match clear_target(marks, wires) {
+        Some(_) => Ok(false),
+        None => Ok(true),
+    }
+}
+
+/// Orders the steps, where the places that `free` marks are known before the first. None: none can be taken any more,
+/// though not all are.
+#[tactic(auto, using(crate::proofs::Orders::partial_none))]
 pub fn order(
     alloc: Global,
     modules: &[Module],
     wires: &[Step],
     free: &[bool],
 ) -> Result<Option<Vec<Step>>, AllocError>
-    ensures { IfOk result (λ o. IfSome o (λ v. IsOrder modules.now wires.now free.now v.items)) }
+    ensures { IfOk result (λ o. MatchOption o (IsStuck modules.now wires.now free.now) (λ v. IsOrder modules.now wires.now free.now v.items)) }
 {
     let mut marks = Vec::from_slice(alloc, free)?;
-    let mut taken = vec![in alloc; false; wires.len()]?;
     let mut done = Vec::with_capacity(alloc, wires.len())?;
-    grow(
-        modules,
-        wires,
-        free,
-        marks.as_mut_slice(),
-        taken.as_mut_slice(),
-        &mut done,
-    )?;
-    if are_all_taken(taken.as_slice()) {
+    if take_all(modules, wires, free, marks.as_mut_slice(), &mut done)? {
         Ok(Some(done))
     } else {
         Ok(None)

@@ -1,19 +1,20 @@
 // The simulator.
 
-ghost use Rattle.std.specs.Prelude.{◌≡◌, ◌++◌, length, nat_eq, slice_index, slice_get, List, None, IfOk, IfErr, OnOk, OnErr, is_ok, if◌then◌else◌};
-ghost use Rattle.verilog_meaning.specs.Names.{top_of};
-ghost use Rattle.cycle_sim.specs.declared.settle.Step.{Step as Stepping};
+ghost use Rattle.std.specs.Prelude.{◌≡◌, ◌++◌, ℕ, length, nat_eq, slice_index, slice_get, IfOk, IfErr, OnOk, OnErr, is_ok, if◌then◌else◌};
 ghost use Rattle.cycle_sim.specs.declared.sim.OpenError.TheVariants as errors;
-ghost use Rattle.cycle_sim.specs.Given.{AreRooted};
-ghost use Rattle.cycle_sim.specs.Wires.{signals_of, all_steps};
-ghost use Rattle.cycle_sim.specs.Opened.{IsOpened, IsReady, IsRightNet, IsTopNumber};
+ghost use Rattle.netlist.specs.declared.netlist.Module.{Module as Kind};
+ghost use Rattle.cycle_sim.specs.Order.{IsStuck};
+ghost use Rattle.cycle_sim.specs.Wires.{signals_of, AreWires};
+ghost use Rattle.cycle_sim.specs.LaidOut.{IsLaidOut};
+ghost use Rattle.cycle_sim.specs.Opened.{IsOpened, IsReady, IsRightNet, IsTopNumber, IsCause};
 ghost use Rattle.verilog_meaning.specs.Cycles.{Choice as Choosing};
 ghost use Rattle.cycle_sim.specs.Flat.{Flat, AreNarrow, all_numbers, all_words, all_written};
 ghost use Rattle.cycle_sim.specs.Running.{Running, flat, choice_of, Fits, IsSettledRun, IsSameNet, IsSameState, IsCycleOf, TellsDone, advanced};
 
 use crate::edge::{Part, edge_numbers, edge_words};
-use crate::given::push_roots;
-use crate::net::{done_number, one_writes, top_number};
+use crate::given::roots;
+use crate::loops::first_loop;
+use crate::net::{done_number, top_number, two_write};
 use crate::order::order;
 use crate::place::{Placed, place};
 use crate::print::put_written;
@@ -182,9 +183,10 @@ pub enum OpenError {
     NoTop,
     #[error("no output done")]
     NoDone,
-    /// No order of the signals was found.
-    #[error("a signal depends on itself")]
-    Loop,
+    /// The first signal that depends on itself, by the number of its module and its own: in the order of the module's
+    /// signals, those of a module before those of its instances.
+    #[error("signal {signal} of module {module} depends on itself")]
+    Loop { module: usize, signal: usize },
     #[error("more than one instance with a $write")]
     Printers,
     #[error("out of memory")]
@@ -208,20 +210,47 @@ fn wires_of(
     parts: &[Part],
     prefs: usize,
 ) -> Result<Vec<Step>, AllocError>
-    ensures { IfOk result (λ wires. (roots : List Stepping) × AreRooted roots base prefs (signals_of (slice_get modules.now top)) × (wires.items ≡ roots ++ all_steps modules.now parts.now parts.now)) }
+    ensures { IfOk result (λ wires. AreWires modules.now parts.now (signals_of (slice_get modules.now top)) base prefs wires.items) }
 {
-    let mut wires = Vec::new(alloc);
-    push_roots(alloc, &mut wires, base, module_signals(modules, top), prefs)?;
+    let mut wires = roots(alloc, base, module_signals(modules, top), prefs)?;
     push_parts(&mut wires, modules, parts)?;
     Ok(wires)
 }
 
+/// The first signal that depends on itself, where no order has all steps.
+fn loop_of(
+    alloc: Global,
+    modules: &[Module],
+    placed: &Placed,
+    wires: &[Step],
+) -> Result<OpenError, AllocError>
+    requires laid { (top : Kind) × (prefs : ℕ) × IsLaidOut modules.now top placed.now.parts.items placed.now.numbers.items placed.now.free.items placed.now.words.items placed.now.starts.items wires.now prefs }
+    requires stuck { IsStuck modules.now wires.now placed.now.free.items }
+    ensures { IfOk result (IsCause modules.now) }
+{
+    let found = first_loop(
+        alloc,
+        modules,
+        placed.parts.as_slice(),
+        wires,
+        placed.numbers.len(),
+    )?;
+    match found {
+        Some(found) => Ok(OpenError::Loop {
+            module: found.module,
+            signal: found.signal,
+        }),
+        None => unreachable!(),
+    }
+}
+
 impl<'a> Sim<'a> {
-    /// A simulator of a net in its initial state, for choices of at most `prefs` prefs.
+    /// A simulator of a net in its initial state, for choices of at most `prefs` prefs. There is one exactly where the net
+    /// has a module `top` with a signal `done`, no signal depends on itself, and at most one instance has a `$write`.
     pub fn open(alloc: Global, modules: &'a [Module], prefs: usize) -> Result<Self, OpenError>
         requires { IsRightNet modules.now }
         ensures ok { IfOk result (IsOpened modules.entry.now prefs) }
-        ensures top { IfErr result (λ e. e ≡ errors.NoTop → top_of modules.entry.now ≡ None) }
+        ensures cause { IfErr result (IsCause modules.entry.now) }
     {
         match top_number(modules) {
             Some(top) => Sim::open_at(alloc, modules, top, prefs),
@@ -238,22 +267,22 @@ impl<'a> Sim<'a> {
         requires right { IsRightNet modules.now }
         requires top { IsTopNumber modules.now top }
         ensures ok { IfOk result (IsOpened modules.entry.now prefs) }
-        ensures top { IfErr result (λ e. e ≡ errors.NoTop → ⊥) }
+        ensures cause { IfErr result (IsCause modules.entry.now) }
     {
         let tree = tree_of(alloc, modules, top)?;
         let placed = place(alloc, modules, &tree)?;
-        if !one_writes(modules, placed.parts.as_slice()) {
+        let base = base_at(placed.parts.as_slice(), 0);
+        let wires = wires_of(alloc, modules, top, base, placed.parts.as_slice(), prefs)?;
+        if two_write(modules, placed.parts.as_slice()) {
             return Err(OpenError::Printers);
         }
-        let base = base_at(placed.parts.as_slice(), 0);
         let Some(number) = done_number(module_signals(modules, top)) else {
             return Err(OpenError::NoDone);
         };
         let done = further(base, number)?;
-        let wires = wires_of(alloc, modules, top, base, placed.parts.as_slice(), prefs)?;
         match order(alloc, modules, wires.as_slice(), placed.free.as_slice())? {
             Some(steps) => Sim::built(alloc, modules, placed, steps, prefs, done),
-            None => Err(OpenError::Loop),
+            None => Err(loop_of(alloc, modules, &placed, wires.as_slice())?),
         }
     }
 
@@ -267,7 +296,7 @@ impl<'a> Sim<'a> {
     ) -> Result<Self, OpenError>
         requires { IsReady (record { modules = modules.now; parts = placed.parts.items; steps = steps.items; numbers = placed.numbers.items; words = placed.words.items; starts = placed.starts.items; prefs = prefs; done = done }) }
         ensures ok { IfOk result (IsOpened modules.entry.now prefs) }
-        ensures top { IfErr result (λ e. e ≡ errors.NoTop → ⊥) }
+        ensures cause { IfErr result (λ e. e ≡ errors.Memory) }
     {
         let next = vec![in alloc; 0u64; placed.numbers.len()]?;
         let Placed {

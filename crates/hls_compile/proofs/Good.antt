@@ -1,5 +1,5 @@
 -- The text of a program of main alone is good Verilog of it.
-use Rattle.std.proofs.Common.{◌≡◌, ℕ, ◌+◌, ◌<◌, ◌^◌, List, length, map, true, refl, sym, ap, ◌∙◌, subst, arith}
+use Rattle.std.proofs.Common.{◌≡◌, ℕ, ◌+◌, ◌<◌, ◌^◌, List, length, map, refl, sym, ap, ◌∙◌, subst, arith}
 use Rattle.std.proofs.lemmas.List.{length-map}
 use Rattle.std.specs.Prelude.{sum_by}
 use Rattle.c_program.specs.Tree.{Piece, Program}
@@ -9,7 +9,6 @@ use Rattle.c_program.specs.Resolved.{IsResolved}
 use Rattle.block_ir.specs.declared.code.ThreadCode.{ThreadCode}
 use Rattle.netlist.specs.declared.netlist.Module.{Module}
 use Rattle.code_following.specs.Following.{IsLowered, print_formats}
-use Rattle.ir_lower.specs.Taken.{is_sequential_program}
 use Rattle.ir_lower.specs.Typed.{IsTypedCode}
 use Rattle.program_machine.specs.Built.{IsSingle, IsCode, IsThreadModule, part_of}
 use Rattle.planned_code.specs.Planned.{HasScalars}
@@ -18,7 +17,6 @@ use Rattle.fsm_datapath.specs.Leaf.{leaf_of}
 use Rattle.whole_net.specs.Table.{IsArbiterModule}
 use Rattle.whole_net.specs.Whole.{OfParts}
 use Rattle.hls_compile.specs.Parts.{main_printer, IsMadeOf, IsPrinterFor}
-use Rattle.hls_compile.specs.Compiled.{IsScalar}
 use Rattle.hls_compile.proofs.Plain.{is_plain}
 use Rattle.hls_compile.proofs.Main.{stands, is_thread}
 
@@ -54,9 +52,8 @@ module _ (P : Program) (code : ThreadCode) (main arbiter printer : Module)
         is_printer.of_program (stands main shape leaf) is_arbiter is_printer.is
 
   -- as the functions of lowering promise them
-  pub of_scalar_parts : (Holds : Program → Type 0) → (is_sequential_program P ≡ true → IsResolved P → IsLowered P code) → (is_sequential_program P ≡ true → IsResolved P → IsTypedCode P code) →
-      OfParts Holds main arbiter printer → IsScalar P → Holds P
-  of_scalar_parts Holds lowered typed given scalar = of_parts scalar.scalars (lowered scalar.sequential resolved) (typed scalar.sequential resolved) Holds given
+  pub of_scalar_parts : (Holds : Program → Type 0) → IsLowered P code → IsTypedCode P code → OfParts Holds main arbiter printer → HasScalars P → Holds P
+  of_scalar_parts Holds lowered typed given scalars = of_parts scalars lowered typed Holds given
 
 -- without thread objects main is the one thread
 pub one_thread : (P : Program) → IsSingle P → thread_count P ≡ 1

@@ -1,16 +1,75 @@
--- Bytes that can be printed, one after the other.
-use Rattle.std.proofs.Common.{◌≡◌, ℕ, zero, suc, ◌+◌, ◌<◌, ◌&&◌, Bool, true, false, List, [], ◌∷◌, length, take, get_or, ap, subst, arith}
-use Rattle.print_core.specs.Format.{is_printable, all_printable}
+-- The printer can write the sites of a resolved program that has few.
+use Rattle.std.proofs.Common.{◌≡◌, ℕ, suc, ◌+◌, ◌<◌, ◌≤◌, ◌^◌, Bool, true, false, List, [], ◌∷◌, length, map, refl, sym, ap, ◌∙◌, subst, arith}
+use Rattle.std.specs.Prelude.{◌&&◌, ◌||◌, nat_eq, nat_le, IsTrue}
+use Rattle.std.specs.List.{AllByRecursion}
+use Rattle.std.proofs.lemmas.List.{length-map}
+use Rattle.c_program.specs.Tree.{Piece, Program}
+use Rattle.c_program.specs.Limits.{print_sites}
+use Rattle.c_program.specs.Resolved.{is_text_byte, IsPiece, IsResolved}
+use Rattle.code_following.specs.Following.{conversions_of, print_formats}
+use Rattle.ir_lower.specs.Mains.{IsPrinted}
+use Rattle.ir_lower.proofs.Formats.{program_prints, formats_listed}
+use Rattle.circuit.specs.Rows.{EachOf}
+use Rattle.print_core.specs.Format.{is_printable, all_printable, values_of, IsPart, IsSite}
+use Rattle.print_core.specs.Printer.{IsShape}
+use Rattle.print_core.specs.declared.format.Part.{Part}
+use Rattle.program_machine.specs.Built.{conversion_part, part_of}
+use Rattle.hls_compile.specs.Sites.{site_of, sites_of}
 
-another : (x y z : Bool) → (x && y) ≡ true → (y ≡ true → z ≡ true) → (x && z) ≡ true
-another true y z h k = k h
-another false y z h k = h
+swapped : (x y z : Bool) → IsTrue (x || y || z) → (z || (y || x)) ≡ true
+swapped x y true h = refl
+swapped x true false h = refl
+swapped true false false h = refl
+swapped false false false h = absurd cc
 
-more : (bytes : List ℕ) (i d : ℕ) → i < length bytes → all_printable (take i bytes) ≡ true → is_printable (get_or bytes i d) ≡ true → all_printable (take (suc i) bytes) ≡ true
-more [] i d l e f = absurd (omega arith)
-more (b ∷ bytes) zero d l e f = ap (λ t. t && true) f
-more (b ∷ bytes) (suc i) d l e f =
-    another (is_printable b) (all_printable (take i bytes)) (all_printable (take (suc i) bytes)) e (λ g. more bytes i d (omega arith) g f)
+byte_printable : (byte : ℕ) → IsTrue (is_text_byte byte) → is_printable byte ≡ true
+byte_printable byte h = swapped (nat_eq byte 9) (nat_eq byte 10) (nat_le 32 byte && nat_le byte 126) h
 
-pub one_more : (bytes : List ℕ) (i d : ℕ) → i < length bytes → all_printable (take i bytes) ≡ true → is_printable (get_or bytes i d) ≡ true → all_printable (take (i + 1) bytes) ≡ true
-one_more bytes i d l e f = let n : suc i ≡ i + 1 = omega arith in subst (λ k. all_printable (take k bytes) ≡ true) n (more bytes i d l e f)
+bytes_printable : (bytes : List ℕ) → AllByRecursion (λ byte. IsTrue (is_text_byte byte)) bytes → all_printable bytes ≡ true
+bytes_printable [] all = refl
+bytes_printable (b ∷ bytes) all = ap (λ t. t && all_printable bytes) (byte_printable b all.0) ∙ bytes_printable bytes all.1
+
+conversion_is : (signed : Bool) → IsPart (conversion_part signed)
+conversion_is true = tt
+conversion_is false = tt
+
+piece_is : (p : Piece) → IsPiece p → IsPart (part_of p)
+piece_is (Piece.Text bytes) is = bytes_printable bytes is
+piece_is (Piece.Conversion ty) is = conversion_is ty.signed
+
+pieces_are : (format : List Piece) → AllByRecursion IsPiece format → EachOf IsPart (site_of format)
+pieces_are [] all = tt
+pieces_are (p ∷ format) all = (piece_is p all.0, pieces_are format all.1)
+
+conversion_counts : (signed : Bool) (parts : List Part) → values_of (conversion_part signed ∷ parts) ≡ 1 + values_of parts
+conversion_counts true parts = refl
+conversion_counts false parts = refl
+
+one_more : (n : ℕ) → 1 + n ≡ suc n
+one_more n = omega arith
+
+values_are : (format : List Piece) → values_of (site_of format) ≡ length (conversions_of format)
+values_are [] = refl
+values_are (Piece.Text bytes ∷ format) = values_are format
+values_are (Piece.Conversion ty ∷ format) = conversion_counts ty.signed (site_of format) ∙ one_more (values_of (site_of format)) ∙ ap suc (values_are format)
+
+format_is : (format : List Piece) → IsPrinted format → IsSite 4 (site_of format)
+format_is format is = (pieces_are format is.pieces, let n = values_are format in let few = is.few in omega (arith, n, few))
+
+formats_are : (formats : List (List Piece)) → AllByRecursion IsPrinted formats → EachOf (IsSite 4) (map site_of formats)
+formats_are [] all = tt
+formats_are (f ∷ formats) all = (format_is f all.0, formats_are formats all.1)
+
+sites_listed : (P : Program) → length (sites_of P) ≡ print_sites P
+sites_listed P = length-map (print_formats P) site_of ∙ formats_listed P
+
+pub shape_is : (P : Program) (sites : List (List Part)) → sites ≡ sites_of P → IsResolved P → print_sites P < 2 ^ 16 → IsShape (record { threads = 1; values = 4; sites = sites })
+shape_is P sites is resolved few = record {
+  few = (let one : 1 ≤ 64 = omega arith in one);
+  few_values = (let low : 4 < 256 = omega arith in low);
+  few_sites = (let long = sites_listed P in let same = ap length is in omega (arith, long, same, few));
+  sites = subst (EachOf (IsSite 4)) (sym is) (formats_are (print_formats P) (program_prints P resolved));
+}
+
+pub sites_few : (P : Program) (sites : List (List Part)) → sites ≡ sites_of P → print_sites P < 2 ^ 16 → length sites < 2 ^ 16
+sites_few P sites is few = let long = sites_listed P in let same = ap length is in omega (arith, long, same, few)

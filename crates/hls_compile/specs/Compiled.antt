@@ -1,6 +1,8 @@
--- What a text is compiled to.
-use Rattle.std.specs.Prelude.{◌≡◌, ℕ, ◌≤◌, List, true}
-use Rattle.c_program.specs.Tree.{Program}
+-- What a text is compiled to, and what programs have that is not built yet.
+use Rattle.std.specs.Prelude.{◌≡◌, ◌≢◌, ◌⊎◌, ℕ, ◌≤◌, List, [], Some, false, slice_get, Contains}
+use Rattle.c_program.specs.declared.tree.LocalVariable.{LocalVariable}
+use Rattle.c_program.specs.Tree.{Function, Program}
+use Rattle.c_program.specs.Calls.{Calls}
 use Rattle.c_program.specs.Weight.{thread_count}
 use Rattle.ir_lower.specs.Taken.{is_sequential_program}
 use Rattle.planned_code.specs.Planned.{HasScalars}
@@ -8,31 +10,72 @@ use Rattle.netlist.specs.declared.netlist.Netlist.{Netlist}
 use Rattle.good_verilog.specs.GoodVerilog.{IsGoodVerilog}
 use Rattle.whole_net.specs.Whole.{IsNetOf}
 use Rattle.c_profile.specs.Profile.{IsAccepted}
+use Rattle.hls_compile.specs.declared.unbuilt.Construct.{Construct}
+use Rattle.hls_compile.specs.declared.unbuilt.Construct.TheVariants as construct
 
--- main makes no pthread call, and its locals are scalars
-pub record IsScalar (P : Program) : Type 0 where
-  pub sequential : is_sequential_program P ≡ true
-  pub scalars : HasScalars P
+-- ---- what is not built yet
 
--- the text is accepted as a program of so many threads and this weight; and what is written is good Verilog of a scalar one
+-- pthread objects are declared, or main calls a function of pthreads
+abbrev pub HasThreads : Program → Type 0
+HasThreads P = (P.threads ≢ []) ⊎ ((P.mutexes ≢ []) ⊎ ((P.barriers ≢ []) ⊎ (is_sequential_program P ≡ false)))
+
+-- main calls a function of the program
+abbrev pub HasCalls : Program → Type 0
+HasCalls P = (g : ℕ) × Calls P.functions P.main g
+
+-- a local of main is no scalar
+pub record HasArrays (P : Program) : Type 0 where
+  pub main : Function
+  pub found : slice_get P.functions P.main ≡ Some main
+  pub local : LocalVariable
+  pub declared : Contains main.locals local
+  pub array : local.length ≢ 1
+
+-- the program has the construct. Of one that a check does not find in order nothing is said
+abbrev pub HasConstruct : Program → Construct → Type 0
+HasConstruct P construct.Threads = HasThreads P
+HasConstruct P construct.Globals = P.globals ≢ []
+HasConstruct P construct.Calls = HasCalls P
+HasConstruct P construct.Arrays = HasArrays P
+HasConstruct P construct.Unchecked = Unit {0}
+
+-- the same of a program that is not to be run: local arrays are built
+abbrev pub HasUnbuilt : Program → Construct → Type 0
+HasUnbuilt P c = HasConstruct P c × (c ≢ construct.Arrays)
+
+-- main alone, without pthread calls, without globals and without calls
+pub record IsAlone (P : Program) : Type 0 where
+  pub threads : HasThreads P → ⊥
+  pub globals : P.globals ≡ []
+  pub calls : HasCalls P → ⊥
+
+-- ---- what is
+
+-- the text is accepted as a program of main alone, of so many threads and this weight; and what is written is good Verilog of it
+-- where its locals are scalars
 pub record IsCompiled (text : List ℕ) (threads weight : ℕ) (written : List ℕ) : Type 0 where
   pub program : Program
   pub accepted : IsAccepted text program weight
+  pub alone : IsAlone program
   pub counted : threads ≡ thread_count program
-  pub good : IsScalar program → IsGoodVerilog program written
+  pub good : HasScalars program → IsGoodVerilog program written
 
--- the text is accepted as a program of so many threads, what is written is good Verilog of it, and reads as this netlist
+-- the text is accepted as a program of main alone, on scalars, of so many threads, what is written is good Verilog of it, and reads
+-- as this netlist
 pub record IsRunnable (text : List ℕ) (threads : ℕ) (n : Netlist) (written : List ℕ) : Type 0 where
   pub program : Program
   pub weight : ℕ
   pub accepted : IsAccepted text program weight
+  pub alone : IsAlone program
+  pub scalars : HasScalars program
   pub counted : threads ≡ thread_count program
   pub few : threads ≤ 63
   pub good : IsGoodVerilog program written
   pub net : IsNetOf threads n written
 
--- the text is accepted, though not all of it is built
-pub record IsUnbuilt (text : List ℕ) : Type 0 where
+-- the text is accepted, and its program has a construct that is not built yet
+pub record IsUnbuilt (text : List ℕ) (c : Construct) : Type 0 where
   pub program : Program
   pub weight : ℕ
   pub accepted : IsAccepted text program weight
+  pub has : HasConstruct program c

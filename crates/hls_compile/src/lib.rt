@@ -6,19 +6,22 @@ mod scalar;
 mod sites;
 mod unbuilt;
 
-ghost use Rattle.std.specs.Prelude.{◌≡◌, ◌≢◌, true, IfOk, IfErr, OnOk};
-ghost use Rattle.c_program.specs.Resolved.{IsResolved};
-ghost use Rattle.code_following.specs.Following.{IsLowered};
-ghost use Rattle.ir_lower.specs.Taken.{is_sequential_program};
-ghost use Rattle.ir_lower.specs.Typed.{IsTypedCode};
-ghost use Rattle.program_machine.specs.Built.{IsSingle};
-ghost use Rattle.good_verilog.specs.GoodVerilog.{IsGoodVerilog};
+ghost use Rattle.std.specs.Prelude.{◌≡◌, ◌≢◌, ◌<◌, ◌^◌, IfOk, IfErr, OnOk};
+ghost use Rattle.c_program.specs.Limits.{print_sites};
 ghost use Rattle.c_program.specs.Plain.{program_of};
+ghost use Rattle.c_program.specs.Resolved.{IsResolved};
+ghost use Rattle.c_program.specs.Weight.{thread_count};
 ghost use Rattle.c_profile.specs.declared.refusal.Refusal as refusal;
 ghost use Rattle.c_profile.specs.Profile.{IsAccepted, IsRefused};
-ghost use Rattle.c_program.specs.Weight.{thread_count};
+ghost use Rattle.code_following.specs.Following.{IsLowered};
+ghost use Rattle.ir_lower.specs.Typed.{IsTypedCode};
+ghost use Rattle.planned_code.specs.Planned.{HasScalars};
+ghost use Rattle.program_machine.specs.Built.{IsSingle};
+ghost use Rattle.good_verilog.specs.GoodVerilog.{IsGoodVerilog};
 ghost use Rattle.whole_net.specs.Whole.{IsNetOf};
-ghost use Rattle.hls_compile.specs.Compiled.{IsCompiled, IsRunnable, IsScalar, IsUnbuilt};
+ghost use Rattle.hls_compile.specs.Compiled.{IsAlone, IsCompiled, IsRunnable, IsUnbuilt};
+ghost use Rattle.hls_compile.specs.Stops.{StopsBuild, StopsRun};
+ghost use Rattle.hls_compile.specs.declared.BuildError.TheVariants as stop;
 ghost use Rattle.hls_compile.specs.declared.CompileError.TheVariants as error;
 ghost use Rattle.hls_compile.specs.declared.unbuilt.Construct as construct;
 
@@ -26,11 +29,10 @@ use block_ir::code::ThreadCode;
 use c_profile::{Accepted, ProfileError, accept};
 use c_program::threads::thread_count;
 use c_program::tree::Program;
-use c_resolved::is_resolved;
 use hls_io::Bytes;
-use ir_lower::fault::LoweringFault;
+use ir_lower::fault::{LowerError, LoweringFault};
 use netlist::netlist::Netlist;
-use scalar::is_scalar;
+use scalar::has_scalars;
 use std::alloc::{AllocError, Global};
 use thiserror::Error;
 pub use unbuilt::Construct;
@@ -68,59 +70,71 @@ enum BuildError {
 }
 
 impl From<AllocError> for BuildError {
+    ghost from_gives = { λ _ e. e ≡ stop.Memory };
+
     fn from(_error: AllocError) -> BuildError {
         BuildError::Memory
     }
 }
 
 /// The code of main.
+#[tactic(auto, using(crate::proofs::Alone::not_checked))]
 fn code_of(alloc: Global, program: &Program) -> Result<ThreadCode, BuildError>
-    ensures resolved { OnOk result (IsResolved (program_of program.now)) }
+    requires resolved { IsResolved (program_of program.now) }
     ensures single { OnOk result (IsSingle (program_of program.now)) }
-    ensures lowered { IfOk result (λ code. is_sequential_program (program_of program.now) ≡ true → IsResolved (program_of program.now) → IsLowered (program_of program.now) code) }
-    ensures typed { IfOk result (λ code. is_sequential_program (program_of program.now) ≡ true → IsResolved (program_of program.now) → IsTypedCode (program_of program.now) code) }
+    ensures alone { OnOk result (IsAlone (program_of program.now)) }
+    ensures lowered { IfOk result (IsLowered (program_of program.now)) }
+    ensures typed { IfOk result (IsTypedCode (program_of program.now)) }
+    ensures unbuilt { IfErr result (StopsBuild (program_of program.now)) }
 {
-    if !is_resolved(alloc, program)? {
-        return Err(BuildError::NotBuilt(Construct::Unchecked));
-    }
     if let Some(construct) = unbuilt::unbuilt(program) {
         return Err(BuildError::NotBuilt(construct));
     }
     match ir_lower::statements::lower(alloc, program) {
         Ok(code) => Ok(code),
-        Err(LoweringFault::Memory) => Err(BuildError::Memory),
-        Err(LoweringFault::NotYet | LoweringFault::TooLarge | LoweringFault::Label) => {
-            Err(BuildError::NotBuilt(Construct::Size))
+        Err(LowerError::NotYet) => Err(BuildError::NotBuilt(Construct::Calls)),
+        Err(LowerError::Fault(LoweringFault::Memory)) => Err(BuildError::Memory),
+        Err(LowerError::Fault(LoweringFault::TooLarge | LoweringFault::Label)) => {
+            Err(BuildError::NotBuilt(Construct::Unchecked))
         }
     }
 }
 
-/// The net of a program, and its Verilog.
+/// The net of a resolved program with few printf calls, and its Verilog.
 fn text_of(alloc: Global, program: &Program) -> Result<Written, BuildError>
-    ensures good { IfOk result (λ w. IsScalar (program_of program.now) → IsGoodVerilog (program_of program.now) w.text) }
-    ensures net { IfOk result (λ w. IsScalar (program_of program.now) → IsNetOf 1 w.net w.text) }
+    requires resolved { IsResolved (program_of program.now) }
+    requires few { print_sites (program_of program.now) < 2 ^ 16 }
+    ensures good { IfOk result (λ w. HasScalars (program_of program.now) → IsGoodVerilog (program_of program.now) w.text) }
+    ensures net { IfOk result (λ w. HasScalars (program_of program.now) → IsNetOf 1 w.net w.text) }
+    ensures alone { OnOk result (IsAlone (program_of program.now)) }
     ensures one { OnOk result (thread_count (program_of program.now) ≡ 1) }
+    ensures unbuilt { IfErr result (StopsBuild (program_of program.now)) }
 {
     let code = code_of(alloc, program)?;
     let main = parts::main_module(alloc, &code)?;
-    let Some(printer) = parts::printer_module(alloc, program)? else {
-        return Err(BuildError::NotBuilt(Construct::Size));
-    };
+    let printer = parts::printer_module(alloc, program)?;
     let arbiter = parts::arbiter_module(alloc)?;
     let written = verilog(alloc, main, arbiter, printer)?;
     Ok(written)
 }
 
 /// The same of a program of which it is proved what its net does.
+#[tactic(auto, using(crate::proofs::Alone::stops_run))]
 fn scalar_text_of(alloc: Global, program: &Program) -> Result<Written, BuildError>
+    requires resolved { IsResolved (program_of program.now) }
+    requires few { print_sites (program_of program.now) < 2 ^ 16 }
+    ensures scalars { OnOk result (HasScalars (program_of program.now)) }
     ensures good { IfOk result (λ w. IsGoodVerilog (program_of program.now) w.text) }
     ensures net { IfOk result (λ w. IsNetOf 1 w.net w.text) }
+    ensures alone { OnOk result (IsAlone (program_of program.now)) }
     ensures one { OnOk result (thread_count (program_of program.now) ≡ 1) }
+    ensures unbuilt { IfErr result (StopsRun (program_of program.now)) }
 {
-    if !is_scalar(program) {
+    if !has_scalars(program) {
         return Err(BuildError::NotBuilt(Construct::Arrays));
     }
-    text_of(alloc, program)
+    let written = text_of(alloc, program)?;
+    Ok(written)
 }
 
 /// The program of a text, within all limits, or why there is none.
@@ -140,7 +154,8 @@ fn program_in(alloc: Global, text: &[u8]) -> Result<Accepted, CompileError>
 pub fn compile(alloc: Global, text: &[u8]) -> Result<Compiled, CompileError>
     ensures ok { IfOk result (λ c. IsCompiled text.now c.threads c.weight c.text) }
     ensures refused { IfErr result (λ e. (r : refusal.Refusal) → e ≡ error.Refused r → IsRefused text.now r) }
-    ensures unbuilt { IfErr result (λ e. (c : construct.Construct) → e ≡ error.NotBuilt c → IsUnbuilt text.now) }
+    ensures unbuilt { IfErr result (λ e. (c : construct.Construct) → e ≡ error.NotBuilt c → IsUnbuilt text.now c) }
+    ensures built { IfErr result (λ e. e ≢ error.NotBuilt Construct.Arrays) }
 {
     let accepted = program_in(alloc, text)?;
     match text_of(alloc, &accepted.program) {
@@ -167,7 +182,7 @@ pub struct Runnable {
 pub fn compile_to_run(alloc: Global, text: &[u8]) -> Result<Runnable, CompileError>
     ensures ok { IfOk result (λ r. IsRunnable text.now r.threads r.net r.text) }
     ensures refused { IfErr result (λ e. (r : refusal.Refusal) → e ≡ error.Refused r → IsRefused text.now r) }
-    ensures unbuilt { IfErr result (λ e. (c : construct.Construct) → e ≡ error.NotBuilt c → IsUnbuilt text.now) }
+    ensures unbuilt { IfErr result (λ e. (c : construct.Construct) → e ≡ error.NotBuilt c → IsUnbuilt text.now c) }
 {
     let accepted = program_in(alloc, text)?;
     match scalar_text_of(alloc, &accepted.program) {

@@ -1,11 +1,13 @@
 // The parts of the hardware of a program.
 
-ghost use Rattle.std.specs.Prelude.{◌≡◌, IfOk, IfSome};
+ghost use Rattle.std.specs.Prelude.{◌≡◌, ◌<◌, ◌^◌, IfOk};
+ghost use Rattle.c_program.specs.Limits.{print_sites};
 ghost use Rattle.c_program.specs.Plain.{program_of};
+ghost use Rattle.c_program.specs.Resolved.{IsResolved};
 ghost use Rattle.whole_net.specs.Table.{IsArbiterModule};
 ghost use Rattle.hls_compile.specs.Parts.{main_shape, IsMadeOf, IsPrinterFor};
 
-use crate::sites::{PRINT_VALUES, fit_printer, print_sites};
+use crate::sites::{PRINT_VALUES, print_sites};
 use bank_arbiter::arbiter;
 use block_ir::code::ThreadCode;
 use c_program::tree::Program;
@@ -53,19 +55,18 @@ pub fn arbiter_module(alloc: Global) -> Result<Module, AllocError>
     arbiter::module(alloc, 1)
 }
 
-/// The module of the printer, where it can write all sites.
-pub fn printer_module(alloc: Global, program: &Program) -> Result<Option<Module>, AllocError>
-    ensures { IfOk result (λ found. IfSome found (IsPrinterFor (program_of program.now))) }
+/// The module of the printer, with a site for each printf call of the text.
+pub fn printer_module(alloc: Global, program: &Program) -> Result<Module, AllocError>
+    requires resolved { IsResolved (program_of program.now) }
+    requires few { print_sites (program_of program.now) < 2 ^ 16 }
+    ensures { IfOk result (IsPrinterFor (program_of program.now)) }
 {
     let sites = print_sites(alloc, program)?;
-    if !fit_printer(sites.as_slice()) {
-        return Ok(None);
-    }
     let shape = printer::Shape {
         threads: 1,
         values: PRINT_VALUES,
         sites,
     };
     let module = printer::module(alloc, &shape)?;
-    Ok(Some(module))
+    Ok(module)
 }

@@ -1,8 +1,6 @@
 // What the printf calls of a program write.
 
-ghost use Rattle.std.specs.Prelude.{◌≡◌, ◌<◌, ◌≤◌, ◌^◌, [], ◌∷◌, ◌++◌, true, length, map, IfOk, OnOk};
-ghost use Rattle.circuit.specs.Rows.{EachOf};
-ghost use Rattle.print_core.specs.Format.{is_printable, all_printable, values_of, IsPart, IsSite};
+ghost use Rattle.std.specs.Prelude.{◌≡◌, [], ◌∷◌, ◌++◌, map, IfOk, OnOk};
 ghost use Rattle.c_program.specs.Plain.{piece_of, pieces_of, statement_of, function_of, program_of};
 ghost use Rattle.program_machine.specs.Built.{part_of};
 ghost use Rattle.hls_compile.specs.Sites.{site_of, sites_in, sites_of};
@@ -95,77 +93,3 @@ pub fn print_sites(alloc: Global, program: &Program) -> Result<Items<Items<Part>
 
 /// The most values that a printf call writes.
 pub const PRINT_VALUES: usize = 4;
-
-/// The most sites of a printer.
-const MOST_SITES: usize = 65_535;
-
-fn is_printable(byte: u8) -> bool
-    ensures { result ≡ is_printable byte }
-{
-    (32 <= byte && byte <= 126) || byte == b'\n' || byte == b'\t'
-}
-
-#[tactic(auto, using(crate::proofs::Printable::one_more))]
-fn all_printable(bytes: &[u8]) -> bool
-    ensures { result ≡ true → all_printable bytes.now ≡ true }
-{
-    for byte in bytes {
-        if !is_printable(*byte) {
-            return false;
-        }
-    }
-    true
-}
-
-fn is_part(part: &Part) -> bool
-    ensures { result ≡ true → IsPart part.now }
-{
-    match part {
-        Part::Text(bytes) => all_printable(bytes.as_slice()),
-        Part::Signed | Part::Unsigned => true,
-    }
-}
-
-fn are_parts(parts: &[Part]) -> bool
-    ensures { result ≡ true → EachOf IsPart parts.now }
-{
-    match parts {
-        [] => true,
-        [first, rest @ ..] => is_part(first) && are_parts(rest),
-    }
-}
-
-/// How many values the parts write.
-fn value_count(parts: &[Part]) -> usize
-    ensures count { result ≡ values_of parts.now }
-    ensures small { result ≤ length parts.now }
-{
-    match parts {
-        [] => 0,
-        [Part::Text(_), rest @ ..] => value_count(rest),
-        [Part::Signed | Part::Unsigned, rest @ ..] => 1 + value_count(rest),
-    }
-}
-
-fn is_site(parts: &[Part]) -> bool
-    ensures { result ≡ true → IsSite 4 parts.now }
-{
-    are_parts(parts) && value_count(parts) <= PRINT_VALUES
-}
-
-fn are_sites(sites: &[Items<Part>]) -> bool
-    ensures { result ≡ true → EachOf (IsSite 4) sites.now }
-{
-    match sites {
-        [] => true,
-        [first, rest @ ..] => is_site(first.as_slice()) && are_sites(rest),
-    }
-}
-
-/// Whether a printer can write the sites.
-pub fn fit_printer(sites: &[Items<Part>]) -> bool
-    ensures few { result ≡ true → length sites.now < 2 ^ 16 }
-    ensures sites { result ≡ true → EachOf (IsSite 4) sites.now }
-{
-    sites.len() <= MOST_SITES && are_sites(sites)
-}

@@ -1,10 +1,14 @@
 // What of the profile the compiler does not build yet.
 
-ghost use Rattle.std.specs.Prelude.{IfNone};
+ghost use Rattle.std.specs.Prelude.{◌≡◌, true, slice_get, IfNone, IfSome};
 ghost use Rattle.c_program.specs.Plain.{program_of};
+ghost use Rattle.c_program.specs.Resolved.{IsResolved};
+ghost use Rattle.ir_lower.specs.Taken.{is_sequential_program, is_taken_function};
 ghost use Rattle.program_machine.specs.Built.{IsSingle};
+ghost use Rattle.hls_compile.specs.Compiled.{HasUnbuilt};
 
-use c_program::tree::{Program, RightSide, Statement};
+use c_program::tree::Program;
+use ir_lower::taken::{is_sequential_program, is_taken_function};
 use thiserror::Error;
 
 /// A construct of the profile that the compiler does not build yet.
@@ -22,53 +26,33 @@ pub enum Construct {
     /// A program, or its hardware, that a check does not find in order. No program of the profile is known to be such.
     #[error("a program that is not seen to be in order")]
     Unchecked,
-    /// More operations than code may have.
-    #[error("so large a function")]
-    Size,
-}
-
-fn in_right_side(right: &RightSide) -> Option<Construct> {
-    match right {
-        RightSide::Value(_) => None,
-        RightSide::Call(_, _) => Some(Construct::Calls),
-    }
-}
-
-fn in_statement(statement: &Statement) -> Option<Construct> {
-    let mut rest = statement;
-    while let Statement::Sequence(first, next) = rest {
-        if let Some(construct) = in_statement(first) {
-            return Some(construct);
-        }
-        rest = next;
-    }
-    match rest {
-        Statement::Block(body) | Statement::While(_, body) | Statement::DoWhile(body, _) => {
-            in_statement(body)
-        }
-        Statement::If(_, consequent, alternative) => {
-            in_statement(consequent).or(in_statement(alternative))
-        }
-        Statement::For(first, _, last, body) => in_statement(first)
-            .or(in_statement(last))
-            .or(in_statement(body)),
-        Statement::Assign(_, _, right) | Statement::Return(_, Some(right)) => in_right_side(right),
-        Statement::Call(_, _, _) => Some(Construct::Calls),
-        Statement::Thread(_, _) => Some(Construct::Threads),
-        _ => None,
-    }
 }
 
 /// The first construct of main that is not built yet, where there is one.
+#[tactic(auto, using(crate::proofs::Alone::has_threads, crate::proofs::Alone::has_mutexes, crate::proofs::Alone::has_barriers, crate::proofs::Alone::has_thread_calls, crate::proofs::Alone::has_globals))]
 pub fn unbuilt(program: &Program) -> Option<Construct>
-    ensures { IfNone result (IsSingle (program_of program.now)) }
+    ensures single { IfNone result (IsSingle (program_of program.now)) }
+    ensures sequential { IfNone result (is_sequential_program (program_of program.now) ≡ true) }
+    ensures taken { IfNone result (is_taken_function (slice_get (program_of program.now).functions program.now.main) ≡ true) }
+    ensures construct { IfSome result (λ c. IsResolved (program_of program.now) → HasUnbuilt (program_of program.now) c) }
 {
-    if !program.threads.is_empty() || !program.mutexes.is_empty() || !program.barriers.is_empty() {
+    if !program.threads.is_empty() {
+        return Some(Construct::Threads);
+    }
+    if !program.mutexes.is_empty() {
+        return Some(Construct::Threads);
+    }
+    if !program.barriers.is_empty() {
+        return Some(Construct::Threads);
+    }
+    if !is_sequential_program(program) {
         return Some(Construct::Threads);
     }
     if !program.globals.is_empty() {
         return Some(Construct::Globals);
     }
-    let main = program.functions.get(program.main as usize)?;
-    in_statement(&main.body)
+    if !is_taken_function(program, program.main as usize) {
+        return Some(Construct::Calls);
+    }
+    None
 }

@@ -1,3 +1,4 @@
 pub mod DeliveryLemmas
 pub mod RefusalLemmas
 pub mod RunLemmas
+pub mod RefusedLemmas

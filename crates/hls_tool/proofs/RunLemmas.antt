@@ -1,7 +1,13 @@
 -- What is compiled to be run can be run, and what a run owes.
-use Rattle.std.proofs.Common.{◌≡◌, ℕ, ◌≤◌, Bool, true, false, List, Option, Some, sym, subst}
+use Rattle.std.proofs.Common.{◌≡◌, ℕ, ◌≤◌, Bool, true, false, List, Option, Some, None, slice_get, refl, ◌∙◌, sym, subst}
+use Rattle.std.proofs.lemmas.Option.{same_Some}
+use Rattle.netlist.specs.declared.netlist.Module.{Module}
 use Rattle.netlist.specs.declared.netlist.Netlist.{Netlist}
-use Rattle.cycle_sim.specs.Opened.{IsRightNet}
+use Rattle.verilog_meaning.specs.Threads.{Depends}
+use Rattle.cycle_sim.specs.declared.sim.OpenError.{OpenError}
+use Rattle.cycle_sim.specs.declared.sim.OpenError.TheVariants as errors
+use Rattle.cycle_sim.specs.Opened.{IsRightNet, IsCause}
+use Rattle.cycle_sim.proofs.Printing.{one_printer}
 use Rattle.cycle_sim.proofs.Right.{right_of_sound}
 use Rattle.round_robin.specs.Round.{TakesChoices}
 use Rattle.hls_words.specs.declared.task.Task.TheVariants.{Step}
@@ -18,6 +24,19 @@ module _ (text : List ℕ) (threads : ℕ) (n : Netlist) (written : List ℕ) (i
 
   pub few_threads : threads ≤ 63
   few_threads = is.few
+
+  -- it has a simulator: of the causes none but want of memory comes
+  pub no_cause : (e : OpenError) → IsCause n.modules e → e ≡ errors.Memory
+  no_cause errors.NoTop cause = absurd (let z : None ≡ Some is.net.top = sym cause ∙ is.net.is_top in cc)
+  no_cause errors.NoDone cause =
+      let same = same_Some is.net.top cause.top (sym is.net.is_top ∙ cause.is_top) in
+      let done = is.net.done in
+      absurd (cause.lacks done.0 done.1 (subst (λ (t : Module). slice_get t.signals done.0 ≡ Some done.1) same done.2.listed) done.2.named)
+  no_cause (errors.Loop k x) cause =
+      let same = same_Some cause.top is.net.top (sym cause.is_top ∙ is.net.is_top) in
+      absurd (is.net.loopless (cause.path, x) (subst (λ (t : Module). Depends n.modules t (cause.path, x) (cause.path, x)) same cause.depends))
+  no_cause errors.Printers cause = absurd (one_printer n is.net.sound cause)
+  no_cause errors.Memory cause = refl
 
 owes_by : (most : ℕ) (left : Option (List ℕ)) (rose : Type 0) (d : Due) (s : Status) (cycles : ℕ) (done : Bool) → IsRun most left d cycles done → s ≡ run_status done cycles
     → OwesAt (Some (Step most)) left rose d s

@@ -1,5 +1,5 @@
 -- What a call owes for the task that its words ask for and the text that its source gives.
-use Rattle.std.specs.Prelude.{◌≡◌, ℕ, ◌<◌, Bool, true, false, List, [], length, Option, Some, None, IfSome, IsSome}
+use Rattle.std.specs.Prelude.{◌≡◌, ◌≢◌, ℕ, ◌<◌, Bool, true, false, List, [], length, Option, Some, None, IfSome, IsSome, ⊤}
 use Rattle.hls_words.specs.declared.task.Task.{Task}
 use Rattle.hls_words.specs.declared.task.Task.TheVariants.{Build, Step, Walk}
 use Rattle.turns.specs.declared.Turn.{Turn}
@@ -12,6 +12,8 @@ use Rattle.c_profile.specs.declared.refusal.Refusal.{Refusal}
 use Rattle.c_profile.specs.declared.refusal.Refusal.TheVariants as refusal
 use Rattle.c_profile.specs.Profile.{most_bytes, IsAccepted, IsRefused}
 use Rattle.netlist.specs.declared.netlist.Netlist.{Netlist}
+use Rattle.hls_compile.specs.declared.unbuilt.Construct.{Construct}
+use Rattle.hls_compile.specs.declared.unbuilt.Construct.TheVariants as construct
 use Rattle.hls_compile.specs.Compiled.{IsCompiled, IsRunnable, IsUnbuilt}
 use Rattle.round_robin.specs.Round.{IsRound}
 use Rattle.hls_tool.specs.declared.status.Status.{Status}
@@ -44,9 +46,15 @@ abbrev pub IsRefusedBy : Option (List ℕ) → Refusal → Type 0
 IsRefusedBy left refusal.TooLong = IfSome left (λ bytes. most_bytes < length bytes)
 IsRefusedBy left r = (text : List ℕ) × Gave left text × IsRefused text r
 
--- it gave a text of the profile that is not built yet
-abbrev pub IsUnbuiltBy : Option (List ℕ) → Type 0
-IsUnbuiltBy left = (text : List ℕ) × Gave left text × IsUnbuilt text
+-- it gave a text of the profile, whose program has this construct
+abbrev pub IsUnbuiltBy : Option (List ℕ) → Construct → Type 0
+IsUnbuiltBy left c = (text : List ℕ) × Gave left text × IsUnbuilt text c
+
+-- the constructs for which a task may be refused: a build takes local arrays, and a walk takes all programs
+abbrev pub LeavesOut : Option Task → Construct → Type 0
+LeavesOut (Some Build) c = c ≢ construct.Arrays
+LeavesOut (Some (Step most)) c = ⊤
+LeavesOut other c = ⊥
 
 -- ---- what each command owes
 
@@ -130,7 +138,7 @@ IsWalkEnd task left end = (d : Due) × Halts task left d (status.Walked end)
 abbrev pub OwesAt : Option Task → Option (List ℕ) → Type 0 → Due → Status → Type 0
 OwesAt task left rose d status.Ok = Succeeds task left d
 OwesAt task left rose d (status.Refused r) = IsSome task × IsRefusedBy left r × IsPlain d (refusal_line r)
-OwesAt task left rose d (status.NotBuilt c) = IsSome task × IsUnbuiltBy left × IsPlain d (unbuilt_line c)
+OwesAt task left rose d (status.NotBuilt c) = LeavesOut task c × IsUnbuiltBy left c × IsPlain d (unbuilt_line c)
 OwesAt task left rose d status.Usage = (task ≡ None) × IsPlain d usage_line
 OwesAt task left rose d status.ReadFault = IsSome task × rose × IsPlain d read_fault_line
 OwesAt task left rose d (status.WriteFault out err) = ⊥

@@ -1,5 +1,6 @@
 -- How the code holds what it owes, and the parts of a command.
 use Rattle.std.specs.Prelude.{◌≡◌, ℕ, List, [], string_bytes, Option, ⊤}
+use Rattle.hls_words.specs.declared.task.Task.{Task}
 use Rattle.hls_compile.specs.declared.CompileError.{CompileError}
 use Rattle.hls_compile.specs.declared.CompileError.TheVariants as error
 use Rattle.hls_tool.specs.declared.status.Status.{Status}
@@ -11,7 +12,7 @@ use Rattle.hls_tool.specs.declared.answer.Out.{Out}
 use Rattle.hls_tool.specs.declared.answer.Out.TheVariants as to_out
 use Rattle.hls_tool.specs.declared.answer.Line.{Line}
 use Rattle.hls_tool.specs.declared.answer.Line.TheVariants as line
-use Rattle.hls_tool.specs.Answers.{Due, IsPlain, IsRefusedBy, IsUnbuiltBy}
+use Rattle.hls_tool.specs.Answers.{Due, IsPlain, IsRefusedBy, IsUnbuiltBy, LeavesOut}
 use Rattle.hls_tool.specs.Lines.{memory_line, read_fault_line, refusal_line, unbuilt_line}
 
 -- ---- the bytes that an answer owes
@@ -35,24 +36,18 @@ due_of a = record {
 
 -- ---- the parts of a command
 
--- a command that stops early has a cause
-abbrev pub StopsBy : Option (List ℕ) → Type 0 → Stop → Type 0
-StopsBy left rose stop.ReadFault = rose
-StopsBy left rose (stop.Refused r) = IsRefusedBy left r
-StopsBy left rose (stop.NotBuilt c) = IsUnbuiltBy left
-StopsBy left rose stop.Memory = ⊤
+-- a command that stops early has a cause; what comes before the task's own work leaves out no construct
+abbrev pub StopsBy : Option Task → Option (List ℕ) → Type 0 → Stop → Type 0
+StopsBy task left rose stop.ReadFault = rose
+StopsBy task left rose (stop.Refused r) = IsRefusedBy left r
+StopsBy task left rose (stop.NotBuilt c) = LeavesOut task c × IsUnbuiltBy left c
+StopsBy task left rose stop.Memory = ⊤
 
 -- why a text has no Verilog
 abbrev pub stop_of : CompileError → Stop
 stop_of (error.Refused r) = stop.Refused r
 stop_of (error.NotBuilt c) = stop.NotBuilt c
 stop_of error.Memory = stop.Memory
-
--- a run stops for want of memory, or since its net has no simulator
-abbrev pub StopsRun : Stop → Type 0
-StopsRun stop.Memory = ⊤
-StopsRun (stop.NotBuilt c) = ⊤
-StopsRun s = ⊥
 
 -- the answer to a stop; want of memory may stand in its place
 abbrev pub StopStatus : Stop → Due → Status → Type 0

@@ -81,7 +81,6 @@ construct_words construct.Globals = codes "globals"
 construct_words construct.Calls = codes "calls of functions"
 construct_words construct.Arrays = codes "runs of local arrays"
 construct_words construct.Unchecked = codes "a program that is not seen to be in order"
-construct_words construct.Size = codes "so large a function"
 
 abbrev pub unbuilt_line : Construct → List ℕ
 unbuilt_line c = codes "hls: refused: not built yet: " ++ (construct_words c ++ codes "\n")

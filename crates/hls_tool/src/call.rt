@@ -1,9 +1,10 @@
-ghost use Rattle.std.specs.Prelude.{◌≡◌, ◌⊎◌, None, map, string_bytes};
+ghost use Rattle.std.specs.Prelude.{◌≡◌, ◌⊎◌, None, Some, map, string_bytes};
 ghost use Rattle.hls_io.specs.Causes.{Rose};
 ghost use Rattle.hls_words.specs.Line.{task_of};
-ghost use Rattle.hls_tool.specs.Call.{Answered, IsWriteFault};
+ghost use Rattle.c_profile.specs.Profile.{IsRefused};
+ghost use Rattle.hls_tool.specs.Call.{Answered, IsWriteFault, TellsRefusal};
 ghost use Rattle.hls_tool.specs.Delivery.{passage};
-ghost use Rattle.hls_tool.specs.Answers.{HasRunOut, IsRefusedBy, IsUnbuiltBy, IsWalkEnd};
+ghost use Rattle.hls_tool.specs.Answers.{HasRunOut, IsRefusedBy, IsUnbuiltBy, IsWalkEnd, LeavesOut};
 
 use crate::commands::answer;
 use crate::deliver::deliver;
@@ -22,8 +23,9 @@ pub fn hls<S: Source, O: Sink, E: Sink>(
     ensures usage { result.status ≡ Status.Usage → task_of (map string_bytes words.now) ≡ None }
     ensures read_fault { result.status ≡ Status.ReadFault → Rose (S.faults source.old) (S.faults source.new) }
     ensures refused { (r : _) → result.status ≡ Status.Refused r → IsRefusedBy (S.left source.old) r }
+    ensures refuses { (text : _) (r : _) → S.left source.old ≡ Some text → IsRefused text r → TellsRefusal r result.status }
     ensures write_fault { IsWriteFault result.status → Rose (O.faults out.old) (O.faults out.new) ⊎ Rose (E.faults err.old) (E.faults err.new) }
-    ensures unbuilt { (c : _) → result.status ≡ Status.NotBuilt c → IsUnbuiltBy (S.left source.old) }
+    ensures unbuilt { (c : _) → result.status ≡ Status.NotBuilt c → LeavesOut (task_of (map string_bytes words.now)) c × IsUnbuiltBy (S.left source.old) c }
     ensures cycles { (n : _) → result.status ≡ Status.Cycles n → HasRunOut (task_of (map string_bytes words.now)) (S.left source.old) n }
     ensures walked { (end : _) → result.status ≡ Status.Walked end → IsWalkEnd (task_of (map string_bytes words.now)) (S.left source.old) end }
     ensures answered { Answered (task_of (map string_bytes words.now)) (S.left source.old)

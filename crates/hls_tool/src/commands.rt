@@ -1,14 +1,15 @@
 // What each command owes.
-ghost use Rattle.std.specs.Prelude.{◌≡◌, ◌≤◌, Some, map, string_bytes, IfOk, IfErr};
+ghost use Rattle.std.specs.Prelude.{◌≡◌, ◌≤◌, None, Some, map, string_bytes, IfOk, IfErr};
 ghost use Rattle.hls_io.specs.Causes.{Rose};
 ghost use Rattle.hls_words.specs.Line.{task_of};
 ghost use Rattle.c_program.specs.Plain.{program_of};
 ghost use Rattle.c_profile.specs.Profile.{IsAccepted};
 ghost use Rattle.hls_tool.specs.Answers.{Gave, IsBuilt, IsPlain, IsStepped, IsWalked, Owes, run_status, status_of};
-ghost use Rattle.hls_tool.specs.Inside.{AnswersStop, StopsBy, StopsRun, due_of, line_bytes, stop_of};
+ghost use Rattle.hls_tool.specs.Inside.{AnswersStop, StopsBy, due_of, line_bytes, stop_of};
 ghost use Rattle.hls_tool.specs.declared.commands.Stop.TheVariants.{Memory};
 ghost use Rattle.hls_compile.specs.Compiled.{IsCompiled, IsRunnable};
 ghost use Rattle.round_robin.specs.Round.{IsRound};
+ghost use Rattle.cycle_sim.specs.declared.sim.OpenError.TheVariants as causes;
 
 use crate::answer::{Answer, Line, Out};
 use crate::lines::{
@@ -65,7 +66,7 @@ fn plain(alloc: Global, status: Status, line: Line) -> Answer
 /// Reads the text to its end.
 fn text_read<S: Source>(alloc: Global, source: &mut S) -> Result<Bytes, Stop>
     ensures ok { IfOk result (Gave (S.left source.old)) }
-    ensures stop { IfErr result (StopsBy (S.left source.old) (Rose (S.faults source.old) (S.faults source.new))) }
+    ensures stop { IfErr result (StopsBy None (S.left source.old) (Rose (S.faults source.old) (S.faults source.new))) }
     ensures later { S.faults source.old ≤ S.faults source.new }
 {
     match read_all(alloc, source, MOST_BYTES) {
@@ -88,10 +89,10 @@ fn stop_of(error: CompileError) -> Stop
 }
 
 /// Reads the text and compiles it.
-#[tactic(auto, using(crate::proofs::RefusalLemmas::stops))]
+#[tactic(auto, using(crate::proofs::RefusalLemmas::stops_any))]
 fn compiled<S: Source>(alloc: Global, source: &mut S) -> Result<Compiled, Stop>
     ensures ok { IfOk result (λ c. (text : _) × Gave (S.left source.old) text × IsCompiled text c.threads c.weight c.text) }
-    ensures stop { IfErr result (StopsBy (S.left source.old) (Rose (S.faults source.old) (S.faults source.new))) }
+    ensures stop { IfErr result (StopsBy (Some Task.Build) (S.left source.old) (Rose (S.faults source.old) (S.faults source.new))) }
     ensures later { S.faults source.old ≤ S.faults source.new }
 {
     let text = text_read(alloc, source)?;
@@ -103,7 +104,7 @@ fn compiled<S: Source>(alloc: Global, source: &mut S) -> Result<Compiled, Stop>
 
 fn build<S: Source>(alloc: Global, source: &mut S) -> Result<Answer, Stop>
     ensures ok { IfOk result (λ a. (a.status ≡ Status.Ok) × IsBuilt (S.left source.old) (due_of a)) }
-    ensures stop { IfErr result (StopsBy (S.left source.old) (Rose (S.faults source.old) (S.faults source.new))) }
+    ensures stop { IfErr result (StopsBy (Some Task.Build) (S.left source.old) (Rose (S.faults source.old) (S.faults source.new))) }
     ensures later { S.faults source.old ≤ S.faults source.new }
 {
     let made = compiled(alloc, source)?;
@@ -119,7 +120,7 @@ fn build<S: Source>(alloc: Global, source: &mut S) -> Result<Answer, Stop>
 /// Reads the text, of which the program is within all limits.
 fn accepted<S: Source>(alloc: Global, source: &mut S) -> Result<Accepted, Stop>
     ensures ok { IfOk result (λ a. (text : _) × Gave (S.left source.old) text × IsAccepted text (program_of a.program) a.weight) }
-    ensures stop { IfErr result (StopsBy (S.left source.old) (Rose (S.faults source.old) (S.faults source.new))) }
+    ensures stop { IfErr result (StopsBy None (S.left source.old) (Rose (S.faults source.old) (S.faults source.new))) }
     ensures later { S.faults source.old ≤ S.faults source.new }
 {
     let text = text_read(alloc, source)?;
@@ -161,7 +162,7 @@ fn status_of(end: Ends) -> Status
 /// Takes steps of the listed threads.
 fn walk_turns<S: Source>(alloc: Global, source: &mut S, turns: &[Turn]) -> Result<Answer, Stop>
     ensures ok { IfOk result (λ a. IsWalked turns.now (S.left source.old) (due_of a) a.status) }
-    ensures stop { IfErr result (StopsBy (S.left source.old) (Rose (S.faults source.old) (S.faults source.new))) }
+    ensures stop { IfErr result (StopsBy None (S.left source.old) (Rose (S.faults source.old) (S.faults source.new))) }
     ensures later { S.faults source.old ≤ S.faults source.new }
 {
     let accepted = accepted(alloc, source)?;
@@ -176,10 +177,10 @@ fn walk_turns<S: Source>(alloc: Global, source: &mut S, turns: &[Turn]) -> Resul
 }
 
 /// Reads the text and compiles it to be run.
-#[tactic(auto, using(crate::proofs::RefusalLemmas::stops))]
+#[tactic(auto, using(crate::proofs::RefusalLemmas::stops_any))]
 fn runnable<S: Source>(alloc: Global, source: &mut S) -> Result<Runnable, Stop>
     ensures ok { IfOk result (λ r. (text : _) × Gave (S.left source.old) text × IsRunnable text r.threads r.net r.text) }
-    ensures stop { IfErr result (StopsBy (S.left source.old) (Rose (S.faults source.old) (S.faults source.new))) }
+    ensures stop { IfErr result (StopsBy (Some (Task.Step 0)) (S.left source.old) (Rose (S.faults source.old) (S.faults source.new))) }
     ensures later { S.faults source.old ≤ S.faults source.new }
 {
     let text = text_read(alloc, source)?;
@@ -189,19 +190,26 @@ fn runnable<S: Source>(alloc: Global, source: &mut S) -> Result<Runnable, Stop>
     }
 }
 
-/// Runs a net. That it has no simulator is known of no net that is compiled.
-#[tactic(auto, using(crate::proofs::RunLemmas::right_net, crate::proofs::RunLemmas::takes_choices, crate::proofs::RunLemmas::few_threads))]
-fn ran(alloc: Global, built: &Runnable, cycles: u32) -> Result<Ran, Stop>
+/// What an error is where none but want of memory can come.
+fn memory_alone(error: OpenError) -> AllocError
+    requires { error ≡ causes.Memory }
+{
+    match error {
+        OpenError::Memory => AllocError,
+        OpenError::NoTop | OpenError::NoDone | OpenError::Loop { .. } | OpenError::Printers =>
+            unreachable!(),
+    }
+}
+
+/// Runs a net. Each that is compiled to be run has a simulator.
+#[tactic(auto, using(crate::proofs::RunLemmas::few_threads))]
+fn ran(alloc: Global, built: &Runnable, cycles: u32) -> Result<Ran, AllocError>
     requires { (text : _) × IsRunnable text built.now.threads built.now.net built.now.text }
-    ensures ok { IfOk result (λ r. IsRound built.now.net.modules built.now.threads cycles r.cycles r.is_done r.printed) }
-    ensures stop { IfErr result StopsRun }
+    ensures { IfOk result (λ r. IsRound built.now.net.modules built.now.threads cycles r.cycles r.is_done r.printed) }
 {
     match run(alloc, built.net.modules.as_slice(), built.threads, cycles) {
         Ok(ran) => Ok(ran),
-        Err(OpenError::Memory) => Err(Stop::Memory),
-        Err(OpenError::NoTop | OpenError::NoDone | OpenError::Loop | OpenError::Printers) => {
-            Err(Stop::NotBuilt(Construct::Unchecked))
-        }
+        Err(error) => Err(memory_alone(error)),
     }
 }
 
@@ -217,9 +225,10 @@ fn run_status(ran: &Ran) -> Status
 }
 
 /// Runs the Verilog for so many cycles at most.
+#[tactic(auto, using(crate::proofs::RefusalLemmas::stops_step))]
 fn step<S: Source>(alloc: Global, source: &mut S, cycles: u32) -> Result<Answer, Stop>
     ensures ok { IfOk result (λ a. IsStepped cycles (S.left source.old) (due_of a) a.status) }
-    ensures stop { IfErr result (StopsBy (S.left source.old) (Rose (S.faults source.old) (S.faults source.new))) }
+    ensures stop { IfErr result (StopsBy (Some (Task.Step cycles)) (S.left source.old) (Rose (S.faults source.old) (S.faults source.new))) }
     ensures later { S.faults source.old ≤ S.faults source.new }
 {
     let built = runnable(alloc, source)?;
@@ -260,7 +269,7 @@ fn stopped(alloc: Global, stop: Stop) -> Answer
     }
 }
 
-#[tactic(auto, using(crate::proofs::RunLemmas::stepped_owes))]
+#[tactic(auto, using(crate::proofs::RunLemmas::stepped_owes, crate::proofs::RefusalLemmas::stops_any, crate::proofs::RefusalLemmas::stop_owes))]
 fn run_task<S: Source>(alloc: Global, task: Task, source: &mut S) -> Answer
     ensures owes { Owes (Some task) (S.left source.old) (Rose (S.faults source.old) (S.faults source.new)) (due_of result) }
     ensures later { S.faults source.old ≤ S.faults source.new }

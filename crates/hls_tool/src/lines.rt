@@ -47,7 +47,6 @@ fn construct_words(construct: Construct) -> &'static str
         Construct::Calls => "calls of functions",
         Construct::Arrays => "runs of local arrays",
         Construct::Unchecked => "a program that is not seen to be in order",
-        Construct::Size => "so large a function",
     }
 }
 

@@ -49,6 +49,10 @@ fn builds(rt: HostRuntime) -> Result<(), Fail> {
             "int main(void){int x = 1 << 31; return 0;}",
             "hls: built, 1 threads, weight ",
         ),
+        (
+            "int main(void){return (((((((((((((((((((((((((((((((((((((((((((((((((((((((((((((((0)))))))))))))))))))))))))))))))))))))))))))))))))))))))))))))));}",
+            "hls: built, 1 threads, weight 2, ",
+        ),
     ] {
         let (out, err) = built(alloc, text)?;
         assert!(rt; err.held().starts_with(front.as_bytes()), "at {text}");
@@ -62,8 +66,75 @@ fn refuses(rt: HostRuntime) -> Result<(), Fail> {
     let alloc = rt.alloc();
     for (text, line) in [
         ("", "hls: refused E3 at byte 0: syntax\n"),
+        (
+            "int main(void){return 08;}",
+            "hls: refused E2 at byte 22: no token\n",
+        ),
+        (
+            "int main(void){return 1.5;}",
+            "hls: refused E2 at byte 22: no token\n",
+        ),
+        (
+            "int x; /* to the end",
+            "hls: refused E2 at byte 7: no token\n",
+        ),
+        (
+            "#define N 1\n#define N 2\nint main(void){return N;}",
+            "hls: refused E2 at byte 12: no token\n",
+        ),
+        (
+            "int main(void){printf(\"a\\\nb\"); return 0;}",
+            "hls: refused E2 at byte 22: no token\n",
+        ),
         ("int main(void){", "hls: refused E3 at byte 15: syntax\n"),
-        ("int x;", "hls: refused E14: no main\n"),
+        (
+            "int main(void){return 0",
+            "hls: refused E3 at byte 23: syntax\n",
+        ),
+        (
+            "int main(void){x = ;}",
+            "hls: refused E3 at byte 19: syntax\n",
+        ),
+        (
+            "int main(void){else ;}",
+            "hls: refused E3 at byte 15: syntax\n",
+        ),
+        (
+            "int f(int a,){return a;}",
+            "hls: refused E3 at byte 12: syntax\n",
+        ),
+        (
+            "int main(void){printf(\"a\" \"b\");}",
+            "hls: refused E3 at byte 26: syntax\n",
+        ),
+        (
+            "int main(void){x = 1; int x; return 0;}",
+            "hls: refused E4 at byte 15: unknown name\n",
+        ),
+        (
+            "int main(void){x = 1; break; return 0;}",
+            "hls: refused E4 at byte 15: unknown name\n",
+        ),
+        (
+            "int main(void){int a = 1 + f(); return 0;}",
+            "hls: refused E4 at byte 27: unknown name\n",
+        ),
+        (
+            "int main(void){int a; int a; return 0;}",
+            "hls: refused E5 at byte 26: declared twice\n",
+        ),
+        (
+            "int a[2]; int main(void){a = 1; return 0;}",
+            "hls: refused E6 at byte 25: wrong kind\n",
+        ),
+        (
+            "int main(void){const int a = 1; a = 2; return 0;}",
+            "hls: refused E6 at byte 32: wrong kind\n",
+        ),
+        (
+            "int f(int a){return a;} int main(void){f(); return 0;}",
+            "hls: refused E7 at byte 39: argument count\n",
+        ),
         (
             "int f(int a){int x; x = f(a); return x;} int main(void){return 0;}",
             "hls: refused E8 at byte 24: recursion\n",
@@ -73,17 +144,38 @@ fn refuses(rt: HostRuntime) -> Result<(), Fail> {
             "hls: refused E9 at byte 173: thread rule\n",
         ),
         (
-            "pthread_t t[16]; int main(void){return 0;}",
-            "hls: refused E12: thread ids 16, at most 15\n",
+            "int main(void){pthread_mutex_t m; return 0;}",
+            "hls: refused E9 at byte 31: thread rule\n",
+        ),
+        (
+            "int main(void){int a = 1; int b = a && 1; return 0;}",
+            "hls: refused E10 at byte 36: out of place\n",
+        ),
+        (
+            "int main(void){int a = 1; a = a ? 2 : 3; return 0;}",
+            "hls: refused E10 at byte 32: out of place\n",
+        ),
+        (
+            "int main(void){break; return 0;}",
+            "hls: refused E10 at byte 15: out of place\n",
+        ),
+        (
+            "int main(void){int a[0]; return 0;}",
+            "hls: refused E11 at byte 21: constant out of range\n",
+        ),
+        (
+            "int main(void){long a = 99999999999999999999; return 0;}",
+            "hls: refused E11 at byte 24: constant out of range\n",
         ),
         (
             "int main(void){printf(\"%d %d\\n\", 1); return 0;}",
             "hls: refused E13 at byte 22: format\n",
         ),
         (
-            "int main(void){int a = 1; int b = a && 1; return 0;}",
-            "hls: refused E10 at byte 36: out of place\n",
+            "int main(void){printf(\"%x\\n\", 1); return 0;}",
+            "hls: refused E13 at byte 22: format\n",
         ),
+        ("int x;", "hls: refused E14: no main\n"),
         (
             "int main(void){return ((((((((((((((((((((((((((((((((((((((((((((((((((((((((((((((((0))))))))))))))))))))))))))))))))))))))))))))))))))))))))))))))));}",
             "hls: refused E12 at byte 85: nesting 65, at most 64\n",
@@ -96,6 +188,214 @@ fn refuses(rt: HostRuntime) -> Result<(), Fail> {
         let (out, err) = built(alloc, text)?;
         assert_eq!(rt; err.held(), line.as_bytes(), "at {text}");
         assert!(rt; out.held().is_empty(), "at {text}");
+    }
+    Ok(())
+}
+
+/// A text in which a part stands so many times.
+fn repeating(
+    alloc: Global,
+    front: &str,
+    part: &str,
+    count: u32,
+    back: &str,
+) -> Result<String, AllocError> {
+    let mut text = front.to_string(alloc)?;
+    for _ in 0..count {
+        text.push_str(part)?;
+    }
+    text.push_str(back)?;
+    Ok(text)
+}
+
+const ENDED: &str = "hls: ended, 1 steps\n";
+
+const LISTED: &str = "hls: listed, 1 steps\n";
+
+#[test]
+fn keeps_the_limit_of_bytes(rt: HostRuntime) -> Result<(), Fail> {
+    let alloc = rt.alloc();
+    let most = repeating(alloc, MAIN, "                             ", 2259, "")?;
+    let (_, _, err) = walked(alloc, most.as_str(), "0")?;
+    assert_eq!(rt; most.len(), 65_536);
+    assert_eq!(rt; err.held(), ENDED.as_bytes());
+    Ok(())
+}
+
+#[test]
+fn keeps_the_limits_of_tokens(rt: HostRuntime) -> Result<(), Fail> {
+    let alloc = rt.alloc();
+    for (front, part, count, back, line) in [
+        ("", "void f(void);", 2729, MAIN, ENDED),
+        (
+            "",
+            "void f(void);",
+            2729,
+            "int main(void){;return 0;}",
+            "hls: refused E12 at byte 35502: tokens 16385, at most 16384\n",
+        ),
+        ("int main(void){int ", "a", 63, " = 1; return 0;}", LISTED),
+        (
+            "int main(void){int ",
+            "a",
+            64,
+            " = 1; return 0;}",
+            "hls: refused E12 at byte 19: name length 64, at most 63\n",
+        ),
+    ] {
+        let text = repeating(alloc, front, part, count, back)?;
+        let (_, _, err) = walked(alloc, text.as_str(), "0")?;
+        assert_eq!(rt; err.held(), line.as_bytes(), "at {front}{count}");
+    }
+    Ok(())
+}
+
+#[test]
+fn keeps_the_limits_of_objects(rt: HostRuntime) -> Result<(), Fail> {
+    let alloc = rt.alloc();
+    for (front, part, count, back, line) in [
+        ("pthread_t t[15]; ", "", 0, MAIN, ENDED),
+        (
+            "pthread_t t[16]; ",
+            "",
+            0,
+            MAIN,
+            "hls: refused E12: thread ids 16, at most 15\n",
+        ),
+        (
+            "pthread_mutex_t m[32]; pthread_mutex_t n[32]; ",
+            "",
+            0,
+            MAIN,
+            ENDED,
+        ),
+        (
+            "pthread_mutex_t m[65]; ",
+            "",
+            0,
+            MAIN,
+            "hls: refused E12: mutex elements 65, at most 64\n",
+        ),
+        ("pthread_barrier_t b[16]; ", "", 0, MAIN, ENDED),
+        (
+            "pthread_barrier_t b[17]; ",
+            "",
+            0,
+            MAIN,
+            "hls: refused E12: barrier elements 17, at most 16\n",
+        ),
+        ("int a[4096]; ", "", 0, MAIN, ENDED),
+        (
+            "int a[4097]; ",
+            "",
+            0,
+            MAIN,
+            "hls: refused E12: one array 4097, at most 4096\n",
+        ),
+        (
+            "int a[4096], b[4096], c[4096], d[4096]; ",
+            "",
+            0,
+            MAIN,
+            ENDED,
+        ),
+        (
+            "int a[4096], b[4096], c[4096], d[4096], e; ",
+            "",
+            0,
+            MAIN,
+            "hls: refused E12: global elements 16385, at most 16384\n",
+        ),
+    ] {
+        let text = repeating(alloc, front, part, count, back)?;
+        let (_, _, err) = walked(alloc, text.as_str(), "0")?;
+        assert_eq!(rt; err.held(), line.as_bytes(), "at {front}{count}");
+    }
+    Ok(())
+}
+
+#[test]
+fn keeps_the_limits_of_code(rt: HostRuntime) -> Result<(), Fail> {
+    let alloc = rt.alloc();
+    for (front, part, count, back, line) in [
+        (
+            "int main(void){",
+            "printf(\"a\");",
+            256,
+            "return 0;}",
+            LISTED,
+        ),
+        (
+            "int main(void){",
+            "printf(\"a\");",
+            257,
+            "return 0;}",
+            "hls: refused E12: printf sites 257, at most 256\n",
+        ),
+        (
+            "int main(void){int a[4096], b[4096], c[4096], d[4096]; ",
+            " ",
+            0,
+            "return 0;}",
+            LISTED,
+        ),
+        (
+            "int main(void){int a[4096], b[4096], c[4096], d[4096], e; ",
+            " ",
+            0,
+            "return 0;}",
+            "hls: refused E12: local elements 16385, at most 16384\n",
+        ),
+        ("int main(void){", ";", 8190, "return 0;}", ENDED),
+        (
+            "int main(void){",
+            ";",
+            8191,
+            "return 0;}",
+            "hls: refused E12: weight 8193, at most 8192\n",
+        ),
+    ] {
+        let text = repeating(alloc, front, part, count, back)?;
+        let (_, _, err) = walked(alloc, text.as_str(), "0")?;
+        assert_eq!(rt; err.held(), line.as_bytes(), "at {front}{count}");
+    }
+    Ok(())
+}
+
+/// So many functions, each of which calls the one before it so many times, and then this main.
+fn calling(alloc: Global, functions: u32, calls: u32, main: &str) -> Result<String, AllocError> {
+    let mut text = "void f0(void){}".to_string(alloc)?;
+    for number in 1..functions {
+        let called = format!(in alloc; "f{}();", number - 1)?;
+        let front = format!(in alloc; "void f{number}(void){{")?;
+        let function = repeating(alloc, front.as_str(), called.as_str(), calls, "}")?;
+        text.push_str(function.as_str())?;
+    }
+    text.push_str(main)?;
+    Ok(text)
+}
+
+#[test]
+fn counts_functions_and_what_is_inlined(rt: HostRuntime) -> Result<(), Fail> {
+    let alloc = rt.alloc();
+    for (functions, calls, main, line) in [
+        (127, 0, MAIN, ENDED),
+        (
+            128,
+            0,
+            MAIN,
+            "hls: refused E12: functions 129, at most 128\n",
+        ),
+        (
+            127,
+            2,
+            "int main(void){f126(); return 0;}",
+            "hls: refused E12: weight 1000000, at most 8192\n",
+        ),
+    ] {
+        let text = calling(alloc, functions, calls, main)?;
+        let (_, _, err) = walked(alloc, text.as_str(), "0")?;
+        assert_eq!(rt; err.held(), line.as_bytes(), "at {functions} functions");
     }
     Ok(())
 }
@@ -204,6 +504,9 @@ const WAITING: &str =
 const ADDING: &str =
     "pthread_t t[3]; pthread_mutex_t m = PTHREAD_MUTEX_INITIALIZER; int s; void *w(void *arg){pthread_mutex_lock(&m); s = s + 1; pthread_mutex_unlock(&m); return NULL;} int main(void){int i; for (i = 0; i < 3; i++) pthread_create(&t[i], NULL, w, NULL); for (i = 0; i < 3; i++) pthread_join(t[i], NULL); printf(\"%d\\n\", s); return 0;}";
 
+const RACING: &str =
+    "pthread_t t[2]; pthread_mutex_t m; int sum; void *w(void *arg){int i; for (i = 0; i < 100; i++){sum = sum + 1;} return NULL;} int main(void){pthread_mutex_init(&m, NULL); int i; for (i = 0; i < 2; i++) pthread_create(&t[i], NULL, w, (void *)(long)i); for (i = 0; i < 2; i++) pthread_join(t[i], NULL); printf(\"%d\\n\", sum); return 0;}";
+
 #[test]
 fn walks(rt: HostRuntime) -> Result<(), Fail> {
     let alloc = rt.alloc();
@@ -273,6 +576,28 @@ fn walks(rt: HostRuntime) -> Result<(), Fail> {
             "3\n",
             "hls: ended, 50 steps\n",
         ),
+        (
+            "int x; int main(void){int x = 1; {int x = 2; x++;} return x;}",
+            "0*9",
+            0,
+            "",
+            "hls: ended, 4 steps\n",
+        ),
+        (
+            "int main(void){int a = -8; printf(\"%d\\n\", a >> 1); return 0;}",
+            "0*9",
+            0,
+            "-4\n",
+            "hls: ended, 4 steps\n",
+        ),
+        (
+            "int main(void){int i; for (i = 0; i < 2; i++) do { break; } while (i); printf(\"%d\\n\", i); return 0;}",
+            "0*99",
+            0,
+            "2\n",
+            "hls: ended, 10 steps\n",
+        ),
+        (RACING, "0*11,1*3,2*3", 10, "", "hls: listed, 17 steps\n"),
         ("int x;", "0", 1, "", "hls: refused E14: no main\n"),
     ] {
         let (status, out, err) = walked(alloc, text, list)?;

@@ -7,8 +7,8 @@ use Rattle.clap.specs.declared.error.kind.ErrorKind.{ErrorKind}
 use Rattle.clap.specs.declared.error.kind.ErrorKind.TheVariants.{OutOfMemory}
 use Rattle.clap.specs.declared.parser.matches.ArgMatches.{ArgMatches}
 use Rattle.clap.proofs.OnLiterals.{clap_on_literals}
-use Rattle.hls_words.specs.declared.task.Request.{Request}
-use Rattle.hls_words.specs.Line.{command_line, request_in, request_of, unless_fails}
+use Rattle.hls_words.specs.declared.task.Task.{Task}
+use Rattle.hls_words.specs.Line.{command_line, task_in, task_of, unless_fails}
 
 pub line_is_free : is_simple_and_free command_line ≡ true
 unfolding clap_on_literals command_line
@@ -18,21 +18,21 @@ pub line_is_simple : is_simple command_line ≡ true
 unfolding clap_on_literals command_line
 line_is_simple = refl
 
-none_fails : (kinds : Kinds) (x : Option Request) → kinds ≡ [] → unless_fails kinds x ≡ x
+none_fails : (kinds : Kinds) (x : Option Task) → kinds ≡ [] → unless_fails kinds x ≡ x
 none_fails kinds x e = rw e refl
 
-some_fails : (kinds : Kinds) (k : ErrorKind) (x : Option Request) → IsAmong k kinds → unless_fails kinds x ≡ None
+some_fails : (kinds : Kinds) (k : ErrorKind) (x : Option Task) → IsAmong k kinds → unless_fails kinds x ≡ None
 some_fails [] k x among = absurd among
 some_fails (y ∷ ys) k x among = refl
 
-pub request_of-parsed : (a : App) (words : List Text) (m : ArgMatches) → a ≡ command_line → (is_simple_and_free a ≡ true → fault_of a words ≡ []) → HasMatchesOf a words m
-    → request_of words ≡ option_and_then (λ p. request_in p.0 p.1) (subcommand_rows_of m)
-request_of-parsed a words m e free matches =
+pub task_of-parsed : (a : App) (words : List Text) (m : ArgMatches) → a ≡ command_line → (is_simple_and_free a ≡ true → fault_of a words ≡ []) → HasMatchesOf a words m
+    → task_of words ≡ option_and_then (λ p. task_in p.0 p.1) (subcommand_rows_of m)
+task_of-parsed a words m e free matches =
     none_fails (fault_of command_line words) _ (subst (λ (x : App). fault_of x words ≡ []) e (free (subst (λ (x : App). is_simple_and_free x ≡ true) (sym e) line_is_free)))
-    ∙ ap (option_and_then (λ p. request_in p.0 p.1)) (sym ((subst (λ (x : App). HasMatchesOf x words m) e matches line_is_simple).1))
+    ∙ ap (option_and_then (λ p. task_in p.0 p.1)) (sym ((subst (λ (x : App). HasMatchesOf x words m) e matches line_is_simple).1))
 
-pub request_of-refused : (a : App) (words : List Text) (error : Error) → a ≡ command_line → (is_simple_and_free a ≡ true → HasKind (fault_of a words) error) → kind_of error ≢ OutOfMemory
-    → request_of words ≡ None
-request_of-refused a words error e free other =
+pub task_of-refused : (a : App) (words : List Text) (error : Error) → a ≡ command_line → (is_simple_and_free a ≡ true → HasKind (fault_of a words) error) → kind_of error ≢ OutOfMemory
+    → task_of words ≡ None
+task_of-refused a words error e free other =
     let kind : HasKind (fault_of command_line words) error = subst (λ (x : App). HasKind (fault_of x words) error) e (free (subst (λ (x : App). is_simple_and_free x ≡ true) (sym e) line_is_free)) in
     elim kind [ inl memory ↦ absurd (other memory) | inr among ↦ some_fails (fault_of command_line words) _ _ among ]

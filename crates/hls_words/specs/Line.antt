@@ -1,5 +1,5 @@
 -- The command line as a definition in clap's own data, and what its words ask for. Source: clap's builder, `Command`
--- and `Arg`. A further command is a line of `commands`, one of `request_in` and one of `task_for`.
+-- and `Arg`. A further command is a line of `commands` and one of `task_in`.
 use Rattle.std.specs.Prelude.{◌&&◌, ℕ, ◌^◌, true, pos, List, [], ◌∷◌, codes, Option, Some, None, if◌then◌else◌, nat_lt, nat_le, option_and_then, option_map, is_some}
 use Rattle.std.specs.Str.{bytes_eq}
 use Rattle.std.specs.Str.Parse.{digits_value, without_leading_plus}
@@ -11,8 +11,6 @@ use Rattle.clap.specs.Walk.{Row, Rule, Text, first_of, one_of}
 use Rattle.clap.specs.declared.builder.value_parser.ValueParser.TheVariants.{Signed}
 use Rattle.turns.specs.declared.Turn.{Turn}
 use Rattle.turns.specs.Turns.{turns_of}
-use Rattle.hls_words.specs.declared.task.Request.{Request}
-use Rattle.hls_words.specs.declared.task.Request.TheVariants as request
 use Rattle.hls_words.specs.declared.task.Task.{Task}
 use Rattle.hls_words.specs.declared.task.Task.TheVariants as task
 
@@ -76,41 +74,31 @@ number_in low high default text =
     if is_some text
     then option_and_then (in_range low high) (option_and_then number_of text) else default
 
-abbrev pub step_in : List Row → Option Request
-step_in rows = option_map (λ n. request.Step n)
+abbrev pub step_in : List Row → Option Task
+step_in rows = option_map (λ n. task.Step n)
     (number_in 0 4294967295 None (one_of (codes "cycles") rows))
 
 abbrev pub turns_in : Option Text → Option (List Turn)
 turns_in None = None
 turns_in (Some list) = turns_of list
 
-abbrev pub walk_in : List Row → Option Request
-walk_in rows = option_map (λ turns. request.Walk turns) (turns_in (first_of (codes "threads") rows))
+abbrev pub walk_in : List Row → Option Task
+walk_in rows = option_map (λ turns. task.Walk turns) (turns_in (first_of (codes "threads") rows))
 
 -- the command of this name with the values given to its options
-abbrev pub request_in : Text → List Row → Option Request
-request_in name rows =
-    if bytes_eq name (codes "build") then Some request.Build
+abbrev pub task_in : Text → List Row → Option Task
+task_in name rows =
+    if bytes_eq name (codes "build") then Some task.Build
     else (if bytes_eq name (codes "step") then step_in rows
     else (if bytes_eq name (codes "walk") then walk_in rows
     else None))
 
 -- x where clap finds no fault
-abbrev pub unless_fails : Kinds → Option Request → Option Request
+abbrev pub unless_fails : Kinds → Option Task → Option Task
 unless_fails [] x = x
 unless_fails (kind ∷ kinds) x = None
 
--- what the words ask for, if they are of the table
-abbrev pub request_of : List Text → Option Request
-request_of words = unless_fails (fault_of command_line words)
-    (option_and_then (λ p. request_in p.0 p.1) (subcommand_of command_line words))
-
--- the commands that exist; the others of the table are still to come
-abbrev pub task_for : Request → Option Task
-task_for request.Build = Some task.Build
-task_for (request.Step cycles) = Some (task.Step cycles)
-task_for (request.Walk turns) = Some (task.Walk turns)
-
--- what the words ask for, if they are of the grammar: of the table, with a command that exists
+-- what the words ask for, if they are of the grammar
 abbrev pub task_of : List Text → Option Task
-task_of words = option_and_then task_for (request_of words)
+task_of words = unless_fails (fault_of command_line words)
+    (option_and_then (λ p. task_in p.0 p.1) (subcommand_of command_line words))

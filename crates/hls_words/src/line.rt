@@ -2,9 +2,8 @@ ghost use Rattle.std.specs.Prelude.{◌≡◌, Option, Some, None, false, map, s
 ghost use Rattle.clap.specs.Words.{app_of, rule_of, rows_of, one_of, first_of, found_of, kind_of, subcommand_rows_of, with_rule, with_subcommand};
 ghost use Rattle.clap.specs.declared.builder.command.Command.TheViews.{out-Command as fields_of};
 ghost use Rattle.clap.specs.declared.error.kind.ErrorKind.TheVariants.{OutOfMemory};
-ghost use Rattle.hls_words.specs.Line.{build_line, command_line, in_range, number_in, number_of, number_rule, request_in, request_of, required, step_in, step_line, task_of, text_rule, turns_in, walk_in, walk_line};
+ghost use Rattle.hls_words.specs.Line.{build_line, command_line, in_range, number_in, number_of, number_rule, task_in, required, step_in, step_line, task_of, text_rule, turns_in, walk_in, walk_line};
 
-use crate::task::Request;
 use crate::{Task, WordsError};
 use clap::error::ErrorKind;
 use clap::{Arg, ArgMatches, Command, Error, value_parser};
@@ -115,11 +114,11 @@ fn number(
     }
 }
 
-fn step_request(matches: &ArgMatches<'_>) -> Option<Request>
+fn step_task(matches: &ArgMatches<'_>) -> Option<Task>
     ensures { result ≡ step_in (rows_of (found_of matches.now)) }
 {
     let cycles = number(matches, "cycles", 0, u32::MAX, None)?;
-    Some(Request::Step { cycles })
+    Some(Task::Step { cycles })
 }
 
 fn text<'a>(matches: &ArgMatches<'a>, id: &str) -> Option<&'a str>
@@ -138,45 +137,41 @@ fn listed(alloc: Global, list: Option<&str>) -> Result<Option<Items<Turn>>, Allo
     }
 }
 
-fn walk_request(alloc: Global, matches: &ArgMatches<'_>) -> Result<Option<Request>, AllocError>
+fn walk_task(alloc: Global, matches: &ArgMatches<'_>) -> Result<Option<Task>, AllocError>
     ensures { IfOk result (λ r. r ≡ walk_in (rows_of (found_of matches.now))) }
 {
     let turns = listed(alloc, text(matches, "threads"))?;
-    Ok(turns.map(Request::Walk))
+    Ok(turns.map(Task::Walk))
 }
 
 /// What the command of this name asks for with these values.
-fn request(
-    alloc: Global,
-    name: &str,
-    matches: &ArgMatches<'_>,
-) -> Result<Option<Request>, AllocError>
-    ensures { IfOk result (λ r. r ≡ request_in name.now (rows_of (found_of matches.now))) }
+fn task(alloc: Global, name: &str, matches: &ArgMatches<'_>) -> Result<Option<Task>, AllocError>
+    ensures { IfOk result (λ r. r ≡ task_in name.now (rows_of (found_of matches.now))) }
 {
     match name {
-        "build" => Ok(Some(Request::Build)),
-        "step" => Ok(step_request(matches)),
-        "walk" => walk_request(alloc, matches),
+        "build" => Ok(Some(Task::Build)),
+        "step" => Ok(step_task(matches)),
+        "walk" => walk_task(alloc, matches),
         _ => Ok(None),
     }
 }
 
-fn request_met(alloc: Global, matches: &ArgMatches<'_>) -> Result<Option<Request>, AllocError>
-    ensures { IfOk result (λ r. r ≡ option_and_then (λ p. request_in p.0 p.1) (subcommand_rows_of matches.now)) }
+fn task_met(alloc: Global, matches: &ArgMatches<'_>) -> Result<Option<Task>, AllocError>
+    ensures { IfOk result (λ r. r ≡ option_and_then (λ p. task_in p.0 p.1) (subcommand_rows_of matches.now)) }
 {
     match matches.subcommand() {
-        Some((name, inner)) => request(alloc, name, inner),
+        Some((name, inner)) => task(alloc, name, inner),
         None => Ok(None),
     }
 }
 
 /// What matched words ask for, and `Usage` only where they aren't of the table.
-fn request_or_usage(alloc: Global, matches: &ArgMatches<'_>) -> Result<Request, WordsError>
-    ensures ok { IfOk result (λ r. option_and_then (λ p. request_in p.0 p.1) (subcommand_rows_of matches.now) ≡ Some r) }
-    ensures usage { IsErrOf result WordsError.Usage → option_and_then (λ p. request_in p.0 p.1) (subcommand_rows_of matches.now) ≡ None }
+fn task_or_usage(alloc: Global, matches: &ArgMatches<'_>) -> Result<Task, WordsError>
+    ensures ok { IfOk result (λ r. option_and_then (λ p. task_in p.0 p.1) (subcommand_rows_of matches.now) ≡ Some r) }
+    ensures usage { IsErrOf result WordsError.Usage → option_and_then (λ p. task_in p.0 p.1) (subcommand_rows_of matches.now) ≡ None }
 {
-    match request_met(alloc, matches) {
-        Ok(Some(request)) => Ok(request),
+    match task_met(alloc, matches) {
+        Ok(Some(task)) => Ok(task),
         Ok(None) => Err(WordsError::Usage),
         Err(_) => Err(WordsError::Mem),
     }
@@ -193,25 +188,17 @@ fn refusal(error: &Error) -> WordsError
     }
 }
 
-/// What the words ask for by the whole table, and `Usage` only where they aren't of it.
-pub(crate) fn requested(alloc: Global, words: &[String]) -> Result<Request, WordsError>
-    ensures ok { IfOk result (λ r. request_of (map string_bytes words.now) ≡ Some r) }
-    ensures usage { IsErrOf result WordsError.Usage → request_of (map string_bytes words.now) ≡ None }
-{
-    let Ok(command) = whole_command(alloc) else {
-        return Err(WordsError::Mem);
-    };
-    match command.try_get_matches_from(words) {
-        Ok(matches) => request_or_usage(alloc, &matches),
-        Err(error) => Err(refusal(&error)),
-    }
-}
-
 /// What the words ask for, the first of which is the program's name, whatever it is. `Usage` comes only where they
 /// aren't of the grammar, and an answer only where they are. `Mem` is the want of memory alone.
 pub fn parse(alloc: Global, words: &[String]) -> Result<Task, WordsError>
     ensures ok { IfOk result (λ t. task_of (map string_bytes words.now) ≡ Some t) }
     ensures usage { IsErrOf result WordsError.Usage → task_of (map string_bytes words.now) ≡ None }
 {
-    requested(alloc, words)?.task().ok_or(WordsError::Usage)
+    let Ok(command) = whole_command(alloc) else {
+        return Err(WordsError::Mem);
+    };
+    match command.try_get_matches_from(words) {
+        Ok(matches) => task_or_usage(alloc, &matches),
+        Err(error) => Err(refusal(&error)),
+    }
 }

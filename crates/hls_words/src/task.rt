@@ -1,5 +1,3 @@
-ghost use Rattle.std.specs.Prelude.{◌≡◌};
-
 use sqlite_items::Items;
 use thiserror::Error;
 use turns::Turn;
@@ -13,29 +11,6 @@ pub enum Task {
     Step { cycles: u32 },
     /// Take C steps of threads, in these turns.
     Walk(Items<Turn>),
-}
-
-/// A line of the table of commands, with its numbers. Some commands of the table are still to come.
-#[derive(Debug, Drop)]
-pub(crate) enum Request {
-    Build,
-    Step { cycles: u32 },
-    Walk(Items<Turn>),
-}
-
-impl Request {
-    ghost use Rattle.hls_words.specs.Line.{task_for};
-
-    /// The task, where the command exists.
-    pub(crate) fn task(self) -> Option<Task>
-        ensures { result ≡ task_for self }
-    {
-        match self {
-            Request::Build => Some(Task::Build),
-            Request::Step { cycles } => Some(Task::Step { cycles }),
-            Request::Walk(turns) => Some(Task::Walk(turns)),
-        }
-    }
 }
 
 /// Why the words give no task.

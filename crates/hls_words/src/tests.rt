@@ -1,5 +1,3 @@
-use crate::line::requested;
-use crate::task::Request;
 use crate::{Task, WordsError, parse};
 use sqlite_items::Items;
 use std::alloc::{AllocError, Global};
@@ -67,8 +65,8 @@ fn takes_the_commands(rt: HostRuntime) -> Result<(), Fail> {
 
 fn cycles_of(alloc: Global, line: &str) -> Result<Option<u32>, AllocError> {
     let words = words_of(alloc, line)?;
-    match requested(alloc, words.as_slice()) {
-        Ok(Request::Step { cycles }) => Ok(Some(cycles)),
+    match parse(alloc, words.as_slice()) {
+        Ok(Task::Step { cycles }) => Ok(Some(cycles)),
         _ => Ok(None),
     }
 }

@@ -16,6 +16,8 @@ mod Staying
 mod Resuming
 mod LocalHomes
 mod Whole
+pub mod Untaken
+pub mod Formats
 mod Sizes
 mod Labelling
 mod Controlling

@@ -63,7 +63,7 @@ formats_split (g ∷ gs) (suc n) f at =
     ap (λ l. formats_of g.body ++ l) (formats_split gs n f at)
     ∙ sym (append_assoc (formats_of g.body) (flat_map (λ (h : Function). formats_of h.body) (take n gs)) (formats_of f.body ++ flat_map (λ (h : Function). formats_of h.body) (drop (suc n) gs)))
 
-formats_count : (fs : List Function) → length (flat_map (λ (f : Function). formats_of f.body) fs) ≡ sum_by (λ (f : Function). print_count f.body) fs
+pub formats_count : (fs : List Function) → length (flat_map (λ (f : Function). formats_of f.body) fs) ≡ sum_by (λ (f : Function). print_count f.body) fs
 formats_count [] = refl
 formats_count (f ∷ fs) =
     let both = length-append (formats_of f.body) (flat_map (λ (g : Function). formats_of g.body) fs) in

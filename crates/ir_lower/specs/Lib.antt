@@ -1,4 +1,5 @@
 pub mod Taken
+pub mod Mains
 pub mod Printing
 pub mod Resuming
 pub mod Locals

@@ -1,30 +1,55 @@
 // Why a program has no code.
 
 ghost use Rattle.std.specs.Prelude.{◌≡◌, ◌+◌, ◌^◌, ◌<◌, IfOk};
+ghost use Rattle.ir_lower.specs.declared.fault.LoweringFault.TheVariants.{Memory};
+ghost use Rattle.ir_lower.specs.declared.fault.LowerError.TheVariants.{Fault};
 
 use std::alloc::AllocError;
 use thiserror::Error;
 
-/// Why lowering gives no code.
+/// Why code in the making comes to no end. That it is anything but want of memory is not proved to come never.
 #[derive(Clone, Copy, PartialEq, Eq, Debug, Drop, Error)]
 pub enum LoweringFault {
     #[error("out of memory")]
     Memory,
-    /// The program has a construct that isn't lowered yet.
-    #[error("not lowered yet")]
-    NotYet,
     /// There are more operations, variables or steps than a `u32` counts.
     #[error("too large")]
     TooLarge,
-    /// A label of the code has two places or none, its places lead round, or the first place is not the first stage. That
-    /// this never comes is not proved.
+    /// A label of the code has two places or none, its places lead round, or the first place is not the first stage; or a
+    /// statement has no code, as a break outside of loops.
     #[error("label")]
     Label,
+}
+
+/// Why a program has no code.
+#[derive(Clone, Copy, PartialEq, Eq, Debug, Drop, Error)]
+pub enum LowerError {
+    /// The function is none of those that are lowered, as one that calls a function.
+    #[error("not lowered yet")]
+    NotYet,
+    #[error("no code")]
+    Fault(LoweringFault),
 }
 
 impl From<AllocError> for LoweringFault {
     fn from(_: AllocError) -> LoweringFault {
         LoweringFault::Memory
+    }
+}
+
+impl From<LoweringFault> for LowerError {
+    ghost from_gives = { λ fault error. error ≡ Fault fault };
+
+    fn from(fault: LoweringFault) -> LowerError {
+        LowerError::Fault(fault)
+    }
+}
+
+impl From<AllocError> for LowerError {
+    ghost from_gives = { λ _ error. error ≡ Fault Memory };
+
+    fn from(_: AllocError) -> LowerError {
+        LowerError::Fault(LoweringFault::Memory)
     }
 }
 

@@ -29,7 +29,7 @@ fn lower_assign(
             lower_assignment(alloc, code.homes.as_slice(), &mut code.block, place, right)?;
             Ok(())
         }
-        RightSide::Call(_, _) => Err(LoweringFault::NotYet),
+        RightSide::Call(_, _) => Err(LoweringFault::Label),
     }
 }
 
@@ -67,7 +67,7 @@ fn lower_break(
     ensures { OnOk result (doing.LowersHere around tree.Statement.Break code.old code.new) }
 {
     let Some(labels) = around else {
-        return Err(LoweringFault::NotYet);
+        return Err(LoweringFault::Label);
     };
     code.jump(alloc, labels.leaving)?;
     Ok(())
@@ -83,7 +83,7 @@ fn lower_continue(
     ensures { OnOk result (doing.LowersHere around tree.Statement.Continue code.old code.new) }
 {
     let Some(labels) = around else {
-        return Err(LoweringFault::NotYet);
+        return Err(LoweringFault::Label);
     };
     code.jump(alloc, labels.turning)?;
     Ok(())
@@ -99,7 +99,7 @@ fn lower_return(
     ensures { IfOk result (λ _. (offset : ℕ) (around : _) → doing.LowersHere around (tree.Statement.Return offset (returned_of right.now)) code.old code.new) }
 {
     if !is_value_or_none(right) {
-        return Err(LoweringFault::NotYet);
+        return Err(LoweringFault::Label);
     }
     code.end(alloc)?;
     Ok(())
@@ -150,6 +150,6 @@ pub fn lower_simple(
             lower_thread_call(alloc, code, call)?;
             Ok(())
         }
-        _ => Err(LoweringFault::NotYet),
+        _ => Err(LoweringFault::Label),
     }
 }

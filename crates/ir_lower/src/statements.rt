@@ -1,6 +1,6 @@
 // The code of statements.
 
-ghost use Rattle.std.specs.Prelude.{◌≡◌, true, false, slice_get, IfOk, OnOk};
+ghost use Rattle.std.specs.Prelude.{◌≡◌, true, false, slice_get, IfOk, IfErr, OnOk};
 ghost use Rattle.c_program.specs.Plain.{program_of, statement_of};
 ghost use Rattle.c_program.specs.Resolved.{IsResolved};
 ghost use Rattle.code_following.specs.Following.{IsLowered};
@@ -12,7 +12,7 @@ use crate::branching::{
     Loop, close_do, close_for, close_turn, open_choice, open_for, open_loop, open_turn,
     turn_choice, turn_for,
 };
-use crate::fault::LoweringFault;
+use crate::fault::{LowerError, LoweringFault};
 use crate::lowering::Lowering;
 use crate::objects::objects_of;
 use crate::prints::{most_values, print_count, prints_before};
@@ -102,16 +102,17 @@ pub fn lower_function(
     alloc: Global,
     program: &Program,
     number: usize,
-) -> Result<ThreadCode, LoweringFault>
+) -> Result<ThreadCode, LowerError>
     ensures taken { OnOk result (is_taken_function (slice_get (program_of program.now).functions number) ≡ true) }
-    ensures not_yet { is_taken_function (slice_get (program_of program.now).functions number) ≡ false → result ≡ Err LoweringFault.NotYet }
+    ensures not_yet { is_taken_function (slice_get (program_of program.now).functions number) ≡ false → result ≡ Err LowerError.NotYet }
+    ensures untaken { IfErr result (λ e. e ≡ LowerError.NotYet → is_taken_function (slice_get (program_of program.now).functions number) ≡ false) }
     ensures done { IfOk result (λ code. doing.IsCodeOf program.now number code) }
 {
     if !is_taken_function(program, number) {
-        return Err(LoweringFault::NotYet);
+        return Err(LowerError::NotYet);
     }
     let Some(function) = at(&program.functions, number) else {
-        return Err(LoweringFault::NotYet);
+        return Err(LowerError::NotYet);
     };
     let objects = objects_of(alloc, program)?;
     let site = prints_before(program, number)?;
@@ -126,9 +127,10 @@ pub fn lower_function(
 
 /// The code of main. That of a main without pthread calls is proved to do its steps, and to be typed.
 #[tactic(auto, using(crate::proofs::Whole::lowered_at, crate::proofs::Whole::typed_at))]
-pub fn lower(alloc: Global, program: &Program) -> Result<ThreadCode, LoweringFault>
+pub fn lower(alloc: Global, program: &Program) -> Result<ThreadCode, LowerError>
     ensures taken { OnOk result (is_taken_function (slice_get (program_of program.now).functions program.now.main) ≡ true) }
-    ensures not_yet { is_taken_function (slice_get (program_of program.now).functions program.now.main) ≡ false → result ≡ Err LoweringFault.NotYet }
+    ensures not_yet { is_taken_function (slice_get (program_of program.now).functions program.now.main) ≡ false → result ≡ Err LowerError.NotYet }
+    ensures untaken { IfErr result (λ e. e ≡ LowerError.NotYet → is_taken_function (slice_get (program_of program.now).functions program.now.main) ≡ false) }
     ensures lowered { IfOk result (λ code. is_sequential_program (program_of program.now) ≡ true → IsResolved (program_of program.now) → IsLowered (program_of program.now) code) }
     ensures typed { IfOk result (λ code. is_sequential_program (program_of program.now) ≡ true → IsResolved (program_of program.now) → IsTypedCode (program_of program.now) code) }
 {

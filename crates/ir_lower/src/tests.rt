@@ -1,5 +1,5 @@
 // Small programs and their code.
-use crate::fault::LoweringFault;
+use crate::fault::LowerError;
 use crate::statements::lower;
 use crate::taken::is_sequential_program;
 use block_ir::block::Next;
@@ -234,6 +234,6 @@ fn refuses_a_call(rt: HostRuntime) -> Result<(), Fail> {
     let call = Statement::Call(0, 0, Vec::new(rt.alloc()));
     let program = main_with(rt.alloc(), call)?;
     let answer = lower(rt.alloc(), &program);
-    assert!(rt; matches!(&answer, Err(LoweringFault::NotYet)));
+    assert!(rt; matches!(&answer, Err(LowerError::NotYet)));
     Ok(())
 }

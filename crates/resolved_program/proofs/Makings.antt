@@ -158,12 +158,12 @@ making_finding walk h = record {
 
 -- ---- declarations
 
-making_by : {Earlier : Creation → Type 0} (b : Bool) (v w : Goes (Unit {0})) (x : State) → Making Earlier (λ _. Earlier) v → Making Earlier (λ _. Earlier) w → (k : Creation) →
+pub making_by : {Earlier : Creation → Type 0} (b : Bool) (v w : Goes (Unit {0})) (x : State) → Making Earlier (λ _. Earlier) v → Making Earlier (λ _. Earlier) w → (k : Creation) →
     Contains (left (if b then v x else w x)).found.creations k → Contains x.found.creations k ⊎ Earlier k
 making_by true v w x h g k inside = h.new x k inside
 making_by false v w x h g k inside = g.new x k inside
 
-making_declare : {Earlier : Creation → Type 0} (name : Name) (m : Meaning) → Making Earlier (λ _. Earlier) (l.declare name m)
+pub making_declare : {Earlier : Creation → Type 0} (name : Name) (m : Meaning) → Making Earlier (λ _. Earlier) (l.declare name m)
 unfolding l.declare
 making_declare {Earlier} name m =
     let v : Goes (Unit {0}) = finding (λ s. finds rule.Twice name.offset) in
@@ -172,11 +172,11 @@ making_declare {Earlier} name m =
     let hw = making_scoping {Earlier = Earlier} (declaring name.bytes m) in
     record { new = λ x k inside. making_by {Earlier = Earlier} (is_taken x.scope name.bytes) v w x hv hw k inside; kept = λ x k earlier. earlier }
 
-making_new_local : {Earlier : Creation → Type 0} (words : Spelled) (size : Option ℕ) (ty : BasicType) → Making Earlier (λ _. Earlier) (l.new_local words size ty)
+pub making_new_local : {Earlier : Creation → Type 0} (words : Spelled) (size : Option ℕ) (ty : BasicType) → Making Earlier (λ _. Earlier) (l.new_local words size ty)
 unfolding l.new_local
 making_new_local words size ty = record { new = λ x k inside. inl inside; kept = λ x k earlier. earlier }
 
-quiet_refused_local : (words : Spelled) (at : ℕ) → IsQuiet (l.refused_local words at)
+pub quiet_refused_local : (words : Spelled) (at : ℕ) → IsQuiet (l.refused_local words at)
 unfolding l.refused_local
 quiet_refused_local words at =
     q.quiet_either (l.is_object_type words.base) (finds_if words.is_static rule.Kind at >> (finds rule.Threads at >> pure meaning.Unusable)) (finds rule.Kind at >> pure meaning.Unusable)
@@ -248,7 +248,7 @@ any_more (z ∷ list) x k (inr of) = inr (any_more list x k (inr of))
 making_more : (list : List Statement) (w : Goes Statement) → Making (λ _. ⊥) IsOf w → Making (IsOfAny list) IsOfAny (w >>= (λ x. pure (list ++ x ∷ [])))
 making_more list w h = making_then w (λ x. pure (list ++ x ∷ [])) (making_beside w h) (λ x. making_pure (list ++ x ∷ []) (λ k of. any_more list x k of))
 
-making_through : {A B : Type 0} {Made : A → Creation → Type 0} (step : A → B → Goes A) (a : A) (list : List B) → AllByRecursion (λ b. (a : A) → Making (Made a) Made (step a b)) list →
+pub making_through : {A B : Type 0} {Made : A → Creation → Type 0} (step : A → B → Goes A) (a : A) (list : List B) → AllByRecursion (λ b. (a : A) → Making (Made a) Made (step a b)) list →
     Making (Made a) Made (through step a list)
 making_through step a [] all = record { new = λ x k inside. inl inside; kept = λ x k made. made }
 making_through {A} {B} {Made} step a (b ∷ rest) all = record {

@@ -28,7 +28,7 @@ body_names (d ∷ list) = names_in d ++ body_names list
 -- ---- a new name
 
 -- each name of the table is that of the body of its number
-abbrev IsAt : List (List ℕ) → List ℕ × ℕ → Type 0
+abbrev pub IsAt : List (List ℕ) → List ℕ × ℕ → Type 0
 IsAt done e = slice_get done e.1 ≡ Some e.0
 
 new_by : (b : Bool) (R : List ℕ × ℕ → Type 0) (d : List ℕ × ℕ) (more : List (List ℕ × ℕ)) (name : List ℕ) (a : ℕ) →
@@ -66,11 +66,11 @@ last_at (x ∷ done) name = last_at done name
 
 -- ---- all definitions
 
-record AreNoted (done : List (List ℕ)) (d : y.Noted) : Type 0 where
-  next : d.1 ≡ min (length done) 0xffff_ffff
-  entries : AllByRecursion (IsAt done) d.0
+pub record AreNoted (done : List (List ℕ)) (d : y.Noted) : Type 0 where
+  pub next : d.1 ≡ min (length done) 0xffff_ffff
+  pub entries : AllByRecursion (IsAt done) d.0
 
-least_is : (n : ℕ) → n < 2 ^ 32 → min n 0xffff_ffff ≡ n
+pub least_is : (n : ℕ) → n < 2 ^ 32 → min n 0xffff_ffff ≡ n
 least_is n lt = grind arith
 
 next_is : (n : ℕ) → min (min n 0xffff_ffff + 1) 0xffff_ffff ≡ min (suc n) 0xffff_ffff
@@ -96,7 +96,7 @@ noted_declaration : (x : ExternalDeclaration) (done : List (List ℕ)) (d : y.No
 noted_declaration (external.Function f) done d small are = noted_function f f.body done d small are
 noted_declaration (external.Objects o) done d small are = subst (λ l. AreNoted l d) (sym (append-nil done)) are
 
-all_noted : (list : List ExternalDeclaration) (done : List (List ℕ)) (d : y.Noted) → length (done ++ body_names list) ≤ 2 ^ 32 → AreNoted done d →
+pub all_noted : (list : List ExternalDeclaration) (done : List (List ℕ)) (d : y.Noted) → length (done ++ body_names list) ≤ 2 ^ 32 → AreNoted done d →
     AreNoted (done ++ body_names list) (fold y.with_declaration d list)
 all_noted [] done d small are = subst (λ l. AreNoted l d) (sym (append-nil done)) are
 all_noted (x ∷ list) done d small are =

@@ -1,5 +1,5 @@
 -- The law of programs that trees spell.
-use Rattle.std.specs.Prelude.{◌≡◌, ℕ, ◌^◌, ◌≤◌, false, List, length, Some}
+use Rattle.std.specs.Prelude.{◌≡◌, ℕ, ◌^◌, ◌<◌, ◌≤◌, false, List, length, Some}
 use Rattle.std.specs.List.{AllByRecursion}
 use Rattle.c_tree.specs.declared.declaration.TranslationUnit.{TranslationUnit}
 use Rattle.c_tree.specs.declared.expression.Expression.{Expression as ExpressionTree}
@@ -17,10 +17,10 @@ use Rattle.resolved_program.specs.Leaves.{Leaf, IsValidLeaf, AreValid, HasValidL
 use Rattle.resolved_program.specs.Gathered.{IsGathered}
 use Rattle.resolved_program.specs.Orders.{left, given, IsPartOf, IsOrderly, IsAhead, Holds, IsInOrder, GivesRoutines}
 
--- each declaration of the program has a number of 32 bits
+-- each declaration of the program has a number of 32 bits, and each function a number of locals, parameters among them, of 32 bits
 pub record IsNumbered (P : Program) : Type 0 where
   pub functions : length P.functions ≤ 2 ^ 32
-  pub locals : AllByRecursion (λ (f : Function). length f.locals ≤ 2 ^ 32) P.functions
+  pub locals : AllByRecursion (λ (f : Function). length f.locals < 2 ^ 32) P.functions
   pub globals : length P.globals ≤ 2 ^ 32
   pub threads : length P.threads ≤ 2 ^ 32
   pub mutexes : length P.mutexes ≤ 2 ^ 32

@@ -1,6 +1,6 @@
 // The laws of programs that trees spell. The functions take and answer nothing: their contracts are the laws.
 
-ghost use Rattle.resolved_program.specs.Laws.{ValueIsExpression, FormatIsPieces, BodyIsInOrder, GatheredIsResolved};
+ghost use Rattle.resolved_program.specs.Laws.{ValueIsExpression, FormatIsPieces, BodyIsInOrder, GatheredIsResolved, SpelledIsResolved};
 
 /// In a scope that is in order, a value without a fault is an expression of the program.
 pub fn value_is_expression()
@@ -22,4 +22,10 @@ pub fn body_is_in_order()
 /// no start routine reaches a create or a join, and each thread object has the one routine that creates give it.
 pub fn gathered_is_resolved()
     ensures { GatheredIsResolved }
+{}
+
+/// A program is resolved that a tree spells whose leaves are those of a text, where each of its declarations has a number of
+/// 32 bits.
+pub fn spelled_is_resolved()
+    ensures { SpelledIsResolved }
 {}

@@ -1,11 +1,12 @@
--- A simulator in the midst of a run.
-use Rattle.std.specs.Prelude.{◌≡◌, ℕ, ◌%◌, ◌<◌, ◌≤◌, Bool, true, false, List, [], length, replicate, Some}
+-- A simulator in the midst of a run, and the choices of its cycles.
+use Rattle.std.specs.Prelude.{◌≡◌, ℕ, ◌%◌, ◌<◌, ◌≤◌, Bool, true, false, List, [], length, replicate, Some, slice_get}
 use Rattle.netlist.specs.declared.netlist.Module.{Module}
 use Rattle.verilog_meaning.specs.Names.{top_of}
 use Rattle.verilog_meaning.specs.Cycles.{Valuation, Choice}
 use Rattle.verilog_meaning.specs.Threads.{all_enabled, IsChoice}
 use Rattle.circuit.specs.Nets.{FitsChoice}
-use Rattle.cycle_sim.specs.Running.{Running, state_of}
+use Rattle.cycle_sim.specs.declared.settle.Choice as code
+use Rattle.cycle_sim.specs.Running.{Running, state_of, choice_of}
 use Rattle.round_robin.specs.Round.{Turned, Tells, IsGoing, TakesChoices}
 
 -- a simulator of the net, with room for the prefs of as many arbiters as top has instances
@@ -29,3 +30,8 @@ pub record IsTold (modules : List Module) (threads arbiters n : ℕ) (r : Runnin
   pub state : Valuation
   pub turned : Turned modules turning.top threads n state out
   pub tells : Tells modules turning.top threads state shown
+
+-- so many choices under a mask; in that of number k each of so many arbiters prefers thread k
+pub record AreChoices (mask arbiters count : ℕ) (choices : List code.Choice) : Type 0 where
+  pub long : length choices ≡ count
+  pub each : (k : ℕ) (c : code.Choice) → slice_get choices k ≡ Some c → choice_of c ≡ record { mask = mask; prefs = replicate arbiters k }

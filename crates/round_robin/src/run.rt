@@ -1,12 +1,12 @@
 // The run, until done is shown or all cycles have run.
 
-ghost use Rattle.std.specs.Prelude.{◌≡◌, ◌-◌, ◌^◌, ◌≤◌, [], length, replicate, slice_get, Some, IfOk};
+ghost use Rattle.std.specs.Prelude.{◌≡◌, ◌-◌, ◌^◌, ◌<◌, ◌≤◌, [], length, replicate, slice_get, Some, IfOk, IfErr};
 ghost use Rattle.netlist.specs.declared.netlist.Module.{Module as Kind};
 ghost use Rattle.verilog_meaning.specs.Names.{top_of};
-ghost use Rattle.cycle_sim.specs.Opened.{IsRightNet};
+ghost use Rattle.cycle_sim.specs.Opened.{IsRightNet, IsCause};
 ghost use Rattle.cycle_sim.specs.Running.{choice_of};
 ghost use Rattle.round_robin.specs.Round.{IsRound, TakesChoices};
-ghost use Rattle.round_robin.specs.Inside.{IsTurning};
+ghost use Rattle.round_robin.specs.Inside.{IsTurning, AreChoices};
 
 use cycle_sim::net::top_number;
 use cycle_sim::settle::Choice;
@@ -43,6 +43,26 @@ fn choice(alloc: Global, mask: u64, arbiters: usize, preferred: u64) -> Result<C
     })
 }
 
+/// The choices of the cycles: cycle k has the one of number k modulo 16.
+#[tactic(auto, using(crate::proofs::Choices::choices_none))]
+fn choices(alloc: Global, mask: u64, arbiters: usize) -> Result<Vec<Choice>, AllocError>
+    ensures { IfOk result (λ choices. AreChoices mask arbiters 16 choices.items) }
+{
+    let mut choices = Vec::with_capacity(alloc, 16)?;
+    for preferred in 0..16u64 {
+        let choice = choice(alloc, mask, arbiters, preferred)?;
+        choices.push(choice)?;
+    }
+    Ok(choices)
+}
+
+fn choice_at(choices: &[Choice], number: usize) -> &Choice
+    requires { number < length choices.now }
+    ensures { slice_get choices.now number ≡ Some result.now }
+{
+    &choices[number]
+}
+
 /// Runs a simulator that stands in its initial state.
 fn turn(
     alloc: Global,
@@ -57,6 +77,7 @@ fn turn(
 {
     let mask = mask(threads);
     let all = choice(alloc, mask, 0, 0)?;
+    let choices = choices(alloc, mask, arbiters)?;
     let mut printed = Bytes::new(alloc);
     for number in 0..cycles {
         if sim.shows_done(&all) {
@@ -66,8 +87,8 @@ fn turn(
                 printed,
             });
         }
-        let choice = choice(alloc, mask, arbiters, (number % 16) as u64)?;
-        sim.cycle(&choice, &mut printed)?;
+        let choice = choice_at(choices.as_slice(), (number % 16) as usize);
+        sim.cycle(choice, &mut printed)?;
     }
     let is_done = sim.shows_done(&all);
     Ok(Ran {
@@ -103,12 +124,14 @@ fn arbiters_of(modules: &[Module]) -> usize
     }
 }
 
-/// Runs a net of so many threads until done is shown, and for so many cycles at most.
+/// Runs a net of so many threads until done is shown, and for so many cycles at most. An error has its cause in the net, or
+/// memory is wanting.
 pub fn run(alloc: Global, modules: &[Module], threads: u32, cycles: u32) -> Result<Ran, OpenError>
     requires few { threads ≤ 63 }
     requires right { IsRightNet modules.now }
     requires takes { TakesChoices modules.now threads }
-    ensures { IfOk result (λ r. IsRound modules.now threads cycles r.cycles r.is_done r.printed) }
+    ensures ok { IfOk result (λ r. IsRound modules.now threads cycles r.cycles r.is_done r.printed) }
+    ensures cause { IfErr result (IsCause modules.now) }
 {
     let arbiters = arbiters_of(modules);
     let mut sim = Sim::open(alloc, modules, arbiters)?;

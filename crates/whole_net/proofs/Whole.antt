@@ -1,5 +1,5 @@
 -- The net of the three modules is the whole net of the program, and its text is good Verilog.
-use Rattle.std.proofs.Common.{◌≡◌, ℕ, ◌+◌, Bool, if◌then◌else◌, nat_eq, List, [], ◌∷◌, refl, sym, ap, ◌∙◌, subst, inr, arith}
+use Rattle.std.proofs.Common.{◌≡◌, ℕ, ◌+◌, ◌<◌, Bool, if◌then◌else◌, nat_eq, List, [], ◌∷◌, refl, sym, ap, ◌∙◌, subst, inr, arith}
 use Rattle.std.specs.Prelude.{codes, sum_by, Some}
 use Rattle.std.proofs.lemmas.Option.{same_Some}
 use Rattle.c_program.specs.Tree.{Program}
@@ -14,7 +14,12 @@ use Rattle.netlist.specs.declared.netlist.Netlist.{Netlist}
 use Rattle.netlist.specs.NetlistOf.{netlist_of}
 use Rattle.netlist.specs.Sound.{IsSound}
 use Rattle.verilog_meaning.specs.Names.{top_of}
+use Rattle.verilog_meaning.specs.Cycles.{Path}
+use Rattle.verilog_meaning.specs.Threads.{Place, Depends}
+use Rattle.verilog_meaning.specs.Threads.Depends.{directly, through}
 use Rattle.verilog_meaning.specs.Follows.{IsDetermined, FollowsAlways}
+use Rattle.verilog_meaning.proofs.Settling.{IsLevelled}
+use Rattle.circuit.proofs.Staged.{net_level, net_levelled}
 use Rattle.circuit.specs.Nets.{FitsChoice}
 use Rattle.circuit.specs.Wiring.{IsNet}
 use Rattle.top_wiring.specs.Top.{input, output, done_place}
@@ -44,6 +49,15 @@ use Rattle.whole_net.proofs.Main as mains
 use Rattle.whole_net.proofs.Arbiter.{arbiter_at, arbiter_leaf}
 use Rattle.whole_net.proofs.Printer.{printer_at, printer_leaf, printer_interface}
 use Rattle.whole_net.proofs.Sound.{is_small, are_sound}
+
+-- where each signal's equation names signals of lower levels alone, none depends on itself
+module _ (modules : List Module) (top : Module) (level : Path → ℕ → ℕ) (levelled : IsLevelled modules top level) where
+  lower : {p q : Place} → Depends modules top p q → level q.0 q.1 < level p.0 p.1
+  lower (directly {path = path} {m = m} {x = x} {s = s} {q = q} at names) = (levelled path m x s at q names).1
+  lower (through d e) = let a = lower d in let b = lower e in omega arith
+
+  no_loop : (p : Place) → Depends modules top p p → ⊥
+  no_loop p d = let l = lower d in absurd (omega arith)
 
 module _ (P : Program) (code : ThreadCode) (plan : Planned) (m : Module) (inputs : ℕ) (leaf : LeafPorts) (shape : Shape) (arbiter printer : Module) (n : Netlist) (net : Net) (text : List ℕ)
     (built : IsBuilt P code plan m inputs leaf shape) (prints : IsPrinterOf P 4 shape) (main : IsMainModule 4 m inputs leaf) (grants : IsArbiterModule arbiter)
@@ -137,12 +151,21 @@ module _ (P : Program) (code : ThreadCode) (plan : Planned) (m : Module) (inputs
   top_is : top_of n.modules ≡ Some top
   top_is = found.top_is (λ k x e. (sound.no_top k x e).0)
 
+  loopless : (p : Place) → Depends n.modules top p p → ⊥
+  loopless =
+      let staged = nets_have_stages printing_layout modules n written.wired (omega arith) are_leaves in
+      no_loop n.modules top (net_level n.modules top staged.0 staged.1) (net_levelled n.modules top staged.0 staged.1)
+
   pub is_net_of : IsNetOf 1 n text
   is_net_of = record {
     net = net;
     reads = written.reads (written.formed net_sound).full;
     is = netlist_is;
     sound = net_sound;
+    top = top;
+    is_top = top_is;
+    done = (found.done_at, output (done_place modules printing_layout), found.done);
+    loopless = loopless;
     takes = λ t e c choice. subst (λ z. FitsChoice n.modules z c) (same_Some top t (sym top_is ∙ e)) (found.fits c choice);
   }
 

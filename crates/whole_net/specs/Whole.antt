@@ -1,19 +1,20 @@
 -- The text of a program of one thread is good Verilog of it.
-use Rattle.std.specs.Prelude.{◌≡◌, ℕ, List, [], ◌∷◌, Some}
+use Rattle.std.specs.Prelude.{◌≡◌, ℕ, List, [], ◌∷◌, Some, codes}
 use Rattle.c_program.specs.Tree.{Program}
 use Rattle.block_ir.specs.declared.code.ThreadCode.{ThreadCode}
 use Rattle.block_ir.specs.declared.plan.Planned.{Planned}
 use Rattle.verilog_tree.specs.declared.tree.Net.{Net}
 use Rattle.verilog_tree.specs.Reads.{IsFull, Reads}
 use Rattle.verilog_tree.specs.WellFormed.{IsWellFormed}
+use Rattle.netlist.specs.declared.netlist.Signal.{Signal}
 use Rattle.netlist.specs.declared.netlist.Module.{Module}
 use Rattle.netlist.specs.declared.netlist.Netlist.{Netlist}
 use Rattle.netlist.specs.NetlistOf.{netlist_of}
 use Rattle.netlist.specs.Laid.{IsLaid}
 use Rattle.netlist.specs.Sound.{IsSound}
-use Rattle.verilog_meaning.specs.Names.{top_of}
+use Rattle.verilog_meaning.specs.Names.{top_of, IsSignal}
 use Rattle.verilog_meaning.specs.Cycles.{Choice}
-use Rattle.verilog_meaning.specs.Threads.{IsChoice}
+use Rattle.verilog_meaning.specs.Threads.{IsChoice, Place, Depends}
 use Rattle.circuit.specs.Nets.{FitsChoice}
 use Rattle.top_wiring.specs.Sound.{AreSound}
 use Rattle.top_wiring.specs.Wired.{IsWired}
@@ -44,12 +45,17 @@ OfParts Holds m arbiter printer =
 abbrev pub IsGoodOfParts : Module → Module → Module → List ℕ → Type 0
 IsGoodOfParts m arbiter printer text = OfParts (λ P. IsGoodVerilog P text) m arbiter printer
 
--- the netlist that a text reads as: it is sound, and takes the choices of so many threads
+-- the netlist that a text reads as: it is sound, its `top` shows `done`, no signal depends on itself, and it takes the choices of
+-- so many threads
 pub record IsNetOf (threads : ℕ) (n : Netlist) (text : List ℕ) : Type 0 where
   pub net : Net
   pub reads : Reads text net
   pub is : netlist_of net ≡ n
   pub sound : IsSound n
+  pub top : Module
+  pub is_top : top_of n.modules ≡ Some top
+  pub done : (x : ℕ) × (s : Signal) × IsSignal top (codes "done") x s
+  pub loopless : (p : Place) → Depends n.modules top p p → ⊥
   pub takes : (top : Module) → top_of n.modules ≡ Some top → (c : Choice) → IsChoice threads c → FitsChoice n.modules top c
 
 -- a text reads as a netlist of one thread, where there is such a program

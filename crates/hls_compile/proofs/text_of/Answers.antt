@@ -1,4 +1,3 @@
-use Rattle.std.proofs.Common.{rules}
 use Rattle.c_program.specs.Plain.{program_of}
 use Rattle.good_verilog.specs.GoodVerilog.{IsGoodVerilog}
 use Rattle.whole_net.specs.Whole.{IsNetOf}
@@ -7,14 +6,14 @@ use Rattle.hls_compile.proofs.text_of.Goals as goal
 
 pub returns-clause-good : goal.returns-clause-good
 returns-clause-good c =
-    of_scalar_parts (program_of c.args.program.now) c.in_ok-code.code c.in_ok-main.main c.in_ok-arbiter.arbiter c.in-Some.printer
-    c.in_ok-code.ensures.resolved c.in_ok-code.ensures.single c.in_ok-main.ensures c.in_ok-arbiter.ensures (search rules)
+    of_scalar_parts (program_of c.args.program.now) c.in_ok-code.code c.in_ok-main.main c.in_ok-arbiter.arbiter c.in_ok-printer.printer
+    c.requires.resolved c.in_ok-code.ensures.single c.in_ok-main.ensures c.in_ok-arbiter.ensures c.in_ok-printer.ensures
     (λ P. IsGoodVerilog P c.in_ok-written.written.text) c.in_ok-code.ensures.lowered c.in_ok-code.ensures.typed c.in_ok-written.ensures.good
 
 pub returns-clause-net : goal.returns-clause-net
 returns-clause-net c =
-    of_scalar_parts (program_of c.args.program.now) c.in_ok-code.code c.in_ok-main.main c.in_ok-arbiter.arbiter c.in-Some.printer
-    c.in_ok-code.ensures.resolved c.in_ok-code.ensures.single c.in_ok-main.ensures c.in_ok-arbiter.ensures (search rules)
+    of_scalar_parts (program_of c.args.program.now) c.in_ok-code.code c.in_ok-main.main c.in_ok-arbiter.arbiter c.in_ok-printer.printer
+    c.requires.resolved c.in_ok-code.ensures.single c.in_ok-main.ensures c.in_ok-arbiter.ensures c.in_ok-printer.ensures
     (λ P. IsNetOf 1 c.in_ok-written.written.net c.in_ok-written.written.text) c.in_ok-code.ensures.lowered c.in_ok-code.ensures.typed c.in_ok-written.ensures.net
 
 pub returns-clause-one : goal.returns-clause-one

@@ -1,17 +1,8 @@
-use Rattle.std.proofs.Common.{sym, ◌∙◌}
-use Rattle.c_program.specs.Plain.{program_of}
-use Rattle.c_profile.proofs.Accepting.{accepted, of_ok}
-use Rattle.c_profile.proofs.Refusing.{refused_by_limit, refused_for_tree, of_err}
+use Rattle.c_profile.proofs.Only.{accepts_only, refuses_only}
 use Rattle.c_profile.proofs.text.accept.Goals as goal
 
-pub returns-in-Ok-clause-refused : goal.returns-in-Ok-clause-refused
-returns-in-Ok-clause-refused c =
-    of_err c.within.result _ _ (λ e p r is. refused_by_limit c.args.text.now c.in_ok-tree.tree (program_of c.in-Ok.program) r c.in_ok-tree.ensures.ok c.in-Ok.ensures.spelled (p r is)) c.within.ensures.refused
+pub returns-clause-accepts : goal.returns-clause-accepts
+returns-clause-accepts c = accepts_only c.args.text.now c.program_or_refusal.result (c.program_or_refusal.ensures.ok, c.program_or_refusal.ensures.refused)
 
-pub returns-in-Ok-clause-ok : goal.returns-in-Ok-clause-ok
-returns-in-Ok-clause-ok c =
-    of_ok c.within.result _ _ _ (λ a same within. accepted c.args.text.now c.in_ok-tree.tree (program_of c.in-Ok.program) (program_of a.program) a.weight c.in_ok-tree.ensures.ok c.in-Ok.ensures.spelled same within) c.within.ensures.same c.within.ensures.ok
-
-pub returns-clause-refused : goal.returns-clause-refused
-returns-clause-refused c =
-    λ r told. refused_for_tree c.args.text.now c.in_ok-tree.tree c.in-Err.error r c.in_ok-tree.ensures.ok c.in-Err.ensures.broken c.in-Err.ensures.no_main (sym c.answer_to.ensures ∙ told)
+pub returns-clause-refuses : goal.returns-clause-refuses
+returns-clause-refuses c = refuses_only c.args.text.now c.program_or_refusal.result (c.program_or_refusal.ensures.ok, c.program_or_refusal.ensures.refused)

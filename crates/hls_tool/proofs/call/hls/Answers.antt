@@ -1,4 +1,5 @@
 use Rattle.hls_tool.specs.Inside.{due_of}
+use Rattle.hls_tool.proofs.RefusedLemmas.{tells_refusal}
 use Rattle.hls_tool.proofs.call.hls.Goals as goal
 
 pub returns-clause-answered : goal.returns-clause-answered
@@ -8,3 +9,6 @@ returns-clause-answered g c = record {
   ends = c.deliver.ensures.ends;
   text = c.deliver.ensures.text;
 }
+
+pub returns-clause-refuses : goal.returns-clause-refuses
+returns-clause-refuses g c = λ text r left refused. tells_refusal _ _ _ _ _ _ text r (returns-clause-answered g c) left refused

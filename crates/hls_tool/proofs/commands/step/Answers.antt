@@ -1,4 +1,4 @@
-use Rattle.std.proofs.Common.{rules, refl}
+use Rattle.std.proofs.Common.{rules}
 use Rattle.hls_tool.proofs.commands.step.Goals as goal
 
 pub returns-clause-ok : goal.returns-clause-ok
@@ -11,7 +11,7 @@ returns-clause-ok g c = (
     net = c.in_ok-built.built.net;
     gave = c.in_ok-built.ensures.ok.1;
     compiled = c.in_ok-built.ensures.ok.2;
-    ran = c.in_ok-ran.ensures.ok;
+    ran = c.in_ok-ran.ensures;
     err = search rules;
   },
   search rules,

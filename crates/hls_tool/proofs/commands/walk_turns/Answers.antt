@@ -1,4 +1,4 @@
-use Rattle.std.proofs.Common.{rules, refl}
+use Rattle.std.proofs.Common.{rules}
 use Rattle.c_program.specs.Plain.{program_of}
 use Rattle.hls_tool.proofs.commands.walk_turns.Goals as goal
 

@@ -1,6 +1,0 @@
-pub mod CallsShow
-pub mod DeclarationsShow
-pub mod ListLemmas
-pub mod PartsShow
-pub mod TypesShow
-pub mod WholesShow
