@@ -34,7 +34,6 @@ use Rattle.block_datapath.specs.declared.ending.Finish.{Finish}
 use Rattle.block_datapath.specs.declared.leaving_block.Left.{Left}
 use Rattle.thread_promise.specs.Types.{operand_type, IsTypedSource, IsTypedNext}
 use Rattle.block_datapath.specs.Seen.{IsValue, SeesSource}
-use Rattle.thread_promise.specs.Slots.{AreWithin}
 use Rattle.block_datapath.specs.Operations.{seen_value, SeesSlot, IsRight, IsShown, ShowsFirst}
 use Rattle.block_datapath.specs.Chains.{next_number, TellsStage, IsMoment, TellsState}
 use Rattle.block_datapath.specs.Ending.{IsFinal, ShowsFinals, next_stage, SeesTest, ShowsNext, finishes_in, finish_number, SetsFirst}
@@ -122,7 +121,7 @@ module _ (globals : List IntegerType) (code : ThreadCode) (registers : Registers
     (shown : (k : ℕ) (o : Operation) → k < length b.operations → slice_get b.operations k ≡ Some o
     → (given : Given) × (slice_get values k ≡ Some given) × IsShown globals code registers b p new k o given)
     (bank : Location → ℕ) (m : Module) (r : Reading) (q : Slot) (wire : ℕ → ℤ) (grows : Grows new m.signals) (obeys : Obeys m r) (sees : SeesSlot globals code registers b p m r q)
-    (wired : IsWired bank (planned_view b) (plan_view b p) q wire) (within : AreWithin globals code b p q wire) (at_end : suc q.state ≡ p.states) where
+    (wired : IsWired bank (planned_view b) (plan_view b p) q wire) (at_end : suc q.state ≡ p.states) where
   below_all : (k : ℕ) (o : Operation) → slice_get b.operations k ≡ Some o → k < length b.operations
   below_all k o e = got_below b.operations k o e
     where
@@ -140,7 +139,7 @@ module _ (globals : List IntegerType) (code : ThreadCode) (registers : Registers
       let used = right.keeps.used_last j u in
       let ends = right.keeps.ends j (right.keeps.final j u) in
       subst (λ (t : IntegerType). IsValue m r registers values state j t (value_now (planned_view b) (plan_view b p) q wire j)) typed.2
-      (value_here globals code registers b p right new values (length b.operations) shown bank m r q wire grows obeys sees wired within j typed.0 state (below_all j typed.0 typed.1) typed.1 at
+      (value_here globals code registers b p right new values (length b.operations) shown bank m r q wire grows obeys sees wired j typed.0 state (below_all j typed.0 typed.1) typed.1 at
       (omega arith) (omega arith))
 
   final_end : (k : ℕ) (f : Final) (state : ℕ) → state ≡ q.state → slice_get b.finals k ≡ Some f
@@ -163,7 +162,8 @@ module _ (globals : List IntegerType) (code : ThreadCode) (registers : Registers
       min_is : (a c : ℕ) → a ≤ c → min a c ≡ a
       min_is a c h = omega arith
   stage_end (Branch test nonzero otherwise) state typed =
-      ap (λ z. if is_zero (seen_value q.variables (value_now (planned_view b) (plan_view b p) q wire) test) then z else min nonzero (length code.stages)) (min_is otherwise (length code.stages) typed.2)
+      ap (λ z. if is_zero (seen_value q.variables (value_now (planned_view b) (plan_view b p) q wire) test) then z else min nonzero (length code.stages))
+      (min_is otherwise (length code.stages) typed.2)
       ∙ ap (λ z. if is_zero (seen_value q.variables (value_now (planned_view b) (plan_view b p) q wire) test) then otherwise else z) (min_is nonzero (length code.stages) typed.1)
       ∙ zero_same (seen_value q.variables (value_now (planned_view b) (plan_view b p) q wire) test) nonzero otherwise
     where
@@ -233,80 +233,80 @@ module _ (globals : List IntegerType) (code : ThreadCode) (registers : Registers
 
   module _ (bank : Location → ℕ) (m : Module) (r : Reading) (q : Slot) (wire : ℕ → ℤ) (right : IsRight globals code registers b p) (g : Grows s6 m.signals) (o : Obeys m r)
       (inside : IsInStage globals code registers l b p m r q) (sees : SeesSlot globals code registers b p m r q) (wired : IsWired bank (planned_view b) (plan_view b p) q wire)
-      (within : AreWithin globals code b p q wire) where
-    moment : IsMoment m r registers end.at end.states true q.state
-    moment =
-        let on = stage_bit m r g o inside.has ∙ ap bit_of (same_is (r.signal registers.stage.register) l inside.stage) in
-        let below = inside.below in
-        let room = inside.room in
-        let some : max 1 p.states ≡ p.states = omega arith in
-        record {
-          wide = tells_stage.wide m (from_1 m g);
-          shows = on;
-          state_wide = λ t. inside.wide;
-          state = λ t. inside.state;
-          below = λ t. omega arith;
-          room = λ t. subst (λ (n : ℕ). n ≤ 2 ^ registers.state.width) (sym (states ∙ some)) room;
-        }
+    where
+      moment : IsMoment m r registers end.at end.states true q.state
+      moment =
+          let on = stage_bit m r g o inside.has ∙ ap bit_of (same_is (r.signal registers.stage.register) l inside.stage) in
+          let below = inside.below in
+          let room = inside.room in
+          let some : max 1 p.states ≡ p.states = omega arith in
+          record {
+            wide = tells_stage.wide m (from_1 m g);
+            shows = on;
+            state_wide = λ t. inside.wide;
+            state = λ t. inside.state;
+            below = λ t. omega arith;
+            room = λ t. subst (λ (n : ℕ). n ≤ 2 ^ registers.state.width) (sym (states ∙ some)) room;
+          }
 
-    last_at : r.signal last ≡ bit_of (nat_eq (suc q.state) p.states)
-    last_at =
-        let below = inside.below in
-        tells_state.shows m r true q.state (from_5 m g) o moment low ∙ ap (λ n. bit_of (nat_eq q.state n)) state ∙ ap bit_of (last_is q.state p.states below)
+      last_at : r.signal last ≡ bit_of (nat_eq (suc q.state) p.states)
+      last_at =
+          let below = inside.below in
+          tells_state.shows m r true q.state (from_5 m g) o moment low ∙ ap (λ n. bit_of (nat_eq q.state n)) state ∙ ap bit_of (last_is q.state p.states below)
 
-    state_at : suc q.state ≡ p.states → end.state ≡ q.state
-    state_at at_end = omega arith
+      state_at : suc q.state ≡ p.states → end.state ≡ q.state
+      state_at at_end = omega arith
 
-    finish_word : (at_end : suc q.state ≡ p.states) (x : ℕ) (ty : IntegerType) (k : ℕ) (f : Final) (out : Finish) → slice_get code.variables x ≡ Some ty → slice_get b.finals k ≡ Some f
-        → IsFinal registers code values end.state s3 f out → f.variable ≡ x → IsWord m r out.word ty (operand_now (planned_view b) (plan_view b p) q wire (operand_view f.value))
-    finish_word at_end x ty k f out declared listed is same =
-        let typed = right.typed.finals k f listed in
-        let own : slice_get code.variables f.variable ≡ Some ty = ap (slice_get code.variables) same ∙ declared in
-        let kind = typed.1 in
-        let matches : operand_type f.value ≡ ty = cc in
-        is.shows m r q.variables (value_now (planned_view b) (plan_view b p) q wire) ty (from_3 m g) o
-        (final_end globals code registers b p right s2 values first.each bank m r q wire (from_2 m g) o sees wired within at_end k f end.state (state_at at_end) listed) own matches
+      finish_word : (at_end : suc q.state ≡ p.states) (x : ℕ) (ty : IntegerType) (k : ℕ) (f : Final) (out : Finish) → slice_get code.variables x ≡ Some ty → slice_get b.finals k ≡ Some f
+          → IsFinal registers code values end.state s3 f out → f.variable ≡ x → IsWord m r out.word ty (operand_now (planned_view b) (plan_view b p) q wire (operand_view f.value))
+      finish_word at_end x ty k f out declared listed is same =
+          let typed = right.typed.finals k f listed in
+          let own : slice_get code.variables f.variable ≡ Some ty = ap (slice_get code.variables) same ∙ declared in
+          let kind = typed.1 in
+          let matches : operand_type f.value ≡ ty = cc in
+          is.shows m r q.variables (value_now (planned_view b) (plan_view b p) q wire) ty (from_3 m g) o
+          (final_end globals code registers b p right s2 values first.each bank m r q wire (from_2 m g) o sees wired at_end k f end.state (state_at at_end) listed) own matches
 
-    finish_at : (at_end : suc q.state ≡ p.states) (x : ℕ) (ty : IntegerType) → slice_get code.variables x ≡ Some ty
-        → Finishes r x (width_of ty) (operand_now (planned_view b) (plan_view b p) q wire) b.finals finishes
-    finish_at at_end x ty declared k f listed =
-        let t = finals.each k f (within_list b.finals k f listed) listed in
-        let is : IsFinal registers code values end.state s3 f t.0 = t.2 in
-        (t.0, t.1, is.variable, λ same. (finish_word at_end x ty k f t.0 declared listed is same).shows)
+      finish_at : (at_end : suc q.state ≡ p.states) (x : ℕ) (ty : IntegerType) → slice_get code.variables x ≡ Some ty
+          → Finishes r x (width_of ty) (operand_now (planned_view b) (plan_view b p) q wire) b.finals finishes
+      finish_at at_end x ty declared k f listed =
+          let t = finals.each k f (within_list b.finals k f listed) listed in
+          let is : IsFinal registers code values end.state s3 f t.0 = t.2 in
+          (t.0, t.1, is.variable, λ same. (finish_word at_end x ty k f t.0 declared listed is same).shows)
 
-    typed_by : (t : Bool) (x : ℕ) (ty : IntegerType) → nat_eq (suc q.state) p.states ≡ t → slice_get code.variables x ≡ Some ty → HasType ty (q.variables x)
-        → HasType ty (if t then finished (operand_now (planned_view b) (plan_view b p) q wire) (finals_view b.finals) q.variables x else q.variables x)
-    typed_by true x ty e declared typed =
-        finals_typed ty x (operand_now (planned_view b) (plan_view b p) q wire) b.finals q.variables
-        (λ k f listed same.
-        let t = finals.each k f (within_list b.finals k f listed) listed in
-        (finish_word (is_same (suc q.state) p.states e) x ty k f t.0 declared listed t.2 same).typed) typed
-    typed_by false x ty e declared typed = typed
+      typed_by : (t : Bool) (x : ℕ) (ty : IntegerType) → nat_eq (suc q.state) p.states ≡ t → slice_get code.variables x ≡ Some ty → HasType ty (q.variables x)
+          → HasType ty (if t then finished (operand_now (planned_view b) (plan_view b p) q wire) (finals_view b.finals) q.variables x else q.variables x)
+      typed_by true x ty e declared typed =
+          finals_typed ty x (operand_now (planned_view b) (plan_view b p) q wire) b.finals q.variables
+          (λ k f listed same.
+          let t = finals.each k f (within_list b.finals k f listed) listed in
+          (finish_word (is_same (suc q.state) p.states e) x ty k f t.0 declared listed t.2 same).typed) typed
+      typed_by false x ty e declared typed = typed
 
-    variables_by : (t : Bool) (x : ℕ) (ty : IntegerType) → nat_eq (suc q.state) p.states ≡ t → slice_get code.variables x ≡ Some ty
-        → next_number r before x ≡ residue_of (width_of ty) (q.variables x)
-        → last_of (λ k. finishes_in (slice_get finishes k) x && t) (λ k. finish_number r (slice_get finishes k)) (next_number r before x) (length finishes)
-        ≡ residue_of (width_of ty) (if t then finished (operand_now (planned_view b) (plan_view b p) q wire) (finals_view b.finals) q.variables x else q.variables x)
-    variables_by true x ty e declared rest =
-        ap (last_of (λ k. finishes_in (slice_get finishes k) x && true) (λ k. finish_number r (slice_get finishes k)) (next_number r before x)) finals.count
-        ∙ finals_last r x (width_of ty) (operand_now (planned_view b) (plan_view b p) q wire) b.finals finishes (next_number r before x) q.variables
-        (finish_at (is_same (suc q.state) p.states e) x ty declared) rest
-    variables_by false x ty e declared rest =
-        last_of-none (λ k. finishes_in (slice_get finishes k) x && false) (λ k. finish_number r (slice_get finishes k)) (next_number r before x) (length finishes)
-        (λ k. and_false (finishes_in (slice_get finishes k) x))
-        ∙ rest
+      variables_by : (t : Bool) (x : ℕ) (ty : IntegerType) → nat_eq (suc q.state) p.states ≡ t → slice_get code.variables x ≡ Some ty
+          → next_number r before x ≡ residue_of (width_of ty) (q.variables x)
+          → last_of (λ k. finishes_in (slice_get finishes k) x && t) (λ k. finish_number r (slice_get finishes k)) (next_number r before x) (length finishes)
+          ≡ residue_of (width_of ty) (if t then finished (operand_now (planned_view b) (plan_view b p) q wire) (finals_view b.finals) q.variables x else q.variables x)
+      variables_by true x ty e declared rest =
+          ap (last_of (λ k. finishes_in (slice_get finishes k) x && true) (λ k. finish_number r (slice_get finishes k)) (next_number r before x)) finals.count
+          ∙ finals_last r x (width_of ty) (operand_now (planned_view b) (plan_view b p) q wire) b.finals finishes (next_number r before x) q.variables
+          (finish_at (is_same (suc q.state) p.states e) x ty declared) rest
+      variables_by false x ty e declared rest =
+          last_of-none (λ k. finishes_in (slice_get finishes k) x && false) (λ k. finish_number r (slice_get finishes k)) (next_number r before x) (length finishes)
+          (λ k. and_false (finishes_in (slice_get finishes k) x))
+          ∙ rest
 
-    variables_at : (x : ℕ) (ty : IntegerType) → slice_get code.variables x ≡ Some ty → x < length before → next_number r before x ≡ residue_of (width_of ty) (q.variables x)
-        → next_number r after x
-        ≡ residue_of (width_of ty) (if nat_eq (suc q.state) p.states then finished (operand_now (planned_view b) (plan_view b p) q wire) (finals_view b.finals) q.variables x else q.variables x)
-    variables_at x ty declared less rest =
-        sets.shows m r (nat_eq (suc q.state) p.states) x g o last_at less ∙ variables_by (nat_eq (suc q.state) p.states) x ty refl declared rest
+      variables_at : (x : ℕ) (ty : IntegerType) → slice_get code.variables x ≡ Some ty → x < length before → next_number r before x ≡ residue_of (width_of ty) (q.variables x)
+          → next_number r after x
+          ≡ residue_of (width_of ty) (if nat_eq (suc q.state) p.states then finished (operand_now (planned_view b) (plan_view b p) q wire) (finals_view b.finals) q.variables x else q.variables x)
+      variables_at x ty declared less rest =
+          sets.shows m r (nat_eq (suc q.state) p.states) x g o last_at less ∙ variables_by (nat_eq (suc q.state) p.states) x ty refl declared rest
 
-    target_at : suc q.state ≡ p.states → r.signal target ≡ leads_to (operand_now (planned_view b) (plan_view b p) q wire) (next_view b.next)
-    target_at at_end =
-        next.shows m r q.variables (value_now (planned_view b) (plan_view b p) q wire) (from_4 m g) o
-        (test_end globals code registers b p right s2 values first.each bank m r q wire (from_2 m g) o sees wired within at_end b.next end.state (state_at at_end) refl right.typed.next)
-        ∙ stage_end globals code registers b p right s2 values first.each bank m r q wire (from_2 m g) o sees wired within at_end b.next end.state right.typed.next
+      target_at : suc q.state ≡ p.states → r.signal target ≡ leads_to (operand_now (planned_view b) (plan_view b p) q wire) (next_view b.next)
+      target_at at_end =
+          next.shows m r q.variables (value_now (planned_view b) (plan_view b p) q wire) (from_4 m g) o
+          (test_end globals code registers b p right s2 values first.each bank m r q wire (from_2 m g) o sees wired at_end b.next end.state (state_at at_end) refl right.typed.next)
+          ∙ stage_end globals code registers b p right s2 values first.each bank m r q wire (from_2 m g) o sees wired at_end b.next end.state right.typed.next
 
   from_0 : (m : Module) → Grows s6 m.signals → Grows s0 m.signals
   from_0 m g = grows_then s0 s6 m.signals all_grow g
@@ -328,11 +328,11 @@ module _ (globals : List IntegerType) (code : ThreadCode) (registers : Registers
     count = sets.count;
     wide = λ m g. subst (λ (x : ℕ). width m x ≡ 1) (sym e) (tells_state.wide m (from_5 m g) (tells_stage.wide m (from_1 m g)));
     rests = λ m r g o has ne. rests_at m r left e g o has ne;
-    moves = λ bank m r q wire right g o inside sees wired within. record {
-      last = ap r.signal e ∙ last_at bank m r q wire right g o inside sees wired within;
-      variables = variables_at bank m r q wire right g o inside sees wired within;
-      typed = λ x ty declared typed. typed_by bank m r q wire right g o inside sees wired within (nat_eq (suc q.state) p.states) x ty refl declared typed;
-      target = λ at_end. ap r.signal f ∙ target_at bank m r q wire right g o inside sees wired within at_end;
+    moves = λ bank m r q wire right g o inside sees wired. record {
+      last = ap r.signal e ∙ last_at bank m r q wire right g o inside sees wired;
+      variables = variables_at bank m r q wire right g o inside sees wired;
+      typed = λ x ty declared typed. typed_by bank m r q wire right g o inside sees wired (nat_eq (suc q.state) p.states) x ty refl declared typed;
+      target = λ at_end. ap r.signal f ∙ target_at bank m r q wire right g o inside sees wired at_end;
     };
   }
 

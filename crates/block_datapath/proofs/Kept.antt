@@ -30,7 +30,7 @@ use Rattle.block_datapath.specs.declared.operands.Given.{Given}
 use Rattle.block_datapath.specs.declared.leaving_block.Left.{Left}
 use Rattle.thread_promise.specs.Types.{value_type}
 use Rattle.block_datapath.specs.Seen.{IsKept}
-use Rattle.thread_promise.specs.Slots.{IsAlive, AreWithin}
+use Rattle.thread_promise.specs.Slots.{IsAlive}
 use Rattle.block_datapath.specs.Operations.{SeesSlot, IsRight, IsShown, ShowsFirst}
 use Rattle.block_datapath.specs.Chains.{next_number, IsMoment, held_width, keeps_in, kept_number, CanKeep, KeepsFirst}
 use Rattle.block_datapath.specs.Leave.{HasRoom, KeepsBlock, HasStage, IsInStage, FinishesBlock, LeavesBlock}
@@ -94,150 +94,150 @@ module _ (globals : List IntegerType) (code : ThreadCode) (registers : Registers
     (kept : KeepsFirst s1 s2 registers end_at (max 1 p.states) before after values (length values)) where
   module _ (bank : Location → ℕ) (m : Module) (r : Reading) (q : Slot) (wire : ℕ → ℤ) (right : IsRight globals code registers b p) (g : Grows s2 m.signals) (o : Obeys m r)
       (moment : IsMoment m r registers end_at (max 1 p.states) true q.state) (sees : SeesSlot globals code registers b p m r q) (wired : IsWired bank (planned_view b) (plan_view b p) q wire)
-      (within : AreWithin globals code b p q wire) where
-    earlier : Grows s1 m.signals
-    earlier = grows_then s1 s2 m.signals kept.grows g
+    where
+      earlier : Grows s1 m.signals
+      earlier = grows_then s1 s2 m.signals kept.grows g
 
-    -- each value is that of an operation
-    record Of (j : ℕ) (v : Given) : Type 0 where
-      operation : Operation
-      listed : slice_get b.operations j ≡ Some operation
-      shown : IsShown globals code registers b p s1 j operation v
+      -- each value is that of an operation
+      record Of (j : ℕ) (v : Given) : Type 0 where
+        operation : Operation
+        listed : slice_get b.operations j ≡ Some operation
+        shown : IsShown globals code registers b p s1 j operation v
 
-    operation_of : (j : ℕ) (v : Given) → slice_get values j ≡ Some v → Of j v
-    operation_of j v listed =
-        let below : j < length b.operations = subst (λ (n : ℕ). j < n) first.count (within_list values j v listed) in
-        let found = got_one b.operations j below in
-        let t = first.each j found.0 below found.1 in
-        let same : t.0 ≡ v = (let h = t.1 in cc) in
-        record { operation = found.0; listed = found.1; shown = subst (λ (z : Given). IsShown globals code registers b p s1 j found.0 z) same t.2 }
-      where
-        got_one : (os : List Operation) (j : ℕ) → j < length os → (x : Operation) × (slice_get os j ≡ Some x)
-        got_one [] j h = absurd (omega arith)
-        got_one (x ∷ os) zero h = (x, refl)
-        got_one (x ∷ os) (suc j) h = got_one os j (omega arith)
-
-    can : (j : ℕ) (v : Given) → slice_get values j ≡ Some v → CanKeep m (max 1 p.states) true q.state v
-    can j v listed =
-        let t = operation_of j v listed in
-        let last = t.shown.last right in
-        let ends = right.keeps.ends j (within_view b.operations j t.operation t.listed) in
-        record {
-          below = omega arith;
-          wide = λ e.
-              let here : last_state (planned_view b) (plan_view b p) j ≡ q.state = sym (is_same q.state v.last e ∙ last) in
-              (t.shown.shows bank m r q wire right earlier o sees wired within here).wide ∙ sym t.shown.says;
-        }
-
-    abbrev test : ℕ → ℕ → Bool
-    test x j = keeps_in (slice_get values j) true q.state x
-
-    -- an operation whose value register x gets now
-    record Gets (x j : ℕ) : Type 0 where
-      small : j < size (planned_view b)
-      ends : last_state (planned_view b) (plan_view b p) j ≡ q.state
-      register : (plan_view b p).register j ≡ Some x
-
-    gets : (x j : ℕ) (v : Option Given) → slice_get values j ≡ v → keeps_in v true q.state x ≡ true → Gets x j
-    gets x j None e hit = absurd cc
-    gets x j (Some v) e hit =
-        let t = operation_of j v e in
-        let ends = left_true (nat_eq q.state v.last) (is_register v.register x) hit in
-        let name = right_true (nat_eq q.state v.last) (is_register v.register x) hit in
-        record {
-          small = within_view b.operations j t.operation t.listed;
-          ends = sym (is_same q.state v.last ends ∙ t.shown.last right);
-          register = sym t.shown.register ∙ named v.register x name;
-        }
-
-    module _ (registers_after : ℕ → ℤ) (after_is : RegistersAfter (planned_view b) (plan_view b p) q wire registers_after) (room : HasRoom globals code registers b p m r before) (next : Slot)
-        (at : next.state ≡ suc q.state) (k x : ℕ) (t : IsAlive b p next k x) where
-      small : k < size (planned_view b)
-      small = within_view b.operations k t.operation t.listed
-
-      chain : next_number r after x
-          ≡ last_of (test x) (λ j. kept_number r (held_width (slice_get registers.kept x)) (slice_get values j)) (next_number r before x) (length values)
-      chain =
-          let place = room.room k x t.operation t.listed t.register in
-          let count = room.count in
-          let inside = within_list registers.kept x place.0 place.1 in
-          kept.shows m r true q.state x g o moment can (omega arith) count
-
-      -- no other value gets the register
-      alone : (j : ℕ) → Gets x j → j ≡ k ⊎ ⊥
-      alone j other = ⊎_elim (λ e. inl e) (λ ne. inr (clash ne)) (same_or_not j k)
+      operation_of : (j : ℕ) (v : Given) → slice_get values j ≡ Some v → Of j v
+      operation_of j v listed =
+          let below : j < length b.operations = subst (λ (n : ℕ). j < n) first.count (within_list values j v listed) in
+          let found = got_one b.operations j below in
+          let t = first.each j found.0 below found.1 in
+          let same : t.0 ≡ v = (let h = t.1 in cc) in
+          record { operation = found.0; listed = found.1; shown = subst (λ (z : Given). IsShown globals code registers b p s1 j found.0 z) same t.2 }
         where
-          clash : j ≢ k → ⊥
-          clash ne =
-              let ends = other.ends in
-              let short = right.keeps.short j x other.small other.register in
-              let mine = right.keeps.short k x small t.register in
-              let used = t.used in
-              let past = t.past in
-              ⊎_elim (λ h. omega arith) (λ h. omega arith) (right.keeps.apart j k x other.small small ne other.register t.register)
+          got_one : (os : List Operation) (j : ℕ) → j < length os → (x : Operation) × (slice_get os j ≡ Some x)
+          got_one [] j h = absurd (omega arith)
+          got_one (x ∷ os) zero h = (x, refl)
+          got_one (x ∷ os) (suc j) h = got_one os j (omega arith)
 
-      now : last_state (planned_view b) (plan_view b p) k ≡ q.state
-          → (next_number r after x % 2 ^ width_of (value_type globals code t.operation) ≡ residue_of (width_of (value_type globals code t.operation)) (registers_after x))
-          × HasType (value_type globals code t.operation) (registers_after x)
-      now e =
-          let place = room.room k x t.operation t.listed t.register in
-          let found = first.each k t.operation (within_list b.operations k t.operation t.listed) t.listed in
-          let v : Given = found.0 in
-          let is : IsShown globals code registers b p s1 k t.operation v = found.2 in
-          let ty = value_type globals code t.operation in
-          let word = is.shows bank m r q wire right earlier o sees wired within e in
-          let ends : nat_eq q.state v.last ≡ true = same_is q.state v.last (sym (is.last right ∙ e)) in
-          let name : is_register v.register x ≡ true = ap (λ (z : Option ℕ). is_register z x) (is.register ∙ t.register) ∙ same_is x x refl in
-          let hit : test x k ≡ true = ap (λ (z : Option Given). keeps_in z true q.state x) found.1 ∙ and_two (nat_eq q.state v.last) (is_register v.register x) ends name in
-          let below : k < length values = subst (λ (n : ℕ). k < n) (sym first.count) (within_list b.operations k t.operation t.listed) in
-          let one : (j : ℕ) → j < length values → test x j ≡ true → j ≡ k = λ j less h. ⊎_elim (λ s. s) (λ z. absurd z) (alone j (gets x j (slice_get values j) refl h)) in
-          let w = held_width (slice_get registers.kept x) in
-          let wide : w ≡ place.0.width = ap held_width place.1 in
-          let le : v.word.width ≤ w = subst (λ (n : ℕ). n ≤ w) (sym is.says) (subst (λ (n : ℕ). width_of ty ≤ n) (sym wide) place.2) in
-          let number : next_number r after x ≡ residue_of (width_of ty) (wire k) =
-          chain ∙ last_of-one (test x) (λ j. kept_number r w (slice_get values j)) (next_number r before x) (length values) k below hit one
-          ∙ ap (kept_number r w) found.1 ∙ widened (nat_lt w v.word.width) v.word.width w (r.signal v.word.place) le refl ∙ word.shows
-          in (
-            ap (λ n. n % 2 ^ width_of ty) number ∙ mod-eq_of_lt (residue_of-below (width_of ty) (wire k)) ∙ ap (residue_of (width_of ty)) (sym (after_is.written k x small e t.register)),
-            subst (λ (z : ℤ). HasType ty z) (sym (after_is.written k x small e t.register)) word.typed,
-          )
+      can : (j : ℕ) (v : Given) → slice_get values j ≡ Some v → CanKeep m (max 1 p.states) true q.state v
+      can j v listed =
+          let t = operation_of j v listed in
+          let last = t.shown.last right in
+          let ends = right.keeps.ends j (within_view b.operations j t.operation t.listed) in
+          record {
+            below = omega arith;
+            wide = λ e.
+                let here : last_state (planned_view b) (plan_view b p) j ≡ q.state = sym (is_same q.state v.last e ∙ last) in
+                (t.shown.shows bank m r q wire right earlier o sees wired here).wide ∙ sym t.shown.says;
+          }
 
-      before_now : last_state (planned_view b) (plan_view b p) k ≢ q.state
-          → (next_number r after x % 2 ^ width_of (value_type globals code t.operation) ≡ residue_of (width_of (value_type globals code t.operation)) (registers_after x))
-          × HasType (value_type globals code t.operation) (registers_after x)
-      before_now ne =
-          let place = room.room k x t.operation t.listed t.register in
-          let ty = value_type globals code t.operation in
-          let past = t.past in
-          let used = t.used in
-          let less : last_state (planned_view b) (plan_view b p) k < q.state = omega arith in
-          let not_now : (j : ℕ) → Gets x j → ⊥ = λ j other. ⊎_elim (λ (e : j ≡ k). ne (ap (last_state (planned_view b) (plan_view b p)) (sym e) ∙ other.ends)) (λ z. z) (alone j other) in
-          let alive : IsKept m r registers (Some x) ty (q.registers x) =
-          sees.alive k x (record { operation = t.operation; listed = t.listed; register = t.register; past = less; used = omega arith })
-          in
-          let same : alive.held ≡ place.0 = (let h = alive.listed in let i = place.1 in cc) in
-          let stays : next_number r after x ≡ r.signal alive.held.register =
-          chain
-          ∙ last_of-all_false (test x) (λ j. kept_number r (held_width (slice_get registers.kept x)) (slice_get values j)) (next_number r before x) (length values)
-          (λ j lt hit. not_now j (gets x j (slice_get values j) refl hit))
-          ∙ place.3 ∙ ap (λ (z : Held). r.signal z.register) (sym same)
-          in
-          let rest = after_is.kept x (λ j low ends name. not_now j (record { small = low; ends = ends; register = name })) in (
-            ap (λ n. n % 2 ^ width_of ty) stays ∙ alive.shows ∙ ap (residue_of (width_of ty)) (sym rest),
-            subst (λ (z : ℤ). HasType ty z) (sym rest) alive.typed,
-          )
+      abbrev test : ℕ → ℕ → Bool
+      test x j = keeps_in (slice_get values j) true q.state x
 
-      pub kept_next : (next_number r after x % 2 ^ width_of (value_type globals code t.operation) ≡ residue_of (width_of (value_type globals code t.operation)) (registers_after x))
-          × HasType (value_type globals code t.operation) (registers_after x)
-      kept_next = ⊎_elim now before_now (same_or_not (last_state (planned_view b) (plan_view b p) k) q.state)
+      -- an operation whose value register x gets now
+      record Gets (x j : ℕ) : Type 0 where
+        small : j < size (planned_view b)
+        ends : last_state (planned_view b) (plan_view b p) j ≡ q.state
+        register : (plan_view b p).register j ≡ Some x
+
+      gets : (x j : ℕ) (v : Option Given) → slice_get values j ≡ v → keeps_in v true q.state x ≡ true → Gets x j
+      gets x j None e hit = absurd cc
+      gets x j (Some v) e hit =
+          let t = operation_of j v e in
+          let ends = left_true (nat_eq q.state v.last) (is_register v.register x) hit in
+          let name = right_true (nat_eq q.state v.last) (is_register v.register x) hit in
+          record {
+            small = within_view b.operations j t.operation t.listed;
+            ends = sym (is_same q.state v.last ends ∙ t.shown.last right);
+            register = sym t.shown.register ∙ named v.register x name;
+          }
+
+      module _ (registers_after : ℕ → ℤ) (after_is : RegistersAfter (planned_view b) (plan_view b p) q wire registers_after) (room : HasRoom globals code registers b p m r before) (next : Slot)
+          (at : next.state ≡ suc q.state) (k x : ℕ) (t : IsAlive b p next k x) where
+        small : k < size (planned_view b)
+        small = within_view b.operations k t.operation t.listed
+
+        chain : next_number r after x
+            ≡ last_of (test x) (λ j. kept_number r (held_width (slice_get registers.kept x)) (slice_get values j)) (next_number r before x) (length values)
+        chain =
+            let place = room.room k x t.operation t.listed t.register in
+            let count = room.count in
+            let inside = within_list registers.kept x place.0 place.1 in
+            kept.shows m r true q.state x g o moment can (omega arith) count
+
+        -- no other value gets the register
+        alone : (j : ℕ) → Gets x j → j ≡ k ⊎ ⊥
+        alone j other = ⊎_elim (λ e. inl e) (λ ne. inr (clash ne)) (same_or_not j k)
+          where
+            clash : j ≢ k → ⊥
+            clash ne =
+                let ends = other.ends in
+                let short = right.keeps.short j x other.small other.register in
+                let mine = right.keeps.short k x small t.register in
+                let used = t.used in
+                let past = t.past in
+                ⊎_elim (λ h. omega arith) (λ h. omega arith) (right.keeps.apart j k x other.small small ne other.register t.register)
+
+        now : last_state (planned_view b) (plan_view b p) k ≡ q.state
+            → (next_number r after x % 2 ^ width_of (value_type globals code t.operation) ≡ residue_of (width_of (value_type globals code t.operation)) (registers_after x))
+            × HasType (value_type globals code t.operation) (registers_after x)
+        now e =
+            let place = room.room k x t.operation t.listed t.register in
+            let found = first.each k t.operation (within_list b.operations k t.operation t.listed) t.listed in
+            let v : Given = found.0 in
+            let is : IsShown globals code registers b p s1 k t.operation v = found.2 in
+            let ty = value_type globals code t.operation in
+            let word = is.shows bank m r q wire right earlier o sees wired e in
+            let ends : nat_eq q.state v.last ≡ true = same_is q.state v.last (sym (is.last right ∙ e)) in
+            let name : is_register v.register x ≡ true = ap (λ (z : Option ℕ). is_register z x) (is.register ∙ t.register) ∙ same_is x x refl in
+            let hit : test x k ≡ true = ap (λ (z : Option Given). keeps_in z true q.state x) found.1 ∙ and_two (nat_eq q.state v.last) (is_register v.register x) ends name in
+            let below : k < length values = subst (λ (n : ℕ). k < n) (sym first.count) (within_list b.operations k t.operation t.listed) in
+            let one : (j : ℕ) → j < length values → test x j ≡ true → j ≡ k = λ j less h. ⊎_elim (λ s. s) (λ z. absurd z) (alone j (gets x j (slice_get values j) refl h)) in
+            let w = held_width (slice_get registers.kept x) in
+            let wide : w ≡ place.0.width = ap held_width place.1 in
+            let le : v.word.width ≤ w = subst (λ (n : ℕ). n ≤ w) (sym is.says) (subst (λ (n : ℕ). width_of ty ≤ n) (sym wide) place.2) in
+            let number : next_number r after x ≡ residue_of (width_of ty) (wire k) =
+            chain ∙ last_of-one (test x) (λ j. kept_number r w (slice_get values j)) (next_number r before x) (length values) k below hit one
+            ∙ ap (kept_number r w) found.1 ∙ widened (nat_lt w v.word.width) v.word.width w (r.signal v.word.place) le refl ∙ word.shows
+            in (
+              ap (λ n. n % 2 ^ width_of ty) number ∙ mod-eq_of_lt (residue_of-below (width_of ty) (wire k)) ∙ ap (residue_of (width_of ty)) (sym (after_is.written k x small e t.register)),
+              subst (λ (z : ℤ). HasType ty z) (sym (after_is.written k x small e t.register)) word.typed,
+            )
+
+        before_now : last_state (planned_view b) (plan_view b p) k ≢ q.state
+            → (next_number r after x % 2 ^ width_of (value_type globals code t.operation) ≡ residue_of (width_of (value_type globals code t.operation)) (registers_after x))
+            × HasType (value_type globals code t.operation) (registers_after x)
+        before_now ne =
+            let place = room.room k x t.operation t.listed t.register in
+            let ty = value_type globals code t.operation in
+            let past = t.past in
+            let used = t.used in
+            let less : last_state (planned_view b) (plan_view b p) k < q.state = omega arith in
+            let not_now : (j : ℕ) → Gets x j → ⊥ = λ j other. ⊎_elim (λ (e : j ≡ k). ne (ap (last_state (planned_view b) (plan_view b p)) (sym e) ∙ other.ends)) (λ z. z) (alone j other) in
+            let alive : IsKept m r registers (Some x) ty (q.registers x) =
+            sees.alive k x (record { operation = t.operation; listed = t.listed; register = t.register; past = less; used = omega arith })
+            in
+            let same : alive.held ≡ place.0 = (let h = alive.listed in let i = place.1 in cc) in
+            let stays : next_number r after x ≡ r.signal alive.held.register =
+            chain
+            ∙ last_of-all_false (test x) (λ j. kept_number r (held_width (slice_get registers.kept x)) (slice_get values j)) (next_number r before x) (length values)
+            (λ j lt hit. not_now j (gets x j (slice_get values j) refl hit))
+            ∙ place.3 ∙ ap (λ (z : Held). r.signal z.register) (sym same)
+            in
+            let rest = after_is.kept x (λ j low ends name. not_now j (record { small = low; ends = ends; register = name })) in (
+              ap (λ n. n % 2 ^ width_of ty) stays ∙ alive.shows ∙ ap (residue_of (width_of ty)) (sym rest),
+              subst (λ (z : ℤ). HasType ty z) (sym rest) alive.typed,
+            )
+
+        pub kept_next : (next_number r after x % 2 ^ width_of (value_type globals code t.operation) ≡ residue_of (width_of (value_type globals code t.operation)) (registers_after x))
+            × HasType (value_type globals code t.operation) (registers_after x)
+        kept_next = ⊎_elim now before_now (same_or_not (last_state (planned_view b) (plan_view b p) k) q.state)
 
   pub block_keeps : KeepsBlock globals code registers b p s0 s2 before after end_at values
   block_keeps = record {
     shown = first_grown globals code registers b p s0 s1 s2 (length b.operations) values first kept.grows;
     count = kept.count;
     rests = kept.rests;
-    keeps = λ bank m r q wire right g o moment sees wired within registers_after after_is room next at k x t.
-        kept_next bank m r q wire right g o moment sees wired within registers_after after_is room next at k x t;
+    keeps = λ bank m r q wire right g o moment sees wired registers_after after_is room next at k x t.
+        kept_next bank m r q wire right g o moment sees wired registers_after after_is room next at k x t;
   }
 
 -- a block whose end is left, and whose registers keep values
@@ -250,14 +250,19 @@ block_leaves globals code registers l b p old middle new before after kept kept_
       grows = grows_then old middle new ends.shown.grows keeps.grows;
       count = ends.count;
       kept_count = keeps.count;
+      shown = block.shown;
+      bit = bit;
+      moment = λ m r q g o inside. subst (λ (n : ℕ). IsMoment m r registers left.end.at n true q.state) (sym ends.states) (moment m r q g o inside);
+      bit_wide = λ m g. ends.told.wide m (back m g);
+      states = ends.states;
       wide = λ m g. ends.wide m (back m g);
       rests = λ m r g o has ne. ends.rests m r (back m g) o has ne;
       kept_rests = λ m r x g o has ne less.
           let off : r.signal left.end.at ≡ 0 = bit m r g o has ∙ ap bit_of (other_is (r.signal registers.stage.register) l ne) in
           keeps.rests m r x g o (ends.told.wide m (back m g)) off less;
-      moves = λ bank m r q wire right g o inside sees wired within. (
-        ends.moves bank m r q wire right (back m g) o inside sees wired within,
-        block.keeps bank m r q wire right g o (moment m r q g o inside) sees wired within,
+      moves = λ bank m r q wire right g o inside sees wired. (
+        ends.moves bank m r q wire right (back m g) o inside sees wired,
+        block.keeps bank m r q wire right g o (moment m r q g o inside) sees wired,
       );
     }
   where

@@ -32,12 +32,11 @@ use Rattle.block_datapath.specs.declared.registers.Registers.{Registers}
 use Rattle.block_datapath.specs.declared.operands.Given.{Given}
 use Rattle.thread_promise.specs.Types.{value_type, IsTypedSource, IsTypedOperand, IsTypedOperation}
 use Rattle.block_datapath.specs.Seen.{IsKept, IsValue, SeesSource}
-use Rattle.thread_promise.specs.Slots.{IsWithin, AreWithin}
-use Rattle.block_datapath.specs.Operations.{seen_value, operation_value, SeesOperands, GivesOperation, IsLocal, SeesSlot, IsRight, IsShown, ShowsFirst}
+use Rattle.block_datapath.specs.Operations.{seen_value, operation_value, SeesOperands, GivesOperation, IsSized, IsLocal, SeesSlot, IsRight, IsShown, ShowsFirst}
 
 -- ---- the view of a list of operations
 
-listed_view : (os : List Operation) (k : ℕ) (o : Operation) → slice_get os k ≡ Some o → slice_index_or (operations_view os) k no_operation ≡ operation_view o
+pub listed_view : (os : List Operation) (k : ℕ) (o : Operation) → slice_get os k ≡ Some o → slice_index_or (operations_view os) k no_operation ≡ operation_view o
 listed_view [] k o e = absurd cc
 listed_view (x ∷ os) zero o e = let same : x ≡ o = cc in ap operation_view same
 listed_view (x ∷ os) (suc k) o e = listed_view os k o e
@@ -89,7 +88,7 @@ module _ (globals : List IntegerType) (code : ThreadCode) (registers : Registers
   module _ (right : IsRight globals code registers b p) (new : List Signal) (values : List Given) (n : ℕ)
       (shown : (k : ℕ) (o : Operation) → k < n → slice_get b.operations k ≡ Some o → (given : Given) × (slice_get values k ≡ Some given) × IsShown globals code registers b p new k o given)
       (bank : Location → ℕ) (m : Module) (r : Reading) (q : Slot) (wire : ℕ → ℤ) (grows : Grows new m.signals) (obeys : Obeys m r) (sees : SeesSlot globals code registers b p m r q)
-      (wired : IsWired bank (planned_view b) (plan_view b p) q wire) (within : AreWithin globals code b p q wire) where
+      (wired : IsWired bank (planned_view b) (plan_view b p) q wire) where
     now_here : (j : ℕ) → last_state (planned_view b) (plan_view b p) j ≡ q.state → value_now (planned_view b) (plan_view b p) q wire j ≡ wire j
     now_here j e =
         ap (λ (c : Bool). if c then wire j else register_value q.registers ((plan_view b p).register j)) (same_is (last_state (planned_view b) (plan_view b p) j) q.state e)
@@ -113,7 +112,7 @@ module _ (globals : List IntegerType) (code : ThreadCode) (registers : Registers
             sign = is.sign;
             here = λ e.
                 let last : last_state (planned_view b) (plan_view b p) j ≡ q.state = sym (is.last right) ∙ e ∙ at in
-                subst (λ (z : ℤ). IsWord m r given.word (value_type globals code o) z) (sym (now_here j last)) (is.shows bank m r q wire right grows obeys sees wired within last);
+                subst (λ (z : ℤ). IsWord m r given.word (value_type globals code o) z) (sym (now_here j last)) (is.shows bank m r q wire right grows obeys sees wired last);
             later = λ ne.
                 let other : last_state (planned_view b) (plan_view b p) j ≢ q.state = λ e. ne (is.last right ∙ e ∙ sym at) in
                 let less : last_state (planned_view b) (plan_view b p) j < q.state = omega arith in
@@ -139,16 +138,16 @@ module _ (globals : List IntegerType) (code : ThreadCode) (registers : Registers
         subst (λ (t : IntegerType). IsValue m r registers values state j t (value_now (planned_view b) (plan_view b p) q wire j)) typed.2
         (value_here j typed.0 state early typed.1 at (omega arith) (omega arith))
 
-    operand_here : (operand : Operand) (state : ℕ) → n < size (planned_view b) → state ≡ q.state → (plan_view b p).start n ≤ q.state → q.state ≤ last_state (planned_view b) (plan_view b p) n
+    pub operand_here : (operand : Operand) (state : ℕ) → n < size (planned_view b) → state ≡ q.state → (plan_view b p).start n ≤ q.state → q.state ≤ last_state (planned_view b) (plan_view b p) n
         → IsTypedOperand globals code b.operations operand → ((j : ℕ) → UsesIn (operand_view operand) j → Uses (operation_at (planned_view b) n) j)
         → SeesSource m r registers code.variables values state q.variables (value_now (planned_view b) (plan_view b p) q wire) operand.source
     operand_here operand state lt at from to typed uses =
         source_here operand.source state lt at from to typed (λ j ty e. uses j (uses_source operand j ty e))
 
-    left_used : (o : Operation) (j : ℕ) → slice_get b.operations n ≡ Some o → UsesIn (operation_view o).left j → Uses (operation_at (planned_view b) n) j
+    pub left_used : (o : Operation) (j : ℕ) → slice_get b.operations n ≡ Some o → UsesIn (operation_view o).left j → Uses (operation_at (planned_view b) n) j
     left_used o j listed u = subst (λ (z : PlannedOperation). Uses z j) (sym (listed_view b.operations n o listed)) (inl u)
 
-    right_used : (o : Operation) (j : ℕ) → slice_get b.operations n ≡ Some o → UsesIn (operation_view o).right j → Uses (operation_at (planned_view b) n) j
+    pub right_used : (o : Operation) (j : ℕ) → slice_get b.operations n ≡ Some o → UsesIn (operation_view o).right j → Uses (operation_at (planned_view b) n) j
     right_used o j listed u = subst (λ (z : PlannedOperation). Uses z j) (sym (listed_view b.operations n o listed)) (inr u)
 
     operands_here : (o : Operation) (start last : ℕ) → slice_get b.operations n ≡ Some o → IsTypedOperation globals code b.operations o → n < size (planned_view b) → last ≡ q.state
@@ -162,9 +161,9 @@ module _ (globals : List IntegerType) (code : ThreadCode) (registers : Registers
     )
     operands_here (ReadGlobal x i) start last listed typed lt at first from to = tt
     operands_here (WriteGlobal x i a) start last listed typed lt at first from to = tt
-    operands_here (ReadArray x i) start last listed typed lt at first from to =
-        operand_here i start lt (first refl) from to typed (λ j u. left_used (ReadArray x i) j listed u)
-    operands_here (WriteArray x i a) start last listed typed lt at first from to = tt
+    operands_here (ReadArray x count i) start last listed typed lt at first from to =
+        operand_here i start lt (first refl) from to typed.0 (λ j u. left_used (ReadArray x count i) j listed u)
+    operands_here (WriteArray x count i a) start last listed typed lt at first from to = tt
 
     -- what the wire of operation n has
     gives : (o : Operation) → IsLocal o → result_of bank (operation_view o).kind q.words q.arrays (operand_now (planned_view b) (plan_view b p) q wire (operation_view o).left)
@@ -173,8 +172,8 @@ module _ (globals : List IntegerType) (code : ThreadCode) (registers : Registers
     gives (Binary operator ty a c) local = binary_gives bank operator _ q.words q.arrays _ _
     gives (ReadGlobal x i) local = absurd local
     gives (WriteGlobal x i a) local = absurd local
-    gives (ReadArray x i) local = refl
-    gives (WriteArray x i a) local = refl
+    gives (ReadArray x count i) local = refl
+    gives (WriteArray x count i a) local = refl
 
     wire_is : (o : Operation) → slice_get b.operations n ≡ Some o → n < size (planned_view b) → last_state (planned_view b) (plan_view b p) n ≡ q.state
         → wire n ≡ operation_value q.variables (value_now (planned_view b) (plan_view b p) q wire) q.arrays o
@@ -185,14 +184,13 @@ module _ (globals : List IntegerType) (code : ThreadCode) (registers : Registers
         (listed_view b.operations n o listed)
         ∙ gives o (right.locals n o listed)
 
-    within_here : (o : Operation) → slice_get b.operations n ≡ Some o → (further_states (operation_view o).kind ≡ 0 → (plan_view b p).start n ≡ q.state)
-        → IsWithin globals code (seen_value q.variables (value_now (planned_view b) (plan_view b p) q wire)) o
-    within_here (Unary operator ty a) listed first = tt
-    within_here (Binary operator ty a c) listed first = tt
-    within_here (ReadGlobal x i) listed first = tt
-    within_here (WriteGlobal x i a) listed first = tt
-    within_here (ReadArray x i) listed first = within n (ReadArray x i) listed (first refl)
-    within_here (WriteArray x i a) listed first = within n (WriteArray x i a) listed (first refl)
+    sized_here : (o : Operation) → IsTypedOperation globals code b.operations o → IsSized code o
+    sized_here (Unary operator ty a) typed = tt
+    sized_here (Binary operator ty a c) typed = tt
+    sized_here (ReadGlobal x i) typed = tt
+    sized_here (WriteGlobal x i a) typed = tt
+    sized_here (ReadArray x count i) typed = typed.1
+    sized_here (WriteArray x count i a) typed = typed.2
 
   -- ---- one more operation
 
@@ -238,18 +236,18 @@ module _ (globals : List IntegerType) (code : ThreadCode) (registers : Registers
         sign = next.sign;
         last = last;
         register = next.register;
-        shows = λ bank m r q wire right g obeys sees wired within at.
+        shows = λ bank m r q wire right g obeys sees wired at.
             let before_it = grows_then old new m.signals next.shows.grows g in
             let same = further_is n o listed in
             let first_state : further_states (operation_view o).kind ≡ 0 → (plan_view b p).start n ≡ q.state = λ z. omega arith in
             let from : (plan_view b p).start n ≤ q.state = omega arith in
             let shown = next.shows.shows m r q.variables (value_now (planned_view b) (plan_view b p) q wire) q.arrays g obeys sees.arrays
-            (operands_here right old values n before.each bank m r q wire before_it obeys sees wired within o (slice_index p.starts n) given.last listed (right.typed.operations n o listed) lt
+            (operands_here right old values n before.each bank m r q wire before_it obeys sees wired o (slice_index p.starts n) given.last listed (right.typed.operations n o listed) lt
             (last right ∙ at) first_state from (omega arith))
-            (within_here right old values n before.each bank m r q wire before_it obeys sees wired within o listed first_state)
+            (sized_here right old values n before.each bank m r q wire before_it obeys sees wired o (right.typed.operations n o listed))
             in
             subst (λ (z : ℤ). IsWord m r given.word (value_type globals code o) z)
-            (sym (wire_is right old values n before.each bank m r q wire before_it obeys sees wired within o listed lt at)) shown;
+            (sym (wire_is right old values n before.each bank m r q wire before_it obeys sees wired o listed lt at)) shown;
       }
 
   pub first_none : (a : List Signal) → ShowsFirst globals code registers b p a a 0 []

@@ -20,7 +20,7 @@ use Rattle.block_datapath.specs.declared.operands.Given.{Given}
 use Rattle.block_ir.specs.declared.block.Operation.{Operation}
 use Rattle.block_datapath.specs.declared.registers.Held.{Held}
 use Rattle.thread_promise.specs.Types.{value_type}
-use Rattle.thread_promise.specs.Slots.{IsAlive, AreWithin}
+use Rattle.thread_promise.specs.Slots.{IsAlive}
 use Rattle.block_datapath.specs.Operations.{SeesSlot, IsRight, ShowsFirst}
 use Rattle.block_datapath.specs.Chains.{next_number, TellsStage, IsMoment, KeepsNone}
 
@@ -48,7 +48,7 @@ module _ (globals : List IntegerType) (code : ThreadCode) (registers : Registers
     pub rests : KeepsNone new end_at before after
     pub keeps : (bank : Location → ℕ) (m : Module) (r : Reading) (q : Slot) (wire : ℕ → ℤ) → IsRight globals code registers b p → Grows new m.signals → Obeys m r →
         IsMoment m r registers end_at (max 1 p.states) true q.state → SeesSlot globals code registers b p m r q → IsWired bank (planned_view b) (plan_view b p) q wire →
-        AreWithin globals code b p q wire → KeepsSo m r q wire before after
+        KeepsSo m r q wire before after
 
 -- ---- the block at stage l
 
@@ -93,17 +93,23 @@ module _ (globals : List IntegerType) (code : ThreadCode) (registers : Registers
       pub wide : (m : Module) → Grows new m.signals → width m left.last ≡ 1
       pub rests : (m : Module) (r : Reading) → Grows new m.signals → Obeys m r → HasStage registers l m r → r.signal registers.stage.register ≢ l → RestsSo r
       pub moves : (bank : Location → ℕ) (m : Module) (r : Reading) (q : Slot) (wire : ℕ → ℤ) → IsRight globals code registers b p → Grows new m.signals → Obeys m r → IsInStage m r q →
-          SeesSlot globals code registers b p m r q → IsWired bank (planned_view b) (plan_view b p) q wire → AreWithin globals code b p q wire → FinishesSo m r q wire
+          SeesSlot globals code registers b p m r q → IsWired bank (planned_view b) (plan_view b p) q wire → FinishesSo m r q wire
 
     -- A BLOCK AT A STAGE: the same, of the registers for values too
     pub record LeavesBlock (kept kept_after : List ℕ) (old new : List Signal) : Type 0 where
       pub grows : Grows old new
       pub count : length after ≡ length before
       pub kept_count : length kept_after ≡ length kept
+      -- the values of its operations, the bit of its stage, and the moment that a state of it is
+      pub shown : ShowsFirst globals code registers b p old new (length b.operations) left.values
+      pub bit : (m : Module) (r : Reading) → Grows new m.signals → Obeys m r → HasStage registers l m r → r.signal left.end.at ≡ bit_of (nat_eq (r.signal registers.stage.register) l)
+      pub moment : (m : Module) (r : Reading) (q : Slot) → Grows new m.signals → Obeys m r → IsInStage m r q → IsMoment m r registers left.end.at left.end.states true q.state
+      pub bit_wide : (m : Module) → Grows new m.signals → width m left.end.at ≡ 1
+      pub states : left.end.states ≡ max 1 p.states
       pub wide : (m : Module) → Grows new m.signals → width m left.last ≡ 1
       pub rests : (m : Module) (r : Reading) → Grows new m.signals → Obeys m r → HasStage registers l m r → r.signal registers.stage.register ≢ l → RestsSo r
       pub kept_rests : (m : Module) (r : Reading) (x : ℕ) → Grows new m.signals → Obeys m r → HasStage registers l m r → r.signal registers.stage.register ≢ l → x < length kept →
           next_number r kept_after x ≡ next_number r kept x
       pub moves : (bank : Location → ℕ) (m : Module) (r : Reading) (q : Slot) (wire : ℕ → ℤ) → IsRight globals code registers b p → Grows new m.signals → Obeys m r → IsInStage m r q →
-          SeesSlot globals code registers b p m r q → IsWired bank (planned_view b) (plan_view b p) q wire → AreWithin globals code b p q wire →
+          SeesSlot globals code registers b p m r q → IsWired bank (planned_view b) (plan_view b p) q wire →
           FinishesSo m r q wire × KeepsSo globals code registers b p m r q wire kept kept_after

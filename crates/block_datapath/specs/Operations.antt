@@ -1,9 +1,10 @@
 -- What the operations of a block give, and what their words show.
-use Rattle.std.specs.Prelude.{◌≡◌, ℕ, ◌<◌, ◌+◌, ◌^◌, List, length, Some, slice_get, slice_index, ℤ, pos}
+use Rattle.std.specs.Prelude.{◌≡◌, ℕ, ◌<◌, ◌≤◌, ◌+◌, ◌^◌, List, length, Some, slice_get, slice_index, ℤ, pos, negsuc}
 use Rattle.interleaving.specs.Memory.{Location, Memory}
 use Rattle.hls_ints.specs.Residues.{residue_of}
 use Rattle.hls_ints.specs.Types.{IntegerType, HasType, width_of}
 use Rattle.block_ir.specs.Arithmetic.{unary_total, binary_total}
+use Rattle.block_ir.specs.Run.{place_read}
 use Rattle.block_ir.specs.declared.operand.Operand.{Operand}
 use Rattle.block_ir.specs.declared.block.Operation.{Operation}
 use Rattle.block_ir.specs.declared.block.Operation.TheVariants.{Unary, Binary, ReadGlobal, WriteGlobal, ReadArray, WriteArray}
@@ -11,7 +12,7 @@ use Rattle.block_ir.specs.declared.block.Block.{Block}
 use Rattle.block_ir.specs.declared.code.Array.{Array}
 use Rattle.block_ir.specs.declared.code.ThreadCode.{ThreadCode}
 use Rattle.block_ir.specs.declared.plan.BlockPlan.{BlockPlan}
-use Rattle.planned_block.specs.Block.{operand_value, element}
+use Rattle.planned_block.specs.Block.{operand_value}
 use Rattle.planned_block.specs.Plan.{last_state, further_states, KeepsOrders}
 use Rattle.planned_block.specs.Slot.{Slot, IsWired}
 use Rattle.planned_view.specs.View.{operand_view, operation_view, planned_view, plan_view, register_at}
@@ -25,9 +26,9 @@ use Rattle.operator_wires.specs.Gives.{Grows}
 use Rattle.operator_wires.specs.Words.{IsWord}
 use Rattle.block_datapath.specs.declared.registers.Registers.{Registers}
 use Rattle.block_datapath.specs.declared.operands.Given.{Given}
-use Rattle.thread_promise.specs.Types.{value_type, IsTypedBlock}
+use Rattle.thread_promise.specs.Types.{value_type, IsOfLength, IsTypedBlock}
 use Rattle.block_datapath.specs.Seen.{IsVariable, IsKept, SeesSource}
-use Rattle.thread_promise.specs.Slots.{element_at, IsAlive, IsWithin, AreWithin}
+use Rattle.thread_promise.specs.Slots.{element_at, IsAlive}
 
 -- the value of an operand, where the variables and the values of operations are these
 abbrev pub seen_value : (ℕ → ℤ) → (ℕ → ℤ) → Operand → ℤ
@@ -39,14 +40,17 @@ operation_value variables given arrays (Unary operator ty a) = unary_total opera
 operation_value variables given arrays (Binary operator ty a b) = binary_total operator ty (seen_value variables given a) (seen_value variables given b)
 operation_value variables given arrays (ReadGlobal x i) = pos 0
 operation_value variables given arrays (WriteGlobal x i a) = pos 0
-operation_value variables given arrays (ReadArray x i) = arrays (element x (seen_value variables given i))
-operation_value variables given arrays (WriteArray x i a) = pos 0
+operation_value variables given arrays (ReadArray x n i) = arrays (element_at x (place_read n (seen_value variables given i)))
+operation_value variables given arrays (WriteArray x n i a) = pos 0
 
--- the memories of a module are the arrays of the code, and show these elements
+-- the memories of a module are the arrays of the code, and show these elements; the place past the end of an array holds 0
 pub record HasArrays (code : ThreadCode) (m : Module) (r : Reading) (arrays : Memory ℤ) : Type 0 where
   pub declared : (a : ℕ) (array : Array) → slice_get code.arrays a ≡ Some array → (s : Words) × (slice_get m.memories a ≡ Some s) × (length s.initial ≡ array.length)
   pub words : (a i : ℕ) (array : Array) → slice_get code.arrays a ≡ Some array → i < array.length → r.word a i ≡ residue_of (width_of array.ty) (arrays (element_at a i))
   pub typed : (a i : ℕ) (array : Array) → slice_get code.arrays a ≡ Some array → i < array.length → HasType array.ty (arrays (element_at a i))
+  pub outside : (a : ℕ) (array : Array) → slice_get code.arrays a ≡ Some array → arrays (element_at a array.length) ≡ pos 0
+  -- so few that no negative index is a number of a word
+  pub few : (a : ℕ) (array : Array) → slice_get code.arrays a ≡ Some array → array.length < 2 ^ 31
 
 -- the operands that an operation's value needs can be seen: of an operator in its last state, of an access in its first one
 module _ (m : Module) (r : Reading) (registers : Registers) (code : ThreadCode) (values : List Given) (start last : ℕ) (variables given : ℕ → ℤ) where
@@ -58,25 +62,40 @@ module _ (m : Module) (r : Reading) (registers : Registers) (code : ThreadCode) 
   SeesOperands (Binary operator ty a b) = Sees last a × Sees last b
   SeesOperands (ReadGlobal x i) = Unit {0}
   SeesOperands (WriteGlobal x i a) = Unit {0}
-  SeesOperands (ReadArray x i) = Sees start i
-  SeesOperands (WriteArray x i a) = Unit {0}
+  SeesOperands (ReadArray x n i) = Sees start i
+  SeesOperands (WriteArray x n i a) = Unit {0}
+
+-- an index of none of n elements
+abbrev pub IsOutside : ℕ → ℤ → Type 0
+IsOutside n (pos i) = n ≤ i
+IsOutside n (negsuc i) = Unit {0}
+
+-- an access of an array says its length
+abbrev pub IsSized : ThreadCode → Operation → Type 0
+IsSized code (Unary operator ty a) = Unit {0}
+IsSized code (Binary operator ty a b) = Unit {0}
+IsSized code (ReadGlobal x i) = Unit {0}
+IsSized code (WriteGlobal x i a) = Unit {0}
+IsSized code (ReadArray x n i) = IsOfLength code x n
+IsSized code (WriteArray x n i a) = IsOfLength code x n
 
 module _ (old new : List Signal) where
-  -- the address of an element, where the index is one
+  -- the address of an index: its own number where it is one of so many, and else none of their numbers
   pub record Addresses (index : Word) (size place : ℕ) : Type 0 where
     pub grows : Grows old new
-    pub shows : (m : Module) (r : Reading) (ty : IntegerType) (i : ℕ) → Grows new m.signals → Obeys m r → IsWord m r index ty (pos i) → i < size → r.signal place ≡ i
+    pub inside : (m : Module) (r : Reading) (ty : IntegerType) (i : ℕ) → Grows new m.signals → Obeys m r → IsWord m r index ty (pos i) → i < size → r.signal place ≡ i
+    pub outside : (m : Module) (r : Reading) (ty : IntegerType) (v : ℤ) → Grows new m.signals → Obeys m r → IsWord m r index ty v → size < 2 ^ 31 → IsOutside size v → size ≤ r.signal place
 
   pub record ReadsArray (code : ThreadCode) (a : ℕ) (index out : Word) : Type 0 where
     pub grows : Grows old new
-    pub shows : (m : Module) (r : Reading) (ty : IntegerType) (i : ℕ) (array : Array) (arrays : Memory ℤ) → Grows new m.signals → Obeys m r → HasArrays code m r arrays →
-        slice_get code.arrays a ≡ Some array → i < array.length → IsWord m r index ty (pos i) → IsWord m r out array.ty (arrays (element_at a i))
+    pub shows : (m : Module) (r : Reading) (ty : IntegerType) (v : ℤ) (array : Array) (arrays : Memory ℤ) → Grows new m.signals → Obeys m r → HasArrays code m r arrays →
+        slice_get code.arrays a ≡ Some array → IsWord m r index ty v → IsWord m r out array.ty (arrays (element_at a (place_read array.length v)))
 
   -- THE WORD OF AN OPERATION shows what it gives, in each reading in which its operands can be seen
   pub record ShowsOperation (globals : List IntegerType) (code : ThreadCode) (registers : Registers) (values : List Given) (start last : ℕ) (operation : Operation) (out : Word) : Type 0 where
     pub grows : Grows old new
     pub shows : (m : Module) (r : Reading) (variables given : ℕ → ℤ) (arrays : Memory ℤ) → Grows new m.signals → Obeys m r → HasArrays code m r arrays →
-        SeesOperands m r registers code values start last variables given operation → IsWithin globals code (seen_value variables given) operation →
+        SeesOperands m r registers code values start last variables given operation → IsSized code operation →
         IsWord m r out (value_type globals code operation) (operation_value variables given arrays operation)
 
   -- the same of what is kept of it
@@ -95,8 +114,8 @@ IsLocal (Unary operator ty a) = Unit {0}
 IsLocal (Binary operator ty a b) = Unit {0}
 IsLocal (ReadGlobal x i) = ⊥
 IsLocal (WriteGlobal x i a) = ⊥
-IsLocal (ReadArray x i) = Unit {0}
-IsLocal (WriteArray x i a) = Unit {0}
+IsLocal (ReadArray x n i) = Unit {0}
+IsLocal (WriteArray x n i a) = Unit {0}
 
 module _ (globals : List IntegerType) (code : ThreadCode) (registers : Registers) (b : Block) (p : BlockPlan) where
   -- a reading shows a slot in this block
@@ -119,7 +138,7 @@ module _ (globals : List IntegerType) (code : ThreadCode) (registers : Registers
     pub last : IsRight → given.last ≡ last_state (planned_view b) (plan_view b p) k
     pub register : given.register ≡ (plan_view b p).register k
     pub shows : (bank : Location → ℕ) (m : Module) (r : Reading) (q : Slot) (wire : ℕ → ℤ) → IsRight → Grows new m.signals → Obeys m r → SeesSlot m r q →
-        IsWired bank (planned_view b) (plan_view b p) q wire → AreWithin globals code b p q wire → last_state (planned_view b) (plan_view b p) k ≡ q.state →
+        IsWired bank (planned_view b) (plan_view b p) q wire → last_state (planned_view b) (plan_view b p) k ≡ q.state →
         IsWord m r given.word (value_type globals code o) (wire k)
 
   -- THE VALUES OF THE FIRST n OPERATIONS, one after the other

@@ -27,7 +27,7 @@
 //
 // Beside what is shown (`shows`) each function promises how it is put together (`wired`): what it adds is wires, each of
 // which reads earlier signals of right widths, and none of the first ones, the inputs; and the words, bits and last links
-// that it answers stand, as wide as they say. Of a code with arrays nothing is said there.
+// that it answers stand, as wide as they say. There the memories are the arrays of the code.
 //
 // Of accesses past an array's end nothing is said: a step of the source that makes one is undefined. Arrays that are
 // written are not spoken of yet.

@@ -1,8 +1,8 @@
 // The values of the operations of a block.
 
-ghost use Rattle.std.specs.Prelude.{◌≡◌, ◌≤◌, ◌^◌, ℕ, ℤ, slice_get, slice_index, length, List, IfOk, IsTrue};
-ghost use Rattle.operator_words.specs.Shown.{truth_type, unary_result, binary_result};
-ghost use Rattle.block_datapath.specs.Wired.{IsSourced, IsBareSourced, IsBareConstant, AreGiven};
+ghost use Rattle.std.specs.Prelude.{◌≡◌, ◌<◌, ◌≤◌, ◌-◌, ◌^◌, ℕ, ℤ, slice_get, slice_index, length, List, IfOk, IsTrue};
+ghost use Rattle.operator_words.specs.Shown.{unary_result, binary_result};
+ghost use Rattle.block_datapath.specs.Wired.{IsSourced, IsOperationWord, IsElementWord, IsAddress, AreGiven};
 ghost use Rattle.hls_ints.specs.Types.{IntegerType};
 ghost use Rattle.planned_view.specs.View.{register_at};
 ghost use Rattle.thread_promise.specs.Types.{value_type, or_int, element_type};
@@ -99,7 +99,7 @@ fn given_value(
     operation: &Operation,
 ) -> Result<Given, AllocError>
     ensures shows { IfOk result (GivesOperation wires.old.signals wires.new.signals globals.now code.now registers.now values.now plan.now number operation.now) }
-    ensures wired { IfOk result (λ given. IsBareSourced wires.old.signals wires.new.signals code.now registers.now values.now (value_type globals.now code.now operation.now) given.word) }
+    ensures wired { IfOk result (λ given. IsOperationWord wires.old.signals wires.new.signals code.now registers.now values.now (value_type globals.now code.now operation.now) given.word) }
 {
     let start = start_of(plan, number);
     let last = start.saturating_add(further_states(operation));
@@ -114,7 +114,8 @@ fn given_value(
     })
 }
 
-fn start_of(plan: &BlockPlan, number: usize) -> u64
+/// The state in which an operation starts.
+pub fn start_of(plan: &BlockPlan, number: usize) -> u64
     ensures { result ≡ slice_index plan.now.starts number }
 {
     start_at(plan.starts.as_slice(), number)
@@ -155,7 +156,7 @@ fn operation_word(
     operation: &Operation,
 ) -> Result<Word, AllocError>
     ensures shows { IfOk result (ShowsOperation wires.old.signals wires.new.signals globals.now code.now registers.now values.now start last operation.now) }
-    ensures wired { IfOk result (IsBareSourced wires.old.signals wires.new.signals code.now registers.now values.now (value_type globals.now code.now operation.now)) }
+    ensures wired { IfOk result (IsOperationWord wires.old.signals wires.new.signals code.now registers.now values.now (value_type globals.now code.now operation.now)) }
 {
     match operation {
         Operation::Unary {
@@ -173,7 +174,7 @@ fn operation_word(
         } => binary_value(
             wires, registers, code, values, last, *operator, *ty, left, right,
         ),
-        Operation::ReadArray { array, index } => {
+        Operation::ReadArray { array, index, .. } => {
             element_value(
                 wires,
                 registers,
@@ -243,9 +244,9 @@ fn element_value(
     array: usize,
     index: &Operand,
 ) -> Result<Word, AllocError>
-    ensures shows { IfOk result (λ out. (globals : List IntegerType) (last : ℕ) → ShowsOperation wires.old.signals wires.new.signals globals code.now registers.now values.now start last
-        (operation.ReadArray array index.now) out) }
-    ensures wired { IfOk result (IsBareSourced wires.old.signals wires.new.signals code.now registers.now values.now truth_type) }
+    ensures shows { IfOk result (λ out. (globals : List IntegerType) (last n : ℕ) → ShowsOperation wires.old.signals wires.new.signals globals code.now registers.now values.now start last
+        (operation.ReadArray array n index.now) out) }
+    ensures wired { IfOk result (IsOperationWord wires.old.signals wires.new.signals code.now registers.now values.now (element_type (slice_get code.now.arrays array))) }
 {
     let types = code.variables.as_slice();
     let word = operand_word(wires, registers, types, values, index, start)?;
@@ -259,7 +260,7 @@ fn read_array(
     index: Word,
 ) -> Result<Word, AllocError>
     ensures shows { IfOk result (ReadsArray wires.old.signals wires.new.signals code.now array index) }
-    ensures wired { IfOk result (IsBareConstant wires.old.signals wires.new.signals code.now) }
+    ensures wired { IfOk result (IsElementWord wires.old.signals wires.new.signals code.now array index) }
 {
     let Some(own) = array_at(code.arrays.as_slice(), array) else {
         return wires.constant_word(CType::INT, 0);
@@ -275,7 +276,8 @@ fn read_array(
 
 /// An index, wide enough for the number of words of a memory.
 pub fn address(wires: &mut Wires, index: Word, length: u64) -> Result<usize, AllocError>
-    ensures { IfOk result (Addresses wires.old.signals wires.new.signals index length) }
+    ensures shows { IfOk result (Addresses wires.old.signals wires.new.signals index length) }
+    ensures wired { IfOk result (IsAddress wires.old.signals wires.new.signals index length) }
 {
     if is_wide_enough(index.width, length) {
         Ok(index.place)
@@ -285,7 +287,8 @@ pub fn address(wires: &mut Wires, index: Word, length: u64) -> Result<usize, All
 }
 
 fn is_wide_enough(width: u64, length: u64) -> bool
-    ensures { IsTrue result → length ≤ 2 ^ width }
+    ensures room { IsTrue result → length < 2 ^ width }
+    ensures half { IsTrue result → length < 2 ^ 31 → length ≤ 2 ^ (width - 1) }
 {
     match width {
         64 => true,

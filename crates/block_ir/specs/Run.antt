@@ -1,5 +1,5 @@
 -- What a run of a block does: the values of its operations, its reads and writes in order, and what it leaves.
-use Rattle.std.specs.Prelude.{ℕ, ◌&&◌, nat_eq, if◌then◌else◌, List, [], ◌∷◌, ◌++◌, ℤ, pos, negsuc, Option, Some, None, slice_get}
+use Rattle.std.specs.Prelude.{ℕ, suc, ◌&&◌, nat_eq, nat_lt, if◌then◌else◌, List, [], ◌∷◌, ◌++◌, ℤ, pos, negsuc, Option, Some, None, slice_get}
 use Rattle.hls_ints.specs.Types.{IntegerType, wrapped}
 use Rattle.hls_ints.specs.Operators.{is_zero}
 use Rattle.block_ir.specs.Arithmetic.{unary_total, binary_total}
@@ -40,6 +40,16 @@ abbrev pub index_of : ℤ → ℕ
 index_of (pos j) = j
 index_of (negsuc j) = 0
 
+-- Beyond its n elements an array has two places more. An index outside the array reads the first of them, which nothing writes,
+-- and writes the second one, which nothing reads.
+abbrev pub place_read : ℕ → ℤ → ℕ
+place_read n (pos j) = if nat_lt j n then j else n
+place_read n (negsuc j) = n
+
+abbrev pub place_written : ℕ → ℤ → ℕ
+place_written n (pos j) = if nat_lt j n then j else suc n
+place_written n (negsuc j) = suc n
+
 abbrev pub converted : List IntegerType → ℤ → ℤ
 converted [] v = v
 converted (ty ∷ types) v = converted types (wrapped ty v)
@@ -72,10 +82,10 @@ module _ (variables : ℕ → ℤ) where
     globals = with_cell x (index_of (operand_value r.values i)) (operand_value r.values a) r.globals;
     accesses = r.accesses ++ Write x (index_of (operand_value r.values i)) (operand_value r.values a) ∷ [];
   }
-  operation_run (ReadArray x i) r = with_value (r.arrays x (index_of (operand_value r.values i))) r
-  operation_run (WriteArray x i a) r = record {
+  operation_run (ReadArray x n i) r = with_value (r.arrays x (place_read n (operand_value r.values i))) r
+  operation_run (WriteArray x n i a) r = record {
     values = r.values ++ pos 0 ∷ [];
-    arrays = with_cell x (index_of (operand_value r.values i)) (operand_value r.values a) r.arrays;
+    arrays = with_cell x (place_written n (operand_value r.values i)) (operand_value r.values a) r.arrays;
     globals = r.globals;
     accesses = r.accesses;
   }

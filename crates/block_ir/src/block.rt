@@ -8,7 +8,8 @@ use sqlite_items::Items;
 /// An operation: an operator, or an access of a global or of a local array.
 ///
 /// An operator converts its operands to the type in which it works, but for the count of a shift. Operations are total:
-/// where C leaves a step undefined they give what the hardware gives.
+/// where C leaves a step undefined they give what the hardware gives. So an access of a local array says how many elements
+/// the array has.
 #[derive(Drop)]
 pub enum Operation {
     Unary {
@@ -33,10 +34,12 @@ pub enum Operation {
     },
     ReadArray {
         array: u32,
+        length: u64,
         index: Operand,
     },
     WriteArray {
         array: u32,
+        length: u64,
         index: Operand,
         value: Operand,
     },

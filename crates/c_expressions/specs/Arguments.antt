@@ -1,7 +1,6 @@
 -- Arguments by the form that a call has at their place (C99 6.5.2.2, POSIX pthread.h).
-use Rattle.std.specs.Prelude.{ℕ, Bool, true, false, ◌&&◌, ◌||◌, not, is_none, if◌then◌else◌, List, [], ◌∷◌, slice_get, Option, Some, None, option_map, pos}
+use Rattle.std.specs.Prelude.{ℕ, Bool, true, false, not, is_none, if◌then◌else◌, List, slice_get, Option, Some, None, option_map, pos}
 use Rattle.hls_ints.specs.Types.{long_int}
-use Rattle.c_tree.specs.declared.expression.Name.{Name}
 use Rattle.c_tree.specs.declared.expression.Form.{Form as FormTree, out-Form}
 use Rattle.c_tree.specs.declared.expression.Expression.{Expression as ExpressionTree, out-Expression}
 use Rattle.c_tree.specs.declared.expression.Term.{Term as TermTree}

@@ -1,5 +1,5 @@
 -- The rules on a name that is called (C99 6.5.2.2).
-use Rattle.std.specs.Prelude.{ℕ, Bool, true, ◌||◌, ◌&&◌, not, nat_eq, is_none, List, length, slice_get, Option, Some, None}
+use Rattle.std.specs.Prelude.{ℕ, Bool, true, ◌||◌, ◌&&◌, not, nat_eq, is_none, length, slice_get, Option, Some, None}
 use Rattle.c_tree.specs.declared.expression.Name.{Name}
 use Rattle.c_rules.specs.declared.fault.Rule.TheVariants as rule
 use Rattle.c_rules.specs.declared.library.LibraryFunction.{LibraryFunction}

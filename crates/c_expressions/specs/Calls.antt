@@ -1,6 +1,5 @@
 -- Calls of functions of the text, of printf and of POSIX threads, as statements and as right sides (C99 6.5.2.2).
-use Rattle.std.specs.Prelude.{ℕ, Bool, true, false, ◌&&◌, not, nat_eq, nat_le, is_some, is_none, if◌then◌else◌, List, [], ◌∷◌, length, count_by, Option, Some, None}
-use Rattle.c_tree.specs.declared.expression.Name.{Name}
+use Rattle.std.specs.Prelude.{ℕ, Bool, true, false, ◌&&◌, not, nat_eq, nat_le, List, [], ◌∷◌, length, count_by, Option, Some, None}
 use Rattle.c_tree.specs.declared.expression.Form.{out-Form}
 use Rattle.c_tree.specs.declared.expression.Expression.{Expression as ExpressionTree, out-Expression}
 use Rattle.c_tree.specs.declared.expression.Call.{Call as CallTree, out-Call}

@@ -1,7 +1,7 @@
 -- What expressions and conditions stand for, and the rules that they break (C99 6.5).
-use Rattle.std.specs.Prelude.{ℕ, Bool, true, false, ◌&&◌, ◌||◌, if◌then◌else◌, is_some, List, [], ◌∷◌, map, length, Option, Some, None, option_map, pos}
+use Rattle.std.specs.Prelude.{ℕ, Bool, true, false, ◌&&◌, if◌then◌else◌, is_some, List, map, length, Option, Some, None, option_map, pos}
 use Rattle.std.specs.List.{list_all}
-use Rattle.hls_ints.specs.Types.{IntegerType, int_type, long_int, promoted}
+use Rattle.hls_ints.specs.Types.{int_type, long_int, promoted}
 use Rattle.c_token.specs.declared.constant.Constant.{Constant}
 use Rattle.c_tree.specs.declared.expression.UnaryOperator.{UnaryOperator}
 use Rattle.c_tree.specs.declared.expression.UnaryOperator.TheVariants as u

@@ -1,7 +1,7 @@
 // Expressions and conditions (C99 6.5).
 
 ghost use Rattle.std.specs.Prelude.{◌≡◌, map, option_map, IfOk};
-ghost use Rattle.c_program.specs.Plain.{expression_of, condition_of};
+ghost use Rattle.c_program.specs.Plain.{expression_of};
 ghost use Rattle.c_program.specs.Types.{working_type as working_type_of};
 ghost use Rattle.c_tree.specs.declared.expression.Term.{out-Term};
 ghost use Rattle.c_rules.specs.Walks.{Outcome, Walks};

@@ -11,7 +11,8 @@ drop_nothing : (k : ℕ) → drop {A = ℤ} k [] ≡ []
 drop_nothing zero = refl
 drop_nothing (suc k) = refl
 
-pub fresh_next : (ls : List LocalVariable) (vs : List ℤ) (k : ℕ) (l : LocalVariable) → l ≡ get_or ls k l → k < length ls → fresh_locals (drop k ls) (drop k vs) ≡ fresh_row l (slice_get vs k) ∷ fresh_locals (drop (suc k) ls) (drop (suc k) vs)
+pub fresh_next : (ls : List LocalVariable) (vs : List ℤ) (k : ℕ) (l : LocalVariable) → l ≡ get_or ls k l → k < length ls →
+    fresh_locals (drop k ls) (drop k vs) ≡ fresh_row l (slice_get vs k) ∷ fresh_locals (drop (suc k) ls) (drop (suc k) vs)
 fresh_next [] vs k l e h = absurd (omega arith)
 fresh_next (m ∷ ls) [] zero l e h = ap (λ x. fresh_row x (slice_get [] zero) ∷ fresh_locals ls []) (sym e)
 fresh_next (m ∷ ls) (v ∷ vs) zero l e h = ap (λ x. fresh_row x (slice_get (v ∷ vs) zero) ∷ fresh_locals ls vs) (sym e)
@@ -23,7 +24,9 @@ rows_more : (rows : List (Vec (Option ℤ) Global)) (row : Vec (Option ℤ) Glob
 rows_more [] row = refl
 rows_more (r ∷ rs) row = ap (λ l. r.items ∷ l) (rows_more rs row)
 
-pub fresh_more : (ls : List LocalVariable) (vs : List ℤ) (k : ℕ) (l : LocalVariable) (rows : List (Vec (Option ℤ) Global)) (row : Vec (Option ℤ) Global) → l ≡ get_or ls k l → k < length ls → row.items ≡ fresh_row l (slice_get vs k) → fresh_locals ls vs ≡ rows_of rows ++ fresh_locals (drop k ls) (drop k vs) → fresh_locals ls vs ≡ rows_of (rows ++ row ∷ []) ++ fresh_locals (drop (suc k) ls) (drop (suc k) vs)
+pub fresh_more : (ls : List LocalVariable) (vs : List ℤ) (k : ℕ) (l : LocalVariable) (rows : List (Vec (Option ℤ) Global)) (row : Vec (Option ℤ) Global) → l ≡ get_or ls k l →
+    k < length ls → row.items ≡ fresh_row l (slice_get vs k) → fresh_locals ls vs ≡ rows_of rows ++ fresh_locals (drop k ls) (drop k vs) →
+    fresh_locals ls vs ≡ rows_of (rows ++ row ∷ []) ++ fresh_locals (drop (suc k) ls) (drop (suc k) vs)
 fresh_more ls vs k l rows row is there made before =
     let rest = fresh_locals (drop (suc k) ls) (drop (suc k) vs) in
     before

@@ -16,13 +16,15 @@ rows_set [] x new = refl
 rows_set (r ∷ rs) zero new = refl
 rows_set (r ∷ rs) (suc x) new = ap (λ l. r.items ∷ l) (rows_set rs x new)
 
-pub put_row : {A : Type 0} (rows : List (Vec A Global)) (x j : ℕ) (v : A) (row new : Vec A Global) → x < length rows → row ≡ get_or rows x row → new.items ≡ slice_set row.items j v → rows_of (slice_set rows x new) ≡ with_element (rows_of rows) x j v
+pub put_row : {A : Type 0} (rows : List (Vec A Global)) (x j : ℕ) (v : A) (row new : Vec A Global) → x < length rows → row ≡ get_or rows x row →
+    new.items ≡ slice_set row.items j v → rows_of (slice_set rows x new) ≡ with_element (rows_of rows) x j v
 put_row rows x j v row new h e is =
     rows_set rows x new
     ∙ ap (slice_set (rows_of rows) x) is
     ∙ sym (ap (λ o. with_row (rows_of rows) x o j v) (row_seen rows x row h e))
 
-pub blank_at : (rows : List (Vec (Option ℤ) Global)) (x : ℕ) (row new : Vec (Option ℤ) Global) → x < length rows → row ≡ get_or rows x row → new.items ≡ replicate (length row.items) None → rows_of (slice_set rows x new) ≡ without_values (rows_of rows) x
+pub blank_at : (rows : List (Vec (Option ℤ) Global)) (x : ℕ) (row new : Vec (Option ℤ) Global) → x < length rows → row ≡ get_or rows x row →
+    new.items ≡ replicate (length row.items) None → rows_of (slice_set rows x new) ≡ without_values (rows_of rows) x
 blank_at rows x row new h e is =
     rows_set rows x new
     ∙ ap (slice_set (rows_of rows) x) is

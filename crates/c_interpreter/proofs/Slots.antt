@@ -27,7 +27,8 @@ module _ (slots : List SlotCode) (k : ℕ) (old new : SlotCode) (there : k < len
   slot_is before seen =
       let q : Some (slot_of old) ≡ Some before = sym (seen_at slot_of slots k old there is) ∙ seen in cc
 
-  pub slot_put : (before after : Slot) → slice_get (map slot_of slots) k ≡ Some before → (slot_of old ≡ before → slot_of new ≡ after) → map slot_of (slice_set slots k new) ≡ slice_set (map slot_of slots) k after
+  pub slot_put : (before after : Slot) → slice_get (map slot_of slots) k ≡ Some before → (slot_of old ≡ before → slot_of new ≡ after) →
+      map slot_of (slice_set slots k new) ≡ slice_set (map slot_of slots) k after
   slot_put before after seen f =
       map-slice_set slot_of slots k new ∙ ap (slice_set (map slot_of slots) k) (f (slot_is before seen))
 

@@ -17,7 +17,8 @@ moved-erased P s i (Acts offset act operands frames) = refl
 moved-erased P s i (Ends offset reads) = refl
 moved-erased P s i (Faults offset cause) = refl
 
-pub step_runs : (P : Program) (s : State) (i : ℕ) (frames : List Frame) → slice_get s.slots i ≡ Some (Running frames) → list_any (is_waiter i) s.barriers ≡ false → step P s i ≡ moved P s i (move P s.globals frames)
+pub step_runs : (P : Program) (s : State) (i : ℕ) (frames : List Frame) → slice_get s.slots i ≡ Some (Running frames) → list_any (is_waiter i) s.barriers ≡ false →
+    step P s i ≡ moved P s i (move P s.globals frames)
 step_runs P s i frames running calm = rw (running, calm) refl
 
 pub step_planned : (P : Program) (s : State) (i : ℕ) (plan : Plan) (p : IsPlan P s i plan) → moved P s i (plan_of P plan p.call p.callers) ≡ step P s i
@@ -30,7 +31,8 @@ pub no_caller : (P : Program) (vs : List ℤ) (f : Frame) (fs : List Frame) → 
 no_caller P vs f [] h = refl
 no_caller P vs f (g ∷ gs) h = absurd h
 
-pub return_resumes : (P : Program) (s new : State) (i offset : ℕ) (vs : List ℤ) (f : Frame) (fs : List Frame) (rest : Rest) → Resumes P vs f fs (Some rest) → ((g : Frame) (gs : List Frame) → fs ≡ g ∷ gs → new ≡ with_slot s i (Running (rest_frame rest g ∷ gs))) → Steps new ≡ moved P s i (erased (returned P offset vs [] f fs))
+pub return_resumes : (P : Program) (s new : State) (i offset : ℕ) (vs : List ℤ) (f : Frame) (fs : List Frame) (rest : Rest) → Resumes P vs f fs (Some rest) →
+    ((g : Frame) (gs : List Frame) → fs ≡ g ∷ gs → new ≡ with_slot s i (Running (rest_frame rest g ∷ gs))) → Steps new ≡ moved P s i (erased (returned P offset vs [] f fs))
 return_resumes P s new i offset vs f [] rest r h = absurd r
 return_resumes P s new i offset vs f (g ∷ gs) rest r h =
     ap Steps (h g gs refl ∙ ap (λ x. with_slot s i (Running (x ∷ gs))) r)

@@ -26,7 +26,8 @@ and_steps-append P (x ∷ xs) (Steps t) s i e = and_steps-append P xs (step P t 
 and_steps-append P (x ∷ xs) (Blocks cause) s i e = cc
 and_steps-append P (x ∷ xs) (Undefines offset cause) s i e = cc
 
-module _ (P : Program) (list : List ℕ) (n : ℕ) (s t : State) (i : ℕ) (before : Takes P list n s) (running : s.ended ≡ false) (listed_here : slice_get list n ≡ Some i) (stepped : step P s i ≡ Steps t) where
+module _ (P : Program) (list : List ℕ) (n : ℕ) (s t : State) (i : ℕ) (before : Takes P list n s) (running : s.ended ≡ false) (listed_here : slice_get list n ≡ Some i)
+    (stepped : step P s i ≡ Steps t) where
   there : n < length list
   there = slice_get_within list n i listed_here
 

@@ -28,14 +28,14 @@ use Rattle.c_rules.specs.declared.names.Meaning.TheVariants as meaning
 use Rattle.c_rules.specs.declared.names.Scope.{Scope}
 use Rattle.c_rules.specs.Levels.{named_in, inserted}
 use Rattle.c_rules.specs.Library.{function_named}
-use Rattle.c_rules.specs.Names.{is_void_type, is_int, is_start_routine, opened, closed}
+use Rattle.c_rules.specs.Names.{is_int, is_start_routine, opened, closed}
 use Rattle.c_rules.specs.Specifiers.{c_type, is_void, plain, spelled_by}
 use Rattle.c_rules.specs.Walks.{Finds, pure, finds, finds_if, visited, place_in_tree, ◌>>=◌, ◌>>◌}
-use Rattle.c_types.specs.States.{State, Goes, finding, scoping}
+use Rattle.c_types.specs.States.{Goes, finding, scoping}
 use Rattle.c_types.specs.Locals.{new_local, refused_local, declare}
 use Rattle.c_types.specs.Statements.{items}
 use Rattle.c_types.specs.Globals.{text}
-use Rattle.c_types.specs.Files.{File, Declares, going, tabling, with_function}
+use Rattle.c_types.specs.Files.{Declares, going, tabling, with_function}
 
 -- ---- what a declaration says of its function
 

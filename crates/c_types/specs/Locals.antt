@@ -1,5 +1,5 @@
 -- Declarations in blocks (C99 6.7).
-use Rattle.std.specs.Prelude.{ℕ, zero, suc, Bool, true, false, min, if◌then◌else◌, List, [], ◌∷◌, ◌++◌, length, Option, Some, None, option_map, unwrap_or, pos, negsuc, ℤ}
+use Rattle.std.specs.Prelude.{ℕ, zero, suc, Bool, true, false, min, if◌then◌else◌, List, [], ◌∷◌, ◌++◌, length, Option, Some, None, unwrap_or, pos, negsuc, ℤ}
 use Rattle.c_tree.specs.declared.expression.Name.{Name}
 use Rattle.c_tree.specs.declared.expression.Expression.{Expression as ExpressionTree, out-Expression}
 use Rattle.c_tree.specs.declared.declaration.Declaration.{Declaration}

@@ -1,5 +1,5 @@
 -- Statements without statements in them (C99 6.8.3, 6.8.6, 6.5.16).
-use Rattle.std.specs.Prelude.{ℕ, nat_eq, Bool, true, false, not, ◌&&◌, if◌then◌else◌, List, Option, Some, None, pos}
+use Rattle.std.specs.Prelude.{ℕ, nat_eq, Bool, true, false, not, if◌then◌else◌, Option, Some, None, pos}
 use Rattle.hls_ints.specs.Types.{int_type}
 use Rattle.c_token.specs.declared.constant.Constant.{Constant}
 use Rattle.c_token.specs.declared.constant.Constant.TheVariants as constant
@@ -7,7 +7,6 @@ use Rattle.c_tree.specs.declared.expression.BinaryOperator.{BinaryOperator}
 use Rattle.c_tree.specs.declared.expression.Form.{out-Form}
 use Rattle.c_tree.specs.declared.expression.Expression.{Expression as ExpressionTree, out-Expression}
 use Rattle.c_tree.specs.declared.expression.Place.{Place as PlaceTree}
-use Rattle.c_tree.specs.declared.expression.Pointer.{Pointer as PointerTree}
 use Rattle.c_tree.specs.declared.expression.Argument.TheOpen.{Form-F}
 use Rattle.c_tree.specs.declared.statement.AssignmentOperator.{AssignmentOperator}
 use Rattle.c_tree.specs.declared.statement.AssignmentOperator.TheVariants as assignment

@@ -14,7 +14,7 @@ use Rattle.c_tree.specs.declared.statement.Statement.{Statement as StatementTree
 use Rattle.c_program.specs.Tree.{Expression, Condition, Statement}
 use Rattle.c_rules.specs.declared.names.Scope.{Scope}
 use Rattle.c_rules.specs.Names.{opened, closed}
-use Rattle.c_rules.specs.Walks.{Finds, pure, through, optional, ◌>>=◌, ◌>>◌}
+use Rattle.c_rules.specs.Walks.{Finds, pure, through, ◌>>=◌, ◌>>◌}
 use Rattle.c_expressions.specs.Expressions.{condition}
 use Rattle.c_types.specs.Simple.{simple, returned, check_jump}
 use Rattle.c_types.specs.Locals.{declaration}

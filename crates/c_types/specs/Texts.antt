@@ -8,11 +8,9 @@ use Rattle.c_rules.specs.declared.names.Header.{Header}
 use Rattle.c_rules.specs.declared.names.Meaning.{Meaning}
 use Rattle.c_rules.specs.declared.names.Meaning.TheVariants as meaning
 use Rattle.c_rules.specs.declared.names.Scope.{Scope}
-use Rattle.c_rules.specs.Findings.{nothing}
 use Rattle.c_rules.specs.Levels.{named_in, noted}
-use Rattle.c_rules.specs.Names.{empty_scope}
-use Rattle.c_rules.specs.Walks.{Outcome, visited}
-use Rattle.c_types.specs.Files.{File, Tables, Declares, file}
+use Rattle.c_rules.specs.Walks.{visited}
+use Rattle.c_types.specs.Files.{Declares}
 use Rattle.c_types.specs.Functions.{function}
 use Rattle.c_types.specs.Globals.{objects}
 

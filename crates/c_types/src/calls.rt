@@ -1,7 +1,7 @@
 // The rules on calls that only the whole text shows: none leads back to its caller, and what start routines reach neither
 // creates nor joins a thread.
 
-ghost use Rattle.std.specs.Prelude.{◌≡◌, map, fold, length, slice_get, IfOk};
+ghost use Rattle.std.specs.Prelude.{◌≡◌, map, fold, IfOk};
 ghost use Rattle.call_graph.specs.Reaching.{leads};
 ghost use Rattle.c_program.specs.Plain.{function_of};
 ghost use Rattle.c_program.specs.Resolved.{is_pointer as is_pointer_return};

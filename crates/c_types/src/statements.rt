@@ -1,8 +1,8 @@
 // Statements and blocks (C99 6.8).
 
-ghost use Rattle.std.specs.Prelude.{◌≡◌, [], ◌++◌, ◌∷◌, map, option_map, fold, IfOk};
+ghost use Rattle.std.specs.Prelude.{◌≡◌, map, option_map, IfOk};
 ghost use Rattle.c_program.specs.Plain.{condition_of, statement_of};
-ghost use Rattle.c_rules.specs.Walks.{Outcome, Walks};
+ghost use Rattle.c_rules.specs.Walks.{Walks};
 ghost use Rattle.c_types.specs.States.{state};
 ghost use Rattle.c_types.specs.Statements as spec;
 

@@ -1,6 +1,6 @@
 -- Marks and lists that grow.
 use Rattle.std.proofs.Common.{◌≡◌, refl, sym, ap, ◌∙◌, subst, inl, inr, ◌⊎◌, ℕ, zero, suc, ◌+◌, ◌<◌, ◌≤◌, Bool, true, false, List, [], ◌∷◌, ◌++◌, length, arith}
-use Rattle.std.specs.Prelude.{◌&&◌, not, nat_lt, Option, Some, None, slice_get, slice_set, unwrap_or, replicate, Contains}
+use Rattle.std.specs.Prelude.{Option, Some, None, slice_get, slice_set, unwrap_or, replicate, Contains}
 use Rattle.std.proofs.lemmas.Bool.{false≢true, cases_lt}
 use Rattle.std.proofs.lemmas.List.{length-append}
 use Rattle.std.proofs.lemmas.Option.{slice_get-get_or}

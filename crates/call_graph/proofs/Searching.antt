@@ -1,16 +1,16 @@
 -- What a search finds: all that calls lead to, and nothing else.
-use Rattle.std.proofs.Common.{◌≡◌, refl, sym, ap, ◌∙◌, subst, inl, inr, ℕ, zero, suc, ◌+◌, ◌<◌, ◌≤◌, Bool, true, false, List, [], ◌∷◌, ◌++◌, length, fold, arith}
-use Rattle.std.specs.Prelude.{◌&&◌, not, nat_lt, if◌then◌else◌, Option, Some, None, slice_get, unwrap_or, Contains}
+use Rattle.std.proofs.Common.{◌≡◌, refl, sym, ap, ◌∙◌, subst, inl, inr, ℕ, zero, suc, ◌+◌, ◌<◌, ◌≤◌, Bool, true, false, List, [], ◌∷◌, ◌++◌, length, arith}
+use Rattle.std.specs.Prelude.{not, nat_lt, if◌then◌else◌, Option, Some, None, slice_get, unwrap_or, Contains}
 use Rattle.std.specs.Bool.{Decides}
-use Rattle.std.proofs.lemmas.Bool.{false≢true, and_parts, and_cases, and_from, not-true, not-false, cases_Bool, cases_lt, ltb-true, ltb-false, lt-ltb}
+use Rattle.std.proofs.lemmas.Bool.{false≢true, and_parts, and_cases, not-true, not-false, cases_lt, ltb-true, lt-ltb}
 use Rattle.std.proofs.lemmas.Option.{slice_get_within, slice_get_past, get_or_from_slice_get}
 use Rattle.std.proofs.lemmas.List.{length-append, length-replicate}
 use Rattle.std.proofs.lemmas.List.Elements.{Contains-append_left, Contains-push}
 use Rattle.call_graph.specs.declared.table.Call.{Call}
 use Rattle.call_graph.specs.declared.search.Search.{Search}
-use Rattle.call_graph.specs.Graphs.{callees, table, row, has, is_new, with_mark, marking, following, following_one, turn, begun, turns, searched, marks_from, all_marks}
+use Rattle.call_graph.specs.Graphs.{callees, table, row, has, is_new, with_mark, marking, following, following_one, begun, turns, searched, marks_from, all_marks}
 use Rattle.call_graph.specs.Reaching.{Leads, Here, Further, leads, IsReach}
-use Rattle.call_graph.proofs.Marks.{none-some, some-some, some_at, at_front, at_end, at_Contains, has_inside, set_has, set_keeps, set_back, set_length, none_has, count, count_none, count_few, count_set, each_length, each_at}
+use Rattle.call_graph.proofs.Marks.{none-some, some-some, some_at, at_front, at_Contains, has_inside, set_has, set_keeps, set_back, set_length, none_has, count, count_none, count_few, count_set, each_length, each_at}
 
 Contains_at : (xs : List ℕ) (k x : ℕ) → slice_get xs k ≡ Some x → Contains xs x
 Contains_at xs k x is = (k, slice_get_within xs k x is, get_or_from_slice_get xs k x x is)

@@ -148,7 +148,8 @@ module _ (r : Running) (st : Stands r) (c : Choice) (fits : Fits r c) where
       (st.apart.word_room (place_of parts path) p m j k is.1 small)
       (λ o other there apart kind e. stores_miss (place_of parts path) o p other m kind j k is.1 (record { listed = there; kind = e }) small apart kind.actions) in
       let spotted : slice_index next.words (slice_index after.starts ((spot_at parts path).memories + j) + k) ≡ word_after (through path) m.actions j k ((through path).word j k) =
-      subst (λ (t : Spot). slice_index next.words (slice_index after.starts (t.memories + j) + k) ≡ word_after (reading t after) m.actions j k (slice_index after.words (slice_index after.starts (t.memories + j) + k)))
+      subst (λ (t : Spot). slice_index next.words (slice_index after.starts (t.memories + j) + k)
+      ≡ word_after (reading t after) m.actions j k (slice_index after.words (slice_index after.starts (t.memories + j) + k)))
       (sym is.2) own in
       ap (λ (o : Option Module). (next_at modules st.top o (through path)).word j k) at.stands ∙ sym spotted
 

@@ -48,14 +48,16 @@ input_en most name e = record { always = λ modules c f few. sym (if_true (bytes
 pub input_pref : (most : ℕ) (name : List ℕ) (j : ℕ) → bytes_eq name (codes "en") ≡ false → IsPrefOf name most (Some j) → IsInput most name (Preferred j)
 input_pref most name j e is = record {
   always = λ modules c f few.
-      sym (if_false (bytes_eq name (codes "en")) c.mask (pref_number name c.prefs 0) e ∙ first_pref name c.prefs 0 j (λ i l. subst (other name) (let z : i ≡ 0 + i = omega arith in z) (is.1 i l)) (subst (test name) (let z : j ≡ 0 + j = omega arith in z) is.0));
+      sym (if_false (bytes_eq name (codes "en")) c.mask (pref_number name c.prefs 0) e ∙ first_pref name c.prefs 0 j
+      (λ i l. subst (other name) (let z : i ≡ 0 + i = omega arith in z) (is.1 i l)) (subst (test name) (let z : j ≡ 0 + j = omega arith in z) is.0));
   plain = λ modules. refl;
 }
 
 pub input_zero : (most : ℕ) (name : List ℕ) → bytes_eq name (codes "en") ≡ false → IsPrefOf name most None → IsInput most name Zero
 input_zero most name e is = record {
   always = λ modules c f few.
-      sym (if_false (bytes_eq name (codes "en")) c.mask (pref_number name c.prefs 0) e ∙ no_pref name c.prefs 0 (λ i l. subst (other name) (let z : i ≡ 0 + i = omega arith in z) (is i (omega arith))));
+      sym (if_false (bytes_eq name (codes "en")) c.mask (pref_number name c.prefs 0) e ∙ no_pref name c.prefs 0
+      (λ i l. subst (other name) (let z : i ≡ 0 + i = omega arith in z) (is i (omega arith))));
   plain = λ modules. refl;
 }
 

@@ -98,7 +98,8 @@ module _ {modules : List Module} {t : Module} {parts : List Part} {numbers : Lis
       let p = f.part in
       let listed : slice_get (signals_of (slice_get modules p.module)) x ≡ Some s = ap (λ o. slice_get (signals_of o) x) f.is.kind ∙ at in
       let own = own_has parts p (signals_of (slice_get modules p.module)) x s feed listed g in
-      let here = takes_left (own_steps parts p 0 (signals_of (slice_get modules p.module))) (all_instances modules parts p 0 (instances_of (slice_get modules p.module))) (step (p.spot.base + x) feed) own in
+      let here = takes_left (own_steps parts p 0 (signals_of (slice_get modules p.module))) (all_instances modules parts p 0 (instances_of (slice_get modules p.module)))
+      (step (p.spot.base + x) feed) own in
       subst (λ (u : Spot). Takes wires (step (u.base + x) feed)) (sym (spot_is path m f))
       (taken (step (p.spot.base + x) feed) (parts_have modules parts parts (place_of parts path) p (step (p.spot.base + x) feed) f.is.listed here))
 
@@ -321,7 +322,8 @@ module _ {modules : List Module} {t : Module} {parts : List Part} {numbers : Lis
       let words_are : f.part.spot.base + x ≡ g.part.spot.base + y =
       ap (λ (z : Spot). z.base + x) (sym spot) ∙ e ∙ ap (λ (z : Spot). z.base + y) spot_there in
       let places : place_of parts path ≡ place_of parts other =
-      l.placed.signals (place_of parts path) (place_of parts other) f.part g.part m k x y f.is g.is (slice_get_within m.signals x s at.listed) (slice_get_within k.signals y u there.listed) words_are in
+      l.placed.signals (place_of parts path) (place_of parts other) f.part g.part m k x y f.is g.is (slice_get_within m.signals x s at.listed)
+      (slice_get_within k.signals y u there.listed) words_are in
       let paths : path ≡ other =
       one_path modules l.number l.kinds l.children t l.tree l.top_at path other m k at.stands there.stands (sym (place_same path) ∙ places ∙ place_same other) in
       let kinds : m ≡ k = (let z : Some m ≡ Some k = sym at.stands ∙ ap (module_at modules t) paths ∙ there.stands in cc) in

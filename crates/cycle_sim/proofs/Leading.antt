@@ -150,7 +150,8 @@ apart_more modules wires place apart k s before at here i u l there target = ⊎
     subst (λ (z : Step). EachOf (IsMarked apart) (reads modules z.feed)) same (here (ap (λ (z : Step). z.target) same ∙ target)))
     (below_next i k l)
 
-pub nowhere_more : (modules : List Module) (wires : List Step) (base k : ℕ) → LoopsNowhere modules wires base k → (Leads modules wires (base + k) (base + k) → ⊥) → LoopsNowhere modules wires base (k + 1)
+pub nowhere_more : (modules : List Module) (wires : List Step) (base k : ℕ) → LoopsNowhere modules wires base k → (Leads modules wires (base + k) (base + k) → ⊥) →
+    LoopsNowhere modules wires base (k + 1)
 nowhere_more modules wires base k before here x l d = ⊎_elim
     (λ less. before x less d)
     (λ e. here (subst (λ i. Leads modules wires (base + i) (base + i)) e d))

@@ -43,7 +43,8 @@ module _ {modules : List Module} {t : Module} {parts : List Part} {numbers : Lis
   no_register (Assigned v) e = absurd cc
   no_register (Port i port) e = absurd cc
 
-  listed_step : (path : Path) (m : Module) (x : ℕ) (s : Signal) → IsAt modules t path m x s → (IsRegister s.source → ⊥) → (w : Step) × Has steps w × GivesBy modules t parts prefs path x s.name s.source w
+  listed_step : (path : Path) (m : Module) (x : ℕ) (s : Signal) → IsAt modules t path m x s → (IsRegister s.source → ⊥) →
+      (w : Step) × Has steps w × GivesBy modules t parts prefs path x s.name s.source w
   listed_step path m x s at lacks =
       let h = has_step l path m x s at lacks in
       let there : Known (IsMarked free) steps (word_of parts path x) =
@@ -124,4 +125,8 @@ module _ {modules : List Module} {t : Module} {parts : List Part} {numbers : Lis
       }
 
   pub opened_stands : IsReady run
-  opened_stands = record { stands = record { top = t; is_top = l.is_top; right = l.right; free = free; plan = plan; apart = apart; state = state; done = done_is }; begins = begins; loopless = loopless modules t parts steps free prefs (length numbers) plan }
+  opened_stands = record {
+    stands = record { top = t; is_top = l.is_top; right = l.right; free = free; plan = plan; apart = apart; state = state; done = done_is };
+    begins = begins;
+    loopless = loopless modules t parts steps free prefs (length numbers) plan;
+  }

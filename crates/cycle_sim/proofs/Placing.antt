@@ -95,7 +95,8 @@ offset_apart (m ∷ ms) (suc j) (suc i) x y l k e = ap suc (offset_apart ms j i 
 -- ---- a new part
 
 module _ (modules : List Module) (kinds children : List ℕ) (parts : List Part) (numbers : List ℕ) (free : List Bool) (words starts : List ℕ)
-    (placed : IsPlaced modules kinds children parts numbers free words starts) (kind child : ℕ) (at_kind : slice_get kinds (length parts) ≡ Some kind) (at_child : child ≡ slice_index children (length parts)) where
+    (placed : IsPlaced modules kinds children parts numbers free words starts) (kind child : ℕ) (at_kind : slice_get kinds (length parts) ≡ Some kind)
+    (at_child : child ≡ slice_index children (length parts)) where
   abbrev part : Part
   part = record { «module» = kind; spot = record { base = length numbers; memories = length starts }; children = child }
 

@@ -346,7 +346,8 @@ module _ {modules : List Module} {t : Module} {parts : List Part} {numbers : Lis
             let c = r.1 in
             no_loop_before first.number first.first q there (omega (arith, less, a, b, c)) d)
             (λ same.
-            let words : Leads modules wires (word_of parts r.0 q.1) (word_of parts r.0 q.1) = subst (λ (z : Path). Leads modules wires (word_of parts z q.1) (word_of parts z q.1)) same.0 (leads_of d) in
+            let words : Leads modules wires (word_of parts r.0 q.1) (word_of parts r.0 q.1) = subst
+            (λ (z : Path). Leads modules wires (word_of parts z q.1) (word_of parts z q.1)) same.0 (leads_of d) in
             loops.first q.1 same.1 (subst (λ u. Leads modules wires (u.base + q.1) (u.base + q.1)) (sym spot) words))
             earlier;
       }

@@ -55,7 +55,8 @@ module _ (base : ℕ) (inputs : List ℕ) (child : ℕ) where
       takes_right (steps_to (child + k) (join_feed base inputs k t.source)) (join_steps base inputs child (k + 1) ss) (step (child + y) f)
       (join_from (k + 1) ss x s f y at (omega arith) g)
 
-  pub join_has : (ss : List Signal) (x : ℕ) (s : Signal) (f : Feed) → slice_get ss x ≡ Some s → join_feed base inputs x s.source ≡ f ∷ [] → Takes (join_steps base inputs child 0 ss) (step (child + x) f)
+  pub join_has : (ss : List Signal) (x : ℕ) (s : Signal) (f : Feed) → slice_get ss x ≡ Some s → join_feed base inputs x s.source ≡ f ∷ [] →
+      Takes (join_steps base inputs child 0 ss) (step (child + x) f)
   join_has ss x s f at g = join_from 0 ss x s f x at (omega arith) g
 
 module _ (modules : List Module) (parts : List Part) where
@@ -70,7 +71,8 @@ module _ (modules : List Module) (parts : List Part) where
   instances_from p k (m ∷ ns) (suc i) n j s at e t =
       takes_right (instance_steps modules parts p k m) (all_instances modules parts p (k + 1) ns) s (instances_from p (k + 1) ns i n j s at (omega arith) t)
 
-  pub instances_have : (p : Part) (ns : List Instance) (i : ℕ) (n : Instance) (s : Step) → slice_get ns i ≡ Some n → Takes (instance_steps modules parts p i n) s → Takes (all_instances modules parts p 0 ns) s
+  pub instances_have : (p : Part) (ns : List Instance) (i : ℕ) (n : Instance) (s : Step) → slice_get ns i ≡ Some n → Takes (instance_steps modules parts p i n) s →
+      Takes (all_instances modules parts p 0 ns) s
   instances_have p ns i n s at t = instances_from p 0 ns i n i s at (omega arith) t
 
   pub parts_have : (ps : List Part) (q : ℕ) (p : Part) (s : Step) → slice_get ps q ≡ Some p → Takes (part_steps modules parts p) s → Takes (all_steps modules parts ps) s

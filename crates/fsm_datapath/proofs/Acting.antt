@@ -19,7 +19,6 @@ use Rattle.operator_wires.specs.declared.words.Word.{Word}
 use Rattle.operator_wires.specs.Gives.{Grows, Gives}
 use Rattle.operator_wires.specs.Words.{IsWord, Holds, Becomes, Resizes, resized_word}
 use Rattle.operator_wires.proofs.Giving.{grows_refl, grows_then}
-use Rattle.operator_wires.proofs.Making.{of_ok}
 use Rattle.thread_promise.specs.Promise.{operand_of_act}
 use Rattle.block_datapath.specs.declared.registers.Registers.{Registers}
 use Rattle.block_datapath.specs.Seen.{ShowsVariable}
@@ -27,7 +26,7 @@ use Rattle.block_datapath.specs.Chains.{next_number, is_set, SetsNext, TellsStag
 use Rattle.block_datapath.proofs.Seeing.{own_word}
 use Rattle.fsm_datapath.specs.declared.shape.Printer.{Printer}
 use Rattle.fsm_datapath.specs.declared.chains.Chains.{Chains}
-use Rattle.operator_wires.specs.Built.{IsEarlier, AddsWord}
+use Rattle.operator_wires.specs.Built.{Base, IsEarlier, AddsWord}
 use Rattle.operator_wires.proofs.Building.{wires_none, room_of}
 use Rattle.block_ir.specs.declared.plan.StagePlan.{StagePlan}
 use Rattle.fsm_datapath.specs.Wired.{LinkFields, AreSlots, AreLinked, KeepsFields, KeepsLinks, StepIsWired}
@@ -41,22 +40,22 @@ use Rattle.fsm_datapath.proofs.Linking.{OffAt, off_then, off_grown, off_steps, s
 
 pub constant_act : {E : Type 0} (x : Result Word E) (a b : List Signal) (code : ThreadCode) (registers : Registers) (operand : ActOperand) (ty : IntegerType) (v z : ℤ) → (HasType ty v → z ≡ v)
     → operand ≡ act_operand.Constant ty v → IfOk x (Holds a b ty (wrapped ty z))
-    → IfOk x (λ out. (least : ℕ) → least ≤ length a → AddsWord least a b ty out) → IfOk x (ShowsActOperand code registers a b operand)
+    → IfOk x (λ out. (base : Base) → base.first ≤ length a → AddsWord base a b ty out) → IfOk x (ShowsActOperand code registers a b operand)
 constant_act x a b code registers operand ty v z same e made wired =
     subst (λ (s : ActOperand). IfOk x (ShowsActOperand code registers a b s)) (sym e)
-    (of_two x (Holds a b ty (wrapped ty z)) (λ out. (least : ℕ) → least ≤ length a → AddsWord least a b ty out) (ShowsActOperand code registers a b (act_operand.Constant ty v))
+    (of_two x (Holds a b ty (wrapped ty z)) (λ out. (base : Base) → base.first ≤ length a → AddsWord base a b ty out) (ShowsActOperand code registers a b (act_operand.Constant ty v))
     (λ out t u. record {
       grows = t.grows;
       shows = λ m r variables g o seen typed. own_word m r out ty v typed (subst (λ (k : ℤ). IsWord m r out ty (wrapped ty k)) (same typed) (t.shows m r g o));
-      wired = λ least slots. u least (room_of a least registers.stage.register registers.stage.width slots.stage);
+      wired = λ base slots. u base (room_of a base registers.stage.register registers.stage.width slots.stage);
     }) made wired)
 
 pub variable_act : {E : Type 0} (x : Result Word E) (a b : List Signal) (code : ThreadCode) (registers : Registers) (operand : ActOperand) (k : ℕ) (ty : IntegerType) (types : List IntegerType)
     → types ≡ code.variables → operand ≡ act_operand.Variable k ty → IfOk x (ShowsVariable a b registers types k ty)
-    → IfOk x (λ out. (least : ℕ) → AreSlots least a code registers → AddsWord least a b ty out) → IfOk x (ShowsActOperand code registers a b operand)
+    → IfOk x (λ out. (base : Base) → AreSlots base a code registers → AddsWord base a b ty out) → IfOk x (ShowsActOperand code registers a b operand)
 variable_act x a b code registers operand k ty types same e made wired =
     subst (λ (s : ActOperand). IfOk x (ShowsActOperand code registers a b s)) (sym e)
-    (of_two x (ShowsVariable a b registers code.variables k ty) (λ out. (least : ℕ) → AreSlots least a code registers → AddsWord least a b ty out)
+    (of_two x (ShowsVariable a b registers code.variables k ty) (λ out. (base : Base) → AreSlots base a code registers → AddsWord base a b ty out)
     (ShowsActOperand code registers a b (act_operand.Variable k ty))
     (λ out t u. record { grows = t.grows; shows = λ m r variables g o seen typed. t.shows m r (variables k) g o (seen k ty typed); wired = u })
     (subst (λ (z : List IntegerType). IfOk x (ShowsVariable a b registers z k ty)) same made) wired)
@@ -85,9 +84,10 @@ module _ (a b : List Signal) (before after : List ℕ) (number condition source 
       ∙ ap (λ c. if c && is_set r condition then r.signal source else next_number r before x) (same_is x number same)
       ∙ ap (λ n. if not (nat_eq n 0) then r.signal source else next_number r before x) hit
 
-pub site_asked : (a b c d : List Signal) (at : ℕ) (before after : List ℕ) (site_width site number whole source : ℕ) → number ≡ site → Gives a b whole 32 (λ m r. number) → Resizes b c whole 32 site_width false source
+pub site_asked : (a b c d : List Signal) (at : ℕ) (before after : List ℕ) (site_width site number whole source : ℕ) → number ≡ site → Gives a b whole 32 (λ m r. number) →
+    Resizes b c whole 32 site_width false source
     → SetsNext c d before after 0 at source
-    → ((least : ℕ) → IsEarlier a least at 1 → 1 ≤ site_width → site_width ≤ 64 → LinkFields least a site_width before → KeepsFields least a d site_width after)
+    → ((base : Base) → IsEarlier a base at 1 → 1 ≤ site_width → site_width ≤ 64 → LinkFields base a site_width before → KeepsFields base a d site_width after)
     → AsksSite a d at before after site_width site
 site_asked a b c d at before after site_width site number whole source same t u v wired = record {
   wired = wired;
@@ -102,7 +102,7 @@ site_asked a b c d at before after site_width site number whole source same t u 
 
 pub value_asked : (a b c d : List Signal) (code : ThreadCode) (registers : Registers) (at : ℕ) (before after : List ℕ) (j number : ℕ) (v : ActOperand) (word wide : Word)
     → number ≡ suc j → ShowsActOperand code registers a b v word → Becomes b c word long_int (wrapped long_int) wide → SetsNext c d before after number at wide.place
-    → ((least site_width : ℕ) → AreSlots least a code registers → IsEarlier a least at 1 → LinkFields least a site_width before → KeepsFields least a d site_width after)
+    → ((base : Base) (site_width : ℕ) → AreSlots base a code registers → IsEarlier a base at 1 → LinkFields base a site_width before → KeepsFields base a d site_width after)
     → AsksValue code registers a d at before after j v
 value_asked a b c d code registers at before after j number v word wide e t u w wired = record {
   wired = wired;
@@ -124,7 +124,7 @@ values_none a code registers at before values = record {
   rests = λ m r x g o unset less. refl;
   first = λ m r g o some. refl;
   asks = λ m r variables j v g o hit seen below. absurd (omega arith);
-  wired = λ least site_width slots bit linked. record { wires = wires_none least a; linked = linked };
+  wired = λ base site_width slots bit linked. record { wires = wires_none base a; linked = linked };
 }
 
 pub values_more : (a b c : List Signal) (code : ThreadCode) (registers : Registers) (at : ℕ) (before middle after : List ℕ) (values : List ActOperand) (n : ℕ) (v : ActOperand)
@@ -204,7 +204,7 @@ asks_off a b code registers printer at site values before after t = record {
 -- ---- stages
 
 pub idle_made : (a b c : List Signal) (registers : Registers) (l at : ℕ) (before after : Chains) → TellsStage a b registers l at → WaitsAt b c before after at
-    → ((least site_width : ℕ) (code : ThreadCode) → AreLinked least a code registers site_width before → l ≤ length code.stages → KeepsLinks least a c code registers site_width after)
+    → ((base : Base) (site_width : ℕ) (code : ThreadCode) → AreLinked base a code registers site_width before → l ≤ length code.stages → KeepsLinks base a c code registers site_width after)
     → Idles registers l a c before after
 idle_made a b c registers l at before after told t wired = record {
   wired = wired;
@@ -232,7 +232,7 @@ end_made a b c code registers l at before after same told t bit waits =
 
 pub return_made : (a b c d : List Signal) (code : ThreadCode) (registers : Registers) (l at to target : ℕ) (before after : Chains) → to ≡ length code.stages → TellsStage a b registers l at
     → Gives b c target registers.stage.width (λ m r. min to (length code.stages)) → LeadsTo c d before after at target
-    → ((least site_width : ℕ) → AreLinked least a code registers site_width before → l ≤ length code.stages → KeepsLinks least a d code registers site_width after)
+    → ((base : Base) (site_width : ℕ) → AreLinked base a code registers site_width before → l ≤ length code.stages → KeepsLinks base a d code registers site_width after)
     → TakesReturn code registers l a d before after
 return_made a b c d code registers l at to target before after same told u t wired = record {
   wired = wired;
@@ -305,5 +305,5 @@ pub print_idle : (a b : List Signal) (code : ThreadCode) (registers : Registers)
 print_idle a b code registers printer l site values next before after none t = record {
   step = t.step;
   prints = λ bits known same. absurd cc;
-  wired = λ plan le least site_width known fits linked. t.wired least site_width code linked le;
+  wired = λ plan le base site_width known fits linked. t.wired base site_width code linked le;
 }

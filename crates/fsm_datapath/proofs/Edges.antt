@@ -153,6 +153,19 @@ module _ (r : Reading) (registers : Registers) (c : Chains) (stores : List Store
       ∙ set_word r edge.leave registers.state.register edge.state j k _
       ∙ set_word r edge.leave registers.stage.register c.stage j k old
 
+  -- the words of memories are those that the stores leave
+  pub edge_stores : (j k old : ℕ) → word_after r (actions_of registers c stores edge) j k old ≡ word_after r (map (store_action edge.leave) stores) j k old
+  edge_stores j k old =
+      word-append r (firsts ++ sets_variables ++ sets_kept) (map (store_action edge.leave) stores) j k old
+      ∙ ap (word_after r (map (store_action edge.leave) stores) j k)
+      (word-append r (firsts ++ sets_variables) sets_kept j k old
+      ∙ sets-word r edge.leave c.kept 0 registers.kept j k _
+      ∙ word-append r firsts sets_variables j k old
+      ∙ sets-word r edge.leave c.variables 0 registers.variables j k _
+      ∙ set_word r edge.leave registers.beat edge.beat j k _
+      ∙ set_word r edge.leave registers.state.register edge.state j k _
+      ∙ set_word r edge.leave registers.stage.register c.stage j k old)
+
   module _ (base : ℕ) (stage_at : registers.stage.register ≡ base) (state_at : registers.state.register ≡ base + 1) (beat_at : registers.beat ≡ base + 2)
       (variables_at : (i : ℕ) (h : Held) → slice_get registers.variables i ≡ Some h → h.register ≡ base + 3 + i)
       (kept_at : (i : ℕ) (h : Held) → slice_get registers.kept i ≡ Some h → h.register ≡ base + 3 + length registers.variables + i) (on : r.signal edge.leave ≡ 1) where

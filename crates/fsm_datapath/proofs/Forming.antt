@@ -1,56 +1,55 @@
 -- The module of a thread is checked by how it is made: its signals are graded, and stand at the places of their kinds.
-use Rattle.std.proofs.Common.{◌≡◌, ◌≢◌, ℕ, zero, suc, ◌+◌, ◌-◌, ◌<◌, ◌≤◌, ◌^◌, Bool, true, false, nat_eq, if◌then◌else◌, min, List, [], ◌∷◌, ◌++◌, length, map, Option, Some, refl, sym, ap, subst}
+use Rattle.std.proofs.Common.{◌≡◌, ℕ, zero, suc, ◌+◌, ◌-◌, ◌<◌, ◌≤◌, ◌^◌, Bool, true, false, List, [], ◌∷◌, ◌++◌, length, map, Some, refl, sym, ap, subst}
 use Rattle.std.proofs.Common.{◌∙◌, arith, ⊎_elim, append_assoc}
-use Rattle.std.specs.Prelude.{slice_get, codes}
-use Rattle.std.proofs.lemmas.List.{append-nil}
+use Rattle.std.specs.Prelude.{slice_get}
 use Rattle.std.proofs.lemmas.Option.{slice_get_within}
 use Rattle.std.proofs.lemmas.Bool.{cases_lt}
 use Rattle.block_ir.specs.declared.code.ThreadCode.{ThreadCode}
 use Rattle.block_ir.specs.declared.plan.Planned.{Planned}
 use Rattle.verilog_tree.specs.declared.tree.BinaryOperator.TheVariants.{And}
-use Rattle.netlist.specs.declared.netlist.Value.{Value}
 use Rattle.netlist.specs.declared.netlist.Value.TheVariants.{Copy, Binary}
 use Rattle.netlist.specs.declared.netlist.Source.{Source}
 use Rattle.netlist.specs.declared.netlist.Source.TheVariants.{Input, Register, Assigned}
 use Rattle.netlist.specs.declared.netlist.Signal.{Signal}
 use Rattle.netlist.specs.declared.netlist.Action.{Action}
+use Rattle.netlist.specs.declared.netlist.Memory.{Memory}
 use Rattle.netlist.specs.declared.netlist.Module.{Module}
 use Rattle.verilog_meaning.specs.Cycles.{IsRegister}
 use Rattle.verilog_tree.specs.Scope.{is_clk}
 use Rattle.circuit.specs.Rows.{EachOf}
 use Rattle.circuit.proofs.Growth.{length-spread}
-use Rattle.circuit.specs.Modules.{Has, HasRegister}
-use Rattle.module_check.specs.Grades.{IsOperand, IsGradedSource, IsGradedSignal, AreGrades, ActsRight, IsPort, IsSlotPort}
+use Rattle.circuit.specs.Modules.{Has, HasRegister, FitsMemory}
+use Rattle.module_sound.specs.Grades.{IsOperand, IsGradedSource, IsGradedSignal, AreGrades, ActsRight, IsPort, IsSlotPort}
 use Rattle.module_sound.specs.Names.{place_of}
-use Rattle.module_sound.specs.Kinds.{SetsAt, HasRange, IsKindAt, IsPlacedSignal, IsPlaced}
-use Rattle.module_sound.specs.Sounds.{BeginsWithClock}
+use Rattle.module_sound.specs.Kinds.{SetsAt, IsKindAt, IsPlacedSignal, IsPlaced}
+use Rattle.module_sound.specs.Sounds.{AreRightMemories, BeginsWithClock}
 use Rattle.operator_wires.specs.declared.wires.Role.{Role}
 use Rattle.operator_wires.specs.declared.wires.Role.TheVariants.{Clock, Enable, Grant, Wire}
 use Rattle.operator_wires.specs.Gives.{Grows}
-use Rattle.operator_wires.specs.Built.{name_at, Lays, IsEarlier, IsWire}
+use Rattle.operator_wires.specs.Built.{Base, name_at, Lays, IsEarlier, IsWire}
 use Rattle.operator_wires.proofs.Giving.{grows_then, listed}
 use Rattle.operator_wires.proofs.Building.{within, longer, front, stands_after}
 use Rattle.block_datapath.specs.declared.registers.Held.{Held}
 use Rattle.fsm_datapath.specs.declared.shape.Printer.{Printer}
 use Rattle.fsm_datapath.specs.declared.shape.Shape.{Shape}
-use Rattle.fsm_datapath.specs.declared.stores.Store.{Store}
 use Rattle.fsm_datapath.specs.Slots.{StandsAt}
 use Rattle.fsm_datapath.specs.Outputs.{CopiesAt, field_width}
-use Rattle.fsm_datapath.specs.Actions.{set_action, sets_from, store_action, actions_of}
+use Rattle.fsm_datapath.specs.Actions.{set_action, sets_from, store_action}
 use Rattle.fsm_datapath.specs.Modules.{IsWiredInside, IsModule}
 use Rattle.fsm_datapath.specs.Thread.{first_output, IsPlain}
-use Rattle.fsm_datapath.specs.Wired.{IsSlotRegister, IsNamedOutput, IsSteered, WiresControl}
+use Rattle.fsm_datapath.specs.Memories.{memories_from, inside_base, control_base}
+use Rattle.fsm_datapath.specs.Wired.{IsSpelled, IsSlotRegister, IsSteered, WiresControl}
 use Rattle.fsm_datapath.specs.Leaf.{IsChecked}
-use Rattle.fsm_datapath.proofs.Laying.{stands_later}
 use Rattle.fsm_datapath.proofs.Wiring.{name_tells, laid_grows, laid_long}
 use Rattle.fsm_datapath.proofs.Placed.{from_inside, from_control, from_slot, from_inputs, three, enable_at, clock_stands, enable_stands, grant_at, grant_stands, stage_at, stage_stands}
-use Rattle.fsm_datapath.proofs.Placed.{state_at, state_stands, beat_at, beat_stands, variables_at, kept_at, kept_held, variable_held, got_any, fields_count, before_outputs, ask_stands, field_stands}
+use Rattle.fsm_datapath.proofs.Placed.{state_at, state_stands, beat_at, beat_stands, variables_at, kept_at, got_any, fields_count, before_outputs, ask_stands, field_stands}
 use Rattle.fsm_datapath.proofs.Placed.{need_stands, done_stands, shape_is}
-use Rattle.fsm_datapath.proofs.Grading.{level, input_level, inner_level, asks_level, control_level, asked_level, told_level, most_level, grades, grade_listed, earlier_has, earlier_operand, wire_graded, wire_ranges}
-use Rattle.fsm_datapath.proofs.Setting.{stands_register, set_right, sets_right, each_append, sets_at, sets_past}
+use Rattle.fsm_datapath.proofs.Grading.{none_read, level, input_level, inner_level, asks_level, control_level, asked_level, told_level, most_level, grades, grade_listed, earlier_operand, wire_graded, wire_ranges}
+use Rattle.fsm_datapath.proofs.Remembering.{right_memories, begun}
+use Rattle.fsm_datapath.proofs.Setting.{stores_right, stands_register, set_right, sets_right, each_append, sets_at, sets_past}
 
-lowered : (a : List Signal) (y w : ℕ) → IsEarlier a 3 y w → IsEarlier a 1 y w
-lowered a y w e = record { signal = e.signal; listed = e.listed; wide = e.wide; after = (let after = e.after in omega arith); low = e.low; high = e.high }
+lowered : (code : ThreadCode) (a : List Signal) (y w : ℕ) → IsEarlier a (inside_base code) y w → IsEarlier a control_base y w
+lowered code a y w e = record { signal = e.signal; listed = e.listed; wide = e.wide; after = (let after = e.after in omega arith); low = e.low; high = e.high }
 
 laid_listed : (a b : List Signal) (role : Role) (w place : ℕ) (out : Bool) (d : Source) (t : Lays a b role w out d place) → slice_get b (length a) ≡ Some t.signal
 laid_listed a b role w place out d t = ap (λ l. slice_get l (length a)) t.is ∙ at_end a t.signal
@@ -61,7 +60,7 @@ laid_listed a b role w place out d t = ap (λ l. slice_get l (length a)) t.is �
 
 module _ (shape : Shape) (code : ThreadCode) (plan : Planned) (printer : Printer) (m : Module) (t : IsModule shape code plan m) (plain : IsPlain shape code plan printer) where
   inner : IsWiredInside code printer t.laid.with_inputs t.laid.with_slot t.with_inside t.inside
-  inner = t.laid.wired printer plain.printer_is plain.site_low plain.site_high plain.arrays refl
+  inner = t.laid.wired printer plain.printer_is plain.site_low plain.site_high refl
 
   abbrev inside_to : Grows t.with_inside m.signals
   inside_to = from_inside shape code plan printer m t plain
@@ -103,29 +102,40 @@ module _ (shape : Shape) (code : ThreadCode) (plan : Planned) (printer : Printer
   few : n ≤ 2 ^ 64
   few = t.closed.few plain.main
 
+  -- memories that stages read are the module's
+  inside_read : (j : ℕ) (c : Memory) → slice_get (memories_from 0 code.arrays) j ≡ Some c → slice_get m.memories j ≡ Some c
+  inside_read j c listed = ap (λ (l : List Memory). slice_get l j) t.memories ∙ listed
+
   -- ---- control
 
-  steering : IsSteered 1 t.with_inside t.inside.slot t.inside.inputs t.inside.chains
+  steering : IsSteered control_base t.with_inside t.inside.slot t.inside.inputs t.inside.chains
   steering =
       let c = inner.linked in
       let inputs = t.laid.inputs in
       let from : Grows t.laid.with_inputs t.with_inside =
       grows_then t.laid.with_inputs t.laid.with_slot t.with_inside t.laid.slot.grows inner.wires.grows in
-      let bit : (place : ℕ) → 1 ≤ place → StandsAt t.laid.with_inputs place 1 Input → IsEarlier t.with_inside 1 place 1 =
-      λ place after s. record { signal = s.signal; listed = listed t.laid.with_inputs t.with_inside place s.signal from s.listed; wide = s.wide; after = after; low = omega arith; high = omega arith } in
+      let bit : (place : ℕ) → 1 ≤ place → StandsAt t.laid.with_inputs place 1 Input → IsEarlier t.with_inside control_base place 1 =
+      λ place after s. record {
+        signal = s.signal;
+        listed = listed t.laid.with_inputs t.with_inside place s.signal from s.listed;
+        wide = s.wide;
+        after = after;
+        low = omega arith;
+        high = omega arith;
+      } in
       record {
-        state = lowered t.with_inside t.inside.slot.state.register t.inside.slot.state.width c.slots.state;
-        beat = lowered t.with_inside t.inside.slot.beat 1 c.slots.beat;
-        enable = subst (λ x. IsEarlier t.with_inside 1 x 1) (sym (enable_at shape code plan printer m t plain)) (bit 1 (omega arith) inputs.enable_stands);
+        state = lowered code t.with_inside t.inside.slot.state.register t.inside.slot.state.width c.slots.state;
+        beat = lowered code t.with_inside t.inside.slot.beat 1 c.slots.beat;
+        enable = subst (λ x. IsEarlier t.with_inside control_base x 1) (sym (enable_at shape code plan printer m t plain)) (bit 1 (omega arith) inputs.enable_stands);
         printed = λ grant is.
             let at : 2 ≡ grant = (let p = grant_at shape code plan printer m t plain in cc) in
-            subst (λ x. IsEarlier t.with_inside 1 x 1) at (bit 2 (omega arith) (inputs.printed_stands printer plain.printer_is));
-        is_last = lowered t.with_inside t.inside.chains.is_last 1 c.is_last;
-        waits = lowered t.with_inside t.inside.chains.waits 1 c.waits;
-        wants = lowered t.with_inside t.inside.chains.wants 1 c.wants;
+            subst (λ x. IsEarlier t.with_inside control_base x 1) at (bit 2 (omega arith) (inputs.printed_stands printer plain.printer_is));
+        is_last = lowered code t.with_inside t.inside.chains.is_last 1 c.is_last;
+        waits = lowered code t.with_inside t.inside.chains.waits 1 c.waits;
+        wants = lowered code t.with_inside t.inside.chains.wants 1 c.wants;
       }
 
-  controls : WiresControl 1 t.with_inside t.closed.with_control t.inside.slot t.inside.inputs t.inside.chains t.edge
+  controls : WiresControl control_base t.with_inside t.closed.with_control t.inside.slot t.inside.inputs t.inside.chains t.edge
   controls = t.closed.wired steering
 
   control_grows : Grows t.with_inside t.closed.with_control
@@ -136,7 +146,7 @@ module _ (shape : Shape) (code : ThreadCode) (plan : Planned) (printer : Printer
 
   some_control : d < e
   some_control =
-      let asks = within t.closed.with_control 1 t.edge.asks 1 controls.asks in
+      let asks = within t.closed.with_control control_base t.edge.asks 1 controls.asks in
       let at = asks_at in
       omega arith
 
@@ -176,11 +186,11 @@ module _ (shape : Shape) (code : ThreadCode) (plan : Planned) (printer : Printer
             (subst (λ k. IsOperand m (grades m grade) x g of k) (sym stands.wide) operand);
       })
 
-  inner_operand : (x y w g : ℕ) → IsEarlier t.with_inside 3 y w → d ≤ x → IsOperand m (grades m grade) x g y w
+  inner_operand : (x y w g : ℕ) → IsEarlier t.with_inside (inside_base code) y w → d ≤ x → IsOperand m (grades m grade) x g y w
   inner_operand x y w g r le =
-      let before = within t.with_inside 3 y w r in
+      let before = within t.with_inside (inside_base code) y w r in
       let zero_is = inner_level d e (printer.values + 2) y r.after before in
-      earlier_operand m grade t.with_inside inside_to 3 x y w g (omega arith) r (omega arith) (omega arith)
+      earlier_operand m grade t.with_inside inside_to (inside_base code) x y w g (omega arith) r (omega arith) (omega arith)
 
   -- an output, so many places behind the first one
   ask_graded : (x : ℕ) (s : Signal) → slice_get m.signals x ≡ Some s → x ≡ e → Graded x 1 s
@@ -191,7 +201,7 @@ module _ (shape : Shape) (code : ThreadCode) (plan : Planned) (printer : Printer
       let grade_is : grade t.edge.asks ≡ 1 = ap grade asks_at ∙ asks_level d e (printer.values + 2) (let one = some_inside in omega arith) in
       let control = some_control in
       copy_graded x 1 t.edge.asks 1 s there stands (omega arith) (omega arith)
-      (earlier_operand m grade t.closed.with_control control_to 1 x t.edge.asks 1 1 (omega arith) controls.asks (omega arith) (omega arith))
+      (earlier_operand m grade t.closed.with_control control_to control_base x t.edge.asks 1 1 (omega arith) controls.asks (omega arith) (omega arith))
 
   field_graded : (x k : ℕ) (s : Signal) → slice_get m.signals x ≡ Some s → k < printer.values + 1 → x ≡ e + 1 + k → Graded x 1 s
   field_graded x k s there less same =
@@ -251,8 +261,8 @@ module _ (shape : Shape) (code : ThreadCode) (plan : Planned) (printer : Printer
       let same : controls.first.signal ≡ s = (let p = asks_listed in cc) in
       let wants = inner_operand d t.inside.chains.wants 1 1 inner.linked.wants (omega arith) in
       let enable_is : grade t.inside.inputs.enable ≡ 1 = ap grade (enable_at shape code plan printer m t plain) ∙ input_level d e (printer.values + 2) 1 (omega arith) in
-      let enable_before : t.inside.inputs.enable < d = within t.with_inside 1 t.inside.inputs.enable 1 steering.enable in
-      let enable = earlier_operand m grade t.with_inside inside_to 1 d t.inside.inputs.enable 1 1 (omega arith) steering.enable enable_before (omega arith) in
+      let enable_before : t.inside.inputs.enable < d = within t.with_inside control_base t.inside.inputs.enable 1 steering.enable in
+      let enable = earlier_operand m grade t.with_inside inside_to control_base d t.inside.inputs.enable 1 1 (omega arith) steering.enable enable_before (omega arith) in
       subst (λ (z : Signal). Graded d 1 z) same
       (record {
         low = (let w = controls.first.wide in omega arith);
@@ -262,20 +272,20 @@ module _ (shape : Shape) (code : ThreadCode) (plan : Planned) (printer : Printer
             (subst (λ k. IsOperand m (grades m grade) d 1 t.inside.chains.wants k × IsOperand m (grades m grade) d 1 t.inside.inputs.enable k) (sym controls.first.wide) (wants, enable));
       })
 
-  control_wire : (x : ℕ) (s : Signal) → slice_get m.signals x ≡ Some s → d ≤ x → x < e → IsWire t.closed.with_control 1 x s
+  control_wire : (x : ℕ) (s : Signal) → slice_get m.signals x ≡ Some s → d ≤ x → x < e → IsWire t.closed.with_control control_base x s
   control_wire x s there le less = controls.wires.each x s le (sym (front t.closed.with_control m.signals x control_to less) ∙ there)
 
   control_graded : (x : ℕ) (s : Signal) → slice_get m.signals x ≡ Some s → d < x → x < e → Graded x 2 s
   control_graded x s there le less =
-      wire_graded m grade t.closed.with_control control_to 1 x 2 s (omega arith)
+      wire_graded m grade t.closed.with_control control_to control_base x 2 s (omega arith) (none_read m)
       (λ y after before. most_level d e (printer.values + 2) y (let one = some_inside in omega arith) (omega arith)) (control_wire x s there (omega arith) less)
 
-  inner_wire : (x : ℕ) (s : Signal) → slice_get m.signals x ≡ Some s → length t.laid.with_slot ≤ x → x < d → IsWire t.with_inside 3 x s
+  inner_wire : (x : ℕ) (s : Signal) → slice_get m.signals x ≡ Some s → length t.laid.with_slot ≤ x → x < d → IsWire t.with_inside (inside_base code) x s
   inner_wire x s there le less = inner.wires.each x s le (sym (front t.with_inside m.signals x inside_to less) ∙ there)
 
   inner_graded : (x : ℕ) (s : Signal) → slice_get m.signals x ≡ Some s → length t.laid.with_slot ≤ x → x < d → Graded x 0 s
   inner_graded x s there le less =
-      wire_graded m grade t.with_inside inside_to 3 x 0 s (omega arith)
+      wire_graded m grade t.with_inside inside_to (inside_base code) x 0 s (omega arith) inside_read
       (λ y after before. (let zero_is = inner_level d e (printer.values + 2) y after (omega arith) in omega arith)) (inner_wire x s there le less)
 
   register_is : (x : ℕ) (s : Signal) → slice_get m.signals x ≡ Some s → 3 ≤ x → x < length t.laid.with_slot → IsSlotRegister x s
@@ -341,15 +351,17 @@ module _ (shape : Shape) (code : ThreadCode) (plan : Planned) (printer : Printer
   abbrev kept_sets : List Action
   kept_sets = sets_from t.edge.leave t.inside.chains.kept 0 t.inside.slot.kept
 
-  actions_are : m.actions ≡ firsts ++ (variable_sets ++ (kept_sets ++ []))
+  abbrev store_sets : List Action
+  store_sets = map (store_action t.edge.leave) t.inside.stores
+
+  actions_are : m.actions ≡ firsts ++ (variable_sets ++ (kept_sets ++ store_sets))
   actions_are =
-      t.actions ∙ ap (λ (stores : List Store). firsts ++ variable_sets ++ kept_sets ++ map (store_action t.edge.leave) stores) inner.stores
-      ∙ append_assoc (firsts ++ variable_sets) kept_sets [] ∙ append_assoc firsts variable_sets (kept_sets ++ [])
+      t.actions ∙ append_assoc (firsts ++ variable_sets) kept_sets store_sets ∙ append_assoc firsts variable_sets (kept_sets ++ store_sets)
 
-  inside_later : (y w : ℕ) → IsEarlier t.with_inside 3 y w → IsEarlier t.closed.with_control 1 y w
-  inside_later y w r = stands_after t.with_inside t.closed.with_control 1 y w control_grows (lowered t.with_inside y w r)
+  inside_later : (y w : ℕ) → IsEarlier t.with_inside (inside_base code) y w → IsEarlier t.closed.with_control control_base y w
+  inside_later y w r = stands_after t.with_inside t.closed.with_control control_base y w control_grows (lowered code t.with_inside y w r)
 
-  set_ok : (register source w : ℕ) → HasRegister m register w → IsEarlier t.closed.with_control 1 source w → ActsRight m (set_action t.edge.leave register source)
+  set_ok : (register source w : ℕ) → HasRegister m register w → IsEarlier t.closed.with_control control_base source w → ActsRight m (set_action t.edge.leave register source)
   set_ok = set_right m t.closed.with_control control_to t.edge.leave controls.leave
 
   stage_register : HasRegister m t.inside.slot.stage.register t.inside.slot.stage.width
@@ -375,13 +387,13 @@ module _ (shape : Shape) (code : ThreadCode) (plan : Planned) (printer : Printer
   )
 
   -- a register that stands
-  register_has : (y w : ℕ) → IsEarlier t.laid.with_slot 3 y w → HasRegister m y w
+  register_has : (y w : ℕ) → IsEarlier t.laid.with_slot (inside_base code) y w → HasRegister m y w
   register_has y w r =
-      let place = within t.laid.with_slot 3 y w r in
+      let place = within t.laid.with_slot (inside_base code) y w r in
       let is = inner.registers y r.signal (let one = three_inputs in let after = r.after in omega arith) r.listed in
       record { signal = r.signal; listed = listed t.laid.with_slot m.signals y r.signal slot_to r.listed; wide = r.wide; is = subst (λ (z : Source). IsRegister z) (sym is.drives) tt }
 
-  held_has : (y w : ℕ) → IsEarlier t.with_inside 3 y w → y < length t.laid.with_slot → HasRegister m y w
+  held_has : (y w : ℕ) → IsEarlier t.with_inside (inside_base code) y w → y < length t.laid.with_slot → HasRegister m y w
   held_has y w r less =
       register_has y w
       (record { signal = r.signal; listed = sym (front t.laid.with_slot t.with_inside y inner.wires.grows less) ∙ r.listed; wide = r.wide; after = r.after; low = r.low; high = r.high })
@@ -421,18 +433,22 @@ module _ (shape : Shape) (code : ThreadCode) (plan : Planned) (printer : Printer
       sets_right m t.closed.with_control control_to t.edge.leave controls.leave t.inside.chains.kept 0 t.inside.slot.kept kept_has
       (λ i y h p q. inside_later y h.width (inner.linked.kept i y h (let same : 0 + i ≡ i = omega arith in ap (slice_get t.inside.chains.kept) (sym same) ∙ p) q))
 
+  all_stores_right : EachOf (ActsRight m) store_sets
+  all_stores_right =
+      stores_right m t.closed.with_control t.with_inside (inside_base code) (omega arith) control_to inside_to t.edge.leave controls.leave inside_read t.inside.stores inner.stores
+
   acts : EachOf (ActsRight m) m.actions
   acts =
       subst (λ (l : List Action). EachOf (ActsRight m) l) (sym actions_are)
-      (each_append (ActsRight m) firsts (variable_sets ++ (kept_sets ++ [])) firsts_right
-      (each_append (ActsRight m) variable_sets (kept_sets ++ []) variables_right (each_append (ActsRight m) kept_sets [] kept_right tt)))
+      (each_append (ActsRight m) firsts (variable_sets ++ (kept_sets ++ store_sets)) firsts_right
+      (each_append (ActsRight m) variable_sets (kept_sets ++ store_sets) variables_right (each_append (ActsRight m) kept_sets store_sets kept_right all_stores_right)))
 
   -- ---- each register is set by the statement of its own number
 
   some_next : (xs : List ℕ) (i : ℕ) → i < length xs → (y : ℕ) × (slice_get xs (0 + i) ≡ Some y)
   some_next xs i less = let f = got_any xs i less in (f.0, (let same : 0 + i ≡ i = omega arith in ap (slice_get xs) same ∙ f.1))
 
-  set_by : (k x source : ℕ) (register : ℕ) → register ≡ x → slice_get (firsts ++ (variable_sets ++ (kept_sets ++ []))) k ≡ Some (set_action t.edge.leave register source) → SetsAt m k x
+  set_by : (k x source : ℕ) (register : ℕ) → register ≡ x → slice_get (firsts ++ (variable_sets ++ (kept_sets ++ store_sets))) k ≡ Some (set_action t.edge.leave register source) → SetsAt m k x
   set_by k x source register same there = record {
     action = set_action t.edge.leave x source;
     listed = ap (λ (l : List Action). slice_get l k) actions_are ∙ there ∙ ap (λ z. Some (set_action t.edge.leave z source)) same;
@@ -447,8 +463,8 @@ module _ (shape : Shape) (code : ThreadCode) (plan : Planned) (printer : Printer
       let found = got_any t.inside.slot.variables i less in
       let nexts : (j : ℕ) → j < length t.inside.slot.variables → (y : ℕ) × (slice_get t.inside.chains.variables (0 + j) ≡ Some y) =
       λ j l. some_next t.inside.chains.variables j (subst (λ z. j < z) (sym inner.linked.variables_count) l) in
-      let f = sets_at t.edge.leave t.inside.chains.variables 0 t.inside.slot.variables (kept_sets ++ []) i found.0 nexts found.1 in
-      set_by (3 + i) (6 + i) f.0 found.0.register (variable_at i found.0 found.1) (past_three (variable_sets ++ (kept_sets ++ [])) i ∙ f.1)
+      let f = sets_at t.edge.leave t.inside.chains.variables 0 t.inside.slot.variables (kept_sets ++ store_sets) i found.0 nexts found.1 in
+      set_by (3 + i) (6 + i) f.0 found.0.register (variable_at i found.0 found.1) (past_three (variable_sets ++ (kept_sets ++ store_sets)) i ∙ f.1)
 
   kept_set : (i : ℕ) → i < length t.inside.slot.kept → SetsAt m (3 + (length t.inside.slot.variables + i)) (6 + length t.inside.slot.variables + i)
   kept_set i less =
@@ -457,10 +473,10 @@ module _ (shape : Shape) (code : ThreadCode) (plan : Planned) (printer : Printer
       λ j l. some_next t.inside.chains.variables j (subst (λ z. j < z) (sym inner.linked.variables_count) l) in
       let others : (j : ℕ) → j < length t.inside.slot.kept → (y : ℕ) × (slice_get t.inside.chains.kept (0 + j) ≡ Some y) =
       λ j l. some_next t.inside.chains.kept j (subst (λ z. j < z) (sym inner.linked.kept_count) l) in
-      let f = sets_at t.edge.leave t.inside.chains.kept 0 t.inside.slot.kept [] i found.0 others found.1 in
+      let f = sets_at t.edge.leave t.inside.chains.kept 0 t.inside.slot.kept store_sets i found.0 others found.1 in
       set_by (3 + (length t.inside.slot.variables + i)) (6 + length t.inside.slot.variables + i) f.0 found.0.register (kept_place i found.0 found.1)
-      (past_three (variable_sets ++ (kept_sets ++ [])) (length t.inside.slot.variables + i)
-      ∙ sets_past t.edge.leave t.inside.chains.variables 0 t.inside.slot.variables (kept_sets ++ []) i nexts ∙ f.1)
+      (past_three (variable_sets ++ (kept_sets ++ store_sets)) (length t.inside.slot.variables + i)
+      ∙ sets_past t.edge.leave t.inside.chains.variables 0 t.inside.slot.variables (kept_sets ++ store_sets) i nexts ∙ f.1)
 
   sets : (x : ℕ) → 3 ≤ x → x < length t.laid.with_slot → SetsAt m (x - 3) x
   sets x le less =
@@ -502,29 +518,33 @@ module _ (shape : Shape) (code : ThreadCode) (plan : Planned) (printer : Printer
   abbrev Kind : ℕ → Bool → Source → Type 0
   Kind x out source = IsKindAt m 3 (first_output printer m) x out source
 
-  placed_by : (x : ℕ) (s : Signal) (out : Bool) (source : Source) → place_of n s.name ≡ Some x → s.is_output ≡ out → s.source ≡ source → Kind x out source
-      → IsPlacedSignal m 3 (first_output printer m) x s
-  placed_by x s out source named flag drives kind = record {
-    named = named;
-    kind = subst (λ (b : Bool). Kind x b s.source) (sym flag) (subst (λ (z : Source). Kind x out z) (sym drives) kind);
-  }
+  -- it is spelled as a signal, too
+  abbrev IsPut : ℕ → Signal → Type 0
+  IsPut x s = IsPlacedSignal m 3 (first_output printer m) x s × IsSpelled x s
+
+  placed_by : (x : ℕ) (s : Signal) (out : Bool) (source : Source) → place_of n s.name ≡ Some x → IsSpelled x s → s.is_output ≡ out → s.source ≡ source → Kind x out source
+      → IsPut x s
+  placed_by x s out source named spelled flag drives kind = (
+    record { named = named; kind = subst (λ (b : Bool). Kind x b s.source) (sym flag) (subst (λ (z : Source). Kind x out z) (sym drives) kind) },
+    spelled,
+  )
 
   small : (x : ℕ) (s : Signal) → slice_get m.signals x ≡ Some s → x < 2 ^ 64
   small x s there = let less = slice_get_within m.signals x s there in let most = few in omega arith
 
   -- an input
   laid_input : (a : List Signal) (b : List Signal) (role : Role) (s : Signal) (x : ℕ) → Lays a b role 1 false Input (length a) → Grows b m.signals → length a ≡ x → x < 3
-      → place_of n (name_at role (length a)) ≡ Some (length a) → slice_get m.signals x ≡ Some s → IsPlacedSignal m 3 (first_output printer m) x s
+      → place_of n (name_at role (length a)) ≡ Some (length a) → slice_get m.signals x ≡ Some s → IsPut x s
   laid_input a b role s x laid g at less tells there =
       let here = listed b m.signals (length a) laid.signal g (laid_listed a b role 1 (length a) false Input laid) in
       let same : laid.signal ≡ s = (let p = ap (slice_get m.signals) at in cc) in
-      subst (λ (z : Signal). IsPlacedSignal m 3 (first_output printer m) x z) same
-      (placed_by x laid.signal false Input (ap (place_of n) laid.named ∙ tells ∙ ap Some at) laid.flag laid.drives (less, refl))
+      subst (λ (z : Signal). IsPut x z) same
+      (placed_by x laid.signal false Input (ap (place_of n) laid.named ∙ tells ∙ ap Some at) (role, laid.named ∙ ap (name_at role) at) laid.flag laid.drives (less, refl))
 
   inputs_to : Grows t.laid.with_inputs m.signals
   inputs_to = from_inputs shape code plan printer m t plain
 
-  input_placed : (x : ℕ) (s : Signal) → x < 3 → slice_get m.signals x ≡ Some s → IsPlacedSignal m 3 (first_output printer m) x s
+  input_placed : (x : ℕ) (s : Signal) → x < 3 → slice_get m.signals x ≡ Some s → IsPut x s
   input_placed x s less there =
       let three_laid = inner.inputs in
       let b = three_laid.with_clock in
@@ -539,7 +559,7 @@ module _ (shape : Shape) (code : ThreadCode) (plan : Planned) (printer : Printer
       by_number : (x : ℕ) → x < 3 → slice_get m.signals x ≡ Some s → Lays [] inner.inputs.with_clock Clock 1 false Input 0
           → Lays inner.inputs.with_clock inner.inputs.with_enable Enable 1 false Input (length inner.inputs.with_clock)
           → Lays inner.inputs.with_enable t.laid.with_inputs Grant 1 false Input (length inner.inputs.with_enable) → Grows inner.inputs.with_clock m.signals
-          → Grows inner.inputs.with_enable m.signals → length inner.inputs.with_clock ≡ 1 → length inner.inputs.with_enable ≡ 2 → IsPlacedSignal m 3 (first_output printer m) x s
+          → Grows inner.inputs.with_enable m.signals → length inner.inputs.with_clock ≡ 1 → length inner.inputs.with_enable ≡ 2 → IsPut x s
       by_number zero less there u v w to_b to_c one two = laid_input [] inner.inputs.with_clock Clock s 0 u to_b refl less refl there
       by_number (suc zero) less there u v w to_b to_c one two =
           laid_input inner.inputs.with_clock inner.inputs.with_enable Enable s 1 v to_c one less (ap Some (sym one)) there
@@ -547,19 +567,19 @@ module _ (shape : Shape) (code : ThreadCode) (plan : Planned) (printer : Printer
           laid_input inner.inputs.with_enable t.laid.with_inputs Grant s 2 w inputs_to two less (name_tells Grant n (length inner.inputs.with_enable) refl (omega arith)) there
       by_number (suc (suc (suc x))) less there u v w to_b to_c one two = absurd (omega arith)
 
-  register_placed : (x : ℕ) (s : Signal) → slice_get m.signals x ≡ Some s → 3 ≤ x → x < length t.laid.with_slot → IsPlacedSignal m 3 (first_output printer m) x s
+  register_placed : (x : ℕ) (s : Signal) → slice_get m.signals x ≡ Some s → 3 ≤ x → x < length t.laid.with_slot → IsPut x s
   register_placed x s there le less =
       let r = register_is x s there le less in
       let one = slot_long in
       let two = some_control in
       let out = outputs_at in
-      placed_by x s false (Register r.initial) (r.named n (small x s there)) r.inner r.drives (le, (let z : x < first_output printer m = omega arith in z), refl, sets x le less)
+      placed_by x s false (Register r.initial) (r.named n (small x s there)) r.spelled r.inner r.drives (le, (let z : x < first_output printer m = omega arith in z), refl, sets x le less)
 
-  wire_placed : (a : List Signal) (least x : ℕ) (s : Signal) → Grows a m.signals → IsWire a least x s → slice_get m.signals x ≡ Some s → 3 ≤ x → x < first_output printer m
-      → IsPlacedSignal m 3 (first_output printer m) x s
-  wire_placed a least x s g w there le less =
-      placed_by x s false (Assigned w.right) (ap (place_of n) w.named ∙ name_tells Wire n x refl (small x s there)) w.inner w.drives
-      (le, (λ above. absurd (omega arith)), (λ below. refl), wire_ranges m grade a g least x s w)
+  wire_placed : (a : List Signal) (base : Base) (x : ℕ) (s : Signal) → Grows a m.signals → IsWire a base x s → slice_get m.signals x ≡ Some s → 3 ≤ x → x < first_output printer m
+      → IsPut x s
+  wire_placed a base x s g w there le less =
+      placed_by x s false (Assigned w.right) (ap (place_of n) w.named ∙ name_tells Wire n x refl (small x s there)) (Wire, w.named) w.inner w.drives
+      (le, (λ above. absurd (omega arith)), (λ below. refl), wire_ranges m grade a g base x s w)
 
   output_source : (x : ℕ) (s : Signal) → slice_get m.signals x ≡ Some s → e ≤ x → (of : ℕ) × (s.source ≡ Assigned (Copy of))
   output_source x s there le =
@@ -567,7 +587,8 @@ module _ (shape : Shape) (code : ThreadCode) (plan : Planned) (printer : Printer
       let sum = whole in
       let at = outputs_at in
       ⊎_elim
-      (λ (p : x < e + 1). copied x 1 t.edge.asks s there (subst (λ z. CopiesAt m.signals z 1 t.edge.asks) (let z : first_output printer m ≡ x = omega arith in z) (ask_stands shape code plan printer m t plain)))
+      (λ (p : x < e + 1). copied x 1 t.edge.asks s there (subst (λ z. CopiesAt m.signals z 1 t.edge.asks) (let z : first_output printer m ≡ x = omega arith in z)
+      (ask_stands shape code plan printer m t plain)))
       (λ (p : e + 1 ≤ x).
       ⊎_elim
       (λ (q : x < e + (printer.values + 2)).
@@ -593,17 +614,17 @@ module _ (shape : Shape) (code : ThreadCode) (plan : Planned) (printer : Printer
           let same : stands.signal ≡ s = (let p = stands.listed in cc) in
           (of, subst (λ (z : Signal). z.source ≡ Assigned (Copy of)) same stands.drives)
 
-  output_placed : (x : ℕ) (s : Signal) → slice_get m.signals x ≡ Some s → e ≤ x → IsPlacedSignal m 3 (first_output printer m) x s
+  output_placed : (x : ℕ) (s : Signal) → slice_get m.signals x ≡ Some s → e ≤ x → IsPut x s
   output_placed x s there le =
       let named = t.closed.named plain.main x s le there in
       let source = output_source x s there le in
       let some = some_control in
       let more = some_inside in
       let at = outputs_at in
-      placed_by x s true (Assigned (Copy source.0)) (named.named (small x s there)) named.flag source.1
+      placed_by x s true (Assigned (Copy source.0)) (named.named (small x s there)) named.spelled named.flag source.1
       ((let z : 3 ≤ x = omega arith in z), (λ above. refl), (λ below. absurd (omega arith)), tt)
 
-  placed : (x : ℕ) (s : Signal) → slice_get m.signals x ≡ Some s → IsPlacedSignal m 3 (first_output printer m) x s
+  placed : (x : ℕ) (s : Signal) → slice_get m.signals x ≡ Some s → IsPut x s
   placed x s there =
       let one = some_control in
       let two = outputs_at in
@@ -616,10 +637,10 @@ module _ (shape : Shape) (code : ThreadCode) (plan : Planned) (printer : Printer
       (λ (q : x < length t.laid.with_slot). register_placed x s there p q)
       (λ (q : length t.laid.with_slot ≤ x).
       ⊎_elim
-      (λ (r : x < d). wire_placed t.with_inside 3 x s inside_to (inner_wire x s there q r) there p (let z : x < first_output printer m = omega arith in z))
+      (λ (r : x < d). wire_placed t.with_inside (inside_base code) x s inside_to (inner_wire x s there q r) there p (let z : x < first_output printer m = omega arith in z))
       (λ (r : d ≤ x).
       ⊎_elim
-      (λ (u : x < e). wire_placed t.closed.with_control 1 x s control_to (control_wire x s there r u) there p (let z : x < first_output printer m = omega arith in z))
+      (λ (u : x < e). wire_placed t.closed.with_control control_base x s control_to (control_wire x s there r u) there p (let z : x < first_output printer m = omega arith in z))
       (λ (u : e ≤ x). output_placed x s there u)
       (cases_lt x e))
       (cases_lt x d))
@@ -630,7 +651,7 @@ module _ (shape : Shape) (code : ThreadCode) (plan : Planned) (printer : Printer
   is_placed = record {
     within = (let sum = whole in let at = outputs_at in omega arith);
     order = (let one = some_control in let two = some_inside in let at = outputs_at in omega arith);
-    each = placed;
+    each = λ x s there. (placed x s there).0;
   }
 
   begins : BeginsWithClock m
@@ -675,8 +696,13 @@ module _ (shape : Shape) (code : ThreadCode) (plan : Planned) (printer : Printer
         listed = grade_listed m grade place less ∙ ap Some (told_is place le);
       }
 
+  memories_are : AreRightMemories m
+  memories_are = right_memories m code.arrays t.memories t.few_memories (λ a array at. (plain.arrays a array at).0) (λ x s there. (placed x s there).1)
+
   pub checked_is : IsChecked printer m
   checked_is = record {
+    memories = memories_are;
+    begun = subst (λ (l : List Memory). EachOf FitsMemory l) (sym t.memories) (begun 0 code.arrays);
     grades = grades m grade;
     are = are_grades;
     ports = record {

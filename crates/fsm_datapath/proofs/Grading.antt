@@ -1,28 +1,27 @@
 -- Grades of signals: inputs have those of their places, what registers alone reach has 0, what the enable reaches 1, and what
 -- a grant reaches 2.
-use Rattle.std.proofs.Common.{◌≡◌, ◌≢◌, ℕ, zero, suc, ◌+◌, ◌-◌, ◌<◌, ◌≤◌, ◌^◌, Bool, true, false, nat_eq, nat_lt, if◌then◌else◌, min, List, [], ◌∷◌, length, Option, Some, None, refl, sym, ap, subst, ◌∙◌}
+use Rattle.std.proofs.Common.{◌≡◌, ℕ, ◌+◌, ◌<◌, ◌≤◌, Bool, true, false, nat_eq, nat_lt, if◌then◌else◌, min, List, length, Option, Some, sym, ap, subst, ◌∙◌}
 use Rattle.std.proofs.Common.{arith, ⊎_elim}
 use Rattle.std.specs.Prelude.{slice_get}
-use Rattle.std.proofs.lemmas.Option.{slice_get_within}
 use Rattle.std.proofs.lemmas.Bool.{cases_lt}
 use Rattle.std.proofs.lemmas.Bool.Decides.{nat_tests}
 use Rattle.netlist.specs.declared.netlist.Value.{Value}
 use Rattle.netlist.specs.declared.netlist.Value.TheVariants.{Copy, Constant, BitwiseNot, Binary, SignedLess, ArithmeticShiftRight, Conditional, Division, SignedDivision}
 use Rattle.netlist.specs.declared.netlist.Value.TheVariants.{MemoryRead, Select, Concatenation, Replication}
 use Rattle.netlist.specs.declared.netlist.Source.{Source}
-use Rattle.netlist.specs.declared.netlist.Source.TheVariants.{Input, Register, Assigned}
 use Rattle.netlist.specs.declared.netlist.Signal.{Signal}
+use Rattle.netlist.specs.declared.netlist.Memory.{Memory}
 use Rattle.netlist.specs.declared.netlist.Module.{Module}
-use Rattle.circuit.specs.Modules.{Has}
+use Rattle.circuit.specs.Modules.{Has, FitsValue}
 use Rattle.circuit.specs.Rows.{spread}
 use Rattle.circuit.proofs.Tables.{fits_among}
 use Rattle.circuit.proofs.Growth.{slice_get-spread}
-use Rattle.module_check.specs.Grades.{no_memory, IsOperand, IsRightSide, IsGradedSource, IsGradedSignal}
+use Rattle.module_sound.specs.Grades.{IsOperand, IsRightSide, IsGradedSource, IsGradedSignal}
 use Rattle.module_sound.specs.Kinds.{HasRange}
 use Rattle.operator_wires.specs.Gives.{Grows}
-use Rattle.operator_wires.specs.Built.{SelectsOf, IsEarlier, IsRead, IsWire}
+use Rattle.operator_wires.specs.Built.{Base, no_memory, SelectsOf, IsEarlier, IsRead, IsWire}
 use Rattle.operator_wires.proofs.Giving.{listed}
-use Rattle.operator_wires.proofs.Building.{within, longer, front}
+use Rattle.operator_wires.proofs.Building.{within, longer}
 
 -- ---- grades by places: the wires of control begin at place d, where the printer is asked, and the outputs at place e
 
@@ -130,6 +129,26 @@ range_of m P (MemoryRead j x) h s = tt
 range_of m P (Concatenation xs) h s = tt
 range_of m P (Replication n x) h s = tt
 
+-- of other memories, among which these are
+other_memory : (P : ℕ → ℕ → Type 0) (memory other : ℕ → Option Memory) → ((j : ℕ) (c : Memory) → memory j ≡ Some c → other j ≡ Some c) → (w : ℕ) (v : Value) → FitsValue P memory w v
+    → FitsValue P other w v
+other_memory P memory other among w (Copy x) f = f
+other_memory P memory other among w (Constant n) f = f
+other_memory P memory other among w (BitwiseNot x) f = f
+other_memory P memory other among w (Binary operator x y) f = f
+other_memory P memory other among w (SignedLess x y) f = f
+other_memory P memory other among w (ArithmeticShiftRight x y) f = f
+other_memory P memory other among w (Conditional c x y) f = f
+other_memory P memory other among w (Division operator x y) f = f
+other_memory P memory other among w (SignedDivision operator x y) f = f
+other_memory P memory other among w (MemoryRead j x) f = (f.0, among j f.0 f.1, f.2, f.3)
+other_memory P memory other among w (Select x high low) f = f
+other_memory P memory other among w (Concatenation xs) f = f
+other_memory P memory other among w (Replication n x) f = f
+
+pub none_read : (m : Module) (j : ℕ) (c : Memory) → no_memory j ≡ Some c → slice_get m.memories j ≡ Some c
+none_read m j c e = absurd cc
+
 module _ (m : Module) (grade : ℕ → ℕ) where
   abbrev pub grades : List ℕ
   grades = spread grade 0 (length m.signals)
@@ -138,26 +157,28 @@ module _ (m : Module) (grade : ℕ → ℕ) where
   grade_listed x less = let e : 0 + x ≡ x = omega arith in slice_get-spread grade 0 (length m.signals) x less ∙ ap (λ n. Some (grade n)) e
 
   module _ (a : List Signal) (g : Grows a m.signals) where
-    pub earlier_has : (least y w : ℕ) → IsEarlier a least y w → Has m y w
-    earlier_has least y w e = record { signal = e.signal; listed = listed a m.signals y e.signal g e.listed; wide = e.wide }
+    pub earlier_has : (base : Base) (y w : ℕ) → IsEarlier a base y w → Has m y w
+    earlier_has base y w e = record { signal = e.signal; listed = listed a m.signals y e.signal g e.listed; wide = e.wide }
 
-    pub earlier_operand : (least x y w most : ℕ) → 0 < least → IsEarlier a least y w → y < x → grade y ≤ most → IsOperand m grades x most y w
-    earlier_operand least x y w most some e before le = record {
-      has = earlier_has least y w e;
+    pub earlier_operand : (base : Base) (x y w most : ℕ) → 0 < base.first → IsEarlier a base y w → y < x → grade y ≤ most → IsOperand m grades x most y w
+    earlier_operand base x y w most some e before le = record {
+      has = earlier_has base y w e;
       after = (let after = e.after in omega arith);
       before = before;
       own = grade y;
-      listed = grade_listed y (let one = within a least y w e in let two = longer a m.signals g in omega arith);
+      listed = grade_listed y (let one = within a base y w e in let two = longer a m.signals g in omega arith);
       most = le;
     }
 
-    pub wire_graded : (least x most : ℕ) (s : Signal) → 0 < least → ((y : ℕ) → least ≤ y → y < x → grade y ≤ most) → IsWire a least x s → IsGradedSignal m grades x 3 most s
-    wire_graded least x most s some all t =
+    pub wire_graded : (base : Base) (x most : ℕ) (s : Signal) → 0 < base.first → ((j : ℕ) (c : Memory) → base.memory j ≡ Some c → slice_get m.memories j ≡ Some c)
+        → ((y : ℕ) → base.first ≤ y → y < x → grade y ≤ most) → IsWire a base x s → IsGradedSignal m grades x 3 most s
+    wire_graded base x most s some memories all t =
         let fits : IsRightSide m grades x s.width most t.right =
-        fits_among (IsRead a least x) (IsOperand m grades x most) no_memory s.width t.right
-        (λ y u among r. earlier_operand least x y u most some r.earlier r.before (all y r.earlier.after r.before)) t.fits
+        other_memory (IsOperand m grades x most) base.memory (λ j. slice_get m.memories j) memories s.width t.right
+        (fits_among (IsRead a base x) (IsOperand m grades x most) base.memory s.width t.right
+        (λ y u among r. earlier_operand base x y u most some r.earlier r.before (all y r.earlier.after r.before)) t.fits)
         in
         record { low = t.low; high = t.high; source = subst (λ (z : Source). IsGradedSource m grades x 3 s.width most z) (sym t.drives) fits }
 
-    pub wire_ranges : (least x : ℕ) (s : Signal) (t : IsWire a least x s) → HasRange m t.right
-    wire_ranges least x s t = range_of m (IsRead a least x) t.right (λ y u r. earlier_has least y u r.earlier) t.selects
+    pub wire_ranges : (base : Base) (x : ℕ) (s : Signal) (t : IsWire a base x s) → HasRange m t.right
+    wire_ranges base x s t = range_of m (IsRead a base x) t.right (λ y u r. earlier_has base y u r.earlier) t.selects

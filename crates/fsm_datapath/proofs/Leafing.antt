@@ -1,25 +1,24 @@
 -- A checked module is a leaf.
-use Rattle.std.proofs.Common.{◌≡◌, ℕ, zero, suc, ◌+◌, ◌<◌, ◌≤◌, Bool, true, false, nat_eq, nat_le, if◌then◌else◌, List, [], ◌∷◌, ◌++◌, length, slice_get, slice_index, Option, Some, min}
+use Rattle.std.proofs.Common.{◌≡◌, ℕ, zero, suc, ◌+◌, ◌<◌, ◌≤◌, Bool, true, false, nat_eq, nat_le, if◌then◌else◌, List, [], ◌∷◌, ◌++◌, length, slice_get, slice_index, Some, min}
 use Rattle.std.proofs.Common.{refl, sym, ap, subst, ◌∙◌, arith, ⊎_elim, ◌≢◌}
 use Rattle.std.proofs.lemmas.Bool.{cases_lt}
 use Rattle.std.proofs.lemmas.Option.{get_or_from_slice_get, slice_get_within}
 use Rattle.interleaving.proofs.Update.{same_or_not}
-use Rattle.netlist.specs.declared.netlist.Value.{Value}
-use Rattle.netlist.specs.declared.netlist.Value.TheVariants.{Copy, Constant, BitwiseNot, Binary, SignedLess, ArithmeticShiftRight, Conditional, Division, SignedDivision, MemoryRead, Select}
-use Rattle.netlist.specs.declared.netlist.Value.TheVariants.{Concatenation, Replication}
 use Rattle.netlist.specs.declared.netlist.Source.{Source}
 use Rattle.netlist.specs.declared.netlist.Source.TheVariants.{Input, Register, Assigned, Port}
 use Rattle.netlist.specs.declared.netlist.Signal.{Signal}
-use Rattle.netlist.specs.declared.netlist.Memory.{Memory}
+use Rattle.netlist.specs.declared.netlist.Effect.{Effect}
+use Rattle.netlist.specs.declared.netlist.Effect.TheVariants as effect
 use Rattle.netlist.specs.declared.netlist.Action.{Action}
 use Rattle.netlist.specs.declared.netlist.Module.{Module}
+use Rattle.netlist.specs.Sound.{is_write}
 use Rattle.verilog_meaning.specs.Readings.{Reading, is_on, effect_bytes, action_bytes}
 use Rattle.circuit.specs.Rows.{EachOf}
-use Rattle.circuit.specs.Modules.{Has, HasInput, FitsValue, FitsAction, FitsMemory, Reads, IsSoundSource, IsSound, IsLeaf}
+use Rattle.circuit.specs.Modules.{Has, HasInput, FitsAction, FitsMemory, Reads, IsSoundSource, IsSound, IsLeaf}
 use Rattle.circuit.proofs.Tables.{fits_among}
 use Rattle.leaf_machine.specs.Settled.{IsUnclocked}
 use Rattle.leaf_machine.specs.Leaves.{Grant, IsHeard, IsClockless, IsEarly, AnswersAreLate, IsSlotBit}
-use Rattle.module_check.specs.Grades.{no_memory, IsOperand, IsGradedSource, AreGrades, ActsRight, IsPort, IsSlotPort}
+use Rattle.module_sound.specs.Grades.{IsOperand, IsGradedSource, AreGrades, ActsRight, IsPort, IsSlotPort}
 use Rattle.block_ir.specs.declared.code.ThreadCode.{ThreadCode}
 use Rattle.block_ir.specs.declared.plan.Planned.{Planned}
 use Rattle.fsm_datapath.specs.declared.shape.Printer.{Printer}
@@ -29,24 +28,7 @@ use Rattle.fsm_datapath.specs.Modules.{IsModule}
 use Rattle.fsm_datapath.specs.Thread.{first_output, IsPlain}
 use Rattle.fsm_datapath.specs.Leaf.{input_at, leaf_of, IsChecked, IsLeafOf}
 use Rattle.module_sound.proofs.Sounding.{placed_is_sound}
-use Rattle.fsm_datapath.proofs.Placed.{shape_is, enable_stands, grant_stands, clock_stands}
-
--- ---- right sides that read no memory
-
-any_memory : (P : ℕ → ℕ → Type 0) (memory : ℕ → Option Memory) (w : ℕ) (v : Value) → FitsValue P no_memory w v → FitsValue P memory w v
-any_memory P memory w (Copy x) f = f
-any_memory P memory w (Constant n) f = f
-any_memory P memory w (BitwiseNot x) f = f
-any_memory P memory w (Binary operator x y) f = f
-any_memory P memory w (SignedLess x y) f = f
-any_memory P memory w (ArithmeticShiftRight x y) f = f
-any_memory P memory w (Conditional c x y) f = f
-any_memory P memory w (Division operator x y) f = f
-any_memory P memory w (SignedDivision operator x y) f = f
-any_memory P memory w (MemoryRead j x) f = absurd (let none = f.1 in cc)
-any_memory P memory w (Select x high low) f = f
-any_memory P memory w (Concatenation xs) f = f
-any_memory P memory w (Replication n x) f = f
+use Rattle.fsm_datapath.proofs.Placed.{enable_stands, grant_stands, clock_stands}
 
 -- ---- lists
 
@@ -54,18 +36,19 @@ each_map : {X : Type 0} (P Q : X → Type 0) (xs : List X) → ((x : X) → P x 
 each_map P Q [] h e = tt
 each_map P Q (x ∷ xs) h e = (h x e.0, each_map P Q xs h e.1)
 
-none_of : (xs : List Memory) → length xs ≡ 0 → EachOf FitsMemory xs
-none_of [] e = tt
-none_of (x ∷ xs) e = absurd (omega arith)
-
 either_same : (t : Bool) (x : List ℕ) → (if t then x else x) ≡ x
 either_same true x = refl
 either_same false x = refl
 
+quiet_effect : (m : Module) (r : Reading) (e : Effect) → is_write e ≡ false → effect_bytes m r e ≡ []
+quiet_effect m r (effect.Set x y) is = refl
+quiet_effect m r (effect.Store j x y) is = refl
+quiet_effect m r (effect.Write text arguments) is = absurd cc
+
 writes_nothing : (m : Module) (r : Reading) (acts : List Action) → EachOf (ActsRight m) acts → action_bytes m r acts ≡ []
 writes_nothing m r [] e = refl
 writes_nothing m r (a ∷ acts) e =
-    ap (λ l. (if is_on r a.conditions then l else []) ++ action_bytes m r acts) (ap (effect_bytes m r) e.0.sets.sets.2)
+    ap (λ l. (if is_on r a.conditions then l else []) ++ action_bytes m r acts) (quiet_effect m r a.effect e.0.sets.silent)
     ∙ ap (λ l. l ++ action_bytes m r acts) (either_same (is_on r a.conditions) [])
     ∙ writes_nothing m r acts e.1
 
@@ -75,7 +58,7 @@ le_more n a b le e = grind arith
 -- ---- a graded module
 
 module _ (m : Module) (grades : List ℕ) (are : AreGrades m 3 (length m.signals) grades) (acts : EachOf (ActsRight m) m.actions) (alone : m.instances ≡ [])
-    (first : (x : ℕ) → x < 3 → HasInput m x) (none : length m.memories ≡ 0) where
+    (first : (x : ℕ) → x < 3 → HasInput m x) (begun : EachOf FitsMemory m.memories) where
   -- a signal of at least this grade
   abbrev grade_of : ℕ → ℕ
   grade_of x = slice_index grades x
@@ -97,13 +80,12 @@ module _ (m : Module) (grades : List ℕ) (are : AreGrades m 3 (length m.signals
       by_source Input g e t = t.0
       by_source (Register n) g e t = t
       by_source (Assigned v) g e t =
-          any_memory (Reads m late x) (λ j. slice_get m.memories j) s.width v
-          (fits_among (IsOperand m grades x g) (Reads m late x) no_memory s.width v
-          (λ y u among o. record { has = o.has; before = o.before; in_time = λ l. stays x y g o.own o.after e o.listed o.most l }) t)
+          fits_among (IsOperand m grades x g) (Reads m late x) (λ j. slice_get m.memories j) s.width v
+          (λ y u among o. record { has = o.has; before = o.before; in_time = λ l. stays x y g o.own o.after e o.listed o.most l }) t
       by_source (Port i p) g e t = t
 
   leaf_by : (late : ℕ → Bool) → ((x y g h : ℕ) → 0 < y → slice_get grades x ≡ Some g → slice_get grades y ≡ Some h → h ≤ g → late y ≡ true → late x ≡ true) → IsLeaf m 3 late
-  leaf_by late stays = record { alone = alone; first = first; sound = sound late stays; acts = acts_fit; begins = none_of m.memories none }
+  leaf_by late stays = record { alone = alone; first = first; sound = sound late stays; acts = acts_fit; begins = begun }
 
   index_is : (x g : ℕ) → slice_get grades x ≡ Some g → grade_of x ≡ g
   index_is x g e = get_or_from_slice_get grades x g 0 e
@@ -177,42 +159,39 @@ module _ (shape : Shape) (code : ThreadCode) (plan : Planned) (printer : Printer
   firsts (suc (suc zero)) less = input_of 2 (grant_stands shape code plan printer m t plain)
   firsts (suc (suc (suc x))) less = absurd (omega arith)
 
-  no_memories : length m.memories ≡ 0
-  no_memories = t.memories ∙ ap length plain.arrays
-
-  answers : (n : ℕ) → nat_le n 2 ≡ true → AnswersAreLate m 3 (leaf_of printer m) 1 parts told (late_from m checked.grades checked.are checked.ports.acts t.alone firsts no_memories n)
+  answers : (n : ℕ) → nat_le n 2 ≡ true → AnswersAreLate m 3 (leaf_of printer m) 1 parts told (late_from m checked.grades checked.are checked.ports.acts t.alone firsts checked.begun n)
   answers n e = record {
-    leaf = graded_leaf m checked.grades checked.are checked.ports.acts t.alone firsts no_memories n;
-    grants = λ k less uses. late_input m checked.grades checked.are checked.ports.acts t.alone firsts no_memories n 2 (omega arith) e;
+    leaf = graded_leaf m checked.grades checked.are checked.ports.acts t.alone firsts checked.begun n;
+    grants = λ k less uses. late_input m checked.grades checked.are checked.ports.acts t.alone firsts checked.begun n 2 (omega arith) e;
     tells = λ k j less uses below. absurd (omega arith);
   }
 
   slot_bit : (place : ℕ) → IsSlotPort m checked.grades place → IsSlotBit m 3 (leaf_of printer m) 1 parts told place
   slot_bit place s = record {
-    late = late_from m checked.grades checked.are checked.ports.acts t.alone firsts no_memories 1;
+    late = late_from m checked.grades checked.are checked.ports.acts t.alone firsts checked.begun 1;
     answered = answers 1 refl;
-    enable = late_input m checked.grades checked.are checked.ports.acts t.alone firsts no_memories 1 1 (omega arith) refl;
-    bit = slot_port m checked.grades checked.are checked.ports.acts t.alone firsts no_memories place s;
+    enable = late_input m checked.grades checked.are checked.ports.acts t.alone firsts checked.begun 1 1 (omega arith) refl;
+    bit = slot_port m checked.grades checked.are checked.ports.acts t.alone firsts checked.begun place s;
   }
 
   has_of : (place : ℕ) → StandsAt m.signals place 1 Input → Has m place 1
   has_of place s = record { signal = s.signal; listed = s.listed; wide = s.wide }
 
   early_output : (x : ℕ) → x < printer.values + 4
-      → late_from m checked.grades checked.are checked.ports.acts t.alone firsts no_memories 2 (first_output printer m + x) ≡ false
+      → late_from m checked.grades checked.are checked.ports.acts t.alone firsts checked.begun 2 (first_output printer m + x) ≡ false
   early_output x less =
       ⊎_elim
       (λ (low : x < printer.values + 2).
-      (early_port m checked.grades checked.are checked.ports.acts t.alone firsts no_memories 1 (first_output printer m + x) (checked.ports.asks x low)).early)
+      (early_port m checked.grades checked.are checked.ports.acts t.alone firsts checked.begun 1 (first_output printer m + x) (checked.ports.asks x low)).early)
       (λ (high : printer.values + 2 ≤ x).
       ⊎_elim
       (λ (same : x ≡ printer.values + 2).
-      ap (λ n. late_from m checked.grades checked.are checked.ports.acts t.alone firsts no_memories 2 (first_output printer m + n)) same
-      ∙ early_slot m checked.grades checked.are checked.ports.acts t.alone firsts no_memories (first_output printer m + (printer.values + 2)) checked.ports.need)
+      ap (λ n. late_from m checked.grades checked.are checked.ports.acts t.alone firsts checked.begun 2 (first_output printer m + n)) same
+      ∙ early_slot m checked.grades checked.are checked.ports.acts t.alone firsts checked.begun (first_output printer m + (printer.values + 2)) checked.ports.need)
       (λ (ne : x ≢ printer.values + 2).
       let last : x ≡ printer.values + 3 = omega arith in
-      ap (λ n. late_from m checked.grades checked.are checked.ports.acts t.alone firsts no_memories 2 (first_output printer m + n)) last
-      ∙ early_slot m checked.grades checked.are checked.ports.acts t.alone firsts no_memories (first_output printer m + (printer.values + 3)) checked.ports.done)
+      ap (λ n. late_from m checked.grades checked.are checked.ports.acts t.alone firsts checked.begun 2 (first_output printer m + n)) last
+      ∙ early_slot m checked.grades checked.are checked.ports.acts t.alone firsts checked.begun (first_output printer m + (printer.values + 3)) checked.ports.done)
       (same_or_not x (printer.values + 2)))
       (cases_lt x (printer.values + 2))
 
@@ -225,12 +204,12 @@ module _ (shape : Shape) (code : ThreadCode) (plan : Planned) (printer : Printer
         grants = λ k less uses. record { input = omega arith; is = ap Grant (sym (core_zero k less)) };
         tells = λ k j less uses below. absurd (omega arith);
       };
-      clockless = clockless m checked.grades checked.are checked.ports.acts t.alone firsts no_memories;
-      late = late_from m checked.grades checked.are checked.ports.acts t.alone firsts no_memories 2;
+      clockless = clockless m checked.grades checked.are checked.ports.acts t.alone firsts checked.begun;
+      late = late_from m checked.grades checked.are checked.ports.acts t.alone firsts checked.begun 2;
       answered = answers 2 refl;
       asks = λ k j less uses below.
           let port = checked.ports.asks j (omega arith) in
-          (port.wide, early_port m checked.grades checked.are checked.ports.acts t.alone firsts no_memories 1 (first_output printer m + j) port);
+          (port.wide, early_port m checked.grades checked.are checked.ports.acts t.alone firsts checked.begun 1 (first_output printer m + j) port);
       need = slot_bit (first_output printer m + (printer.values + 2)) checked.ports.need;
       silent = λ r. writes_nothing m r m.actions checked.ports.acts;
     };
@@ -238,7 +217,7 @@ module _ (shape : Shape) (code : ThreadCode) (plan : Planned) (printer : Printer
     early = early_output;
     acts = checked.ports.acts;
     alone =
-        placed_is_sound m 3 (first_output printer m) checked.grades checked.are checked.ports.acts t.alone (shape_is shape code plan printer m t plain).memories checked.ports.placed
+        placed_is_sound m 3 (first_output printer m) checked.grades checked.are checked.ports.acts t.alone checked.memories checked.ports.placed
         checked.ports.begins;
     fits = record {
       enable = has_of 1 (enable_stands shape code plan printer m t plain);

@@ -2,6 +2,10 @@ pub mod Wiring
 pub mod Linked
 pub mod Taken
 pub mod Between
+pub mod Storing
+pub mod Remembering
+pub mod Putting
+pub mod Blocks
 pub mod Steering
 pub mod Linking
 pub mod Acting

@@ -14,7 +14,6 @@ use Rattle.netlist.specs.declared.netlist.Signal.{Signal}
 use Rattle.netlist.specs.declared.netlist.Module.{Module}
 use Rattle.verilog_meaning.specs.Readings.{Reading, width, signal_width, initial_reading, initial_signal, initial_number}
 use Rattle.verilog_meaning.specs.Cycles.{IsRegister}
-use Rattle.netlist.specs.declared.netlist.Memory.{Memory}
 use Rattle.circuit.specs.Modules.{Obeys, Agree, Has, HasInput}
 use Rattle.circuit.proofs.Growth.{got}
 use Rattle.operator_wires.specs.Gives.{Grows}
@@ -246,15 +245,10 @@ module _ (shape : Shape) (code : ThreadCode) (plan : Planned) (printer : Printer
       let found = got_any t.inside.chains.fields k (subst (λ (n : ℕ). k < n) (sym fields_count) less) in
       has_of (first_output printer m + 1 + k) (field_width printer.site_width k) (Assigned (Copy found.0)) (field_stands k found.0 found.1)
 
-  no_words : (ms : List Memory) → length ms ≡ 0 → ms ≡ []
-  no_words [] e = refl
-  no_words (x ∷ ms) e = absurd (omega arith)
-
   pub shape_is : HasShape shape printer m
   shape_is = record {
     named = t.named;
     alone = t.alone;
-    memories = no_words m.memories (t.memories ∙ ap length plain.arrays);
     inputs = inputs_are;
     long = (let long = t.closed.outputs.long printer plain.printer_is plain.main in let count = fields_count in omega arith);
     ask = has_of (first_output printer m) 1 (Assigned (Copy t.edge.asks)) ask_stands;

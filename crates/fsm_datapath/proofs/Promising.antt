@@ -1,5 +1,5 @@
 -- The module of a thread runs its code.
-use Rattle.std.proofs.Common.{◌≡◌, ◌≢◌, ℕ, zero, suc, ◌+◌, ◌-◌, ◌%◌, ◌<◌, ◌≤◌, ◌^◌, Bool, true, false, not, ◌&&◌, ◌||◌, nat_eq, nat_lt, if◌then◌else◌, List, [], length, slice_get, Option, Some, None, ℤ, pos}
+use Rattle.std.proofs.Common.{◌≡◌, ◌≢◌, ℕ, zero, suc, ◌+◌, ◌-◌, ◌%◌, ◌<◌, ◌≤◌, ◌^◌, Bool, true, false, not, ◌&&◌, ◌||◌, nat_eq, nat_lt, if◌then◌else◌, List, [], length, map, slice_get, Option, Some, None, ℤ, pos}
 use Rattle.std.proofs.Common.{refl, sym, ap, subst, ◌∙◌, arith, ⊎_elim, min}
 use Rattle.std.proofs.Math.Nat.{mod-eq_of_lt}
 use Rattle.std.proofs.lemmas.Bool.{cases_lt}
@@ -10,24 +10,27 @@ use Rattle.hls_ints.specs.Types.{Width, bits_8, bits_16, bits_32, bits_64, Integ
 use Rattle.operator_words.proofs.Typed.{residue_of-zero}
 use Rattle.block_ir.specs.declared.block.Block.{Block}
 use Rattle.block_ir.specs.declared.code.ActOperand.{ActOperand}
+use Rattle.block_ir.specs.declared.code.Act.{Act}
 use Rattle.block_ir.specs.declared.code.Act.TheVariants.{Print, Return}
+use Rattle.block_ir.specs.declared.code.Array.{Array}
 use Rattle.block_ir.specs.declared.code.Stage.{Stage}
 use Rattle.block_ir.specs.declared.code.Stage.TheVariants as stage
 use Rattle.block_ir.specs.declared.code.ThreadCode.{ThreadCode}
 use Rattle.block_ir.specs.declared.plan.BlockPlan.{BlockPlan}
 use Rattle.block_ir.specs.declared.plan.Planned.{Planned}
 use Rattle.planned_block.specs.Block.{Operand, finished, leads_to}
-use Rattle.planned_block.specs.Slot.{Slot, operand_now, gone_on}
+use Rattle.planned_block.specs.Slot.{Slot, operand_now, arrays_next, gone_on}
 use Rattle.planned_block.specs.Advance.{answered, wires, words_next, registers_next, left_for_next, advance}
 use Rattle.planned_block.proofs.Bits.{same_is}
 use Rattle.planned_block.proofs.Total.{wires_wired, registers_right}
 use Rattle.planned_view.specs.View.{planned_view, plan_view}
+use Rattle.netlist.specs.declared.netlist.Memory.{Memory as Words}
 use Rattle.netlist.specs.declared.netlist.Module.{Module}
-use Rattle.verilog_meaning.specs.Readings.{Reading, next_reading, initial_reading}
+use Rattle.verilog_meaning.specs.Readings.{Reading, next_reading, initial_reading, initial_word, or_zero, word_after}
 use Rattle.circuit.specs.Modules.{Obeys, Agree}
 use Rattle.operator_wires.specs.Words.{resized_word}
 use Rattle.thread_promise.specs.Types.{value_type}
-use Rattle.thread_promise.specs.Slots.{ShowsData, ShowsInBlock, AreWithin}
+use Rattle.thread_promise.specs.Slots.{element_at, ShowsData, ShowsInBlock}
 use Rattle.thread_promise.specs.Promise.{operand_of_act, is_print, went_on, first_slot, RunsAt, IsInside, RunsCode}
 use Rattle.block_datapath.specs.Chains.{next_number}
 use Rattle.fsm_datapath.specs.declared.shape.Printer.{Printer}
@@ -38,9 +41,17 @@ use Rattle.fsm_datapath.specs.Modules.{IsModule}
 use Rattle.fsm_datapath.specs.Thread.{places_of, first_output, ports_of, IsPrintable, IsPlain}
 use Rattle.fsm_datapath.proofs.Placed.{stands_agrees, stands_copies, stands_begins, from_inside, stage_stands, state_stands, beat_stands, variable_held, kept_held, kept_within}
 use Rattle.fsm_datapath.proofs.Placed.{fields_count, ask_stands, field_stands, done_stands, got_any}
-use Rattle.fsm_datapath.proofs.Sight.{no_array, does, still, knows, stage_shown, sees_variables, enabled, granted, waiting, wanting, leaves_where, asks_where, stays, words_stay}
+use Rattle.fsm_datapath.proofs.Sight.{memory_of, stored, all_stored, next_words, does, still, knows, stage_shown, sees_variables, enabled, granted, waiting, wanting, leaves_where, asks_where, stays, words_stay}
 use Rattle.fsm_datapath.proofs.Sight.{next_stage, next_state, next_beat, next_variable, next_kept, is_right, kept_of, has_widths, sees_slot, in_stage}
 use Rattle.fsm_datapath.proofs.Ready.{leaves_at_once}
+use Rattle.fsm_datapath.specs.declared.stores.Store.{Store}
+use Rattle.fsm_datapath.specs.Actions.{store_action}
+use Rattle.fsm_datapath.specs.Memories.{memory_for}
+use Rattle.fsm_datapath.specs.Cells.{AreOff}
+use Rattle.fsm_datapath.proofs.Putting.{off_stores}
+use Rattle.fsm_datapath.proofs.Blocks.{cells, next_arrays}
+use Rattle.std.proofs.lemmas.List.{length-replicate}
+use Rattle.std.specs.Prelude.{replicate}
 
 -- ---- numbers
 
@@ -53,6 +64,11 @@ zero_typed bits_32 true = refl
 zero_typed bits_32 false = refl
 zero_typed bits_64 true = refl
 zero_typed bits_64 false = refl
+
+zero_word : (n i : ℕ) → or_zero (slice_get (replicate n 0) i) ≡ 0
+zero_word zero i = refl
+zero_word (suc n) zero = refl
+zero_word (suc n) (suc i) = zero_word n i
 
 and_false : (t : Bool) → (t && false) ≡ false
 and_false true = refl
@@ -95,8 +111,10 @@ module _ (shape : Shape) (code : ThreadCode) (plan : Planned) (printer : Printer
     variables = λ x ty declared.
         stands_begins m (6 + x) (width_of ty) 0 (variable_held shape code plan printer m t plain x ty declared).stands ∙ sym (residue_of-zero (width_of ty));
     typed = λ x ty declared. zero_typed ty.width ty.signed;
-    words = λ a i array listed. absurd (no_array code a array plain.arrays listed);
-    typed_words = λ a i array listed. absurd (no_array code a array plain.arrays listed);
+    words = λ a i array listed less.
+        ap (λ (o : Option Words). initial_word o i) (memory_of shape code plan printer m t plain a array listed) ∙ zero_word array.length i ∙ sym (residue_of-zero (width_of array.ty));
+    typed_words = λ a i array listed less. zero_typed array.ty.width array.ty.signed;
+    outside = λ a array listed. refl;
   }
 
   keeps_so : (h g : Reading) (q : Slot) → Agree m h g → Shows h q → Shows g q
@@ -107,8 +125,11 @@ module _ (shape : Shape) (code : ThreadCode) (plan : Planned) (printer : Printer
     variables = λ x ty declared.
         sym (stands_agrees m h g (6 + x) (width_of ty) 0 agree (variable_held shape code plan printer m t plain x ty declared).stands) ∙ shows.variables x ty declared;
     typed = shows.typed;
-    words = λ a i array listed. absurd (no_array code a array plain.arrays listed);
+    words = λ a i array listed less.
+        let long : length (memory_for (0 + a) array).initial ≡ array.length = length-replicate array.length 0 in
+        sym (agree.words a i (memory_for (0 + a) array) (memory_of shape code plan printer m t plain a array listed) (omega arith)) ∙ shows.words a i array listed less;
     typed_words = shows.typed_words;
+    outside = shows.outside;
   }
 
   keeps_in_so : (h g : Reading) (q : Slot) (b : Block) (p : BlockPlan) → Agree m h g → RunsAt [] code plan q.stage b p → ShowsInBlock [] code (places_of code) b p h q
@@ -140,11 +161,37 @@ module _ (shape : Shape) (code : ThreadCode) (plan : Planned) (printer : Printer
 
   -- ---- a state that is left
 
+  -- the stores leave the arrays of a slot
+  record HoldsArrays (r : Reading) (s : Slot) : Type 0 where
+    words : (a i : ℕ) (array : Array) → slice_get code.arrays a ≡ Some array → i < array.length →
+        (word_after r (map (store_action t.edge.leave) t.inside.stores) a i (r.word a i) ≡ residue_of (width_of array.ty) (s.arrays (element_at a i))) × HasType array.ty (s.arrays (element_at a i))
+    outside : (a : ℕ) (array : Array) → slice_get code.arrays a ≡ Some array → s.arrays (element_at a array.length) ≡ pos 0
+
+  -- where nothing is stored they stay
+  arrays_stay : (r : Reading) (q s : Slot) → Obeys m r → Shows r q → AreOff r (stored shape code plan printer m t plain).added → ((l : Location) → s.arrays l ≡ q.arrays l) → HoldsArrays r s
+  arrays_stay r q s o shows off same = record {
+    words = λ a i array listed less. (
+      ap (λ (l : List Store). word_after r (map (store_action t.edge.leave) l) a i (r.word a i)) (all_stored shape code plan printer m t plain)
+          ∙ off_stores r t.edge.leave (stored shape code plan printer m t plain).added a i (r.word a i) off ∙ shows.words a i array listed less
+          ∙ ap (residue_of (width_of array.ty)) (sym (same (element_at a i))),
+      subst (HasType array.ty) (sym (same (element_at a i))) (shows.typed_words a i array listed less),
+    );
+    outside = λ a array listed. same (element_at a array.length) ∙ shows.outside a array listed;
+  }
+
+  -- at an act nothing is
+  act_off : (r : Reading) (q : Slot) (a : Act) (next : ℕ) → Obeys m r → Shows r q → slice_get code.stages q.stage ≡ Some (stage.Act a next)
+      → AreOff r (stored shape code plan printer m t plain).added
+  act_off r q a next o shows listed =
+      let inside = slice_get_within code.stages q.stage (stage.Act a next) listed in
+      (stored shape code plan printer m t plain).acts m r q.stage a next (from_inside shape code plan printer m t plain) o (knows shape code plan printer m t plain r o)
+      (let z : length code.stages ≤ length code.stages = omega arith in z) inside listed (stage_shown shape code plan printer m t plain r o q shows)
+
   shows_next : (r : Reading) (q s : Slot) (last : Bool) (o : Obeys m r) → Shows r q → r.signal t.edge.leave ≡ 1 → r.signal t.inside.chains.is_last ≡ bit_of last
       → r.signal t.inside.chains.stage ≡ s.stage → (if last then 0 else (q.state + 1) % 2 ^ t.inside.slot.state.width) ≡ s.state → s.beat ≡ not q.beat
       → ((x : ℕ) (ty : IntegerType) → slice_get code.variables x ≡ Some ty → next_number r t.inside.chains.variables x ≡ residue_of (width_of ty) (s.variables x))
-      → ((x : ℕ) (ty : IntegerType) → slice_get code.variables x ≡ Some ty → HasType ty (s.variables x)) → Shows (next_reading m r) s
-  shows_next r q s last o shows on is_last stage_is state_is beat_is variables typed = record {
+      → ((x : ℕ) (ty : IntegerType) → slice_get code.variables x ≡ Some ty → HasType ty (s.variables x)) → HoldsArrays r s → Shows (next_reading m r) s
+  shows_next r q s last o shows on is_last stage_is state_is beat_is variables typed arrays = record {
     stage = next_stage shape code plan printer m t plain r o on ∙ stage_is;
     state =
         next_state shape code plan printer m t plain r o on last is_last
@@ -152,24 +199,27 @@ module _ (shape : Shape) (code : ThreadCode) (plan : Planned) (printer : Printer
     beat = next_beat shape code plan printer m t plain r o on q.beat shows.beat ∙ ap bit_of (sym beat_is);
     variables = λ x ty declared. next_variable shape code plan printer m t plain r o on x ty declared ∙ variables x ty declared;
     typed = typed;
-    words = λ a i array listed. absurd (no_array code a array plain.arrays listed);
-    typed_words = λ a i array listed. absurd (no_array code a array plain.arrays listed);
+    words = λ a i array listed less. next_words shape code plan printer m t plain r o a i ∙ (arrays.words a i array listed less).0;
+    typed_words = λ a i array listed less. (arrays.words a i array listed less).1;
+    outside = arrays.outside;
   }
 
   -- an act that is left
-  act_left : (r : Reading) (q : Slot) (target : ℕ) (o : Obeys m r) → Shows r q → r.signal t.edge.leave ≡ 1 → LeavesAct code t.inside.slot target r t.laid.start t.inside.chains
+  act_left : (r : Reading) (q : Slot) (target : ℕ) (o : Obeys m r) → Shows r q → AreOff r (stored shape code plan printer m t plain).added → r.signal t.edge.leave ≡ 1 →
+      LeavesAct code t.inside.slot target r t.laid.start t.inside.chains
       → Shows (next_reading m r) (went_on target q)
-  act_left r q target o shows on left =
+  act_left r q target o shows off on left =
       shows_next r q (went_on target q) true o shows on left.is_last left.stage refl refl
       (λ x ty declared.
       let v = sees_variables shape code plan printer m t plain r o q shows x ty declared in
       left.variables x ∙ (still shape code plan printer m t plain r o).variables x v.held v.listed ∙ v.shows)
-      shows.typed
+      shows.typed (arrays_stay r q (went_on target q) o shows off (λ l. refl))
 
   -- ---- blocks
 
-  module _ (bank : Location → ℕ) (memory : Memory ℤ) (r : Reading) (q : Slot) (b : Block) (p : BlockPlan) (o : Obeys m r) (inside : IsInside [] code plan m (places_of code) (ports_of printer m) r q b p)
-      (on : r.signal 1 ≡ 1) (within : AreWithin [] code b p q (wires bank (planned_view b) (plan_view b p) q)) where
+  module _ (bank : Location → ℕ) (memory : Memory ℤ) (r : Reading) (q : Slot) (b : Block) (p : BlockPlan) (o : Obeys m r)
+      (inside : IsInside [] code plan m (places_of code) (ports_of printer m) r q b p)
+      (on : r.signal 1 ≡ 1) where
     abbrev wire : ℕ → ℤ
     wire = wires bank (planned_view b) (plan_view b p) q
 
@@ -181,13 +231,35 @@ module _ (shape : Shape) (code : ThreadCode) (plan : Planned) (printer : Printer
         (does shape code plan printer m t plain q.stage (stage.Run b) inside.runs.listed).runs b p refl inside.runs.planned_so bank m r q wire
         (from_inside shape code plan printer m t plain) o (still shape code plan printer m t plain r o) (is_right shape code plan printer m t plain r o q b p inside.runs inside.state inside.shown)
         (in_stage shape code plan printer m t plain r o q b p inside.runs inside.state inside.shown) (sees_slot shape code plan printer m t plain r o q b p inside.runs inside.state inside.shown)
-        (wires_wired bank (planned_view b) (plan_view b p) inside.runs.keeps q) within (has_widths shape code plan printer m t plain r o q b p inside.runs inside.state inside.shown)
+        (wires_wired bank (planned_view b) (plan_view b p) inside.runs.keeps q) (has_widths shape code plan printer m t plain r o q b p inside.runs inside.state inside.shown)
         (knows shape code plan printer m t plain r o)
 
     leave : r.signal t.edge.leave ≡ 1
     leave =
         let g = granted shape code plan printer m t plain r o in
         leaves_where shape code plan printer m t plain r o false false true g.0 made.waits made.wants on g.1
+
+    -- the arrays are those that the state leaves
+    held : (s : Slot) → ((l : Location) → s.arrays l ≡ arrays_next (planned_view b) (plan_view b p) q wire l) → HoldsArrays r s
+    held s same =
+        let listed = inside.runs.listed in
+        let put =
+        (stored shape code plan printer m t plain).runs q.stage b p (slice_get_within code.stages q.stage (stage.Run b) listed) (let z : length code.stages ≤ length code.stages = omega arith in z)
+        listed inside.runs.planned_so bank m r q wire (from_inside shape code plan printer m t plain) o
+        (is_right shape code plan printer m t plain r o q b p inside.runs inside.state inside.shown) (knows shape code plan printer m t plain r o)
+        (in_stage shape code plan printer m t plain r o q b p inside.runs inside.state inside.shown) (sees_slot shape code plan printer m t plain r o q b p inside.runs inside.state inside.shown)
+        (wires_wired bank (planned_view b) (plan_view b p) inside.runs.keeps q) in
+        let shows = inside.shown.shown in
+        let is : (a i : ℕ) → s.arrays (element_at a i) ≡ cells b p q wire (length b.operations) a i (q.arrays (element_at a i)) = λ a i. same (element_at a i) ∙ next_arrays b p q wire a i in
+        record {
+          words = λ a i array there less.
+              let one = put.words t.edge.leave a i (r.word a i) array (q.arrays (element_at a i)) leave there less (shows.words a i array there less) (shows.typed_words a i array there less) in (
+                ap (λ (l : List Store). word_after r (map (store_action t.edge.leave) l) a i (r.word a i)) (all_stored shape code plan printer m t plain) ∙ one.0
+                    ∙ ap (residue_of (width_of array.ty)) (sym (is a i)),
+                subst (HasType array.ty) (sym (is a i)) one.1,
+              );
+          outside = λ a array there. is a array.length ∙ put.outside a array (q.arrays (element_at a array.length)) there ∙ shows.outside a array there;
+        }
 
     abbrev Goal : Slot → Type 0
     Goal s = ((suc q.state < p.states) → ShowsInBlock [] code (places_of code) b p (next_reading m r) s) × Shows (next_reading m r) s
@@ -200,7 +272,8 @@ module _ (shape : Shape) (code : ThreadCode) (plan : Planned) (printer : Printer
           (made.stage ∙ ap (λ c. if c then leads_to value (planned_view b).next else q.stage) e) refl refl
           (λ x ty declared.
           made.variables x ty declared ∙ ap (λ c. residue_of (width_of ty) (if c then finished value (planned_view b).finals q.variables x else q.variables x)) e)
-          (λ x ty declared. subst (λ (c : Bool). HasType ty (if c then finished value (planned_view b).finals q.variables x else q.variables x)) e (made.typed x ty declared)),
+          (λ x ty declared. subst (λ (c : Bool). HasType ty (if c then finished value (planned_view b).finals q.variables x else q.variables x)) e (made.typed x ty declared))
+          (held (left_for_next bank (planned_view b) (plan_view b p) q w) (λ l. refl)),
     )
     by_end false w e =
         let below = inside.state in
@@ -214,7 +287,7 @@ module _ (shape : Shape) (code : ThreadCode) (plan : Planned) (printer : Printer
         (mod-eq_of_lt fits ∙ one) refl
         (λ x ty declared.
         made.variables x ty declared ∙ ap (λ c. residue_of (width_of ty) (if c then finished value (planned_view b).finals q.variables x else q.variables x)) e)
-        (λ x ty declared. subst (λ (c : Bool). HasType ty (if c then finished value (planned_view b).finals q.variables x else q.variables x)) e (made.typed x ty declared))
+        (λ x ty declared. subst (λ (c : Bool). HasType ty (if c then finished value (planned_view b).finals q.variables x else q.variables x)) e (made.typed x ty declared)) (held next (λ l. refl))
         in (
           λ less. record {
             shown = shown;
@@ -280,7 +353,8 @@ module _ (shape : Shape) (code : ThreadCode) (plan : Planned) (printer : Printer
         let le = can.leads in
         let target : min next (length code.stages) ≡ next = omega arith in
         let leave = leaves_where shape code plan printer m t plain r o false true true true printed.leaves.waits printed.wants on grant in
-        subst (λ (n : ℕ). Shows (next_reading m r) (went_on n q)) target (act_left r q (min next (length code.stages)) o shows leave printed.leaves)
+        subst (λ (n : ℕ). Shows (next_reading m r) (went_on n q)) target (act_left r q (min next (length code.stages)) o shows
+        (act_off r q (Print site values) next o shows listed) leave printed.leaves)
 
     waits_on : r.signal 2 ≡ 0 → Shows (next_reading m r) q
     waits_on none =
@@ -318,7 +392,7 @@ module _ (shape : Shape) (code : ThreadCode) (plan : Planned) (printer : Printer
       in
       let wants = wants_none r q (Some (stage.Act Return next)) o shows listed refl in
       let g = granted shape code plan printer m t plain r o in
-      act_left r q (length code.stages) o shows (leaves_where shape code plan printer m t plain r o false false true g.0 left.waits wants on g.1) left
+      act_left r q (length code.stages) o shows (act_off r q Return next o shows listed) (leaves_where shape code plan printer m t plain r o false false true g.0 left.waits wants on g.1) left
 
   ends_so : (r : Reading) (q : Slot) → Obeys m r → Shows r q → q.stage ≡ length code.stages → Shows (next_reading m r) q
   ends_so r q o shows at =

@@ -25,8 +25,8 @@ local_request (Unary operator ty a) local = refl
 local_request (Binary operator ty a b) local = binary_request operator _
 local_request (ReadGlobal x i) local = absurd local
 local_request (WriteGlobal x i a) local = absurd local
-local_request (ReadArray x i) local = refl
-local_request (WriteArray x i a) local = refl
+local_request (ReadArray x n i) local = refl
+local_request (WriteArray x n i a) local = refl
 
 none_requests : (os : List Operation) (k : ℕ) → ((j : ℕ) (o : Operation) → slice_get os j ≡ Some o → IsLocal o) → is_request (slice_index_or (operations_view os) k no_operation).kind ≡ false
 none_requests [] k local = refl

@@ -1,5 +1,5 @@
 -- What a reading of a thread's module shows of the slot, and when it leaves the state.
-use Rattle.std.proofs.Common.{◌≡◌, ℕ, ◌+◌, ◌%◌, ◌<◌, ◌≤◌, ◌^◌, Bool, not, ◌&&◌, ◌||◌, if◌then◌else◌, List, [], length, slice_get, Option, Some}
+use Rattle.std.proofs.Common.{◌≡◌, ℕ, ◌+◌, ◌%◌, ◌<◌, ◌≤◌, ◌^◌, Bool, not, ◌&&◌, ◌||◌, if◌then◌else◌, List, [], length, map, slice_get, Option, Some}
 use Rattle.std.proofs.Common.{sym, ap, subst, ◌∙◌, arith}
 use Rattle.std.proofs.lemmas.Option.{slice_get_within}
 use Rattle.hls_ints.specs.Residues.{bit_of}
@@ -31,18 +31,18 @@ use Rattle.fsm_datapath.specs.declared.shape.Printer.{Printer}
 use Rattle.fsm_datapath.specs.declared.shape.Shape.{Shape}
 use Rattle.fsm_datapath.specs.Links.{AreBits, IsStill}
 use Rattle.fsm_datapath.specs.Stages.{SeesVariables, KnowsStage, HasWidths, DoesStage}
+use Rattle.netlist.specs.declared.netlist.Memory.{Memory}
+use Rattle.fsm_datapath.specs.Actions.{store_action}
+use Rattle.fsm_datapath.specs.Memories.{memory_for}
+use Rattle.fsm_datapath.specs.Cells.{StoresFirst}
+use Rattle.fsm_datapath.proofs.Remembering.{memory_listed}
+use Rattle.std.proofs.lemmas.List.{length-replicate}
 use Rattle.fsm_datapath.specs.Modules.{IsModule}
 use Rattle.fsm_datapath.specs.Actions.{actions_of}
 use Rattle.fsm_datapath.specs.Thread.{places_of, IsPlain}
-use Rattle.fsm_datapath.proofs.Edges.{edge_stays, edge_words, stage_next, state_next, beat_next, variable_next, kept_next}
+use Rattle.fsm_datapath.proofs.Edges.{edge_stores, edge_stays, edge_words, stage_next, state_next, beat_next, variable_next, kept_next}
 use Rattle.fsm_datapath.proofs.Placed.{stands_wide, stands_fits, wide_bit, from_control, from_inside, from_start, enable_at, enable_stands, grant_at, grant_stands, stage_at, stage_stands, state_at}
 use Rattle.fsm_datapath.proofs.Placed.{state_stands, beat_at, beat_stands, variable_held, kept_held, kept_within, variables_at, kept_at}
-
-pub no_array : (code : ThreadCode) (x : ℕ) (a : Array) → code.arrays ≡ [] → slice_get code.arrays x ≡ Some a → ⊥
-no_array code x a none listed = let e : slice_get [] x ≡ Some a = ap (λ (l : List Array). slice_get l x) (sym none) ∙ listed in none_there x e
-  where
-    none_there : (x : ℕ) → slice_get [] x ≡ Some a → ⊥
-    none_there x e = absurd cc
 
 module _ (shape : Shape) (code : ThreadCode) (plan : Planned) (printer : Printer) (m : Module) (t : IsModule shape code plan m) (plain : IsPlain shape code plan printer) where
   pub chains_bits : AreBits t.with_inside t.inside.chains
@@ -60,6 +60,18 @@ module _ (shape : Shape) (code : ThreadCode) (plan : Planned) (printer : Printer
 
   pub kept_count : length t.inside.chains.kept ≡ length t.inside.slot.kept
   kept_count = t.laid.walks.many.kept ∙ t.laid.begins.kept
+
+  -- ---- memories
+
+  pub memory_of : (a : ℕ) (array : Array) → slice_get code.arrays a ≡ Some array → slice_get m.memories a ≡ Some (memory_for (0 + a) array)
+  memory_of a array listed = ap (λ (l : List Memory). slice_get l a) t.memories ∙ memory_listed 0 a code.arrays array listed
+
+  -- what the stages store
+  pub stored : StoresFirst [] code t.inside.slot plan t.laid.with_start t.with_inside [] t.inside.stores (length code.stages)
+  stored = subst (λ (z : List IntegerType). StoresFirst z code t.inside.slot plan t.laid.with_start t.with_inside [] t.inside.stores (length code.stages)) plain.globals t.laid.stores
+
+  pub all_stored : t.inside.stores ≡ stored.added
+  all_stored = stored.more
 
   module _ (r : Reading) (o : Obeys m r) where
     pub still : IsStill r t.inside.slot t.laid.start
@@ -132,6 +144,10 @@ module _ (shape : Shape) (code : ThreadCode) (plan : Planned) (printer : Printer
 
     pub stays : (k : ℕ) → r.signal t.edge.leave ≡ 0 → (next_reading m r).signal k ≡ r.signal k
     stays k off = edge_is k (r.signal k) ∙ edge_stays r t.inside.slot t.inside.chains t.inside.stores t.edge k (r.signal k) off
+
+    pub next_words : (j k : ℕ) → (next_reading m r).word j k ≡ word_after r (map (store_action t.edge.leave) t.inside.stores) j k (r.word j k)
+    next_words j k =
+        ap (λ (l : List Action). word_after r l j k (r.word j k)) t.actions ∙ edge_stores r t.inside.slot t.inside.chains t.inside.stores t.edge j k (r.word j k)
 
     pub words_stay : (j k : ℕ) → r.signal t.edge.leave ≡ 0 → (next_reading m r).word j k ≡ r.word j k
     words_stay j k off =
@@ -221,9 +237,11 @@ module _ (shape : Shape) (code : ThreadCode) (plan : Planned) (printer : Printer
       sees_slot = record {
         variables = sees_variables q shows.shown;
         arrays = record {
-          declared = λ a array listed. absurd (no_array code a array plain.arrays listed);
-          words = λ a i array listed. absurd (no_array code a array plain.arrays listed);
-          typed = λ a i array listed. absurd (no_array code a array plain.arrays listed);
+          declared = λ a array listed. (memory_for (0 + a) array, memory_of a array listed, length-replicate array.length 0);
+          words = shows.shown.words;
+          typed = shows.shown.typed_words;
+          outside = shows.shown.outside;
+          few = λ a array listed. (plain.arrays a array listed).1;
         };
         alive = λ k n alive.
             let v = kept_of k n alive.operation alive.listed alive.register in

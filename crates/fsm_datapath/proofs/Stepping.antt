@@ -88,8 +88,8 @@ module _ (globals : List IntegerType) (code : ThreadCode) (registers : Registers
   }
 
   block_runs : AreBits s0 before → length before.variables ≡ length code.variables → length before.kept ≡ length registers.kept → Runs globals code registers l s3 before after b p
-  block_runs bits variables kept bank m r q wire g o still right inside sees wired within widths knows =
-      let moved = leaves.moves bank m r q wire right (back_1 m g) o inside sees wired within in
+  block_runs bits variables kept bank m r q wire g o still right inside sees wired widths knows =
+      let moved = leaves.moves bank m r q wire right (back_1 m g) o inside sees wired in
       let ends = moved.0 in
       let room : HasRoom globals code registers b p m r before.kept = record {
         count = kept;
@@ -130,7 +130,8 @@ module _ (globals : List IntegerType) (code : ThreadCode) (registers : Registers
       runs = λ c u e f.
           let one : b ≡ c = cc in
           let two : p ≡ u = cc in
-          subst (λ (z : Block). Runs globals code registers l new before after z u) one (subst (λ (z : BlockPlan). Runs globals code registers l new before after b z) two (t.runs bits variables kept));
+          subst (λ (z : Block). Runs globals code registers l new before after z u) one (subst (λ (z : BlockPlan). Runs globals code registers l new before after b z) two
+          (t.runs bits variables kept));
       prints = λ known site next values e. absurd cc;
       returns = λ next e. absurd cc;
       quiet = λ none m r g o knows still here. ap r.signal t.wants ∙ still.wants;
@@ -149,7 +150,7 @@ module _ (globals : List IntegerType) (code : ThreadCode) (registers : Registers
       returns = λ next e. absurd cc;
       quiet = λ no m r g o knows still here. ap r.signal t.wants ∙ still.wants;
     };
-    wired = λ le least site_width known fits linked. t.wired least site_width code linked le;
+    wired = λ le base site_width known fits linked. t.wired base site_width code linked le;
   }
 
   -- an act that is neither a printf nor a return
@@ -163,7 +164,7 @@ module _ (globals : List IntegerType) (code : ThreadCode) (registers : Registers
       returns = λ to e. absurd (no_return cc);
       quiet = λ no m r g o knows still here. ap r.signal t.wants ∙ still.wants;
     };
-    wired = λ le least site_width known fits linked. t.wired least site_width code linked le;
+    wired = λ le base site_width known fits linked. t.wired base site_width code linked le;
   }
 
   pub return_taken : (a : Act) (next : ℕ) (plan : Option StagePlan) → a ≡ Return → TakesReturn code registers l old new before after
@@ -176,7 +177,7 @@ module _ (globals : List IntegerType) (code : ThreadCode) (registers : Registers
       returns = λ to e m r g o knows still here. t.returns bits m r g o knows still le here;
       quiet = λ no m r g o knows still here. ap r.signal t.wants ∙ still.wants;
     };
-    wired = λ le least site_width known fits linked. t.wired least site_width linked le;
+    wired = λ le base site_width known fits linked. t.wired base site_width linked le;
   }
 
   pub print_taken : (a : Act) (next : ℕ) (plan : Option StagePlan) (site : ℕ) (values given : List ActOperand) → a ≡ Print site values → given ≡ values
@@ -195,7 +196,7 @@ module _ (globals : List IntegerType) (code : ThreadCode) (registers : Registers
       returns = λ to e. absurd cc;
       quiet = λ no. absurd (let clash : is_print (Some (stage.Act (Print site values) next)) ≡ false = ap (λ (z : Act). is_print (Some (stage.Act z next))) (sym same) ∙ no in cc);
     };
-    wired = λ le least site_width known fits linked. t.wired plan le least site_width known fits linked;
+    wired = λ le base site_width known fits linked. t.wired plan le base site_width known fits linked;
   }
 
 -- ---- one more stage
@@ -206,8 +207,8 @@ module _ (globals : List IntegerType) (code : ThreadCode) (registers : Registers
       → ((m : Module) (r : Reading) → Grows new m.signals → Obeys m r → KnowsStage code registers m r → r.signal registers.stage.register ≡ l → ShowSame r start middle)
       → DoesStage globals code registers printer l s plan new middle c → DoesStage globals code registers printer l s plan new start c
   started l s plan new start middle c many same t = record {
-    runs = λ b p e f bank m r q wire g o still right inside sees wired within widths knows.
-        t.runs b p e f bank m r q wire g o (still_later r registers start middle (same m r g o knows inside.stage) still) right inside sees wired within widths knows;
+    runs = λ b p e f bank m r q wire g o still right inside sees wired widths knows.
+        t.runs b p e f bank m r q wire g o (still_later r registers start middle (same m r g o knows inside.stage) still) right inside sees wired widths knows;
     prints = λ known site next values e p m r vs g o knows still here seen.
         let shown = same m r g o knows here in
         let made = t.prints known site next values e p m r vs g o knows (still_later r registers start middle shown still) here seen in
@@ -235,9 +236,9 @@ module _ (globals : List IntegerType) (code : ThreadCode) (registers : Registers
   lifted : (l n : ℕ) (s : Stage) (plan : Option StagePlan) (old new : List Signal) (start middle c : Chains) → l ≢ n → n ≤ length code.stages → AreBits old middle
       → StepsOver registers n old new middle c → DoesStage globals code registers printer l s plan old start middle → DoesStage globals code registers printer l s plan new start c
   lifted l n s plan old new start middle c ne le bits step t = record {
-    runs = λ b p e f bank m r q wire g o still right inside sees wired within widths knows.
+    runs = λ b p e f bank m r q wire g o still right inside sees wired widths knows.
         let shown = same m r g o knows inside.stage in
-        let made = t.runs b p e f bank m r q wire (back m g) o still right inside sees wired within widths knows in
+        let made = t.runs b p e f bank m r q wire (back m g) o still right inside sees wired widths knows in
         record {
           is_last = shown.is_last (nat_eq (suc q.state) p.states) made.is_last;
           stage = shown.stage ∙ made.stage;
@@ -284,7 +285,7 @@ module _ (globals : List IntegerType) (code : ThreadCode) (registers : Registers
       bits = λ e. e;
       still = λ m r g o e knows none. same_refl r start;
       does = λ e variables kept k s lt. absurd (omega arith);
-      wired = λ least site_width known fits linked le. record { wires = wires_none least a; linked = linked };
+      wired = λ base site_width known fits linked le. record { wires = wires_none base a; linked = linked };
     }
 
     pub walks_more : (b c : List Signal) (middle after : Chains) (n : ℕ) (s : Stage) → WalksFirst globals code registers printer plan a b start middle n → slice_get code.stages n ≡ Some s
@@ -308,10 +309,10 @@ module _ (globals : List IntegerType) (code : ThreadCode) (registers : Registers
           lifted k n x (slice_get plan.stages k) b c start middle after ne inside (t.bits e) u.step
           (t.does e variables kept k x (let less : k < n = omega arith in less) there))
           (same_or_not k n);
-      wired = λ least site_width known fits linked le.
-          let before = t.wired least site_width known fits linked inside in
-          let last = u.wired inside least site_width known (fits n) before.linked in
-          record { wires = wires_then least a b c before.wires last.wires; linked = last.linked };
+      wired = λ base site_width known fits linked le.
+          let before = t.wired base site_width known fits linked inside in
+          let last = u.wired inside base site_width known (fits n) before.linked in
+          record { wires = wires_then base a b c before.wires last.wires; linked = last.linked };
     }
       where
         back : (m : Module) → Grows c m.signals → Grows b m.signals
@@ -337,10 +338,10 @@ module _ (globals : List IntegerType) (code : ThreadCode) (registers : Registers
           ((t.still m r (back m g) o e knows (λ k less is. absurd (let z : k ≡ length code.stages = sym is ∙ here in omega arith))).waits false still.waits);
       done_wide = u.told.wide;
       done_is = λ m r g o knows. u.told.shows m r g o knows.wide knows.room knows.fits;
-      wired = λ least site_width known fits linked.
-          let before = t.wired least site_width known fits linked (omega arith) in
-          let last = u.idles.wired least site_width code before.linked (omega arith) in
-          (record { wires = wires_then least a b c before.wires last.wires; linked = last.linked }, u.wired least site_width before.linked);
+      wired = λ base site_width known fits linked.
+          let before = t.wired base site_width known fits linked (omega arith) in
+          let last = u.idles.wired base site_width code before.linked (omega arith) in
+          (record { wires = wires_then base a b c before.wires last.wires; linked = last.linked }, u.wired base site_width before.linked);
     }
       where
         back : (m : Module) → Grows c m.signals → Grows b m.signals

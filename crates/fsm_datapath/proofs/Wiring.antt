@@ -1,8 +1,8 @@
 -- Registers, links and wires that stand among signals.
-use Rattle.std.proofs.Common.{◌≡◌, ℕ, zero, suc, ◌+◌, ◌-◌, ◌*◌, ◌/◌, ◌%◌, ◌<◌, ◌≤◌, ◌^◌, Bool, true, false, nat_eq, if◌then◌else◌, List, [], ◌∷◌, ◌++◌, length, map, Option, Some, refl, sym, ap, subst, ◌∙◌, arith}
+use Rattle.std.proofs.Common.{◌≡◌, ℕ, zero, suc, ◌+◌, ◌-◌, ◌*◌, ◌/◌, ◌%◌, ◌<◌, ◌≤◌, ◌^◌, Bool, true, false, if◌then◌else◌, List, [], ◌∷◌, ◌++◌, length, map, Some, refl, sym, ap, subst, ◌∙◌, arith}
 use Rattle.std.proofs.Common.{⊎_elim, length-append, fold}
-use Rattle.std.specs.Prelude.{slice_get, decimal, option_map}
-use Rattle.std.proofs.lemmas.Option.{slice_get_within, slice_get-map}
+use Rattle.std.specs.Prelude.{slice_get, decimal}
+use Rattle.std.proofs.lemmas.Option.{slice_get_within}
 use Rattle.std.proofs.lemmas.Bool.{cases_lt}
 use Rattle.std.proofs.lemmas.Bool.Decides.{nat_tests}
 use Rattle.std.proofs.lemmas.Nat.{pow_pos}
@@ -16,8 +16,7 @@ use Rattle.module_sound.specs.Names.{number_behind, place_of}
 use Rattle.operator_wires.specs.declared.wires.Role.{Role}
 use Rattle.operator_wires.specs.declared.wires.Role.TheVariants.{Clock, Enable, Need, Done, Beat, Grant, Told, Ask, Field, Stage, State, Granted, Variable, Kept, Wire}
 use Rattle.operator_wires.specs.Gives.{Grows}
-use Rattle.operator_wires.specs.Built.{is_single, name_at, Lays, IsEarlier}
-use Rattle.operator_wires.proofs.Giving.{grows_refl}
+use Rattle.operator_wires.specs.Built.{is_single, name_at, Lays}
 use Rattle.operator_wires.proofs.Building.{front}
 use Rattle.fsm_datapath.specs.Wired.{AreFit, Behind, LaysThree, IsSlotRegister, IsNamedOutput}
 
@@ -85,9 +84,11 @@ module _ (P : ℕ → Signal → Type 0) where
 
 -- ---- registers
 
-register_signal : (a b : List Signal) (role : Role) (w n place : ℕ) (t : Lays a b role w false (Register n) place) → ((k : ℕ) → length a < 2 ^ 64 → place_of k (name_at role (length a)) ≡ Some (length a))
+register_signal : (a b : List Signal) (role : Role) (w n place : ℕ) (t : Lays a b role w false (Register n) place) →
+    ((k : ℕ) → length a < 2 ^ 64 → place_of k (name_at role (length a)) ≡ Some (length a))
     → n < 2 ^ w → 1 ≤ w → w ≤ 64 → IsSlotRegister (length a) t.signal
 register_signal a b role w n place t tells fits low high = record {
+  spelled = (role, t.named);
   named = λ k small. ap (place_of k) t.named ∙ tells k small;
   inner = t.flag;
   low = subst (λ z. 1 ≤ z) (sym t.wide) low;
@@ -112,7 +113,7 @@ beat_behind a b w n place t at fits low high =
 pub output_behind : (n : ℕ) (a b : List Signal) (role : Role) (w place : ℕ) (d : Source) → Lays a b role w true d place
     → (length a < 2 ^ 64 → place_of n (name_at role (length a)) ≡ Some (length a)) → Behind (IsNamedOutput n) a b
 output_behind n a b role w place d t tells =
-    behind_laid (IsNamedOutput n) a b role w place true d t (record { named = λ small. ap (place_of n) t.named ∙ tells small; flag = t.flag })
+    behind_laid (IsNamedOutput n) a b role w place true d t (record { spelled = (role, t.named); named = λ small. ap (place_of n) t.named ∙ tells small; flag = t.flag })
 
 pub power_some : (w : ℕ) → 0 < 2 ^ w
 power_some w = pow_pos w

@@ -4,10 +4,11 @@ use Rattle.block_ir.specs.declared.code.ThreadCode.{ThreadCode}
 use Rattle.block_ir.specs.declared.plan.Planned.{Planned}
 use Rattle.netlist.specs.declared.netlist.Module.{Module}
 use Rattle.circuit.specs.Rows.{EachOf}
+use Rattle.circuit.specs.Modules.{FitsMemory}
 use Rattle.leaf_machine.specs.Leaves.{Heard, Clock, Enable, Grant, LeafPorts, IsThreadLeaf, IsSlotBit, FitsPorts}
-use Rattle.module_check.specs.Grades.{AreGrades, ActsRight, IsPort, IsSlotPort}
+use Rattle.module_sound.specs.Grades.{AreGrades, ActsRight, IsPort, IsSlotPort}
 use Rattle.module_sound.specs.Kinds.{IsPlaced}
-use Rattle.module_sound.specs.Sounds.{BeginsWithClock, IsSoundAlone}
+use Rattle.module_sound.specs.Sounds.{AreRightMemories, BeginsWithClock, IsSoundAlone}
 use Rattle.fsm_datapath.specs.declared.shape.Printer.{Printer}
 use Rattle.fsm_datapath.specs.declared.shape.Shape.{Shape}
 use Rattle.fsm_datapath.specs.Thread.{first_output, IsPlain}
@@ -38,8 +39,10 @@ pub record HasPorts (printer : Printer) (m : Module) (grades : List ℕ) : Type 
   pub need : IsSlotPort m grades (first_output printer m + (printer.values + 2))
   pub done : IsSlotPort m grades (first_output printer m + (printer.values + 3))
 
--- and each signal reads earlier ones
+-- each signal reads earlier ones, and the memories are right
 pub record IsChecked (printer : Printer) (m : Module) : Type 0 where
+  pub memories : AreRightMemories m
+  pub begun : EachOf FitsMemory m.memories
   pub grades : List ℕ
   pub are : AreGrades m 3 (length m.signals) grades
   pub ports : HasPorts printer m grades

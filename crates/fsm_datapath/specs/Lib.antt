@@ -7,4 +7,7 @@ pub mod Actions
 pub mod Modules
 pub mod Thread
 pub mod Wired
+pub mod Memories
+pub mod Stores
+pub mod Cells
 pub mod Leaf

@@ -26,7 +26,7 @@ use Rattle.operator_wires.specs.Gives.{Grows}
 use Rattle.operator_wires.specs.Words.{IsWord, resized_word}
 use Rattle.operator_wires.specs.declared.words.Word.{Word}
 use Rattle.thread_promise.specs.Types.{value_type}
-use Rattle.thread_promise.specs.Slots.{IsAlive, AreWithin}
+use Rattle.thread_promise.specs.Slots.{IsAlive}
 use Rattle.thread_promise.specs.Promise.{operand_of_act, is_print}
 use Rattle.block_datapath.specs.declared.registers.Held.{Held}
 use Rattle.block_datapath.specs.declared.registers.Registers.{Registers}
@@ -36,7 +36,7 @@ use Rattle.block_datapath.specs.Chains.{next_number, TellsStage}
 use Rattle.block_datapath.specs.Leave.{HasStage, IsInStage}
 use Rattle.fsm_datapath.specs.declared.shape.Printer.{Printer}
 use Rattle.fsm_datapath.specs.declared.chains.Chains.{Chains}
-use Rattle.operator_wires.specs.Built.{IsEarlier, AddsWord}
+use Rattle.operator_wires.specs.Built.{Base, IsEarlier, AddsWord}
 use Rattle.fsm_datapath.specs.Links.{AreBits, IsStill, ShowSame, AreAsMany}
 use Rattle.fsm_datapath.specs.Wired.{AreSlots, AreLinked, LinkFields, KeepsFields, KeepsLinks, FitStates, StepIsWired}
 
@@ -61,7 +61,7 @@ module _ (code : ThreadCode) (registers : Registers) where
     pub grows : Grows old new
     pub shows : (m : Module) (r : Reading) (variables : ℕ → ℤ) → Grows new m.signals → Obeys m r → SeesVariables m r variables → IsTypedActOperand code operand →
         IsWord m r out (act_type operand) (operand_of_act variables operand)
-    pub wired : (least : ℕ) → AreSlots least old code registers → AddsWord least old new (act_type operand) out
+    pub wired : (base : Base) → AreSlots base old code registers → AddsWord base old new (act_type operand) out
 
   -- where a bit is set the fields of a request are these values, from the second field on: the first n
   pub record AsksValues (old new : List Signal) (at : ℕ) (before after : List ℕ) (values : List ActOperand) (n : ℕ) : Type 0 where
@@ -71,7 +71,7 @@ module _ (code : ThreadCode) (registers : Registers) where
     pub first : (m : Module) (r : Reading) → Grows new m.signals → Obeys m r → 0 < length before → next_number r after 0 ≡ next_number r before 0
     pub asks : (m : Module) (r : Reading) (variables : ℕ → ℤ) (j : ℕ) (v : ActOperand) → Grows new m.signals → Obeys m r → r.signal at ≡ 1 → SeesVariables m r variables → j < n →
         slice_get values j ≡ Some v → IsTypedActOperand code v → suc j < length before → next_number r after (suc j) ≡ residue_of 64 (operand_of_act variables v)
-    pub wired : (least site_width : ℕ) → AreSlots least old code registers → IsEarlier old least at 1 → LinkFields least old site_width before → KeepsFields least old new site_width after
+    pub wired : (base : Base) (site_width : ℕ) → AreSlots base old code registers → IsEarlier old base at 1 → LinkFields base old site_width before → KeepsFields base old new site_width after
 
   -- one of them, in field number j + 1
   pub record AsksValue (old new : List Signal) (at : ℕ) (before after : List ℕ) (j : ℕ) (v : ActOperand) : Type 0 where
@@ -81,7 +81,7 @@ module _ (code : ThreadCode) (registers : Registers) where
     pub others : (m : Module) (r : Reading) (x : ℕ) → Grows new m.signals → Obeys m r → x ≢ suc j → x < length before → next_number r after x ≡ next_number r before x
     pub asks : (m : Module) (r : Reading) (variables : ℕ → ℤ) → Grows new m.signals → Obeys m r → r.signal at ≡ 1 → SeesVariables m r variables → IsTypedActOperand code v →
         suc j < length before → next_number r after (suc j) ≡ residue_of 64 (operand_of_act variables v)
-    pub wired : (least site_width : ℕ) → AreSlots least old code registers → IsEarlier old least at 1 → LinkFields least old site_width before → KeepsFields least old new site_width after
+    pub wired : (base : Base) (site_width : ℕ) → AreSlots base old code registers → IsEarlier old base at 1 → LinkFields base old site_width before → KeepsFields base old new site_width after
 
 -- where a bit is set the first field is the number of a site
 pub record AsksSite (old new : List Signal) (at : ℕ) (before after : List ℕ) (site_width site : ℕ) : Type 0 where
@@ -89,7 +89,7 @@ pub record AsksSite (old new : List Signal) (at : ℕ) (before after : List ℕ)
   pub count : length after ≡ length before
   pub rests : (m : Module) (r : Reading) (x : ℕ) → Grows new m.signals → Obeys m r → r.signal at ≡ 0 → x < length before → next_number r after x ≡ next_number r before x
   pub asks : (m : Module) (r : Reading) → Grows new m.signals → Obeys m r → r.signal at ≡ 1 → 0 < length before → next_number r after 0 ≡ resized_word false 32 site_width site
-  pub wired : (least : ℕ) → IsEarlier old least at 1 → 1 ≤ site_width → site_width ≤ 64 → LinkFields least old site_width before → KeepsFields least old new site_width after
+  pub wired : (base : Base) → IsEarlier old base at 1 → 1 ≤ site_width → site_width ≤ 64 → LinkFields base old site_width before → KeepsFields base old new site_width after
 
 -- ---- one stage
 
@@ -112,14 +112,14 @@ pub record Idles (registers : Registers) (l : ℕ) (old new : List Signal) (befo
   pub wants : after.wants ≡ before.wants
   pub waits : (m : Module) (r : Reading) → Grows new m.signals → Obeys m r → AreBits old before → HasStage registers l m r → r.signal registers.stage.register ≡ l → r.signal before.waits ≡ 0 →
       r.signal after.waits ≡ 1
-  pub wired : (least site_width : ℕ) (code : ThreadCode) → AreLinked least old code registers site_width before → l ≤ length code.stages
-      → KeepsLinks least old new code registers site_width after
+  pub wired : (base : Base) (site_width : ℕ) (code : ThreadCode) → AreLinked base old code registers site_width before → l ≤ length code.stages
+      → KeepsLinks base old new code registers site_width after
 
 -- the last stage, past all others, and the bit that tells it
 pub record EndsAt (code : ThreadCode) (registers : Registers) (old new : List Signal) (before after : Chains) (at : ℕ) : Type 0 where
   pub idles : Idles registers (length code.stages) old new before after
   pub told : TellsStage old new registers (length code.stages) at
-  pub wired : (least site_width : ℕ) → AreLinked least old code registers site_width before → IsEarlier new least at 1
+  pub wired : (base : Base) (site_width : ℕ) → AreLinked base old code registers site_width before → IsEarlier new base at 1
 
 module _ (code : ThreadCode) (registers : Registers) where
   -- an act: it takes one state, which leads to a stage, and changes no variable
@@ -142,7 +142,7 @@ module _ (code : ThreadCode) (registers : Registers) where
     pub wants : after.wants ≡ before.wants
     pub returns : AreBits old before → (m : Module) (r : Reading) → Grows new m.signals → Obeys m r → KnowsStage code registers m r → IsStill r registers before → l ≤ length code.stages
         → r.signal registers.stage.register ≡ l → LeavesAct (length code.stages) r before after
-    pub wired : (least site_width : ℕ) → AreLinked least old code registers site_width before → l ≤ length code.stages → KeepsLinks least old new code registers site_width after
+    pub wired : (base : Base) (site_width : ℕ) → AreLinked base old code registers site_width before → l ≤ length code.stages → KeepsLinks base old new code registers site_width after
 
   pub record TakesPrint (printer : Option Printer) (l site : ℕ) (values : List ActOperand) (next : ℕ) (old new : List Signal) (before after : Chains) : Type 0 where
     pub step : StepsOver registers l old new before after
@@ -161,7 +161,7 @@ module _ (code : ThreadCode) (registers : Registers) where
         next_number r after.fields 0 ≡ resized_word false 32 printer.site_width site
     pub values_are : (m : Module) (r : Reading) (variables : ℕ → ℤ) (j : ℕ) (v : ActOperand) → Grows new m.signals → Obeys m r → r.signal at ≡ 1 → SeesVariables code registers m r variables →
         slice_get values j ≡ Some v → IsTypedActOperand code v → suc j < length before.fields → next_number r after.fields (suc j) ≡ residue_of 64 (operand_of_act variables v)
-    pub wired : (least : ℕ) → AreLinked least old code registers printer.site_width before → IsEarlier old least at 1 → KeepsLinks least old new code registers printer.site_width after
+    pub wired : (base : Base) → AreLinked base old code registers printer.site_width before → IsEarlier old base at 1 → KeepsLinks base old new code registers printer.site_width after
 
 module _ (globals : List IntegerType) (code : ThreadCode) (registers : Registers) where
   -- registers have room for the values that a plan keeps there
@@ -189,7 +189,7 @@ module _ (globals : List IntegerType) (code : ThreadCode) (registers : Registers
   abbrev pub Runs : ℕ → List Signal → Chains → Chains → Block → BlockPlan → Type 0
   Runs l new start c b p =
       (bank : Location → ℕ) (m : Module) (r : Reading) (q : Slot) (wire : ℕ → ℤ) → Grows new m.signals → Obeys m r → IsStill r registers start → IsRight globals code registers b p
-      → IsInStage globals code registers l b p m r q → SeesSlot globals code registers b p m r q → IsWired bank (planned_view b) (plan_view b p) q wire → AreWithin globals code b p q wire
+      → IsInStage globals code registers l b p m r q → SeesSlot globals code registers b p m r q → IsWired bank (planned_view b) (plan_view b p) q wire
       → HasWidths b p → KnowsStage code registers m r → LeavesState l b p r q wire c
 
   -- a block at stage l
@@ -230,8 +230,9 @@ module _ (globals : List IntegerType) (code : ThreadCode) (registers : Registers
         → ShowSame r start c
     pub does : AreBits old start → length start.variables ≡ length code.variables → length start.kept ≡ length registers.kept → (k : ℕ) (s : Stage) → k < n → slice_get code.stages k ≡ Some s →
         DoesStage printer k s (slice_get plan.stages k) new start c
-    pub wired : (least site_width : ℕ) → ((known : Printer) → printer ≡ Some known → known.site_width ≡ site_width) → FitStates registers plan → AreLinked least old code registers site_width start
-        → n ≤ length code.stages → KeepsLinks least old new code registers site_width c
+    pub wired : (base : Base) (site_width : ℕ) → ((known : Printer) → printer ≡ Some known → known.site_width ≡ site_width) → FitStates registers plan →
+        AreLinked base old code registers site_width start
+        → n ≤ length code.stages → KeepsLinks base old new code registers site_width c
 
   -- ALL STAGES, and the end: nothing is done there, and the bit `done` tells it
   pub record WalksAll (printer : Option Printer) (plan : Planned) (old new : List Signal) (start c : Chains) (done : ℕ) : Type 0 where
@@ -246,6 +247,8 @@ module _ (globals : List IntegerType) (code : ThreadCode) (registers : Registers
     pub ends : (m : Module) (r : Reading) → Grows new m.signals → Obeys m r → AreBits old start → KnowsStage code registers m r → IsStill r registers start →
         r.signal registers.stage.register ≡ length code.stages → r.signal c.waits ≡ 1
     pub done_wide : (m : Module) → Grows new m.signals → width m done ≡ 1
-    pub done_is : (m : Module) (r : Reading) → Grows new m.signals → Obeys m r → KnowsStage code registers m r → r.signal done ≡ bit_of (nat_eq (r.signal registers.stage.register) (length code.stages))
-    pub wired : (least site_width : ℕ) → ((known : Printer) → printer ≡ Some known → known.site_width ≡ site_width) → FitStates registers plan → AreLinked least old code registers site_width start
-        → KeepsLinks least old new code registers site_width c × IsEarlier new least done 1
+    pub done_is : (m : Module) (r : Reading) → Grows new m.signals → Obeys m r → KnowsStage code registers m r →
+        r.signal done ≡ bit_of (nat_eq (r.signal registers.stage.register) (length code.stages))
+    pub wired : (base : Base) (site_width : ℕ) → ((known : Printer) → printer ≡ Some known → known.site_width ≡ site_width) → FitStates registers plan →
+        AreLinked base old code registers site_width start
+        → KeepsLinks base old new code registers site_width c × IsEarlier new base done 1

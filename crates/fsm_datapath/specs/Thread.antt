@@ -3,6 +3,7 @@ use Rattle.std.specs.Prelude.{◌≡◌, ℕ, suc, ◌+◌, ◌-◌, ◌<◌, �
 use Rattle.block_ir.specs.declared.block.Operation.{Operation}
 use Rattle.block_ir.specs.declared.block.Block.{Block}
 use Rattle.block_ir.specs.declared.code.ActOperand.{ActOperand}
+use Rattle.block_ir.specs.declared.code.Array.{Array}
 use Rattle.block_ir.specs.declared.code.Act.TheVariants.{Print}
 use Rattle.block_ir.specs.declared.code.Stage.TheVariants as stage
 use Rattle.block_ir.specs.declared.code.ThreadCode.{ThreadCode}
@@ -55,12 +56,12 @@ pub record IsPrintable (code : ThreadCode) (printer : Printer) (site : ℕ) (val
   pub typed : (j : ℕ) (v : ActOperand) → slice_get values j ≡ Some v → IsTypedActOperand code v
   pub leads : next ≤ length code.stages
 
--- the code of main without accesses of memory, planned with enough registers, with a printer that can print what it prints
+-- the code of main without accesses of globals, planned with enough registers, with a printer that can print what it prints
 pub record IsPlain (shape : Shape) (code : ThreadCode) (plan : Planned) (printer : Printer) : Type 0 where
   pub main : shape.is_main ≡ true
   pub globals : shape.globals ≡ []
   pub printer_is : shape.printer ≡ Some printer
-  pub arrays : code.arrays ≡ []
+  pub arrays : (a : ℕ) (array : Array) → slice_get code.arrays a ≡ Some array → (1 ≤ array.length) × (array.length < 2 ^ 31)
   pub locals : (l k : ℕ) (b : Block) (o : Operation) → slice_get code.stages l ≡ Some (stage.Run b) → slice_get b.operations k ≡ Some o → IsLocal o
   pub registers : (l k x : ℕ) (b : Block) (p : BlockPlan) (o : Operation) → slice_get code.stages l ≡ Some (stage.Run b) → slice_get plan.stages l ≡ Some (planned.Run p) →
       slice_get b.operations k ≡ Some o → register_at p.registers k ≡ Some x → x < plan.registers
@@ -72,11 +73,10 @@ pub record IsPlain (shape : Shape) (code : ThreadCode) (plan : Planned) (printer
 abbrev pub RunsPlainCode : Shape → ThreadCode → Planned → Module → Type 0
 RunsPlainCode shape code plan m = (printer : Printer) → IsPlain shape code plan printer → RunsCode [] code plan m (places_of code) (ports_of printer m)
 
--- the ports have their widths, the module has the name that is asked for, and nothing stands in it but its signals
+-- the ports have their widths, the module has the name that is asked for, and no instances
 pub record HasShape (shape : Shape) (printer : Printer) (m : Module) : Type 0 where
   pub named : m.name ≡ shape.name
   pub alone : m.instances ≡ []
-  pub memories : m.memories ≡ []
   pub inputs : (x : ℕ) → x < 3 → HasInput m x × Has m x 1
   pub long : printer.values + 4 ≤ length m.signals
   pub ask : Has m (first_output printer m) 1

@@ -1,6 +1,6 @@
 -- The signals of a thread's module stand in order: inputs, registers, wires that read earlier signals, and outputs, each under
 -- a name that tells its place.
-use Rattle.std.specs.Prelude.{◌≡◌, ℕ, ◌+◌, ◌<◌, ◌≤◌, ◌^◌, true, false, List, [], length, Option, Some, slice_get}
+use Rattle.std.specs.Prelude.{◌≡◌, ℕ, ◌<◌, ◌≤◌, ◌^◌, true, false, List, length, Option, Some, slice_get}
 use Rattle.hls_ints.specs.Types.{IntegerType, width_of}
 use Rattle.block_ir.specs.declared.code.ThreadCode.{ThreadCode}
 use Rattle.block_ir.specs.declared.plan.BlockPlan.{BlockPlan}
@@ -12,12 +12,14 @@ use Rattle.netlist.specs.declared.netlist.Value.TheVariants.{Binary}
 use Rattle.netlist.specs.declared.netlist.Source.TheVariants.{Input, Register, Assigned}
 use Rattle.netlist.specs.declared.netlist.Signal.{Signal}
 use Rattle.module_sound.specs.Names.{place_of}
+use Rattle.operator_wires.specs.declared.wires.Role.{Role}
 use Rattle.operator_wires.specs.declared.wires.Role.TheVariants as role
 use Rattle.operator_wires.specs.Gives.{Grows}
-use Rattle.operator_wires.specs.Built.{Lays, IsEarlier, AreWires, StandsAs}
+use Rattle.operator_wires.specs.Built.{Base, name_at, Lays, IsEarlier, AreWires, StandsAs}
 use Rattle.block_datapath.specs.declared.registers.Held.{Held}
 use Rattle.block_datapath.specs.declared.registers.Registers.{Registers}
 use Rattle.block_datapath.specs.declared.operands.Given.{Given}
+use Rattle.block_datapath.specs.Wired.{HasMemories}
 use Rattle.fsm_datapath.specs.declared.shape.Printer.{Printer}
 use Rattle.fsm_datapath.specs.Outputs.{field_width}
 use Rattle.fsm_datapath.specs.declared.chains.Chains.{Chains}
@@ -42,8 +44,13 @@ pub record LaysThree (old new : List Signal) : Type 0 where
   pub enable : Lays with_clock with_enable role.Enable 1 false Input (length with_clock)
   pub grant : Lays with_enable new role.Grant 1 false Input (length with_enable)
 
+-- the name is that of a signal at the place
+abbrev pub IsSpelled : ℕ → Signal → Type 0
+IsSpelled x s = (role : Role) × (s.name ≡ name_at role x)
+
 -- a register under a name that tells its place
 pub record IsSlotRegister (x : ℕ) (s : Signal) : Type 0 where
+  pub spelled : IsSpelled x s
   pub named : (n : ℕ) → x < 2 ^ 64 → place_of n s.name ≡ Some x
   pub inner : s.is_output ≡ false
   pub low : 1 ≤ s.width
@@ -54,94 +61,95 @@ pub record IsSlotRegister (x : ℕ) (s : Signal) : Type 0 where
 
 -- an output under a name that tells its place among n signals
 pub record IsNamedOutput (n x : ℕ) (s : Signal) : Type 0 where
+  pub spelled : IsSpelled x s
   pub named : x < 2 ^ 64 → place_of n s.name ≡ Some x
   pub flag : s.is_output ≡ true
 
--- ---- registers and chains among signals, behind the first `least` ones
+-- ---- registers and chains among signals, on a base
 
-module _ (least : ℕ) (signals : List Signal) where
+module _ (base : Base) (signals : List Signal) where
   abbrev pub StandAll : List Held → Type 0
-  StandAll registers = (x : ℕ) (h : Held) → slice_get registers x ≡ Some h → IsEarlier signals least h.register h.width
+  StandAll registers = (x : ℕ) (h : Held) → slice_get registers x ≡ Some h → IsEarlier signals base h.register h.width
 
   -- links of chains of these registers
   abbrev pub LinkAll : List Held → List ℕ → Type 0
-  LinkAll registers links = (x y : ℕ) (h : Held) → slice_get links x ≡ Some y → slice_get registers x ≡ Some h → IsEarlier signals least y h.width
+  LinkAll registers links = (x y : ℕ) (h : Held) → slice_get links x ≡ Some y → slice_get registers x ≡ Some h → IsEarlier signals base y h.width
 
   abbrev pub LinkWidths : List ℕ → List ℕ → Type 0
-  LinkWidths widths links = (x y w : ℕ) → slice_get links x ≡ Some y → slice_get widths x ≡ Some w → IsEarlier signals least y w
+  LinkWidths widths links = (x y w : ℕ) → slice_get links x ≡ Some y → slice_get widths x ≡ Some w → IsEarlier signals base y w
 
   -- the values of operations stand as words of types
   abbrev pub ValuesStand : List Given → Type 0
-  ValuesStand values = (k : ℕ) (g : Given) → slice_get values k ≡ Some g → (ty : IntegerType) × StandsAs signals least ty g.word
+  ValuesStand values = (k : ℕ) (g : Given) → slice_get values k ≡ Some g → (ty : IntegerType) × StandsAs signals base ty g.word
 
   -- links of the fields of a request
   abbrev pub LinkFields : ℕ → List ℕ → Type 0
-  LinkFields site_width links = (x y : ℕ) → slice_get links x ≡ Some y → IsEarlier signals least y (field_width site_width x)
+  LinkFields site_width links = (x y : ℕ) → slice_get links x ≡ Some y → IsEarlier signals base y (field_width site_width x)
 
   -- the registers stand, as wide as they say
   pub record AreSlots (code : ThreadCode) (registers : Registers) : Type 0 where
-    pub stage : IsEarlier signals least registers.stage.register registers.stage.width
-    pub state : IsEarlier signals least registers.state.register registers.state.width
-    pub beat : IsEarlier signals least registers.beat 1
+    pub stage : IsEarlier signals base registers.stage.register registers.stage.width
+    pub state : IsEarlier signals base registers.state.register registers.state.width
+    pub beat : IsEarlier signals base registers.beat 1
     pub variables : StandAll registers.variables
     pub kept : StandAll registers.kept
     pub typed : (x : ℕ) (h : Held) (ty : IntegerType) → slice_get registers.variables x ≡ Some h → slice_get code.variables x ≡ Some ty → h.width ≡ width_of ty
     pub count : length registers.variables ≡ length code.variables
     pub room : length code.stages < 2 ^ registers.stage.width
-    pub no_arrays : code.arrays ≡ []
+    pub arrays : HasMemories base code
 
   -- and chains of them
   pub record AreLinked (code : ThreadCode) (registers : Registers) (site_width : ℕ) (c : Chains) : Type 0 where
     pub slots : AreSlots code registers
     pub site_low : 1 ≤ site_width
     pub site_high : site_width ≤ 64
-    pub stage : IsEarlier signals least c.stage registers.stage.width
+    pub stage : IsEarlier signals base c.stage registers.stage.width
     pub variables : LinkAll registers.variables c.variables
     pub kept : LinkAll registers.kept c.kept
     pub variables_count : length c.variables ≡ length registers.variables
     pub kept_count : length c.kept ≡ length registers.kept
     pub fields : LinkFields site_width c.fields
-    pub is_last : IsEarlier signals least c.is_last 1
-    pub needs : IsEarlier signals least c.needs 1
-    pub waits : IsEarlier signals least c.waits 1
-    pub wants : IsEarlier signals least c.wants 1
+    pub is_last : IsEarlier signals base c.is_last 1
+    pub needs : IsEarlier signals base c.needs 1
+    pub waits : IsEarlier signals base c.waits 1
+    pub wants : IsEarlier signals base c.wants 1
 
 -- WIRES ARE ADDED, and the chains are of these registers still
-module _ (least : ℕ) (old new : List Signal) where
+module _ (base : Base) (old new : List Signal) where
   pub record KeepsLinks (code : ThreadCode) (registers : Registers) (site_width : ℕ) (c : Chains) : Type 0 where
-    pub wires : AreWires least old new
-    pub linked : AreLinked least new code registers site_width c
+    pub wires : AreWires base old new
+    pub linked : AreLinked base new code registers site_width c
 
   pub record AddsLinks (widths links : List ℕ) : Type 0 where
-    pub wires : AreWires least old new
-    pub linked : LinkWidths least new widths links
+    pub wires : AreWires base old new
+    pub linked : LinkWidths base new widths links
 
   pub record KeepsFields (site_width : ℕ) (fields : List ℕ) : Type 0 where
-    pub wires : AreWires least old new
-    pub linked : LinkFields least new site_width fields
+    pub wires : AreWires base old new
+    pub linked : LinkFields base new site_width fields
 
 -- ---- control
 
 -- what tells when a state is left, and what follows it, stands
-pub record IsSteered (least : ℕ) (signals : List Signal) (registers : Registers) (inputs : Inputs) (c : Chains) : Type 0 where
-  pub state : IsEarlier signals least registers.state.register registers.state.width
-  pub beat : IsEarlier signals least registers.beat 1
-  pub enable : IsEarlier signals least inputs.enable 1
-  pub printed : (grant : ℕ) → inputs.printed ≡ Some grant → IsEarlier signals least grant 1
-  pub is_last : IsEarlier signals least c.is_last 1
-  pub waits : IsEarlier signals least c.waits 1
-  pub wants : IsEarlier signals least c.wants 1
+pub record IsSteered (base : Base) (signals : List Signal) (registers : Registers) (inputs : Inputs) (c : Chains) : Type 0 where
+  pub state : IsEarlier signals base registers.state.register registers.state.width
+  pub beat : IsEarlier signals base registers.beat 1
+  pub enable : IsEarlier signals base inputs.enable 1
+  pub printed : (grant : ℕ) → inputs.printed ≡ Some grant → IsEarlier signals base grant 1
+  pub is_last : IsEarlier signals base c.is_last 1
+  pub waits : IsEarlier signals base c.waits 1
+  pub wants : IsEarlier signals base c.wants 1
 
 -- the first of its wires asks the printer, and reads no grant
-pub record WiresControl (least : ℕ) (old new : List Signal) (registers : Registers) (inputs : Inputs) (c : Chains) (edge : Edge) : Type 0 where
+pub record WiresControl (base : Base) (old new : List Signal) (registers : Registers) (inputs : Inputs) (c : Chains) (edge : Edge) : Type 0 where
   pub with_asks : List Signal
   pub first : Lays old with_asks role.Wire 1 false (Assigned (Binary And c.wants inputs.enable)) edge.asks
-  pub wires : AreWires least old new
+  pub wires : AreWires base old new
   pub later : Grows with_asks new
-  pub asks : IsEarlier new least edge.asks 1
-  pub leave : IsEarlier new least edge.leave 1
-  pub state : IsEarlier new least edge.state registers.state.width
-  pub beat : IsEarlier new least edge.beat 1
+  pub asks : IsEarlier new base edge.asks 1
+  pub leave : IsEarlier new base edge.leave 1
+  pub state : IsEarlier new base edge.state registers.state.width
+  pub beat : IsEarlier new base edge.beat 1
 
 -- each state of a plan has a number in its register
 abbrev pub FitStates : Registers → Planned → Type 0
@@ -151,5 +159,6 @@ FitStates registers plan = (k : ℕ) (p : BlockPlan) → slice_get plan.stages k
 module _ (code : ThreadCode) (registers : Registers) (printer : Option Printer) (plan : Option StagePlan) (old new : List Signal) (before after : Chains) where
   abbrev pub StepIsWired : Type 0
   StepIsWired =
-      (least site_width : ℕ) → ((known : Printer) → printer ≡ Some known → known.site_width ≡ site_width) → ((p : BlockPlan) → plan ≡ Some (planned.Run p) → p.states ≤ 2 ^ registers.state.width)
-      → AreLinked least old code registers site_width before → KeepsLinks least old new code registers site_width after
+      (base : Base) (site_width : ℕ) → ((known : Printer) → printer ≡ Some known → known.site_width ≡ site_width) →
+      ((p : BlockPlan) → plan ≡ Some (planned.Run p) → p.states ≤ 2 ^ registers.state.width)
+      → AreLinked base old code registers site_width before → KeepsLinks base old new code registers site_width after

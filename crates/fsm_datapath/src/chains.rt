@@ -4,7 +4,7 @@ ghost use Rattle.std.specs.Prelude.{◌≡◌, ℕ, ◌≤◌, map, length, slic
 ghost use Rattle.block_ir.specs.declared.code.ThreadCode.{ThreadCode};
 ghost use Rattle.block_datapath.specs.declared.registers.Held.{Held};
 ghost use Rattle.block_datapath.specs.declared.registers.Registers.{Registers};
-ghost use Rattle.operator_wires.specs.Built.{IsEarlier};
+ghost use Rattle.operator_wires.specs.Built.{Base, IsEarlier};
 ghost use Rattle.fsm_datapath.specs.Outputs.{field_width};
 ghost use Rattle.fsm_datapath.specs.Wired.{AreFit, AreSlots, AreLinked, KeepsLinks, AddsLinks};
 ghost use Rattle.fsm_datapath.specs.Links.{LeadsTo, WaitsAt, WantsAt, AreMore, Begins};
@@ -43,8 +43,8 @@ impl Chains {
         field_widths: &[u64],
     ) -> Result<Chains, AllocError>
         ensures begins { IfOk result (Begins wires.old.signals wires.new.signals registers.now field_widths.now) }
-        ensures wired { IfOk result (λ chains. (least site_width : ℕ) (code : ThreadCode) → AreSlots least wires.old.signals code registers.now → 1 ≤ site_width → site_width ≤ 64
-            → ((k w : ℕ) → slice_get field_widths.now k ≡ Some w → w ≡ field_width site_width k) → KeepsLinks least wires.old.signals wires.new.signals code registers.now site_width chains) }
+        ensures wired { IfOk result (λ chains. (base : Base) (site_width : ℕ) (code : ThreadCode) → AreSlots base wires.old.signals code registers.now → 1 ≤ site_width → site_width ≤ 64
+            → ((k w : ℕ) → slice_get field_widths.now k ≡ Some w → w ≡ field_width site_width k) → KeepsLinks base wires.old.signals wires.new.signals code registers.now site_width chains) }
     {
         let variables = places(wires.alloc, registers.variables.as_slice())?;
         let kept = places(wires.alloc, registers.kept.as_slice())?;
@@ -74,9 +74,9 @@ impl Chains {
         target: usize,
     ) -> Result<(), AllocError>
         ensures leads { OnOk result (LeadsTo wires.old.signals wires.new.signals self.old self.new last target) }
-        ensures wired { OnOk result ((least site_width : ℕ) (code : ThreadCode) → AreLinked least wires.old.signals code registers.now site_width self.old
-            → IsEarlier wires.old.signals least last 1 → IsEarlier wires.old.signals least target registers.now.stage.width
-            → KeepsLinks least wires.old.signals wires.new.signals code registers.now site_width self.new) }
+        ensures wired { OnOk result ((base : Base) (site_width : ℕ) (code : ThreadCode) → AreLinked base wires.old.signals code registers.now site_width self.old
+            → IsEarlier wires.old.signals base last 1 → IsEarlier wires.old.signals base target registers.now.stage.width
+            → KeepsLinks base wires.old.signals wires.new.signals code registers.now site_width self.new) }
     {
         let is_last = wires.either(self.is_last, last)?;
         let stage = wires.choice(registers.stage.width, last, target, self.stage)?;
@@ -88,8 +88,8 @@ impl Chains {
     /// Where the condition holds the thread waits at a core, and the state is not left.
     pub fn wait(&mut self, wires: &mut Wires, condition: usize) -> Result<(), AllocError>
         ensures waits { OnOk result (WaitsAt wires.old.signals wires.new.signals self.old self.new condition) }
-        ensures wired { OnOk result ((least site_width : ℕ) (code : ThreadCode) (registers : Registers) → AreLinked least wires.old.signals code registers site_width self.old
-            → IsEarlier wires.old.signals least condition 1 → KeepsLinks least wires.old.signals wires.new.signals code registers site_width self.new) }
+        ensures wired { OnOk result ((base : Base) (site_width : ℕ) (code : ThreadCode) (registers : Registers) → AreLinked base wires.old.signals code registers site_width self.old
+            → IsEarlier wires.old.signals base condition 1 → KeepsLinks base wires.old.signals wires.new.signals code registers site_width self.new) }
     {
         let needs = wires.either(self.needs, condition)?;
         let waits = wires.either(self.waits, condition)?;
@@ -101,8 +101,8 @@ impl Chains {
     /// Where the condition holds the printer is asked.
     pub fn want(&mut self, wires: &mut Wires, condition: usize) -> Result<(), AllocError>
         ensures wants { OnOk result (WantsAt wires.old.signals wires.new.signals self.old self.new condition) }
-        ensures wired { OnOk result ((least site_width : ℕ) (code : ThreadCode) (registers : Registers) → AreLinked least wires.old.signals code registers site_width self.old
-            → IsEarlier wires.old.signals least condition 1 → KeepsLinks least wires.old.signals wires.new.signals code registers site_width self.new) }
+        ensures wired { OnOk result ((base : Base) (site_width : ℕ) (code : ThreadCode) (registers : Registers) → AreLinked base wires.old.signals code registers site_width self.old
+            → IsEarlier wires.old.signals base condition 1 → KeepsLinks base wires.old.signals wires.new.signals code registers site_width self.new) }
     {
         let needs = wires.either(self.needs, condition)?;
         let wants = wires.either(self.wants, condition)?;
@@ -125,7 +125,7 @@ fn places(alloc: Global, registers: &[Held]) -> Result<Items<usize>, AllocError>
 /// A zero of each width.
 fn zeros(wires: &mut Wires, widths: &[u64]) -> Result<Items<usize>, AllocError>
     ensures more { IfOk result (AreMore wires.old.signals wires.new.signals (length widths.now)) }
-    ensures wired { IfOk result (λ places. (least : ℕ) → least ≤ length wires.old.signals → AreFit widths.now → AddsLinks least wires.old.signals wires.new.signals widths.now places) }
+    ensures wired { IfOk result (λ places. (base : Base) → base.first ≤ length wires.old.signals → AreFit widths.now → AddsLinks base wires.old.signals wires.new.signals widths.now places) }
 {
     let mut zeros = Items::new(wires.alloc);
     for width in widths {

@@ -1,7 +1,7 @@
 // When a state is left, and what follows it then.
 
 ghost use Rattle.std.specs.Prelude.{◌≡◌, ℕ, Some, IfOk};
-ghost use Rattle.operator_wires.specs.Built.{IsEarlier, Adds};
+ghost use Rattle.operator_wires.specs.Built.{Base, IsEarlier, Adds};
 ghost use Rattle.fsm_datapath.specs.declared.shape.Printer.{Printer};
 ghost use Rattle.fsm_datapath.specs.Wired.{LaysThree, IsSteered, WiresControl};
 ghost use Rattle.fsm_datapath.specs.Control.{LaysInputs, Blocks, Follows, Controls};
@@ -63,7 +63,7 @@ pub fn control(
     chains: &Chains,
 ) -> Result<Edge, AllocError>
     ensures controls { IfOk result (Controls wires.old.signals wires.new.signals registers.now inputs chains.now) }
-    ensures wired { IfOk result (λ edge. (least : ℕ) → IsSteered least wires.old.signals registers.now inputs chains.now → WiresControl least wires.old.signals wires.new.signals registers.now inputs chains.now edge) }
+    ensures wired { IfOk result (λ edge. (base : Base) → IsSteered base wires.old.signals registers.now inputs chains.now → WiresControl base wires.old.signals wires.new.signals registers.now inputs chains.now edge) }
 {
     let asks = wires.both(chains.wants, inputs.enable)?;
     let blocked = blocked(wires, inputs.printed, chains.waits, chains.wants, asks)?;
@@ -88,8 +88,8 @@ fn blocked(
     asks: usize,
 ) -> Result<usize, AllocError>
     ensures blocks { IfOk result (Blocks wires.old.signals wires.new.signals printed waits wants asks) }
-    ensures wired { IfOk result (λ place. (least : ℕ) → IsEarlier wires.old.signals least waits 1 → IsEarlier wires.old.signals least wants 1 → IsEarlier wires.old.signals least asks 1
-        → ((grant : ℕ) → printed ≡ Some grant → IsEarlier wires.old.signals least grant 1) → Adds least wires.old.signals wires.new.signals 1 place) }
+    ensures wired { IfOk result (λ place. (base : Base) → IsEarlier wires.old.signals base waits 1 → IsEarlier wires.old.signals base wants 1 → IsEarlier wires.old.signals base asks 1
+        → ((grant : ℕ) → printed ≡ Some grant → IsEarlier wires.old.signals base grant 1) → Adds base wires.old.signals wires.new.signals 1 place) }
 {
     match printed {
         Some(grant) => unmet(wires, grant, waits, wants, asks),
@@ -105,8 +105,8 @@ fn unmet(
     asks: usize,
 ) -> Result<usize, AllocError>
     ensures blocks { IfOk result (Blocks wires.old.signals wires.new.signals (Some grant) waits wants asks) }
-    ensures wired { IfOk result (λ place. (least : ℕ) → IsEarlier wires.old.signals least waits 1 → IsEarlier wires.old.signals least wants 1 → IsEarlier wires.old.signals least asks 1
-        → IsEarlier wires.old.signals least grant 1 → Adds least wires.old.signals wires.new.signals 1 place) }
+    ensures wired { IfOk result (λ place. (base : Base) → IsEarlier wires.old.signals base waits 1 → IsEarlier wires.old.signals base wants 1 → IsEarlier wires.old.signals base asks 1
+        → IsEarlier wires.old.signals base grant 1 → Adds base wires.old.signals wires.new.signals 1 place) }
 {
     let granted = wires.both(asks, grant)?;
     let missing = wires.not(1, granted)?;
@@ -117,8 +117,8 @@ fn unmet(
 /// The state after this one: the first one of the next stage, or the next one of this stage.
 fn next_state(wires: &mut Wires, registers: &Registers, is_last: usize) -> Result<usize, AllocError>
     ensures follows { IfOk result (Follows wires.old.signals wires.new.signals registers.now.state is_last) }
-    ensures wired { IfOk result (λ place. (least : ℕ) → IsEarlier wires.old.signals least registers.now.state.register registers.now.state.width → IsEarlier wires.old.signals least is_last 1
-        → Adds least wires.old.signals wires.new.signals registers.now.state.width place) }
+    ensures wired { IfOk result (λ place. (base : Base) → IsEarlier wires.old.signals base registers.now.state.register registers.now.state.width → IsEarlier wires.old.signals base is_last 1
+        → Adds base wires.old.signals wires.new.signals registers.now.state.width place) }
 {
     let state = registers.state;
     let one = wires.constant(state.width, 1)?;

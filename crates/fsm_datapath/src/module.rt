@@ -1,7 +1,10 @@
 // The module of a thread.
 
-ghost use Rattle.std.specs.Prelude.{◌≡◌, [], length, IfOk};
+ghost use Rattle.std.specs.Prelude.{◌≡◌, ◌≤◌, ◌^◌, [], length, replicate, IfOk};
+ghost use Rattle.fsm_datapath.specs.Memories.{memory_for, memories_from};
 ghost use Rattle.fsm_datapath.specs.Stages.{WalksAll};
+ghost use Rattle.fsm_datapath.specs.Cells.{StoresFirst};
+ghost use Rattle.fsm_datapath.specs.Stores.{StagesKeepStores};
 ghost use Rattle.fsm_datapath.specs.Modules.{LaysInside, Closes, IsModule};
 ghost use Rattle.fsm_datapath.specs.Thread.{RunsPlainCode, HasShapeOfPlainCode};
 ghost use Rattle.fsm_datapath.specs.Leaf.{IsLeafOfPlainCode};
@@ -120,7 +123,8 @@ fn walk(
     planned: &Planned,
 ) -> Result<usize, AllocError>
     ensures walks { IfOk result (WalksAll globals.now code.now registers.now printer planned.now wires.old.signals wires.new.signals chains.old chains.new) }
-    ensures stores { IfOk result (λ done. code.now.arrays ≡ [] → stores.new ≡ stores.old) }
+    ensures puts { IfOk result (λ done. StoresFirst globals.now code.now registers.now planned.now wires.old.signals wires.new.signals stores.old stores.new (length code.now.stages)) }
+    ensures stores { IfOk result (λ done. StagesKeepStores code.now registers.now printer planned.now (length code.now.stages) wires.old.signals wires.new.signals chains.old stores.old stores.new) }
 {
     take_stages(
         wires, registers, chains, stores, code, globals, printer, planned,
@@ -149,23 +153,33 @@ fn close(wires: &mut Wires, shape: &Shape, inside: &Inside) -> Result<Edge, Allo
 
 /// A memory for each local array.
 fn memories(alloc: Global, arrays: &[Array]) -> Result<Items<Memory>, AllocError>
-    ensures { IfOk result (λ memories. length memories ≡ length arrays.now) }
+    ensures memories { IfOk result (λ memories. memories ≡ memories_from 0 arrays.now) }
+    ensures few { IfOk result (λ memories. length arrays.now ≤ 2 ^ 64) }
 {
-    let stem = Identifier::from_text(alloc, "array")?;
     let mut memories = Items::new(alloc);
     for (number, array) in arrays.iter().enumerate() {
-        let name = stem.with_number(alloc, number as u64)?;
-        let initial = zeros(alloc, array.length)?;
-        memories.push(Memory {
-            name,
-            width: u64::from(array.ty.bits()),
-            initial,
-        })?;
+        let memory = memory(alloc, number as u64, *array)?;
+        memories.push(memory)?;
     }
     Ok(memories)
 }
 
-fn zeros(alloc: Global, length: u64) -> Result<Items<u64>, AllocError> {
+fn memory(alloc: Global, number: u64, array: Array) -> Result<Memory, AllocError>
+    ensures { IfOk result (λ memory. memory ≡ memory_for number array) }
+{
+    let stem = Identifier::from_text(alloc, "array")?;
+    let name = stem.with_number(alloc, number)?;
+    let initial = zeros(alloc, array.length)?;
+    Ok(Memory {
+        name,
+        width: u64::from(array.ty.bits()),
+        initial,
+    })
+}
+
+fn zeros(alloc: Global, length: u64) -> Result<Items<u64>, AllocError>
+    ensures { IfOk result (λ zeros. zeros ≡ replicate length 0) }
+{
     let mut zeros = Items::new(alloc);
     for _ in 0..length {
         zeros.push(0)?;

@@ -1,8 +1,11 @@
 // The wires of all stages, one after the other.
 
-ghost use Rattle.std.specs.Prelude.{◌≡◌, [], length, slice_get, Option, Some, IfOk, OnOk};
+ghost use Rattle.std.specs.Prelude.{length, slice_get, Option, Some, IfOk, OnOk};
 ghost use Rattle.block_ir.specs.declared.code.Stage.TheVariants as taken;
 ghost use Rattle.fsm_datapath.specs.declared.shape.Printer.{Printer};
+ghost use Rattle.block_ir.specs.declared.plan.StagePlan.TheVariants as stage_plan;
+ghost use Rattle.fsm_datapath.specs.Cells.{StoresBlock, StoresStage, StoresFirst};
+ghost use Rattle.fsm_datapath.specs.Stores.{StageKeepsStores, StagesKeepStores};
 ghost use Rattle.fsm_datapath.specs.Stages.{RunsBlock, TakesStage, WalksFirst, EndsAt};
 
 use crate::acts::{idle, take_act};
@@ -32,7 +35,8 @@ pub fn take_stages(
     planned: &Planned,
 ) -> Result<(), AllocError>
     ensures walks { OnOk result (WalksFirst globals.now code.now registers.now printer planned.now wires.old.signals wires.new.signals chains.old chains.new (length code.now.stages)) }
-    ensures stores { OnOk result (code.now.arrays ≡ [] → stores.new ≡ stores.old) }
+    ensures puts { OnOk result (StoresFirst globals.now code.now registers.now planned.now wires.old.signals wires.new.signals stores.old stores.new (length code.now.stages)) }
+    ensures stores { OnOk result (StagesKeepStores code.now registers.now printer planned.now (length code.now.stages) wires.old.signals wires.new.signals chains.old stores.old stores.new) }
 {
     for (number, stage) in code.stages.as_slice().iter().enumerate() {
         take_stage(
@@ -70,7 +74,8 @@ fn take_stage(
     stage: &Stage,
 ) -> Result<(), AllocError>
     ensures takes { OnOk result (TakesStage globals.now code.now registers.now printer number stage.now (slice_get planned.now.stages number) wires.old.signals wires.new.signals chains.old chains.new) }
-    ensures stores { OnOk result (code.now.arrays ≡ [] → stores.new ≡ stores.old) }
+    ensures puts { OnOk result (StoresStage globals.now code.now registers.now number stage.now (slice_get planned.now.stages number) wires.old.signals wires.new.signals stores.old stores.new) }
+    ensures stores { OnOk result (StageKeepsStores code.now registers.now number (slice_get planned.now.stages number) wires.old.signals wires.new.signals chains.old stores.old stores.new) }
 {
     match stage {
         Stage::Run(block) => match planned.stages.get(number) {
@@ -99,7 +104,8 @@ fn take_block(
 ) -> Result<(), AllocError>
     ensures takes { OnOk result ((printer : Option Printer) → TakesStage globals.now code.now registers.now printer number (taken.Run block.now) (Some plan.now) wires.old.signals wires.new.signals
         chains.old chains.new) }
-    ensures stores { OnOk result (code.now.arrays ≡ [] → stores.new ≡ stores.old) }
+    ensures puts { OnOk result (StoresStage globals.now code.now registers.now number (taken.Run block.now) (Some plan.now) wires.old.signals wires.new.signals stores.old stores.new) }
+    ensures stores { OnOk result (StageKeepsStores code.now registers.now number (Some plan.now) wires.old.signals wires.new.signals chains.old stores.old stores.new) }
 {
     match plan {
         StagePlan::Run(plan) => run(
@@ -122,7 +128,8 @@ fn run(
     plan: &BlockPlan,
 ) -> Result<(), AllocError>
     ensures runs { OnOk result (RunsBlock globals.now code.now registers.now number block.now plan.now wires.old.signals wires.new.signals chains.old chains.new) }
-    ensures stores { OnOk result (code.now.arrays ≡ [] → stores.new ≡ stores.old) }
+    ensures puts { OnOk result (StoresBlock globals.now code.now registers.now number block.now plan.now wires.old.signals wires.new.signals stores.old stores.new) }
+    ensures stores { OnOk result (StageKeepsStores code.now registers.now number (Some (stage_plan.Run plan.now)) wires.old.signals wires.new.signals chains.old stores.old stores.new) }
 {
     let left = leave_block(
         wires,

@@ -1,12 +1,13 @@
 // Stores into the memories of a module.
 
-ghost use Rattle.std.specs.Prelude.{◌≡◌, [], ℕ, slice_get, OnOk};
-ghost use Rattle.operator_wires.specs.Built.{AreWires};
-ghost use Rattle.fsm_datapath.specs.Wired.{AreSlots, ValuesStand};
+ghost use Rattle.std.specs.Prelude.{◌≡◌, ℕ, length, slice_get, OnOk};
+ghost use Rattle.block_ir.specs.declared.block.Operation.TheVariants as operation;
+ghost use Rattle.fsm_datapath.specs.Cells.{PutsWord, PutsOne, PutsFirst};
+ghost use Rattle.fsm_datapath.specs.Stores.{AddsStores, PutsStore};
 ghost use Rattle.operator_wires.specs.Gives.{Grows};
 
 use block_datapath::operands::{Given, operand_word};
-use block_datapath::operations::address;
+use block_datapath::operations::{address, start_of};
 use block_datapath::registers::Registers;
 use block_datapath::states::{Moment, in_state};
 use block_ir::block::{Block, Operation};
@@ -39,11 +40,12 @@ pub fn store_all(
     end: Moment,
 ) -> Result<(), AllocError>
     ensures grows { OnOk result (Grows wires.old.signals wires.new.signals) }
-    ensures bare { OnOk result (code.now.arrays ≡ [] → stores.new ≡ stores.old) }
-    ensures wired { OnOk result ((least : ℕ) → AreSlots least wires.old.signals code.now registers.now → ValuesStand least wires.old.signals values.now → AreWires least wires.old.signals wires.new.signals) }
+    ensures puts { OnOk result (PutsFirst wires.old.signals wires.new.signals registers.now end.at end.states stores.old stores.new code.now values.now block.now.operations plan.now.starts
+        (length block.now.operations)) }
+    ensures wired { OnOk result (AddsStores wires.old.signals wires.new.signals code.now registers.now values.now end.at end.states stores.old stores.new) }
 {
     for (number, operation) in block.operations.as_slice().iter().enumerate() {
-        let start = plan.starts.get(number).copied().unwrap_or(0);
+        let start = start_of(plan, number);
         let moment = Moment {
             at: end.at,
             state: start,
@@ -65,14 +67,20 @@ fn store_one(
     moment: Moment,
 ) -> Result<(), AllocError>
     ensures grows { OnOk result (Grows wires.old.signals wires.new.signals) }
-    ensures bare { OnOk result (code.now.arrays ≡ [] → stores.new ≡ stores.old) }
-    ensures wired { OnOk result ((least : ℕ) → AreSlots least wires.old.signals code.now registers.now → ValuesStand least wires.old.signals values.now → AreWires least wires.old.signals wires.new.signals) }
+    ensures puts { OnOk result (PutsOne wires.old.signals wires.new.signals registers.now moment stores.old stores.new code.now values.now operation.now) }
+    ensures wired { OnOk result (AddsStores wires.old.signals wires.new.signals code.now registers.now values.now moment.at moment.states stores.old stores.new) }
 {
     match operation {
+        Operation::Unary { .. } => Ok(()),
+        Operation::Binary { .. } => Ok(()),
+        Operation::ReadGlobal { .. } => Ok(()),
+        Operation::WriteGlobal { .. } => Ok(()),
+        Operation::ReadArray { .. } => Ok(()),
         Operation::WriteArray {
             array,
             index,
             value,
+            ..
         } => write_array(
             wires,
             registers,
@@ -84,7 +92,6 @@ fn store_one(
             value,
             moment,
         ),
-        _ => Ok(()),
     }
 }
 
@@ -100,8 +107,8 @@ fn write_array(
     moment: Moment,
 ) -> Result<(), AllocError>
     ensures grows { OnOk result (Grows wires.old.signals wires.new.signals) }
-    ensures bare { OnOk result (code.now.arrays ≡ [] → stores.new ≡ stores.old) }
-    ensures wired { OnOk result ((least : ℕ) → AreSlots least wires.old.signals code.now registers.now → ValuesStand least wires.old.signals values.now → AreWires least wires.old.signals wires.new.signals) }
+    ensures puts { OnOk result ((n : ℕ) → PutsOne wires.old.signals wires.new.signals registers.now moment stores.old stores.new code.now values.now (operation.WriteArray array n index.now value.now)) }
+    ensures wired { OnOk result (AddsStores wires.old.signals wires.new.signals code.now registers.now values.now moment.at moment.states stores.old stores.new) }
 {
     let types = code.variables.as_slice();
     let index = operand_word(wires, registers, types, values, index, moment.state)?;
@@ -129,6 +136,8 @@ fn put(
     moment: Moment,
 ) -> Result<(), AllocError>
     ensures grows { OnOk result (Grows wires.old.signals wires.new.signals) }
+    ensures puts { OnOk result (PutsWord wires.old.signals wires.new.signals registers.now moment stores.old stores.new memory array index value) }
+    ensures wired { OnOk result (PutsStore wires.old.signals wires.new.signals registers.now memory array index value moment stores.old stores.new) }
 {
     let condition = in_state(wires, registers, moment)?;
     let address = address(wires, index, array.length)?;

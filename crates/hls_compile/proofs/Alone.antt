@@ -7,35 +7,28 @@ use Rattle.ir_lower.specs.Taken.{is_sequential_program, is_taken_function}
 use Rattle.ir_lower.proofs.Untaken.{untaken_calls, taken_calls_none}
 use Rattle.program_machine.specs.Built.{IsSingle}
 use Rattle.hls_compile.specs.declared.unbuilt.Construct.TheVariants as construct
-use Rattle.hls_compile.specs.declared.BuildError.{BuildError}
-use Rattle.hls_compile.specs.declared.BuildError.TheVariants as build
-use Rattle.hls_compile.specs.Compiled.{HasUnbuilt, IsAlone}
-use Rattle.hls_compile.specs.Stops.{StopsBuild, StopsRun}
+use Rattle.hls_compile.specs.Compiled.{HasConstruct, IsAlone}
 
-pub has_threads : (P : Program) → P.threads ≢ [] → HasUnbuilt P construct.Threads
-has_threads P h = (inl h, λ e. absurd cc)
+pub has_threads : (P : Program) → P.threads ≢ [] → HasConstruct P construct.Threads
+has_threads P h = inl h
 
-pub has_mutexes : (P : Program) → P.mutexes ≢ [] → HasUnbuilt P construct.Threads
-has_mutexes P h = (inr (inl h), λ e. absurd cc)
+pub has_mutexes : (P : Program) → P.mutexes ≢ [] → HasConstruct P construct.Threads
+has_mutexes P h = inr (inl h)
 
-pub has_barriers : (P : Program) → P.barriers ≢ [] → HasUnbuilt P construct.Threads
-has_barriers P h = (inr (inr (inl h)), λ e. absurd cc)
+pub has_barriers : (P : Program) → P.barriers ≢ [] → HasConstruct P construct.Threads
+has_barriers P h = inr (inr (inl h))
 
-pub has_thread_calls : (P : Program) → is_sequential_program P ≡ false → HasUnbuilt P construct.Threads
-has_thread_calls P h = (inr (inr (inr h)), λ e. absurd cc)
+pub has_thread_calls : (P : Program) → is_sequential_program P ≡ false → HasConstruct P construct.Threads
+has_thread_calls P h = inr (inr (inr h))
 
-pub has_globals : (P : Program) → P.globals ≢ [] → HasUnbuilt P construct.Globals
-has_globals P h = (h, λ e. absurd cc)
+pub has_globals : (P : Program) → P.globals ≢ [] → HasConstruct P construct.Globals
+has_globals P h = h
 
-pub has_calls : (P : Program) → is_taken_function (slice_get P.functions P.main) ≡ false → IsResolved P → HasUnbuilt P construct.Calls
-has_calls P fails resolved = (untaken_calls P resolved fails, λ e. absurd cc)
+pub has_calls : (P : Program) → is_taken_function (slice_get P.functions P.main) ≡ false → IsResolved P → HasConstruct P construct.Calls
+has_calls P fails resolved = untaken_calls P resolved fails
 
-pub not_checked : (P : Program) → HasUnbuilt P construct.Unchecked
-not_checked P = (tt, λ e. absurd cc)
-
-pub stops_run : (P : Program) (e : BuildError) → StopsBuild P e → StopsRun P e
-stops_run P (build.NotBuilt c) is = is.0
-stops_run P build.Memory is = tt
+pub not_checked : (P : Program) → HasConstruct P construct.Unchecked
+not_checked P = tt
 
 pub alone : (P : Program) → IsSingle P → is_sequential_program P ≡ true → is_taken_function (slice_get P.functions P.main) ≡ true → IsAlone P
 alone P is sequential taken = record {

@@ -1,7 +1,7 @@
 pub mod Alone
+pub mod Arrays
 pub mod Few
 pub mod Good
-pub mod Locals
 pub mod Main
 pub mod Plain
 pub mod Printable

@@ -6,11 +6,10 @@ use Rattle.block_ir.specs.declared.plan.Planned.{Planned}
 use Rattle.verilog_tree.specs.Scope.{is_clk}
 use Rattle.netlist.specs.declared.netlist.Action.{Action}
 use Rattle.netlist.specs.declared.netlist.Module.{Module}
-use Rattle.netlist.specs.Sound.{is_write}
 use Rattle.circuit.specs.Rows.{EachOf}
 use Rattle.circuit.specs.Modules.{Has}
 use Rattle.leaf_machine.specs.Standing.{main_inputs, main_outputs, IsSilent, IsMainModule}
-use Rattle.module_check.specs.Grades.{ActsRight}
+use Rattle.module_sound.specs.Grades.{ActsRight}
 use Rattle.thread_promise.specs.Promise.{RunsCode}
 use Rattle.fsm_datapath.specs.Leaf.{leaf_of, IsLeafOf}
 use Rattle.fsm_datapath.specs.Thread.{first_output, places_of, ports_of, HasShape}
@@ -19,7 +18,7 @@ use Rattle.hls_compile.specs.Parts.{main_shape, main_printer}
 
 silent_each : (m : Module) (actions : List Action) → EachOf (ActsRight m) actions → EachOf IsSilent actions
 silent_each m [] h = tt
-silent_each m (a ∷ actions) h = (ap is_write h.0.sets.sets.2, silent_each m actions h.1)
+silent_each m (a ∷ actions) h = (h.0.sets.silent, silent_each m actions h.1)
 
 module _ (m : Module) (shape : HasShape main_shape main_printer m) where
   abbrev first : ℕ

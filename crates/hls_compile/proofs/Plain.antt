@@ -1,4 +1,4 @@
--- The code of main alone by its sequential plan is plain: no access of memory, registers enough, and a printf that the printer
+-- The code of main alone by its sequential plan is plain: its arrays fit, no access of a global, registers enough, and a printf that the printer
 -- can print.
 use Rattle.std.proofs.Common.{◌≡◌, ℕ, zero, suc, ◌<◌, ◌≤◌, ◌^◌, Bool, true, false, if◌then◌else◌, List, [], ◌∷◌, length, Option, Some, None, refl, sym, ap, ◌∙◌, subst, arith}
 use Rattle.std.specs.Prelude.{slice_get}
@@ -13,6 +13,7 @@ use Rattle.block_ir.specs.declared.code.ActOperand.{ActOperand}
 use Rattle.block_ir.specs.declared.code.ActOperand.TheVariants.{Constant, Variable}
 use Rattle.block_ir.specs.declared.code.Stage.{Stage}
 use Rattle.block_ir.specs.declared.code.Stage.TheVariants as stage
+use Rattle.block_ir.specs.declared.code.Array.{Array}
 use Rattle.block_ir.specs.declared.code.ThreadCode.{ThreadCode}
 use Rattle.block_ir.specs.declared.plan.BlockPlan.{BlockPlan}
 use Rattle.block_ir.specs.declared.plan.StagePlan.{StagePlan}
@@ -24,12 +25,13 @@ use Rattle.planned_view.specs.View.{register_at, operations_view, planned_view}
 use Rattle.code_following.specs.Following.{print_formats}
 use Rattle.fsm_plan.specs.Sequential.{IsSequentialBlock, EachSequential, IsSequential}
 use Rattle.ir_lower.specs.Typed.{types_of, IsTypedValue, IsTypedCode}
-use Rattle.program_machine.specs.Built.{IsOperator, IsCode}
+use Rattle.program_machine.specs.Built.{IsLocalOperation, IsCode}
 use Rattle.block_datapath.specs.Operations.{IsLocal}
 use Rattle.fsm_datapath.specs.Stages.{IsTypedActOperand}
 use Rattle.fsm_datapath.specs.Thread.{IsPrintable, IsPlain}
 use Rattle.planned_code.proofs.Chains.{typed_at}
 use Rattle.hls_compile.specs.Parts.{main_shape, main_printer}
+use Rattle.hls_compile.proofs.Arrays.{IsFit}
 
 -- ---- registers
 
@@ -62,13 +64,13 @@ view_length (o ∷ os) = ap suc (view_length os)
 
 -- ---- operations and operands
 
-is_local : (o : Operation) → IsOperator o → IsLocal o
+is_local : (o : Operation) → IsLocalOperation o → IsLocal o
 is_local (Unary operator ty a) h = tt
 is_local (Binary operator ty a b) h = tt
 is_local (ReadGlobal x i) h = absurd h
 is_local (WriteGlobal x i a) h = absurd h
-is_local (ReadArray x i) h = absurd h
-is_local (WriteArray x i a) h = absurd h
+is_local (ReadArray x n i) h = tt
+is_local (WriteArray x n i a) h = tt
 
 operand_typed : (P : Program) (code : ThreadCode) (v : ActOperand) → IsTypedValue (types_of P code) v → IsTypedActOperand code v
 operand_typed P code (Constant ty v) h = h
@@ -82,7 +84,8 @@ all_at P code (w ∷ vs) (suc j) v all e = all_at P code vs j v all.1 e
 
 -- ---- all of it
 
-module _ (P : Program) (code : ThreadCode) (plan : Planned) (few : length (print_formats P) < 2 ^ 16) (coded : IsCode P code plan 4) (typed : IsTypedCode P code) (is : IsSequential code plan) where
+module _ (P : Program) (code : ThreadCode) (plan : Planned) (few : length (print_formats P) < 2 ^ 16) (coded : IsCode P code plan 4) (typed : IsTypedCode P code) (is : IsSequential code plan)
+    (arrays : (a : ℕ) (array : Array) → slice_get code.arrays a ≡ Some array → IsFit array) where
   enough : (l k x : ℕ) (b : Block) (p : BlockPlan) (o : Operation) → slice_get code.stages l ≡ Some (stage.Run b) → slice_get plan.stages l ≡ Some (planned.Run p) →
       slice_get b.operations k ≡ Some o → register_at p.registers k ≡ Some x → x < plan.registers
   enough l k x b p o at planned_so listed kept =
@@ -108,7 +111,7 @@ module _ (P : Program) (code : ThreadCode) (plan : Planned) (few : length (print
     main = refl;
     globals = refl;
     printer_is = refl;
-    arrays = coded.arrays;
+    arrays = arrays;
     locals = λ l k b o at listed. is_local o ((coded.stages l (stage.Run b) at).0 k o listed);
     registers = enough;
     site_low = (let some : 1 ≤ 16 = omega arith in some);

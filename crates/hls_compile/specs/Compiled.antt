@@ -1,11 +1,9 @@
 -- What a text is compiled to, and what programs have that is not built yet.
-use Rattle.std.specs.Prelude.{◌≡◌, ◌≢◌, ◌⊎◌, ℕ, ◌≤◌, List, [], Some, false, slice_get, Contains}
-use Rattle.c_program.specs.declared.tree.LocalVariable.{LocalVariable}
-use Rattle.c_program.specs.Tree.{Function, Program}
+use Rattle.std.specs.Prelude.{◌≡◌, ◌≢◌, ◌⊎◌, ℕ, ◌≤◌, List, [], false}
+use Rattle.c_program.specs.Tree.{Program}
 use Rattle.c_program.specs.Calls.{Calls}
 use Rattle.c_program.specs.Weight.{thread_count}
 use Rattle.ir_lower.specs.Taken.{is_sequential_program}
-use Rattle.planned_code.specs.Planned.{HasScalars}
 use Rattle.netlist.specs.declared.netlist.Netlist.{Netlist}
 use Rattle.good_verilog.specs.GoodVerilog.{IsGoodVerilog}
 use Rattle.whole_net.specs.Whole.{IsNetOf}
@@ -23,25 +21,12 @@ HasThreads P = (P.threads ≢ []) ⊎ ((P.mutexes ≢ []) ⊎ ((P.barriers ≢ [
 abbrev pub HasCalls : Program → Type 0
 HasCalls P = (g : ℕ) × Calls P.functions P.main g
 
--- a local of main is no scalar
-pub record HasArrays (P : Program) : Type 0 where
-  pub main : Function
-  pub found : slice_get P.functions P.main ≡ Some main
-  pub local : LocalVariable
-  pub declared : Contains main.locals local
-  pub array : local.length ≢ 1
-
 -- the program has the construct. Of one that a check does not find in order nothing is said
 abbrev pub HasConstruct : Program → Construct → Type 0
 HasConstruct P construct.Threads = HasThreads P
 HasConstruct P construct.Globals = P.globals ≢ []
 HasConstruct P construct.Calls = HasCalls P
-HasConstruct P construct.Arrays = HasArrays P
 HasConstruct P construct.Unchecked = Unit {0}
-
--- the same of a program that is not to be run: local arrays are built
-abbrev pub HasUnbuilt : Program → Construct → Type 0
-HasUnbuilt P c = HasConstruct P c × (c ≢ construct.Arrays)
 
 -- main alone, without pthread calls, without globals and without calls
 pub record IsAlone (P : Program) : Type 0 where
@@ -52,22 +37,20 @@ pub record IsAlone (P : Program) : Type 0 where
 -- ---- what is
 
 -- the text is accepted as a program of main alone, of so many threads and this weight; and what is written is good Verilog of it
--- where its locals are scalars
 pub record IsCompiled (text : List ℕ) (threads weight : ℕ) (written : List ℕ) : Type 0 where
   pub program : Program
   pub accepted : IsAccepted text program weight
   pub alone : IsAlone program
   pub counted : threads ≡ thread_count program
-  pub good : HasScalars program → IsGoodVerilog program written
+  pub good : IsGoodVerilog program written
 
--- the text is accepted as a program of main alone, on scalars, of so many threads, what is written is good Verilog of it, and reads
--- as this netlist
+-- the text is accepted as a program of main alone, of so many threads, what is written is good Verilog of it, and reads as this
+-- netlist
 pub record IsRunnable (text : List ℕ) (threads : ℕ) (n : Netlist) (written : List ℕ) : Type 0 where
   pub program : Program
   pub weight : ℕ
   pub accepted : IsAccepted text program weight
   pub alone : IsAlone program
-  pub scalars : HasScalars program
   pub counted : threads ≡ thread_count program
   pub few : threads ≤ 63
   pub good : IsGoodVerilog program written

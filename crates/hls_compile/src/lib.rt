@@ -2,12 +2,11 @@
 #![tactic(auto)]
 
 mod parts;
-mod scalar;
 mod sites;
 mod unbuilt;
 
-ghost use Rattle.std.specs.Prelude.{◌≡◌, ◌≢◌, ◌<◌, ◌^◌, IfOk, IfErr, OnOk};
-ghost use Rattle.c_program.specs.Limits.{print_sites};
+ghost use Rattle.std.specs.Prelude.{◌≡◌, ◌≢◌, None, IfOk, IfErr, OnOk};
+ghost use Rattle.c_limits.specs.Counts.{first_passed};
 ghost use Rattle.c_program.specs.Plain.{program_of};
 ghost use Rattle.c_program.specs.Resolved.{IsResolved};
 ghost use Rattle.c_program.specs.Weight.{thread_count};
@@ -15,12 +14,11 @@ ghost use Rattle.c_profile.specs.declared.refusal.Refusal as refusal;
 ghost use Rattle.c_profile.specs.Profile.{IsAccepted, IsRefused};
 ghost use Rattle.code_following.specs.Following.{IsLowered};
 ghost use Rattle.ir_lower.specs.Typed.{IsTypedCode};
-ghost use Rattle.planned_code.specs.Planned.{HasScalars};
 ghost use Rattle.program_machine.specs.Built.{IsSingle};
 ghost use Rattle.good_verilog.specs.GoodVerilog.{IsGoodVerilog};
 ghost use Rattle.whole_net.specs.Whole.{IsNetOf};
 ghost use Rattle.hls_compile.specs.Compiled.{IsAlone, IsCompiled, IsRunnable, IsUnbuilt};
-ghost use Rattle.hls_compile.specs.Stops.{StopsBuild, StopsRun};
+ghost use Rattle.hls_compile.specs.Stops.{StopsBuild};
 ghost use Rattle.hls_compile.specs.declared.BuildError.TheVariants as stop;
 ghost use Rattle.hls_compile.specs.declared.CompileError.TheVariants as error;
 ghost use Rattle.hls_compile.specs.declared.unbuilt.Construct as construct;
@@ -32,7 +30,6 @@ use c_program::tree::Program;
 use hls_io::Bytes;
 use ir_lower::fault::{LowerError, LoweringFault};
 use netlist::netlist::Netlist;
-use scalar::has_scalars;
 use std::alloc::{AllocError, Global};
 use thiserror::Error;
 pub use unbuilt::Construct;
@@ -100,12 +97,12 @@ fn code_of(alloc: Global, program: &Program) -> Result<ThreadCode, BuildError>
     }
 }
 
-/// The net of a resolved program with few printf calls, and its Verilog.
+/// The net of a resolved program within the limits, and its Verilog.
 fn text_of(alloc: Global, program: &Program) -> Result<Written, BuildError>
     requires resolved { IsResolved (program_of program.now) }
-    requires few { print_sites (program_of program.now) < 2 ^ 16 }
-    ensures good { IfOk result (λ w. HasScalars (program_of program.now) → IsGoodVerilog (program_of program.now) w.text) }
-    ensures net { IfOk result (λ w. HasScalars (program_of program.now) → IsNetOf 1 w.net w.text) }
+    requires limits { first_passed (program_of program.now) ≡ None }
+    ensures good { IfOk result (λ w. IsGoodVerilog (program_of program.now) w.text) }
+    ensures net { IfOk result (λ w. IsNetOf 1 w.net w.text) }
     ensures alone { OnOk result (IsAlone (program_of program.now)) }
     ensures one { OnOk result (thread_count (program_of program.now) ≡ 1) }
     ensures unbuilt { IfErr result (StopsBuild (program_of program.now)) }
@@ -115,25 +112,6 @@ fn text_of(alloc: Global, program: &Program) -> Result<Written, BuildError>
     let printer = parts::printer_module(alloc, program)?;
     let arbiter = parts::arbiter_module(alloc)?;
     let written = verilog(alloc, main, arbiter, printer)?;
-    Ok(written)
-}
-
-/// The same of a program of which it is proved what its net does.
-#[tactic(auto, using(crate::proofs::Alone::stops_run))]
-fn scalar_text_of(alloc: Global, program: &Program) -> Result<Written, BuildError>
-    requires resolved { IsResolved (program_of program.now) }
-    requires few { print_sites (program_of program.now) < 2 ^ 16 }
-    ensures scalars { OnOk result (HasScalars (program_of program.now)) }
-    ensures good { IfOk result (λ w. IsGoodVerilog (program_of program.now) w.text) }
-    ensures net { IfOk result (λ w. IsNetOf 1 w.net w.text) }
-    ensures alone { OnOk result (IsAlone (program_of program.now)) }
-    ensures one { OnOk result (thread_count (program_of program.now) ≡ 1) }
-    ensures unbuilt { IfErr result (StopsRun (program_of program.now)) }
-{
-    if !has_scalars(program) {
-        return Err(BuildError::NotBuilt(Construct::Arrays));
-    }
-    let written = text_of(alloc, program)?;
     Ok(written)
 }
 
@@ -155,7 +133,6 @@ pub fn compile(alloc: Global, text: &[u8]) -> Result<Compiled, CompileError>
     ensures ok { IfOk result (λ c. IsCompiled text.now c.threads c.weight c.text) }
     ensures refused { IfErr result (λ e. (r : refusal.Refusal) → e ≡ error.Refused r → IsRefused text.now r) }
     ensures unbuilt { IfErr result (λ e. (c : construct.Construct) → e ≡ error.NotBuilt c → IsUnbuilt text.now c) }
-    ensures built { IfErr result (λ e. e ≢ error.NotBuilt Construct.Arrays) }
 {
     let accepted = program_in(alloc, text)?;
     match text_of(alloc, &accepted.program) {
@@ -178,14 +155,14 @@ pub struct Runnable {
     pub threads: u32,
 }
 
-/// The Verilog of a C text, with its net, to be run. A program with local arrays is not built so yet.
+/// The Verilog of a C text, with its net, to be run.
 pub fn compile_to_run(alloc: Global, text: &[u8]) -> Result<Runnable, CompileError>
     ensures ok { IfOk result (λ r. IsRunnable text.now r.threads r.net r.text) }
     ensures refused { IfErr result (λ e. (r : refusal.Refusal) → e ≡ error.Refused r → IsRefused text.now r) }
     ensures unbuilt { IfErr result (λ e. (c : construct.Construct) → e ≡ error.NotBuilt c → IsUnbuilt text.now c) }
 {
     let accepted = program_in(alloc, text)?;
-    match scalar_text_of(alloc, &accepted.program) {
+    match text_of(alloc, &accepted.program) {
         Ok(written) => Ok(Runnable {
             text: written.text,
             net: written.net,

@@ -5,7 +5,7 @@ ghost use Rattle.c_program.specs.Plain.{program_of};
 ghost use Rattle.c_program.specs.Resolved.{IsResolved};
 ghost use Rattle.ir_lower.specs.Taken.{is_sequential_program, is_taken_function};
 ghost use Rattle.program_machine.specs.Built.{IsSingle};
-ghost use Rattle.hls_compile.specs.Compiled.{HasUnbuilt};
+ghost use Rattle.hls_compile.specs.Compiled.{HasConstruct};
 
 use c_program::tree::Program;
 use ir_lower::taken::{is_sequential_program, is_taken_function};
@@ -20,21 +20,18 @@ pub enum Construct {
     Globals,
     #[error("calls of functions")]
     Calls,
-    /// Local arrays, in a program that is to be run.
-    #[error("runs of local arrays")]
-    Arrays,
     /// A program, or its hardware, that a check does not find in order. No program of the profile is known to be such.
     #[error("a program that is not seen to be in order")]
     Unchecked,
 }
 
 /// The first construct of main that is not built yet, where there is one.
-#[tactic(auto, using(crate::proofs::Alone::has_threads, crate::proofs::Alone::has_mutexes, crate::proofs::Alone::has_barriers, crate::proofs::Alone::has_thread_calls, crate::proofs::Alone::has_globals))]
+#[tactic(auto, using(crate::proofs::Alone::has_threads, crate::proofs::Alone::has_mutexes, crate::proofs::Alone::has_barriers, crate::proofs::Alone::has_thread_calls))]
 pub fn unbuilt(program: &Program) -> Option<Construct>
     ensures single { IfNone result (IsSingle (program_of program.now)) }
     ensures sequential { IfNone result (is_sequential_program (program_of program.now) ≡ true) }
     ensures taken { IfNone result (is_taken_function (slice_get (program_of program.now).functions program.now.main) ≡ true) }
-    ensures construct { IfSome result (λ c. IsResolved (program_of program.now) → HasUnbuilt (program_of program.now) c) }
+    ensures construct { IfSome result (λ c. IsResolved (program_of program.now) → HasConstruct (program_of program.now) c) }
 {
     if !program.threads.is_empty() {
         return Some(Construct::Threads);

@@ -32,9 +32,9 @@ of_text left text (refusal.Limit passed) gave is = (text, gave, is)
 
 -- a text that has no Verilog stops a command with its cause
 pub stops : (task : Option Task) (left : Option (List ℕ)) (rose : Type 0) (text : List ℕ) (e : CompileError) → Gave left text → ((r : Refusal) → e ≡ error.Refused r → IsRefused text r)
-    → ((c : Construct) → e ≡ error.NotBuilt c → IsUnbuilt text c) → ((c : Construct) → e ≡ error.NotBuilt c → LeavesOut task c) → StopsBy task left rose (stop_of e)
+    → ((c : Construct) → e ≡ error.NotBuilt c → IsUnbuilt text c) → LeavesOut task → StopsBy task left rose (stop_of e)
 stops task left rose text (error.Refused r) gave refused unbuilt out = of_text left text r gave (refused r refl)
-stops task left rose text (error.NotBuilt c) gave refused unbuilt out = (out c refl, (text, gave, unbuilt c refl))
+stops task left rose text (error.NotBuilt c) gave refused unbuilt out = (out, (text, gave, unbuilt c refl))
 stops task left rose text error.Memory gave refused unbuilt out = tt
 
 -- what stops before the task's own work stops any task

@@ -13,7 +13,6 @@ use Rattle.c_profile.specs.declared.refusal.Refusal.TheVariants as refusal
 use Rattle.c_profile.specs.Profile.{most_bytes, IsAccepted, IsRefused}
 use Rattle.netlist.specs.declared.netlist.Netlist.{Netlist}
 use Rattle.hls_compile.specs.declared.unbuilt.Construct.{Construct}
-use Rattle.hls_compile.specs.declared.unbuilt.Construct.TheVariants as construct
 use Rattle.hls_compile.specs.Compiled.{IsCompiled, IsRunnable, IsUnbuilt}
 use Rattle.round_robin.specs.Round.{IsRound}
 use Rattle.hls_tool.specs.declared.status.Status.{Status}
@@ -50,15 +49,15 @@ IsRefusedBy left r = (text : List ℕ) × Gave left text × IsRefused text r
 abbrev pub IsUnbuiltBy : Option (List ℕ) → Construct → Type 0
 IsUnbuiltBy left c = (text : List ℕ) × Gave left text × IsUnbuilt text c
 
--- the constructs for which a task may be refused: a build takes local arrays, and a walk takes all programs
-abbrev pub LeavesOut : Option Task → Construct → Type 0
-LeavesOut (Some Build) c = c ≢ construct.Arrays
-LeavesOut (Some (Step most)) c = ⊤
-LeavesOut other c = ⊥
+-- the tasks that leave constructs out: a walk takes all programs
+abbrev pub LeavesOut : Option Task → Type 0
+LeavesOut (Some Build) = ⊤
+LeavesOut (Some (Step most)) = ⊤
+LeavesOut other = ⊥
 
 -- ---- what each command owes
 
--- the text is accepted as a program of so many threads and this weight, and its Verilog, good Verilog of a scalar program,
+-- the text is accepted as a program of so many threads and this weight, and its Verilog, good Verilog of the program,
 -- goes to out
 pub record IsBuilt (left : Option (List ℕ)) (d : Due) : Type 0 where
   pub text : List ℕ
@@ -138,7 +137,7 @@ IsWalkEnd task left end = (d : Due) × Halts task left d (status.Walked end)
 abbrev pub OwesAt : Option Task → Option (List ℕ) → Type 0 → Due → Status → Type 0
 OwesAt task left rose d status.Ok = Succeeds task left d
 OwesAt task left rose d (status.Refused r) = IsSome task × IsRefusedBy left r × IsPlain d (refusal_line r)
-OwesAt task left rose d (status.NotBuilt c) = LeavesOut task c × IsUnbuiltBy left c × IsPlain d (unbuilt_line c)
+OwesAt task left rose d (status.NotBuilt c) = LeavesOut task × IsUnbuiltBy left c × IsPlain d (unbuilt_line c)
 OwesAt task left rose d status.Usage = (task ≡ None) × IsPlain d usage_line
 OwesAt task left rose d status.ReadFault = IsSome task × rose × IsPlain d read_fault_line
 OwesAt task left rose d (status.WriteFault out err) = ⊥

@@ -40,7 +40,7 @@ due_of a = record {
 abbrev pub StopsBy : Option Task → Option (List ℕ) → Type 0 → Stop → Type 0
 StopsBy task left rose stop.ReadFault = rose
 StopsBy task left rose (stop.Refused r) = IsRefusedBy left r
-StopsBy task left rose (stop.NotBuilt c) = LeavesOut task c × IsUnbuiltBy left c
+StopsBy task left rose (stop.NotBuilt c) = LeavesOut task × IsUnbuiltBy left c
 StopsBy task left rose stop.Memory = ⊤
 
 -- why a text has no Verilog

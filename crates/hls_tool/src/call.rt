@@ -25,7 +25,7 @@ pub fn hls<S: Source, O: Sink, E: Sink>(
     ensures refused { (r : _) → result.status ≡ Status.Refused r → IsRefusedBy (S.left source.old) r }
     ensures refuses { (text : _) (r : _) → S.left source.old ≡ Some text → IsRefused text r → TellsRefusal r result.status }
     ensures write_fault { IsWriteFault result.status → Rose (O.faults out.old) (O.faults out.new) ⊎ Rose (E.faults err.old) (E.faults err.new) }
-    ensures unbuilt { (c : _) → result.status ≡ Status.NotBuilt c → LeavesOut (task_of (map string_bytes words.now)) c × IsUnbuiltBy (S.left source.old) c }
+    ensures unbuilt { (c : _) → result.status ≡ Status.NotBuilt c → LeavesOut (task_of (map string_bytes words.now)) × IsUnbuiltBy (S.left source.old) c }
     ensures cycles { (n : _) → result.status ≡ Status.Cycles n → HasRunOut (task_of (map string_bytes words.now)) (S.left source.old) n }
     ensures walked { (end : _) → result.status ≡ Status.Walked end → IsWalkEnd (task_of (map string_bytes words.now)) (S.left source.old) end }
     ensures answered { Answered (task_of (map string_bytes words.now)) (S.left source.old)

@@ -610,6 +610,9 @@ fn walks(rt: HostRuntime) -> Result<(), Fail> {
 
 const FIRST: &str = "int main(void){int x = 6; x = x * 7; printf(\"%d\\n\", x); return 0;}";
 
+const SQUARES: &str =
+    "int main(void){int a[4]; int i; for (i = 0; i < 4; i++) a[i] = i * i; printf(\"%d\\n\", a[2] + a[3]); return 0;}";
+
 #[test]
 fn steps(rt: HostRuntime) -> Result<(), Fail> {
     let alloc = rt.alloc();
@@ -618,13 +621,7 @@ fn steps(rt: HostRuntime) -> Result<(), Fail> {
         (FIRST, "0", 9, "", "hls: not done, 0 cycles\n"),
         (COUNTING, "11520", 0, "1\n2\n3\n", "hls: done, "),
         (COUNTING, "0", 9, "", "hls: not done, 0 cycles\n"),
-        (
-            "int main(void){int a[2]; a[0] = 1; return a[0];}",
-            "9",
-            1,
-            "",
-            "hls: refused: not built yet: runs of local arrays\n",
-        ),
+        (SQUARES, "9000", 0, "13\n", "hls: done, "),
         ("int x;", "9", 1, "", "hls: refused E14: no main\n"),
     ] {
         let mut source = MemSource::new(text.as_bytes(), 4096, &[]);

@@ -174,12 +174,14 @@ pub ends_at : (next : Next) (old new : Lowering) (block : Block) → Closes old.
     Pushes (stage.Run block) old.stages new.stages → new ≡ record old { block = new.block; stages = new.stages; reached = false } → EndsAt next old new
 ends_at next old new block closes left pushes same = record { block = block; closes = closes; left = left; pushes = pushes; same = same }
 
-pub jumps_idle : (label : ℕ) (old marked_ new : Lowering) → label < length old.stages.used → marked_ ≡ marked label old → marked_.block.steps ≡ 0 → Settles (place.Same label) marked_.stages new.stages →
+pub jumps_idle : (label : ℕ) (old marked_ new : Lowering) → label < length old.stages.used → marked_ ≡ marked label old → marked_.block.steps ≡ 0 →
+    Settles (place.Same label) marked_.stages new.stages →
     new ≡ record marked_ { stages = new.stages; reached = false } → Jumps label old new
 jumps_idle label old marked_ new known is idle settles same =
     record { known = known; way = inl (subst (λ (z : Lowering). LeadsOn label z new) is (record { idle = idle; settles = settles; same = same })) }
 
-pub jumps_busy : (label : ℕ) (old marked_ new : Lowering) → label < length old.stages.used → marked_ ≡ marked label old → (marked_.block.steps ≡ 0 → ⊥) → EndsAt (Jump label) marked_ new → Jumps label old new
+pub jumps_busy : (label : ℕ) (old marked_ new : Lowering) → label < length old.stages.used → marked_ ≡ marked label old → (marked_.block.steps ≡ 0 → ⊥) →
+    EndsAt (Jump label) marked_ new → Jumps label old new
 jumps_busy label old marked_ new known is busy ends =
     record { known = known; way = inr (subst (λ (z : Lowering). EndsBusy label z new) is (record { busy = omega arith; ends = ends })) }
 

@@ -130,7 +130,8 @@ test_fresh next old mid new e b test first block_is ends size sound =
 
 -- what a test keeps
 test_keeps : (next : Next) (old mid new : Lowering) (e : Expression) (b : OpenBlock) (test : Operand) → Evaluates old.homes e old.block b test → mid.block ≡ record b { steps = suc b.steps } →
-    mid.homes ≡ old.homes → mid.variables ≡ old.variables → mid.arrays ≡ old.arrays → mid.act_operands ≡ old.act_operands → mid.stages.stages ≡ old.stages.stages → mid.stages.places ≡ old.stages.places →
+    mid.homes ≡ old.homes → mid.variables ≡ old.variables → mid.arrays ≡ old.arrays → mid.act_operands ≡ old.act_operands → mid.stages.stages ≡ old.stages.stages →
+    mid.stages.places ≡ old.stages.places →
     ((label : ℕ) → is_used old.stages.used label ≡ true → is_used mid.stages.used label ≡ true) → EndsAt next mid new → Keeps old new
 test_keeps next old mid new e b test first block_is homes variables arrays words items places used ends = record {
   homes = ap (λ (z : Lowering). z.homes) ends.same ∙ homes;
@@ -181,7 +182,8 @@ pub tests_branch : (e : Expression) (nonzero otherwise : ℕ) (old mid new : Low
 tests_branch e nonzero otherwise old mid new b test first same branches = record {
   keeps =
       test_keeps (Branch test nonzero otherwise) old (marked otherwise (marked nonzero mid)) new e b test first block_is
-      (ap (λ (z : Lowering). z.homes) same) (ap (λ (z : Lowering). z.variables) same) (ap (λ (z : Lowering). z.arrays) same) (ap (λ (z : Lowering). z.act_operands) same) (ap (λ (z : Lowering). z.stages.stages) same)
+      (ap (λ (z : Lowering). z.homes) same) (ap (λ (z : Lowering). z.variables) same) (ap (λ (z : Lowering). z.arrays) same) (ap (λ (z : Lowering). z.act_operands) same)
+      (ap (λ (z : Lowering). z.stages.stages) same)
       (ap (λ (z : Lowering). z.stages.places) same)
       (λ label is. marks_keep (slice_set mid.stages.used nonzero true) otherwise label
       (marks_keep mid.stages.used nonzero label (ap (λ (z : Lowering). is_used z.stages.used label) same ∙ is))) branches.ends;

@@ -2,7 +2,7 @@
 use Rattle.std.proofs.Common.{Bool, List, [], ◌∷◌, ◌++◌, arith}
 use Rattle.std.specs.List.{AllByRecursion, flat_map}
 use Rattle.c_program.specs.Tree.{Piece, Statement, Function, Program}
-use Rattle.c_program.specs.Resolved.{IsStatement, IsFunction, IsResolved}
+use Rattle.c_program.specs.Resolved.{IsStatement, IsFunction}
 use Rattle.code_following.specs.Following.{formats_of}
 use Rattle.ir_lower.specs.Mains.{IsPrinted, FormatsArePrinted, FormatsAreListed}
 use Rattle.ir_lower.proofs.Sites.{conversions_length}

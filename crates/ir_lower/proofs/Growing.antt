@@ -425,7 +425,8 @@ turns_choice l old mid new leaps binds = record { mid = mid; leaps = leaps; bind
 pub opens_loop : (l : LoopLabels) (old labelled new : Lowering) → Relabels old labelled → Begins l.head labelled new → OpensLoop l old new
 opens_loop l old labelled new relabels begins = record { labelled = labelled; relabels = relabels; begins = begins }
 
-pub opens_turn : (d : Condition) (l : LoopLabels) (old begun decided new : Lowering) → OpensLoop l old begun → Decides d l.body l.leaving begun decided → Binds l.body decided new → OpensTurn d l old new
+pub opens_turn : (d : Condition) (l : LoopLabels) (old begun decided new : Lowering) → OpensLoop l old begun → Decides d l.body l.leaving begun decided → Binds l.body decided new →
+    OpensTurn d l old new
 opens_turn d l old begun decided new opens decides binds = record { begun = begun; opens = opens; decided = decided; decides = decides; binds = binds }
 
 pub closes_turn : (l : LoopLabels) (old mid new : Lowering) → Leaps l.head old mid → Binds l.leaving mid new → ClosesTurn l old new

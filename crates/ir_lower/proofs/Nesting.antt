@@ -90,7 +90,8 @@ pub settled_sequence : (a b : Statement) (k : List Work) → settled Onward (Do 
 settled_sequence a b k = λ d. opened a (Do b ∷ k) (λ going. onward b k going d)
 
 -- a break or a continue passes by what follows in the same list
-out_past : (W : Whole) (homes : List Home) (n : ℕ) (used : List Bool) (around : Option Loop) (b : Statement) (k : List Work) → LeadsOut W homes n used around k → LeadsOut W homes n used around (Do b ∷ k)
+out_past : (W : Whole) (homes : List Home) (n : ℕ) (used : List Bool) (around : Option Loop) (b : Statement) (k : List Work) → LeadsOut W homes n used around k →
+    LeadsOut W homes n used around (Do b ∷ k)
 out_past W homes n used None b k out = tt
 out_past W homes n used (Some l) b k out = out
 
@@ -272,7 +273,8 @@ module _ (around : Option Loop) (d : Condition) (l : ChoiceLabels) (one other : 
     leads = choice_goes;
   }
 
-pub choice_lowers : (around : Option Loop) (s : Statement) (d : Condition) (one other : Statement) (l : ChoiceLabels) (old a b e g new : Lowering) → s ≡ Statement.If d one other → OpensChoice d l old a →
+pub choice_lowers : (around : Option Loop) (s : Statement) (d : Condition) (one other : Statement) (l : ChoiceLabels) (old a b e g new : Lowering) → s ≡ Statement.If d one other →
+    OpensChoice d l old a →
     Lowers around one a b → TurnsChoice l b e → Lowers around other e g → Binds l.join g new → Lowers around s old new
 choice_lowers around s d one other l old a b e g new is opens first turns second closes = rw is (λ own.
     let both = both_true (is_sequential one) (is_sequential other) own in

@@ -58,8 +58,8 @@ module _ (variables : ℕ → ℤ) where
   one_length (Binary operator ty a b) r = length-append r.values _ ∙ (omega arith)
   one_length (ReadGlobal x i) r = length-append r.values _ ∙ (omega arith)
   one_length (WriteGlobal x i a) r = length-append r.values _ ∙ (omega arith)
-  one_length (ReadArray x i) r = length-append r.values _ ∙ (omega arith)
-  one_length (WriteArray x i a) r = length-append r.values _ ∙ (omega arith)
+  one_length (ReadArray x n i) r = length-append r.values _ ∙ (omega arith)
+  one_length (WriteArray x n i a) r = length-append r.values _ ∙ (omega arith)
 
   pub run_length : (os : List Operation) (r : Running) → length (operations_run variables os r).values ≡ length r.values + length os
   run_length [] r = omega arith

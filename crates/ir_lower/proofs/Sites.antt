@@ -32,7 +32,8 @@ formats_length (Statement.Print offset format arguments) = refl
 formats_length (Statement.Thread offset call) = refl
 
 -- a part of a statement, whose printf calls come after these
-pub part_sites : (P : Program) (s t : Statement) (xs ys : List (List Piece)) (site next : ℕ) → HasSites P s site → formats_of s ≡ xs ++ (formats_of t ++ ys) → next ≡ site + length xs → HasSites P t next
+pub part_sites : (P : Program) (s t : Statement) (xs ys : List (List Piece)) (site next : ℕ) → HasSites P s site → formats_of s ≡ xs ++ (formats_of t ++ ys) →
+    next ≡ site + length xs → HasSites P t next
 part_sites P s t xs ys site next sites is number = record {
   before = sites.before ++ xs;
   after = ys ++ sites.after;

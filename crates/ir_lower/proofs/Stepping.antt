@@ -394,7 +394,8 @@ module _ (format : List Piece) (arguments : List Expression) (old mid new : Lowe
       acts_typed (code.Print site operands) mid new acts S (w + statement_weight statement) size (mid_grows.good size suits.good) (λ n stage_of below. (typed, below acts.next))
       (mid_typed S w size suits now)
 
-  module _ (W : Whole) (homes : List Home) (size n : ℕ) (k : List Work) (puts_here : PutsValues homes size types arguments old.block b) (operands_here : operands ≡ word_operands size (length arguments))
+  module _ (W : Whole) (homes : List Home) (size n : ℕ) (k : List Work) (puts_here : PutsValues homes size types arguments old.block b)
+      (operands_here : operands ≡ word_operands size (length arguments))
       (suits : Suits W homes size statement old) (whole : IsIn W new) (after : OnwardUpTo W homes n new (settled Onward k)) where
     good_mid : IsGood size mid
     good_mid = mid_grows.good size suits.good

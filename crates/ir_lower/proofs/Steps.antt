@@ -25,7 +25,7 @@ use Rattle.ir_lower.specs.Closing.{HasNoted}
 use Rattle.ir_lower.specs.Assigning.{Stores, Places, HaveHomes, IsThere, writes_of, Assigned, Assigns}
 use Rattle.ir_lower.proofs.Operators.{binary_right}
 use Rattle.ir_lower.proofs.Running.{parts, last_value, run_append, run_length, operand_kept, holds_on, below_more, are_below_more, reads_none, reads_both}
-use Rattle.ir_lower.proofs.Values.{Comes, nothing_added, pure_reads, last_below, load_operations, load_added, load_comes, index_right}
+use Rattle.ir_lower.proofs.Values.{Comes, nothing_added, pure_reads, last_below, load_operations, load_added, load_comes, index_right, IsInside, inside_right}
 use Rattle.ir_lower.proofs.Stores.{store_operations, store_added, store_size, store_steps, store_noted, store_below, store_done}
 
 pub gives_is : {A : Type 0} (w v : A) (ls : List Location) → Gives w [] ≡ Gives v ls → (w ≡ v) × (ls ≡ [])
@@ -40,6 +40,13 @@ Part {A = A} homes old operations F get =
     (variables : ℕ → ℤ) (r : Running) (m : Memory) (v : A) (ls : List Location) → AreBelow (length old.operations) old.current → length r.values ≡ length old.operations →
     Holds homes old.current variables m r → F m ≡ Gives v ls → Reads r (operations_run variables operations r) ls × (get variables (operations_run variables operations r) ≡ v)
 
+-- the same, and the index of a place lies in its array
+abbrev pub PartAt : {A : Type 0} → List Home → OpenBlock → List Operation → (Memory → Evaluation A) → ((ℕ → ℤ) → Running → A) → ℕ → Operand → Type 0
+PartAt {A = A} homes old operations F get size index =
+    (variables : ℕ → ℤ) (r : Running) (m : Memory) (v : A) (ls : List Location) → AreBelow (length old.operations) old.current → length r.values ≡ length old.operations →
+    Holds homes old.current variables m r → F m ≡ Gives v ls → Reads r (operations_run variables operations r) ls × (get variables (operations_run variables operations r) ≡ v)
+    × IsInside size (operand_value variables (operations_run variables operations r).values index)
+
 -- the index of a place is computed
 pub record Located (homes : List Home) (place : Place) (old new : OpenBlock) (t : Target) : Type 0 where
   pub storage : Storage
@@ -48,9 +55,10 @@ pub record Located (homes : List Home) (place : Place) (old new : OpenBlock) (t 
   pub index : Operand
   pub operations : List Operation
   pub added : new ≡ with_more old operations
-  pub at : t ≡ target_at homes storage variable ty index
+  pub size : ℕ
+  pub at : t ≡ target_at homes storage variable size ty index
   pub below : AreBelow (length old.operations) old.current → IsBelow (length new.operations) index
-  pub part : Part homes old operations (λ m. target_of place m) (λ variables r. c_target storage variable ty (operand_value variables r.values index))
+  pub part : PartAt homes old operations (λ m. target_of place m) (λ variables r. c_target storage variable ty (operand_value variables r.values index)) size index
 
 located : (homes : List Home) (place : Place) (old new : OpenBlock) (t : Target) → Places homes place old new t → Located homes place old new t
 located homes (Place.Scalar storage x ty) old new t p = record {
@@ -60,11 +68,12 @@ located homes (Place.Scalar storage x ty) old new t p = record {
   index = plain (FromConstant int_type (pos 0));
   operations = [];
   added = p.same ∙ nothing_added old;
+  size = 1;
   at = p.at;
   below = λ fits. tt;
   part = λ variables r m v ls fits len holds is.
       let g = gives_is (c_target storage x ty (pos 0)) v ls is in
-      (reads_none r ls g.1, g.0);
+      (reads_none r ls g.1, g.0, record { read = refl; written = refl });
 }
 located homes (Place.Element storage x n ty e) old new t p = record {
   storage = storage;
@@ -73,6 +82,7 @@ located homes (Place.Element storage x n ty e) old new t p = record {
   index = p.index;
   operations = p.evaluates.operations;
   added = p.evaluates.added;
+  size = n;
   at = p.at;
   below = p.evaluates.below;
   part = λ variables r m v ls fits len holds is.
@@ -86,6 +96,7 @@ located homes (Place.Element storage x n ty e) old new t p = record {
         subst (λ l. Reads r s l) (sym all) (p.evaluates.reads variables r m q.value q.first fits len holds q.is),
         ap (c_target storage x ty) (p.evaluates.gives variables r m q.value q.first fits len holds q.is)
             ∙ ap (λ j. record { storage = storage; variable = x; index = j; ty = ty }) inside.0 ∙ g.0,
+        subst (IsInside n) (sym (p.evaluates.gives variables r m q.value q.first fits len holds q.is)) (inside_right n q.value k.value k.first k.is),
       );
 }
 
@@ -117,9 +128,11 @@ pub record Prepares (homes : List Home) (F : Memory → Evaluation Assignment) (
   pub index : Operand
   pub operations : List Operation
   pub added : new ≡ with_more old operations
-  pub at : t ≡ target_at homes storage variable ty index
+  pub size : ℕ
+  pub at : t ≡ target_at homes storage variable size ty index
   pub below : AreBelow (length old.operations) old.current → IsBelow (length new.operations) a
-  pub part : Part homes old operations F (λ variables r. record { target = c_target storage variable ty (operand_value variables r.values index); value = operand_value variables r.values a })
+  pub part : PartAt homes old operations F
+      (λ variables r. record { target = c_target storage variable ty (operand_value variables r.values index); value = operand_value variables r.values a }) size index
 
 -- the right side, then the index
 assignment_prepares : (homes : List Home) (place : Place) (e : Expression) (old mid new : OpenBlock) (t : Target) (a : Operand) →
@@ -131,6 +144,7 @@ assignment_prepares homes place e old mid new t a first loc = record {
   index = loc.index;
   operations = first.operations ++ loc.operations;
   added = loc.added ∙ ap (λ z. with_more z loc.operations) first.added ∙ ap (λ os. record old { operations = os }) (append_assoc old.operations first.operations loc.operations);
+  size = loc.size;
   at = loc.at;
   below = λ fits. below_more (length mid.operations) (length new.operations) a (let l = longer homes mid new loc.operations loc.added in omega (arith, l)) (first.below fits);
   part = λ variables r m v ls fits len holds is.
@@ -151,6 +165,7 @@ assignment_prepares homes place e old mid new t a first loc = record {
         ap (λ (z : Running). record { target = c_target loc.storage loc.variable loc.ty (operand_value variables z.values loc.index); value = operand_value variables z.values a }) run
             ∙ ap (λ target. record { target = target; value = operand_value variables u.values a }) last.1
             ∙ ap (λ x. record { target = q.value; value = x }) kept ∙ g.0,
+        subst (λ (z : Running). IsInside loc.size (operand_value variables z.values loc.index)) (sym run) last.2,
       );
 }
 
@@ -180,7 +195,7 @@ assigns homes F old mid last new t a p st stepped = record {
       let holds' = hold_on homes old mid p.operations p.added variables r m ls fits len both.0 holds in
       let is' : record { target = c_target p.storage p.variable p.ty i; value = x } ≡ v = both.1 in
       let there' : IsThere p.storage m.locals p.variable (index_of i) = subst (λ (z : Assignment). IsThere z.target.storage m.locals z.target.variable z.target.index) (sym is') there in
-      let done = store_done homes mid variables s m fits' homed' holds' p.variable (index_of i) p.ty x last a p.index refl refl p.storage there' t p.at st in
+      let done = store_done homes mid variables s m fits' homed' holds' p.variable (index_of i) p.ty x last a p.index refl refl p.size both.2.written p.storage there' t p.at st in
       let run = run_append variables p.operations (store_operations t a mid last st) r in
       let u = operations_run variables (store_operations t a mid last st) s in
       subst (λ c. Assigned homes c variables m r (operations_run variables (p.operations ++ (store_operations t a mid last st)) r) v ls) (sym (ap (λ (z : OpenBlock). z.current) stepped))
@@ -207,12 +222,12 @@ assignment_at homes place e old mid located_ last new t a first at st stepped =
 -- What the code of a place and of a store gives.
 
 pub scalar_at : (homes : List Home) (p : Place) (storage : Storage) (x : ℕ) (ty : IntegerType) (b : OpenBlock) (index : Operand) (t : Target) →
-    p ≡ Place.Scalar storage x ty → index ≡ plain (FromConstant int_type (pos 0)) → t ≡ target_at homes storage x ty index → Places homes p b b t
+    p ≡ Place.Scalar storage x ty → index ≡ plain (FromConstant int_type (pos 0)) → t ≡ target_at homes storage x 1 ty index → Places homes p b b t
 scalar_at homes p storage x ty b index t is first at =
-    rw is (record { same = refl; at = at ∙ ap (target_at homes storage x ty) first })
+    rw is (record { same = refl; at = at ∙ ap (target_at homes storage x 1 ty) first })
 
 pub element_at : (homes : List Home) (p : Place) (storage : Storage) (x n : ℕ) (ty : IntegerType) (e : Expression) (old new : OpenBlock) (i : Operand) (t : Target) →
-    p ≡ Place.Element storage x n ty e → Evaluates homes e old new i → t ≡ target_at homes storage x ty i → Places homes p old new t
+    p ≡ Place.Element storage x n ty e → Evaluates homes e old new i → t ≡ target_at homes storage x n ty i → Places homes p old new t
 element_at homes p storage x n ty e old new i t is evaluates at =
     rw is (record { index = i; evaluates = evaluates; at = at })
 
@@ -221,9 +236,9 @@ pub stores_variable : (t : Target) (n : ℕ) (ty : IntegerType) (value stored : 
 stores_variable t n ty value stored old new is converted_ operations current steps noted =
     rw is (record { stored = stored; converted = converted_; operations = operations; current = current; steps = steps; noted = noted })
 
-pub stores_array : (t : Target) (a : ℕ) (ty : IntegerType) (index value stored : Operand) (old new : OpenBlock) → t ≡ target.Array a ty index → IsConverted ty value stored →
-    new ≡ with_more old (WriteArray a index stored ∷ []) → Stores t value old new
-stores_array t a ty index value stored old new is converted_ added =
+pub stores_array : (t : Target) (a n : ℕ) (ty : IntegerType) (index value stored : Operand) (old new : OpenBlock) → t ≡ target.Array a n ty index → IsConverted ty value stored →
+    new ≡ with_more old (WriteArray a n index stored ∷ []) → Stores t value old new
+stores_array t a n ty index value stored old new is converted_ added =
     rw is (record { stored = stored; converted = converted_; added = added })
 
 pub stores_global : (t : Target) (g : ℕ) (ty : IntegerType) (index value stored : Operand) (old new : OpenBlock) → t ≡ target.Global g ty index → IsConverted ty value stored →
@@ -257,6 +272,7 @@ update_prepares homes place operator ty ty' e old mid found read new t a b c fir
       ∙ more_more mid loc.operations (load_operations t ++ Binary operator ty a b ∷ [])
       ∙ ap (λ z. with_more z (loc.operations ++ (load_operations t ++ Binary operator ty a b ∷ []))) first.added
       ∙ more_more old first.operations (loc.operations ++ (load_operations t ++ Binary operator ty a b ∷ []));
+  size = loc.size;
   at = loc.at;
   below = λ fits. rw is_value (last_below read new (Binary operator ty a b) is_new);
   part = λ variables r m v ls fits len holds is.
@@ -284,7 +300,7 @@ update_prepares homes place operator ty ty' e old mid found read new t a b c fir
       let holds2 = hold_on homes mid found loc.operations loc.added variables s1 m p2.first fits1 len1 last.0 holds1 in
       let i = operand_value variables s2.values loc.index in
       let is3 : load m loc.storage loc.variable (index_of i) ≡ Gives p3.value p3.first = ap (λ (z : CTarget). load m z.storage z.variable z.index) last.1 ∙ p3.is in
-      let there = load_comes homes found variables s2 m loc.variable (index_of i) loc.ty loc.index len2 holds2 refl loc.storage p3.value p3.first is3 in
+      let there = load_comes homes found variables s2 m loc.variable (index_of i) loc.size loc.ty loc.index len2 holds2 refl last.2.read loc.storage p3.value p3.first is3 in
       let comes : Comes variables s2 s3 (loaded t found) p3.value p3.first =
       subst (λ z. Comes variables s2 (operations_run variables (load_operations z) s2) (loaded z found) p3.value p3.first) (sym loc.at) there in
       let len3 : length s3.values ≡ length read.operations =
@@ -317,6 +333,7 @@ update_prepares homes place operator ty ty' e old mid found read new t a b c fir
             ∙ ap (λ x. record { target = c_target loc.storage loc.variable loc.ty x; value = operand_value variables s4.values c }) index4
             ∙ ap (λ target. record { target = target; value = operand_value variables s4.values c }) last.1
             ∙ ap (λ x. record { target = p2.value; value = x }) value4 ∙ g.0,
+        subst (λ (z : Running). IsInside loc.size (operand_value variables z.values loc.index)) (sym run) (subst (IsInside loc.size) (sym index4) last.2),
       );
 }
 

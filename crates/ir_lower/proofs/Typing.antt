@@ -24,7 +24,7 @@ use Rattle.ir_lower.specs.declared.places.Target.TheVariants as target
 use Rattle.ir_lower.specs.declared.open_block.OpenBlock.{OpenBlock}
 use Rattle.ir_lower.specs.Needs.{plain, IsConverted}
 use Rattle.ir_lower.specs.Evaluating.{current_operand, local_target, target_at, load_block, loaded, with_more}
-use Rattle.ir_lower.specs.Typed.{Types, operand_type, type_there, value_type, IsTypedSource, IsTypedOperand, IsTypedOperation, AreTyped}
+use Rattle.ir_lower.specs.Typed.{Types, operand_type, type_there, element_there, IsArray, value_type, IsTypedSource, IsTypedOperand, IsTypedOperation, AreTyped}
 use Rattle.ir_lower.specs.Typing.{Typing, IsTypedHome, Fits, IsTypedOpen, IsComputed, Computes}
 use Rattle.ir_lower.proofs.Running.{get_left, get_last}
 use Rattle.ir_lower.proofs.Cells.{get_within}
@@ -87,23 +87,23 @@ module _ (T : Types) where
 
 abbrev pub target_type : Target → IntegerType
 target_type (target.Variable n ty) = ty
-target_type (target.Array a ty index) = ty
+target_type (target.Array a n ty index) = ty
 target_type (target.Global g ty index) = ty
 
 abbrev pub IsTypedTarget : Types → List Operation → Target → Type 0
 IsTypedTarget T before (target.Variable n ty) = slice_get T.variables n ≡ Some ty
-IsTypedTarget T before (target.Array a ty index) = IsTypedOperand T before index × (slice_get T.arrays a ≡ Some ty)
+IsTypedTarget T before (target.Array a n ty index) = IsTypedOperand T before index × IsArray T a n ty
 IsTypedTarget T before (target.Global g ty index) = IsTypedOperand T before index × (slice_get T.globals g ≡ Some ty)
 
 pub target_more : (T : Types) (before more : List Operation) (t : Target) → IsTypedTarget T before t → IsTypedTarget T (before ++ more) t
 target_more T before more (target.Variable n ty) h = h
-target_more T before more (target.Array a ty index) h = (operand_more T before more index h.0, h.1)
+target_more T before more (target.Array a n ty index) h = (operand_more T before more index h.0, h.1)
 target_more T before more (target.Global g ty index) h = (operand_more T before more index h.0, h.1)
 
 module _ (S : Typing) (homes : List Home) (fits : Fits S homes) (before : List Operation) (x length_ : ℕ) (ty : IntegerType) (index : Operand)
     (typed : IsTypedOperand S.types before index) where
   local_typed : (o : Option Home) → IsTypedHome S.types (record { ty = ty; length = length_ }) o →
-      IsTypedTarget S.types before (local_target o x ty index) × (target_type (local_target o x ty index) ≡ ty)
+      IsTypedTarget S.types before (local_target o x length_ ty index) × (target_type (local_target o x length_ ty index) ≡ ty)
   local_typed (Some (home.Variable n)) h = (h, refl)
   local_typed (Some (home.Array a)) h = ((typed, h), refl)
   local_typed None h = absurd h
@@ -116,7 +116,7 @@ module _ (S : Typing) (homes : List Home) (fits : Fits S homes) (before : List O
 
   -- a declared object
   pub target_typed : (storage : Storage) → IsObject S.program S.function storage x length_ ty →
-      IsTypedTarget S.types before (target_at homes storage x ty index) × (target_type (target_at homes storage x ty index) ≡ ty)
+      IsTypedTarget S.types before (target_at homes storage x length_ ty index) × (target_type (target_at homes storage x length_ ty index) ≡ ty)
   target_typed Automatic is = local_typed (slice_get homes x) (fits.locals x (record { ty = ty; length = length_ }) is)
   target_typed Static is = ((typed, global_typed (slice_get S.program.globals x) refl is), refl)
 
@@ -135,16 +135,15 @@ module _ (T : Types) where
   pub load_typed : (t : Target) (b new : OpenBlock) (a : Operand) → new ≡ load_block t b → a ≡ loaded t b → (length b.operations < 2 ^ 32 → length new.operations < 2 ^ 32) →
       IsTypedTarget T b.operations t → IsTypedOpen T b → IsComputed T new a (target_type t)
   load_typed (target.Variable n ty) b new a is place few at open_ = rw (is, place) (held b n ty (slice_get b.current n) refl at open_)
-  load_typed (target.Array x ty index) b new a is place few at open_ =
-      let h = there T.arrays x ty at.1 in
-      computed_last T b new (ReadArray x index) ty a is (few open_.few) place h.1 open_ (at.0, h.0)
+  load_typed (target.Array x n ty index) b new a is place few at open_ =
+      computed_last T b new (ReadArray x n index) ty a is (few open_.few) place (ap element_there at.1) open_ (at.0, (ty, at.1))
   load_typed (target.Global x ty index) b new a is place few at open_ =
       let h = there T.globals x ty at.1 in
       computed_last T b new (ReadGlobal x index) ty a is (few open_.few) place h.1 open_ (at.0, h.0)
 
 pub load_count : (t : Target) (b new : OpenBlock) → new ≡ load_block t b → length new.operations ≤ length b.operations + 1
 load_count (target.Variable n ty) b new is = let e = ap (λ (z : OpenBlock). length z.operations) is in omega arith
-load_count (target.Array x ty index) b new is = let e = ap (λ (z : OpenBlock). length z.operations) is ∙ length-append b.operations (ReadArray x index ∷ []) in omega arith
+load_count (target.Array x n ty index) b new is = let e = ap (λ (z : OpenBlock). length z.operations) is ∙ length-append b.operations (ReadArray x n index ∷ []) in omega arith
 load_count (target.Global x ty index) b new is = let e = ap (λ (z : OpenBlock). length z.operations) is ∙ length-append b.operations (ReadGlobal x index ∷ []) in omega arith
 
 -- Expressions.
@@ -156,7 +155,7 @@ constant_computes homes ty n b = record {
 }
 
 pub variable_computes : (homes : List Home) (storage : Storage) (x : ℕ) (ty : IntegerType) (b new : OpenBlock) (index a : Operand) (t : Target) →
-    index ≡ plain (Constant int_type (pos 0)) → t ≡ target_at homes storage x ty index → new ≡ load_block t b → a ≡ loaded t b →
+    index ≡ plain (Constant int_type (pos 0)) → t ≡ target_at homes storage x 1 ty index → new ≡ load_block t b → a ≡ loaded t b →
     (length b.operations < 2 ^ 32 → length new.operations < 2 ^ 32) → Computes homes (Expression.Variable storage x ty) b new a
 variable_computes homes storage x ty b new index a t first at added place few = record {
   count = (let c = load_count t b new added in omega (arith, c));
@@ -168,7 +167,7 @@ variable_computes homes storage x ty b new index a t first at added place few = 
 }
 
 pub element_computes : (homes : List Home) (e : Expression) (storage : Storage) (x n : ℕ) (ty : IntegerType) (old mid new : OpenBlock) (index a : Operand) (t : Target) →
-    Computes homes e old mid index → t ≡ target_at homes storage x ty index → new ≡ load_block t mid → a ≡ loaded t mid →
+    Computes homes e old mid index → t ≡ target_at homes storage x n ty index → new ≡ load_block t mid → a ≡ loaded t mid →
     (length mid.operations < 2 ^ 32 → length new.operations < 2 ^ 32) → Computes homes (Expression.Element storage x n ty e) old new a
 element_computes homes e storage x n ty old mid new index a t first at added place few = record {
   count = (let c = load_count t mid new added in let d = first.count in omega (arith, c, d));

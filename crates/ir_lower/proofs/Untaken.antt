@@ -1,14 +1,11 @@
 -- Of a resolved program, a main that is not taken calls a function; one that is taken calls none.
-use Rattle.std.proofs.Common.{◌≡◌, ℕ, ◌≤◌, Bool, true, false, ◌&&◌, List, [], ◌∷◌, ◌++◌, length, Option, Some, None, refl, sym, ap, ◌∙◌, subst, inl, inr, ⊎_elim, zero, suc, eq-eqb, le-leb, arith}
-use Rattle.std.specs.Prelude.{◌⊎◌, nat_eq, nat_le, slice_get, Contains, IsTrue}
+use Rattle.std.proofs.Common.{◌≡◌, ℕ, Bool, true, false, ◌&&◌, List, [], ◌∷◌, ◌++◌, Option, Some, None, refl, sym, ap, ◌∙◌, subst, inl, inr, ⊎_elim, zero, suc, eq-eqb, le-leb, arith}
+use Rattle.std.specs.Prelude.{◌⊎◌, slice_get, Contains, IsTrue}
 use Rattle.std.specs.List.{AllByRecursion}
 use Rattle.std.proofs.lemmas.List.Elements.{Contains-append_left, Contains-append_right, Contains-append_cases, Contains-push}
-use Rattle.hls_ints.specs.Types.{IntegerType}
-use Rattle.c_program.specs.declared.tree.ReturnType.{ReturnType}
-use Rattle.c_program.specs.declared.tree.ReturnType.TheVariants.{Void, Integer, Pointer}
 use Rattle.c_program.specs.Tree.{Expression, RightSide, Piece, Statement, Function, Program}
 use Rattle.c_program.specs.Calls.{calls_of, calls_of_right, calls_of_returned}
-use Rattle.c_program.specs.Resolved.{IsReturn, IsPrint, IsStatement, IsFunction, IsResolved}
+use Rattle.c_program.specs.Resolved.{IsPrint, IsStatement, IsFunction}
 use Rattle.ir_lower.specs.Mains.{UntakenCalls, TakenCallsNone}
 use Rattle.ir_lower.specs.Taken.{is_value, is_value_or_none, fits_format, is_taken, is_taken_function}
 

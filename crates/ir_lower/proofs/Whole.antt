@@ -16,7 +16,6 @@ use Rattle.c_program.specs.Resolved.{IsFunction, IsResolved}
 use Rattle.thread_semantics.specs.State.{begun, started}
 use Rattle.thread_semantics.specs.Move.{work_move}
 use Rattle.thread_semantics.specs.Work.{Do, Onward, settled}
-use Rattle.block_ir.specs.declared.code.Array.{Array}
 use Rattle.block_ir.specs.declared.code.Stage.{Stage}
 use Rattle.block_ir.specs.declared.code.ThreadCode.{ThreadCode}
 use Rattle.code_following.specs.Following.{formats_of, IsEnd, Follows, IsLowered}
@@ -33,7 +32,7 @@ use Rattle.ir_lower.specs.Values.{most_values}
 use Rattle.ir_lower.specs.Typed.{types_of, IsTypedStage, IsTypedCode}
 use Rattle.ir_lower.specs.Typing.{Typing, IsTypedHome, Fits, HasWords}
 use Rattle.ir_lower.proofs.Words.{sum_cons}
-use Rattle.ir_lower.proofs.Typing.{get_more, map_at}
+use Rattle.ir_lower.proofs.Typing.{get_more}
 use Rattle.ir_lower.proofs.Staying.{stage_more, fresh_typed}
 use Rattle.ir_lower.proofs.Resuming.{fresh_sound}
 use Rattle.ir_lower.proofs.Controlling.{led_length, begin_at, begun_idle}
@@ -233,8 +232,7 @@ module _ (p : ProgramTree) (code : ThreadCode) (made : IsCodeOf p p.main code) (
         ap (λ ts. slice_get ts n) variables_are
         ∙ get_more made.is_new.homed.variables (replicate (most_values body) long_int) n l.ty (ap (λ ts. slice_get ts n) made.is_new.are.variables ∙ h)
     home_typed l (Some (home.Array a)) h =
-        ap (λ arrays. slice_get (map (λ (x : Array). x.ty) arrays) a) arrays_are
-        ∙ map_at (λ (x : Array). x.ty) (arrays_of f.locals.items) a (record { ty = l.ty; length = l.length }) h
+        ap (λ arrays. slice_get arrays a) arrays_are ∙ h
 
     fits : Fits typing homes
     fits = record {

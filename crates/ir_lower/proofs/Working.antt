@@ -103,17 +103,17 @@ module _ (T : Types) where
       IsTypedTarget T old.operations t → IsTypedOperand T old.operations value → IsTypedOpen T old → IsTypedOpen T new
   store_typed (target.Variable n ty) value old new s few at typed open_ =
       variable_stored n ty s.stored old new s.operations s.current at (operand_converted T ty old.operations value s.stored s.converted typed) s.converted.type open_
-  store_typed (target.Array x ty index) value old new s few at typed open_ =
-      open_more T old new (WriteArray x index s.stored) s.added (few open_.few) open_
-      (at.0, operand_converted T ty old.operations value s.stored s.converted typed, at.1 ∙ ap Some (sym s.converted.type))
+  store_typed (target.Array x n ty index) value old new s few at typed open_ =
+      open_more T old new (WriteArray x n index s.stored) s.added (few open_.few) open_
+      (at.0, operand_converted T ty old.operations value s.stored s.converted typed, at.1 ∙ ap (λ k. Some (record { ty = k; length = n })) (sym s.converted.type))
   store_typed (target.Global x ty index) value old new s few at typed open_ =
       open_more T old new (WriteGlobal x index s.stored) s.added (few open_.few) open_
       (at.0, operand_converted T ty old.operations value s.stored s.converted typed, at.1 ∙ ap Some (sym s.converted.type))
 
 store_count : (t : Target) (value : Operand) (old new : OpenBlock) → Stores t value old new → length new.operations ≤ length old.operations + 1
 store_count (target.Variable n ty) value old new s = let e = ap length s.operations in omega arith
-store_count (target.Array x ty index) value old new s =
-    let e = ap (λ (z : OpenBlock). length z.operations) s.added ∙ length-append old.operations (WriteArray x index s.stored ∷ []) in omega arith
+store_count (target.Array x n ty index) value old new s =
+    let e = ap (λ (z : OpenBlock). length z.operations) s.added ∙ length-append old.operations (WriteArray x n index s.stored ∷ []) in omega arith
 store_count (target.Global x ty index) value old new s =
     let e = ap (λ (z : OpenBlock). length z.operations) s.added ∙ length-append old.operations (WriteGlobal x index s.stored ∷ []) in omega arith
 

@@ -38,22 +38,22 @@ pub record StoresElement (writes : Operand → Operation) (ty : IntegerType) (va
 
 abbrev pub Stores : Target → Operand → OpenBlock → OpenBlock → Type 0
 Stores (target.Variable n ty) value old new = StoresVariable n ty value old new
-Stores (target.Array a ty index) value old new = StoresElement (λ w. WriteArray a index w) ty value old new
+Stores (target.Array a n ty index) value old new = StoresElement (λ w. WriteArray a n index w) ty value old new
 Stores (target.Global g ty index) value old new = StoresElement (λ w. WriteGlobal g index w) ty value old new
 
 -- the place is this target, once its index is evaluated
 pub record PlacesScalar (homes : List Home) (storage : Storage) (x : ℕ) (ty : IntegerType) (old new : OpenBlock) (t : Target) : Type 0 where
   pub same : new ≡ old
-  pub at : t ≡ target_at homes storage x ty (plain (FromConstant int_type (pos 0)))
+  pub at : t ≡ target_at homes storage x 1 ty (plain (FromConstant int_type (pos 0)))
 
-pub record PlacesElement (homes : List Home) (storage : Storage) (x : ℕ) (ty : IntegerType) (e : Expression) (old new : OpenBlock) (t : Target) : Type 0 where
+pub record PlacesElement (homes : List Home) (storage : Storage) (x n : ℕ) (ty : IntegerType) (e : Expression) (old new : OpenBlock) (t : Target) : Type 0 where
   pub index : Operand
   pub evaluates : Evaluates homes e old new index
-  pub at : t ≡ target_at homes storage x ty index
+  pub at : t ≡ target_at homes storage x n ty index
 
 abbrev pub Places : List Home → Place → OpenBlock → OpenBlock → Target → Type 0
 Places homes (Place.Scalar storage x ty) old new t = PlacesScalar homes storage x ty old new t
-Places homes (Place.Element storage x n ty e) old new t = PlacesElement homes storage x ty e old new t
+Places homes (Place.Element storage x n ty e) old new t = PlacesElement homes storage x n ty e old new t
 
 -- The homes of the locals of a call.
 

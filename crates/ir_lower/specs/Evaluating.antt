@@ -31,15 +31,15 @@ current_value (Some (Some o)) variables values x = operand_value variables value
 current_value (Some None) variables values x = variables x
 current_value None variables values x = variables x
 
--- where an element of an object stands; an object with one element has no other
-abbrev pub local_target : Option Home → ℕ → IntegerType → Operand → Target
-local_target (Some (home.Array a)) x ty index = target.Array a ty index
-local_target (Some (home.Variable n)) x ty index = target.Variable n ty
-local_target None x ty index = target.Variable x ty
+-- where an element of an object of n stands; an object with one element has no other
+abbrev pub local_target : Option Home → ℕ → ℕ → IntegerType → Operand → Target
+local_target (Some (home.Array a)) x n ty index = target.Array a n ty index
+local_target (Some (home.Variable k)) x n ty index = target.Variable k ty
+local_target None x n ty index = target.Variable x ty
 
-abbrev pub target_at : List Home → Storage → ℕ → IntegerType → Operand → Target
-target_at homes Automatic x ty index = local_target (slice_get homes x) x ty index
-target_at homes Static x ty index = target.Global x ty index
+abbrev pub target_at : List Home → Storage → ℕ → ℕ → IntegerType → Operand → Target
+target_at homes Automatic x n ty index = local_target (slice_get homes x) x n ty index
+target_at homes Static x n ty index = target.Global x ty index
 
 abbrev pub with_more : OpenBlock → List Operation → OpenBlock
 with_more b operations = record b { operations = b.operations ++ operations }
@@ -47,12 +47,12 @@ with_more b operations = record b { operations = b.operations ++ operations }
 -- the block once it is read, and the operand
 abbrev pub load_block : Target → OpenBlock → OpenBlock
 load_block (target.Variable n ty) b = b
-load_block (target.Array a ty index) b = with_more b (ReadArray a index ∷ [])
+load_block (target.Array a n ty index) b = with_more b (ReadArray a n index ∷ [])
 load_block (target.Global g ty index) b = with_more b (ReadGlobal g index ∷ [])
 
 abbrev pub loaded : Target → OpenBlock → Operand
 loaded (target.Variable n ty) b = current_operand (slice_get b.current n) n ty
-loaded (target.Array a ty index) b = plain (FromValue (length b.operations) ty)
+loaded (target.Array a n ty index) b = plain (FromValue (length b.operations) ty)
 loaded (target.Global g ty index) b = plain (FromValue (length b.operations) ty)
 
 -- what stands for element j of local x in a run so far

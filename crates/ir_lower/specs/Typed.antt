@@ -26,16 +26,16 @@ use Rattle.ir_lower.specs.Locals.{arrays_of}
 
 -- ---- operations
 
--- the types of what code works on: its variables, the elements of its arrays, the elements of the globals
+-- what code works on: the types of its variables, its arrays, the types of the elements of the globals
 pub record Types : Type 0 where
   pub variables : List IntegerType
-  pub arrays : List IntegerType
+  pub arrays : List Array
   pub globals : List IntegerType
 
 abbrev pub types_of : Program → ThreadCode → Types
 types_of P code = record {
   variables = code.variables;
-  arrays = map (λ (a : Array). a.ty) code.arrays;
+  arrays = code.arrays;
   globals = map (λ (g : GlobalVariable). g.ty) P.globals;
 }
 
@@ -56,6 +56,10 @@ abbrev pub type_there : Option IntegerType → IntegerType
 type_there None = int_type
 type_there (Some ty) = ty
 
+abbrev pub element_there : Option Array → IntegerType
+element_there None = int_type
+element_there (Some a) = a.ty
+
 module _ (T : Types) where
   -- the type of what an operation gives; a write gives an int
   abbrev pub value_type : Operation → IntegerType
@@ -63,8 +67,8 @@ module _ (T : Types) where
   value_type (Binary operator ty a b) = binary_type operator ty
   value_type (ReadGlobal x i) = type_there (slice_get T.globals x)
   value_type (WriteGlobal x i a) = int_type
-  value_type (ReadArray x i) = type_there (slice_get T.arrays x)
-  value_type (WriteArray x i a) = int_type
+  value_type (ReadArray x n i) = element_there (slice_get T.arrays x)
+  value_type (WriteArray x n i a) = int_type
 
   -- what has the type that it says, behind these operations
   abbrev pub IsTypedSource : List Operation → Source → Type 0
@@ -75,6 +79,10 @@ module _ (T : Types) where
   abbrev pub IsTypedOperand : List Operation → Operand → Type 0
   IsTypedOperand before o = IsTypedSource before o.source
 
+  -- array x has n elements of a type
+  abbrev pub IsArray : ℕ → ℕ → IntegerType → Type 0
+  IsArray x n ty = slice_get T.arrays x ≡ Some (record { ty = ty; length = n })
+
   -- its operands are typed, and what it accesses is there
   abbrev pub IsTypedOperation : List Operation → Operation → Type 0
   IsTypedOperation before (Unary operator ty a) = IsTypedOperand before a
@@ -82,9 +90,9 @@ module _ (T : Types) where
   IsTypedOperation before (ReadGlobal x i) = IsTypedOperand before i × (x < length T.globals)
   IsTypedOperation before (WriteGlobal x i a) =
       IsTypedOperand before i × IsTypedOperand before a × (slice_get T.globals x ≡ Some (operand_type a))
-  IsTypedOperation before (ReadArray x i) = IsTypedOperand before i × (x < length T.arrays)
-  IsTypedOperation before (WriteArray x i a) =
-      IsTypedOperand before i × IsTypedOperand before a × (slice_get T.arrays x ≡ Some (operand_type a))
+  IsTypedOperation before (ReadArray x n i) = IsTypedOperand before i × ((ty : IntegerType) × IsArray x n ty)
+  IsTypedOperation before (WriteArray x n i a) =
+      IsTypedOperand before i × IsTypedOperand before a × IsArray x n (operand_type a)
 
   -- each of the operations behind those before it
   abbrev pub AreTyped : List Operation → List Operation → Type 0

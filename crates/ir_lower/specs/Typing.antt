@@ -11,7 +11,7 @@ use Rattle.block_ir.specs.declared.operand.Operand.{Operand}
 use Rattle.ir_lower.specs.declared.homes.Home.{Home}
 use Rattle.ir_lower.specs.declared.homes.Home.TheVariants as home
 use Rattle.ir_lower.specs.declared.open_block.OpenBlock.{OpenBlock}
-use Rattle.ir_lower.specs.Typed.{Types, operand_type, IsTypedOperand, AreTyped}
+use Rattle.ir_lower.specs.Typed.{Types, operand_type, IsArray, IsTypedOperand, AreTyped}
 
 -- a function of a program, and the types of what its code works on
 pub record Typing : Type 0 where
@@ -21,7 +21,7 @@ pub record Typing : Type 0 where
 
 abbrev pub IsTypedHome : Types → LocalVariable → Option Home → Type 0
 IsTypedHome T l (Some (home.Variable n)) = slice_get T.variables n ≡ Some l.ty
-IsTypedHome T l (Some (home.Array a)) = slice_get T.arrays a ≡ Some l.ty
+IsTypedHome T l (Some (home.Array a)) = IsArray T a l.length l.ty
 IsTypedHome T l None = ⊥
 
 -- the types are those that the locals and the globals are declared with

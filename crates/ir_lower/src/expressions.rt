@@ -38,13 +38,13 @@ pub fn lower_expression(
     match expression {
         Expression::Constant(ty, number) => Ok(plain(alloc, Source::Constant(*ty, *number))),
         Expression::Variable(storage, variable, ty) => {
-            let target = target_at(homes, *storage, *variable, *ty, first_index(alloc));
+            let target = target_at(homes, *storage, *variable, 1, *ty, first_index(alloc));
             let value = load(alloc, block, &target)?;
             Ok(value)
         }
-        Expression::Element(storage, variable, _, ty, index) => {
+        Expression::Element(storage, variable, length, ty, index) => {
             let index = lower_expression(alloc, homes, block, index)?;
-            let target = target_at(homes, *storage, *variable, *ty, index);
+            let target = target_at(homes, *storage, *variable, *length, *ty, index);
             let value = load(alloc, block, &target)?;
             Ok(value)
         }

@@ -16,28 +16,29 @@ use c_program::tree::{Place, Storage};
 use hls_ints::CType;
 use std::alloc::Global;
 
-/// Where a value of a type stands.
+/// Where a value of a type stands: a variable, or an element of an array of so many, or of a global.
 #[derive(Drop)]
 pub enum Target {
     Variable(u32, CType),
-    Array(u32, CType, Operand),
+    Array(u32, u64, CType, Operand),
     Global(u32, CType, Operand),
 }
 
-/// The element of an object at an index. An object with one element has no other.
+/// The element of an object of so many at an index. An object with one element has no other.
 pub fn target_at(
     homes: &[Home],
     storage: Storage,
     variable: u32,
+    length: u64,
     ty: CType,
     index: Operand,
 ) -> Target
-    ensures { result ≡ evaluating.target_at homes.now storage variable ty index }
+    ensures { result ≡ evaluating.target_at homes.now storage variable length ty index }
 {
     match storage {
         Storage::Static => Target::Global(variable, ty, index),
         Storage::Automatic => match homes.get(variable as usize).copied() {
-            Some(Home::Array(array)) => Target::Array(array, ty, index),
+            Some(Home::Array(array)) => Target::Array(array, length, ty, index),
             Some(Home::Variable(number)) => Target::Variable(number, ty),
             None => Target::Variable(variable, ty),
         },
@@ -57,12 +58,12 @@ pub fn lower_place(
     match place {
         Place::Scalar(storage, variable, ty) => {
             let index = first_index(alloc);
-            let target = target_at(homes, *storage, *variable, *ty, index);
+            let target = target_at(homes, *storage, *variable, 1, *ty, index);
             Ok(target)
         }
-        Place::Element(storage, variable, _, ty, index) => {
+        Place::Element(storage, variable, length, ty, index) => {
             let index = lower_expression(alloc, homes, block, index)?;
-            let target = target_at(homes, *storage, *variable, *ty, index);
+            let target = target_at(homes, *storage, *variable, *length, *ty, index);
             Ok(target)
         }
     }
@@ -79,10 +80,11 @@ pub fn load(alloc: Global, block: &mut OpenBlock, target: &Target) -> Result<Ope
             let value = block.variable(alloc, *variable, *ty)?;
             Ok(value)
         }
-        Target::Array(array, ty, index) => {
+        Target::Array(array, length, ty, index) => {
             let index = copy_of(alloc, index)?;
             let operation = Operation::ReadArray {
                 array: *array,
+                length: *length,
                 index,
             };
             let value = block.put(alloc, operation, *ty)?;
@@ -117,10 +119,11 @@ pub fn store(
             block.set(variable, value)?;
             Ok(())
         }
-        Target::Array(array, ty, index) => {
+        Target::Array(array, length, ty, index) => {
             let value = converted(alloc, value, ty)?;
             let operation = Operation::WriteArray {
                 array,
+                length,
                 index,
                 value,
             };

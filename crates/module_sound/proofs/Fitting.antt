@@ -2,6 +2,7 @@
 use Rattle.std.proofs.Common.{◌≡◌, ◌≢◌, ℕ, zero, suc, ◌+◌, ◌-◌, ◌*◌, ◌<◌, ◌≤◌, ◌^◌, Bool, true, false, ◌&&◌, ◌==◌, nat_lt, nat_le, if◌then◌else◌, List, [], ◌∷◌, length, slice_get, Option, Some, None}
 use Rattle.std.proofs.Common.{refl, sym, ap, subst, ◌∙◌, arith}
 use Rattle.std.proofs.lemmas.Bool.Decides.{nat_tests}
+use Rattle.std.proofs.lemmas.Option.{slice_get_within}
 use Rattle.verilog_tree.specs.declared.tree.BinaryOperator.{BinaryOperator}
 use Rattle.verilog_tree.specs.declared.tree.BinaryOperator.TheVariants.{Add, Subtract, Multiply, And, Or, Xor, Equal, Less, ShiftLeft, ShiftRight}
 use Rattle.verilog_tree.specs.Scope.{is_clk}
@@ -10,11 +11,12 @@ use Rattle.netlist.specs.declared.netlist.Value.{Value}
 use Rattle.netlist.specs.declared.netlist.Value.TheVariants.{Copy, Constant, BitwiseNot, Binary, SignedLess, ArithmeticShiftRight, Conditional, Division, SignedDivision, MemoryRead, Select}
 use Rattle.netlist.specs.declared.netlist.Value.TheVariants.{Concatenation, Replication}
 use Rattle.netlist.specs.declared.netlist.Signal.{Signal}
+use Rattle.netlist.specs.declared.netlist.Memory.{Memory}
 use Rattle.netlist.specs.declared.netlist.Module.{Module}
 use Rattle.netlist.specs.Laid.{operands, memories_read, AreSignals, AreMemories}
 use Rattle.netlist.specs.Sound.{width_read, width, is_read, has_width, have_one_width, joint_width, is_filled, value_fits}
+use Rattle.netlist.specs.Sound.{words_of_memory, memory_words, width_of_memory, memory_width}
 use Rattle.circuit.specs.Modules.{Has, FitsParts, FitsValue}
-use Rattle.module_check.specs.Grades.{no_memory}
 use Rattle.module_sound.specs.Kinds.{HasRange}
 
 and_both : (t u : Bool) → t ≡ true → u ≡ true → (t && u) ≡ true
@@ -24,6 +26,10 @@ and_both false u e f = absurd cc
 
 pub same_number : (a b : ℕ) → a ≡ b → (a == b) ≡ true
 same_number a b e = grind (arith, nat_tests)
+
+-- the memory of a number
+abbrev pub memory_at : Module → ℕ → Option Memory
+memory_at m = λ j. slice_get m.memories j
 
 module _ (m : Module) (P : ℕ → ℕ → Type 0) (reads : (y w : ℕ) → P y w → (width m y ≡ w) × (0 < w) × (y < length m.signals) × Has m y w) where
   read : (y w : ℕ) → P y w → is_read m y ≡ true
@@ -55,7 +61,7 @@ module _ (m : Module) (P : ℕ → ℕ → Type 0) (reads : (y w : ℕ) → P y 
   part_signals [] w f = no_signals
   part_signals (x ∷ xs) w f = more_signals x xs (reads x f.0 f.2).2 (part_signals xs f.1 f.3)
 
-  binary_signals : (o : BinaryOperator) (w x y : ℕ) → FitsValue P no_memory w (Binary o x y) → AreSignals m (x ∷ y ∷ [])
+  binary_signals : (o : BinaryOperator) (w x y : ℕ) → FitsValue P (memory_at m) w (Binary o x y) → AreSignals m (x ∷ y ∷ [])
   binary_signals Equal w x y f = two_signals x y (reads x f.1.0 f.1.1).2 (reads y f.1.0 f.1.2).2
   binary_signals Less w x y f = two_signals x y (reads x f.1.0 f.1.1).2 (reads y f.1.0 f.1.2).2
   binary_signals ShiftLeft w x y f = two_signals x y (reads x w f.0).2 (reads y f.1.0 f.1.1).2
@@ -67,7 +73,7 @@ module _ (m : Module) (P : ℕ → ℕ → Type 0) (reads : (y w : ℕ) → P y 
   binary_signals Or w x y f = two_signals x y (reads x w f.0).2 (reads y w f.1).2
   binary_signals Xor w x y f = two_signals x y (reads x w f.0).2 (reads y w f.1).2
 
-  pub value_signals : (w : ℕ) (v : Value) → FitsValue P no_memory w v → AreSignals m (operands v)
+  pub value_signals : (w : ℕ) (v : Value) → FitsValue P (memory_at m) w v → AreSignals m (operands v)
   value_signals w (Copy x) f = one_signal x (reads x w f).2
   value_signals w (Constant n) f = no_signals
   value_signals w (BitwiseNot x) f = one_signal x (reads x w f).2
@@ -77,12 +83,16 @@ module _ (m : Module) (P : ℕ → ℕ → Type 0) (reads : (y w : ℕ) → P y 
   value_signals w (Conditional c x y) f = more_signals c (x ∷ y ∷ []) (reads c 1 f.0).2 (two_signals x y (reads x w f.1).2 (reads y w f.2).2)
   value_signals w (Division o x y) f = two_signals x y (reads x w f.0).2 (reads y w f.1).2
   value_signals w (SignedDivision o x y) f = two_signals x y (reads x w f.0).2 (reads y w f.1).2
-  value_signals w (MemoryRead j x) f = absurd (let none = f.1 in cc)
+  value_signals w (MemoryRead j x) f = one_signal x (reads x f.3.0 f.3.1).2
   value_signals w (Select x high low) f = one_signal x (reads x f.2.0 f.2.1).2
   value_signals w (Concatenation xs) f = part_signals xs w f
   value_signals w (Replication n x) f = one_signal x (reads x f.0 f.1).2
 
-  pub value_memories : (w : ℕ) (v : Value) → FitsValue P no_memory w v → AreMemories m (memories_read v)
+  one_memory : (i : ℕ) → i < length m.memories → AreMemories m (i ∷ [])
+  one_memory i less zero j e = let same : i ≡ j = cc in subst (λ (n : ℕ). n < length m.memories) same less
+  one_memory i less (suc k) j e = absurd cc
+
+  pub value_memories : (w : ℕ) (v : Value) → FitsValue P (memory_at m) w v → AreMemories m (memories_read v)
   value_memories w (Copy x) f k j e = absurd cc
   value_memories w (Constant n) f k j e = absurd cc
   value_memories w (BitwiseNot x) f k j e = absurd cc
@@ -92,7 +102,7 @@ module _ (m : Module) (P : ℕ → ℕ → Type 0) (reads : (y w : ℕ) → P y 
   value_memories w (Conditional c x y) f k j e = absurd cc
   value_memories w (Division o x y) f k j e = absurd cc
   value_memories w (SignedDivision o x y) f k j e = absurd cc
-  value_memories w (MemoryRead i x) f k j e = absurd (let none = f.1 in cc)
+  value_memories w (MemoryRead i x) f k j e = one_memory i (slice_get_within m.memories i f.0 f.1) k j e
   value_memories w (Select x high low) f k j e = absurd cc
   value_memories w (Concatenation xs) f k j e = absurd cc
   value_memories w (Replication n x) f k j e = absurd cc
@@ -111,7 +121,7 @@ module _ (m : Module) (P : ℕ → ℕ → Type 0) (reads : (y w : ℕ) → P y 
   filled [] w some f = absurd (let none : w ≡ 0 = f in omega arith)
   filled (x ∷ xs) w some f = refl
 
-  binary_fits : (o : BinaryOperator) (w x y : ℕ) → FitsValue P no_memory w (Binary o x y) → value_fits m (Binary o x y) w ≡ true
+  binary_fits : (o : BinaryOperator) (w x y : ℕ) → FitsValue P (memory_at m) w (Binary o x y) → value_fits m (Binary o x y) w ≡ true
   binary_fits Equal w x y f = and_both (w == 1) (have_one_width m x y) (same_number w 1 f.0) (alike x y f.1.0 f.1.1 f.1.2)
   binary_fits Less w x y f = and_both (w == 1) (have_one_width m x y) (same_number w 1 f.0) (alike x y f.1.0 f.1.1 f.1.2)
   binary_fits ShiftLeft w x y f = and_both (has_width m x w) (is_read m y) (has x w f.0) (read y f.1.0 f.1.1)
@@ -142,7 +152,16 @@ module _ (m : Module) (P : ℕ → ℕ → Type 0) (reads : (y w : ℕ) → P y 
   one_width : (x v w : ℕ) → Has m x v → Has m x w → v ≡ w
   one_width x v w a b = let same : a.signal ≡ b.signal = (let e = a.listed in let f = b.listed in cc) in sym a.wide ∙ ap (λ (s : Signal). s.width) same ∙ b.wide
 
-  pub value_right : (w : ℕ) (v : Value) → 0 < w → HasRange m v → FitsValue P no_memory w v → value_fits m v w ≡ true
+  read_fits : (j x w own : ℕ) (s : Memory) → slice_get m.memories j ≡ Some s → s.width ≡ w → P x own → length s.initial < 2 ^ own → value_fits m (MemoryRead j x) w ≡ true
+  read_fits j x w own s listed wide p less =
+      let words : memory_words m j ≡ length s.initial = ap (words_of_memory m) listed in
+      let e : width m x ≡ own = (reads x own p).0 in
+      let b : nat_lt (memory_words m j) (2 ^ width m x) ≡ true =
+      subst (λ (n : ℕ). nat_lt n (2 ^ width m x) ≡ true) (sym words) (subst (λ (n : ℕ). nat_lt (length s.initial) (2 ^ n) ≡ true) (sym e) (below_power (length s.initial) own less)) in
+      and_both (is_read m x) (nat_lt (memory_words m j) (2 ^ width m x) && memory_width m j == w) (read x own p)
+      (and_both (nat_lt (memory_words m j) (2 ^ width m x)) (memory_width m j == w) b (same_number (memory_width m j) w (ap (width_of_memory m) listed ∙ wide)))
+
+  pub value_right : (w : ℕ) (v : Value) → 0 < w → HasRange m v → FitsValue P (memory_at m) w v → value_fits m v w ≡ true
   value_right w (Copy x) some range f = has x w f
   value_right w (Constant n) some range f = below_power n w f
   value_right w (BitwiseNot x) some range f = has x w f
@@ -153,7 +172,7 @@ module _ (m : Module) (P : ℕ → ℕ → Type 0) (reads : (y w : ℕ) → P y 
       and_both (has_width m c 1) (has_width m x w && has_width m y w) (has c 1 f.0) (and_both (has_width m x w) (has_width m y w) (has x w f.1) (has y w f.2))
   value_right w (Division o x y) some range f = and_both (has_width m x w) (has_width m y w) (has x w f.0) (has y w f.1)
   value_right w (SignedDivision o x y) some range f = and_both (has_width m x w) (has_width m y w) (has x w f.0) (has y w f.1)
-  value_right w (MemoryRead j x) some range f = absurd (let none = f.1 in cc)
+  value_right w (MemoryRead j x) some range f = read_fits j x w f.3.0 f.0 f.1 f.2 f.3.1 f.3.2
   value_right w (Select x high low) some range f =
       select_fits w x high low f.2.0 f.0 f.1 f.2.1 f.2.2 (subst (λ (n : ℕ). 1 < n) (one_width x range.0 f.2.0 range.1 (reads x f.2.0 f.2.1).3) range.2)
   value_right w (Concatenation xs) some range f =

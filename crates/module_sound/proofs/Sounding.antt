@@ -18,15 +18,16 @@ use Rattle.netlist.specs.declared.netlist.Effect.{Effect}
 use Rattle.netlist.specs.declared.netlist.Effect.TheVariants as effect
 use Rattle.netlist.specs.declared.netlist.Action.{Action}
 use Rattle.netlist.specs.declared.netlist.Module.{Module}
+use Rattle.netlist.specs.NetlistOf.{Name}
 use Rattle.netlist.specs.Laid.{EachAt, AreApart, AreSignals, AreMemories, signal_names, memory_names, instance_names, declared_names, effect_signals, memories_stored, IsSource, IsLaidModule}
 use Rattle.verilog_meaning.specs.Cycles.{IsRegister}
-use Rattle.netlist.specs.Sound.{width, width_read, has_width, register_width, width_of_register, width_set, source_fits, effect_fits, action_fits, IsSet, IsSoundModule}
+use Rattle.netlist.specs.Sound.{width, width_read, is_read, has_width, width_of_memory, memory_width, register_width, width_of_register, width_set, source_fits, effect_fits, action_fits, IsSet, IsSoundModule}
 use Rattle.circuit.specs.Rows.{EachOf}
 use Rattle.circuit.specs.Modules.{Has}
-use Rattle.module_check.specs.Grades.{IsOperand, IsGradedSource, IsGradedSignal, AreGrades, SetsRight, ActsRight}
+use Rattle.module_sound.specs.Grades.{IsOperand, IsGradedSource, IsGradedSignal, AreGrades, SetsRight, ActsRight}
 use Rattle.module_sound.specs.Names.{place_of, last_number}
 use Rattle.module_sound.specs.Kinds.{SetsAt, IsKindAt, IsPlaced}
-use Rattle.module_sound.specs.Sounds.{BeginsWithClock, IsSoundAlone, PlacedIsSound}
+use Rattle.module_sound.specs.Sounds.{BeginsWithClock, AreRightMemories, IsSoundAlone, PlacedIsSound}
 use Rattle.module_sound.proofs.Ordering.{in_order, input_count, output_count}
 use Rattle.module_sound.proofs.Fitting.{value_signals, value_memories, value_right, same_number}
 
@@ -52,6 +53,41 @@ both_true false u e f = absurd cc
 lt_true : (a b : ℕ) → a < b → nat_lt a b ≡ true
 lt_true a b h = grind arith
 
+-- initial constants that fit
+constants_right : (w : ℕ) (ns : List ℕ) → EachOf (λ n. n < 2 ^ w) ns → all_right (λ n. nat_lt n (2 ^ w)) ns ≡ true
+constants_right w [] e = refl
+constants_right w (n ∷ ns) e = both_true (nat_lt n (2 ^ w)) (all_right (λ k. nat_lt k (2 ^ w)) ns) (lt_true n (2 ^ w) e.0) (constants_right w ns e.1)
+
+-- ---- names of two lists
+
+memory_at_name : (ms : List Memory) (i : ℕ) (x : Name) → slice_get (map (λ (c : Memory). c.name) ms) i ≡ Some x → (c : Memory) × (slice_get ms i ≡ Some c) × (c.name ≡ x)
+memory_at_name [] i x e = absurd cc
+memory_at_name (c ∷ ms) zero x e = let same : c.name ≡ x = cc in (c, refl, same)
+memory_at_name (c ∷ ms) (suc i) x e = memory_at_name ms i x e
+
+-- in the first list, or at a place of the second one
+data IsIn (a b : List Name) (i : ℕ) (x : Name) : Type 0 where
+  First : (at : slice_get a i ≡ Some x) → IsIn a b i x
+  Second : (k : ℕ) (is : i ≡ length a + k) (at : slice_get b k ≡ Some x) → IsIn a b i x
+
+in_one : (a b : List Name) (i : ℕ) (x : Name) → slice_get (a ++ b) i ≡ Some x → IsIn a b i x
+in_one [] b i x e = Second i (omega arith) e
+in_one (y ∷ a) b zero x e = First e
+in_one (y ∷ a) b (suc i) x e = more (in_one a b i x e)
+  where
+    more : IsIn a b i x → IsIn (y ∷ a) b (suc i) x
+    more (First at) = First at
+    more (Second k is at) = Second k (omega arith) at
+
+apart_both : (a b : List Name) → AreApart a → AreApart b → ((i j : ℕ) (x : Name) → slice_get a i ≡ Some x → slice_get b j ≡ Some x → ⊥) → AreApart (a ++ b)
+apart_both a b first second other i j x e f = by (in_one a b i x e) (in_one a b j x f)
+  where
+    by : IsIn a b i x → IsIn a b j x → i ≡ j
+    by (First at) (First there) = first i j x at there
+    by (First at) (Second k is there) = absurd (other i k x at there)
+    by (Second k is at) (First there) = absurd (other j k x there at)
+    by (Second k is at) (Second l so there) = let same : k ≡ l = second k l x at there in omega arith
+
 never_zero : (x : ℕ) → nat_eq (suc x) 0 ≡ false
 never_zero x = grind (arith, nat_tests)
 
@@ -69,7 +105,7 @@ by_name n name e = if_true (is_clk name) (Some 0) (if bytes_eq name (codes "en")
     else (if bytes_eq name (codes "need") then Some (n - 2) else (if bytes_eq name (codes "done") then Some (n - 1) else last_number name)))) e
 
 module _ (m : Module) (inputs first : ℕ) (grades : List ℕ) (are : AreGrades m inputs (length m.signals) grades) (acts : EachOf (ActsRight m) m.actions) (instances : m.instances ≡ [])
-    (memories : m.memories ≡ []) (placed : IsPlaced m inputs first) (begins : BeginsWithClock m) where
+    (memories : AreRightMemories m) (placed : IsPlaced m inputs first) (begins : BeginsWithClock m) where
   -- ---- names
 
   not_clock : (x : ℕ) (s : Signal) → slice_get m.signals x ≡ Some s → x ≢ 0 → is_clk s.name ≡ false
@@ -94,14 +130,18 @@ module _ (m : Module) (inputs first : ℕ) (grades : List ℕ) (are : AreGrades 
       let two : place_of (length m.signals) x ≡ Some j = ap (place_of (length m.signals)) (sym b.2) ∙ other in
       cc
 
+  names_differ : (i j : ℕ) (x : Name) → slice_get (signal_names m) i ≡ Some x → slice_get (memory_names m) j ≡ Some x → ⊥
+  names_differ i j x e f =
+      let s = named_at m.signals i x e in
+      let c = memory_at_name m.memories j x f in
+      (memories.each j c.0 c.1).other i s.0 s.1 (s.2 ∙ sym c.2)
+
   names_apart : AreApart (declared_names m)
   names_apart =
-      let no_memory : memory_names m ≡ [] = ap (λ (l : List Memory). map (λ (x : Memory). x.name) l) memories in
       let no_instance : instance_names m ≡ [] = ap (λ (l : List Instance). map (λ (x : Instance). x.name) l) instances in
-      let all : declared_names m ≡ signal_names m =
-      ap (λ l. signal_names m ++ l ++ instance_names m) no_memory ∙ ap (λ l. signal_names m ++ [] ++ l) no_instance ∙ append-nil (signal_names m ++ []) ∙ append-nil (signal_names m)
-      in
-      subst (λ (l : List (List ℕ)). AreApart l) (sym all) signals_apart
+      let all : declared_names m ≡ signal_names m ++ memory_names m =
+      ap (λ l. signal_names m ++ memory_names m ++ l) no_instance ∙ append-nil (signal_names m ++ memory_names m) in
+      subst (λ (l : List Name). AreApart l) (sym all) (apart_both (signal_names m) (memory_names m) signals_apart memories.apart names_differ)
 
   -- ---- what signals read
 
@@ -151,10 +191,12 @@ module _ (m : Module) (inputs first : ℕ) (grades : List ℕ) (are : AreGrades 
   signals_at (c ∷ cs) a zero x e = let same : c ≡ x = cc in subst (λ (n : ℕ). n < length m.signals) same (slice_get_within m.signals c a.0.signal a.0.listed)
   signals_at (c ∷ cs) a (suc k) x e = signals_at cs a.1 k x e
 
+  read_width : (c w : ℕ) → Has m c w → 0 < c → is_read m c ≡ true
+  read_width c w h after = let r = wide_at c w h after in lt_true 0 (width m c) (subst (λ (n : ℕ). 0 < n) (sym r.0) r.1)
+
   reads_width : (c w : ℕ) → Has m c w → 0 < c → has_width m c w ≡ true
   reads_width c w h after =
-      let r = wide_at c w h after in
-      both_true (nat_lt 0 (width m c)) (width m c == w) (lt_true 0 (width m c) (subst (λ (n : ℕ). 0 < n) (sym r.0) r.1)) (same_number (width m c) w r.0)
+      both_true (is_read m c) (width m c == w) (read_width c w h after) (same_number (width m c) w (wide_at c w h after).0)
 
   bits_right : (cs : List ℕ) → EachOf (λ x. Has m x 1) cs → EachOf (λ x. 0 < x) cs → all_right (λ c. has_width m c 1) cs ≡ true
   bits_right [] a b = refl
@@ -166,6 +208,11 @@ module _ (m : Module) (inputs first : ℕ) (grades : List ℕ) (are : AreGrades 
   register_is (Assigned v) w is = absurd is
   register_is (Port i p) w is = absurd is
 
+  two : (x y : ℕ) → x < length m.signals → y < length m.signals → AreSignals m (x ∷ y ∷ [])
+  two x y a b zero z e = let same : x ≡ z = cc in subst (λ (n : ℕ). n < length m.signals) same a
+  two x y a b (suc zero) z e = let same : y ≡ z = cc in subst (λ (n : ℕ). n < length m.signals) same b
+  two x y a b (suc (suc k)) z e = absurd cc
+
   set_right : (e : Effect) → SetsRight m e → AreSignals m (effect_signals e) × AreMemories m (memories_stored e) × (effect_fits m e ≡ true)
   set_right (effect.Set x y) t =
       let f = t.fits in
@@ -175,13 +222,19 @@ module _ (m : Module) (inputs first : ℕ) (grades : List ℕ) (are : AreGrades 
         (λ k j e. absurd cc),
         subst (λ (n : ℕ). has_width m y n ≡ true) (sym wide) (reads_width y f.0 f.2 t.unclocked.0),
       )
+  set_right (effect.Store j x y) t =
+      let f = t.fits in
+      let wide : memory_width m j ≡ f.0.width = ap (width_of_memory m) f.1 in (
+        two x y (slice_get_within m.signals x f.3.1.signal f.3.1.listed) (slice_get_within m.signals y f.2.signal f.2.listed),
+        one j (slice_get_within m.memories j f.0 f.1),
+        both_true (is_read m x) (has_width m y (memory_width m j)) (read_width x f.3.0 f.3.1 t.unclocked.0)
+            (subst (λ (n : ℕ). has_width m y n ≡ true) (sym wide) (reads_width y f.0.width f.2 t.unclocked.1.0)),
+      )
     where
-      two : (x y : ℕ) → x < length m.signals → y < length m.signals → AreSignals m (x ∷ y ∷ [])
-      two x y a b zero z e = let same : x ≡ z = cc in subst (λ (n : ℕ). n < length m.signals) same a
-      two x y a b (suc zero) z e = let same : y ≡ z = cc in subst (λ (n : ℕ). n < length m.signals) same b
-      two x y a b (suc (suc k)) z e = absurd cc
-  set_right (effect.Store j x y) t = absurd (let s = t.sets in let clash = s.2 in cc)
-  set_right (effect.Write text values) t = absurd (let s = t.sets in let clash = s.2 in cc)
+      one : (j : ℕ) → j < length m.memories → AreMemories m (j ∷ [])
+      one j less zero i e = let same : j ≡ i = cc in subst (λ (n : ℕ). n < length m.memories) same less
+      one j less (suc k) i e = absurd cc
+  set_right (effect.Write text values) t = absurd (let s = t.silent in cc)
 
   -- ---- the module
 
@@ -208,7 +261,7 @@ module _ (m : Module) (inputs first : ℕ) (grades : List ℕ) (are : AreGrades 
       signals = λ x s listed.
           let g = graded x s listed in
           record { low = g.2.low; high = g.2.high; drives = laid_source before x s.width g.0 s.is_output s.source (placed.each x s listed).kind g.2.source };
-      memories = λ k x listed. absurd (nothing_at m.memories k x memories listed);
+      memories = λ k x listed. (memories.each k x listed).laid;
       actions = λ k a listed.
           let t = act_at k a listed in
           let e = set_right a.effect t.sets in
@@ -226,7 +279,7 @@ module _ (m : Module) (inputs first : ℕ) (grades : List ℕ) (are : AreGrades 
             set = set_source x s.is_output s.source (placed.each x s listed).kind;
             clock = clock_alone x s listed;
           };
-      memories = λ k x listed. absurd (nothing_at m.memories k x memories listed);
+      memories = λ k x listed. let c = memories.each k x listed in record { fits = constants_right x.width x.initial c.begins; clock = c.unclocked };
       actions = λ k a listed.
           let t = act_at k a listed in
           both_true (all_right (λ c. has_width m c 1) a.conditions) (effect_fits m a.effect) (bits_right a.conditions t.bits t.unclocked) (set_right a.effect t.sets).2;

@@ -1,3 +1,4 @@
+pub mod Grades
 pub mod Names
 pub mod Kinds
 pub mod Sounds

@@ -2,8 +2,8 @@
 
 ghost use Rattle.module_sound.specs.Sounds.{PlacedIsSound};
 
-/// A module without instances and memories, whose signals are graded, and stand at the places of their kinds behind the
-/// clock, can be told by a text, which is well formed.
+/// A module without instances, whose signals are graded, and stand at the places of their kinds behind the clock, and
+/// whose memories have words and names of their own, can be told by a text, which is well formed.
 pub fn placed_is_sound()
     ensures { PlacedIsSound }
 {}

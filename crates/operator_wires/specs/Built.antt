@@ -60,18 +60,23 @@ pub record Lays (old new : List Signal) (role : Role) (w : ℕ) (out : Bool) (dr
 
 -- ---- what wires read
 
--- signal y, which is not one of the first `least`, is w bits wide
-pub record IsEarlier (signals : List Signal) (least y w : ℕ) : Type 0 where
-  pub signal : Signal
-  pub listed : slice_get signals y ≡ Some signal
-  pub wide : signal.width ≡ w
-  pub after : least ≤ y
-  pub low : 1 ≤ w
-  pub high : w ≤ 64
+-- what wires stand on: so many first signals, of which they read none, and the memories that they may read, by number
+pub record Base : Type 0 where
+  pub first : ℕ
+  pub memory : ℕ → Option Memory
 
 -- no memory is read
 abbrev pub no_memory : ℕ → Option Memory
 no_memory j = None
+
+-- signal y, which is not one of the first of the base, is w bits wide
+pub record IsEarlier (signals : List Signal) (base : Base) (y w : ℕ) : Type 0 where
+  pub signal : Signal
+  pub listed : slice_get signals y ≡ Some signal
+  pub wide : signal.width ≡ w
+  pub after : base.first ≤ y
+  pub low : 1 ≤ w
+  pub high : w ≤ 64
 
 -- what a select reads has more than one bit (IEEE 1364-2005, 5.2.1: a scalar has no bits to select)
 abbrev pub SelectsOf : (ℕ → ℕ → Type 0) → Value → Type 0
@@ -79,17 +84,17 @@ SelectsOf P (Select x high low) = (v : ℕ) × P x v × (1 < v)
 SelectsOf P _ = Unit {0}
 
 -- a right side of w bits that a wire behind these signals may have
-pub record IsRightSide (signals : List Signal) (least w : ℕ) (right : Value) : Type 0 where
-  pub room : least ≤ length signals
+pub record IsRightSide (signals : List Signal) (base : Base) (w : ℕ) (right : Value) : Type 0 where
+  pub room : base.first ≤ length signals
   pub low : 1 ≤ w
   pub high : w ≤ 64
-  pub fits : FitsValue (IsEarlier signals least) no_memory w right
-  pub selects : SelectsOf (IsEarlier signals least) right
+  pub fits : FitsValue (IsEarlier signals base) base.memory w right
+  pub selects : SelectsOf (IsEarlier signals base) right
 
-module _ (signals : List Signal) (least x : ℕ) where
+module _ (signals : List Signal) (base : Base) (x : ℕ) where
   -- an earlier signal that signal x may read
   pub record IsRead (y w : ℕ) : Type 0 where
-    pub earlier : IsEarlier signals least y w
+    pub earlier : IsEarlier signals base y w
     pub before : y < x
 
   -- signal x is a wire
@@ -100,34 +105,34 @@ module _ (signals : List Signal) (least x : ℕ) where
     pub high : s.width ≤ 64
     pub right : Value
     pub drives : s.source ≡ Assigned right
-    pub fits : FitsValue IsRead no_memory s.width right
+    pub fits : FitsValue IsRead base.memory s.width right
     pub selects : SelectsOf IsRead right
 
--- THE SIGNALS BEHIND others are wires, each of which reads earlier signals of right widths, and none of the first `least`
-pub record AreWires (least : ℕ) (old new : List Signal) : Type 0 where
+-- THE SIGNALS BEHIND others are wires, each of which reads earlier signals of right widths, and none of the first of the base
+pub record AreWires (base : Base) (old new : List Signal) : Type 0 where
   pub grows : Grows old new
-  pub each : (x : ℕ) (s : Signal) → length old ≤ x → slice_get new x ≡ Some s → IsWire new least x s
+  pub each : (x : ℕ) (s : Signal) → length old ≤ x → slice_get new x ≡ Some s → IsWire new base x s
 
 -- wires are added, and the signal at a place is w bits wide
-pub record Adds (least : ℕ) (old new : List Signal) (w place : ℕ) : Type 0 where
-  pub wires : AreWires least old new
-  pub stands : IsEarlier new least place w
+pub record Adds (base : Base) (old new : List Signal) (w place : ℕ) : Type 0 where
+  pub wires : AreWires base old new
+  pub stands : IsEarlier new base place w
 
 -- ---- words of types
 
 -- a signal as wide as a type stands for a word
-pub record StandsAs (signals : List Signal) (least : ℕ) (ty : IntegerType) (word : Word) : Type 0 where
+pub record StandsAs (signals : List Signal) (base : Base) (ty : IntegerType) (word : Word) : Type 0 where
   pub says : word.width ≡ width_of ty
   pub sign : word.signed ≡ ty.signed
-  pub stands : IsEarlier signals least word.place (width_of ty)
+  pub stands : IsEarlier signals base word.place (width_of ty)
 
 -- wires are added, and there is a word of this type
-pub record AddsWord (least : ℕ) (old new : List Signal) (ty : IntegerType) (out : Word) : Type 0 where
-  pub wires : AreWires least old new
-  pub word : StandsAs new least ty out
+pub record AddsWord (base : Base) (old new : List Signal) (ty : IntegerType) (out : Word) : Type 0 where
+  pub wires : AreWires base old new
+  pub word : StandsAs new base ty out
 
 -- and there is a right operand of an operator at type ty
-pub record AddsRight (least : ℕ) (old new : List Signal) (operator : BinaryOperator) (ty : IntegerType) (out : Word) : Type 0 where
+pub record AddsRight (base : Base) (old new : List Signal) (operator : BinaryOperator) (ty : IntegerType) (out : Word) : Type 0 where
   pub kind : IntegerType
   pub is_right : IsRight operator ty kind
-  pub adds : AddsWord least old new kind out
+  pub adds : AddsWord base old new kind out

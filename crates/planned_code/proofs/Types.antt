@@ -1,5 +1,5 @@
 -- What lowering calls typed is what the promise of a thread's module calls typed.
-use Rattle.std.proofs.Common.{◌≡◌, ℕ, zero, suc, ◌<◌, List, [], ◌∷◌, ◌++◌, length, Some, refl, sym, ap, ◌∙◌, subst, arith, append_assoc, length-append}
+use Rattle.std.proofs.Common.{◌≡◌, ℕ, zero, suc, ◌<◌, List, [], ◌∷◌, ◌++◌, length, Option, Some, None, refl, sym, ap, ◌∙◌, subst, arith, append_assoc, length-append}
 use Rattle.std.specs.Prelude.{slice_get}
 use Rattle.hls_ints.specs.Types.{IntegerType}
 use Rattle.c_program.specs.declared.tree.UnaryOperator.{UnaryOperator}
@@ -17,12 +17,13 @@ use Rattle.block_ir.specs.declared.block.Final.{Final}
 use Rattle.block_ir.specs.declared.block.Next.{Next}
 use Rattle.block_ir.specs.declared.block.Next.TheVariants.{Jump, Branch}
 use Rattle.block_ir.specs.declared.block.Block.{Block}
+use Rattle.block_ir.specs.declared.code.Array.{Array}
 use Rattle.block_ir.specs.declared.code.ThreadCode.{ThreadCode}
 use Rattle.planned_view.specs.Alike.{SourceNeedsBelow, NeedsBelow, OperationNeedsBelow, EachNeedsEarlier, FinalsNeedBelow, NextNeedsBelow, IsInOrder}
 use Rattle.operator_words.specs.Shown.{unary_result, binary_result}
 use Rattle.thread_promise.specs.Types as promise
-use Rattle.program_machine.specs.Built.{IsOperator}
-use Rattle.ir_lower.specs.Typed.{Types, last_type, source_type, operand_type, value_type, IsTypedSource, IsTypedOperand, IsTypedOperation, AreTyped, IsTypedFinal, IsTypedNext, IsTypedBlock}
+use Rattle.program_machine.specs.Built.{IsLocalOperation}
+use Rattle.ir_lower.specs.Typed.{Types, element_there, IsArray, last_type, source_type, operand_type, value_type, IsTypedSource, IsTypedOperand, IsTypedOperation, AreTyped, IsTypedFinal, IsTypedNext, IsTypedBlock}
 
 get_within : {A : Type 0} (xs : List A) (i : ℕ) (v : A) → slice_get xs i ≡ Some v → i < length xs
 get_within [] i v e = cc
@@ -76,34 +77,42 @@ source_same (Value k ty) = refl
 operand_same : (o : Operand) → promise.operand_type o ≡ operand_type o
 operand_same o = last_same (promise.source_type o.source) o.conversions ∙ ap (λ ty. last_type ty o.conversions) (source_same o.source)
 
--- code without arrays, in a program without globals
-module _ (T : Types) (code : ThreadCode) (variables : T.variables ≡ code.variables) (no_arrays : T.arrays ≡ []) (no_globals : T.globals ≡ []) where
+-- code in a program without globals
+module _ (T : Types) (code : ThreadCode) (variables : T.variables ≡ code.variables) (arrays : T.arrays ≡ code.arrays) (no_globals : T.globals ≡ []) where
   no_access : (types : List IntegerType) (x : ℕ) → types ≡ [] → x < length types → ⊥
   no_access types x e lt = let n = ap length e in omega arith
 
   no_write : (types : List IntegerType) (x : ℕ) (ty : IntegerType) → types ≡ [] → slice_get types x ≡ Some ty → ⊥
   no_write types x ty e at = no_access types x e (get_within types x ty at)
 
-  pub operator_of : (before : List Operation) (o : Operation) → IsTypedOperation T before o → IsOperator o
+  pub operator_of : (before : List Operation) (o : Operation) → IsTypedOperation T before o → IsLocalOperation o
   operator_of before (Unary operator ty a) h = tt
   operator_of before (Binary operator ty a b) h = tt
   operator_of before (ReadGlobal x i) h = no_access T.globals x no_globals h.1
   operator_of before (WriteGlobal x i a) h = no_write T.globals x (operand_type a) no_globals h.2
-  operator_of before (ReadArray x i) h = no_access T.arrays x no_arrays h.1
-  operator_of before (WriteArray x i a) h = no_write T.arrays x (operand_type a) no_arrays h.2
+  operator_of before (ReadArray x n i) h = tt
+  operator_of before (WriteArray x n i a) h = tt
 
-  value_same : (o : Operation) → IsOperator o → promise.value_type [] code o ≡ value_type T o
+  -- arrays are those of the code
+  element_same : (o : Option Array) → promise.element_type o ≡ element_there o
+  element_same None = refl
+  element_same (Some a) = refl
+
+  array_there : (x n : ℕ) (ty : IntegerType) → IsArray T x n ty → slice_get code.arrays x ≡ Some (record { ty = ty; length = n })
+  array_there x n ty h = ap (λ (l : List Array). slice_get l x) (sym arrays) ∙ h
+
+  value_same : (o : Operation) → IsLocalOperation o → promise.value_type [] code o ≡ value_type T o
   value_same (Unary operator ty a) h = unary_same operator ty
   value_same (Binary operator ty a b) h = binary_same operator ty
   value_same (ReadGlobal x i) h = absurd h
   value_same (WriteGlobal x i a) h = absurd h
-  value_same (ReadArray x i) h = absurd h
-  value_same (WriteArray x i a) h = absurd h
+  value_same (ReadArray x n i) h = element_same (slice_get code.arrays x) ∙ ap (λ (l : List Array). element_there (slice_get l x)) (sym arrays)
+  value_same (WriteArray x n i a) h = refl
 
-  abbrev pub AreOperators : List Operation → Type 0
-  AreOperators os = (k : ℕ) (o : Operation) → slice_get os k ≡ Some o → IsOperator o
+  abbrev pub AreLocal : List Operation → Type 0
+  AreLocal os = (k : ℕ) (o : Operation) → slice_get os k ≡ Some o → IsLocalOperation o
 
-  module _ (all : List Operation) (operators : AreOperators all) where
+  module _ (all : List Operation) (operators : AreLocal all) where
     -- what is typed behind the first of all operations is typed behind all
     source_typed : (before more : List Operation) (s : Source) → all ≡ before ++ more → IsTypedSource T before s → promise.IsTypedSource [] code all s
     source_typed before more (Constant ty v) is h = h
@@ -120,25 +129,31 @@ module _ (T : Types) (code : ThreadCode) (variables : T.variables ≡ code.varia
     operation_typed before more (Binary operator ty a b) is h = (operand_typed before more a is h.0, operand_typed before more b is h.1)
     operation_typed before more (ReadGlobal x i) is h = absurd (no_access T.globals x no_globals h.1)
     operation_typed before more (WriteGlobal x i a) is h = absurd (no_write T.globals x (operand_type a) no_globals h.2)
-    operation_typed before more (ReadArray x i) is h = absurd (no_access T.arrays x no_arrays h.1)
-    operation_typed before more (WriteArray x i a) is h = absurd (no_write T.arrays x (operand_type a) no_arrays h.2)
+    operation_typed before more (ReadArray x n i) is h = (operand_typed before more i is h.0, (record { ty = h.1.0; length = n }, array_there x n h.1.0 h.1.1, refl))
+    operation_typed before more (WriteArray x n i a) is h =
+        let own = array_there x n (operand_type a) h.2 in (
+          operand_typed before more i is h.0,
+          operand_typed before more a is h.1,
+          (record { ty = operand_type a; length = n }, own, refl),
+          (record { ty = operand_type a; length = n }, own, operand_same a),
+        )
 
     operations_typed : (before os : List Operation) → all ≡ before ++ os → AreTyped T before os → (k : ℕ) (o : Operation) → slice_get os k ≡ Some o → promise.IsTypedOperation [] code all o
     operations_typed before [] is h k o e = cc
     operations_typed before (x ∷ os) is h zero o e = subst (promise.IsTypedOperation [] code all) (let same : x ≡ o = cc in same) (operation_typed before (x ∷ os) x is h.0)
     operations_typed before (x ∷ os) is h (suc k) o e = operations_typed (before ++ x ∷ []) os (is ∙ sym (append_assoc before (x ∷ []) os)) h.1 k o e
 
-  are_operators : (before os : List Operation) → AreTyped T before os → AreOperators os
-  are_operators before [] h k o e = cc
-  are_operators before (x ∷ os) h zero o e = subst IsOperator (let same : x ≡ o = cc in same) (operator_of before x h.0)
-  are_operators before (x ∷ os) h (suc k) o e = are_operators (before ++ x ∷ []) os h.1 k o e
+  are_local : (before os : List Operation) → AreTyped T before os → AreLocal os
+  are_local before [] h k o e = cc
+  are_local before (x ∷ os) h zero o e = subst IsLocalOperation (let same : x ≡ o = cc in same) (operator_of before x h.0)
+  are_local before (x ∷ os) h (suc k) o e = are_local (before ++ x ∷ []) os h.1 k o e
 
   module _ (n m : ℕ) (b : Block) (t : IsTypedBlock T n m b) where
-    pub block_operators : AreOperators b.operations
-    block_operators = are_operators [] b.operations t.operations
+    pub block_locals : AreLocal b.operations
+    block_locals = are_local [] b.operations t.operations
 
     abbrev typed_in : (o : Operand) → IsTypedOperand T b.operations o → promise.IsTypedOperand [] code b.operations o
-    typed_in o h = operand_typed b.operations block_operators b.operations [] o (let e : b.operations ≡ b.operations ++ [] = sym (append_nothing b.operations) in e) h
+    typed_in o h = operand_typed b.operations block_locals b.operations [] o (let e : b.operations ≡ b.operations ++ [] = sym (append_nothing b.operations) in e) h
       where
         append_nothing : (xs : List Operation) → xs ++ [] ≡ xs
         append_nothing [] = refl
@@ -150,7 +165,7 @@ module _ (T : Types) (code : ThreadCode) (variables : T.variables ≡ code.varia
 
     pub block_typed : n ≡ length code.stages → promise.IsTypedBlock [] code b
     block_typed is = record {
-      operations = operations_typed b.operations block_operators [] b.operations refl t.operations;
+      operations = operations_typed b.operations block_locals [] b.operations refl t.operations;
       finals = λ k f e.
           let h = t.finals k f e in
           (typed_in f.value h.0, ap (λ ts. slice_get ts f.variable) (sym variables) ∙ h.1 ∙ ap Some (sym (operand_same f.value)));
@@ -173,8 +188,8 @@ module _ (T : Types) where
   operation_below before (Binary operator ty a b) h = (operand_below before a h.0, operand_below before b h.1)
   operation_below before (ReadGlobal x i) h = operand_below before i h.0
   operation_below before (WriteGlobal x i a) h = (operand_below before i h.0, operand_below before a h.1)
-  operation_below before (ReadArray x i) h = operand_below before i h.0
-  operation_below before (WriteArray x i a) h = (operand_below before i h.0, operand_below before a h.1)
+  operation_below before (ReadArray x n i) h = operand_below before i h.0
+  operation_below before (WriteArray x n i a) h = (operand_below before i h.0, operand_below before a h.1)
 
   each_earlier : (before os : List Operation) (n : ℕ) → length before ≡ n → AreTyped T before os → EachNeedsEarlier n os
   each_earlier before [] n is h = tt

@@ -1,8 +1,6 @@
 -- Typed code by its sequential plan is code as the machine needs it.
-use Rattle.std.proofs.Common.{◌≡◌, ℕ, ◌*◌, ◌<◌, nat_eq, if◌then◌else◌, List, [], ◌∷◌, ◌++◌, length, map, Some, refl, ap, ◌∙◌, arith}
+use Rattle.std.proofs.Common.{◌≡◌, ℕ, ◌*◌, ◌<◌, List, [], length, map, Some, refl, ap, arith}
 use Rattle.std.specs.Prelude.{slice_get}
-use Rattle.std.specs.List.{AllByRecursion}
-use Rattle.c_program.specs.declared.tree.LocalVariable.{LocalVariable}
 use Rattle.c_program.specs.Tree.{GlobalVariable, Program}
 use Rattle.c_program.specs.Weight.{weight}
 use Rattle.c_program.specs.Resolved.{IsResolved}
@@ -11,7 +9,6 @@ use Rattle.block_ir.specs.declared.block.Next.{Next}
 use Rattle.block_ir.specs.declared.block.Next.TheVariants.{Jump, Branch}
 use Rattle.block_ir.specs.declared.block.Block.{Block}
 use Rattle.block_ir.specs.declared.code.Act.TheVariants as act
-use Rattle.block_ir.specs.declared.code.Array.{Array}
 use Rattle.block_ir.specs.declared.code.Stage.{Stage}
 use Rattle.block_ir.specs.declared.code.Stage.TheVariants as stage
 use Rattle.block_ir.specs.declared.code.ThreadCode.{ThreadCode}
@@ -19,28 +16,14 @@ use Rattle.block_ir.specs.declared.plan.BlockPlan.{BlockPlan}
 use Rattle.block_ir.specs.declared.plan.Planned.{Planned}
 use Rattle.fsm_plan.specs.Sequential.{IsSequential}
 use Rattle.fsm_plan.proofs.Keeps.{sequential_keeps_orders}
-use Rattle.ir_lower.specs.Locals.{array_of, arrays_of}
 use Rattle.ir_lower.specs.Typed.{types_of, IsTypedNext, IsTypedStage, IsTypedCode}
 use Rattle.thread_promise.specs.Promise.{RunsAt}
 use Rattle.program_machine.specs.Built.{IsSingle, LeadsBelow, IsStage}
-use Rattle.planned_code.specs.Planned.{HasScalars, SequentialIsCode}
-use Rattle.planned_code.proofs.Types.{block_operators, block_typed, in_order}
+use Rattle.planned_code.specs.Planned.{SequentialIsCode}
+use Rattle.planned_code.proofs.Types.{block_locals, block_typed, in_order}
 use Rattle.planned_code.proofs.Chains.{planned_at, typed_at, chain, chains, some_states}
 
--- scalars are no arrays
-no_arrays : (locals : List LocalVariable) → AllByRecursion (λ (l : LocalVariable). l.length ≡ 1) locals → arrays_of locals ≡ []
-no_arrays [] all = refl
-no_arrays (l ∷ ls) all =
-    let none : array_of l ≡ [] = ap (λ n. if nat_eq n 1 then [] else record { ty = l.ty; length = l.length } ∷ []) all.0 in
-    ap (λ first. first ++ arrays_of ls) none ∙ no_arrays ls all.1
-
-module _ (P : Program) (code : ThreadCode) (plan : Planned) (resolved : IsResolved P) (single : IsSingle P) (scalars : HasScalars P) (typed : IsTypedCode P code) (is : IsSequential code plan) where
-  no_array : code.arrays ≡ []
-  no_array = let main = resolved.main in typed.arrays main.code main.found ∙ no_arrays main.code.locals (scalars main.code main.found)
-
-  no_array_types : (types_of P code).arrays ≡ []
-  no_array_types = ap (map (λ (a : Array). a.ty)) no_array
-
+module _ (P : Program) (code : ThreadCode) (plan : Planned) (resolved : IsResolved P) (single : IsSingle P) (typed : IsTypedCode P code) (is : IsSequential code plan) where
   no_global_types : (types_of P code).globals ≡ []
   no_global_types = ap (map (λ (g : GlobalVariable). g.ty)) single.globals
 
@@ -50,7 +33,7 @@ module _ (P : Program) (code : ThreadCode) (plan : Planned) (resolved : IsResolv
 
   stage_is : (s : Stage) → IsTypedStage (types_of P code) P (length code.stages) (4 * weight P) s → IsStage (length code.stages) 4 s
   stage_is (stage.Run b) h = (
-    block_operators (types_of P code) code refl no_array_types no_global_types (length code.stages) (4 * weight P) b h,
+    block_locals (types_of P code) code refl refl no_global_types (length code.stages) (4 * weight P) b h,
     leads b.operations b.next h.next,
   )
   stage_is (stage.Act (act.Print site values) next) h = (let few = h.0.few in omega arith, h.1)
@@ -73,20 +56,19 @@ module _ (P : Program) (code : ThreadCode) (plan : Planned) (resolved : IsResolv
         record {
           listed = at;
           planned_so = p.1;
-          typed = block_typed (types_of P code) code refl no_array_types no_global_types (length code.stages) (4 * weight P) b t refl;
+          typed = block_typed (types_of P code) code refl refl no_global_types (length code.stages) (4 * weight P) b t refl;
           keeps = sequential_keeps_orders b p.0 p.2 (in_order (types_of P code) (length code.stages) (4 * weight P) b t);
         },
         some_states P code plan typed is b p.0 p.2,
       )
 
 pub sequential_is_code : SequentialIsCode
-sequential_is_code P code plan resolved single scalars lowered typed is = record {
+sequential_is_code P code plan resolved single lowered typed is = record {
   lowered = lowered;
   some = typed.some;
-  stages = λ l s at. stage_is P code plan resolved single scalars typed is s (typed.stages l s at);
+  stages = λ l s at. stage_is P code plan resolved single typed is s (typed.stages l s at);
   prints = λ l site next values format at at_site. (typed.stages l (stage.Act (act.Print site values) next) at).0.counted format at_site;
-  arrays = no_array P code plan resolved single scalars typed is;
-  planned = planned P code plan resolved single scalars typed is;
+  planned = planned P code plan resolved single typed is;
   chain = chain P code plan typed is;
   chains = chains P code plan typed is;
 }

@@ -1,8 +1,6 @@
 -- The code of a program of one thread, by its sequential plan.
 use Rattle.std.specs.Prelude.{◌≡◌, ℕ, ◌^◌, ◌<◌, Some, slice_get}
-use Rattle.std.specs.List.{AllByRecursion}
-use Rattle.c_program.specs.declared.tree.LocalVariable.{LocalVariable}
-use Rattle.c_program.specs.Tree.{Function, Program}
+use Rattle.c_program.specs.Tree.{Program}
 use Rattle.c_program.specs.Resolved.{IsResolved}
 use Rattle.block_ir.specs.declared.block.Block.{Block}
 use Rattle.block_ir.specs.declared.code.Stage.TheVariants as stage
@@ -15,15 +13,11 @@ use Rattle.ir_lower.specs.Typed.{IsTypedCode}
 use Rattle.fsm_plan.specs.Sequential.{IsSequential}
 use Rattle.program_machine.specs.Built.{IsSingle, IsCode}
 
--- main has no local array
-abbrev pub HasScalars : Program → Type 0
-HasScalars P = (main : Function) → slice_get P.functions P.main ≡ Some main → AllByRecursion (λ (l : LocalVariable). l.length ≡ 1) main.locals
-
 -- PLANNED: typed code that does main's steps, by its sequential plan, is what the machine is built of, a printf having at most 4
 -- values
 abbrev pub SequentialIsCode : Type 0
 SequentialIsCode =
-    (P : Program) (code : ThreadCode) (plan : Planned) → IsResolved P → IsSingle P → HasScalars P → IsLowered P code → IsTypedCode P code → IsSequential code plan →
+    (P : Program) (code : ThreadCode) (plan : Planned) → IsResolved P → IsSingle P → IsLowered P code → IsTypedCode P code → IsSequential code plan →
     IsCode P code plan 4
 
 -- the number of a block's states has 64 bits

@@ -3,7 +3,7 @@
 
 ghost use Rattle.planned_code.specs.Planned.{SequentialIsCode, PlansAreSmall};
 
-/// The code of main alone, without globals and local arrays, that does its steps and is typed, is code as the machine needs
+/// The code of main alone, without globals, that does its steps and is typed, is code as the machine needs
 /// it, by its sequential plan. The number of states of a block has 64 bits.
 pub fn planned_code()
     ensures code { SequentialIsCode }

@@ -33,8 +33,8 @@ operation_below n (Unary operator ty a) j below u = ⊎_elim (λ v. operand_belo
 operation_below n (Binary operator ty a b) j below u = ⊎_elim (λ v. operand_below n a j below.0 v) (λ v. operand_below n b j below.1 v) u
 operation_below n (ReadGlobal x i) j below u = ⊎_elim (λ v. operand_below n i j below v) (λ v. absurd v) u
 operation_below n (WriteGlobal x i a) j below u = ⊎_elim (λ v. operand_below n i j below.0 v) (λ v. operand_below n a j below.1 v) u
-operation_below n (ReadArray x i) j below u = ⊎_elim (λ v. operand_below n i j below v) (λ v. absurd v) u
-operation_below n (WriteArray x i a) j below u = ⊎_elim (λ v. operand_below n i j below.0 v) (λ v. operand_below n a j below.1 v) u
+operation_below n (ReadArray x size i) j below u = ⊎_elim (λ v. operand_below n i j below v) (λ v. absurd v) u
+operation_below n (WriteArray x size i a) j below u = ⊎_elim (λ v. operand_below n i j below.0 v) (λ v. operand_below n a j below.1 v) u
 
 each_below : (os : List CodeOperation) (n j k : ℕ) → EachNeedsEarlier n os → k < length (operations_view os) → Uses (slice_index_or (operations_view os) k no_operation) j → j < n + k
 each_below [] n j k below lt u = absurd (omega arith)

@@ -8,7 +8,7 @@ use Rattle.c_program.specs.declared.tree.BinaryOperator.{BinaryOperator}
 use Rattle.c_program.specs.declared.tree.BinaryOperator.TheVariants.{Multiply as Times, Divide as Over, Remainder}
 use Rattle.interleaving.specs.Memory.{Location, Memory, Access, Read, Write, memory_after}
 use Rattle.block_ir.specs.Arithmetic.{unary_total, binary_total}
-use Rattle.block_ir.specs.Run.{Cells, or_zero, converted, source_value, operand_value as code_value, operation_run, operations_run, started as code_started, with_cell, index_of as code_index}
+use Rattle.block_ir.specs.Run.{Cells, or_zero, place_read, place_written, converted, source_value, operand_value as code_value, operation_run, operations_run, started as code_started, with_cell, index_of as code_index}
 use Rattle.block_ir.specs.Run.{Running as CodeRunning, block_run as code_run, finished as code_finished, leads_to as code_leads_to, Access as CodeAccess, Read as CodeRead, Write as CodeWrite}
 use Rattle.block_ir.specs.declared.operand.Source.{Source}
 use Rattle.block_ir.specs.declared.operand.Source.TheVariants.{Constant as FromConstant, Variable as FromVariable, Value as FromValue}
@@ -165,26 +165,28 @@ module _ (variables : ℕ → ℤ) where
             (CodeWrite x (code_index (code_value variables r.values i)) (code_value variables r.values o))
             (ap (λ p. Write p (operand_value variables s.values (operand_view o))) place ∙ ap (λ v. Write (record { object = x; index = code_index (code_value variables r.values i) }) v) f);
       }
-  step n r s a (ReadArray x i) =
+  step n r s a (ReadArray x size i) =
       let e = operand_alike s.values r.values a.values i in
-      let place = place_alike x (operand_value variables s.values (operand_view i)) (code_value variables r.values i) e in
-      let v = r.arrays x (code_index (code_value variables r.values i)) in
+      let j = place_read size (code_value variables r.values i) in
+      let place : element x (pos (place_read size (operand_value variables s.values (operand_view i)))) ≡ record { object = x; index = j } =
+      ap (λ z. element x (pos (place_read size z))) e in
       record {
-        count = count_next n r s a v;
-        values = values_next n r s a (s.arrays (element x (operand_value variables s.values (operand_view i)))) v
-            (ap s.arrays place ∙ a.arrays (record { object = x; index = code_index (code_value variables r.values i) }));
+        count = count_next n r s a (r.arrays x j);
+        values = values_next n r s a (s.arrays (element x (pos (place_read size (operand_value variables s.values (operand_view i)))))) (r.arrays x j)
+            (ap s.arrays place ∙ a.arrays (record { object = x; index = j }));
         arrays = a.arrays;
         memory = a.memory;
         accesses = append-nil s.accesses ∙ a.accesses;
       }
-  step n r s a (WriteArray x i o) =
+  step n r s a (WriteArray x size i o) =
       let e = operand_alike s.values r.values a.values i in
       let f = operand_alike s.values r.values a.values o in
       record {
         count = count_next n r s a (pos 0);
         values = values_next n r s a (pos 0) (pos 0) refl;
-        arrays = write_alike r.arrays s.arrays a.arrays x (operand_value variables s.values (operand_view i)) (code_value variables r.values i)
-            (operand_value variables s.values (operand_view o)) (code_value variables r.values o) e f;
+        arrays = write_alike r.arrays s.arrays a.arrays x (pos (place_written size (operand_value variables s.values (operand_view i))))
+            (pos (place_written size (code_value variables r.values i))) (operand_value variables s.values (operand_view o)) (code_value variables r.values o)
+            (ap (λ z. pos (place_written size z)) e) f;
         memory = a.memory;
         accesses = append-nil s.accesses ∙ a.accesses;
       }

@@ -46,8 +46,8 @@ OperationNeedsBelow n (Unary operator ty a) = NeedsBelow n a
 OperationNeedsBelow n (Binary operator ty a b) = NeedsBelow n a × NeedsBelow n b
 OperationNeedsBelow n (ReadGlobal x i) = NeedsBelow n i
 OperationNeedsBelow n (WriteGlobal x i a) = NeedsBelow n i × NeedsBelow n a
-OperationNeedsBelow n (ReadArray x i) = NeedsBelow n i
-OperationNeedsBelow n (WriteArray x i a) = NeedsBelow n i × NeedsBelow n a
+OperationNeedsBelow n (ReadArray x size i) = NeedsBelow n i
+OperationNeedsBelow n (WriteArray x size i a) = NeedsBelow n i × NeedsBelow n a
 
 -- each of the operations from n on needs earlier ones alone
 abbrev pub EachNeedsEarlier : ℕ → List CodeOperation → Type 0

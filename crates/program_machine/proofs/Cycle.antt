@@ -18,8 +18,6 @@ use Rattle.block_ir.specs.declared.plan.Planned.{Planned}
 use Rattle.code_following.specs.Following.{print_formats, act_value}
 use Rattle.block_refine.specs.Acts.{words_of}
 use Rattle.planned_block.specs.Slot.{Slot}
-use Rattle.planned_block.specs.Advance.{wires}
-use Rattle.planned_view.specs.View.{planned_view, plan_view}
 use Rattle.netlist.specs.declared.netlist.Module.{Module}
 use Rattle.verilog_meaning.specs.Readings.{Reading, next_reading}
 use Rattle.verilog_meaning.specs.Cycles.{Choice}
@@ -36,7 +34,7 @@ use Rattle.thread_promise.specs.Promise.{Ports, RunsAt, IsInside, RunsCode, is_p
 use Rattle.program_machine.specs.Built.{parts, told, IsBuilt}
 use Rattle.program_machine.specs.Following.{threads_of, cores_of, Machine}
 use Rattle.program_machine.proofs.Bytes.{text_at, site_prints}
-use Rattle.program_machine.proofs.Slots.{advanced_slot, Where, InBlock, AtPrint, AtReturn, AtEnd, shows_of, where_on, at_stage, are_within, advanced}
+use Rattle.program_machine.proofs.Slots.{advanced_slot, Where, InBlock, AtPrint, AtReturn, AtEnd, shows_of, where_on, at_stage, advanced}
 
 -- ---- one thread asks
 
@@ -152,8 +150,7 @@ module _ (P : Program) (code : ThreadCode) (plan : Planned) (m : Module) (inputs
       in_block : (b : Block) (p : BlockPlan) → IsInside [] code plan m places ports r q b p → enabled ≡ true → Cycled c h q
       in_block b p inside e =
           let listed = inside.runs.listed in
-          let more = runs.moves bank_of (first_memory P) r q b p go.obeys inside (enable_is true e)
-          (are_within code plan m places ports P shape.values built.coded q b p (wires bank_of (planned_view b) (plan_view b p) q) listed) in
+          let more = runs.moves bank_of (first_memory P) r q b p go.obeys inside (enable_is true e) in
           record {
             slot = advanced_slot bank_of (first_memory P) q b p;
             fits = next_fits;

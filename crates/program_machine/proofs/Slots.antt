@@ -6,7 +6,6 @@ use Rattle.c_program.specs.Tree.{Program}
 use Rattle.c_program.specs.declared.tree.BinaryOperator.{BinaryOperator}
 use Rattle.c_program.specs.declared.tree.BinaryOperator.TheVariants.{Multiply, Divide, Remainder}
 use Rattle.interleaving.specs.Memory.{Location, Memory}
-use Rattle.block_ir.specs.declared.operand.Operand.{Operand as CodeOperand}
 use Rattle.block_ir.specs.declared.block.Operation.{Operation}
 use Rattle.block_ir.specs.declared.block.Operation.TheVariants.{Unary, Binary, ReadGlobal, WriteGlobal, ReadArray, WriteArray}
 use Rattle.block_ir.specs.declared.block.Next.{Next}
@@ -29,19 +28,11 @@ use Rattle.planned_view.specs.View.{planned_view, plan_view, operations_view, op
 use Rattle.netlist.specs.declared.netlist.Module.{Module}
 use Rattle.verilog_meaning.specs.Readings.{Reading}
 use Rattle.circuit.specs.Modules.{Agree}
-use Rattle.thread_promise.specs.Slots.{Places, ShowsData, ShowsInBlock, IsWithin, AreWithin}
+use Rattle.thread_promise.specs.Slots.{Places, ShowsData, ShowsInBlock}
 use Rattle.thread_promise.specs.Promise.{Ports, RunsAt, IsInside, RunsCode}
-use Rattle.program_machine.specs.Built.{IsOperator, LeadsBelow, IsCode}
+use Rattle.program_machine.specs.Built.{IsLocalOperation, LeadsBelow, IsCode}
 
--- ---- blocks of operators
-
-within : (globals : List _) (code : ThreadCode) (see : CodeOperand → ℤ) (o : Operation) → IsOperator o → IsWithin globals code see o
-within globals code see (Unary operator ty a) is = tt
-within globals code see (Binary operator ty a b) is = tt
-within globals code see (ReadGlobal x i) is = absurd is
-within globals code see (WriteGlobal x i a) is = absurd is
-within globals code see (ReadArray x i) is = absurd is
-within globals code see (WriteArray x i a) is = absurd is
+-- ---- blocks that access no global
 
 binary_asks : (operator : BinaryOperator) (f : ℤ → ℤ → ℤ) → is_request (binary_kind operator f) ≡ false
 binary_asks Multiply f = refl
@@ -49,17 +40,17 @@ binary_asks Divide f = refl
 binary_asks Remainder f = refl
 binary_asks _ f = refl
 
-operator_asks : (o : Operation) → IsOperator o → is_request (operation_view o).kind ≡ false
+operator_asks : (o : Operation) → IsLocalOperation o → is_request (operation_view o).kind ≡ false
 operator_asks (Unary operator ty a) is = refl
 operator_asks (Binary operator ty a b) is = binary_asks operator _
 operator_asks (ReadGlobal x i) is = absurd is
 operator_asks (WriteGlobal x i a) is = absurd is
-operator_asks (ReadArray x i) is = absurd is
-operator_asks (WriteArray x i a) is = absurd is
+operator_asks (ReadArray x n i) is = refl
+operator_asks (WriteArray x n i a) is = refl
 
--- the operations are operators
+-- the operations access no global
 abbrev pub AreOperators : List Operation → Type 0
-AreOperators os = (k : ℕ) (o : Operation) → slice_get os k ≡ Some o → IsOperator o
+AreOperators os = (k : ℕ) (o : Operation) → slice_get os k ≡ Some o → IsLocalOperation o
 
 pub none_asks : (b : Block) → AreOperators b.operations → (k : ℕ) → is_request (operation_at (planned_view b) k).kind ≡ false
 none_asks b are = go b.operations are
@@ -189,9 +180,6 @@ module _ (code : ThreadCode) (plan : Planned) (m : Module) (places : Places) (po
         go (Some (stage.Act (Print site vs) next)) e = AtPrint site next vs e shown
         go (Some (stage.Act Return next)) e = AtReturn next e shown
         go (Some (stage.Act a next)) e = absurd (coded.stages q.stage (stage.Act a next) e)
-
-    pub are_within : (q : Slot) (b : Block) (p : BlockPlan) (wire : ℕ → ℤ) → slice_get code.stages q.stage ≡ Some (stage.Run b) → AreWithin [] code b p q wire
-    are_within q b p wire e k o listed start = within [] code _ o (operators P code plan values coded q.stage b e k o listed)
 
     -- where a block leads stands what its last state leaves
     pub advanced : (bank : Location → ℕ) (memory : Memory ℤ) (r : Reading) (q : Slot) (b : Block) (p : BlockPlan) → RunsAt [] code plan q.stage b p → q.state < p.states →

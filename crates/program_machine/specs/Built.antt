@@ -1,5 +1,5 @@
 -- What the parts of the hardware of a program of one thread are: its code, the plan, the module that runs it, the printer.
--- For programs without globals and without local arrays.
+-- For programs without globals.
 use Rattle.std.specs.Prelude.{◌≡◌, ℕ, suc, ◌<◌, List, [], length, map, Some, slice_get, Bool, true}
 use Rattle.c_program.specs.Tree.{Piece, Program}
 use Rattle.c_program.specs.Resolved.{IsResolved}
@@ -38,23 +38,23 @@ pub record IsSingle (P : Program) : Type 0 where
 
 -- ---- code
 
--- an operator, no access of memory
-abbrev pub IsOperator : Operation → Type 0
-IsOperator (Unary operator ty a) = Unit {0}
-IsOperator (Binary operator ty a b) = Unit {0}
-IsOperator (ReadGlobal x i) = ⊥
-IsOperator (WriteGlobal x i a) = ⊥
-IsOperator (ReadArray x i) = ⊥
-IsOperator (WriteArray x i a) = ⊥
+-- an operator, or an access of a local array
+abbrev pub IsLocalOperation : Operation → Type 0
+IsLocalOperation (Unary operator ty a) = Unit {0}
+IsLocalOperation (Binary operator ty a b) = Unit {0}
+IsLocalOperation (ReadGlobal x i) = ⊥
+IsLocalOperation (WriteGlobal x i a) = ⊥
+IsLocalOperation (ReadArray x n i) = Unit {0}
+IsLocalOperation (WriteArray x n i a) = Unit {0}
 
 abbrev pub LeadsBelow : ℕ → Next → Type 0
 LeadsBelow n (Jump l) = l < n
 LeadsBelow n (Branch test l k) = (l < n) × (k < n)
 
--- a stage of one of so many: a block of operators, a printf of at most so many values, or the return, and where they lead is
+-- a stage of one of so many: a block that accesses no global, a printf of at most so many values, or the return, and where they lead is
 -- a stage
 abbrev pub IsStage : ℕ → ℕ → Stage → Type 0
-IsStage n values (stage.Run b) = ((k : ℕ) (o : Operation) → slice_get b.operations k ≡ Some o → IsOperator o) × LeadsBelow n b.next
+IsStage n values (stage.Run b) = ((k : ℕ) (o : Operation) → slice_get b.operations k ≡ Some o → IsLocalOperation o) × LeadsBelow n b.next
 IsStage n values (stage.Act (Print site vs) next) = (length vs < suc values) × (next < n)
 IsStage n values (stage.Act Return next) = Unit {0}
 IsStage n values (stage.Act _ next) = ⊥
@@ -68,7 +68,6 @@ pub record IsCode (P : Program) (code : ThreadCode) (plan : Planned) (values : �
   -- a printf has a value for each conversion of its format
   pub prints : (l site next : ℕ) (vs : List ActOperand) (format : List Piece) → slice_get code.stages l ≡ Some (stage.Act (Print site vs) next) →
       slice_get (print_formats P) site ≡ Some format → length vs ≡ length (conversions_of format)
-  pub arrays : code.arrays ≡ []
   pub planned : (l : ℕ) (b : Block) → slice_get code.stages l ≡ Some (stage.Run b) → (p : BlockPlan) × RunsAt [] code plan l b p × (0 < p.states)
   pub chain : ℕ → ℕ → ℕ
   pub chains : AreChains (blocks_of code) (plans_of code plan) chain (weight P)

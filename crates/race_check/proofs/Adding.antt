@@ -32,12 +32,14 @@ after_adds reads (Gives v more) before mid after h g =
 after_adds reads (Fails cause) before mid after h g = tt
 
 -- a part and then the next
-pub adds_and : {A B : Type 0} (e : Evaluation A) (next : A → Evaluation B) (before mid after : List Touch) → Adds e before mid → ((v : A) → Adds (next v) mid after) → Adds (and_then e next) before after
+pub adds_and : {A B : Type 0} (e : Evaluation A) (next : A → Evaluation B) (before mid after : List Touch) → Adds e before mid → ((v : A) → Adds (next v) mid after) →
+    Adds (and_then e next) before after
 adds_and (Gives x reads) next before mid after h g = after_adds reads (next x) before mid after h (g x)
 adds_and (Fails cause) next before mid after h g = tt
 
 -- the next at the value that the part has
-pub adds_ok : {A B : Type 0} (e : Evaluation A) (next : A → Evaluation B) (v : A) (before mid after : List Touch) → outcome e ≡ Ok v → Adds e before mid → Adds (next v) mid after → Adds (and_then e next) before after
+pub adds_ok : {A B : Type 0} (e : Evaluation A) (next : A → Evaluation B) (v : A) (before mid after : List Touch) → outcome e ≡ Ok v → Adds e before mid → Adds (next v) mid after →
+    Adds (and_then e next) before after
 adds_ok (Gives x reads) next v before mid after is h g =
     let same : v ≡ x = cc in
     after_adds reads (next x) before mid after h (subst (λ y. Adds (next y) mid after) same g)
@@ -77,41 +79,50 @@ pub load_static : (m : Memory) (x j : ℕ) (before after : List Touch) → after
 load_static m x j before after h =
     global_adds (record { variable = x; index = j }) (element m.globals x j) before after h
 
-pub element_adds : (m : Memory) (storage : Storage) (x n : ℕ) (i : ℤ) (j : ℕ) (before after : List Touch) → Ok j ≡ outcome (checked_index n i) → Adds (load m storage x j) before after → Adds (element_at m storage x n i) before after
+pub element_adds : (m : Memory) (storage : Storage) (x n : ℕ) (i : ℤ) (j : ℕ) (before after : List Touch) → Ok j ≡ outcome (checked_index n i) →
+    Adds (load m storage x j) before after → Adds (element_at m storage x n i) before after
 element_adds m storage x n i j before after is h =
     adds_ok (checked_index n i) (λ k. load m storage x k) j before before after (sym is) (checked_adds n i before) h
 
-pub element_err : (m : Memory) (storage : Storage) (x n : ℕ) (i : ℤ) (cause : UndefinedCause) (before after : List Touch) → Err cause ≡ outcome (checked_index n i) → Adds (element_at m storage x n i) before after
+pub element_err : (m : Memory) (storage : Storage) (x n : ℕ) (i : ℤ) (cause : UndefinedCause) (before after : List Touch) → Err cause ≡ outcome (checked_index n i) →
+    Adds (element_at m storage x n i) before after
 element_err m storage x n i cause before after is =
     adds_err (checked_index n i) (λ k. load m storage x k) cause before after (sym is)
 
 -- Expressions.
-located_adds : (m : Memory) (storage : Storage) (x n : ℕ) (e : Evaluation ℤ) (j : ℕ) (start before after : List Touch) → Ok j ≡ outcome (and_then e (λ i. checked_index n i)) → Adds e start before → Adds (load m storage x j) before after → Adds (and_then e (λ i. element_at m storage x n i)) start after
+located_adds : (m : Memory) (storage : Storage) (x n : ℕ) (e : Evaluation ℤ) (j : ℕ) (start before after : List Touch) → Ok j ≡ outcome (and_then e (λ i. checked_index n i)) →
+    Adds e start before → Adds (load m storage x j) before after → Adds (and_then e (λ i. element_at m storage x n i)) start after
 located_adds m storage x n (Gives i reads) j start before after is own h =
     after_adds reads (element_at m storage x n i) start before after own
     (element_adds m storage x n i j before after (is ∙ outcome_ok (Gives i reads) (λ k. checked_index n k) i refl) h)
 located_adds m storage x n (Fails cause) j start before after is own h = tt
 
-outside_adds : (m : Memory) (storage : Storage) (x n : ℕ) (e : Evaluation ℤ) (cause : UndefinedCause) (start before : List Touch) → Err cause ≡ outcome (and_then e (λ i. checked_index n i)) → Adds e start before → Adds (and_then e (λ i. element_at m storage x n i)) start before
+outside_adds : (m : Memory) (storage : Storage) (x n : ℕ) (e : Evaluation ℤ) (cause : UndefinedCause) (start before : List Touch) →
+    Err cause ≡ outcome (and_then e (λ i. checked_index n i)) → Adds e start before → Adds (and_then e (λ i. element_at m storage x n i)) start before
 outside_adds m storage x n (Gives i reads) cause start before is own =
     after_adds reads (element_at m storage x n i) start before before own
     (element_err m storage x n i cause before before (is ∙ outcome_ok (Gives i reads) (λ k. checked_index n k) i refl))
 outside_adds m storage x n (Fails other) cause start before is own = tt
 
-pub indexed_ok : (m : Memory) (storage : Storage) (x n : ℕ) (ty : IntegerType) (index : Expression) (j : ℕ) (start before after : List Touch) → Ok j ≡ outcome (index_in m n index) → Adds (value index m) start before → Adds (load m storage x j) before after → Adds (value (Expression.Element storage x n ty index) m) start after
+pub indexed_ok : (m : Memory) (storage : Storage) (x n : ℕ) (ty : IntegerType) (index : Expression) (j : ℕ) (start before after : List Touch) →
+    Ok j ≡ outcome (index_in m n index) → Adds (value index m) start before → Adds (load m storage x j) before after →
+    Adds (value (Expression.Element storage x n ty index) m) start after
 indexed_ok m storage x n ty index j start before after is own h =
     located_adds m storage x n (value index m) j start before after is own h
 
-pub indexed_err : (m : Memory) (storage : Storage) (x n : ℕ) (ty : IntegerType) (index : Expression) (cause : UndefinedCause) (start before : List Touch) → Err cause ≡ outcome (index_in m n index) → Adds (value index m) start before → Adds (value (Expression.Element storage x n ty index) m) start before
+pub indexed_err : (m : Memory) (storage : Storage) (x n : ℕ) (ty : IntegerType) (index : Expression) (cause : UndefinedCause) (start before : List Touch) →
+    Err cause ≡ outcome (index_in m n index) → Adds (value index m) start before → Adds (value (Expression.Element storage x n ty index) m) start before
 indexed_err m storage x n ty index cause start before is own =
     outside_adds m storage x n (value index m) cause start before is own
 
-pub unary_adds : (m : Memory) (operator : UnaryOperator) (ty : IntegerType) (operand : Expression) (before after : List Touch) → Adds (value operand m) before after → Adds (value (Expression.Unary operator ty operand) m) before after
+pub unary_adds : (m : Memory) (operator : UnaryOperator) (ty : IntegerType) (operand : Expression) (before after : List Touch) → Adds (value operand m) before after →
+    Adds (value (Expression.Unary operator ty operand) m) before after
 unary_adds m operator ty operand before after h =
     adds_and (value operand m) (λ a. unary_value operator ty a) before after after h
     (λ a. calculated_adds (unary_result operator ty (wrapped ty a)) after)
 
-pub binary_adds : (m : Memory) (operator : BinaryOperator) (ty : IntegerType) (left right : Expression) (before mid after : List Touch) → Adds (value left m) before mid → Adds (value right m) mid after → Adds (value (Expression.Binary operator ty left right) m) before after
+pub binary_adds : (m : Memory) (operator : BinaryOperator) (ty : IntegerType) (left right : Expression) (before mid after : List Touch) → Adds (value left m) before mid →
+    Adds (value right m) mid after → Adds (value (Expression.Binary operator ty left right) m) before after
 binary_adds m operator ty left right before mid after h g =
     adds_and (value left m) (λ a. and_then (value right m) (λ b. binary_value operator ty a b)) before mid after h
     (λ a. adds_and (value right m) (λ b. binary_value operator ty a b) mid after after g
@@ -121,19 +132,22 @@ pub cast_adds : (m : Memory) (ty : IntegerType) (operand : Expression) (before a
 cast_adds m ty operand before after h =
     adds_and (value operand m) (λ a. Gives (wrapped ty a) []) before after after h (λ a. no_more after)
 
-pub values_adds : (m : Memory) (e : Expression) (es : List Expression) (before mid after : List Touch) → Adds (value e m) before mid → Adds (values es m) mid after → Adds (values (e ∷ es) m) before after
+pub values_adds : (m : Memory) (e : Expression) (es : List Expression) (before mid after : List Touch) → Adds (value e m) before mid → Adds (values es m) mid after →
+    Adds (values (e ∷ es) m) before after
 values_adds m e es before mid after h g =
     adds_and (value e m) (λ v. and_then (values es m) (λ vs. Gives (v ∷ vs) [])) before mid after h
     (λ v. adds_and (values es m) (λ vs. Gives (v ∷ vs) []) mid after after g (λ vs. no_more after))
 
 -- Places and assignments.
-pub place_adds : (m : Memory) (storage : Storage) (x n : ℕ) (ty : IntegerType) (index : Expression) (before after : List Touch) → Adds (value index m) before after → Adds (target_of (Place.Element storage x n ty index) m) before after
+pub place_adds : (m : Memory) (storage : Storage) (x n : ℕ) (ty : IntegerType) (index : Expression) (before after : List Touch) → Adds (value index m) before after →
+    Adds (target_of (Place.Element storage x n ty index) m) before after
 place_adds m storage x n ty index before after h =
     let put : ℕ → Evaluation Target = λ j. Gives (record { storage = storage; variable = x; index = j; ty = ty }) [] in
     adds_and (value index m) (λ i. and_then (checked_index n i) put) before after after h
     (λ i. adds_and (checked_index n i) put after after after (checked_adds n i after) (λ j. no_more after))
 
-pub assignment_adds : (m : Memory) (place : Place) (right : Expression) (before mid after : List Touch) → Adds (value right m) before mid → Adds (target_of place m) mid after → Adds (assignment place right m) before after
+pub assignment_adds : (m : Memory) (place : Place) (right : Expression) (before mid after : List Touch) → Adds (value right m) before mid → Adds (target_of place m) mid after →
+    Adds (assignment place right m) before after
 assignment_adds m place right before mid after h g =
     adds_and (value right m) (λ v. and_then (target_of place m) (λ t. Gives (record { target = t; value = v }) [])) before mid after h
     (λ v. adds_and (target_of place m) (λ t. Gives (record { target = t; value = v }) []) mid after after g (λ t. no_more after))
@@ -146,7 +160,8 @@ abbrev old_then : Memory → BinaryOperator → IntegerType → ℤ → Target �
 old_then m operator ty v target =
     and_then (load m target.storage target.variable target.index) (λ old. stored_after m operator ty v target old)
 
-old_adds : (m : Memory) (e : Evaluation Target) (operator : BinaryOperator) (ty : IntegerType) (v : ℤ) (before mid after : List Touch) → Adds e before mid → LoadAdds e m mid after → Adds (and_then e (λ target. old_then m operator ty v target)) before after
+old_adds : (m : Memory) (e : Evaluation Target) (operator : BinaryOperator) (ty : IntegerType) (v : ℤ) (before mid after : List Touch) → Adds e before mid →
+    LoadAdds e m mid after → Adds (and_then e (λ target. old_then m operator ty v target)) before after
 old_adds m (Gives t reads) operator ty v before mid after h g =
     let put : ℤ → Evaluation Assignment = λ r. Gives (record { target = t; value = r }) [] in
     after_adds reads (old_then m operator ty v t) before mid after h
@@ -155,7 +170,8 @@ old_adds m (Gives t reads) operator ty v before mid after h g =
     (calculated_adds (binary_result operator ty (wrapped ty old) (right_operand operator ty v)) after) (λ r. no_more after)))
 old_adds m (Fails cause) operator ty v before mid after h g = tt
 
-pub update_adds : (m : Memory) (place : Place) (operator : BinaryOperator) (ty : IntegerType) (right : Expression) (before mid more after : List Touch) → Adds (value right m) before mid → Adds (target_of place m) mid more → LoadAdds (target_of place m) m more after → Adds (update place operator ty right m) before after
+pub update_adds : (m : Memory) (place : Place) (operator : BinaryOperator) (ty : IntegerType) (right : Expression) (before mid more after : List Touch) →
+    Adds (value right m) before mid → Adds (target_of place m) mid more → LoadAdds (target_of place m) m more after → Adds (update place operator ty right m) before after
 update_adds m place operator ty right before mid more after h g l =
     adds_and (value right m) (λ v. and_then (target_of place m) (λ target. old_then m operator ty v target)) before mid after h
     (λ v. old_adds m (target_of place m) operator ty v mid more after g l)
@@ -171,7 +187,8 @@ old_err m (Gives x reads) cause before after is = absurd (let never : ⊥ = cc i
 old_err m (Fails other) cause before after is = tt
 
 -- The operands of acts.
-pub object_adds : (m : Memory) (first : ℕ → ℕ) (object n : ℕ) (index : Expression) (before after : List Touch) → Adds (value index m) before after → Adds (object_number first (ObjectPlace.Element object n index) m) before after
+pub object_adds : (m : Memory) (first : ℕ → ℕ) (object n : ℕ) (index : Expression) (before after : List Touch) → Adds (value index m) before after →
+    Adds (object_number first (ObjectPlace.Element object n index) m) before after
 object_adds m first object n index before after h =
     let number : ℕ → Evaluation ℤ = λ j. Gives (pos (first object + j)) [] in
     adds_and (value index m) (λ i. and_then (checked_index n i) number) before after after h
@@ -180,7 +197,8 @@ object_adds m first object n index before after h =
 pub alone_adds : (e : Evaluation ℤ) (before after : List Touch) → Adds e before after → Adds (alone e) before after
 alone_adds e before after h = adds_and e (λ n. Gives (n ∷ []) []) before after after h (λ n. no_more after)
 
-pub operand_adds : (m : Memory) (number : Evaluation ℤ) (e : Expression) (before mid after : List Touch) → Adds number before mid → Adds (value e m) mid after → Adds (with_operand number e m) before after
+pub operand_adds : (m : Memory) (number : Evaluation ℤ) (e : Expression) (before mid after : List Touch) → Adds number before mid → Adds (value e m) mid after →
+    Adds (with_operand number e m) before after
 operand_adds m number e before mid after h g =
     adds_and number (λ n. and_then (value e m) (λ v. Gives (n ∷ v ∷ []) [])) before mid after h
     (λ n. adds_and (value e m) (λ v. Gives (n ∷ v ∷ []) []) mid after after g (λ v. no_more after))

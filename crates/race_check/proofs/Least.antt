@@ -160,7 +160,8 @@ touches_more [] k a e h = absurd (omega arith)
 touches_more (x ∷ xs) zero a e h = ap (λ y. touch_of y ∷ []) (sym e)
 touches_more (x ∷ xs) (suc k) a e h = ap (λ l. touch_of x ∷ l) (touches_more xs k a e (omega arith))
 
-hits_next : (xs : List Access) (k : ℕ) (a : Access) (zs : List Touch) (best : Option Location) → a ≡ get_or xs k a → k < length xs → IsLeast (Hits (touches_of (take k xs)) zs) best → IsLeast (Hits (touches_of (take (k + 1) xs)) zs) (least best (hit (touch_of a) zs))
+hits_next : (xs : List Access) (k : ℕ) (a : Access) (zs : List Touch) (best : Option Location) → a ≡ get_or xs k a → k < length xs →
+    IsLeast (Hits (touches_of (take k xs)) zs) best → IsLeast (Hits (touches_of (take (k + 1) xs)) zs) (least best (hit (touch_of a) zs))
 hits_next xs k a zs best e h l =
     let one : suc k ≡ k + 1 = omega arith in
     subst (λ ts. IsLeast (Hits ts zs) (least best (hit (touch_of a) zs)))
@@ -172,7 +173,8 @@ get_itself [] k d h = absurd (omega arith)
 get_itself (x ∷ xs) zero d h = refl
 get_itself (x ∷ xs) (suc k) d h = get_itself xs k d (omega arith)
 
-pub hits_at : (xs : List Access) (k : ℕ) (d : Access) (zs : List Touch) (best : Option Location) → k < length xs → IsLeast (Hits (touches_of (take k xs)) zs) best → IsLeast (Hits (touches_of (take (k + 1) xs)) zs) (least best (hit (touch_of (get_or xs k d)) zs))
+pub hits_at : (xs : List Access) (k : ℕ) (d : Access) (zs : List Touch) (best : Option Location) → k < length xs → IsLeast (Hits (touches_of (take k xs)) zs) best →
+    IsLeast (Hits (touches_of (take (k + 1) xs)) zs) (least best (hit (touch_of (get_or xs k d)) zs))
 hits_at xs k d zs best h l = hits_next xs k (get_or xs k d) zs best (get_itself xs k d h) h l
 
 take_whole : (xs : List Access) (k : ℕ) → length xs ≤ k → take k xs ≡ xs

@@ -50,7 +50,8 @@ slot_beyond (x ∷ xs) (suc i) h = slot_beyond xs i (omega arith)
 footprint_beyond : (P : Program) (s : State) (i : ℕ) → slice_get s.slots i ≡ None → footprint P s i ≡ []
 footprint_beyond P s i e = ap (λ slot. if_taken (slot_step P s i slot) (thread_touched P s slot)) e
 
-pub footprints_more : (P : Program) (s : State) (rows : List (List Access)) (x : List Access) (n : ℕ) → length rows ≡ n → touches_of x ≡ footprint P s n → ((i : ℕ) → i < n → row rows i ≡ footprint P s i) → (i : ℕ) → i < n + 1 → row (rows ++ x ∷ []) i ≡ footprint P s i
+pub footprints_more : (P : Program) (s : State) (rows : List (List Access)) (x : List Access) (n : ℕ) → length rows ≡ n → touches_of x ≡ footprint P s n →
+    ((i : ℕ) → i < n → row rows i ≡ footprint P s i) → (i : ℕ) → i < n + 1 → row (rows ++ x ∷ []) i ≡ footprint P s i
 footprints_more P s rows x n long new before i h =
     elim (at_most_or n i) [
       | inl g ↦
@@ -60,7 +61,8 @@ footprints_more P s rows x n long new before i h =
       | inr g ↦ row_before rows x i (omega arith) ∙ before i g
     ]
 
-pub footprints_all : (P : Program) (s : State) (slots : List SlotCode) (rows : List (List Access)) → s.slots ≡ map slot_of slots → length rows ≡ length slots → ((i : ℕ) → i < length slots → row rows i ≡ footprint P s i) → AreFootprints P s (row rows)
+pub footprints_all : (P : Program) (s : State) (slots : List SlotCode) (rows : List (List Access)) → s.slots ≡ map slot_of slots → length rows ≡ length slots →
+    ((i : ℕ) → i < length slots → row rows i ≡ footprint P s i) → AreFootprints P s (row rows)
 footprints_all P s slots rows are long before i =
     elim (at_most_or (length slots) i) [
       | inl g ↦

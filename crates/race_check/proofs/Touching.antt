@@ -66,7 +66,8 @@ write_is P (plan.Return offset value) f (g ∷ gs) frames write e = cc
 write_is P (plan.Perform offset act work) f fs frames write e = cc
 write_is P (plan.Fault offset cause) f fs frames write e = cc
 
-taken : (P : Program) (s : State) (i : ℕ) (m : Move) (p : Plan) (f : Frame) (fs : List Frame) (reads : List Touch) → plan_of P p f fs ≡ erased m → may_touch s i p fs ≡ true → MoveAdds m [] reads → touched_by P s i m ≡ reads ++ write_of (plan_write p)
+taken : (P : Program) (s : State) (i : ℕ) (m : Move) (p : Plan) (f : Frame) (fs : List Frame) (reads : List Touch) → plan_of P p f fs ≡ erased m → may_touch s i p fs ≡ true →
+    MoveAdds m [] reads → touched_by P s i m ≡ reads ++ write_of (plan_write p)
 taken P s i (Moves frames places write) p f fs reads e may adds =
     ap (λ (xs : List Touch). xs ++ write_of write) (sym adds) ∙ ap (λ w. reads ++ write_of w) (sym (write_is P p f fs frames write e))
 taken P s i (Acts offset act operands frames) (plan.Onward work kept change) f fs reads e may adds = cc
@@ -105,7 +106,8 @@ idle P s i (Ends offset places) (plan.Perform at own work) f fs e may = cc
 idle P s i (Ends offset places) (plan.Fault at cause) f fs e may = cc
 idle P s i (Faults offset cause) p f fs e may = refl
 
-pub footprint_taken : (P : Program) (s : State) (i : ℕ) (p : Plan) (is : IsPlan P s i p) (reads all : List Touch) → may_touch s i p is.callers ≡ true → MoveAdds (move P s.globals (is.call ∷ is.callers)) [] reads → all ≡ reads ++ write_of (plan_write p) → all ≡ footprint P s i
+pub footprint_taken : (P : Program) (s : State) (i : ℕ) (p : Plan) (is : IsPlan P s i p) (reads all : List Touch) → may_touch s i p is.callers ≡ true →
+    MoveAdds (move P s.globals (is.call ∷ is.callers)) [] reads → all ≡ reads ++ write_of (plan_write p) → all ≡ footprint P s i
 footprint_taken P s i p is reads all may adds all_is =
     all_is
     ∙ sym (footprint_is P s i p is ∙ taken P s i (move P s.globals (is.call ∷ is.callers)) p is.call is.callers reads is.planned may adds)

@@ -163,7 +163,8 @@ module _ (s : Scope) where
       let k = look_up s (out-Place p).name.bytes in
       let at = (out-Place p).name.offset in
       quiet_then (index s p) (λ i. finds_any (t.target_fault k (is_some i)) at >> pure (t.named_place (variable_of k) i)) (q.quiet_index s p)
-      (λ i. quiet_then (finds_any (t.target_fault k (is_some i)) at) (λ _. pure (t.named_place (variable_of k) i)) (quiet_any (t.target_fault k (is_some i)) at) (λ _. quiet_pure (t.named_place (variable_of k) i)))
+      (λ i. quiet_then (finds_any (t.target_fault k (is_some i)) at) (λ _. pure (t.named_place (variable_of k) i)) (quiet_any (t.target_fault k (is_some i)) at)
+      (λ _. quiet_pure (t.named_place (variable_of k) i)))
 
 -- ---- parts that find creates
 
@@ -316,7 +317,8 @@ module _ (s : Scope) where
   print_call at name_at [] = makes_nothing (finds rule.Format name_at) (λ _. Statement.Empty) (quiet_finds rule.Format name_at)
   print_call at name_at (first ∷ values) =
       let valued = a.value_arguments s values >>= (λ v. pure (c.printed at (c.format first) v)) in
-      makes_quiet (finds_if (not (c.takes (c.format first) (length values))) rule.Format (a.argument_offset first)) (λ _. argument s first >> valued) (quiet_if (not (c.takes (c.format first) (length values))) rule.Format (a.argument_offset first))
+      makes_quiet (finds_if (not (c.takes (c.format first) (length values))) rule.Format (a.argument_offset first)) (λ _. argument s first >> valued)
+      (quiet_if (not (c.takes (c.format first) (length values))) rule.Format (a.argument_offset first))
       (λ _. makes_quiet (argument s first) (λ _. valued) (q.quiet_argument s first)
       (λ _. makes_nothing (a.value_arguments s values) (λ v. c.printed at (c.format first) v) (quiet_value_arguments s values)))
 

@@ -270,7 +270,8 @@ unfolding l.declaration
 making_declaration list d =
     making_through (λ (done : List Statement) (x : Declarator). l.declarator (spelled_by d.specifiers) x >>= (λ s. pure (done ++ s ∷ []))) list d.declarators (each d.declarators)
   where
-    each : (xs : List Declarator) → AllByRecursion (λ (x : Declarator). (done : List Statement) → Making (IsOfAny done) IsOfAny (l.declarator (spelled_by d.specifiers) x >>= (λ s. pure (done ++ s ∷ [])))) xs
+    each : (xs : List Declarator) → AllByRecursion (λ (x : Declarator). (done : List Statement) →
+        Making (IsOfAny done) IsOfAny (l.declarator (spelled_by d.specifiers) x >>= (λ s. pure (done ++ s ∷ [])))) xs
     each [] = tt
     each (x ∷ xs) = (λ done. making_more done (l.declarator (spelled_by d.specifiers) x) (making_declarator (spelled_by d.specifiers) x), each xs)
 
@@ -562,11 +563,13 @@ statement_case (Statement-F.Return x at) = making_finding (λ s. z.returned s x 
 
 item_induct : (x : BlockItem-F BlockItemTree StatementTree BlockTree) (t : BlockItem-F SomeBlockItem SomeStatement SomeBlock) → seen_item t ≡ x → ClaimBlockItem (roll-BlockItem x)
 item_induct x t e = subst (λ k. ClaimBlockItem (roll-BlockItem k)) e
-    (λ list. subst (λ (w : Adds). Making (IsOfAny list) IsOfAny (w list)) (sym (fold-roll-BlockItem Adds (Goes Statement) (Goes Statement) item_step statement_step block_step (seen_item t))) (item_case t list))
+    (λ list. subst (λ (w : Adds). Making (IsOfAny list) IsOfAny (w list))
+    (sym (fold-roll-BlockItem Adds (Goes Statement) (Goes Statement) item_step statement_step block_step (seen_item t))) (item_case t list))
 
 statement_induct : (x : Statement-F BlockItemTree StatementTree BlockTree) (t : Statement-F SomeBlockItem SomeStatement SomeBlock) → seen_statement t ≡ x → ClaimStatement (roll-Statement x)
 statement_induct x t e = subst (λ k. ClaimStatement (roll-Statement k)) e
-    (subst (λ (w : Goes Statement). Making (λ _. ⊥) IsOf w) (sym (fold-roll-Statement Adds (Goes Statement) (Goes Statement) item_step statement_step block_step (seen_statement t))) (statement_case t))
+    (subst (λ (w : Goes Statement). Making (λ _. ⊥) IsOf w)
+    (sym (fold-roll-Statement Adds (Goes Statement) (Goes Statement) item_step statement_step block_step (seen_statement t))) (statement_case t))
 
 block_induct : (x : Block-F BlockItemTree StatementTree BlockTree) (t : Block-F SomeBlockItem SomeStatement SomeBlock) → seen_block t ≡ x → ClaimBlock (roll-Block x)
 block_induct x t e = subst (λ k. ClaimBlock (roll-Block k)) e

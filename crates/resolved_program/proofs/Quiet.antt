@@ -274,7 +274,8 @@ module _ (s : Scope) where
   unfolding e.cast
   cast words x h =
       quiet_then (e.cast_operand s (plain_integer words) x) (e.converted words.offset (plain_integer words))
-      (quiet_either (e.is_long (plain_integer words) && e.is_argument_name s x.name) (pure e.argument_value) x.value (quiet_pure e.argument_value) h.value) (quiet_converted words.offset (plain_integer words))
+      (quiet_either (e.is_long (plain_integer words) && e.is_argument_name s x.name) (pure e.argument_value) x.value (quiet_pure e.argument_value) h.value)
+      (quiet_converted words.offset (plain_integer words))
 
   terms_value : (terms : List Operand) → AllByRecursion QuietOperand terms → AllByRecursion (λ (t : Operand). (x : Expression) → IsQuiet (e.term_value s x t)) terms
   terms_value [] all = tt
@@ -318,13 +319,16 @@ module _ (s : Scope) where
       (λ _. quiet_then (e.looked l.condition.value) (λ _. e.looked l.otherwise.value) (looked l.condition.value h.value) (λ _. looked l.otherwise.value k.value))
 
   abbrev formed : FormTree → Formed
-  formed = fold-Form Looked Formed Called Looked Meant Placed Looked Operand (argument_step s) (form_step s) (call_step s) (choice_step s) (expression_step s) (place_step s) (pointer_step s) (term_step s)
+  formed = fold-Form Looked Formed Called Looked Meant Placed Looked Operand (argument_step s) (form_step s) (call_step s) (choice_step s) (expression_step s) (place_step s)
+      (pointer_step s) (term_step s)
 
   abbrev called : CallTree → Called
-  called = fold-Call Looked Formed Called Looked Meant Placed Looked Operand (argument_step s) (form_step s) (call_step s) (choice_step s) (expression_step s) (place_step s) (pointer_step s) (term_step s)
+  called = fold-Call Looked Formed Called Looked Meant Placed Looked Operand (argument_step s) (form_step s) (call_step s) (choice_step s) (expression_step s) (place_step s)
+      (pointer_step s) (term_step s)
 
   abbrev pointed : PointerTree → Looked
-  pointed = fold-Pointer Looked Formed Called Looked Meant Placed Looked Operand (argument_step s) (form_step s) (call_step s) (choice_step s) (expression_step s) (place_step s) (pointer_step s) (term_step s)
+  pointed = fold-Pointer Looked Formed Called Looked Meant Placed Looked Operand (argument_step s) (form_step s) (call_step s) (choice_step s) (expression_step s) (place_step s)
+      (pointer_step s) (term_step s)
 
   abbrev ClaimArgument : ArgumentTree → Type 0
   ClaimArgument x = IsQuiet (argument s x)
@@ -386,53 +390,78 @@ module _ (s : Scope) where
   are_arguments [] = tt
   are_arguments (x ∷ list) = (x.1, are_arguments list)
 
-  abbrev seen_argument : Argument-F SomeArgument SomeForm SomeCall SomeChoice SomeExpression SomePlace SomePointer SomeTerm → Argument-F ArgumentTree FormTree CallTree ChoiceTree ExpressionTree PlaceTree PointerTree TermTree
-  seen_argument y = map-Argument SomeArgument SomeForm SomeCall SomeChoice SomeExpression SomePlace SomePointer SomeTerm ArgumentTree FormTree CallTree ChoiceTree ExpressionTree PlaceTree PointerTree TermTree (λ e. e.0) (λ e. e.0) (λ e. e.0) (λ e. e.0) (λ e. e.0) (λ e. e.0) (λ e. e.0) (λ e. e.0) y
+  abbrev seen_argument : Argument-F SomeArgument SomeForm SomeCall SomeChoice SomeExpression SomePlace SomePointer SomeTerm →
+      Argument-F ArgumentTree FormTree CallTree ChoiceTree ExpressionTree PlaceTree PointerTree TermTree
+  seen_argument y = map-Argument SomeArgument SomeForm SomeCall SomeChoice SomeExpression SomePlace SomePointer SomeTerm ArgumentTree FormTree CallTree ChoiceTree ExpressionTree
+      PlaceTree PointerTree TermTree (λ e. e.0) (λ e. e.0) (λ e. e.0) (λ e. e.0) (λ e. e.0) (λ e. e.0) (λ e. e.0) (λ e. e.0) y
 
   abbrev parts_in_argument : Argument-F ArgumentTree FormTree CallTree ChoiceTree ExpressionTree PlaceTree PointerTree TermTree → Argument-F Looked Formed Called Looked Meant Placed Looked Operand
-  parts_in_argument x = map-Argument ArgumentTree FormTree CallTree ChoiceTree ExpressionTree PlaceTree PointerTree TermTree Looked Formed Called Looked Meant Placed Looked Operand (argument s) (formed) (called) (choice s) (meant s) (placed s) (pointed) (term s) x
+  parts_in_argument x = map-Argument ArgumentTree FormTree CallTree ChoiceTree ExpressionTree PlaceTree PointerTree TermTree Looked Formed Called Looked Meant Placed Looked Operand
+      (argument s) (formed) (called) (choice s) (meant s) (placed s) (pointed) (term s) x
 
-  abbrev seen_form : Form-F SomeArgument SomeForm SomeCall SomeChoice SomeExpression SomePlace SomePointer SomeTerm → Form-F ArgumentTree FormTree CallTree ChoiceTree ExpressionTree PlaceTree PointerTree TermTree
-  seen_form y = map-Form SomeArgument SomeForm SomeCall SomeChoice SomeExpression SomePlace SomePointer SomeTerm ArgumentTree FormTree CallTree ChoiceTree ExpressionTree PlaceTree PointerTree TermTree (λ e. e.0) (λ e. e.0) (λ e. e.0) (λ e. e.0) (λ e. e.0) (λ e. e.0) (λ e. e.0) (λ e. e.0) y
+  abbrev seen_form : Form-F SomeArgument SomeForm SomeCall SomeChoice SomeExpression SomePlace SomePointer SomeTerm →
+      Form-F ArgumentTree FormTree CallTree ChoiceTree ExpressionTree PlaceTree PointerTree TermTree
+  seen_form y = map-Form SomeArgument SomeForm SomeCall SomeChoice SomeExpression SomePlace SomePointer SomeTerm ArgumentTree FormTree CallTree ChoiceTree ExpressionTree PlaceTree
+      PointerTree TermTree (λ e. e.0) (λ e. e.0) (λ e. e.0) (λ e. e.0) (λ e. e.0) (λ e. e.0) (λ e. e.0) (λ e. e.0) y
 
   abbrev parts_in_form : Form-F ArgumentTree FormTree CallTree ChoiceTree ExpressionTree PlaceTree PointerTree TermTree → Form-F Looked Formed Called Looked Meant Placed Looked Operand
-  parts_in_form x = map-Form ArgumentTree FormTree CallTree ChoiceTree ExpressionTree PlaceTree PointerTree TermTree Looked Formed Called Looked Meant Placed Looked Operand (argument s) (formed) (called) (choice s) (meant s) (placed s) (pointed) (term s) x
+  parts_in_form x = map-Form ArgumentTree FormTree CallTree ChoiceTree ExpressionTree PlaceTree PointerTree TermTree Looked Formed Called Looked Meant Placed Looked Operand
+      (argument s) (formed) (called) (choice s) (meant s) (placed s) (pointed) (term s) x
 
-  abbrev seen_call : Call-F SomeArgument SomeForm SomeCall SomeChoice SomeExpression SomePlace SomePointer SomeTerm → Call-F ArgumentTree FormTree CallTree ChoiceTree ExpressionTree PlaceTree PointerTree TermTree
-  seen_call y = map-Call SomeArgument SomeForm SomeCall SomeChoice SomeExpression SomePlace SomePointer SomeTerm ArgumentTree FormTree CallTree ChoiceTree ExpressionTree PlaceTree PointerTree TermTree (λ e. e.0) (λ e. e.0) (λ e. e.0) (λ e. e.0) (λ e. e.0) (λ e. e.0) (λ e. e.0) (λ e. e.0) y
+  abbrev seen_call : Call-F SomeArgument SomeForm SomeCall SomeChoice SomeExpression SomePlace SomePointer SomeTerm →
+      Call-F ArgumentTree FormTree CallTree ChoiceTree ExpressionTree PlaceTree PointerTree TermTree
+  seen_call y = map-Call SomeArgument SomeForm SomeCall SomeChoice SomeExpression SomePlace SomePointer SomeTerm ArgumentTree FormTree CallTree ChoiceTree ExpressionTree PlaceTree
+      PointerTree TermTree (λ e. e.0) (λ e. e.0) (λ e. e.0) (λ e. e.0) (λ e. e.0) (λ e. e.0) (λ e. e.0) (λ e. e.0) y
 
   abbrev parts_in_call : Call-F ArgumentTree FormTree CallTree ChoiceTree ExpressionTree PlaceTree PointerTree TermTree → Call-F Looked Formed Called Looked Meant Placed Looked Operand
-  parts_in_call x = map-Call ArgumentTree FormTree CallTree ChoiceTree ExpressionTree PlaceTree PointerTree TermTree Looked Formed Called Looked Meant Placed Looked Operand (argument s) (formed) (called) (choice s) (meant s) (placed s) (pointed) (term s) x
+  parts_in_call x = map-Call ArgumentTree FormTree CallTree ChoiceTree ExpressionTree PlaceTree PointerTree TermTree Looked Formed Called Looked Meant Placed Looked Operand
+      (argument s) (formed) (called) (choice s) (meant s) (placed s) (pointed) (term s) x
 
-  abbrev seen_choice : Choice-F SomeArgument SomeForm SomeCall SomeChoice SomeExpression SomePlace SomePointer SomeTerm → Choice-F ArgumentTree FormTree CallTree ChoiceTree ExpressionTree PlaceTree PointerTree TermTree
-  seen_choice y = map-Choice SomeArgument SomeForm SomeCall SomeChoice SomeExpression SomePlace SomePointer SomeTerm ArgumentTree FormTree CallTree ChoiceTree ExpressionTree PlaceTree PointerTree TermTree (λ e. e.0) (λ e. e.0) (λ e. e.0) (λ e. e.0) (λ e. e.0) (λ e. e.0) (λ e. e.0) (λ e. e.0) y
+  abbrev seen_choice : Choice-F SomeArgument SomeForm SomeCall SomeChoice SomeExpression SomePlace SomePointer SomeTerm →
+      Choice-F ArgumentTree FormTree CallTree ChoiceTree ExpressionTree PlaceTree PointerTree TermTree
+  seen_choice y = map-Choice SomeArgument SomeForm SomeCall SomeChoice SomeExpression SomePlace SomePointer SomeTerm ArgumentTree FormTree CallTree ChoiceTree ExpressionTree
+      PlaceTree PointerTree TermTree (λ e. e.0) (λ e. e.0) (λ e. e.0) (λ e. e.0) (λ e. e.0) (λ e. e.0) (λ e. e.0) (λ e. e.0) y
 
   abbrev parts_in_choice : Choice-F ArgumentTree FormTree CallTree ChoiceTree ExpressionTree PlaceTree PointerTree TermTree → Choice-F Looked Formed Called Looked Meant Placed Looked Operand
-  parts_in_choice x = map-Choice ArgumentTree FormTree CallTree ChoiceTree ExpressionTree PlaceTree PointerTree TermTree Looked Formed Called Looked Meant Placed Looked Operand (argument s) (formed) (called) (choice s) (meant s) (placed s) (pointed) (term s) x
+  parts_in_choice x = map-Choice ArgumentTree FormTree CallTree ChoiceTree ExpressionTree PlaceTree PointerTree TermTree Looked Formed Called Looked Meant Placed Looked Operand
+      (argument s) (formed) (called) (choice s) (meant s) (placed s) (pointed) (term s) x
 
-  abbrev seen_expression : Expression-F SomeArgument SomeForm SomeCall SomeChoice SomeExpression SomePlace SomePointer SomeTerm → Expression-F ArgumentTree FormTree CallTree ChoiceTree ExpressionTree PlaceTree PointerTree TermTree
-  seen_expression y = map-Expression SomeArgument SomeForm SomeCall SomeChoice SomeExpression SomePlace SomePointer SomeTerm ArgumentTree FormTree CallTree ChoiceTree ExpressionTree PlaceTree PointerTree TermTree (λ e. e.0) (λ e. e.0) (λ e. e.0) (λ e. e.0) (λ e. e.0) (λ e. e.0) (λ e. e.0) (λ e. e.0) y
+  abbrev seen_expression : Expression-F SomeArgument SomeForm SomeCall SomeChoice SomeExpression SomePlace SomePointer SomeTerm →
+      Expression-F ArgumentTree FormTree CallTree ChoiceTree ExpressionTree PlaceTree PointerTree TermTree
+  seen_expression y = map-Expression SomeArgument SomeForm SomeCall SomeChoice SomeExpression SomePlace SomePointer SomeTerm ArgumentTree FormTree CallTree ChoiceTree
+      ExpressionTree PlaceTree PointerTree TermTree (λ e. e.0) (λ e. e.0) (λ e. e.0) (λ e. e.0) (λ e. e.0) (λ e. e.0) (λ e. e.0) (λ e. e.0) y
 
-  abbrev parts_in_expression : Expression-F ArgumentTree FormTree CallTree ChoiceTree ExpressionTree PlaceTree PointerTree TermTree → Expression-F Looked Formed Called Looked Meant Placed Looked Operand
-  parts_in_expression x = map-Expression ArgumentTree FormTree CallTree ChoiceTree ExpressionTree PlaceTree PointerTree TermTree Looked Formed Called Looked Meant Placed Looked Operand (argument s) (formed) (called) (choice s) (meant s) (placed s) (pointed) (term s) x
+  abbrev parts_in_expression : Expression-F ArgumentTree FormTree CallTree ChoiceTree ExpressionTree PlaceTree PointerTree TermTree →
+      Expression-F Looked Formed Called Looked Meant Placed Looked Operand
+  parts_in_expression x = map-Expression ArgumentTree FormTree CallTree ChoiceTree ExpressionTree PlaceTree PointerTree TermTree Looked Formed Called Looked Meant Placed Looked
+      Operand (argument s) (formed) (called) (choice s) (meant s) (placed s) (pointed) (term s) x
 
-  abbrev seen_place : Place-F SomeArgument SomeForm SomeCall SomeChoice SomeExpression SomePlace SomePointer SomeTerm → Place-F ArgumentTree FormTree CallTree ChoiceTree ExpressionTree PlaceTree PointerTree TermTree
-  seen_place y = map-Place SomeArgument SomeForm SomeCall SomeChoice SomeExpression SomePlace SomePointer SomeTerm ArgumentTree FormTree CallTree ChoiceTree ExpressionTree PlaceTree PointerTree TermTree (λ e. e.0) (λ e. e.0) (λ e. e.0) (λ e. e.0) (λ e. e.0) (λ e. e.0) (λ e. e.0) (λ e. e.0) y
+  abbrev seen_place : Place-F SomeArgument SomeForm SomeCall SomeChoice SomeExpression SomePlace SomePointer SomeTerm →
+      Place-F ArgumentTree FormTree CallTree ChoiceTree ExpressionTree PlaceTree PointerTree TermTree
+  seen_place y = map-Place SomeArgument SomeForm SomeCall SomeChoice SomeExpression SomePlace SomePointer SomeTerm ArgumentTree FormTree CallTree ChoiceTree ExpressionTree
+      PlaceTree PointerTree TermTree (λ e. e.0) (λ e. e.0) (λ e. e.0) (λ e. e.0) (λ e. e.0) (λ e. e.0) (λ e. e.0) (λ e. e.0) y
 
   abbrev parts_in_place : Place-F ArgumentTree FormTree CallTree ChoiceTree ExpressionTree PlaceTree PointerTree TermTree → Place-F Looked Formed Called Looked Meant Placed Looked Operand
-  parts_in_place x = map-Place ArgumentTree FormTree CallTree ChoiceTree ExpressionTree PlaceTree PointerTree TermTree Looked Formed Called Looked Meant Placed Looked Operand (argument s) (formed) (called) (choice s) (meant s) (placed s) (pointed) (term s) x
+  parts_in_place x = map-Place ArgumentTree FormTree CallTree ChoiceTree ExpressionTree PlaceTree PointerTree TermTree Looked Formed Called Looked Meant Placed Looked Operand
+      (argument s) (formed) (called) (choice s) (meant s) (placed s) (pointed) (term s) x
 
-  abbrev seen_pointer : Pointer-F SomeArgument SomeForm SomeCall SomeChoice SomeExpression SomePlace SomePointer SomeTerm → Pointer-F ArgumentTree FormTree CallTree ChoiceTree ExpressionTree PlaceTree PointerTree TermTree
-  seen_pointer y = map-Pointer SomeArgument SomeForm SomeCall SomeChoice SomeExpression SomePlace SomePointer SomeTerm ArgumentTree FormTree CallTree ChoiceTree ExpressionTree PlaceTree PointerTree TermTree (λ e. e.0) (λ e. e.0) (λ e. e.0) (λ e. e.0) (λ e. e.0) (λ e. e.0) (λ e. e.0) (λ e. e.0) y
+  abbrev seen_pointer : Pointer-F SomeArgument SomeForm SomeCall SomeChoice SomeExpression SomePlace SomePointer SomeTerm →
+      Pointer-F ArgumentTree FormTree CallTree ChoiceTree ExpressionTree PlaceTree PointerTree TermTree
+  seen_pointer y = map-Pointer SomeArgument SomeForm SomeCall SomeChoice SomeExpression SomePlace SomePointer SomeTerm ArgumentTree FormTree CallTree ChoiceTree ExpressionTree
+      PlaceTree PointerTree TermTree (λ e. e.0) (λ e. e.0) (λ e. e.0) (λ e. e.0) (λ e. e.0) (λ e. e.0) (λ e. e.0) (λ e. e.0) y
 
   abbrev parts_in_pointer : Pointer-F ArgumentTree FormTree CallTree ChoiceTree ExpressionTree PlaceTree PointerTree TermTree → Pointer-F Looked Formed Called Looked Meant Placed Looked Operand
-  parts_in_pointer x = map-Pointer ArgumentTree FormTree CallTree ChoiceTree ExpressionTree PlaceTree PointerTree TermTree Looked Formed Called Looked Meant Placed Looked Operand (argument s) (formed) (called) (choice s) (meant s) (placed s) (pointed) (term s) x
+  parts_in_pointer x = map-Pointer ArgumentTree FormTree CallTree ChoiceTree ExpressionTree PlaceTree PointerTree TermTree Looked Formed Called Looked Meant Placed Looked Operand
+      (argument s) (formed) (called) (choice s) (meant s) (placed s) (pointed) (term s) x
 
-  abbrev seen_term : Term-F SomeArgument SomeForm SomeCall SomeChoice SomeExpression SomePlace SomePointer SomeTerm → Term-F ArgumentTree FormTree CallTree ChoiceTree ExpressionTree PlaceTree PointerTree TermTree
-  seen_term y = map-Term SomeArgument SomeForm SomeCall SomeChoice SomeExpression SomePlace SomePointer SomeTerm ArgumentTree FormTree CallTree ChoiceTree ExpressionTree PlaceTree PointerTree TermTree (λ e. e.0) (λ e. e.0) (λ e. e.0) (λ e. e.0) (λ e. e.0) (λ e. e.0) (λ e. e.0) (λ e. e.0) y
+  abbrev seen_term : Term-F SomeArgument SomeForm SomeCall SomeChoice SomeExpression SomePlace SomePointer SomeTerm →
+      Term-F ArgumentTree FormTree CallTree ChoiceTree ExpressionTree PlaceTree PointerTree TermTree
+  seen_term y = map-Term SomeArgument SomeForm SomeCall SomeChoice SomeExpression SomePlace SomePointer SomeTerm ArgumentTree FormTree CallTree ChoiceTree ExpressionTree PlaceTree
+      PointerTree TermTree (λ e. e.0) (λ e. e.0) (λ e. e.0) (λ e. e.0) (λ e. e.0) (λ e. e.0) (λ e. e.0) (λ e. e.0) y
 
   abbrev parts_in_term : Term-F ArgumentTree FormTree CallTree ChoiceTree ExpressionTree PlaceTree PointerTree TermTree → Term-F Looked Formed Called Looked Meant Placed Looked Operand
-  parts_in_term x = map-Term ArgumentTree FormTree CallTree ChoiceTree ExpressionTree PlaceTree PointerTree TermTree Looked Formed Called Looked Meant Placed Looked Operand (argument s) (formed) (called) (choice s) (meant s) (placed s) (pointed) (term s) x
+  parts_in_term x = map-Term ArgumentTree FormTree CallTree ChoiceTree ExpressionTree PlaceTree PointerTree TermTree Looked Formed Called Looked Meant Placed Looked Operand
+      (argument s) (formed) (called) (choice s) (meant s) (placed s) (pointed) (term s) x
 
   form_case : (y : Form-F SomeArgument SomeForm SomeCall SomeChoice SomeExpression SomePlace SomePointer SomeTerm) → QuietForm (form_step s (parts_in_form (seen_form y)))
   form_case (Form-F.Constant k at) = a_value (e.constant k at) (quiet_constant k at)
@@ -442,7 +471,8 @@ module _ (s : Scope) where
   form_case (Form-F.Cast words x) = a_value (e.cast s words (meant s x.0)) (cast words (meant s x.0) x.1)
   form_case (Form-F.Binary first terms) = binary_form (meant s first.0) (map (term s) (map (λ e. e.0) terms)) first.1 (are_terms terms)
   form_case (Form-F.Conditional first choices) =
-      a_value (e.conditional_value s (meant s first.0) (map (choice s) (map (λ e. e.0) choices))) (conditional_value (meant s first.0) (map (choice s) (map (λ e. e.0) choices)) first.1 (are_choices choices))
+      a_value (e.conditional_value s (meant s first.0) (map (choice s) (map (λ e. e.0) choices)))
+      (conditional_value (meant s first.0) (map (choice s) (map (λ e. e.0) choices)) first.1 (are_choices choices))
 
   argument_case : (y : Argument-F SomeArgument SomeForm SomeCall SomeChoice SomeExpression SomePlace SomePointer SomeTerm) → IsQuiet (argument_step s (parts_in_argument (seen_argument y)))
   argument_case (Argument-F.Value x) = looked (meant s x.0).value x.1.value
@@ -456,10 +486,12 @@ module _ (s : Scope) where
   choice_case : (y : Choice-F SomeArgument SomeForm SomeCall SomeChoice SomeExpression SomePlace SomePointer SomeTerm) → IsQuiet (choice_step s (parts_in_choice (seen_choice y)))
   choice_case y = choice_is (parts_in_choice (seen_choice y)) y.condition.1 y.otherwise.1
 
-  expression_case : (y : Expression-F SomeArgument SomeForm SomeCall SomeChoice SomeExpression SomePlace SomePointer SomeTerm) → QuietMeant (expression_step s (parts_in_expression (seen_expression y)))
+  expression_case : (y : Expression-F SomeArgument SomeForm SomeCall SomeChoice SomeExpression SomePlace SomePointer SomeTerm) →
+      QuietMeant (expression_step s (parts_in_expression (seen_expression y)))
   expression_case y = record { value = y.form.1.value; condition = y.form.1.condition y.offset }
 
-  place_at : (name : Name) (index : Option SomeExpression) → let y : Place-F SomeArgument SomeForm SomeCall SomeChoice SomeExpression SomePlace SomePointer SomeTerm = record { name = name; index = index } in
+  place_at : (name : Name) (index : Option SomeExpression) → let y : Place-F SomeArgument SomeForm SomeCall SomeChoice SomeExpression SomePlace SomePointer SomeTerm = record
+      { name = name; index = index } in
       QuietPlace (place_step s (parts_in_place (seen_place y)))
   place_at name None = tt
   place_at name (Some x) = x.1.value
@@ -467,7 +499,8 @@ module _ (s : Scope) where
   place_case : (y : Place-F SomeArgument SomeForm SomeCall SomeChoice SomeExpression SomePlace SomePointer SomeTerm) → QuietPlace (place_step s (parts_in_place (seen_place y)))
   place_case y = place_at y.name y.index
 
-  pointer_at : (offset : ℕ) (operand : Option SomeExpression) → let y : Pointer-F SomeArgument SomeForm SomeCall SomeChoice SomeExpression SomePlace SomePointer SomeTerm = record { offset = offset; operand = operand } in
+  pointer_at : (offset : ℕ) (operand : Option SomeExpression) → let y : Pointer-F SomeArgument SomeForm SomeCall SomeChoice SomeExpression SomePlace SomePointer SomeTerm = record
+      { offset = offset; operand = operand } in
       IsQuiet (pointer_step s (parts_in_pointer (seen_pointer y)))
   pointer_at offset None = quiet_pure tt
   pointer_at offset (Some x) = looked (meant s x.0).value x.1.value
@@ -478,38 +511,69 @@ module _ (s : Scope) where
   term_case : (y : Term-F SomeArgument SomeForm SomeCall SomeChoice SomeExpression SomePlace SomePointer SomeTerm) → QuietOperand (term_step s (parts_in_term (seen_term y)))
   term_case y = y.operand.1
 
-  argument_induct : (x : Argument-F ArgumentTree FormTree CallTree ChoiceTree ExpressionTree PlaceTree PointerTree TermTree) (y : Argument-F SomeArgument SomeForm SomeCall SomeChoice SomeExpression SomePlace SomePointer SomeTerm) → seen_argument y ≡ x → ClaimArgument (roll-Argument x)
-  argument_induct x y e = subst (λ k. ClaimArgument (roll-Argument k)) e (subst (λ (w : Looked). IsQuiet w) (sym (fold-roll-Argument Looked Formed Called Looked Meant Placed Looked Operand (argument_step s) (form_step s) (call_step s) (choice_step s) (expression_step s) (place_step s) (pointer_step s) (term_step s) (seen_argument y))) (argument_case y))
+  argument_induct : (x : Argument-F ArgumentTree FormTree CallTree ChoiceTree ExpressionTree PlaceTree PointerTree TermTree)
+      (y : Argument-F SomeArgument SomeForm SomeCall SomeChoice SomeExpression SomePlace SomePointer SomeTerm) → seen_argument y ≡ x → ClaimArgument (roll-Argument x)
+  argument_induct x y e = subst (λ k. ClaimArgument (roll-Argument k)) e (subst (λ (w : Looked). IsQuiet w)
+      (sym (fold-roll-Argument Looked Formed Called Looked Meant Placed Looked Operand (argument_step s) (form_step s) (call_step s) (choice_step s) (expression_step s)
+      (place_step s) (pointer_step s) (term_step s) (seen_argument y))) (argument_case y))
 
-  form_induct : (x : Form-F ArgumentTree FormTree CallTree ChoiceTree ExpressionTree PlaceTree PointerTree TermTree) (y : Form-F SomeArgument SomeForm SomeCall SomeChoice SomeExpression SomePlace SomePointer SomeTerm) → seen_form y ≡ x → ClaimForm (roll-Form x)
-  form_induct x y e = subst (λ k. ClaimForm (roll-Form k)) e (subst QuietForm (sym (fold-roll-Form Looked Formed Called Looked Meant Placed Looked Operand (argument_step s) (form_step s) (call_step s) (choice_step s) (expression_step s) (place_step s) (pointer_step s) (term_step s) (seen_form y))) (form_case y))
+  form_induct : (x : Form-F ArgumentTree FormTree CallTree ChoiceTree ExpressionTree PlaceTree PointerTree TermTree)
+      (y : Form-F SomeArgument SomeForm SomeCall SomeChoice SomeExpression SomePlace SomePointer SomeTerm) → seen_form y ≡ x → ClaimForm (roll-Form x)
+  form_induct x y e = subst (λ k. ClaimForm (roll-Form k)) e
+      (subst QuietForm
+      (sym (fold-roll-Form Looked Formed Called Looked Meant Placed Looked Operand (argument_step s) (form_step s) (call_step s) (choice_step s) (expression_step s) (place_step s)
+      (pointer_step s) (term_step s) (seen_form y))) (form_case y))
 
-  call_induct : (x : Call-F ArgumentTree FormTree CallTree ChoiceTree ExpressionTree PlaceTree PointerTree TermTree) (y : Call-F SomeArgument SomeForm SomeCall SomeChoice SomeExpression SomePlace SomePointer SomeTerm) → seen_call y ≡ x → ClaimCall (roll-Call x)
-  call_induct x y e = subst (λ k. ClaimCall (roll-Call k)) e (subst QuietCall (sym (fold-roll-Call Looked Formed Called Looked Meant Placed Looked Operand (argument_step s) (form_step s) (call_step s) (choice_step s) (expression_step s) (place_step s) (pointer_step s) (term_step s) (seen_call y))) (call_case y))
+  call_induct : (x : Call-F ArgumentTree FormTree CallTree ChoiceTree ExpressionTree PlaceTree PointerTree TermTree)
+      (y : Call-F SomeArgument SomeForm SomeCall SomeChoice SomeExpression SomePlace SomePointer SomeTerm) → seen_call y ≡ x → ClaimCall (roll-Call x)
+  call_induct x y e = subst (λ k. ClaimCall (roll-Call k)) e
+      (subst QuietCall
+      (sym (fold-roll-Call Looked Formed Called Looked Meant Placed Looked Operand (argument_step s) (form_step s) (call_step s) (choice_step s) (expression_step s) (place_step s)
+      (pointer_step s) (term_step s) (seen_call y))) (call_case y))
 
-  choice_induct : (x : Choice-F ArgumentTree FormTree CallTree ChoiceTree ExpressionTree PlaceTree PointerTree TermTree) (y : Choice-F SomeArgument SomeForm SomeCall SomeChoice SomeExpression SomePlace SomePointer SomeTerm) → seen_choice y ≡ x → ClaimChoice (roll-Choice x)
-  choice_induct x y e = subst (λ k. ClaimChoice (roll-Choice k)) e (subst (λ (w : Looked). IsQuiet w) (sym (fold-roll-Choice Looked Formed Called Looked Meant Placed Looked Operand (argument_step s) (form_step s) (call_step s) (choice_step s) (expression_step s) (place_step s) (pointer_step s) (term_step s) (seen_choice y))) (choice_case y))
+  choice_induct : (x : Choice-F ArgumentTree FormTree CallTree ChoiceTree ExpressionTree PlaceTree PointerTree TermTree)
+      (y : Choice-F SomeArgument SomeForm SomeCall SomeChoice SomeExpression SomePlace SomePointer SomeTerm) → seen_choice y ≡ x → ClaimChoice (roll-Choice x)
+  choice_induct x y e = subst (λ k. ClaimChoice (roll-Choice k)) e (subst (λ (w : Looked). IsQuiet w)
+      (sym (fold-roll-Choice Looked Formed Called Looked Meant Placed Looked Operand (argument_step s) (form_step s) (call_step s) (choice_step s) (expression_step s)
+      (place_step s) (pointer_step s) (term_step s) (seen_choice y))) (choice_case y))
 
-  expression_induct : (x : Expression-F ArgumentTree FormTree CallTree ChoiceTree ExpressionTree PlaceTree PointerTree TermTree) (y : Expression-F SomeArgument SomeForm SomeCall SomeChoice SomeExpression SomePlace SomePointer SomeTerm) → seen_expression y ≡ x → ClaimExpression (roll-Expression x)
-  expression_induct x y e = subst (λ k. ClaimExpression (roll-Expression k)) e (subst QuietMeant (sym (fold-roll-Expression Looked Formed Called Looked Meant Placed Looked Operand (argument_step s) (form_step s) (call_step s) (choice_step s) (expression_step s) (place_step s) (pointer_step s) (term_step s) (seen_expression y))) (expression_case y))
+  expression_induct : (x : Expression-F ArgumentTree FormTree CallTree ChoiceTree ExpressionTree PlaceTree PointerTree TermTree)
+      (y : Expression-F SomeArgument SomeForm SomeCall SomeChoice SomeExpression SomePlace SomePointer SomeTerm) → seen_expression y ≡ x → ClaimExpression (roll-Expression x)
+  expression_induct x y e = subst (λ k. ClaimExpression (roll-Expression k)) e (subst QuietMeant
+      (sym (fold-roll-Expression Looked Formed Called Looked Meant Placed Looked Operand (argument_step s) (form_step s) (call_step s) (choice_step s) (expression_step s)
+      (place_step s) (pointer_step s) (term_step s) (seen_expression y))) (expression_case y))
 
-  place_induct : (x : Place-F ArgumentTree FormTree CallTree ChoiceTree ExpressionTree PlaceTree PointerTree TermTree) (y : Place-F SomeArgument SomeForm SomeCall SomeChoice SomeExpression SomePlace SomePointer SomeTerm) → seen_place y ≡ x → ClaimPlace (roll-Place x)
-  place_induct x y e = subst (λ k. ClaimPlace (roll-Place k)) e (subst QuietPlace (sym (fold-roll-Place Looked Formed Called Looked Meant Placed Looked Operand (argument_step s) (form_step s) (call_step s) (choice_step s) (expression_step s) (place_step s) (pointer_step s) (term_step s) (seen_place y))) (place_case y))
+  place_induct : (x : Place-F ArgumentTree FormTree CallTree ChoiceTree ExpressionTree PlaceTree PointerTree TermTree)
+      (y : Place-F SomeArgument SomeForm SomeCall SomeChoice SomeExpression SomePlace SomePointer SomeTerm) → seen_place y ≡ x → ClaimPlace (roll-Place x)
+  place_induct x y e = subst (λ k. ClaimPlace (roll-Place k)) e
+      (subst QuietPlace
+      (sym (fold-roll-Place Looked Formed Called Looked Meant Placed Looked Operand (argument_step s) (form_step s) (call_step s) (choice_step s) (expression_step s) (place_step s)
+      (pointer_step s) (term_step s) (seen_place y))) (place_case y))
 
-  pointer_induct : (x : Pointer-F ArgumentTree FormTree CallTree ChoiceTree ExpressionTree PlaceTree PointerTree TermTree) (y : Pointer-F SomeArgument SomeForm SomeCall SomeChoice SomeExpression SomePlace SomePointer SomeTerm) → seen_pointer y ≡ x → ClaimPointer (roll-Pointer x)
-  pointer_induct x y e = subst (λ k. ClaimPointer (roll-Pointer k)) e (subst (λ (w : Looked). IsQuiet w) (sym (fold-roll-Pointer Looked Formed Called Looked Meant Placed Looked Operand (argument_step s) (form_step s) (call_step s) (choice_step s) (expression_step s) (place_step s) (pointer_step s) (term_step s) (seen_pointer y))) (pointer_case y))
+  pointer_induct : (x : Pointer-F ArgumentTree FormTree CallTree ChoiceTree ExpressionTree PlaceTree PointerTree TermTree)
+      (y : Pointer-F SomeArgument SomeForm SomeCall SomeChoice SomeExpression SomePlace SomePointer SomeTerm) → seen_pointer y ≡ x → ClaimPointer (roll-Pointer x)
+  pointer_induct x y e = subst (λ k. ClaimPointer (roll-Pointer k)) e (subst (λ (w : Looked). IsQuiet w)
+      (sym (fold-roll-Pointer Looked Formed Called Looked Meant Placed Looked Operand (argument_step s) (form_step s) (call_step s) (choice_step s) (expression_step s)
+      (place_step s) (pointer_step s) (term_step s) (seen_pointer y))) (pointer_case y))
 
-  term_induct : (x : Term-F ArgumentTree FormTree CallTree ChoiceTree ExpressionTree PlaceTree PointerTree TermTree) (y : Term-F SomeArgument SomeForm SomeCall SomeChoice SomeExpression SomePlace SomePointer SomeTerm) → seen_term y ≡ x → ClaimTerm (roll-Term x)
-  term_induct x y e = subst (λ k. ClaimTerm (roll-Term k)) e (subst QuietOperand (sym (fold-roll-Term Looked Formed Called Looked Meant Placed Looked Operand (argument_step s) (form_step s) (call_step s) (choice_step s) (expression_step s) (place_step s) (pointer_step s) (term_step s) (seen_term y))) (term_case y))
+  term_induct : (x : Term-F ArgumentTree FormTree CallTree ChoiceTree ExpressionTree PlaceTree PointerTree TermTree)
+      (y : Term-F SomeArgument SomeForm SomeCall SomeChoice SomeExpression SomePlace SomePointer SomeTerm) → seen_term y ≡ x → ClaimTerm (roll-Term x)
+  term_induct x y e = subst (λ k. ClaimTerm (roll-Term k)) e
+      (subst QuietOperand
+      (sym (fold-roll-Term Looked Formed Called Looked Meant Placed Looked Operand (argument_step s) (form_step s) (call_step s) (choice_step s) (expression_step s) (place_step s)
+      (pointer_step s) (term_step s) (seen_term y))) (term_case y))
 
   pub quiet_argument : (x : ArgumentTree) → IsQuiet (argument s x)
-  quiet_argument = ind-Argument ClaimArgument ClaimForm ClaimCall ClaimChoice ClaimExpression ClaimPlace ClaimPointer ClaimTerm argument_induct form_induct call_induct choice_induct expression_induct place_induct pointer_induct term_induct
+  quiet_argument = ind-Argument ClaimArgument ClaimForm ClaimCall ClaimChoice ClaimExpression ClaimPlace ClaimPointer ClaimTerm argument_induct form_induct call_induct
+      choice_induct expression_induct place_induct pointer_induct term_induct
 
   pub quiet_expression : (x : ExpressionTree) → QuietMeant (meant s x)
-  quiet_expression = ind-Expression ClaimArgument ClaimForm ClaimCall ClaimChoice ClaimExpression ClaimPlace ClaimPointer ClaimTerm argument_induct form_induct call_induct choice_induct expression_induct place_induct pointer_induct term_induct
+  quiet_expression = ind-Expression ClaimArgument ClaimForm ClaimCall ClaimChoice ClaimExpression ClaimPlace ClaimPointer ClaimTerm argument_induct form_induct call_induct
+      choice_induct expression_induct place_induct pointer_induct term_induct
 
   quiet_place : (x : PlaceTree) → QuietPlace (placed s x)
-  quiet_place = ind-Place ClaimArgument ClaimForm ClaimCall ClaimChoice ClaimExpression ClaimPlace ClaimPointer ClaimTerm argument_induct form_induct call_induct choice_induct expression_induct place_induct pointer_induct term_induct
+  quiet_place = ind-Place ClaimArgument ClaimForm ClaimCall ClaimChoice ClaimExpression ClaimPlace ClaimPointer ClaimTerm argument_induct form_induct call_induct choice_induct
+      expression_induct place_induct pointer_induct term_induct
 
   pub quiet_index : (x : PlaceTree) → IsQuiet (index s x)
   quiet_index x = quiet_optional (placed s x).index (quiet_place x)

@@ -114,7 +114,8 @@ module _ (whole : Findings) (P : Program) (number : ℕ) (f : Function) (given_r
       (does_as (declaration [] d) (λ _. tt) (λ _ _ is. is) (declaration_does whole P number f given_routines small b false [] d valid))
       (λ list. does_pure (y.sequence list) (λ c. q.sequence_is whole P number f false list c.1))
 
-  for_condition_does : (b : Bool) {Before : Type 0} (test : Option ExpressionTree) → AreValid (of_any expression_leaves test) → Does whole P number f b Before AsCondition (finding (y.for_condition test))
+  for_condition_does : (b : Bool) {Before : Type 0} (test : Option ExpressionTree) → AreValid (of_any expression_leaves test) →
+      Does whole P number f b Before AsCondition (finding (y.for_condition test))
   for_condition_does b None valid = does_finding (y.for_condition None) (λ s. shows_pure y.int_one (λ _. refl))
   for_condition_does b (Some test) valid = condition_does b test valid
 
@@ -349,7 +350,8 @@ module _ (whole : Findings) (P : Program) (number : ℕ) (f : Function) (given_r
             (λ _. does_pure (y.for_of head x) (λ c. q.for_is whole P number f b head x c.0.0.1 c.0.1)))));
       }
 
-  statement_case : (x : Statement-F SomeBlockItem SomeStatement SomeBlock) → IsStatement (statement_layer (leaves_in_statement (seen_statement x))) (statement_step (parts_in_statement (seen_statement x)))
+  statement_case : (x : Statement-F SomeBlockItem SomeStatement SomeBlock) → IsStatement (statement_layer (leaves_in_statement (seen_statement x)))
+      (statement_step (parts_in_statement (seen_statement x)))
   statement_case (Statement-F.Block body) = block_statement_is (block_leaves body.0) (items body.0) body.1
   statement_case Statement-F.Empty = record {
     stays = m.staying_pure Statement.Empty;
@@ -373,17 +375,20 @@ module _ (whole : Findings) (P : Program) (number : ℕ) (f : Function) (given_r
   item_induct : (x : BlockItem-F BlockItemTree StatementTree BlockTree) (z : BlockItem-F SomeBlockItem SomeStatement SomeBlock) → seen_item z ≡ x → ClaimBlockItem (roll-BlockItem x)
   item_induct x z e = subst (λ t. ClaimBlockItem (roll-BlockItem t)) e
       (subst (λ leaves. IsItem leaves (item (roll-BlockItem (seen_item z)))) (sym (fold-roll-BlockItem Leaves Leaves Leaves item_layer statement_layer block_layer (seen_item z)))
-      (subst (λ w. IsItem (item_layer (leaves_in_item (seen_item z))) w) (sym (fold-roll-BlockItem Adds (Goes Statement) (Goes Statement) item_step statement_step block_step (seen_item z))) (item_case z)))
+      (subst (λ w. IsItem (item_layer (leaves_in_item (seen_item z))) w)
+      (sym (fold-roll-BlockItem Adds (Goes Statement) (Goes Statement) item_step statement_step block_step (seen_item z))) (item_case z)))
 
   statement_induct : (x : Statement-F BlockItemTree StatementTree BlockTree) (z : Statement-F SomeBlockItem SomeStatement SomeBlock) → seen_statement z ≡ x → ClaimStatement (roll-Statement x)
   statement_induct x z e = subst (λ t. ClaimStatement (roll-Statement t)) e
       (subst (λ leaves. IsStatement leaves (statement (roll-Statement (seen_statement z)))) (sym (fold-roll-Statement Leaves Leaves Leaves item_layer statement_layer block_layer (seen_statement z)))
-      (subst (λ w. IsStatement (statement_layer (leaves_in_statement (seen_statement z))) w) (sym (fold-roll-Statement Adds (Goes Statement) (Goes Statement) item_step statement_step block_step (seen_statement z))) (statement_case z)))
+      (subst (λ w. IsStatement (statement_layer (leaves_in_statement (seen_statement z))) w)
+      (sym (fold-roll-Statement Adds (Goes Statement) (Goes Statement) item_step statement_step block_step (seen_statement z))) (statement_case z)))
 
   block_induct : (x : Block-F BlockItemTree StatementTree BlockTree) (z : Block-F SomeBlockItem SomeStatement SomeBlock) → seen_block z ≡ x → ClaimBlock (roll-Block x)
   block_induct x z e = subst (λ t. ClaimBlock (roll-Block t)) e
       (subst (λ leaves. IsBlock leaves (items (roll-Block (seen_block z)))) (sym (fold-roll-Block Leaves Leaves Leaves item_layer statement_layer block_layer (seen_block z)))
-      (subst (λ w. IsBlock (block_layer (leaves_in_block (seen_block z))) w) (sym (fold-roll-Block Adds (Goes Statement) (Goes Statement) item_step statement_step block_step (seen_block z))) (block_case z)))
+      (subst (λ w. IsBlock (block_layer (leaves_in_block (seen_block z))) w)
+      (sym (fold-roll-Block Adds (Goes Statement) (Goes Statement) item_step statement_step block_step (seen_block z))) (block_case z)))
 
   pub block_claim : (x : BlockTree) → IsBlock (block_leaves x) (items x)
   block_claim = ind-Block ClaimBlockItem ClaimStatement ClaimBlock item_induct statement_induct block_induct

@@ -76,7 +76,8 @@ closed_ahead : (whole : Findings) (f : Function) (level : Option Names) (s : Sco
 closed_ahead whole f None s found ahead = ahead
 closed_ahead whole f (Some level) s found ahead = record { found = ahead.found; locals = ahead.locals }
 
-closed_holds : (P : Program) (number : ℕ) (f : Function) (in_loop : Bool) (level : Option Names) (s : Scope) (found : Findings) → IfAny (AreMeant P f) level → Holds P number f in_loop (state s found) →
+closed_holds : (P : Program) (number : ℕ) (f : Function) (in_loop : Bool) (level : Option Names) (s : Scope) (found : Findings) → IfAny (AreMeant P f) level →
+    Holds P number f in_loop (state s found) →
     Holds P number f in_loop (state (closed_to level s) found)
 closed_holds P number f in_loop None s found are holds = holds
 closed_holds P number f in_loop (Some level) s found are holds =
@@ -93,7 +94,8 @@ closed_holds P number f in_loop (Some level) s found are holds =
       lengths = holds.lengths;
     }
 
-either_ahead : {A : Type 0} (whole : Findings) (f : Function) (b : Bool) (v w : Goes A) (x : State) → (IsAhead whole f (left (v x)) → IsAhead whole f x) → (IsAhead whole f (left (w x)) → IsAhead whole f x) →
+either_ahead : {A : Type 0} (whole : Findings) (f : Function) (b : Bool) (v w : Goes A) (x : State) → (IsAhead whole f (left (v x)) → IsAhead whole f x) →
+    (IsAhead whole f (left (w x)) → IsAhead whole f x) →
     IsAhead whole f (left (if b then v x else w x)) → IsAhead whole f x
 either_ahead whole f true v w x hv hw ahead = hv ahead
 either_ahead whole f false v w x hv hw ahead = hw ahead

@@ -117,7 +117,11 @@ module _ {whole : Findings} where
   shows_if false r at = record { back = λ found part. part; forth = λ found part before. refl }
 
   pub shows_any : {Before : Type 0} (o : Option Rule) (at : ℕ) → Shows whole Before (λ _. o ≡ None) (finds_any o at)
-  shows_any (Some r) at = record { back = (shows_broken {Before = ⊤} {Is = λ _. ⊤} r at).back; forth = λ found part before. (shows_broken {Before = ⊤} {Is = λ _. Some r ≡ None} r at).forth found part tt }
+  shows_any (Some r) at = record {
+    back = (shows_broken {Before = ⊤} {Is = λ _. ⊤} r at).back;
+    forth = λ found part before.
+        (shows_broken {Before = ⊤} {Is = λ _. Some r ≡ None} r at).forth found part tt;
+  }
   shows_any None at = record { back = λ found part. part; forth = λ found part before. refl }
 
   pub shows_call : (caller : Option ℕ) (number callee at : ℕ) →

@@ -15,12 +15,12 @@ use Rattle.block_ir.specs.declared.plan.StagePlan.TheVariants as planned
 use Rattle.block_ir.specs.declared.plan.Planned.{Planned}
 use Rattle.planned_block.specs.Plan.{KeepsOrders}
 use Rattle.planned_block.specs.Slot.{Slot}
-use Rattle.planned_block.specs.Advance.{wires, advance}
+use Rattle.planned_block.specs.Advance.{advance}
 use Rattle.planned_view.specs.View.{planned_view, plan_view}
 use Rattle.netlist.specs.declared.netlist.Module.{Module}
 use Rattle.verilog_meaning.specs.Readings.{Reading, next_reading, initial_reading}
 use Rattle.circuit.specs.Modules.{Obeys, Agree}
-use Rattle.thread_promise.specs.Slots.{Places, ShowsData, ShowsInBlock, AreWithin}
+use Rattle.thread_promise.specs.Slots.{Places, ShowsData, ShowsInBlock}
 use Rattle.thread_promise.specs.Types.{IsTypedBlock}
 
 -- where the ports stand: whether the printer grants, whether it is asked, the site, each value, need and done
@@ -99,7 +99,7 @@ module _ (globals : List IntegerType) (code : ThreadCode) (plan : Planned) (m : 
     pub rests : (r : Reading) → Obeys m r → r.signal ports.enable ≡ 0 → Agree m r (next_reading m r)
     -- a state of a block is left as the planned block says, for the next one or for another stage
     pub moves : (bank : Location → ℕ) (memory : Memory ℤ) (r : Reading) (q : Slot) (b : Block) (p : BlockPlan) → Obeys m r → IsInside r q b p →
-        r.signal ports.enable ≡ 1 → AreWithin globals code b p q (wires bank (planned_view b) (plan_view b p) q) →
+        r.signal ports.enable ≡ 1 →
         ((suc q.state < p.states) → ShowsInBlock globals code places b p (next_reading m r) (advance bank (planned_view b) (plan_view b p) q memory (λ k. false)))
         × Shows (next_reading m r) (advance bank (planned_view b) (plan_view b p) q memory (λ k. false))
     -- a printf asks the printer, with its site and its values, where it is enabled, and goes on when it is granted

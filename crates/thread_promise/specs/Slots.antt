@@ -3,16 +3,14 @@ use Rattle.std.specs.Prelude.{◌≡◌, ℕ, ◌%◌, ◌^◌, ◌<◌, ◌≤�
 use Rattle.hls_ints.specs.Residues.{residue_of, bit_of}
 use Rattle.hls_ints.specs.Types.{IntegerType, HasType, width_of}
 use Rattle.interleaving.specs.Memory.{Location}
-use Rattle.block_ir.specs.declared.operand.Operand.{Operand}
 use Rattle.block_ir.specs.declared.block.Operation.{Operation}
-use Rattle.block_ir.specs.declared.block.Operation.TheVariants.{Unary, Binary, ReadGlobal, WriteGlobal, ReadArray, WriteArray}
 use Rattle.block_ir.specs.declared.block.Block.{Block}
 use Rattle.block_ir.specs.declared.code.Array.{Array}
 use Rattle.block_ir.specs.declared.code.ThreadCode.{ThreadCode}
 use Rattle.block_ir.specs.declared.plan.BlockPlan.{BlockPlan}
 use Rattle.planned_block.specs.Plan.{last_state}
-use Rattle.planned_block.specs.Slot.{Slot, operand_now}
-use Rattle.planned_view.specs.View.{planned_view, plan_view, operand_view}
+use Rattle.planned_block.specs.Slot.{Slot}
+use Rattle.planned_view.specs.View.{planned_view, plan_view}
 use Rattle.verilog_meaning.specs.Readings.{Reading}
 use Rattle.thread_promise.specs.Types.{value_type}
 
@@ -48,6 +46,8 @@ module _ (globals : List IntegerType) (code : ThreadCode) where
       pub words : (a i : ℕ) (array : Array) → slice_get code.arrays a ≡ Some array → i < array.length →
           r.word a i ≡ residue_of (width_of array.ty) (q.arrays (element_at a i))
       pub typed_words : (a i : ℕ) (array : Array) → slice_get code.arrays a ≡ Some array → i < array.length → HasType array.ty (q.arrays (element_at a i))
+      -- the place past the end, which an index outside the array reads
+      pub outside : (a : ℕ) (array : Array) → slice_get code.arrays a ≡ Some array → q.arrays (element_at a array.length) ≡ pos 0
 
     -- within a block, the values that are alive too
     pub record ShowsInBlock (b : Block) (p : BlockPlan) (r : Reading) (q : Slot) : Type 0 where
@@ -55,22 +55,3 @@ module _ (globals : List IntegerType) (code : ThreadCode) where
       pub alive : (k n : ℕ) (t : IsAlive b p q k n) →
           r.signal (places.kept n) % 2 ^ width_of (value_type globals code t.operation) ≡ residue_of (width_of (value_type globals code t.operation)) (q.registers n)
       pub typed_alive : (k n : ℕ) (t : IsAlive b p q k n) → HasType (value_type globals code t.operation) (q.registers n)
-
-  -- an index lies within its array
-  abbrev pub IsIndex : ℕ → ℤ → Type 0
-  IsIndex x v = (array : Array) × (i : ℕ) × (slice_get code.arrays x ≡ Some array) × (v ≡ pos i) × (i < array.length)
-
-  -- an access of an array is within it
-  abbrev pub IsWithin : (Operand → ℤ) → Operation → Type 0
-  IsWithin see (Unary operator ty a) = Unit {0}
-  IsWithin see (Binary operator ty a b) = Unit {0}
-  IsWithin see (ReadGlobal x i) = Unit {0}
-  IsWithin see (WriteGlobal x i a) = Unit {0}
-  IsWithin see (ReadArray x i) = IsIndex x (see i)
-  IsWithin see (WriteArray x i a) = IsIndex x (see i)
-
-  -- the accesses of arrays in this state are within them: outside the source's step is undefined
-  abbrev pub AreWithin : Block → BlockPlan → Slot → (ℕ → ℤ) → Type 0
-  AreWithin b p q wire =
-      (k : ℕ) (o : Operation) → slice_get b.operations k ≡ Some o → (plan_view b p).start k ≡ q.state →
-      IsWithin (λ i. operand_now (planned_view b) (plan_view b p) q wire (operand_view i)) o

@@ -34,6 +34,14 @@ last_type ty (t ∷ types) = last_type t types
 abbrev pub operand_type : Operand → IntegerType
 operand_type o = last_type (source_type o.source) o.conversions
 
+-- array x of the code has n elements
+abbrev pub IsOfLength : ThreadCode → ℕ → ℕ → Type 0
+IsOfLength code x n = (array : Array) × (slice_get code.arrays x ≡ Some array) × (array.length ≡ n)
+
+-- what is stored in an array has the type of its elements
+abbrev pub StoresInto : ThreadCode → ℕ → Operand → Type 0
+StoresInto code x a = (array : Array) × (slice_get code.arrays x ≡ Some array) × (operand_type a ≡ array.ty)
+
 -- globals are the types of the elements of the globals
 module _ (globals : List IntegerType) (code : ThreadCode) where
   -- the type of the value of an operation; a write gives the int 0
@@ -42,8 +50,8 @@ module _ (globals : List IntegerType) (code : ThreadCode) where
   value_type (Binary operator ty a b) = binary_result operator ty
   value_type (ReadGlobal x i) = or_int (slice_get globals x)
   value_type (WriteGlobal x i a) = truth_type
-  value_type (ReadArray x i) = element_type (slice_get code.arrays x)
-  value_type (WriteArray x i a) = truth_type
+  value_type (ReadArray x n i) = element_type (slice_get code.arrays x)
+  value_type (WriteArray x n i a) = truth_type
 
   -- an operand has the type that it says, where values is the list of the earlier operations
   abbrev pub IsTypedSource : List Operation → Source → Type 0
@@ -54,17 +62,13 @@ module _ (globals : List IntegerType) (code : ThreadCode) where
   abbrev pub IsTypedOperand : List Operation → Operand → Type 0
   IsTypedOperand before o = IsTypedSource before o.source
 
-  -- what is stored in an array has the type of its elements
-  abbrev pub StoresInto : ℕ → Operand → Type 0
-  StoresInto x a = (array : Array) × (slice_get code.arrays x ≡ Some array) × (operand_type a ≡ array.ty)
-
   abbrev pub IsTypedOperation : List Operation → Operation → Type 0
   IsTypedOperation before (Unary operator ty a) = IsTypedOperand before a
   IsTypedOperation before (Binary operator ty a b) = IsTypedOperand before a × IsTypedOperand before b
   IsTypedOperation before (ReadGlobal x i) = IsTypedOperand before i
   IsTypedOperation before (WriteGlobal x i a) = IsTypedOperand before i × IsTypedOperand before a
-  IsTypedOperation before (ReadArray x i) = IsTypedOperand before i
-  IsTypedOperation before (WriteArray x i a) = IsTypedOperand before i × IsTypedOperand before a × StoresInto x a
+  IsTypedOperation before (ReadArray x n i) = IsTypedOperand before i × IsOfLength code x n
+  IsTypedOperation before (WriteArray x n i a) = IsTypedOperand before i × IsTypedOperand before a × IsOfLength code x n × StoresInto code x a
 
   abbrev pub IsTypedFinal : List Operation → Final → Type 0
   IsTypedFinal before f = IsTypedOperand before f.value × (slice_get code.variables f.variable ≡ Some (operand_type f.value))

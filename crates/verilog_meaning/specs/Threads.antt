@@ -163,7 +163,8 @@ module _ (modules : List Module) (top : Module) where
     abbrev pub Moves : ℕ → ℕ → ℕ → Valuation → Valuation → Type 0
     Moves need i zero h g = IsSame h g
     Moves need i (suc n) h g =
-        (mid : Valuation) × (out : List ℕ) × Needs h i need × ShowsDone modules top h (all_enabled threads []) 0 × Cycle modules top h (alone i) mid out × (IsSameSlot i h mid → ⊥) × Moves need i n mid g
+        (mid : Valuation) × (out : List ℕ) × Needs h i need × ShowsDone modules top h (all_enabled threads []) 0 × Cycle modules top h (alone i) mid out ×
+        (IsSameSlot i h mid → ⊥) × Moves need i n mid g
 
     abbrev pub open_cycles : Bool → ℕ
     open_cycles true = 1

@@ -1,5 +1,6 @@
 use Rattle.c_program.specs.Plain.{program_of}
-use Rattle.hls_compile.proofs.Alone.{has_calls, alone}
+use Rattle.ir_lower.proofs.Untaken.{untaken_calls}
+use Rattle.hls_compile.proofs.Alone.{alone}
 use Rattle.hls_compile.proofs.code_of.Goals as goal
 
 pub returns-in-Ok-clause-alone : goal.returns-in-Ok-clause-alone
@@ -7,4 +8,4 @@ returns-in-Ok-clause-alone c = alone (program_of c.args.program.now) c.in_defaul
 
 pub returns-in-Err-NotYet-clause-unbuilt : goal.returns-in-Err-NotYet-clause-unbuilt
 returns-in-Err-NotYet-clause-unbuilt c =
-    has_calls (program_of c.args.program.now) (c.in-Err-NotYet.ensures.untaken c.in-Err-NotYet.field-0-is) c.requires.resolved
+    untaken_calls (program_of c.args.program.now) c.requires.resolved (c.in-Err-NotYet.ensures.untaken c.in-Err-NotYet.field-0-is)

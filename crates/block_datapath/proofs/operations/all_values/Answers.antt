@@ -1,7 +1,7 @@
 use Rattle.std.proofs.Common.{◌+◌, ◌∙◌, List, sym, subst}
 use Rattle.block_datapath.specs.declared.operands.Given.{Given}
 use Rattle.block_datapath.specs.Operations.{ShowsFirst}
-use Rattle.block_datapath.specs.Wired.{AreGiven, IsBareSourced}
+use Rattle.block_datapath.specs.Wired.{AreGiven, IsOperationWord}
 use Rattle.block_datapath.proofs.Walking.{first_none, first_more, next_same, item_is}
 use Rattle.thread_promise.specs.Types.{value_type}
 use Rattle.block_datapath.proofs.Wiring.{given_none, given_more}
@@ -25,7 +25,7 @@ loop-operation-preserved c =
           (given_more c.args.wires.now.signals c.loop-operation.wires.signals c.given_value.new.wires.signals code registers c.loop-operation.values c.in_ok-given.given (value_type globals
           code c.operation-item.result)
           c.loop-operation.invariant.1
-          (subst (λ (values : List Given). IsBareSourced c.loop-operation.wires.signals c.given_value.new.wires.signals code registers values (value_type globals code c.operation-item.result)
+          (subst (λ (values : List Given). IsOperationWord c.loop-operation.wires.signals c.given_value.new.wires.signals code registers values (value_type globals code c.operation-item.result)
           c.in_ok-given.given.word) c.as_slice-earlier.ensures c.in_ok-given.ensures.wired)),
     )
 

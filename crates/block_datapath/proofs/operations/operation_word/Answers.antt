@@ -1,6 +1,6 @@
-use Rattle.std.proofs.Common.{refl, sym, ap}
+use Rattle.std.proofs.Common.{refl, sym, ap, slice_get}
 use Rattle.block_ir.specs.declared.block.Operation.TheVariants.{Unary, Binary, ReadGlobal, WriteGlobal, ReadArray, WriteArray}
-use Rattle.thread_promise.specs.Types.{value_type}
+use Rattle.thread_promise.specs.Types.{value_type, element_type}
 use Rattle.block_datapath.proofs.Working.{of_start, of_end, zero_given}
 use Rattle.block_datapath.proofs.Wiring.{operation_wired, read_wired, constant_wired}
 use Rattle.operator_words.specs.Shown.{truth_type, unary_result, binary_result}
@@ -19,7 +19,7 @@ returns-in-Binary-clause-shows c =
 pub returns-in-ReadArray-clause-shows : goal.returns-in-ReadArray-clause-shows
 returns-in-ReadArray-clause-shows c =
     of_end c.element_value.result c.args.wires.now.signals c.element_value.new.wires.signals c.args.globals.now c.args.code.now c.args.registers.now c.args.values.now c.args.start c.args.last
-    c.args.operation.now (ReadArray c.in-ReadArray.array c.in-ReadArray.index) c.in-ReadArray.is c.element_value.ensures.shows
+    c.args.operation.now c.in-ReadArray.array c.in-ReadArray.length c.in-ReadArray.index c.in-ReadArray.is c.element_value.ensures.shows
 
 pub returns-in-ReadGlobal-clause-shows : goal.returns-in-ReadGlobal-clause-shows
 returns-in-ReadGlobal-clause-shows c =
@@ -35,7 +35,7 @@ returns-in-WriteGlobal-clause-shows c =
 pub returns-in-WriteArray-clause-shows : goal.returns-in-WriteArray-clause-shows
 returns-in-WriteArray-clause-shows c =
     zero_given c.constant_word-in-WriteArray.result c.args.wires.now.signals c.constant_word-in-WriteArray.new.self.signals c.args.globals.now c.args.code.now c.args.registers.now
-    c.args.values.now c.args.start c.args.last c.args.operation.now (WriteArray c.in-WriteArray.array c.in-WriteArray.index c.in-WriteArray.value) _ _ c.in-WriteArray.is
+    c.args.values.now c.args.start c.args.last c.args.operation.now (WriteArray c.in-WriteArray.array c.in-WriteArray.length c.in-WriteArray.index c.in-WriteArray.value) _ _ c.in-WriteArray.is
     (λ variables given arrays. refl) c.constant_word-in-WriteArray.ensures.shows (sym (ap (value_type c.args.globals.now c.args.code.now) c.in-WriteArray.is)) refl
 
 pub returns-in-Unary-clause-wired : goal.returns-in-Unary-clause-wired
@@ -53,8 +53,8 @@ returns-in-Binary-clause-wired c =
 pub returns-in-ReadArray-clause-wired : goal.returns-in-ReadArray-clause-wired
 returns-in-ReadArray-clause-wired c =
     read_wired c.element_value.result c.args.wires.now.signals c.element_value.new.wires.signals c.args.globals.now c.args.code.now c.args.registers.now c.args.values.now
-    c.in-ReadArray.array c.args.operation.now
-    (ReadArray c.in-ReadArray.array c.in-ReadArray.index) c.in-ReadArray.is c.element_value.ensures.wired refl
+    (element_type (slice_get c.args.code.now.arrays c.in-ReadArray.array)) c.args.operation.now
+    (ReadArray c.in-ReadArray.array c.in-ReadArray.length c.in-ReadArray.index) c.in-ReadArray.is c.element_value.ensures.wired refl
 
 pub returns-in-ReadGlobal-clause-wired : goal.returns-in-ReadGlobal-clause-wired
 returns-in-ReadGlobal-clause-wired c =

@@ -1,21 +1,23 @@
-use Rattle.std.proofs.Common.{◌≡◌, ◌∙◌, List, [], sym, ap, slice_get, Some}
-use Rattle.block_ir.specs.declared.code.Array.{Array}
+use Rattle.std.proofs.Common.{◌≡◌, ◌∙◌, slice_get, Some, None}
 use Rattle.block_datapath.proofs.Working.{array_read}
-use Rattle.block_datapath.proofs.Wiring.{bare_constant}
+use Rattle.block_datapath.proofs.Wiring.{no_element, element_read}
 use Rattle.block_datapath.proofs.operations.read_array.Goals as goal
 
 pub returns-clause-shows : goal.returns-clause-shows
 returns-clause-shows c =
     let listed : slice_get c.args.code.now.arrays c.args.array ≡ Some c.in-Some.own = cc in
     array_read c.args.wires.now.signals c.address.new.wires.signals c.wire.new.self.signals c.args.code.now c.args.array c.in_ok-address.address c.in_ok-place.place c.from.result c.args.index
-    c.of_type.result c.in-Some.own listed c.in_ok-address.ensures c.in_ok-place.ensures.shows (c.from.ensures ∙ c.bits.ensures.value) c.of_type.ensures.place c.of_type.ensures.width
+    c.of_type.result c.in-Some.own listed c.in_ok-address.ensures.shows c.in_ok-place.ensures.shows (c.from.ensures ∙ c.bits.ensures.value) c.of_type.ensures.place c.of_type.ensures.width
     c.of_type.ensures.signed
 
 pub returns-in_default-clause-wired : goal.returns-in_default-clause-wired
 returns-in_default-clause-wired c =
-    bare_constant c.constant_word.result c.args.wires.now.signals c.constant_word.new.self.signals c.args.code.now c.constant_word.ensures.wired
+    let none : slice_get c.args.code.now.arrays c.args.array ≡ None = cc in
+    no_element c.constant_word.result c.args.wires.now.signals c.constant_word.new.self.signals c.args.code.now c.args.array c.args.index none c.constant_word.ensures.wired
 
 pub returns-clause-wired : goal.returns-clause-wired
 returns-clause-wired c =
     let listed : slice_get c.args.code.now.arrays c.args.array ≡ Some c.in-Some.own = cc in
-    λ least none there. absurd (let no : slice_get [] c.args.array ≡ Some c.in-Some.own = sym (ap (λ (l : List Array). slice_get l c.args.array) none) ∙ listed in cc)
+    element_read c.args.wires.now.signals c.address.new.wires.signals c.wire.new.self.signals c.args.code.now c.args.array c.in_ok-address.address c.in_ok-place.place c.from.result c.args.index
+    c.of_type.result c.in-Some.own listed c.in_ok-address.ensures.wired c.in_ok-place.ensures.wired (c.from.ensures ∙ c.bits.ensures.value) c.of_type.ensures.place c.of_type.ensures.width
+    c.of_type.ensures.signed

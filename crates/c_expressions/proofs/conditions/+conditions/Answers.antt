@@ -1,4 +1,4 @@
-use Rattle.std.proofs.Common.{◌≡◌, sym, subst, rules, map}
+use Rattle.std.proofs.Common.{sym, subst, rules, map}
 use Rattle.c_program.specs.Plain.{condition_of}
 use Rattle.c_program.specs.Tree.{Condition}
 use Rattle.c_rules.specs.Walks.{Finds, Walks, ◌>>=◌}

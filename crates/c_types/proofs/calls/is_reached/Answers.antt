@@ -1,8 +1,8 @@
-use Rattle.std.proofs.Common.{◌≡◌, ◌∙◌, ap, sym, true, length, map, rules, arith}
+use Rattle.std.proofs.Common.{◌≡◌, sym, true, length, map, rules, arith}
 use Rattle.std.proofs.lemmas.List.{length-map}
 use Rattle.call_graph.specs.Reaching.{leads}
 use Rattle.c_program.specs.Plain.{function_of}
-use Rattle.c_types.specs.CallRules.{any_below, is_led_to}
+use Rattle.c_types.specs.CallRules.{is_led_to}
 use Rattle.c_types.proofs.Numbers.{any_found}
 use Rattle.c_types.proofs.calls.is_reached.Goals as goal
 

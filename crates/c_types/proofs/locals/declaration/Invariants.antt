@@ -1,6 +1,5 @@
 use Rattle.std.proofs.Common.{◌≡◌, map, take, ◌++◌, ◌∷◌, []}
 use Rattle.c_program.specs.Plain.{statement_of}
-use Rattle.c_rules.specs.Specifiers.{spelled_by}
 use Rattle.c_rules.specs.Walks.{Outcome, through, pure, ◌>>=◌}
 use Rattle.c_types.specs.States.{state}
 use Rattle.c_types.specs.Locals.{declarator}

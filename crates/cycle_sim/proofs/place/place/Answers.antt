@@ -26,9 +26,12 @@ loop-number-preserved c =
     let new = c.push_part.new.placed in
     let more = placed_more modules ks cs old.parts.items old.numbers.items old.free.items old.words.items old.starts.items c.loop-number.invariant.placed kind child at below in
     let e = c.in_ok-push_part.ensures in
-    let a = subst (λ (ps : List Part). IsPlaced modules ks cs ps (old.numbers.items ++ numbers_of o) (old.free.items ++ frees_of o) (old.words.items ++ words_of o) (old.starts.items ++ starts_of (length old.words.items) o)) (sym e.parts) more in
-    let b = subst (λ (ns : List ℕ). IsPlaced modules ks cs new.parts.items ns (old.free.items ++ frees_of o) (old.words.items ++ words_of o) (old.starts.items ++ starts_of (length old.words.items) o)) (sym e.numbers) a in
-    let d = subst (λ (fs : List Bool). IsPlaced modules ks cs new.parts.items new.numbers.items fs (old.words.items ++ words_of o) (old.starts.items ++ starts_of (length old.words.items) o)) (sym e.free) b in
+    let a = subst (λ (ps : List Part). IsPlaced modules ks cs ps (old.numbers.items ++ numbers_of o) (old.free.items ++ frees_of o) (old.words.items ++ words_of o)
+    (old.starts.items ++ starts_of (length old.words.items) o)) (sym e.parts) more in
+    let b = subst (λ (ns : List ℕ). IsPlaced modules ks cs new.parts.items ns (old.free.items ++ frees_of o) (old.words.items ++ words_of o)
+    (old.starts.items ++ starts_of (length old.words.items) o)) (sym e.numbers) a in
+    let d = subst (λ (fs : List Bool). IsPlaced modules ks cs new.parts.items new.numbers.items fs (old.words.items ++ words_of o)
+    (old.starts.items ++ starts_of (length old.words.items) o)) (sym e.free) b in
     let f = subst (λ (ws : List ℕ). IsPlaced modules ks cs new.parts.items new.numbers.items new.free.items ws (old.starts.items ++ starts_of (length old.words.items) o)) (sym e.words) d in
     record {
       placed = subst (λ (ss : List ℕ). IsPlaced modules ks cs new.parts.items new.numbers.items new.free.items new.words.items ss) (sym e.starts) f;

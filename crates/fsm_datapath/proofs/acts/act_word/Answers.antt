@@ -1,6 +1,6 @@
-use Rattle.std.proofs.Common.{ℕ, List, sym, subst, to_z, of_z}
+use Rattle.std.proofs.Common.{List, sym, subst, to_z, of_z}
 use Rattle.hls_ints.specs.Types.{IntegerType}
-use Rattle.operator_wires.specs.Built.{AddsWord}
+use Rattle.operator_wires.specs.Built.{Base, AddsWord}
 use Rattle.operator_wires.proofs.Making.{of_ok}
 use Rattle.block_datapath.specs.Wired.{AreRegisters}
 use Rattle.fsm_datapath.specs.Wired.{AreSlots}
@@ -22,9 +22,9 @@ pub returns-in-Variable : goal.returns-in-Variable
 returns-in-Variable c =
     variable_act c.variable_word.result c.args.wires.now.signals c.variable_word.new.wires.signals c.args.code.now c.args.registers.now c.args.operand c.in-Variable.number c.in-Variable.ty
     c.as_slice.result.now c.as_slice.ensures c.in-Variable.is c.variable_word.ensures.shows
-    (of_ok c.variable_word.result (λ out. (least : ℕ) → AreRegisters c.args.wires.now.signals least c.as_slice.result.now c.args.registers.now
-    → AddsWord least c.args.wires.now.signals c.variable_word.new.wires.signals c.in-Variable.ty out)
-    (λ out. (least : ℕ) → AreSlots least c.args.wires.now.signals c.args.code.now c.args.registers.now
-    → AddsWord least c.args.wires.now.signals c.variable_word.new.wires.signals c.in-Variable.ty out)
-    (λ out t least slots. t least (subst (λ (z : List IntegerType). AreRegisters c.args.wires.now.signals least z c.args.registers.now) (sym c.as_slice.ensures)
-    (registers_of least c.args.wires.now.signals c.args.code.now c.args.registers.now slots))) c.variable_word.ensures.wired)
+    (of_ok c.variable_word.result (λ out. (base : Base) → AreRegisters c.args.wires.now.signals base c.as_slice.result.now c.args.registers.now
+    → AddsWord base c.args.wires.now.signals c.variable_word.new.wires.signals c.in-Variable.ty out)
+    (λ out. (base : Base) → AreSlots base c.args.wires.now.signals c.args.code.now c.args.registers.now
+    → AddsWord base c.args.wires.now.signals c.variable_word.new.wires.signals c.in-Variable.ty out)
+    (λ out t base slots. t base (subst (λ (z : List IntegerType). AreRegisters c.args.wires.now.signals base z c.args.registers.now) (sym c.as_slice.ensures)
+    (registers_of base c.args.wires.now.signals c.args.code.now c.args.registers.now slots))) c.variable_word.ensures.wired)

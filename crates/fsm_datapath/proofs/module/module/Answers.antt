@@ -16,7 +16,8 @@ returns-clause-runs c =
 pub returns-clause-leaf : goal.returns-clause-leaf
 returns-clause-leaf c =
     of_ok c.assembled.result (IsModule c.args.shape.now c.args.code.now c.args.planned.now) (IsLeafOfPlainCode c.args.shape.now c.args.code.now c.args.planned.now)
-    (λ m t printer plain. leaf_is c.args.shape.now c.args.code.now c.args.planned.now printer m t plain (checked_is c.args.shape.now c.args.code.now c.args.planned.now printer m t plain)) c.assembled.ensures
+    (λ m t printer plain. leaf_is c.args.shape.now c.args.code.now c.args.planned.now printer m t plain
+    (checked_is c.args.shape.now c.args.code.now c.args.planned.now printer m t plain)) c.assembled.ensures
 
 pub returns-clause-shape : goal.returns-clause-shape
 returns-clause-shape c =

@@ -1,6 +1,5 @@
-use Rattle.std.proofs.Common.{◌≡◌, ◌+◌, ap, arith, Some}
 use Rattle.operator_wires.specs.declared.wires.Role.TheVariants.{Done}
-use Rattle.fsm_datapath.proofs.Wiring.{laid_long, output_behind, done_tells}
+use Rattle.fsm_datapath.proofs.Wiring.{output_behind, done_tells}
 use Rattle.fsm_datapath.proofs.outputs.lay_done.Goals as goal
 
 pub returns-in_ok-output-clause-named : goal.returns-in_ok-output-clause-named

@@ -1,6 +1,5 @@
-use Rattle.std.proofs.Common.{◌≡◌, ◌+◌, ◌≤◌, ◌^◌, true, length, sym, ap, subst, ◌∙◌}
+use Rattle.std.proofs.Common.{◌≡◌, ◌+◌, true, length}
 use Rattle.block_datapath.proofs.Chaining.{on_ok}
-use Rattle.operator_wires.specs.declared.wires.Role.TheVariants.{Need}
 use Rattle.fsm_datapath.specs.Outputs.{LaysDone, LaysOutputs}
 use Rattle.fsm_datapath.specs.Wired.{Behind, IsNamedOutput}
 use Rattle.fsm_datapath.proofs.Closing.{outputs_laid}

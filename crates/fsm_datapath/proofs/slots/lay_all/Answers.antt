@@ -11,7 +11,9 @@ loop-width-preserved c = record {
       c.in_ok-held.held c.loop-width.invariant.laid (got c.args.widths.now c.loop-width.width-index _ c.loop-width-test.true) c.in_ok-held.ensures.lays c.in_ok-push.ensures.ok;
   wired = λ many fit.
       let own = fit c.loop-width.width-index _ (got c.args.widths.now c.loop-width.width-index _ c.loop-width-test.true) in
-      behind_then IsSlotRegister c.args.wires.now.signals c.loop-width.wires.signals c.lay_register.new.wires.signals (stands_grow c.loop-width.wires.signals c.lay_register.new.wires.signals _ c.in_ok-held.held.register _ c.in_ok-held.ensures.lays.stands) (c.loop-width.invariant.wired many fit)
+      behind_then IsSlotRegister c.args.wires.now.signals c.loop-width.wires.signals c.lay_register.new.wires.signals
+      (stands_grow c.loop-width.wires.signals c.lay_register.new.wires.signals _ c.in_ok-held.held.register _ c.in_ok-held.ensures.lays.stands)
+      (c.loop-width.invariant.wired many fit)
       (c.in_ok-held.ensures.wired many (power_some _) own.0 own.1);
 }
 

@@ -1,4 +1,10 @@
-use Rattle.std.proofs.Common.{List, refl, sym, subst}
+use Rattle.std.proofs.Common.{List, Some, refl, sym, subst}
+use Rattle.block_ir.specs.declared.plan.StagePlan.TheVariants as planned
+use Rattle.block_datapath.proofs.Chaining.{on_ok}
+use Rattle.fsm_datapath.specs.Cells.{StoresBlock}
+use Rattle.fsm_datapath.proofs.Blocks.{block_stores}
+use Rattle.fsm_datapath.specs.Stores.{StageKeepsStores}
+use Rattle.fsm_datapath.proofs.Storing.{run_stored}
 use Rattle.block_datapath.specs.declared.operands.Given.{Given}
 use Rattle.fsm_datapath.specs.Wired.{ValuesStand}
 use Rattle.fsm_datapath.specs.declared.chains.Chains.{Chains}
@@ -21,13 +27,43 @@ returns-clause-runs c =
     c.store_all.new.wires.signals c.lead.new.wires.signals c.args.chains.now middle c.lead.new.self c.in_ok-left.left refl c.in_ok-left.ensures.shows c.in_ok-store_all.ensures.grows t
     (run_linked c.args.code.now c.args.registers.now c.args.number c.args.plan.now c.args.wires.now.signals c.leave_block.new.wires.signals c.store_all.new.wires.signals
     c.lead.new.wires.signals c.args.chains.now middle c.lead.new.self c.in_ok-left.left refl c.in_ok-left.ensures.shows.count c.in_ok-left.ensures.shows.kept_count
-    (λ least slots room states variables kept.
-    block_linked least c.args.wires.now.signals c.leave_block.new.wires.signals c.args.registers.now c.leave_block.new.variables c.leave_block.new.kept c.in_ok-left.left
-    (c.in_ok-left.ensures.wired least (stage_fits least c.args.wires.now.signals c.args.code.now c.args.registers.now slots c.args.number c.args.plan.now room states)
-    (registers_of least c.args.wires.now.signals c.args.code.now c.args.registers.now slots)
-    (chains_of least c.args.wires.now.signals c.args.registers.now.variables c.args.chains.now.variables variables.0 variables.1)
-    (chains_of least c.args.wires.now.signals c.args.registers.now.kept c.args.chains.now.kept kept.0 kept.1)))
-    (λ least slots stand.
-    c.in_ok-store_all.ensures.wired least slots
-    (subst (λ (values : List Given). ValuesStand least c.leave_block.new.wires.signals values) (sym c.as_slice-given.ensures) stand)) u))
+    (λ base slots room states variables kept.
+    block_linked base c.args.wires.now.signals c.leave_block.new.wires.signals c.args.registers.now c.leave_block.new.variables c.leave_block.new.kept c.in_ok-left.left
+    (c.in_ok-left.ensures.wired base (stage_fits base c.args.wires.now.signals c.args.code.now c.args.registers.now slots c.args.number c.args.plan.now room states)
+    (registers_of base c.args.wires.now.signals c.args.code.now c.args.registers.now slots)
+    (chains_of base c.args.wires.now.signals c.args.registers.now.variables c.args.chains.now.variables variables.0 variables.1)
+    (chains_of base c.args.wires.now.signals c.args.registers.now.kept c.args.chains.now.kept kept.0 kept.1)))
+    (λ base slots stand bit few.
+    (c.in_ok-store_all.ensures.wired base slots
+    (subst (λ (values : List Given). ValuesStand base c.leave_block.new.wires.signals values) (sym c.as_slice-given.ensures) stand) bit few).wires) u))
     c.lead.ensures.leads c.lead.ensures.wired
+
+pub returns-clause-stores : goal.returns-clause-stores
+returns-clause-stores c =
+    let middle : Chains = record c.args.chains.now { variables = c.leave_block.new.variables; kept = c.leave_block.new.kept } in
+    on_ok c.lead.result (LeadsTo c.store_all.new.wires.signals c.lead.new.wires.signals middle c.lead.new.self c.in_ok-left.left.last c.in_ok-left.left.target)
+    (StageKeepsStores c.args.code.now c.args.registers.now c.args.number (Some (planned.Run c.args.plan.now)) c.args.wires.now.signals c.lead.new.wires.signals c.args.chains.now c.args.stores.now
+    c.store_all.new.stores)
+    (λ t.
+    run_stored c.args.code.now c.args.registers.now c.args.number c.args.plan.now c.args.wires.now.signals c.leave_block.new.wires.signals c.store_all.new.wires.signals
+    c.lead.new.wires.signals c.args.chains.now c.leave_block.new.variables c.leave_block.new.kept c.in_ok-left.left c.as_slice-given.result.now c.args.stores.now c.store_all.new.stores
+    (λ base slots room states variables kept.
+    block_linked base c.args.wires.now.signals c.leave_block.new.wires.signals c.args.registers.now c.leave_block.new.variables c.leave_block.new.kept c.in_ok-left.left
+    (c.in_ok-left.ensures.wired base (stage_fits base c.args.wires.now.signals c.args.code.now c.args.registers.now slots c.args.number c.args.plan.now room states)
+    (registers_of base c.args.wires.now.signals c.args.code.now c.args.registers.now slots)
+    (chains_of base c.args.wires.now.signals c.args.registers.now.variables c.args.chains.now.variables variables.0 variables.1)
+    (chains_of base c.args.wires.now.signals c.args.registers.now.kept c.args.chains.now.kept kept.0 kept.1)))
+    c.as_slice-given.ensures c.in_ok-store_all.ensures.wired t.grows)
+    c.lead.ensures.leads
+
+pub returns-clause-puts : goal.returns-clause-puts
+returns-clause-puts c =
+    let middle : Chains = record c.args.chains.now { variables = c.leave_block.new.variables; kept = c.leave_block.new.kept } in
+    on_ok c.lead.result (LeadsTo c.store_all.new.wires.signals c.lead.new.wires.signals middle c.lead.new.self c.in_ok-left.left.last c.in_ok-left.left.target)
+    (StoresBlock c.args.globals.now c.args.code.now c.args.registers.now c.args.number c.args.block.now c.args.plan.now c.args.wires.now.signals c.lead.new.wires.signals c.args.stores.now
+    c.store_all.new.stores)
+    (λ t.
+    block_stores c.args.globals.now c.args.code.now c.args.registers.now c.args.number c.args.block.now c.args.plan.now c.args.wires.now.signals c.leave_block.new.wires.signals
+    c.store_all.new.wires.signals c.lead.new.wires.signals c.args.chains.now.variables c.leave_block.new.variables c.args.chains.now.kept c.leave_block.new.kept c.in_ok-left.left
+    c.as_slice-given.result.now c.as_slice-given.ensures c.args.stores.now c.store_all.new.stores c.in_ok-left.ensures.shows c.in_ok-store_all.ensures.puts t.grows)
+    c.lead.ensures.leads

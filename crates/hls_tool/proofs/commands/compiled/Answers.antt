@@ -1,6 +1,5 @@
-use Rattle.std.proofs.Common.{Some, rules, subst, sym, ap, ◌∙◌}
+use Rattle.std.proofs.Common.{Some, rules, subst, sym}
 use Rattle.hls_words.specs.declared.task.Task.TheVariants.{Build}
-use Rattle.hls_compile.specs.declared.CompileError.TheVariants as error
 use Rattle.hls_io.specs.Causes.{Rose}
 use Rattle.hls_tool.specs.Inside.{StopsBy}
 use Rattle.hls_tool.proofs.RefusalLemmas.{stops}
@@ -9,5 +8,4 @@ use Rattle.hls_tool.proofs.commands.compiled.Goals as goal
 pub returns-clause-stop : goal.returns-clause-stop
 returns-clause-stop g c =
     subst (StopsBy (Some Build) (g.S.Source.left c.args.source.now) (Rose (g.S.Source.faults c.args.source.now) (g.S.Source.faults c.text_read.new.source))) (sym c.stop_of.ensures)
-    (stops (Some Build) (g.S.Source.left c.args.source.now) _ c.as_slice.result.now c.in-Err.error (search rules) c.in-Err.ensures.refused c.in-Err.ensures.unbuilt
-    (λ k is. λ same. c.in-Err.ensures.built (is ∙ ap error.NotBuilt same)))
+    (stops (Some Build) (g.S.Source.left c.args.source.now) _ c.as_slice.result.now c.in-Err.error (search rules) c.in-Err.ensures.refused c.in-Err.ensures.unbuilt tt)

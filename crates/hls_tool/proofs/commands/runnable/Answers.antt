@@ -8,5 +8,4 @@ use Rattle.hls_tool.proofs.commands.runnable.Goals as goal
 pub returns-clause-stop : goal.returns-clause-stop
 returns-clause-stop g c =
     subst (StopsBy (Some (Step 0)) (g.S.Source.left c.args.source.now) (Rose (g.S.Source.faults c.args.source.now) (g.S.Source.faults c.text_read.new.source))) (sym c.stop_of.ensures)
-    (stops (Some (Step 0)) (g.S.Source.left c.args.source.now) _ c.as_slice.result.now c.in-Err.error (search rules) c.in-Err.ensures.refused c.in-Err.ensures.unbuilt
-    (λ k is. tt))
+    (stops (Some (Step 0)) (g.S.Source.left c.args.source.now) _ c.as_slice.result.now c.in-Err.error (search rules) c.in-Err.ensures.refused c.in-Err.ensures.unbuilt tt)

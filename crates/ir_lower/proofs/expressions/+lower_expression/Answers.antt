@@ -12,10 +12,10 @@ returns-in_ok-value-in-Variable t c =
 
 pub returns-in_ok-value-in-Element : goal.returns-in_ok-value-in-Element
 returns-in_ok-value-in-Element t c =
-    element_at c.args.homes.now (expression_of c.deref.result.now) (expression_of c.args.expression.now) c.in-Element.storage c.in-Element.variable c.in-Element.field-2 c.in-Element.ty
+    element_at c.args.homes.now (expression_of c.deref.result.now) (expression_of c.args.expression.now) c.in-Element.storage c.in-Element.variable c.in-Element.length c.in-Element.ty
     c.args.block.now c.lower_expression.new.block c.load-in-Element.new.block c.in_ok-index-in-Element.index c.in_ok-value-in-Element.value c.target_at-target-in-Element.result
     (ap expression_of c.in-Element.is
-    ∙ ap (λ z. Expression.Element c.in-Element.storage c.in-Element.variable c.in-Element.field-2 c.in-Element.ty (expression_of z)) (sym c.deref.ensures))
+    ∙ ap (λ z. Expression.Element c.in-Element.storage c.in-Element.variable c.in-Element.length c.in-Element.ty (expression_of z)) (sym c.deref.ensures))
     c.in_ok-index-in-Element.ensures c.target_at-target-in-Element.ensures
     c.in_ok-value-in-Element.ensures.block c.in_ok-value-in-Element.ensures.value c.in_ok-value-in-Element.ensures.few
 

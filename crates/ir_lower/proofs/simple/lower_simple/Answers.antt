@@ -19,7 +19,8 @@ returns-in_ok-lower_assign-in-Assign c =
 
 pub returns-in_ok-lower_compound-in-Update : goal.returns-in_ok-lower_compound-in-Update
 returns-in_ok-lower_compound-in-Update c =
-    lowers_is c.args.around (Statement.Update c.in-Update.field-0 (place_of c.in-Update.place) c.in-Update.operator c.in-Update.ty (expression_of c.in-Update.right)) (statement_of c.args.statement.now)
+    lowers_is c.args.around (Statement.Update c.in-Update.field-0 (place_of c.in-Update.place) c.in-Update.operator c.in-Update.ty (expression_of c.in-Update.right))
+    (statement_of c.args.statement.now)
     c.args.code.now c.lower_compound.new.code (ap statement_of c.in-Update.is) (c.in_ok-lower_compound-in-Update.ensures c.in-Update.field-0 c.args.around)
 
 pub returns-in_ok-lower_return-in-Return : goal.returns-in_ok-lower_return-in-Return

@@ -10,7 +10,8 @@ loop-second-preserved c =
     let rows = c.args.footprints.now in (
       omega arith,
       none_with_more (row rows) c.args.first c.loop-second.second c.loop-second.invariant.1
-          (none_here (touches_of c.accesses.result.now) (touches_of c.accesses-in-loop-second.result.now) (row rows c.args.first) (row rows c.loop-second.second) c.least_conflict.result c.least_conflict.ensures c.in_default.is c.accesses.ensures c.accesses-in-loop-second.ensures),
+          (none_here (touches_of c.accesses.result.now) (touches_of c.accesses-in-loop-second.result.now) (row rows c.args.first)
+          (row rows c.loop-second.second) c.least_conflict.result c.least_conflict.ensures c.in_default.is c.accesses.ensures c.accesses-in-loop-second.ensures),
     )
 
 pub returns : goal.returns

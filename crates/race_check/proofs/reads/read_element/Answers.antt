@@ -10,7 +10,8 @@ pub returns-in-Ok : goal.returns-in-Ok
 returns-in-Ok c =
     let m = memory_of c.args.locals.now c.args.globals.now in
     IfOk-weaker c.load.result _ _
-    (λ r h. λ ty start own. indexed_ok m c.args.storage c.args.variable c.args.length ty (expression_of c.args.index.now) c.in-Ok.j start (touches_of c.args.list.now) _ (sym c.in-Ok.is ∙ c.index_of.ensures) own (h m))
+    (λ r h. λ ty start own. indexed_ok m c.args.storage c.args.variable c.args.length ty (expression_of c.args.index.now) c.in-Ok.j start (touches_of c.args.list.now) _
+    (sym c.in-Ok.is ∙ c.index_of.ensures) own (h m))
     c.load.ensures
 
 pub returns-in-Err : goal.returns-in-Err

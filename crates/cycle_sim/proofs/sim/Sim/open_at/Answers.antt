@@ -28,7 +28,11 @@ built-requires c =
     record {
       number = number;
       signal = found.signal;
-      is = record { listed = sym (ap (λ o. slice_get (signals_of o) number) c.requires.top.stands) ∙ subst (λ (ss : List Signal). slice_get ss number ≡ Some found.signal) c.module_signals.ensures found.listed; named = found.named };
+      is = record {
+        listed = sym (ap (λ o. slice_get (signals_of o) number) c.requires.top.stands) ∙ subst
+            (λ (ss : List Signal). slice_get ss number ≡ Some found.signal) c.module_signals.ensures found.listed;
+        named = found.named;
+      };
       stands = c.in_ok-done.ensures ∙ ap (λ b. b + number) base_is;
     } in
     let are : AreWires modules placed.parts.items (signals_of (slice_get modules c.args.top)) base c.args.prefs wires =

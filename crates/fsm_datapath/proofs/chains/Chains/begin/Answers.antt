@@ -1,5 +1,4 @@
 use Rattle.std.proofs.Common.{refl}
-use Rattle.operator_wires.proofs.Building.{room_of, longer}
 use Rattle.fsm_datapath.specs.declared.chains.Chains.{Chains}
 use Rattle.fsm_datapath.proofs.Beginning.{begin_made}
 use Rattle.fsm_datapath.proofs.Linked.{begun}
@@ -23,7 +22,7 @@ returns-clause-begins c =
     c.in_ok-needs.ensures.shows c.in_ok-waits.ensures.shows refl
 
 pub returns-clause-wired : goal.returns-clause-wired
-returns-clause-wired c = λ least site_width code slots low high each.
+returns-clause-wired c = λ base site_width code slots low high each.
     let chains : Chains = record {
       stage = c.args.registers.now.stage.register;
       variables = c.in_ok-variables.variables;
@@ -39,7 +38,7 @@ returns-clause-wired c = λ least site_width code slots low high each.
     c.args.registers.now c.args.field_widths.now c.as_slice.result.now c.as_slice-2.result.now chains
     c.as_slice.ensures c.as_slice-2.ensures c.in_ok-variables.ensures c.in_ok-kept.ensures c.in_ok-wants.ensures.shows c.in_ok-fields.ensures.more c.in_ok-is_last.ensures.shows
     c.in_ok-needs.ensures.shows c.in_ok-waits.ensures.shows refl in
-    begun least site_width c.args.wires.now.signals c.constant.new.self.signals c.zeros.new.wires.signals c.constant-2.new.self.signals c.constant-3.new.self.signals c.constant-4.new.self.signals
+    begun base site_width c.args.wires.now.signals c.constant.new.self.signals c.zeros.new.wires.signals c.constant-2.new.self.signals c.constant-3.new.self.signals c.constant-4.new.self.signals
     code c.args.registers.now c.args.field_widths.now c.as_slice.result.now c.as_slice-2.result.now chains c.as_slice.ensures c.as_slice-2.ensures c.in_ok-variables.ensures c.in_ok-kept.ensures
-    begins slots low high each (c.in_ok-wants.ensures.wired least) (c.in_ok-fields.ensures.wired least) (c.in_ok-is_last.ensures.wired least) (c.in_ok-needs.ensures.wired least)
-    (c.in_ok-waits.ensures.wired least) c.in_ok-wants.ensures.shows.grows c.in_ok-fields.ensures.more.grows c.in_ok-is_last.ensures.shows.grows c.in_ok-needs.ensures.shows.grows refl
+    begins slots low high each (c.in_ok-wants.ensures.wired base) (c.in_ok-fields.ensures.wired base) (c.in_ok-is_last.ensures.wired base) (c.in_ok-needs.ensures.wired base)
+    (c.in_ok-waits.ensures.wired base) c.in_ok-wants.ensures.shows.grows c.in_ok-fields.ensures.more.grows c.in_ok-is_last.ensures.shows.grows c.in_ok-needs.ensures.shows.grows refl

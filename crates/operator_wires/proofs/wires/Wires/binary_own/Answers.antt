@@ -123,32 +123,32 @@ returns-in-InclusiveOr-clause-shows c =
 pub returns-in-Multiply-clause-wired : goal.returns-in-Multiply-clause-wired
 returns-in-Multiply-clause-wired c =
     gate_adds c.gate.result c.args.self.now.signals c.gate.new.self.signals c.args.left c.args.right c.args.operator operator.Multiply gate.Multiply c.in-Multiply.is c.gate.ensures.wired (λ
-    s. refl) refl (λ least w p q. (p, q))
+    s. refl) refl (λ base w p q. (p, q))
 
 pub returns-in-Add-clause-wired : goal.returns-in-Add-clause-wired
 returns-in-Add-clause-wired c =
     gate_adds c.gate-in-Add.result c.args.self.now.signals c.gate-in-Add.new.self.signals c.args.left c.args.right c.args.operator operator.Add gate.Add c.in-Add.is
-    c.gate-in-Add.ensures.wired (λ s. refl) refl (λ least w p q. (p, q))
+    c.gate-in-Add.ensures.wired (λ s. refl) refl (λ base w p q. (p, q))
 
 pub returns-in-Subtract-clause-wired : goal.returns-in-Subtract-clause-wired
 returns-in-Subtract-clause-wired c =
     gate_adds c.gate-in-Subtract.result c.args.self.now.signals c.gate-in-Subtract.new.self.signals c.args.left c.args.right c.args.operator operator.Subtract gate.Subtract c.in-Subtract.is
-    c.gate-in-Subtract.ensures.wired (λ s. refl) refl (λ least w p q. (p, q))
+    c.gate-in-Subtract.ensures.wired (λ s. refl) refl (λ base w p q. (p, q))
 
 pub returns-in-And-clause-wired : goal.returns-in-And-clause-wired
 returns-in-And-clause-wired c =
     gate_adds c.gate-in-And.result c.args.self.now.signals c.gate-in-And.new.self.signals c.args.left c.args.right c.args.operator operator.And gate.And c.in-And.is
-    c.gate-in-And.ensures.wired (λ s. refl) refl (λ least w p q. (p, q))
+    c.gate-in-And.ensures.wired (λ s. refl) refl (λ base w p q. (p, q))
 
 pub returns-in-ExclusiveOr-clause-wired : goal.returns-in-ExclusiveOr-clause-wired
 returns-in-ExclusiveOr-clause-wired c =
     gate_adds c.gate-in-ExclusiveOr.result c.args.self.now.signals c.gate-in-ExclusiveOr.new.self.signals c.args.left c.args.right c.args.operator operator.ExclusiveOr gate.Xor
-    c.in-ExclusiveOr.is c.gate-in-ExclusiveOr.ensures.wired (λ s. refl) refl (λ least w p q. (p, q))
+    c.in-ExclusiveOr.is c.gate-in-ExclusiveOr.ensures.wired (λ s. refl) refl (λ base w p q. (p, q))
 
 pub returns-in-InclusiveOr-clause-wired : goal.returns-in-InclusiveOr-clause-wired
 returns-in-InclusiveOr-clause-wired c =
     gate_adds c.gate-in-InclusiveOr.result c.args.self.now.signals c.gate-in-InclusiveOr.new.self.signals c.args.left c.args.right c.args.operator operator.InclusiveOr gate.Or
-    c.in-InclusiveOr.is c.gate-in-InclusiveOr.ensures.wired (λ s. refl) refl (λ least w p q. (p, q))
+    c.in-InclusiveOr.is c.gate-in-InclusiveOr.ensures.wired (λ s. refl) refl (λ base w p q. (p, q))
 
 pub returns-in-ShiftLeft-clause-wired : goal.returns-in-ShiftLeft-clause-wired
 returns-in-ShiftLeft-clause-wired c =

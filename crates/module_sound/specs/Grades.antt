@@ -1,21 +1,16 @@
 -- The signals of a module in order: each reads earlier ones of right widths, never the clock, and none of a higher grade.
-use Rattle.std.specs.Prelude.{◌≡◌, ℕ, ◌<◌, ◌≤◌, ◌^◌, min, List, length, Option, Some, None, slice_get}
+use Rattle.std.specs.Prelude.{◌≡◌, ℕ, ◌<◌, ◌≤◌, ◌^◌, false, min, List, length, Some, slice_get}
 use Rattle.netlist.specs.declared.netlist.Value.{Value}
 use Rattle.netlist.specs.declared.netlist.Source.{Source}
 use Rattle.netlist.specs.declared.netlist.Source.TheVariants.{Input, Register, Assigned, Port}
 use Rattle.netlist.specs.declared.netlist.Signal.{Signal}
-use Rattle.netlist.specs.declared.netlist.Memory.{Memory}
 use Rattle.netlist.specs.declared.netlist.Effect.{Effect}
-use Rattle.netlist.specs.declared.netlist.Effect.TheVariants as effect
 use Rattle.netlist.specs.declared.netlist.Action.{Action}
 use Rattle.netlist.specs.declared.netlist.Module.{Module}
+use Rattle.netlist.specs.Sound.{is_write}
 use Rattle.circuit.specs.Rows.{EachOf}
 use Rattle.circuit.specs.Modules.{Has, FitsValue, FitsEffect}
 use Rattle.leaf_machine.specs.Settled.{effect_operands}
-
--- no memory is read
-abbrev pub no_memory : ℕ → Option Memory
-no_memory j = None
 
 module _ (m : Module) (grades : List ℕ) (x : ℕ) where
   -- signal y, which is not the clock, has this width, stands before signal x, and its grade is at most g
@@ -29,7 +24,7 @@ module _ (m : Module) (grades : List ℕ) (x : ℕ) where
 
   -- a right side of a signal of grade g and width w
   abbrev pub IsRightSide : ℕ → ℕ → Value → Type 0
-  IsRightSide w g v = FitsValue (IsOperand g) no_memory w v
+  IsRightSide w g v = FitsValue (IsOperand g) (λ j. slice_get m.memories j) w v
 
   abbrev pub IsGradedSource : ℕ → ℕ → ℕ → Source → Type 0
   IsGradedSource inputs w g Input = (x < inputs) × (g ≡ min x 2)
@@ -48,11 +43,11 @@ pub record AreGrades (m : Module) (inputs n : ℕ) (grades : List ℕ) : Type 0 
   pub count : length grades ≡ n
   pub each : (x : ℕ) (s : Signal) → x < n → slice_get m.signals x ≡ Some s → (g : ℕ) × (slice_get grades x ≡ Some g) × IsGradedSignal m grades x inputs g s
 
--- an effect sets a register to a number of its width, which is not the clock's
+-- an effect sets a register, or stores in a memory, a number of its width, and neither the number nor the address is the clock's
 pub record SetsRight (m : Module) (e : Effect) : Type 0 where
   pub fits : FitsEffect m e
   pub unclocked : EachOf (λ x. 0 < x) (effect_operands e)
-  pub sets : (x : ℕ) × (y : ℕ) × (e ≡ effect.Set x y)
+  pub silent : is_write e ≡ false
 
 -- a statement does so, under conditions of one bit
 pub record ActsRight (m : Module) (a : Action) : Type 0 where
