@@ -3,3 +3,4 @@ pub mod Locals
 pub mod Slots
 pub mod Steps
 pub mod Walking
+pub mod Ends

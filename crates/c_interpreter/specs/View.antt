@@ -1,7 +1,10 @@
 -- What the code's states stand for.
-use Rattle.std.specs.Prelude.{map}
-use Rattle.c_evaluation.specs.Outcome.{rows_of}
+use Rattle.std.specs.Prelude.{List, map, drop, ℤ, Vec}
+use Rattle.std.specs.declared.alloc.Global.{Global}
+use Rattle.c_evaluation.specs.Outcome.{rows_of, memory_of}
 use Rattle.c_evaluation.specs.View.{work_of}
+use Rattle.thread_semantics.specs.Memory.{Memory}
+use Rattle.thread_semantics.specs.Work.{Work}
 use Rattle.thread_semantics.specs.State.{Frame, Slot, Unused, Running, Finished, Barrier, NoBarrier, Awaits, State}
 use Rattle.c_interpreter.specs.declared.state.Frame.{Frame as FrameCode}
 use Rattle.c_interpreter.specs.declared.state.Slot.{Slot as SlotCode}
@@ -17,6 +20,14 @@ frame_of f = record {
   work = work_of f.work.items;
   kept = f.kept.items;
 }
+
+-- the memory that a call sees over these globals
+abbrev pub memory_in : FrameCode → List (Vec ℤ Global) → Memory
+memory_in f globals = memory_of f.locals.items globals
+
+-- the work of a call after its first item
+abbrev pub later_work : FrameCode → List Work
+later_work f = drop 1 (work_of f.work.items)
 
 abbrev pub slot_of : SlotCode → Slot
 slot_of slot.Unused = Unused

@@ -35,6 +35,13 @@ IsWalk P list (ends.Blocked index thread cause) output =
 IsWalk P list (ends.Undefined index offset cause) output =
     Prints (λ s. (thread : ℕ) × Comes P list index thread s (Undefines offset cause)) output
 
+-- a list has one end, and one output
+abbrev pub WalksOnce : Program → Type 0
+WalksOnce P = (list : Numbers) (e f : WalkEnd) (x y : Numbers) → IsWalk P list e x → IsWalk P list f y → (e ≡ f) × (x ≡ y)
+
+abbrev pub EachWalkEnds : Program → Type 0
+EachWalkEnds P = (list : Numbers) → (end : WalkEnd) × (output : Numbers) × IsWalk P list end output
+
 -- A walk under way.
 
 -- the first n listed steps lead to the state s, and main hasn't returned there

@@ -2,7 +2,8 @@
 ghost use Rattle.std.specs.Prelude.{◌≡◌, ◌++◌, ◌∷◌, ℕ, map, slice_get, Some, None, IfOk, MatchOption};
 ghost use Rattle.c_program.specs.Plain.{piece_of, pieces_of, program_of};
 ghost use Rattle.thread_semantics.specs.State.{State as States, Running};
-ghost use Rattle.thread_semantics.specs.Step.{printed, created, joined, mutex_initialised, mutex_destroyed, mutex_locked, mutex_unlocked, is_count, barrier_initialised, barrier_destroyed, barrier_met, object_operand, value_operand, acted, with_slot};
+ghost use Rattle.thread_semantics.specs.Step.{printed, created, joined, mutex_initialised, mutex_destroyed, mutex_locked, mutex_unlocked};
+ghost use Rattle.thread_semantics.specs.Step.{is_count, barrier_initialised, barrier_destroyed, barrier_met, object_operand, value_operand, acted, with_slot};
 ghost use Rattle.c_evaluation.specs.View.{act_of};
 ghost use Rattle.c_interpreter.specs.View.{slot_of, barrier_of, state_of};
 ghost use Rattle.c_interpreter.specs.Plan.{Callers};
@@ -84,7 +85,8 @@ fn create<'p>(
     routine: u32,
     argument: i128,
 ) -> Result<Effect<'p>, AllocError>
-    ensures { IfOk result (λ e. (s : States) (offset : ℕ) → effect_of e s offset ≡ created (program_of program.now) s offset routine argument n (slice_get (map slot_of slots.now) n)) }
+    ensures { IfOk result (λ e. (s : States) (offset : ℕ) → effect_of e s offset
+        ≡ created (program_of program.now) s offset routine argument n (slice_get (map slot_of slots.now) n)) }
 {
     match slot_at(slots, n) {
         Some(Slot::Unused) => {
@@ -279,7 +281,9 @@ pub(crate) fn effect_of_act<'p>(
     act: Act<'p>,
     operands: &[i128],
 ) -> Result<Effect<'p>, AllocError>
-    ensures { IfOk result (λ e. (old new : Callers) (offset : ℕ) → slice_get (state_of s.now).slots i ≡ Some (Running old) → effect_of e (with_slot (state_of s.now) i (Running new)) offset ≡ acted (program_of program.now) (with_slot (state_of s.now) i (Running new)) i offset (act_of act.entry) operands.now) }
+    ensures { IfOk result (λ e. (old new : Callers) (offset : ℕ) → slice_get (state_of s.now).slots i ≡ Some (Running old)
+        → effect_of e (with_slot (state_of s.now) i (Running new)) offset
+        ≡ acted (program_of program.now) (with_slot (state_of s.now) i (Running new)) i offset (act_of act.entry) operands.now) }
 {
     let n = object_operand(operands);
     match act {

@@ -3,6 +3,7 @@
 #![tactic(auto)]
 
 pub mod act;
+pub mod law;
 pub mod memory;
 pub mod place;
 pub mod plan;

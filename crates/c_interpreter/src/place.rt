@@ -224,7 +224,8 @@ fn one_operand(
     locals: &[Vec<Option<i128>>],
     globals: &[Vec<i128>],
 ) -> Result<Result<Vec<i128>, UndefinedCause>, AllocError>
-    ensures { IfOk result (λ r. list_result r ≡ outcome (alone (object_number (first_of (program_of program.now) kind) (object_place_of place.now) (memory_of locals.now globals.now)))) }
+    ensures { IfOk result (λ r. list_result r
+        ≡ outcome (alone (object_number (first_of (program_of program.now) kind) (object_place_of place.now) (memory_of locals.now globals.now)))) }
 {
     match number(program, kind, place, locals, globals) {
         Err(cause) => Ok(Err(cause)),
@@ -246,7 +247,9 @@ fn two_operands(
     locals: &[Vec<Option<i128>>],
     globals: &[Vec<i128>],
 ) -> Result<Result<Vec<i128>, UndefinedCause>, AllocError>
-    ensures { IfOk result (λ r. list_result r ≡ outcome (with_operand (object_number (first_of (program_of program.now) kind) (object_place_of place.now) (memory_of locals.now globals.now)) (expression_of operand.now) (memory_of locals.now globals.now))) }
+    ensures { IfOk result (λ r. list_result r
+        ≡ outcome (with_operand (object_number (first_of (program_of program.now) kind) (object_place_of place.now)
+        (memory_of locals.now globals.now)) (expression_of operand.now) (memory_of locals.now globals.now))) }
 {
     match number(program, kind, place, locals, globals) {
         Err(cause) => Ok(Err(cause)),

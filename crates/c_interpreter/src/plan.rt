@@ -5,10 +5,11 @@ ghost use Rattle.c_program.specs.Plain.{expression_of, expressions_of, condition
 ghost use Rattle.thread_semantics.specs.Memory.{Evaluation};
 ghost use Rattle.thread_semantics.specs.Value.{value, values};
 ghost use Rattle.thread_semantics.specs.Work.{settled, Onward};
-ghost use Rattle.thread_semantics.specs.Move.{Assignment as Assignments, moving, stored, called, prepared, returned, statement_move, store_move, hand_move, work_move, end_offset, going_on, act_of as act_of_call, Acts};
+ghost use Rattle.thread_semantics.specs.Move.{Assignment as Assignments, moving, stored, called, prepared, returned, statement_move};
+ghost use Rattle.thread_semantics.specs.Move.{store_move, hand_move, work_move, end_offset, going_on, act_of as act_of_call, Acts};
 ghost use Rattle.c_evaluation.specs.Outcome.{outcome, memory_of, rows_of, list_result};
 ghost use Rattle.c_evaluation.specs.View.{item_of, act_of, work_of};
-ghost use Rattle.c_interpreter.specs.View.{frame_of};
+ghost use Rattle.c_interpreter.specs.View.{frame_of, memory_in, later_work};
 ghost use Rattle.c_interpreter.specs.Change.{ok_of, assignment_view};
 ghost use Rattle.c_interpreter.specs.Plan.{Integers, Callers, erased, going, plan_of, assign_move, return_move, ask_move};
 
@@ -47,7 +48,8 @@ pub(crate) fn rest_of<'p>(work: &VecDeque<Item<'p>>) -> Result<VecDeque<Item<'p>
 
 /// The innermost call goes on after its first item.
 fn go_on<'p>(alloc: Global, frame: &Frame<'p>, change: Change) -> Result<Plan<'p>, AllocError>
-    ensures { IfOk result (λ m. (P : Programs) (fs : Callers) → plan_of P m (frame_of frame.now) fs ≡ going change (settled Onward (drop 1 (work_of frame.now.work.items))) [] (frame_of frame.now) fs) }
+    ensures { IfOk result (λ m. (P : Programs) (fs : Callers) → plan_of P m (frame_of frame.now) fs
+        ≡ going change (settled Onward (later_work frame.now)) [] (frame_of frame.now) fs) }
 {
     let mut work = rest_of(&frame.work)?;
     settle(&mut work)?;
@@ -61,7 +63,8 @@ fn store<'p>(
     offset: u32,
     assignment: Result<Assignment, UndefinedCause>,
 ) -> Result<Plan<'p>, AllocError>
-    ensures { IfOk result (λ m. (P : Programs) (fs : Callers) (e : Evaluation Assignments) → ok_of assignment_view assignment ≡ outcome e → plan_of P m (frame_of frame.now) fs ≡ erased (stored offset e (frame_of frame.now) fs (drop 1 (work_of frame.now.work.items)))) }
+    ensures { IfOk result (λ m. (P : Programs) (fs : Callers) (e : Evaluation Assignments) → ok_of assignment_view assignment ≡ outcome e
+        → plan_of P m (frame_of frame.now) fs ≡ erased (stored offset e (frame_of frame.now) fs (later_work frame.now))) }
 {
     match assignment {
         Ok(assignment) => go_on(alloc, frame, Change::Stored(assignment)),
@@ -80,7 +83,9 @@ fn call<'p>(
     arguments: &[Expression],
     waiting: Item<'p>,
 ) -> Result<Plan<'p>, AllocError>
-    ensures { IfOk result (λ m. (fs : Callers) → plan_of (program_of program.now) m (frame_of frame.now) fs ≡ erased (called (program_of program.now) offset function (expressions_of arguments.now) (memory_of frame.now.locals.items globals.now) (frame_of frame.now) fs (item_of waiting.entry ∷ drop 1 (work_of frame.now.work.items)))) }
+    ensures { IfOk result (λ m. (fs : Callers) → plan_of (program_of program.now) m (frame_of frame.now) fs
+        ≡ erased (called (program_of program.now) offset function (expressions_of arguments.now)
+        (memory_in frame.now globals.now) (frame_of frame.now) fs (item_of waiting.entry ∷ drop 1 (work_of frame.now.work.items)))) }
 {
     match evaluate_all(alloc, arguments, &frame.locals, globals)? {
         Err(cause) => Ok(Plan::Fault(offset, cause)),
@@ -103,7 +108,8 @@ fn prepare<'p>(
     act: Act<'p>,
     operands: Result<Vec<i128>, UndefinedCause>,
 ) -> Result<Plan<'p>, AllocError>
-    ensures { IfOk result (λ m. (P : Programs) (fs : Callers) (e : Evaluation Integers) → list_result operands ≡ outcome e → plan_of P m (frame_of frame.now) fs ≡ erased (prepared offset (act_of act.entry) e (frame_of frame.now) fs (drop 1 (work_of frame.now.work.items)))) }
+    ensures { IfOk result (λ m. (P : Programs) (fs : Callers) (e : Evaluation Integers) → list_result operands ≡ outcome e
+        → plan_of P m (frame_of frame.now) fs ≡ erased (prepared offset (act_of act.entry) e (frame_of frame.now) fs (later_work frame.now))) }
 {
     match operands {
         Err(cause) => Ok(Plan::Fault(offset, cause)),
@@ -122,7 +128,9 @@ fn return_value<'p>(
     frame: &Frame<'p>,
     globals: &[Vec<i128>],
 ) -> Plan<'p>
-    ensures { (P : Programs) (fs : Callers) → plan_of P result (frame_of frame.now) fs ≡ erased (moving offset (value (expression_of expression.now) (memory_of frame.now.locals.items globals.now)) (λ v reads. returned P offset (v ∷ []) reads (frame_of frame.now) fs)) }
+    ensures { (P : Programs) (fs : Callers) → plan_of P result (frame_of frame.now) fs
+        ≡ erased (moving offset (value (expression_of expression.now)
+        (memory_in frame.now globals.now)) (λ v reads. returned P offset (v ∷ []) reads (frame_of frame.now) fs)) }
 {
     match evaluate(expression, &frame.locals, globals) {
         Err(cause) => Plan::Fault(offset, cause),
@@ -157,7 +165,9 @@ fn assign<'p>(
     place: &'p Place,
     right: &'p RightSide,
 ) -> Result<Plan<'p>, AllocError>
-    ensures { IfOk result (λ m. (fs : Callers) → plan_of (program_of program.now) m (frame_of frame.now) fs ≡ erased (assign_move (program_of program.now) offset (place_of place.now) (right_side_of right.now) (memory_of frame.now.locals.items globals.now) (frame_of frame.now) fs (drop 1 (work_of frame.now.work.items)))) }
+    ensures { IfOk result (λ m. (fs : Callers) → plan_of (program_of program.now) m (frame_of frame.now) fs
+        ≡ erased (assign_move (program_of program.now) offset (place_of place.now) (right_side_of right.now)
+        (memory_in frame.now globals.now) (frame_of frame.now) fs (later_work frame.now))) }
 {
     match right {
         RightSide::Value(right) => {
@@ -182,7 +192,8 @@ fn return_plan<'p>(
     offset: u32,
     right: &'p Option<RightSide>,
 ) -> Result<Plan<'p>, AllocError>
-    ensures { IfOk result (λ m. (fs : Callers) → plan_of (program_of program.now) m (frame_of frame.now) fs ≡ erased (return_move (program_of program.now) offset (returned_of right.now) (memory_of frame.now.locals.items globals.now) (frame_of frame.now) fs (drop 1 (work_of frame.now.work.items)))) }
+    ensures { IfOk result (λ m. (fs : Callers) → plan_of (program_of program.now) m (frame_of frame.now) fs
+        ≡ erased (return_move (program_of program.now) offset (returned_of right.now) (memory_in frame.now globals.now) (frame_of frame.now) fs (later_work frame.now))) }
 {
     match right {
         None => Ok(Plan::Return(offset, None)),
@@ -204,7 +215,9 @@ fn statement_plan<'p>(
     globals: &[Vec<i128>],
     statement: &'p Statement,
 ) -> Result<Plan<'p>, AllocError>
-    ensures { IfOk result (λ m. (fs : Callers) → plan_of (program_of program.now) m (frame_of frame.now) fs ≡ erased (statement_move (program_of program.now) (memory_of frame.now.locals.items globals.now) (frame_of frame.now) fs (drop 1 (work_of frame.now.work.items)) (statement_of statement.now))) }
+    ensures { IfOk result (λ m. (fs : Callers) → plan_of (program_of program.now) m (frame_of frame.now) fs
+        ≡ erased (statement_move (program_of program.now)
+        (memory_in frame.now globals.now) (frame_of frame.now) fs (later_work frame.now) (statement_of statement.now))) }
 {
     match statement {
         Statement::Declare(_, x, _) => go_on(alloc, frame, Change::Blanked(*x)),
@@ -259,7 +272,8 @@ fn store_plan<'p>(
     offset: u32,
     place: &Place,
 ) -> Result<Plan<'p>, AllocError>
-    ensures { IfOk result (λ m. (P : Programs) (fs : Callers) → plan_of P m (frame_of frame.now) fs ≡ erased (store_move offset (place_of place.now) (memory_of frame.now.locals.items globals.now) (frame_of frame.now) fs (drop 1 (work_of frame.now.work.items)) frame.now.kept.items)) }
+    ensures { IfOk result (λ m. (P : Programs) (fs : Callers) → plan_of P m (frame_of frame.now) fs
+        ≡ erased (store_move offset (place_of place.now) (memory_in frame.now globals.now) (frame_of frame.now) fs (later_work frame.now) frame.now.kept.items)) }
 {
     match frame.kept.first() {
         None => Ok(Plan::Fault(offset, UndefinedCause::NoValue)),
@@ -287,7 +301,8 @@ fn ask_plan<'p>(
     globals: &[Vec<i128>],
     condition: &'p Condition,
 ) -> Result<Plan<'p>, AllocError>
-    ensures { IfOk result (λ m. (P : Programs) (fs : Callers) → plan_of P m (frame_of frame.now) fs ≡ erased (ask_move (condition_of condition.now) (memory_of frame.now.locals.items globals.now) (frame_of frame.now) fs (drop 1 (work_of frame.now.work.items)))) }
+    ensures { IfOk result (λ m. (P : Programs) (fs : Callers) → plan_of P m (frame_of frame.now) fs
+        ≡ erased (ask_move (condition_of condition.now) (memory_in frame.now globals.now) (frame_of frame.now) fs (later_work frame.now))) }
 {
     let mut work = rest_of(&frame.work)?;
     let (offset, operand) = first_operand(condition, &mut work)?;
@@ -302,7 +317,8 @@ fn ask_plan<'p>(
 
 /// An act is next.
 fn act_plan<'p>(frame: &Frame<'p>, offset: u32, act: Act<'p>) -> Result<Plan<'p>, AllocError>
-    ensures { IfOk result (λ m. (P : Programs) (fs : Callers) → plan_of P m (frame_of frame.now) fs ≡ Acts offset (act_of act.entry) frame.now.kept.items (going_on (frame_of frame.now) (drop 1 (work_of frame.now.work.items)) ∷ fs)) }
+    ensures { IfOk result (λ m. (P : Programs) (fs : Callers) → plan_of P m (frame_of frame.now) fs
+        ≡ Acts offset (act_of act.entry) frame.now.kept.items (going_on (frame_of frame.now) (later_work frame.now) ∷ fs)) }
 {
     let mut work = rest_of(&frame.work)?;
     settle(&mut work)?;
@@ -326,7 +342,8 @@ pub(crate) fn next_plan<'p>(
     frame: &Frame<'p>,
     globals: &[Vec<i128>],
 ) -> Result<Plan<'p>, AllocError>
-    ensures { IfOk result (λ m. (fs : Callers) → plan_of (program_of program.now) m (frame_of frame.now) fs ≡ erased (work_move (program_of program.now) (memory_of frame.now.locals.items globals.now) (frame_of frame.now) fs (work_of frame.now.work.items))) }
+    ensures { IfOk result (λ m. (fs : Callers) → plan_of (program_of program.now) m (frame_of frame.now) fs
+        ≡ erased (work_move (program_of program.now) (memory_in frame.now globals.now) (frame_of frame.now) fs (work_of frame.now.work.items))) }
 {
     match frame.work.front() {
         None => Ok(Plan::Return(end_of(program, frame.function), None)),

@@ -73,8 +73,10 @@ fn slot_goes_on<'p>(
     kept: Vec<i128>,
     change: Change,
 )
-    ensures slot { (f : Frames) (fs : Callers) → slot_of slot.old ≡ Running (f ∷ fs) → slot_of slot.new ≡ Running (gone_on change (work_of work.entry.items) kept.items f ∷ fs) }
-    ensures globals { (f : Frames) (fs : Callers) → slot_of slot.old ≡ Running (f ∷ fs) → rows_of globals.new.items ≡ written_to (rows_of globals.old.items) (change_write change) }
+    ensures slot { (f : Frames) (fs : Callers) → slot_of slot.old ≡ Running (f ∷ fs)
+        → slot_of slot.new ≡ Running (gone_on change (work_of work.entry.items) kept.items f ∷ fs) }
+    ensures globals { (f : Frames) (fs : Callers) → slot_of slot.old ≡ Running (f ∷ fs)
+        → rows_of globals.new.items ≡ written_to (rows_of globals.old.items) (change_write change) }
 {
     if let Slot::Running(frames) = slot {
         if let Some(frame) = frames.front_mut() {
@@ -100,7 +102,8 @@ fn slot_enters<'p>(
     work: VecDeque<Item<'p>>,
     callee: Frame<'p>,
 ) -> Result<(), AllocError>
-    ensures entered { IfOk result (λ _. (f : Frames) (fs : Callers) → slot_of slot.old ≡ Running (f ∷ fs) → slot_of slot.new ≡ Running (frame_of callee.entry ∷ waiting (work_of work.entry.items) f ∷ fs)) }
+    ensures entered { IfOk result (λ _. (f : Frames) (fs : Callers) → slot_of slot.old ≡ Running (f ∷ fs) → slot_of slot.new
+        ≡ Running (frame_of callee.entry ∷ waiting (work_of work.entry.items) f ∷ fs)) }
     ensures unchanged { OnErr result (slot_of slot.new ≡ slot_of slot.old) }
 {
     if let Slot::Running(frames) = slot {
@@ -152,7 +155,8 @@ fn put_barrier(barriers: &mut Vec<Barrier>, n: u128, barrier: Barrier)
 
 /// The innermost call of thread i goes on.
 fn goes_on<'p>(s: &mut State<'p>, i: u32, work: VecDeque<Item<'p>>, kept: Vec<i128>, change: Change)
-    ensures { (f : Frames) (fs : Callers) → slice_get (state_of s.old).slots i ≡ Some (Running (f ∷ fs)) → state_of s.new ≡ with_frames (state_of s.old) i (change_write change) (gone_on change (work_of work.entry.items) kept.items f ∷ fs) }
+    ensures { (f : Frames) (fs : Callers) → slice_get (state_of s.old).slots i ≡ Some (Running (f ∷ fs)) → state_of s.new
+        ≡ with_frames (state_of s.old) i (change_write change) (gone_on change (work_of work.entry.items) kept.items f ∷ fs) }
 {
     let k = i as usize;
     if k < s.slots.len() {
@@ -162,7 +166,8 @@ fn goes_on<'p>(s: &mut State<'p>, i: u32, work: VecDeque<Item<'p>>, kept: Vec<i1
 
 /// The innermost call of thread i waits with this work.
 fn waits_with<'p>(s: &mut State<'p>, i: u32, work: VecDeque<Item<'p>>)
-    ensures { (f : Frames) (fs : Callers) → slice_get (state_of s.old).slots i ≡ Some (Running (f ∷ fs)) → state_of s.new ≡ with_slot (state_of s.old) i (Running (waiting (work_of work.entry.items) f ∷ fs)) }
+    ensures { (f : Frames) (fs : Callers) → slice_get (state_of s.old).slots i ≡ Some (Running (f ∷ fs)) → state_of s.new
+        ≡ with_slot (state_of s.old) i (Running (waiting (work_of work.entry.items) f ∷ fs)) }
 {
     let k = i as usize;
     if k < s.slots.len() {
@@ -177,7 +182,8 @@ fn enters<'p>(
     work: VecDeque<Item<'p>>,
     callee: Frame<'p>,
 ) -> Result<(), AllocError>
-    ensures entered { IfOk result (λ _. (f : Frames) (fs : Callers) → slice_get (state_of s.old).slots i ≡ Some (Running (f ∷ fs)) → state_of s.new ≡ with_slot (state_of s.old) i (Running (frame_of callee.entry ∷ waiting (work_of work.entry.items) f ∷ fs))) }
+    ensures entered { IfOk result (λ _. (f : Frames) (fs : Callers) → slice_get (state_of s.old).slots i ≡ Some (Running (f ∷ fs)) → state_of s.new
+        ≡ with_slot (state_of s.old) i (Running (frame_of callee.entry ∷ waiting (work_of work.entry.items) f ∷ fs))) }
     ensures unchanged { OnErr result (state_of s.new ≡ state_of s.old) }
 {
     let k = i as usize;
@@ -189,7 +195,8 @@ fn enters<'p>(
 
 /// The innermost call of thread i ends, and its caller goes on.
 fn leaves<'p>(s: &mut State<'p>, i: u32, rest: Rest<'p>)
-    ensures { (f g : Frames) (gs : Callers) → slice_get (state_of s.old).slots i ≡ Some (Running (f ∷ g ∷ gs)) → state_of s.new ≡ with_slot (state_of s.old) i (Running (rest_frame rest.entry g ∷ gs)) }
+    ensures { (f g : Frames) (gs : Callers) → slice_get (state_of s.old).slots i ≡ Some (Running (f ∷ g ∷ gs)) → state_of s.new
+        ≡ with_slot (state_of s.old) i (Running (rest_frame rest.entry g ∷ gs)) }
 {
     let k = i as usize;
     if k < s.slots.len() {
@@ -199,7 +206,8 @@ fn leaves<'p>(s: &mut State<'p>, i: u32, rest: Rest<'p>)
 
 /// The calls of thread i, where it runs; the innermost is the first.
 pub fn running<'a, 'p>(slots: &'a [Slot<'p>], i: u128) -> Option<&'a VecDeque<Frame<'p>>>
-    ensures { MatchOption result ((fs : Callers) → slice_get (map slot_of slots.now) i ≢ Some (Running fs)) (λ frames. slice_get (map slot_of slots.now) i ≡ Some (Running (map frame_of frames.now.items))) }
+    ensures { MatchOption result ((fs : Callers)
+        → slice_get (map slot_of slots.now) i ≢ Some (Running fs)) (λ frames. slice_get (map slot_of slots.now) i ≡ Some (Running (map frame_of frames.now.items))) }
 {
     match slot_at(slots, i) {
         Some(Slot::Running(frames)) => Some(frames),
@@ -311,7 +319,8 @@ fn resumption<'p>(
     i: u32,
     value: Option<i128>,
 ) -> Result<Option<Rest<'p>>, AllocError>
-    ensures { IfOk result (λ r. (f : Frames) (fs : Callers) → slice_get (map slot_of slots.now) i ≡ Some (Running (f ∷ fs)) → Resumes (program_of program.now) (option_to_list value) f fs r) }
+    ensures { IfOk result (λ r. (f : Frames) (fs : Callers) → slice_get (map slot_of slots.now) i ≡ Some (Running (f ∷ fs))
+        → Resumes (program_of program.now) (option_to_list value) f fs r) }
 {
     let Some(frames) = running(slots, i as u128) else {
         return Ok(None);
@@ -393,7 +402,9 @@ fn returns<'p>(
     offset: u32,
     value: Option<i128>,
 ) -> Result<Stepped, AllocError>
-    ensures step { IfOk result (λ r. (f : Frames) (fs : Callers) → slice_get (state_of s.old).slots i ≡ Some (Running (f ∷ fs)) → stepped_of r (state_of s.new) ≡ moved (program_of program.now) (state_of s.old) i (erased (returned (program_of program.now) offset (option_to_list value) [] f fs))) }
+    ensures step { IfOk result (λ r. (f : Frames) (fs : Callers) → slice_get (state_of s.old).slots i ≡ Some (Running (f ∷ fs))
+        → stepped_of r (state_of s.new) ≡ moved (program_of program.now) (state_of s.old) i
+        (erased (returned (program_of program.now) offset (option_to_list value) [] f fs))) }
     ensures unchanged { IsKept result (state_of s.old) (state_of s.new) }
 {
     match resumption(alloc, program, &s.slots, i, value)? {
@@ -426,7 +437,8 @@ fn take_effect<'p>(
     effect: Effect<'p>,
     work: VecDeque<Item<'p>>,
 ) -> Result<Stepped, AllocError>
-    ensures step { IfOk result (λ r. (f : Frames) (fs : Callers) → slice_get (state_of s.old).slots i ≡ Some (Running (f ∷ fs)) → stepped_of r (state_of s.new) ≡ effect_of effect.entry (with_slot (state_of s.old) i (Running (waiting (work_of work.entry.items) f ∷ fs))) offset) }
+    ensures step { IfOk result (λ r. (f : Frames) (fs : Callers) → slice_get (state_of s.old).slots i ≡ Some (Running (f ∷ fs))
+        → stepped_of r (state_of s.new) ≡ effect_of effect.entry (with_slot (state_of s.old) i (Running (waiting (work_of work.entry.items) f ∷ fs))) offset) }
     ensures unchanged { IsKept result (state_of s.old) (state_of s.new) }
 {
     match effect {
@@ -462,7 +474,9 @@ fn acts<'p>(
     act: Act<'p>,
     work: VecDeque<Item<'p>>,
 ) -> Result<Stepped, AllocError>
-    ensures step { IfOk result (λ r. (f : Frames) (fs : Callers) → slice_get (state_of s.old).slots i ≡ Some (Running (f ∷ fs)) → stepped_of r (state_of s.new) ≡ acted (program_of program.now) (with_slot (state_of s.old) i (Running (waiting (work_of work.entry.items) f ∷ fs))) i offset (act_of act.entry) f.kept) }
+    ensures step { IfOk result (λ r. (f : Frames) (fs : Callers) → slice_get (state_of s.old).slots i ≡ Some (Running (f ∷ fs))
+        → stepped_of r (state_of s.new) ≡ acted (program_of program.now) (with_slot (state_of s.old) i (Running
+        (waiting (work_of work.entry.items) f ∷ fs))) i offset (act_of act.entry) f.kept) }
     ensures unchanged { IsKept result (state_of s.old) (state_of s.new) }
 {
     let effect = effect_of_act(alloc, program, s, i, act, kept_by(&s.slots, i))?;
@@ -477,7 +491,8 @@ fn carry_out_plan<'p>(
     i: u32,
     plan: Plan<'p>,
 ) -> Result<Stepped, AllocError>
-    ensures step { IfOk result (λ r. (f : Frames) (fs : Callers) → slice_get (state_of s.old).slots i ≡ Some (Running (f ∷ fs)) → stepped_of r (state_of s.new) ≡ moved (program_of program.now) (state_of s.old) i (plan_of (program_of program.now) plan.entry f fs)) }
+    ensures step { IfOk result (λ r. (f : Frames) (fs : Callers) → slice_get (state_of s.old).slots i ≡ Some (Running (f ∷ fs))
+        → stepped_of r (state_of s.new) ≡ moved (program_of program.now) (state_of s.old) i (plan_of (program_of program.now) plan.entry f fs)) }
     ensures unchanged { IsKept result (state_of s.old) (state_of s.new) }
 {
     match plan {

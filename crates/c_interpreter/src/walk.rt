@@ -55,7 +55,8 @@ fn take_step<'p>(
     thread: u32,
 ) -> Result<Option<WalkEnd>, AllocError>
     requires { index ≤ 2 ^ 127 }
-    ensures { IfOk result (λ end. (list : Numbers) → IsAt (program_of program.now) list index (state_of s.old) → slice_get list index ≡ Some thread → WalksOn (program_of program.now) list (index + 1) (state_of s.new) end) }
+    ensures { IfOk result (λ end. (list : Numbers) → IsAt (program_of program.now) list index (state_of s.old) → slice_get list index ≡ Some thread
+        → WalksOn (program_of program.now) list (index + 1) (state_of s.new) end) }
 {
     match step(alloc, program, s, thread)? {
         Stepped::Stepped => {
@@ -91,7 +92,8 @@ fn take_turn<'p>(
     turn: Turn,
 ) -> Result<Option<WalkEnd>, AllocError>
     requires { first ≤ 2 ^ 126 }
-    ensures { IfOk result (λ end. (list : Numbers) → IsAt (program_of program.now) list first (state_of s.old) → Lists list first turn → WalksOn (program_of program.now) list (first + turn.steps) (state_of s.new) end) }
+    ensures { IfOk result (λ end. (list : Numbers) → IsAt (program_of program.now) list first (state_of s.old) → Lists list first turn
+        → WalksOn (program_of program.now) list (first + turn.steps) (state_of s.new) end) }
 {
     for k in 0..turn.steps {
         match take_step(alloc, program, s, first + u128::from(k), turn.thread)? {

@@ -46,6 +46,3 @@ pub fn lex(alloc: Global, text: &[u8]) -> Result<Items<Token>, LexFault>
     })?;
     Ok(tokens)
 }
-
-#[cfg(test)]
-mod tests;

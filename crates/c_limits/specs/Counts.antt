@@ -77,3 +77,7 @@ over_inlined P =
 -- the first that is above its limit
 abbrev pub first_passed : Program → Option Passed
 first_passed P = option_or (over_objects P) (option_or (over_data P) (over_inlined P))
+
+-- the bound of a program whose weight is the greatest that is told
+abbrev pub most_bound : ℕ
+most_bound = 64000064

@@ -1,8 +1,11 @@
-//! The limits of the profile, and the first count of a program that is above its limit.
+//! The limits of the profile, the first count of a program that is above its limit, and the bound of the cycles between
+//! two of its steps.
 #![tactic(auto)]
 
 mod counts;
+mod cycles;
 mod limit;
 
 pub use counts::first_passed;
+pub use cycles::bound;
 pub use limit::{Limit, Passed};

@@ -102,6 +102,3 @@ pub fn parse(alloc: Global, tokens: &[Token]) -> Result<TranslationUnit, ParseEr
         Err(Fault::Memory) => Err(ParseError::Memory),
     }
 }
-
-#[cfg(test)]
-mod tests;

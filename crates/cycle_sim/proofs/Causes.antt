@@ -2,11 +2,10 @@
 use Rattle.std.specs.Prelude.{◌≡◌, ℕ, Bool, true, List, length, Option, Some, None, slice_get, refl}
 use Rattle.std.proofs.Common.{ap, sym, ◌∙◌, subst}
 use Rattle.netlist.specs.declared.netlist.Module.{Module}
-use Rattle.verilog_meaning.specs.Names.{top_of}
 use Rattle.verilog_meaning.specs.Cycles.{Path}
 use Rattle.cycle_sim.specs.declared.settle.Step.{Step}
 use Rattle.cycle_sim.specs.declared.edge.Part.{Part}
-use Rattle.cycle_sim.specs.Running.{IsRight, some_write}
+use Rattle.cycle_sim.specs.Running.{some_write}
 use Rattle.cycle_sim.specs.Stands.{spot_of, place_of}
 use Rattle.cycle_sim.specs.Tree.{IsTree}
 use Rattle.cycle_sim.specs.Placed.{IsPlaced}

@@ -1,32 +1,26 @@
 -- In a net that is laid out each signal has a step that gives it what its source gives it, and each step is that of a signal.
-use Rattle.std.specs.Prelude.{◌≡◌, ℕ, zero, suc, ◌+◌, ◌<◌, ◌^◌, Bool, List, [], ◌∷◌, ◌++◌, length, slice_index, slice_index_or, false, Option, Some, None, option_and_then, slice_get, refl}
+use Rattle.std.specs.Prelude.{◌≡◌, ℕ, zero, suc, ◌+◌, ◌<◌, Bool, List, [], ◌∷◌, ◌++◌, length, slice_index, slice_index_or, false, Option, Some, None, option_and_then, slice_get, refl}
 use Rattle.std.proofs.Common.{ap, sym, ◌∙◌, subst, ⊎_elim, arith}
 use Rattle.std.proofs.lemmas.Option.{slice_get_within}
 use Rattle.netlist.specs.declared.netlist.Source.{Source}
 use Rattle.netlist.specs.declared.netlist.Source.TheVariants.{Input, Register, Assigned, Port}
 use Rattle.netlist.specs.declared.netlist.Signal.{Signal}
-use Rattle.netlist.specs.declared.netlist.Memory.{Memory}
 use Rattle.netlist.specs.declared.netlist.Instance.{Instance}
 use Rattle.netlist.specs.declared.netlist.Module.{Module}
-use Rattle.verilog_meaning.specs.Names.{top_of}
-use Rattle.verilog_meaning.specs.Readings.{initial_reading, initial_signal, initial_word, initial_number, or_zero}
+use Rattle.verilog_meaning.specs.Readings.{or_zero}
 use Rattle.verilog_meaning.specs.Cycles.{Path, module_at, instance_at, connected, IsAt, IsRegister}
-use Rattle.circuit.proofs.States.{keeps_states}
 use Rattle.cycle_sim.specs.declared.value.Spot.{Spot}
 use Rattle.cycle_sim.specs.declared.settle.Feed.{Feed}
 use Rattle.cycle_sim.specs.declared.settle.Feed.TheVariants.{Copied, Computed}
 use Rattle.cycle_sim.specs.declared.settle.Step.{Step}
 use Rattle.cycle_sim.specs.declared.edge.Part.{Part}
-use Rattle.cycle_sim.specs.Flat.{EachOf}
-use Rattle.cycle_sim.specs.Order.{Takes, IsOrder}
-use Rattle.cycle_sim.specs.Stands.{children_of, kind_of, spot_of, place_of, spot_at, kind_at, word_of, step, Has, IsFree, StandsFor, IsPlan}
-use Rattle.cycle_sim.specs.Tree.{instances_of, place_in, IsTree}
-use Rattle.cycle_sim.specs.Placed.{is_register, IsPlaced}
+use Rattle.cycle_sim.specs.Order.{Takes}
+use Rattle.cycle_sim.specs.Stands.{children_of, kind_of, spot_of, place_of, spot_at, kind_at, word_of, step}
+use Rattle.cycle_sim.specs.Tree.{instances_of, place_in}
+use Rattle.cycle_sim.specs.Placed.{is_register}
 use Rattle.cycle_sim.specs.Wires.{signals_of, own_feed, own_steps, join_feed, join_steps, instance_steps, all_instances, all_steps}
 use Rattle.cycle_sim.specs.Given.{IsRoot}
-use Rattle.cycle_sim.specs.Running.{Running, state_of, IsRight, IsPart, IsApart, IsDone}
-use Rattle.cycle_sim.specs.Opened.{writes_at, IsOne, IsReady}
-use Rattle.cycle_sim.proofs.Loopless.{loopless}
+use Rattle.cycle_sim.specs.Running.{IsPart}
 use Rattle.cycle_sim.proofs.Trees.{opened, tree_stands, one_path}
 use Rattle.cycle_sim.proofs.Wiring.{takes_left, takes_right, takes_split, own_has, own_back, join_has, join_back, instances_have, instances_back, parts_have, parts_back}
 use Rattle.cycle_sim.specs.LaidOut.{IsLaidOut, GivesBy}

@@ -22,3 +22,7 @@ pub mod Fits
 pub mod Narrow
 pub mod Right
 pub mod Printing
+pub mod Same
+pub mod Choices
+pub mod Turning
+pub mod Enables

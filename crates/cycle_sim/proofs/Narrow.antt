@@ -1,5 +1,5 @@
 -- A laid module has signals of 1 to 64 bits, and its right sides and values read only these.
-use Rattle.std.specs.Prelude.{◌≡◌, ℕ, zero, suc, ◌+◌, ◌-◌, ◌==◌, ◌<◌, ◌≤◌, Bool, true, false, ◌&&◌, nat_lt, nat_le, List, [], ◌∷◌, map, length, Option, Some, None, slice_get, if◌then◌else◌, refl}
+use Rattle.std.specs.Prelude.{◌≡◌, ℕ, suc, ◌+◌, ◌-◌, ◌==◌, ◌<◌, ◌≤◌, Bool, true, false, ◌&&◌, nat_lt, nat_le, List, [], ◌∷◌, map, length, Option, Some, None, slice_get, if◌then◌else◌, refl}
 use Rattle.std.proofs.Common.{ap, subst, arith}
 use Rattle.verilog_tree.specs.Scope.{is_clk}
 use Rattle.netlist.specs.declared.netlist.Value.{Value}

@@ -1,36 +1,27 @@
 -- A net that is laid out and ordered stands in the words of its simulator.
-use Rattle.std.specs.Prelude.{◌≡◌, ℕ, true, zero, suc, ◌+◌, ◌<◌, ◌^◌, Bool, List, [], ◌∷◌, ◌++◌, length, slice_index, Option, Some, None, option_and_then, slice_get, refl}
-use Rattle.std.proofs.Common.{ap, sym, ◌∙◌, subst, ⊎_elim, arith}
-use Rattle.std.proofs.lemmas.Option.{slice_get_within}
+use Rattle.std.specs.Prelude.{◌≡◌, ℕ, true, ◌+◌, ◌<◌, ◌^◌, Bool, List, [], ◌∷◌, ◌++◌, length, slice_index, slice_get, refl}
+use Rattle.std.proofs.Common.{ap, sym, ◌∙◌, subst, ⊎_elim}
 use Rattle.netlist.specs.declared.netlist.Source.{Source}
 use Rattle.netlist.specs.declared.netlist.Source.TheVariants.{Input, Register, Assigned, Port}
 use Rattle.netlist.specs.declared.netlist.Signal.{Signal}
 use Rattle.netlist.specs.declared.netlist.Memory.{Memory}
-use Rattle.netlist.specs.declared.netlist.Instance.{Instance}
 use Rattle.netlist.specs.declared.netlist.Module.{Module}
-use Rattle.verilog_meaning.specs.Names.{top_of}
 use Rattle.verilog_meaning.specs.Readings.{initial_reading, initial_signal, initial_word, initial_number, or_zero}
-use Rattle.verilog_meaning.specs.Cycles.{Path, module_at, instance_at, connected, IsAt, HasMemory, IsState, IsSameIn, initial_state, IsRegister}
+use Rattle.verilog_meaning.specs.Cycles.{Path, IsAt, HasMemory, IsState, IsSameIn, initial_state, IsRegister}
 use Rattle.circuit.proofs.States.{keeps_states}
 use Rattle.cycle_sim.specs.declared.value.Spot.{Spot}
-use Rattle.cycle_sim.specs.declared.settle.Feed.{Feed}
-use Rattle.cycle_sim.specs.declared.settle.Feed.TheVariants.{Copied, Computed}
 use Rattle.cycle_sim.specs.declared.settle.Step.{Step}
 use Rattle.cycle_sim.specs.declared.edge.Part.{Part}
 use Rattle.cycle_sim.specs.Flat.{EachOf}
-use Rattle.cycle_sim.specs.Order.{Takes, IsMarked, Known, IsOrder}
-use Rattle.cycle_sim.specs.Stands.{children_of, kind_of, spot_of, place_of, spot_at, kind_at, word_of, step, Has, IsFree, StandsFor, IsPlan}
-use Rattle.cycle_sim.specs.Tree.{instances_of, place_in, IsTree}
-use Rattle.cycle_sim.specs.Placed.{is_register, IsPlaced}
-use Rattle.cycle_sim.specs.Wires.{signals_of, own_feed, own_steps, join_feed, all_instances, all_steps}
+use Rattle.cycle_sim.specs.Order.{IsMarked, Known, IsOrder}
+use Rattle.cycle_sim.specs.Stands.{place_of, word_of, step, Has, StandsFor, IsPlan}
+use Rattle.cycle_sim.specs.Placed.{is_register}
 use Rattle.cycle_sim.specs.LaidOut.{IsLaidOut, GivesBy}
 use Rattle.cycle_sim.proofs.Orders.{known_by}
-use Rattle.cycle_sim.proofs.Laid.{place_same, found, spot_is, kind_is, laid, has_step, gives_target, gives_here, register_free}
-use Rattle.cycle_sim.specs.Running.{Running, state_of, IsRight, IsPart, IsApart, IsDone}
+use Rattle.cycle_sim.proofs.Laid.{place_same, found, spot_is, laid, has_step, gives_target, gives_here, register_free}
+use Rattle.cycle_sim.specs.Running.{Running, running, state_of, IsApart, IsDone}
 use Rattle.cycle_sim.specs.Opened.{writes_at, IsOne, IsReady}
 use Rattle.cycle_sim.proofs.Loopless.{loopless}
-use Rattle.cycle_sim.proofs.Trees.{opened, tree_stands}
-use Rattle.cycle_sim.proofs.Wiring.{takes_left, takes_right, own_has, join_has, instances_have, parts_have}
 
 module _ {modules : List Module} {t : Module} {parts : List Part} {numbers : List ℕ} {free : List Bool} {words starts : List ℕ} {wires : List Step} {prefs : ℕ}
     (l : IsLaidOut modules t parts numbers free words starts wires prefs)
@@ -93,7 +84,7 @@ module _ {modules : List Module} {t : Module} {parts : List Part} {numbers : Lis
   }
 
   abbrev run : Running
-  run = record { modules = modules; parts = parts; steps = steps; numbers = numbers; words = words; starts = starts; prefs = prefs; done = done }
+  run = running modules parts steps numbers words starts prefs done
 
   -- ---- the initial state
 

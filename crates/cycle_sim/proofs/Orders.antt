@@ -7,7 +7,7 @@ use Rattle.std.proofs.Math.ListN.{length-set}
 use Rattle.netlist.specs.declared.netlist.Module.{Module}
 use Rattle.cycle_sim.specs.declared.settle.Step.{Step}
 use Rattle.cycle_sim.specs.Flat.{EachOf}
-use Rattle.cycle_sim.specs.Order.{reads, InOrder, IsMarked, IsClear, SomeOf, Known, Takes, IsPartial, IsOrder, IsHeld, AreHeld, IsLeft, IsStuck}
+use Rattle.cycle_sim.specs.Order.{reads, InOrder, IsMarked, IsClear, SomeOf, Known, Takes, IsPartial, IsOrder, AreHeld, IsLeft, IsStuck}
 use Rattle.cycle_sim.proofs.Settles.{same_or, each_to}
 
 pub get_more : {X : Type 0} (xs ys : List X) (j : ℕ) (x : X) → slice_get xs j ≡ Some x → slice_get (xs ++ ys) j ≡ Some x

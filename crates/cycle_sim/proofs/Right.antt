@@ -1,13 +1,12 @@
 -- A sound netlist can be opened: its tests and places say that each width fits.
 use Rattle.std.specs.Prelude.{◌≡◌, ℕ, zero, suc, ◌+◌, ◌^◌, ◌<◌, ◌≤◌, Bool, true, false, cond, List, [], ◌∷◌, ◌++◌, length, filter, take, Option, Some, None, option_and_then, slice_get, if◌then◌else◌, refl, codes}
-use Rattle.std.proofs.Common.{ap, sym, ◌∙◌, subst, inl, inr, ⊎_elim, arith}
+use Rattle.std.proofs.Common.{ap, sym, ◌∙◌, subst, ⊎_elim, arith}
 use Rattle.std.specs.Str.{bytes_eq}
 use Rattle.std.proofs.lemmas.Option.{same_Some, slice_get_within}
 use Rattle.verilog_tree.specs.Scope.{is_clk}
 use Rattle.netlist.specs.declared.netlist.Source.{Source}
 use Rattle.netlist.specs.declared.netlist.Source.TheVariants as source
 use Rattle.netlist.specs.declared.netlist.Signal.{Signal}
-use Rattle.netlist.specs.declared.netlist.Memory.{Memory}
 use Rattle.netlist.specs.declared.netlist.Instance.{Instance}
 use Rattle.netlist.specs.declared.netlist.Module.{Module}
 use Rattle.netlist.specs.declared.netlist.Netlist.{Netlist}
@@ -63,7 +62,7 @@ named_by : (b : Bool) (t : Module) (ms : List Module) (name : List ℕ) (m : Mod
 named_by true t ms name m q e rest = (0, sym (ap (λ c. if c then Some t else module_named ms name) q) ∙ e)
 named_by false t ms name m q e rest = let r = rest (sym (ap (λ c. if c then Some t else module_named ms name) q) ∙ e) in (suc r.0, r.1)
 
-named_at : (ms : List Module) (name : List ℕ) (m : Module) → module_named ms name ≡ Some m → (k : ℕ) × (slice_get ms k ≡ Some m)
+pub named_at : (ms : List Module) (name : List ℕ) (m : Module) → module_named ms name ≡ Some m → (k : ℕ) × (slice_get ms k ≡ Some m)
 named_at [] name m e = absurd cc
 named_at (t ∷ ms) name m e = named_by (bytes_eq name t.name) t ms name m refl e (named_at ms name m)
 

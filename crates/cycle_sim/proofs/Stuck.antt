@@ -1,5 +1,5 @@
 -- Where no step can be taken any more, though not all are, some signal depends on itself; and the first one is found.
-use Rattle.std.specs.Prelude.{◌≡◌, ℕ, zero, suc, ◌+◌, ◌<◌, ◌≤◌, ◌⊎◌, Bool, true, false, List, [], ◌∷◌, map, length, Option, Some, None, slice_get, slice_index_or, refl}
+use Rattle.std.specs.Prelude.{◌≡◌, ℕ, zero, suc, ◌+◌, ◌<◌, ◌≤◌, Bool, true, false, List, [], ◌∷◌, map, length, Option, Some, None, slice_get, slice_index_or, refl}
 use Rattle.std.proofs.Common.{ap, sym, ◌∙◌, subst, inl, inr, ⊎_elim, arith}
 use Rattle.std.proofs.lemmas.Option.{slice_get_within}
 use Rattle.netlist.specs.declared.netlist.Source.{Source}
@@ -13,20 +13,19 @@ use Rattle.verilog_meaning.specs.Threads.{Place, Names, Depends, IsOneOf, operan
 use Rattle.verilog_meaning.specs.Threads.Depends.{directly, through}
 use Rattle.circuit.specs.Modules.{Has}
 use Rattle.circuit.specs.Nets.{FitsSource}
-use Rattle.cycle_sim.specs.declared.settle.Feed.TheVariants.{Copied, Computed}
+use Rattle.cycle_sim.specs.declared.settle.Feed.TheVariants.{Computed}
 use Rattle.cycle_sim.specs.declared.settle.Step.{Step}
 use Rattle.cycle_sim.specs.declared.edge.Part.{Part}
 use Rattle.cycle_sim.specs.declared.loops.Found.{Found}
 use Rattle.cycle_sim.specs.Flat.{EachOf, IsNarrowSource}
-use Rattle.cycle_sim.specs.Order.{source_reads, signal_reads, module_reads, reads, Takes, IsMarked, IsClear, IsStuck}
-use Rattle.cycle_sim.specs.Stands.{place_of, spot_at, kind_at, word_of, step}
-use Rattle.cycle_sim.specs.Running.{IsPart}
+use Rattle.cycle_sim.specs.Order.{source_reads, signal_reads, module_reads, reads, Takes, IsClear, IsStuck}
+use Rattle.cycle_sim.specs.Stands.{place_of, spot_at, kind_at, word_of}
 use Rattle.cycle_sim.specs.Placed.{is_register}
 use Rattle.cycle_sim.specs.Wires.{signals_of}
 use Rattle.cycle_sim.specs.LaidOut.{IsLaidOut}
 use Rattle.cycle_sim.specs.Leads.{Leads, AreInRoom, AreWithin, AreLoopless, IsFirstFound}
 use Rattle.cycle_sim.specs.Leads.Leads.{Directly, Through}
-use Rattle.cycle_sim.specs.Loops.{Before, Earlier, IsFirstLoop}
+use Rattle.cycle_sim.specs.Loops.{IsFirstLoop}
 use Rattle.cycle_sim.proofs.Leading.{one_clear, each_among}
 use Rattle.cycle_sim.proofs.Pigeons.{twice}
 use Rattle.cycle_sim.proofs.Trees.{rising, front_or_back}

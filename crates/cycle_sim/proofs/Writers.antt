@@ -1,5 +1,5 @@
 -- Where no part before a place and none behind it writes, one part at most does.
-use Rattle.std.specs.Prelude.{◌≡◌, ℕ, suc, ◌+◌, ◌<◌, ◌≤◌, Bool, true, false, List, ◌∷◌, length, drop, Some, slice_get, codes}
+use Rattle.std.specs.Prelude.{◌≡◌, ℕ, suc, ◌<◌, Bool, true, false, List, ◌∷◌, length, drop, Some, slice_get, codes}
 use Rattle.std.proofs.Common.{sym, ap, ◌∙◌, ⊎_elim, arith, get_or}
 use Rattle.std.proofs.Math.Seq.{drop-cons}
 use Rattle.std.specs.Str.{bytes_eq}

@@ -1,5 +1,5 @@
 -- A net that is laid out in words, with all its steps.
-use Rattle.std.specs.Prelude.{◌≡◌, ℕ, ◌+◌, Bool, List, [], ◌∷◌, length, Some, slice_get}
+use Rattle.std.specs.Prelude.{◌≡◌, ℕ, Bool, List, [], ◌∷◌, length, Some, slice_get}
 use Rattle.netlist.specs.declared.netlist.Source.{Source}
 use Rattle.netlist.specs.declared.netlist.Source.TheVariants.{Input, Register, Assigned, Port}
 use Rattle.netlist.specs.declared.netlist.Module.{Module}
@@ -8,6 +8,7 @@ use Rattle.verilog_meaning.specs.Cycles.{Path, instance_at, connected}
 use Rattle.cycle_sim.specs.declared.settle.Feed.TheVariants.{Copied, Computed}
 use Rattle.cycle_sim.specs.declared.settle.Step.{Step}
 use Rattle.cycle_sim.specs.declared.edge.Part.{Part}
+use Rattle.cycle_sim.specs.declared.place.Placed.{Placed}
 use Rattle.cycle_sim.specs.Given.{IsInput}
 use Rattle.cycle_sim.specs.Stands.{spot_of, spot_at, kind_at, word_of, step}
 use Rattle.cycle_sim.specs.Running.{IsRight}
@@ -28,6 +29,10 @@ pub record IsLaidOut (modules : List Module) (top : Module) (parts : List Part) 
   pub base : ℕ
   pub base_is : base ≡ (spot_of (slice_get parts 0)).base
   pub are : AreWires modules parts top.signals base most wires
+
+-- the words that were placed, and the steps, are those of the net
+abbrev pub IsPlacedNet : List Module → Placed → List Step → Type 0
+IsPlacedNet modules p wires = (top : Module) × (prefs : ℕ) × IsLaidOut modules top p.parts.items p.numbers.items p.free.items p.words.items p.starts.items wires prefs
 
 module _ (modules : List Module) (top : Module) (parts : List Part) (most : ℕ) where
   -- a step gives signal x of the instance at a path what its source gives it

@@ -3,6 +3,8 @@ pub mod Order
 pub mod Stands
 pub mod Print
 pub mod Running
+pub mod Rounds
+pub mod Lockstep
 pub mod Tree
 pub mod Placed
 pub mod Wires
@@ -12,3 +14,4 @@ pub mod Right
 pub mod Loops
 pub mod LaidOut
 pub mod Leads
+pub mod Globals

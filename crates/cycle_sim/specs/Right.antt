@@ -1,6 +1,11 @@
 -- What a sound netlist gives the simulator.
+use Rattle.std.specs.Prelude.{◌≡◌, ℕ, Some, codes}
+use Rattle.netlist.specs.declared.netlist.Signal.{Signal}
+use Rattle.netlist.specs.declared.netlist.Module.{Module}
 use Rattle.netlist.specs.declared.netlist.Netlist.{Netlist}
 use Rattle.netlist.specs.Sound.{IsSound}
+use Rattle.verilog_meaning.specs.Names.{top_of, IsSignal}
+use Rattle.cycle_sim.specs.Rounds.{threads_of}
 use Rattle.cycle_sim.specs.Opened.{IsRightNet, HasPrinters}
 
 -- a sound netlist can be opened
@@ -10,3 +15,7 @@ RightOfSound = (n : Netlist) → IsSound n → IsRightNet n.modules
 -- in a sound netlist one instance at most has a $write
 abbrev pub OnePrinterOfSound : Type 0
 OnePrinterOfSound = (n : Netlist) → IsSound n → HasPrinters n.modules → ⊥
+
+-- in a sound netlist there are as many threads as the signal `en` of its outermost module has bits
+abbrev pub ThreadsOfSound : Type 0
+ThreadsOfSound = (n : Netlist) → IsSound n → (top : Module) (x : ℕ) (s : Signal) → top_of n.modules ≡ Some top → IsSignal top (codes "en") x s → threads_of n.modules ≡ s.width

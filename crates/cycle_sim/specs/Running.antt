@@ -27,6 +27,18 @@ pub record Running : Type 0 where
   -- the place of the output `done`
   pub done : ℕ
 
+abbrev pub running : List Module → List Part → List Step → List ℕ → List ℕ → List ℕ → ℕ → ℕ → Running
+running modules parts steps numbers words starts prefs done = record {
+  modules = modules;
+  parts = parts;
+  steps = steps;
+  numbers = numbers;
+  words = words;
+  starts = starts;
+  prefs = prefs;
+  done = done;
+}
+
 abbrev pub flat : Running → Flat
 flat r = record { numbers = r.numbers; words = r.words; starts = r.starts }
 
@@ -122,19 +134,10 @@ pub record TellsDone (c : Choice) (r : Running) (shown : Bool) : Type 0 where
 -- ---- what the calls do to the words
 
 abbrev pub settled_run : Choice → Running → Running
-settled_run c r = record { modules = r.modules; parts = r.parts; steps = r.steps; numbers = settled r.modules c (flat r) r.steps; words = r.words; starts = r.starts; prefs = r.prefs; done = r.done }
+settled_run c r = running r.modules r.parts r.steps (settled r.modules c (flat r) r.steps) r.words r.starts r.prefs r.done
 
 abbrev pub advanced : Running → Running
-advanced r = record {
-  modules = r.modules;
-  parts = r.parts;
-  steps = r.steps;
-  numbers = all_numbers r.modules (flat r) r.numbers r.parts;
-  words = all_words r.modules (flat r) r.parts;
-  starts = r.starts;
-  prefs = r.prefs;
-  done = r.done;
-}
+advanced r = running r.modules r.parts r.steps (all_numbers r.modules (flat r) r.numbers r.parts) (all_words r.modules (flat r) r.parts) r.starts r.prefs r.done
 
 -- the numbers of a choice fit their inputs, and it has no more prefs than there are inputs for them
 pub record Fits (r : Running) (c : Choice) : Type 0 where

@@ -1,8 +1,10 @@
 // The clock edge: all statements read the numbers before it, and of several to one place the last prevails.
 
-ghost use Rattle.std.specs.Prelude.{◌≡◌, ℕ, ◌+◌, slice_index, slice_set, slice_get};
+ghost use Rattle.std.specs.Prelude.{◌≡◌, ℕ, ◌+◌, ◌∷◌, [], slice_index, slice_set, slice_get};
 ghost use Rattle.verilog_meaning.specs.Readings.{is_on};
-ghost use Rattle.cycle_sim.specs.Flat.{Flat, flat_of, reading, set_number, stored_word, act_number, act_word, acted_numbers, acted_words, all_numbers, all_words, part_words, actions_of};
+ghost use Rattle.cycle_sim.specs.Flat.{Flat, flat_of, reading, set_number, stored_word, act_number, act_word, acted_numbers, acted_words};
+ghost use Rattle.cycle_sim.specs.Flat.{all_numbers, all_words, part_words, actions_of};
+ghost use Rattle.cycle_sim.specs.Stands.{children_of, kind_of, spot_of, spot_at};
 
 use crate::settle::set_item;
 use crate::value::{Now, Spot, memory_size, number_at};
@@ -15,6 +17,50 @@ pub struct Part {
     pub module: usize,
     pub spot: Spot,
     pub children: usize,
+}
+
+/// The module of the outermost instance, whose part stands first.
+pub fn kind_at_root(parts: &[Part]) -> usize
+    ensures { result ≡ kind_of (slice_get parts.now 0) }
+{
+    match at(parts, 0) {
+        Some(part) => part.module,
+        None => 0,
+    }
+}
+
+fn root_children(parts: &[Part]) -> usize
+    ensures { result ≡ children_of (slice_get parts.now 0) }
+{
+    match at(parts, 0) {
+        Some(part) => part.children,
+        None => 0,
+    }
+}
+
+fn spot_in(parts: &[Part], place: usize) -> Spot
+    ensures { result ≡ spot_of (slice_get parts.now place) }
+{
+    match at(parts, place) {
+        Some(part) => part.spot,
+        None => Spot {
+            base: 0,
+            memories: 0,
+        },
+    }
+}
+
+/// Where an instance in the outermost one stands.
+pub fn inner_spot(parts: &[Part], instance: usize) -> Spot
+    ensures { result ≡ spot_at parts.now (instance ∷ []) }
+{
+    match root_children(parts).checked_add(instance) {
+        Some(place) => spot_in(parts, place),
+        None => Spot {
+            base: 0,
+            memories: 0,
+        },
+    }
 }
 
 /// Whether conditions hold in the instance at a spot.

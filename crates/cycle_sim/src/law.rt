@@ -1,6 +1,6 @@
 // A law of nets that can be opened.
 
-ghost use Rattle.cycle_sim.specs.Right.{RightOfSound, OnePrinterOfSound};
+ghost use Rattle.cycle_sim.specs.Right.{RightOfSound, OnePrinterOfSound, ThreadsOfSound};
 
 /// A sound netlist can be opened: each of its widths fits.
 pub fn right_of_sound()
@@ -10,4 +10,9 @@ pub fn right_of_sound()
 /// In a sound netlist one instance at most has a `$write`.
 pub fn one_printer_of_sound()
     ensures { OnePrinterOfSound }
+{}
+
+/// In a sound netlist there are as many threads as the signal `en` of its outermost module has bits.
+pub fn threads_of_sound()
+    ensures { ThreadsOfSound }
 {}

@@ -1,11 +1,12 @@
 // The outermost module, and the module that writes.
 
-ghost use Rattle.std.specs.Prelude.{◌≡◌, false, None, MatchOption, IsTrue, length, slice_get, codes};
+ghost use Rattle.std.specs.Prelude.{◌≡◌, ◌-◌, ◌^◌, ◌≤◌, false, None, MatchOption, IsTrue, length, slice_get, codes};
 ghost use Rattle.std.specs.Str.{bytes_eq};
 ghost use Rattle.verilog_meaning.specs.Names.{top_of};
 ghost use Rattle.netlist.specs.Sound.{is_write};
 ghost use Rattle.cycle_sim.specs.Running.{some_write};
 ghost use Rattle.cycle_sim.specs.Opened.{writes_at, AreQuiet, AreOthersQuiet, IsWriter, IsOne, AreTwo, IsTopNumber, IsDoneNumber, LacksDone};
+ghost use Rattle.cycle_sim.specs.Rounds.{enable_width, AreNarrowSignals};
 
 use crate::edge::Part;
 use netlist::netlist::{Action, Effect, Module, Signal};
@@ -110,4 +111,31 @@ pub fn done_number(signals: &[Signal]) -> Option<usize>
         }
     }
     None
+}
+
+fn is_enable(signal: &Signal) -> bool
+    ensures { result ≡ bytes_eq signal.now.name (codes "en") }
+{
+    signal.name.as_str() == "en"
+}
+
+/// So many bits that are set.
+fn mask_of(bits: u64) -> u64
+    requires { bits ≤ 64 }
+    ensures { result ≡ 2 ^ bits - 1 }
+{
+    ((1u128 << bits) - 1) as u64
+}
+
+/// The number that sets all bits of the signal `en`, and 0 where there is none.
+pub fn enable_mask(signals: &[Signal]) -> u64
+    requires { AreNarrowSignals signals.now }
+    ensures { result ≡ 2 ^ enable_width signals.now - 1 }
+{
+    for signal in signals {
+        if is_enable(signal) {
+            return mask_of(signal.width);
+        }
+    }
+    0
 }

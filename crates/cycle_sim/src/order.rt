@@ -4,7 +4,8 @@ ghost use Rattle.std.specs.Prelude.{◌≡◌, ℕ, ◌+◌, ◌<◌, ◌≤◌,
 ghost use Rattle.cycle_sim.specs.declared.settle.Step.{Step as Stepping};
 ghost use Rattle.verilog_meaning.specs.Threads.{operands};
 ghost use Rattle.cycle_sim.specs.Flat.{EachOf};
-ghost use Rattle.cycle_sim.specs.Order.{reads, module_reads, signal_reads, source_reads, IsMarked, IsClear, SomeOf, Takes, IsPartial, IsOrder, IsHeld, AreHeld, IsLeft, IsStuck};
+ghost use Rattle.cycle_sim.specs.Order.{reads, module_reads, signal_reads, source_reads, IsMarked, IsClear, SomeOf, Takes, IsPartial, IsOrder};
+ghost use Rattle.cycle_sim.specs.Order.{IsHeld, AreHeld, IsLeft, IsStuck};
 
 use crate::settle::{Feed, Step};
 use netlist::netlist::{Module, Source, Value};

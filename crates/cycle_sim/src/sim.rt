@@ -1,35 +1,42 @@
 // The simulator.
 
-ghost use Rattle.std.specs.Prelude.{◌≡◌, ◌++◌, ℕ, length, nat_eq, slice_index, slice_get, IfOk, IfErr, OnOk, OnErr, is_ok, if◌then◌else◌};
+ghost use Rattle.std.specs.Prelude.{◌≡◌, ◌++◌, ◌-◌, ◌^◌, ◌<◌, [], Some, option_copied, length, replicate, nat_eq, slice_index, slice_get, IfOk, IfErr, OnOk};
+ghost use Rattle.std.specs.Prelude.{OnErr, is_ok, if◌then◌else◌};
 ghost use Rattle.cycle_sim.specs.declared.sim.OpenError.TheVariants as errors;
-ghost use Rattle.netlist.specs.declared.netlist.Module.{Module as Kind};
 ghost use Rattle.cycle_sim.specs.Order.{IsStuck};
 ghost use Rattle.cycle_sim.specs.Wires.{signals_of, AreWires};
-ghost use Rattle.cycle_sim.specs.LaidOut.{IsLaidOut};
+ghost use Rattle.cycle_sim.specs.LaidOut.{IsPlacedNet};
 ghost use Rattle.cycle_sim.specs.Opened.{IsOpened, IsReady, IsRightNet, IsTopNumber, IsCause};
 ghost use Rattle.verilog_meaning.specs.Cycles.{Choice as Choosing};
+ghost use Rattle.verilog_meaning.specs.Threads.{all_enabled};
+ghost use Rattle.cycle_sim.specs.Rounds.{threads_of};
+ghost use Rattle.verilog_meaning.specs.Names.{top_of};
+ghost use Rattle.cycle_sim.specs.Globals.{element_at, global_of, global_word};
+ghost use Rattle.cycle_sim.specs.Lockstep.{TakesRounds, AreRounds, IsLockstep, IsCutOff};
 ghost use Rattle.cycle_sim.specs.Flat.{Flat, AreNarrow, all_numbers, all_words, all_written};
-ghost use Rattle.cycle_sim.specs.Running.{Running, flat, choice_of, Fits, IsSettledRun, IsSameNet, IsSameState, IsCycleOf, TellsDone, advanced};
+ghost use Rattle.cycle_sim.specs.Running.{Running, running, flat, state_of, choice_of, Fits, IsSettledRun, IsSameNet, IsSameState, IsCycleOf, TellsDone, advanced};
 
-use crate::edge::{Part, edge_numbers, edge_words};
+use crate::edge::{Part, edge_numbers, edge_words, inner_spot, kind_at_root};
 use crate::given::roots;
 use crate::loops::first_loop;
-use crate::net::{done_number, top_number, two_write};
+use crate::net::{done_number, enable_mask, top_number, two_write};
 use crate::order::order;
 use crate::place::{Placed, place};
 use crate::print::put_written;
 use crate::settle::{Choice, Step, settle};
 use crate::tree::tree_of;
-use crate::value::{Now, item_at};
+use crate::value::{Now, item_at, number_at, word_at};
 use crate::wires::{base_at, further, module_signals, push_parts};
+use global_banks::locate::{Location, locate};
 use hls_io::Bytes;
 use netlist::netlist::Module;
+use sqlite_items::{Items, at};
 use std::alloc::{AllocError, Global};
 use std::marker::Model;
 use thiserror::Error;
 
 /// A net at work: one word for each signal of each instance, in which each step gives one signal its number, and the
-/// words of all memories side by side.
+/// words of all memories side by side. `mask` has a bit for each thread.
 #[derive(Drop)]
 pub struct Sim<'a> {
     modules: &'a [Module],
@@ -41,18 +48,21 @@ pub struct Sim<'a> {
     starts: Vec<u64>,
     prefs: usize,
     done: usize,
+    mask: u64,
+    alloc: Global,
 }
 
 impl<'a> Model for Sim<'a> {
-    ghost use Rattle.std.specs.Prelude.{◌≡◌, length};
-    ghost use Rattle.cycle_sim.specs.Running.{Running, Stands};
+    ghost use Rattle.std.specs.Prelude.{◌≡◌, ◌-◌, ◌^◌, length};
+    ghost use Rattle.cycle_sim.specs.Running.{Running, Stands, running};
+    ghost use Rattle.cycle_sim.specs.Rounds.{threads_of};
 
     ghost Value = { Running };
 
-    ghost view = { λ s. record { modules = s.modules.now; parts = s.parts.items; steps = s.steps.items; numbers = s.numbers.items; words = s.words.items; starts = s.starts.items; prefs = s.prefs; done = s.done } };
+    ghost view = { λ s. running s.modules.now s.parts.items s.steps.items s.numbers.items s.words.items s.starts.items s.prefs s.done };
 
-    ghost invariant = { λ s. Stands (record { modules = s.modules.now; parts = s.parts.items; steps = s.steps.items; numbers = s.numbers.items; words = s.words.items; starts = s.starts.items; prefs = s.prefs; done = s.done })
-        × (length s.next.items ≡ length s.numbers.items) };
+    ghost invariant = { λ s. Stands (running s.modules.now s.parts.items s.steps.items s.numbers.items s.words.items s.starts.items s.prefs s.done)
+        × (length s.next.items ≡ length s.numbers.items) × (s.mask ≡ 2 ^ threads_of s.modules.now - 1) };
 }
 
 /// What the edge leaves in settled words. `next` is room for it.
@@ -95,6 +105,8 @@ impl<'a> Sim<'a> {
             starts,
             prefs: _,
             done: _,
+            mask: _,
+            alloc: _,
         } = self;
         settle(
             modules,
@@ -133,6 +145,8 @@ impl<'a> Sim<'a> {
             starts,
             prefs: _,
             done: _,
+            mask: _,
+            alloc: _,
         } = self;
         pass_edge(
             modules,
@@ -169,11 +183,118 @@ impl<'a> Sim<'a> {
         self.is_done()
     }
 
+    /// Whether the output `done` is 1 where all threads are enabled and each arbiter prefers thread 0. The state stays.
+    pub fn done(&mut self) -> bool
+        requires { Fits self.old (all_enabled (threads_of self.old.modules) []) }
+        ensures net { IsSameNet self.old self.new }
+        ensures done { TellsDone (all_enabled (threads_of self.old.modules) []) self.old result }
+        ensures state { IsSameState self.old self.new }
+    {
+        let choice = self.all_enabled();
+        self.shows_done(&choice)
+    }
+
+    /// The choice of all threads, in which each arbiter prefers thread 0.
+    pub fn all_enabled(&self) -> Choice
+        ensures { choice_of result ≡ all_enabled (threads_of self.now.modules) [] }
+    {
+        Choice {
+            en: self.mask,
+            prefs: Items::new(self.alloc),
+        }
+    }
+
+    /// The choice of all threads, in which each arbiter prefers a thread.
+    pub fn all_preferring(&self, preferred: u64) -> Result<Choice, AllocError>
+        ensures { IfOk result (λ c. choice_of c ≡ all_enabled (threads_of self.now.modules) (replicate self.now.prefs preferred)) }
+    {
+        let prefs = vec![in self.alloc; preferred; self.prefs]?;
+        Ok(Choice {
+            en: self.mask,
+            prefs: Items::from_vec(prefs),
+        })
+    }
+
+    /// The outermost module.
+    fn top(&self) -> Option<&Module>
+        ensures { option_copied result ≡ top_of self.now.modules }
+    {
+        at(self.modules, kind_at_root(self.parts.as_slice()))
+    }
+
+    fn word(&self, location: Location) -> u64
+        ensures { result ≡ global_word (state_of self.now) location }
+    {
+        let spot = inner_spot(self.parts.as_slice(), location.instance);
+        let start = number_at(self.starts.as_slice(), spot.memories, location.memory);
+        word_at(self.words.as_slice(), start, location.word)
+    }
+
+    fn element(&self, location: Option<Location>) -> Option<u64>
+        ensures { result ≡ element_at (state_of self.now) location }
+    {
+        match location {
+            Some(location) => Some(self.word(location)),
+            None => None,
+        }
+    }
+
+    /// The bits of element `element` of a global: word `element / K` of its bank `element mod K`, where it has K banks, the instances
+    /// `u_NAME_k` of `top` that have a memory `bank_NAME_k`. None exactly where no bank has it. It takes no memory.
+    pub fn global(&self, name: &str, element: u64) -> Option<u64>
+        ensures { result ≡ global_of self.now name.now element }
+    {
+        match self.top() {
+            Some(top) => self.element(locate(self.modules, top, name, element)),
+            None => None,
+        }
+    }
+
+    /// The choices of 16 cycles in lockstep: in that of number k each arbiter prefers thread k.
+    #[tactic(auto, using(crate::proofs::Choices::choices_none))]
+    fn rounds(&self) -> Result<Vec<Choice>, AllocError>
+        ensures { IfOk result (λ choices. AreRounds (threads_of self.now.modules) self.now.prefs 16 choices.items) }
+    {
+        let mut choices = Vec::with_capacity(self.alloc, 16)?;
+        for preferred in 0..16u64 {
+            let choice = self.all_preferring(preferred)?;
+            choices.push(choice)?;
+        }
+        Ok(choices)
+    }
+
+    /// Runs cycles until done is shown, `cycles` of them at most, and gives their number. In cycle k, from 0, all threads are
+    /// enabled, and each arbiter prefers thread k modulo 16. What they write is appended to `out`. At `Err` some whole cycles
+    /// have run, and what they wrote stands in `out`.
+    pub fn lockstep(&mut self, cycles: u32, out: &mut Bytes) -> Result<u32, AllocError>
+        requires { TakesRounds self.old }
+        ensures ok { IfOk result (λ n. IsLockstep self.old self.new cycles n out.old out.new) }
+        ensures cut { OnErr result (IsCutOff self.old self.new cycles out.old out.new) }
+    {
+        let all = self.all_enabled();
+        let choices = self.rounds()?;
+        for number in 0..cycles {
+            if self.shows_done(&all) {
+                return Ok(number);
+            }
+            let choice = choice_at(choices.as_slice(), (number % 16) as usize);
+            self.cycle(choice, out)?;
+        }
+        Ok(cycles)
+    }
+
     fn is_done(&self) -> bool
         ensures { result ≡ nat_eq (slice_index self.now.numbers self.now.done) 1 }
     {
         item_at(self.numbers.as_slice(), self.done) == 1
     }
+}
+
+fn choice_at(choices: &[Choice], number: usize) -> &Choice
+    requires { number < length choices.now }
+    ensures { slice_get choices.now number ≡ Some result.now }
+{
+    &choices[number]
 }
 
 /// Why a net has no simulator.
@@ -224,7 +345,7 @@ fn loop_of(
     placed: &Placed,
     wires: &[Step],
 ) -> Result<OpenError, AllocError>
-    requires laid { (top : Kind) × (prefs : ℕ) × IsLaidOut modules.now top placed.now.parts.items placed.now.numbers.items placed.now.free.items placed.now.words.items placed.now.starts.items wires.now prefs }
+    requires laid { IsPlacedNet modules.now placed.now wires.now }
     requires stuck { IsStuck modules.now wires.now placed.now.free.items }
     ensures { IfOk result (IsCause modules.now) }
 {
@@ -280,8 +401,9 @@ impl<'a> Sim<'a> {
             return Err(OpenError::NoDone);
         };
         let done = further(base, number)?;
+        let mask = enable_mask(module_signals(modules, top));
         match order(alloc, modules, wires.as_slice(), placed.free.as_slice())? {
-            Some(steps) => Sim::built(alloc, modules, placed, steps, prefs, done),
+            Some(steps) => Sim::built(alloc, modules, placed, steps, prefs, done, mask),
             None => Err(loop_of(alloc, modules, &placed, wires.as_slice())?),
         }
     }
@@ -293,8 +415,10 @@ impl<'a> Sim<'a> {
         steps: Vec<Step>,
         prefs: usize,
         done: usize,
+        mask: u64,
     ) -> Result<Self, OpenError>
-        requires { IsReady (record { modules = modules.now; parts = placed.parts.items; steps = steps.items; numbers = placed.numbers.items; words = placed.words.items; starts = placed.starts.items; prefs = prefs; done = done }) }
+        requires ready { IsReady (running modules.now placed.parts.items steps.items placed.numbers.items placed.words.items placed.starts.items prefs done) }
+        requires mask { mask ≡ 2 ^ threads_of modules.now - 1 }
         ensures ok { IfOk result (IsOpened modules.entry.now prefs) }
         ensures cause { IfErr result (λ e. e ≡ errors.Memory) }
     {
@@ -316,6 +440,8 @@ impl<'a> Sim<'a> {
             starts,
             prefs,
             done,
+            mask,
+            alloc,
         })
     }
 }

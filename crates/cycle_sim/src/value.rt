@@ -50,7 +50,7 @@ pub fn number_at(numbers: &[u64], base: usize, signal: usize) -> u64
 }
 
 /// The word of a number in a memory that starts at a place.
-fn word_at(words: &[u64], start: u64, number: u64) -> u64
+pub fn word_at(words: &[u64], start: u64, number: u64) -> u64
     ensures { result ≡ slice_index words.now (start + number) }
 {
     match start.checked_add(number) {

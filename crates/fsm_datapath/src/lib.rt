@@ -42,8 +42,9 @@
 //
 // The slot of a reading: `stage`, `state` and `beat` are its numbers; a variable's register shows a value of its type;
 // a register of the plan shows, in its low bits, the value of each operation that is alive there in this state, and
-// whatever it likes where none is. The promise is made of the code of main without accesses of memory (`IsPlain`); of
-// memories that are written nothing is said yet.
+// whatever it likes where none is; a memory's words show the elements of its array. The promise is made of the code of main
+// without accesses of globals (`IsPlain`): what an edge stores is what the operations of the state that is left write
+// (stores, `PutsCells`).
 
 mod actions;
 mod acts;
@@ -55,5 +56,3 @@ pub mod shape;
 mod slots;
 mod stages;
 mod stores;
-#[cfg(test)]
-mod tests;

@@ -27,9 +27,6 @@ has_globals P h = h
 pub has_calls : (P : Program) → is_taken_function (slice_get P.functions P.main) ≡ false → IsResolved P → HasConstruct P construct.Calls
 has_calls P fails resolved = untaken_calls P resolved fails
 
-pub not_checked : (P : Program) → HasConstruct P construct.Unchecked
-not_checked P = tt
-
 pub alone : (P : Program) → IsSingle P → is_sequential_program P ≡ true → is_taken_function (slice_get P.functions P.main) ≡ true → IsAlone P
 alone P is sequential taken = record {
   threads = ⊎_elim (λ h. h is.threads) (⊎_elim (λ h. h is.mutexes) (⊎_elim (λ h. h is.barriers) (λ h. absurd cc)));

@@ -21,12 +21,11 @@ HasThreads P = (P.threads ≢ []) ⊎ ((P.mutexes ≢ []) ⊎ ((P.barriers ≢ [
 abbrev pub HasCalls : Program → Type 0
 HasCalls P = (g : ℕ) × Calls P.functions P.main g
 
--- the program has the construct. Of one that a check does not find in order nothing is said
+-- the program has the construct
 abbrev pub HasConstruct : Program → Construct → Type 0
 HasConstruct P construct.Threads = HasThreads P
 HasConstruct P construct.Globals = P.globals ≢ []
 HasConstruct P construct.Calls = HasCalls P
-HasConstruct P construct.Unchecked = Unit {0}
 
 -- main alone, without pthread calls, without globals and without calls
 pub record IsAlone (P : Program) : Type 0 where

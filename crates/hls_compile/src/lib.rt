@@ -74,10 +74,10 @@ impl From<AllocError> for BuildError {
     }
 }
 
-/// The code of main.
-#[tactic(auto, using(crate::proofs::Alone::not_checked))]
+/// The code of main, of a program within the limits.
 fn code_of(alloc: Global, program: &Program) -> Result<ThreadCode, BuildError>
     requires resolved { IsResolved (program_of program.now) }
+    requires limits { first_passed (program_of program.now) ≡ None }
     ensures single { OnOk result (IsSingle (program_of program.now)) }
     ensures alone { OnOk result (IsAlone (program_of program.now)) }
     ensures lowered { IfOk result (IsLowered (program_of program.now)) }
@@ -91,9 +91,8 @@ fn code_of(alloc: Global, program: &Program) -> Result<ThreadCode, BuildError>
         Ok(code) => Ok(code),
         Err(LowerError::NotYet) => Err(BuildError::NotBuilt(Construct::Calls)),
         Err(LowerError::Fault(LoweringFault::Memory)) => Err(BuildError::Memory),
-        Err(LowerError::Fault(LoweringFault::TooLarge | LoweringFault::Label)) => {
-            Err(BuildError::NotBuilt(Construct::Unchecked))
-        }
+        // (its numbers are within the limits)
+        Err(LowerError::Fault(LoweringFault::TooLarge)) => unreachable!(),
     }
 }
 

@@ -20,9 +20,6 @@ pub enum Construct {
     Globals,
     #[error("calls of functions")]
     Calls,
-    /// A program, or its hardware, that a check does not find in order. No program of the profile is known to be such.
-    #[error("a program that is not seen to be in order")]
-    Unchecked,
 }
 
 /// The first construct of main that is not built yet, where there is one.

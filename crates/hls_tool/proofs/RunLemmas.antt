@@ -1,12 +1,18 @@
 -- What is compiled to be run can be run, and what a run owes.
-use Rattle.std.proofs.Common.{◌≡◌, ℕ, ◌≤◌, Bool, true, false, List, Option, Some, None, slice_get, refl, ◌∙◌, sym, subst}
+use Rattle.std.proofs.Common.{◌≡◌, ℕ, ap, Bool, true, false, List, Option, Some, None, slice_get, refl, ◌∙◌, sym, subst}
 use Rattle.std.proofs.lemmas.Option.{same_Some}
+use Rattle.verilog_tree.specs.declared.tree.Net.{Net}
+use Rattle.verilog_tree.proofs.UniqueItems.{reads_one}
 use Rattle.netlist.specs.declared.netlist.Module.{Module}
 use Rattle.netlist.specs.declared.netlist.Netlist.{Netlist}
+use Rattle.netlist.specs.NetlistOf.{netlist_of}
+use Rattle.verilog_meaning.specs.Names.{top_of}
 use Rattle.verilog_meaning.specs.Threads.{Depends}
 use Rattle.cycle_sim.specs.declared.sim.OpenError.{OpenError}
 use Rattle.cycle_sim.specs.declared.sim.OpenError.TheVariants as errors
 use Rattle.cycle_sim.specs.Opened.{IsRightNet, IsCause}
+use Rattle.cycle_sim.specs.Rounds.{threads_of}
+use Rattle.cycle_sim.proofs.Enables.{threads_of_sound}
 use Rattle.cycle_sim.proofs.Printing.{one_printer}
 use Rattle.cycle_sim.proofs.Right.{right_of_sound}
 use Rattle.round_robin.specs.Round.{TakesChoices}
@@ -19,11 +25,16 @@ module _ (text : List ℕ) (threads : ℕ) (n : Netlist) (written : List ℕ) (i
   pub right_net : IsRightNet n.modules
   right_net = right_of_sound n is.net.sound
 
-  pub takes_choices : TakesChoices n.modules threads
-  takes_choices = is.net.takes
+  -- the net enables as many threads as the program has
+  pub threads_are : threads_of n.modules ≡ threads
+  threads_are =
+      let one = reads_one written is.good.net is.net.net is.good.reads is.net.reads in
+      let modules : (netlist_of is.good.net).modules ≡ n.modules = ap (λ (t : Net). (netlist_of t).modules) one ∙ ap (λ (k : Netlist). k.modules) is.net.is in
+      let enable = is.good.enables in
+      threads_of_sound n is.net.sound is.good.top enable.place enable.signal (sym (ap top_of modules) ∙ is.good.is_top) enable.is ∙ enable.wide ∙ sym is.counted
 
-  pub few_threads : threads ≤ 63
-  few_threads = is.few
+  pub takes_choices : TakesChoices n.modules (threads_of n.modules)
+  takes_choices = subst (TakesChoices n.modules) (sym threads_are) is.net.takes
 
   -- it has a simulator: of the causes none but want of memory comes
   pub no_cause : (e : OpenError) → IsCause n.modules e → e ≡ errors.Memory

@@ -79,7 +79,6 @@ abbrev pub construct_words : Construct → List ℕ
 construct_words construct.Threads = codes "pthread objects and calls"
 construct_words construct.Globals = codes "globals"
 construct_words construct.Calls = codes "calls of functions"
-construct_words construct.Unchecked = codes "a program that is not seen to be in order"
 
 abbrev pub unbuilt_line : Construct → List ℕ
 unbuilt_line c = codes "hls: refused: not built yet: " ++ (construct_words c ++ codes "\n")

@@ -2,7 +2,9 @@ ghost use Rattle.std.specs.Prelude.{◌≡◌, ◌⊎◌, None, Some, map, strin
 ghost use Rattle.hls_io.specs.Causes.{Rose};
 ghost use Rattle.hls_words.specs.Line.{task_of};
 ghost use Rattle.c_profile.specs.Profile.{IsRefused};
-ghost use Rattle.hls_tool.specs.Call.{Answered, IsWriteFault, TellsRefusal};
+ghost use Rattle.hls_tool.specs.Call.{Answered, AnswersWalk, AsksToWalk, IsWriteFault, TellsEnd, TellsRefusal};
+ghost use Rattle.turns.specs.Turns.{threads_of};
+ghost use Rattle.c_interpreter.specs.Walk.{IsWalk};
 ghost use Rattle.hls_tool.specs.Delivery.{passage};
 ghost use Rattle.hls_tool.specs.Answers.{HasRunOut, IsRefusedBy, IsUnbuiltBy, IsWalkEnd, LeavesOut};
 
@@ -28,6 +30,11 @@ pub fn hls<S: Source, O: Sink, E: Sink>(
     ensures unbuilt { (c : _) → result.status ≡ Status.NotBuilt c → LeavesOut (task_of (map string_bytes words.now)) × IsUnbuiltBy (S.left source.old) c }
     ensures cycles { (n : _) → result.status ≡ Status.Cycles n → HasRunOut (task_of (map string_bytes words.now)) (S.left source.old) n }
     ensures walked { (end : _) → result.status ≡ Status.Walked end → IsWalkEnd (task_of (map string_bytes words.now)) (S.left source.old) end }
+    ensures completes { (turns : _) (P : _) → AsksToWalk (task_of (map string_bytes words.now)) (S.left source.old) turns P
+        → (Rose (S.faults source.old) (S.faults source.new) → ⊥) → (Rose (O.faults out.old) (O.faults out.new) → ⊥)
+        → (Rose (E.faults err.old) (E.faults err.new) → ⊥) → AnswersWalk result.status }
+    ensures tells_end { (turns : _) (P : _) (end : _) (output : _) → AsksToWalk (task_of (map string_bytes words.now)) (S.left source.old) turns P
+        → IsWalk P (threads_of turns) end output → TellsEnd end result.status }
     ensures answered { Answered (task_of (map string_bytes words.now)) (S.left source.old)
         (Rose (S.faults source.old) (S.faults source.new))
         (passage (O.held out.old) (O.held out.new) (O.faults out.old) (O.faults out.new))

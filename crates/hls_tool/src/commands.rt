@@ -202,12 +202,11 @@ fn memory_alone(error: OpenError) -> AllocError
 }
 
 /// Runs a net. Each that is compiled to be run has a simulator.
-#[tactic(auto, using(crate::proofs::RunLemmas::few_threads))]
 fn ran(alloc: Global, built: &Runnable, cycles: u32) -> Result<Ran, AllocError>
     requires { (text : _) × IsRunnable text built.now.threads built.now.net built.now.text }
     ensures { IfOk result (λ r. IsRound built.now.net.modules built.now.threads cycles r.cycles r.is_done r.printed) }
 {
-    match run(alloc, built.net.modules.as_slice(), built.threads, cycles) {
+    match run(alloc, built.net.modules.as_slice(), cycles) {
         Ok(ran) => Ok(ran),
         Err(error) => Err(memory_alone(error)),
     }

@@ -45,7 +45,6 @@ fn construct_words(construct: Construct) -> &'static str
         Construct::Threads => "pthread objects and calls",
         Construct::Globals => "globals",
         Construct::Calls => "calls of functions",
-        Construct::Unchecked => "a program that is not seen to be in order",
     }
 }
 

@@ -1,7 +1,7 @@
 -- Where code with labels goes on.
 use Rattle.std.proofs.Common.{◌≡◌, ℕ, suc, ◌+◌, ◌<◌, ◌≤◌, Bool, true, false, List, [], ◌∷◌, ◌++◌, length, ℤ, Option, Some, None, refl, sym, ap}
 use Rattle.std.proofs.Common.{◌∙◌, subst, inl, inr, arith, append-nil, append_assoc}
-use Rattle.std.specs.Prelude.{slice_get, slice_set, ◌⊎◌}
+use Rattle.std.specs.Prelude.{slice_get, ◌⊎◌}
 use Rattle.thread_semantics.specs.Work.{Work}
 use Rattle.thread_semantics.specs.State.{Frame}
 use Rattle.block_ir.specs.declared.operand.Operand.{Operand}
@@ -14,19 +14,17 @@ use Rattle.block_ir.specs.Run.{Running, leads_to, variables_after, stage_after}
 use Rattle.code_following.specs.Following.{Follows}
 use Rattle.ir_lower.specs.declared.homes.Home.{Home}
 use Rattle.ir_lower.specs.declared.homes.Home.TheVariants as home
-use Rattle.ir_lower.specs.declared.stages.Place.{Place}
-use Rattle.ir_lower.specs.declared.stages.Place.TheVariants as place
 use Rattle.ir_lower.specs.declared.stages.Stages.{Stages}
 use Rattle.ir_lower.specs.declared.lowering.Lowering.{Lowering}
 use Rattle.ir_lower.specs.Evaluating.{local_value}
-use Rattle.ir_lower.specs.Closing.{IsAmong, HasNoted, IsFresh, Closes}
+use Rattle.ir_lower.specs.Closing.{HasNoted, IsFresh, Closes}
 use Rattle.ir_lower.specs.Printing.{held_by}
 use Rattle.ir_lower.specs.Resuming.{home_value, Keeping, nothing_kept, IsMid, InBlock, AtFresh, IsSound}
 use Rattle.ir_lower.specs.Apart.{IsGood}
-use Rattle.ir_lower.specs.Labels.{led_next, led_stage, led, IsWhole, Pushes, Settles}
+use Rattle.ir_lower.specs.Labels.{IsHere, leading, led_next, led_stage, led, IsWhole, Pushes, Settles, IsOpen, IsTarget}
 use Rattle.ir_lower.specs.Control.{marked, placed, Branches, EndsAt, LeadsOn, EndsBusy, Jumps, BeginsHere, BeginsAfter, Begins, Whole, IsIn, AtLabelUpTo, GoesOn}
-use Rattle.ir_lower.proofs.Cells.{set_length}
-use Rattle.ir_lower.proofs.Finals.{among_left, among_last}
+use Rattle.ir_lower.proofs.Cells.{set_same, set_other, get_within}
+use Rattle.ir_lower.proofs.Advancing.{target_after, marks, binds_label, pushes_advance, pushed_here, leads_advance, led_here}
 use Rattle.ir_lower.proofs.Resuming.{same_function, stage_at, fresh_of_in}
 
 led_append : (stage_of : ℕ → ℕ) (xs ys : List Stage) → led stage_of (xs ++ ys) ≡ led stage_of xs ++ led stage_of ys
@@ -48,7 +46,7 @@ module _ (stage_of : ℕ → ℕ) (all : List Stage) (old new : Stages) (whole :
           ∙ ap (λ l. l ++ whole.part.more) (led_append stage_of old.stages.items (s ∷ []))
           ∙ append_assoc (led stage_of old.stages.items) (led_stage stage_of s ∷ []) whole.part.more;
     };
-    obeys = p.kept stage_of whole.obeys;
+    obeys = (pushes_advance s old new p).obeys stage_of whole.obeys;
   }
 
   -- and the stage is there
@@ -58,15 +56,15 @@ module _ (stage_of : ℕ → ℕ) (all : List Stage) (old new : Stages) (whole :
       ∙ stage_at (led stage_of old.stages.items) whole.part.more all (led_stage stage_of s)
       (whole.part.is ∙ ap (λ l. led stage_of l ++ whole.part.more) p.stages ∙ ap (λ l. l ++ whole.part.more) (led_append stage_of old.stages.items (s ∷ [])))
 
-  pub whole_settled : (p : Place) → Settles p old new → IsWhole stage_of all old
-  whole_settled p s = record {
+  pub whole_settled : (label : ℕ) → IsTarget label old → Settles (leading old.places (slice_get old.labels label) label) old new → IsWhole stage_of all old
+  whole_settled label target s = record {
     part = record { more = whole.part.more; is = whole.part.is ∙ ap (λ v. led stage_of v.items ++ whole.part.more) s.stages };
-    obeys = s.kept stage_of whole.obeys;
+    obeys = (leads_advance label old new s target).obeys stage_of whole.obeys;
   }
 
 pub goes_of_in : (W : Whole) (homes : List Home) (Kept : Keeping) (size n : ℕ) (c : Lowering) (k : List Work) → IsSound size c.block →
     InBlock W.setting homes Kept n (length c.stages.stages.items) c.block k →
-    ((label : ℕ) → IsAmong c.stages.here label → W.stage_of label ≡ length c.stages.stages.items) → GoesOn W homes Kept n c k
+    ((label : ℕ) → IsHere c.stages label → W.stage_of label ≡ length c.stages.stages.items) → GoesOn W homes Kept n c k
 goes_of_in W homes Kept size n c k sound inside here = record {
   fresh = λ idle label among.
       subst (λ l. AtFresh W.setting homes Kept n l k) (sym (here label among))
@@ -74,6 +72,23 @@ goes_of_in W homes Kept size n c k sound inside here = record {
   busy = λ h. inside;
   here = λ h label among. here label among;
 }
+
+pub target_marked : (label : ℕ) (c : Lowering) → IsTarget label c.stages → IsTarget label (marked label c).stages
+target_marked label c target = target_after c.stages (marked label c).stages label (marks label c.stages (marked label c).stages refl) target
+
+pub open_marked : (label other : ℕ) (c : Lowering) → IsOpen other c.stages → IsOpen other (marked label c).stages
+open_marked label other c open_ = (marks label c.stages (marked label c).stages refl).open_ other (λ b. b) open_
+
+pub open_ended : (next : Next) (label : ℕ) (old new : Lowering) → EndsAt next old new → IsOpen label old.stages → IsOpen label new.stages
+open_ended next label old new e open_ = (pushes_advance (stage.Run e.block) old.stages new.stages e.pushes).open_ label (λ b. b) open_
+
+-- a label that is given the place at hand is there, and so are those that were
+pub placed_here : (label : ℕ) (c : Lowering) → IsOpen label c.stages → IsHere (placed label c).stages label
+placed_here label c open_ = set_same c.stages.labels label (Some (length c.stages.places)) (get_within c.stages.labels label None open_)
+
+pub here_placed : (label other : ℕ) (c : Lowering) → IsOpen label c.stages → IsHere c.stages other → IsHere (placed label c).stages other
+here_placed label other c open_ here =
+    set_other c.stages.labels label other (Some (length c.stages.places)) (λ e. absurd (let a = open_ in let b = ap (slice_get c.stages.labels) e in cc)) ∙ here
 
 module _ (W : Whole) (homes : List Home) (n : ℕ) (k : List Work) where
   -- the block at hand ends, and where it leads the thread goes on
@@ -105,7 +120,7 @@ module _ (W : Whole) (homes : List Home) (n : ℕ) (k : List Work) where
         steps = (let s = e.closes.steps in omega arith);
         goes = λ j lt variables r f globals is mid. (refl, lands j lt variables r f globals is mid);
       };
-      here = λ h label among. e.pushes.placed W.stage_of whole.obeys label among;
+      here = λ h label among. pushed_here (stage.Run e.block) c.stages new.stages e.pushes W.stage_of whole.obeys label among;
     }
 
     pub jump_lands : (Kept : Keeping) (label : ℕ) → next ≡ Jump label → ((j : ℕ) → j < n → AtFresh W.setting homes Kept j (W.stage_of label) k) → GoesOn W homes Kept n c k
@@ -123,7 +138,8 @@ module _ (W : Whole) (homes : List Home) (n : ℕ) (k : List Work) where
       by : LeadsOn label (marked label old) new ⊎ EndsBusy label (marked label old) new → GoesOn W homes nothing_kept n old k
       by (inl p) = record {
         fresh = λ idle h among.
-            subst (λ l. AtFresh W.setting homes nothing_kept n l k) (sym (p.settles.placed W.stage_of whole.obeys h among)) (at n (omega arith));
+            subst (λ l. AtFresh W.setting homes nothing_kept n l k) (sym (led_here label (marked label old).stages new.stages p.settles (target_marked label old jumps.target) W.stage_of whole.obeys h among))
+            (at n (omega arith));
         busy = λ h. absurd (let idle = p.idle in omega arith);
         here = λ h. absurd (let idle = p.idle in omega arith);
       }
@@ -135,13 +151,17 @@ module _ (W : Whole) (homes : List Home) (n : ℕ) (k : List Work) where
   pub begin_at : (Kept : Keeping) (label : ℕ) (old new : Lowering) → new.block.steps ≡ 0 → Begins label old new → GoesOn W homes Kept n new k →
       AtFresh W.setting homes Kept n (W.stage_of label) k
   begin_at Kept label old new idle (inl p) g =
-      g.fresh idle label (subst (λ (z : Lowering). IsAmong z.stages.here label) (sym p.same) (among_last old.stages.here label))
+      g.fresh idle label (subst (λ (z : Lowering). IsHere z.stages label) (sym p.same) (placed_here label (marked label old) p.open_))
   begin_at Kept label old new idle (inr p) g =
-      g.fresh idle label (subst (λ (z : Lowering). IsAmong z.stages.here label) (sym p.same) (among_last p.mid.stages.here label))
+      g.fresh idle label
+      (subst (λ (z : Lowering). IsHere z.stages label) (sym p.same) (placed_here label p.mid (open_ended (Jump label) label (marked label old) p.mid p.ends.ends p.open_)))
 
 -- the whole is whole before a label is bound
-whole_placed : (W : Whole) (label : ℕ) (c : Lowering) → IsIn W (placed label c) → IsIn W c
-whole_placed W label c whole = record { part = record { more = whole.part.more; is = whole.part.is }; obeys = whole.obeys }
+pub whole_placed : (W : Whole) (label : ℕ) (c : Lowering) → IsOpen label c.stages → IsIn W (placed label c) → IsIn W c
+whole_placed W label c open_ whole = record {
+  part = record { more = whole.part.more; is = whole.part.is };
+  obeys = (binds_label label c.stages (placed label c).stages open_ refl).obeys W.stage_of whole.obeys;
+}
 
 pub begun_idle : (label size : ℕ) (old new : Lowering) → IsGood size old → Begins label old new → new.block.steps ≡ 0
 begun_idle label size old new good (inl p) = ap (λ (z : Lowering). z.block.steps) p.same ∙ by old.reached refl
@@ -157,12 +177,12 @@ pub begin_goes_on : (W : Whole) (homes : List Home) (n : ℕ) (k : List Work) (K
 begin_goes_on W homes n k Kept label size old new good reached (inl p) whole g = record {
   fresh = λ idle h among.
       (g n (omega arith)).fresh (begun_idle label size old new good (inl p)) h
-      (subst (λ (z : Lowering). IsAmong z.stages.here h) (sym p.same) (among_left old.stages.here label h among));
+      (subst (λ (z : Lowering). IsHere z.stages h) (sym p.same) (here_placed label h (marked label old) p.open_ among));
   busy = λ h. absurd (let idle = p.idle reached in omega arith);
   here = λ h. absurd (let idle = p.idle reached in omega arith);
 }
 begin_goes_on W homes n k Kept label size old new good reached (inr p) whole g =
-    let whole_mid : IsIn W p.mid = whole_placed W label p.mid (subst (IsIn W) p.same whole) in
+    let whole_mid : IsIn W p.mid = whole_placed W label p.mid (open_ended (Jump label) label (marked label old) p.mid p.ends.ends p.open_) (subst (IsIn W) p.same whole) in
     let h =
     jump_lands W homes n k (Jump label) (marked label old) p.mid good.sound.noted p.ends.busy p.ends.ends whole_mid Kept label refl
     (λ j lt. begin_at W homes j k Kept label old new (begun_idle label size old new good (inr p)) (inr p) (g j (omega arith))) in
@@ -174,30 +194,38 @@ pub ends_at : (next : Next) (old new : Lowering) (block : Block) → Closes old.
     Pushes (stage.Run block) old.stages new.stages → new ≡ record old { block = new.block; stages = new.stages; reached = false } → EndsAt next old new
 ends_at next old new block closes left pushes same = record { block = block; closes = closes; left = left; pushes = pushes; same = same }
 
-pub jumps_idle : (label : ℕ) (old marked_ new : Lowering) → label < length old.stages.used → marked_ ≡ marked label old → marked_.block.steps ≡ 0 →
-    Settles (place.Same label) marked_.stages new.stages →
+pub jumps_idle : (label : ℕ) (old marked_ new : Lowering) → IsTarget label old.stages → marked_ ≡ marked label old → marked_.block.steps ≡ 0 →
+    Settles (leading marked_.stages.places (slice_get marked_.stages.labels label) label) marked_.stages new.stages →
     new ≡ record marked_ { stages = new.stages; reached = false } → Jumps label old new
-jumps_idle label old marked_ new known is idle settles same =
-    record { known = known; way = inl (subst (λ (z : Lowering). LeadsOn label z new) is (record { idle = idle; settles = settles; same = same })) }
+jumps_idle label old marked_ new target is idle settles same =
+    record { target = target; way = inl (subst (λ (z : Lowering). LeadsOn label z new) is (record { idle = idle; settles = settles; same = same })) }
 
-pub jumps_busy : (label : ℕ) (old marked_ new : Lowering) → label < length old.stages.used → marked_ ≡ marked label old → (marked_.block.steps ≡ 0 → ⊥) →
+pub jumps_busy : (label : ℕ) (old marked_ new : Lowering) → IsTarget label old.stages → marked_ ≡ marked label old → (marked_.block.steps ≡ 0 → ⊥) →
     EndsAt (Jump label) marked_ new → Jumps label old new
-jumps_busy label old marked_ new known is busy ends =
-    record { known = known; way = inr (subst (λ (z : Lowering). EndsBusy label z new) is (record { busy = omega arith; ends = ends })) }
+jumps_busy label old marked_ new target is busy ends =
+    record { target = target; way = inr (subst (λ (z : Lowering). EndsBusy label z new) is (record { busy = omega arith; ends = ends })) }
 
-pub begins_here : (label : ℕ) (old marked_ new : Lowering) → marked_ ≡ marked label old → (marked_.reached ≡ true → marked_.block.steps ≡ 0) → new ≡ placed label marked_ → Begins label old new
-begins_here label old marked_ new is idle same = inl (subst (λ (z : Lowering). BeginsHere label z new) is (record { idle = idle; same = same }))
+pub begins_here : (label : ℕ) (old marked_ new : Lowering) → IsOpen label old.stages → marked_ ≡ marked label old → (marked_.reached ≡ true → marked_.block.steps ≡ 0) → new ≡ placed label marked_ →
+    Begins label old new
+begins_here label old marked_ new open_ is idle same =
+    let open_marked_ = subst (λ (z : Lowering). IsOpen label z.stages) (sym is) (open_marked label label old open_) in
+    inl (subst (λ (z : Lowering). BeginsHere label z new) is (record { open_ = open_marked_; idle = idle; same = same }))
 
-pub begins_after : (label : ℕ) (old marked_ mid new : Lowering) → marked_ ≡ marked label old → marked_.reached ≡ true → (marked_.block.steps ≡ 0 → ⊥) → EndsAt (Jump label) marked_ mid →
-    new ≡ placed label mid → Begins label old new
-begins_after label old marked_ mid new is reached busy ends same =
-    inr (subst (λ (z : Lowering). BeginsAfter label z new) is (record { reached = reached; mid = mid; ends = record { busy = omega arith; ends = ends }; same = same }))
+pub begins_after : (label : ℕ) (old marked_ mid new : Lowering) → IsOpen label old.stages → marked_ ≡ marked label old → marked_.reached ≡ true → (marked_.block.steps ≡ 0 → ⊥) →
+    EndsAt (Jump label) marked_ mid → new ≡ placed label mid → Begins label old new
+begins_after label old marked_ mid new open_ is reached busy ends same =
+    let open_marked_ = subst (λ (z : Lowering). IsOpen label z.stages) (sym is) (open_marked label label old open_) in
+    inr (subst (λ (z : Lowering). BeginsAfter label z new) is (record { open_ = open_marked_; reached = reached; mid = mid; ends = record { busy = omega arith; ends = ends }; same = same }))
 
-pub branches_at : (test : Operand) (nonzero otherwise : ℕ) (old both new : Lowering) → both ≡ marked otherwise (marked nonzero old) → nonzero < length old.stages.used →
-    otherwise < length (slice_set old.stages.used nonzero true) →
+pub branches_at : (test : Operand) (nonzero otherwise : ℕ) (old both new : Lowering) → both ≡ marked otherwise (marked nonzero old) →
     EndsAt (Branch test nonzero otherwise) both new → Branches test nonzero otherwise old new
-branches_at test nonzero otherwise old both new is first second ends = record {
-  first = first;
-  second = (let l = set_length old.stages.used nonzero true in omega (arith, l, second));
+branches_at test nonzero otherwise old both new is ends = record {
   ends = subst (λ (z : Lowering). EndsAt (Branch test nonzero otherwise) z new) is ends;
 }
+
+-- a label without a place is still without one where it is given one
+pub marked_open : (label : ℕ) (old marked_ : Lowering) → marked_ ≡ marked label old → IsOpen label old.stages → IsOpen label marked_.stages
+marked_open label old marked_ is open_ = subst (λ (z : Lowering). IsOpen label z.stages) (sym is) (open_marked label label old open_)
+
+pub ended_open : (label : ℕ) (old marked_ mid : Lowering) → marked_ ≡ marked label old → EndsAt (Jump label) marked_ mid → IsOpen label old.stages → IsOpen label mid.stages
+ended_open label old marked_ mid is ends open_ = open_ended (Jump label) label marked_ mid ends (marked_open label old marked_ is open_)

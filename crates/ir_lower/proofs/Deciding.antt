@@ -1,7 +1,7 @@
 -- Conditions.
-use Rattle.std.proofs.Common.{◌≡◌, ℕ, zero, suc, ◌+◌, ◌*◌, ◌<◌, Bool, true, false, not, List, [], ◌∷◌, ◌++◌, length, ℤ, refl, sym, ap}
+use Rattle.std.proofs.Common.{◌≡◌, ℕ, suc, ◌+◌, ◌*◌, ◌<◌, Bool, true, false, not, List, [], ◌∷◌, ◌++◌, length, ℤ, Some, None, refl, sym, ap}
 use Rattle.std.proofs.Common.{◌∙◌, subst, inl, inr, arith, append-nil}
-use Rattle.std.specs.Prelude.{if◌then◌else◌, slice_get, slice_set}
+use Rattle.std.specs.Prelude.{if◌then◌else◌, slice_get}
 use Rattle.hls_ints.specs.Operators.{is_zero}
 use Rattle.c_program.specs.Tree.{Expression, Condition}
 use Rattle.c_program.specs.Weight.{expression_weight, condition_weight}
@@ -20,27 +20,27 @@ use Rattle.block_ir.specs.Run.{Running, operand_value, operations_run, leads_to,
 use Rattle.code_following.specs.Following.{reads_of, AfterMove, Follows}
 use Rattle.ir_lower.specs.declared.homes.Home.{Home}
 use Rattle.ir_lower.specs.declared.open_block.OpenBlock.{OpenBlock}
-use Rattle.ir_lower.specs.declared.stages.Place.TheVariants as place
 use Rattle.ir_lower.specs.declared.lowering.Lowering.{Lowering}
 use Rattle.ir_lower.specs.Evaluating.{local_value, Reads, Evaluates}
-use Rattle.ir_lower.specs.Closing.{IsAmong, HasNoted, IsFresh}
+use Rattle.ir_lower.specs.Closing.{HasNoted, IsFresh}
 use Rattle.ir_lower.specs.Typed.{IsTypedOperand}
 use Rattle.ir_lower.specs.Typing.{Typing, Fits, IsTypedOpen}
 use Rattle.ir_lower.specs.Apart.{IsTypedNow, IsGood}
 use Rattle.ir_lower.specs.Resuming.{Keeping, nothing_kept, IsMid, Comes, InBlock, IsSound}
-use Rattle.ir_lower.specs.Labels.{ObeysAll, led_next, led, is_used}
-use Rattle.ir_lower.specs.Control.{marked, side, EndsAt, Begins, Branches, Keeps, StaysTyped, Tests, Decides, with_label, Whole, IsIn, AtLabel, GoesOn}
-use Rattle.ir_lower.proofs.Running.{get_left}
+use Rattle.ir_lower.specs.Labels.{IsHere, led_next, led, with_used, is_used, IsAt, Advances, IsFirst}
+use Rattle.ir_lower.specs.Control.{marked, Begun, side, EndsAt, Begins, Branches, Keeps, StaysTyped, Tests, Decides, with_label, Whole, IsIn, AtLabel, GoesOn}
 use Rattle.ir_lower.proofs.Steps.{hold_on}
-use Rattle.ir_lower.proofs.Controlling.{begin_at, after_local, whole_pushed, pushed_at, goes_of_in}
+use Rattle.ir_lower.proofs.Controlling.{whole_placed, begin_at, after_local, whole_pushed, pushed_at, goes_of_in}
 use Rattle.ir_lower.proofs.Resuming.{fresh_sound}
 use Rattle.ir_lower.proofs.Staying.{anywhere_more, now_more, ends_typed}
-use Rattle.ir_lower.proofs.Cells.{set_length, get_within}
+use Rattle.ir_lower.proofs.Cells.{get_within}
+use Rattle.ir_lower.proofs.Advancing.{None_, get_more, advances_both, advances_new, first_after, labels_more, marks, pushes_advance, pushed_here, pushed_is}
+use Rattle.ir_lower.proofs.Opening.{marks_keep, is_marked, pushed_begun, label_begun, begins_advance}
 
 -- a step that evaluates the first operand of a condition, at the end of a block that leads to a label for each truth
 module _ (W : Whole) (homes : List Home) (n : ℕ) (e : Expression) (parts : List Work) (next : Next) (old mid new : Lowering) (b : OpenBlock) (test : Operand) (target : Bool → ℕ)
     (first : Evaluates homes e old.block b test) (block_is : mid.block ≡ record b { steps = suc b.steps }) (items_same : mid.stages.stages ≡ old.stages.stages)
-    (here_same : mid.stages.here ≡ old.stages.here) (ends : EndsAt next mid new) (whole : IsIn W new)
+    (here_same : (label : ℕ) → IsHere old.stages label → IsHere mid.stages label) (ends : EndsAt next mid new) (whole : IsIn W new)
     (size : ℕ) (sound : IsSound size old.block)
     (route : (variables : ℕ → ℤ) (values : List ℤ) → leads_to variables values (led_next W.stage_of next) ≡ W.stage_of (target (not (is_zero (operand_value variables values test)))))
     (at : (j : ℕ) → j < n → (variables : ℕ → ℤ) (values : List ℤ) →
@@ -112,7 +112,7 @@ module _ (W : Whole) (homes : List Home) (n : ℕ) (e : Expression) (parts : Lis
     pub asks : GoesOn W homes nothing_kept n old (Ask c0 ∷ k0)
     asks = goes_of_in W homes nothing_kept size n old (Ask c0 ∷ k0) sound inside
         (λ label among.
-        ends.pushes.placed W.stage_of whole.obeys label (subst (λ l. IsAmong l label) (sym here_same) among) ∙ ap (λ v. length v.items) items_same)
+        pushed_here (stage.Run ends.block) mid.stages new.stages ends.pushes W.stage_of whole.obeys label (here_same label among) ∙ ap (λ v. length v.items) items_same)
 
 -- a branch leads by whether the value is zero
 branch_route : (stage_of : ℕ → ℕ) (nonzero otherwise : ℕ) (b : Bool) → (if b then stage_of otherwise else stage_of nonzero) ≡ stage_of (side nonzero otherwise (not b))
@@ -131,9 +131,9 @@ test_fresh next old mid new e b test first block_is ends size sound =
 -- what a test keeps
 test_keeps : (next : Next) (old mid new : Lowering) (e : Expression) (b : OpenBlock) (test : Operand) → Evaluates old.homes e old.block b test → mid.block ≡ record b { steps = suc b.steps } →
     mid.homes ≡ old.homes → mid.variables ≡ old.variables → mid.arrays ≡ old.arrays → mid.act_operands ≡ old.act_operands → mid.stages.stages ≡ old.stages.stages →
-    mid.stages.places ≡ old.stages.places →
+    mid.stages.labels ≡ old.stages.labels → mid.stages.places ≡ old.stages.places →
     ((label : ℕ) → is_used old.stages.used label ≡ true → is_used mid.stages.used label ≡ true) → EndsAt next mid new → Keeps old new
-test_keeps next old mid new e b test first block_is homes variables arrays words items places used ends = record {
+test_keeps next old mid new e b test first block_is homes variables arrays words items labels places used ends = record {
   homes = ap (λ (z : Lowering). z.homes) ends.same ∙ homes;
   variables = ap (λ (z : Lowering). z.variables) ends.same ∙ variables;
   arrays = ap (λ (z : Lowering). z.arrays) ends.same ∙ arrays;
@@ -143,22 +143,10 @@ test_keeps next old mid new e b test first block_is homes variables arrays words
       let w = whole_pushed W.stage_of W.setting.stages mid.stages new.stages whole (stage.Run ends.block) ends.pushes in
       record {
         part = record { more = w.part.more; is = w.part.is ∙ ap (λ v. led W.stage_of v.items ++ w.part.more) items };
-        obeys = subst (ObeysAll W.stage_of) places w.obeys;
+        obeys = λ label number p bound came. w.obeys label number p (ap (λ ls. slice_get ls label) labels ∙ bound) (ap (λ ps. slice_get ps number) places ∙ came);
       };
   used = λ label is. ap (λ us. is_used us label) ends.pushes.used ∙ used label is;
 }
-
-pub marks_keep : (used : List Bool) (label other : ℕ) → is_used used other ≡ true → is_used (slice_set used label true) other ≡ true
-marks_keep [] label other e = e
-marks_keep (u ∷ us) zero zero e = refl
-marks_keep (u ∷ us) zero (suc other) e = e
-marks_keep (u ∷ us) (suc label) zero e = e
-marks_keep (u ∷ us) (suc label) (suc other) e = marks_keep us label other e
-
-pub is_marked : (used : List Bool) (label : ℕ) → label < length used → is_used (slice_set used label true) label ≡ true
-is_marked [] label lt = absurd (omega arith)
-is_marked (u ∷ us) zero lt = refl
-is_marked (u ∷ us) (suc label) lt = is_marked us label (omega arith)
 
 test_typed : (e : Expression) (nonzero otherwise : ℕ) (old mid new : Lowering) (b : OpenBlock) (test : Operand) → Evaluates old.homes e old.block b test →
     mid ≡ record old { block = record b { steps = suc b.steps } } → EndsAt (Branch test nonzero otherwise) (marked otherwise (marked nonzero mid)) new →
@@ -173,6 +161,8 @@ test_typed e nonzero otherwise old mid new b test first same ends = λ S w size 
     (record {
       block = subst (IsTypedOpen S.types) (sym block_is) (record { operations = c.block.operations; few = c.block.few; current = c.block.current });
       size = (let l = first.computes.count in let f = now.size in let t = ap (λ (z : OpenBlock). length z.operations) block_is in omega (arith, l, f, t));
+      steps =
+          (let f = now.steps in let t = ap (λ (z : OpenBlock). z.steps) block_is in let u = ap (λ (z : OpenBlock). z.steps) first.added in omega (arith, f, t, u));
       stages = λ l s at.
           anywhere_more S.types S.program (4 * w) (4 * (w + (expression_weight e + 1))) (omega arith) s (now.stages l s (ap (λ (z : Lowering). slice_get z.stages.stages.items l) (sym same) ∙ at));
     })
@@ -184,10 +174,15 @@ tests_branch e nonzero otherwise old mid new b test first same branches = record
       test_keeps (Branch test nonzero otherwise) old (marked otherwise (marked nonzero mid)) new e b test first block_is
       (ap (λ (z : Lowering). z.homes) same) (ap (λ (z : Lowering). z.variables) same) (ap (λ (z : Lowering). z.arrays) same) (ap (λ (z : Lowering). z.act_operands) same)
       (ap (λ (z : Lowering). z.stages.stages) same)
-      (ap (λ (z : Lowering). z.stages.places) same)
-      (λ label is. marks_keep (slice_set mid.stages.used nonzero true) otherwise label
+      (ap (λ (z : Lowering). z.stages.labels) same) (ap (λ (z : Lowering). z.stages.places) same)
+      (λ label is. marks_keep (with_used mid.stages.used nonzero) otherwise label
       (marks_keep mid.stages.used nonzero label (ap (λ (z : Lowering). is_used z.stages.used label) same ∙ is))) branches.ends;
   site = ap (λ (z : Lowering). z.site) branches.ends.same ∙ ap (λ (z : Lowering). z.site) same;
+  advances = advances_both None_ old.stages (marked otherwise (marked nonzero mid)).stages new.stages to_both (pushes_advance (stage.Run branches.ends.block) (marked otherwise (marked nonzero mid)).stages new.stages branches.ends.pushes);
+  first = pushed_begun (stage.Run branches.ends.block) old (marked otherwise (marked nonzero mid)).stages new.stages to_both (ap (λ (z : Lowering). z.stages.stages.items) same) here_both branches.ends.pushes;
+  settled = λ label here.
+      subst (λ n. IsAt label n new.stages) (ap (λ (z : Lowering). length z.stages.stages.items) same)
+      (pushed_is (stage.Run branches.ends.block) (marked otherwise (marked nonzero mid)).stages new.stages branches.ends.pushes label (here_both label here));
   typed = test_typed e nonzero otherwise old mid new b test first same branches.ends;
   ends = ap (λ (z : Lowering). z.reached) branches.ends.same;
   idle = λ size is sound. (test_fresh (Branch test nonzero otherwise) old (marked otherwise (marked nonzero mid)) new e b test first block_is branches.ends size sound).steps;
@@ -195,7 +190,7 @@ tests_branch e nonzero otherwise old mid new b test first same branches = record
   asks = λ W homes size n parts homes_are size_is whole sound at.
       asks W homes n e parts (Branch test nonzero otherwise) old (marked otherwise (marked nonzero mid)) new b test (side nonzero otherwise)
       (subst (λ hs. Evaluates hs e old.block b test) homes_are first) block_is
-      (ap (λ (z : Lowering). z.stages.stages) same) (ap (λ (z : Lowering). z.stages.here) same) branches.ends whole size sound
+      (ap (λ (z : Lowering). z.stages.stages) same) here_both branches.ends whole size sound
       (λ variables values. branch_route W.stage_of nonzero otherwise (is_zero (operand_value variables values test)))
       (λ j lt variables values. at j lt (not (is_zero (operand_value variables values test))));
 }
@@ -203,9 +198,17 @@ tests_branch e nonzero otherwise old mid new b test first same branches = record
     block_is : (marked otherwise (marked nonzero mid)).block ≡ record b { steps = suc b.steps }
     block_is = ap (λ (z : Lowering). z.block) same
 
-    by : (truth : Bool) → is_used (slice_set (slice_set mid.stages.used nonzero true) otherwise true) (side nonzero otherwise truth) ≡ true
-    by true = marks_keep (slice_set mid.stages.used nonzero true) otherwise nonzero (is_marked mid.stages.used nonzero branches.first)
-    by false = is_marked (slice_set mid.stages.used nonzero true) otherwise (let l = set_length mid.stages.used nonzero true in let k = branches.second in omega (arith, l, k))
+    to_both : Advances None_ old.stages (marked otherwise (marked nonzero mid)).stages
+    to_both =
+        subst (λ (z : Lowering). Advances None_ z.stages (marked otherwise (marked nonzero mid)).stages) same
+        (advances_both None_ mid.stages (marked nonzero mid).stages (marked otherwise (marked nonzero mid)).stages (marks nonzero mid.stages (marked nonzero mid).stages refl) (marks otherwise (marked nonzero mid).stages (marked otherwise (marked nonzero mid)).stages refl))
+
+    here_both : (label : ℕ) → IsHere old.stages label → IsHere (marked otherwise (marked nonzero mid)).stages label
+    here_both label here = subst (λ (z : Lowering). IsHere z.stages label) (sym same) here
+
+    by : (truth : Bool) → is_used (with_used (with_used mid.stages.used nonzero) otherwise) (side nonzero otherwise truth) ≡ true
+    by true = marks_keep (with_used mid.stages.used nonzero) otherwise nonzero (is_marked mid.stages.used nonzero)
+    by false = is_marked (with_used mid.stages.used nonzero) otherwise
 
 -- Conditions of several operands (C99 6.5.13, 6.5.14).
 
@@ -213,6 +216,9 @@ pub operand_decides : (d : Condition) (offset : ℕ) (e : Expression) (t f : ℕ
 operand_decides d offset e t f old new is test = rw is record {
   keeps = test.keeps;
   site = test.site;
+  advances = test.advances;
+  first = test.first;
+  settled = test.settled;
   typed = test.typed;
   ends = test.ends;
   idle = test.idle;
@@ -228,6 +234,9 @@ pub opposite_decides : (d inner : Condition) (t f : ℕ) (old new : Lowering) �
 opposite_decides d inner t f old new is h = rw is record {
   keeps = h.keeps;
   site = h.site;
+  advances = h.advances;
+  first = h.first;
+  settled = h.settled;
   typed = λ S w size fits ok good now.
       now_more S (w + (condition_weight inner + 1)) (w + (condition_weight inner + 1 + 1)) new (omega arith) (h.typed S w size fits ok good now);
   ends = h.ends;
@@ -250,7 +259,9 @@ begin_keeps label m b off (inl p) = record {
   arrays = ap (λ (z : Lowering). z.arrays) p.same;
   words = ap (λ (z : Lowering). z.act_operands) p.same;
   sound = λ size is sound. subst (λ (z : Lowering). IsSound size z.block) (sym p.same) sound;
-  whole = λ W whole. let w = subst (IsIn W) p.same whole in record { part = record { more = w.part.more; is = w.part.is }; obeys = w.obeys };
+  whole = λ W whole.
+      let w = whole_placed W label (marked label m) p.open_ (subst (IsIn W) p.same whole) in
+      record { part = record { more = w.part.more; is = w.part.is }; obeys = w.obeys };
   used = λ other is. ap (λ (z : Lowering). is_used z.stages.used other) p.same ∙ marks_keep m.stages.used label other is;
 }
 begin_keeps label m b off (inr p) = absurd (let on = p.reached in cc)
@@ -260,17 +271,12 @@ begin_site label m b off (inl p) = ap (λ (z : Lowering). z.site) p.same
 begin_site label m b off (inr p) = absurd (let on = p.reached in cc)
 
 begin_typed : (label : ℕ) (m b : Lowering) → m.reached ≡ false → Begins label m b → (S : Typing) (w : ℕ) → IsTypedNow S w m → IsTypedNow S w b
-begin_typed label m b off (inl p) S w now = subst (IsTypedNow S w) (sym p.same) (record { block = now.block; size = now.size; stages = now.stages })
+begin_typed label m b off (inl p) S w now = subst (IsTypedNow S w) (sym p.same) (record { block = now.block; size = now.size; steps = now.steps; stages = now.stages })
 begin_typed label m b off (inr p) S w now = absurd (let on = p.reached in cc)
 
 begin_block : (label : ℕ) (m b : Lowering) → m.reached ≡ false → Begins label m b → b.block ≡ m.block
 begin_block label m b off (inl p) = ap (λ (z : Lowering). z.block) p.same
 begin_block label m b off (inr p) = absurd (let on = p.reached in cc)
-
-pub used_more : (used : List Bool) (label : ℕ) → is_used used label ≡ true → is_used (used ++ false ∷ []) label ≡ true
-used_more [] label e = cc
-used_more (u ∷ us) zero e = e
-used_more (u ∷ us) (suc label) e = used_more us label e
 
 pub label_keeps : (c : Lowering) → Keeps c (with_label c)
 label_keeps c = record {
@@ -281,9 +287,9 @@ label_keeps c = record {
   sound = λ size is sound. sound;
   whole = λ W whole. record {
     part = record { more = whole.part.more; is = whole.part.is };
-    obeys = λ label p at. whole.obeys label p (get_left c.stages.places (place.Ahead ∷ []) label (get_within c.stages.places label p at) ∙ at);
+    obeys = (labels_more c.stages (with_label c).stages refl).obeys W.stage_of whole.obeys;
   };
-  used = λ label is. used_more c.stages.used label is;
+  used = λ label is. is;
 }
 
 keeps_both : (a b c : Lowering) → Keeps a b → Keeps b c → Keeps a c
@@ -300,10 +306,15 @@ keeps_both a b c h k = record {
 pub goes_before_label : (W : Whole) (homes : List Home) (Kept : Keeping) (n : ℕ) (c a : Lowering) (k : List Work) → a ≡ with_label c → GoesOn W homes Kept n a k → GoesOn W homes Kept n c k
 goes_before_label W homes Kept n c a k is g =
     let h = subst (λ (z : Lowering). GoesOn W homes Kept n z k) is g in
-    record { fresh = h.fresh; busy = h.busy; here = h.here }
+    record {
+      fresh = λ idle label among. h.fresh idle label (get_more c.stages.labels (None ∷ []) label (Some (length c.stages.places)) among);
+      busy = h.busy;
+      here = λ busy label among. h.here busy label (get_more c.stages.labels (None ∷ []) label (Some (length c.stages.places)) among);
+    }
 
 -- an operand, and then, where the first is not enough, the second
-module _ (c d : Condition) (next t f x y : ℕ) (old a m b new : Lowering) (label : a ≡ with_label old) (first : Decides c x y a m) (begins : Begins next m b) (second : Decides d t f b new) where
+module _ (c d : Condition) (next t f x y : ℕ) (old a m b new : Lowering) (number : next ≡ length old.stages.labels) (label : a ≡ with_label old) (first : Decides c x y a m)
+    (begins : Begins next m b) (second : Decides d t f b new) where
   to_a : Keeps old a
   to_a = subst (Keeps old) (sym label) (label_keeps old)
 
@@ -312,6 +323,28 @@ module _ (c d : Condition) (next t f x y : ℕ) (old a m b new : Lowering) (labe
 
   all_kept : Keeps old new
   all_kept = keeps_both old b new (keeps_both old a b to_a to_b) second.keeps
+
+  old_a : Advances None_ old.stages a.stages
+  old_a = labels_more old.stages a.stages (ap (λ (z : Lowering). z.stages) label)
+
+  m_new : Advances (λ other. other ≡ next) m.stages new.stages
+  m_new = advances_both (λ other. other ≡ next) m.stages b.stages new.stages (begins_advance next m b begins) second.advances
+
+  all_advances : Advances None_ old.stages new.stages
+  all_advances =
+      advances_new None_ (λ other. other ≡ next) old.stages m.stages new.stages (advances_both None_ old.stages a.stages m.stages old_a first.advances) m_new
+      (λ other e o. absurd (let lt = get_within old.stages.labels other None o in omega (arith, lt, e, number)))
+
+  all_first : (start : ℕ) → Begun start old → IsFirst start new.stages
+  all_first start begun =
+      first_after (λ other. other ≡ next) m.stages new.stages start m_new
+      (first.first start (subst (Begun start) (sym label) (label_begun start old begun)))
+
+  all_settled : (h : ℕ) → IsHere old.stages h → IsAt h (length old.stages.stages.items) new.stages
+  all_settled h here =
+      m_new.at h (length old.stages.stages.items)
+      (subst (λ n. IsAt h n m.stages) (ap (λ (z : Lowering). length z.stages.stages.items) label)
+      (first.settled h (subst (λ (z : Lowering). IsHere z.stages h) (sym label) (get_more old.stages.labels (None ∷ []) h (Some (length old.stages.places)) here))))
 
   all_site : new.site ≡ old.site
   all_site = second.site ∙ begin_site next m b first.ends begins ∙ first.site ∙ ap (λ (z : Lowering). z.site) label
@@ -327,7 +360,7 @@ module _ (c d : Condition) (next t f x y : ℕ) (old a m b new : Lowering) (labe
         sound = sound_a;
         idle = λ off. ap (λ (z : Lowering). z.block.steps) label ∙ good.idle (sym (ap (λ (z : Lowering). z.reached) label) ∙ off);
       } in
-      let now_a : IsTypedNow S w a = subst (IsTypedNow S w) (sym label) (record { block = now.block; size = now.size; stages = now.stages }) in
+      let now_a : IsTypedNow S w a = subst (IsTypedNow S w) (sym label) (record { block = now.block; size = now.size; steps = now.steps; stages = now.stages }) in
       let at_m = first.typed S w size (subst (Fits S) (sym to_a.homes) fits) (parts S ok).0 good_a now_a in
       let idle_m = first.idle size good_a.variables sound_a in
       let sound_b = kept.sound size good.variables good.sound in
@@ -364,18 +397,21 @@ module _ (c d : Condition) (next t f x y : ℕ) (old a m b new : Lowering) (labe
         (first.asks W homes size n parts (to_a.homes ∙ homes_are) (ap length to_a.variables ∙ size_is)
         ((begin_keeps next m b first.ends begins).whole W (second.keeps.whole W whole)) (to_a.sound size size_is sound) claims c0 l operand waits)
 
-pub both_decides : (e c d : Condition) (next t f : ℕ) (old a m b new : Lowering) → e ≡ Condition.Both c d → a ≡ with_label old → Decides c next f a m → Begins next m b → Decides d t f b new →
+pub both_decides : (e c d : Condition) (next t f : ℕ) (old a m b new : Lowering) → e ≡ Condition.Both c d → next ≡ length old.stages.labels → a ≡ with_label old → Decides c next f a m → Begins next m b → Decides d t f b new →
     Decides e t f old new
-both_decides e c d next t f old a m b new is label first begins second = rw is record {
-  keeps = all_kept c d next t f next f old a m b new label first begins second;
-  site = all_site c d next t f next f old a m b new label first begins second;
-  typed = all_typed c d next t f next f old a m b new label first begins second (Condition.Both c d) refl (λ S ok. ok);
+both_decides e c d next t f old a m b new is number label first begins second = rw is record {
+  keeps = all_kept c d next t f next f old a m b new number label first begins second;
+  site = all_site c d next t f next f old a m b new number label first begins second;
+  advances = all_advances c d next t f next f old a m b new number label first begins second;
+  first = all_first c d next t f next f old a m b new number label first begins second;
+  settled = all_settled c d next t f next f old a m b new number label first begins second;
+  typed = all_typed c d next t f next f old a m b new number label first begins second (Condition.Both c d) refl (λ S ok. ok);
   ends = second.ends;
-  idle = idle_after c d next t f next f old a m b new label first begins second;
+  idle = idle_after c d next t f next f old a m b new number label first begins second;
   marks = second.marks;
   asks = λ W homes size n k homes_are size_is whole sound at c0 l operand waits.
-      first_goes c d next t f next f old a m b new label first begins second W homes size n k homes_are size_is whole sound at (ThenBoth d ∷ k)
-      (λ j lt truth. by W homes k j (next_at c d next t f next f old a m b new label first begins second W homes size n k homes_are size_is whole sound at j lt)
+      first_goes c d next t f next f old a m b new number label first begins second W homes size n k homes_are size_is whole sound at (ThenBoth d ∷ k)
+      (λ j lt truth. by W homes k j (next_at c d next t f next f old a m b new number label first begins second W homes size n k homes_are size_is whole sound at j lt)
       (at j lt false) truth) c0 l operand waits;
 }
   where
@@ -384,19 +420,22 @@ both_decides e c d next t f old a m b new is label first begins second = rw is r
     by W homes k j on off true = on
     by W homes k j on off false = off
 
-pub either_decides : (e c d : Condition) (next t f : ℕ) (old a m b new : Lowering) → e ≡ Condition.Either c d → a ≡ with_label old → Decides c t next a m → Begins next m b → Decides d t f b new →
+pub either_decides : (e c d : Condition) (next t f : ℕ) (old a m b new : Lowering) → e ≡ Condition.Either c d → next ≡ length old.stages.labels → a ≡ with_label old → Decides c t next a m → Begins next m b → Decides d t f b new →
     Decides e t f old new
-either_decides e c d next t f old a m b new is label first begins second = rw is record {
-  keeps = all_kept c d next t f t next old a m b new label first begins second;
-  site = all_site c d next t f t next old a m b new label first begins second;
-  typed = all_typed c d next t f t next old a m b new label first begins second (Condition.Either c d) refl (λ S ok. ok);
+either_decides e c d next t f old a m b new is number label first begins second = rw is record {
+  keeps = all_kept c d next t f t next old a m b new number label first begins second;
+  site = all_site c d next t f t next old a m b new number label first begins second;
+  advances = all_advances c d next t f t next old a m b new number label first begins second;
+  first = all_first c d next t f t next old a m b new number label first begins second;
+  settled = all_settled c d next t f t next old a m b new number label first begins second;
+  typed = all_typed c d next t f t next old a m b new number label first begins second (Condition.Either c d) refl (λ S ok. ok);
   ends = second.ends;
-  idle = idle_after c d next t f t next old a m b new label first begins second;
+  idle = idle_after c d next t f t next old a m b new number label first begins second;
   marks = second.marks;
   asks = λ W homes size n k homes_are size_is whole sound at c0 l operand waits.
-      first_goes c d next t f t next old a m b new label first begins second W homes size n k homes_are size_is whole sound at (ThenEither d ∷ k)
+      first_goes c d next t f t next old a m b new number label first begins second W homes size n k homes_are size_is whole sound at (ThenEither d ∷ k)
       (λ j lt truth. by W homes k j (at j lt true)
-      (next_at c d next t f t next old a m b new label first begins second W homes size n k homes_are size_is whole sound at j lt) truth) c0 l operand waits;
+      (next_at c d next t f t next old a m b new number label first begins second W homes size n k homes_are size_is whole sound at j lt) truth) c0 l operand waits;
 }
   where
     by : (W : Whole) (homes : List Home) (k : List Work) (j : ℕ) → AtLabel W homes j t (decided true k) → AtLabel W homes j next (Ask d ∷ k) → (truth : Bool) →

@@ -1,5 +1,5 @@
 -- What the parts of the code keep, and where the thread goes on before them.
-use Rattle.std.proofs.Common.{◌≡◌, ℕ, ◌+◌, ◌*◌, ◌<◌, ◌≤◌, true, false, List, [], ◌∷◌, ◌++◌, length, refl, sym, ap}
+use Rattle.std.proofs.Common.{◌≡◌, ℕ, ◌+◌, ◌*◌, ◌<◌, ◌≤◌, true, false, List, [], ◌∷◌, length, Some, None, refl, sym, ap}
 use Rattle.std.proofs.Common.{◌∙◌, subst, inl, inr, arith}
 use Rattle.std.specs.Prelude.{slice_get, slice_set, ◌⊎◌}
 use Rattle.c_program.specs.declared.tree.LocalVariable.{LocalVariable}
@@ -15,23 +15,24 @@ use Rattle.ir_lower.specs.declared.homes.Homes.{Homes}
 use Rattle.ir_lower.specs.declared.branching.ChoiceLabels.{ChoiceLabels}
 use Rattle.ir_lower.specs.declared.branching.LoopLabels.{LoopLabels}
 use Rattle.ir_lower.specs.declared.open_block.OpenBlock.{OpenBlock}
-use Rattle.ir_lower.specs.declared.stages.Place.TheVariants as place
 use Rattle.ir_lower.specs.declared.stages.Stages.{Stages}
 use Rattle.ir_lower.specs.declared.lowering.Lowering.{Lowering}
-use Rattle.ir_lower.specs.Closing.{IsAmong, IsFresh}
+use Rattle.ir_lower.specs.Closing.{IsFresh}
 use Rattle.ir_lower.specs.Locals.{AreHomesOf}
 use Rattle.ir_lower.specs.Typing.{Typing}
 use Rattle.ir_lower.specs.Resuming.{Keeping, nothing_kept, InBlock, AtFresh, IsSound}
-use Rattle.ir_lower.specs.Labels.{IsWhole, Pushes, is_used}
+use Rattle.ir_lower.specs.Labels.{IsWhole, Pushes, is_used, with_used, IsOpen, IsTarget}
 use Rattle.ir_lower.specs.Apart.{IsTypedAnywhere, IsTypedNow, IsGood}
 use Rattle.ir_lower.specs.Control.{with_label, marked, placed, EndsAt, LeadsOn, EndsBusy, Jumps, Begins, Binds, Leaps}
 use Rattle.ir_lower.specs.Control.{BeginsStage, ActsAt, EndsCall, Whole, IsIn, GoesOn, Decides}
-use Rattle.ir_lower.specs.Doing.{Grows, Shifts, Relabels, OpensChoice, TurnsChoice, OpensLoop, OpensTurn, ClosesTurn, Asks, ClosesDo}
+use Rattle.ir_lower.specs.Doing.{Grows, Shifts, Relabels, AreChoice, AreLoop, OpensChoice, TurnsChoice, OpensLoop, OpensTurn, ClosesTurn, Asks, ClosesDo}
 use Rattle.ir_lower.specs.Doing.{at_site, OnwardUpTo, IfUsed, IsNew, Starts, Ends}
 use Rattle.ir_lower.proofs.Resuming.{fresh_sound}
 use Rattle.ir_lower.proofs.Staying.{stages_more, jump_typed, ends_typed}
-use Rattle.ir_lower.proofs.Controlling.{whole_pushed, whole_settled, jump_goes_on, begin_at, begun_idle, begin_goes_on}
-use Rattle.ir_lower.proofs.Deciding.{marks_keep, is_marked, used_more, label_keeps, goes_before_label}
+use Rattle.ir_lower.proofs.Controlling.{target_marked, open_ended, whole_placed, whole_pushed, whole_settled, jump_goes_on, begin_at, begun_idle, begin_goes_on}
+use Rattle.ir_lower.proofs.Deciding.{label_keeps, goes_before_label}
+use Rattle.ir_lower.proofs.Advancing.{None_, get_more, advances_both, labels_more, binds_label}
+use Rattle.ir_lower.proofs.Opening.{marks_keep, is_marked, label_begun, act_open}
 
 -- ---- what is kept
 
@@ -71,7 +72,7 @@ site_grows site c = record {
 }
 
 pub site_typed : (site : ℕ) (c : Lowering) (S : Typing) (w : ℕ) → IsTypedNow S w c → IsTypedNow S w (at_site site c)
-site_typed site c S w now = record { block = now.block; size = now.size; stages = now.stages }
+site_typed site c S w now = record { block = now.block; size = now.size; steps = now.steps; stages = now.stages }
 
 -- ---- labels
 
@@ -88,11 +89,13 @@ label_relabels c = record {
       used = (label_keeps c).used;
     };
     site = refl;
-    typed = λ S w size good now. record { block = now.block; size = now.size; stages = now.stages };
+    typed = λ S w size good now. record { block = now.block; size = now.size; steps = now.steps; stages = now.stages };
   };
   block = refl;
   items = refl;
-  here = refl;
+  here = λ label here. get_more c.stages.labels (None ∷ []) label (Some (length c.stages.places)) here;
+  advances = labels_more c.stages (with_label c).stages refl;
+  begun = λ start b. label_begun start c b;
   reached = refl;
 }
 
@@ -101,7 +104,9 @@ relabels_both a b c h k = record {
   shifts = shifts_both a b c h.shifts k.shifts;
   block = k.block ∙ h.block;
   items = k.items ∙ h.items;
-  here = k.here ∙ h.here;
+  here = λ label e. k.here label (h.here label e);
+  advances = advances_both None_ a.stages b.stages c.stages h.advances k.advances;
+  begun = λ start e. k.begun start (h.begun start e);
   reached = k.reached ∙ h.reached;
 }
 
@@ -123,26 +128,26 @@ marked_shifts label c = record {
     used = λ other is. marks_keep c.stages.used label other is;
   };
   site = refl;
-  typed = λ S w size good now. record { block = now.block; size = now.size; stages = now.stages };
+  typed = λ S w size good now. record { block = now.block; size = now.size; steps = now.steps; stages = now.stages };
 }
 
-placed_shifts : (label : ℕ) (c : Lowering) → Shifts c (placed label c)
-placed_shifts label c = record {
+placed_shifts : (label : ℕ) (c : Lowering) → IsOpen label c.stages → Shifts c (placed label c)
+placed_shifts label c open_ = record {
   grows = record {
     homes = refl;
     variables = refl;
     arrays = refl;
     words = refl;
     good = λ size g. record { variables = g.variables; sound = g.sound; idle = λ off. absurd cc };
-    whole = λ W w. record { part = record { more = w.part.more; is = w.part.is }; obeys = w.obeys };
+    whole = λ W w. whole_placed W label c open_ w;
     used = λ other is. is;
   };
   site = refl;
-  typed = λ S w size good now. record { block = now.block; size = now.size; stages = now.stages };
+  typed = λ S w size good now. record { block = now.block; size = now.size; steps = now.steps; stages = now.stages };
 }
 
-settled_shifts : (label : ℕ) (old new : Lowering) → LeadsOn label old new → Shifts old new
-settled_shifts label old new p = record {
+settled_shifts : (label : ℕ) (old new : Lowering) → IsTarget label old.stages → LeadsOn label old new → Shifts old new
+settled_shifts label old new target p = record {
   grows = record {
     homes = ap (λ (z : Lowering). z.homes) p.same;
     variables = ap (λ (z : Lowering). z.variables) p.same;
@@ -153,13 +158,13 @@ settled_shifts label old new p = record {
       sound = subst (λ (z : Lowering). IsSound size z.block) (sym p.same) g.sound;
       idle = λ off. ap (λ (z : Lowering). z.block.steps) p.same ∙ p.idle;
     };
-    whole = λ W w. whole_settled W.stage_of W.setting.stages old.stages new.stages w (place.Same label) p.settles;
+    whole = λ W w. whole_settled W.stage_of W.setting.stages old.stages new.stages w label target p.settles;
     used = λ other is. ap (λ us. is_used us other) p.settles.used ∙ is;
   };
   site = ap (λ (z : Lowering). z.site) p.same;
   typed = λ S w size good now.
       subst (IsTypedNow S w) (sym p.same)
-      (record { block = now.block; size = now.size; stages = λ l s e. now.stages l s (ap (λ v. slice_get v.items l) (sym p.settles.stages) ∙ e) });
+      (record { block = now.block; size = now.size; steps = now.steps; stages = λ l s e. now.stages l s (ap (λ v. slice_get v.items l) (sym p.settles.stages) ∙ e) });
 }
 
 pub ends_grows : (next : Next) (old new : Lowering) → EndsAt next old new → Grows old new
@@ -186,15 +191,16 @@ pub jumps_shifts : (label : ℕ) (old new : Lowering) → Jumps label old new �
 jumps_shifts label old new p = shifts_both old (marked label old) new (marked_shifts label old) (by p.way)
   where
     by : LeadsOn label (marked label old) new ⊎ EndsBusy label (marked label old) new → Shifts (marked label old) new
-    by (inl q) = settled_shifts label (marked label old) new q
+    by (inl q) = settled_shifts label (marked label old) new (target_marked label old p.target) q
     by (inr q) = ends_shifts label (marked label old) new q
 
 pub begins_shifts : (label : ℕ) (old new : Lowering) → Begins label old new → Shifts old new
 begins_shifts label old new (inl p) =
-    shifts_both old (marked label old) new (marked_shifts label old) (subst (Shifts (marked label old)) (sym p.same) (placed_shifts label (marked label old)))
+    shifts_both old (marked label old) new (marked_shifts label old) (subst (Shifts (marked label old)) (sym p.same) (placed_shifts label (marked label old) p.open_))
 begins_shifts label old new (inr p) =
     shifts_both old (marked label old) new (marked_shifts label old)
-    (shifts_both (marked label old) p.mid new (ends_shifts label (marked label old) p.mid p.ends) (subst (Shifts p.mid) (sym p.same) (placed_shifts label p.mid)))
+    (shifts_both (marked label old) p.mid new (ends_shifts label (marked label old) p.mid p.ends)
+    (subst (Shifts p.mid) (sym p.same) (placed_shifts label p.mid (open_ended (Jump label) label (marked label old) p.mid p.ends.ends p.open_))))
 
 pub begun_reached : (label : ℕ) (old new : Lowering) → Begins label old new → new.reached ≡ true
 begun_reached label old new (inl p) = ap (λ (z : Lowering). z.reached) p.same
@@ -239,7 +245,12 @@ stage_reached old new on (inr p) = begun_reached p.next (with_label old) new p.b
 module _ (act : Act) (old new : Lowering) (a : ActsAt act old new) where
   -- the whole is whole up to the act
   pub acts_pushed : (W : Whole) → IsIn W new → IsWhole W.stage_of W.setting.stages a.pushed
-  acts_pushed W w = let v = subst (IsIn W) a.same w in record { part = record { more = v.part.more; is = v.part.is }; obeys = v.obeys }
+  acts_pushed W w =
+      let v = subst (IsIn W) a.same w in
+      record {
+        part = record { more = v.part.more; is = v.part.is };
+        obeys = (binds_label a.next a.pushed (record a.pushed { labels = slice_set a.pushed.labels a.next (Some (length a.pushed.places)) }) (act_open act old new a) refl).obeys W.stage_of v.obeys;
+      }
 
   pub acts_whole : (W : Whole) → IsIn W new → IsIn W a.mid
   acts_whole W w =
@@ -254,7 +265,7 @@ module _ (act : Act) (old new : Lowering) (a : ActsAt act old new) where
     words = ap (λ (z : Lowering). z.act_operands) a.same;
     good = λ size g. subst (IsGood size) (sym a.same) (record { variables = g.variables; sound = g.sound; idle = g.idle });
     whole = acts_whole;
-    used = λ label is. ap (λ (z : Lowering). is_used z.stages.used label) a.same ∙ ap (λ us. is_used us label) a.pushes.used ∙ used_more a.mid.stages.used label is;
+    used = λ label is. ap (λ (z : Lowering). is_used z.stages.used label) a.same ∙ ap (λ us. is_used us label) a.pushes.used ∙ is;
   })
 
   pub acts_site : new.site ≡ old.site
@@ -266,7 +277,8 @@ module _ (act : Act) (old new : Lowering) (a : ActsAt act old new) where
       subst (IsTypedNow S w) (sym a.same) (record {
         block = m.block;
         size = m.size;
-        stages = stages_more S w a.mid (record a.mid { stages = record a.pushed { here = a.pushed.here ++ a.next ∷ [] } }) (stage.Act act a.next) a.pushes.stages m typed;
+        steps = m.steps;
+        stages = stages_more S w a.mid (record a.mid { stages = record a.pushed { labels = slice_set a.pushed.labels a.next (Some (length a.pushed.places)) } }) (stage.Act act a.next) a.pushes.stages m typed;
       })
 
 module _ (old new : Lowering) (e : EndsCall old new) where
@@ -298,6 +310,7 @@ module _ (old new : Lowering) (e : EndsCall old new) where
         subst (IsTypedNow S w) (sym e.same) (record {
           block = m.block;
           size = m.size;
+          steps = m.steps;
           stages = stages_more S w e.mid (record e.mid { stages = new.stages; reached = false }) (stage.Act Return 0) e.pushes.stages m (λ n stage_of below. tt);
         });
   }
@@ -307,12 +320,12 @@ module _ (old new : Lowering) (e : EndsCall old new) where
 -- the same place where only labels differ
 pub goes_relabelled : (W : Whole) (homes : List Home) (Kept : Keeping) (n : ℕ) (k : List Work) (old new : Lowering) → Relabels old new → GoesOn W homes Kept n new k → GoesOn W homes Kept n old k
 goes_relabelled W homes Kept n k old new r g = record {
-  fresh = λ idle label among. g.fresh (ap (λ (b : OpenBlock). b.steps) r.block ∙ idle) label (subst (λ l. IsAmong l label) (sym r.here) among);
+  fresh = λ idle label among. g.fresh (ap (λ (b : OpenBlock). b.steps) r.block ∙ idle) label (r.here label among);
   busy = λ busy.
       subst (λ (b : OpenBlock). InBlock W.setting homes Kept n (length old.stages.stages.items) b k) r.block
       (subst (λ v. InBlock W.setting homes Kept n (length v.items) new.block k) r.items (g.busy (subst (λ (b : OpenBlock). 0 < b.steps) (sym r.block) busy)));
   here = λ busy label among.
-      g.here (subst (λ (b : OpenBlock). 0 < b.steps) (sym r.block) busy) label (subst (λ l. IsAmong l label) (sym r.here) among) ∙ ap (λ v. length v.items) r.items;
+      g.here (subst (λ (b : OpenBlock). 0 < b.steps) (sym r.block) busy) label (r.here label among) ∙ ap (λ v. length v.items) r.items;
 }
 
 module _ (W : Whole) (homes : List Home) (n : ℕ) (k : List Work) where
@@ -342,9 +355,9 @@ module _ (W : Whole) (homes : List Home) (n : ℕ) (k : List Work) where
             (λ i below. g (begun_reached label old new p.begins) i (omega arith))
 
   pub jumps_used : (label : ℕ) (old new : Lowering) → Jumps label old new → is_used new.stages.used label ≡ true
-  jumps_used label old new p = by p.way ∙ is_marked old.stages.used label p.known
+  jumps_used label old new p = by p.way ∙ is_marked old.stages.used label
     where
-      by : LeadsOn label (marked label old) new ⊎ EndsBusy label (marked label old) new → is_used new.stages.used label ≡ is_used (slice_set old.stages.used label true) label
+      by : LeadsOn label (marked label old) new ⊎ EndsBusy label (marked label old) new → is_used new.stages.used label ≡ is_used (with_used old.stages.used label) label
       by (inl q) = ap (λ us. is_used us label) q.settles.used
       by (inr q) = ap (λ us. is_used us label) q.ends.pushes.used
 
@@ -359,8 +372,8 @@ module _ (W : Whole) (homes : List Home) (n : ℕ) (k : List Work) where
 -- ---- what the code of the parts gives
 
 pub is_new : (locals : List LocalVariable) (site values : ℕ) (h : Homes) (c : Lowering) (n : ℕ) → AreHomesOf locals h → c.homes ≡ h.homes → c.variables ≡ h.variables → c.arrays ≡ h.arrays →
-    n ≡ length h.variables + 4 → IsFresh n c.block → c.stages.stages.items ≡ [] → c.reached ≡ true → c.site ≡ site → c.act_operands ≡ values → IsNew locals site values c
-is_new locals site values h c n are homes variables arrays long fresh items reached at words = record {
+    n ≡ length h.variables + 4 → IsFresh n c.block → c.stages.stages.items ≡ [] → c.stages.labels ≡ [] → c.stages.used ≡ [] → c.stages.places ≡ [] → c.reached ≡ true → c.site ≡ site → c.act_operands ≡ values → IsNew locals site values c
+is_new locals site values h c n are homes variables arrays long fresh items labels used places reached at words = record {
   homed = h;
   are = are;
   homes = homes;
@@ -368,6 +381,9 @@ is_new locals site values h c n are homes variables arrays long fresh items reac
   arrays = arrays;
   block = subst (λ k. IsFresh k c.block) long fresh;
   items = items;
+  labels = labels;
+  used = used;
+  places = places;
   reached = reached;
   site_ = at;
   words = words;
@@ -388,16 +404,17 @@ leaps_to label old new on jumps = inr (record { on = on; jumps = jumps })
 pub begins_idle : (c : Lowering) → c.block.steps ≡ 0 → BeginsStage c c
 begins_idle c idle = inl (record { idle = idle; same = refl })
 
-pub begins_busy : (next : ℕ) (old mid new : Lowering) → (old.block.steps ≡ 0 → ⊥) → mid ≡ with_label old → Begins next mid new → BeginsStage old new
-begins_busy next old mid new busy labelled begins =
-    inr (record { busy = omega arith; next = next; begins = subst (λ (z : Lowering). Begins next z new) labelled begins })
+pub begins_busy : (next : ℕ) (old mid new : Lowering) → (old.block.steps ≡ 0 → ⊥) → next ≡ length old.stages.labels → mid ≡ with_label old → Begins next mid new → BeginsStage old new
+begins_busy next old mid new busy number labelled begins =
+    inr (record { busy = omega arith; next = next; next_ = number; begins = subst (λ (z : Lowering). Begins next z new) labelled begins })
 
-pub acts_at : (act : Act) (next : ℕ) (old mid new : Lowering) (labelled pushed : Stages) → BeginsStage old mid → labelled ≡ (with_label mid).stages → Pushes (stage.Act act next) labelled pushed →
-    new ≡ record mid { stages = record pushed { here = pushed.here ++ next ∷ [] } } → ActsAt act old new
-acts_at act next old mid new labelled pushed begins is pushes same = record {
+pub acts_at : (act : Act) (next : ℕ) (old mid new : Lowering) (labelled pushed : Stages) → BeginsStage old mid → next ≡ length mid.stages.labels → labelled ≡ (with_label mid).stages → Pushes (stage.Act act next) labelled pushed →
+    new ≡ record mid { stages = record pushed { labels = slice_set pushed.labels next (Some (length pushed.places)) } } → ActsAt act old new
+acts_at act next old mid new labelled pushed begins number is pushes same = record {
   mid = mid;
   begins = begins;
   next = next;
+  next_ = number;
   pushed = pushed;
   pushes = subst (λ (z : Stages). Pushes (stage.Act act next) z pushed) is pushes;
   same = same;
@@ -412,18 +429,18 @@ ends_not c off = inl (record { off = off; same = refl })
 pub ends_here : (old new : Lowering) → old.reached ≡ true → EndsCall old new → Ends old new
 ends_here old new on ends = inr (record { on = on; ends = ends })
 
-pub starts_at : (start : ℕ) (old mid new : Lowering) → mid ≡ with_label old → Begins start mid new → Starts start old new
-starts_at start old mid new is begins = record { labelled = mid; relabels = subst (Relabels old) (sym is) (label_relabels old); begins = begins }
+pub starts_at : (start : ℕ) (old mid new : Lowering) → start ≡ length old.stages.labels → mid ≡ with_label old → Begins start mid new → Starts start old new
+starts_at start old mid new number is begins = record { labelled = mid; number = number; is = is; relabels = subst (Relabels old) (sym is) (label_relabels old); begins = begins }
 
-pub opens_choice : (d : Condition) (l : ChoiceLabels) (old labelled decided new : Lowering) → Relabels old labelled → Decides d l.if_true l.if_false labelled decided → Binds l.if_true decided new →
-    OpensChoice d l old new
-opens_choice d l old labelled decided new relabels decides binds = record { labelled = labelled; relabels = relabels; decided = decided; decides = decides; binds = binds }
+pub opens_choice : (d : Condition) (l : ChoiceLabels) (old labelled decided new : Lowering) → Relabels old labelled → AreChoice l old labelled → Decides d l.if_true l.if_false labelled decided →
+    Binds l.if_true decided new → OpensChoice d l old new
+opens_choice d l old labelled decided new relabels labels decides binds = record { labelled = labelled; relabels = relabels; labels = labels; decided = decided; decides = decides; binds = binds }
 
 pub turns_choice : (l : ChoiceLabels) (old mid new : Lowering) → Leaps l.join old mid → Binds l.if_false mid new → TurnsChoice l old new
 turns_choice l old mid new leaps binds = record { mid = mid; leaps = leaps; binds = binds }
 
-pub opens_loop : (l : LoopLabels) (old labelled new : Lowering) → Relabels old labelled → Begins l.head labelled new → OpensLoop l old new
-opens_loop l old labelled new relabels begins = record { labelled = labelled; relabels = relabels; begins = begins }
+pub opens_loop : (l : LoopLabels) (old labelled new : Lowering) → Relabels old labelled → AreLoop l old labelled → Begins l.head labelled new → OpensLoop l old new
+opens_loop l old labelled new relabels labels begins = record { labelled = labelled; relabels = relabels; labels = labels; begins = begins }
 
 pub opens_turn : (d : Condition) (l : LoopLabels) (old begun decided new : Lowering) → OpensLoop l old begun → Decides d l.body l.leaving begun decided → Binds l.body decided new →
     OpensTurn d l old new

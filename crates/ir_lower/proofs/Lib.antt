@@ -1,3 +1,4 @@
+mod Room
 mod Operators
 mod Conversions
 mod Running
@@ -20,8 +21,14 @@ pub mod Untaken
 pub mod Formats
 mod Sizes
 mod Labelling
+mod Advancing
+mod Opening
+mod Binding
+mod Proceeding
 mod Controlling
 mod Deciding
 mod Growing
 mod Stepping
 mod Nesting
+mod Filling
+mod Ample

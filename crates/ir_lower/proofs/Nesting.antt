@@ -60,7 +60,7 @@ module _ (S : Typing) (size : ℕ) (s t : Statement) (old c : Lowering) (grows :
     sites = sites;
   }
 
-both_true : (a b : Bool) → (a && b) ≡ true → (a ≡ true) × (b ≡ true)
+pub both_true : (a b : Bool) → (a && b) ≡ true → (a ≡ true) × (b ≡ true)
 both_true true b e = (refl, e)
 both_true false b e = absurd cc
 

@@ -63,6 +63,7 @@ pub now_more : (S : Typing) (w v : ℕ) (c : Lowering) → w ≤ v → IsTypedNo
 now_more S w v c more now = record {
   block = now.block;
   size = (let a = now.size in omega arith);
+  steps = (let a = now.steps in omega arith);
   stages = λ l s e. anywhere_more S.types S.program (4 * w) (4 * v) (omega arith) s (now.stages l s e);
 }
 
@@ -117,6 +118,7 @@ ends_typed S w next old new busy noted e leads now =
     record {
       block = fresh_typed S.types (length old.block.current) new.block fresh;
       size = (let f = ap length fresh.operations in omega (arith, f));
+      steps = (let f = fresh.steps in omega (arith, f));
       stages = stages_more S w old new (stage.Run e.block) e.pushes.stages now (block_typed S w old next e.block busy e.closes leads now);
     }
 
@@ -124,10 +126,11 @@ ends_typed S w next old new busy noted e leads now =
 
 -- the block at hand works on
 pub works_typed : (S : Typing) (w most : ℕ) (homes : List Home) (Is : Typing → Type 0) (old new : Lowering) → new ≡ record old { block = new.block } → homes ≡ old.homes →
-    Works homes (4 * most) Is old.block new.block → Fits S old.homes → Is S → IsTypedNow S w old → IsTypedNow S (w + most) new
-works_typed S w most homes Is old new same housed works fits is now = record {
+    1 ≤ most → new.block.steps ≡ suc old.block.steps → Works homes (4 * most) Is old.block new.block → Fits S old.homes → Is S → IsTypedNow S w old → IsTypedNow S (w + most) new
+works_typed S w most homes Is old new same housed some stepped works fits is now = record {
   block = works.typed S (subst (Fits S) (sym housed) fits) is now.block;
   size = (let c = works.count in let f = now.size in omega (arith, c, f));
+  steps = (let f = now.steps in omega (arith, stepped, f, some));
   stages = λ l t e.
       anywhere_more S.types S.program (4 * w) (4 * (w + most)) (omega arith) t (now.stages l t (ap (λ (z : Lowering). slice_get z.stages.stages.items l) (sym same) ∙ e));
 }

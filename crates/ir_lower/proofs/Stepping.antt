@@ -27,7 +27,7 @@ use Rattle.ir_lower.specs.declared.stages.Stages.{Stages}
 use Rattle.ir_lower.specs.declared.lowering.Lowering.{Lowering}
 use Rattle.ir_lower.specs.Evaluating.{Holds}
 use Rattle.ir_lower.specs.Assigning.{HaveHomes, IsThere, memory_after, writes_of, Assigned, Assigns}
-use Rattle.ir_lower.specs.Closing.{IsAmong}
+use Rattle.ir_lower.specs.Labels.{IsHere}
 use Rattle.ir_lower.specs.Taken.{is_value_or_none, is_sequential}
 use Rattle.ir_lower.specs.Typing.{Typing, HasWords, WorksOnAssignment, WorksOnUpdate, WorksOnValues}
 use Rattle.ir_lower.specs.Printing.{HoldWords, word_operands, held_by, PutsValues}
@@ -38,7 +38,9 @@ use Rattle.ir_lower.specs.Labels.{is_used}
 use Rattle.ir_lower.specs.Apart.{IsTypedNow, IsGood}
 use Rattle.ir_lower.specs.Control.{with_label, Jumps, ActsAt, EndsCall, Whole, IsIn, GoesOn}
 use Rattle.ir_lower.specs.Doing.{Grows, at_site, OnwardUpTo, Suits, SuitsTyping, Leads, LowersHere}
-use Rattle.ir_lower.proofs.Finals.{among_last}
+use Rattle.ir_lower.proofs.Cells.{set_same, get_within}
+use Rattle.ir_lower.proofs.Advancing.{get_more, pushed_here}
+use Rattle.ir_lower.proofs.Opening.{act_open}
 use Rattle.ir_lower.proofs.Running.{parts, run_length}
 use Rattle.ir_lower.proofs.Steps.{gives_is}
 use Rattle.ir_lower.proofs.Puts.{homes_more, arguments_converted}
@@ -77,7 +79,7 @@ step_goes W homes size n Kept After old new more k after same added stepped goes
     (in_more W.setting homes Kept After old.block new.block more k after added stepped goes n (length old.stages.stages.items)
     (subst (λ (z : Stages). InBlock W.setting homes After n (length z.stages.items) new.block after) same (g.busy busy)))
     (λ label among.
-    subst (λ (z : Stages). W.stage_of label ≡ length z.stages.items) same (g.here busy label (subst (λ (z : Stages). IsAmong z.here label) (sym same) among)))
+    subst (λ (z : Stages). W.stage_of label ≡ length z.stages.items) same (g.here busy label (subst (λ (z : Stages). IsHere z label) (sym same) among)))
 
 -- Steps that assign.
 
@@ -175,7 +177,7 @@ assign_at place right e homes old new is housed a works same offset around = λ 
     (λ P f in_loop m ok shape x ls gives. assignment_there P f m shape place e x ls ok.0 gives) refl (λ k. refl) around on
     (λ S w size suits now.
     works_typed S w (statement_weight (Statement.Assign offset place (RightSide.Value e))) homes (λ S. IsPlace S.program S.function place × IsExpression S.program S.function e) old new same housed
-    works suits.fits suits.resolved now))
+    (omega arith) a.steps works suits.fits suits.resolved now))
 
 pub update_at : (place : Place) (operator : BinaryOperator) (ty : IntegerType) (e : Expression) (homes : List Home) (old new : Lowering) → homes ≡ old.homes →
     Assigns homes (λ m. update place operator ty e m) old.block new.block → WorksOnUpdate homes place operator ty e old.block new.block → new ≡ record old { block = new.block } →
@@ -185,7 +187,8 @@ update_at place operator ty e homes old new housed a works same offset around = 
     (subst (λ hs. Assigns hs (λ m. update place operator ty e m) old.block new.block) housed a) same (λ P m f k. refl)
     (λ P f in_loop m ok shape x ls gives. update_there P f m shape place operator ty e x ls ok.target gives) refl (λ k. refl) around on
     (λ S w size suits now.
-    works_typed S w (statement_weight (Statement.Update offset place operator ty e)) homes (λ S. IsUpdate S.program S.function place operator ty e) old new same housed works suits.fits suits.resolved
+    works_typed S w (statement_weight (Statement.Update offset place operator ty e)) homes (λ S. IsUpdate S.program S.function place operator ty e) old new same housed
+    (omega arith) a.steps works suits.fits suits.resolved
     now)
 
 -- A declarator: no element of the local is written any more.
@@ -203,7 +206,7 @@ declare_at old new b stepped is offset local operators around = λ own on. recor
   site = (let e = ap (λ (z : Lowering). z.site) is in omega (arith, e));
   typed = λ S w size suits now.
       works_typed S w (statement_weight (Statement.Declare offset local operators)) old.homes (λ S. Unit {0}) old new same refl
-      (idle_works old.homes (4 * statement_weight (Statement.Declare offset local operators)) old.block new.block block_is) suits.fits tt now;
+      (omega arith) (ap (λ (z : OpenBlock). z.steps) block_is) (idle_works old.homes (4 * statement_weight (Statement.Declare offset local operators)) old.block new.block block_is) suits.fits tt now;
   leads = λ W homes size n k suits whole out after reached j le.
       step_goes W homes size j nothing_kept nothing_kept old new [] (Do (Statement.Declare offset local operators) ∷ k) (settled Onward k) (ap (λ (z : Lowering). z.stages) is)
       (ap (λ (z : OpenBlock). z.operations) block_is ∙ sym (append-nil old.block.operations)) (ap (λ (z : OpenBlock). z.steps) block_is) (declares W homes k) suits.good
@@ -294,7 +297,7 @@ call_goes W homes size n k old new e good whole ends = λ on j le.
     at_act : (i : ℕ) → GoesOn W homes nothing_kept i e.mid k
     at_act i = record {
       fresh = λ idle label among.
-          subst (λ l. AtFresh W.setting homes nothing_kept i l k) (sym (e.pushes.placed W.stage_of whole.obeys label among)) (at_end i);
+          subst (λ l. AtFresh W.setting homes nothing_kept i l k) (sym (pushed_here (stage.Act code.Return 0) e.mid.stages new.stages e.pushes W.stage_of whole.obeys label among)) (at_end i);
       busy = λ busy. absurd (let idle = stage_idle size old e.mid good e.begins in omega arith);
       here = λ busy. absurd (let idle = stage_idle size old e.mid good e.begins in omega arith);
     }
@@ -383,6 +386,7 @@ module _ (format : List Piece) (arguments : List Expression) (old mid new : Lowe
       subst (IsTypedNow S (w + statement_weight statement)) (sym stepped) (record {
         block = record { operations = open_.operations; few = open_.few; current = open_.current };
         size = (let c = works.count in let f = now.size in let m = suits.resolved.most in omega (arith, c, f, m));
+        steps = (let f = now.steps in let p = puts.steps in omega (arith, f, p));
         stages = λ l s e. anywhere_more S.types S.program (4 * w) (4 * (w + statement_weight statement)) (omega arith) s (now.stages l s e);
       })
 
@@ -409,8 +413,11 @@ module _ (format : List Piece) (arguments : List Expression) (old mid new : Lowe
     reached_new : new.reached ≡ true
     reached_new = ap (λ (z : Lowering). z.reached) acts.same ∙ stage_reached mid acts.mid mid_reached acts.begins
 
-    next_here : IsAmong new.stages.here acts.next
-    next_here = subst (λ (z : Lowering). IsAmong z.stages.here acts.next) (sym acts.same) (among_last acts.pushed.here acts.next)
+    next_here : IsHere new.stages acts.next
+    next_here =
+        subst (λ (z : Lowering). IsHere z.stages acts.next) (sym acts.same)
+        (set_same acts.pushed.labels acts.next (Some (length acts.pushed.places))
+        (get_within acts.pushed.labels acts.next None (act_open (code.Print site operands) mid new acts)))
 
     print_acts : (i : ℕ) → i ≤ n → AtFresh W.setting homes (keeping size) i (length acts.mid.stages.stages.items) (Perform offset (Print format) ∷ k)
     print_acts zero le variables arrays f work shape locals kept = tt
@@ -433,7 +440,8 @@ module _ (format : List Piece) (arguments : List Expression) (old mid new : Lowe
     at_act i le = record {
       fresh = λ idle label among.
           subst (λ l. AtFresh W.setting homes (keeping size) i l (Perform offset (Print format) ∷ k))
-          (sym (acts.pushes.placed W.stage_of (acts_pushed (code.Print site operands) mid new acts W whole).obeys label among)) (print_acts i le);
+          (sym (pushed_here (stage.Act (code.Print site operands) acts.next) (with_label acts.mid).stages acts.pushed acts.pushes W.stage_of
+          (acts_pushed (code.Print site operands) mid new acts W whole).obeys label (get_more acts.mid.stages.labels (None ∷ []) label (Some (length acts.mid.stages.places)) among))) (print_acts i le);
       busy = λ busy. absurd (let idle = idle_act in omega arith);
       here = λ busy. absurd (let idle = idle_act in omega arith);
     }

@@ -42,18 +42,18 @@ use Rattle.ir_lower.proofs.Shapes.{shape_fresh, nothing_written}
 use Rattle.ir_lower.proofs.Sites.{formats_length}
 use Rattle.ir_lower.proofs.LocalHomes.{are_homes, IsDeclaredHome, declared_home}
 
-all_at : {A : Type 0} (Q : A → Type 0) (xs : List A) (n : ℕ) (x : A) → AllByRecursion Q xs → slice_get xs n ≡ Some x → Q x
+pub all_at : {A : Type 0} (Q : A → Type 0) (xs : List A) (n : ℕ) (x : A) → AllByRecursion Q xs → slice_get xs n ≡ Some x → Q x
 all_at Q [] n x all at = absurd cc
 all_at Q (y ∷ ys) zero x all at = subst Q (let same : y ≡ x = cc in same) all.0
 all_at Q (y ∷ ys) (suc n) x all at = all_at Q ys n x all.1 at
 
-get_map : {A B : Type 0} (g : A → B) (xs : List A) (n : ℕ) (x : A) → slice_get xs n ≡ Some x → slice_get (map g xs) n ≡ Some (g x)
+pub get_map : {A B : Type 0} (g : A → B) (xs : List A) (n : ℕ) (x : A) → slice_get xs n ≡ Some x → slice_get (map g xs) n ≡ Some (g x)
 get_map g [] n x at = absurd cc
 get_map g (y ∷ ys) zero x at = ap (λ z. Some (g z)) (let same : y ≡ x = cc in same)
 get_map g (y ∷ ys) (suc n) x at = get_map g ys n x at
 
 -- the formats of a function are among those of all
-formats_split : (fs : List Function) (n : ℕ) (f : Function) → slice_get fs n ≡ Some f →
+pub formats_split : (fs : List Function) (n : ℕ) (f : Function) → slice_get fs n ≡ Some f →
     flat_map (λ (g : Function). formats_of g.body) fs ≡ flat_map (λ (g : Function). formats_of g.body) (take n fs) ++
     (formats_of f.body ++ flat_map (λ (g : Function). formats_of g.body) (drop (suc n) fs))
 formats_split [] n f at = absurd cc
@@ -72,7 +72,7 @@ formats_count (f ∷ fs) =
     (λ (g : Function). print_count g.body) (f ∷ []) fs in
     omega (arith, both, own, rest, sum)
 
-take_map : {A B : Type 0} (g : A → B) (n : ℕ) (xs : List A) → take n (map g xs) ≡ map g (take n xs)
+pub take_map : {A B : Type 0} (g : A → B) (n : ℕ) (xs : List A) → take n (map g xs) ≡ map g (take n xs)
 take_map g zero xs = refl
 take_map g (suc n) [] = refl
 take_map g (suc n) (x ∷ xs) = ap (λ l. g x ∷ l) (take_map g n xs)
@@ -94,7 +94,7 @@ word_in zero j lt = absurd (omega arith)
 word_in (suc count) zero lt = refl
 word_in (suc count) (suc j) lt = word_in count j (omega arith)
 
-word_at : (xs : List IntegerType) (count j n : ℕ) → n ≡ length xs + j → j < count → slice_get (xs ++ replicate count long_int) n ≡ Some long_int
+pub word_at : (xs : List IntegerType) (count j n : ℕ) → n ≡ length xs + j → j < count → slice_get (xs ++ replicate count long_int) n ≡ Some long_int
 word_at [] count j n e lt = ap (slice_get (replicate count long_int)) (let same : n ≡ j = omega arith in same) ∙ word_in count j lt
 word_at (x ∷ xs) count j zero e lt = absurd (omega arith)
 word_at (x ∷ xs) count j (suc n) e lt = word_at xs count j n (omega arith) lt
@@ -262,6 +262,7 @@ module _ (p : ProgramTree) (code : ThreadCode) (made : IsCodeOf p p.main code) (
     first_typed = record {
       block = fresh_typed typing.types (size + 4) made.first.block made.is_new.block;
       size = (let e = ap length made.is_new.block.operations in omega (arith, e));
+      steps = (let e = made.is_new.block.steps in omega (arith, e));
       stages = λ l t e. absurd (let none : slice_get [] l ≡ Some t = ap (λ xs. slice_get xs l) (sym made.is_new.items) ∙ e in cc);
     }
 

@@ -17,6 +17,7 @@ IsTypedAnywhere T P m s =
 pub record IsTypedNow (S : Typing) (w : ℕ) (c : Lowering) : Type 0 where
   pub block : IsTypedOpen S.types c.block
   pub size : length c.block.operations ≤ 4 * w
+  pub steps : c.block.steps ≤ w
   pub stages : (l : ℕ) (s : Stage) → slice_get c.stages.stages.items l ≡ Some s → IsTypedAnywhere S.types S.program (4 * w) s
 
 -- the block at hand is sound, in code with so many variables; a place that isn't reached has nothing in its block

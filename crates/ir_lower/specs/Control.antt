@@ -1,5 +1,5 @@
 -- Code in the making whose stages lead to labels, and what of a thread's steps its whole does from there on.
-use Rattle.std.specs.Prelude.{◌≡◌, ℕ, ◌+◌, ◌<◌, ◌≤◌, Bool, true, false, List, [], ◌∷◌, ◌++◌, length, slice_set, ◌⊎◌}
+use Rattle.std.specs.Prelude.{◌≡◌, ℕ, ◌+◌, ◌<◌, ◌≤◌, Bool, true, false, List, [], ◌∷◌, ◌++◌, length, Some, None, slice_get, slice_set, ◌⊎◌}
 use Rattle.c_program.specs.Tree.{Expression, Condition}
 use Rattle.c_program.specs.Weight.{expression_weight, condition_weight}
 use Rattle.c_program.specs.Resolved.{IsExpression, IsCondition}
@@ -12,28 +12,27 @@ use Rattle.block_ir.specs.declared.code.Act.{Act}
 use Rattle.block_ir.specs.declared.code.Act.TheVariants.{Return}
 use Rattle.block_ir.specs.declared.code.Stage.TheVariants as stage
 use Rattle.ir_lower.specs.declared.homes.Home.{Home}
-use Rattle.ir_lower.specs.declared.stages.Place.TheVariants as place
 use Rattle.ir_lower.specs.declared.stages.Stages.{Stages}
 use Rattle.ir_lower.specs.declared.lowering.Lowering.{Lowering}
-use Rattle.ir_lower.specs.Closing.{IsAmong, HasNoted, IsFresh, Closes}
+use Rattle.ir_lower.specs.Closing.{HasNoted, IsFresh, Closes}
 use Rattle.ir_lower.specs.Resuming.{Setting, Keeping, nothing_kept, InBlock, AtFresh, IsSound}
 use Rattle.ir_lower.specs.Typing.{Typing, Fits}
-use Rattle.ir_lower.specs.Labels.{Settles, Pushes, IsWhole, is_used}
+use Rattle.ir_lower.specs.Labels.{IsHere, leading, Settles, Pushes, IsWhole, with_used, is_used, IsOpen, HasNoPlace, IsAt, IsTarget, Advances, AreAlike, IsFirst}
 use Rattle.ir_lower.specs.Apart.{IsTypedNow, IsGood}
 
 -- What the parts of the code do.
 
 -- something leads to the label
 abbrev pub marked : ℕ → Lowering → Lowering
-marked label c = record c { stages = record c.stages { used = slice_set c.stages.used label true } }
+marked label c = record c { stages = record c.stages { used = with_used c.stages.used label } }
 
 -- the label is one of the place at hand
 abbrev pub placed : ℕ → Lowering → Lowering
-placed label c = record c { stages = record c.stages { here = c.stages.here ++ label ∷ [] }; reached = true }
+placed label c = record c { stages = record c.stages { labels = slice_set c.stages.labels label (Some (length c.stages.places)) }; reached = true }
 
 -- a new label, which has no place yet
 abbrev pub with_label : Lowering → Lowering
-with_label c = record c { stages = record c.stages { places = c.stages.places ++ place.Ahead ∷ []; used = c.stages.used ++ false ∷ [] } }
+with_label c = record c { stages = record c.stages { labels = c.stages.labels ++ None ∷ [] } }
 
 -- the block at hand is a stage, which leads there
 pub record EndsAt (next : Next) (old new : Lowering) : Type 0 where
@@ -46,24 +45,26 @@ pub record EndsAt (next : Next) (old new : Lowering) : Type 0 where
 -- the block at hand does nothing yet: its labels lead where that label does
 pub record LeadsOn (label : ℕ) (old new : Lowering) : Type 0 where
   pub idle : old.block.steps ≡ 0
-  pub settles : Settles (place.Same label) old.stages new.stages
+  pub settles : Settles (leading old.stages.places (slice_get old.stages.labels label) label) old.stages new.stages
   pub same : new ≡ record old { stages = new.stages; reached = false }
 
 pub record EndsBusy (label : ℕ) (old new : Lowering) : Type 0 where
   pub busy : 0 < old.block.steps
   pub ends : EndsAt (Jump label) old new
 
--- it is gone on at the label, which is known
+-- it is gone on at the label
 pub record Jumps (label : ℕ) (old new : Lowering) : Type 0 where
-  pub known : label < length old.stages.used
+  pub target : IsTarget label old.stages
   pub way : LeadsOn label (marked label old) new ⊎ EndsBusy label (marked label old) new
 
 -- the label's place is the place at hand: of the block at hand, where that does nothing yet, or of what comes after it
 pub record BeginsHere (label : ℕ) (old new : Lowering) : Type 0 where
+  pub open_ : IsOpen label old.stages
   pub idle : old.reached ≡ true → old.block.steps ≡ 0
   pub same : new ≡ placed label old
 
 pub record BeginsAfter (label : ℕ) (old new : Lowering) : Type 0 where
+  pub open_ : IsOpen label old.stages
   pub reached : old.reached ≡ true
   pub mid : Lowering
   pub ends : EndsBusy label old mid
@@ -104,6 +105,7 @@ pub record BeginsIdle (old new : Lowering) : Type 0 where
 pub record BeginsBusy (old new : Lowering) : Type 0 where
   pub busy : 0 < old.block.steps
   pub next : ℕ
+  pub next_ : next ≡ length old.stages.labels
   pub begins : Begins next (with_label old) new
 
 abbrev pub BeginsStage : Lowering → Lowering → Type 0
@@ -114,9 +116,10 @@ pub record ActsAt (act : Act) (old new : Lowering) : Type 0 where
   pub mid : Lowering
   pub begins : BeginsStage old mid
   pub next : ℕ
+  pub next_ : next ≡ length mid.stages.labels
   pub pushed : Stages
   pub pushes : Pushes (stage.Act act next) (with_label mid).stages pushed
-  pub same : new ≡ record mid { stages = record pushed { here = pushed.here ++ next ∷ [] } }
+  pub same : new ≡ record mid { stages = record pushed { labels = slice_set pushed.labels next (Some (length pushed.places)) } }
 
 -- and then the return is
 pub record EndsCall (old new : Lowering) : Type 0 where
@@ -125,11 +128,36 @@ pub record EndsCall (old new : Lowering) : Type 0 where
   pub pushes : Pushes (stage.Act Return 0) mid.stages new.stages
   pub same : new ≡ record mid { stages = new.stages; reached = false }
 
--- the block at hand is a stage, which leads to one of the two labels; both are known
+-- the block at hand is a stage, which leads to one of the two labels
 pub record Branches (test : Operand) (nonzero otherwise : ℕ) (old new : Lowering) : Type 0 where
-  pub first : nonzero < length old.stages.used
-  pub second : otherwise < length old.stages.used
   pub ends : EndsAt (Branch test nonzero otherwise) (marked otherwise (marked nonzero old)) new
+
+-- Where the code begins.
+
+-- there is no stage yet: the label leads where one of the place at hand does, and nothing leads to a label without a place
+pub record IsAtHand (start : ℕ) (c : Lowering) : Type 0 where
+  pub none : c.stages.stages.items ≡ []
+  pub on : c.reached ≡ true
+  pub label : ℕ
+  pub here : IsHere c.stages label
+  pub alike : AreAlike start label c.stages
+  pub unused : (other : ℕ) → HasNoPlace other c.stages → is_used c.stages.used other ≡ false
+
+abbrev pub Begun : ℕ → Lowering → Type 0
+Begun start c = IsAtHand start c ⊎ IsFirst start c.stages
+
+-- there is no stage yet: the label leads to one of those labels, which has no place, and alone is led to
+pub record Waits (Out : ℕ → Type 0) (start : ℕ) (c : Lowering) : Type 0 where
+  pub none : c.stages.stages.items ≡ []
+  pub off : c.reached ≡ false
+  pub label : ℕ
+  pub out : Out label
+  pub alike : AreAlike start label c.stages
+  pub used : is_used c.stages.used label ≡ true
+  pub alone : (other : ℕ) → HasNoPlace other c.stages → is_used c.stages.used other ≡ true → other ≡ label
+
+abbrev pub BegunOr : (ℕ → Type 0) → ℕ → Lowering → Type 0
+BegunOr Out start c = Begun start c ⊎ Waits Out start c
 
 -- What the whole does.
 
@@ -151,9 +179,9 @@ module _ (W : Whole) (homes : List Home) where
 
   -- a call with this work goes on at the place at hand
   pub record GoesOn (Kept : Keeping) (n : ℕ) (c : Lowering) (k : List Work) : Type 0 where
-    pub fresh : c.block.steps ≡ 0 → (label : ℕ) → IsAmong c.stages.here label → AtFresh W.setting homes Kept n (W.stage_of label) k
+    pub fresh : c.block.steps ≡ 0 → (label : ℕ) → IsHere c.stages label → AtFresh W.setting homes Kept n (W.stage_of label) k
     pub busy : 0 < c.block.steps → InBlock W.setting homes Kept n (length c.stages.stages.items) c.block k
-    pub here : 0 < c.block.steps → (label : ℕ) → IsAmong c.stages.here label → W.stage_of label ≡ length c.stages.stages.items
+    pub here : 0 < c.block.steps → (label : ℕ) → IsHere c.stages label → W.stage_of label ≡ length c.stages.stages.items
 
 -- Conditions.
 
@@ -181,6 +209,9 @@ StaysTyped weight Is old new =
 pub record Tests (e : Expression) (nonzero otherwise : ℕ) (old new : Lowering) : Type 0 where
   pub keeps : Keeps old new
   pub site : new.site ≡ old.site
+  pub advances : Advances (λ label. ⊥) old.stages new.stages
+  pub first : (start : ℕ) → Begun start old → IsFirst start new.stages
+  pub settled : (label : ℕ) → IsHere old.stages label → IsAt label (length old.stages.stages.items) new.stages
   pub typed : StaysTyped (expression_weight e + 1) (λ S. IsExpression S.program S.function e) old new
   pub ends : new.reached ≡ false
   pub idle : (size : ℕ) → length old.variables ≡ size → IsSound size old.block → new.block.steps ≡ 0
@@ -193,6 +224,9 @@ pub record Tests (e : Expression) (nonzero otherwise : ℕ) (old new : Lowering)
 pub record Decides (d : Condition) (if_true if_false : ℕ) (old new : Lowering) : Type 0 where
   pub keeps : Keeps old new
   pub site : new.site ≡ old.site
+  pub advances : Advances (λ label. ⊥) old.stages new.stages
+  pub first : (start : ℕ) → Begun start old → IsFirst start new.stages
+  pub settled : (label : ℕ) → IsHere old.stages label → IsAt label (length old.stages.stages.items) new.stages
   pub typed : StaysTyped (condition_weight d + 1) (λ S. IsCondition S.program S.function d) old new
   pub ends : new.reached ≡ false
   pub idle : (size : ℕ) → length old.variables ≡ size → IsSound size old.block → new.block.steps ≡ 0

@@ -1,5 +1,5 @@
 -- What the code of a statement does.
-use Rattle.std.specs.Prelude.{◌≡◌, ℕ, ◌+◌, ◌≤◌, Bool, true, false, List, [], ◌++◌, ◌∷◌, length, map, take, replicate, sum_by, Option, Some, None, slice_get, ◌⊎◌}
+use Rattle.std.specs.Prelude.{◌≡◌, ℕ, ◌+◌, ◌<◌, ◌≤◌, Bool, true, false, List, [], ◌++◌, ◌∷◌, length, map, take, replicate, sum_by, Option, Some, None, slice_get, ◌⊎◌}
 use Rattle.hls_ints.specs.Types.{long_int}
 use Rattle.c_program.specs.declared.tree.Function.{Function as FunctionTree}
 use Rattle.c_program.specs.declared.tree.LocalVariable.{LocalVariable}
@@ -16,6 +16,7 @@ use Rattle.ir_lower.specs.declared.homes.Homes.{Homes}
 use Rattle.ir_lower.specs.declared.branching.Loop.{Loop}
 use Rattle.ir_lower.specs.declared.branching.ChoiceLabels.{ChoiceLabels}
 use Rattle.ir_lower.specs.declared.branching.LoopLabels.{LoopLabels}
+use Rattle.ir_lower.specs.declared.stages.Stages.{Stages}
 use Rattle.ir_lower.specs.declared.lowering.Lowering.{Lowering}
 use Rattle.ir_lower.specs.Closing.{IsFresh}
 use Rattle.ir_lower.specs.Locals.{AreHomesOf}
@@ -23,9 +24,9 @@ use Rattle.ir_lower.specs.Values.{most_values}
 use Rattle.ir_lower.specs.Taken.{is_sequential}
 use Rattle.ir_lower.specs.Typing.{Typing, Fits, HasWords}
 use Rattle.ir_lower.specs.Resuming.{AreHomes, nothing_kept, HasSites}
-use Rattle.ir_lower.specs.Labels.{Finishes, is_used}
+use Rattle.ir_lower.specs.Labels.{IsHere, Finishes, is_used, IsOpen, IsTarget, Advances}
 use Rattle.ir_lower.specs.Apart.{IsTypedNow, IsGood}
-use Rattle.ir_lower.specs.Control.{Begins, Binds, Leaps, EndsCall, Whole, IsIn, AtLabelUpTo, GoesOn, Decides}
+use Rattle.ir_lower.specs.Control.{with_label, Begun, BegunOr, Begins, Binds, Leaps, EndsCall, Whole, IsIn, AtLabelUpTo, GoesOn, Decides}
 
 -- what parts of the code keep
 pub record Grows (old new : Lowering) : Type 0 where
@@ -48,14 +49,45 @@ pub record Relabels (old new : Lowering) : Type 0 where
   pub shifts : Shifts old new
   pub block : new.block ≡ old.block
   pub items : new.stages.stages ≡ old.stages.stages
-  pub here : new.stages.here ≡ old.stages.here
+  pub here : (label : ℕ) → IsHere old.stages label → IsHere new.stages label
+  pub advances : Advances (λ label. ⊥) old.stages new.stages
+  pub begun : (start : ℕ) → Begun start old → Begun start new
   pub reached : new.reached ≡ old.reached
+
+-- a label that is new there, without a place yet
+pub record IsNewLabel (label : ℕ) (old new : Lowering) : Type 0 where
+  pub after : length old.stages.labels ≤ label
+  pub open_ : IsOpen label new.stages
+
+pub record AreTwo (first second : ℕ) (old new : Lowering) : Type 0 where
+  pub one : IsNewLabel first old new
+  pub other : IsNewLabel second old new
+  pub apart : first < second
+
+-- the labels of an if
+pub record AreChoice (l : ChoiceLabels) (old new : Lowering) : Type 0 where
+  pub if_true : IsNewLabel l.if_true old new
+  pub if_false : IsNewLabel l.if_false old new
+  pub join : IsNewLabel l.join old new
+  pub first : l.if_true < l.if_false
+  pub second : l.if_false < l.join
+
+-- those of a loop
+pub record AreLoop (l : LoopLabels) (old new : Lowering) : Type 0 where
+  pub head : IsNewLabel l.head old new
+  pub body : IsNewLabel l.body old new
+  pub turning : IsNewLabel l.turning old new
+  pub leaving : IsNewLabel l.leaving old new
+  pub first : l.head < l.body
+  pub second : l.body < l.turning
+  pub third : l.turning < l.leaving
 
 -- the parts of an if and of loops
 
 pub record OpensChoice (d : Condition) (l : ChoiceLabels) (old new : Lowering) : Type 0 where
   pub labelled : Lowering
   pub relabels : Relabels old labelled
+  pub labels : AreChoice l old labelled
   pub decided : Lowering
   pub decides : Decides d l.if_true l.if_false labelled decided
   pub binds : Binds l.if_true decided new
@@ -68,6 +100,7 @@ pub record TurnsChoice (l : ChoiceLabels) (old new : Lowering) : Type 0 where
 pub record OpensLoop (l : LoopLabels) (old new : Lowering) : Type 0 where
   pub labelled : Lowering
   pub relabels : Relabels old labelled
+  pub labels : AreLoop l old labelled
   pub begins : Begins l.head labelled new
 
 pub record OpensTurn (d : Condition) (l : LoopLabels) (old new : Lowering) : Type 0 where
@@ -117,6 +150,20 @@ module _ (W : Whole) (homes : List Home) (n : ℕ) where
   LeadsOut used None k = Unit {0}
   LeadsOut used (Some l) k = IfUsed used l.leaving (settled Leaving k) × IfUsed used l.turning (settled Turning k)
 
+-- the labels where break and continue lead
+abbrev pub AreTargets : Option Loop → Stages → Type 0
+AreTargets None s = Unit {0}
+AreTargets (Some l) s = IsTarget l.leaving s × IsTarget l.turning s
+
+abbrev pub IsOut : Option Loop → ℕ → Type 0
+IsOut None label = ⊥
+IsOut (Some l) label = (label ≡ l.leaving) ⊎ (label ≡ l.turning)
+
+-- the code of a statement leaves open what was, and begins where it did
+pub record Proceeds (around : Option Loop) (old new : Lowering) : Type 0 where
+  pub advances : Advances (λ label. ⊥) old.stages new.stages
+  pub begun : (start : ℕ) → BegunOr (IsOut around) start old → BegunOr (IsOut around) start new
+
 -- what the code of a statement rests on
 pub record Suits (W : Whole) (homes : List Home) (size : ℕ) (s : Statement) (c : Lowering) : Type 0 where
   pub homes_ : c.homes ≡ homes
@@ -161,6 +208,9 @@ pub record IsNew (locals : List LocalVariable) (site values : ℕ) (c : Lowering
   pub arrays : c.arrays ≡ homed.arrays
   pub block : IsFresh (length homed.variables + 4) c.block
   pub items : c.stages.stages.items ≡ []
+  pub labels : c.stages.labels ≡ []
+  pub used : c.stages.used ≡ []
+  pub places : c.stages.places ≡ []
   pub reached : c.reached ≡ true
   pub site_ : c.site ≡ site
   pub words : c.act_operands ≡ values
@@ -168,6 +218,8 @@ pub record IsNew (locals : List LocalVariable) (site values : ℕ) (c : Lowering
 -- a label that is the first place of the code
 pub record Starts (start : ℕ) (old new : Lowering) : Type 0 where
   pub labelled : Lowering
+  pub number : start ≡ length old.stages.labels
+  pub is : labelled ≡ with_label old
   pub relabels : Relabels old labelled
   pub begins : Begins start labelled new
 
@@ -182,6 +234,13 @@ pub record EndsHere (old new : Lowering) : Type 0 where
 
 abbrev pub Ends : Lowering → Lowering → Type 0
 Ends old new = EndsNot old new ⊎ EndsHere old new
+
+-- the code of a function's body, and of the return at its closing brace
+pub record LowersBody (s : Statement) (old new : Lowering) : Type 0 where
+  pub lowered : Lowering
+  pub labels : Proceeds None old lowered
+  pub lowers : Lowers None s old lowered
+  pub ends : Ends lowered new
 
 pub record IsFinished (start : ℕ) (c : Lowering) (code : ThreadCode) : Type 0 where
   pub variables : code.variables ≡ c.variables ++ replicate c.act_operands long_int

@@ -1,3 +1,5 @@
+pub mod Room
+pub mod Needing
 pub mod Taken
 pub mod Mains
 pub mod Printing

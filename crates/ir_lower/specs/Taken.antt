@@ -40,6 +40,16 @@ abbrev pub is_taken_function : Option Function → Bool
 is_taken_function None = false
 is_taken_function (Some function) = is_taken false function.body
 
+-- a statement without others in it
+abbrev pub is_simple : Statement → Bool
+is_simple (Statement.Sequence first rest) = false
+is_simple (Statement.Block body) = false
+is_simple (Statement.If condition consequent alternative) = false
+is_simple (Statement.While condition body) = false
+is_simple (Statement.DoWhile body condition) = false
+is_simple (Statement.For first condition last body) = false
+is_simple statement = true
+
 -- no pthread call
 abbrev pub is_sequential : Statement → Bool
 is_sequential (Statement.Sequence first rest) = is_sequential first && is_sequential rest

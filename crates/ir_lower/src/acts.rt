@@ -1,9 +1,11 @@
 // Acts: a step that evaluates their operands, and the act itself.
 
-ghost use Rattle.std.specs.Prelude.{◌≡◌, ℕ, IfOk};
+ghost use Rattle.std.specs.Prelude.{◌≡◌, ℕ, true, IfOk, OnOk, ◌+◌, ◌*◌, length, IfErr};
 ghost use Rattle.c_program.specs.Plain.{expressions_of, pieces_of};
 ghost use Rattle.c_program.specs.Tree as tree;
+ghost use Rattle.c_program.specs.Weight.{expressions_weight};
 ghost use Rattle.ir_lower.specs.Doing as doing;
+ghost use Rattle.ir_lower.specs.Room.{IsFull};
 
 use crate::expressions::lower_expression;
 use crate::fault::LoweringFault;
@@ -25,7 +27,10 @@ fn lower_operand(
     code: &mut Lowering,
     position: usize,
     expression: &Expression,
-) -> Result<ActOperand, LoweringFault> {
+) -> Result<ActOperand, LoweringFault>
+    ensures stages { OnOk result (code.new.stages ≡ code.old.stages) }
+    ensures reached { OnOk result (code.new.reached ≡ code.old.reached) }
+{
     if let Expression::Constant(ty, number) = expression {
         return Ok(ActOperand::Constant(*ty, *number));
     }
@@ -44,7 +49,10 @@ fn lower_object(
     code: &mut Lowering,
     first: u64,
     place: &ObjectPlace,
-) -> Result<ActOperand, LoweringFault> {
+) -> Result<ActOperand, LoweringFault>
+    ensures stages { OnOk result (code.new.stages ≡ code.old.stages) }
+    ensures reached { OnOk result (code.new.reached ≡ code.old.reached) }
+{
     match place {
         ObjectPlace::Single(_) => Ok(ActOperand::Constant(CType::LONG, i128::from(first))),
         ObjectPlace::Element(_, _, index) => {
@@ -73,7 +81,10 @@ fn lower_thread(
     alloc: Global,
     code: &mut Lowering,
     place: &ObjectPlace,
-) -> Result<ActOperand, LoweringFault> {
+) -> Result<ActOperand, LoweringFault>
+    ensures stages { OnOk result (code.new.stages ≡ code.old.stages) }
+    ensures reached { OnOk result (code.new.reached ≡ code.old.reached) }
+{
     let first = first_of(code.objects.threads.as_slice(), object_of(place));
     lower_object(alloc, code, first, place)
 }
@@ -82,7 +93,10 @@ fn lower_mutex(
     alloc: Global,
     code: &mut Lowering,
     place: &ObjectPlace,
-) -> Result<ActOperand, LoweringFault> {
+) -> Result<ActOperand, LoweringFault>
+    ensures stages { OnOk result (code.new.stages ≡ code.old.stages) }
+    ensures reached { OnOk result (code.new.reached ≡ code.old.reached) }
+{
     let first = first_of(code.objects.mutexes.as_slice(), object_of(place));
     lower_object(alloc, code, first, place)
 }
@@ -91,13 +105,19 @@ fn lower_barrier(
     alloc: Global,
     code: &mut Lowering,
     place: &ObjectPlace,
-) -> Result<ActOperand, LoweringFault> {
+) -> Result<ActOperand, LoweringFault>
+    ensures stages { OnOk result (code.new.stages ≡ code.old.stages) }
+    ensures reached { OnOk result (code.new.reached ≡ code.old.reached) }
+{
     let first = first_of(code.objects.barriers.as_slice(), object_of(place));
     lower_object(alloc, code, first, place)
 }
 
 /// The act of a pthread call, whose operands are at hand after the block.
-fn lower_call(alloc: Global, code: &mut Lowering, call: &ThreadCall) -> Result<Act, LoweringFault> {
+fn lower_call(alloc: Global, code: &mut Lowering, call: &ThreadCall) -> Result<Act, LoweringFault>
+    ensures stages { OnOk result (code.new.stages ≡ code.old.stages) }
+    ensures reached { OnOk result (code.new.reached ≡ code.old.reached) }
+{
     match call {
         ThreadCall::Create(thread, _, argument) => {
             let thread = lower_thread(alloc, code, thread)?;
@@ -145,7 +165,10 @@ pub fn lower_thread_call(
     alloc: Global,
     code: &mut Lowering,
     call: &ThreadCall,
-) -> Result<(), LoweringFault> {
+) -> Result<(), LoweringFault>
+    requires reached { code.old.reached ≡ true }
+    ensures labels { OnOk result ((around : _) → doing.Proceeds around code.old code.new) }
+{
     let act = lower_call(alloc, code, call)?;
     code.block.step()?;
     code.act(alloc, act)?;
@@ -159,7 +182,12 @@ pub fn lower_print(
     format: &[Piece],
     arguments: &[Expression],
 ) -> Result<(), LoweringFault>
-    ensures { IfOk result (λ _. (offset : ℕ) (around : _) → doing.LowersHere around (tree.Statement.Print offset (pieces_of format.now) (expressions_of arguments.now)) code.old code.new) }
+    requires reached { code.old.reached ≡ true }
+    ensures labels { OnOk result ((around : _) → doing.Proceeds around code.old code.new) }
+    ensures lowers { IfOk result (λ _. (offset : ℕ) (around : _) → doing.LowersHere around (tree.Statement.Print offset (pieces_of format.now) (expressions_of arguments.now)) code.old code.new) }
+    ensures full { IfErr result (IsFull
+        (length code.old.block.operations + code.old.block.steps + length code.old.variables + code.old.site
+        + (2 * expressions_weight (expressions_of arguments.now) + 2 * length arguments.now + 1))) }
 {
     let first = code.first_word()?;
     let types = conversions_of(alloc, format)?;

@@ -1,9 +1,11 @@
 // The operations of assignments.
 
-ghost use Rattle.std.specs.Prelude.{◌≡◌, IfOk};
+ghost use Rattle.std.specs.Prelude.{◌≡◌, ◌+◌, ◌*◌, length, IfOk, IfErr};
 ghost use Rattle.c_program.specs.Plain.{expression_of, place_of};
+ghost use Rattle.c_program.specs.Weight.{expression_weight, place_weight};
 ghost use Rattle.thread_semantics.specs.Move.{assignment, update};
 ghost use Rattle.ir_lower.specs.Assigning as assigning;
+ghost use Rattle.ir_lower.specs.Room.{IsFull};
 ghost use Rattle.ir_lower.specs.Typing as typing;
 
 use crate::expressions::lower_expression;
@@ -27,6 +29,8 @@ pub fn lower_assignment(
 ) -> Result<(), LoweringFault>
     ensures assigns { IfOk result (λ _. assigning.Assigns homes.now (assignment (place_of place.now) (expression_of right.now)) block.old block.new) }
     ensures typed { IfOk result (λ _. typing.WorksOnAssignment homes.now (place_of place.now) (expression_of right.now) block.old block.new) }
+    ensures full { IfErr result
+        (IsFull (length block.old.operations + block.old.steps + 4 * (place_weight (place_of place.now) + expression_weight (expression_of right.now) + 1))) }
 {
     let value = lower_expression(alloc, homes, block, right)?;
     let target = lower_place(alloc, homes, block, place)?;
@@ -48,6 +52,8 @@ pub fn lower_update(
 ) -> Result<(), LoweringFault>
     ensures assigns { IfOk result (λ _. assigning.Assigns homes.now (update (place_of place.now) operator ty (expression_of right.now)) block.old block.new) }
     ensures typed { IfOk result (λ _. typing.WorksOnUpdate homes.now (place_of place.now) operator ty (expression_of right.now) block.old block.new) }
+    ensures full { IfErr result
+        (IsFull (length block.old.operations + block.old.steps + 4 * (place_weight (place_of place.now) + expression_weight (expression_of right.now) + 2))) }
 {
     let right = lower_expression(alloc, homes, block, right)?;
     let target = lower_place(alloc, homes, block, place)?;

@@ -1,10 +1,12 @@
 // The parts of an if and of loops: their labels, conditions and jumps.
 
-ghost use Rattle.std.specs.Prelude.{◌≡◌, ◌+◌, IfOk, OnOk};
+ghost use Rattle.std.specs.Prelude.{◌≡◌, ◌<◌, ◌+◌, length, IfOk, OnOk, MatchResult};
 ghost use Rattle.c_program.specs.Plain.{condition_of, statement_of};
 ghost use Rattle.c_program.specs.Limits.{print_count};
 ghost use Rattle.ir_lower.specs.Control as control;
 ghost use Rattle.ir_lower.specs.Doing as doing;
+ghost use Rattle.ir_lower.specs.Labels as spec;
+ghost use Rattle.ir_lower.specs.Needing.{IsFullAt};
 
 use crate::conditions::lower_condition;
 use crate::fault::LoweringFault;
@@ -41,9 +43,10 @@ pub struct LoopLabels {
     pub leaving: usize,
 }
 
-#[tactic(auto, using(crate::proofs::Growing::two_labels))]
+#[tactic(auto, using(crate::proofs::Growing::two_labels, crate::proofs::Binding::two_new))]
 fn two_labels(code: &mut Lowering) -> Result<(usize, usize), AllocError>
-    ensures { OnOk result (doing.Relabels code.old code.new) }
+    ensures relabels { OnOk result (doing.Relabels code.old code.new) }
+    ensures labels { IfOk result (λ labels. doing.AreTwo labels.0 labels.1 code.old code.new) }
 {
     let first = code.new_label()?;
     let second = code.new_label()?;
@@ -52,7 +55,8 @@ fn two_labels(code: &mut Lowering) -> Result<(usize, usize), AllocError>
 
 #[tactic(auto, using(crate::proofs::Growing::three_labels))]
 fn choice_labels(code: &mut Lowering) -> Result<ChoiceLabels, AllocError>
-    ensures { OnOk result (doing.Relabels code.old code.new) }
+    ensures relabels { OnOk result (doing.Relabels code.old code.new) }
+    ensures labels { IfOk result (λ labels. doing.AreChoice labels code.old code.new) }
 {
     let (if_true, if_false) = two_labels(code)?;
     let join = code.new_label()?;
@@ -65,7 +69,8 @@ fn choice_labels(code: &mut Lowering) -> Result<ChoiceLabels, AllocError>
 
 #[tactic(auto, using(crate::proofs::Growing::relabels_both))]
 fn loop_labels(code: &mut Lowering) -> Result<LoopLabels, AllocError>
-    ensures { OnOk result (doing.Relabels code.old code.new) }
+    ensures relabels { OnOk result (doing.Relabels code.old code.new) }
+    ensures labels { IfOk result (λ labels. doing.AreLoop labels code.old code.new) }
 {
     let (head, body) = two_labels(code)?;
     let (turning, leaving) = two_labels(code)?;
@@ -78,13 +83,13 @@ fn loop_labels(code: &mut Lowering) -> Result<LoopLabels, AllocError>
 }
 
 /// An if up to its first statement.
-#[tactic(auto, using(crate::proofs::Growing::opens_choice))]
+#[tactic(auto, using(crate::proofs::Growing::opens_choice, crate::proofs::Binding::choice_open))]
 pub fn open_choice(
     alloc: Global,
     code: &mut Lowering,
     condition: &Condition,
 ) -> Result<ChoiceLabels, LoweringFault>
-    ensures { IfOk result (λ labels. doing.OpensChoice (condition_of condition.now) labels code.old code.new) }
+    ensures { MatchResult result (λ labels. doing.OpensChoice (condition_of condition.now) labels code.old code.new) (IsFullAt (condition_of condition.now) 0 code.old) }
 {
     let labels = choice_labels(code)?;
     lower_condition(alloc, code, condition, labels.if_true, labels.if_false)?;
@@ -93,12 +98,15 @@ pub fn open_choice(
 }
 
 /// What stands between the two statements of an if.
-#[tactic(auto, using(crate::proofs::Growing::turns_choice))]
+#[tactic(auto, using(crate::proofs::Growing::turns_choice, crate::proofs::Binding::leaps_open, crate::proofs::Binding::open_target))]
 pub fn turn_choice(
     alloc: Global,
     code: &mut Lowering,
     labels: ChoiceLabels,
-) -> Result<(), LoweringFault>
+) -> Result<(), AllocError>
+    requires join { spec.IsOpen labels.join code.old.stages }
+    requires if_false { spec.IsOpen labels.if_false code.old.stages }
+    requires apart { labels.if_false < labels.join }
     ensures { OnOk result (doing.TurnsChoice labels code.old code.new) }
 {
     code.leap(alloc, labels.join)?;
@@ -108,7 +116,7 @@ pub fn turn_choice(
 
 /// The head of a loop.
 #[tactic(auto, using(crate::proofs::Growing::opens_loop))]
-pub fn open_loop(alloc: Global, code: &mut Lowering) -> Result<LoopLabels, LoweringFault>
+pub fn open_loop(alloc: Global, code: &mut Lowering) -> Result<LoopLabels, AllocError>
     ensures { IfOk result (λ labels. doing.OpensLoop labels code.old code.new) }
 {
     let labels = loop_labels(code)?;
@@ -117,13 +125,13 @@ pub fn open_loop(alloc: Global, code: &mut Lowering) -> Result<LoopLabels, Lower
 }
 
 /// The head of a while or a for, up to its body.
-#[tactic(auto, using(crate::proofs::Growing::opens_turn))]
+#[tactic(auto, using(crate::proofs::Growing::opens_turn, crate::proofs::Binding::body_open))]
 pub fn open_turn(
     alloc: Global,
     code: &mut Lowering,
     condition: &Condition,
 ) -> Result<LoopLabels, LoweringFault>
-    ensures { IfOk result (λ labels. doing.OpensTurn (condition_of condition.now) labels code.old code.new) }
+    ensures { MatchResult result (λ labels. doing.OpensTurn (condition_of condition.now) labels code.old code.new) (IsFullAt (condition_of condition.now) 0 code.old) }
 {
     let labels = open_loop(alloc, code)?;
     lower_condition(alloc, code, condition, labels.body, labels.leaving)?;
@@ -132,12 +140,10 @@ pub fn open_turn(
 }
 
 /// The end of a while or a for.
-#[tactic(auto, using(crate::proofs::Growing::closes_turn))]
-pub fn close_turn(
-    alloc: Global,
-    code: &mut Lowering,
-    labels: LoopLabels,
-) -> Result<(), LoweringFault>
+#[tactic(auto, using(crate::proofs::Growing::closes_turn, crate::proofs::Binding::leaps_open))]
+pub fn close_turn(alloc: Global, code: &mut Lowering, labels: LoopLabels) -> Result<(), AllocError>
+    requires head { spec.IsTarget labels.head code.old.stages }
+    requires leaving { spec.IsOpen labels.leaving code.old.stages }
     ensures { OnOk result (doing.ClosesTurn labels code.old code.new) }
 {
     code.leap(alloc, labels.head)?;
@@ -153,7 +159,7 @@ fn ask_reached(
     condition: &Condition,
     labels: LoopLabels,
 ) -> Result<(), LoweringFault>
-    ensures { OnOk result (doing.Asks (condition_of condition.now) labels code.old code.new) }
+    ensures { MatchResult result (λ _. doing.Asks (condition_of condition.now) labels code.old code.new) (IsFullAt (condition_of condition.now) 0 code.old) }
 {
     if !code.is_reached() {
         return Ok(());
@@ -163,14 +169,17 @@ fn ask_reached(
 }
 
 /// The end of a do.
-#[tactic(auto, using(crate::proofs::Growing::closes_do))]
+#[tactic(auto, using(crate::proofs::Growing::closes_do, crate::proofs::Binding::leaving_open))]
 pub fn close_do(
     alloc: Global,
     code: &mut Lowering,
     condition: &Condition,
     labels: LoopLabels,
 ) -> Result<(), LoweringFault>
-    ensures { OnOk result (doing.ClosesDo (condition_of condition.now) labels code.old code.new) }
+    requires turning { spec.IsOpen labels.turning code.old.stages }
+    requires leaving { spec.IsOpen labels.leaving code.old.stages }
+    requires apart { labels.turning < labels.leaving }
+    ensures { MatchResult result (λ _. doing.ClosesDo (condition_of condition.now) labels code.old code.new) (IsFullAt (condition_of condition.now) 0 code.old) }
 {
     code.bind(alloc, labels.turning)?;
     ask_reached(alloc, code, condition, labels)?;
@@ -186,7 +195,9 @@ pub fn open_for(
     condition: &Condition,
     last: &Statement,
 ) -> Result<LoopLabels, LoweringFault>
-    ensures { IfOk result (λ labels. doing.OpensTurn (condition_of condition.now) labels (doing.at_site (code.old.site + print_count (statement_of last.now)) code.old) code.new) }
+    ensures { MatchResult result
+        (λ labels. doing.OpensTurn (condition_of condition.now) labels (doing.at_site (code.old.site + print_count (statement_of last.now)) code.old) code.new)
+        (IsFullAt (condition_of condition.now) (code.old.site + print_count (statement_of last.now)) code.old) }
 {
     code.skip_sites(print_count(last)?)?;
     let labels = open_turn(alloc, code, condition)?;
@@ -194,13 +205,14 @@ pub fn open_for(
 }
 
 /// The place of the last part of a for, whose first printf has that number.
-#[tactic(auto, using(crate::proofs::Growing::turns_for))]
+#[tactic(auto, using(crate::proofs::Growing::turns_for, crate::proofs::Binding::site_open))]
 pub fn turn_for(
     alloc: Global,
     code: &mut Lowering,
     labels: LoopLabels,
     site: u32,
-) -> Result<(), LoweringFault>
+) -> Result<(), AllocError>
+    requires { spec.IsOpen labels.turning code.old.stages }
     ensures { OnOk result (control.Binds labels.turning (doing.at_site site code.old) code.new) }
 {
     code.set_site(site);
@@ -209,13 +221,15 @@ pub fn turn_for(
 }
 
 /// The end of a for, after whose body that is the number of the next printf.
-#[tactic(auto, using(crate::proofs::Growing::closes_for))]
+#[tactic(auto, using(crate::proofs::Growing::closes_for, crate::proofs::Binding::site_open, crate::proofs::Binding::site_target))]
 pub fn close_for(
     alloc: Global,
     code: &mut Lowering,
     labels: LoopLabels,
     site: u32,
-) -> Result<(), LoweringFault>
+) -> Result<(), AllocError>
+    requires head { spec.IsTarget labels.head code.old.stages }
+    requires leaving { spec.IsOpen labels.leaving code.old.stages }
     ensures { OnOk result (doing.ClosesTurn labels (doing.at_site site code.old) code.new) }
 {
     code.set_site(site);

@@ -1,8 +1,11 @@
 // The blocks of a condition.
 
-ghost use Rattle.std.specs.Prelude.{◌≡◌, OnOk};
+ghost use Rattle.std.specs.Prelude.{◌≡◌, ◌+◌, ◌*◌, length, MatchResult};
 ghost use Rattle.c_program.specs.Plain.{condition_of, expression_of};
+ghost use Rattle.c_program.specs.Weight.{expression_weight};
 ghost use Rattle.ir_lower.specs.Control as control;
+ghost use Rattle.ir_lower.specs.Needing.{IsFullAt};
+ghost use Rattle.ir_lower.specs.Room.{IsFull};
 
 use crate::expressions::lower_expression;
 use crate::fault::LoweringFault;
@@ -19,7 +22,8 @@ fn lower_test(
     nonzero: usize,
     zero: usize,
 ) -> Result<(), LoweringFault>
-    ensures { OnOk result (control.Tests (expression_of operand.now) nonzero zero code.old code.new) }
+    ensures { MatchResult result (λ _. control.Tests (expression_of operand.now) nonzero zero code.old code.new)
+        (IsFull (length code.old.block.operations + code.old.block.steps + (2 * expression_weight (expression_of operand.now) + 1))) }
 {
     let test = lower_expression(alloc, code.homes.as_slice(), &mut code.block, operand)?;
     code.block.step()?;
@@ -37,7 +41,7 @@ pub fn lower_condition(
     if_true: usize,
     if_false: usize,
 ) -> Result<(), LoweringFault>
-    ensures { OnOk result (control.Decides (condition_of condition.now) if_true if_false code.old code.new) }
+    ensures { MatchResult result (λ _. control.Decides (condition_of condition.now) if_true if_false code.old code.new) (IsFullAt (condition_of condition.now) 0 code.old) }
 {
     match condition {
         Condition::Operand(_, operand) => {

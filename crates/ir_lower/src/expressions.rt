@@ -1,10 +1,12 @@
 // The operations of an expression.
 
-ghost use Rattle.std.specs.Prelude.{◌≡◌, pos, IfOk};
+ghost use Rattle.std.specs.Prelude.{◌≡◌, ◌+◌, ◌*◌, pos, length, IfOk, IfErr};
 ghost use Rattle.hls_ints.specs.Types.{int_type};
 ghost use Rattle.c_program.specs.Plain.{expression_of};
+ghost use Rattle.c_program.specs.Weight.{expression_weight};
 ghost use Rattle.ir_lower.specs.Needs as operands;
 ghost use Rattle.ir_lower.specs.Evaluating as evaluating;
+ghost use Rattle.ir_lower.specs.Room.{IsFull};
 
 use crate::fault::LoweringFault;
 use crate::homes::Home;
@@ -33,7 +35,8 @@ pub fn lower_expression(
     block: &mut OpenBlock,
     expression: &Expression,
 ) -> Result<Operand, LoweringFault>
-    ensures { IfOk result (λ a. evaluating.Evaluates homes.now (expression_of expression.now) block.old block.new a) }
+    ensures value { IfOk result (λ a. evaluating.Evaluates homes.now (expression_of expression.now) block.old block.new a) }
+    ensures full { IfErr result (IsFull (length block.old.operations + (2 * expression_weight (expression_of expression.now) + 1))) }
 {
     match expression {
         Expression::Constant(ty, number) => Ok(plain(alloc, Source::Constant(*ty, *number))),

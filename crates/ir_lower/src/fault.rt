@@ -1,24 +1,22 @@
 // Why a program has no code.
 
-ghost use Rattle.std.specs.Prelude.{◌≡◌, ◌+◌, ◌^◌, ◌<◌, IfOk};
+ghost use Rattle.std.specs.Prelude.{◌≡◌, ◌+◌, ◌^◌, ◌<◌, IfOk, IfErr};
 ghost use Rattle.ir_lower.specs.declared.fault.LoweringFault.TheVariants.{Memory};
+ghost use Rattle.ir_lower.specs.Room.{IsFull};
 ghost use Rattle.ir_lower.specs.declared.fault.LowerError.TheVariants.{Fault};
 
 use std::alloc::AllocError;
 use thiserror::Error;
 
-/// Why code in the making comes to no end. That it is anything but want of memory is not proved to come never.
+/// Why code in the making comes to no end.
 #[derive(Clone, Copy, PartialEq, Eq, Debug, Drop, Error)]
 pub enum LoweringFault {
     #[error("out of memory")]
     Memory,
-    /// There are more operations, variables or steps than a `u32` counts.
+    /// There are more operations, variables, steps or printf calls than a `u32` counts. Within the limits of the profile a main
+    /// without pthread calls has fewer.
     #[error("too large")]
     TooLarge,
-    /// A label of the code has two places or none, its places lead round, or the first place is not the first stage; or a
-    /// statement has no code, as a break outside of loops.
-    #[error("label")]
-    Label,
 }
 
 /// Why a program has no code.
@@ -32,6 +30,8 @@ pub enum LowerError {
 }
 
 impl From<AllocError> for LoweringFault {
+    ghost from_gives = { λ _ fault. fault ≡ Memory };
+
     fn from(_: AllocError) -> LoweringFault {
         LoweringFault::Memory
     }
@@ -57,6 +57,7 @@ impl From<AllocError> for LowerError {
 pub fn number_of(count: usize) -> Result<u32, LoweringFault>
     ensures value { IfOk result (λ number. number ≡ count) }
     ensures room { IfOk result (λ number. number + 1 < 2 ^ 32) }
+    ensures full { IfErr result (IsFull (count + 1)) }
 {
     if count < u32::MAX as usize {
         Ok(count as u32)

@@ -1,8 +1,9 @@
 // Where the locals of a function stand in the code of its thread.
 
-ghost use Rattle.std.specs.Prelude.{◌≡◌, List, [], ◌∷◌, ◌++◌, IfOk, OnOk};
+ghost use Rattle.std.specs.Prelude.{◌≡◌, ◌+◌, List, [], ◌∷◌, ◌++◌, length, IfOk, IfErr, OnOk};
 ghost use Rattle.c_program.specs.declared.tree.LocalVariable as tree;
 ghost use Rattle.ir_lower.specs.Locals as housing;
+ghost use Rattle.ir_lower.specs.Room.{IsFull};
 
 use crate::fault::{LoweringFault, number_of};
 use block_ir::code::Array;
@@ -30,7 +31,8 @@ impl Homes {
     /// The home of one more local.
     #[tactic(auto, using(crate::proofs::LocalHomes::scalar_more, crate::proofs::LocalHomes::array_more))]
     fn place(&mut self, local: LocalVariable) -> Result<(), LoweringFault>
-        ensures { OnOk result ((before : List tree.LocalVariable) → housing.AreHomesOf before self.old → housing.AreHomesOf (before ++ local ∷ []) self.new) }
+        ensures more { OnOk result ((before : List tree.LocalVariable) → housing.AreHomesOf before self.old → housing.AreHomesOf (before ++ local ∷ []) self.new) }
+        ensures full { IfErr result (IsFull (length self.old.variables + length self.old.arrays + 1)) }
     {
         let LocalVariable { ty, length } = local;
         if length == 1 {
@@ -48,7 +50,8 @@ impl Homes {
 
 /// The homes of a function's locals, numbered in their order.
 pub fn homes_of(alloc: Global, locals: &[LocalVariable]) -> Result<Homes, LoweringFault>
-    ensures { IfOk result (λ h. housing.AreHomesOf locals.now h) }
+    ensures homes { IfOk result (λ h. housing.AreHomesOf locals.now h) }
+    ensures full { IfErr result (IsFull (length locals.now)) }
 {
     let mut homes = Homes {
         homes: Items::new(alloc),

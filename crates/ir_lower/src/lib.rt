@@ -20,5 +20,3 @@ pub mod simple;
 pub mod stages;
 pub mod statements;
 pub mod taken;
-#[cfg(test)]
-mod tests;

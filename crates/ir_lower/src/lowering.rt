@@ -1,9 +1,11 @@
 // The code of a thread in the making: the block at hand, and the stages before it.
 
-ghost use Rattle.std.specs.Prelude.{◌≡◌, ◌+◌, ◌++◌, length, replicate, true, false, IsTrue, IfOk, OnOk};
+ghost use Rattle.std.specs.Prelude.{◌≡◌, ◌<◌, ◌+◌, ◌++◌, length, replicate, true, false, IsTrue, IfOk, IfErr, OnOk};
 ghost use Rattle.hls_ints.specs.Types.{long_int};
 ghost use Rattle.ir_lower.specs.Control as control;
 ghost use Rattle.ir_lower.specs.Doing as doing;
+ghost use Rattle.ir_lower.specs.Room.{IsFull};
+ghost use Rattle.ir_lower.specs.Labels as spec;
 
 use crate::fault::{LoweringFault, number_of};
 use crate::homes::{Home, Homes, homes_of};
@@ -51,7 +53,8 @@ impl Lowering {
         site: u32,
         values: usize,
     ) -> Result<Lowering, LoweringFault>
-        ensures { IfOk result (λ c. doing.IsNew locals.now site values c) }
+        ensures code { IfOk result (λ c. doing.IsNew locals.now site values c) }
+        ensures full { IfErr result (IsFull (length locals.now + 4)) }
     {
         let Homes {
             homes,
@@ -95,7 +98,8 @@ impl Lowering {
 
     /// So many printf calls of the text stand where the program never comes.
     pub fn skip_sites(&mut self, count: u32) -> Result<(), LoweringFault>
-        ensures { OnOk result (self.new ≡ record self.old { site = self.old.site + count }) }
+        ensures after { OnOk result (self.new ≡ record self.old { site = self.old.site + count }) }
+        ensures full { IfErr result (IsFull (self.old.site + count)) }
     {
         self.site = self.site.checked_add(count).ok_or(LoweringFault::TooLarge)?;
         Ok(())
@@ -103,7 +107,8 @@ impl Lowering {
 
     /// The first of the variables for operands of acts.
     pub fn first_word(&self) -> Result<u32, LoweringFault>
-        ensures { IfOk result (λ n. n ≡ length self.now.variables) }
+        ensures word { IfOk result (λ n. n ≡ length self.now.variables) }
+        ensures full { IfErr result (IsFull (length self.now.variables + 1)) }
     {
         number_of(self.variables.len())
     }
@@ -114,7 +119,10 @@ impl Lowering {
         alloc: Global,
         position: usize,
         value: &Operand,
-    ) -> Result<ActOperand, LoweringFault> {
+    ) -> Result<ActOperand, LoweringFault>
+        ensures stages { OnOk result (self.new.stages ≡ self.old.stages) }
+        ensures reached { OnOk result (self.new.reached ≡ self.old.reached) }
+    {
         if position >= ACT_OPERANDS {
             return Err(LoweringFault::TooLarge);
         }
@@ -127,18 +135,19 @@ impl Lowering {
     }
 
     pub fn new_label(&mut self) -> Result<usize, AllocError>
-        ensures { OnOk result (self.new ≡ control.with_label self.old) }
+        ensures label { IfOk result (λ label. label ≡ length self.old.stages.labels) }
+        ensures after { OnOk result (self.new ≡ control.with_label self.old) }
     {
         self.stages.new_label()
     }
 
     /// The block at hand ends and leads there. The place after it is reached by labels alone.
     #[tactic(auto, using(crate::proofs::Controlling::ends_at))]
-    fn close(&mut self, alloc: Global, next: Next) -> Result<(), LoweringFault>
+    fn close(&mut self, alloc: Global, next: Next) -> Result<(), AllocError>
         ensures { OnOk result (control.EndsAt next self.old self.new) }
     {
         let block = self.block.close(alloc, next)?;
-        self.stages.push_block(alloc, block)?;
+        self.stages.push_block(block)?;
         self.reached = false;
         Ok(())
     }
@@ -151,7 +160,7 @@ impl Lowering {
         test: Operand,
         nonzero: usize,
         zero: usize,
-    ) -> Result<(), LoweringFault>
+    ) -> Result<(), AllocError>
         ensures { OnOk result (control.Branches test nonzero zero self.old self.new) }
     {
         self.stages.mark(nonzero)?;
@@ -167,12 +176,13 @@ impl Lowering {
 
     /// The program goes on at the label. A block that does nothing yet is none.
     #[tactic(auto, using(crate::proofs::Controlling::jumps_idle, crate::proofs::Controlling::jumps_busy))]
-    pub fn jump(&mut self, alloc: Global, label: usize) -> Result<(), LoweringFault>
+    pub fn jump(&mut self, alloc: Global, label: usize) -> Result<(), AllocError>
+        requires { spec.IsTarget label self.old.stages }
         ensures { OnOk result (control.Jumps label self.old self.new) }
     {
         self.stages.mark(label)?;
         if self.block.is_empty() {
-            self.stages.lead_on(alloc, label)?;
+            self.stages.lead_on(label)?;
             self.reached = false;
             return Ok(());
         }
@@ -182,7 +192,8 @@ impl Lowering {
 
     /// The label is the place at hand, where something leads to it: then a block begins here.
     #[tactic(auto, using(crate::proofs::Growing::binds_nothing, crate::proofs::Growing::binds_used))]
-    pub fn bind(&mut self, alloc: Global, label: usize) -> Result<(), LoweringFault>
+    pub fn bind(&mut self, alloc: Global, label: usize) -> Result<(), AllocError>
+        requires { spec.IsOpen label self.old.stages }
         ensures { OnOk result (control.Binds label self.old self.new) }
     {
         if !self.stages.is_used(label) {
@@ -194,7 +205,8 @@ impl Lowering {
 
     /// The program goes on at the label, if it comes to the place at hand.
     #[tactic(auto, using(crate::proofs::Growing::leaps_not, crate::proofs::Growing::leaps_to))]
-    pub fn leap(&mut self, alloc: Global, label: usize) -> Result<(), LoweringFault>
+    pub fn leap(&mut self, alloc: Global, label: usize) -> Result<(), AllocError>
+        requires { spec.IsTarget label self.old.stages }
         ensures { OnOk result (control.Leaps label self.old self.new) }
     {
         if !self.reached {
@@ -205,17 +217,18 @@ impl Lowering {
     }
 
     /// A block begins here, which has the label.
-    #[tactic(auto, using(crate::proofs::Controlling::begins_here, crate::proofs::Controlling::begins_after))]
-    pub fn begin(&mut self, alloc: Global, label: usize) -> Result<(), LoweringFault>
+    #[tactic(auto, using(crate::proofs::Controlling::begins_here, crate::proofs::Controlling::begins_after, crate::proofs::Controlling::marked_open, crate::proofs::Controlling::ended_open))]
+    pub fn begin(&mut self, alloc: Global, label: usize) -> Result<(), AllocError>
+        requires { spec.IsOpen label self.old.stages }
         ensures { OnOk result (control.Begins label self.old self.new) }
     {
         self.stages.mark(label)?;
         if self.is_idle() {
-            self.place(label)?;
+            self.place(label);
             return Ok(());
         }
         self.close(alloc, Next::Jump(label))?;
-        self.place(label)?;
+        self.place(label);
         Ok(())
     }
 
@@ -229,40 +242,40 @@ impl Lowering {
     }
 
     /// The label is one of the place at hand, which is reached.
-    fn place(&mut self, label: usize) -> Result<(), AllocError>
-        ensures { OnOk result (self.new ≡ control.placed label self.old) }
+    fn place(&mut self, label: usize)
+        requires { spec.IsOpen label self.old.stages }
+        ensures { self.new ≡ control.placed label self.old }
     {
-        self.stages.bind(label)?;
+        self.stages.bind(label);
         self.reached = true;
-        Ok(())
     }
 
     /// An act, after the block at hand.
-    #[tactic(auto, using(crate::proofs::Growing::acts_at))]
-    pub fn act(&mut self, alloc: Global, act: Act) -> Result<(), LoweringFault>
+    #[tactic(auto, using(crate::proofs::Growing::acts_at, crate::proofs::Opening::act_next))]
+    pub fn act(&mut self, alloc: Global, act: Act) -> Result<(), AllocError>
         ensures { OnOk result (control.ActsAt act self.old self.new) }
     {
         self.begin_stage(alloc)?;
         let next = self.stages.new_label()?;
-        self.stages.push_act(alloc, act, next)?;
-        self.stages.bind(next)?;
+        self.stages.push_act(act, next)?;
+        self.stages.bind(next);
         Ok(())
     }
 
     /// The return of the thread's outermost function, after the block at hand.
     #[tactic(auto, using(crate::proofs::Growing::ends_call))]
-    pub fn end(&mut self, alloc: Global) -> Result<(), LoweringFault>
+    pub fn end(&mut self, alloc: Global) -> Result<(), AllocError>
         ensures { OnOk result (control.EndsCall self.old self.new) }
     {
         self.begin_stage(alloc)?;
-        self.stages.push_act(alloc, Act::Return, 0)?;
+        self.stages.push_act(Act::Return, 0)?;
         self.reached = false;
         Ok(())
     }
 
     /// The same, if the program comes to the place at hand.
     #[tactic(auto, using(crate::proofs::Growing::ends_not, crate::proofs::Growing::ends_here))]
-    pub fn end_reached(&mut self, alloc: Global) -> Result<(), LoweringFault>
+    pub fn end_reached(&mut self, alloc: Global) -> Result<(), AllocError>
         ensures { OnOk result (doing.Ends self.old self.new) }
     {
         if !self.reached {
@@ -273,8 +286,8 @@ impl Lowering {
     }
 
     /// The block at hand ends, unless it does nothing, and leads to the next stage.
-    #[tactic(auto, using(crate::proofs::Growing::begins_idle, crate::proofs::Growing::begins_busy))]
-    fn begin_stage(&mut self, alloc: Global) -> Result<(), LoweringFault>
+    #[tactic(auto, using(crate::proofs::Growing::begins_idle, crate::proofs::Growing::begins_busy, crate::proofs::Opening::label_open))]
+    fn begin_stage(&mut self, alloc: Global) -> Result<(), AllocError>
         ensures { OnOk result (control.BeginsStage self.old self.new) }
     {
         if self.block.is_empty() {
@@ -286,8 +299,8 @@ impl Lowering {
     }
 
     /// The label is the first place of the code.
-    #[tactic(auto, using(crate::proofs::Growing::starts_at))]
-    pub fn start(&mut self, alloc: Global) -> Result<usize, LoweringFault>
+    #[tactic(auto, using(crate::proofs::Growing::starts_at, crate::proofs::Opening::label_open))]
+    pub fn start(&mut self, alloc: Global) -> Result<usize, AllocError>
         ensures { IfOk result (λ start. doing.Starts start self.old self.new) }
     {
         let start = self.new_label()?;
@@ -296,7 +309,9 @@ impl Lowering {
     }
 
     /// The whole code, which begins at the label.
-    pub fn finish(self, alloc: Global, start: usize) -> Result<ThreadCode, LoweringFault>
+    pub fn finish(self, alloc: Global, start: usize) -> Result<ThreadCode, AllocError>
+        requires fit { spec.IsFit self.stages }
+        requires first { spec.IsFirst start self.stages }
         ensures { IfOk result (λ code. doing.IsFinished start self code) }
     {
         let Lowering {
@@ -321,7 +336,7 @@ impl Lowering {
 }
 
 /// Those variables, and so many of 64 bits.
-fn with_words(variables: Items<CType>, count: usize) -> Result<Items<CType>, LoweringFault>
+fn with_words(variables: Items<CType>, count: usize) -> Result<Items<CType>, AllocError>
     ensures { IfOk result (λ all. all ≡ variables ++ replicate count long_int) }
 {
     let mut all = variables;

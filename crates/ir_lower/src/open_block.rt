@@ -1,9 +1,10 @@
 // A block in the making.
 
-ghost use Rattle.std.specs.Prelude.{◌≡◌, ◌↔◌, ◌^◌, ◌<◌, ℕ, suc, [], ◌∷◌, ◌++◌, length, slice_get, slice_set, IsTrue, IfOk, OnOk};
+ghost use Rattle.std.specs.Prelude.{◌≡◌, ◌↔◌, ◌+◌, ◌^◌, ◌<◌, ℕ, suc, [], ◌∷◌, ◌++◌, length, slice_get, slice_set, IsTrue, IfOk, IfErr, OnOk};
 ghost use Rattle.ir_lower.specs.Needs as operands;
 ghost use Rattle.ir_lower.specs.Evaluating as evaluating;
 ghost use Rattle.ir_lower.specs.Closing as closing;
+ghost use Rattle.ir_lower.specs.Room.{IsFull};
 
 use crate::fault::{LoweringFault, number_of};
 use crate::operands::{copy_of, plain};
@@ -52,7 +53,8 @@ impl OpenBlock {
 
     /// Counts one more step of the program.
     pub fn step(&mut self) -> Result<(), LoweringFault>
-        ensures { OnOk result (self.new ≡ record self.old { steps = suc self.old.steps }) }
+        ensures after { OnOk result (self.new ≡ record self.old { steps = suc self.old.steps }) }
+        ensures full { IfErr result (IsFull (self.old.steps + 1)) }
     {
         if self.steps == u32::MAX {
             return Err(LoweringFault::TooLarge);
@@ -71,6 +73,7 @@ impl OpenBlock {
         ensures block { IfOk result (λ _. self.new ≡ evaluating.with_more self.old (operation ∷ [])) }
         ensures value { IfOk result (λ a. a ≡ operands.plain (Source.Value (length self.old.operations) ty)) }
         ensures few { IfOk result (λ _. length self.new.operations < 2 ^ 32) }
+        ensures full { IfErr result (IsFull (length self.old.operations + 1)) }
     {
         let number = number_of(self.operations.len())?;
         self.operations.push(operation)?;

@@ -1,9 +1,11 @@
 // What is read and written: variables, elements of local arrays, elements of globals.
 
-ghost use Rattle.std.specs.Prelude.{◌≡◌, ◌^◌, ◌<◌, length, IfOk};
+ghost use Rattle.std.specs.Prelude.{◌≡◌, ◌+◌, ◌*◌, ◌^◌, ◌<◌, length, IfOk, IfErr};
 ghost use Rattle.c_program.specs.Plain.{place_of};
+ghost use Rattle.c_program.specs.Weight.{place_weight};
 ghost use Rattle.ir_lower.specs.Assigning as assigning;
 ghost use Rattle.ir_lower.specs.Evaluating as evaluating;
+ghost use Rattle.ir_lower.specs.Room.{IsFull};
 
 use crate::expressions::{first_index, lower_expression};
 use crate::fault::LoweringFault;
@@ -53,7 +55,8 @@ pub fn lower_place(
     block: &mut OpenBlock,
     place: &Place,
 ) -> Result<Target, LoweringFault>
-    ensures { IfOk result (λ t. assigning.Places homes.now (place_of place.now) block.old block.new t) }
+    ensures places { IfOk result (λ t. assigning.Places homes.now (place_of place.now) block.old block.new t) }
+    ensures full { IfErr result (IsFull (length block.old.operations + 2 * place_weight (place_of place.now))) }
 {
     match place {
         Place::Scalar(storage, variable, ty) => {
@@ -74,6 +77,7 @@ pub fn load(alloc: Global, block: &mut OpenBlock, target: &Target) -> Result<Ope
     ensures block { IfOk result (λ _. block.new ≡ evaluating.load_block target.now block.old) }
     ensures value { IfOk result (λ a. a ≡ evaluating.loaded target.now block.old) }
     ensures few { IfOk result (λ _. length block.old.operations < 2 ^ 32 → length block.new.operations < 2 ^ 32) }
+    ensures full { IfErr result (IsFull (length block.old.operations + 1)) }
 {
     match target {
         Target::Variable(variable, ty) => {
@@ -112,6 +116,7 @@ pub fn store(
 ) -> Result<(), LoweringFault>
     ensures stores { IfOk result (λ _. assigning.Stores target value.now block.old block.new) }
     ensures few { IfOk result (λ _. length block.old.operations < 2 ^ 32 → length block.new.operations < 2 ^ 32) }
+    ensures full { IfErr result (IsFull (length block.old.operations + 1)) }
 {
     match target {
         Target::Variable(variable, ty) => {

@@ -1,9 +1,11 @@
 // What the act of a printf works on.
 
-ghost use Rattle.std.specs.Prelude.{◌≡◌, ℕ, ◌+◌, ◌++◌, length, IfOk, OnOk};
+ghost use Rattle.std.specs.Prelude.{◌≡◌, ℕ, ◌+◌, ◌*◌, ◌++◌, length, IfOk, IfErr, OnOk};
 ghost use Rattle.c_program.specs.Plain.{expression_of, expressions_of, piece_of, pieces_of};
+ghost use Rattle.c_program.specs.Weight.{expression_weight, expressions_weight};
 ghost use Rattle.code_following.specs.Following as following;
 ghost use Rattle.ir_lower.specs.Printing as printing;
+ghost use Rattle.ir_lower.specs.Room.{IsFull};
 ghost use Rattle.ir_lower.specs.Typing as typing;
 
 use crate::expressions::lower_expression;
@@ -50,6 +52,7 @@ fn lower_value(
 ) -> Result<(), LoweringFault>
     ensures puts { IfOk result (λ _. printing.PutsValue homes.now variable ty (expression_of argument.now) block.old block.new) }
     ensures typed { IfOk result (λ _. typing.WorksOnValue homes.now variable (expression_of argument.now) block.old block.new) }
+    ensures full { IfErr result (IsFull (length block.old.operations + (2 * expression_weight (expression_of argument.now) + 1))) }
 {
     let value = lower_expression(alloc, homes, block, argument)?;
     let value = converted(alloc, &value, ty)?;
@@ -70,6 +73,8 @@ pub fn lower_values(
 ) -> Result<(), LoweringFault>
     ensures puts { IfOk result (λ _. printing.PutsValues homes.now first types.now (expressions_of arguments.now) block.old block.new) }
     ensures typed { IfOk result (λ _. typing.WorksOnValues homes.now first (expressions_of arguments.now) block.old block.new) }
+    ensures full { IfErr result (IsFull
+        (length block.old.operations + (2 * expressions_weight (expressions_of arguments.now) + length arguments.now) + (first + length arguments.now))) }
 {
     let [ty, types @ ..] = types else {
         return Ok(());
@@ -90,7 +95,8 @@ pub fn word_operands(
     first: u32,
     count: usize,
 ) -> Result<Items<ActOperand>, LoweringFault>
-    ensures { IfOk result (λ operands. operands ≡ printing.word_operands first count) }
+    ensures operands { IfOk result (λ operands. operands ≡ printing.word_operands first count) }
+    ensures full { IfErr result (IsFull (first + count)) }
 {
     let mut operands = Items::new(alloc);
     for position in 0..count {

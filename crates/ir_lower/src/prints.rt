@@ -1,23 +1,26 @@
 // The numbers of the printf calls of a text, in the order of the text.
 
-ghost use Rattle.std.specs.Prelude.{◌≡◌, ◌+◌, map, take, sum_by, IfOk};
+ghost use Rattle.std.specs.Prelude.{◌≡◌, ◌+◌, map, take, sum_by, IfOk, IfErr};
 ghost use Rattle.c_program.specs.Plain.{function_of, statement_of};
 ghost use Rattle.c_program.specs.Limits.{print_count};
 ghost use Rattle.c_program.specs.Tree as tree;
+ghost use Rattle.ir_lower.specs.Room.{IsFull};
 ghost use Rattle.ir_lower.specs.Values as values;
 
 use crate::fault::LoweringFault;
 use c_program::tree::{Function, Program, Statement};
 
 fn sum_of(a: u32, b: u32) -> Result<u32, LoweringFault>
-    ensures { IfOk result (λ n. n ≡ a + b) }
+    ensures sum { IfOk result (λ n. n ≡ a + b) }
+    ensures full { IfErr result (IsFull (a + b)) }
 {
     a.checked_add(b).ok_or(LoweringFault::TooLarge)
 }
 
 /// How many printf calls a statement has in the text.
 pub fn print_count(statement: &Statement) -> Result<u32, LoweringFault>
-    ensures { IfOk result (λ n. n ≡ print_count (statement_of statement.now)) }
+    ensures count { IfOk result (λ n. n ≡ print_count (statement_of statement.now)) }
+    ensures full { IfErr result (IsFull (print_count (statement_of statement.now))) }
 {
     let mut before = 0u32;
     let mut rest = statement;
@@ -71,7 +74,8 @@ pub fn most_values(statement: &Statement) -> usize
 
 /// How many stand in these functions.
 fn prints_in(functions: &[Function]) -> Result<u32, LoweringFault>
-    ensures { IfOk result (λ n. n ≡ sum_by (λ (f : tree.Function). print_count f.body) (map function_of functions.now)) }
+    ensures count { IfOk result (λ n. n ≡ sum_by (λ (f : tree.Function). print_count f.body) (map function_of functions.now)) }
+    ensures full { IfErr result (IsFull (sum_by (λ (f : tree.Function). print_count f.body) (map function_of functions.now))) }
 {
     let mut count = 0u32;
     for function in functions {
@@ -82,7 +86,8 @@ fn prints_in(functions: &[Function]) -> Result<u32, LoweringFault>
 
 /// How many stand in the functions before that one.
 pub fn prints_before(program: &Program, number: usize) -> Result<u32, LoweringFault>
-    ensures { IfOk result (λ n. n ≡ sum_by (λ (f : tree.Function). print_count f.body) (map function_of (take number program.now.functions.items))) }
+    ensures count { IfOk result (λ n. n ≡ sum_by (λ (f : tree.Function). print_count f.body) (map function_of (take number program.now.functions.items))) }
+    ensures full { IfErr result (IsFull (sum_by (λ (f : tree.Function). print_count f.body) (map function_of (take number program.now.functions.items)))) }
 {
     let functions = program.functions.as_slice();
     let before = if number < functions.len() {

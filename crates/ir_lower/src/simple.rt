@@ -1,19 +1,22 @@
 // The code of statements that have no others in them.
 
-ghost use Rattle.std.specs.Prelude.{◌≡◌, ℕ, Some, IfOk, OnOk};
+ghost use Rattle.std.specs.Prelude.{◌≡◌, ℕ, true, Some, is_some, IfOk, OnOk, ◌+◌, ◌*◌, length, IfErr};
 ghost use Rattle.c_program.specs.Plain.{expression_of, expressions_of, pieces_of, place_of, returned_of, right_side_of, statement_of};
 ghost use Rattle.c_program.specs.Tree as tree;
+ghost use Rattle.c_program.specs.Weight.{expression_weight, place_weight, right_side_weight};
 ghost use Rattle.ir_lower.specs.Doing as doing;
+ghost use Rattle.ir_lower.specs.Needing.{IsFullFor};
+ghost use Rattle.ir_lower.specs.Room.{IsFull};
+ghost use Rattle.ir_lower.specs.Taken.{is_simple, is_taken, is_value, is_value_or_none};
 
 use crate::acts::{lower_print, lower_thread_call};
 use crate::assignments::{lower_assignment, lower_update};
 use crate::branching::Loop;
 use crate::fault::LoweringFault;
 use crate::lowering::Lowering;
-use crate::taken::is_value_or_none;
 use c_program::tree::{BinaryOperator, Expression, Place, RightSide, Statement};
 use hls_ints::CType;
-use std::alloc::Global;
+use std::alloc::{AllocError, Global};
 
 /// An assignment, whose right side is no call.
 fn lower_assign(
@@ -22,14 +25,18 @@ fn lower_assign(
     place: &Place,
     right: &RightSide,
 ) -> Result<(), LoweringFault>
-    ensures { IfOk result (λ _. (offset : ℕ) (around : _) → doing.LowersHere around (tree.Statement.Assign offset (place_of place.now) (right_side_of right.now)) code.old code.new) }
+    requires { is_value (right_side_of right.now) ≡ true }
+    ensures lowers { IfOk result (λ _. (offset : ℕ) (around : _) → doing.LowersHere around (tree.Statement.Assign offset (place_of place.now) (right_side_of right.now)) code.old code.new) }
+    ensures full { IfErr result (IsFull
+        (length code.old.block.operations + code.old.block.steps + 4 * (place_weight (place_of place.now) + right_side_weight (right_side_of right.now) + 1))) }
+    ensures labels { OnOk result ((around : _) → doing.Proceeds around code.old code.new) }
 {
     match right {
         RightSide::Value(right) => {
             lower_assignment(alloc, code.homes.as_slice(), &mut code.block, place, right)?;
             Ok(())
         }
-        RightSide::Call(_, _) => Err(LoweringFault::Label),
+        RightSide::Call(_, _) => unreachable!(),
     }
 }
 
@@ -41,7 +48,10 @@ fn lower_compound(
     ty: CType,
     right: &Expression,
 ) -> Result<(), LoweringFault>
-    ensures { IfOk result (λ _. (offset : ℕ) (around : _) → doing.LowersHere around (tree.Statement.Update offset (place_of place.now) operator ty (expression_of right.now)) code.old code.new) }
+    ensures labels { OnOk result ((around : _) → doing.Proceeds around code.old code.new) }
+    ensures lowers { IfOk result (λ _. (offset : ℕ) (around : _) → doing.LowersHere around (tree.Statement.Update offset (place_of place.now) operator ty (expression_of right.now)) code.old code.new) }
+    ensures full { IfErr result (IsFull
+        (length code.old.block.operations + code.old.block.steps + 4 * (place_weight (place_of place.now) + expression_weight (expression_of right.now) + 2))) }
 {
     let homes = code.homes.as_slice();
     lower_update(alloc, homes, &mut code.block, place, operator, ty, right)?;
@@ -51,7 +61,9 @@ fn lower_compound(
 /// A declarator without an initialiser: a step that does nothing here.
 #[tactic(auto, using(crate::proofs::Stepping::declare_at))]
 fn lower_declare(code: &mut Lowering) -> Result<(), LoweringFault>
-    ensures { IfOk result (λ _. (offset local operators : ℕ) (around : _) → doing.LowersHere around (tree.Statement.Declare offset local operators) code.old code.new) }
+    ensures labels { OnOk result ((around : _) → doing.Proceeds around code.old code.new) }
+    ensures lowers { IfOk result (λ _. (offset local operators : ℕ) (around : _) → doing.LowersHere around (tree.Statement.Declare offset local operators) code.old code.new) }
+    ensures full { IfErr result (IsFull (code.old.block.steps + 1)) }
 {
     code.block.step()?;
     Ok(())
@@ -59,15 +71,15 @@ fn lower_declare(code: &mut Lowering) -> Result<(), LoweringFault>
 
 /// A break.
 #[tactic(auto, using(crate::proofs::Stepping::break_at))]
-fn lower_break(
-    alloc: Global,
-    code: &mut Lowering,
-    around: Option<Loop>,
-) -> Result<(), LoweringFault>
-    ensures { OnOk result (doing.LowersHere around tree.Statement.Break code.old code.new) }
+fn lower_break(alloc: Global, code: &mut Lowering, around: Option<Loop>) -> Result<(), AllocError>
+    requires targets { doing.AreTargets around code.old.stages }
+    requires inside { is_some around ≡ true }
+    requires reached { code.old.reached ≡ true }
+    ensures labels { OnOk result (doing.Proceeds around code.old code.new) }
+    ensures lowers { OnOk result (doing.LowersHere around tree.Statement.Break code.old code.new) }
 {
     let Some(labels) = around else {
-        return Err(LoweringFault::Label);
+        unreachable!();
     };
     code.jump(alloc, labels.leaving)?;
     Ok(())
@@ -79,41 +91,45 @@ fn lower_continue(
     alloc: Global,
     code: &mut Lowering,
     around: Option<Loop>,
-) -> Result<(), LoweringFault>
-    ensures { OnOk result (doing.LowersHere around tree.Statement.Continue code.old code.new) }
+) -> Result<(), AllocError>
+    requires targets { doing.AreTargets around code.old.stages }
+    requires inside { is_some around ≡ true }
+    requires reached { code.old.reached ≡ true }
+    ensures labels { OnOk result (doing.Proceeds around code.old code.new) }
+    ensures lowers { OnOk result (doing.LowersHere around tree.Statement.Continue code.old code.new) }
 {
     let Some(labels) = around else {
-        return Err(LoweringFault::Label);
+        unreachable!();
     };
     code.jump(alloc, labels.turning)?;
     Ok(())
 }
 
 /// A return of the thread's outermost function: its value is never seen.
-#[tactic(auto, using(crate::proofs::Stepping::return_at))]
-fn lower_return(
-    alloc: Global,
-    code: &mut Lowering,
-    right: &Option<RightSide>,
-) -> Result<(), LoweringFault>
-    ensures { IfOk result (λ _. (offset : ℕ) (around : _) → doing.LowersHere around (tree.Statement.Return offset (returned_of right.now)) code.old code.new) }
+fn lower_return(alloc: Global, code: &mut Lowering) -> Result<(), AllocError>
+    requires reached { code.old.reached ≡ true }
+    ensures labels { OnOk result ((around : _) → doing.Proceeds around code.old code.new) }
+    ensures lowers { OnOk result ((offset : ℕ) (right : _) (around : _) → is_value_or_none right ≡ true → doing.LowersHere around (tree.Statement.Return offset right) code.old code.new) }
 {
-    if !is_value_or_none(right) {
-        return Err(LoweringFault::Label);
-    }
     code.end(alloc)?;
     Ok(())
 }
 
 /// The code of a statement that has no other in it.
-#[tactic(auto, using(crate::proofs::Stepping::done_at, crate::proofs::Stepping::empty_at, crate::proofs::Stepping::thread_at, crate::proofs::Stepping::lowers_is))]
+#[tactic(auto, using(crate::proofs::Stepping::thread_at))]
 pub fn lower_simple(
     alloc: Global,
     code: &mut Lowering,
     around: Option<Loop>,
     statement: &Statement,
 ) -> Result<(), LoweringFault>
-    ensures { OnOk result (doing.LowersHere around (statement_of statement.now) code.old code.new) }
+    requires simple { is_simple (statement_of statement.now) ≡ true }
+    requires taken { is_taken (is_some around) (statement_of statement.now) ≡ true }
+    requires targets { doing.AreTargets around code.old.stages }
+    requires reached { code.old.reached ≡ true }
+    ensures labels { OnOk result (doing.Proceeds around code.old code.new) }
+    ensures lowers { OnOk result (doing.LowersHere around (statement_of statement.now) code.old code.new) }
+    ensures full { IfErr result (IsFullFor (statement_of statement.now) code.old) }
 {
     match statement {
         Statement::Done => Ok(()),
@@ -138,8 +154,8 @@ pub fn lower_simple(
             lower_continue(alloc, code, around)?;
             Ok(())
         }
-        Statement::Return(_, right) => {
-            lower_return(alloc, code, right)?;
+        Statement::Return(_, _) => {
+            lower_return(alloc, code)?;
             Ok(())
         }
         Statement::Print(_, format, arguments) => {
@@ -150,6 +166,6 @@ pub fn lower_simple(
             lower_thread_call(alloc, code, call)?;
             Ok(())
         }
-        _ => Err(LoweringFault::Label),
+        _ => unreachable!(),
     }
 }

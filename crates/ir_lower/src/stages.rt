@@ -1,119 +1,118 @@
 // The stages of a thread's code in the making. Stages lead to labels, which stand for stages that may come later.
 
-ghost use Rattle.std.specs.Prelude.{◌≡◌, ◌<◌, [], ◌∷◌, ◌++◌, length, true, false, slice_set, slice_index, IsTrue, IfOk, OnOk};
-ghost use Rattle.ir_lower.specs.Labels as labels;
+ghost use Rattle.std.specs.Prelude.{◌≡◌, ◌<◌, ℕ, replicate, map, [], ◌∷◌, ◌++◌, length, true, false, None, Some, slice_get, slice_set, slice_index, IfOk, OnOk};
+ghost use Rattle.ir_lower.specs.Labels as spec;
 
-use crate::fault::LoweringFault;
 use block_ir::block::{Block, Next};
 use block_ir::code::{Act, Stage};
 use sqlite_items::Items;
 use std::alloc::{AllocError, Global};
-use std::mem;
 
-/// Where a label leads.
+/// What a place of the code came to.
 #[derive(Clone, Copy, PartialEq, Eq, Debug)]
 pub enum Place {
-    /// Not known yet.
-    Ahead,
     Stage(usize),
     /// Where that label leads.
     Same(usize),
 }
 
-/// The stages so far, whose numbers of next stages are those of labels.
+/// The stages so far, whose numbers of next stages are those of labels. A label leads to a place, and a place to a stage or
+/// on to where another label leads.
 #[derive(Drop)]
 pub struct Stages {
     stages: Vec<Stage>,
-    places: Items<Place>,
-    /// For each label whether some stage leads there.
+    /// For each label the number of its place, once it has one.
+    labels: Items<Option<usize>>,
+    /// For each label up to the last that is led to, whether it is.
     used: Items<bool>,
-    /// The labels of the next stage.
-    here: Items<usize>,
+    /// What the places came to. The place at hand is the next.
+    places: Items<Place>,
 }
 
 impl Stages {
     pub fn new(alloc: Global) -> Stages
         ensures stages { result.stages.items ≡ [] }
-        ensures places { result.places ≡ [] }
+        ensures labels { result.labels ≡ [] }
         ensures used { result.used ≡ [] }
-        ensures here { result.here ≡ [] }
+        ensures places { result.places ≡ [] }
     {
         Stages {
             stages: Vec::new(alloc),
-            places: Items::new(alloc),
+            labels: Items::new(alloc),
             used: Items::new(alloc),
-            here: Items::new(alloc),
+            places: Items::new(alloc),
         }
     }
 
     pub fn new_label(&mut self) -> Result<usize, AllocError>
-        ensures label { IfOk result (λ label. label ≡ length self.old.places) }
-        ensures after { OnOk result (self.new ≡ record self.old { places = self.old.places ++ Place.Ahead ∷ []; used = self.old.used ++ false ∷ [] }) }
+        ensures label { IfOk result (λ label. label ≡ length self.old.labels) }
+        ensures after { OnOk result (self.new ≡ record self.old { labels = self.old.labels ++ None ∷ [] }) }
     {
-        let label = self.places.len();
-        self.places.push(Place::Ahead)?;
-        self.used.push(false)?;
+        let label = self.labels.len();
+        self.labels.push(None)?;
         Ok(label)
     }
 
     /// Something leads to the label.
-    pub fn mark(&mut self, label: usize) -> Result<(), LoweringFault>
-        ensures known { OnOk result (label < length self.old.used) }
-        ensures after { OnOk result (self.new ≡ record self.old { used = slice_set self.old.used label true }) }
+    #[tactic(auto, using(crate::proofs::Labelling::used_within, crate::proofs::Labelling::used_next, crate::proofs::Labelling::used_more))]
+    pub fn mark(&mut self, label: usize) -> Result<(), AllocError>
+        ensures { OnOk result (self.new ≡ record self.old { used = spec.with_used self.old.used label }) }
     {
         if label < self.used.len() {
             self.used.set(label, true);
-            Ok(())
-        } else {
-            Err(LoweringFault::Label)
+            return Ok(());
         }
+        for number in self.used.len()..label {
+            self.used.push(false)?;
+        }
+        self.used.push(true)?;
+        Ok(())
     }
 
     pub fn is_used(&self, label: usize) -> bool
-        ensures { result ≡ labels.is_used self.now.used label }
+        ensures { result ≡ spec.is_used self.now.used label }
     {
         self.used.get(label).copied().unwrap_or(false)
     }
 
-    /// The label is one of the next stage.
-    pub fn bind(&mut self, label: usize) -> Result<(), AllocError>
-        ensures { OnOk result (self.new ≡ record self.old { here = self.old.here ++ label ∷ [] }) }
+    /// The label leads to the place at hand.
+    #[tactic(auto, using(crate::proofs::Cells::get_within))]
+    pub fn bind(&mut self, label: usize)
+        requires { spec.IsOpen label self.old }
+        ensures { self.new ≡ record self.old { labels = slice_set self.old.labels label (Some (length self.old.places)) } }
     {
-        self.here.push(label)?;
-        Ok(())
+        let place = self.places.len();
+        self.labels.set(label, Some(place));
     }
 
-    /// The label gets its place. No label has two.
-    #[tactic(auto, using(crate::proofs::Labelling::sets_place))]
-    fn set(&mut self, label: usize, place: Place) -> Result<(), LoweringFault>
-        ensures { OnOk result (labels.SetsPlace label place self.old self.new) }
+    /// What the place at hand comes to where it is gone on at the label.
+    fn leading(&self, label: usize) -> Place
+        ensures { result ≡ spec.leading self.now.places (slice_get self.now.labels label) label }
     {
-        match self.places.get(label).copied() {
-            Some(Place::Ahead) => {
-                self.places.set(label, place);
-                Ok(())
-            }
-            Some(Place::Stage(_)) | Some(Place::Same(_)) | None => Err(LoweringFault::Label),
+        let Some(Some(place)) = self.labels.get(label) else {
+            return Place::Same(label);
+        };
+        match self.places.get(*place) {
+            Some(Place::Stage(stage)) => Place::Stage(*stage),
+            Some(Place::Same(_)) | None => Place::Same(label),
         }
     }
 
-    /// The labels of the next stage get their place, and are no labels of what comes after it.
-    #[tactic(auto, using(crate::proofs::Labelling::settling_none, crate::proofs::Labelling::settles_all))]
-    fn settle(&mut self, alloc: Global, place: Place) -> Result<(), LoweringFault>
-        ensures { OnOk result (labels.Settles place self.old self.new) }
+    /// The place at hand came to that, and the next is at hand.
+    fn settle(&mut self, place: Place) -> Result<(), AllocError>
+        ensures { OnOk result (spec.Settles place self.old self.new) }
     {
-        let here = mem::replace(&mut self.here, Items::new(alloc));
-        for label in here.as_slice() {
-            self.set(*label, place)?;
-        }
+        self.places.push(place)?;
         Ok(())
     }
 
-    /// The labels of the next stage lead where another label does.
-    pub fn lead_on(&mut self, alloc: Global, label: usize) -> Result<(), LoweringFault>
-        ensures { OnOk result (labels.Settles (Place.Same label) self.old self.new) }
+    /// The place at hand leads where the label does.
+    pub fn lead_on(&mut self, label: usize) -> Result<(), AllocError>
+        ensures { OnOk result (spec.Settles (spec.leading self.old.places (slice_get self.old.labels label) label) self.old self.new) }
     {
-        self.settle(alloc, Place::Same(label))
+        let place = self.leading(label);
+        self.settle(place)?;
+        Ok(())
     }
 
     fn put(&mut self, stage: Stage) -> Result<(), AllocError>
@@ -125,111 +124,113 @@ impl Stages {
     }
 
     #[tactic(auto, using(crate::proofs::Labelling::pushes))]
-    fn push(&mut self, alloc: Global, stage: Stage) -> Result<(), LoweringFault>
-        ensures { OnOk result (labels.Pushes stage self.old self.new) }
+    fn push(&mut self, stage: Stage) -> Result<(), AllocError>
+        ensures { OnOk result (spec.Pushes stage self.old self.new) }
     {
         let number = self.stages.len();
         self.put(stage)?;
-        self.settle(alloc, Place::Stage(number))?;
+        self.settle(Place::Stage(number))?;
         Ok(())
     }
 
-    pub fn push_block(&mut self, alloc: Global, block: Block) -> Result<(), LoweringFault>
-        ensures { OnOk result (labels.Pushes (Stage.Run block) self.old self.new) }
+    pub fn push_block(&mut self, block: Block) -> Result<(), AllocError>
+        ensures { OnOk result (spec.Pushes (Stage.Run block) self.old self.new) }
     {
-        self.push(alloc, Stage::Run(block))
+        self.push(Stage::Run(block))
     }
 
-    pub fn push_act(&mut self, alloc: Global, act: Act, next: usize) -> Result<(), LoweringFault>
-        ensures { OnOk result (labels.Pushes (Stage.Act act next) self.old self.new) }
+    pub fn push_act(&mut self, act: Act, next: usize) -> Result<(), AllocError>
+        ensures { OnOk result (spec.Pushes (Stage.Act act next) self.old self.new) }
     {
-        self.push(alloc, Stage::Act { act, next })
+        self.push(Stage::Act { act, next })
     }
 
     /// The stages, each of which leads to stages. The label leads to the first.
-    pub fn finish(self, alloc: Global, start: usize) -> Result<Items<Stage>, LoweringFault>
-        ensures { IfOk result (λ all. labels.Finishes start self all) }
+    #[tactic(auto, using(crate::proofs::Labelling::finishes))]
+    pub fn finish(self, alloc: Global, start: usize) -> Result<Items<Stage>, AllocError>
+        requires fit { spec.IsFit self }
+        requires first { spec.IsFirst start self }
+        ensures { IfOk result (λ all. spec.Finishes start self all) }
     {
         let Stages {
             stages,
-            places,
+            labels,
             used: _,
-            here: _,
+            places,
         } = self;
-        let table = table_of(alloc, places.as_slice())?;
-        if !is_below(table.as_slice(), stages.len()) || stage_of(table.as_slice(), start) != 0 {
-            return Err(LoweringFault::Label);
-        }
+        let came = stages_of(alloc, labels.as_slice(), places.as_slice(), stages.len())?;
+        let table = table_of(alloc, labels.as_slice(), came.as_slice())?;
         let all = led(alloc, stages, table.as_slice())?;
         Ok(all)
     }
 }
 
-/// Whether each label leads to one of so many stages.
-#[tactic(auto, using(crate::proofs::Labelling::is_below_all))]
-fn is_below(table: &[usize], count: usize) -> bool
-    ensures { IsTrue result → labels.AllBelow count table.now }
-{
-    if count == 0 {
-        return false;
-    }
-    for (label, stage) in table.iter().enumerate() {
-        if *stage >= count {
-            return false;
-        }
-    }
-    true
-}
-
-/// Where a label leads by the places, if anywhere.
-fn chased(places: &[Place], label: usize) -> usize {
-    let mut label = label;
-    for _ in 0..places.len() {
-        match places.get(label) {
-            Some(Place::Stage(stage)) => return *stage,
-            Some(Place::Same(other)) => label = *other,
-            Some(Place::Ahead) | None => return 0,
-        }
-    }
-    0
-}
-
-/// Whether the table has for the label what its place says.
-fn agrees(table: &[usize], label: usize, place: Place) -> bool
-    ensures { IsTrue result → labels.Obeys (slice_index table.now) place label }
+/// The stage of a place, by those of the places. A label without a place leads to the first.
+fn stage_at(came: &[usize], place: Option<usize>) -> usize
+    ensures { result ≡ spec.stage_at came.now (Some place) }
 {
     match place {
-        Place::Ahead => true,
-        Place::Stage(stage) => stage_of(table, label) == stage,
-        Place::Same(other) => stage_of(table, label) == stage_of(table, other),
+        Some(number) => stage_of(came, number),
+        None => 0,
     }
 }
 
-/// Whether it has that for each label.
-fn is_table(places: &[Place], table: &[usize]) -> bool
-    ensures { IsTrue result → labels.ObeysAll (slice_index table.now) places.now }
+/// The stage of a place, by those of the places after it.
+fn stage_to(labels: &[Option<usize>], came: &[usize], place: Place) -> usize
+    ensures { result ≡ spec.stage_to labels.now came.now place }
 {
-    for (label, place) in places.iter().enumerate() {
-        if !agrees(table, label, *place) {
-            return false;
-        }
+    match place {
+        Place::Stage(stage) => stage,
+        Place::Same(label) => match labels.get(label) {
+            Some(place) => stage_at(came, *place),
+            None => 0,
+        },
     }
-    true
 }
 
-/// The stages where labels lead.
-fn table_of(alloc: Global, places: &[Place]) -> Result<Items<usize>, LoweringFault>
-    ensures { IfOk result (λ table. labels.ObeysAll (slice_index table) places.now) }
+fn zeros(alloc: Global, count: usize) -> Result<Items<usize>, AllocError>
+    ensures { IfOk result (λ all. all ≡ replicate count 0) }
+{
+    let mut all = Items::new(alloc);
+    for done in 0..count {
+        all.push(0)?;
+    }
+    Ok(all)
+}
+
+/// The stages of all places, the last first: a place leads on to later ones.
+#[tactic(auto, using(crate::proofs::Labelling::stages_none, crate::proofs::Labelling::stages_more, crate::proofs::Labelling::stages_all))]
+fn stages_of(
+    alloc: Global,
+    labels: &[Option<usize>],
+    places: &[Place],
+    count: usize,
+) -> Result<Items<usize>, AllocError>
+    requires ordered { spec.IsOrdered labels.now places.now count }
+    requires some { 0 < count }
+    ensures { IfOk result (λ came. spec.AreStages labels.now places.now count came) }
+{
+    let mut came = zeros(alloc, places.len())?;
+    for number in (0..places.len()).rev() {
+        let stage = stage_to(labels, came.as_slice(), places[number]);
+        came.set(number, stage);
+    }
+    Ok(came)
+}
+
+/// The stages where labels lead, by those of the places.
+fn table_of(
+    alloc: Global,
+    labels: &[Option<usize>],
+    came: &[usize],
+) -> Result<Items<usize>, AllocError>
+    ensures { IfOk result (λ table. table ≡ map (λ place. spec.stage_at came.now (Some place)) labels.now) }
 {
     let mut table = Items::new(alloc);
-    for label in 0..places.len() {
-        table.push(chased(places, label))?;
+    for place in labels {
+        table.push(stage_at(came, *place))?;
     }
-    if is_table(places, table.as_slice()) {
-        Ok(table)
-    } else {
-        Err(LoweringFault::Label)
-    }
+    Ok(table)
 }
 
 /// The stage where a label leads.
@@ -240,7 +241,7 @@ fn stage_of(table: &[usize], label: usize) -> usize
 }
 
 fn led_next(next: Next, table: &[usize]) -> Next
-    ensures { result ≡ labels.led_next (slice_index table.now) next }
+    ensures { result ≡ spec.led_next (slice_index table.now) next }
 {
     match next {
         Next::Jump(to) => Next::Jump(stage_of(table, to)),
@@ -257,7 +258,7 @@ fn led_next(next: Next, table: &[usize]) -> Next
 }
 
 fn led_stage(stage: Stage, table: &[usize]) -> Stage
-    ensures { result ≡ labels.led_stage (slice_index table.now) stage }
+    ensures { result ≡ spec.led_stage (slice_index table.now) stage }
 {
     match stage {
         Stage::Act { act, next } => Stage::Act {
@@ -284,7 +285,7 @@ fn led_stage(stage: Stage, table: &[usize]) -> Stage
 
 /// The stages with stages in place of labels.
 fn led(alloc: Global, stages: Vec<Stage>, table: &[usize]) -> Result<Items<Stage>, AllocError>
-    ensures { IfOk result (λ all. all ≡ labels.led (slice_index table.now) stages.items) }
+    ensures { IfOk result (λ all. all ≡ spec.led (slice_index table.now) stages.items) }
 {
     let mut all = Items::new(alloc);
     for stage in stages {

@@ -1,3 +1,1 @@
-pub mod Same
-pub mod Turning
-pub mod Choices
+pub mod Rounding

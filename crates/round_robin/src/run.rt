@@ -1,19 +1,17 @@
 // The run, until done is shown or all cycles have run.
 
-ghost use Rattle.std.specs.Prelude.{◌≡◌, ◌-◌, ◌^◌, ◌<◌, ◌≤◌, [], length, replicate, slice_get, Some, IfOk, IfErr};
+ghost use Rattle.std.specs.Prelude.{◌≡◌, length, slice_get, Some, IfOk, IfErr};
 ghost use Rattle.netlist.specs.declared.netlist.Module.{Module as Kind};
 ghost use Rattle.verilog_meaning.specs.Names.{top_of};
 ghost use Rattle.cycle_sim.specs.Opened.{IsRightNet, IsCause};
-ghost use Rattle.cycle_sim.specs.Running.{choice_of};
-ghost use Rattle.round_robin.specs.Round.{IsRound, TakesChoices};
-ghost use Rattle.round_robin.specs.Inside.{IsTurning, AreChoices};
+ghost use Rattle.cycle_sim.specs.Rounds.{threads_of};
+ghost use Rattle.round_robin.specs.Round.{IsBegun, IsRound, TakesChoices};
 
 use cycle_sim::net::top_number;
-use cycle_sim::settle::Choice;
 use cycle_sim::sim::{OpenError, Sim};
 use hls_io::Bytes;
 use netlist::netlist::Module;
-use sqlite_items::{Items, at};
+use sqlite_items::at;
 use std::alloc::{AllocError, Global};
 
 /// How a run ended, and what it wrote.
@@ -24,75 +22,23 @@ pub struct Ran {
     pub printed: Bytes,
 }
 
-/// A bit for each of so many threads.
-fn mask(threads: u32) -> u64
-    requires { threads ≤ 63 }
-    ensures { result ≡ 2 ^ threads - 1 }
-{
-    2u64.pow(threads) - 1
-}
-
-/// The choice of so many arbiters that prefer a thread, under a mask.
-fn choice(alloc: Global, mask: u64, arbiters: usize, preferred: u64) -> Result<Choice, AllocError>
-    ensures { IfOk result (λ c. choice_of c ≡ record { mask = mask; prefs = replicate arbiters preferred }) }
-{
-    let prefs = vec![in alloc; preferred; arbiters]?;
-    Ok(Choice {
-        en: mask,
-        prefs: Items::from_vec(prefs),
-    })
-}
-
-/// The choices of the cycles: cycle k has the one of number k modulo 16.
-#[tactic(auto, using(crate::proofs::Choices::choices_none))]
-fn choices(alloc: Global, mask: u64, arbiters: usize) -> Result<Vec<Choice>, AllocError>
-    ensures { IfOk result (λ choices. AreChoices mask arbiters 16 choices.items) }
-{
-    let mut choices = Vec::with_capacity(alloc, 16)?;
-    for preferred in 0..16u64 {
-        let choice = choice(alloc, mask, arbiters, preferred)?;
-        choices.push(choice)?;
-    }
-    Ok(choices)
-}
-
-fn choice_at(choices: &[Choice], number: usize) -> &Choice
-    requires { number < length choices.now }
-    ensures { slice_get choices.now number ≡ Some result.now }
-{
-    &choices[number]
-}
-
 /// Runs a simulator that stands in its initial state.
-fn turn(
-    alloc: Global,
-    sim: &mut Sim<'_>,
-    threads: u32,
-    arbiters: usize,
-    cycles: u32,
-) -> Result<Ran, AllocError>
-    requires few { threads ≤ 63 }
-    requires begins { IsTurning sim.old.modules threads arbiters 0 sim.old [] }
-    ensures { IfOk result (λ r. IsRound sim.old.modules threads cycles r.cycles r.is_done r.printed) }
+fn turn(alloc: Global, sim: &mut Sim<'_>, cycles: u32) -> Result<Ran, AllocError>
+    requires { IsBegun sim.old }
+    ensures { IfOk result (λ r. IsRound sim.old.modules (threads_of sim.old.modules) cycles r.cycles r.is_done r.printed) }
 {
-    let mask = mask(threads);
-    let all = choice(alloc, mask, 0, 0)?;
-    let choices = choices(alloc, mask, arbiters)?;
     let mut printed = Bytes::new(alloc);
-    for number in 0..cycles {
-        if sim.shows_done(&all) {
-            return Ok(Ran {
-                cycles: number,
-                is_done: true,
-                printed,
-            });
-        }
-        let choice = choice_at(choices.as_slice(), (number % 16) as usize);
-        sim.cycle(choice, &mut printed)?;
+    let ran = sim.lockstep(cycles, &mut printed)?;
+    if ran < cycles {
+        return Ok(Ran {
+            cycles: ran,
+            is_done: true,
+            printed,
+        });
     }
-    let is_done = sim.shows_done(&all);
+    let is_done = sim.done();
     Ok(Ran {
-        cycles,
+        cycles: ran,
         is_done,
         printed,
     })
@@ -124,17 +70,15 @@ fn arbiters_of(modules: &[Module]) -> usize
     }
 }
 
-/// Runs a net of so many threads until done is shown, and for so many cycles at most. An error has its cause in the net, or
-/// memory is wanting.
-pub fn run(alloc: Global, modules: &[Module], threads: u32, cycles: u32) -> Result<Ran, OpenError>
-    requires few { threads ≤ 63 }
+/// Runs a net until done is shown, and for so many cycles at most. An error has its cause in the net, or memory is wanting.
+pub fn run(alloc: Global, modules: &[Module], cycles: u32) -> Result<Ran, OpenError>
     requires right { IsRightNet modules.now }
-    requires takes { TakesChoices modules.now threads }
-    ensures ok { IfOk result (λ r. IsRound modules.now threads cycles r.cycles r.is_done r.printed) }
+    requires takes { TakesChoices modules.now (threads_of modules.now) }
+    ensures ok { IfOk result (λ r. IsRound modules.now (threads_of modules.now) cycles r.cycles r.is_done r.printed) }
     ensures cause { IfErr result (IsCause modules.now) }
 {
     let arbiters = arbiters_of(modules);
     let mut sim = Sim::open(alloc, modules, arbiters)?;
-    let ran = turn(alloc, &mut sim, threads, arbiters, cycles)?;
+    let ran = turn(alloc, &mut sim, cycles)?;
     Ok(ran)
 }

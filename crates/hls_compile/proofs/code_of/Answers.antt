@@ -1,4 +1,7 @@
+use Rattle.std.proofs.Common.{ap, ◌∙◌}
 use Rattle.c_program.specs.Plain.{program_of}
+use Rattle.c_limits.proofs.Within.{within_limits}
+use Rattle.ir_lower.specs.declared.fault.LowerError.TheVariants.{Fault}
 use Rattle.ir_lower.proofs.Untaken.{untaken_calls}
 use Rattle.hls_compile.proofs.Alone.{alone}
 use Rattle.hls_compile.proofs.code_of.Goals as goal
@@ -9,3 +12,8 @@ returns-in-Ok-clause-alone c = alone (program_of c.args.program.now) c.in_defaul
 pub returns-in-Err-NotYet-clause-unbuilt : goal.returns-in-Err-NotYet-clause-unbuilt
 returns-in-Err-NotYet-clause-unbuilt c =
     untaken_calls (program_of c.args.program.now) c.requires.resolved (c.in-Err-NotYet.ensures.untaken c.in-Err-NotYet.field-0-is)
+
+pub unreachable-requires : goal.unreachable-requires
+unreachable-requires c =
+    c.in-Err-Fault-TooLarge.ensures.ample c.in_default.ensures.sequential c.requires.resolved (within_limits (program_of c.args.program.now) c.requires.limits)
+    (c.in-Err-Fault-TooLarge.field-0-is ∙ ap Fault c.in-Err-Fault-TooLarge.field-0-0-is)

@@ -1,4 +1,4 @@
-use Rattle.std.proofs.Common.{◌≡◌, refl, sym, ap, ◌∙◌, subst, arith, slice_index_or}
+use Rattle.std.proofs.Common.{refl, sym, subst, arith, slice_index_or}
 use Rattle.std.proofs.lemmas.Option.{slice_get-get_or}
 use Rattle.cycle_sim.specs.declared.settle.Step.{Step}
 use Rattle.cycle_sim.specs.declared.settle.Feed.TheVariants.{Zero}

@@ -1,7 +1,8 @@
 use Rattle.std.proofs.Common.{subst, sym}
 use Rattle.cycle_sim.specs.Opened.{IsRightNet, IsCause}
-use Rattle.round_robin.specs.Round.{TakesChoices}
-use Rattle.hls_tool.proofs.RunLemmas.{right_net, takes_choices, no_cause}
+use Rattle.cycle_sim.specs.Rounds.{threads_of}
+use Rattle.round_robin.specs.Round.{TakesChoices, IsRound}
+use Rattle.hls_tool.proofs.RunLemmas.{right_net, takes_choices, threads_are, no_cause}
 use Rattle.hls_tool.proofs.commands.ran.Goals as goal
 
 pub run-requires-clause-right : goal.run-requires-clause-right
@@ -10,9 +11,16 @@ run-requires-clause-right c =
 
 pub run-requires-clause-takes : goal.run-requires-clause-takes
 run-requires-clause-takes c =
-    subst (λ m. TakesChoices m c.args.built.now.threads) (sym c.as_slice.ensures) (takes_choices c.requires.0 c.args.built.now.threads c.args.built.now.net c.args.built.now.text c.requires.1)
+    subst (λ m. TakesChoices m (threads_of m)) (sym c.as_slice.ensures) (takes_choices c.requires.0 c.args.built.now.threads c.args.built.now.net c.args.built.now.text c.requires.1)
 
 pub memory_alone-requires : goal.memory_alone-requires
 memory_alone-requires c =
     no_cause c.requires.0 c.args.built.now.threads c.args.built.now.net c.args.built.now.text c.requires.1 c.in-Err.error
     (subst (λ m. IsCause m c.in-Err.error) c.as_slice.ensures c.in-Err.ensures.cause)
+
+pub returns-in-Ok : goal.returns-in-Ok
+returns-in-Ok c =
+    let modules = c.args.built.now.net.modules in
+    let r = c.in-Ok.ran in
+    let there = subst (λ m. IsRound m (threads_of m) c.args.cycles r.cycles r.is_done r.printed) c.as_slice.ensures c.in-Ok.ensures.ok in
+    subst (λ t. IsRound modules t c.args.cycles r.cycles r.is_done r.printed) (threads_are c.requires.0 c.args.built.now.threads c.args.built.now.net c.args.built.now.text c.requires.1) there

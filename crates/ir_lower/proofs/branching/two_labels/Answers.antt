@@ -1,5 +1,10 @@
 use Rattle.ir_lower.proofs.Growing.{two_labels}
+use Rattle.ir_lower.proofs.Binding.{two_new}
 use Rattle.ir_lower.proofs.branching.two_labels.Goals as goal
 
-pub returns : goal.returns
-returns c = two_labels c.args.code.now c.new_label.new.self c.new_label-2.new.self c.in_ok-first.ensures c.in_ok-second.ensures
+pub returns-clause-relabels : goal.returns-clause-relabels
+returns-clause-relabels c = two_labels c.args.code.now c.new_label.new.self c.new_label-2.new.self c.in_ok-first.ensures.after c.in_ok-second.ensures.after
+
+pub returns-clause-labels : goal.returns-clause-labels
+returns-clause-labels c =
+    two_new _ _ c.args.code.now c.new_label.new.self c.new_label-2.new.self c.in_ok-first.ensures.label c.in_ok-first.ensures.after c.in_ok-second.ensures.label c.in_ok-second.ensures.after

@@ -9,5 +9,5 @@ pub returns : goal.returns
 returns c =
     tests_branch (expression_of c.args.operand.now) c.args.nonzero c.args.zero c.args.code.now (record c.args.code.now { block = c.step.new.self }) c.branch-code.new.self
     c.lower_expression.new.block c.in_ok-test.test
-    (subst (λ hs. Evaluates hs (expression_of c.args.operand.now) c.args.code.now.block c.lower_expression.new.block c.in_ok-test.test) c.as_slice.ensures c.in_ok-test.ensures)
-    (ap (λ (z : OpenBlock). record c.args.code.now { block = z }) c.in_ok-step.ensures) c.in_ok-branch.ensures
+    (subst (λ hs. Evaluates hs (expression_of c.args.operand.now) c.args.code.now.block c.lower_expression.new.block c.in_ok-test.test) c.as_slice.ensures c.in_ok-test.ensures.value)
+    (ap (λ (z : OpenBlock). record c.args.code.now { block = z }) c.in_ok-step.ensures.after) c.in_ok-branch.ensures

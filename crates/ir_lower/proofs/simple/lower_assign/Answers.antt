@@ -1,9 +1,13 @@
 use Rattle.std.proofs.Common.{refl, ap}
 use Rattle.c_program.specs.Plain.{expression_of, place_of, right_side_of}
 use Rattle.ir_lower.proofs.Stepping.{assign_at}
+use Rattle.ir_lower.proofs.Proceeding.{proceeds_same}
 use Rattle.ir_lower.proofs.simple.lower_assign.Goals as goal
 
-pub returns-in_ok-lower_assignment-in-Value : goal.returns-in_ok-lower_assignment-in-Value
-returns-in_ok-lower_assignment-in-Value c =
+pub returns-clause-lowers : goal.returns-clause-lowers
+returns-clause-lowers c =
     assign_at (place_of c.args.place.now) (right_side_of c.args.right.now) (expression_of c.in-Value.right) c.as_slice.result.now c.args.code.now _ (ap right_side_of c.in-Value.is)
     c.as_slice.ensures c.in_ok-lower_assignment-in-Value.ensures.assigns c.in_ok-lower_assignment-in-Value.ensures.typed refl
+
+pub returns-clause-labels : goal.returns-clause-labels
+returns-clause-labels c = λ around. proceeds_same c.args.code.now _ refl refl around

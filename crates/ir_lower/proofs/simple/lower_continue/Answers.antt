@@ -1,5 +1,9 @@
 use Rattle.ir_lower.proofs.Stepping.{continue_at}
+use Rattle.ir_lower.proofs.Proceeding.{continue_proceeds}
 use Rattle.ir_lower.proofs.simple.lower_continue.Goals as goal
 
-pub returns : goal.returns
-returns c = continue_at c.args.around c.in-Some.labels c.args.code.now c.jump.new.self c.in-Some.is c.in_ok-jump.ensures
+pub returns-clause-lowers : goal.returns-clause-lowers
+returns-clause-lowers c = continue_at c.args.around c.in-Some.labels c.args.code.now c.jump.new.self c.in-Some.is c.in_ok-jump.ensures
+
+pub returns-clause-labels : goal.returns-clause-labels
+returns-clause-labels c = continue_proceeds c.args.around c.in-Some.labels c.args.code.now c.jump.new.self c.in-Some.is c.requires.reached c.in_ok-jump.ensures

@@ -1,6 +1,10 @@
 use Rattle.std.proofs.Common.{refl}
 use Rattle.ir_lower.proofs.Stepping.{declare_at}
+use Rattle.ir_lower.proofs.Proceeding.{proceeds_same}
 use Rattle.ir_lower.proofs.simple.lower_declare.Goals as goal
 
-pub returns : goal.returns
-returns c = declare_at c.args.code.now _ c.step.new.self c.in_ok-step.ensures refl
+pub returns-clause-lowers : goal.returns-clause-lowers
+returns-clause-lowers c = declare_at c.args.code.now _ c.step.new.self c.in_ok-step.ensures.after refl
+
+pub returns-clause-labels : goal.returns-clause-labels
+returns-clause-labels c = λ around. proceeds_same c.args.code.now _ refl refl around

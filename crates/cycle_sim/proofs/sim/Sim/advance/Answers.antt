@@ -1,6 +1,6 @@
 use Rattle.std.proofs.Common.{◌≡◌, ℕ, List, ◌++◌, length, take, drop, ap, sym, ◌∙◌, subst, arith}
 use Rattle.cycle_sim.specs.Flat.{all_numbers, all_words}
-use Rattle.cycle_sim.specs.Running.{Running, Stands, flat, advanced}
+use Rattle.cycle_sim.specs.Running.{Running, running, Stands, flat, advanced}
 use Rattle.cycle_sim.proofs.Cycles.{advanced_stands}
 use Rattle.cycle_sim.proofs.Calls.{whole_back}
 use Rattle.cycle_sim.proofs.sim.Sim.advance.Goals as goal
@@ -8,16 +8,7 @@ use Rattle.cycle_sim.proofs.sim.Sim.advance.Goals as goal
 pub invariant_of-self : goal.invariant_of-self
 invariant_of-self c =
     let i = c.self.inside in
-    let r : Running = record {
-      modules = i.modules.now;
-      parts = i.parts.items;
-      steps = i.steps.items;
-      numbers = i.numbers.items;
-      words = i.words.items;
-      starts = i.starts.items;
-      prefs = i.prefs;
-      done = i.done;
-    } in
+    let r = running i.modules.now i.parts.items i.steps.items i.numbers.items i.words.items i.starts.items i.prefs i.done in
     let view : c.args.self.now ≡ r = (let h = c.self.view_is in cc) in
     let settled = c.requires.2 in
     let stands : Stands (advanced r) =
@@ -38,31 +29,9 @@ invariant_of-self c =
     let n_whole = whole_back i.numbers.len numbers_of (drop (length numbers_of) i.numbers.items) (omega (arith, i.numbers.ok.0)) in
     let x_whole = whole_back i.next.len next_of (drop (length next_of) i.next.items) (omega (arith, i.next.ok.0)) in
     let w_whole = whole_back i.words.len words_of (drop (length words_of) i.words.items) (omega (arith, i.words.ok.0)) in (
-      subst (λ (ws : List ℕ). Stands
-          (record {
-            modules = r.modules;
-            parts = r.parts;
-            steps = r.steps;
-            numbers = take i.numbers.len
-                (numbers_of ++ drop (length numbers_of) i.numbers.items);
-            words = ws;
-            starts = r.starts;
-            prefs = r.prefs;
-            done = r.done;
-          }))
+      subst (λ (ws : List ℕ). Stands (running r.modules r.parts r.steps (take i.numbers.len (numbers_of ++ drop (length numbers_of) i.numbers.items)) ws r.starts r.prefs r.done))
           (sym (w_whole ∙ words))
-          (subst (λ (ns : List ℕ). Stands
-          (record {
-            modules = r.modules;
-            parts = r.parts;
-            steps = r.steps;
-            numbers = ns;
-            words = all_words r.modules
-                (flat r) r.parts;
-            starts = r.starts;
-            prefs = r.prefs;
-            done = r.done;
-          }))
-          (sym (n_whole ∙ numbers)) stands),
+          (subst (λ (ns : List ℕ). Stands (running r.modules r.parts r.steps ns (all_words r.modules (flat r) r.parts) r.starts r.prefs r.done)) (sym (n_whole ∙ numbers)) stands),
       ap length x_whole ∙ x_long ∙ c.self.invariant.1 ∙ sym (ap length n_whole ∙ n_long),
+      c.self.invariant.2,
     )

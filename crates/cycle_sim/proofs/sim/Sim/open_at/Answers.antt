@@ -10,10 +10,13 @@ use Rattle.cycle_sim.specs.Opened.{IsOne, AreTwo}
 use Rattle.cycle_sim.specs.Running.{IsDone}
 use Rattle.cycle_sim.proofs.Causes.{laid_out, printers}
 use Rattle.cycle_sim.proofs.Opening.{opened_stands}
+use Rattle.std.specs.Prelude.{◌-◌, ◌^◌}
+use Rattle.cycle_sim.specs.Rounds.{enable_width, AreNarrowSignals}
+use Rattle.cycle_sim.proofs.Enables.{narrow_top, threads_top}
 use Rattle.cycle_sim.proofs.sim.Sim.open_at.Goals as goal
 
-pub built-requires : goal.built-requires
-built-requires c =
+pub built-requires-clause-ready : goal.built-requires-clause-ready
+built-requires-clause-ready c =
     let modules = c.args.modules.now in
     let t = c.requires.top.top in
     let placed = c.in_ok-placed.placed in
@@ -43,6 +46,13 @@ built-requires c =
     let ordered : IsOrder modules wires placed.free.items steps =
     subst (λ fs. IsOrder modules wires fs steps) c.as_slice-5.ensures.value (subst (λ (ws : List Step). IsOrder modules ws c.as_slice-5.result.now steps) c.as_slice-4.ensures.value given) in
     opened_stands laid one c.in_ok-done.done done_is steps ordered
+
+pub built-requires-clause-mask : goal.built-requires-clause-mask
+built-requires-clause-mask c =
+    c.enable_mask-mask.ensures ∙ ap (λ ss. 2 ^ enable_width ss - 1) c.module_signals-2.ensures ∙ ap (λ n. 2 ^ n - 1) (threads_top c.args.modules.now c.args.top c.requires.top)
+
+pub enable_mask-mask-requires : goal.enable_mask-mask-requires
+enable_mask-mask-requires c = subst AreNarrowSignals (sym c.module_signals-2.ensures) (narrow_top c.args.modules.now c.args.top c.requires.top c.requires.right)
 
 pub returns-then-two_write-clause-cause : goal.returns-then-two_write-clause-cause
 returns-then-two_write-clause-cause c =

@@ -1,7 +1,7 @@
 use Rattle.std.proofs.Common.{◌≡◌, ℕ, List, ◌++◌, length, take, drop, ap, sym, ◌∙◌, subst, arith}
 use Rattle.verilog_meaning.specs.Cycles.{Choice}
 use Rattle.cycle_sim.specs.Flat.{settled}
-use Rattle.cycle_sim.specs.Running.{Running, Stands, Fits, flat, choice_of, settled_run}
+use Rattle.cycle_sim.specs.Running.{Running, running, Stands, Fits, flat, choice_of, settled_run}
 use Rattle.cycle_sim.proofs.Cycles.{settled_stands}
 use Rattle.cycle_sim.proofs.Settles.{settled-length}
 use Rattle.cycle_sim.proofs.Calls.{whole_back}
@@ -10,16 +10,7 @@ use Rattle.cycle_sim.proofs.sim.Sim.settle_under.Goals as goal
 pub invariant_of-self : goal.invariant_of-self
 invariant_of-self c =
     let i = c.self.inside in
-    let r : Running = record {
-      modules = i.modules.now;
-      parts = i.parts.items;
-      steps = i.steps.items;
-      numbers = i.numbers.items;
-      words = i.words.items;
-      starts = i.starts.items;
-      prefs = i.prefs;
-      done = i.done;
-    } in
+    let r = running i.modules.now i.parts.items i.steps.items i.numbers.items i.words.items i.starts.items i.prefs i.done in
     let choice : Choice = choice_of c.args.choice.now in
     let view : c.args.self.now ≡ r = (let h = c.self.view_is in cc) in
     let fits : Fits r choice = subst (λ (t : Running). Fits t choice) view c.requires in
@@ -29,7 +20,7 @@ invariant_of-self c =
     let whole = whole_back i.numbers.len c.settle.new.numbers (drop (length c.settle.new.numbers) i.numbers.items) (omega (arith, i.numbers.ok.0)) in
     let is : take i.numbers.len (c.settle.new.numbers ++ drop (length c.settle.new.numbers) i.numbers.items) ≡ settled r.modules choice (flat r) r.steps = whole ∙ given in
     let stands : Stands (settled_run choice r) = settled_stands r c.self.invariant.0 choice fits in (
-      subst (λ (ns : List ℕ). Stands
-          (record { modules = r.modules; parts = r.parts; steps = r.steps; numbers = ns; words = r.words; starts = r.starts; prefs = r.prefs; done = r.done })) (sym is) stands,
+      subst (λ (ns : List ℕ). Stands (running r.modules r.parts r.steps ns r.words r.starts r.prefs r.done)) (sym is) stands,
       c.self.invariant.1 ∙ sym (ap length whole ∙ long),
+      c.self.invariant.2,
     )

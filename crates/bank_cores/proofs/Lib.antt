@@ -1,0 +1,5 @@
+pub mod Edges
+pub mod Effects
+pub mod Banking
+pub mod Naming
+pub mod Standing

@@ -1,0 +1,3 @@
+pub mod Counts
+pub mod Shapes
+pub mod Partition

@@ -1,0 +1,6 @@
+use Rattle.std.proofs.Common.{◌≡◌, drop}
+use Rattle.cycle_sim.specs.Rounds.{enable_width}
+use Rattle.cycle_sim.proofs.net.enable_mask.Given as goal
+
+abbrev pub invariant-loop-signal : goal.invariant-loop-signal
+invariant-loop-signal l = enable_width l.signals ≡ enable_width (drop l.signal-index l.signals)

@@ -1,0 +1,39 @@
+-- The first place where a test holds, a step at a time.
+use Rattle.std.proofs.Common.{◌≡◌, ℕ, zero, suc, ◌+◌, ◌<◌, ◌≤◌, List, [], ◌∷◌, Bool, true, false, cond, refl, sym, ap, ◌∙◌, length, drop, get_or, arith}
+use Rattle.std.specs.Prelude.{not}
+use Rattle.std.specs.List.{position_or_len}
+use Rattle.std.proofs.Math.Seq.{drop-cons}
+
+drop_end : {X : Type 0} (xs : List X) (i : ℕ) → length xs ≤ i → drop i xs ≡ []
+drop_end [] zero l = refl
+drop_end [] (suc i) l = refl
+drop_end (x ∷ xs) zero l = absurd (omega arith)
+drop_end (x ∷ xs) (suc i) l = drop_end xs i (omega arith)
+
+rest_at : {X : Type 0} (xs : List X) (i : ℕ) (y : X) → i < length xs → y ≡ get_or xs i y → drop i xs ≡ y ∷ drop (suc i) xs
+rest_at {X} xs i y l is = drop-cons xs i y l ∙ ap (λ (k : X). k ∷ drop (suc i) xs) (sym is)
+
+module _ {X : Type 0} (p : X → Bool) where
+  abbrev among : List X → ℕ
+  among xs = position_or_len p xs
+
+  first : (y : X) (ys : List X) (b : Bool) → p y ≡ b → among (y ∷ ys) ≡ cond (not b) (1 + among ys) 0
+  first y ys b e = ap (λ t. cond (not t) (1 + among ys) 0) e
+
+  pub found : (xs : List X) (i : ℕ) (y : X) → i < length xs → y ≡ get_or xs i y → p y ≡ true → position_or_len p xs ≡ i + position_or_len p (drop i xs) → i ≡ position_or_len p xs
+  found xs i y l is named e =
+      let z : among (drop i xs) ≡ 0 = ap among (rest_at xs i y l is) ∙ first y (drop (suc i) xs) true named in
+      omega (arith, e, z)
+
+  pub passed : (xs : List X) (i : ℕ) (y : X) → i < length xs → y ≡ get_or xs i y → p y ≡ false → position_or_len p xs ≡ i + position_or_len p (drop i xs)
+      → position_or_len p xs ≡ i + 1 + position_or_len p (drop (i + 1) xs)
+  passed xs i y l is named e =
+      let z : among (drop i xs) ≡ 1 + among (drop (suc i) xs) = ap among (rest_at xs i y l is) ∙ first y (drop (suc i) xs) false named in
+      let next : suc i ≡ i + 1 = omega arith in
+      let w : among (drop (suc i) xs) ≡ among (drop (i + 1) xs) = ap (λ k. among (drop k xs)) next in
+      omega (arith, e, z, w)
+
+  pub missed : (xs : List X) (i : ℕ) → length xs ≤ i → i ≤ length xs → position_or_len p xs ≡ i + position_or_len p (drop i xs) → length xs ≡ position_or_len p xs
+  missed xs i l u e =
+      let z : among (drop i xs) ≡ 0 = ap among (drop_end xs i l) in
+      omega (arith, e, z, l, u)

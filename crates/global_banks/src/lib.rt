@@ -1,0 +1,6 @@
+//! Where the globals of a program stand in a netlist: element j of a global x of K banks is word `j / K` of the memory `bank_x_k` of
+//! the outermost module's instance `u_x_k`, where k is `j mod K`.
+#![tactic(auto)]
+
+pub mod locate;
+mod names;

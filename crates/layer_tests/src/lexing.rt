@@ -1,0 +1,177 @@
+// One table of texts and their tokens, and the limits at their edges.
+
+use c_lexer::{LexFault, lex};
+use c_token::{Constant, ConstantType, Kind};
+use std::alloc::{AllocError, Global};
+use std::test::Fail;
+
+fn push_bytes(out: &mut String, bytes: &[u8]) -> Result<(), AllocError> {
+    for b in bytes {
+        out.push(char::from(*b))?;
+    }
+    Ok(())
+}
+
+fn push_kind(out: &mut String, kind: &Kind) -> Result<(), AllocError> {
+    match kind {
+        Kind::Keyword(keyword) => write!(out, "[{}]", keyword.spelling()),
+        Kind::Name(name) => push_bytes(out, name.as_slice()),
+        Kind::Constant(Constant::TooLarge) => out.push_str("too large"),
+        Kind::Constant(Constant::Typed(value, of)) => {
+            let suffix = match of {
+                ConstantType::Int => "",
+                ConstantType::Unsigned => "u",
+                ConstantType::Long => "l",
+                ConstantType::UnsignedLong => "ul",
+            };
+            write!(out, "{value}{suffix}")
+        }
+        Kind::StringLiteral(inside) => {
+            out.push('"')?;
+            push_bytes(out, inside.as_slice())?;
+            out.push('"')
+        }
+        Kind::Punctuator(mark) => out.push_str(mark.spelling()),
+        Kind::End => out.push_str("end"),
+    }
+}
+
+/// The tokens as `offset:token`, or the fault.
+fn shown(alloc: Global, text: &[u8]) -> Result<String, AllocError> {
+    let mut out = String::new(alloc);
+    match lex(alloc, text) {
+        Ok(tokens) => {
+            for token in tokens.as_slice() {
+                write!(out, " {}:", token.offset)?;
+                push_kind(&mut out, &token.kind)?;
+            }
+        }
+        Err(LexFault::Bad { offset }) => write!(out, "bad {offset}")?,
+        Err(
+            LexFault::Limit {
+                limit,
+                count,
+                offset,
+            },
+        ) => write!(out, "{limit:?} {count} at {offset}")?,
+        Err(LexFault::Memory) => out.push_str("memory")?,
+    }
+    Ok(out)
+}
+
+const ROWS: [(&[u8], &str); 49] = [
+    (b"", " 0:end"),
+    (
+        b"int main(void){x = 1;",
+        " 0:[int] 4:main 8:( 9:[void] 13:) 14:{ 15:x 17:= 19:1 20:; 21:end",
+    ),
+    (b"a<<=b>>=c", " 0:a 1:<<= 4:b 5:>>= 8:c 9:end"),
+    (
+        b"a+++b---c->d",
+        " 0:a 1:++ 3:+ 4:b 5:-- 7:- 8:c 9:- 10:> 11:d 12:end",
+    ),
+    (b"/ /=/*a*//**/x//y", " 0:/ 2:/= 13:x 17:end"),
+    (b"0 00 017 0x1F 0XfUL", " 0:0 2:0 5:15 9:31 14:15ul 19:end"),
+    (
+        b"2147483647 2147483648",
+        " 0:2147483647 11:2147483648l 21:end",
+    ),
+    (
+        b"0x7fffffff 0x80000000",
+        " 0:2147483647 11:2147483648u 21:end",
+    ),
+    (
+        b"0xffffffff 037777777777",
+        " 0:4294967295u 11:4294967295u 23:end",
+    ),
+    (
+        b"0x100000000 0xffffffffffffffff",
+        " 0:4294967296l 12:18446744073709551615ul 30:end",
+    ),
+    (
+        b"9223372036854775807 9223372036854775808",
+        " 0:9223372036854775807l 20:too large 39:end",
+    ),
+    (
+        b"9223372036854775808l 9223372036854775808u",
+        " 0:too large 21:9223372036854775808ul 41:end",
+    ),
+    (
+        b"18446744073709551615u 18446744073709551616u",
+        " 0:18446744073709551615ul 22:too large 43:end",
+    ),
+    (
+        b"1u 4294967296U 1l 1LL 01l",
+        " 0:1u 3:4294967296ul 15:1l 18:1l 22:1l 25:end",
+    ),
+    (
+        b"1ul 1LLU 1uLL 0xFFFFFFFFFFFFFFFFl",
+        " 0:1ul 4:1ul 9:1ul 14:18446744073709551615ul 33:end",
+    ),
+    (b"1 08", "bad 2"),
+    (b" 0x", "bad 1"),
+    (b"1.5", "bad 0"),
+    (b"1lL", "bad 0"),
+    (b"1uu", "bad 0"),
+    (b"a.b", "bad 1"),
+    (
+        b"'a' '\"' '\\n' '\\0' '\\'' '\\\\'",
+        " 0:97 4:34 8:10 13:0 18:39 23:92 27:end",
+    ),
+    (b"x'ab'", "bad 1"),
+    (b"''", "bad 0"),
+    (b"'\\x'", "bad 0"),
+    (b"\"\" \"a\\\"b\\n\"", " 0:\"\" 3:\"a\\\"b\\n\" 11:end"),
+    (b"f(\"a", "bad 2"),
+    (b"\"a\\\nb\"", "bad 0"),
+    (b"a /* b", "bad 2"),
+    (b"/*/", "bad 0"),
+    (b"a // b\\\nc", "bad 2"),
+    (b"a /* \\\r\n */", "bad 2"),
+    (b"a \\\nb", "bad 2"),
+    (b"a \x0c", "bad 2"),
+    (b"#include <a.h>\n # include \"b\" // c\nx", " 35:x 36:end"),
+    (
+        b"/* \n */ # /* \n */ define N 0x10\nN n\"N\"",
+        " 32:16 34:n 35:\"N\" 38:end",
+    ),
+    (b"#define N 7\r\nN+NN", " 13:7 14:+ 15:NN 17:end"),
+    (b"#define N 7\n#define N 7\n", "bad 12"),
+    (b"#define int 7\n", "bad 0"),
+    (b"#define N 7 8\n", "bad 0"),
+    (b"#define N 08\n", "bad 0"),
+    (b"#define N", "bad 0"),
+    (b"x #define N 7\n", "bad 2"),
+    (b"#include <a> /* b", "bad 13"),
+    (b"#define N 7 // c\\\n", "bad 12"),
+    (b" #\n", "bad 1"),
+    (b"#define NULL 0\n", "bad 0"),
+    (b"#define L 99999999999999999999\nL", " 31:too large 32:end"),
+    (
+        b"#define a234567890123456789012345678901234567890123456789012345678901234 1\na234567890123456789012345678901234567890123456789012345678901234",
+        "NameLength 64 at 75",
+    ),
+];
+
+#[test]
+fn table(rt: HostRuntime) -> Result<(), Fail> {
+    for (text, expected) in &ROWS {
+        let out = shown(rt.alloc(), text)?;
+        assert_eq!(rt; out.as_str(), *expected);
+    }
+    Ok(())
+}
+
+#[test]
+fn edges(rt: HostRuntime) -> Result<(), Fail> {
+    let alloc = rt.alloc();
+    let marks = vec![in alloc; b';'; 16_385]?;
+    let fitting = lex(alloc, &marks[..16_384])?;
+    assert_eq!(rt; fitting.len(), 16_385);
+    assert_eq!(rt; shown(alloc, &marks)?.as_str(), "Tokens 16385 at 16384");
+    let name = vec![in alloc; b'a'; 64]?;
+    let fitting = lex(alloc, &name[..63])?;
+    assert_eq!(rt; fitting.len(), 2);
+    assert_eq!(rt; shown(alloc, &name)?.as_str(), "NameLength 64 at 0");
+    Ok(())
+}

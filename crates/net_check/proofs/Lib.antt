@@ -1,0 +1,10 @@
+pub mod Same
+pub mod Tables
+pub mod PortTables
+pub mod Cases
+pub mod Rules
+pub mod Firsts
+pub mod Found
+pub mod KnownParts
+pub mod Distinct
+pub mod Inside

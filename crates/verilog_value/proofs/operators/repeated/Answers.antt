@@ -1,0 +1,6 @@
+use Rattle.verilog_value.proofs.Words.{repeated_next}
+use Rattle.verilog_value.proofs.operators.repeated.Goals as goal
+
+pub loop-copy-preserved : goal.loop-copy-preserved
+loop-copy-preserved c =
+    repeated_next c.loop-copy._copy c.args.width c.args.number c.loop-copy.above c.beside-above.result c.loop-copy.invariant c.beside-above.ensures

@@ -1,0 +1,8 @@
+//! The value of the right side of a continuous assignment (IEEE 1364-2005, 5): the text's expression is evaluated as the netlist's
+//! value that it stands for.
+#![tactic(auto)]
+
+pub mod operators;
+mod place;
+pub mod valuation;
+pub mod value;

@@ -1,0 +1,151 @@
+// The value of an expression.
+
+ghost use Rattle.std.specs.Prelude.{◌≡◌, ◌≤◌, ◌+◌, ◌*◌, ◌^◌};
+ghost use Rattle.hls_ints.specs.Words.{word as to_word};
+ghost use Rattle.verilog_meaning.specs.Readings.{joined as joined_parts};
+ghost use Rattle.verilog_value.specs.Value.{EachOf, IsNarrow, IsRightSide, IsWideName, module_of, places, reading_of, standing_for, value_of, width_at};
+
+use crate::operators::{beside, binary, divided, repeated, selected, signed_divided};
+use crate::place::{memory_place, number, signal_place, width_of, word};
+use crate::valuation::Valuation;
+use hls_ints::{v_not, v_sar, v_sless};
+use verilog_tree::name::Identifier;
+use verilog_tree::tree::Expression;
+
+fn number_named(valuation: &Valuation, name: &Identifier) -> u64
+    ensures { result ≡ (reading_of valuation.now).signal (standing_for valuation.now name.now) }
+{
+    number(valuation, signal_place(valuation, name))
+}
+
+fn width_named(valuation: &Valuation, name: &Identifier) -> u32
+    requires { IsWideName valuation.now name.now }
+    ensures result { result ≡ width_at valuation.now name.now }
+    ensures low { 1 ≤ result }
+    ensures high { result ≤ 64 }
+{
+    width_of(valuation, signal_place(valuation, name))
+}
+
+/// The number of a name behind what stands above it.
+fn behind(valuation: &Valuation, above: u64, name: &Identifier) -> u64
+    requires { IsWideName valuation.now name.now }
+    ensures { result ≡ to_word 64 (above * 2 ^ width_at valuation.now name.now + (reading_of valuation.now).signal (standing_for valuation.now name.now)) }
+{
+    let number = number_named(valuation, name);
+    beside(above, width_named(valuation, name), number)
+}
+
+fn joined(valuation: &Valuation, parts: &[Identifier]) -> u64
+    requires { EachOf (IsWideName valuation.now) parts.now }
+    ensures { result ≡ to_word 64 (joined_parts (module_of valuation.now) (reading_of valuation.now) (places valuation.now parts.now) 0) }
+{
+    let mut above = 0;
+    for number in 0..parts.len() {
+        above = behind(valuation, above, &parts[number]);
+    }
+    above
+}
+
+fn constant_word(value: u64) -> u64
+    ensures { result ≡ to_word 64 value }
+{
+    value
+}
+
+/// The value modulo 2 to the 64.
+fn word_of(expression: &Expression, valuation: &Valuation) -> u64
+    requires { IsNarrow valuation.now expression.now }
+    ensures { result ≡ to_word 64 (value_of valuation.now expression.now) }
+{
+    match expression {
+        Expression::Copy(of) => number_named(valuation, of),
+        Expression::Constant(constant) => constant_word(constant.value),
+        Expression::BitwiseNot(of) => {
+            let width = width_named(valuation, of);
+            v_not(width, number_named(valuation, of))
+        }
+        Expression::Binary {
+            operator,
+            left,
+            right,
+        } => {
+            let width = width_named(valuation, left);
+            let first = number_named(valuation, left);
+            let second = number_named(valuation, right);
+            binary(*operator, width, first, second)
+        }
+        Expression::SignedLess { left, right } => {
+            let width = width_named(valuation, left);
+            let first = number_named(valuation, left);
+            let second = number_named(valuation, right);
+            v_sless(width, first, second)
+        }
+        Expression::ArithmeticShiftRight { left, right } => {
+            let width = width_named(valuation, left);
+            let first = number_named(valuation, left);
+            let second = number_named(valuation, right);
+            v_sar(width, first, second)
+        }
+        Expression::Conditional {
+            condition,
+            if_true,
+            if_false,
+        } => {
+            if number_named(valuation, condition) == 0 {
+                number_named(valuation, if_false)
+            } else {
+                number_named(valuation, if_true)
+            }
+        }
+        Expression::Division {
+            operator,
+            left,
+            right,
+            ..
+        } => {
+            let width = width_named(valuation, left);
+            let first = number_named(valuation, left);
+            let second = number_named(valuation, right);
+            divided(*operator, width, first, second)
+        }
+        Expression::SignedDivision {
+            operator,
+            left,
+            right,
+            ..
+        } => {
+            let width = width_named(valuation, left);
+            let first = number_named(valuation, left);
+            let second = number_named(valuation, right);
+            signed_divided(*operator, width, first, second)
+        }
+        Expression::MemoryRead {
+            memory,
+            address,
+            ..
+        } => {
+            let place = memory_place(valuation, memory);
+            word(valuation, place, number_named(valuation, address))
+        }
+        Expression::BitSelect { of, bit } => selected(number_named(valuation, of), *bit, *bit),
+        Expression::PartSelect { of, high, low } => {
+            selected(number_named(valuation, of), *high, *low)
+        }
+        Expression::Concatenation(parts) => joined(valuation, parts.as_slice()),
+        Expression::Replication { count, of } => {
+            let width = width_named(valuation, of);
+            repeated(*count, width, number_named(valuation, of))
+        }
+    }
+}
+
+/// The value of an expression, which is the right side of an assignment to a target of 1 to 64 bits, where its names have these
+/// numbers. It takes no memory.
+#[tactic(auto, using(crate::proofs::Below::narrow, crate::proofs::Below::whole))]
+pub fn eval(expression: &Expression, valuation: &Valuation) -> u64
+    requires { IsRightSide valuation.now expression.now }
+    ensures { result ≡ value_of valuation.now expression.now }
+{
+    word_of(expression, valuation)
+}
