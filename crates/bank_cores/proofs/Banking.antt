@@ -83,7 +83,98 @@ module _ (shape : Shape) (ok : IsShape shape) (m : Module) (is : IsBank shape m)
   has_store_chain = chain_has m (store_chain n) n 1 _ _ listed.1.1.1.1.1.1.1.1.1.1.1.1.1.0 refl listed.1.1.1.1.1.1.1.1.1.1.1.1.1.1.0 (λ k. refl)
 
   sound : EachRow (IsSound m (inputs shape) (is_late shape)) 0 (rows n a w)
-  sound = ((omega arith), ((λ k l. omega arith), ((λ k l. omega arith), ((λ k l. omega arith), ((λ k l. omega arith), ((λ k l. omega arith), ((λ k l. pow_pos w), ((lit< tt), ((λ k l. (refl, (1, record { has = has m (operations n + k) _ (listed.1.1.0 k l); before = omega arith; in_time = λ t. let e = early_before (operations n + k) (omega arith) in absurd cc }, record { has = has m (none n) _ listed.1.1.1.1.1.1.1.0; before = omega arith; in_time = λ t. let e = early_between (none n) (omega arith) (omega arith) in absurd cc }))), ((pow_pos a), ((λ k l. (from (address_chain n + 1 + k) (grants n + k) 1 (has m (grants n + k) _ (listed.1.1.1.1.1.0 k l)) (omega arith) (omega arith) (omega arith), from (address_chain n + 1 + k) (addresses n + k) a (has m (addresses n + k) _ (listed.1.1.1.0 k l)) (omega arith) (omega arith) (omega arith), from (address_chain n + 1 + k) (address_chain n + k) a (has_address_chain k (omega arith)) (omega arith) (omega arith) (omega arith))), ((pow_pos w), ((λ k l. (from (value_chain n + 1 + k) (grants n + k) 1 (has m (grants n + k) _ (listed.1.1.1.1.1.0 k l)) (omega arith) (omega arith) (omega arith), from (value_chain n + 1 + k) (values n + k) w (has m (values n + k) _ (listed.1.1.1.1.0 k l)) (omega arith) (omega arith) (omega arith), from (value_chain n + 1 + k) (value_chain n + k) w (has_value_chain k (omega arith)) (omega arith) (omega arith) (omega arith))), ((lit< tt), ((λ k l. (from (store_chain n + 1 + k) (grants n + k) 1 (has m (grants n + k) _ (listed.1.1.1.1.1.0 k l)) (omega arith) (omega arith) (omega arith), from (store_chain n + 1 + k) (operations n + k) 1 (has m (operations n + k) _ (listed.1.1.0 k l)) (omega arith) (omega arith) (omega arith), from (store_chain n + 1 + k) (store_chain n + k) 1 (has_store_chain k (omega arith)) (omega arith) (omega arith) (omega arith))), ((memory_of shape, held, refl, (a, from (word n) (address n) a (has_address_chain n (omega arith)) (omega arith) (omega arith) (omega arith), ok.addressed)), ((λ k l. (from (takes n + k) (grants n + k) 1 (has m (grants n + k) _ (listed.1.1.1.1.1.0 k l)) (omega arith) (omega arith) (omega arith), from (takes n + k) (reads n + k) 1 (has m (reads n + k) _ (listed.1.1.1.1.1.1.1.1.0 k l)) (omega arith) (omega arith) (omega arith))), ((λ k l. (from (next n + k) (takes n + k) 1 (has m (takes n + k) _ (listed.1.1.1.1.1.1.1.1.1.1.1.1.1.1.1.1.0 k l)) (omega arith) (omega arith) (omega arith), from (next n + k) (word n) w (has m (word n) _ listed.1.1.1.1.1.1.1.1.1.1.1.1.1.1.1.0) (omega arith) (omega arith) (omega arith), from (next n + k) (kept n + k) w (has m (kept n + k) _ (listed.1.1.1.1.1.1.0 k l)) (omega arith) (omega arith) (omega arith))), ((λ k l. record { has = has m (asks n + k) _ (listed.1.0 k l); before = omega arith; in_time = λ t. let e = early_before (asks n + k) (omega arith) in absurd cc }), ((λ k l. record { has = has m (kept n + k) _ (listed.1.1.1.1.1.1.0 k l); before = omega arith; in_time = λ t. let e = early_between (kept n + k) (omega arith) (omega arith) in absurd cc }), tt))))))))))))))))))))
+  sound = (
+    (omega arith),
+    (
+      (λ k l. omega arith),
+      (
+        (λ k l. omega arith),
+        (
+          (λ k l. omega arith),
+          (
+            (λ k l. omega arith),
+            (
+              (λ k l. omega arith),
+              (
+                (λ k l. pow_pos w),
+                (
+                  (lit< tt),
+                  (
+                    (λ k l. (
+                      refl,
+                      (
+                        1,
+                        record { has = has m (operations n + k) _ (listed.1.1.0 k l); before = omega arith; in_time = λ t. let e = early_before (operations n + k) (omega arith) in absurd cc },
+                        record { has = has m (none n) _ listed.1.1.1.1.1.1.1.0; before = omega arith; in_time = λ t. let e = early_between (none n) (omega arith) (omega arith) in absurd cc },
+                      ),
+                    )),
+                    (
+                      (pow_pos a),
+                      (
+                        (λ k l. (
+                          from (address_chain n + 1 + k) (grants n + k) 1 (has m (grants n + k) _ (listed.1.1.1.1.1.0 k l)) (omega arith) (omega arith) (omega arith),
+                          from (address_chain n + 1 + k) (addresses n + k) a (has m (addresses n + k) _ (listed.1.1.1.0 k l)) (omega arith) (omega arith) (omega arith),
+                          from (address_chain n + 1 + k) (address_chain n + k) a (has_address_chain k (omega arith)) (omega arith) (omega arith) (omega arith),
+                        )),
+                        (
+                          (pow_pos w),
+                          (
+                            (λ k l. (
+                              from (value_chain n + 1 + k) (grants n + k) 1 (has m (grants n + k) _ (listed.1.1.1.1.1.0 k l)) (omega arith) (omega arith) (omega arith),
+                              from (value_chain n + 1 + k) (values n + k) w (has m (values n + k) _ (listed.1.1.1.1.0 k l)) (omega arith) (omega arith) (omega arith),
+                              from (value_chain n + 1 + k) (value_chain n + k) w (has_value_chain k (omega arith)) (omega arith) (omega arith) (omega arith),
+                            )),
+                            (
+                              (lit< tt),
+                              (
+                                (λ k l. (
+                                  from (store_chain n + 1 + k) (grants n + k) 1 (has m (grants n + k) _ (listed.1.1.1.1.1.0 k l)) (omega arith) (omega arith) (omega arith),
+                                  from (store_chain n + 1 + k) (operations n + k) 1 (has m (operations n + k) _ (listed.1.1.0 k l)) (omega arith) (omega arith) (omega arith),
+                                  from (store_chain n + 1 + k) (store_chain n + k) 1 (has_store_chain k (omega arith)) (omega arith) (omega arith) (omega arith),
+                                )),
+                                (
+                                  (memory_of shape, held, refl, (a, from (word n) (address n) a (has_address_chain n (omega arith)) (omega arith) (omega arith) (omega arith), ok.addressed)),
+                                  (
+                                    (λ k l. (
+                                      from (takes n + k) (grants n + k) 1 (has m (grants n + k) _ (listed.1.1.1.1.1.0 k l)) (omega arith) (omega arith) (omega arith),
+                                      from (takes n + k) (reads n + k) 1 (has m (reads n + k) _ (listed.1.1.1.1.1.1.1.1.0 k l)) (omega arith) (omega arith) (omega arith),
+                                    )),
+                                    (
+                                      (λ k l. (
+                                        from (next n + k) (takes n + k) 1 (has m (takes n + k) _ (listed.1.1.1.1.1.1.1.1.1.1.1.1.1.1.1.1.0 k l)) (omega arith) (omega arith) (omega arith),
+                                        from (next n + k) (word n) w (has m (word n) _ listed.1.1.1.1.1.1.1.1.1.1.1.1.1.1.1.0) (omega arith) (omega arith) (omega arith),
+                                        from (next n + k) (kept n + k) w (has m (kept n + k) _ (listed.1.1.1.1.1.1.0 k l)) (omega arith) (omega arith) (omega arith),
+                                      )),
+                                      (
+                                        (λ k l. record { has = has m (asks n + k) _ (listed.1.0 k l); before = omega arith; in_time = λ t. let e = early_before (asks n + k) (omega arith) in absurd cc }),
+                                        (
+                                          (λ k l. record {
+                                            has = has m (kept n + k) _ (listed.1.1.1.1.1.1.0 k l);
+                                            before = omega arith;
+                                            in_time = λ t. let e = early_between (kept n + k) (omega arith)
+                                                (omega arith) in absurd cc;
+                                          }),
+                                          tt,
+                                        ),
+                                      ),
+                                    ),
+                                  ),
+                                ),
+                              ),
+                            ),
+                          ),
+                        ),
+                      ),
+                    ),
+                  ),
+                ),
+              ),
+            ),
+          ),
+        ),
+      ),
+    ),
+  )
 
   set_fits : (k : ℕ) → k < n → FitsAction m (set_at (kept n) (next n) (0 + k))
   set_fits k l =
@@ -127,7 +218,46 @@ module _ (shape : Shape) (ok : IsShape shape) (m : Module) (is : IsBank shape m)
   SameRegister h g x s = IsRegister s.source → h.signal x ≡ g.signal x
 
   same_registers : (h g : Reading) (s : Words) → Shown h s → Shown g s → EachRow (SameRegister h g) 0 (rows n a w)
-  same_registers h g s e f = ((λ t. absurd t), ((λ k l t. absurd t), ((λ k l t. absurd t), ((λ k l t. absurd t), ((λ k l t. absurd t), ((λ k l t. absurd t), ((λ k l t. e.kept k l ∙ sym (f.kept k l)), ((λ t. absurd t), ((λ k l t. absurd t), ((λ t. absurd t), ((λ k l t. absurd t), ((λ t. absurd t), ((λ k l t. absurd t), ((λ t. absurd t), ((λ k l t. absurd t), ((λ t. absurd t), ((λ k l t. absurd t), ((λ k l t. absurd t), ((λ k l t. absurd t), ((λ k l t. absurd t), tt))))))))))))))))))))
+  same_registers h g s e f = (
+    (λ t. absurd t),
+    (
+      (λ k l t. absurd t),
+      (
+        (λ k l t. absurd t),
+        (
+          (λ k l t. absurd t),
+          (
+            (λ k l t. absurd t),
+            (
+              (λ k l t. absurd t),
+              (
+                (λ k l t. e.kept k l ∙ sym (f.kept k l)),
+                (
+                  (λ t. absurd t),
+                  (
+                    (λ k l t. absurd t),
+                    (
+                      (λ t. absurd t),
+                      (
+                        (λ k l t. absurd t),
+                        (
+                          (λ t. absurd t),
+                          (
+                            (λ k l t. absurd t),
+                            ((λ t. absurd t), ((λ k l t. absurd t), ((λ t. absurd t), ((λ k l t. absurd t), ((λ k l t. absurd t), ((λ k l t. absurd t), ((λ k l t. absurd t), tt))))))),
+                          ),
+                        ),
+                      ),
+                    ),
+                  ),
+                ),
+              ),
+            ),
+          ),
+        ),
+      ),
+    ),
+  )
 
   same_words : (h g : Reading) (s : Words) → Shown h s → Shown g s → (j k : ℕ) (z : Memory) → slice_get m.memories j ≡ Some z → k < length z.initial → h.word j k ≡ g.word j k
   same_words h g s e f j k z q l =

@@ -66,7 +66,73 @@ module _ (shape : Shape) (ok : IsShape shape) where
         )
 
     formed : EachRow (IsFormed z (offers n)) 0 (rows n a w)
-    formed = ((input_formed z (offers n) 0 1 role.Clock 0 (omega arith) (omega arith) refl (omega arith)), ((λ k l. input_formed z (offers n) (asks n + k) 1 role.Ask k (omega arith) (omega arith) (later (asks n + k) (omega arith)) (omega arith)), ((λ k l. input_formed z (offers n) (operations n + k) 1 role.Operation k (omega arith) (omega arith) (later (operations n + k) (omega arith)) (omega arith)), ((λ k l. input_formed z (offers n) (addresses n + k) a role.Address k address_low ok.address_high (later (addresses n + k) (omega arith)) (omega arith)), ((λ k l. input_formed z (offers n) (values n + k) w role.Data k low ok.high (later (values n + k) (omega arith)) (omega arith)), ((λ k l. input_formed z (offers n) (grants n + k) 1 role.Grant k (omega arith) (omega arith) (later (grants n + k) (omega arith)) (omega arith)), ((λ k l. inner_formed z (offers n) (kept n + k) w role.State (Register 0) k low ok.high refl (omega arith) (omega arith) refl tt (kept_set k l)), ((inner_formed z (offers n) (none n) 1 role.Wire (Constant 0) 0 (omega arith) (omega arith) refl (omega arith) (omega arith) refl (tt, tt) tt), ((λ k l. inner_formed z (offers n) (reads n + k) 1 role.Wire (Binary Equal (Each (operations n)) (Fixed (none n))) k (omega arith) (omega arith) refl (omega arith) (omega arith) refl (((omega arith), ((omega arith), tt)), tt) tt), ((inner_formed z (offers n) (address_chain n) a role.Wire (Constant 0) 0 address_low ok.address_high refl (omega arith) (omega arith) refl (tt, tt) tt), ((λ k l. inner_formed z (offers n) (address_chain n + 1 + k) a role.Wire (Conditional (Each (grants n)) (Each (addresses n)) (Each (address_chain n))) k address_low ok.address_high refl (omega arith) (omega arith) refl (((omega arith), ((omega arith), ((omega arith), tt))), tt) tt), ((inner_formed z (offers n) (value_chain n) w role.Wire (Constant 0) 0 low ok.high refl (omega arith) (omega arith) refl (tt, tt) tt), ((λ k l. inner_formed z (offers n) (value_chain n + 1 + k) w role.Wire (Conditional (Each (grants n)) (Each (values n)) (Each (value_chain n))) k low ok.high refl (omega arith) (omega arith) refl (((omega arith), ((omega arith), ((omega arith), tt))), tt) tt), ((inner_formed z (offers n) (store_chain n) 1 role.Wire (Constant 0) 0 (omega arith) (omega arith) refl (omega arith) (omega arith) refl (tt, tt) tt), ((λ k l. inner_formed z (offers n) (store_chain n + 1 + k) 1 role.Wire (Conditional (Each (grants n)) (Each (operations n)) (Each (store_chain n))) k (omega arith) (omega arith) refl (omega arith) (omega arith) refl (((omega arith), ((omega arith), ((omega arith), tt))), tt) tt), ((inner_formed z (offers n) (word n) w role.Wire (MemoryRead 0 (Fixed (address n))) 0 low ok.high refl (omega arith) (omega arith) refl (((omega arith), tt), tt) tt), ((λ k l. inner_formed z (offers n) (takes n + k) 1 role.Wire (Binary And (Each (grants n)) (Each (reads n))) k (omega arith) (omega arith) refl (omega arith) (omega arith) refl (((omega arith), ((omega arith), tt)), tt) tt), ((λ k l. inner_formed z (offers n) (next n + k) w role.Wire (Conditional (Each (takes n)) (Fixed (word n)) (Each (kept n))) k low ok.high refl (omega arith) (omega arith) refl (((omega arith), ((omega arith), ((omega arith), tt))), tt) tt), ((λ k l. output_formed z (offers n) (offers n + k) 1 role.Offer (Each (asks n)) k (omega arith) (omega arith) refl (omega arith) (omega arith) (((omega arith), tt), tt)), ((λ k l. output_formed z (offers n) (tells n + k) w role.Told (Each (kept n)) k low ok.high refl (omega arith) (omega arith) (((omega arith), tt), tt)), tt))))))))))))))))))))
+    formed = (
+      (input_formed z (offers n) 0 1 role.Clock 0 (omega arith) (omega arith) refl (omega arith)),
+      (
+        (λ k l. input_formed z (offers n) (asks n + k) 1 role.Ask k (omega arith) (omega arith) (later (asks n + k) (omega arith)) (omega arith)),
+        (
+          (λ k l. input_formed z (offers n) (operations n + k) 1 role.Operation k (omega arith) (omega arith) (later (operations n + k) (omega arith)) (omega arith)),
+          (
+            (λ k l. input_formed z (offers n) (addresses n + k) a role.Address k address_low ok.address_high (later (addresses n + k) (omega arith)) (omega arith)),
+            (
+              (λ k l. input_formed z (offers n) (values n + k) w role.Data k low ok.high (later (values n + k) (omega arith)) (omega arith)),
+              (
+                (λ k l. input_formed z (offers n) (grants n + k) 1 role.Grant k (omega arith) (omega arith) (later (grants n + k) (omega arith)) (omega arith)),
+                (
+                  (λ k l. inner_formed z (offers n) (kept n + k) w role.State (Register 0) k low ok.high refl (omega arith) (omega arith) refl tt (kept_set k l)),
+                  (
+                    (inner_formed z (offers n) (none n) 1 role.Wire (Constant 0) 0 (omega arith) (omega arith) refl (omega arith) (omega arith) refl (tt, tt) tt),
+                    (
+                      (λ k l. inner_formed z (offers n) (reads n + k) 1 role.Wire (Binary Equal (Each (operations n)) (Fixed (none n))) k (omega arith) (omega arith) refl (omega arith)
+                          (omega arith) refl (((omega arith), ((omega arith), tt)), tt) tt),
+                      (
+                        (inner_formed z (offers n) (address_chain n) a role.Wire (Constant 0) 0 address_low ok.address_high refl (omega arith) (omega arith) refl (tt, tt) tt),
+                        (
+                          (λ k l. inner_formed z (offers n) (address_chain n + 1 + k) a role.Wire (Conditional (Each (grants n)) (Each (addresses n)) (Each (address_chain n))) k address_low
+                              ok.address_high refl (omega arith) (omega arith) refl (((omega arith), ((omega arith), ((omega arith), tt))), tt) tt),
+                          (
+                            (inner_formed z (offers n) (value_chain n) w role.Wire (Constant 0) 0 low ok.high refl (omega arith) (omega arith) refl (tt, tt) tt),
+                            (
+                              (λ k l. inner_formed z (offers n) (value_chain n + 1 + k) w role.Wire (Conditional (Each (grants n)) (Each (values n)) (Each (value_chain n))) k low ok.high refl
+                                  (omega arith) (omega arith) refl (((omega arith), ((omega arith), ((omega arith), tt))), tt) tt),
+                              (
+                                (inner_formed z (offers n) (store_chain n) 1 role.Wire (Constant 0) 0 (omega arith) (omega arith) refl (omega arith) (omega arith) refl (tt, tt) tt),
+                                (
+                                  (λ k l. inner_formed z (offers n) (store_chain n + 1 + k) 1 role.Wire (Conditional (Each (grants n)) (Each (operations n)) (Each (store_chain n))) k (omega arith)
+                                      (omega arith) refl (omega arith) (omega arith) refl (((omega arith), ((omega arith), ((omega arith), tt))), tt) tt),
+                                  (
+                                    (inner_formed z (offers n) (word n) w role.Wire (MemoryRead 0 (Fixed (address n))) 0 low ok.high refl (omega arith) (omega arith) refl (((omega arith), tt), tt) tt),
+                                    (
+                                      (λ k l. inner_formed z (offers n) (takes n + k) 1 role.Wire (Binary And (Each (grants n)) (Each (reads n))) k (omega arith) (omega arith) refl (omega arith)
+                                          (omega arith) refl (((omega arith), ((omega arith), tt)), tt) tt),
+                                      (
+                                        (λ k l. inner_formed z (offers n) (next n + k) w role.Wire (Conditional (Each (takes n)) (Fixed (word n)) (Each (kept n))) k low ok.high refl (omega arith)
+                                            (omega arith) refl (((omega arith), ((omega arith), ((omega arith), tt))), tt) tt),
+                                        (
+                                          (λ k l. output_formed z (offers n) (offers n + k) 1 role.Offer (Each (asks n)) k (omega arith) (omega arith) refl (omega arith) (omega arith) (((omega arith), tt), tt)),
+                                          (
+                                            (λ k l. output_formed z (offers n) (tells n + k) w role.Told (Each (kept n)) k low ok.high refl (omega arith) (omega arith) (((omega arith), tt), tt)),
+                                            tt,
+                                          ),
+                                        ),
+                                      ),
+                                    ),
+                                  ),
+                                ),
+                              ),
+                            ),
+                          ),
+                        ),
+                      ),
+                    ),
+                  ),
+                ),
+              ),
+            ),
+          ),
+        ),
+      ),
+    )
 
     formed_at : (x : ℕ) (t : Signal) → slice_get z.signals x ≡ Some t → IsFormed z (offers n) x t
     formed_at = by_signals z (rows n a w) signals (IsFormed z (offers n)) formed

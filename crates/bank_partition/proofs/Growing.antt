@@ -39,7 +39,8 @@ pub front : (items : List GlobalVariableTree) (x : ℕ) (g : GlobalVariableTree)
 front items x g l e =
     drop-cons items x g l ∙ ap (λ (y : GlobalVariableTree). y ∷ drop (suc x) items) (sym e) ∙ ap (λ k. g ∷ drop k items) (sym (add-one x))
 
-module _ (threads : List ℕ) (x count : ℕ) (items : List GlobalVariableTree) (g : GlobalVariableTree) (at : drop x items ≡ g ∷ drop (x + 1) items) (counted : count ≡ count_of threads x (global_of g)) where
+module _ (threads : List ℕ) (x count : ℕ) (items : List GlobalVariableTree) (g : GlobalVariableTree) (at : drop x items ≡ g ∷ drop (x + 1) items)
+    (counted : count ≡ count_of threads x (global_of g)) where
   abbrev later : List GlobalVariable
   later = map global_of (drop (x + 1) items)
 

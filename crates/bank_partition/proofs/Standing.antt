@@ -62,7 +62,8 @@ bank_held x g count k = record {
   low = bits_low g.ty.width;
   high = bits_high g.ty.width;
   counted = length-spread (λ a. first_value g (a * count + k)) 0 (words_of count k g.length);
-  fits = all_below (2 ^ width_of g.ty) (λ a. first_value g (a * count + k)) (λ a. residue_of-below (width_of g.ty) (unwrap_or (slice_get g.initial (a * count + k)) (pos 0))) 0 (words_of count k g.length);
+  fits = all_below (2 ^ width_of g.ty) (λ a. first_value g (a * count + k)) (λ a. residue_of-below (width_of g.ty) (unwrap_or (slice_get g.initial (a * count + k)) (pos 0))) 0
+      (words_of count k g.length);
 }
 
 -- ---- banks of the globals from one on
@@ -171,8 +172,13 @@ module _ (threads : List ℕ) where
         (known.bank, sym (ap (slice_get (banks_from threads 0 globals)) i) ∙ known.found, subst (λ y. IsBankOf y k s known.bank) z known.is);
     owned = λ i b e.
         let known = owns 0 0 globals i b e in
-        let z : known.x ≡ b.global = let h = known.global in omega arith in
-        (known.spread, sym (ap (slice_get (spreads_from threads 0 0 globals)) z) ∙ known.stands, known.below, (let p = known.place in let y : i ≡ known.spread.first + b.number = omega arith in y), known.is);
+        let z : known.x ≡ b.global = let h = known.global in omega arith in (
+          known.spread,
+          sym (ap (slice_get (spreads_from threads 0 0 globals)) z) ∙ known.stands,
+          known.below,
+          (let p = known.place in let y : i ≡ known.spread.first + b.number = omega arith in y),
+          known.is,
+        );
   }
 
   pub are_held : (globals : List GlobalVariable) → AreHeld (spreads_from threads 0 0 globals) (banks_from threads 0 globals)

@@ -87,7 +87,8 @@ pub fn leave_block(
     block: &Block,
     plan: &BlockPlan,
 ) -> Result<Left, AllocError>
-    ensures shows { IfOk result (λ left. LeavesBlock globals.now code.now registers.now stage block.now plan.now variables.old variables.new left kept.old kept.new wires.old.signals wires.new.signals) }
+    ensures shows { IfOk result
+        (λ left. LeavesBlock globals.now code.now registers.now stage block.now plan.now variables.old variables.new left kept.old kept.new wires.old.signals wires.new.signals) }
     ensures wired { IfOk result (IsKeptBlockAdded wires.old.signals wires.new.signals code.now registers.now stage plan.now variables.old variables.new kept.old kept.new) }
 {
     let left = finish_block(

@@ -64,7 +64,8 @@ pub enum Item<'p> {
 /// Takes items off to the end of the body of the innermost loop, which is the answer.
 fn leave<'p>(work: &mut VecDeque<Item<'p>>) -> Option<Loop<'p>>
     ensures leaving { MatchOption result (settled Leaving (work_of work.old.items) ≡ []) (λ l. settled Leaving (work_of work.old.items) ≡ settled Onward (work_of work.new.items)) }
-    ensures turning { MatchOption result (settled Turning (work_of work.old.items) ≡ []) (λ l. settled Turning (work_of work.old.items) ≡ next_turn (loop_of l) (work_of work.new.items) (λ g. settled g (work_of work.new.items))) }
+    ensures turning { MatchOption result (settled Turning (work_of work.old.items) ≡ []) (λ l. settled Turning (work_of work.old.items)
+        ≡ next_turn (loop_of l) (work_of work.new.items) (λ g. settled g (work_of work.new.items))) }
     ensures size { MatchOption result (work_of work.new.items ≡ []) (λ l. turn_size (loop_of l) + work_size (work_of work.new.items) ≤ work_size (work_of work.old.items)) }
 {
     while let Some(item) = work.pop_front() {

@@ -26,3 +26,5 @@ pub mod Same
 pub mod Choices
 pub mod Turning
 pub mod Enables
+pub mod Something
+pub mod Elements

@@ -11,7 +11,7 @@ use Rattle.netlist.specs.declared.netlist.Instance.{Instance}
 use Rattle.netlist.specs.declared.netlist.Module.{Module}
 use Rattle.netlist.specs.declared.netlist.Netlist.{Netlist}
 use Rattle.netlist.specs.NetlistOf.{is_output_port}
-use Rattle.netlist.specs.Laid.{IsSource, IsDriven, IsLaidModule, kind_by, kind_of, is_inner, input_signals, inner_signals, output_signals, first_output}
+use Rattle.netlist.specs.Laid.{IsSource, IsDriven, IsLaidModule, kind_by, kind_of, is_inner, input_signals, inner_signals, output_signals, first_output, AreApart, signal_names, memory_names, instance_names}
 use Rattle.netlist.specs.Sound.{IsSound, IsSoundModule, is_clk_at, source_fits}
 use Rattle.netlist.specs.Sound as sound
 use Rattle.verilog_meaning.specs.Names.{module_named, top_of}
@@ -54,6 +54,14 @@ shorter_by false y rest n l = omega arith
 shorter : {X : Type 0} (p : X → Bool) (xs : List X) → length (filter p xs) ≤ length xs
 shorter p [] = omega arith
 shorter p (x ∷ xs) = shorter_by (p x) x (filter p xs) (length xs) (shorter p xs)
+
+-- names that are apart are so in a part of the list
+apart_front : (a b : List (List ℕ)) → AreApart (a ++ b) → AreApart a
+apart_front a b apart i j x e f = apart i j x (get_front a b i (slice_get_within a i x e) ∙ e) (get_front a b j (slice_get_within a j x f) ∙ f)
+
+apart_back : (a b : List (List ℕ)) → AreApart (a ++ b) → AreApart b
+apart_back [] b apart = apart
+apart_back (y ∷ a) b apart = apart_back a b (λ i j x e f. let same = apart (suc i) (suc j) x e f in omega (arith, same))
 
 -- ---- the module of a name and of a path is one of the list
 
@@ -213,6 +221,11 @@ module _ (n : Netlist) (is : IsSound n) (top : Module) (top_is : top_of n.module
     prints = λ k m at. narrow_actions m (take k n.modules) (is.laid.modules k m at) m.actions (λ j a e. ((is.laid.modules k m at).actions j a e).signals);
     statements = statements;
     acts = acts;
+    named = record {
+      instances = (let k = placed_at n.modules top top_is [] top refl in
+          apart_back (signal_names top ++ memory_names top) (instance_names top) (is.laid.modules k.0 top k.1).names);
+      memories = λ k m at. apart_back (signal_names m) (memory_names m) (apart_front (signal_names m ++ memory_names m) (instance_names m) (is.laid.modules k m at).names);
+    };
   }
 
 pub right_of_sound : (n : Netlist) → IsSound n → IsRightNet n.modules

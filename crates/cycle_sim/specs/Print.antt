@@ -1,5 +1,5 @@
 -- How a string of $write is read by the code.
-use Rattle.std.specs.Prelude.{◌≡◌, ℕ, List, [], ◌∷◌, take, length}
+use Rattle.std.specs.Prelude.{◌≡◌, ℕ, ◌<◌, List, [], ◌∷◌, take, length}
 use Rattle.netlist.specs.declared.netlist.Argument.{Argument}
 use Rattle.verilog_meaning.specs.Readings as meaning
 use Rattle.cycle_sim.specs.declared.print.Mode.{Mode}
@@ -25,3 +25,7 @@ left_after meaning.PercentZero arguments = tail_of arguments
 -- what was there stays in front
 abbrev pub Keeps : List ℕ → List ℕ → Type 0
 Keeps old new = take (length old) new ≡ old
+
+-- there is something to write
+abbrev pub IsSomething : List ℕ → Type 0
+IsSomething bytes = 0 < length bytes

@@ -10,6 +10,7 @@ use Rattle.verilog_meaning.specs.Cycles.{Path, Valuation, Choice, module_at, IsA
 use Rattle.circuit.specs.Rows.{EachOf as EachOfRows}
 use Rattle.circuit.specs.Modules.{FitsAction}
 use Rattle.circuit.specs.Nets.{FitsNet, FitsStatements, FitsChoice}
+use Rattle.global_banks.specs.Elements.{AreNamed}
 use Rattle.cycle_sim.specs.declared.settle.Step.{Step}
 use Rattle.cycle_sim.specs.declared.settle.Choice as code
 use Rattle.cycle_sim.specs.declared.edge.Part.{Part}
@@ -46,7 +47,8 @@ flat r = record { numbers = r.numbers; words = r.words; starts = r.starts }
 abbrev pub state_of : Running → Valuation
 state_of r = valuation_of r.parts (flat r)
 
--- ---- what `open` needs of a net: each of its widths fits, and no signal, operand or value has more than 64 bits
+-- ---- what `open` needs of a net: each of its widths fits, no signal, operand or value has more than 64 bits, and names tell its
+-- instances and memories apart
 
 pub record IsRight (modules : List Module) (top : Module) : Type 0 where
   pub fits : FitsNet modules top
@@ -55,6 +57,7 @@ pub record IsRight (modules : List Module) (top : Module) : Type 0 where
   pub prints : ArePrintable modules
   pub statements : FitsStatements modules top
   pub acts : (k : ℕ) (m : Module) → slice_get modules k ≡ Some m → EachOfRows (FitsAction m) m.actions
+  pub named : AreNamed modules top
 
 -- ---- no two signals and no two memory words of the instances have one place, and one instance at most writes
 
@@ -116,6 +119,15 @@ pub record IsCycleOf (c : Choice) (old new : Running) (before after : List ℕ) 
   pub bytes : List ℕ
   pub appended : after ≡ before ++ bytes
   pub cycle : Cycle old.modules top (state_of old) c (state_of new) bytes
+
+-- a cycle of the net under a choice writes something
+pub record Prints (c : Choice) (r : Running) : Type 0 where
+  pub top : Module
+  pub is_top : top_of r.modules ≡ Some top
+  pub next : Valuation
+  pub bytes : List ℕ
+  pub cycle : Cycle r.modules top (state_of r) c next bytes
+  pub something : 0 < length bytes
 
 -- the states are one
 pub record IsSameState (old new : Running) : Type 0 where

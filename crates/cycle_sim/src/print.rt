@@ -1,11 +1,11 @@
 // What the edge writes: the strings of `$write` with their values.
 
-ghost use Rattle.std.specs.Prelude.{◌≡◌, ◌++◌, [], slice_get, OnOk, is_ok, if◌then◌else◌};
+ghost use Rattle.std.specs.Prelude.{◌≡◌, ◌++◌, [], slice_get, OnOk, OnErr, is_ok, if◌then◌else◌};
 ghost use Rattle.verilog_meaning.specs.Readings as meaning;
 ghost use Rattle.verilog_meaning.specs.Readings.{mode_after as next_mode, escaped as byte_of_escape, plain_bytes, bytes_of, filled, all_arguments};
 ghost use Rattle.verilog_meaning.specs.Readings.{argument_bytes, first_of, effect_bytes, is_on, written};
 ghost use Rattle.cycle_sim.specs.Flat.{flat_of, reading, EachOf, IsWide, IsNarrowArgument, IsNarrowEffect, IsNarrowAction, ArePrintable, part_written, all_written};
-ghost use Rattle.cycle_sim.specs.Print.{mode_of, left_after, Keeps};
+ghost use Rattle.cycle_sim.specs.Print.{mode_of, left_after, Keeps, IsSomething};
 
 use crate::edge::{Part, conditions_hold};
 use crate::value::{Now, Spot, number_at, width_at};
@@ -54,7 +54,8 @@ fn escaped(byte: u8) -> u8
     }
 }
 
-/// Appends a value in minimal decimals. At `Err` nothing is changed.
+/// Appends a value in minimal decimals. At `Err` nothing is changed. Where memory is wanting, here and below, there is something to
+/// append.
 fn put_argument(
     out: &mut Bytes,
     module: &Module,
@@ -63,7 +64,8 @@ fn put_argument(
     argument: Argument,
 ) -> Result<(), AllocError>
     requires { IsNarrowArgument «module».now argument }
-    ensures { out.new ≡ (if is_ok result then out.old ++ argument_bytes «module».now (reading spot (flat_of now.now)) argument else out.old) }
+    ensures bytes { out.new ≡ (if is_ok result then out.old ++ argument_bytes «module».now (reading spot (flat_of now.now)) argument else out.old) }
+    ensures prints { OnErr result (IsSomething (argument_bytes «module».now (reading spot (flat_of now.now)) argument)) }
 {
     match argument {
         Argument::Unsigned(signal) => {
@@ -86,7 +88,8 @@ fn put_first(
     rest: &[Argument],
 ) -> Result<(), AllocError>
     requires { EachOf (IsNarrowArgument «module».now) rest.now }
-    ensures { out.new ≡ (if is_ok result then out.old ++ first_of (all_arguments «module».now (reading spot (flat_of now.now)) rest.now) else out.old) }
+    ensures bytes { out.new ≡ (if is_ok result then out.old ++ first_of (all_arguments «module».now (reading spot (flat_of now.now)) rest.now) else out.old) }
+    ensures prints { OnErr result (IsSomething (first_of (all_arguments «module».now (reading spot (flat_of now.now)) rest.now))) }
 {
     match rest.split_first() {
         Some((first, _)) => put_argument(out, module, spot, now, *first),
@@ -95,7 +98,8 @@ fn put_first(
 }
 
 fn put_plain(out: &mut Bytes, byte: u8) -> Result<(), AllocError>
-    ensures { out.new ≡ (if is_ok result then out.old ++ plain_bytes byte (meaning.plain_mode byte) else out.old) }
+    ensures bytes { out.new ≡ (if is_ok result then out.old ++ plain_bytes byte (meaning.plain_mode byte) else out.old) }
+    ensures prints { OnErr result (IsSomething (plain_bytes byte (meaning.plain_mode byte))) }
 {
     match byte {
         b'\\' | b'%' => Ok(()),
@@ -114,7 +118,8 @@ fn put_byte(
     rest: &[Argument],
 ) -> Result<(), AllocError>
     requires { EachOf (IsNarrowArgument «module».now) rest.now }
-    ensures { out.new ≡ (if is_ok result then out.old ++ bytes_of (mode_of mode) byte (all_arguments «module».now (reading spot (flat_of now.now)) rest.now) else out.old) }
+    ensures bytes { out.new ≡ (if is_ok result then out.old ++ bytes_of (mode_of mode) byte (all_arguments «module».now (reading spot (flat_of now.now)) rest.now) else out.old) }
+    ensures prints { OnErr result (IsSomething (bytes_of (mode_of mode) byte (all_arguments «module».now (reading spot (flat_of now.now)) rest.now))) }
 {
     match mode {
         Mode::Plain => put_plain(out, byte),
@@ -150,6 +155,7 @@ fn put_string(
     requires { EachOf (IsNarrowArgument «module».now) arguments.now }
     ensures ok { OnOk result (out.new ≡ out.old ++ filled meaning.Plain text.now (all_arguments «module».now (reading spot (flat_of now.now)) arguments.now)) }
     ensures kept { Keeps out.old out.new }
+    ensures prints { OnErr result (IsSomething (filled meaning.Plain text.now (all_arguments «module».now (reading spot (flat_of now.now)) arguments.now))) }
 {
     let mut mode = Mode::Plain;
     let mut rest = arguments;
@@ -171,6 +177,7 @@ fn put_effect(
     requires { IsNarrowEffect «module».now effect.now }
     ensures ok { OnOk result (out.new ≡ out.old ++ effect_bytes «module».now (reading spot (flat_of now.now)) effect.now) }
     ensures kept { Keeps out.old out.new }
+    ensures prints { OnErr result (IsSomething (effect_bytes «module».now (reading spot (flat_of now.now)) effect.now)) }
 {
     match effect {
         Effect::Write { text, arguments } => put_string(
@@ -196,6 +203,7 @@ fn put_action(
     ensures ok { OnOk result (out.new ≡ out.old ++ (if is_on (reading spot (flat_of now.now)) action.now.conditions
         then effect_bytes «module».now (reading spot (flat_of now.now)) action.now.effect else [])) }
     ensures kept { Keeps out.old out.new }
+    ensures prints { OnErr result (IsSomething (if is_on (reading spot (flat_of now.now)) action.now.conditions then effect_bytes «module».now (reading spot (flat_of now.now)) action.now.effect else [])) }
 {
     if conditions_hold(spot, now, action.conditions.as_slice()) {
         put_effect(out, module, spot, now, &action.effect)
@@ -208,6 +216,7 @@ fn put_module(out: &mut Bytes, module: &Module, spot: Spot, now: &Now) -> Result
     requires { EachOf (IsNarrowAction «module».now) «module».now.actions }
     ensures ok { OnOk result (out.new ≡ out.old ++ written «module».now (reading spot (flat_of now.now))) }
     ensures kept { Keeps out.old out.new }
+    ensures prints { OnErr result (IsSomething (written «module».now (reading spot (flat_of now.now)))) }
 {
     for action in module.actions.as_slice() {
         put_action(out, module, spot, now, action)?;
@@ -219,6 +228,7 @@ fn put_part(out: &mut Bytes, modules: &[Module], part: Part, now: &Now) -> Resul
     requires { ArePrintable modules.now }
     ensures ok { OnOk result (out.new ≡ out.old ++ part_written part (flat_of now.now) (slice_get modules.now part.module)) }
     ensures kept { Keeps out.old out.new }
+    ensures prints { OnErr result (IsSomething (part_written part (flat_of now.now) (slice_get modules.now part.module))) }
 {
     match at(modules, part.module) {
         Some(module) => put_module(out, module, part.spot, now),
@@ -236,6 +246,7 @@ fn put_parts(
     requires { ArePrintable modules.now }
     ensures ok { OnOk result (out.new ≡ out.old ++ all_written modules.now (flat_of now.now) parts.now) }
     ensures kept { Keeps out.old out.new }
+    ensures prints { OnErr result (IsSomething (all_written modules.now (flat_of now.now) parts.now)) }
 {
     for part in parts {
         put_part(out, modules, *part, now)?;
@@ -243,7 +254,7 @@ fn put_parts(
     Ok(())
 }
 
-/// Appends what an edge writes. At `Err` nothing is changed.
+/// Appends what an edge writes. At `Err` nothing is changed, and the edge writes something.
 pub fn put_written(
     out: &mut Bytes,
     modules: &[Module],
@@ -251,7 +262,8 @@ pub fn put_written(
     now: &Now,
 ) -> Result<(), AllocError>
     requires { ArePrintable modules.now }
-    ensures { out.new ≡ (if is_ok result then out.old ++ all_written modules.now (flat_of now.now) parts.now else out.old) }
+    ensures bytes { out.new ≡ (if is_ok result then out.old ++ all_written modules.now (flat_of now.now) parts.now else out.old) }
+    ensures prints { OnErr result (IsSomething (all_written modules.now (flat_of now.now) parts.now)) }
 {
     let length = out.len();
     let result = put_parts(out, modules, parts, now);

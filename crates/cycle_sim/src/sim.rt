@@ -1,7 +1,7 @@
 // The simulator.
 
 ghost use Rattle.std.specs.Prelude.{◌≡◌, ◌++◌, ◌-◌, ◌^◌, ◌<◌, [], Some, option_copied, length, replicate, nat_eq, slice_index, slice_get, IfOk, IfErr, OnOk};
-ghost use Rattle.std.specs.Prelude.{OnErr, is_ok, if◌then◌else◌};
+ghost use Rattle.std.specs.Prelude.{ℕ, OnErr, IfNone, IfSome, is_ok, if◌then◌else◌};
 ghost use Rattle.cycle_sim.specs.declared.sim.OpenError.TheVariants as errors;
 ghost use Rattle.cycle_sim.specs.Order.{IsStuck};
 ghost use Rattle.cycle_sim.specs.Wires.{signals_of, AreWires};
@@ -11,10 +11,11 @@ ghost use Rattle.verilog_meaning.specs.Cycles.{Choice as Choosing};
 ghost use Rattle.verilog_meaning.specs.Threads.{all_enabled};
 ghost use Rattle.cycle_sim.specs.Rounds.{threads_of};
 ghost use Rattle.verilog_meaning.specs.Names.{top_of};
-ghost use Rattle.cycle_sim.specs.Globals.{element_at, global_of, global_word};
+ghost use Rattle.cycle_sim.specs.Globals.{element_at, global_of, global_word, IsWord};
 ghost use Rattle.cycle_sim.specs.Lockstep.{TakesRounds, AreRounds, IsLockstep, IsCutOff};
 ghost use Rattle.cycle_sim.specs.Flat.{Flat, AreNarrow, all_numbers, all_words, all_written};
-ghost use Rattle.cycle_sim.specs.Running.{Running, running, flat, state_of, choice_of, Fits, IsSettledRun, IsSameNet, IsSameState, IsCycleOf, TellsDone, advanced};
+ghost use Rattle.cycle_sim.specs.Running.{Running, Stands, running, flat, state_of, choice_of, Fits, IsSettledRun, IsSameNet, IsSameState, IsCycleOf, Prints, TellsDone, advanced};
+ghost use Rattle.cycle_sim.specs.Print.{IsSomething};
 
 use crate::edge::{Part, edge_numbers, edge_words, inner_spot, kind_at_root};
 use crate::given::roots;
@@ -118,9 +119,10 @@ impl<'a> Sim<'a> {
         );
     }
 
-    /// Appends what the edge writes. At `Err` nothing is changed.
+    /// Appends what the edge writes. At `Err` nothing is changed, and the edge writes something.
     fn write(&self, out: &mut Bytes) -> Result<(), AllocError>
-        ensures { out.new ≡ (if is_ok result then out.old ++ all_written self.now.modules (flat self.now) self.now.parts else out.old) }
+        ensures prints { OnErr result (IsSomething (all_written self.now.modules (flat self.now) self.now.parts)) }
+        ensures bytes { out.new ≡ (if is_ok result then out.old ++ all_written self.now.modules (flat self.now) self.now.parts else out.old) }
     {
         let now = Now {
             numbers: self.numbers.as_slice(),
@@ -158,11 +160,13 @@ impl<'a> Sim<'a> {
         );
     }
 
-    /// One cycle of the net. What it writes is appended to `out`; at `Err` neither `out` nor the state is changed.
+    /// One cycle of the net. What it writes is appended to `out`. Memory is wanting only where it writes something; at `Err` neither
+    /// `out` nor the state is changed.
     pub fn cycle(&mut self, choice: &Choice, out: &mut Bytes) -> Result<(), AllocError>
         requires { Fits self.old (choice_of choice.now) }
         ensures net { IsSameNet self.old self.new }
         ensures ok { OnOk result (IsCycleOf (choice_of choice.now) self.old self.new out.old out.new) }
+        ensures prints { OnErr result (Prints (choice_of choice.now) self.old) }
         ensures bytes { OnErr result (out.new ≡ out.old) }
         ensures state { OnErr result (IsSameState self.old self.new) }
     {
@@ -217,7 +221,8 @@ impl<'a> Sim<'a> {
 
     /// The outermost module.
     fn top(&self) -> Option<&Module>
-        ensures { option_copied result ≡ top_of self.now.modules }
+        ensures top { option_copied result ≡ top_of self.now.modules }
+        ensures stands { Stands self.now }
     {
         at(self.modules, kind_at_root(self.parts.as_slice()))
     }
@@ -239,15 +244,25 @@ impl<'a> Sim<'a> {
         }
     }
 
-    /// The bits of element `element` of a global: word `element / K` of its bank `element mod K`, where it has K banks, the instances
-    /// `u_NAME_k` of `top` that have a memory `bank_NAME_k`. None exactly where no bank has it. It takes no memory.
-    pub fn global(&self, name: &str, element: u64) -> Option<u64>
-        ensures { result ≡ global_of self.now name.now element }
+    /// What `global` answers.
+    fn global_word(&self, name: &str, element: u64) -> Option<u64>
+        ensures word { result ≡ global_of self.now name.now element }
+        ensures stands { Stands self.now }
     {
         match self.top() {
             Some(top) => self.element(locate(self.modules, top, name, element)),
             None => None,
         }
+    }
+
+    /// The bits of element `element` of a global: word `element / K` of its bank `element mod K`, where it has K banks, the instances
+    /// `u_NAME_k` of `top` that have a memory `bank_NAME_k`. None exactly where no bank has it. It takes no memory.
+    pub fn global(&self, name: &str, element: u64) -> Option<u64>
+        ensures word { IfSome result (λ w. IsWord self.now name.now element w) }
+        ensures only { IfSome result (λ w. (word : ℕ) → IsWord self.now name.now element word → word ≡ w) }
+        ensures none { IfNone result ((word : ℕ) → IsWord self.now name.now element word → ⊥) }
+    {
+        self.global_word(name, element)
     }
 
     /// The choices of 16 cycles in lockstep: in that of number k each arbiter prefers thread k.

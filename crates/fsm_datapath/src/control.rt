@@ -63,7 +63,8 @@ pub fn control(
     chains: &Chains,
 ) -> Result<Edge, AllocError>
     ensures controls { IfOk result (Controls wires.old.signals wires.new.signals registers.now inputs chains.now) }
-    ensures wired { IfOk result (λ edge. (base : Base) → IsSteered base wires.old.signals registers.now inputs chains.now → WiresControl base wires.old.signals wires.new.signals registers.now inputs chains.now edge) }
+    ensures wired { IfOk result (λ edge. (base : Base) → IsSteered base wires.old.signals registers.now inputs chains.now →
+        WiresControl base wires.old.signals wires.new.signals registers.now inputs chains.now edge) }
 {
     let asks = wires.both(chains.wants, inputs.enable)?;
     let blocked = blocked(wires, inputs.printed, chains.waits, chains.wants, asks)?;

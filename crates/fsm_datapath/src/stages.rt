@@ -73,7 +73,8 @@ fn take_stage(
     number: usize,
     stage: &Stage,
 ) -> Result<(), AllocError>
-    ensures takes { OnOk result (TakesStage globals.now code.now registers.now printer number stage.now (slice_get planned.now.stages number) wires.old.signals wires.new.signals chains.old chains.new) }
+    ensures takes { OnOk result (TakesStage globals.now code.now registers.now printer number stage.now
+        (slice_get planned.now.stages number) wires.old.signals wires.new.signals chains.old chains.new) }
     ensures puts { OnOk result (StoresStage globals.now code.now registers.now number stage.now (slice_get planned.now.stages number) wires.old.signals wires.new.signals stores.old stores.new) }
     ensures stores { OnOk result (StageKeepsStores code.now registers.now number (slice_get planned.now.stages number) wires.old.signals wires.new.signals chains.old stores.old stores.new) }
 {

@@ -107,7 +107,8 @@ fn write_array(
     moment: Moment,
 ) -> Result<(), AllocError>
     ensures grows { OnOk result (Grows wires.old.signals wires.new.signals) }
-    ensures puts { OnOk result ((n : ℕ) → PutsOne wires.old.signals wires.new.signals registers.now moment stores.old stores.new code.now values.now (operation.WriteArray array n index.now value.now)) }
+    ensures puts { OnOk result ((n : ℕ) → PutsOne wires.old.signals wires.new.signals registers.now moment stores.old stores.new code.now values.now
+        (operation.WriteArray array n index.now value.now)) }
     ensures wired { OnOk result (AddsStores wires.old.signals wires.new.signals code.now registers.now values.now moment.at moment.states stores.old stores.new) }
 {
     let types = code.variables.as_slice();

@@ -1,1 +1,3 @@
 pub mod Places
+pub mod Named
+pub mod Elements

@@ -2,5 +2,6 @@
 //! the outermost module's instance `u_x_k`, where k is `j mod K`.
 #![tactic(auto)]
 
+pub mod law;
 pub mod locate;
 mod names;

@@ -1,7 +1,15 @@
 // Names that are a stem, the name of a global, `_` and a number.
 
 ghost use Rattle.std.specs.Prelude.{◌≡◌, None, Some, MatchOption, slice_get, length, codes};
-ghost use Rattle.global_banks.specs.Banks.{are_digits as digits_of, behind as bytes_behind, is_decimal as decimal_of, is_digit as digit_of, is_rest as is_rest_of, leads as leads_of, rest_of as bytes_rest};
+ghost use Rattle.global_banks.specs.Banks.{
+  are_digits as digits_of,
+  behind as bytes_behind,
+  is_decimal as decimal_of,
+  is_digit as digit_of,
+  is_rest as is_rest_of,
+  leads as leads_of,
+  rest_of as bytes_rest,
+};
 
 use sqlite_items::at;
 

@@ -1,7 +1,6 @@
 -- What a text is compiled to, and what programs have that is not built yet.
 use Rattle.std.specs.Prelude.{◌≡◌, ◌≢◌, ◌⊎◌, ℕ, ◌≤◌, List, [], false}
 use Rattle.c_program.specs.Tree.{Program}
-use Rattle.c_program.specs.Calls.{Calls}
 use Rattle.c_program.specs.Weight.{thread_count}
 use Rattle.ir_lower.specs.Taken.{is_sequential_program}
 use Rattle.netlist.specs.declared.netlist.Netlist.{Netlist}
@@ -13,25 +12,19 @@ use Rattle.hls_compile.specs.declared.unbuilt.Construct.TheVariants as construct
 
 -- ---- what is not built yet
 
--- pthread objects are declared, or main calls a function of pthreads
+-- pthread objects are declared, or a function calls one of pthreads
 abbrev pub HasThreads : Program → Type 0
 HasThreads P = (P.threads ≢ []) ⊎ ((P.mutexes ≢ []) ⊎ ((P.barriers ≢ []) ⊎ (is_sequential_program P ≡ false)))
-
--- main calls a function of the program
-abbrev pub HasCalls : Program → Type 0
-HasCalls P = (g : ℕ) × Calls P.functions P.main g
 
 -- the program has the construct
 abbrev pub HasConstruct : Program → Construct → Type 0
 HasConstruct P construct.Threads = HasThreads P
 HasConstruct P construct.Globals = P.globals ≢ []
-HasConstruct P construct.Calls = HasCalls P
 
--- main alone, without pthread calls, without globals and without calls
+-- main alone, without pthread calls and without globals
 pub record IsAlone (P : Program) : Type 0 where
   pub threads : HasThreads P → ⊥
   pub globals : P.globals ≡ []
-  pub calls : HasCalls P → ⊥
 
 -- ---- what is
 

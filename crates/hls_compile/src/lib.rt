@@ -89,9 +89,9 @@ fn code_of(alloc: Global, program: &Program) -> Result<ThreadCode, BuildError>
     }
     match ir_lower::statements::lower(alloc, program) {
         Ok(code) => Ok(code),
-        Err(LowerError::NotYet) => Err(BuildError::NotBuilt(Construct::Calls)),
         Err(LowerError::Fault(LoweringFault::Memory)) => Err(BuildError::Memory),
-        // (its numbers are within the limits)
+        // (each resolved program is lowered, and its numbers are within the limits)
+        Err(LowerError::NotYet) => unreachable!(),
         Err(LowerError::Fault(LoweringFault::TooLarge)) => unreachable!(),
     }
 }

@@ -1,14 +1,14 @@
 // What of the profile the compiler does not build yet.
 
-ghost use Rattle.std.specs.Prelude.{◌≡◌, true, slice_get, IfNone, IfSome};
+ghost use Rattle.std.specs.Prelude.{◌≡◌, true, IfNone, IfSome};
 ghost use Rattle.c_program.specs.Plain.{program_of};
 ghost use Rattle.c_program.specs.Resolved.{IsResolved};
-ghost use Rattle.ir_lower.specs.Taken.{is_sequential_program, is_taken_function};
+ghost use Rattle.ir_lower.specs.Taken.{is_sequential_program};
 ghost use Rattle.program_machine.specs.Built.{IsSingle};
 ghost use Rattle.hls_compile.specs.Compiled.{HasConstruct};
 
 use c_program::tree::Program;
-use ir_lower::taken::{is_sequential_program, is_taken_function};
+use ir_lower::taken::is_sequential_program;
 use thiserror::Error;
 
 /// A construct of the profile that the compiler does not build yet.
@@ -18,16 +18,13 @@ pub enum Construct {
     Threads,
     #[error("globals")]
     Globals,
-    #[error("calls of functions")]
-    Calls,
 }
 
-/// The first construct of main that is not built yet, where there is one.
+/// The first construct of a program that is not built yet, where there is one.
 #[tactic(auto, using(crate::proofs::Alone::has_threads, crate::proofs::Alone::has_mutexes, crate::proofs::Alone::has_barriers, crate::proofs::Alone::has_thread_calls))]
 pub fn unbuilt(program: &Program) -> Option<Construct>
     ensures single { IfNone result (IsSingle (program_of program.now)) }
     ensures sequential { IfNone result (is_sequential_program (program_of program.now) ≡ true) }
-    ensures taken { IfNone result (is_taken_function (slice_get (program_of program.now).functions program.now.main) ≡ true) }
     ensures construct { IfSome result (λ c. IsResolved (program_of program.now) → HasConstruct (program_of program.now) c) }
 {
     if !program.threads.is_empty() {
@@ -44,9 +41,6 @@ pub fn unbuilt(program: &Program) -> Option<Construct>
     }
     if !program.globals.is_empty() {
         return Some(Construct::Globals);
-    }
-    if !is_taken_function(program, program.main as usize) {
-        return Some(Construct::Calls);
     }
     None
 }

@@ -44,7 +44,6 @@ fn construct_words(construct: Construct) -> &'static str
     match construct {
         Construct::Threads => "pthread objects and calls",
         Construct::Globals => "globals",
-        Construct::Calls => "calls of functions",
     }
 }
 

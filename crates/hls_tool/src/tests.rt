@@ -613,6 +613,11 @@ const FIRST: &str = "int main(void){int x = 6; x = x * 7; printf(\"%d\\n\", x); 
 const SQUARES: &str =
     "int main(void){int a[4]; int i; for (i = 0; i < 4; i++) a[i] = i * i; printf(\"%d\\n\", a[2] + a[3]); return 0;}";
 
+/// The argument and the value take the types of the parameter and of the function (C99 6.5.2.2, 6.8.6.4).
+const CALLED: &str =
+    "char low(char c){return c + 1;} int twice(int a){if (a > 300) return 2 * a; a = low(a); return a;} \
+    int main(void){int x; x = twice(382); printf(\"%d\\n\", x); x = twice(255); printf(\"%d\\n\", x); low(x); return 0;}";
+
 #[test]
 fn steps(rt: HostRuntime) -> Result<(), Fail> {
     let alloc = rt.alloc();
@@ -622,6 +627,7 @@ fn steps(rt: HostRuntime) -> Result<(), Fail> {
         (COUNTING, "11520", 0, "1\n2\n3\n", "hls: done, "),
         (COUNTING, "0", 9, "", "hls: not done, 0 cycles\n"),
         (SQUARES, "9000", 0, "13\n", "hls: done, "),
+        (CALLED, "99999", 0, "764\n0\n", "hls: done, "),
         ("int x;", "9", 1, "", "hls: refused E14: no main\n"),
     ] {
         let mut source = MemSource::new(text.as_bytes(), 4096, &[]);

@@ -133,7 +133,8 @@ module _ (p : Place) (old new : Stages) (labels : new.labels ≡ old.labels) (pl
       ((label other : ℕ) → p ≡ place.Same label → slice_get old.labels label ≡ Some (Some other) → length old.places < other) → IsFit old → IsOrdered new.labels new.places count
   fit_kept count more below later f = record {
     below = λ number n came.
-        ⊎_elim (λ e. let lt = f.below number n e in omega (arith, lt, more)) (λ e. below n (sym e.1)) (more_or_last old.places p (place.Stage n) number (ap (λ ps. slice_get ps number) (sym places) ∙ came));
+        ⊎_elim (λ e. let lt = f.below number n e in omega (arith, lt, more)) (λ e. below n (sym e.1))
+        (more_or_last old.places p (place.Stage n) number (ap (λ ps. slice_get ps number) (sym places) ∙ came));
     later = λ number label other same bound.
         let was = ap (λ ls. slice_get ls label) (sym labels) ∙ bound in
         ⊎_elim (λ e. f.later number label other e was) (λ e. let lt = later label other (sym e.1) was in let n = e.0 in omega (arith, lt, n))

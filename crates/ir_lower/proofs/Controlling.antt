@@ -19,7 +19,7 @@ use Rattle.ir_lower.specs.declared.lowering.Lowering.{Lowering}
 use Rattle.ir_lower.specs.Evaluating.{local_value}
 use Rattle.ir_lower.specs.Closing.{HasNoted, IsFresh, Closes}
 use Rattle.ir_lower.specs.Printing.{held_by}
-use Rattle.ir_lower.specs.Resuming.{home_value, Keeping, nothing_kept, IsMid, InBlock, AtFresh, IsSound}
+use Rattle.ir_lower.specs.Resuming.{home_value, Setting, Keeping, nothing_kept, AreHeld, Stands, CallersResume, IsMid, InBlock, AtFresh, IsSound}
 use Rattle.ir_lower.specs.Apart.{IsGood}
 use Rattle.ir_lower.specs.Labels.{IsHere, leading, led_next, led_stage, led, IsWhole, Pushes, Settles, IsOpen, IsTarget}
 use Rattle.ir_lower.specs.Control.{marked, placed, Branches, EndsAt, LeadsOn, EndsBusy, Jumps, BeginsHere, BeginsAfter, Begins, Whole, IsIn, AtLabelUpTo, GoesOn}
@@ -105,9 +105,24 @@ module _ (W : Whole) (homes : List Home) (n : ℕ) (k : List Work) where
       after_local x j (Some (home.Variable i)) = after_is i
       after_local x j None = after_is x
 
+      pub after_held : held_by c.block.current variables r.values ≡ variables_after final variables r
+      after_held = same_function (held_by c.block.current variables r.values) (variables_after final variables r) (λ x. sym (after_is x))
+
+      -- what stands in a run stands behind the block
+      pub mid_stands : (S : Setting) (seats : List Home) (Kept : Keeping) (f : Frame) (fs : List Frame) (globals : List (List ℤ)) → IsMid S seats Kept c.block variables r f fs globals →
+          Stands S seats Kept (variables_after final variables r) r.arrays f fs
+      mid_stands S seats Kept f fs globals mid = record {
+        number = mid.number;
+        shape = mid.shape;
+        locals = λ x i v q. after_local x i (slice_get seats x) ∙ mid.holds.locals x i v q;
+        kept = subst (λ vs. Kept vs f.kept) after_held mid.kept;
+        callers = subst (λ vs. AreHeld S.callers vs r.arrays fs) after_held mid.callers;
+      }
+
     pub ends_goes_on : (Kept : Keeping) →
-        ((j : ℕ) → j < n → (variables : ℕ → ℤ) (r : Running) (f : Frame) (globals : List (List ℤ)) → f.work ≡ k → IsMid W.setting homes Kept c.block variables r f globals →
-        Follows W.setting.program W.setting.stages j (stage_after final variables r) (variables_after final variables r) r.arrays (f ∷ [])) →
+        ((j : ℕ) → j < n → CallersResume W.setting j → (variables : ℕ → ℤ) (r : Running) (f : Frame) (fs : List Frame) (globals : List (List ℤ)) → f.work ≡ k →
+        IsMid W.setting homes Kept c.block variables r f fs globals →
+        Follows W.setting.program W.setting.stages j (stage_after final variables r) (variables_after final variables r) r.arrays (f ∷ fs)) →
         GoesOn W homes Kept n c k
     ends_goes_on Kept lands = record {
       fresh = λ idle. absurd (omega arith);
@@ -118,18 +133,16 @@ module _ (W : Whole) (homes : List Home) (n : ℕ) (k : List Work) where
         operations = e.closes.operations ∙ sym (append-nil c.block.operations);
         count = 0;
         steps = (let s = e.closes.steps in omega arith);
-        goes = λ j lt variables r f globals is mid. (refl, lands j lt variables r f globals is mid);
+        goes = λ j lt resume variables r f fs globals is mid. (refl, lands j lt resume variables r f fs globals is mid);
       };
       here = λ h label among. pushed_here (stage.Run e.block) c.stages new.stages e.pushes W.stage_of whole.obeys label among;
     }
 
     pub jump_lands : (Kept : Keeping) (label : ℕ) → next ≡ Jump label → ((j : ℕ) → j < n → AtFresh W.setting homes Kept j (W.stage_of label) k) → GoesOn W homes Kept n c k
-    jump_lands Kept label is at = ends_goes_on Kept (λ j lt variables r f globals work mid.
-        subst (λ l. Follows W.setting.program W.setting.stages j l (variables_after final variables r) r.arrays (f ∷ []))
+    jump_lands Kept label is at = ends_goes_on Kept (λ j lt resume variables r f fs globals work mid.
+        subst (λ l. Follows W.setting.program W.setting.stages j l (variables_after final variables r) r.arrays (f ∷ fs))
         (ap (λ (z : Next). leads_to variables r.values (led_next W.stage_of z)) (sym (e.closes.next_ ∙ is)))
-        (at j lt (variables_after final variables r) r.arrays f work mid.shape
-        (λ x i v q. after_local variables r x i (slice_get homes x) ∙ mid.holds.locals x i v q)
-        (subst (λ vs. Kept vs f.kept) (same_function (held_by c.block.current variables r.values) (variables_after final variables r) (λ x. sym (after_is variables r x))) mid.kept)))
+        (at j lt resume (variables_after final variables r) r.arrays f fs work (mid_stands variables r W.setting homes Kept f fs globals mid)))
 
   -- JUMP: the place at hand leads to the label
   pub jump_goes_on : (label : ℕ) (old new : Lowering) → HasNoted old.block → Jumps label old new → IsIn W new → AtLabelUpTo W homes n label k → GoesOn W homes nothing_kept n old k
@@ -138,7 +151,8 @@ module _ (W : Whole) (homes : List Home) (n : ℕ) (k : List Work) where
       by : LeadsOn label (marked label old) new ⊎ EndsBusy label (marked label old) new → GoesOn W homes nothing_kept n old k
       by (inl p) = record {
         fresh = λ idle h among.
-            subst (λ l. AtFresh W.setting homes nothing_kept n l k) (sym (led_here label (marked label old).stages new.stages p.settles (target_marked label old jumps.target) W.stage_of whole.obeys h among))
+            subst (λ l. AtFresh W.setting homes nothing_kept n l k)
+            (sym (led_here label (marked label old).stages new.stages p.settles (target_marked label old jumps.target) W.stage_of whole.obeys h among))
             (at n (omega arith));
         busy = λ h. absurd (let idle = p.idle in omega arith);
         here = λ h. absurd (let idle = p.idle in omega arith);

@@ -5,7 +5,7 @@ use Rattle.std.proofs.Math.Nat.{div-add-mod', mod-lt, lt_of_mul-lt-mul_right, di
 use Rattle.std.proofs.Math.Pow.{mod-mod-pow, pow-add}
 use Rattle.std.proofs.lemmas.Nat.{mod-mul-add, pow_pos}
 use Rattle.hls_ints.specs.Residues.{residue_of, signed_value_of}
-use Rattle.hls_ints.specs.Types.{IntegerType, width_of, wrapped}
+use Rattle.hls_ints.specs.Types.{Width, bits_8, bits_16, bits_32, bits_64, bits, IntegerType, width_of, long_int, wrapped}
 use Rattle.hls_ints.proofs.Conversions.{residue_of-wrapped}
 use Rattle.block_ir.specs.Run.{converted}
 use Rattle.block_ir.specs.declared.operand.Operand.{Operand}
@@ -47,6 +47,18 @@ narrow w u a b le e =
 pub wrapped_by_bits : (ty : IntegerType) (a b : ℤ) → residue_of (width_of ty) a ≡ residue_of (width_of ty) b → wrapped ty a ≡ wrapped ty b
 unfolding wrapped
 wrapped_by_bits ty a b e = ap (λ n. if ty.signed then signed_value_of (width_of ty) n else pos n) e
+
+at_most_64 : (w : Width) → bits w ≤ 64
+at_most_64 bits_8 = omega arith
+at_most_64 bits_16 = omega arith
+at_most_64 bits_32 = omega arith
+at_most_64 bits_64 = omega arith
+
+-- each type has at most 64 bits
+pub from_word : (ty : IntegerType) (x v : ℤ) → wrapped long_int x ≡ wrapped long_int v → wrapped ty x ≡ wrapped ty v
+from_word ty x v e =
+    wrapped_by_bits ty x v
+    (narrow (width_of ty) 64 x v (at_most_64 ty.width) (sym (residue_of-wrapped long_int x) ∙ ap (residue_of 64) e ∙ residue_of-wrapped long_int v))
 
 abbrev SameBits : IntegerType → List IntegerType → Type 0
 SameBits ty cs =

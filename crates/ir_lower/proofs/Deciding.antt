@@ -26,12 +26,13 @@ use Rattle.ir_lower.specs.Closing.{HasNoted, IsFresh}
 use Rattle.ir_lower.specs.Typed.{IsTypedOperand}
 use Rattle.ir_lower.specs.Typing.{Typing, Fits, IsTypedOpen}
 use Rattle.ir_lower.specs.Apart.{IsTypedNow, IsGood}
-use Rattle.ir_lower.specs.Resuming.{Keeping, nothing_kept, IsMid, Comes, InBlock, IsSound}
+use Rattle.ir_lower.specs.Printing.{held_by}
+use Rattle.ir_lower.specs.Resuming.{Keeping, nothing_kept, AreHeld, CallersResume, IsMid, Comes, InBlock, IsSound}
 use Rattle.ir_lower.specs.Labels.{IsHere, led_next, led, with_used, is_used, IsAt, Advances, IsFirst}
 use Rattle.ir_lower.specs.Control.{marked, Begun, side, EndsAt, Begins, Branches, Keeps, StaysTyped, Tests, Decides, with_label, Whole, IsIn, AtLabel, GoesOn}
-use Rattle.ir_lower.proofs.Steps.{hold_on}
-use Rattle.ir_lower.proofs.Controlling.{whole_placed, begin_at, after_local, whole_pushed, pushed_at, goes_of_in}
-use Rattle.ir_lower.proofs.Resuming.{fresh_sound}
+use Rattle.ir_lower.proofs.Steps.{hold_on, read_held}
+use Rattle.ir_lower.proofs.Controlling.{whole_placed, begin_at, after_held, after_local, whole_pushed, pushed_at, goes_of_in}
+use Rattle.ir_lower.proofs.Resuming.{same_function, fresh_sound}
 use Rattle.ir_lower.proofs.Staying.{anywhere_more, now_more, ends_typed}
 use Rattle.ir_lower.proofs.Cells.{get_within}
 use Rattle.ir_lower.proofs.Advancing.{None_, get_more, advances_both, advances_new, first_after, labels_more, marks, pushes_advance, pushed_here, pushed_is}
@@ -52,7 +53,8 @@ module _ (W : Whole) (homes : List Home) (n : ℕ) (e : Expression) (parts : Lis
   final = record ends.block { next = led_next W.stage_of ends.block.next }
 
   module _ (c0 : Condition) (k0 : List Work) (operand : first_operand c0 ≡ e) (waiting : waiting_parts c0 k0 ≡ parts) where
-    module _ (j : ℕ) (lt : j < n) (variables : ℕ → ℤ) (r : Running) (f : Frame) (globals : List (List ℤ)) (mid_ : IsMid W.setting homes nothing_kept old.block variables r f globals) where
+    module _ (j : ℕ) (lt : j < n) (resume : CallersResume W.setting j) (variables : ℕ → ℤ) (r : Running) (f : Frame) (fs : List Frame) (globals : List (List ℤ))
+        (mid_ : IsMid W.setting homes nothing_kept old.block variables r f fs globals) where
       abbrev seen : Memory
       seen = record { locals = f.locals; globals = globals }
 
@@ -69,22 +71,38 @@ module _ (W : Whole) (homes : List Home) (n : ℕ) (e : Expression) (parts : Lis
         abbrev left : Frame
         left = record f { work = decided (not (is_zero v)) parts; kept = [] }
 
-        lands : Follows W.setting.program W.setting.stages j (stage_after final variables ran) (variables_after final variables ran) ran.arrays (left ∷ [])
+        busy : 0 < mid.block.steps
+        busy = let t = ap (λ (z : OpenBlock). z.steps) block_is in omega (arith, t)
+
+        held : held_by old.block.current variables r.values ≡ variables_after final variables ran
+        held =
+            same_function (held_by old.block.current variables r.values) (variables_after final variables ran)
+            (λ x.
+            sym (read_held homes old.block b first.operations first.added variables r seen ls sound.below mid_.values reads x)
+            ∙ ap (λ (z : OpenBlock). held_by z.current variables ran.values x) (sym block_is)
+            ∙ ap (λ vs. vs x) (after_held W homes n (decided (not (is_zero v)) parts) next mid new noted busy ends whole variables ran))
+
+        lands : Follows W.setting.program W.setting.stages j (stage_after final variables ran) (variables_after final variables ran) ran.arrays (left ∷ fs)
         lands =
             let holds = hold_on homes old.block b first.operations first.added variables r seen ls sound.below mid_.values reads mid_.holds in
-            subst (λ l. Follows W.setting.program W.setting.stages j l (variables_after final variables ran) ran.arrays (left ∷ []))
+            subst (λ l. Follows W.setting.program W.setting.stages j l (variables_after final variables ran) ran.arrays (left ∷ fs))
             (sym (ap (λ (z : Next). leads_to variables ran.values (led_next W.stage_of z)) ends.closes.next_ ∙ route variables ran.values))
-            (at j lt variables ran.values (variables_after final variables ran) ran.arrays left
-            (ap (λ z. decided (not (is_zero z)) parts) (sym gives)) mid_.shape
-            (λ x i u q.
-            after_local W homes n (decided (not (is_zero v)) parts) next mid new noted (let t = ap (λ (z : OpenBlock). z.steps) block_is in omega (arith, t)) ends whole variables ran x i
-            (slice_get homes x)
-            ∙ ap (λ (z : OpenBlock). local_value (slice_get homes x) z.current variables ran x i) block_is
-            ∙ holds.locals x i u q)
-            tt)
+            (at j lt variables ran.values resume (variables_after final variables ran) ran.arrays left fs
+            (ap (λ z. decided (not (is_zero z)) parts) (sym gives))
+            (record {
+              number = mid_.number;
+              shape = mid_.shape;
+              locals = λ x i u q.
+                  after_local W homes n (decided (not (is_zero v)) parts) next mid new noted busy ends whole variables ran x i (slice_get homes x)
+                  ∙ ap (λ (z : OpenBlock). local_value (slice_get homes x) z.current variables ran x i) block_is
+                  ∙ holds.locals x i u q;
+              kept = tt;
+              callers = subst (λ vs. AreHeld W.setting.callers vs ran.arrays fs) held
+                  (subst (λ cells. AreHeld W.setting.callers (held_by old.block.current variables r.values) cells fs) (sym reads.arrays) mid_.callers);
+            }))
 
       decides : (E : Evaluation ℤ) → value e seen ≡ E →
-          AfterMove (operand_move (first_offset c0) E f [] parts) globals
+          AfterMove (operand_move (first_offset c0) E f fs parts) globals
           (λ after left_ more. Comes W.setting homes nothing_kept final j variables ran after (r.accesses ++ more))
       decides (Fails cause) q = tt
       decides (Gives v ls) q = ((reads v ls q).accesses ∙ ap (λ l. r.accesses ++ l) (sym (append-nil (reads_of ls))), lands v ls q)
@@ -99,14 +117,14 @@ module _ (W : Whole) (homes : List Home) (n : ℕ) (e : Expression) (parts : Lis
       operations = ends.closes.operations ∙ ap (λ (z : OpenBlock). z.operations) block_is ∙ ap (λ (z : OpenBlock). z.operations) first.added;
       count = 1;
       steps = (let s = ends.closes.steps in let t = ap (λ (z : OpenBlock). z.steps) block_is in let u = ap (λ (z : OpenBlock). z.steps) first.added in omega (arith, s, t, u));
-      goes = λ j lt variables r f globals work m.
-          subst (λ w. AfterMove (work_move W.setting.program (record { locals = f.locals; globals = globals }) f [] w) globals
+      goes = λ j lt resume variables r f fs globals work m.
+          subst (λ w. AfterMove (work_move W.setting.program (record { locals = f.locals; globals = globals }) f fs w) globals
           (λ after left_ more. Comes W.setting homes nothing_kept final j variables (operations_run variables first.operations r) after (r.accesses ++ more))) (sym work)
-          (subst (λ z. AfterMove (operand_move (first_offset c0) (value z (record { locals = f.locals; globals = globals })) f [] (waiting_parts c0 k0)) globals
+          (subst (λ z. AfterMove (operand_move (first_offset c0) (value z (record { locals = f.locals; globals = globals })) f fs (waiting_parts c0 k0)) globals
           (λ after left_ more. Comes W.setting homes nothing_kept final j variables (operations_run variables first.operations r) after (r.accesses ++ more))) (sym operand)
-          (subst (λ ps. AfterMove (operand_move (first_offset c0) (value e (record { locals = f.locals; globals = globals })) f [] ps) globals
+          (subst (λ ps. AfterMove (operand_move (first_offset c0) (value e (record { locals = f.locals; globals = globals })) f fs ps) globals
           (λ after left_ more. Comes W.setting homes nothing_kept final j variables (operations_run variables first.operations r) after (r.accesses ++ more))) (sym waiting)
-          (decides j lt variables r f globals m (value e (record { locals = f.locals; globals = globals })) refl)));
+          (decides j lt resume variables r f fs globals m (value e (record { locals = f.locals; globals = globals })) refl)));
     }
 
     pub asks : GoesOn W homes nothing_kept n old (Ask c0 ∷ k0)
@@ -130,11 +148,13 @@ test_fresh next old mid new e b test first block_is ends size sound =
 
 -- what a test keeps
 test_keeps : (next : Next) (old mid new : Lowering) (e : Expression) (b : OpenBlock) (test : Operand) → Evaluates old.homes e old.block b test → mid.block ≡ record b { steps = suc b.steps } →
-    mid.homes ≡ old.homes → mid.variables ≡ old.variables → mid.arrays ≡ old.arrays → mid.act_operands ≡ old.act_operands → mid.stages.stages ≡ old.stages.stages →
-    mid.stages.labels ≡ old.stages.labels → mid.stages.places ≡ old.stages.places →
+    mid.homes ≡ old.homes → mid.back ≡ old.back → mid.rooms ≡ old.rooms → mid.variables ≡ old.variables → mid.arrays ≡ old.arrays → mid.act_operands ≡ old.act_operands →
+    mid.stages.stages ≡ old.stages.stages → mid.stages.labels ≡ old.stages.labels → mid.stages.places ≡ old.stages.places →
     ((label : ℕ) → is_used old.stages.used label ≡ true → is_used mid.stages.used label ≡ true) → EndsAt next mid new → Keeps old new
-test_keeps next old mid new e b test first block_is homes variables arrays words items labels places used ends = record {
+test_keeps next old mid new e b test first block_is homes back rooms variables arrays words items labels places used ends = record {
   homes = ap (λ (z : Lowering). z.homes) ends.same ∙ homes;
+  back = ap (λ (z : Lowering). z.back) ends.same ∙ back;
+  rooms = ap (λ (z : Lowering). z.rooms) ends.same ∙ rooms;
   variables = ap (λ (z : Lowering). z.variables) ends.same ∙ variables;
   arrays = ap (λ (z : Lowering). z.arrays) ends.same ∙ arrays;
   words = ap (λ (z : Lowering). z.act_operands) ends.same ∙ words;
@@ -161,8 +181,6 @@ test_typed e nonzero otherwise old mid new b test first same ends = λ S w size 
     (record {
       block = subst (IsTypedOpen S.types) (sym block_is) (record { operations = c.block.operations; few = c.block.few; current = c.block.current });
       size = (let l = first.computes.count in let f = now.size in let t = ap (λ (z : OpenBlock). length z.operations) block_is in omega (arith, l, f, t));
-      steps =
-          (let f = now.steps in let t = ap (λ (z : OpenBlock). z.steps) block_is in let u = ap (λ (z : OpenBlock). z.steps) first.added in omega (arith, f, t, u));
       stages = λ l s at.
           anywhere_more S.types S.program (4 * w) (4 * (w + (expression_weight e + 1))) (omega arith) s (now.stages l s (ap (λ (z : Lowering). slice_get z.stages.stages.items l) (sym same) ∙ at));
     })
@@ -172,14 +190,17 @@ pub tests_branch : (e : Expression) (nonzero otherwise : ℕ) (old mid new : Low
 tests_branch e nonzero otherwise old mid new b test first same branches = record {
   keeps =
       test_keeps (Branch test nonzero otherwise) old (marked otherwise (marked nonzero mid)) new e b test first block_is
-      (ap (λ (z : Lowering). z.homes) same) (ap (λ (z : Lowering). z.variables) same) (ap (λ (z : Lowering). z.arrays) same) (ap (λ (z : Lowering). z.act_operands) same)
+      (ap (λ (z : Lowering). z.homes) same) (ap (λ (z : Lowering). z.back) same) (ap (λ (z : Lowering). z.rooms) same) (ap (λ (z : Lowering). z.variables) same)
+      (ap (λ (z : Lowering). z.arrays) same) (ap (λ (z : Lowering). z.act_operands) same)
       (ap (λ (z : Lowering). z.stages.stages) same)
       (ap (λ (z : Lowering). z.stages.labels) same) (ap (λ (z : Lowering). z.stages.places) same)
       (λ label is. marks_keep (with_used mid.stages.used nonzero) otherwise label
       (marks_keep mid.stages.used nonzero label (ap (λ (z : Lowering). is_used z.stages.used label) same ∙ is))) branches.ends;
   site = ap (λ (z : Lowering). z.site) branches.ends.same ∙ ap (λ (z : Lowering). z.site) same;
-  advances = advances_both None_ old.stages (marked otherwise (marked nonzero mid)).stages new.stages to_both (pushes_advance (stage.Run branches.ends.block) (marked otherwise (marked nonzero mid)).stages new.stages branches.ends.pushes);
-  first = pushed_begun (stage.Run branches.ends.block) old (marked otherwise (marked nonzero mid)).stages new.stages to_both (ap (λ (z : Lowering). z.stages.stages.items) same) here_both branches.ends.pushes;
+  advances = advances_both None_ old.stages (marked otherwise (marked nonzero mid)).stages new.stages to_both
+      (pushes_advance (stage.Run branches.ends.block) (marked otherwise (marked nonzero mid)).stages new.stages branches.ends.pushes);
+  first = pushed_begun (stage.Run branches.ends.block) old (marked otherwise (marked nonzero mid)).stages new.stages to_both
+      (ap (λ (z : Lowering). z.stages.stages.items) same) here_both branches.ends.pushes;
   settled = λ label here.
       subst (λ n. IsAt label n new.stages) (ap (λ (z : Lowering). length z.stages.stages.items) same)
       (pushed_is (stage.Run branches.ends.block) (marked otherwise (marked nonzero mid)).stages new.stages branches.ends.pushes label (here_both label here));
@@ -201,7 +222,8 @@ tests_branch e nonzero otherwise old mid new b test first same branches = record
     to_both : Advances None_ old.stages (marked otherwise (marked nonzero mid)).stages
     to_both =
         subst (λ (z : Lowering). Advances None_ z.stages (marked otherwise (marked nonzero mid)).stages) same
-        (advances_both None_ mid.stages (marked nonzero mid).stages (marked otherwise (marked nonzero mid)).stages (marks nonzero mid.stages (marked nonzero mid).stages refl) (marks otherwise (marked nonzero mid).stages (marked otherwise (marked nonzero mid)).stages refl))
+        (advances_both None_ mid.stages (marked nonzero mid).stages (marked otherwise (marked nonzero mid)).stages (marks nonzero mid.stages (marked nonzero mid).stages refl)
+        (marks otherwise (marked nonzero mid).stages (marked otherwise (marked nonzero mid)).stages refl))
 
     here_both : (label : ℕ) → IsHere old.stages label → IsHere (marked otherwise (marked nonzero mid)).stages label
     here_both label here = subst (λ (z : Lowering). IsHere z.stages label) (sym same) here
@@ -255,6 +277,8 @@ opposite_decides d inner t f old new is h = rw is record {
 begin_keeps : (label : ℕ) (m b : Lowering) → m.reached ≡ false → Begins label m b → Keeps m b
 begin_keeps label m b off (inl p) = record {
   homes = ap (λ (z : Lowering). z.homes) p.same;
+  back = ap (λ (z : Lowering). z.back) p.same;
+  rooms = ap (λ (z : Lowering). z.rooms) p.same;
   variables = ap (λ (z : Lowering). z.variables) p.same;
   arrays = ap (λ (z : Lowering). z.arrays) p.same;
   words = ap (λ (z : Lowering). z.act_operands) p.same;
@@ -281,6 +305,8 @@ begin_block label m b off (inr p) = absurd (let on = p.reached in cc)
 pub label_keeps : (c : Lowering) → Keeps c (with_label c)
 label_keeps c = record {
   homes = refl;
+  back = refl;
+  rooms = refl;
   variables = refl;
   arrays = refl;
   words = refl;
@@ -295,6 +321,8 @@ label_keeps c = record {
 keeps_both : (a b c : Lowering) → Keeps a b → Keeps b c → Keeps a c
 keeps_both a b c h k = record {
   homes = k.homes ∙ h.homes;
+  back = k.back ∙ h.back;
+  rooms = k.rooms ∙ h.rooms;
   variables = k.variables ∙ h.variables;
   arrays = k.arrays ∙ h.arrays;
   words = k.words ∙ h.words;
@@ -397,7 +425,8 @@ module _ (c d : Condition) (next t f x y : ℕ) (old a m b new : Lowering) (numb
         (first.asks W homes size n parts (to_a.homes ∙ homes_are) (ap length to_a.variables ∙ size_is)
         ((begin_keeps next m b first.ends begins).whole W (second.keeps.whole W whole)) (to_a.sound size size_is sound) claims c0 l operand waits)
 
-pub both_decides : (e c d : Condition) (next t f : ℕ) (old a m b new : Lowering) → e ≡ Condition.Both c d → next ≡ length old.stages.labels → a ≡ with_label old → Decides c next f a m → Begins next m b → Decides d t f b new →
+pub both_decides : (e c d : Condition) (next t f : ℕ) (old a m b new : Lowering) → e ≡ Condition.Both c d → next ≡ length old.stages.labels → a ≡ with_label old →
+    Decides c next f a m → Begins next m b → Decides d t f b new →
     Decides e t f old new
 both_decides e c d next t f old a m b new is number label first begins second = rw is record {
   keeps = all_kept c d next t f next f old a m b new number label first begins second;
@@ -420,7 +449,8 @@ both_decides e c d next t f old a m b new is number label first begins second = 
     by W homes k j on off true = on
     by W homes k j on off false = off
 
-pub either_decides : (e c d : Condition) (next t f : ℕ) (old a m b new : Lowering) → e ≡ Condition.Either c d → next ≡ length old.stages.labels → a ≡ with_label old → Decides c t next a m → Begins next m b → Decides d t f b new →
+pub either_decides : (e c d : Condition) (next t f : ℕ) (old a m b new : Lowering) → e ≡ Condition.Either c d → next ≡ length old.stages.labels → a ≡ with_label old →
+    Decides c t next a m → Begins next m b → Decides d t f b new →
     Decides e t f old new
 either_decides e c d next t f old a m b new is number label first begins second = rw is record {
   keeps = all_kept c d next t f t next old a m b new number label first begins second;

@@ -2,8 +2,7 @@
 use Rattle.std.proofs.Common.{◌≡◌, ℕ, ◌+◌, ◌*◌, ◌<◌, ◌≤◌, true, false, List, [], ◌∷◌, length, Some, None, refl, sym, ap}
 use Rattle.std.proofs.Common.{◌∙◌, subst, inl, inr, arith}
 use Rattle.std.specs.Prelude.{slice_get, slice_set, ◌⊎◌}
-use Rattle.c_program.specs.declared.tree.LocalVariable.{LocalVariable}
-use Rattle.c_program.specs.Tree.{Condition}
+use Rattle.c_program.specs.Tree.{Condition, Program}
 use Rattle.thread_semantics.specs.Work.{Work}
 use Rattle.block_ir.specs.declared.block.Next.{Next}
 use Rattle.block_ir.specs.declared.block.Next.TheVariants.{Jump}
@@ -11,14 +10,15 @@ use Rattle.block_ir.specs.declared.code.Act.{Act}
 use Rattle.block_ir.specs.declared.code.Act.TheVariants.{Return}
 use Rattle.block_ir.specs.declared.code.Stage.TheVariants as stage
 use Rattle.ir_lower.specs.declared.homes.Home.{Home}
-use Rattle.ir_lower.specs.declared.homes.Homes.{Homes}
+use Rattle.ir_lower.specs.declared.rooms.Room.{Room}
+use Rattle.ir_lower.specs.declared.rooms.Rooms.{Rooms}
 use Rattle.ir_lower.specs.declared.branching.ChoiceLabels.{ChoiceLabels}
 use Rattle.ir_lower.specs.declared.branching.LoopLabels.{LoopLabels}
 use Rattle.ir_lower.specs.declared.open_block.OpenBlock.{OpenBlock}
 use Rattle.ir_lower.specs.declared.stages.Stages.{Stages}
 use Rattle.ir_lower.specs.declared.lowering.Lowering.{Lowering}
-use Rattle.ir_lower.specs.Closing.{IsFresh}
-use Rattle.ir_lower.specs.Locals.{AreHomesOf}
+use Rattle.ir_lower.specs.Closing.{HasNoted, IsFresh}
+use Rattle.ir_lower.specs.Locals.{homes_there, site_there, AreRoomsOf}
 use Rattle.ir_lower.specs.Typing.{Typing}
 use Rattle.ir_lower.specs.Resuming.{Keeping, nothing_kept, InBlock, AtFresh, IsSound}
 use Rattle.ir_lower.specs.Labels.{IsWhole, Pushes, is_used, with_used, IsOpen, IsTarget}
@@ -26,9 +26,9 @@ use Rattle.ir_lower.specs.Apart.{IsTypedAnywhere, IsTypedNow, IsGood}
 use Rattle.ir_lower.specs.Control.{with_label, marked, placed, EndsAt, LeadsOn, EndsBusy, Jumps, Begins, Binds, Leaps}
 use Rattle.ir_lower.specs.Control.{BeginsStage, ActsAt, EndsCall, Whole, IsIn, GoesOn, Decides}
 use Rattle.ir_lower.specs.Doing.{Grows, Shifts, Relabels, AreChoice, AreLoop, OpensChoice, TurnsChoice, OpensLoop, OpensTurn, ClosesTurn, Asks, ClosesDo}
-use Rattle.ir_lower.specs.Doing.{at_site, OnwardUpTo, IfUsed, IsNew, Starts, Ends}
+use Rattle.ir_lower.specs.Doing.{at_site, OnwardUpTo, IfUsed, IsNew, Starts}
 use Rattle.ir_lower.proofs.Resuming.{fresh_sound}
-use Rattle.ir_lower.proofs.Staying.{stages_more, jump_typed, ends_typed}
+use Rattle.ir_lower.proofs.Staying.{IsTypedBut, typed_but, stages_more, jump_typed, ends_typed}
 use Rattle.ir_lower.proofs.Controlling.{target_marked, open_ended, whole_placed, whole_pushed, whole_settled, jump_goes_on, begin_at, begun_idle, begin_goes_on}
 use Rattle.ir_lower.proofs.Deciding.{label_keeps, goes_before_label}
 use Rattle.ir_lower.proofs.Advancing.{None_, get_more, advances_both, labels_more, binds_label}
@@ -37,11 +37,13 @@ use Rattle.ir_lower.proofs.Opening.{marks_keep, is_marked, label_begun, act_open
 -- ---- what is kept
 
 pub grows_refl : (c : Lowering) → Grows c c
-grows_refl c = record { homes = refl; variables = refl; arrays = refl; words = refl; good = λ size g. g; whole = λ W w. w; used = λ label is. is }
+grows_refl c = record { homes = refl; back = refl; rooms = refl; variables = refl; arrays = refl; words = refl; good = λ size g. g; whole = λ W w. w; used = λ label is. is }
 
 pub grows_both : (a b c : Lowering) → Grows a b → Grows b c → Grows a c
 grows_both a b c h k = record {
   homes = k.homes ∙ h.homes;
+  back = k.back ∙ h.back;
+  rooms = k.rooms ∙ h.rooms;
   variables = k.variables ∙ h.variables;
   arrays = k.arrays ∙ h.arrays;
   words = k.words ∙ h.words;
@@ -63,6 +65,8 @@ shifts_both a b c h k = record {
 pub site_grows : (site : ℕ) (c : Lowering) → Grows c (at_site site c)
 site_grows site c = record {
   homes = refl;
+  back = refl;
+  rooms = refl;
   variables = refl;
   arrays = refl;
   words = refl;
@@ -81,6 +85,8 @@ label_relabels c = record {
   shifts = record {
     grows = record {
       homes = refl;
+      back = refl;
+      rooms = refl;
       variables = refl;
       arrays = refl;
       words = refl;
@@ -120,6 +126,8 @@ marked_shifts : (label : ℕ) (c : Lowering) → Shifts c (marked label c)
 marked_shifts label c = record {
   grows = record {
     homes = refl;
+    back = refl;
+    rooms = refl;
     variables = refl;
     arrays = refl;
     words = refl;
@@ -135,6 +143,8 @@ placed_shifts : (label : ℕ) (c : Lowering) → IsOpen label c.stages → Shift
 placed_shifts label c open_ = record {
   grows = record {
     homes = refl;
+    back = refl;
+    rooms = refl;
     variables = refl;
     arrays = refl;
     words = refl;
@@ -150,6 +160,8 @@ settled_shifts : (label : ℕ) (old new : Lowering) → IsTarget label old.stage
 settled_shifts label old new target p = record {
   grows = record {
     homes = ap (λ (z : Lowering). z.homes) p.same;
+    back = ap (λ (z : Lowering). z.back) p.same;
+    rooms = ap (λ (z : Lowering). z.rooms) p.same;
     variables = ap (λ (z : Lowering). z.variables) p.same;
     arrays = ap (λ (z : Lowering). z.arrays) p.same;
     words = ap (λ (z : Lowering). z.act_operands) p.same;
@@ -170,6 +182,8 @@ settled_shifts label old new target p = record {
 pub ends_grows : (next : Next) (old new : Lowering) → EndsAt next old new → Grows old new
 ends_grows next old new e = record {
   homes = ap (λ (z : Lowering). z.homes) e.same;
+  back = ap (λ (z : Lowering). z.back) e.same;
+  rooms = ap (λ (z : Lowering). z.rooms) e.same;
   variables = ap (λ (z : Lowering). z.variables) e.same;
   arrays = ap (λ (z : Lowering). z.arrays) e.same;
   words = ap (λ (z : Lowering). z.act_operands) e.same;
@@ -184,7 +198,7 @@ ends_shifts : (label : ℕ) (old new : Lowering) → EndsBusy label old new → 
 ends_shifts label old new p = record {
   grows = ends_grows (Jump label) old new p.ends;
   site = ap (λ (z : Lowering). z.site) p.ends.same;
-  typed = λ S w size good now. ends_typed S w (Jump label) old new p.busy good.sound.noted p.ends (jump_typed S.types old.block.operations label) now;
+  typed = λ S w size good now. ends_typed S w (Jump label) old new p.busy good.sound.noted p.ends (jump_typed S.types old.block.operations label) (typed_but S w old now);
 }
 
 pub jumps_shifts : (label : ℕ) (old new : Lowering) → Jumps label old new → Shifts old new
@@ -193,6 +207,16 @@ jumps_shifts label old new p = shifts_both old (marked label old) new (marked_sh
     by : LeadsOn label (marked label old) new ⊎ EndsBusy label (marked label old) new → Shifts (marked label old) new
     by (inl q) = settled_shifts label (marked label old) new (target_marked label old p.target) q
     by (inr q) = ends_shifts label (marked label old) new q
+
+-- a busy block that ends
+pub jumps_but : (label : ℕ) (old new : Lowering) → Jumps label old new → 0 < old.block.steps → HasNoted old.block → (S : Typing) (w : ℕ) → IsTypedBut S w old → IsTypedNow S w new
+jumps_but label old new p busy noted S w typed = by p.way
+  where
+    by : LeadsOn label (marked label old) new ⊎ EndsBusy label (marked label old) new → IsTypedNow S w new
+    by (inl q) = absurd (let idle = q.idle in omega (arith, busy, idle))
+    by (inr q) =
+        ends_typed S w (Jump label) (marked label old) new q.busy noted q.ends (jump_typed S.types old.block.operations label)
+        (record { block = typed.block; size = typed.size; stages = typed.stages })
 
 pub begins_shifts : (label : ℕ) (old new : Lowering) → Begins label old new → Shifts old new
 begins_shifts label old new (inl p) =
@@ -217,6 +241,8 @@ leaps_shifts label old new (inr p) = jumps_shifts label old new p.jumps
 pub decides_grows : (d : Condition) (t f : ℕ) (old new : Lowering) → Decides d t f old new → Grows old new
 decides_grows d t f old new h = record {
   homes = h.keeps.homes;
+  back = h.keeps.back;
+  rooms = h.keeps.rooms;
   variables = h.keeps.variables;
   arrays = h.keeps.arrays;
   words = h.keeps.words;
@@ -260,6 +286,8 @@ module _ (act : Act) (old new : Lowering) (a : ActsAt act old new) where
   pub acts_grows : Grows old new
   acts_grows = grows_both old a.mid new (stage_shifts old a.mid a.begins).grows (record {
     homes = ap (λ (z : Lowering). z.homes) a.same;
+    back = ap (λ (z : Lowering). z.back) a.same;
+    rooms = ap (λ (z : Lowering). z.rooms) a.same;
     variables = ap (λ (z : Lowering). z.variables) a.same;
     arrays = ap (λ (z : Lowering). z.arrays) a.same;
     words = ap (λ (z : Lowering). z.act_operands) a.same;
@@ -278,7 +306,8 @@ module _ (act : Act) (old new : Lowering) (a : ActsAt act old new) where
         block = m.block;
         size = m.size;
         steps = m.steps;
-        stages = stages_more S w a.mid (record a.mid { stages = record a.pushed { labels = slice_set a.pushed.labels a.next (Some (length a.pushed.places)) } }) (stage.Act act a.next) a.pushes.stages m typed;
+        stages = stages_more S w a.mid (record a.mid { stages = record a.pushed { labels = slice_set a.pushed.labels a.next (Some (length a.pushed.places)) } })
+            (stage.Act act a.next) a.pushes.stages (typed_but S w a.mid m) typed;
       })
 
 module _ (old new : Lowering) (e : EndsCall old new) where
@@ -288,6 +317,8 @@ module _ (old new : Lowering) (e : EndsCall old new) where
   pub call_grows : Grows old new
   call_grows = record {
     homes = ap (λ (z : Lowering). z.homes) e.same ∙ g.homes;
+    back = ap (λ (z : Lowering). z.back) e.same ∙ g.back;
+    rooms = ap (λ (z : Lowering). z.rooms) e.same ∙ g.rooms;
     variables = ap (λ (z : Lowering). z.variables) e.same ∙ g.variables;
     arrays = ap (λ (z : Lowering). z.arrays) e.same ∙ g.arrays;
     words = ap (λ (z : Lowering). z.act_operands) e.same ∙ g.words;
@@ -311,7 +342,7 @@ module _ (old new : Lowering) (e : EndsCall old new) where
           block = m.block;
           size = m.size;
           steps = m.steps;
-          stages = stages_more S w e.mid (record e.mid { stages = new.stages; reached = false }) (stage.Act Return 0) e.pushes.stages m (λ n stage_of below. tt);
+          stages = stages_more S w e.mid (record e.mid { stages = new.stages; reached = false }) (stage.Act Return 0) e.pushes.stages (typed_but S w e.mid m) (λ n stage_of below. tt);
         });
   }
 
@@ -371,22 +402,24 @@ module _ (W : Whole) (homes : List Home) (n : ℕ) (k : List Work) where
 
 -- ---- what the code of the parts gives
 
-pub is_new : (locals : List LocalVariable) (site values : ℕ) (h : Homes) (c : Lowering) (n : ℕ) → AreHomesOf locals h → c.homes ≡ h.homes → c.variables ≡ h.variables → c.arrays ≡ h.arrays →
-    n ≡ length h.variables + 4 → IsFresh n c.block → c.stages.stages.items ≡ [] → c.stages.labels ≡ [] → c.stages.used ≡ [] → c.stages.places ≡ [] → c.reached ≡ true → c.site ≡ site → c.act_operands ≡ values → IsNew locals site values c
-is_new locals site values h c n are homes variables arrays long fresh items labels used places reached at words = record {
-  homed = h;
-  are = are;
-  homes = homes;
-  variables = variables;
-  arrays = arrays;
-  block = subst (λ k. IsFresh k c.block) long fresh;
+pub is_new : (P : Program) (number words : ℕ) (r : Rooms) (room : Room) (c : Lowering) (n : ℕ) → AreRoomsOf P r → room.homes ≡ homes_there (slice_get r.rooms number) →
+    room.site ≡ site_there (slice_get r.rooms number) → c.homes ≡ room.homes → c.back ≡ None → c.rooms ≡ r.rooms → c.variables ≡ r.variables → c.arrays ≡ r.arrays →
+    n ≡ length r.variables + 4 → IsFresh n c.block → c.stages.stages.items ≡ [] → c.stages.labels ≡ [] → c.stages.used ≡ [] → c.stages.places ≡ [] → c.reached ≡ true → c.site ≡ room.site →
+    c.act_operands ≡ words → IsNew P number words c
+is_new P number words r room c n are homes_are site_is homes back rooms variables arrays long fresh items labels used places reached at count = record {
+  homes = homes ∙ homes_are ∙ ap (λ rs. homes_there (slice_get rs number)) are.rooms;
+  back = back;
+  rooms = rooms ∙ are.rooms;
+  variables = variables ∙ are.houses.variables;
+  arrays = arrays ∙ are.houses.arrays;
+  block = subst (λ k. IsFresh k c.block) (long ∙ ap (λ vs. length vs + 4) are.houses.variables) fresh;
   items = items;
   labels = labels;
   used = used;
   places = places;
   reached = reached;
-  site_ = at;
-  words = words;
+  site = at ∙ site_is ∙ ap (λ rs. site_there (slice_get rs number)) are.rooms;
+  words_ = count;
 }
 
 pub binds_nothing : (label : ℕ) (c : Lowering) → is_used c.stages.used label ≡ false → Binds label c c
@@ -408,7 +441,8 @@ pub begins_busy : (next : ℕ) (old mid new : Lowering) → (old.block.steps ≡
 begins_busy next old mid new busy number labelled begins =
     inr (record { busy = omega arith; next = next; next_ = number; begins = subst (λ (z : Lowering). Begins next z new) labelled begins })
 
-pub acts_at : (act : Act) (next : ℕ) (old mid new : Lowering) (labelled pushed : Stages) → BeginsStage old mid → next ≡ length mid.stages.labels → labelled ≡ (with_label mid).stages → Pushes (stage.Act act next) labelled pushed →
+pub acts_at : (act : Act) (next : ℕ) (old mid new : Lowering) (labelled pushed : Stages) → BeginsStage old mid → next ≡ length mid.stages.labels →
+    labelled ≡ (with_label mid).stages → Pushes (stage.Act act next) labelled pushed →
     new ≡ record mid { stages = record pushed { labels = slice_set pushed.labels next (Some (length pushed.places)) } } → ActsAt act old new
 acts_at act next old mid new labelled pushed begins number is pushes same = record {
   mid = mid;
@@ -422,12 +456,6 @@ acts_at act next old mid new labelled pushed begins number is pushes same = reco
 
 pub ends_call : (old mid new : Lowering) → BeginsStage old mid → Pushes (stage.Act Return 0) mid.stages new.stages → new ≡ record mid { stages = new.stages; reached = false } → EndsCall old new
 ends_call old mid new begins pushes same = record { mid = mid; begins = begins; pushes = pushes; same = same }
-
-pub ends_not : (c : Lowering) → c.reached ≡ false → Ends c c
-ends_not c off = inl (record { off = off; same = refl })
-
-pub ends_here : (old new : Lowering) → old.reached ≡ true → EndsCall old new → Ends old new
-ends_here old new on ends = inr (record { on = on; ends = ends })
 
 pub starts_at : (start : ℕ) (old mid new : Lowering) → start ≡ length old.stages.labels → mid ≡ with_label old → Begins start mid new → Starts start old new
 starts_at start old mid new number is begins = record { labelled = mid; number = number; is = is; relabels = subst (Relabels old) (sym is) (label_relabels old); begins = begins }

@@ -111,7 +111,8 @@ module _ (start : ℕ) (s : Stages) (labels more_labels : List (Option ℕ)) (pl
   abbrev passed_on : Type 0
   passed_on = (labels ≡ s.labels) × (more_labels ≡ s.labels) × (places ≡ s.places) × (count ≡ length s.stages.items) × (passed ≡ came) × (led_by ≡ table)
 
-  pub finishes : passed_on → IsFirst start s → AreStages labels places count came → table ≡ map (λ p. stage_at passed (Some p)) more_labels → all ≡ led (slice_index led_by) s.stages.items → Finishes start s all
+  pub finishes : passed_on → IsFirst start s → AreStages labels places count came → table ≡ map (λ p. stage_at passed (Some p)) more_labels →
+      all ≡ led (slice_index led_by) s.stages.items → Finishes start s all
   finishes on first are is led_ = record {
     table = table;
     labels = obeys;

@@ -32,3 +32,13 @@ mod Stepping
 mod Nesting
 mod Filling
 mod Ample
+mod Rooming
+mod Seating
+mod Arguments
+mod Answering
+mod Backing
+mod Callees
+mod Weighing
+mod Reached
+mod Overfull
+mod Continuing

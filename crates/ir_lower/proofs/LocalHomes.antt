@@ -1,18 +1,20 @@
 -- Each local has a home of its own.
 use Rattle.std.proofs.Common.{◌≡◌, ℕ, zero, suc, ◌+◌, ◌≤◌, Bool, true, false, not, if◌then◌else◌, List, [], ◌∷◌, ◌++◌, length, Option, Some, None, refl, sym}
 use Rattle.std.proofs.Common.{ap, ◌∙◌, subst, ⊎_elim, arith, append_assoc, append-nil, length-append, cond}
-use Rattle.std.specs.Prelude.{count_by, slice_get}
+use Rattle.std.specs.Prelude.{count_by, sum_by, slice_get}
 use Rattle.std.proofs.lemmas.List.Concat.{flat_map-append}
 use Rattle.std.proofs.lemmas.List.Sums.{sum_by-append}
 use Rattle.std.proofs.lemmas.Bool.Decides.{eqb_tells}
 use Rattle.c_program.specs.declared.tree.LocalVariable.{LocalVariable}
+use Rattle.c_program.specs.Tree.{Function}
+use Rattle.c_program.specs.Limits.{print_count}
 use Rattle.block_ir.specs.declared.code.Array.{Array as CodeArray}
 use Rattle.ir_lower.specs.declared.homes.Home.{Home}
 use Rattle.ir_lower.specs.declared.homes.Home.TheVariants.{Variable, Array}
-use Rattle.ir_lower.specs.declared.homes.Homes.{Homes}
-use Rattle.ir_lower.specs.Locals.{is_scalar, is_array, home_in, homes_after, variable_of, variables_of, array_of, arrays_of, AreHomesOf}
+use Rattle.ir_lower.specs.declared.rooms.Rooms.{Rooms}
+use Rattle.ir_lower.specs.Locals.{is_scalar, is_array, home_in, homes_after, variable_of, variables_of, array_of, arrays_of, Houses, Homed, AllHomed, all_locals, rooms_after, ArePlaced}
 use Rattle.ir_lower.proofs.Words.{sum_cons}
-use Rattle.ir_lower.specs.Resuming.{IsHomeOf, AreHomes}
+use Rattle.ir_lower.specs.Resuming.{IsHomeOf}
 
 count_last : (p : LocalVariable → Bool) (before : List LocalVariable) (l : LocalVariable) (b : Bool) → p l ≡ b → count_by p (before ++ l ∷ []) ≡ count_by p before + cond b 1 0
 count_last p before l b e =
@@ -70,28 +72,85 @@ arrays_last before l b is =
     ∙ ap (λ ts. arrays_of before ++ ts) (append-nil (array_of l) ∙ ap (λ c. if c then [] else record { ty = l.ty; length = l.length } ∷ []) is)
 
 -- one more local
-pub scalar_more : (locals : List LocalVariable) (l : LocalVariable) (h h' : Homes) → is_scalar l ≡ true → AreHomesOf locals h → h'.homes ≡ h.homes ++ Variable (length h.variables) ∷ [] →
-    h'.variables ≡ h.variables ++ l.ty ∷ [] → h'.arrays ≡ h.arrays → AreHomesOf (locals ++ l ∷ []) h'
-scalar_more locals l h h' is are homes variables arrays = record {
-  homes =
-      homes ∙ ap (λ n. h.homes ++ Variable n ∷ []) (ap length are.variables ∙ variables_count locals) ∙ ap (λ hs. hs ++ Variable (count_by is_scalar locals) ∷ []) are.homes
-      ∙ sym (homes_append [] locals l ∙ ap (λ b. homes_after [] locals ++ home_in b locals ∷ []) is);
-  variables = variables ∙ ap (λ ts. ts ++ l.ty ∷ []) are.variables ∙ sym (variables_last locals l true is);
-  arrays = arrays ∙ are.arrays ∙ sym (arrays_last locals l true is ∙ append-nil (arrays_of locals));
+pub scalar_more : (before : List LocalVariable) (l : LocalVariable) (r r' : Rooms) (n : ℕ) → is_scalar l ≡ true → Houses before r → n ≡ length r.variables →
+    r'.variables ≡ r.variables ++ l.ty ∷ [] → r'.arrays ≡ r.arrays → r'.rooms ≡ r.rooms → r'.sites ≡ r.sites → Homed before l (Variable n) r r'
+scalar_more before l r r' n is houses number variables arrays rooms sites = record {
+  home_ = ap Variable (number ∙ ap length houses.variables ∙ variables_count before) ∙ ap (λ b. home_in b before) (sym is);
+  houses = record {
+    variables = variables ∙ ap (λ ts. ts ++ l.ty ∷ []) houses.variables ∙ sym (variables_last before l true is);
+    arrays = arrays ∙ houses.arrays ∙ sym (arrays_last before l true is ∙ append-nil (arrays_of before));
+  };
+  rooms = rooms;
+  sites = sites;
 }
 
-pub array_more : (locals : List LocalVariable) (l : LocalVariable) (h h' : Homes) → is_scalar l ≡ false → AreHomesOf locals h → h'.homes ≡ h.homes ++ Array (length h.arrays) ∷ [] →
-    h'.variables ≡ h.variables → h'.arrays ≡ h.arrays ++ record { ty = l.ty; length = l.length } ∷ [] → AreHomesOf (locals ++ l ∷ []) h'
-array_more locals l h h' is are homes variables arrays = record {
-  homes =
-      homes ∙ ap (λ n. h.homes ++ Array n ∷ []) (ap length are.arrays ∙ arrays_count locals) ∙ ap (λ hs. hs ++ Array (count_by is_array locals) ∷ []) are.homes
-      ∙ sym (homes_append [] locals l ∙ ap (λ b. homes_after [] locals ++ home_in b locals ∷ []) is);
-  variables = variables ∙ are.variables ∙ sym (variables_last locals l false is ∙ append-nil (variables_of locals));
-  arrays = arrays ∙ ap (λ ts. ts ++ record { ty = l.ty; length = l.length } ∷ []) are.arrays ∙ sym (arrays_last locals l false is);
+pub array_more : (before : List LocalVariable) (l : LocalVariable) (r r' : Rooms) (n : ℕ) → is_scalar l ≡ false → Houses before r → n ≡ length r.arrays →
+    r'.variables ≡ r.variables → r'.arrays ≡ r.arrays ++ record { ty = l.ty; length = l.length } ∷ [] → r'.rooms ≡ r.rooms → r'.sites ≡ r.sites → Homed before l (Array n) r r'
+array_more before l r r' n is houses number variables arrays rooms sites = record {
+  home_ = ap Array (number ∙ ap length houses.arrays ∙ arrays_count before) ∙ ap (λ b. home_in b before) (sym is);
+  houses = record {
+    variables = variables ∙ houses.variables ∙ sym (variables_last before l false is ∙ append-nil (variables_of before));
+    arrays = arrays ∙ ap (λ ts. ts ++ record { ty = l.ty; length = l.length } ∷ []) houses.arrays ∙ sym (arrays_last before l false is);
+  };
+  rooms = rooms;
+  sites = sites;
 }
+
+-- one more of several
+pub homed_none : (before : List LocalVariable) (r : Rooms) → Houses before r → AllHomed before [] [] r r
+homed_none before r houses = record { homes_ = refl; houses = subst (λ ls. Houses ls r) (sym (append-nil before)) houses; rooms = refl; sites = refl }
+
+pub homed_more : (before locals : List LocalVariable) (l : LocalVariable) (homes all : List Home) (home : Home) (a b c : Rooms) → AllHomed before locals homes a b →
+    (Houses (before ++ locals) b → Homed (before ++ locals) l home b c) → all ≡ homes ++ home ∷ [] → AllHomed before (locals ++ l ∷ []) all a c
+homed_more before locals l homes all home a b c first next is =
+    let one = next first.houses in
+    record {
+      homes_ =
+          is ∙ ap (λ hs. hs ++ home ∷ []) first.homes_ ∙ ap (λ h. homes_after before locals ++ h ∷ []) one.home_
+          ∙ sym (homes_append before locals l);
+      houses = subst (λ ls. Houses ls c) (append_assoc before locals (l ∷ [])) one.houses;
+      rooms = one.rooms ∙ first.rooms;
+      sites = one.sites ∙ first.sites;
+    }
+
+-- one more function
+rooms_append : (before : List LocalVariable) (site : ℕ) (fs : List Function) (f : Function) →
+    rooms_after before site (fs ++ f ∷ []) ≡ rooms_after before site fs
+    ++ record { homes = homes_after (before ++ all_locals fs) f.locals; site = site + sum_by (λ (g : Function). print_count g.body) fs } ∷ []
+rooms_append before site [] f =
+    ap (λ ls. record { homes = homes_after ls f.locals; site = site } ∷ []) (sym (append-nil before))
+    ∙ ap (λ n. record { homes = homes_after (before ++ []) f.locals; site = n } ∷ []) (omega arith)
+rooms_append before site (d ∷ fs) f =
+    ap (λ rs. record { homes = homes_after before d.locals; site = site } ∷ rs)
+    (rooms_append (before ++ d.locals) (site + print_count d.body) fs f
+    ∙ ap (λ ls. rooms_after (before ++ d.locals) (site + print_count d.body) fs
+    ++ record { homes = homes_after ls f.locals; site = (site + print_count d.body) + sum_by (λ (g : Function). print_count g.body) fs } ∷ []) (append_assoc before d.locals (all_locals fs))
+    ∙ ap (λ n. rooms_after (before ++ d.locals) (site + print_count d.body) fs ++ record { homes = homes_after (before ++ all_locals (d ∷ fs)) f.locals; site = n } ∷ [])
+    (let s = sum_cons (λ (g : Function). print_count g.body) d fs in omega (arith, s)))
+
+pub room_more : (fs : List Function) (f : Function) (homes : List Home) (a b c : Rooms) → ArePlaced fs a → AllHomed (all_locals fs) f.locals homes a b →
+    c.rooms ≡ b.rooms ++ record { homes = homes; site = b.sites } ∷ [] → c.sites ≡ b.sites + print_count f.body → c.variables ≡ b.variables → c.arrays ≡ b.arrays →
+    ArePlaced (fs ++ f ∷ []) c
+room_more fs f homes a b c placed homed rooms sites variables arrays = record {
+  rooms =
+      rooms ∙ ap (λ rs. rs ++ record { homes = homes; site = b.sites } ∷ []) (homed.rooms ∙ placed.rooms)
+      ∙ ap (λ hs. rooms_after [] 0 fs ++ record { homes = hs; site = b.sites } ∷ []) homed.homes_
+      ∙ ap (λ n. rooms_after [] 0 fs ++ record { homes = homes_after (all_locals fs) f.locals; site = n } ∷ []) (homed.sites ∙ placed.sites ∙ (omega arith))
+      ∙ sym (rooms_append [] 0 fs f);
+  houses = record {
+    variables = variables ∙ homed.houses.variables ∙ ap variables_of all_is;
+    arrays = arrays ∙ homed.houses.arrays ∙ ap arrays_of all_is;
+  };
+  sites =
+      (let s = sum_by-append (λ (g : Function). print_count g.body) fs (f ∷ []) in let k = sum_cons (λ (g : Function). print_count g.body) f [] in let one = homed.sites in let two = placed.sites in
+      omega (arith, sites, s, k, one, two));
+}
+  where
+    all_is : all_locals fs ++ f.locals ≡ all_locals (fs ++ f ∷ [])
+    all_is = ap (λ ls. all_locals fs ++ ls) (sym (append-nil f.locals)) ∙ sym (flat_map-append (λ (g : Function). g.locals) fs (f ∷ []))
 
 -- numbers go up
-variable_least : (before ls : List LocalVariable) (x n : ℕ) → slice_get (homes_after before ls) x ≡ Some (Variable n) → count_by is_scalar before ≤ n
+pub variable_least : (before ls : List LocalVariable) (x n : ℕ) → slice_get (homes_after before ls) x ≡ Some (Variable n) → count_by is_scalar before ≤ n
 variable_least before [] x n e = cc
 variable_least before (l ∷ ls) zero n e = by (is_scalar l) e
   where
@@ -103,7 +162,7 @@ variable_least before (l ∷ ls) (suc x) n e =
     let more = sum_by-append (λ (z : LocalVariable). cond (is_scalar z) 1 0) before (l ∷ []) in
     omega (arith, rest, more)
 
-array_least : (before ls : List LocalVariable) (x n : ℕ) → slice_get (homes_after before ls) x ≡ Some (Array n) → count_by is_array before ≤ n
+pub array_least : (before ls : List LocalVariable) (x n : ℕ) → slice_get (homes_after before ls) x ≡ Some (Array n) → count_by is_array before ≤ n
 array_least before [] x n e = cc
 array_least before (l ∷ ls) zero n e = by (is_scalar l) e
   where
@@ -133,21 +192,21 @@ array_alone before ls l y n false is e q =
     let more = count_last is_array before l true (ap not is) in
     omega (arith, least, more)
 
-variables_apart : (before ls : List LocalVariable) (x y n : ℕ) → slice_get (homes_after before ls) x ≡ Some (Variable n) → slice_get (homes_after before ls) y ≡ Some (Variable n) → x ≡ y
+pub variables_apart : (before ls : List LocalVariable) (x y n : ℕ) → slice_get (homes_after before ls) x ≡ Some (Variable n) → slice_get (homes_after before ls) y ≡ Some (Variable n) → x ≡ y
 variables_apart before [] x y n e q = cc
 variables_apart before (l ∷ ls) zero zero n e q = refl
 variables_apart before (l ∷ ls) zero (suc y) n e q = absurd (variable_alone before ls l y n (is_scalar l) refl e q)
 variables_apart before (l ∷ ls) (suc x) zero n e q = absurd (variable_alone before ls l x n (is_scalar l) refl q e)
 variables_apart before (l ∷ ls) (suc x) (suc y) n e q = ap suc (variables_apart (before ++ l ∷ []) ls x y n e q)
 
-arrays_apart : (before ls : List LocalVariable) (x y n : ℕ) → slice_get (homes_after before ls) x ≡ Some (Array n) → slice_get (homes_after before ls) y ≡ Some (Array n) → x ≡ y
+pub arrays_apart : (before ls : List LocalVariable) (x y n : ℕ) → slice_get (homes_after before ls) x ≡ Some (Array n) → slice_get (homes_after before ls) y ≡ Some (Array n) → x ≡ y
 arrays_apart before [] x y n e q = cc
 arrays_apart before (l ∷ ls) zero zero n e q = refl
 arrays_apart before (l ∷ ls) zero (suc y) n e q = absurd (array_alone before ls l y n (is_scalar l) refl e q)
 arrays_apart before (l ∷ ls) (suc x) zero n e q = absurd (array_alone before ls l x n (is_scalar l) refl q e)
 arrays_apart before (l ∷ ls) (suc x) (suc y) n e q = ap suc (arrays_apart (before ++ l ∷ []) ls x y n e q)
 
-each_home : (before ls : List LocalVariable) (size x : ℕ) (l : LocalVariable) → count_by is_scalar (before ++ ls) ≤ size → slice_get ls x ≡ Some l →
+pub each_home : (before ls : List LocalVariable) (size x : ℕ) (l : LocalVariable) → count_by is_scalar (before ++ ls) ≤ size → slice_get ls x ≡ Some l →
     IsHomeOf size l (slice_get (homes_after before ls) x)
 each_home before [] size x l room at = absurd cc
 each_home before (d ∷ ls) size zero l room at =
@@ -164,13 +223,6 @@ each_home before (d ∷ ls) size zero l room at =
     by false is = tt
 each_home before (d ∷ ls) size (suc x) l room at =
     each_home (before ++ d ∷ []) ls size x l (let e = ap (count_by is_scalar) (append_assoc before (d ∷ []) ls) in omega (arith, e, room)) at
-
-pub are_homes : (locals : List LocalVariable) (h : Homes) → AreHomesOf locals h → AreHomes locals h.homes (length h.variables)
-are_homes locals h are = subst (λ hs. AreHomes locals hs (length h.variables)) (sym are.homes) (record {
-  each = λ x l at. each_home [] locals (length h.variables) x l (let e = ap length are.variables ∙ variables_count locals in omega arith) at;
-  variables = λ x y n e q. variables_apart [] locals x y n e q;
-  arrays = λ x y n e q. arrays_apart [] locals x y n e q;
-})
 
 -- each local has a variable of its type, or an array of its own
 abbrev pub IsDeclaredHome : List LocalVariable → LocalVariable → Option Home → Type 0

@@ -2,8 +2,12 @@
 use Rattle.std.proofs.Common.{◌≡◌, ℕ, zero, suc, ◌+◌, ◌<◌, ◌≤◌, Bool, true, false, ◌&&◌, List, [], ◌∷◌, ◌++◌, Option, Some, None, refl, sym, ap}
 use Rattle.std.proofs.Common.{◌∙◌, subst, inl, inr, arith, append-nil, append_assoc, length-append}
 use Rattle.c_program.specs.Tree.{Condition, Statement, Program}
+use Rattle.std.specs.Prelude.{Contains}
+use Rattle.std.proofs.lemmas.List.Elements.{Contains-append_left, Contains-append_right}
+use Rattle.c_program.specs.Calls.{calls_of}
 use Rattle.c_program.specs.Limits.{print_count}
-use Rattle.c_program.specs.Weight.{condition_weight, statement_weight}
+use Rattle.c_program.specs.Weight.{condition_weight}
+use Rattle.ir_lower.specs.Weighing.{inlined_weight}
 use Rattle.c_program.specs.Resolved.{IsCondition, IsStatement}
 use Rattle.thread_semantics.specs.Work.{Work, Do, Ask, Choose, Turn, Next, Loop as WorkLoop, Going, Onward, Leaving, Turning, in_order, in_loop, asked, while_loop, for_loop, opened, settled}
 use Rattle.thread_semantics.specs.Work.{decided}
@@ -23,6 +27,7 @@ use Rattle.ir_lower.specs.Control.{side, Binds, Whole, IsIn, AtLabel, AtLabelUpT
 use Rattle.ir_lower.specs.Doing.{Grows, Shifts, OpensChoice, TurnsChoice, OpensLoop, OpensTurn, ClosesTurn, Asks, ClosesDo}
 use Rattle.ir_lower.specs.Doing.{at_site, OnwardUpTo, IfUsed, LeadsOut, Suits, SuitsTyping, Leads, Lowers, LowersHere}
 use Rattle.ir_lower.proofs.Sites.{formats_length, part_sites}
+use Rattle.ir_lower.proofs.Seating.{seat_on, typed_seat_on}
 use Rattle.ir_lower.proofs.Staying.{now_more, words_less}
 use Rattle.ir_lower.proofs.Controlling.{begin_at, begun_idle, begin_goes_on}
 use Rattle.ir_lower.proofs.Growing.{grows_refl, grows_both, site_grows, site_typed, begins_shifts, begun_reached, binds_shifts, leaps_shifts, decides_grows, goes_relabelled, binds_at, binds_goes, leaps_goes}
@@ -38,26 +43,32 @@ out_before W homes n before after (Some l) k grows out = (
   λ used j le. out.1 (grows.used l.turning used) j le,
 )
 
-module _ (W : Whole) (homes : List Home) (size : ℕ) (s t : Statement) (old c : Lowering) (grows : Grows old c) (suits : Suits W homes size s old) where
-  pub suits_part : (in_loop : Bool) → IsStatement W.setting.program W.setting.function in_loop t → HasSites W.setting.program t c.site → Suits W homes size t c
-  suits_part in_loop resolved sites = record {
+module _ (P : Program) (W : Whole) (homes : List Home) (size : ℕ) (s t : Statement) (old c : Lowering) (grows : Grows old c) (suits : Suits P W homes size s old) where
+  pub suits_part : (in_loop : Bool) → IsStatement W.setting.program W.setting.function in_loop t → HasSites W.setting.program t c.site →
+      ((g : ℕ) → Contains (calls_of t) g → Contains (calls_of s) g) → Suits P W homes size t c
+  suits_part in_loop resolved sites calls = record {
+    seated = seat_on P W homes size old c grows.back grows.rooms suits.seated;
     homes_ = grows.homes ∙ suits.homes_;
     good = grows.good size suits.good;
     locals = suits.locals;
     in_loop = in_loop;
     resolved = resolved;
     sites = sites;
+    calls = λ g c. suits.calls g (calls g c);
   }
 
-module _ (S : Typing) (size : ℕ) (s t : Statement) (old c : Lowering) (grows : Grows old c) (suits : SuitsTyping S size s old) where
-  pub typing_part : (in_loop : Bool) → most_values t ≤ most_values s → IsStatement S.program S.function in_loop t → HasSites S.program t c.site → SuitsTyping S size t c
-  typing_part in_loop most resolved sites = record {
+module _ (P : Program) (S : Typing) (size : ℕ) (s t : Statement) (old c : Lowering) (grows : Grows old c) (suits : SuitsTyping P S size s old) where
+  pub typing_part : (in_loop : Bool) → most_values t ≤ most_values s → IsStatement S.program S.function in_loop t → HasSites S.program t c.site →
+      ((g : ℕ) → Contains (calls_of t) g → Contains (calls_of s) g) → SuitsTyping P S size t c
+  typing_part in_loop most resolved sites calls = record {
+    seated = typed_seat_on P S size old c grows.back grows.rooms suits.seated;
     fits = subst (Fits S) (sym grows.homes) suits.fits;
     words = words_less S.types size (most_values t) (most_values s) most suits.words;
     good = grows.good size suits.good;
     in_loop = in_loop;
     resolved = resolved;
     sites = sites;
+    calls = λ g c. suits.calls g (calls g c);
   }
 
 pub both_true : (a b : Bool) → (a && b) ≡ true → (a ≡ true) × (b ≡ true)
@@ -66,18 +77,18 @@ both_true false b e = absurd cc
 
 -- ---- what is left out
 
-pub skips : (around : Option Loop) (s : Statement) (old new : Lowering) → old.reached ≡ false → new ≡ at_site (old.site + print_count s) old → Lowers around s old new
-skips around s old new off is = λ own. record {
+pub skips : (P : Program) (around : Option Loop) (s : Statement) (old new : Lowering) → old.reached ≡ false → new ≡ at_site (old.site + print_count s) old → Lowers P around s old new
+skips P around s old new off is = λ all own. record {
   grows = subst (Grows old) (sym is) (site_grows (old.site + print_count s) old);
   site = ap (λ (z : Lowering). z.site) is;
   typed = λ S w size suits now.
-      subst (IsTypedNow S (w + statement_weight s)) (sym is)
-      (site_typed (old.site + print_count s) old S (w + statement_weight s) (now_more S w (w + statement_weight s) old (omega arith) now));
+      subst (IsTypedNow S (w + inlined_weight S.program s)) (sym is)
+      (site_typed (old.site + print_count s) old S (w + inlined_weight S.program s) (now_more S w (w + inlined_weight S.program s) old (omega arith) now));
   leads = λ W homes size n k suits whole out after on. absurd cc;
 }
 
-pub simple_lowers : (around : Option Loop) (s : Statement) (old new : Lowering) → old.reached ≡ true → LowersHere around s old new → Lowers around s old new
-simple_lowers around s old new on h = λ own. h own on
+pub simple_lowers : (P : Program) (around : Option Loop) (s : Statement) (old new : Lowering) → old.reached ≡ true → LowersHere P around s old new → Lowers P around s old new
+simple_lowers P around s old new on h = λ all own. h own on
 
 -- ---- one statement after another
 
@@ -95,7 +106,7 @@ out_past : (W : Whole) (homes : List Home) (n : ℕ) (used : List Bool) (around 
 out_past W homes n used None b k out = tt
 out_past W homes n used (Some l) b k out = out
 
-module _ (around : Option Loop) (a b : Statement) (old mid new : Lowering) (first : Leads around a old mid) (second : Leads around b mid new) where
+module _ (P : Program) (around : Option Loop) (a b : Statement) (old mid new : Lowering) (first : Leads P around a old mid) (second : Leads P around b mid new) where
   abbrev pair : Statement
   pair = Statement.Sequence a b
 
@@ -107,42 +118,43 @@ module _ (around : Option Loop) (a b : Statement) (old mid new : Lowering) (firs
       part_sites P pair b (formats_of a) [] old.site mid.site sites (ap (λ l. formats_of a ++ l) (sym (append-nil (formats_of b))))
       (let l = formats_length a in let e = first.site in omega (arith, l, e))
 
-  pub sequence_leads : Leads around pair old new
+  pub sequence_leads : Leads P around pair old new
   sequence_leads = record {
     grows = grows_both old mid new first.grows second.grows;
     site = (let x = first.site in let y = second.site in omega (arith, x, y));
     typed = λ S w size suits now.
         let h = first.typed S w size
-        (typing_part S size pair a old old (grows_refl old) suits suits.in_loop (omega arith) suits.resolved.0 (first_sites S.program suits.sites)) now in
-        let k = second.typed S (w + statement_weight a) size
-        (typing_part S size pair b old mid first.grows suits suits.in_loop (omega arith) suits.resolved.1 (rest_sites S.program suits.sites)) h in
-        subst (λ v. IsTypedNow S v new) (let e : w + statement_weight a + statement_weight b ≡ w + (statement_weight a + statement_weight b) = omega arith in e) k;
+        (typing_part P S size pair a old old (grows_refl old) suits suits.in_loop (omega arith) suits.resolved.0 (first_sites S.program suits.sites)
+        (Contains-append_left (calls_of a) (calls_of b))) now in
+        let k = second.typed S (w + inlined_weight S.program a) size
+        (typing_part P S size pair b old mid first.grows suits suits.in_loop (omega arith) suits.resolved.1 (rest_sites S.program suits.sites) (Contains-append_right (calls_of a) (calls_of b))) h in
+        subst (λ v. IsTypedNow S v new) (let e : w + inlined_weight S.program a + inlined_weight S.program b ≡ w + (inlined_weight S.program a + inlined_weight S.program b) = omega arith in e) k;
     leads = λ W homes size n k suits whole out after.
         subst (λ w. OnwardUpTo W homes n old w) (sym (settled_sequence a b k))
         (first.leads W homes size n (Do b ∷ k)
-        (suits_part W homes size pair a old old (grows_refl old) suits suits.in_loop suits.resolved.0 (first_sites W.setting.program suits.sites))
+        (suits_part P W homes size pair a old old (grows_refl old) suits suits.in_loop suits.resolved.0 (first_sites W.setting.program suits.sites) (Contains-append_left (calls_of a) (calls_of b)))
         (second.grows.whole W whole)
         (out_past W homes n mid.stages.used around b k (out_before W homes n mid new around k second.grows out))
         (second.leads W homes size n k
-        (suits_part W homes size pair b old mid first.grows suits suits.in_loop suits.resolved.1 (rest_sites W.setting.program suits.sites))
+        (suits_part P W homes size pair b old mid first.grows suits suits.in_loop suits.resolved.1 (rest_sites W.setting.program suits.sites) (Contains-append_right (calls_of a) (calls_of b)))
         whole out after));
   }
 
 -- ---- a block
 
-pub block_lowers : (around : Option Loop) (s body : Statement) (old new : Lowering) → s ≡ Statement.Block body → Lowers around body old new → Lowers around s old new
-block_lowers around s body old new is h = rw is (λ own.
-    let inner = h own in
+pub block_lowers : (P : Program) (around : Option Loop) (s body : Statement) (old new : Lowering) → s ≡ Statement.Block body → Lowers P around body old new → Lowers P around s old new
+block_lowers P around s body old new is h = rw is (λ all own.
+    let inner = h all own in
     record {
       grows = inner.grows;
       site = inner.site;
       typed = λ S w size suits now.
-          now_more S (w + statement_weight body) (w + (statement_weight body + 1)) new (omega arith)
+          now_more S (w + inlined_weight S.program body) (w + (inlined_weight S.program body + 1)) new (omega arith)
           (inner.typed S w size
-          (typing_part S size (Statement.Block body) body old old (grows_refl old) suits suits.in_loop (omega arith) suits.resolved (sites_of S.program suits.sites)) now);
+          (typing_part P S size (Statement.Block body) body old old (grows_refl old) suits suits.in_loop (omega arith) suits.resolved (sites_of S.program suits.sites) (λ g c. c)) now);
       leads = λ W homes size n k suits whole out after.
           inner.leads W homes size n k
-          (suits_part W homes size (Statement.Block body) body old old (grows_refl old) suits suits.in_loop suits.resolved (sites_of W.setting.program suits.sites)) whole out after;
+          (suits_part P W homes size (Statement.Block body) body old old (grows_refl old) suits suits.in_loop suits.resolved (sites_of W.setting.program suits.sites) (λ g c. c)) whole out after;
     })
   where
     sites_of : (P : Program) → HasSites P (Statement.Block body) old.site → HasSites P body old.site
@@ -150,8 +162,8 @@ block_lowers around s body old new is h = rw is (λ own.
 
 -- ---- an if
 
-module _ (around : Option Loop) (d : Condition) (l : ChoiceLabels) (one other : Statement) (old a b e g new : Lowering) (opens : OpensChoice d l old a) (first : Leads around one a b)
-    (turns : TurnsChoice l b e) (second : Leads around other e g) (closes : Binds l.join g new) where
+module _ (P : Program) (around : Option Loop) (d : Condition) (l : ChoiceLabels) (one other : Statement) (old a b e g new : Lowering) (opens : OpensChoice d l old a) (first : Leads P around one a b)
+    (turns : TurnsChoice l b e) (second : Leads P around other e g) (closes : Binds l.join g new) where
   abbrev choice : Statement
   choice = Statement.If d one other
 
@@ -205,21 +217,23 @@ module _ (around : Option Loop) (d : Condition) (l : ChoiceLabels) (one other : 
       part_sites P choice other (formats_of one) [] old.site e.site sites (ap (λ l. formats_of one ++ l) (sym (append-nil (formats_of other))))
       (let c = formats_length one in let x = a_site in let y = first.site in let z = e_site in omega (arith, c, x, y, z))
 
-  choice_typed : (S : Typing) (w size : ℕ) → SuitsTyping S size choice old → IsTypedNow S w old → IsTypedNow S (w + statement_weight choice) new
+  choice_typed : (S : Typing) (w size : ℕ) → SuitsTyping P S size choice old → IsTypedNow S w old → IsTypedNow S (w + inlined_weight S.program choice) new
   choice_typed S w size suits now =
       let at_labelled = opens.relabels.shifts.typed S w size suits.good now in
       let v = w + (condition_weight d + 1) in
       let at_decided = opens.decides.typed S w size (subst (Fits S) (sym to_labelled.homes) suits.fits) suits.resolved.0 (to_labelled.good size suits.good) at_labelled in
       let at_a = (binds_shifts l.if_true opens.decided a opens.binds).typed S v size (old_decided.good size suits.good) at_decided in
-      let at_b = first.typed S v size (typing_part S size choice one old a old_a suits suits.in_loop (omega arith) suits.resolved.1 (one_sites S.program suits.sites)) at_a in
-      let at_mid = (leaps_shifts l.join b turns.mid turns.leaps).typed S (v + statement_weight one) size (old_b.good size suits.good) at_b in
-      let at_e = (binds_shifts l.if_false turns.mid e turns.binds).typed S (v + statement_weight one) size (old_mid.good size suits.good) at_mid in
-      let at_g = second.typed S (v + statement_weight one) size
-      (typing_part S size choice other old e old_e suits suits.in_loop (omega arith) suits.resolved.2 (other_sites S.program suits.sites)) at_e in
-      now_more S (v + statement_weight one + statement_weight other) (w + statement_weight choice) new (omega arith)
-      ((binds_shifts l.join g new closes).typed S (v + statement_weight one + statement_weight other) size (old_g.good size suits.good) at_g)
+      let at_b = first.typed S v size (typing_part P S size choice one old a old_a suits suits.in_loop (omega arith) suits.resolved.1 (one_sites S.program suits.sites)
+      (Contains-append_left (calls_of one) (calls_of other))) at_a in
+      let at_mid = (leaps_shifts l.join b turns.mid turns.leaps).typed S (v + inlined_weight S.program one) size (old_b.good size suits.good) at_b in
+      let at_e = (binds_shifts l.if_false turns.mid e turns.binds).typed S (v + inlined_weight S.program one) size (old_mid.good size suits.good) at_mid in
+      let at_g = second.typed S (v + inlined_weight S.program one) size
+      (typing_part P S size choice other old e old_e suits suits.in_loop (omega arith) suits.resolved.2 (other_sites S.program suits.sites)
+      (Contains-append_right (calls_of one) (calls_of other))) at_e in
+      now_more S (v + inlined_weight S.program one + inlined_weight S.program other) (w + inlined_weight S.program choice) new (omega arith)
+      ((binds_shifts l.join g new closes).typed S (v + inlined_weight S.program one + inlined_weight S.program other) size (old_g.good size suits.good) at_g)
 
-  module _ (W : Whole) (homes : List Home) (size n : ℕ) (k : List Work) (suits : Suits W homes size choice old) (whole : IsIn W new) (out : LeadsOut W homes n new.stages.used around k)
+  module _ (W : Whole) (homes : List Home) (size n : ℕ) (k : List Work) (suits : Suits P W homes size choice old) (whole : IsIn W new) (out : LeadsOut W homes n new.stages.used around k)
       (after : OnwardUpTo W homes n new (settled Onward k)) where
     whole_g : IsIn W g
     whole_g = to_new.whole W whole
@@ -238,7 +252,8 @@ module _ (around : Option Loop) (d : Condition) (l : ChoiceLabels) (one other : 
 
     other_goes : OnwardUpTo W homes n e (settled Onward (Do other ∷ k))
     other_goes =
-        second.leads W homes size n k (suits_part W homes size choice other old e old_e suits suits.in_loop suits.resolved.2 (other_sites W.setting.program suits.sites)) whole_g
+        second.leads W homes size n k (suits_part P W homes size choice other old e old_e suits suits.in_loop suits.resolved.2 (other_sites W.setting.program suits.sites)
+        (Contains-append_right (calls_of one) (calls_of other))) whole_g
         (out_before W homes n g new around k to_new out) (binds_goes W homes n (settled Onward k) l.join size g new (old_g.good size suits.good) closes whole after)
 
     joins : IfUsed W homes n turns.mid.stages.used l.join (settled Onward k)
@@ -247,7 +262,8 @@ module _ (around : Option Loop) (d : Condition) (l : ChoiceLabels) (one other : 
 
     one_goes : OnwardUpTo W homes n a (settled Onward (Do one ∷ k))
     one_goes =
-        first.leads W homes size n k (suits_part W homes size choice one old a old_a suits suits.in_loop suits.resolved.1 (one_sites W.setting.program suits.sites)) whole_b
+        first.leads W homes size n k (suits_part P W homes size choice one old a old_a suits suits.in_loop suits.resolved.1 (one_sites W.setting.program suits.sites)
+        (Contains-append_left (calls_of one) (calls_of other))) whole_b
         (out_before W homes n b new around k (grows_both b e new (grows_both b turns.mid e to_mid to_e) (grows_both e g new second.grows to_new)) out)
         (leaps_goes W homes n (settled Onward k) l.join size b turns.mid (old_b.good size suits.good) turns.leaps whole_mid joins)
 
@@ -265,7 +281,7 @@ module _ (around : Option Loop) (d : Condition) (l : ChoiceLabels) (one other : 
         (opens.decides.asks W homes size j (Choose one other ∷ k) (to_labelled.homes ∙ suits.homes_) good.variables (to_a.whole W whole_a) good.sound
         (λ i lt truth. sides truth i (omega arith)) d (Choose one other ∷ k) refl refl)
 
-  pub choice_leads : Leads around choice old new
+  pub choice_leads : Leads P around choice old new
   choice_leads = record {
     grows = grows_both old g new old_g to_new;
     site = (let x = a_site in let y = first.site in let z = e_site in let u = second.site in let v = (binds_shifts l.join g new closes).site in omega (arith, x, y, z, u, v));
@@ -273,12 +289,12 @@ module _ (around : Option Loop) (d : Condition) (l : ChoiceLabels) (one other : 
     leads = choice_goes;
   }
 
-pub choice_lowers : (around : Option Loop) (s : Statement) (d : Condition) (one other : Statement) (l : ChoiceLabels) (old a b e g new : Lowering) → s ≡ Statement.If d one other →
+pub choice_lowers : (P : Program) (around : Option Loop) (s : Statement) (d : Condition) (one other : Statement) (l : ChoiceLabels) (old a b e g new : Lowering) → s ≡ Statement.If d one other →
     OpensChoice d l old a →
-    Lowers around one a b → TurnsChoice l b e → Lowers around other e g → Binds l.join g new → Lowers around s old new
-choice_lowers around s d one other l old a b e g new is opens first turns second closes = rw is (λ own.
+    Lowers P around one a b → TurnsChoice l b e → Lowers P around other e g → Binds l.join g new → Lowers P around s old new
+choice_lowers P around s d one other l old a b e g new is opens first turns second closes = rw is (λ all own.
     let both = both_true (is_sequential one) (is_sequential other) own in
-    choice_leads around d l one other old a b e g new opens (first both.0) turns (second both.1) closes)
+    choice_leads P around d l one other old a b e g new opens (first all both.0) turns (second all both.1) closes)
 
 -- ---- the turns of a loop
 
@@ -402,7 +418,8 @@ less_label W homes n i label k le at = λ j below. at j (omega arith)
 
 -- ---- while
 
-module _ (around : Option Loop) (d : Condition) (l : LoopLabels) (body : Statement) (old a b new : Lowering) (opens : OpensTurn d l old a) (inner : Leads (Some (while_labels l)) body a b)
+module _ (P : Program) (around : Option Loop) (d : Condition) (l : LoopLabels) (body : Statement) (old a b new : Lowering) (opens : OpensTurn d l old a)
+    (inner : Leads P (Some (while_labels l)) body a b)
     (closes : ClosesTurn l b new) where
   abbrev while_ : Statement
   while_ = Statement.While d body
@@ -420,16 +437,16 @@ module _ (around : Option Loop) (d : Condition) (l : LoopLabels) (body : Stateme
   while_sites P sites =
       part_sites P while_ body [] [] old.site a.site sites (sym (append-nil (formats_of body))) (let x = turn_site while_work l old a opens in omega (arith, x))
 
-  pub while_leads : Leads around while_ old new
+  pub while_leads : Leads P around while_ old new
   while_leads = record {
     grows = grows_both old b new while_old_b (close_shifts l b new closes).grows;
     site = (let x = turn_site while_work l old a opens in let y = inner.site in let z = (close_shifts l b new closes).site in omega (arith, x, y, z));
     typed = λ S w size suits now.
         let at_a = turn_typed while_work l old a opens S w size suits.fits suits.resolved.0 suits.good now in
         let at_b = inner.typed S (w + (condition_weight d + 1)) size
-        (typing_part S size while_ body old a while_old_a suits true (omega arith) suits.resolved.1 (while_sites S.program suits.sites)) at_a in
-        now_more S (w + (condition_weight d + 1) + statement_weight body) (w + statement_weight while_) new (omega arith)
-        ((close_shifts l b new closes).typed S (w + (condition_weight d + 1) + statement_weight body) size (while_old_b.good size suits.good) at_b);
+        (typing_part P S size while_ body old a while_old_a suits true (omega arith) suits.resolved.1 (while_sites S.program suits.sites) (λ g c. c)) at_a in
+        now_more S (w + (condition_weight d + 1) + inlined_weight S.program body) (w + inlined_weight S.program while_) new (omega arith)
+        ((close_shifts l b new closes).typed S (w + (condition_weight d + 1) + inlined_weight S.program body) size (while_old_b.good size suits.good) at_b);
     leads = λ W homes size n k suits whole out after.
         let good_b = while_old_b.good size suits.good in
         let whole_b = (close_shifts l b new closes).grows.whole W whole in
@@ -437,14 +454,16 @@ module _ (around : Option Loop) (d : Condition) (l : LoopLabels) (body : Stateme
         turns_go while_work l old a opens W homes size n k suits.homes_ suits.good (inner.grows.whole W whole_b)
         (leaves (inner.grows.used l.leaving (turn_leaves while_work l old a opens)))
         (λ i le at.
-        inner.leads W homes size i (Next while_work ∷ k) (suits_part W homes size while_ body old a while_old_a suits true suits.resolved.1 (while_sites W.setting.program suits.sites)) whole_b
+        inner.leads W homes size i (Next while_work ∷ k) (suits_part P W homes size while_ body old a while_old_a suits true suits.resolved.1
+        (while_sites W.setting.program suits.sites) (λ g c. c)) whole_b
         (λ used. less_label W homes n i l.leaving (settled Onward k) le (leaves used), λ used. at)
         (close_turns l b new closes W homes size i (asked while_work k) good_b whole i at));
   }
 
-pub while_lowers : (around : Option Loop) (s : Statement) (d : Condition) (body : Statement) (l : LoopLabels) (old a b new : Lowering) → s ≡ Statement.While d body → OpensTurn d l old a →
-    Lowers (Some (while_labels l)) body a b → ClosesTurn l b new → Lowers around s old new
-while_lowers around s d body l old a b new is opens inner closes = rw is (λ own. while_leads around d l body old a b new opens (inner own) closes)
+pub while_lowers : (P : Program) (around : Option Loop) (s : Statement) (d : Condition) (body : Statement) (l : LoopLabels) (old a b new : Lowering) → s ≡ Statement.While d body →
+    OpensTurn d l old a →
+    Lowers P (Some (while_labels l)) body a b → ClosesTurn l b new → Lowers P around s old new
+while_lowers P around s d body l old a b new is opens inner closes = rw is (λ all own. while_leads P around d l body old a b new opens (inner all own) closes)
 
 -- ---- do
 
@@ -493,7 +512,7 @@ module _ (d : Condition) (l : LoopLabels) (old new : Lowering) (asks : Asks d l 
           at i true lt = turns i lt
           at i false lt = leaves (p.decides.marks false) i (omega arith)
 
-module _ (around : Option Loop) (d : Condition) (l : LoopLabels) (body : Statement) (old a b new : Lowering) (opens : OpensLoop l old a) (inner : Leads (Some (labels_of l)) body a b)
+module _ (P : Program) (around : Option Loop) (d : Condition) (l : LoopLabels) (body : Statement) (old a b new : Lowering) (opens : OpensLoop l old a) (inner : Leads P (Some (labels_of l)) body a b)
     (closes : ClosesDo d l b new) where
   abbrev do_ : Statement
   do_ = Statement.DoWhile body d
@@ -526,17 +545,17 @@ module _ (around : Option Loop) (d : Condition) (l : LoopLabels) (body : Stateme
   do_sites P sites =
       part_sites P do_ body [] [] old.site a.site sites (sym (append-nil (formats_of body))) (let x = (loop_shifts l old a opens).site in omega (arith, x))
 
-  do_typed : (S : Typing) (w size : ℕ) → SuitsTyping S size do_ old → IsTypedNow S w old → IsTypedNow S (w + statement_weight do_) new
+  do_typed : (S : Typing) (w size : ℕ) → SuitsTyping P S size do_ old → IsTypedNow S w old → IsTypedNow S (w + inlined_weight S.program do_) new
   do_typed S w size suits now =
       let at_a = (loop_shifts l old a opens).typed S w size suits.good now in
-      let at_b = inner.typed S w size (typing_part S size do_ body old a do_old_a suits true (omega arith) suits.resolved.0 (do_sites S.program suits.sites)) at_a in
-      let at_turned = b_turned.typed S (w + statement_weight body) size (do_old_b.good size suits.good) at_b in
-      let at_asked = asks_typed d l closes.turned closes.asked closes.asks S (w + statement_weight body) size (subst (Fits S) (sym do_old_turned.homes) suits.fits) suits.resolved.1
+      let at_b = inner.typed S w size (typing_part P S size do_ body old a do_old_a suits true (omega arith) suits.resolved.0 (do_sites S.program suits.sites) (λ g c. c)) at_a in
+      let at_turned = b_turned.typed S (w + inlined_weight S.program body) size (do_old_b.good size suits.good) at_b in
+      let at_asked = asks_typed d l closes.turned closes.asked closes.asks S (w + inlined_weight S.program body) size (subst (Fits S) (sym do_old_turned.homes) suits.fits) suits.resolved.1
       (do_old_turned.good size suits.good) at_turned in
-      now_more S (w + statement_weight body + (condition_weight d + 1)) (w + statement_weight do_) new (omega arith)
-      (asked_new.typed S (w + statement_weight body + (condition_weight d + 1)) size (do_old_asked.good size suits.good) at_asked)
+      now_more S (w + inlined_weight S.program body + (condition_weight d + 1)) (w + inlined_weight S.program do_) new (omega arith)
+      (asked_new.typed S (w + inlined_weight S.program body + (condition_weight d + 1)) size (do_old_asked.good size suits.good) at_asked)
 
-  module _ (W : Whole) (homes : List Home) (size n : ℕ) (k : List Work) (suits : Suits W homes size do_ old) (whole : IsIn W new) (after : OnwardUpTo W homes n new (settled Onward k)) where
+  module _ (W : Whole) (homes : List Home) (size n : ℕ) (k : List Work) (suits : Suits P W homes size do_ old) (whole : IsIn W new) (after : OnwardUpTo W homes n new (settled Onward k)) where
     abbrev top : List Work
     top = settled Onward (Do body ∷ Next do_work ∷ k)
 
@@ -559,7 +578,7 @@ module _ (around : Option Loop) (d : Condition) (l : LoopLabels) (body : Stateme
         let asks : OnwardUpTo W homes i closes.turned (asked do_work k) =
         asks_go d l closes.turned closes.asked closes.asks W homes size i do_work k (do_old_turned.homes ∙ suits.homes_) (do_old_turned.good size suits.good) do_whole_asked refl
         (λ j lt. head_at l old a opens W homes size j top suits.good (earlier j lt)) (λ used. less_label W homes n i l.leaving (settled Onward k) le (do_leaves used)) in
-        inner.leads W homes size i (Next do_work ∷ k) (suits_part W homes size do_ body old a do_old_a suits true suits.resolved.0 (do_sites W.setting.program suits.sites)) do_whole_b (
+        inner.leads W homes size i (Next do_work ∷ k) (suits_part P W homes size do_ body old a do_old_a suits true suits.resolved.0 (do_sites W.setting.program suits.sites) (λ g c. c)) do_whole_b (
           λ used. less_label W homes n i l.leaving (settled Onward k) le (do_leaves (turned_asked.used l.leaving (b_turned.grows.used l.leaving used))),
           binds_at W homes i (asked do_work k) l.turning size b closes.turned good_b closes.turns do_whole_turned asks,
         )
@@ -571,7 +590,7 @@ module _ (around : Option Loop) (d : Condition) (l : LoopLabels) (body : Stateme
         subst (λ w. OnwardUpTo W homes n old w) (sym (settled_do d body k))
         (head_goes l old a opens W homes size n top suits.good (inner.grows.whole W do_whole_b) do_turns)
 
-  pub do_leads : Leads around do_ old new
+  pub do_leads : Leads P around do_ old new
   do_leads = record {
     grows = grows_both old closes.asked new do_old_asked asked_new.grows;
     site = (let x = (loop_shifts l old a opens).site in let y = inner.site in let z = b_turned.site in let u = asks_site d l closes.turned closes.asked closes.asks in let v = asked_new.site in
@@ -580,9 +599,9 @@ module _ (around : Option Loop) (d : Condition) (l : LoopLabels) (body : Stateme
     leads = λ W homes size n k suits whole out after. do_goes W homes size n k suits whole after;
   }
 
-pub do_lowers : (around : Option Loop) (s : Statement) (d : Condition) (body : Statement) (l : LoopLabels) (old a b new : Lowering) → s ≡ Statement.DoWhile body d → OpensLoop l old a →
-    Lowers (Some (labels_of l)) body a b → ClosesDo d l b new → Lowers around s old new
-do_lowers around s d body l old a b new is opens inner closes = rw is (λ own. do_leads around d l body old a b new opens (inner own) closes)
+pub do_lowers : (P : Program) (around : Option Loop) (s : Statement) (d : Condition) (body : Statement) (l : LoopLabels) (old a b new : Lowering) → s ≡ Statement.DoWhile body d → OpensLoop l old a →
+    Lowers P (Some (labels_of l)) body a b → ClosesDo d l b new → Lowers P around s old new
+do_lowers P around s d body l old a b new is opens inner closes = rw is (λ all own. do_leads P around d l body old a b new opens (inner all own) closes)
 
 -- ---- for
 
@@ -599,9 +618,9 @@ settled_next : (d : Condition) (last body : Statement) (k : List Work) →
     settled Onward (Next (for_loop d last body) ∷ k) ≡ settled Onward (Do last ∷ asked (for_loop d last body) k)
 settled_next d last body k = λ e. opened last (asked (for_loop d last body) k) (λ going. past (for_loop d last body) k going e)
 
-module _ (around : Option Loop) (first_ : Statement) (d : Condition) (last body : Statement) (l : LoopLabels) (old a0 a b c e new : Lowering) (last_site after_site : ℕ)
-    (first : Leads None first_ old a0) (last_is : last_site ≡ a0.site) (opens : OpensTurn d l (at_site (a0.site + print_count last) a0) a) (inner : Leads (Some (labels_of l)) body a b)
-    (after_is : after_site ≡ b.site) (turns : Binds l.turning (at_site last_site b) c) (last_ : Leads None last c e) (closes : ClosesTurn l (at_site after_site e) new) where
+module _ (P : Program) (around : Option Loop) (first_ : Statement) (d : Condition) (last body : Statement) (l : LoopLabels) (old a0 a b c e new : Lowering) (last_site after_site : ℕ)
+    (first : Leads P None first_ old a0) (last_is : last_site ≡ a0.site) (opens : OpensTurn d l (at_site (a0.site + print_count last) a0) a) (inner : Leads P (Some (labels_of l)) body a b)
+    (after_is : after_site ≡ b.site) (turns : Binds l.turning (at_site last_site b) c) (last_ : Leads P None last c e) (closes : ClosesTurn l (at_site after_site e) new) where
   abbrev for_ : Statement
   for_ = Statement.For first_ d last body
 
@@ -661,22 +680,25 @@ module _ (around : Option Loop) (first_ : Statement) (d : Condition) (last body 
       (sym (append_assoc (formats_of first_) (formats_of last) (formats_of body ++ []) ∙ ap (λ z. formats_of first_ ++ (formats_of last ++ z)) (append-nil (formats_of body))))
       (let x = formats_length first_ in let y = formats_length last in let z = body_site in let u = length-append (formats_of first_) (formats_of last) in omega (arith, x, y, z, u))
 
-  for_typed : (S : Typing) (w size : ℕ) → SuitsTyping S size for_ old → IsTypedNow S w old → IsTypedNow S (w + statement_weight for_) new
+  for_typed : (S : Typing) (w size : ℕ) → SuitsTyping P S size for_ old → IsTypedNow S w old → IsTypedNow S (w + inlined_weight S.program for_) new
   for_typed S w size suits now =
-      let w1 = w + statement_weight first_ in
+      let w1 = w + inlined_weight S.program first_ in
       let w2 = w1 + (condition_weight d + 1) in
-      let w3 = w2 + statement_weight body in
-      let w4 = w3 + statement_weight last in
-      let at_a0 = first.typed S w size (typing_part S size for_ first_ old old (grows_refl old) suits false (omega arith) suits.resolved.0 (for_first_sites S.program suits.sites)) now in
+      let w3 = w2 + inlined_weight S.program body in
+      let w4 = w3 + inlined_weight S.program last in
+      let at_a0 = first.typed S w size (typing_part P S size for_ first_ old old (grows_refl old) suits false (omega arith) suits.resolved.0 (for_first_sites S.program suits.sites)
+      (Contains-append_left (calls_of first_) (calls_of last ++ calls_of body))) now in
       let at_a = turn_typed for_work l skipped a opens S w1 size (subst (Fits S) (sym old_skipped.homes) suits.fits) suits.resolved.1 (old_skipped.good size suits.good)
       (site_typed (a0.site + print_count last) a0 S w1 at_a0) in
-      let at_b = inner.typed S w2 size (typing_part S size for_ body old a for_old_a suits true (omega arith) suits.resolved.3 (for_body_sites S.program suits.sites)) at_a in
+      let at_b = inner.typed S w2 size (typing_part P S size for_ body old a for_old_a suits true (omega arith) suits.resolved.3 (for_body_sites S.program suits.sites)
+      (λ g c. Contains-append_right (calls_of first_) (calls_of last ++ calls_of body) g (Contains-append_right (calls_of last) (calls_of body) g c))) at_a in
       let at_c = sited_c.typed S w3 size (for_old_sited.good size suits.good) (site_typed last_site b S w3 at_b) in
-      let at_e = last_.typed S w3 size (typing_part S size for_ last old c for_old_c suits false (omega arith) suits.resolved.2 (for_last_sites S.program suits.sites)) at_c in
-      now_more S w4 (w + statement_weight for_) new (omega arith)
+      let at_e = last_.typed S w3 size (typing_part P S size for_ last old c for_old_c suits false (omega arith) suits.resolved.2 (for_last_sites S.program suits.sites)
+      (λ g c. Contains-append_right (calls_of first_) (calls_of last ++ calls_of body) g (Contains-append_left (calls_of last) (calls_of body) g c))) at_c in
+      now_more S w4 (w + inlined_weight S.program for_) new (omega arith)
       (closing_new.typed S w4 size (for_old_closing.good size suits.good) (site_typed after_site e S w4 at_e))
 
-  module _ (W : Whole) (homes : List Home) (size n : ℕ) (k : List Work) (suits : Suits W homes size for_ old) (whole : IsIn W new) (after : OnwardUpTo W homes n new (settled Onward k)) where
+  module _ (W : Whole) (homes : List Home) (size n : ℕ) (k : List Work) (suits : Suits P W homes size for_ old) (whole : IsIn W new) (after : OnwardUpTo W homes n new (settled Onward k)) where
     for_whole_e : IsIn W e
     for_whole_e = e_sited.whole W (closing_new.grows.whole W whole)
 
@@ -695,14 +717,18 @@ module _ (around : Option Loop) (first_ : Statement) (d : Condition) (last body 
     last_goes : (i : ℕ) → AtLabelUpTo W homes i l.head (asked for_work k) → OnwardUpTo W homes i c (settled Onward (Next for_work ∷ k))
     last_goes i at =
         subst (λ w. OnwardUpTo W homes i c w) (sym (settled_next d last body k))
-        (last_.leads W homes size i (asked for_work k) (suits_part W homes size for_ last old c for_old_c suits false suits.resolved.2 (for_last_sites W.setting.program suits.sites)) for_whole_e tt
+        (last_.leads W homes size i (asked for_work k) (suits_part P W homes size for_ last old c for_old_c suits false suits.resolved.2
+        (for_last_sites W.setting.program suits.sites) (λ g c. Contains-append_right (calls_of first_) (calls_of last ++ calls_of body) g
+        (Contains-append_left (calls_of last) (calls_of body) g c))) for_whole_e tt
         (site_goes W homes i (asked for_work k) after_site e
         (close_turns l (at_site after_site e) new closes W homes size i (asked for_work k) (for_old_closing.good size suits.good) whole i at)))
 
     body_goes : (i : ℕ) → i ≤ n → AtLabelUpTo W homes i l.head (asked for_work k) → OnwardUpTo W homes i a (settled Onward (Do body ∷ Next for_work ∷ k))
     body_goes i le at =
         let good_sited = for_old_sited.good size suits.good in
-        inner.leads W homes size i (Next for_work ∷ k) (suits_part W homes size for_ body old a for_old_a suits true suits.resolved.3 (for_body_sites W.setting.program suits.sites)) for_whole_b (
+        inner.leads W homes size i (Next for_work ∷ k) (suits_part P W homes size for_ body old a for_old_a suits true suits.resolved.3
+        (for_body_sites W.setting.program suits.sites) (λ g c. Contains-append_right (calls_of first_) (calls_of last ++ calls_of body) g
+        (Contains-append_right (calls_of last) (calls_of body) g c))) for_whole_b (
           λ used. less_label W homes n i l.leaving (settled Onward k) le (for_leaves used),
           binds_at W homes i (settled Onward (Next for_work ∷ k)) l.turning size (at_site last_site b) c good_sited turns for_whole_c (last_goes i at),
         )
@@ -713,13 +739,14 @@ module _ (around : Option Loop) (first_ : Statement) (d : Condition) (last body 
     for_goes =
         let whole_a = inner.grows.whole W for_whole_b in
         subst (λ w. OnwardUpTo W homes n old w) (sym (settled_for first_ d last body k))
-        (first.leads W homes size n (asked for_work k) (suits_part W homes size for_ first_ old old (grows_refl old) suits false suits.resolved.0 (for_first_sites W.setting.program suits.sites))
+        (first.leads W homes size n (asked for_work k) (suits_part P W homes size for_ first_ old old (grows_refl old) suits false suits.resolved.0
+        (for_first_sites W.setting.program suits.sites) (Contains-append_left (calls_of first_) (calls_of last ++ calls_of body)))
         ((site_grows (a0.site + print_count last) a0).whole W ((turn_grows for_work l skipped a opens).whole W whole_a)) tt
         (site_goes W homes n (asked for_work k) (a0.site + print_count last) a0
         (turns_go for_work l skipped a opens W homes size n k (old_skipped.homes ∙ suits.homes_) (old_skipped.good size suits.good) whole_a
         (for_leaves (inner.grows.used l.leaving (turn_leaves for_work l skipped a opens))) body_goes)))
 
-  pub for_leads : Leads around for_ old new
+  pub for_leads : Leads P around for_ old new
   for_leads = record {
     grows = grows_both old (at_site after_site e) new for_old_closing closing_new.grows;
     site = (let x = body_site in let y = inner.site in let z = closing_new.site in omega (arith, x, y, z, after_is));
@@ -727,32 +754,34 @@ module _ (around : Option Loop) (first_ : Statement) (d : Condition) (last body 
     leads = λ W homes size n k suits whole out after. for_goes W homes size n k suits whole after;
   }
 
-pub for_lowers : (around : Option Loop) (s first_ : Statement) (d : Condition) (last body : Statement) (l : LoopLabels) (old a0 a b c e new : Lowering) (last_site after_site : ℕ) →
-    s ≡ Statement.For first_ d last body → Lowers None first_ old a0 → last_site ≡ a0.site → OpensTurn d l (at_site (a0.site + print_count last) a0) a → Lowers (Some (labels_of l)) body a b →
-    after_site ≡ b.site → Binds l.turning (at_site last_site b) c → Lowers None last c e → ClosesTurn l (at_site after_site e) new → Lowers around s old new
-for_lowers around s first_ d last body l old a0 a b c e new last_site after_site is first last_is opens inner after_is turns last_ closes = rw is (λ own.
+pub for_lowers : (P : Program) (around : Option Loop) (s first_ : Statement) (d : Condition) (last body : Statement) (l : LoopLabels) (old a0 a b c e new : Lowering) (last_site after_site : ℕ) →
+    s ≡ Statement.For first_ d last body → Lowers P None first_ old a0 → last_site ≡ a0.site → OpensTurn d l (at_site (a0.site + print_count last) a0) a → Lowers P (Some (labels_of l)) body a b →
+    after_site ≡ b.site → Binds l.turning (at_site last_site b) c → Lowers P None last c e → ClosesTurn l (at_site after_site e) new → Lowers P around s old new
+for_lowers P around s first_ d last body l old a0 a b c e new last_site after_site is first last_is opens inner after_is turns last_ closes = rw is (λ all own.
     let parts = both_true (is_sequential first_) (is_sequential last && is_sequential body) own in
     let rest = both_true (is_sequential last) (is_sequential body) parts.1 in
-    for_leads around first_ d last body l old a0 a b c e new last_site after_site (first parts.0) last_is opens (inner rest.1) after_is turns (last_ rest.0) closes)
+    for_leads P around first_ d last body l old a0 a b c e new last_site after_site (first all parts.0) last_is opens (inner all rest.1) after_is turns (last_ all rest.0) closes)
 
 -- ---- lists of statements: the code of what is left of one is that of the whole
 
-pub record IsVia (around : Option Loop) (whole left : Statement) (initial now : Lowering) : Type 0 where
-  pub lowers : (new : Lowering) → Lowers around left now new → Lowers around whole initial new
+pub record IsVia (P : Program) (around : Option Loop) (whole left : Statement) (initial now : Lowering) : Type 0 where
+  pub lowers : (new : Lowering) → Lowers P around left now new → Lowers P around whole initial new
 
-pub via_all : (around : Option Loop) (s : Statement) (c : Lowering) → IsVia around s s c c
-via_all around s c = record { lowers = λ new h. h }
+pub via_all : (P : Program) (around : Option Loop) (s : Statement) (c : Lowering) → IsVia P around s s c c
+via_all P around s c = record { lowers = λ new h. h }
 
-pub via_more : (around : Option Loop) (whole left a b : Statement) (initial old mid : Lowering) → IsVia around whole left initial old → left ≡ Statement.Sequence a b → Lowers around a old mid →
-    IsVia around whole b initial mid
-via_more around whole left a b initial old mid via is first = record {
+pub via_more : (P : Program) (around : Option Loop) (whole left a b : Statement) (initial old mid : Lowering) → IsVia P around whole left initial old →
+    left ≡ Statement.Sequence a b → Lowers P around a old mid →
+    IsVia P around whole b initial mid
+via_more P around whole left a b initial old mid via is first = record {
   lowers = λ new second.
       via.lowers new
-      (subst (λ z. Lowers around z old new) (sym is)
-      (λ own.
+      (subst (λ z. Lowers P around z old new) (sym is)
+      (λ all own.
       let both = both_true (is_sequential a) (is_sequential b) own in
-      sequence_leads around a b old mid new (first both.0) (second both.1)));
+      sequence_leads P around a b old mid new (first all both.0) (second all both.1)));
 }
 
-pub via_last : (around : Option Loop) (whole left : Statement) (initial old new : Lowering) → IsVia around whole left initial old → Lowers around left old new → Lowers around whole initial new
-via_last around whole left initial old new via h = via.lowers new h
+pub via_last : (P : Program) (around : Option Loop) (whole left : Statement) (initial old new : Lowering) → IsVia P around whole left initial old → Lowers P around left old new →
+    Lowers P around whole initial new
+via_last P around whole left initial old new via h = via.lowers new h

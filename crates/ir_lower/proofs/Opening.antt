@@ -55,7 +55,8 @@ act_next act next mid labelled pushed number is pushes =
 -- ---- where the code begins
 
 -- a stage at the place at hand
-pub pushed_begun : (stage_ : Stage) (old : Lowering) (mid new : Stages) → Advances None_ old.stages mid → mid.stages.items ≡ old.stages.stages.items → ((label : ℕ) → IsHere old.stages label → IsHere mid label) →
+pub pushed_begun : (stage_ : Stage) (old : Lowering) (mid new : Stages) → Advances None_ old.stages mid → mid.stages.items ≡ old.stages.stages.items →
+    ((label : ℕ) → IsHere old.stages label → IsHere mid label) →
     Pushes stage_ mid new → (start : ℕ) → Begun start old → IsFirst start new
 pushed_begun stage_ old mid new to_mid items here pushes start (inl hand) =
     pushed_first stage_ mid new pushes start hand.label (items ∙ hand.none) (here hand.label hand.here) (λ stage_of o. hand.alike stage_of (to_mid.obeys stage_of o))
@@ -95,7 +96,8 @@ module _ (label : ℕ) (c : Lowering) (open_ : IsOpen label (marked label c).sta
       apart : other ≡ label → ⊥
       apart e = o (length c.stages.places) (ap (slice_get after.stages.labels) e ∙ placed_here label (marked label c) open_)
 
-  pub unused_after : ((other : ℕ) → (other ≡ label → ⊥) → HasNoPlace other c.stages → is_used c.stages.used other ≡ false) → (other : ℕ) → HasNoPlace other after.stages → is_used after.stages.used other ≡ false
+  pub unused_after : ((other : ℕ) → (other ≡ label → ⊥) → HasNoPlace other c.stages → is_used c.stages.used other ≡ false) → (other : ℕ) → HasNoPlace other after.stages →
+      is_used after.stages.used other ≡ false
   unused_after h other o = let w = was_open other o in unmarked c.stages.used label other w.0 ∙ h other w.0 w.1
 
   pub here_begun : (start : ℕ) → Begun start c → Begun start after
@@ -133,7 +135,7 @@ module _ (label : ℕ) (old new : Lowering) where
       advances_both None_ old.stages (marked label old).stages mid.stages (marks label old.stages (marked label old).stages refl)
       (pushes_advance (stage.Run p.ends.block) (marked label old).stages mid.stages p.ends.pushes)
 
-  first_marked : (mid : Lowering) → EndsBusy label (marked label old) mid → (start : ℕ) → Begun start old → IsFirst start mid.stages
+  pub first_marked : (mid : Lowering) → EndsBusy label (marked label old) mid → (start : ℕ) → Begun start old → IsFirst start mid.stages
   first_marked mid p =
       pushed_begun (stage.Run p.ends.block) old (marked label old).stages mid.stages (marks label old.stages (marked label old).stages refl) refl (λ h here. here) p.ends.pushes
 

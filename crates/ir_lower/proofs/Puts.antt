@@ -24,7 +24,7 @@ use Rattle.ir_lower.proofs.Conversions.{wrapped_by_bits}
 use Rattle.ir_lower.proofs.Running.{parts, current_kept, run_append, run_length, reads_none, reads_both}
 use Rattle.ir_lower.proofs.Cells.{set_element, set_same, set_other, set_length, row_of}
 use Rattle.ir_lower.proofs.Stores.{conversion_right}
-use Rattle.ir_lower.proofs.Steps.{gives_is, fits_on, hold_on}
+use Rattle.ir_lower.proofs.Steps.{gives_is, fits_on, hold_on, read_held}
 
 pub wrapped_twice : (ty : IntegerType) (v : ℤ) → wrapped ty (wrapped ty v) ≡ wrapped ty v
 wrapped_twice ty v = wrapped_by_bits ty (wrapped ty v) v (residue_of-wrapped ty v)
@@ -59,7 +59,7 @@ homes_more homes n k locals le h = record {
     by (Some (home.Variable j)) row fit = (fit.0, let below = fit.1 in omega arith)
     by (Some (home.Array a)) row fit = tt
 
-same_source : (k : ℕ) (a b : Operand) → b.source ≡ a.source → IsBelow k a → IsBelow k b
+pub same_source : (k : ℕ) (a b : Operand) → b.source ≡ a.source → IsBelow k a → IsBelow k b
 same_source k a b e below = subst (SourceIsBelow k) (sym e) below
 
 module _ (homes : List Home) (n : ℕ) (ty : IntegerType) (e : Expression) (old mid new : OpenBlock) (a b w : Operand)
@@ -104,6 +104,13 @@ module _ (homes : List Home) (n : ℕ) (ty : IntegerType) (e : Expression) (old 
           reads = subst (λ l. Reads r s l) (sym all) reads;
           holds = holds_spare homes mid.current new.current variables n w m s current homed (hold_on homes old mid first.operations first.added variables r m p.first fits len reads holds);
           words = subst (HoldWords (held_by new.current variables s.values) n) g.0 (word, tt);
+          spares = record {
+            variables_ = λ i lt none.
+                ap (λ c. current_value (slice_get c i) variables s.values i) current
+                ∙ ap (λ o. current_value o variables s.values i) (set_other mid.current n i (Some w) (λ same. omega arith))
+                ∙ read_held homes old mid first.operations first.added variables r m p.first fits len reads i;
+            arrays_ = λ a none. ap (λ cells. cells a) reads.arrays;
+          };
         };
   }
 
@@ -122,6 +129,7 @@ puts_none homes n F b none = record {
         reads = reads_none r ls g.1;
         holds = holds;
         words = subst (HoldWords (held_by b.current variables r.values) n) g.0 tt;
+        spares = record { variables_ = λ i lt none. refl; arrays_ = λ a none. refl };
       };
 }
 
@@ -157,11 +165,15 @@ module _ (homes : List Home) (n : ℕ) (ty : IntegerType) (types : List IntegerT
         let same : held_by new.current variables u.values n ≡ held_by mid.current variables s.values n =
         ap (λ o. current_value o variables u.values n) (second.kept n (omega arith)) ∙ current_kept variables homes mid.current m s u q.first two.reads fits_s n (slice_get mid.current n) refl in
         let words : HoldWords (held_by new.current variables u.values) n (wrapped ty p.value ∷ q.value) = (ap (wrapped long_int) same ∙ one.words.0, two.words) in
-        subst (λ z. Held homes new.current variables n m r z ws ls) (sym run)
+        subst (λ z. Held homes old.current new.current variables n m r z ws ls) (sym run)
         (record {
           reads = reads_both r s u (p.first ++ []) q.first ls one.reads two.reads all;
           holds = two.holds;
           words = subst (HoldWords (held_by new.current variables u.values) n) g.0 words;
+          spares = record {
+            variables_ = λ i lt none. two.spares.variables_ i (omega arith) none ∙ one.spares.variables_ i lt none;
+            arrays_ = λ a none. two.spares.arrays_ a none ∙ one.spares.arrays_ a none;
+          };
         });
   }
 
@@ -185,6 +197,10 @@ all_taken (x ∷ xs) = ap (λ l. x ∷ l) (all_taken xs)
 -- the lists behind their first elements
 pub rest_is : {A : Type 0} (x : A) (xs : List A) → take (suc (length xs) - 1) xs ≡ xs
 rest_is x xs = ap (λ k. take k xs) (let e : suc (length xs) - 1 ≡ length xs = omega arith in e) ∙ all_taken xs
+
+pub whole_is : {A : Type 0} (xs rest : List A) (x : A) → 1 ≤ length xs → x ≡ get_or xs 0 x → rest ≡ take (length xs - 1) (drop 1 xs) → xs ≡ x ∷ rest
+whole_is [] rest x some first rest_are = absurd (omega arith)
+whole_is (y ∷ ys) rest x some first rest_are = ap (λ z. z ∷ ys) (sym first) ∙ ap (λ l. x ∷ l) (sym (rest_are ∙ rest_is y ys))
 
 pub values_more : (homes : List Home) (n next : ℕ) (types rest : List IntegerType) (trees others : List ExpressionTree) (ty : IntegerType) (e : ExpressionTree) (old mid new : OpenBlock) →
     1 ≤ length types → 1 ≤ length trees → ty ≡ get_or types 0 ty → e ≡ get_or trees 0 e → rest ≡ take (length types - 1) (drop 1 types) → others ≡ take (length trees - 1) (drop 1 trees) → next ≡ n →

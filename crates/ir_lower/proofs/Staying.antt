@@ -67,6 +67,15 @@ now_more S w v c more now = record {
   stages = λ l s e. anywhere_more S.types S.program (4 * w) (4 * v) (omega arith) s (now.stages l s e);
 }
 
+-- typed, but for the count of steps
+pub record IsTypedBut (S : Typing) (w : ℕ) (c : Lowering) : Type 0 where
+  pub block : IsTypedOpen S.types c.block
+  pub size : length c.block.operations ≤ 4 * w
+  pub stages : (l : ℕ) (s : Stage) → slice_get c.stages.stages.items l ≡ Some s → IsTypedAnywhere S.types S.program (4 * w) s
+
+pub typed_but : (S : Typing) (w : ℕ) (c : Lowering) → IsTypedNow S w c → IsTypedBut S w c
+typed_but S w c now = record { block = now.block; size = now.size; stages = now.stages }
+
 -- a stage of one more is one of those before, or the last
 last_or : {A : Type 0} (xs : List A) (y x : A) (l : ℕ) → slice_get (xs ++ y ∷ []) l ≡ Some x → (slice_get xs l ≡ Some x) ⊎ (x ≡ y)
 last_or [] y x zero e = inr cc
@@ -74,7 +83,7 @@ last_or [] y x (suc l) e = cc
 last_or (z ∷ xs) y x zero e = inl e
 last_or (z ∷ xs) y x (suc l) e = last_or xs y x l e
 
-pub stages_more : (S : Typing) (w : ℕ) (old new : Lowering) (last : Stage) → new.stages.stages.items ≡ old.stages.stages.items ++ last ∷ [] → IsTypedNow S w old →
+pub stages_more : (S : Typing) (w : ℕ) (old new : Lowering) (last : Stage) → new.stages.stages.items ≡ old.stages.stages.items ++ last ∷ [] → IsTypedBut S w old →
     IsTypedAnywhere S.types S.program (4 * w) last →
     (l : ℕ) (s : Stage) → slice_get new.stages.stages.items l ≡ Some s → IsTypedAnywhere S.types S.program (4 * w) s
 stages_more S w old new last added now typed l s e =
@@ -98,7 +107,7 @@ pub jump_typed : (T : Types) (before : List Operation) (label : ℕ) → IsTyped
 jump_typed T before label = λ n stage_of below. below label
 
 block_typed : (S : Typing) (w : ℕ) (old : Lowering) (next : Next) (b : Block) → 0 < old.block.steps → Closes old.block next b → IsTypedNextAnywhere S.types old.block.operations next →
-    IsTypedNow S w old → IsTypedAnywhere S.types S.program (4 * w) (stage.Run b)
+    IsTypedBut S w old → IsTypedAnywhere S.types S.program (4 * w) (stage.Run b)
 block_typed S w old next b busy closes leads now = λ n stage_of below. record {
   busy = (let e = closes.steps in omega arith);
   operations = subst (AreTyped S.types []) (sym closes.operations) now.block.operations;
@@ -112,7 +121,7 @@ block_typed S w old next b busy closes leads now = λ n stage_of below. record {
 }
 
 pub ends_typed : (S : Typing) (w : ℕ) (next : Next) (old new : Lowering) → 0 < old.block.steps → HasNoted old.block → EndsAt next old new → IsTypedNextAnywhere S.types old.block.operations next →
-    IsTypedNow S w old → IsTypedNow S w new
+    IsTypedBut S w old → IsTypedNow S w new
 ends_typed S w next old new busy noted e leads now =
     let fresh = e.left noted in
     record {

@@ -1,6 +1,6 @@
 -- Steps that assign.
 use Rattle.std.proofs.Common.{◌≡◌, ℕ, suc, ◌+◌, ◌≤◌, List, [], ◌∷◌, ◌++◌, length, ℤ, pos, Some, refl, sym, ap, ◌∙◌, subst, arith, append-nil, append_assoc, length-append}
-use Rattle.std.specs.Prelude.{slice_set}
+use Rattle.std.specs.Prelude.{slice_get, slice_set}
 use Rattle.hls_ints.specs.Types.{IntegerType, int_type}
 use Rattle.c_program.specs.declared.tree.Storage.{Storage}
 use Rattle.c_program.specs.declared.tree.BinaryOperator.{BinaryOperator}
@@ -20,11 +20,11 @@ use Rattle.ir_lower.specs.declared.places.Target.{Target}
 use Rattle.ir_lower.specs.declared.places.Target.TheVariants as target
 use Rattle.ir_lower.specs.declared.open_block.OpenBlock.{OpenBlock}
 use Rattle.ir_lower.specs.Needs.{plain, IsConverted, IsBelow, AreBelow}
-use Rattle.ir_lower.specs.Evaluating.{target_at, load_block, loaded, with_more, Holds, Reads, Evaluates}
+use Rattle.ir_lower.specs.Evaluating.{current_value, target_at, load_block, loaded, with_more, Holds, Reads, Evaluates}
 use Rattle.ir_lower.specs.Closing.{HasNoted}
 use Rattle.ir_lower.specs.Assigning.{Stores, Places, HaveHomes, IsThere, writes_of, Assigned, Assigns}
 use Rattle.ir_lower.proofs.Operators.{binary_right}
-use Rattle.ir_lower.proofs.Running.{parts, last_value, run_append, run_length, operand_kept, holds_on, below_more, are_below_more, reads_none, reads_both}
+use Rattle.ir_lower.proofs.Running.{parts, last_value, run_append, run_length, operand_kept, current_kept, holds_on, below_more, are_below_more, reads_none, reads_both}
 use Rattle.ir_lower.proofs.Values.{Comes, nothing_added, pure_reads, last_below, load_operations, load_added, load_comes, index_right, IsInside, inside_right}
 use Rattle.ir_lower.proofs.Stores.{store_operations, store_added, store_size, store_steps, store_noted, store_below, store_done}
 
@@ -60,7 +60,7 @@ pub record Located (homes : List Home) (place : Place) (old new : OpenBlock) (t 
   pub below : AreBelow (length old.operations) old.current → IsBelow (length new.operations) index
   pub part : PartAt homes old operations (λ m. target_of place m) (λ variables r. c_target storage variable ty (operand_value variables r.values index)) size index
 
-located : (homes : List Home) (place : Place) (old new : OpenBlock) (t : Target) → Places homes place old new t → Located homes place old new t
+pub located : (homes : List Home) (place : Place) (old new : OpenBlock) (t : Target) → Places homes place old new t → Located homes place old new t
 located homes (Place.Scalar storage x ty) old new t p = record {
   storage = storage;
   variable = x;
@@ -119,6 +119,14 @@ module _ (homes : List Home) (old mid : OpenBlock) (operations : List Operation)
   hold_on variables r m ls fits len reads holds =
       subst (λ c. Holds homes c variables m (operations_run variables operations r)) (sym current_same)
       (holds_on variables homes old.current m r (operations_run variables operations r) ls reads (subst (λ n. AreBelow n old.current) (sym len) fits) holds)
+
+  -- each variable holds what it held
+  pub read_held : (variables : ℕ → ℤ) (r : Running) (m : Memory) (ls : List Location) → AreBelow (length old.operations) old.current → length r.values ≡ length old.operations →
+      Reads r (operations_run variables operations r) ls → (i : ℕ) →
+      current_value (slice_get mid.current i) variables (operations_run variables operations r).values i ≡ current_value (slice_get old.current i) variables r.values i
+  read_held variables r m ls fits len reads i =
+      ap (λ c. current_value (slice_get c i) variables (operations_run variables operations r).values i) current_same
+      ∙ current_kept variables homes old.current m r (operations_run variables operations r) ls reads (subst (λ n. AreBelow n old.current) (sym len) fits) i (slice_get old.current i) refl
 
 -- the target and the value of an assignment are computed
 pub record Prepares (homes : List Home) (F : Memory → Evaluation Assignment) (old new : OpenBlock) (t : Target) (a : Operand) : Type 0 where
@@ -198,14 +206,19 @@ assigns homes F old mid last new t a p st stepped = record {
       let done = store_done homes mid variables s m fits' homed' holds' p.variable (index_of i) p.ty x last a p.index refl refl p.size both.2.written p.storage there' t p.at st in
       let run = run_append variables p.operations (store_operations t a mid last st) r in
       let u = operations_run variables (store_operations t a mid last st) s in
-      subst (λ c. Assigned homes c variables m r (operations_run variables (p.operations ++ (store_operations t a mid last st)) r) v ls) (sym (ap (λ (z : OpenBlock). z.current) stepped))
-      (subst (λ z. Assigned homes last.current variables m r z v ls) (sym run)
-      (subst (λ z. Assigned homes last.current variables m r u z ls) is'
+      let spare = done.spares in
+      subst (λ c. Assigned homes old.current c variables m r (operations_run variables (p.operations ++ (store_operations t a mid last st)) r) v ls) (sym (ap (λ (z : OpenBlock). z.current) stepped))
+      (subst (λ z. Assigned homes old.current last.current variables m r z v ls) (sym run)
+      (subst (λ z. Assigned homes old.current last.current variables m r u z ls) is'
       (record {
         accesses =
             done.accesses ∙ ap (λ l. l ++ writes_of p.storage (record { target = c_target p.storage p.variable p.ty i; value = x })) both.0.accesses
             ∙ append_assoc r.accesses (reads_of ls) (writes_of p.storage (record { target = c_target p.storage p.variable p.ty i; value = x }));
         holds = done.holds;
+        spares = λ size. record {
+          variables_ = λ i lt none. (spare size).variables_ i lt none ∙ read_held homes old mid p.operations p.added variables r m ls fits len both.0 i;
+          arrays_ = λ c none. (spare size).arrays_ c none ∙ ap (λ cells. cells c) both.0.arrays;
+        };
       })));
 }
   where

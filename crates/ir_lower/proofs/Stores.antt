@@ -16,7 +16,7 @@ use Rattle.ir_lower.specs.declared.places.Target.{Target}
 use Rattle.ir_lower.specs.declared.places.Target.TheVariants as target
 use Rattle.ir_lower.specs.declared.open_block.OpenBlock.{OpenBlock}
 use Rattle.ir_lower.specs.Needs.{IsConverted, IsBelow, AreBelow}
-use Rattle.ir_lower.specs.Evaluating.{current_value, local_target, target_at, local_value, Holds}
+use Rattle.ir_lower.specs.Evaluating.{current_value, with_more, local_target, target_at, local_value, Holds}
 use Rattle.ir_lower.specs.Closing.{HasNoted}
 use Rattle.ir_lower.specs.Assigning.{Stores, IsHomed, HaveHomes, HasElement, IsThere, memory_after, Assigned}
 use Rattle.ir_lower.proofs.Running.{operand_stays}
@@ -69,6 +69,11 @@ module _ (homes : List Home) (b : OpenBlock) (variables : ℕ → ℤ) (r : Runn
   values_kept w n (Some (Some o)) e = operand_stays variables r.values (w ∷ []) o (fits n o e)
   values_kept w n (Some None) e = refl
   values_kept w n None e = refl
+
+  added_held : (w : ℤ) (new : OpenBlock) (o : Operation) → new ≡ with_more b (o ∷ []) → (i : ℕ) →
+      current_value (slice_get new.current i) variables (r.values ++ w ∷ []) i ≡ current_value (slice_get b.current i) variables r.values i
+  added_held w new o added i =
+      ap (λ (z : OpenBlock). current_value (slice_get z.current i) variables (r.values ++ w ∷ []) i) added ∙ values_kept w i (slice_get b.current i) refl
 
   module _ (x j : ℕ) (ty : IntegerType) (v : ℤ) where
     abbrev assignment_to : Storage → Assignment
@@ -163,11 +168,17 @@ module _ (homes : List Home) (b : OpenBlock) (variables : ℕ → ℤ) (r : Runn
     module _ (new : OpenBlock) (value index : Operand) (value_is : operand_value variables r.values value ≡ v) (index_is : index_of (operand_value variables r.values index) ≡ j) (n : ℕ)
         (place_is : place_written n (operand_value variables r.values index) ≡ j) where
       automatic : (h : Option Home) → slice_get homes x ≡ h → (there : HasElement m.locals x j) → IsHomed (length b.current) h there.row → (st : Stores (local_target h x n ty index) value b new) →
-          Assigned homes new.current variables m r (operations_run variables (store_operations (local_target h x n ty index) value b new st) r) (assignment_to Automatic) []
+          Assigned homes b.current new.current variables m r (operations_run variables (store_operations (local_target h x n ty index) value b new st) r) (assignment_to Automatic) []
       automatic None at there fit st = absurd fit
       automatic (Some (home.Variable k)) at there fit st = record {
         accesses = sym (append-nil r.accesses);
         holds = variable_holds k at there st.stored new.current st.current (conversion_right variables r.values ty value st.stored v st.converted value_is);
+        spares = λ size. record {
+          variables_ = λ i lt none.
+              ap (λ c. current_value (slice_get c i) variables r.values i) st.current
+              ∙ ap (λ o. current_value o variables r.values i) (set_other b.current k i (Some st.stored) (λ same. none x (at ∙ ap (λ z. Some (home.Variable z)) (sym same))));
+          arrays_ = λ a none. refl;
+        };
       }
       automatic (Some (home.Array a)) at there fit st =
           let w = operand_value variables r.values st.stored in
@@ -178,16 +189,22 @@ module _ (homes : List Home) (b : OpenBlock) (variables : ℕ → ℤ) (r : Runn
             holds =
                 subst (λ c. Holds homes c variables (memory_after Automatic (assignment_to Automatic) m) s) (sym (ap (λ (q : OpenBlock). q.current) st.added))
                 (array_holds a at s w (pos 0) right refl (ap (λ k. with_cell a k w r.arrays) place_is) refl);
+            spares = λ size. record {
+              variables_ = λ i lt none. added_held (pos 0) new (WriteArray a n index st.stored) st.added i;
+              arrays_ = λ c none. λ d. λ i. cell_other a (place_written n (operand_value variables r.values index)) w r.arrays c i
+                  (λ same also. none x (at ∙ ap (λ z. Some (home.Array z)) (sym same))) d;
+            };
           }
 
       pub store_done : (storage : Storage) → IsThere storage m.locals x j → (t : Target) → t ≡ target_at homes storage x n ty index → (st : Stores t value b new) →
-          Assigned homes new.current variables m r (operations_run variables (store_operations t value b new st) r) (assignment_to storage) []
+          Assigned homes b.current new.current variables m r (operations_run variables (store_operations t value b new st) r) (assignment_to storage) []
       store_done storage there t at st =
-          subst (λ q. (st : Stores q value b new) → Assigned homes new.current variables m r (operations_run variables (store_operations q value b new st) r) (assignment_to storage) []) (sym at)
+          subst (λ q. (st : Stores q value b new) → Assigned homes b.current new.current variables m r (operations_run variables (store_operations q value b new st) r)
+          (assignment_to storage) []) (sym at)
           (by storage there) st
         where
           by : (storage : Storage) → IsThere storage m.locals x j → (st : Stores (target_at homes storage x n ty index) value b new) →
-              Assigned homes new.current variables m r (operations_run variables (store_operations (target_at homes storage x n ty index) value b new st) r) (assignment_to storage) []
+              Assigned homes b.current new.current variables m r (operations_run variables (store_operations (target_at homes storage x n ty index) value b new st) r) (assignment_to storage) []
           by Automatic there st = automatic (slice_get homes x) refl there (homed.homed x there.row there.found) st
           by Static there st =
               let w = operand_value variables r.values st.stored in
@@ -198,4 +215,8 @@ module _ (homes : List Home) (b : OpenBlock) (variables : ℕ → ℤ) (r : Runn
                 holds =
                     subst (λ c. Holds homes c variables (memory_after Static (assignment_to Static) m) s) (sym (ap (λ (q : OpenBlock). q.current) st.added))
                     (global_holds s w (pos 0) right refl refl (ap (λ k. with_cell x k w r.globals) index_is));
+                spares = λ size. record {
+                  variables_ = λ i lt none. added_held (pos 0) new (WriteGlobal x index st.stored) st.added i;
+                  arrays_ = λ c none. refl;
+                };
               }

@@ -1,8 +1,8 @@
 -- The code of main is that of the program.
-use Rattle.std.proofs.Common.{◌≡◌, true, false, ℕ, zero, suc, ◌+◌, ◌*◌, ◌<◌, ◌≤◌, List, [], ◌∷◌, ◌++◌, length, map, take, drop, replicate, Option, Some, None, refl, sym, ap, ◌∙◌, subst}
-use Rattle.std.proofs.Common.{inl, inr, arith, append-nil, append_assoc, length-append, sum_by}
+use Rattle.std.proofs.Common.{◌≡◌, true, false, ℕ, zero, suc, ◌+◌, ◌*◌, ◌<◌, ◌≤◌, List, [], ◌∷◌, ◌++◌, length, map, replicate, Option, Some, None, refl, sym, ap, ◌∙◌, subst}
+use Rattle.std.proofs.Common.{arith, append-nil, length-append, sum_by}
 use Rattle.std.specs.Prelude.{slice_get, slice_index}
-use Rattle.std.specs.List.{flat_map, AllByRecursion}
+use Rattle.std.specs.List.{flat_map}
 use Rattle.std.proofs.lemmas.List.Sums.{sum_by-append}
 use Rattle.hls_ints.specs.Types.{IntegerType, long_int}
 use Rattle.c_program.specs.declared.tree.LocalVariable.{LocalVariable}
@@ -11,56 +11,54 @@ use Rattle.c_program.specs.declared.tree.Program.{Program as ProgramTree}
 use Rattle.c_program.specs.Plain.{function_of, program_of, statement_of}
 use Rattle.c_program.specs.Tree.{Statement, Function, Program}
 use Rattle.c_program.specs.Limits.{print_count}
-use Rattle.c_program.specs.Weight.{statement_weight, own_weight, with_callees, inlined, function_weight, routines, weight}
+use Rattle.c_program.specs.Weight.{function_weight, routines, weight}
 use Rattle.c_program.specs.Resolved.{IsFunction, IsResolved}
 use Rattle.thread_semantics.specs.State.{begun, started}
-use Rattle.thread_semantics.specs.Move.{work_move}
 use Rattle.thread_semantics.specs.Work.{Do, Onward, settled}
 use Rattle.block_ir.specs.declared.code.Stage.{Stage}
 use Rattle.block_ir.specs.declared.code.ThreadCode.{ThreadCode}
-use Rattle.code_following.specs.Following.{formats_of, IsEnd, Follows, IsLowered}
+use Rattle.code_following.specs.Following.{formats_of, Follows, IsLowered}
+use Rattle.ir_lower.specs.declared.homes.Home.{Home}
+use Rattle.ir_lower.specs.declared.homes.Home.TheVariants as home
 use Rattle.ir_lower.specs.Resuming.{nothing_kept, HasSites}
-use Rattle.ir_lower.specs.Taken.{is_sequential_function, is_sequential_program}
+use Rattle.ir_lower.specs.Taken.{is_sequential_program}
 use Rattle.ir_lower.specs.Labels.{led_stage, led}
 use Rattle.ir_lower.specs.Apart.{IsTypedNow, IsGood}
 use Rattle.ir_lower.specs.Control.{Whole, IsIn, AtLabel}
-use Rattle.ir_lower.specs.Doing.{Grows, Shifts, OnwardUpTo, Suits, SuitsTyping, Leads, Ends, IsCodeOf}
-use Rattle.ir_lower.specs.Locals.{arrays_of}
-use Rattle.ir_lower.specs.declared.homes.Home.{Home}
-use Rattle.ir_lower.specs.declared.homes.Home.TheVariants as home
-use Rattle.ir_lower.specs.Values.{most_values}
+use Rattle.ir_lower.specs.Seats.{LeadsBack, IsSeated, HasWord}
+use Rattle.ir_lower.specs.Doing.{Grows, Shifts, OnwardUpTo, Suits, SuitsTyping, Leads}
+use Rattle.ir_lower.specs.Calling.{IsCodeOf}
+use Rattle.ir_lower.specs.Locals.{variables_of, arrays_of, reached_locals, homes_in}
+use Rattle.ir_lower.specs.Reaching.{has, marks_of}
+use Rattle.ir_lower.specs.Values.{most_values, all_values}
+use Rattle.ir_lower.specs.Weighing.{inlined_weight}
 use Rattle.ir_lower.specs.Typed.{types_of, IsTypedStage, IsTypedCode}
 use Rattle.ir_lower.specs.Typing.{Typing, IsTypedHome, Fits, HasWords}
 use Rattle.ir_lower.proofs.Words.{sum_cons}
 use Rattle.ir_lower.proofs.Typing.{get_more}
-use Rattle.ir_lower.proofs.Staying.{stage_more, fresh_typed}
+use Rattle.ir_lower.proofs.Staying.{stage_more, fresh_typed, words_less}
 use Rattle.ir_lower.proofs.Resuming.{fresh_sound}
 use Rattle.ir_lower.proofs.Controlling.{led_length, begin_at, begun_idle}
-use Rattle.ir_lower.proofs.Growing.{grows_both, shifts_refl, shifts_both, begins_shifts, begun_reached, call_shifts}
-use Rattle.ir_lower.proofs.Stepping.{call_goes}
+use Rattle.ir_lower.proofs.Growing.{grows_both, shifts_both, begins_shifts, begun_reached}
+use Rattle.ir_lower.proofs.Seating.{seat_on}
+use Rattle.ir_lower.proofs.Backing.{closes_shifts, closes_goes}
+use Rattle.ir_lower.proofs.Callees.{function_in, sequential_in}
+use Rattle.ir_lower.proofs.Weighing.{body_weighs}
+use Rattle.ir_lower.proofs.Reached.{main_reached}
 use Rattle.ir_lower.proofs.Shapes.{shape_fresh, nothing_written}
 use Rattle.ir_lower.proofs.Sites.{formats_length}
-use Rattle.ir_lower.proofs.LocalHomes.{are_homes, IsDeclaredHome, declared_home}
-
-pub all_at : {A : Type 0} (Q : A → Type 0) (xs : List A) (n : ℕ) (x : A) → AllByRecursion Q xs → slice_get xs n ≡ Some x → Q x
-all_at Q [] n x all at = absurd cc
-all_at Q (y ∷ ys) zero x all at = subst Q (let same : y ≡ x = cc in same) all.0
-all_at Q (y ∷ ys) (suc n) x all at = all_at Q ys n x all.1 at
+use Rattle.ir_lower.proofs.LocalHomes.{IsDeclaredHome}
+use Rattle.ir_lower.proofs.Rooming.{room_homes, room_declared, room_sites}
 
 pub get_map : {A B : Type 0} (g : A → B) (xs : List A) (n : ℕ) (x : A) → slice_get xs n ≡ Some x → slice_get (map g xs) n ≡ Some (g x)
 get_map g [] n x at = absurd cc
 get_map g (y ∷ ys) zero x at = ap (λ z. Some (g z)) (let same : y ≡ x = cc in same)
 get_map g (y ∷ ys) (suc n) x at = get_map g ys n x at
 
--- the formats of a function are among those of all
-pub formats_split : (fs : List Function) (n : ℕ) (f : Function) → slice_get fs n ≡ Some f →
-    flat_map (λ (g : Function). formats_of g.body) fs ≡ flat_map (λ (g : Function). formats_of g.body) (take n fs) ++
-    (formats_of f.body ++ flat_map (λ (g : Function). formats_of g.body) (drop (suc n) fs))
-formats_split [] n f at = absurd cc
-formats_split (g ∷ gs) zero f at = ap (λ (h : Function). formats_of h.body ++ flat_map (λ (k : Function). formats_of k.body) gs) (let same : g ≡ f = cc in same)
-formats_split (g ∷ gs) (suc n) f at =
-    ap (λ l. formats_of g.body ++ l) (formats_split gs n f at)
-    ∙ sym (append_assoc (formats_of g.body) (flat_map (λ (h : Function). formats_of h.body) (take n gs)) (formats_of f.body ++ flat_map (λ (h : Function). formats_of h.body) (drop (suc n) gs)))
+pub get_none : {A B : Type 0} (g : A → B) (xs : List A) (n : ℕ) → slice_get xs n ≡ None → slice_get (map g xs) n ≡ None
+get_none g [] n at = refl
+get_none g (y ∷ ys) zero at = cc
+get_none g (y ∷ ys) (suc n) at = get_none g ys n at
 
 pub formats_count : (fs : List Function) → length (flat_map (λ (f : Function). formats_of f.body) fs) ≡ sum_by (λ (f : Function). print_count f.body) fs
 formats_count [] = refl
@@ -72,22 +70,17 @@ formats_count (f ∷ fs) =
     (λ (g : Function). print_count g.body) (f ∷ []) fs in
     omega (arith, both, own, rest, sum)
 
-pub take_map : {A B : Type 0} (g : A → B) (n : ℕ) (xs : List A) → take n (map g xs) ≡ map g (take n xs)
-take_map g zero xs = refl
-take_map g (suc n) [] = refl
-take_map g (suc n) (x ∷ xs) = ap (λ l. g x ∷ l) (take_map g n xs)
-
--- main's own weight is in the program's
-main_weighs : (P : Program) (f : Function) → slice_get P.functions P.main ≡ Some f → statement_weight f.body ≤ weight P
-main_weighs P f at =
-    let own = own_weighs P.functions P.main f at in
+-- main's weight is in the program's
+main_weighs : (P : Program) (f : Function) → IsResolved P → slice_get P.functions P.main ≡ Some f → inlined_weight P f.body ≤ weight P
+main_weighs P f resolved at =
+    let own = body_weighs P P.main f resolved.acyclic at in
     let sum = sum_cons (function_weight P.functions) P.main (routines P) in
     omega (arith, own, sum)
-  where
-    own_weighs : (fs : List Function) (main : ℕ) (f : Function) → slice_get fs main ≡ Some f → statement_weight f.body ≤ function_weight fs main
-    own_weighs [] main f at = absurd cc
-    own_weighs (g ∷ gs) main f at =
-        subst (λ o. statement_weight f.body ≤ with_callees own_weight (inlined own_weight (g ∷ gs) (length gs)) o) (sym at) (omega arith)
+
+pub values_among : (fs : List Function) (g : ℕ) (f : Function) → slice_get fs g ≡ Some f → most_values f.body ≤ all_values fs
+values_among [] g f at = absurd cc
+values_among (d ∷ fs) zero f at = subst (λ (z : Function). most_values z.body ≤ all_values (d ∷ fs)) (let same : d ≡ f = cc in same) (omega arith)
+values_among (d ∷ fs) (suc g) f at = let rest = values_among fs g f at in omega arith
 
 word_in : (count j : ℕ) → j < count → slice_get (replicate count long_int) j ≡ Some long_int
 word_in zero j lt = absurd (omega arith)
@@ -116,26 +109,16 @@ module _ (p : ProgramTree) (code : ThreadCode) (made : IsCodeOf p p.main code) (
   body = statement_of f.body
 
   abbrev homes : List Home
-  homes = made.is_new.homed.homes
+  homes = homes_in P p.main
 
   abbrev size : ℕ
-  size = length made.is_new.homed.variables
+  size = length (variables_of (reached_locals P))
 
   found : slice_get P.functions p.main ≡ Some (function_of f)
   found = get_map function_of p.functions.items p.main f made.at
 
-  leads : Leads None body made.begun made.lowered
-  leads = made.lowers (sym (ap is_sequential_function found) ∙ own)
-
-  sites : HasSites P body made.site
-  sites = record {
-    before = flat_map (λ (g : Function). formats_of g.body) (take p.main P.functions);
-    after = flat_map (λ (g : Function). formats_of g.body) (drop (suc p.main) P.functions);
-    all = formats_split P.functions p.main (function_of f) found;
-    number =
-        made.site_is ∙ ap (λ l. sum_by (λ (g : Function). print_count g.body) l) (sym (take_map function_of p.main p.functions.items))
-        ∙ sym (formats_count (take p.main P.functions));
-  }
+  leads : Leads P None body made.begun made.lowered
+  leads = made.lowers own (sequential_in P.functions p.main (function_of f) own found)
 
   first_begun : Shifts made.first made.begun
   first_begun =
@@ -148,15 +131,8 @@ module _ (p : ProgramTree) (code : ThreadCode) (made : IsCodeOf p p.main code) (
     idle = λ off. made.is_new.block.steps;
   }
 
-  begun_sites : HasSites P body made.begun.site
-  begun_sites = subst (HasSites P body) (sym (first_begun.site ∙ made.is_new.site_)) sites
-
   ended : Shifts made.lowered made.ended
-  ended = by made.ends
-    where
-      by : Ends made.lowered made.ended → Shifts made.lowered made.ended
-      by (inl e) = subst (Shifts made.lowered) (sym e.same) (shifts_refl made.lowered)
-      by (inr e) = call_shifts made.lowered made.ended e.ends
+  ended = closes_shifts made.lowered made.ended made.closes
 
   first_ended : Grows made.first made.ended
   first_ended = grows_both made.first made.lowered made.ended (grows_both made.first made.begun made.lowered first_begun.grows leads.grows) ended.grows
@@ -165,7 +141,7 @@ module _ (p : ProgramTree) (code : ThreadCode) (made : IsCodeOf p p.main code) (
   stage_of = slice_index made.finished.finishes.table
 
   abbrev W : Whole
-  W = record { setting = record { program = P; function = function_of f; stages = code.stages }; stage_of = stage_of }
+  W = record { setting = record { program = P; number = p.main; function = function_of f; callers = []; word = size; stages = code.stages }; stage_of = stage_of }
 
   whole : IsIn W made.ended
   whole = record {
@@ -176,29 +152,47 @@ module _ (p : ProgramTree) (code : ThreadCode) (made : IsCodeOf p p.main code) (
   good_lowered : IsGood size made.lowered
   good_lowered = leads.grows.good size (first_begun.grows.good size good_first)
 
-  -- the closing brace
-  after : (n : ℕ) → OnwardUpTo W homes n made.lowered []
-  after n = by made.ends
-    where
-      by : Ends made.lowered made.ended → OnwardUpTo W homes n made.lowered []
-      by (inl e) = λ on. absurd (let off = e.off in cc)
-      by (inr e) =
-          call_goes W homes size n [] made.lowered made.ended e.ends good_lowered whole
-          (λ g globals work. subst (λ w. IsEnd (work_move P (record { locals = g.locals; globals = globals }) g [] w)) (sym work) tt)
-
   module _ (resolved : IsResolved P) where
     is : IsFunction P (function_of f)
-    is = all_at (IsFunction P) P.functions p.main (function_of f) resolved.functions found
+    is = function_in P P.functions p.main (function_of f) resolved.functions found
 
-    suits : Suits W homes size body made.begun
+    marked : has (marks_of P) p.main ≡ true
+    marked = main_reached P resolved
+
+    begun_sites : HasSites P body made.begun.site
+    begun_sites = subst (HasSites P body) (sym (first_begun.site ∙ made.is_new.site)) (room_sites P p.main (function_of f) found marked)
+
+    seated : IsSeated P W homes size made.begun
+    seated = record {
+      program = refl;
+      resolved = resolved;
+      found = found;
+      reached = marked;
+      homes_are = refl;
+      size_is = refl;
+      word = refl;
+      rooms = first_begun.grows.rooms ∙ made.is_new.rooms;
+      waiting = tt;
+      back = subst (LeadsBack W) (sym (first_begun.grows.back ∙ made.is_new.back)) refl;
+    }
+
+    suits : Suits P W homes size body made.begun
     suits = record {
+      seated = seated;
       homes_ = first_begun.grows.homes ∙ made.is_new.homes;
       good = first_begun.grows.good size good_first;
-      locals = are_homes f.locals.items made.is_new.homed made.is_new.are;
+      locals = room_homes P p.main (function_of f) found (main_reached P resolved);
       in_loop = false;
       resolved = is.body;
       sites = begun_sites;
+      calls = λ g c. c;
     }
+
+    -- the closing brace
+    after : (n : ℕ) → OnwardUpTo W homes n made.lowered []
+    after n =
+        closes_goes P W homes size n made.lowered made.ended made.closes good_lowered
+        (seat_on P W homes size made.begun made.lowered leads.grows.back leads.grows.rooms seated) whole
 
     begins : (n : ℕ) → AtLabel W homes n made.start (settled Onward (Do body ∷ []))
     begins n =
@@ -211,51 +205,64 @@ module _ (p : ProgramTree) (code : ThreadCode) (made : IsCodeOf p p.main code) (
     lowered_at = λ n variables arrays.
         subst (λ o. Follows P code.stages n 0 variables arrays (started o p.main [])) (sym found)
         (subst (λ l. Follows P code.stages n l variables arrays (begun (function_of f) p.main [] ∷ [])) made.finished.finishes.first
-        (begins n variables arrays (begun (function_of f) p.main []) refl (shape_fresh f.locals.items) (λ x j v e. absurd (nothing_written f.locals.items x j v e)) tt))
+        (begins n tt variables arrays (begun (function_of f) p.main []) [] refl
+        (record { number = refl; shape = shape_fresh f.locals.items; locals = λ x j v e. absurd (nothing_written f.locals.items x j v e); kept = tt; callers = tt })))
 
     -- its types are those of the program's objects
 
-    variables_are : code.variables ≡ made.is_new.homed.variables ++ replicate (most_values body) long_int
+    variables_are : code.variables ≡ variables_of (reached_locals P) ++ replicate (all_values P.functions) long_int
     variables_are =
         made.finished.variables ∙ ap (λ vs. vs ++ replicate made.ended.act_operands long_int) (first_ended.variables ∙ made.is_new.variables)
-        ∙ ap (λ n. made.is_new.homed.variables ++ replicate n long_int) (first_ended.words ∙ made.is_new.words)
+        ∙ ap (λ n. variables_of (reached_locals P) ++ replicate n long_int) (first_ended.words ∙ made.is_new.words_)
 
-    arrays_are : code.arrays ≡ arrays_of f.locals.items
-    arrays_are = made.finished.arrays ∙ first_ended.arrays ∙ made.is_new.arrays ∙ made.is_new.are.arrays
+    arrays_are : code.arrays ≡ arrays_of (reached_locals P)
+    arrays_are = made.finished.arrays ∙ first_ended.arrays ∙ made.is_new.arrays
 
     abbrev typing : Typing
     typing = record { program = P; function = function_of f; types = types_of P code }
 
-    home_typed : (l : LocalVariable) (o : Option Home) → IsDeclaredHome f.locals.items l o → IsTypedHome (types_of P code) l o
+    home_typed : (l : LocalVariable) (o : Option Home) → IsDeclaredHome (reached_locals P) l o → IsTypedHome (types_of P code) l o
     home_typed l None h = absurd h
     home_typed l (Some (home.Variable n)) h =
         ap (λ ts. slice_get ts n) variables_are
-        ∙ get_more made.is_new.homed.variables (replicate (most_values body) long_int) n l.ty (ap (λ ts. slice_get ts n) made.is_new.are.variables ∙ h)
-    home_typed l (Some (home.Array a)) h =
-        ap (λ arrays. slice_get arrays a) arrays_are ∙ h
+        ∙ get_more (variables_of (reached_locals P)) (replicate (all_values P.functions) long_int) n l.ty h
+    home_typed l (Some (home.Array a)) h = ap (λ arrays. slice_get arrays a) arrays_are ∙ h
 
-    fits : Fits typing homes
-    fits = record {
-      locals = λ x l e.
-          home_typed l (slice_get homes x)
-          (subst (λ hs. IsDeclaredHome f.locals.items l (slice_get hs x)) (sym made.is_new.are.homes) (declared_home [] f.locals.items x l e));
+    fits : (g : ℕ) (d : Function) → slice_get P.functions g ≡ Some d → has (marks_of P) g ≡ true → Fits (record typing { function = d }) (homes_in P g)
+    fits g d at reached = record {
+      locals = λ x l e. home_typed l (slice_get (homes_in P g) x) (room_declared P g d at reached x l e);
       globals = refl;
     }
 
-    words : HasWords (types_of P code) size (most_values body)
-    words = λ j lt. ap (λ ts. slice_get ts (size + j)) variables_are ∙ word_at made.is_new.homed.variables (most_values body) j (size + j) refl lt
+    words : HasWords (types_of P code) size (all_values P.functions)
+    words = λ j lt. ap (λ ts. slice_get ts (size + j)) variables_are ∙ word_at (variables_of (reached_locals P)) (all_values P.functions) j (size + j) refl lt
 
-    light : statement_weight body ≤ weight P
-    light = main_weighs P (function_of f) found
+    words_of : (g : ℕ) (d : Function) → slice_get P.functions g ≡ Some d → HasWords (types_of P code) size (most_values d.body)
+    words_of g d at = words_less (types_of P code) size (most_values d.body) (all_values P.functions) (values_among P.functions g d at) words
 
-    suits_typing : SuitsTyping typing size body made.begun
+    light : inlined_weight P body ≤ weight P
+    light = main_weighs P (function_of f) resolved found
+
+    suits_typing : SuitsTyping P typing size body made.begun
     suits_typing = record {
-      fits = subst (Fits typing) (sym (first_begun.grows.homes ∙ made.is_new.homes)) fits;
-      words = words;
+      seated = record {
+        program = refl;
+        resolved = resolved;
+        number = p.main;
+        found = found;
+        reached = marked;
+        rooms = first_begun.grows.rooms ∙ made.is_new.rooms;
+        fits = fits;
+        words = words_of;
+        back = subst (HasWord (types_of P code) size) (sym (first_begun.grows.back ∙ made.is_new.back)) tt;
+      };
+      fits = subst (Fits typing) (sym (first_begun.grows.homes ∙ made.is_new.homes)) (fits p.main (function_of f) found marked);
+      words = words_of p.main (function_of f) found;
       good = first_begun.grows.good size good_first;
       in_loop = false;
       resolved = is.body;
       sites = begun_sites;
+      calls = λ g c. c;
     }
 
     first_typed : IsTypedNow typing 0 made.first
@@ -266,9 +273,9 @@ module _ (p : ProgramTree) (code : ThreadCode) (made : IsCodeOf p p.main code) (
       stages = λ l t e. absurd (let none : slice_get [] l ≡ Some t = ap (λ xs. slice_get xs l) (sym made.is_new.items) ∙ e in cc);
     }
 
-    ended_typed : IsTypedNow typing (0 + statement_weight body) made.ended
+    ended_typed : IsTypedNow typing (0 + inlined_weight P body) made.ended
     ended_typed =
-        ended.typed typing (0 + statement_weight body) size good_lowered
+        ended.typed typing (0 + inlined_weight P body) size good_lowered
         (leads.typed typing 0 size suits_typing (first_begun.typed typing 0 size good_first first_typed))
 
     long : length code.stages ≡ length made.ended.stages.stages.items
@@ -277,7 +284,7 @@ module _ (p : ProgramTree) (code : ThreadCode) (made : IsCodeOf p p.main code) (
     stage_typed : (l : ℕ) (s : Stage) → slice_get code.stages l ≡ Some s → IsTypedStage (types_of P code) P (length code.stages) (4 * weight P) s
     stage_typed l s e =
         let h = led_at stage_of made.ended.stages.stages.items l s (ap (λ z. slice_get z l) (sym made.finished.finishes.stages) ∙ e) in
-        let m = 4 * (0 + statement_weight body) in
+        let m = 4 * (0 + inlined_weight P body) in
         subst (λ n. IsTypedStage (types_of P code) P n (4 * weight P) s) (sym long)
         (subst (IsTypedStage (types_of P code) P (length made.ended.stages.stages.items) (4 * weight P)) (sym h.2)
         (stage_more (types_of P code) P (length made.ended.stages.stages.items) (length made.ended.stages.stages.items) m (4 * weight P) (omega arith) (let w = light in omega arith)
@@ -287,6 +294,5 @@ module _ (p : ProgramTree) (code : ThreadCode) (made : IsCodeOf p p.main code) (
     typed_at = record {
       some = (let e = long in let b = made.finished.finishes.below 0 in omega (arith, e, b));
       stages = stage_typed;
-      arrays = λ main at_main.
-          arrays_are ∙ ap arrays_of (let g : function_of f ≡ main = (let both : Some (function_of f) ≡ Some main = sym found ∙ at_main in cc) in ap (λ (z : Function). z.locals) g);
+      arrays = arrays_are;
     }

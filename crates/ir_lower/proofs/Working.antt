@@ -41,10 +41,10 @@ grows_by : (old new : OpenBlock) (os : List Operation) → new ≡ with_more old
 grows_by old new os is = (os, ap (λ (z : OpenBlock). z.operations) is)
 
 module _ (T : Types) (old new : OpenBlock) (g : Grows old new) where
-  operand_on : (a : Operand) → IsTypedOperand T old.operations a → IsTypedOperand T new.operations a
+  pub operand_on : (a : Operand) → IsTypedOperand T old.operations a → IsTypedOperand T new.operations a
   operand_on a h = subst (λ os. IsTypedOperand T os a) (sym g.1) (operand_more T old.operations g.0 a h)
 
-  target_on : (t : Target) → IsTypedTarget T old.operations t → IsTypedTarget T new.operations t
+  pub target_on : (t : Target) → IsTypedTarget T old.operations t → IsTypedTarget T new.operations t
   target_on t h = subst (λ os. IsTypedTarget T os t) (sym g.1) (target_more T old.operations g.0 t h)
 
 -- The index of a place.
@@ -54,7 +54,7 @@ pub record IsPlaced (T : Types) (b : OpenBlock) (t : Target) (ty : IntegerType) 
   pub target : IsTypedTarget T b.operations t
   pub type : target_type t ≡ ty
 
-place_typed : (homes : List Home) (place : Place) (old new : OpenBlock) (t : Target) → Places homes place old new t → (S : Typing) → Fits S homes → IsPlace S.program S.function place →
+pub place_typed : (homes : List Home) (place : Place) (old new : OpenBlock) (t : Target) → Places homes place old new t → (S : Typing) → Fits S homes → IsPlace S.program S.function place →
     IsTypedOpen S.types old → IsPlaced S.types new t (place_type place)
 place_typed homes (Place.Scalar storage x ty) old new t p S fits is open_ =
     let zero_ : IsTypedOperand S.types new.operations (plain (Constant int_type (pos 0))) = refl in
@@ -77,14 +77,14 @@ pub place_count : (homes : List Home) (place : Place) (old new : OpenBlock) (t :
 place_count homes (Place.Scalar storage x ty) old new t p = let e = ap (λ (z : OpenBlock). length z.operations) p.same in omega arith
 place_count homes (Place.Element storage x n ty e) old new t p = let c = p.evaluates.computes.count in omega (arith, c)
 
-place_grows : (homes : List Home) (place : Place) (old new : OpenBlock) (t : Target) → Places homes place old new t → Grows old new
+pub place_grows : (homes : List Home) (place : Place) (old new : OpenBlock) (t : Target) → Places homes place old new t → Grows old new
 place_grows homes (Place.Scalar storage x ty) old new t p = ([], ap (λ (z : OpenBlock). z.operations) p.same ∙ sym (append-nil old.operations))
 place_grows homes (Place.Element storage x n ty e) old new t p = grows_by old new p.evaluates.operations p.evaluates.added
 
 -- What is stored.
 
 module _ (T : Types) where
-  variable_stored : (n : ℕ) (ty : IntegerType) (w : Operand) (old new : OpenBlock) → new.operations ≡ old.operations → new.current ≡ slice_set old.current n (Some w) →
+  pub variable_stored : (n : ℕ) (ty : IntegerType) (w : Operand) (old new : OpenBlock) → new.operations ≡ old.operations → new.current ≡ slice_set old.current n (Some w) →
       slice_get T.variables n ≡ Some ty → IsTypedOperand T old.operations w → operand_type w ≡ ty → IsTypedOpen T old → IsTypedOpen T new
   variable_stored n ty w old new same current at typed is open_ = record {
     operations = subst (AreTyped T []) (sym same) open_.operations;
@@ -99,7 +99,7 @@ module _ (T : Types) where
         (set_element old.current n x (Some w) (Some a) (ap (λ l. slice_get l x) (sym current) ∙ e));
   }
 
-  store_typed : (t : Target) (value : Operand) (old new : OpenBlock) → Stores t value old new → (length old.operations < 2 ^ 32 → length new.operations < 2 ^ 32) →
+  pub store_typed : (t : Target) (value : Operand) (old new : OpenBlock) → Stores t value old new → (length old.operations < 2 ^ 32 → length new.operations < 2 ^ 32) →
       IsTypedTarget T old.operations t → IsTypedOperand T old.operations value → IsTypedOpen T old → IsTypedOpen T new
   store_typed (target.Variable n ty) value old new s few at typed open_ =
       variable_stored n ty s.stored old new s.operations s.current at (operand_converted T ty old.operations value s.stored s.converted typed) s.converted.type open_
@@ -110,7 +110,7 @@ module _ (T : Types) where
       open_more T old new (WriteGlobal x index s.stored) s.added (few open_.few) open_
       (at.0, operand_converted T ty old.operations value s.stored s.converted typed, at.1 ∙ ap Some (sym s.converted.type))
 
-store_count : (t : Target) (value : Operand) (old new : OpenBlock) → Stores t value old new → length new.operations ≤ length old.operations + 1
+pub store_count : (t : Target) (value : Operand) (old new : OpenBlock) → Stores t value old new → length new.operations ≤ length old.operations + 1
 store_count (target.Variable n ty) value old new s = let e = ap length s.operations in omega arith
 store_count (target.Array x n ty index) value old new s =
     let e = ap (λ (z : OpenBlock). length z.operations) s.added ∙ length-append old.operations (WriteArray x n index s.stored ∷ []) in omega arith
@@ -118,10 +118,10 @@ store_count (target.Global x ty index) value old new s =
     let e = ap (λ (z : OpenBlock). length z.operations) s.added ∙ length-append old.operations (WriteGlobal x index s.stored ∷ []) in omega arith
 
 -- one more step of the program
-stepped_typed : (T : Types) (b new : OpenBlock) → new ≡ record b { steps = suc b.steps } → IsTypedOpen T b → IsTypedOpen T new
+pub stepped_typed : (T : Types) (b new : OpenBlock) → new ≡ record b { steps = suc b.steps } → IsTypedOpen T b → IsTypedOpen T new
 stepped_typed T b new is open_ = subst (IsTypedOpen T) (sym is) (record { operations = open_.operations; few = open_.few; current = open_.current })
 
-stepped_count : (b new : OpenBlock) → new ≡ record b { steps = suc b.steps } → length new.operations ≡ length b.operations
+pub stepped_count : (b new : OpenBlock) → new ≡ record b { steps = suc b.steps } → length new.operations ≡ length b.operations
 stepped_count b new is = ap (λ (z : OpenBlock). length z.operations) is
 
 -- Assignments.

@@ -10,7 +10,7 @@ use Rattle.block_ir.specs.declared.operand.Operand.{Operand}
 use Rattle.block_ir.specs.declared.operand.Source.TheVariants.{Constant as FromConstant}
 use Rattle.block_ir.specs.declared.block.Operation.{Operation}
 use Rattle.block_ir.specs.declared.block.Operation.TheVariants.{WriteArray, WriteGlobal}
-use Rattle.block_ir.specs.Run.{Access, Write, Running, operations_run}
+use Rattle.block_ir.specs.Run.{Cells, Access, Write, Running, operations_run}
 use Rattle.code_following.specs.Following.{reads_of}
 use Rattle.ir_lower.specs.declared.homes.Home.{Home}
 use Rattle.ir_lower.specs.declared.homes.Home.TheVariants as home
@@ -18,7 +18,7 @@ use Rattle.ir_lower.specs.declared.places.Target.{Target}
 use Rattle.ir_lower.specs.declared.places.Target.TheVariants as target
 use Rattle.ir_lower.specs.declared.open_block.OpenBlock.{OpenBlock}
 use Rattle.ir_lower.specs.Needs.{plain, IsConverted, AreBelow}
-use Rattle.ir_lower.specs.Evaluating.{target_at, with_more, Holds, Evaluates}
+use Rattle.ir_lower.specs.Evaluating.{current_value, target_at, with_more, Holds, Evaluates}
 use Rattle.ir_lower.specs.Closing.{HasNoted}
 
 -- the variable n holds the value, converted to the type, from now on
@@ -95,10 +95,20 @@ abbrev pub writes_of : Storage → Assignment → List Access
 writes_of Automatic a = []
 writes_of Static a = Write a.target.variable a.target.index (wrapped a.target.ty a.value) ∷ []
 
--- from r to s the reads and the write of the step are made, and s holds what the step leaves
-pub record Assigned (homes : List Home) (current : List (Option Operand)) (variables : ℕ → ℤ) (m : Memory) (r s : Running) (a : Assignment) (ls : List Location) : Type 0 where
+-- the variables below size and the arrays that are no local's home hold what they held
+pub record Spares (homes : List Home) (size : ℕ) (variables after : ℕ → ℤ) (arrays cells : Cells) : Type 0 where
+  pub variables_ : (n : ℕ) → n < size → ((x : ℕ) → slice_get homes x ≡ Some (home.Variable n) → ⊥) → after n ≡ variables n
+  pub arrays_ : (a : ℕ) → ((x : ℕ) → slice_get homes x ≡ Some (home.Array a) → ⊥) → cells a ≡ arrays a
+
+-- what a run so far holds in each variable
+abbrev pub now_held : List (Option Operand) → (ℕ → ℤ) → List ℤ → ℕ → ℤ
+now_held current variables values x = current_value (slice_get current x) variables values x
+
+-- from r to s the reads and the write of the step are made, s holds what the step leaves, and nothing else is changed
+pub record Assigned (homes : List Home) (before current : List (Option Operand)) (variables : ℕ → ℤ) (m : Memory) (r s : Running) (a : Assignment) (ls : List Location) : Type 0 where
   pub accesses : s.accesses ≡ r.accesses ++ (reads_of ls ++ writes_of a.target.storage a)
   pub holds : Holds homes current variables (memory_after a.target.storage a m) s
+  pub spares : (size : ℕ) → Spares homes size (now_held before variables r.values) (now_held current variables s.values) r.arrays s.arrays
 
 -- operations were added that do the step, wherever it is defined
 pub record Assigns (homes : List Home) (F : Memory → Evaluation Assignment) (old new : OpenBlock) : Type 0 where
@@ -112,4 +122,4 @@ pub record Assigns (homes : List Home) (F : Memory → Evaluation Assignment) (o
       AreBelow (length old.operations) old.current → length r.values ≡ length old.operations →
       HaveHomes homes (length old.current) m.locals → Holds homes old.current variables m r → F m ≡ Gives a ls →
       IsThere a.target.storage m.locals a.target.variable a.target.index →
-      Assigned homes new.current variables m r (operations_run variables operations r) a ls
+      Assigned homes old.current new.current variables m r (operations_run variables operations r) a ls

@@ -192,6 +192,8 @@ side nonzero otherwise false = otherwise
 -- what every part keeps
 pub record Keeps (old new : Lowering) : Type 0 where
   pub homes : new.homes ≡ old.homes
+  pub back : new.back ≡ old.back
+  pub rooms : new.rooms ≡ old.rooms
   pub variables : new.variables ≡ old.variables
   pub arrays : new.arrays ≡ old.arrays
   pub words : new.act_operands ≡ old.act_operands

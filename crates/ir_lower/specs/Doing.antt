@@ -1,36 +1,36 @@
 -- What the code of a statement does.
-use Rattle.std.specs.Prelude.{◌≡◌, ℕ, ◌+◌, ◌<◌, ◌≤◌, Bool, true, false, List, [], ◌++◌, ◌∷◌, length, map, take, replicate, sum_by, Option, Some, None, slice_get, ◌⊎◌}
+use Rattle.std.specs.Prelude.{◌≡◌, ℕ, ◌+◌, ◌<◌, ◌≤◌, Bool, true, false, List, [], ◌++◌, ◌∷◌, length, replicate, Option, Some, None, Contains, ◌⊎◌}
 use Rattle.hls_ints.specs.Types.{long_int}
-use Rattle.c_program.specs.declared.tree.Function.{Function as FunctionTree}
-use Rattle.c_program.specs.declared.tree.LocalVariable.{LocalVariable}
-use Rattle.c_program.specs.declared.tree.Program.{Program as ProgramTree}
-use Rattle.c_program.specs.Plain.{function_of, statement_of}
-use Rattle.c_program.specs.Tree.{Condition, Statement, Function}
+use Rattle.c_program.specs.Tree.{Condition, Statement, Program}
 use Rattle.c_program.specs.Limits.{print_count}
+use Rattle.c_program.specs.Calls.{calls_of}
 use Rattle.c_program.specs.Resolved.{IsStatement}
-use Rattle.c_program.specs.Weight.{statement_weight}
 use Rattle.thread_semantics.specs.Work.{Work, Do, settled, Onward, Leaving, Turning}
 use Rattle.block_ir.specs.declared.code.ThreadCode.{ThreadCode}
 use Rattle.ir_lower.specs.declared.homes.Home.{Home}
-use Rattle.ir_lower.specs.declared.homes.Homes.{Homes}
+use Rattle.ir_lower.specs.declared.returning.Back.{Back}
 use Rattle.ir_lower.specs.declared.branching.Loop.{Loop}
 use Rattle.ir_lower.specs.declared.branching.ChoiceLabels.{ChoiceLabels}
 use Rattle.ir_lower.specs.declared.branching.LoopLabels.{LoopLabels}
 use Rattle.ir_lower.specs.declared.stages.Stages.{Stages}
 use Rattle.ir_lower.specs.declared.lowering.Lowering.{Lowering}
 use Rattle.ir_lower.specs.Closing.{IsFresh}
-use Rattle.ir_lower.specs.Locals.{AreHomesOf}
+use Rattle.ir_lower.specs.Locals.{variables_of, arrays_of, reached_locals, rooms_of, homes_in, site_in}
 use Rattle.ir_lower.specs.Values.{most_values}
-use Rattle.ir_lower.specs.Taken.{is_sequential}
+use Rattle.ir_lower.specs.Taken.{is_sequential, is_sequential_program}
+use Rattle.ir_lower.specs.Weighing.{inlined_weight}
+use Rattle.ir_lower.specs.Seats.{IsSeated, IsSeatedTyping}
 use Rattle.ir_lower.specs.Typing.{Typing, Fits, HasWords}
 use Rattle.ir_lower.specs.Resuming.{AreHomes, nothing_kept, HasSites}
 use Rattle.ir_lower.specs.Labels.{IsHere, Finishes, is_used, IsOpen, IsTarget, Advances}
 use Rattle.ir_lower.specs.Apart.{IsTypedNow, IsGood}
-use Rattle.ir_lower.specs.Control.{with_label, Begun, BegunOr, Begins, Binds, Leaps, EndsCall, Whole, IsIn, AtLabelUpTo, GoesOn, Decides}
+use Rattle.ir_lower.specs.Control.{with_label, Begun, BegunOr, Begins, Binds, Leaps, Whole, IsIn, AtLabelUpTo, GoesOn, Decides}
 
 -- what parts of the code keep
 pub record Grows (old new : Lowering) : Type 0 where
   pub homes : new.homes ≡ old.homes
+  pub back : new.back ≡ old.back
+  pub rooms : new.rooms ≡ old.rooms
   pub variables : new.variables ≡ old.variables
   pub arrays : new.arrays ≡ old.arrays
   pub words : new.act_operands ≡ old.act_operands
@@ -155,65 +155,75 @@ abbrev pub AreTargets : Option Loop → Stages → Type 0
 AreTargets None s = Unit {0}
 AreTargets (Some l) s = IsTarget l.leaving s × IsTarget l.turning s
 
+-- the label where a return into a caller leads
+abbrev pub IsBackTarget : Option Back → Stages → Type 0
+IsBackTarget None s = Unit {0}
+IsBackTarget (Some b) s = IsTarget b.label s
+
 abbrev pub IsOut : Option Loop → ℕ → Type 0
 IsOut None label = ⊥
 IsOut (Some l) label = (label ≡ l.leaving) ⊎ (label ≡ l.turning)
 
 -- the code of a statement leaves open what was, and begins where it did
 pub record Proceeds (around : Option Loop) (old new : Lowering) : Type 0 where
+  pub back : new.back ≡ old.back
   pub advances : Advances (λ label. ⊥) old.stages new.stages
   pub begun : (start : ℕ) → BegunOr (IsOut around) start old → BegunOr (IsOut around) start new
 
 -- what the code of a statement rests on
-pub record Suits (W : Whole) (homes : List Home) (size : ℕ) (s : Statement) (c : Lowering) : Type 0 where
+pub record Suits (P : Program) (W : Whole) (homes : List Home) (size : ℕ) (s : Statement) (c : Lowering) : Type 0 where
+  pub seated : IsSeated P W homes size c
   pub homes_ : c.homes ≡ homes
   pub good : IsGood size c
   pub locals : AreHomes W.setting.function.locals homes size
   pub in_loop : Bool
   pub resolved : IsStatement W.setting.program W.setting.function in_loop s
   pub sites : HasSites W.setting.program s c.site
+  pub calls : (g : ℕ) → Contains (calls_of s) g → Contains (calls_of W.setting.function.body) g
 
 -- the same for its types
-pub record SuitsTyping (S : Typing) (size : ℕ) (s : Statement) (c : Lowering) : Type 0 where
+pub record SuitsTyping (P : Program) (S : Typing) (size : ℕ) (s : Statement) (c : Lowering) : Type 0 where
+  pub seated : IsSeatedTyping P S size c
   pub fits : Fits S c.homes
   pub words : HasWords S.types size (most_values s)
   pub good : IsGood size c
   pub in_loop : Bool
   pub resolved : IsStatement S.program S.function in_loop s
   pub sites : HasSites S.program s c.site
+  pub calls : (g : ℕ) → Contains (calls_of s) g → Contains (calls_of S.function.body) g
 
 -- the code of a statement was added: where the work after it goes on behind it, and at the labels where break and
 -- continue lead, the work that begins with the statement goes on before it
-pub record Leads (around : Option Loop) (s : Statement) (old new : Lowering) : Type 0 where
+pub record Leads (P : Program) (around : Option Loop) (s : Statement) (old new : Lowering) : Type 0 where
   pub grows : Grows old new
   pub site : new.site ≡ old.site + print_count s
-  pub typed : (S : Typing) (w size : ℕ) → SuitsTyping S size s old → IsTypedNow S w old → IsTypedNow S (w + statement_weight s) new
-  pub leads : (W : Whole) (homes : List Home) (size n : ℕ) (k : List Work) → Suits W homes size s old → IsIn W new → LeadsOut W homes n new.stages.used around k →
+  pub typed : (S : Typing) (w size : ℕ) → SuitsTyping P S size s old → IsTypedNow S w old → IsTypedNow S (w + inlined_weight S.program s) new
+  pub leads : (W : Whole) (homes : List Home) (size n : ℕ) (k : List Work) → Suits P W homes size s old → IsIn W new → LeadsOut W homes n new.stages.used around k →
       OnwardUpTo W homes n new (settled Onward k) → OnwardUpTo W homes n old (settled Onward (Do s ∷ k))
 
--- of those that call no function of pthreads
-abbrev pub Lowers : Option Loop → Statement → Lowering → Lowering → Type 0
-Lowers around s old new = is_sequential s ≡ true → Leads around s old new
+-- of those that call no function of pthreads, in a program in which no function does
+abbrev pub Lowers : Program → Option Loop → Statement → Lowering → Lowering → Type 0
+Lowers P around s old new = is_sequential_program P ≡ true → is_sequential s ≡ true → Leads P around s old new
 
 -- a statement without others in it is lowered where it is reached
-abbrev pub LowersHere : Option Loop → Statement → Lowering → Lowering → Type 0
-LowersHere around s old new = is_sequential s ≡ true → old.reached ≡ true → Leads around s old new
+abbrev pub LowersHere : Program → Option Loop → Statement → Lowering → Lowering → Type 0
+LowersHere P around s old new = is_sequential s ≡ true → old.reached ≡ true → Leads P around s old new
 
--- nothing yet
-pub record IsNew (locals : List LocalVariable) (site values : ℕ) (c : Lowering) : Type 0 where
-  pub homed : Homes
-  pub are : AreHomesOf locals homed
-  pub homes : c.homes ≡ homed.homes
-  pub variables : c.variables ≡ homed.variables
-  pub arrays : c.arrays ≡ homed.arrays
-  pub block : IsFresh (length homed.variables + 4) c.block
+-- nothing yet: the function of that number, with so many words
+pub record IsNew (P : Program) (number words : ℕ) (c : Lowering) : Type 0 where
+  pub homes : c.homes ≡ homes_in P number
+  pub back : c.back ≡ None
+  pub rooms : c.rooms ≡ rooms_of P
+  pub variables : c.variables ≡ variables_of (reached_locals P)
+  pub arrays : c.arrays ≡ arrays_of (reached_locals P)
+  pub block : IsFresh (length (variables_of (reached_locals P)) + 4) c.block
   pub items : c.stages.stages.items ≡ []
   pub labels : c.stages.labels ≡ []
   pub used : c.stages.used ≡ []
   pub places : c.stages.places ≡ []
   pub reached : c.reached ≡ true
-  pub site_ : c.site ≡ site
-  pub words : c.act_operands ≡ values
+  pub site : c.site ≡ site_in P number
+  pub words_ : c.act_operands ≡ words
 
 -- a label that is the first place of the code
 pub record Starts (start : ℕ) (old new : Lowering) : Type 0 where
@@ -223,43 +233,7 @@ pub record Starts (start : ℕ) (old new : Lowering) : Type 0 where
   pub relabels : Relabels old labelled
   pub begins : Begins start labelled new
 
--- the return at the closing brace
-pub record EndsNot (old new : Lowering) : Type 0 where
-  pub off : old.reached ≡ false
-  pub same : new ≡ old
-
-pub record EndsHere (old new : Lowering) : Type 0 where
-  pub on : old.reached ≡ true
-  pub ends : EndsCall old new
-
-abbrev pub Ends : Lowering → Lowering → Type 0
-Ends old new = EndsNot old new ⊎ EndsHere old new
-
--- the code of a function's body, and of the return at its closing brace
-pub record LowersBody (s : Statement) (old new : Lowering) : Type 0 where
-  pub lowered : Lowering
-  pub labels : Proceeds None old lowered
-  pub lowers : Lowers None s old lowered
-  pub ends : Ends lowered new
-
 pub record IsFinished (start : ℕ) (c : Lowering) (code : ThreadCode) : Type 0 where
   pub variables : code.variables ≡ c.variables ++ replicate c.act_operands long_int
   pub arrays : code.arrays ≡ c.arrays
   pub finishes : Finishes start c.stages code.stages
-
--- the code was made of the function of that number, step by step
-pub record IsCodeOf (p : ProgramTree) (number : ℕ) (code : ThreadCode) : Type 0 where
-  pub function : FunctionTree
-  pub at : slice_get p.functions.items number ≡ Some function
-  pub site : ℕ
-  pub site_is : site ≡ sum_by (λ (f : Function). print_count f.body) (map function_of (take number p.functions.items))
-  pub first : Lowering
-  pub is_new : IsNew function.locals.items site (most_values (statement_of function.body)) first
-  pub start : ℕ
-  pub begun : Lowering
-  pub starts : Starts start first begun
-  pub lowered : Lowering
-  pub lowers : Lowers None (statement_of function.body) begun lowered
-  pub ended : Lowering
-  pub ends : Ends lowered ended
-  pub finished : IsFinished start ended code

@@ -17,3 +17,8 @@ pub mod Evaluating
 pub mod Arithmetic
 pub mod Assigning
 pub mod Closing
+pub mod Weighing
+pub mod Reaching
+pub mod Seats
+pub mod Passing
+pub mod Calling

@@ -13,7 +13,7 @@ use Rattle.ir_lower.specs.declared.homes.Home.{Home}
 use Rattle.ir_lower.specs.declared.open_block.OpenBlock.{OpenBlock}
 use Rattle.ir_lower.specs.Needs.{AreBelow}
 use Rattle.ir_lower.specs.Evaluating.{current_value, Holds, Reads}
-use Rattle.ir_lower.specs.Assigning.{HaveHomes}
+use Rattle.ir_lower.specs.Assigning.{HaveHomes, Spares}
 use Rattle.ir_lower.specs.Closing.{HasNoted}
 
 -- the variables from n on hold these words of 64 bits
@@ -41,10 +41,11 @@ abbrev pub held_by : List (Option Operand) → (ℕ → ℤ) → List ℤ → �
 held_by current variables values x = current_value (slice_get current x) variables values x
 
 -- from r to s nothing is written and these globals are read, and the variables from n on hold these words
-pub record Held (homes : List Home) (current : List (Option Operand)) (variables : ℕ → ℤ) (n : ℕ) (m : Memory) (r s : Running) (ws : List ℤ) (ls : List Location) : Type 0 where
+pub record Held (homes : List Home) (before current : List (Option Operand)) (variables : ℕ → ℤ) (n : ℕ) (m : Memory) (r s : Running) (ws : List ℤ) (ls : List Location) : Type 0 where
   pub reads : Reads r s ls
   pub holds : Holds homes current variables m s
   pub words : HoldWords (held_by current variables s.values) n ws
+  pub spares : Spares homes n (held_by before variables r.values) (held_by current variables s.values) r.arrays s.arrays
 
 -- operations were added that put the values that F comes to into the variables from n on, which no local has
 pub record Puts (homes : List Home) (n : ℕ) (F : Memory → Evaluation (List ℤ)) (old new : OpenBlock) : Type 0 where
@@ -58,7 +59,7 @@ pub record Puts (homes : List Home) (n : ℕ) (F : Memory → Evaluation (List �
   pub does : (variables : ℕ → ℤ) (r : Running) (m : Memory) (ws : List ℤ) (ls : List Location) →
       AreBelow (length old.operations) old.current → length r.values ≡ length old.operations → HaveHomes homes n m.locals →
       n + length ws ≤ length old.current → Holds homes old.current variables m r → F m ≡ Gives ws ls →
-      Held homes new.current variables n m r (operations_run variables operations r) ws ls
+      Held homes old.current new.current variables n m r (operations_run variables operations r) ws ls
 
 abbrev pub PutsValue : List Home → ℕ → IntegerType → Expression → OpenBlock → OpenBlock → Type 0
 PutsValue homes n ty e old new = Puts homes n (λ m. converted_argument ty e m) old new

@@ -1,15 +1,7 @@
--- What lowering takes: programs in which main calls no function of the program.
-use Rattle.std.specs.Prelude.{ℕ, Bool, true, false, ◌&&◌, nat_eq, nat_le, List, length, count_by, Option, Some, None, slice_get}
-use Rattle.c_program.specs.Tree.{Expression, RightSide, Piece, Statement, Function, Program}
+-- What lowering takes, and what makes no pthread call.
+use Rattle.std.specs.Prelude.{ℕ, Bool, true, false, ◌&&◌, nat_eq, nat_le, List, [], ◌∷◌, length, count_by, Option, Some, None, slice_get}
+use Rattle.c_program.specs.Tree.{Expression, Piece, RightSide, Statement, Function, Program}
 use Rattle.c_program.specs.Resolved.{is_conversion}
-
-abbrev pub is_value : RightSide → Bool
-is_value (RightSide.Value expression) = true
-is_value (RightSide.Call function arguments) = false
-
-abbrev pub is_value_or_none : Option RightSide → Bool
-is_value_or_none None = true
-is_value_or_none (Some right) = is_value right
 
 abbrev pub conversion_count : List Piece → ℕ
 conversion_count format = count_by is_conversion format
@@ -18,11 +10,10 @@ conversion_count format = count_by is_conversion format
 abbrev pub fits_format : List Piece → List Expression → Bool
 fits_format format arguments = nat_eq (conversion_count format) (length arguments) && nat_le (length arguments) 4
 
--- a statement, in a loop or not: no call of a function of the program; break and continue in loops alone
+-- a statement, in a loop or not: break and continue in loops alone
 abbrev pub is_taken : Bool → Statement → Bool
 is_taken in_loop (Statement.Sequence first rest) = is_taken in_loop first && is_taken in_loop rest
 is_taken in_loop (Statement.Block body) = is_taken in_loop body
-is_taken in_loop (Statement.Assign offset place right) = is_value right
 is_taken in_loop (Statement.If condition consequent alternative) =
     is_taken in_loop consequent && is_taken in_loop alternative
 is_taken in_loop (Statement.While condition body) = is_taken true body
@@ -31,16 +22,36 @@ is_taken in_loop (Statement.For first condition last body) =
     is_taken false first && (is_taken false last && is_taken true body)
 is_taken in_loop Statement.Break = in_loop
 is_taken in_loop Statement.Continue = in_loop
-is_taken in_loop (Statement.Return offset right) = is_value_or_none right
-is_taken in_loop (Statement.Call offset function arguments) = false
 is_taken in_loop (Statement.Print offset format arguments) = fits_format format arguments
 is_taken in_loop statement = true
 
-abbrev pub is_taken_function : Option Function → Bool
-is_taken_function None = false
-is_taken_function (Some function) = is_taken false function.body
+-- each function
+abbrev pub are_taken : List Function → Bool
+are_taken [] = true
+are_taken (f ∷ fs) = is_taken false f.body && are_taken fs
 
--- a statement without others in it
+abbrev pub are_taken_with : Option Function → List Function → Bool
+are_taken_with None functions = false
+are_taken_with (Some function) functions = are_taken functions
+
+-- the function of that number is one of them
+abbrev pub is_taken_from : Program → ℕ → Bool
+is_taken_from P number = are_taken_with (slice_get P.functions number) P.functions
+
+abbrev pub is_taken_program : Program → Bool
+is_taken_program P = is_taken_from P P.main
+
+-- a right side that is no call
+abbrev pub is_value : RightSide → Bool
+is_value (RightSide.Value expression) = true
+is_value (RightSide.Call function arguments) = false
+
+-- or nothing
+abbrev pub is_value_or_none : Option RightSide → Bool
+is_value_or_none None = true
+is_value_or_none (Some right) = is_value right
+
+-- a statement without others in it, which calls no function of the program
 abbrev pub is_simple : Statement → Bool
 is_simple (Statement.Sequence first rest) = false
 is_simple (Statement.Block body) = false
@@ -48,6 +59,9 @@ is_simple (Statement.If condition consequent alternative) = false
 is_simple (Statement.While condition body) = false
 is_simple (Statement.DoWhile body condition) = false
 is_simple (Statement.For first condition last body) = false
+is_simple (Statement.Assign offset place right) = is_value right
+is_simple (Statement.Return offset right) = is_value_or_none right
+is_simple (Statement.Call offset function arguments) = false
 is_simple statement = true
 
 -- no pthread call
@@ -62,10 +76,10 @@ is_sequential (Statement.For first condition last body) =
 is_sequential (Statement.Thread offset call) = false
 is_sequential statement = true
 
-abbrev pub is_sequential_function : Option Function → Bool
-is_sequential_function None = false
-is_sequential_function (Some function) = is_sequential function.body
+-- in no function
+abbrev pub are_sequential : List Function → Bool
+are_sequential [] = true
+are_sequential (f ∷ fs) = is_sequential f.body && are_sequential fs
 
--- main calls no function of pthreads
 abbrev pub is_sequential_program : Program → Bool
-is_sequential_program P = is_sequential_function (slice_get P.functions P.main)
+is_sequential_program P = are_sequential P.functions

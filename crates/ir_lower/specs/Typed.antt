@@ -2,7 +2,7 @@
 use Rattle.std.specs.Prelude.{◌≡◌, ℕ, ◌*◌, ◌^◌, ◌<◌, ◌≤◌, List, [], ◌∷◌, ◌++◌, length, map, Option, Some, None, slice_get}
 use Rattle.std.specs.List.{AllByRecursion}
 use Rattle.hls_ints.specs.Types.{IntegerType, HasType, int_type}
-use Rattle.c_program.specs.Tree.{Piece, Function, GlobalVariable, Program}
+use Rattle.c_program.specs.Tree.{Piece, GlobalVariable, Program}
 use Rattle.c_program.specs.Types.{unary_type, binary_type}
 use Rattle.c_program.specs.Weight.{weight}
 use Rattle.block_ir.specs.declared.operand.Source.{Source}
@@ -22,7 +22,7 @@ use Rattle.block_ir.specs.declared.code.Stage.{Stage}
 use Rattle.block_ir.specs.declared.code.Stage.TheVariants as stage
 use Rattle.block_ir.specs.declared.code.ThreadCode.{ThreadCode}
 use Rattle.code_following.specs.Following.{print_formats, conversions_of}
-use Rattle.ir_lower.specs.Locals.{arrays_of}
+use Rattle.ir_lower.specs.Locals.{arrays_of, reached_locals}
 
 -- ---- operations
 
@@ -139,8 +139,8 @@ module _ (T : Types) where
   IsTypedStage P n m (stage.Act act next) = ⊥
 
 -- TYPED: one stage or more, each typed, with at most 4 operations in a block for each unit of the program's weight; the arrays
--- are main's
+-- are those of the functions
 pub record IsTypedCode (P : Program) (code : ThreadCode) : Type 0 where
   pub some : 0 < length code.stages
   pub stages : (l : ℕ) (s : Stage) → slice_get code.stages l ≡ Some s → IsTypedStage (types_of P code) P (length code.stages) (4 * weight P) s
-  pub arrays : (main : Function) → slice_get P.functions P.main ≡ Some main → code.arrays ≡ arrays_of main.locals
+  pub arrays : code.arrays ≡ arrays_of (reached_locals P)

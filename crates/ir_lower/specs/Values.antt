@@ -1,8 +1,16 @@
--- How many values a printf has.
-use Rattle.std.specs.Prelude.{ℕ, max, length}
-use Rattle.c_program.specs.Tree.{Statement}
+-- How many words code needs: for the values of a printf, and for the value of a call.
+use Rattle.std.specs.Prelude.{ℕ, max, List, [], ◌∷◌, length, Option, Some, None}
+use Rattle.c_program.specs.Tree.{RightSide, Statement, Function}
 
--- the most values that a printf of the statement has
+abbrev pub right_values : RightSide → ℕ
+right_values (RightSide.Value expression) = 0
+right_values (RightSide.Call function arguments) = 1
+
+abbrev pub returned_values : Option RightSide → ℕ
+returned_values None = 0
+returned_values (Some right) = right_values right
+
+-- the most values that a printf of the statement has, or 1 for a call
 abbrev pub most_values : Statement → ℕ
 most_values (Statement.Sequence first rest) = max (most_values first) (most_values rest)
 most_values (Statement.Block body) = most_values body
@@ -11,4 +19,12 @@ most_values (Statement.While condition body) = most_values body
 most_values (Statement.DoWhile body condition) = most_values body
 most_values (Statement.For first condition last body) = max (max (most_values first) (most_values last)) (most_values body)
 most_values (Statement.Print offset format arguments) = length arguments
+most_values (Statement.Assign offset place right) = right_values right
+most_values (Statement.Return offset right) = returned_values right
+most_values (Statement.Call offset function arguments) = 1
 most_values statement = 0
+
+-- the most that a function needs
+abbrev pub all_values : List Function → ℕ
+all_values [] = 0
+all_values (f ∷ fs) = max (most_values f.body) (all_values fs)

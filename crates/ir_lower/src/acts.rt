@@ -30,6 +30,7 @@ fn lower_operand(
 ) -> Result<ActOperand, LoweringFault>
     ensures stages { OnOk result (code.new.stages ≡ code.old.stages) }
     ensures reached { OnOk result (code.new.reached ≡ code.old.reached) }
+    ensures back { OnOk result (code.new.back ≡ code.old.back) }
 {
     if let Expression::Constant(ty, number) = expression {
         return Ok(ActOperand::Constant(*ty, *number));
@@ -52,6 +53,7 @@ fn lower_object(
 ) -> Result<ActOperand, LoweringFault>
     ensures stages { OnOk result (code.new.stages ≡ code.old.stages) }
     ensures reached { OnOk result (code.new.reached ≡ code.old.reached) }
+    ensures back { OnOk result (code.new.back ≡ code.old.back) }
 {
     match place {
         ObjectPlace::Single(_) => Ok(ActOperand::Constant(CType::LONG, i128::from(first))),
@@ -84,6 +86,7 @@ fn lower_thread(
 ) -> Result<ActOperand, LoweringFault>
     ensures stages { OnOk result (code.new.stages ≡ code.old.stages) }
     ensures reached { OnOk result (code.new.reached ≡ code.old.reached) }
+    ensures back { OnOk result (code.new.back ≡ code.old.back) }
 {
     let first = first_of(code.objects.threads.as_slice(), object_of(place));
     lower_object(alloc, code, first, place)
@@ -96,6 +99,7 @@ fn lower_mutex(
 ) -> Result<ActOperand, LoweringFault>
     ensures stages { OnOk result (code.new.stages ≡ code.old.stages) }
     ensures reached { OnOk result (code.new.reached ≡ code.old.reached) }
+    ensures back { OnOk result (code.new.back ≡ code.old.back) }
 {
     let first = first_of(code.objects.mutexes.as_slice(), object_of(place));
     lower_object(alloc, code, first, place)
@@ -108,6 +112,7 @@ fn lower_barrier(
 ) -> Result<ActOperand, LoweringFault>
     ensures stages { OnOk result (code.new.stages ≡ code.old.stages) }
     ensures reached { OnOk result (code.new.reached ≡ code.old.reached) }
+    ensures back { OnOk result (code.new.back ≡ code.old.back) }
 {
     let first = first_of(code.objects.barriers.as_slice(), object_of(place));
     lower_object(alloc, code, first, place)
@@ -117,6 +122,7 @@ fn lower_barrier(
 fn lower_call(alloc: Global, code: &mut Lowering, call: &ThreadCall) -> Result<Act, LoweringFault>
     ensures stages { OnOk result (code.new.stages ≡ code.old.stages) }
     ensures reached { OnOk result (code.new.reached ≡ code.old.reached) }
+    ensures back { OnOk result (code.new.back ≡ code.old.back) }
 {
     match call {
         ThreadCall::Create(thread, _, argument) => {
@@ -184,7 +190,7 @@ pub fn lower_print(
 ) -> Result<(), LoweringFault>
     requires reached { code.old.reached ≡ true }
     ensures labels { OnOk result ((around : _) → doing.Proceeds around code.old code.new) }
-    ensures lowers { IfOk result (λ _. (offset : ℕ) (around : _) → doing.LowersHere around (tree.Statement.Print offset (pieces_of format.now) (expressions_of arguments.now)) code.old code.new) }
+    ensures lowers { IfOk result (λ _. (offset : ℕ) (P : _) (around : _) → doing.LowersHere P around (tree.Statement.Print offset (pieces_of format.now) (expressions_of arguments.now)) code.old code.new) }
     ensures full { IfErr result (IsFull
         (length code.old.block.operations + code.old.block.steps + length code.old.variables + code.old.site
         + (2 * expressions_weight (expressions_of arguments.now) + 2 * length arguments.now + 1))) }

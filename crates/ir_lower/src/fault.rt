@@ -13,8 +13,8 @@ use thiserror::Error;
 pub enum LoweringFault {
     #[error("out of memory")]
     Memory,
-    /// There are more operations, variables, steps or printf calls than a `u32` counts. Within the limits of the profile a main
-    /// without pthread calls has fewer.
+    /// There are more operations, variables, steps or printf calls than a `u32` counts, or calls lead back to their caller.
+    /// Within the limits of the profile a resolved program without pthread calls is none of these.
     #[error("too large")]
     TooLarge,
 }
@@ -22,7 +22,8 @@ pub enum LoweringFault {
 /// Why a program has no code.
 #[derive(Clone, Copy, PartialEq, Eq, Debug, Drop, Error)]
 pub enum LowerError {
-    /// The function is none of those that are lowered, as one that calls a function.
+    /// The program is none of those that are lowered: there is no main, a printf does not fit its format, or a break or a
+    /// continue stands in no loop.
     #[error("not lowered yet")]
     NotYet,
     #[error("no code")]

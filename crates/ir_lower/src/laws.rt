@@ -1,6 +1,6 @@
 // Laws that lowering rests on. Each function takes and answers nothing: its contract is the law.
 ghost use Rattle.ir_lower.specs.Arithmetic.{UnaryIsRight, BinaryIsRight};
-ghost use Rattle.ir_lower.specs.Mains.{UntakenCalls, TakenCallsNone, FormatsArePrinted, FormatsAreListed};
+ghost use Rattle.ir_lower.specs.Mains.{ResolvedAreTaken, FormatsArePrinted, FormatsAreListed};
 
 /// Where C gives an operator a value, the operation gives it.
 #[tactic(auto, using(crate::proofs::Operators::unary_right, crate::proofs::Operators::binary_right))]
@@ -9,11 +9,10 @@ pub fn operations_give_values()
     ensures binary { BinaryIsRight }
 {}
 
-/// Of a resolved program, a main is lowered exactly where it calls no function.
-#[tactic(auto, using(crate::proofs::Untaken::untaken_calls))]
-pub fn mains_without_calls_are_taken()
-    ensures untaken { UntakenCalls }
-    ensures taken { TakenCallsNone }
+/// Each resolved program is lowered.
+#[tactic(auto, using(crate::proofs::Untaken::resolved_are_taken))]
+pub fn resolved_programs_are_taken()
+    ensures { ResolvedAreTaken }
 {}
 
 /// The printf calls of a resolved program print bytes that may stand in a text, and at most 4 values each.

@@ -1,25 +1,28 @@
 // The code of a thread in the making: the block at hand, and the stages before it.
 
-ghost use Rattle.std.specs.Prelude.{◌≡◌, ◌<◌, ◌+◌, ◌++◌, length, replicate, true, false, IsTrue, IfOk, IfErr, OnOk};
+ghost use Rattle.std.specs.Prelude.{◌≡◌, ◌<◌, ◌+◌, ◌++◌, length, replicate, slice_get, true, false, Some, IsTrue, IfOk, IfErr, OnOk};
 ghost use Rattle.hls_ints.specs.Types.{long_int};
 ghost use Rattle.ir_lower.specs.Control as control;
 ghost use Rattle.ir_lower.specs.Doing as doing;
+ghost use Rattle.ir_lower.specs.Locals as housing;
 ghost use Rattle.ir_lower.specs.Room.{IsFull};
 ghost use Rattle.ir_lower.specs.Labels as spec;
 
 use crate::fault::{LoweringFault, number_of};
-use crate::homes::{Home, Homes, homes_of};
+use crate::homes::Home;
 use crate::objects::Objects;
 use crate::open_block::OpenBlock;
 use crate::operands::converted;
+use crate::returning::Back;
+use crate::rooms::{Room, Rooms, room_of};
 use crate::stages::Stages;
 use block_ir::block::Next;
 use block_ir::code::{Act, ActOperand, Array, ThreadCode};
 use block_ir::operand::Operand;
-use c_program::tree::LocalVariable;
 use hls_ints::CType;
 use sqlite_items::Items;
 use std::alloc::{AllocError, Global};
+use std::mem;
 
 /// The most operands of an act: the values of a printf.
 pub const ACT_OPERANDS: usize = 4;
@@ -28,7 +31,11 @@ pub const ACT_OPERANDS: usize = 4;
 /// program.
 #[derive(Drop)]
 pub struct Lowering {
+    /// Where the locals of the function at hand stand.
     pub homes: Items<Home>,
+    /// Where its returns lead, if it has a caller.
+    pub back: Option<Back>,
+    rooms: Items<Room>,
     pub objects: Objects,
     variables: Items<CType>,
     arrays: Items<Array>,
@@ -42,40 +49,94 @@ pub struct Lowering {
     site: u32,
 }
 
+/// A function whose code is gone on with behind that of one that it calls: where its locals stand and its returns lead, and the
+/// number of its next printf.
+#[derive(Drop)]
+pub struct Caller {
+    pub homes: Items<Home>,
+    pub back: Option<Back>,
+    pub site: u32,
+    /// Where it is gone on with.
+    pub label: usize,
+}
+
 impl Lowering {
-    /// The code of a function with these locals, before its first statement. The first printf in it has that number, and
-    /// one has so many values at most.
+    /// The code of the function of that number, before its first statement, with so many variables for operands of acts.
     #[tactic(auto, using(crate::proofs::Growing::is_new))]
     pub fn new(
         alloc: Global,
-        locals: &[LocalVariable],
+        rooms: Rooms,
         objects: Objects,
-        site: u32,
-        values: usize,
+        number: usize,
+        words: usize,
     ) -> Result<Lowering, LoweringFault>
-        ensures code { IfOk result (λ c. doing.IsNew locals.now site values c) }
-        ensures full { IfErr result (IsFull (length locals.now + 4)) }
+        ensures code { IfOk result (λ c. (P : _) → housing.AreRoomsOf P rooms → doing.IsNew P number words c) }
+        ensures full { IfErr result (IsFull (length rooms.variables + 4)) }
     {
-        let Homes {
-            homes,
+        let Rooms {
+            rooms,
             variables,
             arrays,
-        } = homes_of(alloc, locals)?;
+            sites: _,
+        } = rooms;
         if variables.len() > u32::MAX as usize - ACT_OPERANDS {
             return Err(LoweringFault::TooLarge);
         }
         let block = OpenBlock::new(alloc, variables.len() + ACT_OPERANDS)?;
+        let Room { homes, site } = room_of(alloc, rooms.as_slice(), number)?;
         Ok(Lowering {
             homes,
+            back: None,
+            rooms,
             objects,
             variables,
             arrays,
-            act_operands: values,
+            act_operands: words,
             block,
             stages: Stages::new(alloc),
             reached: true,
             site,
         })
+    }
+
+    /// A copy of the room of a function.
+    pub fn room(&self, alloc: Global, number: usize) -> Result<Room, AllocError>
+        ensures homes { IfOk result (λ r. r.homes ≡ housing.homes_there (slice_get self.now.rooms number)) }
+        ensures site { IfOk result (λ r. r.site ≡ housing.site_there (slice_get self.now.rooms number)) }
+    {
+        room_of(alloc, self.rooms.as_slice(), number)
+    }
+
+    /// The code goes on in another function, whose room that is and whose returns lead there.
+    pub fn enter(&mut self, room: Room, back: Back) -> Caller
+        ensures caller { result ≡ record { homes = self.old.homes; back = self.old.back; site = self.old.site; label = back.label } }
+        ensures after { self.new ≡ record self.old { homes = room.homes; back = Some back; site = room.site } }
+    {
+        let Room { homes, site } = room;
+        let caller = Caller {
+            homes: mem::replace(&mut self.homes, homes),
+            back: self.back,
+            site: self.site,
+            label: back.label,
+        };
+        self.back = Some(back);
+        self.site = site;
+        caller
+    }
+
+    /// The code goes on in the caller.
+    pub fn leave(&mut self, caller: Caller)
+        ensures { self.new ≡ record self.old { homes = caller.homes; back = caller.back; site = caller.site } }
+    {
+        let Caller {
+            homes,
+            back,
+            site,
+            label: _,
+        } = caller;
+        self.homes = homes;
+        self.back = back;
+        self.site = site;
     }
 
     pub fn is_reached(&self) -> bool
@@ -122,6 +183,7 @@ impl Lowering {
     ) -> Result<ActOperand, LoweringFault>
         ensures stages { OnOk result (self.new.stages ≡ self.old.stages) }
         ensures reached { OnOk result (self.new.reached ≡ self.old.reached) }
+        ensures back { OnOk result (self.new.back ≡ self.old.back) }
     {
         if position >= ACT_OPERANDS {
             return Err(LoweringFault::TooLarge);
@@ -273,18 +335,6 @@ impl Lowering {
         Ok(())
     }
 
-    /// The same, if the program comes to the place at hand.
-    #[tactic(auto, using(crate::proofs::Growing::ends_not, crate::proofs::Growing::ends_here))]
-    pub fn end_reached(&mut self, alloc: Global) -> Result<(), AllocError>
-        ensures { OnOk result (doing.Ends self.old self.new) }
-    {
-        if !self.reached {
-            return Ok(());
-        }
-        self.end(alloc)?;
-        Ok(())
-    }
-
     /// The block at hand ends, unless it does nothing, and leads to the next stage.
     #[tactic(auto, using(crate::proofs::Growing::begins_idle, crate::proofs::Growing::begins_busy, crate::proofs::Opening::label_open))]
     fn begin_stage(&mut self, alloc: Global) -> Result<(), AllocError>
@@ -316,6 +366,8 @@ impl Lowering {
     {
         let Lowering {
             homes: _,
+            back: _,
+            rooms: _,
             objects: _,
             variables,
             arrays,

@@ -1,16 +1,15 @@
-// The numbers of the printf calls of a text, in the order of the text.
+// How many printf calls statements have, and how many words they need.
 
-ghost use Rattle.std.specs.Prelude.{◌≡◌, ◌+◌, map, take, sum_by, IfOk, IfErr};
-ghost use Rattle.c_program.specs.Plain.{function_of, statement_of};
+ghost use Rattle.std.specs.Prelude.{◌≡◌, ◌+◌, map, IfOk, IfErr};
+ghost use Rattle.c_program.specs.Plain.{function_of, returned_of, right_side_of, statement_of};
 ghost use Rattle.c_program.specs.Limits.{print_count};
-ghost use Rattle.c_program.specs.Tree as tree;
 ghost use Rattle.ir_lower.specs.Room.{IsFull};
 ghost use Rattle.ir_lower.specs.Values as values;
 
 use crate::fault::LoweringFault;
-use c_program::tree::{Function, Program, Statement};
+use c_program::tree::{Function, RightSide, Statement};
 
-fn sum_of(a: u32, b: u32) -> Result<u32, LoweringFault>
+pub fn sum_of(a: u32, b: u32) -> Result<u32, LoweringFault>
     ensures sum { IfOk result (λ n. n ≡ a + b) }
     ensures full { IfErr result (IsFull (a + b)) }
 {
@@ -45,7 +44,25 @@ pub fn print_count(statement: &Statement) -> Result<u32, LoweringFault>
     sum_of(before, last)
 }
 
-/// The most values that a printf of the statement has.
+fn right_values(right: &RightSide) -> usize
+    ensures { result ≡ values.right_values (right_side_of right.now) }
+{
+    match right {
+        RightSide::Value(_) => 0,
+        RightSide::Call(_, _) => 1,
+    }
+}
+
+fn returned_values(right: &Option<RightSide>) -> usize
+    ensures { result ≡ values.returned_values (returned_of right.now) }
+{
+    match right {
+        None => 0,
+        Some(right) => right_values(right),
+    }
+}
+
+/// The most values that a printf of the statement has, or 1 for a call.
 pub fn most_values(statement: &Statement) -> usize
     ensures { result ≡ values.most_values (statement_of statement.now) }
 {
@@ -67,34 +84,20 @@ pub fn most_values(statement: &Statement) -> usize
             head.max(most_values(body))
         }
         Statement::Print(_, _, arguments) => arguments.len(),
+        Statement::Assign(_, _, right) => right_values(right),
+        Statement::Return(_, right) => returned_values(right),
+        Statement::Call(_, _, _) => 1,
         _ => 0,
     };
     last.max(most)
 }
 
-/// How many stand in these functions.
-fn prints_in(functions: &[Function]) -> Result<u32, LoweringFault>
-    ensures count { IfOk result (λ n. n ≡ sum_by (λ (f : tree.Function). print_count f.body) (map function_of functions.now)) }
-    ensures full { IfErr result (IsFull (sum_by (λ (f : tree.Function). print_count f.body) (map function_of functions.now))) }
+/// The most that a function needs.
+pub fn all_values(functions: &[Function]) -> usize
+    ensures { result ≡ values.all_values (map function_of functions.now) }
 {
-    let mut count = 0u32;
-    for function in functions {
-        count = sum_of(count, print_count(&function.body)?)?;
-    }
-    Ok(count)
-}
-
-/// How many stand in the functions before that one.
-pub fn prints_before(program: &Program, number: usize) -> Result<u32, LoweringFault>
-    ensures count { IfOk result (λ n. n ≡ sum_by (λ (f : tree.Function). print_count f.body) (map function_of (take number program.now.functions.items))) }
-    ensures full { IfErr result (IsFull (sum_by (λ (f : tree.Function). print_count f.body) (map function_of (take number program.now.functions.items)))) }
-{
-    let functions = program.functions.as_slice();
-    let before = if number < functions.len() {
-        &functions[..number]
-    } else {
-        functions
+    let [function, rest @ ..] = functions else {
+        return 0;
     };
-    let count = prints_in(before)?;
-    Ok(count)
+    most_values(&function.body).max(all_values(rest))
 }

@@ -3,7 +3,7 @@
 ghost use Rattle.std.specs.Prelude.{◌≡◌, ℕ, true, Some, is_some, IfOk, OnOk, ◌+◌, ◌*◌, length, IfErr};
 ghost use Rattle.c_program.specs.Plain.{expression_of, expressions_of, pieces_of, place_of, returned_of, right_side_of, statement_of};
 ghost use Rattle.c_program.specs.Tree as tree;
-ghost use Rattle.c_program.specs.Weight.{expression_weight, place_weight, right_side_weight};
+ghost use Rattle.c_program.specs.Weight.{expression_weight, place_weight, returned_weight, right_side_weight};
 ghost use Rattle.ir_lower.specs.Doing as doing;
 ghost use Rattle.ir_lower.specs.Needing.{IsFullFor};
 ghost use Rattle.ir_lower.specs.Room.{IsFull};
@@ -14,6 +14,7 @@ use crate::assignments::{lower_assignment, lower_update};
 use crate::branching::Loop;
 use crate::fault::LoweringFault;
 use crate::lowering::Lowering;
+use crate::returning::{lower_return, return_nothing};
 use c_program::tree::{BinaryOperator, Expression, Place, RightSide, Statement};
 use hls_ints::CType;
 use std::alloc::{AllocError, Global};
@@ -26,7 +27,7 @@ fn lower_assign(
     right: &RightSide,
 ) -> Result<(), LoweringFault>
     requires { is_value (right_side_of right.now) ≡ true }
-    ensures lowers { IfOk result (λ _. (offset : ℕ) (around : _) → doing.LowersHere around (tree.Statement.Assign offset (place_of place.now) (right_side_of right.now)) code.old code.new) }
+    ensures lowers { IfOk result (λ _. (offset : ℕ) (P : _) (around : _) → doing.LowersHere P around (tree.Statement.Assign offset (place_of place.now) (right_side_of right.now)) code.old code.new) }
     ensures full { IfErr result (IsFull
         (length code.old.block.operations + code.old.block.steps + 4 * (place_weight (place_of place.now) + right_side_weight (right_side_of right.now) + 1))) }
     ensures labels { OnOk result ((around : _) → doing.Proceeds around code.old code.new) }
@@ -49,7 +50,7 @@ fn lower_compound(
     right: &Expression,
 ) -> Result<(), LoweringFault>
     ensures labels { OnOk result ((around : _) → doing.Proceeds around code.old code.new) }
-    ensures lowers { IfOk result (λ _. (offset : ℕ) (around : _) → doing.LowersHere around (tree.Statement.Update offset (place_of place.now) operator ty (expression_of right.now)) code.old code.new) }
+    ensures lowers { IfOk result (λ _. (offset : ℕ) (P : _) (around : _) → doing.LowersHere P around (tree.Statement.Update offset (place_of place.now) operator ty (expression_of right.now)) code.old code.new) }
     ensures full { IfErr result (IsFull
         (length code.old.block.operations + code.old.block.steps + 4 * (place_weight (place_of place.now) + expression_weight (expression_of right.now) + 2))) }
 {
@@ -62,7 +63,7 @@ fn lower_compound(
 #[tactic(auto, using(crate::proofs::Stepping::declare_at))]
 fn lower_declare(code: &mut Lowering) -> Result<(), LoweringFault>
     ensures labels { OnOk result ((around : _) → doing.Proceeds around code.old code.new) }
-    ensures lowers { IfOk result (λ _. (offset local operators : ℕ) (around : _) → doing.LowersHere around (tree.Statement.Declare offset local operators) code.old code.new) }
+    ensures lowers { IfOk result (λ _. (offset local operators : ℕ) (P : _) (around : _) → doing.LowersHere P around (tree.Statement.Declare offset local operators) code.old code.new) }
     ensures full { IfErr result (IsFull (code.old.block.steps + 1)) }
 {
     code.block.step()?;
@@ -76,7 +77,7 @@ fn lower_break(alloc: Global, code: &mut Lowering, around: Option<Loop>) -> Resu
     requires inside { is_some around ≡ true }
     requires reached { code.old.reached ≡ true }
     ensures labels { OnOk result (doing.Proceeds around code.old code.new) }
-    ensures lowers { OnOk result (doing.LowersHere around tree.Statement.Break code.old code.new) }
+    ensures lowers { OnOk result ((P : _) → doing.LowersHere P around tree.Statement.Break code.old code.new) }
 {
     let Some(labels) = around else {
         unreachable!();
@@ -96,7 +97,7 @@ fn lower_continue(
     requires inside { is_some around ≡ true }
     requires reached { code.old.reached ≡ true }
     ensures labels { OnOk result (doing.Proceeds around code.old code.new) }
-    ensures lowers { OnOk result (doing.LowersHere around tree.Statement.Continue code.old code.new) }
+    ensures lowers { OnOk result ((P : _) → doing.LowersHere P around tree.Statement.Continue code.old code.new) }
 {
     let Some(labels) = around else {
         unreachable!();
@@ -105,17 +106,52 @@ fn lower_continue(
     Ok(())
 }
 
-/// A return of the thread's outermost function: its value is never seen.
-fn lower_return(alloc: Global, code: &mut Lowering) -> Result<(), AllocError>
+/// A return of what is no call.
+fn lower_value(alloc: Global, code: &mut Lowering, right: &RightSide) -> Result<(), LoweringFault>
+    requires value { is_value (right_side_of right.now) ≡ true }
+    requires back { doing.IsBackTarget code.old.back code.old.stages }
     requires reached { code.old.reached ≡ true }
     ensures labels { OnOk result ((around : _) → doing.Proceeds around code.old code.new) }
-    ensures lowers { OnOk result ((offset : ℕ) (right : _) (around : _) → is_value_or_none right ≡ true → doing.LowersHere around (tree.Statement.Return offset right) code.old code.new) }
+    ensures lowers { IfOk result (λ _. (offset : ℕ) (P : _) (around : _) → doing.LowersHere P around (tree.Statement.Return offset (Some (right_side_of right.now))) code.old code.new) }
+    ensures full { IfErr result (IsFull
+        (length code.old.block.operations + code.old.block.steps + length code.old.variables + 4 * right_side_weight (right_side_of right.now) + 1)) }
 {
-    code.end(alloc)?;
-    Ok(())
+    match right {
+        RightSide::Value(right) => {
+            lower_return(alloc, code, right)?;
+            Ok(())
+        }
+        RightSide::Call(_, _) => unreachable!(),
+    }
 }
 
-/// The code of a statement that has no other in it.
+/// A return of what is no call, or of nothing.
+fn lower_returned(
+    alloc: Global,
+    code: &mut Lowering,
+    right: &Option<RightSide>,
+) -> Result<(), LoweringFault>
+    requires value { is_value_or_none (returned_of right.now) ≡ true }
+    requires back { doing.IsBackTarget code.old.back code.old.stages }
+    requires reached { code.old.reached ≡ true }
+    ensures labels { OnOk result ((around : _) → doing.Proceeds around code.old code.new) }
+    ensures lowers { IfOk result (λ _. (offset : ℕ) (P : _) (around : _) → doing.LowersHere P around (tree.Statement.Return offset (returned_of right.now)) code.old code.new) }
+    ensures full { IfErr result (IsFull
+        (length code.old.block.operations + code.old.block.steps + length code.old.variables + 4 * returned_weight (returned_of right.now) + 1)) }
+{
+    match right {
+        None => {
+            return_nothing(alloc, code)?;
+            Ok(())
+        }
+        Some(right) => {
+            lower_value(alloc, code, right)?;
+            Ok(())
+        }
+    }
+}
+
+/// The code of a statement that has no other in it and calls no function of the program.
 #[tactic(auto, using(crate::proofs::Stepping::thread_at))]
 pub fn lower_simple(
     alloc: Global,
@@ -126,10 +162,11 @@ pub fn lower_simple(
     requires simple { is_simple (statement_of statement.now) ≡ true }
     requires taken { is_taken (is_some around) (statement_of statement.now) ≡ true }
     requires targets { doing.AreTargets around code.old.stages }
+    requires back { doing.IsBackTarget code.old.back code.old.stages }
     requires reached { code.old.reached ≡ true }
     ensures labels { OnOk result (doing.Proceeds around code.old code.new) }
-    ensures lowers { OnOk result (doing.LowersHere around (statement_of statement.now) code.old code.new) }
-    ensures full { IfErr result (IsFullFor (statement_of statement.now) code.old) }
+    ensures lowers { OnOk result ((P : _) → doing.LowersHere P around (statement_of statement.now) code.old code.new) }
+    ensures full { IfErr result (λ fault. (P : _) (depth : ℕ) → IsFullFor P depth (statement_of statement.now) code.old fault) }
 {
     match statement {
         Statement::Done => Ok(()),
@@ -154,8 +191,8 @@ pub fn lower_simple(
             lower_continue(alloc, code, around)?;
             Ok(())
         }
-        Statement::Return(_, _) => {
-            lower_return(alloc, code)?;
+        Statement::Return(_, right) => {
+            lower_returned(alloc, code, right)?;
             Ok(())
         }
         Statement::Print(_, format, arguments) => {

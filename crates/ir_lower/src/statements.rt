@@ -1,47 +1,56 @@
 // The code of statements.
 
-ghost use Rattle.std.specs.Prelude.{◌≡◌, true, false, slice_get, is_some, IfOk, IfErr, OnOk, ◌≢◌};
-ghost use Rattle.c_program.specs.Plain.{program_of, statement_of};
+ghost use Rattle.std.specs.Prelude.{◌≡◌, true, false, length, is_some, None, IfOk, IfErr, OnOk, ◌≢◌};
+ghost use Rattle.c_program.specs.Plain.{expressions_of, program_of, statement_of};
 ghost use Rattle.c_program.specs.Limits.{IsWithinLimits};
 ghost use Rattle.c_program.specs.Resolved.{IsResolved};
 ghost use Rattle.code_following.specs.Following.{IsLowered};
 ghost use Rattle.ir_lower.specs.Doing as doing;
-ghost use Rattle.ir_lower.specs.Needing.{IsFullFor, IsFullFunction};
-ghost use Rattle.ir_lower.specs.Taken.{is_sequential_program, is_taken, is_taken_function};
+ghost use Rattle.ir_lower.specs.Calling as calling;
+ghost use Rattle.ir_lower.specs.Needing.{IsFullFor, IsFullCall, IsFullProgram};
+ghost use Rattle.ir_lower.specs.Taken.{are_taken, is_sequential_program, is_taken, is_taken_program};
 ghost use Rattle.ir_lower.specs.Typed.{IsTypedCode};
 
 use crate::branching::{
     Loop, close_do, close_for, close_turn, open_choice, open_for, open_loop, open_turn,
     turn_choice, turn_for,
 };
+use crate::calling::{close_call, lower_delivery, lower_handing, open_call};
 use crate::fault::{LowerError, LoweringFault};
 use crate::lowering::Lowering;
 use crate::objects::objects_of;
-use crate::prints::{most_values, print_count, prints_before};
+use crate::prints::{all_values, print_count};
+use crate::returning::return_reached;
+use crate::rooms::rooms_of;
 use crate::simple::lower_simple;
-use crate::taken::is_taken_function;
+use crate::taken::is_taken_program;
 use block_ir::code::ThreadCode;
-use c_program::tree::{Program, Statement};
+use c_program::tree::{Expression, Program, RightSide, Statement};
 use sqlite_items::at;
 use std::alloc::Global;
 
-/// The code of a statement. What the program never comes to has none.
+/// The code of a statement, in which calls are less than so deep. What the program never comes to has none.
+#[cycle(statements)]
 #[tactic(auto, using(crate::proofs::Nesting::via_all, crate::proofs::Filling::behind_none))]
 pub fn lower_statement(
     alloc: Global,
+    program: &Program,
+    depth: usize,
     code: &mut Lowering,
     around: Option<Loop>,
     statement: &Statement,
 ) -> Result<(), LoweringFault>
+    requires functions { are_taken (program_of program.now).functions ≡ true }
     requires taken { is_taken (is_some around) (statement_of statement.now) ≡ true }
     requires targets { doing.AreTargets around code.old.stages }
+    requires back { doing.IsBackTarget code.old.back code.old.stages }
     ensures labels { OnOk result (doing.Proceeds around code.old code.new) }
-    ensures lowers { OnOk result (doing.Lowers around (statement_of statement.now) code.old code.new) }
-    ensures full { IfErr result (IsFullFor (statement_of statement.now) code.old) }
+    ensures lowers { OnOk result (doing.Lowers (program_of program.now) around (statement_of statement.now) code.old code.new) }
+    ensures full { IfErr result (IsFullFor (program_of program.now) depth (statement_of statement.now) code.old) }
 {
     let mut rest = statement;
     while let Statement::Sequence(first, next) = rest {
-        lower_statement(alloc, code, around, first)?;
+        lower_statement(alloc, program, depth, code, around, first)?;
         rest = next;
     }
     if !code.is_reached() {
@@ -50,14 +59,14 @@ pub fn lower_statement(
     }
     match rest {
         Statement::Block(body) => {
-            lower_statement(alloc, code, around, body)?;
+            lower_statement(alloc, program, depth, code, around, body)?;
             Ok(())
         }
         Statement::If(condition, consequent, alternative) => {
             let labels = open_choice(alloc, code, condition)?;
-            lower_statement(alloc, code, around, consequent)?;
+            lower_statement(alloc, program, depth, code, around, consequent)?;
             turn_choice(alloc, code, labels)?;
-            lower_statement(alloc, code, around, alternative)?;
+            lower_statement(alloc, program, depth, code, around, alternative)?;
             code.bind(alloc, labels.join)?;
             Ok(())
         }
@@ -67,7 +76,7 @@ pub fn lower_statement(
                 leaving: labels.leaving,
                 turning: labels.head,
             };
-            lower_statement(alloc, code, Some(inside), body)?;
+            lower_statement(alloc, program, depth, code, Some(inside), body)?;
             close_turn(alloc, code, labels)?;
             Ok(())
         }
@@ -77,25 +86,57 @@ pub fn lower_statement(
                 leaving: labels.leaving,
                 turning: labels.turning,
             };
-            lower_statement(alloc, code, Some(inside), body)?;
+            lower_statement(alloc, program, depth, code, Some(inside), body)?;
             close_do(alloc, code, condition, labels)?;
             Ok(())
         }
         Statement::For(first, condition, last, body) => {
-            lower_statement(alloc, code, None, first)?;
+            lower_statement(alloc, program, depth, code, None, first)?;
             let last_site = code.site();
             let labels = open_for(alloc, code, condition, last)?;
             let inside = Loop {
                 leaving: labels.leaving,
                 turning: labels.turning,
             };
-            lower_statement(alloc, code, Some(inside), body)?;
+            lower_statement(alloc, program, depth, code, Some(inside), body)?;
             let after = code.site();
             turn_for(alloc, code, labels, last_site)?;
-            lower_statement(alloc, code, None, last)?;
+            lower_statement(alloc, program, depth, code, None, last)?;
             close_for(alloc, code, labels, after)?;
             Ok(())
         }
+        Statement::Call(_, function, arguments) => {
+            lower_call(alloc, program, depth, code, *function, arguments)?;
+            Ok(())
+        }
+        Statement::Assign(_, place, right) => match right {
+            RightSide::Value(_) => {
+                lower_simple(alloc, code, around, rest)?;
+                Ok(())
+            }
+            RightSide::Call(function, arguments) => {
+                lower_call(alloc, program, depth, code, *function, arguments)?;
+                lower_delivery(alloc, code, place)?;
+                Ok(())
+            }
+        },
+        Statement::Return(_, right) => match right {
+            None => {
+                lower_simple(alloc, code, around, rest)?;
+                Ok(())
+            }
+            Some(value) => match value {
+                RightSide::Value(_) => {
+                    lower_simple(alloc, code, around, rest)?;
+                    Ok(())
+                }
+                RightSide::Call(function, arguments) => {
+                    lower_call(alloc, program, depth, code, *function, arguments)?;
+                    lower_handing(alloc, code)?;
+                    Ok(())
+                }
+            },
+        },
         _ => {
             lower_simple(alloc, code, around, rest)?;
             Ok(())
@@ -103,58 +144,91 @@ pub fn lower_statement(
     }
 }
 
-/// The code of a function's body, and of the return at its closing brace.
-fn lower_body(alloc: Global, code: &mut Lowering, body: &Statement) -> Result<(), LoweringFault>
-    requires { is_taken false (statement_of body.now) ≡ true }
-    ensures lowers { OnOk result (doing.LowersBody (statement_of body.now) code.old code.new) }
-    ensures full { IfErr result (IsFullFor (statement_of body.now) code.old) }
+/// The code of a call, up to where the caller goes on: that of the function that is called.
+#[cycle(statements)]
+fn lower_call(
+    alloc: Global,
+    program: &Program,
+    depth: usize,
+    code: &mut Lowering,
+    number: u32,
+    arguments: &[Expression],
+) -> Result<(), LoweringFault>
+    requires functions { are_taken (program_of program.now).functions ≡ true }
+    requires reached { code.old.reached ≡ true }
+    ensures labels { OnOk result ((around : _) → doing.Proceeds around code.old code.new) }
+    ensures calls { OnOk result (calling.Calls (program_of program.now) number (expressions_of arguments.now) code.old code.new) }
+    ensures full { IfErr result (IsFullCall (program_of program.now) depth number (expressions_of arguments.now) code.old) }
 {
-    lower_statement(alloc, code, None, body)?;
-    code.end_reached(alloc)?;
+    if depth == 0 {
+        return Err(LoweringFault::TooLarge);
+    }
+    let Some(function) = at(&program.functions, number as usize) else {
+        return Err(LoweringFault::TooLarge);
+    };
+    let caller = open_call(alloc, code, number as usize, function, arguments)?;
+    lower_statement(alloc, program, depth - 1, code, None, &function.body)?;
+    close_call(alloc, code, caller)?;
     Ok(())
 }
 
-/// The code of a function that a thread begins with. One that calls a function is not lowered yet.
-pub fn lower_function(
+/// The code of a function's body, and of its closing brace.
+fn lower_body(
     alloc: Global,
     program: &Program,
-    number: usize,
-) -> Result<ThreadCode, LowerError>
-    ensures taken { OnOk result (is_taken_function (slice_get (program_of program.now).functions number) ≡ true) }
-    ensures not_yet { is_taken_function (slice_get (program_of program.now).functions number) ≡ false → result ≡ Err LowerError.NotYet }
-    ensures untaken { IfErr result (λ e. e ≡ LowerError.NotYet → is_taken_function (slice_get (program_of program.now).functions number) ≡ false) }
-    ensures done { IfOk result (λ code. doing.IsCodeOf program.now number code) }
-    ensures full { IfErr result (IsFullFunction (program_of program.now) (slice_get (program_of program.now).functions number)) }
+    code: &mut Lowering,
+    body: &Statement,
+) -> Result<(), LoweringFault>
+    requires functions { are_taken (program_of program.now).functions ≡ true }
+    requires taken { is_taken false (statement_of body.now) ≡ true }
+    requires outermost { code.old.back ≡ None }
+    ensures lowers { OnOk result (calling.LowersBody (program_of program.now) (statement_of body.now) code.old code.new) }
+    ensures full { IfErr result (IsFullFor (program_of program.now) (length program.now.functions.items) (statement_of body.now) code.old) }
 {
-    if !is_taken_function(program, number) {
+    let depth = program.functions.len();
+    lower_statement(alloc, program, depth, code, None, body)?;
+    return_reached(alloc, code)?;
+    Ok(())
+}
+
+/// The code of main.
+fn lower_main(alloc: Global, program: &Program) -> Result<ThreadCode, LowerError>
+    ensures taken { OnOk result (is_taken_program (program_of program.now) ≡ true) }
+    ensures not_yet { is_taken_program (program_of program.now) ≡ false → result ≡ Err LowerError.NotYet }
+    ensures untaken { IfErr result (λ e. e ≡ LowerError.NotYet → is_taken_program (program_of program.now) ≡ false) }
+    ensures done { IfOk result (λ code. calling.IsCodeOf program.now program.now.main code) }
+    ensures full { IfErr result (IsFullProgram (program_of program.now)) }
+{
+    if !is_taken_program(program) {
         return Err(LowerError::NotYet);
     }
+    let number = program.main as usize;
     let Some(function) = at(&program.functions, number) else {
         return Err(LowerError::NotYet);
     };
     let objects = objects_of(alloc, program)?;
-    let site = prints_before(program, number)?;
-    let values = most_values(&function.body);
-    let mut code = Lowering::new(alloc, &function.locals, objects, site, values)?;
+    let rooms = rooms_of(alloc, program)?;
+    let words = all_values(program.functions.as_slice());
+    let mut code = Lowering::new(alloc, rooms, objects, number, words)?;
     let start = code.start(alloc)?;
-    lower_body(alloc, &mut code, &function.body)?;
+    lower_body(alloc, program, &mut code, &function.body)?;
     let code = code.finish(alloc, start)?;
     Ok(code)
 }
 
-/// The code of main. That of a main without pthread calls is proved to do its steps, to be typed, and not to be too large
+/// The code of main. That of a program without pthread calls is proved to do its steps, to be typed, and not to be too large
 /// within the limits.
 #[tactic(auto, using(crate::proofs::Whole::lowered_at, crate::proofs::Whole::typed_at, crate::proofs::Ample::lower_ample))]
 pub fn lower(alloc: Global, program: &Program) -> Result<ThreadCode, LowerError>
-    ensures taken { OnOk result (is_taken_function (slice_get (program_of program.now).functions program.now.main) ≡ true) }
-    ensures not_yet { is_taken_function (slice_get (program_of program.now).functions program.now.main) ≡ false → result ≡ Err LowerError.NotYet }
-    ensures untaken { IfErr result (λ e. e ≡ LowerError.NotYet → is_taken_function (slice_get (program_of program.now).functions program.now.main) ≡ false) }
+    ensures taken { OnOk result (is_taken_program (program_of program.now) ≡ true) }
+    ensures not_yet { is_taken_program (program_of program.now) ≡ false → result ≡ Err LowerError.NotYet }
+    ensures untaken { IfErr result (λ e. e ≡ LowerError.NotYet → is_taken_program (program_of program.now) ≡ false) }
     ensures lowered { IfOk result (λ code. is_sequential_program (program_of program.now) ≡ true → IsResolved (program_of program.now) → IsLowered (program_of program.now) code) }
     ensures typed { IfOk result (λ code. is_sequential_program (program_of program.now) ≡ true → IsResolved (program_of program.now) → IsTypedCode (program_of program.now) code) }
     ensures ample { IfErr result
         (λ e. is_sequential_program (program_of program.now) ≡ true → IsResolved (program_of program.now) → IsWithinLimits (program_of program.now) →
         e ≢ LowerError.Fault LoweringFault.TooLarge) }
 {
-    let code = lower_function(alloc, program, program.main as usize)?;
+    let code = lower_main(alloc, program)?;
     Ok(code)
 }

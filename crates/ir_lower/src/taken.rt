@@ -1,28 +1,10 @@
 // Which programs are lowered.
 
-ghost use Rattle.std.specs.Prelude.{◌≡◌, slice_get};
-ghost use Rattle.c_program.specs.Plain.{expressions_of, pieces_of, program_of, returned_of, right_side_of, statement_of};
+ghost use Rattle.std.specs.Prelude.{◌≡◌, map};
+ghost use Rattle.c_program.specs.Plain.{expressions_of, function_of, pieces_of, program_of, statement_of};
 ghost use Rattle.ir_lower.specs.Taken as taken;
 
-use c_program::tree::{Expression, Piece, Program, RightSide, Statement};
-
-fn is_value(right: &RightSide) -> bool
-    ensures { result ≡ taken.is_value (right_side_of right.now) }
-{
-    match right {
-        RightSide::Value(_) => true,
-        RightSide::Call(_, _) => false,
-    }
-}
-
-pub fn is_value_or_none(right: &Option<RightSide>) -> bool
-    ensures { result ≡ taken.is_value_or_none (returned_of right.now) }
-{
-    match right {
-        None => true,
-        Some(right) => is_value(right),
-    }
-}
+use c_program::tree::{Expression, Function, Piece, Program, Statement};
 
 fn conversion_count(format: &[Piece]) -> usize
     ensures { result ≡ taken.conversion_count (pieces_of format.now) }
@@ -58,10 +40,12 @@ fn is_taken(in_loop: bool, statement: &Statement) -> bool
         | Statement::Sequence(_, _)
         | Statement::Empty
         | Statement::Declare(_, _, _)
+        | Statement::Assign(_, _, _)
         | Statement::Update(_, _, _, _, _)
+        | Statement::Return(_, _)
+        | Statement::Call(_, _, _)
         | Statement::Thread(_, _) => true,
         Statement::Block(body) => is_taken(in_loop, body),
-        Statement::Assign(_, _, right) => is_value(right),
         Statement::If(_, consequent, alternative) => {
             is_taken(in_loop, consequent) && is_taken(in_loop, alternative)
         }
@@ -70,20 +54,34 @@ fn is_taken(in_loop: bool, statement: &Statement) -> bool
             is_taken(false, first) && is_taken(false, last) && is_taken(true, body)
         }
         Statement::Break | Statement::Continue => in_loop,
-        Statement::Return(_, right) => is_value_or_none(right),
-        Statement::Call(_, _, _) => false,
         Statement::Print(_, format, arguments) => fits_format(format, arguments),
     }
 }
 
-/// Whether the code of the function of that number is lowered.
-pub fn is_taken_function(program: &Program, number: usize) -> bool
-    ensures { result ≡ taken.is_taken_function (slice_get (program_of program.now).functions number) }
+fn are_taken(functions: &[Function]) -> bool
+    ensures { result ≡ taken.are_taken (map function_of functions.now) }
+{
+    let [function, rest @ ..] = functions else {
+        return true;
+    };
+    is_taken(false, &function.body) && are_taken(rest)
+}
+
+/// Whether each function is lowered, of which one has that number.
+pub fn is_taken_from(program: &Program, number: usize) -> bool
+    ensures { result ≡ taken.is_taken_from (program_of program.now) number }
 {
     match program.functions.get(number) {
         None => false,
-        Some(function) => is_taken(false, &function.body),
+        Some(_) => are_taken(program.functions.as_slice()),
     }
+}
+
+/// Whether each function is lowered.
+pub fn is_taken_program(program: &Program) -> bool
+    ensures { result ≡ taken.is_taken_program (program_of program.now) }
+{
+    is_taken_from(program, program.main as usize)
 }
 
 /// Whether a statement makes no pthread call.
@@ -122,12 +120,18 @@ fn is_sequential(statement: &Statement) -> bool
     }
 }
 
-/// Whether main makes no pthread call.
+fn are_sequential(functions: &[Function]) -> bool
+    ensures { result ≡ taken.are_sequential (map function_of functions.now) }
+{
+    let [function, rest @ ..] = functions else {
+        return true;
+    };
+    is_sequential(&function.body) && are_sequential(rest)
+}
+
+/// Whether no function makes a pthread call.
 pub fn is_sequential_program(program: &Program) -> bool
     ensures { result ≡ taken.is_sequential_program (program_of program.now) }
 {
-    match program.functions.get(program.main as usize) {
-        None => false,
-        Some(main) => is_sequential(&main.body),
-    }
+    are_sequential(program.functions.as_slice())
 }

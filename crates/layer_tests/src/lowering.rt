@@ -228,12 +228,50 @@ fn lowers_a_loop(rt: HostRuntime) -> Result<(), Fail> {
     Ok(())
 }
 
-/// A call of a function is not lowered yet.
+/// `int f(int a) { return a * 7; }`, and `x = f(6); return 0;` in main.
+fn calling(alloc: Global) -> Result<Program, AllocError> {
+    let product = binary(alloc, BinaryOperator::Multiply, x(), number(7))?;
+    let local = LocalVariable { ty: INT, length: 1 };
+    let mut arguments = Vec::new(alloc);
+    arguments.push(number(6))?;
+    let place = Place::Scalar(Storage::Automatic, 0, INT);
+    let call = Statement::Assign(0, place, RightSide::Call(1, arguments));
+    let end = Statement::Return(0, Some(RightSide::Value(number(0))));
+    let mut program = main_with(alloc, before(alloc, call, end)?)?;
+    program.functions.push(Function {
+        name: String::from_str(alloc, "f")?,
+        returns: ReturnType::Integer(INT),
+        parameters: 1,
+        locals: [local].to_vec(alloc)?,
+        body: Statement::Return(0, Some(RightSide::Value(product))),
+        end: 0,
+    })?;
+    Ok(program)
+}
+
+/// The step that passes the argument and the return are one block; the next stores the value.
 #[test]
-fn refuses_a_call(rt: HostRuntime) -> Result<(), Fail> {
+fn lowers_a_call(rt: HostRuntime) -> Result<(), Fail> {
+    let program = calling(rt.alloc())?;
+    assert!(rt; is_sequential_program(&program));
+    let code = lower(rt.alloc(), &program)?;
+    let found = shapes(rt.alloc(), &code)?;
+    assert_eq!(rt;
+        found.as_slice(),
+        [(1, 1, 2), (2, 2, 1), (0, 0, 0)].as_slice()
+    );
+    assert_eq!(rt;
+        code.variables.as_slice(),
+        [INT, INT, CType::LONG].as_slice()
+    );
+    Ok(())
+}
+
+/// A function that calls itself has no code.
+#[test]
+fn refuses_a_recursion(rt: HostRuntime) -> Result<(), Fail> {
     let call = Statement::Call(0, 0, Vec::new(rt.alloc()));
     let program = main_with(rt.alloc(), call)?;
-    let answer = lower(rt.alloc(), &program);
-    assert!(rt; matches!(&answer, Err(LowerError::NotYet)));
+    assert!(rt; lower(rt.alloc(), &program).is_err());
     Ok(())
 }

@@ -297,7 +297,8 @@ impl Wires {
     }
 
     fn not_less_word(&mut self, left: Word, right: Word) -> Result<Word, AllocError>
-        ensures shows { IfOk result (Makes self.old.signals self.new.signals 32 true (λ m r. word_complement 1 (less_number left.signed (width m left.place) (r.signal left.place) (r.signal right.place)))) }
+        ensures shows { IfOk result
+            (Makes self.old.signals self.new.signals 32 true (λ m r. word_complement 1 (less_number left.signed (width m left.place) (r.signal left.place) (r.signal right.place)))) }
         ensures wired { IfOk result (TruthOfTwo self.old.signals self.new.signals left right) }
     {
         let bit = self.less(left, right)?;

@@ -96,7 +96,8 @@ fn may_touch(state: &State, thread: usize, plan: &Plan) -> bool
 
 /// What the next step of a thread reads, where it is defined and no act.
 fn push_reads(state: &State, thread: usize, list: &mut Items<Access>) -> Result<(), AllocError>
-    ensures { IfOk result (λ _. (P : Programs) (f : Frames) (fs : Callers) → slice_get (state_of state.now).slots thread ≡ Some (Running (f ∷ fs)) → MoveAdds (move P (state_of state.now).globals (f ∷ fs)) (touches_of list.old) (touches_of list.new)) }
+    ensures { IfOk result (λ _. (P : Programs) (f : Frames) (fs : Callers) → slice_get (state_of state.now).slots thread ≡ Some (Running (f ∷ fs)) →
+        MoveAdds (move P (state_of state.now).globals (f ∷ fs)) (touches_of list.old) (touches_of list.new)) }
 {
     let Some(frames) = running(&state.slots, thread as u128) else {
         return Ok(());

@@ -76,7 +76,8 @@ fn read_element(
     globals: &[Vec<i128>],
     list: &mut Items<Access>,
 ) -> Result<(), AllocError>
-    ensures { IfOk result (λ _. (ty : IntegerType) (start : Touches) → Adds (value (expression_of index.now) (memory_of locals.now globals.now)) start (touches_of list.old) → Adds (value (Expressions.Element storage variable length ty (expression_of index.now)) (memory_of locals.now globals.now)) start (touches_of list.new)) }
+    ensures { IfOk result (λ _. (ty : IntegerType) (start : Touches) → Adds (value (expression_of index.now) (memory_of locals.now globals.now)) start (touches_of list.old) →
+        Adds (value (Expressions.Element storage variable length ty (expression_of index.now)) (memory_of locals.now globals.now)) start (touches_of list.new)) }
 {
     match index_of(index, length, locals, globals) {
         Ok(j) => load(storage, variable, j, list),
@@ -176,7 +177,9 @@ fn read_update(
     globals: &[Vec<i128>],
     list: &mut Items<Access>,
 ) -> Result<(), AllocError>
-    ensures { IfOk result (λ _. (operator : Operators) (ty : IntegerType) → Adds (update (place_of place.now) operator ty (expression_of right.now) (memory_of locals.now globals.now)) (touches_of list.old) (touches_of list.new)) }
+    ensures { IfOk result
+        (λ _. (operator : Operators) (ty : IntegerType) → Adds (update (place_of place.now) operator ty (expression_of right.now) (memory_of locals.now globals.now))
+        (touches_of list.old) (touches_of list.new)) }
 {
     read(right, locals, globals, list)?;
     read_place(place, locals, globals, list)?;
@@ -206,7 +209,10 @@ fn read_object_and(
     globals: &[Vec<i128>],
     list: &mut Items<Access>,
 ) -> Result<(), AllocError>
-    ensures { IfOk result (λ _. (first : ℕ → ℕ) → Adds (with_operand (object_number first (object_place_of place.now) (memory_of locals.now globals.now)) (expression_of operand.now) (memory_of locals.now globals.now)) (touches_of list.old) (touches_of list.new)) }
+    ensures { IfOk result
+        (λ _. (first : ℕ → ℕ) →
+        Adds (with_operand (object_number first (object_place_of place.now) (memory_of locals.now globals.now)) (expression_of operand.now) (memory_of locals.now globals.now))
+        (touches_of list.old) (touches_of list.new)) }
 {
     read_object(place, locals, globals, list)?;
     read(operand, locals, globals, list)
@@ -246,7 +252,9 @@ fn read_assign(
     globals: &[Vec<i128>],
     list: &mut Items<Access>,
 ) -> Result<(), AllocError>
-    ensures { IfOk result (λ _. (P : Programs) (offset : ℕ) (fs : Callers) (k : Works) → MoveAdds (assign_move P offset (place_of place.now) (right_side_of right.now) (memory_of frame.now.locals.items globals.now) (frame_of frame.now) fs k) (touches_of list.old) (touches_of list.new)) }
+    ensures { IfOk result (λ _. (P : Programs) (offset : ℕ) (fs : Callers) (k : Works) → MoveAdds
+        (assign_move P offset (place_of place.now) (right_side_of right.now) (memory_of frame.now.locals.items globals.now) (frame_of frame.now) fs k) (touches_of list.old)
+        (touches_of list.new)) }
 {
     match right {
         RightSide::Value(right) => read_assignment(place, right, &frame.locals, globals, list),
@@ -261,7 +269,8 @@ fn read_return(
     globals: &[Vec<i128>],
     list: &mut Items<Access>,
 ) -> Result<(), AllocError>
-    ensures { IfOk result (λ _. (P : Programs) (offset : ℕ) (fs : Callers) (k : Works) → MoveAdds (return_move P offset (returned_of right.now) (memory_of frame.now.locals.items globals.now) (frame_of frame.now) fs k) (touches_of list.old) (touches_of list.new)) }
+    ensures { IfOk result (λ _. (P : Programs) (offset : ℕ) (fs : Callers) (k : Works) → MoveAdds
+        (return_move P offset (returned_of right.now) (memory_of frame.now.locals.items globals.now) (frame_of frame.now) fs k) (touches_of list.old) (touches_of list.new)) }
 {
     match right {
         None => Ok(()),
@@ -277,7 +286,10 @@ fn read_statement(
     globals: &[Vec<i128>],
     list: &mut Items<Access>,
 ) -> Result<(), AllocError>
-    ensures { IfOk result (λ _. (P : Programs) (fs : Callers) (k : Works) → MoveAdds (statement_move P (memory_of frame.now.locals.items globals.now) (frame_of frame.now) fs k (statement_of statement.now)) (touches_of list.old) (touches_of list.new)) }
+    ensures { IfOk result
+        (λ _. (P : Programs) (fs : Callers) (k : Works) →
+        MoveAdds (statement_move P (memory_of frame.now.locals.items globals.now) (frame_of frame.now) fs k (statement_of statement.now)) (touches_of list.old)
+        (touches_of list.new)) }
 {
     match statement {
         Statement::Assign(_, place, right) => read_assign(place, right, frame, globals, list),
@@ -320,7 +332,9 @@ pub(crate) fn read_step(
     globals: &[Vec<i128>],
     list: &mut Items<Access>,
 ) -> Result<(), AllocError>
-    ensures { IfOk result (λ _. (P : Programs) (fs : Callers) → MoveAdds (work_move P (memory_of frame.now.locals.items globals.now) (frame_of frame.now) fs (work_of frame.now.work.items)) (touches_of list.old) (touches_of list.new)) }
+    ensures { IfOk result
+        (λ _. (P : Programs) (fs : Callers) → MoveAdds (work_move P (memory_of frame.now.locals.items globals.now) (frame_of frame.now) fs (work_of frame.now.work.items))
+        (touches_of list.old) (touches_of list.new)) }
 {
     match frame.work.front() {
         None => Ok(()),

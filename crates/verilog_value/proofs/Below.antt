@@ -1,22 +1,27 @@
 -- A right side has operands of 1 to 64 bits, and its value is below 2 to the 64.
-use Rattle.std.proofs.Common.{◌≡◌, ℕ, zero, suc, ◌^◌, ◌<◌, ◌≤◌, List, [], ◌∷◌, length, Option, Some, None, slice_get, refl, sym, ap, ◌∙◌, subst, inl, inr, arith}
-use Rattle.std.specs.Prelude.{option_map}
-use Rattle.std.proofs.lemmas.Option.{slice_get-map, same_Some, none-some}
+use Rattle.std.proofs.Common.{◌≡◌, ℕ, zero, suc, ◌^◌, ◌<◌, ◌≤◌, Bool, true, false, List, [], ◌∷◌, length, Option, Some, slice_get, refl, sym, ap, ◌∙◌, subst, inl, inr, arith}
+use Rattle.std.specs.Prelude.{nat_lt, option_map, if◌then◌else◌}
+use Rattle.std.proofs.lemmas.Bool.Decides.{nat_tests}
+use Rattle.std.proofs.lemmas.Option.{slice_get-map, same_Some}
+use Rattle.std.proofs.lemmas.Nat.{pow_pos}
 use Rattle.std.proofs.Math.Nat.{pow-le-pow_right}
 use Rattle.hls_ints.specs.Words.{word}
 use Rattle.verilog_tree.specs.declared.tree.Expression.{Expression}
+use Rattle.verilog_tree.specs.declared.tree.Expression.TheVariants as e
 use Rattle.netlist.specs.declared.netlist.Value.{Value}
 use Rattle.netlist.specs.declared.netlist.Value.TheVariants as right
 use Rattle.netlist.specs.declared.netlist.Memory.{Memory}
-use Rattle.verilog_meaning.specs.Readings.{or_zero, signal_width, width}
+use Rattle.netlist.specs.declared.netlist.Module.{Module}
+use Rattle.netlist.specs.Laid.{memories_read}
+use Rattle.verilog_meaning.specs.Readings.{Reading, memory_words, or_zero, signal_width, width, value}
 use Rattle.verilog_meaning.specs.Threads.{operands, IsOneOf}
-use Rattle.circuit.specs.Modules.{Has, FitsValue}
-use Rattle.circuit.proofs.Tables.{fits_among}
+use Rattle.circuit.specs.Modules.{FitsValue}
+use Rattle.circuit.proofs.Tables.{fits_among, operand_of}
 use Rattle.circuit.proofs.Widths.{Fitting, value_below}
-use Rattle.verilog_value.specs.declared.valuation.SignalValue.{SignalValue}
-use Rattle.verilog_value.specs.declared.valuation.MemoryValue.{MemoryValue}
 use Rattle.verilog_value.specs.declared.valuation.Valuation.{Valuation}
-use Rattle.verilog_value.specs.Value.{EachOf, IsWide, IsNarrow, HasRoom, IsSignal, AreSignals, AreWords, IsRightSide, fused, memory_of, module_of, number_at, reading_of, signal_of, value_of, word_at}
+use Rattle.verilog_value.specs.Value.{EachOf, IsWide, IsNarrow, HasRoom, fused, memory_of, module_of, number_at, reading_of, signal_of, value_of, word_at}
+use Rattle.verilog_value.specs.Condition.{IsRightSide, memories_in}
+use Rattle.verilog_value.proofs.Condition.{At, AreWords, WordsAt, right_fits}
 use Rattle.verilog_value.proofs.Words.{is_small}
 
 some_at : {X : Type 0} (xs : List X) (q : ℕ) → q < length xs → (x : X) × (slice_get xs q ≡ Some x)
@@ -24,96 +29,125 @@ some_at [] q l = absurd (omega arith)
 some_at (x ∷ xs) zero l = (x, refl)
 some_at (x ∷ xs) (suc q) l = some_at xs q (omega arith)
 
-each_to : (P Q : ℕ → Type 0) (xs : List ℕ) → ((x : ℕ) → P x → Q x) → EachOf P xs → EachOf Q xs
-each_to P Q [] f e = tt
-each_to P Q (x ∷ xs) f e = (f x e.0, each_to P Q xs f e.1)
+each_from : (P : ℕ → Type 0) (xs : List ℕ) → ((x : ℕ) → IsOneOf x xs → P x) → EachOf P xs
+each_from P [] f = tt
+each_from P (x ∷ xs) f = (f x (inl refl), each_from P xs (λ y i. f y (inr i)))
 
-each_one : (P : ℕ → Type 0) (xs : List ℕ) → EachOf P xs → (x : ℕ) → IsOneOf x xs → P x
-each_one P [] e x i = absurd i
-each_one P (y ∷ ys) e x (inl same) = subst P (sym same) e.0
-each_one P (y ∷ ys) e x (inr i) = each_one P ys e.1 x i
+module _ (v : Valuation) where
+  abbrev whole_module : Module
+  whole_module = module_of v
 
-module _ (v : Valuation) (are : AreSignals v.signals) where
-  -- the signal at a place
-  record At (x : ℕ) : Type 0 where
-    signal : SignalValue
-    listed : slice_get v.signals x ≡ Some signal
-    is : IsSignal signal
-    wide : width (module_of v) x ≡ signal.width
+  abbrev r : Reading
+  r = reading_of v
 
-  at_place : (x : ℕ) → x < length v.signals → At x
-  at_place x l =
-      let s = some_at v.signals x l in
-      record {
-        signal = s.0;
-        listed = s.1;
-        is = are x s.0 s.1;
-        wide = ap signal_width (slice_get-map signal_of v.signals x ∙ ap (option_map signal_of) s.1);
-      }
+  abbrev memories : ℕ → Option Memory
+  memories j = slice_get whole_module.memories j
 
-  one_wide : (x : ℕ) → x < length v.signals → IsWide v x
-  one_wide x l =
-      let a = at_place x l in
-      (subst (λ w. 1 ≤ w) (sym a.wide) a.is.low, subst (λ w. w ≤ 64) (sym a.wide) a.is.high)
+  width_is : (x w : ℕ) → At v x w → width whole_module x ≡ w
+  width_is x w a = ap signal_width (slice_get-map signal_of v.signals x ∙ ap (option_map signal_of) a.listed) ∙ a.wide
 
-  has_width : (x u : ℕ) → Has (module_of v) x u → width (module_of v) x ≡ u
-  has_width x u h = ap signal_width h.listed ∙ h.wide
+  wide : (x w : ℕ) → At v x w → IsWide v x
+  wide x w a = let same = width_is x w a in let low = a.low in let high = a.high in (omega (arith, same, low), omega (arith, same, high))
 
-  fitting : (x u : ℕ) → x < length v.signals → Has (module_of v) x u → Fitting (module_of v) (reading_of v) x u
-  fitting x u l h =
-      let a = at_place x l in
-      record {
-        has = h;
-        below = subst (λ n. n < 2 ^ u) (sym (ap number_at a.listed)) (subst (λ w. (a.signal).number < 2 ^ w) (sym a.wide ∙ has_width x u h) a.is.fits);
-      }
-
-  room_of : (a : Value) (memory : ℕ → Option Memory) (w : ℕ) → EachOf (λ x. x < length v.signals) (operands a) → FitsValue (Has (module_of v)) memory w a → HasRoom a
-  room_of (right.Select x high low) memory w known f =
-      let wide = one_wide x known.0 in
-      let same = has_width x f.2.0 f.2.1 in
+  room_of : (a : Value) (w : ℕ) → FitsValue (At v) memories w a → HasRoom a
+  room_of (right.Select x high low) w f =
+      let most = f.2.1.high in
       let less = f.2.2 in
-      let most = wide.1 in
-      (f.0, omega (arith, same, less, most))
-  room_of (right.Copy x) memory w known f = tt
-  room_of (right.Constant n) memory w known f = tt
-  room_of (right.BitwiseNot x) memory w known f = tt
-  room_of (right.Binary operator x y) memory w known f = tt
-  room_of (right.SignedLess x y) memory w known f = tt
-  room_of (right.ArithmeticShiftRight x y) memory w known f = tt
-  room_of (right.Conditional c x y) memory w known f = tt
-  room_of (right.Division operator x y) memory w known f = tt
-  room_of (right.SignedDivision operator x y) memory w known f = tt
-  room_of (right.MemoryRead j x) memory w known f = tt
-  room_of (right.Concatenation xs) memory w known f = tt
-  room_of (right.Replication n x) memory w known f = tt
+      (f.0, omega (arith, less, most))
+  room_of (right.Copy x) w f = tt
+  room_of (right.Constant n) w f = tt
+  room_of (right.BitwiseNot x) w f = tt
+  room_of (right.Binary operator x y) w f = tt
+  room_of (right.SignedLess x y) w f = tt
+  room_of (right.ArithmeticShiftRight x y) w f = tt
+  room_of (right.Conditional c x y) w f = tt
+  room_of (right.Division operator x y) w f = tt
+  room_of (right.SignedDivision operator x y) w f = tt
+  room_of (right.MemoryRead j x) w f = tt
+  room_of (right.Concatenation xs) w f = tt
+  room_of (right.Replication n x) w f = tt
+
+  wide_operands : (a : Value) (w : ℕ) → FitsValue (At v) memories w a → EachOf (IsWide v) (operands a)
+  wide_operands a w f = each_from (IsWide v) (operands a) (λ x i. let p = operand_of (At v) memories w a f x i in wide x p.0 p.1)
+
+  -- ---- values
+
+  -- the same module without its memories
+  abbrev bare : Module
+  bare = record { name = []; signals = whole_module.signals; memories = []; actions = []; instances = [] }
+
+  none_there : (j k : ℕ) (s : Memory) → slice_get bare.memories j ≡ Some s → k < length s.initial → r.word j k < 2 ^ s.width
+  none_there j k s e l = absurd cc
+
+  fitting : (x w : ℕ) → At v x w → Fitting bare r x w
+  fitting x w a = record {
+    has = record { signal = signal_of a.signal; listed = slice_get-map signal_of v.signals x ∙ ap (option_map signal_of) a.listed; wide = a.wide };
+    below = subst (λ n. n < 2 ^ w) (sym (ap number_at a.listed)) a.fits;
+  }
+
+  read_by : (b : Bool) (n w : ℕ) → (b ≡ true → n < 2 ^ w) → (if b then n else 0) < 2 ^ w
+  read_by true n w h = h refl
+  read_by false n w h = pow_pos w
+
+  word_fits : (j k w : ℕ) → WordsAt v j → (s : Memory) → memories j ≡ Some s → s.width ≡ w → nat_lt k (memory_words (memories j)) ≡ true → r.word j k < 2 ^ w
+  word_fits j k w words s e wide less =
+      let m = words.0 in
+      let here : memories j ≡ Some (memory_of m) = slice_get-map memory_of v.memories j ∙ ap (option_map memory_of) words.1 in
+      let long : memory_words (memories j) ≡ length m.words = ap memory_words here in
+      let inside : k < memory_words (memories j) = grind (arith, nat_tests) in
+      let n = some_at m.words k (omega (arith, long, inside)) in
+      let same : r.word j k ≡ n.0 = ap (λ o. word_at o k) words.1 ∙ ap or_zero n.1 in
+      let width_same : m.width ≡ w = ap (λ (t : Memory). t.width) (same_Some (memory_of m) s (sym here ∙ e)) ∙ wide in
+      let below : n.0 < 2 ^ w = subst (λ u. n.0 < 2 ^ u) width_same (words.2 k n.0 n.1) in
+      omega (arith, same, below)
+
+  plain : (a : Value) (w : ℕ) → FitsValue (At v) (λ j. slice_get bare.memories j) w a → value bare r a < 2 ^ w
+  plain a w f = value_below bare r none_there w a (fits_among (At v) (Fitting bare r) (λ j. slice_get bare.memories j) w a (λ y u i h. fitting y u h) f)
+
+  value_fits : (a : Value) (w : ℕ) → FitsValue (At v) memories w a → ((j : ℕ) → IsOneOf j (memories_read a) → WordsAt v j) → value whole_module r a < 2 ^ w
+  value_fits (right.MemoryRead j x) w f words =
+      read_by (nat_lt (r.signal x) (memory_words (memories j))) (r.word j (r.signal x)) w (word_fits j (r.signal x) w (words j (inl refl)) f.0 f.1 f.2)
+  value_fits (right.Copy x) w f words = plain (right.Copy x) w f
+  value_fits (right.Constant n) w f words = plain (right.Constant n) w f
+  value_fits (right.BitwiseNot x) w f words = plain (right.BitwiseNot x) w f
+  value_fits (right.Binary operator x y) w f words = plain (right.Binary operator x y) w f
+  value_fits (right.SignedLess x y) w f words = plain (right.SignedLess x y) w f
+  value_fits (right.ArithmeticShiftRight x y) w f words = plain (right.ArithmeticShiftRight x y) w f
+  value_fits (right.Conditional c x y) w f words = plain (right.Conditional c x y) w f
+  value_fits (right.Division operator x y) w f words = plain (right.Division operator x y) w f
+  value_fits (right.SignedDivision operator x y) w f words = plain (right.SignedDivision operator x y) w f
+  value_fits (right.Select x high low) w f words = plain (right.Select x high low) w f
+  value_fits (right.Concatenation xs) w f words = plain (right.Concatenation xs) w f
+  value_fits (right.Replication n x) w f words = plain (right.Replication n x) w f
+
+  words_at : (x : Expression) → EachOf (AreWords v) (memories_in x) → (j : ℕ) → IsOneOf j (memories_read (fused v x)) → WordsAt v j
+  words_at (e.MemoryRead tested bound m y guarded) w j (inl q) = subst (WordsAt v) (sym q) w.0
+  words_at (e.MemoryRead tested bound m y guarded) w j (inr i) = absurd i
+  words_at (e.Copy y) w j i = absurd i
+  words_at (e.Constant c) w j i = absurd i
+  words_at (e.BitwiseNot y) w j i = absurd i
+  words_at (e.Binary operator y z) w j i = absurd i
+  words_at (e.SignedLess y z) w j i = absurd i
+  words_at (e.ArithmeticShiftRight y z) w j i = absurd i
+  words_at (e.Conditional c y z) w j i = absurd i
+  words_at (e.Division tested nought guarded operator y z) w j i = absurd i
+  words_at (e.SignedDivision tested nought guarded operator y z) w j i = absurd i
+  words_at (e.BitSelect y bit) w j i = absurd i
+  words_at (e.PartSelect y high low) w j i = absurd i
+  words_at (e.Concatenation ys) w j i = absurd i
+  words_at (e.Replication n y) w j i = absurd i
 
 pub narrow : (v : Valuation) (e : Expression) → IsRightSide v e → IsNarrow v e
-narrow v e is = record {
-  wide = each_to (λ x. x < length v.signals) (IsWide v) (operands (fused v e)) (one_wide v is.signals) is.known;
-  room = room_of v is.signals (fused v e) (λ j. slice_get (module_of v).memories j) is.target is.known is.fits;
-}
-
--- ---- memories
-
-module _ (v : Valuation) (are : AreWords v.memories) where
-  word_fits : (j k : ℕ) (o : Option MemoryValue) → slice_get v.memories j ≡ o → (s : Memory) → option_map memory_of o ≡ Some s → k < length s.initial → word_at o k < 2 ^ s.width
-  word_fits j k None e s h l = absurd (none-some s h)
-  word_fits j k (Some m) e s h l =
-      let same : memory_of m ≡ s = same_Some (memory_of m) s h in
-      let here : k < length (memory_of m).initial = subst (λ (t : Memory). k < length t.initial) (sym same) l in
-      let n = some_at m.words k here in
-      subst (λ (t : Memory). word_at (Some m) k < 2 ^ t.width) same (subst (λ z. z < 2 ^ m.width) (sym (ap or_zero n.1)) (are j k n.0 m e n.1))
-
-  words_fit : (j k : ℕ) (s : Memory) → slice_get (module_of v).memories j ≡ Some s → k < length s.initial → (reading_of v).word j k < 2 ^ s.width
-  words_fit j k s h l = word_fits j k (slice_get v.memories j) refl s (sym (slice_get-map memory_of v.memories j) ∙ h) l
+narrow v e is =
+    let f = right_fits v e is in
+    record { wide = wide_operands v (fused v e) f.target f.fits; room = room_of v (fused v e) f.target f.fits }
 
 value_small : (v : Valuation) (e : Expression) → IsRightSide v e → value_of v e < 2 ^ 64
 value_small v e is =
-    let known = each_one (λ x. x < length v.signals) (operands (fused v e)) is.known in
-    let fits = fits_among (Has (module_of v)) (Fitting (module_of v) (reading_of v)) (λ j. slice_get (module_of v).memories j) is.target (fused v e)
-    (λ y u i h. fitting v is.signals y u (known y i) h) is.fits in
-    let below = value_below (module_of v) (reading_of v) (words_fit v is.words) is.target (fused v e) fits in
-    let p : 2 ^ is.target ≤ 2 ^ 64 = pow-le-pow_right {n = 2} (omega arith) {i = is.target} {j = 64} is.most in
+    let f = right_fits v e is in
+    let below = value_fits v (fused v e) f.target f.fits (words_at v e f.words) in
+    let most = f.most in
+    let p : 2 ^ f.target ≤ 2 ^ 64 = pow-le-pow_right {n = 2} (omega arith) {i = f.target} {j = 64} most in
     omega (arith, below, p)
 
 pub whole : (v : Valuation) (e : Expression) (n : ℕ) → IsRightSide v e → n ≡ word 64 (value_of v e) → n ≡ value_of v e

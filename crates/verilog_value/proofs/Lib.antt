@@ -1,3 +1,6 @@
 pub mod Places
 pub mod Words
+pub mod Declared
+pub mod Condition
 pub mod Below
+pub mod Example

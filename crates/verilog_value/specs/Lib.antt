@@ -1,1 +1,3 @@
 pub mod Value
+pub mod Condition
+pub mod Example

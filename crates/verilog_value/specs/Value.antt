@@ -1,5 +1,5 @@
 -- The value of an expression where its names have numbers: that of the right side which it stands for in a netlist.
-use Rattle.std.specs.Prelude.{◌≡◌, ℕ, ◌^◌, ◌<◌, ◌≤◌, false, List, [], ◌∷◌, length, map, Option, Some, None, slice_get, nat_lt, if◌then◌else◌}
+use Rattle.std.specs.Prelude.{ℕ, ◌<◌, ◌≤◌, false, List, [], ◌∷◌, map, Option, Some, None, slice_get, nat_lt, if◌then◌else◌}
 use Rattle.verilog_tree.specs.declared.tree.Expression.{Expression}
 use Rattle.netlist.specs.declared.netlist.Value.{Value}
 use Rattle.netlist.specs.declared.netlist.Value.TheVariants.{Select}
@@ -11,7 +11,6 @@ use Rattle.netlist.specs.NetlistOf.{Name, place}
 use Rattle.netlist.specs.NetlistOf as text
 use Rattle.verilog_meaning.specs.Readings.{Reading, memory_words, or_zero, width, value}
 use Rattle.verilog_meaning.specs.Threads.{operands}
-use Rattle.circuit.specs.Modules.{Has, FitsValue}
 use Rattle.verilog_value.specs.declared.valuation.SignalValue.{SignalValue}
 use Rattle.verilog_value.specs.declared.valuation.MemoryValue.{MemoryValue}
 use Rattle.verilog_value.specs.declared.valuation.Valuation.{Valuation}
@@ -54,6 +53,10 @@ word_read v j k = if nat_lt k (memory_words (slice_get (module_of v).memories j)
 abbrev pub standing_for : Valuation → Name → ℕ
 standing_for v x = place (signal_names v.signals) x
 
+-- the place of the name of a memory
+abbrev pub memory_place : Valuation → Name → ℕ
+memory_place v x = place (memory_names v.memories) x
+
 abbrev pub places : Valuation → List Name → List ℕ
 places v xs = map (standing_for v) xs
 
@@ -87,25 +90,3 @@ HasRoom _ = Unit {0}
 pub record IsNarrow (v : Valuation) (e : Expression) : Type 0 where
   pub wide : EachOf (IsWide v) (operands (fused v e))
   pub room : HasRoom (fused v e)
-
--- the numbers fit their widths, 1 to 64
-pub record IsSignal (s : SignalValue) : Type 0 where
-  pub low : 1 ≤ s.width
-  pub high : s.width ≤ 64
-  pub fits : s.number < 2 ^ s.width
-
-abbrev pub AreSignals : List SignalValue → Type 0
-AreSignals signals = (x : ℕ) (s : SignalValue) → slice_get signals x ≡ Some s → IsSignal s
-
-abbrev pub AreWords : List MemoryValue → Type 0
-AreWords memories = (j k n : ℕ) (m : MemoryValue) → slice_get memories j ≡ Some m → slice_get m.words k ≡ Some n → n < 2 ^ m.width
-
--- the expression is a right side of so many bits, by the rules of widths, and all numbers fit
-pub record IsRightSide (v : Valuation) (e : Expression) : Type 0 where
-  pub target : ℕ
-  pub most : target ≤ 64
-  pub fits : FitsValue (Has (module_of v)) (λ j. slice_get (module_of v).memories j) target (fused v e)
-  -- the valuation has each of its names
-  pub known : EachOf (λ x. x < length v.signals) (operands (fused v e))
-  pub signals : AreSignals v.signals
-  pub words : AreWords v.memories

@@ -4,5 +4,7 @@
 
 pub mod operators;
 mod place;
+#[cfg(test)]
+mod tests;
 pub mod valuation;
 pub mod value;

@@ -3,7 +3,8 @@
 ghost use Rattle.std.specs.Prelude.{◌≡◌, ◌≤◌, ◌+◌, ◌*◌, ◌^◌};
 ghost use Rattle.hls_ints.specs.Words.{word as to_word};
 ghost use Rattle.verilog_meaning.specs.Readings.{joined as joined_parts};
-ghost use Rattle.verilog_value.specs.Value.{EachOf, IsNarrow, IsRightSide, IsWideName, module_of, places, reading_of, standing_for, value_of, width_at};
+ghost use Rattle.verilog_value.specs.Value.{EachOf, IsNarrow, IsWideName, module_of, places, reading_of, standing_for, value_of, width_at};
+ghost use Rattle.verilog_value.specs.Condition.{IsRightSide};
 
 use crate::operators::{beside, binary, divided, repeated, selected, signed_divided};
 use crate::place::{memory_place, number, signal_place, width_of, word};
@@ -140,9 +141,8 @@ fn word_of(expression: &Expression, valuation: &Valuation) -> u64
     }
 }
 
-/// The value of an expression, which is the right side of an assignment to a target of 1 to 64 bits, where its names have these
-/// numbers. It takes no memory.
-#[tactic(auto, using(crate::proofs::Below::narrow, crate::proofs::Below::whole))]
+/// The value of an expression, which is the right side of an assign of a well-formed net, where its names have these numbers. It
+/// takes no memory.
 pub fn eval(expression: &Expression, valuation: &Valuation) -> u64
     requires { IsRightSide valuation.now expression.now }
     ensures { result ≡ value_of valuation.now expression.now }

@@ -2,16 +2,18 @@ use Rattle.std.proofs.Common.{ap, ◌∙◌}
 use Rattle.c_program.specs.Plain.{program_of}
 use Rattle.c_limits.proofs.Within.{within_limits}
 use Rattle.ir_lower.specs.declared.fault.LowerError.TheVariants.{Fault}
-use Rattle.ir_lower.proofs.Untaken.{untaken_calls}
+use Rattle.ir_lower.proofs.Untaken.{resolved_are_taken}
 use Rattle.hls_compile.proofs.Alone.{alone}
 use Rattle.hls_compile.proofs.code_of.Goals as goal
 
 pub returns-in-Ok-clause-alone : goal.returns-in-Ok-clause-alone
-returns-in-Ok-clause-alone c = alone (program_of c.args.program.now) c.in_default.ensures.single c.in_default.ensures.sequential c.in_default.ensures.taken
+returns-in-Ok-clause-alone c = alone (program_of c.args.program.now) c.in_default.ensures.single c.in_default.ensures.sequential
 
-pub returns-in-Err-NotYet-clause-unbuilt : goal.returns-in-Err-NotYet-clause-unbuilt
-returns-in-Err-NotYet-clause-unbuilt c =
-    untaken_calls (program_of c.args.program.now) c.requires.resolved (c.in-Err-NotYet.ensures.untaken c.in-Err-NotYet.field-0-is)
+pub unreachable-requires-in-Err-NotYet : goal.unreachable-requires-in-Err-NotYet
+unreachable-requires-in-Err-NotYet c =
+    let taken = resolved_are_taken (program_of c.args.program.now) c.requires.resolved in
+    let untaken = c.in-Err-NotYet.ensures.untaken c.in-Err-NotYet.field-0-is in
+    absurd cc
 
 pub unreachable-requires : goal.unreachable-requires
 unreachable-requires c =

@@ -35,7 +35,8 @@ returns c =
     let items = c.args.program.now.globals.items in
     let all : c.deref-global-items.result.now ≡ items = c.deref-global-items.ensures.value in
     let end : length items ≤ c.loop-variable.variable = let n = ap (λ (s : List GlobalVariable). length s) all in let t = c.loop-variable-test.false in omega arith in
-    let known = partitioned c.args.threads.now items c.loop-variable.banks.items c.loop-variable.spreads.items c.loop-variable.variable end c.loop-variable.invariant.banks c.loop-variable.invariant.spreads c.loop-variable.invariant.short in
+    let known = partitioned c.args.threads.now items c.loop-variable.banks.items c.loop-variable.spreads.items c.loop-variable.variable end c.loop-variable.invariant.banks
+    c.loop-variable.invariant.spreads c.loop-variable.invariant.short in
     record {
       partition = record { banks = known.banks_are; spreads = known.spreads_are };
       banks = known.stand;

@@ -70,7 +70,8 @@ returns-in_err-lower_condition-in-Either-2 t c =
     ap condition_of c.in-Either.is ∙ ap (λ z. Condition.Either (condition_of z) (condition_of c.in-Either.second.value)) (sym c.deref-in-Either.ensures)
     ∙ ap (λ z. Condition.Either (condition_of c.deref-in-Either.result.now) (condition_of z)) (sym c.deref-in-Either-2.ensures) in
     rw (p.1, p.2)
-    (second_at (condition_of c.args.condition.now) (condition_of c.deref-in-Either.result.now) (condition_of c.deref-in-Either-2.result.now) c.in_ok-next-in-Either.next c.args.if_true c.in_ok-next-in-Either.next
+    (second_at (condition_of c.args.condition.now) (condition_of c.deref-in-Either.result.now)
+    (condition_of c.deref-in-Either-2.result.now) c.in_ok-next-in-Either.next c.args.if_true c.in_ok-next-in-Either.next
     c.args.code.now c.new_label-in-Either.new.self c.lower_condition-in-Either.new.code c.begin-in-Either.new.self _
     (ap condition_weight is) (λ S ok. subst (IsCondition S.program S.function) is ok) c.in_ok-next-in-Either.ensures.after c.in_ok-lower_condition-in-Either.ensures
     c.in_ok-begin-in-Either.ensures c.in_err-lower_condition-in-Either-2.ensures)

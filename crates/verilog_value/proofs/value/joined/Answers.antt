@@ -16,7 +16,8 @@ loop-number-preserved c =
     let i = c.loop-number.number in
     let x = c.index-parts-number.result in
     record {
-      left = joined_next v xs i x c.loop-number.above c.behind-above.result (word 64 (joined (module_of v) (reading_of v) (places v xs) 0)) c.loop-number-test.true c.index-parts-number.is c.loop-number.invariant.left c.behind-above.ensures;
+      left = joined_next v xs i x c.loop-number.above c.behind-above.result (word 64 (joined (module_of v) (reading_of v) (places v xs) 0)) c.loop-number-test.true
+          c.index-parts-number.is c.loop-number.invariant.left c.behind-above.ensures;
       wide = (each_next (IsWideName v) xs i x c.loop-number-test.true c.index-parts-number.is c.loop-number.invariant.wide).1;
       below = omega arith;
     }

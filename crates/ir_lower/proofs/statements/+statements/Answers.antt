@@ -1,0 +1,836 @@
+use Rattle.std.proofs.Common.{◌≡◌, ◌+◌, ◌-◌, ◌&&◌, true, false, Some, refl, sym, ap, ◌∙◌, subst, arith}
+use Rattle.std.specs.Prelude.{is_some, slice_get}
+use Rattle.std.proofs.lemmas.Result.{err_from_is_err_and}
+use Rattle.c_program.specs.Limits.{print_count}
+use Rattle.c_program.specs.Plain.{function_of, place_of, program_of, returned_of, right_side_of, condition_of, expressions_of, statement_of}
+use Rattle.c_program.specs.Tree.{RightSide, Statement}
+use Rattle.ir_lower.specs.Doing.{at_site, OpensTurn}
+use Rattle.ir_lower.specs.declared.lowering.Lowering.{Lowering}
+use Rattle.ir_lower.specs.Taken.{is_taken}
+use Rattle.ir_lower.proofs.Advancing.{None_, advances_both}
+use Rattle.ir_lower.proofs.Proceeding.{proceeds_both, proceeds_same, targets_after, back_after, choice_advance, choice_proceeds, choice_targets, choice_back_first, choice_back_target, choice_apart, join_open, false_open, join_open_after}
+use Rattle.ir_lower.proofs.Proceeding.{while_proceeds, while_targets, while_head, while_leaving, do_proceeds, do_targets, do_turning, do_leaving, do_apart, for_proceeds, for_targets, for_turning, for_head, for_leaving}
+use Rattle.ir_lower.proofs.Proceeding.{turn_back_target, do_back_target, for_back_target, taken_body, call_back_target, done_open, done_back, calls_proceed, delivers_proceed, hands_proceed, closed_reached}
+use Rattle.ir_lower.proofs.Continuing.{call_lowers, call_assigned, call_returned}
+use Rattle.ir_lower.proofs.Sizes.{nested_size, measure_falls}
+use Rattle.ir_lower.proofs.Filling.{skipped_for, block_for, choice_condition, one_for, other_for, while_condition, while_body, do_body, do_condition, for_first, for_condition, for_body, for_last}
+use Rattle.ir_lower.proofs.Filling.{behind_more, behind_first}
+use Rattle.ir_lower.proofs.Overfull.{call_too_deep, call_unknown, call_body, call_closing, call_for, assigned_for, returned_for, delivery_for, handing_for}
+use Rattle.ir_lower.proofs.Nesting.{both_true, skips, simple_lowers, block_lowers, choice_lowers, while_lowers, do_lowers, for_lowers, via_more, via_last}
+use Rattle.ir_lower.proofs.Whole.{get_map, get_none}
+use Rattle.ir_lower.proofs.statements.+statements.Goals as goal
+
+pub lower_statement-loop-rest-preserved : goal.lower_statement-loop-rest-preserved
+lower_statement-loop-rest-preserved t c =
+    let is : statement_of c.loop-rest.rest.now ≡ Statement.Sequence (statement_of c.deref.result.now) (statement_of c.deref-rest.result.now) =
+    ap statement_of c.in-Sequence.is ∙ ap (λ z. Statement.Sequence (statement_of z) (statement_of c.in-Sequence.next.value)) (sym c.deref.ensures)
+    ∙ ap (λ z. Statement.Sequence (statement_of c.deref.result.now) (statement_of z)) (sym c.deref-rest.ensures) in
+    let part = both_true (is_taken (is_some c.args.around) (statement_of c.deref.result.now)) (is_taken (is_some c.args.around) (statement_of c.deref-rest.result.now))
+    (sym (ap (is_taken (is_some c.args.around)) is) ∙ c.loop-rest.invariant.taken) in
+    record {
+      taken = part.1;
+      proceeds = proceeds_both c.args.around c.args.code.now c.loop-rest.code c.lower_statement.new.code c.loop-rest.invariant.proceeds c.in_ok-lower_statement.ensures.labels;
+      less = (let size = ap nested_size is in let before = c.loop-rest.invariant.less in omega (arith, size, before));
+      behind =
+          behind_more (program_of c.args.program.now) c.args.depth c.args.around (statement_of c.args.statement.now) (statement_of c.loop-rest.rest.now)
+          (statement_of c.deref.result.now) (statement_of c.deref-rest.result.now)
+          c.args.code.now c.loop-rest.code c.lower_statement.new.code c.loop-rest.invariant.behind is c.in_ok-lower_statement.ensures.lowers;
+      via =
+          via_more (program_of c.args.program.now) c.args.around (statement_of c.args.statement.now) (statement_of c.loop-rest.rest.now) (statement_of c.deref.result.now)
+          (statement_of c.deref-rest.result.now) c.args.code.now
+          c.loop-rest.code c.lower_statement.new.code c.loop-rest.invariant.via is c.in_ok-lower_statement.ensures.lowers;
+    }
+
+pub lower_statement-returns-then-not-is_reached-clause-labels : goal.lower_statement-returns-then-not-is_reached-clause-labels
+lower_statement-returns-then-not-is_reached-clause-labels t c =
+    proceeds_both c.args.around c.args.code.now c.loop-rest.code c.skip_sites.new.self c.loop-rest.invariant.proceeds
+    (proceeds_same c.loop-rest.code c.skip_sites.new.self (ap (λ (z : Lowering). z.stages) c.in_ok-skip_sites.ensures.after) (ap (λ (z : Lowering). z.reached) c.in_ok-skip_sites.ensures.after)
+    (ap (λ (z : Lowering). z.back) c.in_ok-skip_sites.ensures.after) c.args.around)
+
+pub lower_statement-returns-in_ok-lower_statement-in-Block-clause-labels : goal.lower_statement-returns-in_ok-lower_statement-in-Block-clause-labels
+lower_statement-returns-in_ok-lower_statement-in-Block-clause-labels t c =
+    proceeds_both c.args.around c.args.code.now c.loop-rest.code c.lower_statement-in-Block.new.code c.loop-rest.invariant.proceeds
+    c.in_ok-lower_statement-in-Block.ensures.labels
+
+pub lower_statement-returns-in_ok-bind-in-If-clause-labels : goal.lower_statement-returns-in_ok-bind-in-If-clause-labels
+lower_statement-returns-in_ok-bind-in-If-clause-labels t c =
+    proceeds_both c.args.around c.args.code.now c.loop-rest.code c.bind.new.self c.loop-rest.invariant.proceeds
+    (choice_proceeds c.args.around (condition_of c.in-If.condition) c.in_ok-labels-in-If.labels c.loop-rest.code c.open_choice.new.code c.lower_statement-in-If.new.code c.turn_choice.new.code
+    c.lower_statement-in-If-2.new.code c.bind.new.self (sym c.is_reached.ensures ∙ c.if-not-is_reached.false) c.in_ok-labels-in-If.ensures
+    c.in_ok-lower_statement-in-If.ensures.labels c.in_ok-turn_choice-in-If.ensures
+    c.in_ok-lower_statement-in-If-2.ensures.labels c.in_ok-bind-in-If.ensures)
+
+pub lower_statement-returns-in_ok-close_turn-in-While-clause-labels : goal.lower_statement-returns-in_ok-close_turn-in-While-clause-labels
+lower_statement-returns-in_ok-close_turn-in-While-clause-labels t c =
+    proceeds_both c.args.around c.args.code.now c.loop-rest.code c.close_turn.new.code c.loop-rest.invariant.proceeds
+    (while_proceeds c.args.around _ (condition_of c.in-While.condition) c.in_ok-labels-in-While.labels c.loop-rest.code c.open_turn.new.code c.lower_statement-in-While.new.code c.close_turn.new.code
+    (sym c.is_reached.ensures ∙ c.if-not-is_reached.false) c.in_ok-labels-in-While.ensures c.in_ok-lower_statement-in-While.ensures.labels c.in_ok-close_turn-in-While.ensures)
+
+pub lower_statement-returns-in_ok-close_do-in-DoWhile-clause-labels : goal.lower_statement-returns-in_ok-close_do-in-DoWhile-clause-labels
+lower_statement-returns-in_ok-close_do-in-DoWhile-clause-labels t c =
+    proceeds_both c.args.around c.args.code.now c.loop-rest.code c.close_do.new.code c.loop-rest.invariant.proceeds
+    (do_proceeds (condition_of c.in-DoWhile.condition) c.in_ok-labels-in-DoWhile.labels c.loop-rest.code c.open_loop.new.code c.lower_statement-in-DoWhile.new.code c.close_do.new.code
+    c.in_ok-labels-in-DoWhile.ensures c.in_ok-lower_statement-in-DoWhile.ensures.labels c.in_ok-close_do-in-DoWhile.ensures c.args.around (sym c.is_reached.ensures ∙ c.if-not-is_reached.false))
+
+pub lower_statement-returns-in_ok-close_for-in-For-clause-labels : goal.lower_statement-returns-in_ok-close_for-in-For-clause-labels
+lower_statement-returns-in_ok-close_for-in-For-clause-labels t c =
+    proceeds_both c.args.around c.args.code.now c.loop-rest.code c.close_for.new.code c.loop-rest.invariant.proceeds
+    (for_proceeds (condition_of c.in-For.condition) c.in_ok-labels-in-For.labels _ _ c.open_for.new.code c.lower_statement-in-For-2.new.code c.turn_for.new.code
+    c.lower_statement-in-For-3.new.code c.site-last_site.result
+    c.in_ok-labels-in-For.ensures c.in_ok-lower_statement-in-For-2.ensures.labels c.in_ok-turn_for-in-For.ensures c.in_ok-lower_statement-in-For-3.ensures.labels
+    c.close_for.new.code c.site-after.result c.in_ok-close_for-in-For.ensures c.args.around c.loop-rest.code c.lower_statement-in-For.new.code
+    (sym c.is_reached.ensures ∙ c.if-not-is_reached.false) c.in_ok-lower_statement-in-For.ensures.labels refl refl refl)
+
+pub lower_statement-returns-in_ok-lower_simple-in_default-rest-clause-labels : goal.lower_statement-returns-in_ok-lower_simple-in_default-rest-clause-labels
+lower_statement-returns-in_ok-lower_simple-in_default-rest-clause-labels t c =
+    proceeds_both c.args.around c.args.code.now c.loop-rest.code c.lower_simple-in_default-rest.new.code c.loop-rest.invariant.proceeds
+    c.in_ok-lower_simple-in_default-rest.ensures.labels
+
+pub lower_statement-lower_statement-requires : goal.lower_statement-lower_statement-requires
+lower_statement-lower_statement-requires t c =
+    let is : statement_of c.loop-rest.rest.now ≡ Statement.Sequence (statement_of c.deref.result.now) (statement_of c.in-Sequence.next.value) =
+    ap statement_of c.in-Sequence.is ∙ ap (λ z. Statement.Sequence (statement_of z) (statement_of c.in-Sequence.next.value)) (sym c.deref.ensures) in (
+      (let size = ap nested_size is in let before = c.loop-rest.invariant.less in omega (arith, size, before)),
+      (
+        c.requires.functions,
+        (
+          (both_true (is_taken (is_some c.args.around) (statement_of c.deref.result.now)) (is_taken (is_some c.args.around) (statement_of c.in-Sequence.next.value))
+              (sym (ap (is_taken (is_some c.args.around)) (is)) ∙ c.loop-rest.invariant.taken)).0,
+          (
+            targets_after c.args.around c.args.code.now.stages c.loop-rest.code.stages c.loop-rest.invariant.proceeds.advances c.requires.targets,
+            back_after c.args.code.now c.loop-rest.code c.loop-rest.invariant.proceeds.advances c.loop-rest.invariant.proceeds.back c.requires.back,
+          ),
+        ),
+      ),
+    )
+
+pub lower_statement-lower_statement-requires-in-Block : goal.lower_statement-lower_statement-requires-in-Block
+lower_statement-lower_statement-requires-in-Block t c =
+    let is : statement_of c.loop-rest.rest.now ≡ Statement.Block (statement_of c.deref-in-Block.result.now) =
+    ap statement_of c.in-Block.is ∙ ap (λ z. Statement.Block (statement_of z)) (sym c.deref-in-Block.ensures) in (
+      (let size = ap nested_size is in let before = c.loop-rest.invariant.less in omega (arith, size, before)),
+      (
+        c.requires.functions,
+        (
+          sym (ap (is_taken (is_some c.args.around)) is) ∙ c.loop-rest.invariant.taken,
+          (
+            targets_after c.args.around c.args.code.now.stages c.loop-rest.code.stages c.loop-rest.invariant.proceeds.advances c.requires.targets,
+            back_after c.args.code.now c.loop-rest.code c.loop-rest.invariant.proceeds.advances c.loop-rest.invariant.proceeds.back c.requires.back,
+          ),
+        ),
+      ),
+    )
+
+pub lower_statement-lower_statement-requires-in-If : goal.lower_statement-lower_statement-requires-in-If
+lower_statement-lower_statement-requires-in-If t c =
+    let is : statement_of c.loop-rest.rest.now ≡ Statement.If (condition_of c.in-If.condition) (statement_of c.deref-in-If.result.now) (statement_of c.in-If.alternative.value) =
+    ap statement_of c.in-If.is ∙ ap (λ z. Statement.If (condition_of c.in-If.condition) (statement_of z) (statement_of c.in-If.alternative.value)) (sym c.deref-in-If.ensures) in (
+      (let size = ap nested_size is in let before = c.loop-rest.invariant.less in omega (arith, size, before)),
+      (
+        c.requires.functions,
+        (
+          (both_true (is_taken (is_some c.args.around) (statement_of c.deref-in-If.result.now)) (is_taken (is_some c.args.around) (statement_of c.in-If.alternative.value))
+              (sym (ap (is_taken (is_some c.args.around)) is) ∙ c.loop-rest.invariant.taken)).0,
+          (
+            targets_after c.args.around c.args.code.now.stages c.open_choice.new.code.stages
+                (advances_both None_ c.args.code.now.stages c.loop-rest.code.stages c.open_choice.new.code.stages c.loop-rest.invariant.proceeds.advances
+                (choice_advance (condition_of c.in-If.condition) c.in_ok-labels-in-If.labels c.loop-rest.code c.open_choice.new.code c.in_ok-labels-in-If.ensures))
+                c.requires.targets,
+            choice_back_first c.args.around (condition_of c.in-If.condition) c.in_ok-labels-in-If.labels c.args.code.now c.loop-rest.code c.open_choice.new.code c.requires.back
+                c.loop-rest.invariant.proceeds c.in_ok-labels-in-If.ensures,
+          ),
+        ),
+      ),
+    )
+
+pub lower_statement-lower_statement-requires-in-If-2 : goal.lower_statement-lower_statement-requires-in-If-2
+lower_statement-lower_statement-requires-in-If-2 t c =
+    let is : statement_of c.loop-rest.rest.now ≡ Statement.If (condition_of c.in-If.condition) (statement_of c.in-If.consequent.value) (statement_of c.deref-in-If-2.result.now) =
+    ap statement_of c.in-If.is ∙ ap (λ z. Statement.If (condition_of c.in-If.condition) (statement_of c.in-If.consequent.value) (statement_of z)) (sym c.deref-in-If-2.ensures) in (
+      (let size = ap nested_size is in let before = c.loop-rest.invariant.less in omega (arith, size, before)),
+      (
+        c.requires.functions,
+        (
+          (both_true (is_taken (is_some c.args.around) (statement_of c.in-If.consequent.value)) (is_taken (is_some c.args.around) (statement_of c.deref-in-If-2.result.now))
+              (sym (ap (is_taken (is_some c.args.around)) is) ∙ c.loop-rest.invariant.taken)).1,
+          (
+            choice_targets c.args.around (condition_of c.in-If.condition) c.in_ok-labels-in-If.labels c.args.code.now c.loop-rest.code c.open_choice.new.code
+                c.lower_statement-in-If.new.code c.turn_choice.new.code
+                c.requires.targets c.loop-rest.invariant.proceeds c.in_ok-labels-in-If.ensures c.in_ok-lower_statement-in-If.ensures.labels c.in_ok-turn_choice-in-If.ensures,
+            choice_back_target c.args.around (condition_of c.in-If.condition) c.in_ok-labels-in-If.labels c.args.code.now c.loop-rest.code c.open_choice.new.code
+                c.lower_statement-in-If.new.code c.turn_choice.new.code
+                c.requires.back c.loop-rest.invariant.proceeds c.in_ok-labels-in-If.ensures c.in_ok-lower_statement-in-If.ensures.labels c.in_ok-turn_choice-in-If.ensures,
+          ),
+        ),
+      ),
+    )
+
+pub lower_statement-lower_statement-requires-in-While : goal.lower_statement-lower_statement-requires-in-While
+lower_statement-lower_statement-requires-in-While t c =
+    let is : statement_of c.loop-rest.rest.now ≡ Statement.While (condition_of c.in-While.condition) (statement_of c.deref-in-While.result.now) =
+    ap statement_of c.in-While.is ∙ ap (λ z. Statement.While (condition_of c.in-While.condition) (statement_of z)) (sym c.deref-in-While.ensures) in (
+      (let size = ap nested_size is in let before = c.loop-rest.invariant.less in omega (arith, size, before)),
+      (
+        c.requires.functions,
+        (
+          (sym (ap (is_taken (is_some c.args.around)) is) ∙ c.loop-rest.invariant.taken),
+          (
+            while_targets (condition_of c.in-While.condition) c.in_ok-labels-in-While.labels c.loop-rest.code c.open_turn.new.code c.in_ok-labels-in-While.ensures,
+            turn_back_target (condition_of c.in-While.condition) c.in_ok-labels-in-While.labels c.loop-rest.code c.open_turn.new.code c.in_ok-labels-in-While.ensures
+                (back_after c.args.code.now c.loop-rest.code c.loop-rest.invariant.proceeds.advances c.loop-rest.invariant.proceeds.back c.requires.back),
+          ),
+        ),
+      ),
+    )
+
+pub lower_statement-lower_statement-requires-in-DoWhile : goal.lower_statement-lower_statement-requires-in-DoWhile
+lower_statement-lower_statement-requires-in-DoWhile t c =
+    let is : statement_of c.loop-rest.rest.now ≡ Statement.DoWhile (statement_of c.deref-in-DoWhile.result.now) (condition_of c.in-DoWhile.condition) =
+    ap statement_of c.in-DoWhile.is ∙ ap (λ z. Statement.DoWhile (statement_of z) (condition_of c.in-DoWhile.condition)) (sym c.deref-in-DoWhile.ensures) in (
+      (let size = ap nested_size is in let before = c.loop-rest.invariant.less in omega (arith, size, before)),
+      (
+        c.requires.functions,
+        (
+          (sym (ap (is_taken (is_some c.args.around)) is) ∙ c.loop-rest.invariant.taken),
+          (
+            do_targets c.in_ok-labels-in-DoWhile.labels c.loop-rest.code c.open_loop.new.code c.in_ok-labels-in-DoWhile.ensures,
+            do_back_target c.in_ok-labels-in-DoWhile.labels c.loop-rest.code c.open_loop.new.code c.in_ok-labels-in-DoWhile.ensures
+                (back_after c.args.code.now c.loop-rest.code c.loop-rest.invariant.proceeds.advances c.loop-rest.invariant.proceeds.back c.requires.back),
+          ),
+        ),
+      ),
+    )
+
+pub lower_statement-lower_statement-requires-in-For-2 : goal.lower_statement-lower_statement-requires-in-For-2
+lower_statement-lower_statement-requires-in-For-2 t c =
+    let is : statement_of c.loop-rest.rest.now ≡ Statement.For (statement_of c.in-For.first.value) (condition_of c.in-For.condition) (statement_of c.in-For.last.value)
+    (statement_of c.deref-in-For-3.result.now) =
+    ap statement_of c.in-For.is ∙ ap (λ z. Statement.For (statement_of c.in-For.first.value) (condition_of c.in-For.condition) (statement_of c.in-For.last.value) (statement_of z))
+    (sym c.deref-in-For-3.ensures) in (
+      (let size = ap nested_size is in let before = c.loop-rest.invariant.less in omega (arith, size, before)),
+      (
+        c.requires.functions,
+        (
+          (both_true (is_taken false (statement_of c.in-For.last.value)) (is_taken true (statement_of c.deref-in-For-3.result.now))
+              (both_true (is_taken false (statement_of c.in-For.first.value)) (is_taken false (statement_of c.in-For.last.value) && is_taken true
+              (statement_of c.deref-in-For-3.result.now))
+              (sym (ap (is_taken (is_some c.args.around)) is) ∙ c.loop-rest.invariant.taken)).1).1,
+          (
+            for_targets (condition_of c.in-For.condition) c.in_ok-labels-in-For.labels _ c.open_for.new.code c.in_ok-labels-in-For.ensures,
+            turn_back_target (condition_of c.in-For.condition) c.in_ok-labels-in-For.labels _ c.open_for.new.code c.in_ok-labels-in-For.ensures
+                (back_after c.loop-rest.code c.lower_statement-in-For.new.code c.in_ok-lower_statement-in-For.ensures.labels.advances c.in_ok-lower_statement-in-For.ensures.labels.back
+                (back_after c.args.code.now c.loop-rest.code c.loop-rest.invariant.proceeds.advances c.loop-rest.invariant.proceeds.back c.requires.back)),
+          ),
+        ),
+      ),
+    )
+
+pub lower_statement-turn_choice-requires-clause-join : goal.lower_statement-turn_choice-requires-clause-join
+lower_statement-turn_choice-requires-clause-join t c =
+    join_open (condition_of c.in-If.condition) c.in_ok-labels-in-If.labels c.args.around c.loop-rest.code c.open_choice.new.code c.lower_statement-in-If.new.code
+    c.in_ok-labels-in-If.ensures c.in_ok-lower_statement-in-If.ensures.labels
+
+pub lower_statement-turn_choice-requires-clause-if_false : goal.lower_statement-turn_choice-requires-clause-if_false
+lower_statement-turn_choice-requires-clause-if_false t c =
+    false_open (condition_of c.in-If.condition) c.in_ok-labels-in-If.labels c.args.around c.loop-rest.code c.open_choice.new.code c.lower_statement-in-If.new.code
+    c.in_ok-labels-in-If.ensures c.in_ok-lower_statement-in-If.ensures.labels
+
+pub lower_statement-turn_choice-requires-clause-apart : goal.lower_statement-turn_choice-requires-clause-apart
+lower_statement-turn_choice-requires-clause-apart t c =
+    choice_apart (condition_of c.in-If.condition) c.in_ok-labels-in-If.labels c.loop-rest.code c.open_choice.new.code c.in_ok-labels-in-If.ensures
+
+pub lower_statement-bind-requires : goal.lower_statement-bind-requires
+lower_statement-bind-requires t c =
+    join_open_after (condition_of c.in-If.condition) c.in_ok-labels-in-If.labels c.args.around c.loop-rest.code c.open_choice.new.code c.lower_statement-in-If.new.code
+    c.turn_choice.new.code c.lower_statement-in-If-2.new.code
+    c.in_ok-labels-in-If.ensures c.in_ok-lower_statement-in-If.ensures.labels c.in_ok-turn_choice-in-If.ensures c.in_ok-lower_statement-in-If-2.ensures.labels
+
+pub lower_statement-close_turn-requires-clause-head : goal.lower_statement-close_turn-requires-clause-head
+lower_statement-close_turn-requires-clause-head t c =
+    while_head (condition_of c.in-While.condition) c.in_ok-labels-in-While.labels _ c.loop-rest.code c.open_turn.new.code c.lower_statement-in-While.new.code
+    c.in_ok-labels-in-While.ensures c.in_ok-lower_statement-in-While.ensures.labels
+
+pub lower_statement-close_turn-requires-clause-leaving : goal.lower_statement-close_turn-requires-clause-leaving
+lower_statement-close_turn-requires-clause-leaving t c =
+    while_leaving (condition_of c.in-While.condition) c.in_ok-labels-in-While.labels _ c.loop-rest.code c.open_turn.new.code c.lower_statement-in-While.new.code
+    c.in_ok-labels-in-While.ensures c.in_ok-lower_statement-in-While.ensures.labels
+
+pub lower_statement-close_do-requires-clause-turning : goal.lower_statement-close_do-requires-clause-turning
+lower_statement-close_do-requires-clause-turning t c =
+    do_turning c.in_ok-labels-in-DoWhile.labels _ c.loop-rest.code c.open_loop.new.code c.lower_statement-in-DoWhile.new.code c.in_ok-labels-in-DoWhile.ensures
+    c.in_ok-lower_statement-in-DoWhile.ensures.labels
+
+pub lower_statement-close_do-requires-clause-leaving : goal.lower_statement-close_do-requires-clause-leaving
+lower_statement-close_do-requires-clause-leaving t c =
+    do_leaving c.in_ok-labels-in-DoWhile.labels _ c.loop-rest.code c.open_loop.new.code c.lower_statement-in-DoWhile.new.code c.in_ok-labels-in-DoWhile.ensures
+    c.in_ok-lower_statement-in-DoWhile.ensures.labels
+
+pub lower_statement-close_do-requires-clause-apart : goal.lower_statement-close_do-requires-clause-apart
+lower_statement-close_do-requires-clause-apart t c =
+    do_apart c.in_ok-labels-in-DoWhile.labels c.loop-rest.code c.open_loop.new.code c.in_ok-labels-in-DoWhile.ensures
+
+pub lower_statement-turn_for-requires : goal.lower_statement-turn_for-requires
+lower_statement-turn_for-requires t c =
+    for_turning (condition_of c.in-For.condition) c.in_ok-labels-in-For.labels _ _ c.open_for.new.code c.lower_statement-in-For-2.new.code c.in_ok-labels-in-For.ensures
+    c.in_ok-lower_statement-in-For-2.ensures.labels
+
+pub lower_statement-close_for-requires-clause-head : goal.lower_statement-close_for-requires-clause-head
+lower_statement-close_for-requires-clause-head t c =
+    for_head (condition_of c.in-For.condition) c.in_ok-labels-in-For.labels _ _ c.open_for.new.code c.lower_statement-in-For-2.new.code c.turn_for.new.code
+    c.lower_statement-in-For-3.new.code c.site-last_site.result
+    c.in_ok-labels-in-For.ensures c.in_ok-lower_statement-in-For-2.ensures.labels c.in_ok-turn_for-in-For.ensures c.in_ok-lower_statement-in-For-3.ensures.labels
+
+pub lower_statement-close_for-requires-clause-leaving : goal.lower_statement-close_for-requires-clause-leaving
+lower_statement-close_for-requires-clause-leaving t c =
+    for_leaving (condition_of c.in-For.condition) c.in_ok-labels-in-For.labels _ _ c.open_for.new.code c.lower_statement-in-For-2.new.code c.turn_for.new.code
+    c.lower_statement-in-For-3.new.code c.site-last_site.result
+    c.in_ok-labels-in-For.ensures c.in_ok-lower_statement-in-For-2.ensures.labels c.in_ok-turn_for-in-For.ensures c.in_ok-lower_statement-in-For-3.ensures.labels
+
+pub lower_statement-lower_simple-requires-clause-targets : goal.lower_statement-lower_simple-requires-clause-targets
+lower_statement-lower_simple-requires-clause-targets t c =
+    targets_after c.args.around c.args.code.now.stages c.loop-rest.code.stages c.loop-rest.invariant.proceeds.advances c.requires.targets
+
+pub lower_statement-returns-in_err-lower_statement-clause-full : goal.lower_statement-returns-in_err-lower_statement-clause-full
+lower_statement-returns-in_err-lower_statement-clause-full t c =
+    let p = err_from_is_err_and c.from_residual.result c.from_residual.ensures.1 in
+    let is : statement_of c.loop-rest.rest.now ≡ Statement.Sequence (statement_of c.deref.result.now) (statement_of c.in-Sequence.next.value) =
+    ap statement_of c.in-Sequence.is ∙ ap (λ z. Statement.Sequence (statement_of z) (statement_of c.in-Sequence.next.value)) (sym c.deref.ensures) in
+    rw (p.1, p.2) (behind_first (program_of c.args.program.now) c.args.depth (statement_of c.args.statement.now) (statement_of c.loop-rest.rest.now)
+    (statement_of c.deref.result.now) (statement_of c.in-Sequence.next.value) c.args.code.now c.loop-rest.code _
+    c.loop-rest.invariant.behind is c.in_err-lower_statement.ensures.full)
+
+pub lower_statement-returns-in_err-print_count-clause-full : goal.lower_statement-returns-in_err-print_count-clause-full
+lower_statement-returns-in_err-print_count-clause-full t c =
+    let p = err_from_is_err_and c.from_residual-in_err-print_count.result c.from_residual-in_err-print_count.ensures.1 in
+    rw (p.1, p.2) (c.loop-rest.invariant.behind.full _
+    (skipped_for (program_of c.args.program.now) c.args.depth (statement_of c.loop-rest.rest.now) c.loop-rest.code (print_count (statement_of c.loop-rest.rest.now)) _
+    (omega arith) c.in_err-print_count.ensures.full))
+
+pub lower_statement-returns-in_err-skip_sites-clause-full : goal.lower_statement-returns-in_err-skip_sites-clause-full
+lower_statement-returns-in_err-skip_sites-clause-full t c =
+    let p = err_from_is_err_and c.from_residual-in_err-skip_sites.result c.from_residual-in_err-skip_sites.ensures.1 in
+    let e = c.in_ok-print_count.ensures.count in
+    rw (p.1, p.2) (c.loop-rest.invariant.behind.full _
+    (skipped_for (program_of c.args.program.now) c.args.depth (statement_of c.loop-rest.rest.now) c.loop-rest.code _ _ (omega (arith, e)) c.in_err-skip_sites.ensures.full))
+
+pub lower_statement-returns-in_err-lower_statement-in-Block-clause-full : goal.lower_statement-returns-in_err-lower_statement-in-Block-clause-full
+lower_statement-returns-in_err-lower_statement-in-Block-clause-full t c =
+    let p = err_from_is_err_and c.from_residual-in_err-lower_statement-in-Block.result c.from_residual-in_err-lower_statement-in-Block.ensures.1 in
+    rw (p.1, p.2) (c.loop-rest.invariant.behind.full _
+    (block_for (program_of c.args.program.now) c.args.depth (statement_of c.loop-rest.rest.now) (statement_of c.deref-in-Block.result.now) c.loop-rest.code _
+    (ap statement_of c.in-Block.is ∙ ap (λ z. Statement.Block (statement_of z)) (sym c.deref-in-Block.ensures)) c.in_err-lower_statement-in-Block.ensures.full))
+
+pub lower_statement-returns-in_err-labels-in-If-clause-full : goal.lower_statement-returns-in_err-labels-in-If-clause-full
+lower_statement-returns-in_err-labels-in-If-clause-full t c =
+    let p = err_from_is_err_and c.from_residual-in_err-labels-in-If.result c.from_residual-in_err-labels-in-If.ensures.1 in
+    rw (p.1, p.2) (c.loop-rest.invariant.behind.full _
+    (choice_condition (program_of c.args.program.now) c.args.depth (statement_of c.loop-rest.rest.now) (condition_of c.in-If.condition) (statement_of c.in-If.consequent.value)
+    (statement_of c.in-If.alternative.value) c.loop-rest.code _
+    (ap statement_of c.in-If.is) c.in_err-labels-in-If.ensures))
+
+pub lower_statement-returns-in_err-lower_statement-in-If-clause-full : goal.lower_statement-returns-in_err-lower_statement-in-If-clause-full
+lower_statement-returns-in_err-lower_statement-in-If-clause-full t c =
+    let p = err_from_is_err_and c.from_residual-in_err-lower_statement-in-If.result c.from_residual-in_err-lower_statement-in-If.ensures.1 in
+    let d = condition_of c.in-If.condition in
+    let other = statement_of c.in-If.alternative.value in
+    rw (p.1, p.2) (c.loop-rest.invariant.behind.full _
+    (one_for (program_of c.args.program.now) c.args.depth c.args.around (statement_of c.loop-rest.rest.now) d
+    (statement_of c.deref-in-If.result.now) other c.in_ok-labels-in-If.labels c.loop-rest.code c.open_choice.new.code _
+    (ap statement_of c.in-If.is ∙ ap (λ z. Statement.If d (statement_of z) other) (sym c.deref-in-If.ensures)) c.in_ok-labels-in-If.ensures c.in_err-lower_statement-in-If.ensures.full))
+
+pub lower_statement-returns-in_err-lower_statement-in-If-2-clause-full : goal.lower_statement-returns-in_err-lower_statement-in-If-2-clause-full
+lower_statement-returns-in_err-lower_statement-in-If-2-clause-full t c =
+    let p = err_from_is_err_and c.from_residual-in_err-lower_statement-in-If-2.result c.from_residual-in_err-lower_statement-in-If-2.ensures.1 in
+    let d = condition_of c.in-If.condition in
+    let one = statement_of c.deref-in-If.result.now in
+    rw (p.1, p.2) (c.loop-rest.invariant.behind.full _
+    (other_for (program_of c.args.program.now) c.args.depth c.args.around (statement_of c.loop-rest.rest.now) d one
+    (statement_of c.deref-in-If-2.result.now) c.in_ok-labels-in-If.labels c.loop-rest.code c.open_choice.new.code
+    c.lower_statement-in-If.new.code c.turn_choice.new.code _
+    (ap statement_of c.in-If.is ∙ ap (λ z. Statement.If d (statement_of z) (statement_of c.in-If.alternative.value)) (sym c.deref-in-If.ensures)
+    ∙ ap (λ z. Statement.If d one (statement_of z)) (sym c.deref-in-If-2.ensures))
+    c.in_ok-labels-in-If.ensures c.in_ok-lower_statement-in-If.ensures.lowers c.in_ok-turn_choice-in-If.ensures c.in_err-lower_statement-in-If-2.ensures.full))
+
+pub lower_statement-returns-in_err-labels-in-While-clause-full : goal.lower_statement-returns-in_err-labels-in-While-clause-full
+lower_statement-returns-in_err-labels-in-While-clause-full t c =
+    let p = err_from_is_err_and c.from_residual-in_err-labels-in-While.result c.from_residual-in_err-labels-in-While.ensures.1 in
+    rw (p.1, p.2) (c.loop-rest.invariant.behind.full _
+    (while_condition (program_of c.args.program.now) c.args.depth (statement_of c.loop-rest.rest.now) (condition_of c.in-While.condition) (statement_of c.in-While.body.value) c.loop-rest.code _
+    (ap statement_of c.in-While.is) c.in_err-labels-in-While.ensures))
+
+pub lower_statement-returns-in_err-lower_statement-in-While-clause-full : goal.lower_statement-returns-in_err-lower_statement-in-While-clause-full
+lower_statement-returns-in_err-lower_statement-in-While-clause-full t c =
+    let p = err_from_is_err_and c.from_residual-in_err-lower_statement-in-While.result c.from_residual-in_err-lower_statement-in-While.ensures.1 in
+    let d = condition_of c.in-While.condition in
+    rw (p.1, p.2) (c.loop-rest.invariant.behind.full _
+    (while_body (program_of c.args.program.now) c.args.depth (statement_of c.loop-rest.rest.now) d
+    (statement_of c.deref-in-While.result.now) c.in_ok-labels-in-While.labels c.loop-rest.code c.open_turn.new.code _
+    (ap statement_of c.in-While.is ∙ ap (λ z. Statement.While d (statement_of z)) (sym c.deref-in-While.ensures))
+    c.in_ok-labels-in-While.ensures c.in_err-lower_statement-in-While.ensures.full))
+
+pub lower_statement-returns-in_err-lower_statement-in-DoWhile-clause-full : goal.lower_statement-returns-in_err-lower_statement-in-DoWhile-clause-full
+lower_statement-returns-in_err-lower_statement-in-DoWhile-clause-full t c =
+    let p = err_from_is_err_and c.from_residual-in_err-lower_statement-in-DoWhile.result c.from_residual-in_err-lower_statement-in-DoWhile.ensures.1 in
+    let d = condition_of c.in-DoWhile.condition in
+    rw (p.1, p.2) (c.loop-rest.invariant.behind.full _
+    (do_body (program_of c.args.program.now) c.args.depth (statement_of c.loop-rest.rest.now) d
+    (statement_of c.deref-in-DoWhile.result.now) c.in_ok-labels-in-DoWhile.labels c.loop-rest.code c.open_loop.new.code _
+    (ap statement_of c.in-DoWhile.is ∙ ap (λ z. Statement.DoWhile (statement_of z) d) (sym c.deref-in-DoWhile.ensures))
+    c.in_ok-labels-in-DoWhile.ensures c.in_err-lower_statement-in-DoWhile.ensures.full))
+
+pub lower_statement-returns-in_err-close_do-in-DoWhile-clause-full : goal.lower_statement-returns-in_err-close_do-in-DoWhile-clause-full
+lower_statement-returns-in_err-close_do-in-DoWhile-clause-full t c =
+    let p = err_from_is_err_and c.from_residual-in_err-close_do-in-DoWhile.result c.from_residual-in_err-close_do-in-DoWhile.ensures.1 in
+    let d = condition_of c.in-DoWhile.condition in
+    rw (p.1, p.2) (c.loop-rest.invariant.behind.full _
+    (do_condition (program_of c.args.program.now) c.args.depth (statement_of c.loop-rest.rest.now) d
+    (statement_of c.deref-in-DoWhile.result.now) c.in_ok-labels-in-DoWhile.labels c.loop-rest.code c.open_loop.new.code
+    c.lower_statement-in-DoWhile.new.code _
+    (ap statement_of c.in-DoWhile.is ∙ ap (λ z. Statement.DoWhile (statement_of z) d) (sym c.deref-in-DoWhile.ensures))
+    c.in_ok-labels-in-DoWhile.ensures c.in_ok-lower_statement-in-DoWhile.ensures.lowers c.in_err-close_do-in-DoWhile.ensures))
+
+pub lower_statement-returns-in_err-lower_statement-in-For-clause-full : goal.lower_statement-returns-in_err-lower_statement-in-For-clause-full
+lower_statement-returns-in_err-lower_statement-in-For-clause-full t c =
+    let p = err_from_is_err_and c.from_residual-in_err-lower_statement-in-For.result c.from_residual-in_err-lower_statement-in-For.ensures.1 in
+    let d = condition_of c.in-For.condition in
+    let first = statement_of c.deref-in-For.result.now in
+    rw (p.1, p.2) (c.loop-rest.invariant.behind.full _
+    (for_first (program_of c.args.program.now) c.args.depth (statement_of c.loop-rest.rest.now) first d (statement_of c.in-For.last.value) (statement_of c.in-For.body.value) c.loop-rest.code _
+    (ap statement_of c.in-For.is ∙ ap (λ z. Statement.For (statement_of z) d (statement_of c.in-For.last.value) (statement_of c.in-For.body.value)) (sym c.deref-in-For.ensures))
+    c.in_err-lower_statement-in-For.ensures.full))
+
+pub lower_statement-returns-in_err-labels-in-For-clause-full : goal.lower_statement-returns-in_err-labels-in-For-clause-full
+lower_statement-returns-in_err-labels-in-For-clause-full t c =
+    let p = err_from_is_err_and c.from_residual-in_err-labels-in-For.result c.from_residual-in_err-labels-in-For.ensures.1 in
+    let d = condition_of c.in-For.condition in
+    let first = statement_of c.deref-in-For.result.now in
+    let last = statement_of c.deref-in-For-2.result.now in
+    let a0 = c.lower_statement-in-For.new.code in
+    rw (p.1, p.2) (c.loop-rest.invariant.behind.full _
+    (for_condition (program_of c.args.program.now) c.args.depth (statement_of c.loop-rest.rest.now) first d last (statement_of c.in-For.body.value) c.loop-rest.code a0 _
+    (ap statement_of c.in-For.is ∙ ap (λ z. Statement.For (statement_of z) d (statement_of c.in-For.last.value) (statement_of c.in-For.body.value)) (sym c.deref-in-For.ensures)
+    ∙ ap (λ z. Statement.For first d (statement_of z) (statement_of c.in-For.body.value)) (sym c.deref-in-For-2.ensures))
+    c.in_ok-lower_statement-in-For.ensures.lowers c.in_err-labels-in-For.ensures))
+
+pub lower_statement-returns-in_err-lower_statement-in-For-2-clause-full : goal.lower_statement-returns-in_err-lower_statement-in-For-2-clause-full
+lower_statement-returns-in_err-lower_statement-in-For-2-clause-full t c =
+    let p = err_from_is_err_and c.from_residual-in_err-lower_statement-in-For-2.result c.from_residual-in_err-lower_statement-in-For-2.ensures.1 in
+    let d = condition_of c.in-For.condition in
+    let first = statement_of c.deref-in-For.result.now in
+    let last = statement_of c.deref-in-For-2.result.now in
+    rw (p.1, p.2) (c.loop-rest.invariant.behind.full _
+    (for_body (program_of c.args.program.now) c.args.depth (statement_of c.loop-rest.rest.now) first d last
+    (statement_of c.deref-in-For-3.result.now) c.in_ok-labels-in-For.labels c.loop-rest.code c.lower_statement-in-For.new.code
+    c.open_for.new.code _
+    (ap statement_of c.in-For.is ∙ ap (λ z. Statement.For (statement_of z) d (statement_of c.in-For.last.value) (statement_of c.in-For.body.value)) (sym c.deref-in-For.ensures)
+    ∙ ap (λ z. Statement.For first d (statement_of z) (statement_of c.in-For.body.value)) (sym c.deref-in-For-2.ensures)
+    ∙ ap (λ z. Statement.For first d last (statement_of z)) (sym c.deref-in-For-3.ensures))
+    c.in_ok-lower_statement-in-For.ensures.lowers c.in_ok-labels-in-For.ensures c.in_err-lower_statement-in-For-2.ensures.full))
+
+pub lower_statement-returns-in_err-lower_statement-in-For-3-clause-full : goal.lower_statement-returns-in_err-lower_statement-in-For-3-clause-full
+lower_statement-returns-in_err-lower_statement-in-For-3-clause-full t c =
+    let p = err_from_is_err_and c.from_residual-in_err-lower_statement-in-For-3.result c.from_residual-in_err-lower_statement-in-For-3.ensures.1 in
+    let d = condition_of c.in-For.condition in
+    let first = statement_of c.deref-in-For.result.now in
+    let last = statement_of c.deref-in-For-4.result.now in
+    let l = c.in_ok-labels-in-For.labels in
+    let a0 = c.lower_statement-in-For.new.code in
+    rw (p.1, p.2) (c.loop-rest.invariant.behind.full _
+    (for_last (program_of c.args.program.now) c.args.depth (statement_of c.loop-rest.rest.now) first d last (statement_of c.deref-in-For-3.result.now) l c.loop-rest.code a0 c.open_for.new.code
+    c.lower_statement-in-For-2.new.code c.turn_for.new.code c.site-last_site.result _
+    (ap statement_of c.in-For.is ∙ ap (λ z. Statement.For (statement_of z) d (statement_of c.in-For.last.value) (statement_of c.in-For.body.value)) (sym c.deref-in-For.ensures)
+    ∙ ap (λ z. Statement.For first d (statement_of z) (statement_of c.in-For.body.value)) (sym c.deref-in-For-4.ensures)
+    ∙ ap (λ z. Statement.For first d last (statement_of z)) (sym c.deref-in-For-3.ensures))
+    c.in_ok-lower_statement-in-For.ensures.lowers
+    (subst (λ z. OpensTurn d l (at_site (a0.site + print_count (statement_of z)) a0) c.open_for.new.code) (c.deref-in-For-2.ensures ∙ sym c.deref-in-For-4.ensures) c.in_ok-labels-in-For.ensures)
+    c.in_ok-lower_statement-in-For-2.ensures.lowers c.site-last_site.ensures c.in_ok-turn_for-in-For.ensures c.in_err-lower_statement-in-For-3.ensures.full))
+
+pub lower_statement-returns-in_err-lower_simple-in_default-rest-clause-full : goal.lower_statement-returns-in_err-lower_simple-in_default-rest-clause-full
+lower_statement-returns-in_err-lower_simple-in_default-rest-clause-full t c =
+    let p = err_from_is_err_and c.from_residual-in_err-lower_simple-in_default-rest.result c.from_residual-in_err-lower_simple-in_default-rest.ensures.1 in
+    rw (p.1, p.2) (c.loop-rest.invariant.behind.full _ (c.in_err-lower_simple-in_default-rest.ensures.full (program_of c.args.program.now) c.args.depth))
+
+pub lower_statement-returns-then-not-is_reached-clause-lowers : goal.lower_statement-returns-then-not-is_reached-clause-lowers
+lower_statement-returns-then-not-is_reached-clause-lowers t c =
+    let s = statement_of c.loop-rest.rest.now in
+    via_last (program_of c.args.program.now) c.args.around (statement_of c.args.statement.now) s c.args.code.now c.loop-rest.code c.skip_sites.new.self c.loop-rest.invariant.via
+    (skips (program_of c.args.program.now) c.args.around s c.loop-rest.code c.skip_sites.new.self (sym c.is_reached.ensures ∙ c.if-not-is_reached.true)
+    (c.in_ok-skip_sites.ensures.after ∙ ap (λ n. at_site (c.loop-rest.code.site + n) c.loop-rest.code) c.in_ok-print_count.ensures.count))
+
+pub lower_statement-returns-in_ok-lower_statement-in-Block-clause-lowers : goal.lower_statement-returns-in_ok-lower_statement-in-Block-clause-lowers
+lower_statement-returns-in_ok-lower_statement-in-Block-clause-lowers t c =
+    let s = statement_of c.loop-rest.rest.now in
+    via_last (program_of c.args.program.now) c.args.around (statement_of c.args.statement.now) s c.args.code.now c.loop-rest.code c.lower_statement-in-Block.new.code c.loop-rest.invariant.via
+    (block_lowers (program_of c.args.program.now) c.args.around s (statement_of c.deref-in-Block.result.now) c.loop-rest.code c.lower_statement-in-Block.new.code
+    (ap statement_of c.in-Block.is ∙ ap (λ z. Statement.Block (statement_of z)) (sym c.deref-in-Block.ensures)) c.in_ok-lower_statement-in-Block.ensures.lowers)
+
+pub lower_statement-returns-in_ok-bind-in-If-clause-lowers : goal.lower_statement-returns-in_ok-bind-in-If-clause-lowers
+lower_statement-returns-in_ok-bind-in-If-clause-lowers t c =
+    let s = statement_of c.loop-rest.rest.now in
+    let d = condition_of c.in-If.condition in
+    let one = statement_of c.deref-in-If.result.now in
+    let other = statement_of c.deref-in-If-2.result.now in
+    via_last (program_of c.args.program.now) c.args.around (statement_of c.args.statement.now) s c.args.code.now c.loop-rest.code c.bind.new.self c.loop-rest.invariant.via
+    (choice_lowers (program_of c.args.program.now) c.args.around s d one other c.in_ok-labels-in-If.labels c.loop-rest.code c.open_choice.new.code c.lower_statement-in-If.new.code
+    c.turn_choice.new.code
+    c.lower_statement-in-If-2.new.code c.bind.new.self
+    (ap statement_of c.in-If.is ∙ ap (λ z. Statement.If d (statement_of z) (statement_of c.in-If.alternative.value)) (sym c.deref-in-If.ensures)
+    ∙ ap (λ z. Statement.If d one (statement_of z)) (sym c.deref-in-If-2.ensures))
+    c.in_ok-labels-in-If.ensures c.in_ok-lower_statement-in-If.ensures.lowers c.in_ok-turn_choice-in-If.ensures c.in_ok-lower_statement-in-If-2.ensures.lowers c.in_ok-bind-in-If.ensures)
+
+pub lower_statement-returns-in_ok-close_turn-in-While-clause-lowers : goal.lower_statement-returns-in_ok-close_turn-in-While-clause-lowers
+lower_statement-returns-in_ok-close_turn-in-While-clause-lowers t c =
+    let s = statement_of c.loop-rest.rest.now in
+    let d = condition_of c.in-While.condition in
+    via_last (program_of c.args.program.now) c.args.around (statement_of c.args.statement.now) s c.args.code.now c.loop-rest.code c.close_turn.new.code c.loop-rest.invariant.via
+    (while_lowers (program_of c.args.program.now) c.args.around s d (statement_of c.deref-in-While.result.now) c.in_ok-labels-in-While.labels c.loop-rest.code c.open_turn.new.code
+    c.lower_statement-in-While.new.code
+    c.close_turn.new.code (ap statement_of c.in-While.is ∙ ap (λ z. Statement.While d (statement_of z)) (sym c.deref-in-While.ensures))
+    c.in_ok-labels-in-While.ensures c.in_ok-lower_statement-in-While.ensures.lowers c.in_ok-close_turn-in-While.ensures)
+
+pub lower_statement-returns-in_ok-close_do-in-DoWhile-clause-lowers : goal.lower_statement-returns-in_ok-close_do-in-DoWhile-clause-lowers
+lower_statement-returns-in_ok-close_do-in-DoWhile-clause-lowers t c =
+    let s = statement_of c.loop-rest.rest.now in
+    let d = condition_of c.in-DoWhile.condition in
+    via_last (program_of c.args.program.now) c.args.around (statement_of c.args.statement.now) s c.args.code.now c.loop-rest.code c.close_do.new.code c.loop-rest.invariant.via
+    (do_lowers (program_of c.args.program.now) c.args.around s d (statement_of c.deref-in-DoWhile.result.now) c.in_ok-labels-in-DoWhile.labels c.loop-rest.code c.open_loop.new.code
+    c.lower_statement-in-DoWhile.new.code
+    c.close_do.new.code (ap statement_of c.in-DoWhile.is ∙ ap (λ z. Statement.DoWhile (statement_of z) d) (sym c.deref-in-DoWhile.ensures))
+    c.in_ok-labels-in-DoWhile.ensures c.in_ok-lower_statement-in-DoWhile.ensures.lowers c.in_ok-close_do-in-DoWhile.ensures)
+
+pub lower_statement-returns-in_ok-close_for-in-For-clause-lowers : goal.lower_statement-returns-in_ok-close_for-in-For-clause-lowers
+lower_statement-returns-in_ok-close_for-in-For-clause-lowers t c =
+    let s = statement_of c.loop-rest.rest.now in
+    let d = condition_of c.in-For.condition in
+    let first = statement_of c.deref-in-For.result.now in
+    let last = statement_of c.deref-in-For-4.result.now in
+    let body = statement_of c.deref-in-For-3.result.now in
+    let l = c.in_ok-labels-in-For.labels in
+    let a0 = c.lower_statement-in-For.new.code in
+    via_last (program_of c.args.program.now) c.args.around (statement_of c.args.statement.now) s c.args.code.now c.loop-rest.code c.close_for.new.code c.loop-rest.invariant.via
+    (for_lowers (program_of c.args.program.now) c.args.around s first d last body l c.loop-rest.code a0 c.open_for.new.code c.lower_statement-in-For-2.new.code c.turn_for.new.code
+    c.lower_statement-in-For-3.new.code
+    c.close_for.new.code c.site-last_site.result c.site-after.result
+    (ap statement_of c.in-For.is ∙ ap (λ z. Statement.For (statement_of z) d (statement_of c.in-For.last.value) (statement_of c.in-For.body.value)) (sym c.deref-in-For.ensures)
+    ∙ ap (λ z. Statement.For first d (statement_of z) (statement_of c.in-For.body.value)) (sym c.deref-in-For-4.ensures)
+    ∙ ap (λ z. Statement.For first d last (statement_of z)) (sym c.deref-in-For-3.ensures))
+    c.in_ok-lower_statement-in-For.ensures.lowers c.site-last_site.ensures
+    (subst (λ z. OpensTurn d l (at_site (a0.site + print_count (statement_of z)) a0) c.open_for.new.code) (c.deref-in-For-2.ensures ∙ sym c.deref-in-For-4.ensures) c.in_ok-labels-in-For.ensures)
+    c.in_ok-lower_statement-in-For-2.ensures.lowers c.site-after.ensures c.in_ok-turn_for-in-For.ensures c.in_ok-lower_statement-in-For-3.ensures.lowers c.in_ok-close_for-in-For.ensures)
+
+pub lower_statement-returns-in_ok-lower_simple-in_default-rest-clause-lowers : goal.lower_statement-returns-in_ok-lower_simple-in_default-rest-clause-lowers
+lower_statement-returns-in_ok-lower_simple-in_default-rest-clause-lowers t c =
+    let s = statement_of c.loop-rest.rest.now in
+    via_last (program_of c.args.program.now) c.args.around (statement_of c.args.statement.now) s c.args.code.now c.loop-rest.code c.lower_simple-in_default-rest.new.code c.loop-rest.invariant.via
+    (simple_lowers (program_of c.args.program.now) c.args.around s c.loop-rest.code c.lower_simple-in_default-rest.new.code (sym c.is_reached.ensures ∙ c.if-not-is_reached.false)
+    (c.in_ok-lower_simple-in_default-rest.ensures.lowers (program_of c.args.program.now)))
+
+pub lower_statement-returns-in_ok-lower_simple-in-Value-clause-lowers : goal.lower_statement-returns-in_ok-lower_simple-in-Value-clause-lowers
+lower_statement-returns-in_ok-lower_simple-in-Value-clause-lowers t c =
+    let s = statement_of c.loop-rest.rest.now in
+    via_last (program_of c.args.program.now) c.args.around (statement_of c.args.statement.now) s c.args.code.now c.loop-rest.code c.lower_simple.new.code c.loop-rest.invariant.via
+    (simple_lowers (program_of c.args.program.now) c.args.around s c.loop-rest.code c.lower_simple.new.code (sym c.is_reached.ensures ∙ c.if-not-is_reached.false)
+    (c.in_ok-lower_simple-in-Value.ensures.lowers (program_of c.args.program.now)))
+
+pub lower_statement-returns-in_ok-lower_simple-in-None-clause-lowers : goal.lower_statement-returns-in_ok-lower_simple-in-None-clause-lowers
+lower_statement-returns-in_ok-lower_simple-in-None-clause-lowers t c =
+    let s = statement_of c.loop-rest.rest.now in
+    via_last (program_of c.args.program.now) c.args.around (statement_of c.args.statement.now) s c.args.code.now c.loop-rest.code c.lower_simple-in-None.new.code c.loop-rest.invariant.via
+    (simple_lowers (program_of c.args.program.now) c.args.around s c.loop-rest.code c.lower_simple-in-None.new.code (sym c.is_reached.ensures ∙ c.if-not-is_reached.false)
+    (c.in_ok-lower_simple-in-None.ensures.lowers (program_of c.args.program.now)))
+
+pub lower_statement-returns-in_ok-lower_simple-in-Value-value-clause-lowers : goal.lower_statement-returns-in_ok-lower_simple-in-Value-value-clause-lowers
+lower_statement-returns-in_ok-lower_simple-in-Value-value-clause-lowers t c =
+    let s = statement_of c.loop-rest.rest.now in
+    via_last (program_of c.args.program.now) c.args.around (statement_of c.args.statement.now) s c.args.code.now c.loop-rest.code c.lower_simple-in-Value-value.new.code c.loop-rest.invariant.via
+    (simple_lowers (program_of c.args.program.now) c.args.around s c.loop-rest.code c.lower_simple-in-Value-value.new.code (sym c.is_reached.ensures ∙ c.if-not-is_reached.false)
+    (c.in_ok-lower_simple-in-Value-value.ensures.lowers (program_of c.args.program.now)))
+
+pub lower_statement-returns-in_ok-lower_delivery-in-Call-right-clause-lowers : goal.lower_statement-returns-in_ok-lower_delivery-in-Call-right-clause-lowers
+lower_statement-returns-in_ok-lower_delivery-in-Call-right-clause-lowers t c =
+    let x = c.in-Assign in
+    let y = c.in-Call-right in
+    let s = statement_of c.loop-rest.rest.now in
+    let es = expressions_of c.deref-in-Call-right.result.now in
+    via_last (program_of c.args.program.now) c.args.around (statement_of c.args.statement.now) s c.args.code.now c.loop-rest.code c.lower_delivery.new.code c.loop-rest.invariant.via
+    (call_assigned (program_of c.args.program.now) c.args.around s x.field-0 (place_of x.place) y.function es c.loop-rest.code c.lower_call-in-Call-right.new.code c.lower_delivery.new.code
+    (sym c.is_reached.ensures ∙ c.if-not-is_reached.false)
+    (ap statement_of x.is ∙ ap (λ z. Statement.Assign x.field-0 (place_of x.place) (right_side_of z)) y.is
+    ∙ ap (λ a. Statement.Assign x.field-0 (place_of x.place) (RightSide.Call y.function (expressions_of a))) (sym c.deref-in-Call-right.ensures.value))
+    c.in_ok-lower_call-in-Call-right.ensures.calls c.in_ok-lower_delivery-in-Call-right.ensures.delivers)
+
+pub lower_statement-returns-in_ok-lower_handing-in-Call-value-clause-lowers : goal.lower_statement-returns-in_ok-lower_handing-in-Call-value-clause-lowers
+lower_statement-returns-in_ok-lower_handing-in-Call-value-clause-lowers t c =
+    let x = c.in-Return in
+    let y = c.in-Call-value in
+    let s = statement_of c.loop-rest.rest.now in
+    let es = expressions_of c.deref-in-Call-value.result.now in
+    via_last (program_of c.args.program.now) c.args.around (statement_of c.args.statement.now) s c.args.code.now c.loop-rest.code c.lower_handing.new.code c.loop-rest.invariant.via
+    (call_returned (program_of c.args.program.now) c.args.around s x.field-0 y.function es c.loop-rest.code c.lower_call-in-Call-value.new.code c.lower_handing.new.code
+    (sym c.is_reached.ensures ∙ c.if-not-is_reached.false)
+    (ap statement_of x.is ∙ ap (λ z. Statement.Return x.field-0 (returned_of z)) c.in-Some.is ∙ ap (λ z. Statement.Return x.field-0 (Some (right_side_of z))) y.is
+    ∙ ap (λ a. Statement.Return x.field-0 (Some (RightSide.Call y.function (expressions_of a)))) (sym c.deref-in-Call-value.ensures.value))
+    c.in_ok-lower_call-in-Call-value.ensures.calls c.in_ok-lower_handing-in-Call-value.ensures.hands)
+
+pub lower_statement-returns-in_ok-lower_call-in-Call-clause-lowers : goal.lower_statement-returns-in_ok-lower_call-in-Call-clause-lowers
+lower_statement-returns-in_ok-lower_call-in-Call-clause-lowers t c =
+    let s = statement_of c.loop-rest.rest.now in
+    let es = expressions_of c.deref-in-Call.result.now in
+    via_last (program_of c.args.program.now) c.args.around (statement_of c.args.statement.now) s c.args.code.now c.loop-rest.code c.lower_call.new.code c.loop-rest.invariant.via
+    (call_lowers (program_of c.args.program.now) c.args.around s c.in-Call.field-0 c.in-Call.function es c.loop-rest.code c.lower_call.new.code
+    (sym c.is_reached.ensures ∙ c.if-not-is_reached.false)
+    (ap statement_of c.in-Call.is ∙ ap (λ a. Statement.Call c.in-Call.field-0 c.in-Call.function (expressions_of a)) (sym c.deref-in-Call.ensures.value)) c.in_ok-lower_call-in-Call.ensures.calls)
+
+pub lower_call-returns-clause-calls : goal.lower_call-returns-clause-calls
+lower_call-returns-clause-calls t c = record {
+  function = function_of c.in-Some.function.now;
+  found = get_map function_of c.args.program.now.functions.items c.args.number c.in-Some.function.now (ap (λ l. slice_get l c.args.number) (sym c.deref.ensures.value) ∙ sym c.in-Some.ensures);
+  caller = c.in_ok-caller.caller;
+  begun = c.open_call.new.code;
+  opens = c.in_ok-caller.ensures.opens;
+  done = c.lower_statement.new.code;
+  lowers = c.in_ok-lower_statement.ensures.lowers;
+  closes = c.in_ok-close_call.ensures.closes;
+}
+
+pub lower_statement-lower_statement-requires-in-For : goal.lower_statement-lower_statement-requires-in-For
+lower_statement-lower_statement-requires-in-For t c =
+    let is : statement_of c.loop-rest.rest.now ≡ Statement.For (statement_of c.deref-in-For.result.now) (condition_of c.in-For.condition) (statement_of c.in-For.last.value)
+    (statement_of c.in-For.body.value) =
+    ap statement_of c.in-For.is ∙ ap (λ z. Statement.For (statement_of z) (condition_of c.in-For.condition) (statement_of c.in-For.last.value) (statement_of c.in-For.body.value))
+    (sym c.deref-in-For.ensures) in (
+      (let size = ap nested_size is in let before = c.loop-rest.invariant.less in omega (arith, size, before)),
+      (
+        c.requires.functions,
+        (
+          (both_true (is_taken false (statement_of c.deref-in-For.result.now)) (is_taken false (statement_of c.in-For.last.value) && is_taken true (statement_of c.in-For.body.value))
+              (sym (ap (is_taken (is_some c.args.around)) is) ∙ c.loop-rest.invariant.taken)).0,
+          (
+            tt,
+            back_after c.args.code.now c.loop-rest.code c.loop-rest.invariant.proceeds.advances c.loop-rest.invariant.proceeds.back c.requires.back,
+          ),
+        ),
+      ),
+    )
+
+pub lower_statement-lower_statement-requires-in-For-3 : goal.lower_statement-lower_statement-requires-in-For-3
+lower_statement-lower_statement-requires-in-For-3 t c =
+    let is : statement_of c.loop-rest.rest.now ≡ Statement.For (statement_of c.in-For.first.value) (condition_of c.in-For.condition) (statement_of c.deref-in-For-4.result.now)
+    (statement_of c.in-For.body.value) =
+    ap statement_of c.in-For.is ∙ ap (λ z. Statement.For (statement_of c.in-For.first.value) (condition_of c.in-For.condition) (statement_of z) (statement_of c.in-For.body.value))
+    (sym c.deref-in-For-4.ensures) in (
+      (let size = ap nested_size is in let before = c.loop-rest.invariant.less in omega (arith, size, before)),
+      (
+        c.requires.functions,
+        (
+          (both_true (is_taken false (statement_of c.deref-in-For-4.result.now)) (is_taken true (statement_of c.in-For.body.value))
+              (both_true (is_taken false (statement_of c.in-For.first.value)) (is_taken false (statement_of c.deref-in-For-4.result.now) && is_taken true (statement_of c.in-For.body.value))
+              (sym (ap (is_taken (is_some c.args.around)) is) ∙ c.loop-rest.invariant.taken)).1).0,
+          (
+            tt,
+            for_back_target (condition_of c.in-For.condition) c.in_ok-labels-in-For.labels _ _ c.open_for.new.code c.lower_statement-in-For-2.new.code c.turn_for.new.code
+                c.site-last_site.result c.in_ok-labels-in-For.ensures
+                c.in_ok-lower_statement-in-For-2.ensures.labels c.in_ok-turn_for-in-For.ensures
+                (back_after c.loop-rest.code c.lower_statement-in-For.new.code c.in_ok-lower_statement-in-For.ensures.labels.advances c.in_ok-lower_statement-in-For.ensures.labels.back
+                (back_after c.args.code.now c.loop-rest.code c.loop-rest.invariant.proceeds.advances c.loop-rest.invariant.proceeds.back c.requires.back)),
+          ),
+        ),
+      ),
+    )
+
+pub lower_statement-lower_simple-requires-clause-back : goal.lower_statement-lower_simple-requires-clause-back
+lower_statement-lower_simple-requires-clause-back t c =
+    back_after c.args.code.now c.loop-rest.code c.loop-rest.invariant.proceeds.advances c.loop-rest.invariant.proceeds.back c.requires.back
+
+pub lower_statement-lower_simple-requires-in-None-clause-back : goal.lower_statement-lower_simple-requires-in-None-clause-back
+lower_statement-lower_simple-requires-in-None-clause-back t c =
+    back_after c.args.code.now c.loop-rest.code c.loop-rest.invariant.proceeds.advances c.loop-rest.invariant.proceeds.back c.requires.back
+
+pub lower_statement-lower_simple-requires-in-None-clause-targets : goal.lower_statement-lower_simple-requires-in-None-clause-targets
+lower_statement-lower_simple-requires-in-None-clause-targets t c =
+    targets_after c.args.around c.args.code.now.stages c.loop-rest.code.stages c.loop-rest.invariant.proceeds.advances c.requires.targets
+
+pub lower_statement-lower_simple-requires-in-Value-value-clause-back : goal.lower_statement-lower_simple-requires-in-Value-value-clause-back
+lower_statement-lower_simple-requires-in-Value-value-clause-back t c =
+    back_after c.args.code.now c.loop-rest.code c.loop-rest.invariant.proceeds.advances c.loop-rest.invariant.proceeds.back c.requires.back
+
+pub lower_statement-lower_simple-requires-in-Value-value-clause-targets : goal.lower_statement-lower_simple-requires-in-Value-value-clause-targets
+lower_statement-lower_simple-requires-in-Value-value-clause-targets t c =
+    targets_after c.args.around c.args.code.now.stages c.loop-rest.code.stages c.loop-rest.invariant.proceeds.advances c.requires.targets
+
+pub lower_statement-lower_simple-requires-in_default-rest-clause-back : goal.lower_statement-lower_simple-requires-in_default-rest-clause-back
+lower_statement-lower_simple-requires-in_default-rest-clause-back t c =
+    back_after c.args.code.now c.loop-rest.code c.loop-rest.invariant.proceeds.advances c.loop-rest.invariant.proceeds.back c.requires.back
+
+pub lower_statement-lower_simple-requires-in_default-rest-clause-targets : goal.lower_statement-lower_simple-requires-in_default-rest-clause-targets
+lower_statement-lower_simple-requires-in_default-rest-clause-targets t c =
+    targets_after c.args.around c.args.code.now.stages c.loop-rest.code.stages c.loop-rest.invariant.proceeds.advances c.requires.targets
+
+pub lower_statement-returns-in_ok-lower_simple-in-Value-clause-labels : goal.lower_statement-returns-in_ok-lower_simple-in-Value-clause-labels
+lower_statement-returns-in_ok-lower_simple-in-Value-clause-labels t c =
+    proceeds_both c.args.around c.args.code.now c.loop-rest.code c.lower_simple.new.code c.loop-rest.invariant.proceeds
+    c.in_ok-lower_simple-in-Value.ensures.labels
+
+pub lower_statement-returns-in_err-lower_simple-in-Value-clause-full : goal.lower_statement-returns-in_err-lower_simple-in-Value-clause-full
+lower_statement-returns-in_err-lower_simple-in-Value-clause-full t c =
+    let p = err_from_is_err_and c.from_residual-in_err-lower_simple-in-Value.result c.from_residual-in_err-lower_simple-in-Value.ensures.1 in
+    rw (p.1, p.2) (c.loop-rest.invariant.behind.full _ (c.in_err-lower_simple-in-Value.ensures.full (program_of c.args.program.now) c.args.depth))
+
+pub lower_statement-returns-in_ok-lower_simple-in-None-clause-labels : goal.lower_statement-returns-in_ok-lower_simple-in-None-clause-labels
+lower_statement-returns-in_ok-lower_simple-in-None-clause-labels t c =
+    proceeds_both c.args.around c.args.code.now c.loop-rest.code c.lower_simple-in-None.new.code c.loop-rest.invariant.proceeds
+    c.in_ok-lower_simple-in-None.ensures.labels
+
+pub lower_statement-returns-in_err-lower_simple-in-None-clause-full : goal.lower_statement-returns-in_err-lower_simple-in-None-clause-full
+lower_statement-returns-in_err-lower_simple-in-None-clause-full t c =
+    let p = err_from_is_err_and c.from_residual-in_err-lower_simple-in-None.result c.from_residual-in_err-lower_simple-in-None.ensures.1 in
+    rw (p.1, p.2) (c.loop-rest.invariant.behind.full _ (c.in_err-lower_simple-in-None.ensures.full (program_of c.args.program.now) c.args.depth))
+
+pub lower_statement-returns-in_ok-lower_simple-in-Value-value-clause-labels : goal.lower_statement-returns-in_ok-lower_simple-in-Value-value-clause-labels
+lower_statement-returns-in_ok-lower_simple-in-Value-value-clause-labels t c =
+    proceeds_both c.args.around c.args.code.now c.loop-rest.code c.lower_simple-in-Value-value.new.code c.loop-rest.invariant.proceeds
+    c.in_ok-lower_simple-in-Value-value.ensures.labels
+
+pub lower_statement-returns-in_err-lower_simple-in-Value-value-clause-full : goal.lower_statement-returns-in_err-lower_simple-in-Value-value-clause-full
+lower_statement-returns-in_err-lower_simple-in-Value-value-clause-full t c =
+    let p = err_from_is_err_and c.from_residual-in_err-lower_simple-in-Value-value.result c.from_residual-in_err-lower_simple-in-Value-value.ensures.1 in
+    rw (p.1, p.2) (c.loop-rest.invariant.behind.full _ (c.in_err-lower_simple-in-Value-value.ensures.full (program_of c.args.program.now) c.args.depth))
+
+pub lower_statement-returns-in_err-lower_call-in-Call-clause-full : goal.lower_statement-returns-in_err-lower_call-in-Call-clause-full
+lower_statement-returns-in_err-lower_call-in-Call-clause-full t c =
+    let p = err_from_is_err_and c.from_residual-in_err-lower_call-in-Call.result c.from_residual-in_err-lower_call-in-Call.ensures.1 in
+    rw (p.1, p.2) (c.loop-rest.invariant.behind.full _
+    (call_for (program_of c.args.program.now) c.args.depth (statement_of c.loop-rest.rest.now) c.in-Call.field-0 c.in-Call.function (expressions_of c.deref-in-Call.result.now) c.loop-rest.code _
+    (ap statement_of c.in-Call.is ∙ ap (λ a. Statement.Call c.in-Call.field-0 c.in-Call.function (expressions_of a)) (sym c.deref-in-Call.ensures.value)) c.in_err-lower_call-in-Call.ensures.full))
+
+pub lower_statement-returns-in_err-lower_call-in-Call-right-clause-full : goal.lower_statement-returns-in_err-lower_call-in-Call-right-clause-full
+lower_statement-returns-in_err-lower_call-in-Call-right-clause-full t c =
+    let p = err_from_is_err_and c.from_residual-in_err-lower_call-in-Call-right.result c.from_residual-in_err-lower_call-in-Call-right.ensures.1 in
+    rw (p.1, p.2) (c.loop-rest.invariant.behind.full _
+    (assigned_for (program_of c.args.program.now) c.args.depth (statement_of c.loop-rest.rest.now) c.in-Assign.field-0 (place_of c.in-Assign.place) c.in-Call-right.function
+    (expressions_of c.deref-in-Call-right.result.now) c.loop-rest.code _
+    (ap statement_of c.in-Assign.is ∙ ap (λ z. Statement.Assign c.in-Assign.field-0 (place_of c.in-Assign.place) (right_side_of z)) c.in-Call-right.is
+    ∙ ap (λ a. Statement.Assign c.in-Assign.field-0 (place_of c.in-Assign.place) (RightSide.Call c.in-Call-right.function (expressions_of a)))
+    (sym c.deref-in-Call-right.ensures.value)) c.in_err-lower_call-in-Call-right.ensures.full))
+
+pub lower_statement-returns-in_err-lower_call-in-Call-value-clause-full : goal.lower_statement-returns-in_err-lower_call-in-Call-value-clause-full
+lower_statement-returns-in_err-lower_call-in-Call-value-clause-full t c =
+    let p = err_from_is_err_and c.from_residual-in_err-lower_call-in-Call-value.result c.from_residual-in_err-lower_call-in-Call-value.ensures.1 in
+    rw (p.1, p.2) (c.loop-rest.invariant.behind.full _
+    (returned_for (program_of c.args.program.now) c.args.depth (statement_of c.loop-rest.rest.now) c.in-Return.field-0 c.in-Call-value.function
+    (expressions_of c.deref-in-Call-value.result.now) c.loop-rest.code _
+    (ap statement_of c.in-Return.is ∙ ap (λ z. Statement.Return c.in-Return.field-0 (returned_of z)) c.in-Some.is ∙ ap
+    (λ z. Statement.Return c.in-Return.field-0 (Some (right_side_of z))) c.in-Call-value.is
+    ∙ ap (λ a. Statement.Return c.in-Return.field-0 (Some (RightSide.Call c.in-Call-value.function (expressions_of a)))) (sym c.deref-in-Call-value.ensures.value))
+    c.in_err-lower_call-in-Call-value.ensures.full))
+
+pub lower_statement-returns-in_ok-lower_call-in-Call-clause-labels : goal.lower_statement-returns-in_ok-lower_call-in-Call-clause-labels
+lower_statement-returns-in_ok-lower_call-in-Call-clause-labels t c =
+    proceeds_both c.args.around c.args.code.now c.loop-rest.code c.lower_call.new.code c.loop-rest.invariant.proceeds (c.in_ok-lower_call-in-Call.ensures.labels c.args.around)
+
+pub lower_statement-returns-in_ok-lower_delivery-in-Call-right-clause-labels : goal.lower_statement-returns-in_ok-lower_delivery-in-Call-right-clause-labels
+lower_statement-returns-in_ok-lower_delivery-in-Call-right-clause-labels t c =
+    proceeds_both c.args.around c.args.code.now c.loop-rest.code c.lower_delivery.new.code c.loop-rest.invariant.proceeds
+    (proceeds_both c.args.around c.loop-rest.code c.lower_call-in-Call-right.new.code c.lower_delivery.new.code (c.in_ok-lower_call-in-Call-right.ensures.labels c.args.around)
+    (delivers_proceed (place_of c.in-Assign.place) c.lower_call-in-Call-right.new.code c.lower_delivery.new.code c.in_ok-lower_delivery-in-Call-right.ensures.delivers c.args.around))
+
+pub lower_statement-returns-in_ok-lower_handing-in-Call-value-clause-labels : goal.lower_statement-returns-in_ok-lower_handing-in-Call-value-clause-labels
+lower_statement-returns-in_ok-lower_handing-in-Call-value-clause-labels t c =
+    proceeds_both c.args.around c.args.code.now c.loop-rest.code c.lower_handing.new.code c.loop-rest.invariant.proceeds
+    (proceeds_both c.args.around c.loop-rest.code c.lower_call-in-Call-value.new.code c.lower_handing.new.code (c.in_ok-lower_call-in-Call-value.ensures.labels c.args.around)
+    (hands_proceed c.lower_call-in-Call-value.new.code c.lower_handing.new.code c.in_ok-lower_handing-in-Call-value.ensures.hands
+    (closed_reached c.in_ok-lower_call-in-Call-value.ensures.calls.caller c.in_ok-lower_call-in-Call-value.ensures.calls.done c.lower_call-in-Call-value.new.code
+    c.in_ok-lower_call-in-Call-value.ensures.calls.closes) c.args.around))
+
+pub lower_statement-lower_handing-requires : goal.lower_statement-lower_handing-requires
+lower_statement-lower_handing-requires t c =
+    let labels = c.in_ok-lower_call-in-Call-value.ensures.labels c.args.around in
+    record {
+      back = back_after c.loop-rest.code c.lower_call-in-Call-value.new.code labels.advances labels.back
+          (back_after c.args.code.now c.loop-rest.code c.loop-rest.invariant.proceeds.advances c.loop-rest.invariant.proceeds.back c.requires.back);
+    }
+
+pub lower_statement-returns-in_err-lower_delivery-in-Call-right-clause-full : goal.lower_statement-returns-in_err-lower_delivery-in-Call-right-clause-full
+lower_statement-returns-in_err-lower_delivery-in-Call-right-clause-full t c =
+    let p = err_from_is_err_and c.from_residual-in_err-lower_delivery-in-Call-right.result c.from_residual-in_err-lower_delivery-in-Call-right.ensures.1 in
+    rw (p.1, p.2) (c.loop-rest.invariant.behind.full _
+    (delivery_for (program_of c.args.program.now) c.args.depth (statement_of c.loop-rest.rest.now) c.in-Assign.field-0 (place_of c.in-Assign.place) c.in-Call-right.function
+    (expressions_of c.deref-in-Call-right.result.now) c.loop-rest.code c.lower_call-in-Call-right.new.code _ (sym c.is_reached.ensures ∙ c.if-not-is_reached.false)
+    (ap statement_of c.in-Assign.is ∙ ap (λ z. Statement.Assign c.in-Assign.field-0 (place_of c.in-Assign.place) (right_side_of z)) c.in-Call-right.is
+    ∙ ap (λ a. Statement.Assign c.in-Assign.field-0 (place_of c.in-Assign.place) (RightSide.Call c.in-Call-right.function (expressions_of a)))
+    (sym c.deref-in-Call-right.ensures.value)) c.in_ok-lower_call-in-Call-right.ensures.calls c.in_err-lower_delivery-in-Call-right.ensures.full))
+
+pub lower_statement-returns-in_err-lower_handing-in-Call-value-clause-full : goal.lower_statement-returns-in_err-lower_handing-in-Call-value-clause-full
+lower_statement-returns-in_err-lower_handing-in-Call-value-clause-full t c =
+    let p = err_from_is_err_and c.from_residual-in_err-lower_handing-in-Call-value.result c.from_residual-in_err-lower_handing-in-Call-value.ensures.1 in
+    rw (p.1, p.2) (c.loop-rest.invariant.behind.full _
+    (handing_for (program_of c.args.program.now) c.args.depth (statement_of c.loop-rest.rest.now) c.in-Return.field-0 c.in-Call-value.function
+    (expressions_of c.deref-in-Call-value.result.now) c.loop-rest.code c.lower_call-in-Call-value.new.code _ (sym c.is_reached.ensures ∙ c.if-not-is_reached.false)
+    (ap statement_of c.in-Return.is ∙ ap (λ z. Statement.Return c.in-Return.field-0 (returned_of z)) c.in-Some.is ∙ ap
+    (λ z. Statement.Return c.in-Return.field-0 (Some (right_side_of z))) c.in-Call-value.is
+    ∙ ap (λ a. Statement.Return c.in-Return.field-0 (Some (RightSide.Call c.in-Call-value.function (expressions_of a)))) (sym c.deref-in-Call-value.ensures.value))
+    c.in_ok-lower_call-in-Call-value.ensures.calls c.in_err-lower_handing-in-Call-value.ensures.full))
+
+pub lower_call-returns-then-depth-eq0-clause-full : goal.lower_call-returns-then-depth-eq0-clause-full
+lower_call-returns-then-depth-eq0-clause-full t c = call_too_deep (program_of c.args.program.now) c.args.depth c.args.number (expressions_of c.args.arguments.now) c.args.code.now _ c.if-depth-eq0.true
+
+pub lower_call-returns-in_default-clause-full : goal.lower_call-returns-in_default-clause-full
+lower_call-returns-in_default-clause-full t c =
+    call_unknown (program_of c.args.program.now) c.args.depth c.args.number (expressions_of c.args.arguments.now) c.args.code.now _
+    (get_none function_of c.args.program.now.functions.items c.args.number (ap (λ l. slice_get l c.args.number) (sym c.deref.ensures.value) ∙ sym c.in_default.ensures))
+
+pub lower_call-lower_statement-requires : goal.lower_call-lower_statement-requires
+lower_call-lower_statement-requires t c = (
+  (let falls =
+      measure_falls (program_of c.args.program.now).functions c.args.number c.args.depth (function_of c.in-Some.function.now)
+      (get_map function_of c.args.program.now.functions.items c.args.number c.in-Some.function.now (ap (λ l. slice_get l c.args.number) (sym c.deref.ensures.value) ∙ sym c.in-Some.ensures))
+      c.if-depth-eq0.false in
+      let now = c.decreases in
+      omega (arith, falls, now)),
+  (
+    c.requires.functions,
+    (
+      taken_body c.args.program.now c.args.number c.in-Some.function.now (ap (λ l. slice_get l c.args.number) (sym c.deref.ensures.value) ∙ sym c.in-Some.ensures) c.requires.functions,
+      (
+        tt,
+        call_back_target c.args.number (function_of c.in-Some.function.now) (expressions_of c.args.arguments.now) c.in_ok-caller.caller c.args.code.now c.open_call.new.code
+            c.in_ok-caller.ensures.opens c.in_ok-caller.ensures.open_,
+      ),
+    ),
+  ),
+)
+
+pub lower_call-close_call-requires-clause-open_ : goal.lower_call-close_call-requires-clause-open_
+lower_call-close_call-requires-clause-open_ t c =
+    done_open c.args.number (function_of c.in-Some.function.now) (expressions_of c.args.arguments.now) c.in_ok-caller.caller c.args.code.now c.open_call.new.code
+    c.in_ok-caller.ensures.opens c.in_ok-caller.ensures.open_ c.lower_statement.new.code
+    c.in_ok-lower_statement.ensures.labels
+
+pub lower_call-close_call-requires-clause-back : goal.lower_call-close_call-requires-clause-back
+lower_call-close_call-requires-clause-back t c =
+    done_back c.args.number (function_of c.in-Some.function.now) (expressions_of c.args.arguments.now) c.in_ok-caller.caller c.args.code.now c.open_call.new.code
+    c.in_ok-caller.ensures.opens c.in_ok-caller.ensures.open_ c.lower_statement.new.code
+    c.in_ok-lower_statement.ensures.labels
+
+pub lower_call-returns-clause-labels : goal.lower_call-returns-clause-labels
+lower_call-returns-clause-labels t c = λ around.
+    calls_proceed c.args.number (function_of c.in-Some.function.now) (expressions_of c.args.arguments.now) c.in_ok-caller.caller c.args.code.now c.open_call.new.code
+    c.in_ok-caller.ensures.opens c.in_ok-caller.ensures.open_ c.lower_statement.new.code
+    c.in_ok-lower_statement.ensures.labels c.close_call.new.code c.in_ok-close_call.ensures.closes (let e = c.in_ok-caller.ensures.label in omega (arith, e)) c.requires.reached around
+
+pub lower_call-returns-in_err-lower_statement-clause-full : goal.lower_call-returns-in_err-lower_statement-clause-full
+lower_call-returns-in_err-lower_statement-clause-full t c =
+    let p = err_from_is_err_and c.from_residual-in_err-lower_statement.result c.from_residual-in_err-lower_statement.ensures.1 in
+    rw (p.1, p.2)
+    (call_body (program_of c.args.program.now) c.args.depth c.args.number (expressions_of c.args.arguments.now) c.args.code.now _ (function_of c.in-Some.function.now)
+    (get_map function_of c.args.program.now.functions.items c.args.number c.in-Some.function.now (ap (λ l. slice_get l c.args.number) (sym c.deref.ensures.value) ∙ sym c.in-Some.ensures))
+    c.in_ok-caller.caller c.open_call.new.code c.in_ok-caller.ensures.opens c.requires.reached (c.args.depth - 1)
+    (let some = c.if-depth-eq0.false in omega (arith, some)) c.in_err-lower_statement.ensures.full)
+
+pub lower_call-returns-in_err-close_call-clause-full : goal.lower_call-returns-in_err-close_call-clause-full
+lower_call-returns-in_err-close_call-clause-full t c =
+    let p = err_from_is_err_and c.from_residual-in_err-close_call.result c.from_residual-in_err-close_call.ensures.1 in
+    rw (p.1, p.2)
+    (call_closing (program_of c.args.program.now) c.args.depth c.args.number (expressions_of c.args.arguments.now) c.args.code.now _ (function_of c.in-Some.function.now)
+    (get_map function_of c.args.program.now.functions.items c.args.number c.in-Some.function.now (ap (λ l. slice_get l c.args.number) (sym c.deref.ensures.value) ∙ sym c.in-Some.ensures))
+    c.in_ok-caller.caller c.open_call.new.code c.in_ok-caller.ensures.opens c.requires.reached c.lower_statement.new.code c.in_ok-lower_statement.ensures.lowers c.in_err-close_call.ensures.full)

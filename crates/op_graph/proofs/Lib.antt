@@ -1,0 +1,5 @@
+mod Appending
+mod NodeList
+mod TableRows
+pub mod OneByOne
+mod Neighbours

@@ -1,0 +1,9 @@
+use Rattle.std.proofs.Common.{add-one}
+use Rattle.op_graph.proofs.Appending.{one_step}
+use Rattle.op_graph.proofs.reduced.put_arrays.Goals as goal
+
+pub loop-j-preserved : goal.loop-j-preserved
+loop-j-preserved c = record {
+  rows = rw add-one (one_step _ _ _ _ _ c.loop-j.invariant.rows c.in_ok-put_array.ensures.list);
+  last = rw add-one c.in_ok-put_array.ensures.last;
+}

@@ -1,0 +1,9 @@
+use Rattle.std.proofs.Common.{add-one}
+use Rattle.op_graph.proofs.Appending.{one_step}
+use Rattle.op_graph.proofs.reduced.put_reads.Goals as goal
+
+pub loop-behind-preserved : goal.loop-behind-preserved
+loop-behind-preserved c = record {
+  rows = rw add-one (one_step _ _ _ _ _ c.loop-behind.invariant.rows c.in_ok-put_read.ensures.list);
+  next = rw add-one c.in_ok-put_read.ensures.next;
+}

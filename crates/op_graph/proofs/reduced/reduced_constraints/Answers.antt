@@ -1,0 +1,12 @@
+use Rattle.std.proofs.Common.{rules}
+use Rattle.op_graph.proofs.Neighbours.{same_solutions, places_within, few_rows}
+use Rattle.op_graph.proofs.reduced.reduced_constraints.Goals as goal
+
+pub returns-clause-same : goal.returns-clause-same
+returns-clause-same c = same_solutions c.args.nodes.now c.put_ends.new.list.items (search (rules, c.in_ok-put_ends.ensures))
+
+pub returns-clause-places : goal.returns-clause-places
+returns-clause-places c = places_within c.args.nodes.now c.requires c.put_ends.new.list.items (search (rules, c.in_ok-put_ends.ensures))
+
+pub returns-clause-few : goal.returns-clause-few
+returns-clause-few c = few_rows c.args.nodes.now c.put_ends.new.list.items (search (rules, c.in_ok-put_ends.ensures))

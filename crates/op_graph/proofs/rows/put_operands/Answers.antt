@@ -1,0 +1,8 @@
+use Rattle.std.proofs.Common.{inl, inr}
+use Rattle.op_graph.proofs.rows.put_operands.Goals as goal
+
+pub put_operand-requires-clause-operand : goal.put_operand-requires-clause-operand
+put_operand-requires-clause-operand c = λ i e. c.requires.earlier c.args.j i c.requires.place (inl e)
+
+pub put_operand-requires-2-clause-operand : goal.put_operand-requires-2-clause-operand
+put_operand-requires-2-clause-operand c = λ i e. c.requires.earlier c.args.j i c.requires.place (inr e)

@@ -1,0 +1,6 @@
+use Rattle.std.proofs.Common.{add-one}
+use Rattle.op_graph.proofs.Appending.{one_step}
+use Rattle.op_graph.proofs.rows.put_uses.Goals as goal
+
+pub loop-j-preserved : goal.loop-j-preserved
+loop-j-preserved c = rw add-one (one_step _ _ _ _ _ c.loop-j.invariant c.in_ok-put_operands.ensures)

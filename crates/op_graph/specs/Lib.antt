@@ -1,0 +1,4 @@
+pub mod Graph
+pub mod Table
+pub mod Listed
+pub mod Reduced

@@ -1,0 +1,3 @@
+mod SameKinds
+mod OneKind
+mod AllKinds

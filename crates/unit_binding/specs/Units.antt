@@ -1,0 +1,58 @@
+-- Functional units (left edge: Hashimoto and Stevens 1971). By start and then by index, each operation has the least unit of its kind
+-- that no operation at work in the same states has. Only products, quotients and remainders share units: every other operation is a kind
+-- of its own.
+use Rattle.std.specs.Prelude.{◌≡◌, ℕ, ◌+◌, ◌^◌, ◌<◌, ◌≤◌, List, length, slice_index, Bool, true, false, not, ◌&&◌, if◌then◌else◌, nat_eq, nat_lt, nat_le}
+use Rattle.std.specs.List.{Contains, list_any}
+use Rattle.interval_pack.specs.LeftEdge.{IsLeftEdge}
+use Rattle.sparse_pack.specs.Sparse.{count_below}
+use Rattle.op_graph.specs.declared.node.Kind.{Kind}
+use Rattle.op_graph.specs.declared.node.Kind.TheVariants.{Multiply, Divide}
+use Rattle.op_graph.specs.declared.node.Node.{Node}
+use Rattle.op_graph.specs.Graph.{kind_at, latency_at, done}
+use Rattle.unit_binding.specs.declared.bind.UnitCount.{UnitCount}
+
+abbrev pub same_bool : Bool → Bool → Bool
+same_bool s t = if s then t else not t
+
+-- the kinds that share units: products of one width, and quotients and remainders of one width, signed or not
+abbrev pub same_kind : Kind → Kind → Bool
+same_kind (Multiply w) (Multiply v) = nat_eq w v
+same_kind (Divide w s) (Divide v t) = nat_eq w v && same_bool s t
+same_kind k l = false
+
+-- the states after the last ones are numbers of 64 bits
+abbrev pub Fits : List Node → List ℕ → Type 0
+Fits nodes starts = (i : ℕ) → i < length nodes → done nodes starts i < 2 ^ 64
+
+-- a list of kinds has this one
+abbrev pub is_listed : List UnitCount → Kind → Bool
+is_listed counts kind = list_any (λ c. same_kind c.kind kind) counts
+
+module _ (nodes : List Node) (starts : List ℕ) where
+  -- operations of one kind that are at work in one state
+  abbrev pub WorkTogether : ℕ → ℕ → Type 0
+  WorkTogether i j = (same_kind (kind_at nodes i) (kind_at nodes j) ≡ true) × (slice_index starts i < done nodes starts j) × (slice_index starts j < done nodes starts i)
+
+  -- operation i is of the kind and at work in state p
+  abbrev pub works_at : Kind → ℕ → ℕ → Bool
+  works_at kind p i = same_kind kind (kind_at nodes i) && (nat_le (slice_index starts i) p && nat_lt p (done nodes starts i))
+
+  abbrev pub use_at : Kind → ℕ → ℕ
+  use_at kind p = count_below (works_at kind p) (length nodes)
+
+  -- so many operations of the kind are at work in some state, and in none more
+  abbrev pub IsGreatestUse : Kind → ℕ → Type 0
+  IsGreatestUse kind count = ((p : ℕ) → use_at kind p ≤ count) × ((p : ℕ) × (use_at kind p ≡ count))
+
+  -- THE BINDING of units
+  pub record AreUnits (units : List ℕ) : Type 0 where
+    pub count : length units ≡ length nodes
+    pub bound : IsLeftEdge (length nodes) (slice_index starts) WorkTogether (slice_index units)
+
+  -- for each kind that shares units, and has an operation, its greatest use
+  pub record AreCounts (counts : List UnitCount) : Type 0 where
+    pub listed : (i : ℕ) → i < length nodes → same_kind (kind_at nodes i) (kind_at nodes i) ≡ true → is_listed counts (kind_at nodes i) ≡ true
+    pub greatest : (c : UnitCount) → Contains counts c → IsGreatestUse c.kind c.count
+
+abbrev pub UnitsAgree : Type 0
+UnitsAgree = (nodes : List Node) (starts units units' : List ℕ) → AreUnits nodes starts units → AreUnits nodes starts units' → units ≡ units'
