@@ -146,7 +146,12 @@ module _ (shape : Shape) (ok : IsShape shape) (m : Module) (is : IsBank shape m)
                                         from (next n + k) (kept n + k) w (has m (kept n + k) _ (listed.1.1.1.1.1.1.0 k l)) (omega arith) (omega arith) (omega arith),
                                       )),
                                       (
-                                        (λ k l. record { has = has m (asks n + k) _ (listed.1.0 k l); before = omega arith; in_time = λ t. let e = early_before (asks n + k) (omega arith) in absurd cc }),
+                                        (λ k l. record {
+                                          has = has m (asks n + k) _ (listed.1.0 k l);
+                                          before = omega arith;
+                                          in_time = λ t. let e = early_before (asks n + k)
+                                              (omega arith) in absurd cc;
+                                        }),
                                         (
                                           (λ k l. record {
                                             has = has m (kept n + k) _ (listed.1.1.1.1.1.1.0 k l);

@@ -101,7 +101,8 @@ module _ (shape : Shape) (ok : IsShape shape) where
                                   (λ k l. inner_formed z (offers n) (store_chain n + 1 + k) 1 role.Wire (Conditional (Each (grants n)) (Each (operations n)) (Each (store_chain n))) k (omega arith)
                                       (omega arith) refl (omega arith) (omega arith) refl (((omega arith), ((omega arith), ((omega arith), tt))), tt) tt),
                                   (
-                                    (inner_formed z (offers n) (word n) w role.Wire (MemoryRead 0 (Fixed (address n))) 0 low ok.high refl (omega arith) (omega arith) refl (((omega arith), tt), tt) tt),
+                                    (inner_formed z (offers n) (word n) w role.Wire (MemoryRead 0 (Fixed (address n))) 0 low ok.high refl (omega arith) (omega arith) refl
+                                        (((omega arith), tt), tt) tt),
                                     (
                                       (λ k l. inner_formed z (offers n) (takes n + k) 1 role.Wire (Binary And (Each (grants n)) (Each (reads n))) k (omega arith) (omega arith) refl (omega arith)
                                           (omega arith) refl (((omega arith), ((omega arith), tt)), tt) tt),
@@ -109,7 +110,8 @@ module _ (shape : Shape) (ok : IsShape shape) where
                                         (λ k l. inner_formed z (offers n) (next n + k) w role.Wire (Conditional (Each (takes n)) (Fixed (word n)) (Each (kept n))) k low ok.high refl (omega arith)
                                             (omega arith) refl (((omega arith), ((omega arith), ((omega arith), tt))), tt) tt),
                                         (
-                                          (λ k l. output_formed z (offers n) (offers n + k) 1 role.Offer (Each (asks n)) k (omega arith) (omega arith) refl (omega arith) (omega arith) (((omega arith), tt), tt)),
+                                          (λ k l. output_formed z (offers n) (offers n + k) 1 role.Offer (Each (asks n)) k (omega arith) (omega arith) refl (omega arith)
+                                              (omega arith) (((omega arith), tt), tt)),
                                           (
                                             (λ k l. output_formed z (offers n) (tells n + k) w role.Told (Each (kept n)) k low ok.high refl (omega arith) (omega arith) (((omega arith), tt), tt)),
                                             tt,

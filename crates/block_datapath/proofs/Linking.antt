@@ -1,5 +1,6 @@
 -- Links of chains are wires: lemmas of each function that adds one, and of a block that is left.
-use Rattle.std.proofs.Common.{◌≡◌, ℕ, zero, suc, ◌<◌, ◌≤◌, ◌^◌, ◌⊎◌, inl, inr, ⊎_elim, true, false, List, [], ◌∷◌, ◌++◌, length, slice_get, slice_set, Some, None, max, refl, sym, ap, subst, ◌∙◌, arith}
+use Rattle.std.proofs.Common.{◌≡◌, ℕ, zero, suc, ◌<◌, ◌≤◌, ◌^◌, ◌⊎◌, inl, inr, ⊎_elim, true, false, List, [], ◌∷◌}
+use Rattle.std.proofs.Common.{◌++◌, length, slice_get, slice_set, Some, None, max, refl, sym, ap, subst, ◌∙◌, arith}
 use Rattle.std.specs.Prelude.{Result, IfOk}
 use Rattle.netlist.specs.declared.netlist.Signal.{Signal}
 use Rattle.hls_ints.specs.Types.{IntegerType, width_of}

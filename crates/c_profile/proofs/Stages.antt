@@ -1,7 +1,6 @@
 -- A text has one answer: stage by stage it is one thing.
-use Rattle.std.proofs.Common.{◌≡◌, ℕ, ◌<◌, ◌≤◌, ◌⊎◌, inl, inr, List, length, fold, Option, Some, None, refl, sym, ap, ◌∙◌, subst, arith}
+use Rattle.std.proofs.Common.{◌≡◌, ℕ, ◌<◌, ◌≤◌, ◌⊎◌, inl, inr, List, length, Option, Some, None, refl, sym, ap, ◌∙◌, subst, arith}
 use Rattle.std.specs.Prelude.{Result, Ok, Err}
-use Rattle.std.proofs.lemmas.Bool.Decides.{same_from_decides}
 use Rattle.c_token.specs.declared.token.Token.{Token}
 use Rattle.c_token.specs.Spelling.{Bytes}
 use Rattle.c_lexer.specs.declared.fault.LexFault.{LexFault}
@@ -17,7 +16,7 @@ use Rattle.c_parser.specs.declared.ParseError.{ParseError}
 use Rattle.c_parser.specs.declared.ParseError.TheVariants as parse
 use Rattle.c_parser.specs.Parsed.{offset_at}
 use Rattle.c_parser.proofs.Texts as t
-use Rattle.c_program.specs.Tree.{Program, Function}
+use Rattle.c_program.specs.Tree.{Program}
 use Rattle.c_program.specs.Weight.{weight}
 use Rattle.c_program.specs.Counting.{capped}
 use Rattle.c_limits.specs.Counts.{first_passed}
@@ -25,11 +24,9 @@ use Rattle.c_limits.specs.declared.limit.Limit.{Limit}
 use Rattle.c_limits.specs.declared.limit.Limit.TheVariants as limit
 use Rattle.c_limits.specs.declared.limit.Passed.{Passed}
 use Rattle.c_rules.specs.declared.fault.Fault.{Fault}
-use Rattle.c_rules.specs.declared.findings.Findings.{Findings}
-use Rattle.c_rules.specs.Faults.{first}
-use Rattle.c_types.specs.CallRules.{IsCallFault, with_call, with_site}
 use Rattle.c_types.specs.Files.{File}
 use Rattle.c_types.specs.Texts.{main_number}
+use Rattle.c_types.proofs.Once.{first_fault_once}
 use Rattle.c_types.specs.Resolving.{IsFirstFault, Spells, behind, routines_given, program_at}
 use Rattle.c_profile.specs.declared.refusal.Refusal.{Refusal}
 use Rattle.c_profile.specs.declared.refusal.Refusal.TheVariants as refusal
@@ -83,18 +80,6 @@ record IsLong (text : Bytes) (a : Answer) : Type 0 where
 
 abbrev IsAnswer : Bytes → Answer → Type 0
 IsAnswer text a = IsLong text a ⊎ IsShort text a
-
--- ---- calls lead to one fault
-
-calls_once : (functions : List Function) (found : Findings) (a b : Option Fault) → IsCallFault functions found a → IsCallFault functions found b → a ≡ b
-calls_once functions found a b h k =
-    let same : h.leads ≡ k.leads = (λ i from to. same_from_decides (h.leads from to) (k.leads from to) (h.decides from to) (k.decides from to) i) in
-    h.is ∙ ap (λ leads. fold (with_site functions leads) (fold (with_call leads) found.fault found.calls) found.threads) same ∙ sym k.is
-
-first_fault_once : (tree : TranslationUnit) (a b : Option Fault) → IsFirstFault tree a → IsFirstFault tree b → a ≡ b
-first_fault_once tree a b h k =
-    let calls = calls_once (behind tree.declarations).tables.functions (behind tree.declarations).found h.calls k.calls h.is_calls k.is_calls in
-    h.is ∙ ap (λ c. first c (routines_given (behind tree.declarations)).1) calls ∙ sym k.is
 
 -- ---- tokens have one tree
 

@@ -1,3 +1,4 @@
+pub mod Answers
 pub mod CallRules
 pub mod Files
 pub mod Functions

@@ -2,11 +2,13 @@
 
 ghost use Rattle.std.specs.Prelude.{◌≡◌, Some, IfOk, IfErr};
 ghost use Rattle.c_program.specs.Plain.{program_of};
+ghost use Rattle.c_program.specs.Tree as code;
 ghost use Rattle.c_rules.specs.declared.fault.Fault as fault;
 ghost use Rattle.c_rules.specs.declared.fault.ResolveError.TheVariants as error;
 ghost use Rattle.c_types.specs.Files.{file};
 ghost use Rattle.c_types.specs.Tabled.{tables_of};
 ghost use Rattle.c_types.specs.Resolving as spec;
+ghost use Rattle.c_types.specs.Answers.{ResolvesOnly, BreaksOnly, LacksMainOnly};
 
 use crate::calls::with_call_faults;
 use crate::routines::give_routines;
@@ -115,9 +117,8 @@ fn program(tables: Tables, main: u32) -> Program
     }
 }
 
-/// The program that the tree spells, or the first rule that it breaks by place and then by number; where it breaks none
-/// but defines no main, that.
-pub fn resolve(alloc: Global, tree: &TranslationUnit) -> Result<Program, ResolveError>
+/// The program that the tree spells, or why it has none.
+fn program_or_fault(alloc: Global, tree: &TranslationUnit) -> Result<Program, ResolveError>
     ensures spelled { IfOk result (λ p. spec.Spells tree.now (program_of p)) }
     ensures broken { IfErr result (λ e. (f : fault.Fault) → e ≡ error.Broken f → spec.IsFirstFault tree.now (Some f)) }
     ensures no_main { IfErr result (λ e. e ≡ error.NoMain → spec.LacksMain tree.now) }
@@ -136,4 +137,17 @@ pub fn resolve(alloc: Global, tree: &TranslationUnit) -> Result<Program, Resolve
         Some(main) => Ok(program(tables, main)),
         None => Err(ResolveError::NoMain),
     }
+}
+
+/// The program that the tree spells, or the first rule that it breaks by place and then by number; where it breaks none
+/// but defines no main, that. Each of these is answered only so, but for want of memory.
+pub fn resolve(alloc: Global, tree: &TranslationUnit) -> Result<Program, ResolveError>
+    ensures spelled { IfOk result (λ p. spec.Spells tree.now (program_of p)) }
+    ensures broken { IfErr result (λ e. (f : fault.Fault) → e ≡ error.Broken f → spec.IsFirstFault tree.now (Some f)) }
+    ensures no_main { IfErr result (λ e. e ≡ error.NoMain → spec.LacksMain tree.now) }
+    ensures spells { (p : code.Program) → spec.Spells tree.now p → ResolvesOnly p result }
+    ensures breaks { (f : fault.Fault) → spec.IsFirstFault tree.now (Some f) → BreaksOnly f result }
+    ensures lacks { spec.LacksMain tree.now → LacksMainOnly result }
+{
+    program_or_fault(alloc, tree)
 }

@@ -10,7 +10,8 @@ use Rattle.call_graph.specs.declared.table.Call.{Call}
 use Rattle.call_graph.specs.declared.search.Search.{Search}
 use Rattle.call_graph.specs.Graphs.{callees, table, row, has, is_new, with_mark, marking, following, following_one, begun, turns, searched, marks_from, all_marks}
 use Rattle.call_graph.specs.Reaching.{Leads, Here, Further, leads, IsReach}
-use Rattle.call_graph.proofs.Marks.{none-some, some-some, some_at, at_front, at_Contains, has_inside, set_has, set_keeps, set_back, set_length, none_has, count, count_none, count_few, count_set, each_length, each_at}
+use Rattle.call_graph.proofs.Marks.{none-some, some-some, some_at, at_front, at_Contains, has_inside, set_has, set_keeps}
+use Rattle.call_graph.proofs.Marks.{set_back, set_length, none_has, count, count_none, count_few, count_set, each_length, each_at}
 
 Contains_at : (xs : List ℕ) (k x : ℕ) → slice_get xs k ≡ Some x → Contains xs x
 Contains_at xs k x is = (k, slice_get_within xs k x is, get_or_from_slice_get xs k x x is)

@@ -1,5 +1,6 @@
 -- Calls as a graph, and what a search along them finds.
-use Rattle.std.specs.Prelude.{ℕ, zero, suc, nat_eq, nat_lt, Bool, true, false, not, ◌&&◌, if◌then◌else◌, List, [], ◌∷◌, ◌++◌, fold, length, Option, Some, None, slice_get, slice_set, unwrap_or, replicate}
+use Rattle.std.specs.Prelude.{ℕ, zero, suc, nat_eq, nat_lt, Bool, true, false, not, ◌&&◌, if◌then◌else◌, List, []}
+use Rattle.std.specs.Prelude.{◌∷◌, ◌++◌, fold, length, Option, Some, None, slice_get, slice_set, unwrap_or, replicate}
 use Rattle.call_graph.specs.declared.table.Call.{Call}
 use Rattle.call_graph.specs.declared.search.Search.{Search}
 

@@ -20,7 +20,8 @@ use Rattle.netlist.specs.declared.netlist.Effect.TheVariants.{Set, Store, Write}
 use Rattle.netlist.specs.declared.netlist.Action.{Action}
 use Rattle.netlist.specs.declared.netlist.Module.{Module}
 use Rattle.netlist.specs.Laid.{operands, argument_place}
-use Rattle.netlist.specs.Sound.{width, width_read, width_set, width_of_register, register_width, width_of_memory, words_of_memory, memory_width, memory_words, is_read, has_width, joint_width, is_filled}
+use Rattle.netlist.specs.Sound.{width, width_read, width_set, width_of_register, register_width, width_of_memory}
+use Rattle.netlist.specs.Sound.{words_of_memory, memory_width, memory_words, is_read, has_width, joint_width, is_filled}
 use Rattle.netlist.specs.Sound.{value_fits, source_fits, effect_fits, action_fits}
 use Rattle.verilog_meaning.specs.Cycles.{IsRegister}
 use Rattle.circuit.specs.Modules.{Has, HasRegister, FitsBinary, FitsParts, FitsValue, FitsArgument, FitsEffect, FitsAction, Reads, IsSoundSource}

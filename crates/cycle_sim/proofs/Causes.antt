@@ -1,17 +1,19 @@
--- Why a net that is laid out has no simulator.
+-- A net is laid out; where one instance at most writes, one part at most does.
 use Rattle.std.specs.Prelude.{◌≡◌, ℕ, Bool, true, List, length, Option, Some, None, slice_get, refl}
-use Rattle.std.proofs.Common.{ap, sym, ◌∙◌, subst}
+use Rattle.std.proofs.Common.{ap, sym, ◌∙◌, subst, ⊎_elim}
+use Rattle.std.proofs.lemmas.Option.{same_Some}
 use Rattle.netlist.specs.declared.netlist.Module.{Module}
 use Rattle.verilog_meaning.specs.Cycles.{Path}
 use Rattle.cycle_sim.specs.declared.settle.Step.{Step}
 use Rattle.cycle_sim.specs.declared.edge.Part.{Part}
-use Rattle.cycle_sim.specs.Running.{some_write}
+use Rattle.cycle_sim.specs.Running.{some_write, IsRight}
 use Rattle.cycle_sim.specs.Stands.{spot_of, place_of}
 use Rattle.cycle_sim.specs.Tree.{IsTree}
 use Rattle.cycle_sim.specs.Placed.{IsPlaced}
 use Rattle.cycle_sim.specs.Wires.{signals_of, AreWires}
 use Rattle.cycle_sim.specs.LaidOut.{IsLaidOut}
-use Rattle.cycle_sim.specs.Opened.{writes_at, IsWriter, AreTwo, LacksDone, IsTopNumber, IsRightNet, HasNoDone, Writes, HasPrinters}
+use Rattle.cycle_sim.specs.Opened.{writes_at, IsOne, IsWriter, AreTwo, LacksDone, IsTopNumber, IsRightNet, IsOpenable, Writes, HasPrinters}
+use Rattle.cycle_sim.proofs.Settles.{same_or}
 use Rattle.cycle_sim.proofs.Laid.{part_at}
 
 -- the tree, the places and the steps of a net
@@ -34,8 +36,17 @@ laid_out modules number is right kinds children tree parts numbers free words st
   are = subst (λ ss. AreWires modules parts ss base most wires) (ap signals_of is.stands) are;
 }
 
-pub no_done : (modules : List Module) (number : ℕ) → IsTopNumber modules number → LacksDone (signals_of (slice_get modules number)) → HasNoDone modules
-no_done modules number is lacks = record { top = is.top; is_top = is.is_top; lacks = subst LacksDone (ap signals_of is.stands) lacks }
+-- what `open` takes has right widths, whichever module is called its `top`
+pub right_net : (modules : List Module) → IsOpenable modules → IsRightNet modules
+right_net modules is t e = subst (IsRight modules) (same_Some is.top t (sym is.is_top ∙ e)) is.right
+
+-- and a signal `done`
+pub has_done : (modules : List Module) (number : ℕ) → IsTopNumber modules number → IsOpenable modules → LacksDone (signals_of (slice_get modules number)) → ⊥
+has_done modules number top is lacks =
+    let same = same_Some is.top top.top (sym is.is_top ∙ top.is_top) in
+    let there = ap signals_of top.stands ∙ ap (λ (t : Module). t.signals) (sym same) in
+    let done = is.done in
+    subst LacksDone there lacks done.0 done.1 done.2.listed done.2.named
 
 writer : (o : Option Module) → writes_at o ≡ true → (m : Module) × (o ≡ Some m) × (some_write m.actions ≡ true)
 writer None e = absurd cc
@@ -67,3 +78,16 @@ module _ {modules : List Module} {t : Module} {parts : List Part} {numbers : Lis
         writes = a.writes;
         writes_too = b.writes;
       }
+
+  pub one_of : (HasPrinters modules → ⊥) → IsOne modules parts
+  one_of lacks q o p other at there a b = ⊎_elim
+      (λ (same : q ≡ o). same)
+      (λ (ne : q ≡ o → ⊥).
+      absurd (lacks (printers (record {
+        first = q;
+        other = o;
+        apart = λ e. ne (sym e);
+        writes = record { part = p; listed = at; writes = a };
+        writes_too = record { part = other; listed = there; writes = b };
+      }))))
+      (same_or q o)

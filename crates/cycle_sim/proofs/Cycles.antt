@@ -260,6 +260,7 @@ module _ (r : Running) (st : Stands r) (c : Choice) (fits : Fits r c) where
     top = st.top;
     is_top = st.is_top;
     right = st.right;
+    takes = st.takes;
     free = st.free;
     plan = subst (IsPlan modules st.top parts r.steps st.free r.prefs) (sym long) st.plan;
     apart = subst (λ (n : ℕ). IsApart modules st.top parts r.starts n (length r.words)) (sym long) st.apart;
@@ -297,6 +298,7 @@ module _ (r : Running) (st : Stands r) (c : Choice) (fits : Fits r c) where
     top = st.top;
     is_top = st.is_top;
     right = st.right;
+    takes = st.takes;
     free = st.free;
     plan = subst (IsPlan modules st.top parts r.steps st.free r.prefs) (sym numbers_long) st.plan;
     apart = subst (λ (n : ℕ). IsApart modules st.top parts r.starts n (length next.words)) (sym numbers_long)

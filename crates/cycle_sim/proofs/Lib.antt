@@ -6,6 +6,8 @@ pub mod Stores
 pub mod Cycles
 pub mod Calls
 pub mod Orders
+pub mod Waiting
+pub mod Growing
 pub mod Trees
 pub mod Placing
 pub mod Wiring
@@ -28,3 +30,4 @@ pub mod Turning
 pub mod Enables
 pub mod Something
 pub mod Elements
+pub mod Taking

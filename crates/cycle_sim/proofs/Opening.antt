@@ -20,12 +20,14 @@ use Rattle.cycle_sim.specs.LaidOut.{IsLaidOut, GivesBy}
 use Rattle.cycle_sim.proofs.Orders.{known_by}
 use Rattle.cycle_sim.proofs.Laid.{place_same, found, spot_is, laid, has_step, gives_target, gives_here, register_free}
 use Rattle.cycle_sim.specs.Running.{Running, running, state_of, IsApart, IsDone}
+use Rattle.cycle_sim.specs.Rounds.{prefs_of, TakesTurns}
 use Rattle.cycle_sim.specs.Opened.{writes_at, IsOne, IsReady}
 use Rattle.cycle_sim.proofs.Loopless.{loopless}
 
 module _ {modules : List Module} {t : Module} {parts : List Part} {numbers : List ℕ} {free : List Bool} {words starts : List ℕ} {wires : List Step} {prefs : ℕ}
     (l : IsLaidOut modules t parts numbers free words starts wires prefs)
-    (one : IsOne modules parts) (done : ℕ) (done_is : IsDone t parts done) (steps : List Step) (ordered : IsOrder modules wires free steps) where
+    (takes : TakesTurns modules t) (counted : prefs ≡ prefs_of modules) (one : IsOne modules parts) (done : ℕ) (done_is : IsDone t parts done) (steps : List Step)
+    (ordered : IsOrder modules wires free steps) where
   -- ---- steps
 
   no_register : (source : Source) → is_register source ≡ true → IsRegister source
@@ -117,7 +119,8 @@ module _ {modules : List Module} {t : Module} {parts : List Part} {numbers : Lis
 
   pub opened_stands : IsReady run
   opened_stands = record {
-    stands = record { top = t; is_top = l.is_top; right = l.right; free = free; plan = plan; apart = apart; state = state; done = done_is };
+    stands = record { top = t; is_top = l.is_top; right = l.right; takes = takes; free = free; plan = plan; apart = apart; state = state; done = done_is };
+    prefs_are = counted;
     begins = begins;
     loopless = loopless modules t parts steps free prefs (length numbers) plan;
   }

@@ -1,5 +1,6 @@
 -- A sound netlist can be opened: its tests and places say that each width fits.
-use Rattle.std.specs.Prelude.{◌≡◌, ℕ, zero, suc, ◌+◌, ◌^◌, ◌<◌, ◌≤◌, Bool, true, false, cond, List, [], ◌∷◌, ◌++◌, length, filter, take, Option, Some, None, option_and_then, slice_get, if◌then◌else◌, refl, codes}
+use Rattle.std.specs.Prelude.{◌≡◌, ℕ, zero, suc, ◌+◌, ◌^◌, ◌<◌, ◌≤◌, Bool, true, false, cond, List, [], ◌∷◌, ◌++◌, length}
+use Rattle.std.specs.Prelude.{filter, take, Option, Some, None, option_and_then, slice_get, if◌then◌else◌, refl, codes}
 use Rattle.std.proofs.Common.{ap, sym, ◌∙◌, subst, ⊎_elim, arith}
 use Rattle.std.specs.Str.{bytes_eq}
 use Rattle.std.proofs.lemmas.Option.{same_Some, slice_get_within}
@@ -11,7 +12,8 @@ use Rattle.netlist.specs.declared.netlist.Instance.{Instance}
 use Rattle.netlist.specs.declared.netlist.Module.{Module}
 use Rattle.netlist.specs.declared.netlist.Netlist.{Netlist}
 use Rattle.netlist.specs.NetlistOf.{is_output_port}
-use Rattle.netlist.specs.Laid.{IsSource, IsDriven, IsLaidModule, kind_by, kind_of, is_inner, input_signals, inner_signals, output_signals, first_output, AreApart, signal_names, memory_names, instance_names}
+use Rattle.netlist.specs.Laid.{IsSource, IsDriven, IsLaidModule, kind_by, kind_of, is_inner, input_signals}
+use Rattle.netlist.specs.Laid.{inner_signals, output_signals, first_output, AreApart, signal_names, memory_names, instance_names}
 use Rattle.netlist.specs.Sound.{IsSound, IsSoundModule, is_clk_at, source_fits}
 use Rattle.netlist.specs.Sound as sound
 use Rattle.verilog_meaning.specs.Names.{module_named, top_of}

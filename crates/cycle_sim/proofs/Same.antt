@@ -15,8 +15,10 @@ use Rattle.netlist.specs.declared.netlist.Effect.{Effect}
 use Rattle.netlist.specs.declared.netlist.Effect.TheVariants as effect
 use Rattle.netlist.specs.declared.netlist.Action.{Action}
 use Rattle.netlist.specs.declared.netlist.Module.{Module}
-use Rattle.verilog_meaning.specs.Readings.{Reading, Plain, width, value, joined, memory_words, is_on, set_by, stored_by, register_after, word_after, argument_bytes, all_arguments, effect_bytes, action_bytes, filled}
-use Rattle.verilog_meaning.specs.Cycles.{Path, Valuation, Choice, IsRegister, module_at, IsAt, HasMemory, number, input_number, IsSettled, IsSameIn, next_at, next_state, written_at, IsWritten, Cycle, Runs, ShowsDone}
+use Rattle.verilog_meaning.specs.Readings.{Reading, Plain, width, value, joined, memory_words, is_on, set_by, stored_by}
+use Rattle.verilog_meaning.specs.Readings.{register_after, word_after, argument_bytes, all_arguments, effect_bytes, action_bytes, filled}
+use Rattle.verilog_meaning.specs.Cycles.{Path, Valuation, Choice, IsRegister, module_at, IsAt, HasMemory, number, input_number}
+use Rattle.verilog_meaning.specs.Cycles.{IsSettled, IsSameIn, next_at, next_state, written_at, IsWritten, Cycle, Runs, ShowsDone}
 
 -- ---- one module: the same signals, and other words
 

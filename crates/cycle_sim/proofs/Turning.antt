@@ -8,7 +8,7 @@ use Rattle.verilog_meaning.specs.Names.{top_of}
 use Rattle.verilog_meaning.specs.Cycles.{Choice, IsSameIn, ShowsDone, Cycle, Runs}
 use Rattle.verilog_meaning.specs.Threads.{all_enabled}
 use Rattle.circuit.specs.Nets.{FitsChoice}
-use Rattle.cycle_sim.specs.Running.{Running, state_of, Fits, IsSameNet, IsSameState, IsCycleOf, TellsDone}
+use Rattle.cycle_sim.specs.Running.{Running, Stands, state_of, Fits, IsSameNet, IsSameState, IsCycleOf, TellsDone}
 use Rattle.cycle_sim.specs.Rounds.{threads_of, round, rounds, Tells, IsGoing}
 use Rattle.cycle_sim.specs.Lockstep.{TakesRounds, IsTurned, IsLockstep, IsCutOff}
 use Rattle.cycle_sim.proofs.Same.{same_refl, same_sym, shows_moved, runs_to_same, runs_on}
@@ -40,6 +40,9 @@ module _ (old r : Running) (top : Module) (is_top : top_of old.modules ≡ Some 
   there P t e p = subst (λ ms. P ms t) (sym net.modules) (subst (λ z. P old.modules z) (sym (same_top t e)) p)
 
 -- ---- choices fit
+
+pub takes_rounds : (r : Running) → Stands r → TakesRounds r
+takes_rounds r is = record { top = is.top; is_top = is.is_top; fits = λ prefs preferred few l. is.takes prefs preferred l }
 
 module _ (old r : Running) (takes : TakesRounds old) (net : IsSameNet old r) where
   pub fits : (n preferred : ℕ) → n ≤ old.prefs → preferred < 16 → Fits r (all_enabled (threads_of old.modules) (replicate n preferred))

@@ -15,3 +15,5 @@ pub mod Loops
 pub mod LaidOut
 pub mod Leads
 pub mod Globals
+pub mod Waits
+pub mod Growing

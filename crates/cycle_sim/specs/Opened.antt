@@ -1,32 +1,25 @@
 -- What a simulator of a net is when it is opened.
-use Rattle.std.specs.Prelude.{◌≡◌, ℕ, ◌<◌, ◌≤◌, Bool, true, false, List, [], Option, Some, None, slice_get, codes}
+use Rattle.std.specs.Prelude.{◌≡◌, ℕ, Bool, true, false, List, [], Option, Some, None, slice_get, codes}
 use Rattle.netlist.specs.declared.netlist.Signal.{Signal}
 use Rattle.netlist.specs.declared.netlist.Module.{Module}
-use Rattle.verilog_meaning.specs.Names.{top_of}
+use Rattle.verilog_meaning.specs.Names.{top_of, IsSignal}
 use Rattle.verilog_meaning.specs.Cycles.{Path, module_at, IsSameIn, initial_state}
 use Rattle.verilog_meaning.specs.Threads.{Place, Depends}
 use Rattle.cycle_sim.specs.declared.edge.Part.{Part}
 use Rattle.cycle_sim.specs.declared.sim.OpenError.{OpenError}
 use Rattle.cycle_sim.specs.declared.sim.OpenError.TheVariants as errors
 use Rattle.cycle_sim.specs.Loops.{IsFirstLoop}
+use Rattle.cycle_sim.specs.Rounds.{prefs_of, TakesTurns}
 use Rattle.cycle_sim.specs.Running.{Running, state_of, IsRight, Stands, some_write}
 
 abbrev pub writes_at : Option Module → Bool
 writes_at None = false
 writes_at (Some m) = some_write m.actions
 
--- no part from a place on, and before another, has a $write
-abbrev pub AreQuiet : List Module → List Part → ℕ → ℕ → Type 0
-AreQuiet modules parts low high = (q : ℕ) (p : Part) → low ≤ q → q < high → slice_get parts q ≡ Some p → writes_at (slice_get modules p.module) ≡ false
-
 -- one instance at most has a $write
 abbrev pub IsOne : List Module → List Part → Type 0
 IsOne modules parts =
     (q o : ℕ) (p other : Part) → slice_get parts q ≡ Some p → slice_get parts o ≡ Some other → writes_at (slice_get modules p.module) ≡ true → writes_at (slice_get modules other.module) ≡ true → q ≡ o
-
--- no part has a $write but perhaps that of a number, among so many
-abbrev pub AreOthersQuiet : List Module → List Part → ℕ → ℕ → Type 0
-AreOthersQuiet modules parts number high = (q : ℕ) (p : Part) → q < high → slice_get parts q ≡ Some p → (q ≡ number → ⊥) → writes_at (slice_get modules p.module) ≡ false
 
 pub record IsWriter (modules : List Module) (parts : List Part) (q : ℕ) : Type 0 where
   pub part : Part
@@ -61,10 +54,10 @@ LacksDone signals = (x : ℕ) (s : Signal) → slice_get signals x ≡ Some s �
 abbrev pub IsRightNet : List Module → Type 0
 IsRightNet modules = (top : Module) → top_of modules ≡ Some top → IsRight modules top
 
--- a simulator of the net, in its initial state
-pub record IsOpened (modules : List Module) (prefs : ℕ) (r : Running) : Type 0 where
+-- a simulator of the net, in its initial state, for choices of a pref for each input `pref_k`
+pub record IsOpened (modules : List Module) (r : Running) : Type 0 where
   pub net : r.modules ≡ modules
-  pub prefs_are : r.prefs ≡ prefs
+  pub prefs_are : r.prefs ≡ prefs_of modules
   pub top : Module
   pub is_top : top_of modules ≡ Some top
   pub begins : IsSameIn modules top [] (initial_state modules top) (state_of r)
@@ -74,16 +67,9 @@ pub record IsOpened (modules : List Module) (prefs : ℕ) (r : Running) : Type 0
 -- words that stand for the net in its initial state
 pub record IsReady (r : Running) : Type 0 where
   pub stands : Stands r
+  pub prefs_are : r.prefs ≡ prefs_of r.modules
   pub begins : IsSameIn r.modules stands.top [] (initial_state r.modules stands.top) (state_of r)
   pub loopless : (p : Place) → Depends r.modules stands.top p p → ⊥
-
--- ---- why there is none
-
--- the module `top` has no signal `done`
-pub record HasNoDone (modules : List Module) : Type 0 where
-  pub top : Module
-  pub is_top : top_of modules ≡ Some top
-  pub lacks : LacksDone top.signals
 
 -- the instance at a path has a $write
 pub record Writes (modules : List Module) (top : Module) (path : Path) : Type 0 where
@@ -101,9 +87,18 @@ pub record HasPrinters (modules : List Module) : Type 0 where
   pub writes : Writes modules top path
   pub writes_too : Writes modules top other
 
+-- what `open` takes: the net has a module `top` with a signal `done`, its widths fit, one instance at most has a $write, and the
+-- inputs of `top` take each choice in which all threads are enabled and the prefs have 4 bits
+pub record IsOpenable (modules : List Module) : Type 0 where
+  pub top : Module
+  pub is_top : top_of modules ≡ Some top
+  pub right : IsRight modules top
+  pub printer : HasPrinters modules → ⊥
+  pub done : (x : ℕ) × (s : Signal) × IsSignal top (codes "done") x s
+  pub takes : TakesTurns modules top
+
+-- ---- why there is none
+
 abbrev pub IsCause : List Module → OpenError → Type 0
-IsCause modules errors.NoTop = top_of modules ≡ None
-IsCause modules errors.NoDone = HasNoDone modules
 IsCause modules (errors.Loop k x) = IsFirstLoop modules k x
-IsCause modules errors.Printers = HasPrinters modules
 IsCause modules errors.Memory = Unit {0}

@@ -1,11 +1,15 @@
 -- The choices of `top_rr`, a cycle at a time, and what a run under them is.
-use Rattle.std.specs.Prelude.{◌≡◌, ℕ, zero, suc, ◌%◌, ◌<◌, ◌≤◌, Bool, false, nat_eq, List, [], ◌∷◌, ◌++◌, replicate, Option, Some, None, slice_get, codes, if◌then◌else◌}
+use Rattle.std.specs.Prelude.{◌≡◌, ℕ, zero, suc, ◌%◌, ◌<◌, ◌≤◌, Bool, true, false, ◌&&◌, nat_eq, List, [], ◌∷◌, ◌++◌, replicate, Option, Some, None, slice_get, codes, if◌then◌else◌}
 use Rattle.std.specs.Str.{bytes_eq}
+use Rattle.netlist.specs.declared.netlist.Source.{Source}
+use Rattle.netlist.specs.declared.netlist.Source.TheVariants.{Input}
 use Rattle.netlist.specs.declared.netlist.Signal.{Signal}
 use Rattle.netlist.specs.declared.netlist.Module.{Module}
 use Rattle.verilog_meaning.specs.Names.{top_of}
 use Rattle.verilog_meaning.specs.Cycles.{Valuation, Choice, Runs, ShowsDone}
 use Rattle.verilog_meaning.specs.Threads.{all_enabled}
+use Rattle.circuit.specs.Nets.{FitsChoice}
+use Rattle.global_banks.specs.Banks.{behind, is_decimal}
 
 -- ---- the threads: the bits of the signal `en` of the outermost module
 
@@ -23,6 +27,32 @@ threads_of modules = enables (top_of modules)
 abbrev pub AreNarrowSignals : List Signal → Type 0
 AreNarrowSignals signals = (x : ℕ) (s : Signal) → slice_get signals x ≡ Some s → s.width ≤ 64
 
+-- ---- the arbiters: the inputs `pref_k` of the outermost module
+
+abbrev pub is_input : Source → Bool
+is_input Input = true
+is_input _ = false
+
+abbrev pub is_number : Option (List ℕ) → Bool
+is_number None = false
+is_number (Some digits) = is_decimal digits
+
+-- a name pref_k
+abbrev pub is_pref : List ℕ → Bool
+is_pref name = is_number (behind (codes "pref_") name)
+
+-- how many inputs have such a name
+abbrev pub pref_count : List Signal → ℕ
+pref_count [] = 0
+pref_count (s ∷ signals) = if is_input s.source && is_pref s.name then suc (pref_count signals) else pref_count signals
+
+abbrev pub prefs_in : Option Module → ℕ
+prefs_in None = 0
+prefs_in (Some top) = pref_count top.signals
+
+abbrev pub prefs_of : List Module → ℕ
+prefs_of modules = prefs_in (top_of modules)
+
 -- ---- the choices: in cycle k, from 0, all threads are enabled, and each of so many arbiters prefers thread k modulo 16
 
 abbrev pub round : ℕ → ℕ → ℕ → Choice
@@ -32,6 +62,10 @@ round threads prefs k = all_enabled threads (replicate prefs (k % 16))
 abbrev pub rounds : ℕ → ℕ → ℕ → List Choice
 rounds threads prefs zero = []
 rounds threads prefs (suc n) = rounds threads prefs n ++ round threads prefs n ∷ []
+
+-- their numbers fit: `en` has so many bits, and each pref has 4 bits or more
+abbrev pub TakesTurns : List Module → Module → Type 0
+TakesTurns modules top = (prefs preferred : ℕ) → preferred < 16 → FitsChoice modules top (all_enabled (threads_of modules) (replicate prefs preferred))
 
 module _ (modules : List Module) (top : Module) (threads : ℕ) where
   -- whether done is shown in a state, where all threads are enabled and each arbiter prefers thread 0

@@ -16,6 +16,7 @@ use Rattle.cycle_sim.specs.declared.settle.Choice as code
 use Rattle.cycle_sim.specs.declared.edge.Part.{Part}
 use Rattle.cycle_sim.specs.Flat.{Flat, AreNarrow, ArePrintable, settled, all_numbers, all_words}
 use Rattle.cycle_sim.specs.Stands.{place_of, word_of, valuation_of, IsPlan}
+use Rattle.cycle_sim.specs.Rounds.{TakesTurns}
 
 pub record Running : Type 0 where
   pub modules : List Module
@@ -97,6 +98,7 @@ pub record Stands (r : Running) : Type 0 where
   pub top : Module
   pub is_top : top_of r.modules ≡ Some top
   pub right : IsRight r.modules top
+  pub takes : TakesTurns r.modules top
   pub free : List Bool
   pub plan : IsPlan r.modules top r.parts r.steps free r.prefs (length r.numbers)
   pub apart : IsApart r.modules top r.parts r.starts (length r.numbers) (length r.words)

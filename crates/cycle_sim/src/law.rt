@@ -1,8 +1,8 @@
-// A law of nets that can be opened.
+// Laws of nets that can be opened.
 
-ghost use Rattle.cycle_sim.specs.Right.{RightOfSound, OnePrinterOfSound, ThreadsOfSound};
+ghost use Rattle.cycle_sim.specs.Right.{RightOfSound, OnePrinterOfSound, OpenableOfSound, ThreadsOfSound};
 
-/// A sound netlist can be opened: each of its widths fits.
+/// In a sound netlist each width fits.
 pub fn right_of_sound()
     ensures { RightOfSound }
 {}
@@ -15,4 +15,9 @@ pub fn one_printer_of_sound()
 /// In a sound netlist there are as many threads as the signal `en` of its outermost module has bits.
 pub fn threads_of_sound()
     ensures { ThreadsOfSound }
+{}
+
+/// A sound netlist can be opened where its outermost module has a signal `done` and where its inputs `pref_k` have 4 bits or more.
+pub fn openable_of_sound()
+    ensures { OpenableOfSound }
 {}

@@ -13,4 +13,5 @@ pub mod settle;
 pub mod sim;
 pub mod tree;
 pub mod value;
+pub mod waits;
 pub mod wires;

@@ -1,16 +1,15 @@
-// The outermost module, and the module that writes.
+// The outermost module: its number, its output `done`, its threads and its arbiters.
 
-ghost use Rattle.std.specs.Prelude.{◌≡◌, ◌-◌, ◌^◌, ◌≤◌, false, None, MatchOption, IsTrue, length, slice_get, codes};
+ghost use Rattle.std.specs.Prelude.{◌≡◌, ◌-◌, ◌^◌, ◌≤◌, false, None, MatchOption, IsTrue, codes};
 ghost use Rattle.std.specs.Str.{bytes_eq};
 ghost use Rattle.verilog_meaning.specs.Names.{top_of};
-ghost use Rattle.netlist.specs.Sound.{is_write};
-ghost use Rattle.cycle_sim.specs.Running.{some_write};
-ghost use Rattle.cycle_sim.specs.Opened.{writes_at, AreQuiet, AreOthersQuiet, IsWriter, IsOne, AreTwo, IsTopNumber, IsDoneNumber, LacksDone};
+ghost use Rattle.cycle_sim.specs.Opened.{IsTopNumber, IsDoneNumber, LacksDone};
+ghost use Rattle.cycle_sim.specs.Rounds as rounds;
 ghost use Rattle.cycle_sim.specs.Rounds.{enable_width, AreNarrowSignals};
 
-use crate::edge::Part;
-use netlist::netlist::{Action, Effect, Module, Signal};
-use sqlite_items::at;
+use global_banks::names::{behind, is_decimal};
+use netlist::netlist::{Module, Signal, Source};
+use verilog_tree::name::Identifier;
 
 fn is_top(module: &Module) -> bool
     ensures { result ≡ bytes_eq (codes "top") module.now.name }
@@ -30,70 +29,6 @@ pub fn top_number(modules: &[Module]) -> Option<usize>
     None
 }
 
-fn is_writing(effect: &Effect) -> bool
-    ensures { result ≡ is_write effect.now }
-{
-    matches!(effect, Effect::Write { .. })
-}
-
-fn some_writes(actions: &[Action]) -> bool
-    ensures { result ≡ some_write actions.now }
-{
-    for action in actions {
-        if is_writing(&action.effect) {
-            return true;
-        }
-    }
-    false
-}
-
-fn kind_writes(modules: &[Module], number: usize) -> bool
-    ensures { result ≡ writes_at (slice_get modules.now number) }
-{
-    match at(modules, number) {
-        Some(module) => some_writes(module.actions.as_slice()),
-        None => false,
-    }
-}
-
-/// The place of the first part with a `$write`.
-fn first_writer(modules: &[Module], parts: &[Part]) -> Option<usize>
-    ensures { MatchOption result (AreQuiet modules.now parts.now 0 (length parts.now)) (IsWriter modules.now parts.now) }
-{
-    for number in 0..parts.len() {
-        if kind_writes(modules, parts[number].module) {
-            return Some(number);
-        }
-    }
-    None
-}
-
-/// The place of the first part with a `$write` that is not the one at a place.
-fn other_writer(modules: &[Module], parts: &[Part], place: usize) -> Option<usize>
-    ensures { MatchOption result (AreOthersQuiet modules.now parts.now place (length parts.now)) (λ q. IsWriter modules.now parts.now q × (q ≡ place → ⊥)) }
-{
-    for number in 0..parts.len() {
-        if number != place {
-            if kind_writes(modules, parts[number].module) {
-                return Some(number);
-            }
-        }
-    }
-    None
-}
-
-/// Whether two parts have a `$write`.
-#[tactic(auto, using(crate::proofs::Writers::one_from_quiet, crate::proofs::Writers::one_from_others, crate::proofs::Writers::two_from_writers))]
-pub fn two_write(modules: &[Module], parts: &[Part]) -> bool
-    ensures one { result ≡ false → IsOne modules.now parts.now }
-    ensures two { IsTrue result → AreTwo modules.now parts.now }
-{
-    match first_writer(modules, parts) {
-        Some(first) => other_writer(modules, parts, first).is_some(),
-        None => false,
-    }
-}
-
 fn is_done(signal: &Signal) -> bool
     ensures named { IsTrue result → signal.now.name ≡ codes "done" }
     ensures other { result ≡ false → signal.now.name ≡ codes "done" → ⊥ }
@@ -101,8 +36,8 @@ fn is_done(signal: &Signal) -> bool
     signal.name.as_str() == "done"
 }
 
-/// The number of the signal `done`.
-pub fn done_number(signals: &[Signal]) -> Option<usize>
+/// The number of the first signal `done`.
+fn first_done(signals: &[Signal]) -> Option<usize>
     ensures { MatchOption result (LacksDone signals.now) (IsDoneNumber signals.now) }
 {
     for number in 0..signals.len() {
@@ -111,6 +46,17 @@ pub fn done_number(signals: &[Signal]) -> Option<usize>
         }
     }
     None
+}
+
+/// The number of the signal `done`, where there is one.
+pub fn done_number(signals: &[Signal]) -> usize
+    requires { LacksDone signals.now → ⊥ }
+    ensures { IsDoneNumber signals.now result }
+{
+    match first_done(signals) {
+        Some(number) => number,
+        None => unreachable!(),
+    }
 }
 
 fn is_enable(signal: &Signal) -> bool
@@ -138,4 +84,32 @@ pub fn enable_mask(signals: &[Signal]) -> u64
         }
     }
     0
+}
+
+fn is_pref(name: &Identifier) -> bool
+    ensures { result ≡ rounds.is_pref name.now }
+{
+    match behind("pref_".as_bytes(), name.as_str().as_bytes()) {
+        Some(digits) => is_decimal(digits),
+        None => false,
+    }
+}
+
+fn is_input(source: &Source) -> bool
+    ensures { result ≡ rounds.is_input source.now }
+{
+    matches!(source, Source::Input)
+}
+
+/// How many inputs have a name `pref_k`.
+pub fn pref_count(signals: &[Signal]) -> usize
+    ensures { result ≡ rounds.pref_count signals.now }
+{
+    let mut count = 0;
+    for signal in signals {
+        if is_input(&signal.source) && is_pref(&signal.name) {
+            count += 1;
+        }
+    }
+    count
 }

@@ -1,16 +1,29 @@
 // An order of the steps in which each reads only what is known.
 
-ghost use Rattle.std.specs.Prelude.{◌≡◌, ℕ, ◌+◌, ◌<◌, ◌≤◌, ◌⊎◌, true, false, length, map, slice_get, slice_index_or, IfOk, MatchOption, OnOk, IsTrue};
+ghost use Rattle.std.specs.Prelude.{◌≡◌, ℕ, ◌+◌, ◌<◌, ◌≤◌, ◌++◌, ◌∷◌, [], true, false, length, map, slice_get, slice_set, slice_index_or, Some, IfOk, MatchOption, OnOk, IsTrue};
 ghost use Rattle.cycle_sim.specs.declared.settle.Step.{Step as Stepping};
 ghost use Rattle.verilog_meaning.specs.Threads.{operands};
 ghost use Rattle.cycle_sim.specs.Flat.{EachOf};
-ghost use Rattle.cycle_sim.specs.Order.{reads, module_reads, signal_reads, source_reads, IsMarked, IsClear, SomeOf, Takes, IsPartial, IsOrder};
-ghost use Rattle.cycle_sim.specs.Order.{IsHeld, AreHeld, IsLeft, IsStuck};
+ghost use Rattle.cycle_sim.specs.Order.{reads, module_reads, signal_reads, source_reads, IsMarked, IsClear, SomeOf, Takes, IsOrder};
+ghost use Rattle.cycle_sim.specs.Order.{AreHeld, IsLeft, IsStuck};
+ghost use Rattle.cycle_sim.specs.Waits.{IsWaiting, IsListed};
+ghost use Rattle.cycle_sim.specs.Growing.{IsUnmet, IsBlocked, IsGrowing};
 
 use crate::settle::{Feed, Step};
+use crate::waits::{Waits, no_waits, wait_for, wake};
 use netlist::netlist::{Module, Source, Value};
 use sqlite_items::at;
 use std::alloc::{AllocError, Global};
+
+/// An order while it grows: the words that are known, the steps that are taken, those that wait for a word that is not known,
+/// and the numbers of those that are to be looked at, one after the other.
+#[derive(Drop)]
+pub struct Growth {
+    pub marks: Vec<bool>,
+    pub taken: Vec<Step>,
+    pub waits: Waits,
+    pub looks: Vec<usize>,
+}
 
 fn is_marked(marks: &[bool], base: usize, signal: usize) -> bool
     ensures { result ≡ slice_index_or marks.now (base + signal) false }
@@ -21,175 +34,213 @@ fn is_marked(marks: &[bool], base: usize, signal: usize) -> bool
     }
 }
 
-fn are_marked(marks: &[bool], base: usize, signals: &[usize]) -> bool
-    ensures ready { IsTrue result → EachOf (IsMarked marks.now) (map (λ y. base + y) signals.now) }
-    ensures blocked { result ≡ false → SomeOf (IsClear marks.now) (map (λ y. base + y) signals.now) }
+/// The first word of these, which stand from a base on, that is not known. None: all are.
+fn unmet_among(marks: &[bool], base: usize, signals: &[usize]) -> Option<usize>
+    ensures { MatchOption result (EachOf (IsMarked marks.now) (map (λ y. base + y) signals.now)) (IsUnmet marks.now (map (λ y. base + y) signals.now)) }
 {
     for signal in signals {
         if !is_marked(marks, base, *signal) {
-            return false;
+            return Some(base.saturating_add(*signal));
         }
     }
-    true
+    None
 }
 
-fn are_both_marked(marks: &[bool], base: usize, left: usize, right: usize) -> bool
-    ensures left { IsTrue result → IsMarked marks.now (base + left) }
-    ensures right { IsTrue result → IsMarked marks.now (base + right) }
-    ensures blocked { result ≡ false → IsClear marks.now (base + left) ⊎ IsClear marks.now (base + right) }
-{
-    is_marked(marks, base, left) && is_marked(marks, base, right)
-}
-
-fn is_value_ready(marks: &[bool], base: usize, value: &Value) -> bool
-    ensures ready { IsTrue result → EachOf (IsMarked marks.now) (map (λ y. base + y) (operands value.now)) }
-    ensures blocked { result ≡ false → SomeOf (IsClear marks.now) (map (λ y. base + y) (operands value.now)) }
+fn unmet_operand(marks: &[bool], base: usize, value: &Value) -> Option<usize>
+    ensures { MatchOption result (EachOf (IsMarked marks.now) (map (λ y. base + y) (operands value.now))) (IsUnmet marks.now (map (λ y. base + y) (operands value.now))) }
 {
     match value {
-        Value::Constant(_) => true,
+        Value::Constant(_) => None,
         Value::Copy(of)
         | Value::BitwiseNot(of)
         | Value::Select { of, .. }
-        | Value::Replication { of, .. } => is_marked(marks, base, *of),
-        Value::MemoryRead { address, .. } => is_marked(marks, base, *address),
+        | Value::Replication { of, .. } => unmet_among(marks, base, &[*of]),
+        Value::MemoryRead { address, .. } => unmet_among(marks, base, &[*address]),
         Value::Binary { left, right, .. }
         | Value::SignedLess { left, right }
         | Value::ArithmeticShiftRight { left, right }
         | Value::Division { left, right, .. }
-        | Value::SignedDivision { left, right, .. } => are_both_marked(marks, base, *left, *right),
+        | Value::SignedDivision { left, right, .. } => unmet_among(marks, base, &[*left, *right]),
         Value::Conditional {
             condition,
             if_true,
             if_false,
-        } => {
-            is_marked(marks, base, *condition) && are_both_marked(marks, base, *if_true, *if_false)
-        }
-        Value::Concatenation(parts) => are_marked(marks, base, parts.as_slice()),
+        } => unmet_among(marks, base, &[*condition, *if_true, *if_false]),
+        Value::Concatenation(parts) => unmet_among(marks, base, parts.as_slice()),
     }
 }
 
-fn is_source_ready(marks: &[bool], base: usize, source: &Source) -> bool
-    ensures ready { IsTrue result → EachOf (IsMarked marks.now) (source_reads base source.now) }
-    ensures blocked { result ≡ false → SomeOf (IsClear marks.now) (source_reads base source.now) }
+fn unmet_of(marks: &[bool], base: usize, source: &Source) -> Option<usize>
+    ensures { MatchOption result (EachOf (IsMarked marks.now) (source_reads base source.now)) (IsUnmet marks.now (source_reads base source.now)) }
 {
     match source {
-        Source::Assigned(value) => is_value_ready(marks, base, value),
-        Source::Input | Source::Register(_) | Source::Port { .. } => true,
+        Source::Assigned(value) => unmet_operand(marks, base, value),
+        Source::Input | Source::Register(_) | Source::Port { .. } => None,
     }
 }
 
-fn is_signal_ready(marks: &[bool], base: usize, module: &Module, signal: usize) -> bool
-    ensures ready { IsTrue result → EachOf (IsMarked marks.now) (signal_reads base (slice_get module.now.signals signal)) }
-    ensures blocked { result ≡ false → SomeOf (IsClear marks.now) (signal_reads base (slice_get module.now.signals signal)) }
+fn unmet_signal(marks: &[bool], base: usize, module: &Module, signal: usize) -> Option<usize>
+    ensures { MatchOption result (EachOf (IsMarked marks.now) (signal_reads base (slice_get module.now.signals signal)))
+        (IsUnmet marks.now (signal_reads base (slice_get module.now.signals signal))) }
 {
     match at(module.signals.as_slice(), signal) {
-        Some(found) => is_source_ready(marks, base, &found.source),
-        None => true,
+        Some(found) => unmet_of(marks, base, &found.source),
+        None => None,
     }
 }
 
-fn is_computed_ready(
+fn unmet_computed(
     marks: &[bool],
     base: usize,
     modules: &[Module],
     number: usize,
     signal: usize,
-) -> bool
-    ensures ready { IsTrue result → EachOf (IsMarked marks.now) (module_reads base signal (slice_get modules.now number)) }
-    ensures blocked { result ≡ false → SomeOf (IsClear marks.now) (module_reads base signal (slice_get modules.now number)) }
+) -> Option<usize>
+    ensures { MatchOption result (EachOf (IsMarked marks.now) (module_reads base signal (slice_get modules.now number)))
+        (IsUnmet marks.now (module_reads base signal (slice_get modules.now number))) }
 {
     match at(modules, number) {
-        Some(module) => is_signal_ready(marks, base, module, signal),
-        None => true,
+        Some(module) => unmet_signal(marks, base, module, signal),
+        None => None,
     }
 }
 
-/// Whether all that a feed reads is marked.
-pub fn is_ready(marks: &[bool], modules: &[Module], feed: Feed) -> bool
-    ensures ready { IsTrue result → EachOf (IsMarked marks.now) (reads modules.now feed) }
-    ensures blocked { result ≡ false → SomeOf (IsClear marks.now) (reads modules.now feed) }
+/// The first word that a feed reads and that is not known. None: all are.
+fn unmet(marks: &[bool], modules: &[Module], feed: Feed) -> Option<usize>
+    ensures { MatchOption result (EachOf (IsMarked marks.now) (reads modules.now feed)) (IsUnmet marks.now (reads modules.now feed)) }
 {
     match feed {
-        Feed::Zero | Feed::Enables | Feed::Preferred(_) => true,
-        Feed::Copied(from) => is_marked(marks, 0, from),
+        Feed::Zero | Feed::Enables | Feed::Preferred(_) => None,
+        Feed::Copied(from) => unmet_among(marks, 0, &[from]),
         Feed::Computed {
             module,
             signal,
             spot,
-        } => is_computed_ready(marks, spot.base, modules, module, signal),
+        } => unmet_computed(marks, spot.base, modules, module, signal),
     }
 }
 
-/// Takes a step that is new and reads only what is known.
-fn visit(
+/// Whether all that a feed reads is marked.
+#[tactic(auto, using(crate::proofs::Growing::unmet_blocks))]
+pub fn is_ready(marks: &[bool], modules: &[Module], feed: Feed) -> bool
+    ensures ready { IsTrue result → EachOf (IsMarked marks.now) (reads modules.now feed) }
+    ensures blocked { result ≡ false → SomeOf (IsClear marks.now) (reads modules.now feed) }
+{
+    match unmet(marks, modules, feed) {
+        Some(_) => false,
+        None => true,
+    }
+}
+
+/// Takes a step: its target is known from then on, and the steps that wait for it are to be looked at again.
+fn take(growth: &mut Growth, wire: Step) -> Result<(), AllocError>
+    requires { wire.target < length growth.old.marks.items }
+    ensures marks { OnOk result (growth.new.marks.items ≡ slice_set growth.old.marks.items wire.target true) }
+    ensures taken { OnOk result (growth.new.taken.items ≡ growth.old.taken.items ++ wire ∷ []) }
+    ensures waits { OnOk result (growth.new.waits ≡ growth.old.waits) }
+    ensures woken { OnOk result ((k : ℕ) → IsWaiting growth.old.waits.last.items growth.old.waits.chain.items wire.target k
+        → IsListed (length growth.old.looks.items) growth.new.looks.items k) }
+    ensures keeps { OnOk result ((from k : ℕ) → IsListed from growth.old.looks.items k → IsListed from growth.new.looks.items k) }
+{
+    growth.taken.push(wire)?;
+    growth.marks[wire.target] = true;
+    wake(&growth.waits, wire.target, &mut growth.looks)
+}
+
+/// Takes a step where it reads only what is known; else it waits for a word that it reads.
+#[tactic(auto, using(crate::proofs::Growing::grown_known))]
+fn look(
+    growth: &mut Growth,
     modules: &[Module],
     wires: &[Step],
     free: &[bool],
+    place: usize,
     number: usize,
-    marks: &mut [bool],
-    done: &mut Vec<Step>,
 ) -> Result<(), AllocError>
+    requires growing { IsGrowing modules.now wires.now free.now place growth.old }
+    requires listed { slice_get growth.old.looks.items place ≡ Some number }
     requires number { number < length wires.now }
-    requires partial { IsPartial modules.now wires.now free.now marks.old done.old.items }
-    ensures partial { OnOk result (IsPartial modules.now wires.now free.now marks.new done.new.items) }
-    ensures more { OnOk result (length done.old.items ≤ length done.new.items) }
-    ensures marks { OnOk result (length done.new.items ≡ length done.old.items → marks.new ≡ marks.old) }
-    ensures held { OnOk result (length done.new.items ≡ length done.old.items → (s : Stepping) → slice_get wires.now number ≡ Some s → IsHeld modules.now marks.new s) }
+    ensures { OnOk result (IsGrowing modules.now wires.now free.now (place + 1) growth.new) }
 {
     let wire = wires[number];
-    if wire.target >= marks.len() {
+    if is_marked(growth.marks.as_slice(), 0, wire.target) || wire.target >= growth.marks.len() {
         return Ok(());
     }
-    if marks[wire.target] {
-        return Ok(());
+    match unmet(growth.marks.as_slice(), modules, wire.feed) {
+        Some(word) => wait_for(&mut growth.waits, number, word)?,
+        None => take(growth, wire)?,
     }
-    if !is_ready(marks, modules, wire.feed) {
-        return Ok(());
-    }
-    done.push(wire)?;
-    marks[wire.target] = true;
     Ok(())
 }
 
-/// One pass over the steps.
-fn pass(
+/// Looks at the step whose number stands at a place.
+#[tactic(auto, using(crate::proofs::Growing::grown_past))]
+fn look_at(
+    growth: &mut Growth,
     modules: &[Module],
     wires: &[Step],
     free: &[bool],
-    marks: &mut [bool],
-    done: &mut Vec<Step>,
+    place: usize,
 ) -> Result<(), AllocError>
-    requires { IsPartial modules.now wires.now free.now marks.old done.old.items }
-    ensures partial { OnOk result (IsPartial modules.now wires.now free.now marks.new done.new.items) }
-    ensures held { OnOk result (length done.new.items ≡ length done.old.items → AreHeld modules.now wires.now marks.new (length wires.now)) }
+    requires growing { IsGrowing modules.now wires.now free.now place growth.old }
+    requires place { place < length growth.old.looks.items }
+    ensures { OnOk result (IsGrowing modules.now wires.now free.now (place + 1) growth.new) }
 {
-    for number in 0..wires.len() {
-        visit(modules, wires, free, number, marks, done)?;
+    let number = growth.looks[place];
+    if number < wires.len() {
+        look(growth, modules, wires, free, place, number)
+    } else {
+        Ok(())
     }
-    Ok(())
 }
 
-/// Passes as long as one takes a step.
+/// Looks at steps as long as there are any.
 fn grow(
+    growth: &mut Growth,
     modules: &[Module],
     wires: &[Step],
     free: &[bool],
-    marks: &mut [bool],
-    done: &mut Vec<Step>,
 ) -> Result<(), AllocError>
-    requires { IsPartial modules.now wires.now free.now marks.old done.old.items }
-    ensures partial { OnOk result (IsPartial modules.now wires.now free.now marks.new done.new.items) }
-    ensures held { OnOk result (AreHeld modules.now wires.now marks.new (length wires.now)) }
+    requires { IsGrowing modules.now wires.now free.now 0 growth.old }
+    ensures growing { OnOk result (IsGrowing modules.now wires.now free.now (length growth.new.looks.items) growth.new) }
+    ensures held { OnOk result (AreHeld modules.now wires.now growth.new.marks.items (length wires.now)) }
 {
-    // Each pass but the last takes a step, so memory ends before the turns do.
-    for _turn in 0..usize::MAX {
-        let before = done.len();
-        pass(modules, wires, free, marks, done)?;
-        if done.len() == before {
+    // Each wait is for another word that the step reads, so memory ends before the turns do.
+    for place in 0..usize::MAX {
+        if place >= growth.looks.len() {
             return Ok(());
         }
+        look_at(growth, modules, wires, free, place)?;
     }
     Err(AllocError)
+}
+
+/// The numbers below one.
+fn numbers_below(alloc: Global, count: usize) -> Result<Vec<usize>, AllocError>
+    ensures { IfOk result (λ v. (k : ℕ) → k < count → slice_get v.items k ≡ Some k) }
+{
+    let mut numbers = Vec::with_capacity(alloc, count)?;
+    for number in 0..count {
+        numbers.push(number)?;
+    }
+    Ok(numbers)
+}
+
+/// No step is taken, and each is to be looked at.
+fn growth_of(
+    alloc: Global,
+    modules: &[Module],
+    wires: &[Step],
+    free: &[bool],
+) -> Result<Growth, AllocError>
+    ensures { IfOk result (IsGrowing modules.now wires.now free.now 0) }
+{
+    Ok(Growth {
+        marks: Vec::from_slice(alloc, free)?,
+        taken: Vec::with_capacity(alloc, wires.len())?,
+        waits: no_waits(alloc, free.len())?,
+        looks: numbers_below(alloc, wires.len())?,
+    })
 }
 
 /// The number of a step whose target is not known.
@@ -204,29 +255,9 @@ fn clear_target(marks: &[bool], wires: &[Step]) -> Option<usize>
     None
 }
 
-/// Takes all steps that can be taken. Whether these are all.
-#[tactic(auto, using(crate::proofs::Orders::order_whole, crate::proofs::Orders::order_stuck))]
-fn take_all(
-    modules: &[Module],
-    wires: &[Step],
-    free: &[bool],
-    marks: &mut [bool],
-    done: &mut Vec<Step>,
-) -> Result<bool, AllocError>
-    requires { IsPartial modules.now wires.now free.now marks.old done.old.items }
-    ensures order { IfOk result (λ whole. whole ≡ true → IsOrder modules.now wires.now free.now done.new.items) }
-    ensures stuck { IfOk result (λ whole. whole ≡ false → IsStuck modules.now wires.now free.now) }
-{
-    grow(modules, wires, free, marks, done)?;
-    match clear_target(marks, wires) {
-        Some(_) => Ok(false),
-        None => Ok(true),
-    }
-}
-
 /// Orders the steps, where the places that `free` marks are known before the first. None: none can be taken any more,
 /// though not all are.
-#[tactic(auto, using(crate::proofs::Orders::partial_none))]
+#[tactic(auto, using(crate::proofs::Orders::order_whole, crate::proofs::Orders::order_stuck))]
 pub fn order(
     alloc: Global,
     modules: &[Module],
@@ -235,11 +266,10 @@ pub fn order(
 ) -> Result<Option<Vec<Step>>, AllocError>
     ensures { IfOk result (λ o. MatchOption o (IsStuck modules.now wires.now free.now) (λ v. IsOrder modules.now wires.now free.now v.items)) }
 {
-    let mut marks = Vec::from_slice(alloc, free)?;
-    let mut done = Vec::with_capacity(alloc, wires.len())?;
-    if take_all(modules, wires, free, marks.as_mut_slice(), &mut done)? {
-        Ok(Some(done))
-    } else {
-        Ok(None)
+    let mut growth = growth_of(alloc, modules, wires, free)?;
+    grow(&mut growth, modules, wires, free)?;
+    match clear_target(growth.marks.as_slice(), wires) {
+        Some(_) => Ok(None),
+        None => Ok(Some(growth.taken)),
     }
 }

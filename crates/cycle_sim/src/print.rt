@@ -203,7 +203,8 @@ fn put_action(
     ensures ok { OnOk result (out.new ≡ out.old ++ (if is_on (reading spot (flat_of now.now)) action.now.conditions
         then effect_bytes «module».now (reading spot (flat_of now.now)) action.now.effect else [])) }
     ensures kept { Keeps out.old out.new }
-    ensures prints { OnErr result (IsSomething (if is_on (reading spot (flat_of now.now)) action.now.conditions then effect_bytes «module».now (reading spot (flat_of now.now)) action.now.effect else [])) }
+    ensures prints { OnErr result
+        (IsSomething (if is_on (reading spot (flat_of now.now)) action.now.conditions then effect_bytes «module».now (reading spot (flat_of now.now)) action.now.effect else [])) }
 {
     if conditions_hold(spot, now, action.conditions.as_slice()) {
         put_effect(out, module, spot, now, &action.effect)

@@ -6,10 +6,10 @@ ghost use Rattle.cycle_sim.specs.declared.sim.OpenError.TheVariants as errors;
 ghost use Rattle.cycle_sim.specs.Order.{IsStuck};
 ghost use Rattle.cycle_sim.specs.Wires.{signals_of, AreWires};
 ghost use Rattle.cycle_sim.specs.LaidOut.{IsPlacedNet};
-ghost use Rattle.cycle_sim.specs.Opened.{IsOpened, IsReady, IsRightNet, IsTopNumber, IsCause};
+ghost use Rattle.cycle_sim.specs.Opened.{IsOpened, IsOpenable, IsReady, IsTopNumber, IsCause};
 ghost use Rattle.verilog_meaning.specs.Cycles.{Choice as Choosing};
 ghost use Rattle.verilog_meaning.specs.Threads.{all_enabled};
-ghost use Rattle.cycle_sim.specs.Rounds.{threads_of};
+ghost use Rattle.cycle_sim.specs.Rounds.{threads_of, prefs_of};
 ghost use Rattle.verilog_meaning.specs.Names.{top_of};
 ghost use Rattle.cycle_sim.specs.Globals.{element_at, global_of, global_word, IsWord};
 ghost use Rattle.cycle_sim.specs.Lockstep.{TakesRounds, AreRounds, IsLockstep, IsCutOff};
@@ -20,7 +20,7 @@ ghost use Rattle.cycle_sim.specs.Print.{IsSomething};
 use crate::edge::{Part, edge_numbers, edge_words, inner_spot, kind_at_root};
 use crate::given::roots;
 use crate::loops::first_loop;
-use crate::net::{done_number, enable_mask, top_number, two_write};
+use crate::net::{done_number, enable_mask, pref_count, top_number};
 use crate::order::order;
 use crate::place::{Placed, place};
 use crate::print::put_written;
@@ -189,7 +189,6 @@ impl<'a> Sim<'a> {
 
     /// Whether the output `done` is 1 where all threads are enabled and each arbiter prefers thread 0. The state stays.
     pub fn done(&mut self) -> bool
-        requires { Fits self.old (all_enabled (threads_of self.old.modules) []) }
         ensures net { IsSameNet self.old self.new }
         ensures done { TellsDone (all_enabled (threads_of self.old.modules) []) self.old result }
         ensures state { IsSameState self.old self.new }
@@ -200,7 +199,8 @@ impl<'a> Sim<'a> {
 
     /// The choice of all threads, in which each arbiter prefers thread 0.
     pub fn all_enabled(&self) -> Choice
-        ensures { choice_of result ≡ all_enabled (threads_of self.now.modules) [] }
+        ensures choice { choice_of result ≡ all_enabled (threads_of self.now.modules) [] }
+        ensures takes { TakesRounds self.now }
     {
         Choice {
             en: self.mask,
@@ -282,7 +282,6 @@ impl<'a> Sim<'a> {
     /// enabled, and each arbiter prefers thread k modulo 16. What they write is appended to `out`. At `Err` some whole cycles
     /// have run, and what they wrote stands in `out`.
     pub fn lockstep(&mut self, cycles: u32, out: &mut Bytes) -> Result<u32, AllocError>
-        requires { TakesRounds self.old }
         ensures ok { IfOk result (λ n. IsLockstep self.old self.new cycles n out.old out.new) }
         ensures cut { OnErr result (IsCutOff self.old self.new cycles out.old out.new) }
     {
@@ -315,16 +314,10 @@ fn choice_at(choices: &[Choice], number: usize) -> &Choice
 /// Why a net has no simulator.
 #[derive(Clone, Copy, Debug, PartialEq, Eq, Error)]
 pub enum OpenError {
-    #[error("no module top")]
-    NoTop,
-    #[error("no output done")]
-    NoDone,
     /// The first signal that depends on itself, by the number of its module and its own: in the order of the module's
     /// signals, those of a module before those of its instances.
     #[error("signal {signal} of module {module} depends on itself")]
     Loop { module: usize, signal: usize },
-    #[error("more than one instance with a $write")]
-    Printers,
     #[error("out of memory")]
     Memory,
 }
@@ -381,42 +374,33 @@ fn loop_of(
 }
 
 impl<'a> Sim<'a> {
-    /// A simulator of a net in its initial state, for choices of at most `prefs` prefs. There is one exactly where the net
-    /// has a module `top` with a signal `done`, no signal depends on itself, and at most one instance has a `$write`.
-    pub fn open(alloc: Global, modules: &'a [Module], prefs: usize) -> Result<Self, OpenError>
-        requires { IsRightNet modules.now }
-        ensures ok { IfOk result (IsOpened modules.entry.now prefs) }
+    /// A simulator of a net in its initial state. There is one exactly where no signal depends on itself. Its choices have at most
+    /// as many prefs as `top` has inputs `pref_k`.
+    pub fn open(alloc: Global, modules: &'a [Module]) -> Result<Self, OpenError>
+        requires { IsOpenable modules.now }
+        ensures ok { IfOk result (IsOpened modules.entry.now) }
         ensures cause { IfErr result (IsCause modules.entry.now) }
     {
         match top_number(modules) {
-            Some(top) => Sim::open_at(alloc, modules, top, prefs),
-            None => Err(OpenError::NoTop),
+            Some(top) => Sim::open_at(alloc, modules, top),
+            None => unreachable!(),
         }
     }
 
-    fn open_at(
-        alloc: Global,
-        modules: &'a [Module],
-        top: usize,
-        prefs: usize,
-    ) -> Result<Self, OpenError>
-        requires right { IsRightNet modules.now }
+    fn open_at(alloc: Global, modules: &'a [Module], top: usize) -> Result<Self, OpenError>
+        requires openable { IsOpenable modules.now }
         requires top { IsTopNumber modules.now top }
-        ensures ok { IfOk result (IsOpened modules.entry.now prefs) }
+        ensures ok { IfOk result (IsOpened modules.entry.now) }
         ensures cause { IfErr result (IsCause modules.entry.now) }
     {
+        let signals = module_signals(modules, top);
+        let prefs = pref_count(signals);
+        let mask = enable_mask(signals);
         let tree = tree_of(alloc, modules, top)?;
         let placed = place(alloc, modules, &tree)?;
         let base = base_at(placed.parts.as_slice(), 0);
+        let done = further(base, done_number(signals))?;
         let wires = wires_of(alloc, modules, top, base, placed.parts.as_slice(), prefs)?;
-        if two_write(modules, placed.parts.as_slice()) {
-            return Err(OpenError::Printers);
-        }
-        let Some(number) = done_number(module_signals(modules, top)) else {
-            return Err(OpenError::NoDone);
-        };
-        let done = further(base, number)?;
-        let mask = enable_mask(module_signals(modules, top));
         match order(alloc, modules, wires.as_slice(), placed.free.as_slice())? {
             Some(steps) => Sim::built(alloc, modules, placed, steps, prefs, done, mask),
             None => Err(loop_of(alloc, modules, &placed, wires.as_slice())?),
@@ -434,7 +418,7 @@ impl<'a> Sim<'a> {
     ) -> Result<Self, OpenError>
         requires ready { IsReady (running modules.now placed.parts.items steps.items placed.numbers.items placed.words.items placed.starts.items prefs done) }
         requires mask { mask ≡ 2 ^ threads_of modules.now - 1 }
-        ensures ok { IfOk result (IsOpened modules.entry.now prefs) }
+        ensures ok { IfOk result (IsOpened modules.entry.now) }
         ensures cause { IfErr result (λ e. e ≡ errors.Memory) }
     {
         let next = vec![in alloc; 0u64; placed.numbers.len()]?;

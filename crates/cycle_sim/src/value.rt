@@ -1,18 +1,14 @@
 // The value of a right side in one instance.
 
-ghost use Rattle.std.specs.Prelude.{◌≡◌, ℕ, ◌+◌, ◌-◌, ◌*◌, ◌/◌, ◌%◌, ◌^◌, ◌<◌, ◌≤◌, nat_lt, if◌then◌else◌, slice_index, slice_get, length};
+ghost use Rattle.std.specs.Prelude.{◌≡◌, ◌+◌, nat_lt, if◌then◌else◌, slice_index, slice_get};
 ghost use Rattle.hls_ints.specs.Words.{word};
-ghost use Rattle.verilog_meaning.specs.Readings.{width, value as value_of, binary, divided, signed_divided, joined, repeated, memory_words};
-ghost use Rattle.verilog_meaning.specs.Threads.{operands};
-ghost use Rattle.cycle_sim.specs.Flat.{Flat, flat_of, reading, EachOf, IsWide, IsNarrow, HasRoom};
+ghost use Rattle.verilog_meaning.specs.Readings.{width, value as value_of, joined, memory_words};
+ghost use Rattle.cycle_sim.specs.Flat.{flat_of, reading, EachOf, IsWide, IsNarrow};
 
-use hls_ints::{
-    v_add, v_and, v_div, v_equal, v_less, v_mul, v_not, v_or, v_rem, v_sar, v_sdiv, v_shl, v_shr,
-    v_sless, v_srem, v_sub, v_xor,
-};
-use netlist::netlist::{Memory, Module, Value};
+use hls_ints::{v_not, v_sar, v_sless};
+use netlist::netlist::{Module, Value};
 use sqlite_items::at;
-use verilog_tree::tree::{BinaryOperator, DivisionOperator};
+use verilog_value::operators::{beside, binary, divided, repeated, selected, signed_divided};
 
 /// Where an instance stands: its signals from word `base` on, its memories from memory `memories` on.
 #[derive(Clone, Copy, Debug, PartialEq, Eq)]
@@ -79,64 +75,6 @@ pub fn width_at(module: &Module, signal: usize) -> u32
     }
 }
 
-fn binary_at(operator: BinaryOperator, width: u32, left: u64, right: u64) -> u64
-    requires low { 1 ≤ width }
-    requires high { width ≤ 64 }
-    ensures { result ≡ binary operator width left right }
-{
-    match operator {
-        BinaryOperator::Add => v_add(width, left, right),
-        BinaryOperator::Subtract => v_sub(width, left, right),
-        BinaryOperator::Multiply => v_mul(width, left, right),
-        BinaryOperator::And => v_and(width, left, right),
-        BinaryOperator::Or => v_or(width, left, right),
-        BinaryOperator::Xor => v_xor(width, left, right),
-        BinaryOperator::Equal => v_equal(width, left, right),
-        BinaryOperator::Less => v_less(width, left, right),
-        BinaryOperator::ShiftLeft => v_shl(width, left, right),
-        BinaryOperator::ShiftRight => v_shr(width, left, right),
-    }
-}
-
-fn divided_at(operator: DivisionOperator, width: u32, left: u64, right: u64) -> u64
-    requires low { 1 ≤ width }
-    requires high { width ≤ 64 }
-    ensures { result ≡ divided operator width left right }
-{
-    match operator {
-        DivisionOperator::Quotient => v_div(width, left, right),
-        DivisionOperator::Remainder => v_rem(width, left, right),
-    }
-}
-
-fn signed_divided_at(operator: DivisionOperator, width: u32, left: u64, right: u64) -> u64
-    requires low { 1 ≤ width }
-    requires high { width ≤ 64 }
-    ensures { result ≡ signed_divided operator width left right }
-{
-    match operator {
-        DivisionOperator::Quotient => v_sdiv(width, left, right),
-        DivisionOperator::Remainder => v_srem(width, left, right),
-    }
-}
-
-fn selected(number: u64, high: u64, low: u64) -> u64
-    requires order { low ≤ high }
-    requires room { high < 64 }
-    ensures { result ≡ (number / 2 ^ low) % 2 ^ (high + 1 - low) }
-{
-    let above = number / (1u64 << low);
-    (above as u128 % (1u128 << (high + 1 - low))) as u64
-}
-
-/// A number of so many bits behind those above, modulo 2 to the 64.
-fn beside(above: u64, width: u32, number: u64) -> u64
-    requires { width ≤ 64 }
-    ensures { result ≡ word 64 (above * 2 ^ width + number) }
-{
-    (((above as u128) * (1u128 << width) + number as u128) % (1u128 << 64)) as u64
-}
-
 fn joined_at(module: &Module, spot: Spot, now: &Now, parts: &[usize]) -> u64
     requires { EachOf (IsWide module.now) parts.now }
     ensures { result ≡ word 64 (joined module.now (reading spot (flat_of now.now)) parts.now 0) }
@@ -145,17 +83,6 @@ fn joined_at(module: &Module, spot: Spot, now: &Now, parts: &[usize]) -> u64
     for part in parts {
         let number = number_at(now.numbers, spot.base, *part);
         above = beside(above, width_at(module, *part), number);
-    }
-    above
-}
-
-fn repeated_at(count: u64, width: u32, number: u64) -> u64
-    requires { width ≤ 64 }
-    ensures { result ≡ word 64 (repeated count width number) }
-{
-    let mut above = 0;
-    for _copy in 0..count {
-        above = beside(above, width, number);
     }
     above
 }
@@ -195,7 +122,7 @@ pub fn value_at(module: &Module, spot: Spot, now: &Now, value: &Value) -> u64
             let width = width_at(module, *left);
             let first = number_at(now.numbers, spot.base, *left);
             let second = number_at(now.numbers, spot.base, *right);
-            binary_at(*operator, width, first, second)
+            binary(*operator, width, first, second)
         }
         Value::SignedLess { left, right } => {
             let width = width_at(module, *left);
@@ -228,7 +155,7 @@ pub fn value_at(module: &Module, spot: Spot, now: &Now, value: &Value) -> u64
             let width = width_at(module, *left);
             let first = number_at(now.numbers, spot.base, *left);
             let second = number_at(now.numbers, spot.base, *right);
-            divided_at(*operator, width, first, second)
+            divided(*operator, width, first, second)
         }
         Value::SignedDivision {
             operator,
@@ -238,7 +165,7 @@ pub fn value_at(module: &Module, spot: Spot, now: &Now, value: &Value) -> u64
             let width = width_at(module, *left);
             let first = number_at(now.numbers, spot.base, *left);
             let second = number_at(now.numbers, spot.base, *right);
-            signed_divided_at(*operator, width, first, second)
+            signed_divided(*operator, width, first, second)
         }
         Value::MemoryRead { memory, address } => {
             let place = number_at(now.numbers, spot.base, *address);
@@ -250,7 +177,7 @@ pub fn value_at(module: &Module, spot: Spot, now: &Now, value: &Value) -> u64
         Value::Concatenation(parts) => joined_at(module, spot, now, parts.as_slice()),
         Value::Replication { count, of } => {
             let width = width_at(module, *of);
-            repeated_at(*count, width, number_at(now.numbers, spot.base, *of))
+            repeated(*count, width, number_at(now.numbers, spot.base, *of))
         }
     }
 }

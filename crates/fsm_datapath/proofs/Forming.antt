@@ -44,7 +44,8 @@ use Rattle.fsm_datapath.proofs.Wiring.{name_tells, laid_grows, laid_long}
 use Rattle.fsm_datapath.proofs.Placed.{from_inside, from_control, from_slot, from_inputs, three, enable_at, clock_stands, enable_stands, grant_at, grant_stands, stage_at, stage_stands}
 use Rattle.fsm_datapath.proofs.Placed.{state_at, state_stands, beat_at, beat_stands, variables_at, kept_at, got_any, fields_count, before_outputs, ask_stands, field_stands}
 use Rattle.fsm_datapath.proofs.Placed.{need_stands, done_stands, shape_is}
-use Rattle.fsm_datapath.proofs.Grading.{none_read, level, input_level, inner_level, asks_level, control_level, asked_level, told_level, most_level, grades, grade_listed, earlier_operand, wire_graded, wire_ranges}
+use Rattle.fsm_datapath.proofs.Grading.{none_read, level, input_level, inner_level, asks_level, control_level, asked_level}
+use Rattle.fsm_datapath.proofs.Grading.{told_level, most_level, grades, grade_listed, earlier_operand, wire_graded, wire_ranges}
 use Rattle.fsm_datapath.proofs.Remembering.{right_memories, begun}
 use Rattle.fsm_datapath.proofs.Setting.{stores_right, stands_register, set_right, sets_right, each_append, sets_at, sets_past}
 

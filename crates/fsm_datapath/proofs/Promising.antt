@@ -1,5 +1,6 @@
 -- The module of a thread runs its code.
-use Rattle.std.proofs.Common.{◌≡◌, ◌≢◌, ℕ, zero, suc, ◌+◌, ◌-◌, ◌%◌, ◌<◌, ◌≤◌, ◌^◌, Bool, true, false, not, ◌&&◌, ◌||◌, nat_eq, nat_lt, if◌then◌else◌, List, [], length, map, slice_get, Option, Some, None, ℤ, pos}
+use Rattle.std.proofs.Common.{◌≡◌, ◌≢◌, ℕ, zero, suc, ◌+◌, ◌-◌, ◌%◌, ◌<◌, ◌≤◌, ◌^◌, Bool, true, false, not, ◌&&◌, ◌||◌}
+use Rattle.std.proofs.Common.{nat_eq, nat_lt, if◌then◌else◌, List, [], length, map, slice_get, Option, Some, None, ℤ, pos}
 use Rattle.std.proofs.Common.{refl, sym, ap, subst, ◌∙◌, arith, ⊎_elim, min}
 use Rattle.std.proofs.Math.Nat.{mod-eq_of_lt}
 use Rattle.std.proofs.lemmas.Bool.{cases_lt}
@@ -41,7 +42,8 @@ use Rattle.fsm_datapath.specs.Modules.{IsModule}
 use Rattle.fsm_datapath.specs.Thread.{places_of, first_output, ports_of, IsPrintable, IsPlain}
 use Rattle.fsm_datapath.proofs.Placed.{stands_agrees, stands_copies, stands_begins, from_inside, stage_stands, state_stands, beat_stands, variable_held, kept_held, kept_within}
 use Rattle.fsm_datapath.proofs.Placed.{fields_count, ask_stands, field_stands, done_stands, got_any}
-use Rattle.fsm_datapath.proofs.Sight.{memory_of, stored, all_stored, next_words, does, still, knows, stage_shown, sees_variables, enabled, granted, waiting, wanting, leaves_where, asks_where, stays, words_stay}
+use Rattle.fsm_datapath.proofs.Sight.{memory_of, stored, all_stored, next_words, does, still, knows, stage_shown}
+use Rattle.fsm_datapath.proofs.Sight.{sees_variables, enabled, granted, waiting, wanting, leaves_where, asks_where, stays, words_stay}
 use Rattle.fsm_datapath.proofs.Sight.{next_stage, next_state, next_beat, next_variable, next_kept, is_right, kept_of, has_widths, sees_slot, in_stage}
 use Rattle.fsm_datapath.proofs.Ready.{leaves_at_once}
 use Rattle.fsm_datapath.specs.declared.stores.Store.{Store}

@@ -1,5 +1,6 @@
 -- An element is located exactly where a bank has it.
-use Rattle.std.specs.Prelude.{◌≡◌, ℕ, zero, suc, ◌/◌, ◌%◌, ◌<◌, Bool, true, false, nat_lt, List, [], ◌∷◌, length, Option, Some, None, MatchOption, option_and_then, slice_get, codes, decimal, if◌then◌else◌, refl}
+use Rattle.std.specs.Prelude.{◌≡◌, ℕ, zero, suc, ◌/◌, ◌%◌, ◌<◌, Bool, true, false, nat_lt, List, [], ◌∷◌, length, Option}
+use Rattle.std.specs.Prelude.{Some, None, MatchOption, option_and_then, slice_get, codes, decimal, if◌then◌else◌, refl}
 use Rattle.std.proofs.Common.{ap, sym, ◌∙◌, subst, inl, inr, arith}
 use Rattle.std.proofs.lemmas.Option.{same_Some, none-some, slice_get_within, slice_get_past}
 use Rattle.netlist.specs.declared.netlist.Memory.{Memory}
@@ -142,7 +143,8 @@ module _ (modules : List Module) (top : Module) (x : List ℕ) (j : ℕ) (named 
         ap (λ k. memories_of (slice_get modules (kind_of k (length modules)))) (ap (slice_get top.instances) here ∙ is.listed) ∙ ap memories_of is.bank.stands in
         let place_is : m ≡ is.bank.place =
         ap (memory_place x digits) memories_are
-        ∙ one_place (λ (t : Memory). t.name) (bank_name (codes "bank_") x digits) (is_memory x digits) (λ t q. rest_only (codes "bank_") x t.name digits q) (λ t q. rest_all (codes "bank_") x t.name digits q)
+        ∙ one_place (λ (t : Memory). t.name) (bank_name (codes "bank_") x digits) (is_memory x digits) (λ t q. rest_only (codes "bank_") x t.name digits q)
+        (λ t q. rest_all (codes "bank_") x t.name digits q)
         kind.memories (named.memories n.of kind is.bank.stands) is.bank.place is.bank.memory is.bank.has.listed (is.bank.has.named ∙ ap (bank_name (codes "bank_") x) digits_same) in
         let word_is : l.word ≡ word = is.word ∙ ap (λ b. j / b) same in
         record {
@@ -174,7 +176,8 @@ module _ (modules : List Module) (top : Module) (x : List ℕ) (j : ℕ) (named 
         let none : slice_get (memories_of (slice_get modules (length modules))) m ≡ None = ap (λ k. slice_get (memories_of k) m) (slice_get_past modules (length modules) (omega arith)) in
         absurd (none-some s (sym none ∙ listed))
     instance_by (Some n) e s listed = kind_by (slice_get modules n.of) refl where
-      kind_by : (k : Option Module) → slice_get modules n.of ≡ k → (n : Instance) × (kind : Module) × (slice_get top.instances i ≡ Some n) × (slice_get modules n.of ≡ Some kind) × (memories ≡ kind.memories)
+      kind_by : (k : Option Module) → slice_get modules n.of ≡ k → (n : Instance) × (kind : Module) × (slice_get top.instances i ≡ Some n) × (slice_get modules n.of ≡ Some kind) ×
+          (memories ≡ kind.memories)
       kind_by None q = absurd (none-some s (sym (ap (λ k. slice_get (memories_of k) m) q) ∙ listed))
       kind_by (Some kind) q = (n, kind, e, q, ap (λ k. memories_of (slice_get modules (kind_of k (length modules)))) e ∙ ap memories_of q)
 

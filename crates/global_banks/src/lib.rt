@@ -4,4 +4,4 @@
 
 pub mod law;
 pub mod locate;
-mod names;
+pub mod names;

@@ -13,7 +13,8 @@ ghost use Rattle.global_banks.specs.Banks.{
 
 use sqlite_items::at;
 
-fn behind<'a>(stem: &[u8], name: &'a [u8]) -> Option<&'a [u8]>
+/// What stands behind a stem, where a name begins with it.
+pub fn behind<'a>(stem: &[u8], name: &'a [u8]) -> Option<&'a [u8]>
     ensures { MatchOption result (bytes_behind stem.now name.now ≡ None) (λ r. bytes_behind stem.now name.now ≡ Some r.now) }
 {
     name.strip_prefix(stem)

@@ -1,5 +1,5 @@
 -- What is compiled to be run can be run, and what a run owes.
-use Rattle.std.proofs.Common.{◌≡◌, ℕ, ap, Bool, true, false, List, Option, Some, None, slice_get, refl, ◌∙◌, sym, subst}
+use Rattle.std.proofs.Common.{◌≡◌, ℕ, ap, Bool, true, false, List, Option, Some, refl, ◌∙◌, sym, subst}
 use Rattle.std.proofs.lemmas.Option.{same_Some}
 use Rattle.verilog_tree.specs.declared.tree.Net.{Net}
 use Rattle.verilog_tree.proofs.UniqueItems.{reads_one}
@@ -10,21 +10,18 @@ use Rattle.verilog_meaning.specs.Names.{top_of}
 use Rattle.verilog_meaning.specs.Threads.{Depends}
 use Rattle.cycle_sim.specs.declared.sim.OpenError.{OpenError}
 use Rattle.cycle_sim.specs.declared.sim.OpenError.TheVariants as errors
-use Rattle.cycle_sim.specs.Opened.{IsRightNet, IsCause}
+use Rattle.cycle_sim.specs.Opened.{IsOpenable, IsCause}
 use Rattle.cycle_sim.specs.Rounds.{threads_of}
 use Rattle.cycle_sim.proofs.Enables.{threads_of_sound}
 use Rattle.cycle_sim.proofs.Printing.{one_printer}
 use Rattle.cycle_sim.proofs.Right.{right_of_sound}
-use Rattle.round_robin.specs.Round.{TakesChoices}
+use Rattle.cycle_sim.proofs.Taking.{turns_taken}
 use Rattle.hls_words.specs.declared.task.Task.TheVariants.{Step}
 use Rattle.hls_compile.specs.Compiled.{IsRunnable}
 use Rattle.hls_tool.specs.declared.status.Status.{Status}
 use Rattle.hls_tool.specs.Answers.{Due, IsRun, IsStepped, OwesAt, run_status}
 
 module _ (text : List ℕ) (threads : ℕ) (n : Netlist) (written : List ℕ) (is : IsRunnable text threads n written) where
-  pub right_net : IsRightNet n.modules
-  right_net = right_of_sound n is.net.sound
-
   -- the net enables as many threads as the program has
   pub threads_are : threads_of n.modules ≡ threads
   threads_are =
@@ -33,20 +30,21 @@ module _ (text : List ℕ) (threads : ℕ) (n : Netlist) (written : List ℕ) (i
       let enable = is.good.enables in
       threads_of_sound n is.net.sound is.good.top enable.place enable.signal (sym (ap top_of modules) ∙ is.good.is_top) enable.is ∙ enable.wide ∙ sym is.counted
 
-  pub takes_choices : TakesChoices n.modules (threads_of n.modules)
-  takes_choices = subst (TakesChoices n.modules) (sym threads_are) is.net.takes
+  pub openable : IsOpenable n.modules
+  openable = record {
+    top = is.net.top;
+    is_top = is.net.is_top;
+    right = right_of_sound n is.net.sound is.net.top is.net.is_top;
+    printer = one_printer n is.net.sound;
+    done = is.net.done;
+    takes = turns_taken n.modules is.net.top threads threads_are (is.net.takes is.net.top is.net.is_top);
+  }
 
   -- it has a simulator: of the causes none but want of memory comes
   pub no_cause : (e : OpenError) → IsCause n.modules e → e ≡ errors.Memory
-  no_cause errors.NoTop cause = absurd (let z : None ≡ Some is.net.top = sym cause ∙ is.net.is_top in cc)
-  no_cause errors.NoDone cause =
-      let same = same_Some is.net.top cause.top (sym is.net.is_top ∙ cause.is_top) in
-      let done = is.net.done in
-      absurd (cause.lacks done.0 done.1 (subst (λ (t : Module). slice_get t.signals done.0 ≡ Some done.1) same done.2.listed) done.2.named)
   no_cause (errors.Loop k x) cause =
       let same = same_Some cause.top is.net.top (sym cause.is_top ∙ is.net.is_top) in
       absurd (is.net.loopless (cause.path, x) (subst (λ (t : Module). Depends n.modules t (cause.path, x) (cause.path, x)) same cause.depends))
-  no_cause errors.Printers cause = absurd (one_printer n is.net.sound cause)
   no_cause errors.Memory cause = refl
 
 owes_by : (most : ℕ) (left : Option (List ℕ)) (rose : Type 0) (d : Due) (s : Status) (cycles : ℕ) (done : Bool) → IsRun most left d cycles done → s ≡ run_status done cycles

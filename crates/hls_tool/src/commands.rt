@@ -196,8 +196,7 @@ fn memory_alone(error: OpenError) -> AllocError
 {
     match error {
         OpenError::Memory => AllocError,
-        OpenError::NoTop | OpenError::NoDone | OpenError::Loop { .. } | OpenError::Printers =>
-            unreachable!(),
+        OpenError::Loop { .. } => unreachable!(),
     }
 }
 

@@ -140,7 +140,8 @@ fn refuses(rt: HostRuntime) -> Result<(), Fail> {
             "hls: refused E8 at byte 24: recursion\n",
         ),
         (
-            "pthread_t t; void *a(void *p){return NULL;} void *b(void *p){return NULL;} int main(void){pthread_create(&t, NULL, a, NULL); pthread_join(t, NULL); pthread_create(&t, NULL, b, NULL); pthread_join(t, NULL); return 0;}",
+            "pthread_t t; void *a(void *p){return NULL;} void *b(void *p){return NULL;} int main(void){pthread_create(&t, NULL, a, NULL); pthread_join(t, \
+            NULL); pthread_create(&t, NULL, b, NULL); pthread_join(t, NULL); return 0;}",
             "hls: refused E9 at byte 173: thread rule\n",
         ),
         (
@@ -432,6 +433,7 @@ fn answers_each_fault(rt: HostRuntime) -> Result<(), Fail> {
     assert_eq!(rt; err.held(), b"hls: read fault\n".as_slice());
     let usage = call(alloc, &["hls", "step"], &mut source, &mut out, &mut err)?;
     assert_eq!(rt; usage.status, Status::Usage);
+    assert_eq!(rt; err.held(), b"hls: read fault\nhls: usage\n".as_slice());
     let mut source = MemSource::new(MAIN.as_bytes(), 4, &[]);
     let short = call(alloc, &["hls", "build"], &mut source, &mut out, &mut err)?;
     assert_eq!(rt; short.status, Status::WriteFault { out: 32, err: 17 });
@@ -499,13 +501,24 @@ const COUNTING: &str =
     "int main(void){int i; for (i = 1; i < 4; i++) printf(\"%d\\n\", i); return 0;}";
 
 const WAITING: &str =
-    "pthread_t t; pthread_barrier_t b; void *w(void *arg){pthread_barrier_wait(&b); return NULL;} int main(void){pthread_barrier_init(&b, NULL, 2); pthread_create(&t, NULL, w, NULL); pthread_join(t, NULL); return 0;}";
+    "pthread_t t; pthread_barrier_t b; void *w(void *arg){pthread_barrier_wait(&b); return NULL;} int main(void){pthread_barrier_init(&b, NULL, 2); \
+    pthread_create(&t, NULL, w, NULL); pthread_join(t, NULL); return 0;}";
 
 const ADDING: &str =
-    "pthread_t t[3]; pthread_mutex_t m = PTHREAD_MUTEX_INITIALIZER; int s; void *w(void *arg){pthread_mutex_lock(&m); s = s + 1; pthread_mutex_unlock(&m); return NULL;} int main(void){int i; for (i = 0; i < 3; i++) pthread_create(&t[i], NULL, w, NULL); for (i = 0; i < 3; i++) pthread_join(t[i], NULL); printf(\"%d\\n\", s); return 0;}";
+    "pthread_t t[3]; pthread_mutex_t m = PTHREAD_MUTEX_INITIALIZER; int s; void *w(void *arg){pthread_mutex_lock(&m); s = s + 1; pthread_mutex_unlock(&m); \
+    return NULL;} int main(void){int i; for (i = 0; i < 3; i++) pthread_create(&t[i], NULL, w, NULL); for (i = 0; i < 3; i++) pthread_join(t[i], NULL); \
+    printf(\"%d\\n\", s); return 0;}";
 
 const RACING: &str =
-    "pthread_t t[2]; pthread_mutex_t m; int sum; void *w(void *arg){int i; for (i = 0; i < 100; i++){sum = sum + 1;} return NULL;} int main(void){pthread_mutex_init(&m, NULL); int i; for (i = 0; i < 2; i++) pthread_create(&t[i], NULL, w, (void *)(long)i); for (i = 0; i < 2; i++) pthread_join(t[i], NULL); printf(\"%d\\n\", sum); return 0;}";
+    "pthread_t t[2]; pthread_mutex_t m; int sum; void *w(void *arg){int i; for (i = 0; i < 100; i++){sum = sum + 1;} return NULL;} int \
+    main(void){pthread_mutex_init(&m, NULL); int i; for (i = 0; i < 2; i++) pthread_create(&t[i], NULL, w, (void *)(long)i); for (i = 0; i < 2; i++) \
+    pthread_join(t[i], NULL); printf(\"%d\\n\", sum); return 0;}";
+
+/// Two threads add to one global, each addition under a mutex.
+const SUMMING: &str =
+    "pthread_t t[2]; pthread_mutex_t m; int sum; void *w(void *arg){int i; for (i = 0; i < 100; i++){pthread_mutex_lock(&m); sum = sum + 1; \
+    pthread_mutex_unlock(&m);} return NULL;} int main(void){pthread_mutex_init(&m, NULL); int i; for (i = 0; i < 2; i++) \
+    pthread_create(&t[i], NULL, w, (void *)(long)i); for (i = 0; i < 2; i++) pthread_join(t[i], NULL); printf(\"%d\\n\", sum); return 0;}";
 
 #[test]
 fn walks(rt: HostRuntime) -> Result<(), Fail> {
@@ -543,6 +556,13 @@ fn walks(rt: HostRuntime) -> Result<(), Fail> {
         ),
         (
             WAITING,
+            "1",
+            10,
+            "",
+            "hls: blocked at step 0, thread 1: not running\n",
+        ),
+        (
+            WAITING,
             "3",
             10,
             "",
@@ -575,6 +595,13 @@ fn walks(rt: HostRuntime) -> Result<(), Fail> {
             0,
             "3\n",
             "hls: ended, 50 steps\n",
+        ),
+        (
+            SUMMING,
+            "0*13,1*704,2*704,0*13",
+            0,
+            "200\n",
+            "hls: ended, 1434 steps\n",
         ),
         (
             "int x; int main(void){int x = 1; {int x = 2; x++;} return x;}",

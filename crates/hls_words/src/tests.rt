@@ -48,6 +48,7 @@ fn takes_the_commands(rt: HostRuntime) -> Result<(), Fail> {
         "",
         "hls",
         "hls step",
+        "hls step --cycles 4294967296",
         "hls build --jobs=2",
         "hls walk",
         "hls walk --threads 0*0",
@@ -76,6 +77,7 @@ fn reads_the_number_of_cycles(rt: HostRuntime) -> Result<(), Fail> {
     let alloc = rt.alloc();
     for (line, want) in [
         ("hls step --cycles 3136", Some(3136)),
+        ("hls step --cycles=3136", Some(3136)),
         ("hls step --cycles=4294967295", Some(u32::MAX)),
         ("hls step --cycles=4294967296", None),
     ] {

@@ -30,7 +30,8 @@ use Rattle.ir_lower.proofs.Sites.{formats_length, part_sites}
 use Rattle.ir_lower.proofs.Seating.{seat_on, typed_seat_on}
 use Rattle.ir_lower.proofs.Staying.{now_more, words_less}
 use Rattle.ir_lower.proofs.Controlling.{begin_at, begun_idle, begin_goes_on}
-use Rattle.ir_lower.proofs.Growing.{grows_refl, grows_both, site_grows, site_typed, begins_shifts, begun_reached, binds_shifts, leaps_shifts, decides_grows, goes_relabelled, binds_at, binds_goes, leaps_goes}
+use Rattle.ir_lower.proofs.Growing.{grows_refl, grows_both, site_grows, site_typed, begins_shifts, begun_reached}
+use Rattle.ir_lower.proofs.Growing.{binds_shifts, leaps_shifts, decides_grows, goes_relabelled, binds_at, binds_goes, leaps_goes}
 
 -- ---- parts of statements
 

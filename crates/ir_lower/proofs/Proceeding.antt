@@ -24,7 +24,8 @@ use Rattle.ir_lower.proofs.Cells.{get_within}
 use Rattle.ir_lower.proofs.Advancing.{None_, advances_refl, advances_new, advances_both, advances_label, first_after, target_after, labels_more}
 use Rattle.ir_lower.proofs.Controlling.{open_ended, placed_here}
 use Rattle.ir_lower.proofs.Growing.{acts_grows, call_shifts, jumps_shifts, begins_shifts, begun_reached, binds_shifts, leaps_shifts, decides_grows}
-use Rattle.ir_lower.proofs.Opening.{first_marked, label_begun, unused_after, begins_advance, begins_begun, binds_advance, binds_begun, jumps_advance, jumps_begun, leaps_advance, acts_advance, acts_first, call_advance, call_first}
+use Rattle.ir_lower.proofs.Opening.{first_marked, label_begun, unused_after, begins_advance, begins_begun, binds_advance}
+use Rattle.ir_lower.proofs.Opening.{binds_begun, jumps_advance, jumps_begun, leaps_advance, acts_advance, acts_first, call_advance, call_first}
 use Rattle.ir_lower.proofs.Binding.{begun_new, asks_advance}
 
 -- ---- the same labels

@@ -11,7 +11,8 @@ use Rattle.c_program.specs.Limits.{print_count}
 use Rattle.code_following.specs.Following.{formats_of}
 use Rattle.ir_lower.specs.declared.homes.Home.{Home}
 use Rattle.ir_lower.specs.declared.homes.Home.TheVariants.{Variable, Array}
-use Rattle.ir_lower.specs.Locals.{is_scalar, is_array, home_in, homes_after, variable_of, variables_of, array_of, arrays_of, all_locals, reached_locals, rooms_after, homes_there, homes_in, site_there, site_in}
+use Rattle.ir_lower.specs.Locals.{is_scalar, is_array, home_in, homes_after, variable_of, variables_of, array_of}
+use Rattle.ir_lower.specs.Locals.{arrays_of, all_locals, reached_locals, rooms_after, homes_there, homes_in, site_there, site_in}
 use Rattle.ir_lower.specs.Reaching.{has, marks_of, kept, with_marks, reached_functions}
 use Rattle.ir_lower.specs.Resuming.{AreHomes, HasSites}
 use Rattle.ir_lower.proofs.LocalHomes.{variables_count, variable_least, array_least, variables_apart, arrays_apart, each_home, IsDeclaredHome, declared_home}

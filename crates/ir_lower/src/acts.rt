@@ -190,7 +190,8 @@ pub fn lower_print(
 ) -> Result<(), LoweringFault>
     requires reached { code.old.reached ≡ true }
     ensures labels { OnOk result ((around : _) → doing.Proceeds around code.old code.new) }
-    ensures lowers { IfOk result (λ _. (offset : ℕ) (P : _) (around : _) → doing.LowersHere P around (tree.Statement.Print offset (pieces_of format.now) (expressions_of arguments.now)) code.old code.new) }
+    ensures lowers { IfOk result (λ _. (offset : ℕ) (P : _) (around : _) → doing.LowersHere P around
+        (tree.Statement.Print offset (pieces_of format.now) (expressions_of arguments.now)) code.old code.new) }
     ensures full { IfErr result (IsFull
         (length code.old.block.operations + code.old.block.steps + length code.old.variables + code.old.site
         + (2 * expressions_weight (expressions_of arguments.now) + 2 * length arguments.now + 1))) }

@@ -50,7 +50,8 @@ fn lower_compound(
     right: &Expression,
 ) -> Result<(), LoweringFault>
     ensures labels { OnOk result ((around : _) → doing.Proceeds around code.old code.new) }
-    ensures lowers { IfOk result (λ _. (offset : ℕ) (P : _) (around : _) → doing.LowersHere P around (tree.Statement.Update offset (place_of place.now) operator ty (expression_of right.now)) code.old code.new) }
+    ensures lowers { IfOk result (λ _. (offset : ℕ) (P : _) (around : _) → doing.LowersHere P around
+        (tree.Statement.Update offset (place_of place.now) operator ty (expression_of right.now)) code.old code.new) }
     ensures full { IfErr result (IsFull
         (length code.old.block.operations + code.old.block.steps + 4 * (place_weight (place_of place.now) + expression_weight (expression_of right.now) + 2))) }
 {

@@ -59,7 +59,7 @@ fn shown(alloc: Global, text: &[u8]) -> Result<String, AllocError> {
     Ok(out)
 }
 
-const ROWS: [(&[u8], &str); 49] = [
+const ROWS: [(&[u8], &str); 51] = [
     (b"", " 0:end"),
     (
         b"int main(void){x = 1;",
@@ -129,6 +129,8 @@ const ROWS: [(&[u8], &str); 49] = [
     (b"a // b\\\nc", "bad 2"),
     (b"a /* \\\r\n */", "bad 2"),
     (b"a \\\nb", "bad 2"),
+    (b"x\n#define N \\\n7\n", "bad 2"),
+    (b"'\\\n'", "bad 0"),
     (b"a \x0c", "bad 2"),
     (b"#include <a.h>\n # include \"b\" // c\nx", " 35:x 36:end"),
     (

@@ -21,7 +21,8 @@ use Rattle.netlist.specs.declared.netlist.Module.{Module}
 use Rattle.netlist.specs.NetlistOf.{Name}
 use Rattle.netlist.specs.Laid.{EachAt, AreApart, AreSignals, AreMemories, signal_names, memory_names, instance_names, declared_names, effect_signals, memories_stored, IsSource, IsLaidModule}
 use Rattle.verilog_meaning.specs.Cycles.{IsRegister}
-use Rattle.netlist.specs.Sound.{width, width_read, is_read, has_width, width_of_memory, memory_width, register_width, width_of_register, width_set, source_fits, effect_fits, action_fits, IsSet, IsSoundModule}
+use Rattle.netlist.specs.Sound.{width, width_read, is_read, has_width, width_of_memory, memory_width, register_width}
+use Rattle.netlist.specs.Sound.{width_of_register, width_set, source_fits, effect_fits, action_fits, IsSet, IsSoundModule}
 use Rattle.circuit.specs.Rows.{EachOf}
 use Rattle.circuit.specs.Modules.{Has}
 use Rattle.module_sound.specs.Grades.{IsOperand, IsGradedSource, IsGradedSignal, AreGrades, SetsRight, ActsRight}

@@ -1,5 +1,6 @@
 -- Neighbouring accesses are enough: the reduced rows are rows of the table, and starts that meet them meet the table.
-use Rattle.std.proofs.Common.{◌≡◌, ℕ, suc, zero, ◌+◌, ◌-◌, ◌*◌, ◌<◌, ◌≤◌, List, [], ◌∷◌, ◌++◌, length, length-append, Bool, true, false, Option, Some, None, nat_eq, ◌||◌, if◌then◌else◌, refl, ap, subst, sym, ◌∙◌, ◌⊎◌, inl, inr, arith}
+use Rattle.std.proofs.Common.{◌≡◌, ℕ, suc, zero, ◌+◌, ◌-◌, ◌*◌, ◌<◌, ◌≤◌, List, [], ◌∷◌, ◌++◌, length, length-append, Bool, true}
+use Rattle.std.proofs.Common.{false, Option, Some, None, nat_eq, ◌||◌, if◌then◌else◌, refl, ap, subst, sym, ◌∙◌, ◌⊎◌, inl, inr, arith}
 use Rattle.std.proofs.Common.{pos, ◌+ℤ◌, ◌≤ℤ◌}
 use Rattle.std.specs.List.{All, Contains}
 use Rattle.std.proofs.lemmas.Bool.{cases_eq}
@@ -342,7 +343,9 @@ module _ (nodes : List Node) where
   use_few : (i j : ℕ) → length (use_rows nodes j i) ≤ 3
   use_few i j = by_kind (is_simple (kind_at nodes i)) (is_simple (kind_at nodes j))
     where
-      by_kind : (b d : Bool) → length (if b then (if d then (row i j 0 ∷ []) ++ far_rows nodes j (node nodes i).left ++ far_rows nodes j (node nodes i).right else row i j 1 ∷ []) else row i j (latency_at nodes i) ∷ []) ≤ 3
+      by_kind : (b d : Bool) →
+          length (if b then (if d then (row i j 0 ∷ []) ++ far_rows nodes j (node nodes i).left ++ far_rows nodes j (node nodes i).right else row i j 1 ∷ []) else row i j
+          (latency_at nodes i) ∷ []) ≤ 3
       by_kind true true =
           let a = far_few j (node nodes i).left in
           let b = far_few j (node nodes i).right in

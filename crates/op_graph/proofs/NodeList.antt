@@ -1,5 +1,6 @@
 -- The nodes of a list of operations.
-use Rattle.std.proofs.Common.{◌≡◌, ℕ, suc, zero, ◌+◌, ◌<◌, ◌≤◌, List, [], ◌∷◌, ◌++◌, length, take, slice_get, slice_index_or, Option, Some, None, Bool, true, false, nat_lt, if◌then◌else◌, refl, ap, sym, ◌∙◌, subst, inl, inr, arith, add-one}
+use Rattle.std.proofs.Common.{◌≡◌, ℕ, suc, zero, ◌+◌, ◌<◌, ◌≤◌, List, [], ◌∷◌, ◌++◌, length, take, slice_get, slice_index_or, Option}
+use Rattle.std.proofs.Common.{Some, None, Bool, true, false, nat_lt, if◌then◌else◌, refl, ap, sym, ◌∙◌, subst, inl, inr, arith, add-one}
 use Rattle.block_ir.specs.declared.operand.Source.{Source}
 use Rattle.block_ir.specs.declared.operand.Source.TheVariants.{Constant, Variable, Value}
 use Rattle.block_ir.specs.declared.block.Operation.{Operation}

@@ -1,5 +1,6 @@
 -- The rows one after another are the rows of the table.
-use Rattle.std.proofs.Common.{◌≡◌, ℕ, suc, zero, ◌<◌, ◌≤◌, List, [], ◌∷◌, ◌++◌, length, Bool, true, false, Option, Some, None, refl, ap, subst, sym, ◌∙◌, ◌⊎◌, inl, inr, arith, pos, nat_eq, ◌&&◌, ◌||◌, if◌then◌else◌}
+use Rattle.std.proofs.Common.{◌≡◌, ℕ, suc, zero, ◌<◌, ◌≤◌, List, [], ◌∷◌, ◌++◌, length, Bool, true, false, Option, Some}
+use Rattle.std.proofs.Common.{None, refl, ap, subst, sym, ◌∙◌, ◌⊎◌, inl, inr, arith, pos, nat_eq, ◌&&◌, ◌||◌, if◌then◌else◌}
 use Rattle.std.specs.List.{Contains}
 use Rattle.std.proofs.lemmas.Bool.{cases_eq}
 use Rattle.std.proofs.lemmas.List.Elements.{Contains-append_left, Contains-append_right, Contains-append_cases}
@@ -146,7 +147,8 @@ module _ (nodes : List Node) where
   -- the rows for operands, by the cases of the table
   pub chained : (c : Constraint) → c.to < length nodes → Uses nodes c.to c.from → is_simple (kind_at nodes c.from) ≡ true → is_simple (kind_at nodes c.to) ≡ true → c.gap ≡ pos 0 →
       Contains (all_uses nodes (length nodes)) c
-  chained c l u si sj g = below_has (rows_of_uses nodes) (length nodes) c.to c l (operand_has c.from c.to c u (use_at true true c.from c.to c si sj (near_has c.from c.to c (row_path c c.from c.to 0 refl refl g))))
+  chained c l u si sj g = below_has (rows_of_uses nodes) (length nodes) c.to c l (operand_has c.from c.to c u
+      (use_at true true c.from c.to c si sj (near_has c.from c.to c (row_path c c.from c.to 0 refl refl g))))
 
   pub chained_twice : (c : Constraint) (j : ℕ) → c.to < length nodes → Uses nodes c.to j → Uses nodes j c.from → is_simple (kind_at nodes c.from) ≡ true → is_simple (kind_at nodes j) ≡ true →
       is_simple (kind_at nodes c.to) ≡ true → c.gap ≡ pos 1 → Contains (all_uses nodes (length nodes)) c

@@ -8,7 +8,8 @@ use Rattle.c_program.specs.declared.tree.BinaryOperator.{BinaryOperator}
 use Rattle.c_program.specs.declared.tree.BinaryOperator.TheVariants.{Multiply as Times, Divide as Over, Remainder}
 use Rattle.interleaving.specs.Memory.{Location, Memory, Access, Read, Write, memory_after}
 use Rattle.block_ir.specs.Arithmetic.{unary_total, binary_total}
-use Rattle.block_ir.specs.Run.{Cells, or_zero, place_read, place_written, converted, source_value, operand_value as code_value, operation_run, operations_run, started as code_started, with_cell, index_of as code_index}
+use Rattle.block_ir.specs.Run.{Cells, or_zero, place_read, place_written, converted, source_value}
+use Rattle.block_ir.specs.Run.{operand_value as code_value, operation_run, operations_run, started as code_started, with_cell, index_of as code_index}
 use Rattle.block_ir.specs.Run.{Running as CodeRunning, block_run as code_run, finished as code_finished, leads_to as code_leads_to, Access as CodeAccess, Read as CodeRead, Write as CodeWrite}
 use Rattle.block_ir.specs.declared.operand.Source.{Source}
 use Rattle.block_ir.specs.declared.operand.Source.TheVariants.{Constant as FromConstant, Variable as FromVariable, Value as FromValue}

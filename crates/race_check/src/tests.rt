@@ -3,6 +3,7 @@ use crate::footprint::footprint;
 use crate::race::{Race, races};
 use c_interpreter::state::{State, start};
 use c_interpreter::step::step;
+use c_limits::bound;
 use c_profile::accept;
 use c_program::tree::Program;
 use std::alloc::{AllocError, Global};
@@ -47,15 +48,19 @@ fn race(first: usize, second: usize, global: u32, index: u64) -> Option<Race> {
 
 /// Two threads add to one global, without a mutex.
 const ADDING: &str =
-    "pthread_t t[2]; pthread_mutex_t m; int sum; void *w(void *arg){int i; for (i = 0; i < 100; i++){sum = sum + 1;} return NULL;} int main(void){pthread_mutex_init(&m, NULL); int i; for (i = 0; i < 2; i++) pthread_create(&t[i], NULL, w, (void *)(long)i); for (i = 0; i < 2; i++) pthread_join(t[i], NULL); printf(\"%d\\n\", sum); return 0;}";
+    "pthread_t t[2]; pthread_mutex_t m; int sum; void *w(void *arg){int i; for (i = 0; i < 100; i++){sum = sum + 1;} return NULL;} int \
+    main(void){pthread_mutex_init(&m, NULL); int i; for (i = 0; i < 2; i++) pthread_create(&t[i], NULL, w, (void *)(long)i); for (i = 0; i < 2; i++) \
+    pthread_join(t[i], NULL); printf(\"%d\\n\", sum); return 0;}";
 
 /// A thread waits at a barrier before it writes.
 const WAITING: &str =
-    "pthread_t t; pthread_barrier_t b; int x; void *w(void *arg){pthread_barrier_wait(&b); x = 1; return NULL;} int main(void){pthread_barrier_init(&b, NULL, 2); pthread_create(&t, NULL, w, NULL); x = 2; pthread_barrier_wait(&b); x = 3; pthread_join(t, NULL); return 0;}";
+    "pthread_t t; pthread_barrier_t b; int x; void *w(void *arg){pthread_barrier_wait(&b); x = 1; return NULL;} int main(void){pthread_barrier_init(&b, NULL, \
+    2); pthread_create(&t, NULL, w, NULL); x = 2; pthread_barrier_wait(&b); x = 3; pthread_join(t, NULL); return 0;}";
 
 /// Main writes an element that two threads read, which write one global.
 const CROSSING: &str =
-    "pthread_t t[2]; int g[4]; int h; void *w(void *arg){h = g[3] + g[1]; return NULL;} int main(void){pthread_create(&t[0], NULL, w, NULL); pthread_create(&t[1], NULL, w, NULL); g[3] = 5; return 0;}";
+    "pthread_t t[2]; int g[4]; int h; void *w(void *arg){h = g[3] + g[1]; return NULL;} int main(void){pthread_create(&t[0], NULL, w, NULL); \
+    pthread_create(&t[1], NULL, w, NULL); g[3] = 5; return 0;}";
 
 #[test]
 fn tells_the_first_race(rt: HostRuntime) -> Result<(), Fail> {
@@ -149,6 +154,29 @@ fn tells_what_a_step_touches(rt: HostRuntime) -> Result<(), Fail> {
         let state = after(alloc, &accepted.program, turns)?;
         let touched = footprint(alloc, &accepted.program, &state, thread)?;
         assert_eq!(rt; touched.as_slice(), expected, "at {text}");
+    }
+    Ok(())
+}
+
+/// 64 times the weight and 1: the weights are 6 and 9.
+#[test]
+fn bounds_the_cycles_of_a_program(rt: HostRuntime) -> Result<(), Fail> {
+    let alloc = rt.alloc();
+    for (text, expected) in [
+        (
+            "int main(void){int x = 6; x = x * 7; printf(\"%d\\n\", x); return 0;}",
+            448,
+        ),
+        (
+            "int main(void){int i; for (i = 1; i < 4; i++) printf(\"%d\\n\", i); return 0;}",
+            640,
+        ),
+    ] {
+        let Ok(accepted) = accept(alloc, text.as_bytes()) else {
+            assert!(rt; false, "refused: {text}");
+            return Ok(());
+        };
+        assert_eq!(rt; bound(alloc, &accepted.program)?, expected, "at {text}");
     }
     Ok(())
 }

@@ -1,5 +1,6 @@
 -- The number that a text's definitions give to a name is that of its first body.
-use Rattle.std.proofs.Common.{◌≡◌, refl, sym, ap, subst, ◌∙◌, ℕ, zero, suc, ◌<◌, ◌≤◌, Bool, true, false, List, [], ◌∷◌, ◌++◌, length, Option, Some, None, append_assoc, append-nil, length-append, arith}
+use Rattle.std.proofs.Common.{◌≡◌, refl, sym, ap, subst, ◌∙◌, ℕ, zero, suc, ◌<◌, ◌≤◌, Bool, true, false, List, []}
+use Rattle.std.proofs.Common.{◌∷◌, ◌++◌, length, Option, Some, None, append_assoc, append-nil, length-append, arith}
 use Rattle.std.specs.Prelude.{◌+◌, ◌^◌, min, fold, is_some, if◌then◌else◌, slice_get}
 use Rattle.std.specs.List.{AllByRecursion}
 use Rattle.std.specs.Str.{bytes_eq}

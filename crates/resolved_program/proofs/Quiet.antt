@@ -20,7 +20,8 @@ use Rattle.c_tree.specs.declared.expression.Argument.TheOpen.{Argument-F, Form-F
 use Rattle.c_tree.specs.declared.expression.Argument.TheBlock.{the_family, member-Argument, member-Form, member-Call, member-Choice, member-Expression, member-Place, member-Pointer, member-Term}
 use Rattle.c_tree.specs.declared.expression.Argument.TheFolds.{claims, map-Argument, map-Form, map-Call, map-Choice, map-Expression, map-Place, map-Pointer, map-Term}
 use Rattle.c_tree.specs.declared.expression.Argument.TheFolds.{fold-Form, fold-Call, fold-Pointer}
-use Rattle.c_tree.specs.declared.expression.Argument.TheFolds.{fold-roll-Argument, fold-roll-Form, fold-roll-Call, fold-roll-Choice, fold-roll-Expression, fold-roll-Place, fold-roll-Pointer, fold-roll-Term}
+use Rattle.c_tree.specs.declared.expression.Argument.TheFolds.{fold-roll-Argument, fold-roll-Form, fold-roll-Call, fold-roll-Choice}
+use Rattle.c_tree.specs.declared.expression.Argument.TheFolds.{fold-roll-Expression, fold-roll-Place, fold-roll-Pointer, fold-roll-Term}
 use Rattle.c_tree.specs.declared.expression.Argument.TheFolds.{ind-Argument, ind-Expression, ind-Place}
 use Rattle.c_program.specs.declared.tree.BinaryOperator.{BinaryOperator as ResolvedBinary}
 use Rattle.c_program.specs.Tree.{Expression, Condition}

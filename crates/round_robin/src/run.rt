@@ -1,17 +1,13 @@
 // The run, until done is shown or all cycles have run.
 
-ghost use Rattle.std.specs.Prelude.{◌≡◌, length, slice_get, Some, IfOk, IfErr};
-ghost use Rattle.netlist.specs.declared.netlist.Module.{Module as Kind};
-ghost use Rattle.verilog_meaning.specs.Names.{top_of};
-ghost use Rattle.cycle_sim.specs.Opened.{IsRightNet, IsCause};
+ghost use Rattle.std.specs.Prelude.{IfOk, IfErr};
+ghost use Rattle.cycle_sim.specs.Opened.{IsOpenable, IsCause};
 ghost use Rattle.cycle_sim.specs.Rounds.{threads_of};
-ghost use Rattle.round_robin.specs.Round.{IsBegun, IsRound, TakesChoices};
+ghost use Rattle.round_robin.specs.Round.{IsBegun, IsRound};
 
-use cycle_sim::net::top_number;
 use cycle_sim::sim::{OpenError, Sim};
 use hls_io::Bytes;
 use netlist::netlist::Module;
-use sqlite_items::at;
 use std::alloc::{AllocError, Global};
 
 /// How a run ended, and what it wrote.
@@ -44,41 +40,13 @@ fn turn(alloc: Global, sim: &mut Sim<'_>, cycles: u32) -> Result<Ran, AllocError
     })
 }
 
-fn instances_of(module: &Module) -> usize
-    ensures { result ≡ length module.now.instances }
-{
-    module.instances.len()
-}
-
-/// How many instances the module of that number has.
-fn instances_at(modules: &[Module], number: usize) -> usize
-    ensures { (m : Kind) → slice_get modules.now number ≡ Some m → result ≡ length m.instances }
-{
-    match at(modules, number) {
-        Some(module) => instances_of(module),
-        None => 0,
-    }
-}
-
-/// How many instances the module `top` has.
-fn arbiters_of(modules: &[Module]) -> usize
-    ensures { (m : Kind) → top_of modules.now ≡ Some m → result ≡ length m.instances }
-{
-    match top_number(modules) {
-        Some(number) => instances_at(modules, number),
-        None => 0,
-    }
-}
-
 /// Runs a net until done is shown, and for so many cycles at most. An error has its cause in the net, or memory is wanting.
 pub fn run(alloc: Global, modules: &[Module], cycles: u32) -> Result<Ran, OpenError>
-    requires right { IsRightNet modules.now }
-    requires takes { TakesChoices modules.now (threads_of modules.now) }
+    requires { IsOpenable modules.now }
     ensures ok { IfOk result (λ r. IsRound modules.now (threads_of modules.now) cycles r.cycles r.is_done r.printed) }
     ensures cause { IfErr result (IsCause modules.now) }
 {
-    let arbiters = arbiters_of(modules);
-    let mut sim = Sim::open(alloc, modules, arbiters)?;
+    let mut sim = Sim::open(alloc, modules)?;
     let ran = turn(alloc, &mut sim, cycles)?;
     Ok(ran)
 }

@@ -68,7 +68,8 @@ module _ (nodes : List Node) (starts : List ℕ) where
             subst (λ (z : ℕ). is_listed counts (kind_at nodes z) ≡ true) (sym e) (known s')
         listed i l (inr ne) s = let n : i ≢ k = ne in are.listed i (omega arith) s
 
-    pub known_kind : (done : Bool) → done ≡ (if same_kind (kind_at nodes k) (kind_at nodes k) then is_listed counts (kind_at nodes k) else true) → done ≡ true → AreBound nodes starts (suc k) units counts
+    pub known_kind : (done : Bool) → done ≡ (if same_kind (kind_at nodes k) (kind_at nodes k) then is_listed counts (kind_at nodes k) else true) → done ≡ true →
+        AreBound nodes starts (suc k) units counts
     known_kind done e f = nothing_new (λ s. (let g : done ≡ is_listed counts (kind_at nodes k) = e ∙ ap (λ (b : Bool). if b then is_listed counts (kind_at nodes k) else true) s in sym g ∙ f))
 
     module _ (new : List ℕ) (shares : same_kind (kind_at nodes k) (kind_at nodes k) ≡ true) (bound : IsBoundKind nodes starts (kind_at nodes k) units new)

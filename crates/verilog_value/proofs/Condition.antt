@@ -129,8 +129,13 @@ module _ (v : Valuation) (scope : Scope) (narrow : (x : Name) → read_width (ki
 
   parts_fit : (xs : List Name) → EachOf Has xs → all_right (is_signal scope) xs ≡ true → FitsParts P (places v xs) (joint_width scope xs)
   parts_fit [] h e = refl
-  parts_fit (x ∷ xs) h e =
-      (width scope x, joint_width scope xs, one x h.0 (left (is_signal scope x) (all_right (is_signal scope) xs) e), parts_fit xs h.1 (right (is_signal scope x) (all_right (is_signal scope) xs) e), refl)
+  parts_fit (x ∷ xs) h e = (
+    width scope x,
+    joint_width scope xs,
+    one x h.0 (left (is_signal scope x) (all_right (is_signal scope) xs) e),
+    parts_fit xs h.1 (right (is_signal scope x) (all_right (is_signal scope) xs) e),
+    refl,
+  )
 
   read_fits : (x : Name) (bound : Constant) (m : Name) (guarded : Constant) (tested : Name) (w : ℕ) → Has x → HasMemory v scope m
       → expression_right scope (e.MemoryRead tested bound m x guarded) w ≡ true → FitsValue P memories w (fused v (e.MemoryRead tested bound m x guarded))

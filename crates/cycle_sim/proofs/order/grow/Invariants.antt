@@ -1,5 +1,5 @@
-use Rattle.cycle_sim.specs.Order.{IsPartial}
+use Rattle.cycle_sim.specs.Growing.{IsGrowing}
 use Rattle.cycle_sim.proofs.order.grow.Given as goal
 
-abbrev pub invariant-loop-turn : goal.invariant-loop-turn
-invariant-loop-turn l = IsPartial l.modules l.wires l.free l.marks l.done.items
+abbrev pub invariant-loop-place : goal.invariant-loop-place
+invariant-loop-place l = IsGrowing l.modules l.wires l.free l.place l.growth

@@ -1,17 +1,13 @@
 use Rattle.std.proofs.Common.{subst, sym}
-use Rattle.cycle_sim.specs.Opened.{IsRightNet, IsCause}
+use Rattle.cycle_sim.specs.Opened.{IsOpenable, IsCause}
 use Rattle.cycle_sim.specs.Rounds.{threads_of}
-use Rattle.round_robin.specs.Round.{TakesChoices, IsRound}
-use Rattle.hls_tool.proofs.RunLemmas.{right_net, takes_choices, threads_are, no_cause}
+use Rattle.round_robin.specs.Round.{IsRound}
+use Rattle.hls_tool.proofs.RunLemmas.{openable, threads_are, no_cause}
 use Rattle.hls_tool.proofs.commands.ran.Goals as goal
 
-pub run-requires-clause-right : goal.run-requires-clause-right
-run-requires-clause-right c =
-    subst IsRightNet (sym c.as_slice.ensures) (right_net c.requires.0 c.args.built.now.threads c.args.built.now.net c.args.built.now.text c.requires.1)
-
-pub run-requires-clause-takes : goal.run-requires-clause-takes
-run-requires-clause-takes c =
-    subst (λ m. TakesChoices m (threads_of m)) (sym c.as_slice.ensures) (takes_choices c.requires.0 c.args.built.now.threads c.args.built.now.net c.args.built.now.text c.requires.1)
+pub run-requires : goal.run-requires
+run-requires c =
+    subst IsOpenable (sym c.as_slice.ensures) (openable c.requires.0 c.args.built.now.threads c.args.built.now.net c.args.built.now.text c.requires.1)
 
 pub memory_alone-requires : goal.memory_alone-requires
 memory_alone-requires c =

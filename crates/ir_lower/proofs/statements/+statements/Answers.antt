@@ -8,9 +8,12 @@ use Rattle.ir_lower.specs.Doing.{at_site, OpensTurn}
 use Rattle.ir_lower.specs.declared.lowering.Lowering.{Lowering}
 use Rattle.ir_lower.specs.Taken.{is_taken}
 use Rattle.ir_lower.proofs.Advancing.{None_, advances_both}
-use Rattle.ir_lower.proofs.Proceeding.{proceeds_both, proceeds_same, targets_after, back_after, choice_advance, choice_proceeds, choice_targets, choice_back_first, choice_back_target, choice_apart, join_open, false_open, join_open_after}
-use Rattle.ir_lower.proofs.Proceeding.{while_proceeds, while_targets, while_head, while_leaving, do_proceeds, do_targets, do_turning, do_leaving, do_apart, for_proceeds, for_targets, for_turning, for_head, for_leaving}
-use Rattle.ir_lower.proofs.Proceeding.{turn_back_target, do_back_target, for_back_target, taken_body, call_back_target, done_open, done_back, calls_proceed, delivers_proceed, hands_proceed, closed_reached}
+use Rattle.ir_lower.proofs.Proceeding.{proceeds_both, proceeds_same, targets_after, back_after, choice_advance, choice_proceeds}
+use Rattle.ir_lower.proofs.Proceeding.{choice_targets, choice_back_first, choice_back_target, choice_apart, join_open, false_open, join_open_after}
+use Rattle.ir_lower.proofs.Proceeding.{while_proceeds, while_targets, while_head, while_leaving, do_proceeds, do_targets}
+use Rattle.ir_lower.proofs.Proceeding.{do_turning, do_leaving, do_apart, for_proceeds, for_targets, for_turning, for_head, for_leaving}
+use Rattle.ir_lower.proofs.Proceeding.{turn_back_target, do_back_target, for_back_target, taken_body, call_back_target}
+use Rattle.ir_lower.proofs.Proceeding.{done_open, done_back, calls_proceed, delivers_proceed, hands_proceed, closed_reached}
 use Rattle.ir_lower.proofs.Continuing.{call_lowers, call_assigned, call_returned}
 use Rattle.ir_lower.proofs.Sizes.{nested_size, measure_falls}
 use Rattle.ir_lower.proofs.Filling.{skipped_for, block_for, choice_condition, one_for, other_for, while_condition, while_body, do_body, do_condition, for_first, for_condition, for_body, for_last}

@@ -1,10 +1,7 @@
 use Rattle.std.proofs.Common.{subst, arith}
 use Rattle.cycle_sim.specs.Lockstep.{IsLockstep}
-use Rattle.round_robin.proofs.Rounding.{takes_rounds, fits_done, round_done, round_all}
+use Rattle.round_robin.proofs.Rounding.{round_done, round_all}
 use Rattle.round_robin.proofs.run.turn.Goals as goal
-
-pub lockstep-requires : goal.lockstep-requires
-lockstep-requires c = takes_rounds c.args.sim.now c.requires
 
 pub returns-then-ran-cycles : goal.returns-then-ran-cycles
 returns-then-ran-cycles c =
@@ -14,10 +11,6 @@ returns-then-ran-cycles c =
     let n = c.in_ok-ran.ran in
     let ran = subst (λ b. IsLockstep old mid c.args.cycles n b out) c.new-printed.ensures c.in_ok-ran.ensures.ok in
     round_done old mid c.args.cycles n out c.requires ran c.if-ran-cycles.true
-
-pub done-is_done-requires : goal.done-is_done-requires
-done-is_done-requires c =
-    fits_done c.args.sim.now c.lockstep.new.self c.args.cycles c.in_ok-ran.ran c.new-printed.result c.lockstep.new.out c.requires c.in_ok-ran.ensures.ok
 
 pub returns : goal.returns
 returns c =

@@ -1,4 +1,6 @@
-use Rattle.std.proofs.Common.{◌≡◌, List, Some, ◌+◌, slice_get, ap, ◌∙◌, subst, refl, sym}
+use Rattle.std.proofs.Common.{◌≡◌, List, Some, ◌+◌, slice_get, ap, ◌∙◌, subst, sym}
+use Rattle.std.specs.Prelude.{◌-◌, ◌^◌}
+use Rattle.std.proofs.lemmas.Option.{same_Some}
 use Rattle.netlist.specs.declared.netlist.Signal.{Signal}
 use Rattle.cycle_sim.specs.declared.settle.Step.{Step}
 use Rattle.cycle_sim.specs.declared.edge.Part.{Part}
@@ -6,78 +8,74 @@ use Rattle.cycle_sim.specs.Order.{IsOrder}
 use Rattle.cycle_sim.specs.Stands.{spot_of}
 use Rattle.cycle_sim.specs.Wires.{signals_of, AreWires}
 use Rattle.cycle_sim.specs.LaidOut.{IsLaidOut}
-use Rattle.cycle_sim.specs.Opened.{IsOne, AreTwo}
+use Rattle.cycle_sim.specs.Opened.{LacksDone}
 use Rattle.cycle_sim.specs.Running.{IsDone}
-use Rattle.cycle_sim.proofs.Causes.{laid_out, printers}
+use Rattle.cycle_sim.specs.Rounds.{enable_width, pref_count, prefs_in, TakesTurns, AreNarrowSignals}
+use Rattle.cycle_sim.proofs.Causes.{right_net, has_done, laid_out, one_of}
 use Rattle.cycle_sim.proofs.Opening.{opened_stands}
-use Rattle.std.specs.Prelude.{◌-◌, ◌^◌}
-use Rattle.cycle_sim.specs.Rounds.{enable_width, AreNarrowSignals}
 use Rattle.cycle_sim.proofs.Enables.{narrow_top, threads_top}
 use Rattle.cycle_sim.proofs.sim.Sim.open_at.Goals as goal
+
+pub enable_mask-mask-requires : goal.enable_mask-mask-requires
+enable_mask-mask-requires c =
+    subst AreNarrowSignals (sym c.module_signals-signals.ensures) (narrow_top c.args.modules.now c.args.top c.requires.top (right_net c.args.modules.now c.requires.openable))
+
+pub done_number-requires : goal.done_number-requires
+done_number-requires c = λ lacks. has_done c.args.modules.now c.args.top c.requires.top c.requires.openable (subst LacksDone c.module_signals-signals.ensures lacks)
+
+pub built-requires-clause-mask : goal.built-requires-clause-mask
+built-requires-clause-mask c =
+    c.enable_mask-mask.ensures ∙ ap (λ ss. 2 ^ enable_width ss - 1) c.module_signals-signals.ensures ∙ ap (λ n. 2 ^ n - 1) (threads_top c.args.modules.now c.args.top c.requires.top)
 
 pub built-requires-clause-ready : goal.built-requires-clause-ready
 built-requires-clause-ready c =
     let modules = c.args.modules.now in
     let t = c.requires.top.top in
     let placed = c.in_ok-placed.placed in
+    let prefs = c.pref_count-prefs.result in
     let wires = c.in_ok-wires.wires.items in
-    let steps = c.in-Some-2.steps.items in
+    let steps = c.in-Some.steps.items in
     let base = c.base_at-base.result in
-    let one : IsOne modules placed.parts.items = subst (IsOne modules) c.as_slice-3.ensures.value (c.if-two_write.ensures.one refl) in
     let base_is : base ≡ (spot_of (slice_get placed.parts.items 0)).base = c.base_at-base.ensures ∙ ap (λ (ps : List Part). (spot_of (slice_get ps 0)).base) c.as_slice.ensures.value in
-    let found = c.in-Some.ensures in
-    let number = c.in-Some.number in
+    let found = c.done_number.ensures in
+    let number = c.done_number.result in
     let done_is : IsDone t placed.parts.items c.in_ok-done.done =
     record {
       number = number;
       signal = found.signal;
       is = record {
         listed = sym (ap (λ o. slice_get (signals_of o) number) c.requires.top.stands) ∙ subst
-            (λ (ss : List Signal). slice_get ss number ≡ Some found.signal) c.module_signals.ensures found.listed;
+            (λ (ss : List Signal). slice_get ss number ≡ Some found.signal) c.module_signals-signals.ensures found.listed;
         named = found.named;
       };
       stands = c.in_ok-done.ensures ∙ ap (λ b. b + number) base_is;
     } in
-    let are : AreWires modules placed.parts.items (signals_of (slice_get modules c.args.top)) base c.args.prefs wires =
-    subst (λ (ps : List Part). AreWires modules ps (signals_of (slice_get modules c.args.top)) base c.args.prefs wires) c.as_slice-2.ensures.value c.in_ok-wires.ensures in
-    let laid = laid_out modules c.args.top c.requires.top c.requires.right c.in_ok-tree.tree.kinds.items c.in_ok-tree.tree.children.items c.in_ok-tree.ensures
-    placed.parts.items placed.numbers.items placed.free.items placed.words.items placed.starts.items c.in_ok-placed.ensures.placed c.in_ok-placed.ensures.whole base base_is wires c.args.prefs are in
-    let given : IsOrder modules c.as_slice-4.result.now c.as_slice-5.result.now steps = rw c.in-Some-2.is at c.in_ok-steps.ensures in
+    let are : AreWires modules placed.parts.items (signals_of (slice_get modules c.args.top)) base prefs wires =
+    subst (λ (ps : List Part). AreWires modules ps (signals_of (slice_get modules c.args.top)) base prefs wires) c.as_slice-2.ensures.value c.in_ok-wires.ensures in
+    let right = right_net modules c.requires.openable in
+    let laid = laid_out modules c.args.top c.requires.top right c.in_ok-tree.tree.kinds.items c.in_ok-tree.tree.children.items c.in_ok-tree.ensures
+    placed.parts.items placed.numbers.items placed.free.items placed.words.items placed.starts.items c.in_ok-placed.ensures.placed c.in_ok-placed.ensures.whole base base_is wires prefs are in
+    let given : IsOrder modules c.as_slice-3.result.now c.as_slice-4.result.now steps = rw c.in-Some.is at c.in_ok-steps.ensures in
     let ordered : IsOrder modules wires placed.free.items steps =
-    subst (λ fs. IsOrder modules wires fs steps) c.as_slice-5.ensures.value (subst (λ (ws : List Step). IsOrder modules ws c.as_slice-5.result.now steps) c.as_slice-4.ensures.value given) in
-    opened_stands laid one c.in_ok-done.done done_is steps ordered
-
-pub built-requires-clause-mask : goal.built-requires-clause-mask
-built-requires-clause-mask c =
-    c.enable_mask-mask.ensures ∙ ap (λ ss. 2 ^ enable_width ss - 1) c.module_signals-2.ensures ∙ ap (λ n. 2 ^ n - 1) (threads_top c.args.modules.now c.args.top c.requires.top)
-
-pub enable_mask-mask-requires : goal.enable_mask-mask-requires
-enable_mask-mask-requires c = subst AreNarrowSignals (sym c.module_signals-2.ensures) (narrow_top c.args.modules.now c.args.top c.requires.top c.requires.right)
-
-pub returns-then-two_write-clause-cause : goal.returns-then-two_write-clause-cause
-returns-then-two_write-clause-cause c =
-    let modules = c.args.modules.now in
-    let placed = c.in_ok-placed.placed in
-    let wires = c.in_ok-wires.wires.items in
-    let base = c.base_at-base.result in
-    let base_is : base ≡ (spot_of (slice_get placed.parts.items 0)).base = c.base_at-base.ensures ∙ ap (λ (ps : List Part). (spot_of (slice_get ps 0)).base) c.as_slice.ensures.value in
-    let are : AreWires modules placed.parts.items (signals_of (slice_get modules c.args.top)) base c.args.prefs wires =
-    subst (λ (ps : List Part). AreWires modules ps (signals_of (slice_get modules c.args.top)) base c.args.prefs wires) c.as_slice-2.ensures.value c.in_ok-wires.ensures in
-    let laid = laid_out modules c.args.top c.requires.top c.requires.right c.in_ok-tree.tree.kinds.items c.in_ok-tree.tree.children.items c.in_ok-tree.ensures
-    placed.parts.items placed.numbers.items placed.free.items placed.words.items placed.starts.items c.in_ok-placed.ensures.placed c.in_ok-placed.ensures.whole base base_is wires c.args.prefs are in
-    printers laid (subst (AreTwo modules) c.as_slice-3.ensures.value (c.if-two_write.ensures.two refl))
+    subst (λ fs. IsOrder modules wires fs steps) c.as_slice-4.ensures.value (subst (λ (ws : List Step). IsOrder modules ws c.as_slice-4.result.now steps) c.as_slice-3.ensures.value given) in
+    let same = same_Some c.requires.openable.top t (sym c.requires.openable.is_top ∙ c.requires.top.is_top) in
+    let takes = subst (TakesTurns modules) same c.requires.openable.takes in
+    let counted = c.pref_count-prefs.ensures ∙ ap pref_count (c.module_signals-signals.ensures ∙ ap signals_of c.requires.top.stands) ∙ sym (ap prefs_in c.requires.top.is_top) in
+    opened_stands laid takes counted (one_of laid c.requires.openable.printer) c.in_ok-done.done done_is steps ordered
 
 pub loop_of-requires-clause-laid : goal.loop_of-requires-clause-laid
 loop_of-requires-clause-laid c =
     let modules = c.args.modules.now in
     let placed = c.in_ok-placed.placed in
+    let prefs = c.pref_count-prefs.result in
     let wires = c.in_ok-wires.wires.items in
     let base = c.base_at-base.result in
     let base_is : base ≡ (spot_of (slice_get placed.parts.items 0)).base = c.base_at-base.ensures ∙ ap (λ (ps : List Part). (spot_of (slice_get ps 0)).base) c.as_slice.ensures.value in
-    let are : AreWires modules placed.parts.items (signals_of (slice_get modules c.args.top)) base c.args.prefs wires =
-    subst (λ (ps : List Part). AreWires modules ps (signals_of (slice_get modules c.args.top)) base c.args.prefs wires) c.as_slice-2.ensures.value c.in_ok-wires.ensures in
-    let laid = laid_out modules c.args.top c.requires.top c.requires.right c.in_ok-tree.tree.kinds.items c.in_ok-tree.tree.children.items c.in_ok-tree.ensures
-    placed.parts.items placed.numbers.items placed.free.items placed.words.items placed.starts.items c.in_ok-placed.ensures.placed c.in_ok-placed.ensures.whole base base_is wires c.args.prefs are in
-    let there = subst (λ (ws : List Step). IsLaidOut modules c.requires.top.top placed.parts.items placed.numbers.items placed.free.items placed.words.items placed.starts.items ws c.args.prefs)
+    let are : AreWires modules placed.parts.items (signals_of (slice_get modules c.args.top)) base prefs wires =
+    subst (λ (ps : List Part). AreWires modules ps (signals_of (slice_get modules c.args.top)) base prefs wires) c.as_slice-2.ensures.value c.in_ok-wires.ensures in
+    let right = right_net modules c.requires.openable in
+    let laid = laid_out modules c.args.top c.requires.top right c.in_ok-tree.tree.kinds.items c.in_ok-tree.tree.children.items c.in_ok-tree.ensures
+    placed.parts.items placed.numbers.items placed.free.items placed.words.items placed.starts.items c.in_ok-placed.ensures.placed c.in_ok-placed.ensures.whole base base_is wires prefs are in
+    let there = subst (λ (ws : List Step). IsLaidOut modules c.requires.top.top placed.parts.items placed.numbers.items placed.free.items placed.words.items placed.starts.items ws prefs)
     (sym c.as_slice-in-None.ensures.value) laid in
-    (c.requires.top.top, c.args.prefs, there)
+    (c.requires.top.top, prefs, there)

@@ -1,6 +1,0 @@
-use Rattle.std.proofs.Common.{◌≡◌, ◌<◌, ℕ, Some, slice_get, codes}
-use Rattle.netlist.specs.declared.netlist.Signal.{Signal}
-use Rattle.cycle_sim.proofs.net.done_number.Given as goal
-
-abbrev pub invariant-loop-number : goal.invariant-loop-number
-invariant-loop-number l = (x : ℕ) (s : Signal) → x < l.number → slice_get l.signals x ≡ Some s → s.name ≡ codes "done" → ⊥

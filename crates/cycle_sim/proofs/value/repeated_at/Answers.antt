@@ -1,6 +1,0 @@
-use Rattle.cycle_sim.proofs.Words.{repeated_next}
-use Rattle.cycle_sim.proofs.value.repeated_at.Goals as goal
-
-pub loop-copy-preserved : goal.loop-copy-preserved
-loop-copy-preserved c =
-    repeated_next c.loop-copy._copy c.args.width c.args.number c.loop-copy.above c.beside-above.result c.loop-copy.invariant c.beside-above.ensures

@@ -1,7 +1,0 @@
-use Rattle.std.proofs.Common.{◌≡◌}
-use Rattle.hls_ints.specs.Words.{word}
-use Rattle.verilog_meaning.specs.Readings.{repeated}
-use Rattle.cycle_sim.proofs.value.repeated_at.Given as goal
-
-abbrev pub invariant-loop-copy : goal.invariant-loop-copy
-invariant-loop-copy l = l.above ≡ word 64 (repeated l._copy l.width l.number)
