@@ -1,0 +1,26 @@
+// The laws of `top_rr`. The functions take and answer nothing: their contracts are the laws.
+
+ghost use Rattle.round_net.specs.Alike.{EndsAsTop, RunsAsTop, WritesAsTop};
+ghost use Rattle.round_net.specs.Found.{RoundIsFound};
+
+/// After n cycles of `top_rr` the `top` in it is where n cycles of `top` under the choices of the rounds lead, and each run
+/// under these choices is one in `top_rr`.
+pub fn runs_as_top()
+    ensures { RunsAsTop }
+{}
+
+/// n cycles of `top_rr` write what n cycles of `top` under the choices of the rounds write, and then show the same `done`.
+pub fn writes_as_top()
+    ensures { WritesAsTop }
+{}
+
+/// So it is with `done` where all threads are enabled and each arbiter prefers thread 0, if the net settles in one way and
+/// what `done` shows hangs on no choice.
+pub fn ends_as_top()
+    ensures { EndsAsTop }
+{}
+
+/// `top_rr` is found by its name.
+pub fn round_is_found()
+    ensures { RoundIsFound }
+{}
