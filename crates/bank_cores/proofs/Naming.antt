@@ -1,9 +1,7 @@
 -- The names of a bank's module are apart: its memory has another name than its signals.
 use Rattle.std.proofs.Common.{◌≡◌, ℕ, zero, suc, ◌+◌, Bool, true, false, nat_eq, List, [], ◌∷◌, ◌++◌, length, map, slice_get, Some, refl, sym, ap, ◌∙◌, subst}
-use Rattle.std.specs.Prelude.{◌&&◌, ◌||◌}
 use Rattle.std.proofs.lemmas.List.{append-nil}
 use Rattle.std.proofs.lemmas.Option.{same_Some, none-some}
-use Rattle.verilog_tree.specs.Spelling.{is_letter, is_name_byte, all_pass, is_name}
 use Rattle.netlist.specs.declared.netlist.Signal.{Signal}
 use Rattle.netlist.specs.declared.netlist.Memory.{Memory}
 use Rattle.netlist.specs.declared.netlist.Instance.{Instance}
@@ -15,17 +13,6 @@ use Rattle.circuit.specs.declared.rows.Row.{Row}
 use Rattle.circuit.specs.declared.rows.Row.TheVariants as row
 use Rattle.circuit.specs.Rows.{name_of, laid}
 use Rattle.circuit.proofs.Tables.{EachRow, by_signals}
-
--- ---- a name may stand behind another
-
-passed : (l d p w : Bool) → (l && (p && w)) ≡ true → ((l || d) && p) ≡ true
-passed true d true w e = refl
-passed true d false w e = absurd cc
-passed false d p w e = absurd cc
-
-pub name_passes : (z : List ℕ) → is_name z ≡ true → all_pass is_name_byte z ≡ true
-name_passes [] e = refl
-name_passes (b ∷ z) e = passed (is_letter b) _ (all_pass is_name_byte z) _ e
 
 -- ---- no signal begins as a bank does
 

@@ -8,6 +8,7 @@ ghost use Rattle.circuit.specs.Machines.{IsCore};
 ghost use Rattle.bank_cores.specs.Bank.{bank_name, memory_of, rows, statements, store_under, IsShape, IsBank};
 ghost use Rattle.bank_cores.specs.Machine.{bank_machine, bank_places, inputs, input_widths, output_widths, is_late};
 
+use crate::name::GlobalName;
 use circuit::rows::{Form, Operand, Role, Row, lay, sets};
 use netlist::netlist::{Action, Effect, Memory, Module, Signal};
 use sqlite_items::Items;
@@ -20,7 +21,7 @@ use verilog_tree::tree::BinaryOperator;
 #[derive(Drop)]
 pub struct Shape {
     pub threads: usize,
-    pub name: Identifier,
+    pub name: GlobalName,
     pub number: u64,
     pub address_width: u64,
     pub width: u64,
@@ -317,7 +318,7 @@ mod tests {
         let alloc = rt.alloc();
         let shape = Shape {
             threads: 2,
-            name: Identifier::from_text(alloc, "x")?,
+            name: GlobalName::from_text(alloc, "x")?,
             number: 1,
             address_width: 2,
             width: 32,

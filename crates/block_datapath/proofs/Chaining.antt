@@ -22,11 +22,11 @@ use Rattle.block_datapath.specs.Chains.{next_number, is_set, SetsNext, TellsStag
 
 -- ---- bits
 
-equal_small : (v w a l : ℕ) → v ≡ w → a < 2 ^ w → l < 2 ^ w → word_equal v a l ≡ bit_of (nat_eq a l)
+pub equal_small : (v w a l : ℕ) → v ≡ w → a < 2 ^ w → l < 2 ^ w → word_equal v a l ≡ bit_of (nat_eq a l)
 equal_small v w a l e p q =
     ap (λ x. word_equal x a l) e ∙ ap (λ x. bit_of (nat_eq x (l % 2 ^ w))) (mod-eq_of_lt p) ∙ ap (λ x. bit_of (nat_eq a x)) (mod-eq_of_lt q)
 
-and_bits : (t u : Bool) → word_and 1 (bit_of t) (bit_of u) ≡ bit_of (t && u)
+pub and_bits : (t u : Bool) → word_and 1 (bit_of t) (bit_of u) ≡ bit_of (t && u)
 and_bits true true = refl
 and_bits true false = refl
 and_bits false true = refl

@@ -34,7 +34,7 @@ use Rattle.block_datapath.specs.declared.ending.Finish.{Finish}
 use Rattle.block_datapath.specs.declared.leaving_block.Left.{Left}
 use Rattle.thread_promise.specs.Types.{operand_type, IsTypedSource, IsTypedNext}
 use Rattle.block_datapath.specs.Seen.{IsValue, SeesSource}
-use Rattle.block_datapath.specs.Operations.{seen_value, SeesSlot, IsRight, IsShown, ShowsFirst}
+use Rattle.block_datapath.specs.Operations.{seen_value, SeesSlot, IsFed, IsRight, IsShown, ShowsFirst}
 use Rattle.block_datapath.specs.Chains.{next_number, TellsStage, IsMoment, TellsState}
 use Rattle.block_datapath.specs.Ending.{IsFinal, ShowsFinals, next_stage, SeesTest, ShowsNext, finishes_in, finish_number, SetsFirst}
 use Rattle.block_datapath.specs.Leave.{HasStage, IsInStage, RestsSo, FinishesBlock}
@@ -121,7 +121,7 @@ module _ (globals : List IntegerType) (code : ThreadCode) (registers : Registers
     (shown : (k : ℕ) (o : Operation) → k < length b.operations → slice_get b.operations k ≡ Some o
     → (given : Given) × (slice_get values k ≡ Some given) × IsShown globals code registers b p new k o given)
     (bank : Location → ℕ) (m : Module) (r : Reading) (q : Slot) (wire : ℕ → ℤ) (grows : Grows new m.signals) (obeys : Obeys m r) (sees : SeesSlot globals code registers b p m r q)
-    (wired : IsWired bank (planned_view b) (plan_view b p) q wire) (at_end : suc q.state ≡ p.states) where
+    (wired : IsFed globals code registers b p bank m r q wire) (at_end : suc q.state ≡ p.states) where
   below_all : (k : ℕ) (o : Operation) → slice_get b.operations k ≡ Some o → k < length b.operations
   below_all k o e = got_below b.operations k o e
     where
@@ -232,7 +232,7 @@ module _ (globals : List IntegerType) (code : ThreadCode) (registers : Registers
       }
 
   module _ (bank : Location → ℕ) (m : Module) (r : Reading) (q : Slot) (wire : ℕ → ℤ) (right : IsRight globals code registers b p) (g : Grows s6 m.signals) (o : Obeys m r)
-      (inside : IsInStage globals code registers l b p m r q) (sees : SeesSlot globals code registers b p m r q) (wired : IsWired bank (planned_view b) (plan_view b p) q wire)
+      (inside : IsInStage globals code registers l b p m r q) (sees : SeesSlot globals code registers b p m r q) (wired : IsFed globals code registers b p bank m r q wire)
     where
       moment : IsMoment m r registers end.at end.states true q.state
       moment =

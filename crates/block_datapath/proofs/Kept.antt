@@ -17,7 +17,7 @@ use Rattle.block_ir.specs.declared.plan.BlockPlan.{BlockPlan}
 use Rattle.planned_block.specs.Block.{size}
 use Rattle.planned_block.specs.Advance.{last_of, is_register}
 use Rattle.planned_block.specs.Plan.{last_state}
-use Rattle.planned_block.specs.Slot.{Slot, IsWired, RegistersAfter}
+use Rattle.planned_block.specs.Slot.{Slot, RegistersAfter}
 use Rattle.planned_block.proofs.Bits.{same_is, other_is}
 use Rattle.planned_view.specs.View.{planned_view, plan_view}
 use Rattle.circuit.specs.Modules.{Obeys}
@@ -31,7 +31,7 @@ use Rattle.block_datapath.specs.declared.leaving_block.Left.{Left}
 use Rattle.thread_promise.specs.Types.{value_type}
 use Rattle.block_datapath.specs.Seen.{IsKept}
 use Rattle.thread_promise.specs.Slots.{IsAlive}
-use Rattle.block_datapath.specs.Operations.{SeesSlot, IsRight, IsShown, ShowsFirst}
+use Rattle.block_datapath.specs.Operations.{SeesSlot, IsFed, IsRight, IsShown, ShowsFirst}
 use Rattle.block_datapath.specs.Chains.{next_number, IsMoment, held_width, keeps_in, kept_number, CanKeep, KeepsFirst}
 use Rattle.block_datapath.specs.Leave.{HasRoom, KeepsBlock, HasStage, IsInStage, FinishesBlock, LeavesBlock}
 use Rattle.block_datapath.proofs.Walking.{within_view, first_grown}
@@ -93,7 +93,7 @@ module _ (globals : List IntegerType) (code : ThreadCode) (registers : Registers
     (end_at : ℕ) (first : ShowsFirst globals code registers b p s0 s1 (length b.operations) values)
     (kept : KeepsFirst s1 s2 registers end_at (max 1 p.states) before after values (length values)) where
   module _ (bank : Location → ℕ) (m : Module) (r : Reading) (q : Slot) (wire : ℕ → ℤ) (right : IsRight globals code registers b p) (g : Grows s2 m.signals) (o : Obeys m r)
-      (moment : IsMoment m r registers end_at (max 1 p.states) true q.state) (sees : SeesSlot globals code registers b p m r q) (wired : IsWired bank (planned_view b) (plan_view b p) q wire)
+      (moment : IsMoment m r registers end_at (max 1 p.states) true q.state) (sees : SeesSlot globals code registers b p m r q) (wired : IsFed globals code registers b p bank m r q wire)
     where
       earlier : Grows s1 m.signals
       earlier = grows_then s1 s2 m.signals kept.grows g

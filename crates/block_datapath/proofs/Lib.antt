@@ -7,3 +7,11 @@ pub mod Ends
 pub mod Kept
 pub mod Wiring
 pub mod Linking
+pub mod Requesting
+pub mod Zeroing
+pub mod Accessing
+pub mod Telling
+pub mod Banking
+pub mod Reaching
+pub mod Wanting
+pub mod Indexing

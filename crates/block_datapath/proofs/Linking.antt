@@ -248,7 +248,7 @@ block_wired a b c d e f g code registers stage plan before after values finishes
     let types = code.variables in
     let first = told base is.stage fits.stage in
     let in_b = registers_after a b base types registers first.wires.grows is in
-    let made = given base fits.arrays in_b in
+    let made = given base fits.reads in_b in
     let in_c : AreSources c base types registers values = record { registers = registers_after b c base types registers made.wires.grows in_b; values = made.values } in
     let ends = finals base in_c in
     let in_d = sources_after c d base types registers values ends.wires.grows in_c in

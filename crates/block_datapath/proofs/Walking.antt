@@ -30,9 +30,10 @@ use Rattle.operator_wires.specs.Words.{IsWord}
 use Rattle.operator_wires.proofs.Giving.{grows_refl, grows_then}
 use Rattle.block_datapath.specs.declared.registers.Registers.{Registers}
 use Rattle.block_datapath.specs.declared.operands.Given.{Given}
+use Rattle.thread_promise.specs.Globals.{IsAccess}
 use Rattle.thread_promise.specs.Types.{value_type, IsTypedSource, IsTypedOperand, IsTypedOperation}
 use Rattle.block_datapath.specs.Seen.{IsKept, IsValue, SeesSource}
-use Rattle.block_datapath.specs.Operations.{seen_value, operation_value, SeesOperands, GivesOperation, IsSized, IsLocal, SeesSlot, IsRight, IsShown, ShowsFirst}
+use Rattle.block_datapath.specs.Operations.{seen_value, operation_value, SeesOperands, GivesOperation, IsSized, SeesSlot, IsFed, IsRight, IsShown, ShowsFirst}
 
 -- ---- the view of a list of operations
 
@@ -71,6 +72,11 @@ binary_gives bank operator.And f words arrays l r = refl
 binary_gives bank operator.ExclusiveOr f words arrays l r = refl
 binary_gives bank operator.InclusiveOr f words arrays l r = refl
 
+declared_at : (types : List IntegerType) (x : ℕ) → x < length types → (ty : IntegerType) × (slice_get types x ≡ Some ty)
+declared_at [] x less = absurd (omega arith)
+declared_at (t ∷ types) zero less = (t, refl)
+declared_at (t ∷ types) (suc x) less = declared_at types x (omega arith)
+
 -- ---- one more at the end
 
 pub got_before : {X : Type 0} (a b : List X) (k : ℕ) (x : X) → slice_get a k ≡ Some x → slice_get (a ++ b) k ≡ Some x
@@ -88,7 +94,7 @@ module _ (globals : List IntegerType) (code : ThreadCode) (registers : Registers
   module _ (right : IsRight globals code registers b p) (new : List Signal) (values : List Given) (n : ℕ)
       (shown : (k : ℕ) (o : Operation) → k < n → slice_get b.operations k ≡ Some o → (given : Given) × (slice_get values k ≡ Some given) × IsShown globals code registers b p new k o given)
       (bank : Location → ℕ) (m : Module) (r : Reading) (q : Slot) (wire : ℕ → ℤ) (grows : Grows new m.signals) (obeys : Obeys m r) (sees : SeesSlot globals code registers b p m r q)
-      (wired : IsWired bank (planned_view b) (plan_view b p) q wire) where
+      (wired : IsFed globals code registers b p bank m r q wire) where
     now_here : (j : ℕ) → last_state (planned_view b) (plan_view b p) j ≡ q.state → value_now (planned_view b) (plan_view b p) q wire j ≡ wire j
     now_here j e =
         ap (λ (c : Bool). if c then wire j else register_value q.registers ((plan_view b p).register j)) (same_is (last_state (planned_view b) (plan_view b p) j) q.state e)
@@ -159,38 +165,42 @@ module _ (globals : List IntegerType) (code : ThreadCode) (registers : Registers
       operand_here a last lt at from to typed.0 (λ j u. left_used (Binary operator ty a c) j listed u),
       operand_here c last lt at from to typed.1 (λ j u. right_used (Binary operator ty a c) j listed u),
     )
-    operands_here (ReadGlobal x i) start last listed typed lt at first from to = tt
-    operands_here (WriteGlobal x i a) start last listed typed lt at first from to = tt
+    operands_here (ReadGlobal x count i) start last listed typed lt at first from to =
+        operand_here i last lt at from to typed.0 (λ j u. left_used (ReadGlobal x count i) j listed u)
+    operands_here (WriteGlobal x count i a) start last listed typed lt at first from to = tt
     operands_here (ReadArray x count i) start last listed typed lt at first from to =
         operand_here i start lt (first refl) from to typed.0 (λ j u. left_used (ReadArray x count i) j listed u)
     operands_here (WriteArray x count i a) start last listed typed lt at first from to = tt
 
     -- what the wire of operation n has
-    gives : (o : Operation) → IsLocal o → result_of bank (operation_view o).kind q.words q.arrays (operand_now (planned_view b) (plan_view b p) q wire (operation_view o).left)
-        (operand_now (planned_view b) (plan_view b p) q wire (operation_view o).right) ≡ operation_value q.variables (value_now (planned_view b) (plan_view b p) q wire) q.arrays o
-    gives (Unary operator ty a) local = refl
-    gives (Binary operator ty a c) local = binary_gives bank operator _ q.words q.arrays _ _
-    gives (ReadGlobal x i) local = absurd local
-    gives (WriteGlobal x i a) local = absurd local
-    gives (ReadArray x count i) local = refl
-    gives (WriteArray x count i a) local = refl
+    gives : (o : Operation) → result_of bank (operation_view o).kind q.words q.arrays (operand_now (planned_view b) (plan_view b p) q wire (operation_view o).left)
+        (operand_now (planned_view b) (plan_view b p) q wire (operation_view o).right) ≡ operation_value q.variables (value_now (planned_view b) (plan_view b p) q wire) q.arrays
+        (λ l. q.words (bank l)) o
+    gives (Unary operator ty a) = refl
+    gives (Binary operator ty a c) = binary_gives bank operator _ q.words q.arrays _ _
+    gives (ReadGlobal x count i) = refl
+    gives (WriteGlobal x count i a) = refl
+    gives (ReadArray x count i) = refl
+    gives (WriteArray x count i a) = refl
 
     wire_is : (o : Operation) → slice_get b.operations n ≡ Some o → n < size (planned_view b) → last_state (planned_view b) (plan_view b p) n ≡ q.state
-        → wire n ≡ operation_value q.variables (value_now (planned_view b) (plan_view b p) q wire) q.arrays o
+        → wire n ≡ operation_value q.variables (value_now (planned_view b) (plan_view b p) q wire) q.arrays (λ l. q.words (bank l)) o
     wire_is o listed lt at =
-        wired n lt at
+        wired.wired n lt at
         ∙ ap (λ (z : PlannedOperation). result_of bank z.kind q.words q.arrays (operand_now (planned_view b) (plan_view b p) q wire z.left) (operand_now (planned_view b) (plan_view b
         p) q wire z.right))
         (listed_view b.operations n o listed)
-        ∙ gives o (right.locals n o listed)
+        ∙ gives o
 
-    sized_here : (o : Operation) → IsTypedOperation globals code b.operations o → IsSized code o
-    sized_here (Unary operator ty a) typed = tt
-    sized_here (Binary operator ty a c) typed = tt
-    sized_here (ReadGlobal x i) typed = tt
-    sized_here (WriteGlobal x i a) typed = tt
-    sized_here (ReadArray x count i) typed = typed.1
-    sized_here (WriteArray x count i a) typed = typed.2
+    sized_here : (o : Operation) → IsTypedOperation globals code b.operations o → IsAccess registers.spreads o → IsSized globals code registers o
+    sized_here (Unary operator ty a) typed access = tt
+    sized_here (Binary operator ty a c) typed access = tt
+    sized_here (ReadGlobal x count i) typed access =
+        let declared = declared_at globals x typed.1 in
+        record { spread = access.0; listed = access.1; long = access.2; ty = declared.0; typed = declared.1 }
+    sized_here (WriteGlobal x count i a) typed access = tt
+    sized_here (ReadArray x count i) typed access = typed.1
+    sized_here (WriteArray x count i a) typed access = typed.2
 
   -- ---- one more operation
 
@@ -241,10 +251,10 @@ module _ (globals : List IntegerType) (code : ThreadCode) (registers : Registers
             let same = further_is n o listed in
             let first_state : further_states (operation_view o).kind ≡ 0 → (plan_view b p).start n ≡ q.state = λ z. omega arith in
             let from : (plan_view b p).start n ≤ q.state = omega arith in
-            let shown = next.shows.shows m r q.variables (value_now (planned_view b) (plan_view b p) q wire) q.arrays g obeys sees.arrays
+            let shown = next.shows.shows m r q.variables (value_now (planned_view b) (plan_view b p) q wire) q.arrays (λ l. q.words (bank l)) g obeys sees.arrays wired.told
             (operands_here right old values n before.each bank m r q wire before_it obeys sees wired o (slice_index p.starts n) given.last listed (right.typed.operations n o listed) lt
             (last right ∙ at) first_state from (omega arith))
-            (sized_here right old values n before.each bank m r q wire before_it obeys sees wired o (right.typed.operations n o listed))
+            (sized_here right old values n before.each bank m r q wire before_it obeys sees wired o (right.typed.operations n o listed) (right.accesses n o listed))
             in
             subst (λ (z : ℤ). IsWord m r given.word (value_type globals code o) z)
             (sym (wire_is right old values n before.each bank m r q wire before_it obeys sees wired o listed lt at)) shown;

@@ -36,6 +36,7 @@ registers_after a b base types registers g is = record {
       let v = is.variables x h e in
       record { ty = v.ty; declared = v.declared; says = v.says; stands = stands_after a b base h.register (width_of v.ty) g v.stands };
   kept = λ x h e. stands_after a b base h.register h.width g (is.kept x h e);
+  words = λ n h e l. stands_after a b base h.register h.width g (is.words n h e l);
 }
 
 pub word_stands_after : (a b : List Signal) (base : Base) (ty : IntegerType) (word : Word) → Grows a b → StandsAs a base ty word → StandsAs b base ty word
@@ -233,7 +234,7 @@ element_wired x a b c code registers values array own word t made =
     of_ok x (IsElementWord b c code array word) (IsOperationWord a c code registers values (element_type (slice_get code.arrays array)))
     (λ out u base memories is.
     let first = t base is in
-    word_after base a b c (element_type (slice_get code.arrays array)) out first.wires (u base own memories first.word)) made
+    word_after base a b c (element_type (slice_get code.arrays array)) out first.wires (u base own memories.memories first.word)) made
 
 -- an arm of a match on an operation
 pub operation_wired : {E : Type 0} (x : Result Word E) (a b : List Signal) (globals : List IntegerType) (code : ThreadCode) (registers : Registers) (values : List Given) (ty : IntegerType)
@@ -258,6 +259,13 @@ constant_wired x a b globals code registers values ty operation made same =
     of_ok x (IsConstant a b ty) (IsOperationWord a b code registers values (value_type globals code operation))
     (λ out t base memories is. subst (λ (k : IntegerType). AddsWord base a b k out) same (t base (room a base code.variables registers is.registers))) made
 
+-- 0 where a global has no banks
+pub missing_read : {E : Type 0} (x : Result Word E) (a b : List Signal) (code : ThreadCode) (registers : Registers) (values : List Given) (ty known : IntegerType) → IfOk x (IsConstant a b ty)
+    → ty ≡ known → IfOk x (IsOperationWord a b code registers values known)
+missing_read x a b code registers values ty known made same =
+    of_ok x (IsConstant a b ty) (IsOperationWord a b code registers values known)
+    (λ out t base reads is. subst (λ (k : IntegerType). AddsWord base a b k out) same (t base (room a base code.variables registers is.registers))) made
+
 -- the same word under its type's own width and sign
 pub given_wired : (a b : List Signal) (code : ThreadCode) (registers : Registers) (values : List Given) (ty : IntegerType) (word out : Word) → IsOperationWord a b code registers values ty word
     → out.place ≡ word.place → out.width ≡ width_of ty → out.signed ≡ ty.signed → IsOperationWord a b code registers values ty out
@@ -270,7 +278,7 @@ given_wired a b code registers values ty word out t at wide sign base memories i
 pub given_none : (a : List Signal) (code : ThreadCode) (registers : Registers) → AreGiven a a code registers []
 given_none a code registers base memories is = record { wires = wires_none base a; values = λ k g e. absurd cc }
 
-one_more : (a : List Signal) (base : Base) (values : List Given) (g : Given) (ty : IntegerType) → AreValues a base values → StandsAs a base ty g.word → AreValues a base (values ++ g ∷ [])
+pub one_more : (a : List Signal) (base : Base) (values : List Given) (g : Given) (ty : IntegerType) → AreValues a base values → StandsAs a base ty g.word → AreValues a base (values ++ g ∷ [])
 one_more a base [] g ty is stands zero v e = (ty, (let same : g ≡ v = cc in subst (λ (z : Given). StandsAs a base ty z.word) same stands))
 one_more a base [] g ty is stands (suc k) v e = absurd cc
 one_more a base (w ∷ values) g ty is stands zero v e = is zero v e

@@ -18,7 +18,7 @@ use Rattle.block_ir.specs.Arithmetic.{unary_total, binary_total}
 use Rattle.block_ir.specs.Run.{place_read}
 use Rattle.block_ir.specs.declared.operand.Operand.{Operand}
 use Rattle.block_ir.specs.declared.block.Operation.{Operation}
-use Rattle.block_ir.specs.declared.block.Operation.TheVariants.{Unary, Binary, ReadArray}
+use Rattle.block_ir.specs.declared.block.Operation.TheVariants.{Unary, Binary, ReadGlobal, ReadArray}
 use Rattle.block_ir.specs.declared.code.Array.{Array}
 use Rattle.block_ir.specs.declared.code.ThreadCode.{ThreadCode}
 use Rattle.operator_words.specs.Shown.{unary_result, binary_result}
@@ -61,7 +61,7 @@ unary_given x a b c code registers values last operator ty operand word t made =
     of_ok x (Becomes b c word (unary_result operator ty) (unary_total operator ty)) (AtAnyStart a c code registers values last (Unary operator ty operand))
     (λ out u globals start. record {
       grows = grows_then a b c t.grows u.grows;
-      shows = λ m r variables given arrays g o has seen sized.
+      shows = λ m r variables given arrays told g o has hears seen sized.
           u.shows m r (operand_type operand) (seen_value variables given operand) g o (t.shows m r variables given (grows_then b c m.signals u.grows g) o seen);
     }) made
 
@@ -73,7 +73,7 @@ binary_given x a b c d code registers values last operator ty left right first s
     of_ok x (Combine c d first second (binary_result operator ty) (binary_total operator ty)) (AtAnyStart a d code registers values last (Binary operator ty left right))
     (λ out v globals start. record {
       grows = grows_then a b d t.grows (grows_then b c d u.grows v.grows);
-      shows = λ m r variables given arrays g o has seen sized.
+      shows = λ m r variables given arrays told g o has hears seen sized.
           let later = grows_then c d m.signals v.grows g in
           v.shows m r (operand_type left) (operand_type right) (seen_value variables given left) (seen_value variables given right) g o
           (t.shows m r variables given (grows_then b c m.signals u.grows later) o seen.0) (u.shows m r variables given later o seen.1);
@@ -88,17 +88,18 @@ element_given x a b c code registers values start array index word t made =
     of_ok x (ReadsArray b c code array word) (AtAnyEnd a c code registers values start array index)
     (λ out u globals last n. record {
       grows = grows_then a b c t.grows u.grows;
-      shows = λ m r variables given arrays g o has seen sized.
+      shows = λ m r variables given arrays told g o has hears seen sized.
           let own : Array = sized.0 in
           let first = t.shows m r variables given (grows_then b c m.signals u.grows g) o seen in
-          element_word m r code globals array n index out own variables given arrays sized.1 sized.2
+          element_word m r code globals array n index out own variables given arrays told sized.1 sized.2
           (u.shows m r (operand_type index) (seen_value variables given index) own arrays g o has sized.1 first);
     }) made
   where
     element_word : (m : Module) (r : Reading) (code : ThreadCode) (globals : List IntegerType) (array n : ℕ) (index : Operand) (out : Word) (own : Array) (variables given : ℕ → ℤ)
-        (arrays : Memory ℤ) → slice_get code.arrays array ≡ Some own → own.length ≡ n → IsWord m r out own.ty (arrays (element_at array (place_read own.length (seen_value variables given index))))
-        → IsWord m r out (value_type globals code (ReadArray array n index)) (operation_value variables given arrays (ReadArray array n index))
-    element_word m r code globals array n index out own variables given arrays e f is = rw e
+        (arrays told : Memory ℤ) → slice_get code.arrays array ≡ Some own → own.length ≡ n →
+        IsWord m r out own.ty (arrays (element_at array (place_read own.length (seen_value variables given index))))
+        → IsWord m r out (value_type globals code (ReadArray array n index)) (operation_value variables given arrays told (ReadArray array n index))
+    element_word m r code globals array n index out own variables given arrays told e f is = rw e
         (subst (λ k. IsWord m r out own.ty (arrays (element_at array (place_read k (seen_value variables given index))))) f is)
 
 pub no_array : {E : Type 0} (x : Result Word E) (a b : List Signal) (code : ThreadCode) (array : ℕ) (index : Word) (ty : IntegerType) (v : ℤ)
@@ -242,15 +243,15 @@ address_widened x a b index size small made =
 
 -- a word of 0
 pub zero_given : {E : Type 0} (x : Result Word E) (a b : List Signal) (globals : List IntegerType) (code : ThreadCode) (registers : Registers) (values : List Given) (start last : ℕ)
-    (operation known : Operation) (ty : IntegerType) (z : ℤ) → operation ≡ known → ((variables given : ℕ → ℤ) (arrays : Memory ℤ) → operation_value variables given arrays known ≡ pos 0)
+    (operation known : Operation) (ty : IntegerType) (z : ℤ) → operation ≡ known → ((variables given : ℕ → ℤ) (arrays told : Memory ℤ) → operation_value variables given arrays told known ≡ pos 0)
     → IfOk x (Holds a b ty (wrapped ty z)) → ty ≡ value_type globals code operation → z ≡ pos 0 → IfOk x (ShowsOperation a b globals code registers values start last operation)
 zero_given x a b globals code registers values start last operation known ty z is f made e g =
     of_ok x (Holds a b ty (wrapped ty z)) (ShowsOperation a b globals code registers values start last operation)
     (λ out t. record {
       grows = t.grows;
-      shows = λ m r variables given arrays grows o has seen sized.
+      shows = λ m r variables given arrays told grows o has hears seen sized.
           let zeroed : IsWord m r out ty (wrapped ty (pos 0)) = subst (λ (k : ℤ). IsWord m r out ty (wrapped ty k)) g (t.shows m r grows o) in
-          subst (λ (k : ℤ). IsWord m r out (value_type globals code operation) k) (sym (ap (operation_value variables given arrays) is ∙ f variables given arrays))
+          subst (λ (k : ℤ). IsWord m r out (value_type globals code operation) k) (sym (ap (operation_value variables given arrays told) is ∙ f variables given arrays told))
           (subst (λ (k : IntegerType). IsWord m r out k (pos 0)) e (own_word m r out ty (pos 0) (has_zero ty) zeroed));
     }) made
 
@@ -268,6 +269,15 @@ of_end x a b globals code registers values start last operation array n index e 
     subst (λ (o : Operation). IfOk x (ShowsOperation a b globals code registers values start last o)) (sym e)
     (of_ok x (AtAnyEnd a b code registers values start array index) (ShowsOperation a b globals code registers values start last (ReadArray array n index)) (λ out t. t globals last n) made)
 
+pub of_read : {E : Type 0} (x : Result Word E) (a b : List Signal) (globals : List IntegerType) (code : ThreadCode) (registers : Registers) (values : List Given) (start last : ℕ)
+    (operation : Operation) (global n : ℕ) (index : Operand) → operation ≡ ReadGlobal global n index
+    → IfOk x (λ out. (start n : ℕ) → ShowsOperation a b globals code registers values start last (ReadGlobal global n index) out)
+    → IfOk x (ShowsOperation a b globals code registers values start last operation)
+of_read x a b globals code registers values start last operation global n index e made =
+    subst (λ (o : Operation). IfOk x (ShowsOperation a b globals code registers values start last o)) (sym e)
+    (of_ok x (λ out. (start n : ℕ) → ShowsOperation a b globals code registers values start last (ReadGlobal global n index) out)
+    (ShowsOperation a b globals code registers values start last (ReadGlobal global n index)) (λ out t. t start n) made)
+
 -- ---- what is kept of an operation
 
 retyped : (a b : List Signal) (globals : List IntegerType) (code : ThreadCode) (registers : Registers) (values : List Given) (start last : ℕ) (operation : Operation) (word out : Word)
@@ -275,8 +285,8 @@ retyped : (a b : List Signal) (globals : List IntegerType) (code : ThreadCode) (
     → out.signed ≡ (value_type globals code operation).signed → ShowsOperation a b globals code registers values start last operation out
 retyped a b globals code registers values start last operation word out t place says sign = record {
   grows = t.grows;
-  shows = λ m r variables given arrays g o has seen sized.
-      let is = t.shows m r variables given arrays g o has seen sized in
+  shows = λ m r variables given arrays told g o has hears seen sized.
+      let is = t.shows m r variables given arrays told g o has hears seen sized in
       record { says = says; sign = sign; wide = ap (width m) place ∙ is.wide; shows = ap r.signal place ∙ is.shows; typed = is.typed };
 }
 

@@ -7,7 +7,7 @@ use Rattle.block_ir.specs.declared.block.Block.{Block}
 use Rattle.block_ir.specs.declared.code.ThreadCode.{ThreadCode}
 use Rattle.block_ir.specs.declared.plan.BlockPlan.{BlockPlan}
 use Rattle.planned_block.specs.Block.{finished, leads_to}
-use Rattle.planned_block.specs.Slot.{Slot, operand_now, IsWired, RegistersAfter}
+use Rattle.planned_block.specs.Slot.{Slot, operand_now, RegistersAfter}
 use Rattle.planned_view.specs.View.{planned_view, plan_view}
 use Rattle.netlist.specs.declared.netlist.Signal.{Signal}
 use Rattle.netlist.specs.declared.netlist.Module.{Module}
@@ -21,7 +21,7 @@ use Rattle.block_ir.specs.declared.block.Operation.{Operation}
 use Rattle.block_datapath.specs.declared.registers.Held.{Held}
 use Rattle.thread_promise.specs.Types.{value_type}
 use Rattle.thread_promise.specs.Slots.{IsAlive}
-use Rattle.block_datapath.specs.Operations.{SeesSlot, IsRight, ShowsFirst}
+use Rattle.block_datapath.specs.Operations.{SeesSlot, IsFed, IsRight, ShowsFirst}
 use Rattle.block_datapath.specs.Chains.{next_number, TellsStage, IsMoment, KeepsNone}
 
 -- ---- registers for values
@@ -47,7 +47,7 @@ module _ (globals : List IntegerType) (code : ThreadCode) (registers : Registers
     pub count : length after ≡ length before
     pub rests : KeepsNone new end_at before after
     pub keeps : (bank : Location → ℕ) (m : Module) (r : Reading) (q : Slot) (wire : ℕ → ℤ) → IsRight globals code registers b p → Grows new m.signals → Obeys m r →
-        IsMoment m r registers end_at (max 1 p.states) true q.state → SeesSlot globals code registers b p m r q → IsWired bank (planned_view b) (plan_view b p) q wire →
+        IsMoment m r registers end_at (max 1 p.states) true q.state → SeesSlot globals code registers b p m r q → IsFed globals code registers b p bank m r q wire →
         KeepsSo m r q wire before after
 
 -- ---- the block at stage l
@@ -93,7 +93,7 @@ module _ (globals : List IntegerType) (code : ThreadCode) (registers : Registers
       pub wide : (m : Module) → Grows new m.signals → width m left.last ≡ 1
       pub rests : (m : Module) (r : Reading) → Grows new m.signals → Obeys m r → HasStage registers l m r → r.signal registers.stage.register ≢ l → RestsSo r
       pub moves : (bank : Location → ℕ) (m : Module) (r : Reading) (q : Slot) (wire : ℕ → ℤ) → IsRight globals code registers b p → Grows new m.signals → Obeys m r → IsInStage m r q →
-          SeesSlot globals code registers b p m r q → IsWired bank (planned_view b) (plan_view b p) q wire → FinishesSo m r q wire
+          SeesSlot globals code registers b p m r q → IsFed globals code registers b p bank m r q wire → FinishesSo m r q wire
 
     -- A BLOCK AT A STAGE: the same, of the registers for values too
     pub record LeavesBlock (kept kept_after : List ℕ) (old new : List Signal) : Type 0 where
@@ -111,5 +111,5 @@ module _ (globals : List IntegerType) (code : ThreadCode) (registers : Registers
       pub kept_rests : (m : Module) (r : Reading) (x : ℕ) → Grows new m.signals → Obeys m r → HasStage registers l m r → r.signal registers.stage.register ≢ l → x < length kept →
           next_number r kept_after x ≡ next_number r kept x
       pub moves : (bank : Location → ℕ) (m : Module) (r : Reading) (q : Slot) (wire : ℕ → ℤ) → IsRight globals code registers b p → Grows new m.signals → Obeys m r → IsInStage m r q →
-          SeesSlot globals code registers b p m r q → IsWired bank (planned_view b) (plan_view b p) q wire →
+          SeesSlot globals code registers b p m r q → IsFed globals code registers b p bank m r q wire →
           FinishesSo m r q wire × KeepsSo globals code registers b p m r q wire kept kept_after

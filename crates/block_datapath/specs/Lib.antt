@@ -4,3 +4,6 @@ pub mod Chains
 pub mod Ending
 pub mod Leave
 pub mod Wired
+pub mod Requests
+pub mod Accesses
+pub mod Told

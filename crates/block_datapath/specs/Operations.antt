@@ -1,10 +1,11 @@
 -- What the operations of a block give, and what their words show.
-use Rattle.std.specs.Prelude.{◌≡◌, ℕ, ◌<◌, ◌≤◌, ◌+◌, ◌^◌, List, length, Some, slice_get, slice_index, ℤ, pos, negsuc}
+use Rattle.std.specs.Prelude.{◌≡◌, ℕ, ◌<◌, ◌≤◌, ◌+◌, ◌%◌, ◌^◌, List, length, Some, slice_get, slice_index, ℤ, pos, negsuc}
 use Rattle.interleaving.specs.Memory.{Location, Memory}
 use Rattle.hls_ints.specs.Residues.{residue_of}
 use Rattle.hls_ints.specs.Types.{IntegerType, HasType, width_of}
 use Rattle.block_ir.specs.Arithmetic.{unary_total, binary_total}
-use Rattle.block_ir.specs.Run.{place_read}
+use Rattle.bank_partition.specs.declared.banks.Spread.{Spread}
+use Rattle.block_ir.specs.Run.{place_read, global_read}
 use Rattle.block_ir.specs.declared.operand.Operand.{Operand}
 use Rattle.block_ir.specs.declared.block.Operation.{Operation}
 use Rattle.block_ir.specs.declared.block.Operation.TheVariants.{Unary, Binary, ReadGlobal, WriteGlobal, ReadArray, WriteArray}
@@ -12,21 +13,23 @@ use Rattle.block_ir.specs.declared.block.Block.{Block}
 use Rattle.block_ir.specs.declared.code.Array.{Array}
 use Rattle.block_ir.specs.declared.code.ThreadCode.{ThreadCode}
 use Rattle.block_ir.specs.declared.plan.BlockPlan.{BlockPlan}
-use Rattle.planned_block.specs.Block.{operand_value}
+use Rattle.planned_block.specs.Block.{operand_value, element}
 use Rattle.planned_block.specs.Plan.{last_state, further_states, KeepsOrders}
 use Rattle.planned_block.specs.Slot.{Slot, IsWired}
 use Rattle.planned_view.specs.View.{operand_view, operation_view, planned_view, plan_view, register_at}
 use Rattle.netlist.specs.declared.netlist.Signal.{Signal}
 use Rattle.netlist.specs.declared.netlist.Memory.{Memory as Words}
 use Rattle.netlist.specs.declared.netlist.Module.{Module}
-use Rattle.verilog_meaning.specs.Readings.{Reading}
+use Rattle.verilog_meaning.specs.Readings.{Reading, width}
 use Rattle.circuit.specs.Modules.{Obeys}
 use Rattle.operator_wires.specs.declared.words.Word.{Word}
 use Rattle.operator_wires.specs.Gives.{Grows}
 use Rattle.operator_wires.specs.Words.{IsWord}
+use Rattle.block_datapath.specs.declared.registers.Held.{Held}
 use Rattle.block_datapath.specs.declared.registers.Registers.{Registers}
 use Rattle.block_datapath.specs.declared.operands.Given.{Given}
 use Rattle.thread_promise.specs.Types.{value_type, IsOfLength, IsTypedBlock}
+use Rattle.thread_promise.specs.Globals.{IsSmallPower, IsAccess}
 use Rattle.block_datapath.specs.Seen.{IsVariable, IsKept, SeesSource}
 use Rattle.thread_promise.specs.Slots.{element_at, IsAlive}
 
@@ -34,14 +37,29 @@ use Rattle.thread_promise.specs.Slots.{element_at, IsAlive}
 abbrev pub seen_value : (ℕ → ℤ) → (ℕ → ℤ) → Operand → ℤ
 seen_value variables given o = operand_value variables given (operand_view o)
 
--- what an operation gives; accesses of globals are made elsewhere
-abbrev pub operation_value : (ℕ → ℤ) → (ℕ → ℤ) → Memory ℤ → Operation → ℤ
-operation_value variables given arrays (Unary operator ty a) = unary_total operator ty (seen_value variables given a)
-operation_value variables given arrays (Binary operator ty a b) = binary_total operator ty (seen_value variables given a) (seen_value variables given b)
-operation_value variables given arrays (ReadGlobal x i) = pos 0
-operation_value variables given arrays (WriteGlobal x i a) = pos 0
-operation_value variables given arrays (ReadArray x n i) = arrays (element_at x (place_read n (seen_value variables given i)))
-operation_value variables given arrays (WriteArray x n i a) = pos 0
+-- what an operation gives, where banks tell these words of elements
+abbrev pub operation_value : (ℕ → ℤ) → (ℕ → ℤ) → Memory ℤ → Memory ℤ → Operation → ℤ
+operation_value variables given arrays told (Unary operator ty a) = unary_total operator ty (seen_value variables given a)
+operation_value variables given arrays told (Binary operator ty a b) = binary_total operator ty (seen_value variables given a) (seen_value variables given b)
+operation_value variables given arrays told (ReadGlobal x n i) = told (element x (pos (global_read n (seen_value variables given i))))
+operation_value variables given arrays told (WriteGlobal x n i a) = pos 0
+operation_value variables given arrays told (ReadArray x n i) = arrays (element_at x (place_read n (seen_value variables given i)))
+operation_value variables given arrays told (WriteArray x n i a) = pos 0
+
+-- the input of bank n tells this value
+pub record IsTold (registers : Registers) (m : Module) (r : Reading) (n : ℕ) (ty : IntegerType) (v : ℤ) : Type 0 where
+  pub held : Held
+  pub listed : slice_get registers.words n ≡ Some held
+  pub says : held.width ≡ width_of ty
+  pub wide : width m held.register ≡ width_of ty
+  pub shows : r.signal held.register ≡ residue_of (width_of ty) v
+  pub typed : HasType ty v
+
+-- banks tell these words of elements, each on the input of the bank that the last bits of an index name
+pub record HasTold (globals : List IntegerType) (registers : Registers) (m : Module) (r : Reading) (told : Memory ℤ) : Type 0 where
+  pub fits : (x : ℕ) (s : Spread) → slice_get registers.spreads x ≡ Some s → IsSmallPower s.count × (s.first + s.count < 2 ^ 64)
+  pub words : (x : ℕ) (s : Spread) (ty : IntegerType) (v : ℤ) → slice_get registers.spreads x ≡ Some s → slice_get globals x ≡ Some ty →
+      IsTold registers m r (s.first + residue_of 64 v % s.count) ty (told (element x (pos (global_read s.length v))))
 
 -- the memories of a module are the arrays of the code, and show these elements; the place past the end of an array holds 0
 pub record HasArrays (code : ThreadCode) (m : Module) (r : Reading) (arrays : Memory ℤ) : Type 0 where
@@ -52,7 +70,8 @@ pub record HasArrays (code : ThreadCode) (m : Module) (r : Reading) (arrays : Me
   -- so few that no negative index is a number of a word
   pub few : (a : ℕ) (array : Array) → slice_get code.arrays a ≡ Some array → array.length < 2 ^ 31
 
--- the operands that an operation's value needs can be seen: of an operator in its last state, of an access in its first one
+-- the operands that an operation's value needs can be seen: of an operator and a read of a global in its last state, of an access of an array in
+-- its first one
 module _ (m : Module) (r : Reading) (registers : Registers) (code : ThreadCode) (values : List Given) (start last : ℕ) (variables given : ℕ → ℤ) where
   abbrev pub Sees : ℕ → Operand → Type 0
   Sees state o = SeesSource m r registers code.variables values state variables given o.source
@@ -60,8 +79,8 @@ module _ (m : Module) (r : Reading) (registers : Registers) (code : ThreadCode) 
   abbrev pub SeesOperands : Operation → Type 0
   SeesOperands (Unary operator ty a) = Sees last a
   SeesOperands (Binary operator ty a b) = Sees last a × Sees last b
-  SeesOperands (ReadGlobal x i) = Unit {0}
-  SeesOperands (WriteGlobal x i a) = Unit {0}
+  SeesOperands (ReadGlobal x n i) = Sees last i
+  SeesOperands (WriteGlobal x n i a) = Unit {0}
   SeesOperands (ReadArray x n i) = Sees start i
   SeesOperands (WriteArray x n i a) = Unit {0}
 
@@ -70,14 +89,22 @@ abbrev pub IsOutside : ℕ → ℤ → Type 0
 IsOutside n (pos i) = n ≤ i
 IsOutside n (negsuc i) = Unit {0}
 
--- an access of an array says its length
-abbrev pub IsSized : ThreadCode → Operation → Type 0
-IsSized code (Unary operator ty a) = Unit {0}
-IsSized code (Binary operator ty a b) = Unit {0}
-IsSized code (ReadGlobal x i) = Unit {0}
-IsSized code (WriteGlobal x i a) = Unit {0}
-IsSized code (ReadArray x n i) = IsOfLength code x n
-IsSized code (WriteArray x n i a) = IsOfLength code x n
+-- a global has this length, and a type
+pub record IsGlobal (globals : List IntegerType) (spreads : List Spread) (x n : ℕ) : Type 0 where
+  pub spread : Spread
+  pub listed : slice_get spreads x ≡ Some spread
+  pub long : spread.length ≡ n
+  pub ty : IntegerType
+  pub typed : slice_get globals x ≡ Some ty
+
+-- an access of an array, and a read of a global, says its length
+abbrev pub IsSized : List IntegerType → ThreadCode → Registers → Operation → Type 0
+IsSized globals code registers (Unary operator ty a) = Unit {0}
+IsSized globals code registers (Binary operator ty a b) = Unit {0}
+IsSized globals code registers (ReadGlobal x n i) = IsGlobal globals registers.spreads x n
+IsSized globals code registers (WriteGlobal x n i a) = Unit {0}
+IsSized globals code registers (ReadArray x n i) = IsOfLength code x n
+IsSized globals code registers (WriteArray x n i a) = IsOfLength code x n
 
 module _ (old new : List Signal) where
   -- the address of an index: its own number where it is one of so many, and else none of their numbers
@@ -94,9 +121,9 @@ module _ (old new : List Signal) where
   -- THE WORD OF AN OPERATION shows what it gives, in each reading in which its operands can be seen
   pub record ShowsOperation (globals : List IntegerType) (code : ThreadCode) (registers : Registers) (values : List Given) (start last : ℕ) (operation : Operation) (out : Word) : Type 0 where
     pub grows : Grows old new
-    pub shows : (m : Module) (r : Reading) (variables given : ℕ → ℤ) (arrays : Memory ℤ) → Grows new m.signals → Obeys m r → HasArrays code m r arrays →
-        SeesOperands m r registers code values start last variables given operation → IsSized code operation →
-        IsWord m r out (value_type globals code operation) (operation_value variables given arrays operation)
+    pub shows : (m : Module) (r : Reading) (variables given : ℕ → ℤ) (arrays told : Memory ℤ) → Grows new m.signals → Obeys m r → HasArrays code m r arrays →
+        HasTold globals registers m r told → SeesOperands m r registers code values start last variables given operation → IsSized globals code registers operation →
+        IsWord m r out (value_type globals code operation) (operation_value variables given arrays told operation)
 
   -- the same of what is kept of it
   pub record GivesOperation (globals : List IntegerType) (code : ThreadCode) (registers : Registers) (values : List Given) (plan : BlockPlan) (k : ℕ) (operation : Operation) (given :
@@ -109,14 +136,6 @@ module _ (old new : List Signal) where
 
 -- ---- the operations of a block
 
-abbrev pub IsLocal : Operation → Type 0
-IsLocal (Unary operator ty a) = Unit {0}
-IsLocal (Binary operator ty a b) = Unit {0}
-IsLocal (ReadGlobal x i) = ⊥
-IsLocal (WriteGlobal x i a) = ⊥
-IsLocal (ReadArray x n i) = Unit {0}
-IsLocal (WriteArray x n i a) = Unit {0}
-
 module _ (globals : List IntegerType) (code : ThreadCode) (registers : Registers) (b : Block) (p : BlockPlan) where
   -- a reading shows a slot in this block
   pub record SeesSlot (m : Module) (r : Reading) (q : Slot) : Type 0 where
@@ -124,10 +143,15 @@ module _ (globals : List IntegerType) (code : ThreadCode) (registers : Registers
     pub arrays : HasArrays code m r q.arrays
     pub alive : (k n : ℕ) (t : IsAlive b p q k n) → IsKept m r registers (Some n) (value_type globals code t.operation) (q.registers n)
 
-  -- the block is right: its operands have the types that they say, it accesses no global, and its plan keeps its orders
+  -- its wires are those of the planned block, and banks tell the words that the slot has
+  pub record IsFed (bank : Location → ℕ) (m : Module) (r : Reading) (q : Slot) (wire : ℕ → ℤ) : Type 0 where
+    pub wired : IsWired bank (planned_view b) (plan_view b p) q wire
+    pub told : HasTold globals registers m r (λ l. q.words (bank l))
+
+  -- the block is right: its operands have the types that they say, its accesses the lengths, and its plan keeps its orders
   pub record IsRight : Type 0 where
     pub typed : IsTypedBlock globals code b
-    pub locals : (k : ℕ) (o : Operation) → slice_get b.operations k ≡ Some o → IsLocal o
+    pub accesses : (k : ℕ) (o : Operation) → slice_get b.operations k ≡ Some o → IsAccess registers.spreads o
     pub keeps : KeepsOrders (planned_view b) (plan_view b p)
     pub small : p.states < 2 ^ 64
 
@@ -138,7 +162,7 @@ module _ (globals : List IntegerType) (code : ThreadCode) (registers : Registers
     pub last : IsRight → given.last ≡ last_state (planned_view b) (plan_view b p) k
     pub register : given.register ≡ (plan_view b p).register k
     pub shows : (bank : Location → ℕ) (m : Module) (r : Reading) (q : Slot) (wire : ℕ → ℤ) → IsRight → Grows new m.signals → Obeys m r → SeesSlot m r q →
-        IsWired bank (planned_view b) (plan_view b p) q wire → last_state (planned_view b) (plan_view b p) k ≡ q.state →
+        IsFed bank m r q wire → last_state (planned_view b) (plan_view b p) k ≡ q.state →
         IsWord m r given.word (value_type globals code o) (wire k)
 
   -- THE VALUES OF THE FIRST n OPERATIONS, one after the other

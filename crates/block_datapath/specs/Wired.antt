@@ -3,6 +3,8 @@ use Rattle.std.specs.Prelude.{◌≡◌, ℕ, ◌<◌, ◌≤◌, ◌^◌, List,
 use Rattle.hls_ints.specs.Types.{IntegerType, width_of}
 use Rattle.netlist.specs.declared.netlist.Signal.{Signal}
 use Rattle.netlist.specs.declared.netlist.Memory.{Memory}
+use Rattle.bank_partition.specs.declared.banks.Spread.{Spread}
+use Rattle.thread_promise.specs.Globals.{IsSmallPower}
 use Rattle.block_ir.specs.declared.code.Array.{Array}
 use Rattle.block_ir.specs.declared.code.ThreadCode.{ThreadCode}
 use Rattle.block_ir.specs.declared.plan.BlockPlan.{BlockPlan}
@@ -22,6 +24,12 @@ pub record HasMemories (base : Base) (code : ThreadCode) : Type 0 where
   pub each : (a : ℕ) (array : Array) → slice_get code.arrays a ≡ Some array →
       (s : Memory) × (base.memory a ≡ Some s) × (s.width ≡ width_of array.ty) × (length s.initial ≡ array.length)
 
+-- what wires may read besides earlier wires: memories, and the inputs on which banks tell words, which are 1, 2, 4 or 8 for each global
+pub record CanRead (base : Base) (code : ThreadCode) (registers : Registers) : Type 0 where
+  pub memories : HasMemories base code
+  pub words : (n : ℕ) (h : Held) → slice_get registers.words n ≡ Some h → base.first ≤ h.register
+  pub powers : (x : ℕ) (s : Spread) → slice_get registers.spreads x ≡ Some s → IsSmallPower s.count
+
 module _ (signals : List Signal) (base : Base) where
   -- variable x has a type, and its register has this width
   pub record IsVariableRegister (types : List IntegerType) (x : ℕ) (h : Held) : Type 0 where
@@ -37,6 +45,8 @@ module _ (signals : List Signal) (base : Base) where
     pub beat : IsEarlier signals base registers.beat 1
     pub variables : (x : ℕ) (h : Held) → slice_get registers.variables x ≡ Some h → IsVariableRegister types x h
     pub kept : (x : ℕ) (h : Held) → slice_get registers.kept x ≡ Some h → IsEarlier signals base h.register h.width
+    -- and inputs of banks, where they may be read
+    pub words : (n : ℕ) (h : Held) → slice_get registers.words n ≡ Some h → base.first ≤ h.register → IsEarlier signals base h.register h.width
 
   -- values are words of types
   abbrev pub AreValues : List Given → Type 0
@@ -105,9 +115,9 @@ module _ (base : Base) (old new : List Signal) where
     pub block : AddsBlock registers variables left
     pub kept : AreChains new base registers.kept nexts
 
--- a stage for whose numbers the registers have room, of a code whose arrays are the memories of the base
+-- a stage for whose numbers the registers have room, of a code that can be read
 pub record FitsStage (base : Base) (code : ThreadCode) (registers : Registers) (l : ℕ) (p : BlockPlan) : Type 0 where
-  pub arrays : HasMemories base code
+  pub reads : CanRead base code registers
   pub stage : l < 2 ^ registers.stage.width
   pub stages : length code.stages < 2 ^ registers.stage.width
   pub states : p.states ≤ 2 ^ registers.state.width
@@ -137,7 +147,7 @@ module _ (old new : List Signal) where
 
   -- words of operations, where the memories are the arrays of the code
   abbrev pub IsOperationWord : ThreadCode → Registers → List Given → IntegerType → Word → Type 0
-  IsOperationWord code registers values ty out = (base : Base) → HasMemories base code → AreSources old base code.variables registers values → AddsWord base old new ty out
+  IsOperationWord code registers values ty out = (base : Base) → CanRead base code registers → AreSources old base code.variables registers values → AddsWord base old new ty out
 
   -- of an element of an array: 0 where there is no such array
   abbrev pub IsElementWord : ThreadCode → ℕ → Word → Word → Type 0
@@ -149,7 +159,7 @@ module _ (old new : List Signal) where
   IsAddress index size place = (base : Base) (ty : IntegerType) → StandsAs old base ty index → AddsAddress base old new size place
 
   abbrev pub AreGiven : ThreadCode → Registers → List Given → Type 0
-  AreGiven code registers values = (base : Base) → HasMemories base code → AreRegisters old base code.variables registers → AddsValues base old new values
+  AreGiven code registers values = (base : Base) → CanRead base code registers → AreRegisters old base code.variables registers → AddsValues base old new values
 
   -- bits of states
   abbrev pub IsStateBit : Registers → Moment → ℕ → Type 0

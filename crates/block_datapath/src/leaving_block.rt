@@ -29,7 +29,7 @@ pub struct Left {
 }
 
 /// The last state of a plan.
-fn end_of(at: usize, plan: &BlockPlan) -> Moment
+pub fn end_of(at: usize, plan: &BlockPlan) -> Moment
     ensures at { result.at ≡ at }
     ensures state { result.state ≡ max 1 plan.now.states - 1 }
     ensures states { result.states ≡ max 1 plan.now.states }

@@ -19,6 +19,9 @@
 // - operands: in a reading that shows a slot of this stage and state, an operand's word shows `operand_now` of the
 //   planned block: an earlier value is on its wire, or alive in its register;
 // - operations: the same of each operation's word and the wires of the planned block, by induction over the operations;
+// - told: a read of a global takes, in its last state, the word that the bank of its index tells on an input;
+// - requests, accesses: what each bank is asked in a state, by wires that read registers alone: what the last access asks
+//   that starts in this state and whose index names the bank;
 // - states: bits tell the stage and the state;
 // - keeping, ending: what a register for values and a variable hold next is the last of the links of its chain whose bit
 //   is set, and the stage that follows is the one to which the block leads;
@@ -32,11 +35,14 @@
 // Of accesses past an array's end nothing is said: a step of the source that makes one is undefined. Arrays that are
 // written are not spoken of yet.
 
+pub mod accesses;
 pub mod ending;
 mod keeping;
 pub mod leaving_block;
 pub mod operands;
 pub mod operations;
 pub mod registers;
+pub mod requests;
 pub mod states;
 mod timing;
+mod told;

@@ -12,6 +12,7 @@ ghost use Rattle.block_ir.specs.declared.block.Operation.TheVariants as operatio
 use crate::operands::{Given, operand_word};
 use crate::registers::Registers;
 use crate::timing::further_states;
+use crate::told::told_value;
 use block_ir::block::{Block, Operation};
 use block_ir::code::{Array, ThreadCode};
 use block_ir::operand::Operand;
@@ -39,7 +40,8 @@ pub fn value_type(operation: &Operation, code: &ThreadCode, globals: &[CType]) -
     }
 }
 
-fn global_type(globals: &[CType], global: usize) -> CType
+/// The type of the elements of a global. A number that is no global's has the type int.
+pub fn global_type(globals: &[CType], global: usize) -> CType
     ensures { result ≡ or_int (slice_get globals.now global) }
 {
     match globals.get(global) {
@@ -185,10 +187,18 @@ fn operation_word(
                 index,
             )
         }
-        Operation::ReadGlobal { .. } => wires.constant_word(
-            value_type(operation, code, globals),
-            0,
-        ),
+        Operation::ReadGlobal { global, index, .. } => {
+            told_value(
+                wires,
+                registers,
+                code,
+                globals,
+                values,
+                last,
+                *global as usize,
+                index,
+            )
+        }
         Operation::WriteGlobal { .. } => wires.constant_word(CType::INT, 0),
         Operation::WriteArray { .. } => wires.constant_word(CType::INT, 0),
     }

@@ -4,6 +4,7 @@ ghost use Rattle.std.specs.Prelude.{◌≡◌, ◌<◌, slice_get, length, Some,
 ghost use Rattle.block_datapath.specs.Wired.{IsLinked};
 ghost use Rattle.block_datapath.specs.Chains.{SetsNext};
 
+use bank_partition::banks::Spread;
 use operator_wires::wires::Wires;
 use sqlite_items::Items;
 use std::alloc::AllocError;
@@ -25,6 +26,10 @@ pub struct Registers {
     pub variables: Items<Held>,
     /// Registers for values of operations, each as wide as the widest of them.
     pub kept: Items<Held>,
+    /// For each bank the input on which it tells the word last read.
+    pub words: Items<Held>,
+    /// For each global where its banks are among them.
+    pub spreads: Items<Spread>,
 }
 
 /// Where a condition holds the register of that number, if there is one, gets what another signal of its width shows,

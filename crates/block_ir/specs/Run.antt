@@ -1,5 +1,6 @@
 -- What a run of a block does: the values of its operations, its reads and writes in order, and what it leaves.
-use Rattle.std.specs.Prelude.{ℕ, suc, ◌&&◌, nat_eq, nat_lt, if◌then◌else◌, List, [], ◌∷◌, ◌++◌, ℤ, pos, negsuc, Option, Some, None, slice_get}
+use Rattle.std.specs.Prelude.{ℕ, suc, ◌+◌, ◌*◌, ◌&&◌, nat_eq, nat_lt, if◌then◌else◌, List, [], ◌∷◌, ◌++◌, ℤ, pos, negsuc, Option, Some, None, slice_get}
+use Rattle.hls_ints.specs.Residues.{residue_of}
 use Rattle.hls_ints.specs.Types.{IntegerType, wrapped}
 use Rattle.hls_ints.specs.Operators.{is_zero}
 use Rattle.block_ir.specs.Arithmetic.{unary_total, binary_total}
@@ -50,6 +51,16 @@ abbrev pub place_written : ℕ → ℤ → ℕ
 place_written n (pos j) = if nat_lt j n then j else suc n
 place_written n (negsuc j) = suc n
 
+-- A global's elements stand in up to eight banks, and the last bits of an index tell its bank. So beyond its n elements a global has
+-- sixteen places more, eight for each of the two, with the last three bits of the index.
+abbrev pub global_read : ℕ → ℤ → ℕ
+global_read n (pos j) = if nat_lt j n then j else 16 * suc n + residue_of 3 (pos j)
+global_read n (negsuc j) = 16 * suc n + residue_of 3 (negsuc j)
+
+abbrev pub global_written : ℕ → ℤ → ℕ
+global_written n (pos j) = if nat_lt j n then j else 16 * suc n + 8 + residue_of 3 (pos j)
+global_written n (negsuc j) = 16 * suc n + 8 + residue_of 3 (negsuc j)
+
 abbrev pub converted : List IntegerType → ℤ → ℤ
 converted [] v = v
 converted (ty ∷ types) v = converted types (wrapped ty v)
@@ -70,17 +81,17 @@ module _ (variables : ℕ → ℤ) where
   abbrev pub operation_run : Operation → Running → Running
   operation_run (Unary operator ty a) r = with_value (unary_total operator ty (operand_value r.values a)) r
   operation_run (Binary operator ty a b) r = with_value (binary_total operator ty (operand_value r.values a) (operand_value r.values b)) r
-  operation_run (ReadGlobal x i) r = record {
-    values = r.values ++ r.globals x (index_of (operand_value r.values i)) ∷ [];
+  operation_run (ReadGlobal x n i) r = record {
+    values = r.values ++ r.globals x (global_read n (operand_value r.values i)) ∷ [];
     arrays = r.arrays;
     globals = r.globals;
-    accesses = r.accesses ++ Read x (index_of (operand_value r.values i)) ∷ [];
+    accesses = r.accesses ++ Read x (global_read n (operand_value r.values i)) ∷ [];
   }
-  operation_run (WriteGlobal x i a) r = record {
+  operation_run (WriteGlobal x n i a) r = record {
     values = r.values ++ pos 0 ∷ [];
     arrays = r.arrays;
-    globals = with_cell x (index_of (operand_value r.values i)) (operand_value r.values a) r.globals;
-    accesses = r.accesses ++ Write x (index_of (operand_value r.values i)) (operand_value r.values a) ∷ [];
+    globals = with_cell x (global_written n (operand_value r.values i)) (operand_value r.values a) r.globals;
+    accesses = r.accesses ++ Write x (global_written n (operand_value r.values i)) (operand_value r.values a) ∷ [];
   }
   operation_run (ReadArray x n i) r = with_value (r.arrays x (place_read n (operand_value r.values i))) r
   operation_run (WriteArray x n i a) r = record {

@@ -8,8 +8,8 @@ use sqlite_items::Items;
 /// An operation: an operator, or an access of a global or of a local array.
 ///
 /// An operator converts its operands to the type in which it works, but for the count of a shift. Operations are total:
-/// where C leaves a step undefined they give what the hardware gives. So an access of a local array says how many elements
-/// the array has.
+/// where C leaves a step undefined they give what the hardware gives. So an access of a global or of a local array says
+/// how many elements that has; a scalar has one.
 #[derive(Drop)]
 pub enum Operation {
     Unary {
@@ -25,10 +25,12 @@ pub enum Operation {
     },
     ReadGlobal {
         global: u32,
+        length: u64,
         index: Operand,
     },
     WriteGlobal {
         global: u32,
+        length: u64,
         index: Operand,
         value: Operand,
     },

@@ -1,7 +1,9 @@
 -- Cycles and runs of the net are steps and runs of the machine, from state to state.
-use Rattle.std.proofs.Common.{◌≡◌, ℕ, ◌^◌, ◌<◌, List, [], ◌∷◌, subst, arith}
+use Rattle.std.proofs.Common.{◌≡◌, ℕ, suc, ◌^◌, ◌<◌, List, [], ◌∷◌, length, subst}
 use Rattle.std.proofs.lemmas.List.{append-nil}
 use Rattle.c_program.specs.Tree.{Program}
+use Rattle.bank_partition.specs.declared.banks.Spread.{Spread}
+use Rattle.bank_cores.specs.declared.bank.Shape.{Shape as Bank}
 use Rattle.block_ir.specs.declared.code.ThreadCode.{ThreadCode}
 use Rattle.block_ir.specs.declared.plan.Planned.{Planned}
 use Rattle.netlist.specs.declared.netlist.Module.{Module}
@@ -13,6 +15,7 @@ use Rattle.circuit.proofs.Running.{starts, cycle_steps, runs_steps}
 use Rattle.leaf_machine.specs.Leaves.{LeafPorts}
 use Rattle.print_core.specs.declared.printer.Shape.{Shape}
 use Rattle.program_machine.specs.Following.{threads_of, cores_of, Machine}
+use Rattle.program_machine.proofs.Cores.{banks_silent}
 use Rattle.cycle_refine.specs.Whole.{places_of, IsWhole}
 
 -- what is the same as a state is one
@@ -28,31 +31,37 @@ same_state modules top h g same state = record {
       subst (λ n. n < 2 ^ s.width) e (state.words path m j k s at l);
 }
 
-module _ (P : Program) (code : ThreadCode) (plan : Planned) (m : Module) (inputs : ℕ) (leaf : LeafPorts) (shape : Shape) (modules : List Module) (top : Module)
-    (whole : IsWhole P code plan m inputs leaf shape modules top) where
+module _ (P : Program) (spreads : List Spread) (banks : List Bank) (code : ThreadCode) (plan : Planned) (m : Module) (inputs : ℕ) (leaf : LeafPorts) (shape : Shape)
+    (modules : List Module) (top : Module) (whole : IsWhole P spreads banks code plan m inputs leaf shape modules top) where
   -- a state of the net shows one of the machine
-  abbrev pub Shows : Valuation → Machine P m leaf shape → Type 0
-  Shows h s = ShowsAll 1 1 (threads_of P m leaf shape) (cores_of P m leaf shape) (places_of P code plan m inputs leaf shape modules top whole.at) modules top h s
+  abbrev pub Shows : Valuation → Machine P spreads banks m leaf shape → Type 0
+  Shows h s = ShowsAll 1 (suc (length banks)) (threads_of P spreads banks m leaf shape) (cores_of P spreads banks m leaf shape)
+      (places_of P spreads banks code plan m inputs leaf shape modules top whole.at) modules top h s
 
-  prints_alone : PrintsAlone 1 1 (threads_of P m leaf shape) (cores_of P m leaf shape) 0
-  prints_alone k l other s i a = absurd (other (let e : k ≡ 0 = omega arith in e))
+  prints_alone : PrintsAlone 1 (suc (length banks)) (threads_of P spreads banks m leaf shape) (cores_of P spreads banks m leaf shape) (length banks)
+  prints_alone k l other s i a = banks_silent banks shape k l other s i a
 
-  pub initial_shows : Shows (initial_state modules top) (start 1 1 (threads_of P m leaf shape) (cores_of P m leaf shape))
-  initial_shows = starts 1 1 (threads_of P m leaf shape) (cores_of P m leaf shape) (places_of P code plan m inputs leaf shape modules top whole.at) modules top whole.net
+  pub initial_shows : Shows (initial_state modules top) (start 1 (suc (length banks)) (threads_of P spreads banks m leaf shape) (cores_of P spreads banks m leaf shape))
+  initial_shows = starts 1 (suc (length banks)) (threads_of P spreads banks m leaf shape) (cores_of P spreads banks m leaf shape)
+      (places_of P spreads banks code plan m inputs leaf shape modules top whole.at) modules top whole.net
 
-  pub cycle_shows : (h g : Valuation) (c : Choice) (out : List ℕ) (s : Machine P m leaf shape) → Cycle modules top h c g out → Shows h s
-      → Shows g (stepped 1 1 (threads_of P m leaf shape) (cores_of P m leaf shape) c s)
+  pub cycle_shows : (h g : Valuation) (c : Choice) (out : List ℕ) (s : Machine P spreads banks m leaf shape) → Cycle modules top h c g out → Shows h s
+      → Shows g (stepped 1 (suc (length banks)) (threads_of P spreads banks m leaf shape) (cores_of P spreads banks m leaf shape) c s)
   cycle_shows h g c out s cycle shown =
-      (cycle_steps 1 1 (threads_of P m leaf shape) (cores_of P m leaf shape) (places_of P code plan m inputs leaf shape modules top whole.at) modules top whole.net
-      (no_deeper modules top whole.stages whole.staged) 0 prints_alone h g c out s cycle shown).0
+      (cycle_steps 1 (suc (length banks)) (threads_of P spreads banks m leaf shape) (cores_of P spreads banks m leaf shape)
+      (places_of P spreads banks code plan m inputs leaf shape modules top whole.at) modules top whole.net
+      (no_deeper modules top whole.stages whole.staged) (length banks) prints_alone h g c out s cycle shown).0
 
   pub run_shows : (choices : List Choice) (h : Valuation) (out : List ℕ) → Runs modules top (initial_state modules top) choices h out
-      → Shows h (run 1 1 (threads_of P m leaf shape) (cores_of P m leaf shape) (start 1 1 (threads_of P m leaf shape) (cores_of P m leaf shape)) choices)
-      × (out ≡ outputs 1 1 (threads_of P m leaf shape) (cores_of P m leaf shape) 0 (start 1 1 (threads_of P m leaf shape) (cores_of P m leaf shape)) choices)
+      → Shows h (run 1 (suc (length banks)) (threads_of P spreads banks m leaf shape) (cores_of P spreads banks m leaf shape)
+      (start 1 (suc (length banks)) (threads_of P spreads banks m leaf shape) (cores_of P spreads banks m leaf shape)) choices)
+      × (out ≡ outputs 1 (suc (length banks)) (threads_of P spreads banks m leaf shape) (cores_of P spreads banks m leaf shape) (length banks)
+      (start 1 (suc (length banks)) (threads_of P spreads banks m leaf shape) (cores_of P spreads banks m leaf shape)) choices)
   run_shows choices h out runs =
-      runs_steps 1 1 (threads_of P m leaf shape) (cores_of P m leaf shape) (places_of P code plan m inputs leaf shape modules top whole.at) modules top whole.net
-      (no_deeper modules top whole.stages whole.staged) 0 prints_alone choices (initial_state modules top) h out
-      (start 1 1 (threads_of P m leaf shape) (cores_of P m leaf shape)) runs initial_shows
+      runs_steps 1 (suc (length banks)) (threads_of P spreads banks m leaf shape) (cores_of P spreads banks m leaf shape)
+      (places_of P spreads banks code plan m inputs leaf shape modules top whole.at) modules top whole.net
+      (no_deeper modules top whole.stages whole.staged) (length banks) prints_alone choices (initial_state modules top) h out
+      (start 1 (suc (length banks)) (threads_of P spreads banks m leaf shape) (cores_of P spreads banks m leaf shape)) runs initial_shows
 
   pub initial_is_state : IsState modules top (initial_state modules top)
   initial_is_state = (keeps_states modules top (net_fits modules top whole.stages whole.staged) (net_statements modules top whole.stages whole.staged)).0

@@ -1,7 +1,9 @@
 -- The net is determined: a state has exactly one settled valuation for each choice, and the thread's slot tells done.
-use Rattle.std.proofs.Common.{◌≡◌, ℕ, List, [], ◌∷◌, Some, slice_get, refl, sym, ap, ◌∙◌, inl, inr}
+use Rattle.std.proofs.Common.{◌≡◌, ℕ, suc, List, [], ◌∷◌, length, Some, slice_get, refl, sym, ap, ◌∙◌, inl, inr}
 use Rattle.hls_ints.specs.Residues.{bit_of}
 use Rattle.c_program.specs.Tree.{Program}
+use Rattle.bank_partition.specs.declared.banks.Spread.{Spread}
+use Rattle.bank_cores.specs.declared.bank.Shape.{Shape as Bank}
 use Rattle.block_ir.specs.declared.code.ThreadCode.{ThreadCode}
 use Rattle.block_ir.specs.declared.plan.Planned.{Planned}
 use Rattle.netlist.specs.declared.netlist.Source.TheVariants.{Port}
@@ -20,11 +22,11 @@ use Rattle.program_machine.specs.Built.{parts, told}
 use Rattle.cycle_refine.specs.Whole.{Carries, IsWhole}
 use Rattle.cycle_refine.proofs.Agreeing.{agree_here, agree_on}
 
-module _ (P : Program) (code : ThreadCode) (plan : Planned) (m : Module) (inputs : ℕ) (leaf : LeafPorts) (shape : Shape) (modules : List Module) (top : Module)
-    (whole : IsWhole P code plan m inputs leaf shape modules top) where
+module _ (P : Program) (spreads : List Spread) (banks : List Bank) (code : ThreadCode) (plan : Planned) (m : Module) (inputs : ℕ) (leaf : LeafPorts) (shape : Shape)
+    (modules : List Module) (top : Module) (whole : IsWhole P spreads banks code plan m inputs leaf shape modules top) where
   -- a signal that carries a port's number has it
   carried : (h v : Valuation) (c : Choice) → IsSettled modules top h c v → (x : ℕ) (s : Signal) → slice_get top.signals x ≡ Some s → (j port : ℕ)
-      → Carries P code plan m inputs leaf shape modules top s (Port j port) → (v []).signal x ≡ (v (j ∷ [])).signal port
+      → Carries P spreads banks code plan m inputs leaf shape modules top s (Port j port) → (v []).signal x ≡ (v (j ∷ [])).signal port
   carried h v c settled x s listed j port (inl is) =
       settled.signals [] top x s (record { stands = refl; listed = listed }) ∙ ap (number modules top h c v [] top x s) is
   carried h v c settled x s listed j port (inr (wire, driven, copies, stands, is)) =
@@ -39,7 +41,7 @@ module _ (P : Program) (code : ThreadCode) (plan : Planned) (m : Module) (inputs
   done_is h v c settled s agrees =
       let path = whole.at.thread ∷ [] in
       carried h v c settled whole.done.place whole.done.signal whole.done.is.listed whole.at.thread leaf.done whole.done.drives
-      ∙ slot_bit_is m inputs leaf 1 (parts shape.values) told whole.built.module_.thread leaf.done whole.built.module_.done (v path) s
+      ∙ slot_bit_is m inputs leaf (suc (length banks)) (parts banks shape) (told banks shape) whole.built.module_.thread leaf.done whole.built.module_.done (v path) s
       (obeys modules top h v c settled path m whole.runs) (agree_on m s (h path) (v path) agrees (holds modules top h v c settled path m whole.runs))
 
   -- and so has what is shown of it

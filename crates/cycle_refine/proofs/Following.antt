@@ -1,15 +1,24 @@
 -- The net follows the program where its machine does.
-use Rattle.std.proofs.Common.{◌≡◌, ◌⊎◌, ℕ, ◌+◌, ◌/◌, ◌<◌, ◌≤◌, Bool, true, false, List, [], length, take, Some, slice_get, refl, sym, ap, ◌∙◌, subst, inl, inr, arith}
+use Rattle.std.proofs.Common.{◌≡◌, ◌⊎◌, ℕ, zero, suc, ◌+◌, ◌/◌, ◌%◌, ◌<◌, ◌≤◌, Bool, true, false, List, [], ◌∷◌, length, take, Some, slice_get}
+use Rattle.std.proofs.Common.{slice_index, refl, sym, ap, ◌∙◌, subst, inl, inr, arith}
 use Rattle.std.specs.Prelude.{◌↔◌}
 use Rattle.std.specs.List.{All}
 use Rattle.std.proofs.lemmas.Option.{slice_get_within, get_or_from_slice_get}
 use Rattle.std.proofs.lemmas.List.Elements.{All-nil, All-take, All-get_or}
 use Rattle.hls_ints.specs.Residues.{bit_of}
-use Rattle.c_program.specs.Tree.{GlobalVariable, Program}
+use Rattle.c_program.specs.Tree.{Program}
 use Rattle.c_program.specs.Weight.{bound}
+use Rattle.bank_partition.specs.declared.banks.Spread.{Spread}
+use Rattle.bank_cores.specs.declared.bank.Shape.{Shape as Bank}
+use Rattle.thread_semantics.specs.State.{State}
+use Rattle.thread_semantics.specs.Step.{Steps, after}
+use Rattle.race_model.proofs.Agreement.{same_meaning}
+use Rattle.race_model.proofs.Orderly.{orderly}
+use Rattle.bank_partition.proofs.Counting as counting
 use Rattle.block_ir.specs.declared.code.ThreadCode.{ThreadCode}
 use Rattle.block_ir.specs.declared.plan.Planned.{Planned}
 use Rattle.netlist.specs.declared.netlist.Module.{Module}
+use Rattle.verilog_meaning.specs.Readings.{Reading}
 use Rattle.verilog_meaning.specs.Cycles.{Valuation, Choice, IsState, Reaches, ShowsDone, initial_state}
 use Rattle.verilog_meaning.specs.Threads.{IsChoice, Counted, all_enabled}
 use Rattle.verilog_meaning.specs.Follows.{Lively}
@@ -18,10 +27,13 @@ use Rattle.circuit.specs.Wiring.{start}
 use Rattle.circuit.proofs.Staged.{staged_settles}
 use Rattle.leaf_machine.specs.Leaves.{LeafPorts, leaf_thread}
 use Rattle.print_core.specs.declared.printer.Shape.{Shape}
-use Rattle.good_verilog.specs.Program.{seen_of}
+use Rattle.good_verilog.specs.Program.{HasBits, seen_of}
+use Rattle.program_machine.specs.Built.{core_machine, words_of_core}
 use Rattle.program_machine.specs.Following as machine
 use Rattle.program_machine.specs.Following.{threads_of, cores_of, Machine, machine_after, printed_after, IsStill, enabled_count, MachineFollows}
-use Rattle.cycle_refine.specs.Whole.{IsWhole, NetFollows}
+use Rattle.program_machine.proofs.Whole.{element_within}
+use Rattle.program_machine.proofs.Partitioned.{some_banks, bank_below, core_of, type_here}
+use Rattle.cycle_refine.specs.Whole.{core_places, IsWhole, NetFollows}
 use Rattle.cycle_refine.proofs.Determined.{done_is, shown_is, determined}
 use Rattle.cycle_refine.proofs.Cycles.{Shows, initial_shows, run_shows, initial_is_state, run_state}
 use Rattle.cycle_refine.proofs.Slots.{changes, rests}
@@ -36,20 +48,22 @@ in_last (inl a) f = inl a
 in_last (inr (inl b)) f = inr (inl b)
 in_last (inr (inr c)) f = inr (inr (f c))
 
-no_global : (P : Program) → P.globals ≡ [] → (k : ℕ) (v : GlobalVariable) → slice_get P.globals k ≡ Some v → ⊥
-no_global P none k v e =
-    let past : slice_get [] k ≡ Some v = sym (ap (λ (vs : List GlobalVariable). slice_get vs k) none) ∙ e in
-    absurd cc
+-- a reading that shows a core shows its words
+core_words : (banks : List Bank) (printer : Shape) (k : ℕ) (b : Bank) (r : Reading) (s : (core_machine banks printer k).State) → slice_get banks k ≡ Some b →
+    (core_places banks printer k).shows r s → (a : ℕ) → a < length b.initial → r.word 0 a ≡ slice_index (words_of_core banks printer k s).words a
+core_words [] printer k b r s e shown a l = absurd cc
+core_words (d ∷ banks) printer zero b r s e shown a l = let same : d ≡ b = cc in shown.words a (subst (λ (z : Bank). a < length z.initial) (sym same) l)
+core_words (d ∷ banks) printer (suc k) b r s e shown a l = core_words banks printer k b r s e shown a l
 
-module _ (P : Program) (code : ThreadCode) (plan : Planned) (m : Module) (inputs : ℕ) (leaf : LeafPorts) (shape : Shape) (modules : List Module) (top : Module)
-    (whole : IsWhole P code plan m inputs leaf shape modules top) where
+module _ (P : Program) (spreads : List Spread) (banks : List Bank) (code : ThreadCode) (plan : Planned) (m : Module) (inputs : ℕ) (leaf : LeafPorts) (shape : Shape)
+    (modules : List Module) (top : Module) (whole : IsWhole P spreads banks code plan m inputs leaf shape modules top) where
   -- done is shown exactly where the machine is done
-  done_both : (h : Valuation) (s : Machine P m leaf shape) → IsState modules top h → Shows P code plan m inputs leaf shape modules top whole h s
+  done_both : (h : Valuation) (s : Machine P spreads banks m leaf shape) → IsState modules top h → Shows P spreads banks code plan m inputs leaf shape modules top whole h s
       → ShowsDone modules top h (all_enabled 1 []) 1 ↔ ((leaf_thread m leaf).is_done (s.slots 0) ≡ true)
   done_both h s state shown =
       let before = shown.slots 0 (omega arith) in (
         λ shows. bit_set ((leaf_thread m leaf).is_done (s.slots 0))
-            (shown_is P code plan m inputs leaf shape modules top whole h (all_enabled 1 []) 1 shows (s.slots 0) before),
+            (shown_is P spreads banks code plan m inputs leaf shape modules top whole h (all_enabled 1 []) 1 shows (s.slots 0) before),
         λ done.
             let c = all_enabled 1 [] in
             let choice : IsChoice 1 c = ((let l : 1 < 2 = omega arith in l), All-nil (λ p. p < 16)) in
@@ -60,43 +74,83 @@ module _ (P : Program) (code : ThreadCode) (plan : Planned) (m : Module) (inputs
               is = whole.done.is;
               through = v.0;
               settled = v.1;
-              number = done_is P code plan m inputs leaf shape modules top whole h v.0 c v.1 (s.slots 0) before ∙ ap bit_of done;
+              number = done_is P spreads banks code plan m inputs leaf shape modules top whole h v.0 c v.1 (s.slots 0) before ∙ ap bit_of done;
             },
       )
 
-  module _ (choices : List Choice) (all : All (IsChoice 1) choices) (follows : machine.Follows P m leaf shape choices) where
+  -- an element that the machine has is a word of its bank
+  has_word : (h : Valuation) (s : Machine P spreads banks m leaf shape) → Shows P spreads banks code plan m inputs leaf shape modules top whole h s →
+      (state : State) (steps : List ℕ) →
+      after P steps ≡ Steps state → ((x j : ℕ) → machine.HasElement P spreads banks m leaf shape s state.globals x j) → (x : List ℕ) (j word : ℕ) → HasBits P state x j word →
+      net.HasWord modules top h x j word
+  has_word h s shown state steps led has x j word bits =
+      let banked = whole.built.banked in
+      let resolved = whole.built.resolved in
+      let reached = ((same_meaning P resolved).reached steps state).1 led in
+      let within = element_within state.globals P.globals bits.number j bits.value bits.global (orderly P resolved state (steps, reached)).globals bits.declared bits.has in
+      let there = banked.elements bits.number j bits.global bits.declared within in
+      let t = there.spread in
+      let some = some_banks P spreads banks banked bits.number t there.stands in
+      let below : j % t.count < t.count = omega arith in
+      let core = core_of P spreads banks banked bits.number (j % t.count) t bits.global there.stands bits.declared below in
+      let at = t.first + j % t.count in
+      let bank = whole.banked.stands bits.number (j % t.count) bits.global t bits.declared there.stands below in
+      let place : bank.0.place ≡ whole.at.core at = bank.1 in
+      let shows = shown.states at (let l = bank_below P spreads banks banked bits.number (j % t.count) t there.stands below in omega (arith, l)) in
+      let small : j / t.count < length core.bank.initial = (let w = counting.has_word t.count t.length j some there.inside in let long = core.long in omega (arith, w, long)) in
+      let word_is : (h (bank.0.place ∷ [])).word bank.0.number (j / t.count) ≡ word =
+      ap (λ i. (h (i ∷ [])).word bank.0.number (j / t.count)) place
+      ∙ ap (λ i. (h (whole.at.core at ∷ [])).word i (j / t.count)) bank.2
+      ∙ core_words banks shape at core.bank (h (whole.at.core at ∷ [])) (s.states at) core.found shows (j / t.count) small
+      ∙ has bits.number j t bits.global.ty bits.value there.stands (type_here P spreads banks banked bits.number bits.global bits.declared) bits.has
+      ∙ sym bits.bits in
+      subst (λ (name : List ℕ). net.HasWord modules top h name j word) bits.named (record {
+        banks = t.count;
+        are = λ k. (
+          λ b. whole.banked.only bits.number k bits.global t bits.declared there.stands b,
+          λ l. (whole.banked.stands bits.number k bits.global t bits.declared there.stands l).0,
+        );
+        bank = bank.0;
+        holds = word_is;
+      })
+
+  module _ (choices : List Choice) (all : All (IsChoice 1) choices) (follows : machine.Follows P spreads banks m leaf shape choices) where
     module _ (n : ℕ) (h : Valuation) (out : List ℕ) (reaches : Reaches modules top (take n choices) h out) where
-      shown : Shows P code plan m inputs leaf shape modules top whole h (machine_after P m leaf shape (take n choices))
-      shown = (run_shows P code plan m inputs leaf shape modules top whole (take n choices) h out reaches).0
+      shown : Shows P spreads banks code plan m inputs leaf shape modules top whole h (machine_after P spreads banks m leaf shape (take n choices))
+      shown = (run_shows P spreads banks code plan m inputs leaf shape modules top whole (take n choices) h out reaches).0
 
       state_here : IsState modules top h
       state_here =
-          run_state P code plan m inputs leaf shape modules top whole (take n choices) (initial_state modules top) h out reaches
-          (initial_is_state P code plan m inputs leaf shape modules top whole)
+          run_state P spreads banks code plan m inputs leaf shape modules top whole (take n choices) (initial_state modules top) h out reaches
+          (initial_is_state P spreads banks code plan m inputs leaf shape modules top whole)
 
       -- the counted cycles so far are the choices that enable the thread
-      count_is : (k : ℕ) → Counted modules top 1 (initial_state modules top) (take n choices) k → k ≡ enabled_count P m leaf shape (take n choices)
+      count_is : (k : ℕ) → Counted modules top 1 (initial_state modules top) (take n choices) k → k ≡ enabled_count P spreads banks m leaf shape (take n choices)
       count_is k count =
-          counted P code plan m inputs leaf shape modules top whole (initial_state modules top) (take n choices) k count
-          (start 1 1 (threads_of P m leaf shape) (cores_of P m leaf shape)) (All-take (IsChoice 1) n choices all)
-          (initial_is_state P code plan m inputs leaf shape modules top whole) (initial_shows P code plan m inputs leaf shape modules top whole)
+          counted P spreads banks code plan m inputs leaf shape modules top whole (initial_state modules top) (take n choices) k count
+          (start 1 (suc (length banks)) (threads_of P spreads banks m leaf shape) (cores_of P spreads banks m leaf shape)) (All-take (IsChoice 1) n choices all)
+          (initial_is_state P spreads banks code plan m inputs leaf shape modules top whole) (initial_shows P spreads banks code plan m inputs leaf shape modules top whole)
 
       -- where no enabled step is still, every choice of all threads would change the slot
-      lively : ((c : Choice) → c.mask ≡ 1 → IsStill P m leaf shape (machine_after P m leaf shape (take n choices)) c → ⊥) → Lively modules top 1 (seen_of P) h
+      lively : ((c : Choice) → c.mask ≡ 1 → IsStill P spreads banks m leaf shape (machine_after P spreads banks m leaf shape (take n choices)) c → ⊥) →
+          Lively modules top 1 (seen_of P) h
       lively moves prefs g written within cycle =
-          changes P code plan m inputs leaf shape modules top whole h g (all_enabled 1 prefs) written (machine_after P m leaf shape (take n choices)) cycle shown
+          changes P spreads banks code plan m inputs leaf shape modules top whole h g (all_enabled 1 prefs) written (machine_after P spreads banks m leaf shape (take n choices))
+          cycle shown
           (moves (all_enabled 1 prefs) refl)
 
-      matches_here : machine.Matches P m leaf shape (machine_after P m leaf shape (take n choices)) (printed_after P m leaf shape (take n choices)) (take (follows.steps n) follows.interleaving)
-          (enabled_count P m leaf shape (take n choices)) → net.Matches modules top 1 (seen_of P) (take n choices) h out (take (follows.steps n) follows.interleaving)
+      matches_here : machine.Matches P spreads banks m leaf shape (machine_after P spreads banks m leaf shape (take n choices))
+          (printed_after P spreads banks m leaf shape (take n choices)) (take (follows.steps n) follows.interleaving)
+          (enabled_count P spreads banks m leaf shape (take n choices)) → net.Matches modules top 1 (seen_of P) (take n choices) h out (take (follows.steps n) follows.interleaving)
       matches_here q =
-          let both = done_both h (machine_after P m leaf shape (take n choices)) state_here shown in
+          let both = done_both h (machine_after P spreads banks m leaf shape (take n choices)) state_here shown in
           record {
             state = q.state;
             after = q.after_;
-            printed = (run_shows P code plan m inputs leaf shape modules top whole (take n choices) h out reaches).1 ∙ q.printed;
+            printed = (run_shows P spreads banks code plan m inputs leaf shape modules top whole (take n choices) h out reaches).1 ∙ q.printed;
             done = (λ shows. q.done.0 (both.0 shows), λ ended. both.1 (q.done.1 ended));
-            globals = λ ended x j word bits. absurd (no_global P whole.built.single.globals bits.number bits.global bits.declared);
+            globals = λ ended x j word bits. has_word h (machine_after P spreads banks m leaf shape (take n choices)) shown q.state
+                (take (follows.steps n) follows.interleaving) q.after_ (q.globals ended) x j word bits;
             progress = in_last q.progress
                 (λ moves. (lively moves.0, λ k count. subst (λ z. z / bound P ≤ length (take (follows.steps n) follows.interleaving) + 1) (sym (count_is k count)) moves.1));
           }
@@ -108,7 +162,8 @@ module _ (P : Program) (code : ThreadCode) (plan : Planned) (m : Module) (inputs
       rises = follows.rises;
       rests = λ n c h g out written at reaches cycle never.
           follows.rests n c at
-          (rests P code plan m inputs leaf shape modules top whole h g c written (machine_after P m leaf shape (take n choices)) cycle (shown n h out reaches) never);
+          (rests P spreads banks code plan m inputs leaf shape modules top whole h g c written (machine_after P spreads banks m leaf shape (take n choices)) cycle
+          (shown n h out reaches) never);
       matches = λ n h out l reaches. matches_here n h out reaches (follows.matches n l);
     }
 
@@ -120,9 +175,9 @@ masks choices all n c e =
     omega arith
 
 pub net_follows : MachineFollows → NetFollows
-net_follows law P code plan m inputs leaf shape modules top whole = (
-  determined P code plan m inputs leaf shape modules top whole,
+net_follows law P spreads banks code plan m inputs leaf shape modules top whole = (
+  determined P spreads banks code plan m inputs leaf shape modules top whole,
   λ good choices all.
-      net_follows_it P code plan m inputs leaf shape modules top whole choices all
-      (law P code plan m inputs leaf shape whole.built good choices (masks choices all)),
+      net_follows_it P spreads banks code plan m inputs leaf shape modules top whole choices all
+      (law P spreads banks code plan m inputs leaf shape whole.built good choices (masks choices all)),
 )

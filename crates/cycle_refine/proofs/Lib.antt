@@ -1,4 +1,5 @@
 pub mod Agreeing
+pub mod Enabling
 pub mod Determined
 pub mod Cycles
 pub mod Slots

@@ -1,7 +1,11 @@
--- The whole net of a program of one thread: its thread's module, the printer behind its arbiter, and the wires between them;
--- and that it follows the program.
-use Rattle.std.specs.Prelude.{◌≡◌, ◌⊎◌, ℕ, List, [], ◌∷◌, codes, Some, slice_get}
-use Rattle.c_program.specs.Tree.{Program}
+-- The whole net of a program of one thread: its thread's module, the banks of its globals and the printer, each behind its arbiter, and the wires
+-- between them; and that it follows the program.
+use Rattle.std.specs.Prelude.{◌≡◌, ◌⊎◌, ℕ, zero, suc, ◌+◌, ◌<◌, List, [], ◌∷◌, length, codes, Some, slice_get}
+use Rattle.c_program.specs.Tree.{GlobalVariable, Program}
+use Rattle.bank_partition.specs.declared.banks.Spread.{Spread}
+use Rattle.bank_cores.specs.declared.bank.Shape.{Shape as Bank}
+use Rattle.bank_cores.specs.Machine.{bank_places}
+use Rattle.circuit.specs.Machines.{CorePlaces}
 use Rattle.thread_semantics.specs.Races.{IsGood}
 use Rattle.block_ir.specs.declared.code.ThreadCode.{ThreadCode}
 use Rattle.block_ir.specs.declared.plan.Planned.{Planned}
@@ -13,7 +17,7 @@ use Rattle.netlist.specs.declared.netlist.Module.{Module}
 use Rattle.verilog_meaning.specs.Names.{IsSignal}
 use Rattle.verilog_meaning.specs.Cycles.{Choice, module_at}
 use Rattle.verilog_meaning.specs.Threads.{slot, IsChoice}
-use Rattle.verilog_meaning.specs.Follows.{IsDetermined, FollowsAlways}
+use Rattle.verilog_meaning.specs.Follows.{Bank as BankInstance, IsDetermined, FollowsAlways}
 use Rattle.circuit.specs.Arbitration.{ArbiterPlaces}
 use Rattle.circuit.specs.Nets.{FitsChoice}
 use Rattle.circuit.specs.Staging.{Stages, IsStaged}
@@ -21,31 +25,39 @@ use Rattle.circuit.specs.Wiring.{NetPlaces, IsNet}
 use Rattle.leaf_machine.specs.Leaves.{LeafPorts, leaf_places}
 use Rattle.print_core.specs.declared.printer.Shape.{Shape}
 use Rattle.print_core.specs.Machine.{printer_places}
-use Rattle.program_machine.specs.Built.{IsBuilt}
+use Rattle.program_machine.specs.Built.{core_machine, IsBuilt}
 use Rattle.program_machine.specs.Following.{threads_of, cores_of}
 use Rattle.good_verilog.specs.Program.{seen_of}
 
-module _ (P : Program) (code : ThreadCode) (plan : Planned) (m : Module) (inputs : ℕ) (leaf : LeafPorts) (shape : Shape) (modules : List Module) (top : Module) where
-  -- which instances of the outermost module are the thread, the printer and its arbiter
+-- where a bank's module, or the printer's, has its ports
+abbrev pub core_places : (banks : List Bank) (printer : Shape) (k : ℕ) → CorePlaces (core_machine banks printer k)
+core_places [] printer k = printer_places printer
+core_places (b ∷ banks) printer zero = bank_places b
+core_places (b ∷ banks) printer (suc k) = core_places banks printer k
+
+module _ (P : Program) (spreads : List Spread) (banks : List Bank) (code : ThreadCode) (plan : Planned) (m : Module) (inputs : ℕ) (leaf : LeafPorts) (shape : Shape)
+    (modules : List Module) (top : Module) where
+  -- which instances of the outermost module are the thread, the cores and their arbiters
   pub record Instances : Type 0 where
     pub thread : ℕ
-    pub printer : ℕ
-    pub arbiter : ℕ
+    pub core : ℕ → ℕ
+    pub arbiter : ℕ → ℕ
     pub arbiter_places : ArbiterPlaces
 
-  abbrev pub places_of : Instances → NetPlaces 1 1 (threads_of P m leaf shape) (cores_of P m leaf shape)
+  abbrev pub places_of : Instances → NetPlaces 1 (suc (length banks)) (threads_of P spreads banks m leaf shape) (cores_of P spreads banks m leaf shape)
   places_of at = record {
     thread_at = λ i. at.thread;
-    core_at = λ k. at.printer;
-    arbiter_at = λ k. at.arbiter;
+    core_at = at.core;
+    arbiter_at = at.arbiter;
     thread = λ i. leaf_places m leaf;
-    core = λ k. printer_places shape;
+    core = λ k. core_places banks shape k;
     arbiter = λ k. at.arbiter_places;
   }
 
   -- a signal of the outermost module has this source, or is a copy of a wire that has
   abbrev pub Carries : Signal → Source → Type 0
-  Carries s source = (s.source ≡ source) ⊎ ((wire : ℕ) × (driven : Signal) × (s.source ≡ Assigned (Copy wire)) × (slice_get top.signals wire ≡ Some driven) × (driven.source ≡ source))
+  Carries s source =
+      (s.source ≡ source) ⊎ ((wire : ℕ) × (driven : Signal) × (s.source ≡ Assigned (Copy wire)) × (slice_get top.signals wire ≡ Some driven) × (driven.source ≡ source))
 
   -- the output done of the outermost module is the thread's
   pub record HasDone (at : Instances) : Type 0 where
@@ -55,14 +67,21 @@ module _ (P : Program) (code : ThreadCode) (plan : Planned) (m : Module) (inputs
     pub only : (x : ℕ) (s : Signal) → IsSignal top (codes "done") x s → x ≡ place
     pub drives : Carries signal (Port at.thread leaf.done)
 
+  -- bank k of a global is the instance of its name, which has one memory, and no other instance has the name of one
+  pub record HasBanks (at : Instances) : Type 0 where
+    pub stands : (x k : ℕ) (g : GlobalVariable) (s : Spread) → slice_get P.globals x ≡ Some g → slice_get spreads x ≡ Some s → k < s.count →
+        (b : BankInstance modules top g.name k) × (b.place ≡ at.core (s.first + k)) × (b.number ≡ 0)
+    pub only : (x k : ℕ) (g : GlobalVariable) (s : Spread) → slice_get P.globals x ≡ Some g → slice_get spreads x ≡ Some s → BankInstance modules top g.name k → k < s.count
+
   -- what is built of a program, wired to a net whose signals have stages
   pub record IsWhole : Type 0 where
-    pub built : IsBuilt P code plan m inputs leaf shape
+    pub built : IsBuilt P spreads banks code plan m inputs leaf shape
     pub at : Instances
-    pub net : IsNet 1 1 (threads_of P m leaf shape) (cores_of P m leaf shape) (places_of at) modules top
+    pub net : IsNet 1 (suc (length banks)) (threads_of P spreads banks m leaf shape) (cores_of P spreads banks m leaf shape) (places_of at) modules top
     pub runs : module_at modules top (at.thread ∷ []) ≡ Some m
     pub named : slot modules top 1 0 ≡ at.thread ∷ []
     pub done : HasDone at
+    pub banked : HasBanks at
     pub stages : Stages
     pub staged : IsStaged modules top stages
     pub fits : (c : Choice) → IsChoice 1 c → FitsChoice modules top c
@@ -70,6 +89,7 @@ module _ (P : Program) (code : ThreadCode) (plan : Planned) (m : Module) (inputs
 -- THE NET FOLLOWS: the net of a program is determined, and follows the program if it is good
 abbrev pub NetFollows : Type 0
 NetFollows =
-    (P : Program) (code : ThreadCode) (plan : Planned) (m : Module) (inputs : ℕ) (leaf : LeafPorts) (shape : Shape) (modules : List Module) (top : Module) →
-    IsWhole P code plan m inputs leaf shape modules top →
+    (P : Program) (spreads : List Spread) (banks : List Bank) (code : ThreadCode) (plan : Planned) (m : Module) (inputs : ℕ) (leaf : LeafPorts) (shape : Shape)
+    (modules : List Module)
+    (top : Module) → IsWhole P spreads banks code plan m inputs leaf shape modules top →
     IsDetermined modules top 1 × (IsGood P → FollowsAlways modules top 1 (seen_of P))

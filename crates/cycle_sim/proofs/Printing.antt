@@ -1,14 +1,15 @@
--- In a sound netlist one instance at most has a $write.
+-- In a netlist where $write stands in one module, which has one instance at most, one instance at most has a $write.
 use Rattle.std.specs.Prelude.{◌≡◌, ℕ, zero, suc, ◌<◌, ◌≤◌, Bool, true, false, ◌||◌, List, [], ◌∷◌, take, Some, slice_get, if◌then◌else◌, refl, codes}
 use Rattle.std.proofs.Common.{ap, sym, ◌∙◌, subst, ⊎_elim, arith}
 use Rattle.std.specs.Str.{bytes_eq}
 use Rattle.std.proofs.lemmas.Slice.Eq.{bytes_eq-Decides}
 use Rattle.std.proofs.lemmas.Option.{same_Some}
 use Rattle.netlist.specs.declared.netlist.Action.{Action}
+use Rattle.netlist.specs.declared.netlist.Instance.{Instance}
 use Rattle.netlist.specs.declared.netlist.Module.{Module}
 use Rattle.netlist.specs.declared.netlist.Netlist.{Netlist}
-use Rattle.netlist.specs.Laid.{module_names}
-use Rattle.netlist.specs.Sound.{IsSound, IsTop, Places, is_write}
+use Rattle.netlist.specs.Laid.{AreApart, module_names}
+use Rattle.netlist.specs.Sound.{IsSound, IsPrinting, IsTop, Places, is_write}
 use Rattle.netlist.specs.Sound as sound
 use Rattle.verilog_meaning.specs.Names.{module_named, top_of}
 use Rattle.verilog_meaning.specs.Cycles.{Path, module_at}
@@ -58,7 +59,13 @@ written_by : (actions : List Action) → some_write actions ≡ true → IsWritt
 written_by [] e = absurd cc
 written_by (a ∷ actions) e = written_or a actions (is_write a.effect) refl e (written_by actions)
 
-module _ (n : Netlist) (is : IsSound n) (top : Module) (is_top : top_of n.modules ≡ Some top) where
+-- what makes one instance at most print: no two modules have one name, that of an instance stands earlier, and $write stands in one
+pub record PrintsOnce (n : Netlist) : Type 0 where
+  pub names : AreApart (module_names n.modules)
+  pub earlier : (k i : ℕ) (m : Module) (x : Instance) → slice_get n.modules k ≡ Some m → slice_get m.instances i ≡ Some x → x.of < k
+  pub printing : IsPrinting n
+
+module _ (n : Netlist) (is : PrintsOnce n) (top : Module) (is_top : top_of n.modules ≡ Some top) where
   abbrev modules : List Module
   modules = n.modules
 
@@ -71,7 +78,7 @@ module _ (n : Netlist) (is : IsSound n) (top : Module) (is_top : top_of n.module
       let here = name_at modules k t.0 t.1 in
       let there = name_at modules root.number top root.listed in
       let same : (t.0).name ≡ top.name = (bytes_eq-Decides (t.0).name (codes "top")).0 t.2 ∙ (bytes_eq-Decides (codes "top") top.name).0 root.same in
-      is.laid.names k root.number (t.0).name here (there ∙ ap Some (sym same))
+      is.names k root.number (t.0).name here (there ∙ ap Some (sym same))
 
   -- ---- instances by the numbers of their modules
 
@@ -93,8 +100,7 @@ module _ (n : Netlist) (is : IsSound n) (top : Module) (is_top : top_of n.module
   outside i outer m at =
       let h = held modules top outer i m at in
       let k = numbered outer h.holder h.stands in
-      let laid = (is.laid.modules k.0 h.holder k.1).instances i h.instance h.listed in
-      record { holder = h.holder; stands = h.stands; places = (h.holder, h.instance, k.1, h.listed, refl); lower = taken_below modules k.0 (h.instance).of laid.of laid.earlier }
+      record { holder = h.holder; stands = h.stands; places = (h.holder, h.instance, k.1, h.listed, refl); lower = is.earlier k.0 i h.holder h.instance k.1 h.listed }
 
   at_most : (path : Path) (m : Module) (at : module_at modules top path ≡ Some m) → number path m at ≤ root.number
   at_most [] m at = let e : number [] m at ≡ root.number = refl in omega (arith, e)
@@ -149,6 +155,17 @@ module _ (n : Netlist) (is : IsSound n) (top : Module) (is_top : top_of n.module
       (λ (low : is.printing.below (number p m at) ≡ true). one_path p q m k at there same low)
       (is.printing.writes (number p m at) w)
 
-pub one_printer : (n : Netlist) → IsSound n → HasPrinters n.modules → ⊥
-one_printer n is two =
+pub printer_of : (n : Netlist) → PrintsOnce n → HasPrinters n.modules → ⊥
+printer_of n is two =
     two.apart (one_writes n is two.top two.is_top two.path two.other (two.writes).kind (two.writes_too).kind (two.writes).stands (two.writes_too).stands (two.writes).writes (two.writes_too).writes)
+
+sound_prints : (n : Netlist) → IsSound n → PrintsOnce n
+sound_prints n is = record {
+  names = is.laid.names;
+  earlier = λ k i m x e g. let laid = (is.laid.modules k m e).instances i x g in taken_below n.modules k x.of laid.of laid.earlier;
+  printing = is.printing;
+}
+
+-- a sound netlist is one
+pub one_printer : (n : Netlist) → IsSound n → HasPrinters n.modules → ⊥
+one_printer n is = printer_of n (sound_prints n is)

@@ -90,7 +90,7 @@ held modules top outer i m at =
     let b = opened (λ (n : Instance). slice_get modules n.of) (slice_get (a.0).instances i) m a.2 in
     record { holder = a.0; stands = a.1; instance = b.0; listed = b.1; kind = b.2 }
 
-placed_at : (modules : List Module) (top : Module) → top_of modules ≡ Some top → (path : Path) (m : Module) → module_at modules top path ≡ Some m → (k : ℕ) × (slice_get modules k ≡ Some m)
+pub placed_at : (modules : List Module) (top : Module) → top_of modules ≡ Some top → (path : Path) (m : Module) → module_at modules top path ≡ Some m → (k : ℕ) × (slice_get modules k ≡ Some m)
 placed_at modules top is [] m at = let r = named_at modules (codes "top") top is in (r.0, r.1 ∙ at)
 placed_at modules top is (i ∷ outer) m at = let h = held modules top outer i m at in (h.instance.of, h.kind)
 

@@ -1,4 +1,4 @@
--- The choices of a run in lockstep fit: they are among those of so many threads, and in a sound netlist each number fits its input.
+-- The choices of a run in lockstep fit: they are among those of so many threads, and each number fits an input that is wide enough.
 use Rattle.std.specs.Prelude.{◌≡◌, ℕ, zero, suc, ◌+◌, ◌-◌, ◌^◌, ◌<◌, ◌≤◌, ◌⊎◌, Bool, true, false, List, replicate, Some, slice_get, codes, if◌then◌else◌, refl}
 use Rattle.std.specs.Str.{bytes_eq}
 use Rattle.std.proofs.Common.{sym, subst, ⊎_elim, arith}
@@ -6,10 +6,9 @@ use Rattle.std.proofs.lemmas.List.Elements.{All-replicate}
 use Rattle.std.proofs.lemmas.Nat.{pow_pos, pow_below}
 use Rattle.std.proofs.lemmas.Option.{same_Some}
 use Rattle.std.proofs.lemmas.Slice.Eq.{bytes_eq-Decides}
+use Rattle.netlist.specs.declared.netlist.Signal.{Signal}
 use Rattle.netlist.specs.declared.netlist.Module.{Module}
-use Rattle.netlist.specs.declared.netlist.Netlist.{Netlist}
-use Rattle.netlist.specs.Sound.{IsSound}
-use Rattle.verilog_meaning.specs.Names.{numbered, top_of}
+use Rattle.verilog_meaning.specs.Names.{numbered, IsSignal}
 use Rattle.verilog_meaning.specs.Cycles.{Choice, pref_number}
 use Rattle.verilog_meaning.specs.Threads.{all_enabled, IsChoice}
 use Rattle.circuit.specs.Nets.{FitsChoice}
@@ -29,7 +28,7 @@ turns_taken modules top threads e takes = λ prefs preferred l.
     subst (λ t. (c : Choice) → IsChoice t c → FitsChoice modules top c) (sym e) takes (all_enabled (threads_of modules) (replicate prefs preferred))
     (is_choice (threads_of modules) prefs preferred l)
 
--- ---- of a sound netlist
+-- ---- inputs that are wide enough
 
 four_bits : (p w : ℕ) → p < 16 → 4 ≤ w → p < 2 ^ w
 four_bits p w l wide = ⊎_elim
@@ -48,17 +47,18 @@ one_given name w p l wide (suc n) k = given_by (bytes_eq name (numbered (codes "
     (λ e. four_bits p w l (wide k ((bytes_eq-Decides name (numbered (codes "pref") k)).0 e)))
     (one_given name w p l wide n (k + 1))
 
-wide_taken : (n : Netlist) → IsSound n → (top : Module) → top_of n.modules ≡ Some top → HasWidePrefs top → TakesTurns n.modules top
-wide_taken n sound top is_top wide prefs p l m x s at input = by (bytes_eq s.name (codes "en")) refl where
+-- an outermost module whose `en` has as many bits as there are threads takes the turns
+pub wide_taken : (modules : List Module) (top : Module) → ((x : ℕ) (s : Signal) → IsSignal top (codes "en") x s → threads_of modules ≡ s.width) → HasWidePrefs top → TakesTurns modules top
+wide_taken modules top is_threads wide prefs p l m x s at input = by (bytes_eq s.name (codes "en")) refl where
   listed : slice_get top.signals x ≡ Some s
   listed = subst (λ (t : Module). slice_get t.signals x ≡ Some s) (sym (same_Some top m at.stands)) at.listed
 
   threads : ℕ
-  threads = threads_of n.modules
+  threads = threads_of modules
 
   by : (b : Bool) → bytes_eq s.name (codes "en") ≡ b → (if b then 2 ^ threads - 1 else pref_number s.name (replicate prefs p) 0) < 2 ^ s.width
   by true e =
-      let t : threads ≡ s.width = threads_of_sound n sound top x s is_top (record { listed = listed; named = (bytes_eq-Decides s.name (codes "en")).0 e }) in
+      let t : threads ≡ s.width = is_threads x s (record { listed = listed; named = (bytes_eq-Decides s.name (codes "en")).0 e }) in
       subst (λ w. 2 ^ threads - 1 < 2 ^ w) t (let q = pow_pos threads in omega (arith, q))
   by false e = one_given s.name s.width p l (λ k named. wide x k s (record { listed = listed; named = named }) input) prefs 0
 
@@ -69,5 +69,5 @@ openable_of_sound n sound top is_top done wide = record {
   right = right_of_sound n sound top is_top;
   printer = one_printer n sound;
   done = done;
-  takes = wide_taken n sound top is_top wide;
+  takes = wide_taken n.modules top (λ x s is. threads_of_sound n sound top x s is_top is) wide;
 }

@@ -2,7 +2,6 @@
 use Rattle.std.proofs.Common.{◌≡◌, ◌≢◌, ℕ, suc, ◌+◌, ◌<◌, ◌≤◌, Bool, true, false, not, ◌&&◌, nat_eq, if◌then◌else◌, List, length, slice_get, Option, Some, None, ℤ, min}
 use Rattle.std.proofs.Common.{refl, sym, ap, subst, ◌∙◌, arith, ⊎_elim}
 use Rattle.std.specs.Prelude.{Result, IfOk}
-use Rattle.std.proofs.lemmas.Option.{slice_get_within}
 use Rattle.interleaving.proofs.Update.{same_or_not}
 use Rattle.hls_ints.specs.Residues.{residue_of}
 use Rattle.hls_ints.specs.Types.{IntegerType, HasType, wrapped, long_int}
@@ -12,7 +11,7 @@ use Rattle.block_ir.specs.declared.code.ActOperand.TheVariants as act_operand
 use Rattle.block_ir.specs.declared.code.ThreadCode.{ThreadCode}
 use Rattle.netlist.specs.declared.netlist.Signal.{Signal}
 use Rattle.netlist.specs.declared.netlist.Module.{Module}
-use Rattle.verilog_meaning.specs.Readings.{Reading, width}
+use Rattle.verilog_meaning.specs.Readings.{Reading}
 use Rattle.planned_block.proofs.Bits.{same_is, other_is}
 use Rattle.circuit.specs.Modules.{Obeys}
 use Rattle.operator_wires.specs.declared.words.Word.{Word}
@@ -30,27 +29,30 @@ use Rattle.operator_wires.specs.Built.{Base, IsEarlier, AddsWord}
 use Rattle.operator_wires.proofs.Building.{wires_none, room_of}
 use Rattle.block_ir.specs.declared.plan.StagePlan.{StagePlan}
 use Rattle.fsm_datapath.specs.Wired.{LinkFields, AreSlots, AreLinked, KeepsFields, KeepsLinks, StepIsWired}
-use Rattle.fsm_datapath.proofs.Taken.{of_two, Told, Keeps, idle_linked, end_linked, values_linked, asked_linked}
-use Rattle.fsm_datapath.specs.Links.{AreBits, LeadsTo, WaitsAt, WantsAt}
+use Rattle.fsm_datapath.proofs.Taken.{of_two, Told, Keeps, idle_linked, end_linked, values_linked}
+use Rattle.fsm_datapath.specs.Links.{LeadsTo, WaitsAt}
 use Rattle.fsm_datapath.specs.Stages.{IsTypedActOperand, act_type, ShowsActOperand, AsksValues, AsksValue, AsksSite, Idles, EndsAt}
-use Rattle.fsm_datapath.specs.Stages.{TakesReturn, TakesPrint, Asks}
-use Rattle.fsm_datapath.proofs.Linking.{OffAt, off_then, off_grown, off_steps, stage_on, has_stage, lead_off, wait_off, want_off, lead_on, bits_later, same_everywhere}
+use Rattle.fsm_datapath.specs.Stages.{TakesReturn, TakesPrint}
+use Rattle.fsm_datapath.proofs.Linking.{off_then, off_grown, off_steps, stage_on, has_stage, lead_off, wait_off, lead_on, bits_later}
 
 -- ---- operands
 
-pub constant_act : {E : Type 0} (x : Result Word E) (a b : List Signal) (code : ThreadCode) (registers : Registers) (operand : ActOperand) (ty : IntegerType) (v z : ℤ) → (HasType ty v → z ≡ v)
+pub constant_act : {E : Type 0} (x : Result Word E) (a b : List Signal) (code : ThreadCode) (registers : Registers) (operand : ActOperand) (ty : IntegerType) (v z : ℤ) →
+    (HasType ty v → z ≡ v)
     → operand ≡ act_operand.Constant ty v → IfOk x (Holds a b ty (wrapped ty z))
     → IfOk x (λ out. (base : Base) → base.first ≤ length a → AddsWord base a b ty out) → IfOk x (ShowsActOperand code registers a b operand)
 constant_act x a b code registers operand ty v z same e made wired =
     subst (λ (s : ActOperand). IfOk x (ShowsActOperand code registers a b s)) (sym e)
-    (of_two x (Holds a b ty (wrapped ty z)) (λ out. (base : Base) → base.first ≤ length a → AddsWord base a b ty out) (ShowsActOperand code registers a b (act_operand.Constant ty v))
+    (of_two x (Holds a b ty (wrapped ty z)) (λ out. (base : Base) → base.first ≤ length a → AddsWord base a b ty out)
+    (ShowsActOperand code registers a b (act_operand.Constant ty v))
     (λ out t u. record {
       grows = t.grows;
       shows = λ m r variables g o seen typed. own_word m r out ty v typed (subst (λ (k : ℤ). IsWord m r out ty (wrapped ty k)) (same typed) (t.shows m r g o));
       wired = λ base slots. u base (room_of a base registers.stage.register registers.stage.width slots.stage);
     }) made wired)
 
-pub variable_act : {E : Type 0} (x : Result Word E) (a b : List Signal) (code : ThreadCode) (registers : Registers) (operand : ActOperand) (k : ℕ) (ty : IntegerType) (types : List IntegerType)
+pub variable_act : {E : Type 0} (x : Result Word E) (a b : List Signal) (code : ThreadCode) (registers : Registers) (operand : ActOperand) (k : ℕ) (ty : IntegerType)
+    (types : List IntegerType)
     → types ≡ code.variables → operand ≡ act_operand.Variable k ty → IfOk x (ShowsVariable a b registers types k ty)
     → IfOk x (λ out. (base : Base) → AreSlots base a code registers → AddsWord base a b ty out) → IfOk x (ShowsActOperand code registers a b operand)
 variable_act x a b code registers operand k ty types same e made wired =
@@ -67,7 +69,8 @@ off_link true S O = refl
 off_link false S O = refl
 
 -- a link whose bit is not set, and one of another register
-module _ (a b : List Signal) (before after : List ℕ) (number condition source : ℕ) (t : SetsNext a b before after number condition source) (m : Module) (r : Reading) (g : Grows b m.signals)
+module _ (a b : List Signal) (before after : List ℕ) (number condition source : ℕ) (t : SetsNext a b before after number condition source) (m : Module) (r : Reading)
+    (g : Grows b m.signals)
     (o : Obeys m r) (x : ℕ) (less : x < length before) where
   pub link_off : r.signal condition ≡ 0 → next_number r after x ≡ next_number r before x
   link_off unset =
@@ -117,7 +120,8 @@ value_asked a b c d code registers at before after j number v word wide e t u w 
       link_on c d before after number at wide.place w m r g o (suc j) less (sym e) hit ∙ long.shows ∙ residue_of-wrapped long_int (operand_of_act variables v);
 }
 
-pub values_none : (a : List Signal) (code : ThreadCode) (registers : Registers) (at : ℕ) (before : List ℕ) (values : List ActOperand) → AsksValues code registers a a at before before values 0
+pub values_none : (a : List Signal) (code : ThreadCode) (registers : Registers) (at : ℕ) (before : List ℕ) (values : List ActOperand) →
+    AsksValues code registers a a at before before values 0
 values_none a code registers at before values = record {
   grows = grows_refl a;
   count = refl;
@@ -155,61 +159,14 @@ values_more a b c code registers at before middle after values n v t listed u = 
     inside : (x : ℕ) → x < length before → x < length middle
     inside x less = subst (λ (z : ℕ). x < z) (sym t.count) less
 
-pub all_asked : (a b c : List Signal) (code : ThreadCode) (registers : Registers) (printer : Printer) (at site : ℕ) (values : List ActOperand) (before after : Chains) (middle : List ℕ)
-    → after ≡ record before { fields = after.fields } → AsksSite a b at before.fields middle printer.site_width site
-    → AsksValues code registers b c at middle after.fields values (length values) → Asks code registers printer at site values a c before after
-all_asked a b c code registers printer at site values before after middle same t u = record {
-  grows = grows_then a b c t.grows u.grows;
-  same = same;
-  count = u.count ∙ t.count;
-  rests = λ m r x g o unset less. u.rests m r x g o unset (inside x less) ∙ t.rests m r x (back m g) o unset less;
-  site_is = λ m r g o hit some. u.first m r g o (inside 0 some) ∙ t.asks m r (back m g) o hit some;
-  values_are = λ m r variables j v g o hit seen listed typed less. u.asks m r variables j v g o hit seen (within_list values j v listed) listed typed (inside (suc j) less);
-  wired = asked_linked a b c code registers printer at before after middle same t.wired u.wired;
-}
-  where
-    back : (m : Module) → Grows c m.signals → Grows b m.signals
-    back m g = grows_then b c m.signals u.grows g
-
-    inside : (x : ℕ) → x < length before.fields → x < length middle
-    inside x less = subst (λ (z : ℕ). x < z) (sym t.count) less
-
-    within_list : (vs : List ActOperand) (k : ℕ) (v : ActOperand) → slice_get vs k ≡ Some v → k < length vs
-    within_list vs k v e = slice_get_within vs k v e
-
-asks_off : (a b : List Signal) (code : ThreadCode) (registers : Registers) (printer : Printer) (at site : ℕ) (values : List ActOperand) (before after : Chains)
-    → Asks code registers printer at site values a b before after → OffAt at a b before after
-asks_off a b code registers printer at site values before after t = record {
-  grows = t.grows;
-  many = record { variables = ap (λ (c : Chains). length c.variables) t.same; kept = ap (λ (c : Chains). length c.kept) t.same; fields = t.count };
-  bits = λ e.
-      let later = bits_later a b before t.grows e in
-      record {
-        is_last = λ m g. ap (λ (c : Chains). width m c.is_last) t.same ∙ later.is_last m g;
-        needs = λ m g. ap (λ (c : Chains). width m c.needs) t.same ∙ later.needs m g;
-        waits = λ m g. ap (λ (c : Chains). width m c.waits) t.same ∙ later.waits m g;
-        wants = λ m g. ap (λ (c : Chains). width m c.wants) t.same ∙ later.wants m g;
-      };
-  off = λ m r g o e unset. record {
-    stage = ap (λ (c : Chains). r.signal c.stage) t.same;
-    variables = λ x. ap (λ (c : Chains). next_number r c.variables x) t.same;
-    kept = λ x. ap (λ (c : Chains). next_number r c.kept x) t.same;
-    fields = same_everywhere r before.fields after.fields t.count (λ x less. t.rests m r x g o unset less);
-    is_last = λ v is. ap (λ (c : Chains). r.signal c.is_last) t.same ∙ is;
-    waits = λ v is. ap (λ (c : Chains). r.signal c.waits) t.same ∙ is;
-    wants = λ v is. ap (λ (c : Chains). r.signal c.wants) t.same ∙ is;
-  };
-}
-
 -- ---- stages
 
 pub idle_made : (a b c : List Signal) (registers : Registers) (l at : ℕ) (before after : Chains) → TellsStage a b registers l at → WaitsAt b c before after at
-    → ((base : Base) (site_width : ℕ) (code : ThreadCode) → AreLinked base a code registers site_width before → l ≤ length code.stages → KeepsLinks base a c code registers site_width after)
+    → ((base : Base) (code : ThreadCode) → AreLinked base a code registers before → l ≤ length code.stages → KeepsLinks base a c code registers after)
     → Idles registers l a c before after
 idle_made a b c registers l at before after told t wired = record {
   wired = wired;
   step = off_steps registers l at a b c before after told (wait_off b c before after at t);
-  wants = ap (λ (x : Chains). x.wants) t.same;
   waits = λ m r g o e has here none.
       let later = grows_then b c m.signals t.grows g in
       t.bit.shows m r false true g o (e.waits m (grows_then a b m.signals told.grows later)) none (stage_on registers l at a b m r told later o has here);
@@ -230,16 +187,16 @@ end_made a b c code registers l at before after same told t bit waits =
       };
     }
 
-pub return_made : (a b c d : List Signal) (code : ThreadCode) (registers : Registers) (l at to target : ℕ) (before after : Chains) → to ≡ length code.stages → TellsStage a b registers l at
+pub return_made : (a b c d : List Signal) (code : ThreadCode) (registers : Registers) (l at to target : ℕ) (before after : Chains) → to ≡ length code.stages →
+    TellsStage a b registers l at
     → Gives b c target registers.stage.width (λ m r. min to (length code.stages)) → LeadsTo c d before after at target
-    → ((base : Base) (site_width : ℕ) → AreLinked base a code registers site_width before → l ≤ length code.stages → KeepsLinks base a d code registers site_width after)
+    → ((base : Base) → AreLinked base a code registers before → l ≤ length code.stages → KeepsLinks base a d code registers after)
     → TakesReturn code registers l a d before after
 return_made a b c d code registers l at to target before after same told u t wired = record {
   wired = wired;
   step =
       off_steps registers l at a b d before after told
       (off_then at b c d before before after (off_grown at b c before u.grows) (lead_off c d before after at target t));
-  wants = ap (λ (x : Chains). x.wants) t.same;
   returns = λ e m r g o knows still le here.
       let gc = grows_then c d m.signals t.grows g in
       let gb = grows_then b c m.signals u.grows gc in
@@ -254,56 +211,33 @@ return_made a b c d code registers l at to target before after same told u t wir
       };
 }
 
-pub print_made : (a b c d e f : List Signal) (code : ThreadCode) (registers : Registers) (printer : Printer) (l at site : ℕ) (values : List ActOperand) (next target : ℕ) (x y z w : Chains)
-    → TellsStage a b registers l at → WantsAt b c x y at → Asks code registers printer at site values c d y z
-    → Gives d e target registers.stage.width (λ m r. min next (length code.stages)) → LeadsTo e f z w at target
-    → ((plan : Option StagePlan) → l ≤ length code.stages → StepIsWired code registers (Some printer) plan a f x w) → TakesPrint code registers (Some printer) l site values next a f x w
-print_made a b c d e f code registers printer l at site values next target x y z w told wanted asked u t wired = record {
+pub print_made : (a b c d : List Signal) (code : ThreadCode) (registers : Registers) (printer : Printer) (l at next target : ℕ) (before after : Chains) →
+    TellsStage a b registers l at
+    → Gives b c target registers.stage.width (λ m r. min next (length code.stages)) → LeadsTo c d before after at target
+    → ((plan : Option StagePlan) → l ≤ length code.stages → StepIsWired code registers plan a d before after) → TakesPrint code registers (Some printer) l next a d before after
+print_made a b c d code registers printer l at next target before after told u t wired = record {
   wired = wired;
   step =
-      off_steps registers l at a b f x w told
-      (off_then at b c f x y w (want_off b c x y at wanted)
-      (off_then at c d f y z w (asks_off c d code registers printer at site values y z asked)
-      (off_then at d e f z z w (off_grown at d e z u.grows) (lead_off e f z w at target t))));
-  prints = λ bits known same m r variables g o knows still le here seen.
-      let ge = grows_then e f m.signals t.grows g in
-      let gd = grows_then d e m.signals u.grows ge in
-      let gc = grows_then c d m.signals asked.grows gd in
-      let gb = grows_then b c m.signals wanted.grows gc in
+      off_steps registers l at a b d before after told
+      (off_then at b c d before before after (off_grown at b c before u.grows) (lead_off c d before after at target t));
+  prints = λ e known same m r g o knows still le here.
+      let gc = grows_then c d m.signals t.grows g in
+      let gb = grows_then b c m.signals u.grows gc in
       let on = stage_on registers l at a b m r told gb o (has_stage code registers l m r knows le) here in
-      let bits_b : AreBits b x = bits_later a b x told.grows bits in
-      let bits_z : AreBits e z =
-      bits_later d e z u.grows ((asks_off c d code registers printer at site values y z asked).bits ((want_off b c x y at wanted).bits bits_b)) in
-      let none : r.signal z.is_last ≡ 0 = ap (λ (k : Chains). r.signal k.is_last) asked.same ∙ ap (λ (k : Chains). r.signal k.is_last) wanted.same ∙ still.is_last in
-      let lead = lead_on e f z w at target m r t bits_z g o none on in
-      let fields_are : (n : ℕ) → next_number r w.fields n ≡ next_number r z.fields n = λ n. ap (λ (k : Chains). next_number r k.fields n) t.same in
-      let fields_first : length y.fields ≡ length x.fields = ap (λ (k : Chains). length k.fields) wanted.same in
-      let one : printer ≡ known = cc in
+      let lead = lead_on c d before after at target m r t (bits_later a c before (grows_then a b c told.grows u.grows) e) g o still.is_last on in
       record {
-        leaves = record {
-          is_last = lead.0;
-          stage = lead.1 ∙ u.shows m r ge o;
-          variables = λ n.
-              ap (λ (k : Chains). next_number r k.variables n) t.same ∙ ap (λ (k : Chains). next_number r k.variables n) asked.same
-              ∙ ap (λ (k : Chains). next_number r k.variables n) wanted.same;
-          waits =
-              ap (λ (k : Chains). r.signal k.waits) t.same ∙ ap (λ (k : Chains). r.signal k.waits) asked.same ∙ ap (λ (k : Chains). r.signal k.waits) wanted.same ∙ still.waits;
-        };
-        wants =
-            ap (λ (k : Chains). r.signal k.wants) t.same ∙ ap (λ (k : Chains). r.signal k.wants) asked.same
-            ∙ wanted.bit.shows m r false true gc o (bits_b.wants m gb) still.wants on;
-        site_is = λ some.
-            fields_are 0 ∙ asked.site_is m r gd o on (subst (λ (n : ℕ). 0 < n) (sym fields_first) some) ∙ ap (λ (k : Printer). resized_word false 32 k.site_width site) one;
-        values_are = λ j v listed typed less.
-            fields_are (suc j) ∙ asked.values_are m r variables j v gd o on seen listed typed (subst (λ (n : ℕ). suc j < n) (sym fields_first) less);
+        is_last = lead.0;
+        stage = lead.1 ∙ u.shows m r gc o;
+        variables = λ x. ap (λ (z : Chains). next_number r z.variables x) t.same;
+        waits = ap (λ (z : Chains). r.signal z.waits) t.same ∙ still.waits;
       };
 }
 
 -- without a printer a printf waits forever
-pub print_idle : (a b : List Signal) (code : ThreadCode) (registers : Registers) (printer : Option Printer) (l site : ℕ) (values : List ActOperand) (next : ℕ) (before after : Chains)
-    → printer ≡ None → Idles registers l a b before after → TakesPrint code registers printer l site values next a b before after
-print_idle a b code registers printer l site values next before after none t = record {
+pub print_idle : (a b : List Signal) (code : ThreadCode) (registers : Registers) (printer : Option Printer) (l next : ℕ) (before after : Chains)
+    → printer ≡ None → Idles registers l a b before after → TakesPrint code registers printer l next a b before after
+print_idle a b code registers printer l next before after none t = record {
   step = t.step;
   prints = λ bits known same. absurd cc;
-  wired = λ plan le base site_width known fits linked. t.wired base site_width code linked le;
+  wired = λ plan le base fits linked. t.wired base code linked le;
 }

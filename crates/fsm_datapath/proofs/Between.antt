@@ -14,7 +14,7 @@ use Rattle.block_datapath.specs.declared.registers.Held.{Held}
 use Rattle.block_datapath.specs.declared.registers.Registers.{Registers}
 use Rattle.block_datapath.specs.declared.operands.Given.{Given}
 use Rattle.block_datapath.specs.declared.leaving_block.Left.{Left}
-use Rattle.block_datapath.specs.Wired.{AreRegisters, AreSources, AreChains, AddsKeptBlock, FitsStage}
+use Rattle.block_datapath.specs.Wired.{AreRegisters, AreSources, AreChains, AddsKeptBlock, FitsStage, CanRead}
 use Rattle.fsm_datapath.specs.Wired.{LinkAll, ValuesStand, AreSlots}
 use Rattle.fsm_datapath.proofs.Linked.{slots_later}
 use Rattle.fsm_datapath.proofs.Taken.{LinksBlock}
@@ -36,15 +36,17 @@ module _ (base : Base) (a : List Signal) (code : ThreadCode) (registers : Regist
         let says = slots.typed x h ty.0 listed ty.1 in
         record { ty = ty.0; declared = ty.1; says = says; stands = subst (λ n. IsEarlier a base h.register n) says (slots.variables x h listed) };
     kept = slots.kept;
+    words = slots.words;
   }
 
   pub sources_of : (values : List Given) → ValuesStand base a values → AreSources a base code.variables registers values
   sources_of values t = record { registers = registers_of; values = t }
 
-  pub stage_fits : (l : ℕ) (p : BlockPlan) → l < 2 ^ registers.stage.width → p.states ≤ 2 ^ registers.state.width → FitsStage base code registers l p
-  stage_fits l p room states = record { arrays = slots.arrays; stage = room; stages = slots.room; states = states }
+  pub stage_fits : (l : ℕ) (p : BlockPlan) → CanRead base code registers → l < 2 ^ registers.stage.width → p.states ≤ 2 ^ registers.state.width → FitsStage base code registers l p
+  stage_fits l p reads room states = record { reads = reads; stage = room; stages = slots.room; states = states }
 
-pub chains_of : (base : Base) (a : List Signal) (registers : List Held) (links : List ℕ) → length links ≡ length registers → LinkAll base a registers links → AreChains a base registers links
+pub chains_of : (base : Base) (a : List Signal) (registers : List Held) (links : List ℕ) → length links ≡ length registers → LinkAll base a registers links →
+    AreChains a base registers links
 chains_of base a registers links count t = record { count = count; each = λ x y h e f. t x y h f e }
 
 pub links_of : (base : Base) (a : List Signal) (registers : List Held) (links : List ℕ) → AreChains a base registers links → LinkAll base a registers links
@@ -71,16 +73,19 @@ word_later base a b word ty g t = record { says = t.says; sign = t.sign; stands 
 pub values_later : (base : Base) (a b : List Signal) (values : List Given) → Grows a b → ValuesStand base a values → ValuesStand base b values
 values_later base a b values g t k v e = let f = t k v e in (f.0, word_later base a b v.word f.0 g f.1)
 
-pub sources_later : (base : Base) (a b : List Signal) (code : ThreadCode) (registers : Registers) (values : List Given) → Grows a b → AreSlots base a code registers → ValuesStand base a values
+pub sources_later : (base : Base) (a b : List Signal) (code : ThreadCode) (registers : Registers) (values : List Given) → Grows a b → AreSlots base a code registers →
+    ValuesStand base a values
     → AreSources b base code.variables registers values
 sources_later base a b code registers values g slots t =
     sources_of base b code registers (slots_later base a b g code registers slots) values (λ k v e. let f = t k v e in (f.0, word_later base a b v.word f.0 g f.1))
 
 -- two operands, one behind the other
-pub operands_wired : (base : Base) (a b c : List Signal) (code : ThreadCode) (registers : Registers) (values : List Given) (types : List IntegerType) (s t : IntegerType) (x y : Word)
+pub operands_wired : (base : Base) (a b c : List Signal) (code : ThreadCode) (registers : Registers) (values : List Given) (types : List IntegerType) (s t : IntegerType)
+    (x y : Word)
     → types ≡ code.variables → AreSlots base a code registers → ValuesStand base a values → (AreSources a base types registers values → AddsWord base a b s x)
     → (AreSources b base types registers values → AddsWord base b c t y) → AreWires base a c
 operands_wired base a b c code registers values types s t x y same slots stand first second =
     let one = first (subst (λ (z : List IntegerType). AreSources a base z registers values) (sym same) (sources_of base a code registers slots values stand)) in
-    let two = second (subst (λ (z : List IntegerType). AreSources b base z registers values) (sym same) (sources_later base a b code registers values one.wires.grows slots stand)) in
+    let two = second (subst (λ (z : List IntegerType). AreSources b base z registers values) (sym same) (sources_later base a b code registers values one.wires.grows slots stand))
+    in
     wires_then base a b c one.wires two.wires

@@ -28,7 +28,7 @@ use Rattle.circuit.specs.Modules.{Obeys}
 use Rattle.planned_block.specs.Block.{Operation as PlannedOperation}
 use Rattle.planned_block.specs.Plan.{last_state}
 use Rattle.planned_block.specs.Run.{array_access}
-use Rattle.planned_block.specs.Slot.{Slot, value_now, operand_now, starts_now, array_access_now, accesses_where, arrays_next, IsWired}
+use Rattle.planned_block.specs.Slot.{Slot, value_now, operand_now, starts_now, array_access_now, accesses_where, arrays_next}
 use Rattle.planned_block.proofs.Bits.{other_is}
 use Rattle.planned_view.specs.View.{operation_view, planned_view, plan_view, binary_kind}
 use Rattle.planned_view.proofs.Running.{size-view}
@@ -39,7 +39,7 @@ use Rattle.thread_promise.specs.Slots.{element_at}
 use Rattle.block_datapath.specs.declared.registers.Registers.{Registers}
 use Rattle.block_datapath.specs.declared.operands.Given.{Given}
 use Rattle.block_datapath.specs.declared.leaving_block.Left.{Left}
-use Rattle.block_datapath.specs.Operations.{SeesSlot, IsRight, IsShown}
+use Rattle.block_datapath.specs.Operations.{SeesSlot, IsRight, IsFed, IsShown}
 use Rattle.block_datapath.specs.Leave.{HasStage, IsInStage, LeavesBlock}
 use Rattle.block_datapath.proofs.Walking.{within_view, listed_view, operand_here, left_used, right_used}
 use Rattle.fsm_datapath.specs.declared.stores.Store.{Store}
@@ -78,8 +78,8 @@ module _ (b : Block) (p : BlockPlan) (q : Slot) (wire : ℕ → ℤ) where
       ≡ cell_after q.variables given o a j (arrays (element_at a j))
   one_cell (Unary op ty x) arrays a j = refl
   one_cell (Binary op ty x y) arrays a j = ap (λ (es : List (Access ℤ)). memory_after es arrays (element_at a j)) (binary_none op _ _ _)
-  one_cell (ReadGlobal x i) arrays a j = refl
-  one_cell (WriteGlobal x i w) arrays a j = refl
+  one_cell (ReadGlobal x n i) arrays a j = refl
+  one_cell (WriteGlobal x n i w) arrays a j = refl
   one_cell (ReadArray x n i) arrays a j = refl
   one_cell (WriteArray x n i w) arrays a j = refl
 
@@ -109,7 +109,8 @@ module _ (b : Block) (p : BlockPlan) (q : Slot) (wire : ℕ → ℤ) where
           ≡ (if t then cell_at q.variables given (slice_get b.operations n) a j (cells n a j (q.arrays (element_at a j))) else cells n a j (q.arrays (element_at a j)))
       by_test false o listed before = before
       by_test true o listed before =
-          ap (λ (z : PlannedOperation). memory_after (array_access z.kind (operand_now (planned_view b) (plan_view b p) q wire z.left) (operand_now (planned_view b) (plan_view b p) q wire z.right))
+          ap (λ (z : PlannedOperation). memory_after (array_access z.kind (operand_now (planned_view b) (plan_view b p) q wire z.left)
+          (operand_now (planned_view b) (plan_view b p) q wire z.right))
           (memory_after (accesses n) q.arrays) (element_at a j)) (listed_view b.operations n o listed)
           ∙ one_cell o (memory_after (accesses n) q.arrays) a j
           ∙ ap (cell_after q.variables given o a j) before
@@ -123,7 +124,8 @@ module _ (b : Block) (p : BlockPlan) (q : Slot) (wire : ℕ → ℤ) where
 
 -- ---- a block at a stage
 
-module _ (globals : List IntegerType) (code : ThreadCode) (registers : Registers) (l : ℕ) (b : Block) (p : BlockPlan) (s0 s1 s2 s3 : List Signal) (variables variables_after kept kept_after : List ℕ)
+module _ (globals : List IntegerType) (code : ThreadCode) (registers : Registers) (l : ℕ) (b : Block) (p : BlockPlan) (s0 s1 s2 s3 : List Signal)
+    (variables variables_after kept kept_after : List ℕ)
     (left : Left) (values : List Given) (same : values ≡ left.values) (before after : List Store)
     (leaves : LeavesBlock globals code registers l b p variables variables_after left kept kept_after s0 s1)
     (stores : PutsFirst s1 s2 registers left.end.at left.end.states before after code values b.operations p.starts (length b.operations)) (more : Grows s2 s3) where
@@ -134,26 +136,27 @@ module _ (globals : List IntegerType) (code : ThreadCode) (registers : Registers
   to_1 m g = grows_then s1 s2 m.signals stores.grows (to_2 m g)
 
   module _ (bank : Location → ℕ) (m : Module) (r : Reading) (q : Slot) (wire : ℕ → ℤ) (g : Grows s3 m.signals) (o : Obeys m r) (right : IsRight globals code registers b p)
-      (sees : SeesSlot globals code registers b p m r q) (wired : IsWired bank (planned_view b) (plan_view b p) q wire) (k : ℕ) where
+      (sees : SeesSlot globals code registers b p m r q) (fed : IsFed globals code registers b p bank m r q wire) (k : ℕ) where
     write_seen : (x : Operation) → slice_get b.operations k ≡ Some x → IsTypedOperation globals code b.operations x → slice_index p.starts k ≡ q.state
         → SeesWrite code registers left.values m r q.state q.variables (value_now (planned_view b) (plan_view b p) q wire) x
     write_seen (Unary op ty x) listed typed at = tt
     write_seen (Binary op ty x y) listed typed at = tt
-    write_seen (ReadGlobal x i) listed typed at = tt
-    write_seen (WriteGlobal x i w) listed typed at = tt
+    write_seen (ReadGlobal x n i) listed typed at = tt
+    write_seen (WriteGlobal x n i w) listed typed at = tt
     write_seen (ReadArray x n i) listed typed at = tt
     write_seen (WriteArray x n i w) listed typed at =
         let lt = within_view b.operations k (WriteArray x n i w) listed in
-        let shown : (j : ℕ) (y : Operation) → j < k → slice_get b.operations j ≡ Some y → (g : Given) × (slice_get left.values j ≡ Some g) × IsShown globals code registers b p s1 j y g =
+        let shown : (j : ℕ) (y : Operation) → j < k → slice_get b.operations j ≡ Some y → (g : Given) ×
+        (slice_get left.values j ≡ Some g) × IsShown globals code registers b p s1 j y g =
         λ j y less there. leaves.shown.each j y (slice_get_within b.operations j y there) there in
         let from : slice_index p.starts k ≤ q.state = omega arith in
         let to : q.state ≤ last_state (planned_view b) (plan_view b p) k = omega arith in
         let array = typed.2.0 in
         let few = sees.arrays.few x array typed.2.1 in (
-          operand_here globals code registers b p right s1 left.values k shown bank m r q wire (to_1 m g) o sees wired i q.state lt refl from to typed.0
-              (λ j u. left_used globals code registers b p right s1 left.values k shown bank m r q wire (to_1 m g) o sees wired (WriteArray x n i w) j listed u),
-          operand_here globals code registers b p right s1 left.values k shown bank m r q wire (to_1 m g) o sees wired w q.state lt refl from to typed.1
-              (λ j u. right_used globals code registers b p right s1 left.values k shown bank m r q wire (to_1 m g) o sees wired (WriteArray x n i w) j listed u),
+          operand_here globals code registers b p right s1 left.values k shown bank m r q wire (to_1 m g) o sees fed i q.state lt refl from to typed.0
+              (λ j u. left_used globals code registers b p right s1 left.values k shown bank m r q wire (to_1 m g) o sees fed (WriteArray x n i w) j listed u),
+          operand_here globals code registers b p right s1 left.values k shown bank m r q wire (to_1 m g) o sees fed w q.state lt refl from to typed.1
+              (λ j u. right_used globals code registers b p right s1 left.values k shown bank m r q wire (to_1 m g) o sees fed (WriteArray x n i w) j listed u),
           typed.2,
           typed.3,
           subst (λ z. z < 2 ^ 31) typed.2.2 few,
@@ -166,7 +169,7 @@ module _ (globals : List IntegerType) (code : ThreadCode) (registers : Registers
     more = stores.more;
     rests = λ m r g o has ne.
         stores.rests m r (to_2 m g) o (leaves.bit_wide m (to_1 m g)) (leaves.bit m r (to_1 m g) o has ∙ ap bit_of (other_is (r.signal registers.stage.register) l ne));
-    puts = λ bank m r q wire g o right knows inside sees wired.
+    puts = λ bank m r q wire g o right knows inside sees fed.
         stores.here m r q.variables (value_now (planned_view b) (plan_view b p) q wire) q.state (to_2 m g) o (leaves.moment m r q (to_1 m g) o inside)
         (λ k x less listed.
         let ends = right.keeps.ends k (within_view b.operations k x listed) in
@@ -175,13 +178,14 @@ module _ (globals : List IntegerType) (code : ThreadCode) (registers : Registers
           (let z : slice_index p.starts k < left.end.states = grind arith in z),
           λ at.
               subst (λ (vs : List Given). SeesWrite code registers vs m r q.state q.variables (value_now (planned_view b) (plan_view b p) q wire) x) (sym same)
-              (write_seen bank m r q wire g o right sees wired k x listed (right.typed.operations k x listed) at),
+              (write_seen bank m r q wire g o right sees fed k x listed (right.typed.operations k x listed) at),
         ));
   }
 
 -- ---- stages
 
-pub stage_of_block : (globals : List IntegerType) (code : ThreadCode) (registers : Registers) (l : ℕ) (a b : List Signal) (before after : List Store) (block : Block) (p : BlockPlan)
+pub stage_of_block : (globals : List IntegerType) (code : ThreadCode) (registers : Registers) (l : ℕ) (a b : List Signal) (before after : List Store) (block : Block)
+    (p : BlockPlan)
     (plan : StagePlan) → plan ≡ planned.Run p → StoresBlock globals code registers l block p a b before after
     → StoresStage globals code registers l (stage.Run block) (Some plan) a b before after
 stage_of_block globals code registers l a b before after block p plan is t = record {
@@ -229,7 +233,8 @@ module _ (globals : List IntegerType) (code : ThreadCode) (registers : Registers
   has_stage m r knows le = record { wide = knows.wide; room = (let room = knows.room in omega arith); fits = knows.fits }
 
   -- at stage n nothing earlier is stored
-  not_before : (m : Module) (r : Reading) → Grows c m.signals → Obeys m r → KnowsStage code registers m r → n + 1 ≤ length code.stages → n ≤ n → r.signal registers.stage.register ≡ n
+  not_before : (m : Module) (r : Reading) → Grows c m.signals → Obeys m r → KnowsStage code registers m r → n + 1 ≤ length code.stages → n ≤ n →
+      r.signal registers.stage.register ≡ n
       → AreOff r first.added
   not_before m r g o knows le same at = first.still m r (back m g) o knows (omega arith) (λ k less e. absurd (omega arith))
 
@@ -246,23 +251,26 @@ module _ (globals : List IntegerType) (code : ThreadCode) (registers : Registers
       (next.rests m r g o (has_stage m r knows le) (λ e. ne (sym at ∙ e))))
       (same_or_not k n)
 
-  runs_so : (k : ℕ) (x : Block) (y : BlockPlan) → k < n + 1 → n + 1 ≤ length code.stages → slice_get code.stages k ≡ Some (stage.Run x) → slice_get plan.stages k ≡ Some (planned.Run y)
+  runs_so : (k : ℕ) (x : Block) (y : BlockPlan) → k < n + 1 → n + 1 ≤ length code.stages → slice_get code.stages k ≡ Some (stage.Run x) →
+      slice_get plan.stages k ≡ Some (planned.Run y)
       → PutsBlock globals code registers c k x y (first.added ++ next.added)
-  runs_so k x y less le listed there bank m r q wire g o right knows inside sees wired =
+  runs_so k x y less le listed there bank m r q wire g o right knows inside sees fed =
       ⊎_elim
       (λ (same : k ≡ n).
       let is : s ≡ stage.Run x = (let h = ap (slice_get code.stages) same in cc) in
       let plan_is : slice_get plan.stages n ≡ Some (planned.Run y) = ap (slice_get plan.stages) (sym same) ∙ there in
       let inside_n = subst (λ l. IsInStage globals code registers l x y m r q) same inside in
       let off : AreOff r first.added = first.still m r (back m g) o knows (omega arith) (λ i below e. absurd (let at = inside_n.stage in omega arith)) in
-      puts_both code r first.added next.added (λ i j v. v) (cells_first x.operations y.starts q.state q.variables (value_now (planned_view x) (plan_view x y) q wire) (length x.operations))
+      puts_both code r first.added next.added (λ i j v. v) (cells_first x.operations y.starts q.state q.variables (value_now (planned_view x) (plan_view x y) q wire)
+      (length x.operations))
       (puts_off code r first.added off)
-      (next.runs x y is plan_is bank m r q wire g o right knows inside_n sees wired))
+      (next.runs x y is plan_is bank m r q wire g o right knows inside_n sees fed))
       (λ (ne : k ≢ n).
-      let one = first.runs k x y (omega arith) (omega arith) listed there bank m r q wire (back m g) o right knows inside sees wired in
+      let one = first.runs k x y (omega arith) (omega arith) listed there bank m r q wire (back m g) o right knows inside sees fed in
       let off : AreOff r next.added = next.rests m r g o (record { wide = inside.has.wide; room = (let room = knows.room in omega arith); fits = inside.has.fits })
       (λ e. ne (sym inside.stage ∙ e)) in
-      puts_both code r first.added next.added (cells_first x.operations y.starts q.state q.variables (value_now (planned_view x) (plan_view x y) q wire) (length x.operations)) (λ i j v. v)
+      puts_both code r first.added next.added (cells_first x.operations y.starts q.state q.variables (value_now (planned_view x) (plan_view x y) q wire) (length x.operations))
+      (λ i j v. v)
       one (puts_off code r next.added off))
       (same_or_not k n)
 

@@ -1,5 +1,6 @@
 -- What an edge leaves in the registers and the words of memories.
-use Rattle.std.proofs.Common.{◌≡◌, ◌≢◌, ℕ, zero, suc, ◌+◌, ◌<◌, Bool, true, false, ◌&&◌, nat_eq, nat_lt, if◌then◌else◌, List, [], ◌∷◌, ◌++◌, length, map, slice_get, Option, Some, None}
+use Rattle.std.proofs.Common.{◌≡◌, ◌≢◌, ℕ, zero, suc, ◌+◌, ◌<◌, Bool, true, false, ◌&&◌, nat_eq, nat_lt}
+use Rattle.std.proofs.Common.{if◌then◌else◌, List, [], ◌∷◌, ◌++◌, length, map, slice_get, Option, Some, None}
 use Rattle.std.proofs.Common.{refl, sym, ap, ◌∙◌, arith}
 use Rattle.std.proofs.lemmas.Option.{slice_get_within}
 use Rattle.netlist.specs.declared.netlist.Action.{Action}
@@ -66,16 +67,19 @@ module _ (r : Reading) (condition : ℕ) where
   sets-word : (nexts : List ℕ) (n : ℕ) (hs : List Held) (j k old : ℕ) → word_after r (sets_from condition nexts n hs) j k old ≡ old
   sets-word nexts n [] j k old = refl
   sets-word nexts n (h ∷ hs) j k old =
-      word-append r (sets_of condition h (slice_get nexts n)) (sets_from condition nexts (suc n) hs) j k old ∙ sets-word nexts (suc n) hs j k _ ∙ sets_of-word h (slice_get nexts n) j k old
+      word-append r (sets_of condition h (slice_get nexts n)) (sets_from condition nexts (suc n) hs) j k old ∙ sets-word nexts (suc n) hs j k _ ∙ sets_of-word h
+      (slice_get nexts n) j k old
 
-  sets-miss : (nexts : List ℕ) (n : ℕ) (hs : List Held) (k old : ℕ) → ((i : ℕ) (h : Held) → slice_get hs i ≡ Some h → h.register ≢ k) → register_after r (sets_from condition nexts n hs) k old ≡ old
+  sets-miss : (nexts : List ℕ) (n : ℕ) (hs : List Held) (k old : ℕ) → ((i : ℕ) (h : Held) → slice_get hs i ≡ Some h → h.register ≢ k) →
+      register_after r (sets_from condition nexts n hs) k old ≡ old
   sets-miss nexts n [] k old ne = refl
   sets-miss nexts n (h ∷ hs) k old ne =
       after-append r (sets_of condition h (slice_get nexts n)) (sets_from condition nexts (suc n) hs) k old
       ∙ sets-miss nexts (suc n) hs k _ (λ i x e. ne (suc i) x e)
       ∙ sets_of-miss h (slice_get nexts n) k old (ne 0 h refl)
 
-  sets-hit : (nexts : List ℕ) (n : ℕ) (hs : List Held) (from i next old : ℕ) (h : Held) → ((j : ℕ) (x : Held) → slice_get hs j ≡ Some x → x.register ≡ from + j) → slice_get hs i ≡ Some h
+  sets-hit : (nexts : List ℕ) (n : ℕ) (hs : List Held) (from i next old : ℕ) (h : Held) → ((j : ℕ) (x : Held) → slice_get hs j ≡ Some x → x.register ≡ from + j) →
+      slice_get hs i ≡ Some h
       → slice_get nexts (n + i) ≡ Some next → r.signal condition ≡ 1 → register_after r (sets_from condition nexts n hs) (from + i) old ≡ r.signal next
   sets-hit nexts n [] from i next old h at e f on = absurd cc
   sets-hit nexts n (y ∷ hs) from zero next old h at e f on =
@@ -89,7 +93,8 @@ module _ (r : Reading) (condition : ℕ) where
       let index : n + suc i ≡ suc n + i = omega arith in
       after-append r (sets_of condition y (slice_get nexts n)) (sets_from condition nexts (suc n) hs) (from + suc i) old
       ∙ ap (λ k. register_after r (sets_from condition nexts (suc n) hs) k (register_after r (sets_of condition y (slice_get nexts n)) (from + suc i) old)) step
-      ∙ sets-hit nexts (suc n) hs (suc from) i next _ h (λ j x listed. (let p : x.register ≡ from + suc j = at (suc j) x listed in omega arith)) e (ap (slice_get nexts) (sym index) ∙ f) on
+      ∙ sets-hit nexts (suc n) hs (suc from) i next _ h (λ j x listed. (let p : x.register ≡ from + suc j = at (suc j) x listed in omega arith)) e
+      (ap (slice_get nexts) (sym index) ∙ f) on
 
   -- ---- stores
 
@@ -102,13 +107,14 @@ module _ (r : Reading) (condition : ℕ) where
   stores-off [] j k old off = refl
   stores-off (s ∷ stores) j k old off =
       stores-off stores j k _ off
-      ∙ ap (λ n. if nat_lt 0 n && (nat_lt 0 (r.signal s.condition) && true) then (if nat_eq s.memory j && nat_eq (r.signal s.address) k then r.signal s.source else old) else old) off
+      ∙ ap (λ n. if nat_lt 0 n && (nat_lt 0 (r.signal s.condition) && true) then (if nat_eq s.memory j && nat_eq (r.signal s.address) k then r.signal s.source else old) else old)
+      off
 
 -- ---- all statements of a thread
 
-module _ (r : Reading) (registers : Registers) (c : Chains) (stores : List Store) (edge : Edge) where
+module _ (r : Reading) (registers : Registers) (c : Chains) (granted : List Held) (stores : List Store) (edge : Edge) where
   abbrev firsts : List Action
-  firsts = set_action edge.leave registers.stage.register c.stage ∷ set_action edge.leave registers.state.register edge.state ∷ set_action edge.leave registers.beat edge.beat ∷ []
+  firsts = set_action edge.leave registers.stage.register c.stage ∷ set_action edge.leave registers.state.register edge.state ∷ set_action edge.moved registers.beat edge.beat ∷ []
 
   abbrev sets_variables : List Action
   sets_variables = sets_from edge.leave c.variables 0 registers.variables
@@ -116,98 +122,124 @@ module _ (r : Reading) (registers : Registers) (c : Chains) (stores : List Store
   abbrev sets_kept : List Action
   sets_kept = sets_from edge.leave c.kept 0 registers.kept
 
+  abbrev sets_granted : List Action
+  sets_granted = sets_from edge.moved edge.granted 0 granted
+
   -- the parts in their order
-  parts : (k old : ℕ) → register_after r (actions_of registers c stores edge) k old
-      ≡ register_after r sets_kept k (register_after r sets_variables k (register_after r firsts k old))
+  parts : (k old : ℕ) → register_after r (actions_of registers c granted stores edge) k old
+      ≡ register_after r sets_granted k (register_after r sets_kept k (register_after r sets_variables k (register_after r firsts k old)))
   parts k old =
-      after-append r (firsts ++ sets_variables ++ sets_kept) (map (store_action edge.leave) stores) k old
+      after-append r (firsts ++ sets_variables ++ sets_kept ++ sets_granted) (map (store_action edge.leave) stores) k old
       ∙ stores-stay r edge.leave stores k _
-      ∙ after-append r (firsts ++ sets_variables) sets_kept k old
-      ∙ ap (register_after r sets_kept k) (after-append r firsts sets_variables k old)
+      ∙ after-append r (firsts ++ sets_variables ++ sets_kept) sets_granted k old
+      ∙ ap (register_after r sets_granted k)
+      (after-append r (firsts ++ sets_variables) sets_kept k old ∙ ap (register_after r sets_kept k) (after-append r firsts sets_variables k old))
 
   three : (k old : ℕ) → register_after r firsts k old
-      ≡ register_after r (set_action edge.leave registers.beat edge.beat ∷ []) k
+      ≡ register_after r (set_action edge.moved registers.beat edge.beat ∷ []) k
       (register_after r (set_action edge.leave registers.state.register edge.state ∷ []) k (register_after r (set_action edge.leave registers.stage.register c.stage ∷ []) k old))
   three k old = refl
 
-  -- nothing changes where the state is not left
-  pub edge_stays : (k old : ℕ) → r.signal edge.leave ≡ 0 → register_after r (actions_of registers c stores edge) k old ≡ old
-  edge_stays k old off =
+  -- where the state is not left nothing changes but the beat and what has been granted
+  pub edge_keeps : (k old : ℕ) → r.signal edge.leave ≡ 0 → registers.beat ≢ k → ((i : ℕ) (h : Held) → slice_get granted i ≡ Some h → h.register ≢ k)
+      → register_after r (actions_of registers c granted stores edge) k old ≡ old
+  edge_keeps k old off beat marks =
       parts k old
+      ∙ sets-miss r edge.moved edge.granted 0 granted k _ marks
       ∙ sets-off r edge.leave c.kept 0 registers.kept k _ off
       ∙ sets-off r edge.leave c.variables 0 registers.variables k _ off
       ∙ three k old
-      ∙ set_off r edge.leave registers.beat edge.beat k _ off
+      ∙ set_miss r edge.moved registers.beat edge.beat k _ beat
       ∙ set_off r edge.leave registers.state.register edge.state k _ off
       ∙ set_off r edge.leave registers.stage.register c.stage k old off
 
-  pub edge_words : (j k old : ℕ) → r.signal edge.leave ≡ 0 → word_after r (actions_of registers c stores edge) j k old ≡ old
-  edge_words j k old off =
-      word-append r (firsts ++ sets_variables ++ sets_kept) (map (store_action edge.leave) stores) j k old
-      ∙ stores-off r edge.leave stores j k _ off
+  -- and nothing at all where nothing moves
+  pub edge_stays : (k old : ℕ) → r.signal edge.leave ≡ 0 → r.signal edge.moved ≡ 0 → register_after r (actions_of registers c granted stores edge) k old ≡ old
+  edge_stays k old off still =
+      parts k old
+      ∙ sets-off r edge.moved edge.granted 0 granted k _ still
+      ∙ sets-off r edge.leave c.kept 0 registers.kept k _ off
+      ∙ sets-off r edge.leave c.variables 0 registers.variables k _ off
+      ∙ three k old
+      ∙ set_off r edge.moved registers.beat edge.beat k _ still
+      ∙ set_off r edge.leave registers.state.register edge.state k _ off
+      ∙ set_off r edge.leave registers.stage.register c.stage k old off
+
+  -- the words of memories are those that the stores leave
+  pub edge_stores : (j k old : ℕ) → word_after r (actions_of registers c granted stores edge) j k old ≡ word_after r (map (store_action edge.leave) stores) j k old
+  edge_stores j k old =
+      word-append r (firsts ++ sets_variables ++ sets_kept ++ sets_granted) (map (store_action edge.leave) stores) j k old
+      ∙ ap (word_after r (map (store_action edge.leave) stores) j k)
+      (word-append r (firsts ++ sets_variables ++ sets_kept) sets_granted j k old
+      ∙ sets-word r edge.moved edge.granted 0 granted j k _
       ∙ word-append r (firsts ++ sets_variables) sets_kept j k old
       ∙ sets-word r edge.leave c.kept 0 registers.kept j k _
       ∙ word-append r firsts sets_variables j k old
       ∙ sets-word r edge.leave c.variables 0 registers.variables j k _
-      ∙ set_word r edge.leave registers.beat edge.beat j k _
-      ∙ set_word r edge.leave registers.state.register edge.state j k _
-      ∙ set_word r edge.leave registers.stage.register c.stage j k old
-
-  -- the words of memories are those that the stores leave
-  pub edge_stores : (j k old : ℕ) → word_after r (actions_of registers c stores edge) j k old ≡ word_after r (map (store_action edge.leave) stores) j k old
-  edge_stores j k old =
-      word-append r (firsts ++ sets_variables ++ sets_kept) (map (store_action edge.leave) stores) j k old
-      ∙ ap (word_after r (map (store_action edge.leave) stores) j k)
-      (word-append r (firsts ++ sets_variables) sets_kept j k old
-      ∙ sets-word r edge.leave c.kept 0 registers.kept j k _
-      ∙ word-append r firsts sets_variables j k old
-      ∙ sets-word r edge.leave c.variables 0 registers.variables j k _
-      ∙ set_word r edge.leave registers.beat edge.beat j k _
+      ∙ set_word r edge.moved registers.beat edge.beat j k _
       ∙ set_word r edge.leave registers.state.register edge.state j k _
       ∙ set_word r edge.leave registers.stage.register c.stage j k old)
 
+  pub edge_words : (j k old : ℕ) → r.signal edge.leave ≡ 0 → word_after r (actions_of registers c granted stores edge) j k old ≡ old
+  edge_words j k old off = edge_stores j k old ∙ stores-off r edge.leave stores j k old off
+
   module _ (base : ℕ) (stage_at : registers.stage.register ≡ base) (state_at : registers.state.register ≡ base + 1) (beat_at : registers.beat ≡ base + 2)
       (variables_at : (i : ℕ) (h : Held) → slice_get registers.variables i ≡ Some h → h.register ≡ base + 3 + i)
-      (kept_at : (i : ℕ) (h : Held) → slice_get registers.kept i ≡ Some h → h.register ≡ base + 3 + length registers.variables + i) (on : r.signal edge.leave ≡ 1) where
+      (kept_at : (i : ℕ) (h : Held) → slice_get registers.kept i ≡ Some h → h.register ≡ base + 3 + length registers.variables + i)
+      (granted_at : (i : ℕ) (h : Held) → slice_get granted i ≡ Some h → h.register ≡ base + 3 + length registers.variables + length registers.kept + i) where
     -- a register before the variables
-    front : (k old w : ℕ) → k < base + 3 → register_after r firsts k old ≡ w → register_after r (actions_of registers c stores edge) k old ≡ w
+    front : (k old w : ℕ) → k < base + 3 → register_after r firsts k old ≡ w → register_after r (actions_of registers c granted stores edge) k old ≡ w
     front k old w less e =
         parts k old
+        ∙ sets-miss r edge.moved edge.granted 0 granted k _ (λ i h listed same. absurd (let p = granted_at i h listed in omega arith))
         ∙ sets-miss r edge.leave c.kept 0 registers.kept k _ (λ i h listed same. absurd (let p = kept_at i h listed in omega arith))
         ∙ sets-miss r edge.leave c.variables 0 registers.variables k _ (λ i h listed same. absurd (let p = variables_at i h listed in omega arith))
         ∙ e
 
-    pub stage_next : (old : ℕ) → register_after r (actions_of registers c stores edge) base old ≡ r.signal c.stage
-    stage_next old =
-        front base old (r.signal c.stage) (omega arith)
-        (three base old
-        ∙ set_miss r edge.leave registers.beat edge.beat base _ (λ same. absurd (omega arith))
-        ∙ set_miss r edge.leave registers.state.register edge.state base _ (λ same. absurd (omega arith))
-        ∙ set_hit r edge.leave registers.stage.register c.stage base old on stage_at)
+    pub beat_next : (old : ℕ) → r.signal edge.moved ≡ 1 → register_after r (actions_of registers c granted stores edge) (base + 2) old ≡ r.signal edge.beat
+    beat_next old moved =
+        front (base + 2) old (r.signal edge.beat) (omega arith) (three (base + 2) old ∙ set_hit r edge.moved registers.beat edge.beat (base + 2) _ moved beat_at)
 
-    pub state_next : (old : ℕ) → register_after r (actions_of registers c stores edge) (base + 1) old ≡ r.signal edge.state
-    state_next old =
-        front (base + 1) old (r.signal edge.state) (omega arith)
-        (three (base + 1) old
-        ∙ set_miss r edge.leave registers.beat edge.beat (base + 1) _ (λ same. absurd (omega arith))
-        ∙ set_hit r edge.leave registers.state.register edge.state (base + 1) _ on state_at)
-
-    pub beat_next : (old : ℕ) → register_after r (actions_of registers c stores edge) (base + 2) old ≡ r.signal edge.beat
-    beat_next old =
-        front (base + 2) old (r.signal edge.beat) (omega arith) (three (base + 2) old ∙ set_hit r edge.leave registers.beat edge.beat (base + 2) _ on beat_at)
-
-    pub variable_next : (i next old : ℕ) (h : Held) → slice_get registers.variables i ≡ Some h → slice_get c.variables i ≡ Some next
-        → register_after r (actions_of registers c stores edge) (base + 3 + i) old ≡ r.signal next
-    variable_next i next old h listed e =
+    pub granted_next : (i next old : ℕ) (h : Held) → r.signal edge.moved ≡ 1 → slice_get granted i ≡ Some h → slice_get edge.granted i ≡ Some next
+        → register_after r (actions_of registers c granted stores edge) (base + 3 + length registers.variables + length registers.kept + i) old ≡ r.signal next
+    granted_next i next old h moved listed e =
         let index : i ≡ 0 + i = omega arith in
-        let within = slice_get_within registers.variables i h listed in
-        parts (base + 3 + i) old
-        ∙ sets-miss r edge.leave c.kept 0 registers.kept (base + 3 + i) _ (λ j x there same. absurd (let p = kept_at j x there in omega arith))
-        ∙ sets-hit r edge.leave c.variables 0 registers.variables (base + 3) i next _ h variables_at listed (ap (slice_get c.variables) (sym index) ∙ e) on
+        parts (base + 3 + length registers.variables + length registers.kept + i) old
+        ∙ sets-hit r edge.moved edge.granted 0 granted (base + 3 + length registers.variables + length registers.kept) i next _ h granted_at listed
+        (ap (slice_get edge.granted) (sym index) ∙ e)
+        moved
 
-    pub kept_next : (i next old : ℕ) (h : Held) → slice_get registers.kept i ≡ Some h → slice_get c.kept i ≡ Some next
-        → register_after r (actions_of registers c stores edge) (base + 3 + length registers.variables + i) old ≡ r.signal next
-    kept_next i next old h listed e =
-        let index : i ≡ 0 + i = omega arith in
-        parts (base + 3 + length registers.variables + i) old
-        ∙ sets-hit r edge.leave c.kept 0 registers.kept (base + 3 + length registers.variables) i next _ h kept_at listed (ap (slice_get c.kept) (sym index) ∙ e) on
+    module _ (on : r.signal edge.leave ≡ 1) where
+      pub stage_next : (old : ℕ) → register_after r (actions_of registers c granted stores edge) base old ≡ r.signal c.stage
+      stage_next old =
+          front base old (r.signal c.stage) (omega arith)
+          (three base old
+          ∙ set_miss r edge.moved registers.beat edge.beat base _ (λ same. absurd (omega arith))
+          ∙ set_miss r edge.leave registers.state.register edge.state base _ (λ same. absurd (omega arith))
+          ∙ set_hit r edge.leave registers.stage.register c.stage base old on stage_at)
+
+      pub state_next : (old : ℕ) → register_after r (actions_of registers c granted stores edge) (base + 1) old ≡ r.signal edge.state
+      state_next old =
+          front (base + 1) old (r.signal edge.state) (omega arith)
+          (three (base + 1) old
+          ∙ set_miss r edge.moved registers.beat edge.beat (base + 1) _ (λ same. absurd (omega arith))
+          ∙ set_hit r edge.leave registers.state.register edge.state (base + 1) _ on state_at)
+
+      pub variable_next : (i next old : ℕ) (h : Held) → slice_get registers.variables i ≡ Some h → slice_get c.variables i ≡ Some next
+          → register_after r (actions_of registers c granted stores edge) (base + 3 + i) old ≡ r.signal next
+      variable_next i next old h listed e =
+          let index : i ≡ 0 + i = omega arith in
+          let within = slice_get_within registers.variables i h listed in
+          parts (base + 3 + i) old
+          ∙ sets-miss r edge.moved edge.granted 0 granted (base + 3 + i) _ (λ j x there same. absurd (let p = granted_at j x there in omega arith))
+          ∙ sets-miss r edge.leave c.kept 0 registers.kept (base + 3 + i) _ (λ j x there same. absurd (let p = kept_at j x there in omega arith))
+          ∙ sets-hit r edge.leave c.variables 0 registers.variables (base + 3) i next _ h variables_at listed (ap (slice_get c.variables) (sym index) ∙ e) on
+
+      pub kept_next : (i next old : ℕ) (h : Held) → slice_get registers.kept i ≡ Some h → slice_get c.kept i ≡ Some next
+          → register_after r (actions_of registers c granted stores edge) (base + 3 + length registers.variables + i) old ≡ r.signal next
+      kept_next i next old h listed e =
+          let index : i ≡ 0 + i = omega arith in
+          let within = slice_get_within registers.kept i h listed in
+          parts (base + 3 + length registers.variables + i) old
+          ∙ sets-miss r edge.moved edge.granted 0 granted (base + 3 + length registers.variables + i) _ (λ j x there same. absurd (let p = granted_at j x there in omega arith))
+          ∙ sets-hit r edge.leave c.kept 0 registers.kept (base + 3 + length registers.variables) i next _ h kept_at listed (ap (slice_get c.kept) (sym index) ∙ e) on

@@ -1,6 +1,6 @@
 -- Grades of signals: inputs have those of their places, what registers alone reach has 0, what the enable reaches 1, and what
--- a grant reaches 2.
-use Rattle.std.proofs.Common.{◌≡◌, ℕ, ◌+◌, ◌<◌, ◌≤◌, Bool, true, false, nat_eq, nat_lt, if◌then◌else◌, min, List, length, Option, Some, sym, ap, subst, ◌∙◌}
+-- a grant or a word of a bank reaches 2.
+use Rattle.std.proofs.Common.{◌≡◌, ℕ, ◌+◌, ◌<◌, ◌≤◌, Bool, true, false, nat_lt, if◌then◌else◌, min, List, length, Option, Some, sym, ap, subst, ◌∙◌}
 use Rattle.std.proofs.Common.{arith, ⊎_elim}
 use Rattle.std.specs.Prelude.{slice_get}
 use Rattle.std.proofs.lemmas.Bool.{cases_lt}
@@ -23,16 +23,8 @@ use Rattle.operator_wires.specs.Built.{Base, no_memory, SelectsOf, IsEarlier, Is
 use Rattle.operator_wires.proofs.Giving.{listed}
 use Rattle.operator_wires.proofs.Building.{within, longer}
 
--- ---- grades by places: the wires of control begin at place d, where the printer is asked, and the outputs at place e
-
-pub level : ℕ → ℕ → ℕ → ℕ → ℕ
-level d e asked x =
-    if nat_lt x 3 then min x 2
-    else (if nat_lt x d then 0
-    else (if nat_eq x d then 1
-    else (if nat_lt x e then 2
-    else (if nat_lt x (e + asked) then 1
-    else 0))))
+-- ---- grades by places: so many inputs, then what registers alone reach, up to place l; the wires of stages, up to place d, which words of
+-- banks reach; whether cores are asked, up to place a; the other wires of control, up to place e; and the outputs, first those that ask
 
 is_less : (x y : ℕ) → x < y → nat_lt x y ≡ true
 is_less x y l = grind (arith, nat_tests)
@@ -40,77 +32,80 @@ is_less x y l = grind (arith, nat_tests)
 not_less : (x y : ℕ) → y ≤ x → nat_lt x y ≡ false
 not_less x y l = grind (arith, nat_tests)
 
-not_same : (x y : ℕ) → y < x → nat_eq x y ≡ false
-not_same x y l = grind (arith, nat_tests)
+module _ (inputs l d a e asked : ℕ) where
+  abbrev at_outputs : ℕ → ℕ
+  at_outputs x = if nat_lt x (e + asked) then 1 else 0
 
-is_same : (x : ℕ) → nat_eq x x ≡ true
-is_same x = grind (arith, nat_tests)
+  abbrev at_control : ℕ → ℕ
+  at_control x = if nat_lt x e then 2 else at_outputs x
 
-module _ (d e asked : ℕ) where
-  below : ℕ → ℕ
-  below x = if nat_lt x d then 0 else (if nat_eq x d then 1 else (if nat_lt x e then 2 else (if nat_lt x (e + asked) then 1 else 0)))
+  abbrev at_asks : ℕ → ℕ
+  at_asks x = if nat_lt x a then 1 else at_control x
 
-  behind : ℕ → ℕ
-  behind x = if nat_eq x d then 1 else (if nat_lt x e then 2 else (if nat_lt x (e + asked) then 1 else 0))
+  abbrev at_stages : ℕ → ℕ
+  at_stages x = if nat_lt x d then 2 else at_asks x
 
-  last : ℕ → ℕ
-  last x = if nat_lt x e then 2 else (if nat_lt x (e + asked) then 1 else 0)
+  abbrev at_slot : ℕ → ℕ
+  at_slot x = if nat_lt x l then 0 else at_stages x
 
-  pub input_level : (x : ℕ) → x < 3 → level d e asked x ≡ min x 2
-  unfolding level below
-  input_level x l = ap (λ (t : Bool). if t then min x 2 else below x) (is_less x 3 l)
+  pub level : ℕ → ℕ
+  level x = if nat_lt x inputs then min x 2 else at_slot x
 
-  past_inputs : (x : ℕ) → 3 ≤ x → level d e asked x ≡ below x
-  unfolding level below
-  past_inputs x l = ap (λ (t : Bool). if t then min x 2 else below x) (not_less x 3 l)
+  pub input_level : (x : ℕ) → x < inputs → level x ≡ min x 2
+  unfolding level
+  input_level x less = ap (λ (t : Bool). if t then min x 2 else at_slot x) (is_less x inputs less)
 
-  pub inner_level : (x : ℕ) → 3 ≤ x → x < d → level d e asked x ≡ 0
-  unfolding below behind
-  inner_level x l u = past_inputs x l ∙ ap (λ (t : Bool). if t then 0 else behind x) (is_less x d u)
+  past_inputs : (x : ℕ) → inputs ≤ x → level x ≡ at_slot x
+  unfolding level
+  past_inputs x le = ap (λ (t : Bool). if t then min x 2 else at_slot x) (not_less x inputs le)
 
-  past_inner : (x : ℕ) → 3 ≤ x → d ≤ x → level d e asked x ≡ behind x
-  unfolding below behind
-  past_inner x l u = past_inputs x l ∙ ap (λ (t : Bool). if t then 0 else behind x) (not_less x d u)
+  pub slot_level : (x : ℕ) → inputs ≤ x → x < l → level x ≡ 0
+  slot_level x le less = past_inputs x le ∙ ap (λ (t : Bool). if t then 0 else at_stages x) (is_less x l less)
 
-  pub asks_level : 3 ≤ d → level d e asked d ≡ 1
-  unfolding behind last
-  asks_level l = past_inner d l (omega arith) ∙ ap (λ (t : Bool). if t then 1 else last d) (is_same d)
+  module _ (slots : inputs ≤ l) where
+    past_slot : (x : ℕ) → l ≤ x → level x ≡ at_stages x
+    past_slot x le = past_inputs x (omega arith) ∙ ap (λ (t : Bool). if t then 0 else at_stages x) (not_less x l le)
 
-  past_asks : (x : ℕ) → 3 ≤ d → d < x → level d e asked x ≡ last x
-  unfolding behind last
-  past_asks x l u = past_inner x (omega arith) (omega arith) ∙ ap (λ (t : Bool). if t then 1 else last x) (not_same x d u)
+    pub stage_level : (x : ℕ) → l ≤ x → x < d → level x ≡ 2
+    stage_level x le less = past_slot x le ∙ ap (λ (t : Bool). if t then 2 else at_asks x) (is_less x d less)
 
-  pub control_level : (x : ℕ) → 3 ≤ d → d < x → x < e → level d e asked x ≡ 2
-  unfolding last
-  control_level x l u v = past_asks x l u ∙ ap (λ (t : Bool). if t then 2 else (if nat_lt x (e + asked) then 1 else 0)) (is_less x e v)
+    module _ (stages : l ≤ d) where
+      past_stages : (x : ℕ) → d ≤ x → level x ≡ at_asks x
+      past_stages x le = past_slot x (omega arith) ∙ ap (λ (t : Bool). if t then 2 else at_asks x) (not_less x d le)
 
-  past_control : (x : ℕ) → 3 ≤ d → d < e → e ≤ x → level d e asked x ≡ (if nat_lt x (e + asked) then 1 else 0)
-  unfolding last
-  past_control x l u v = past_asks x l (omega arith) ∙ ap (λ (t : Bool). if t then 2 else (if nat_lt x (e + asked) then 1 else 0)) (not_less x e v)
+      pub asks_level : (x : ℕ) → d ≤ x → x < a → level x ≡ 1
+      asks_level x le less = past_stages x le ∙ ap (λ (t : Bool). if t then 1 else at_control x) (is_less x a less)
 
-  pub asked_level : (x : ℕ) → 3 ≤ d → d < e → e ≤ x → x < e + asked → level d e asked x ≡ 1
-  asked_level x l u v w = past_control x l u v ∙ ap (λ (t : Bool). if t then 1 else 0) (is_less x (e + asked) w)
+      module _ (cores : d ≤ a) where
+        past_asks : (x : ℕ) → a ≤ x → level x ≡ at_control x
+        past_asks x le = past_stages x (omega arith) ∙ ap (λ (t : Bool). if t then 1 else at_control x) (not_less x a le)
 
-  pub told_level : (x : ℕ) → 3 ≤ d → d < e → e + asked ≤ x → level d e asked x ≡ 0
-  told_level x l u v = past_control x l u (omega arith) ∙ ap (λ (t : Bool). if t then 1 else 0) (not_less x (e + asked) v)
+        pub control_level : (x : ℕ) → a ≤ x → x < e → level x ≡ 2
+        control_level x le less = past_asks x le ∙ ap (λ (t : Bool). if t then 2 else at_outputs x) (is_less x e less)
 
-  -- none is above 2
-  pub most_level : (x : ℕ) → 3 ≤ d → x < e → level d e asked x ≤ 2
-  most_level x l u =
-      ⊎_elim
-      (λ (h : x < 3). (let z = input_level x h in omega arith))
-      (λ (h : 3 ≤ x).
-      ⊎_elim
-      (λ (k : x < d). (let z = inner_level x h k in omega arith))
-      (λ (k : d ≤ x).
-      ⊎_elim
-      (λ (p : d < x). (let z = control_level x l p u in omega arith))
-      (λ (p : x ≤ d).
-      let same : x ≡ d = omega arith in
-      subst (λ n. level d e asked n ≤ 2) (sym same) (let z = asks_level l in omega arith))
-      (cases_lt d x))
-      (cases_lt x d))
-      (cases_lt x 3)
+        module _ (control : a ≤ e) where
+          past_control : (x : ℕ) → e ≤ x → level x ≡ at_outputs x
+          past_control x le = past_asks x (omega arith) ∙ ap (λ (t : Bool). if t then 2 else at_outputs x) (not_less x e le)
+
+          pub asked_level : (x : ℕ) → e ≤ x → x < e + asked → level x ≡ 1
+          asked_level x le less = past_control x le ∙ ap (λ (t : Bool). if t then 1 else 0) (is_less x (e + asked) less)
+
+          pub told_level : (x : ℕ) → e + asked ≤ x → level x ≡ 0
+          told_level x le = past_control x (omega arith) ∙ ap (λ (t : Bool). if t then 1 else 0) (not_less x (e + asked) le)
+
+        -- none is above 2
+        pub most_level : (x : ℕ) → x < e → level x ≤ 2
+        most_level x less =
+            ⊎_elim (λ (h : x < inputs). (let z = input_level x h in omega arith))
+            (λ (h : inputs ≤ x).
+            ⊎_elim (λ (k : x < l). (let z = slot_level x h k in omega arith))
+            (λ (k : l ≤ x).
+            ⊎_elim (λ (p : x < d). (let z = stage_level x k p in omega arith))
+            (λ (p : d ≤ x).
+            ⊎_elim (λ (q : x < a). (let z = asks_level x p q in omega arith)) (λ (q : a ≤ x). (let z = control_level x q less in omega arith)) (cases_lt x a))
+            (cases_lt x d))
+            (cases_lt x l))
+            (cases_lt x inputs)
 
 -- ---- signals of grades
 
@@ -130,7 +125,8 @@ range_of m P (Concatenation xs) h s = tt
 range_of m P (Replication n x) h s = tt
 
 -- of other memories, among which these are
-other_memory : (P : ℕ → ℕ → Type 0) (memory other : ℕ → Option Memory) → ((j : ℕ) (c : Memory) → memory j ≡ Some c → other j ≡ Some c) → (w : ℕ) (v : Value) → FitsValue P memory w v
+other_memory : (P : ℕ → ℕ → Type 0) (memory other : ℕ → Option Memory) → ((j : ℕ) (c : Memory) → memory j ≡ Some c → other j ≡ Some c) → (w : ℕ) (v : Value) →
+    FitsValue P memory w v
     → FitsValue P other w v
 other_memory P memory other among w (Copy x) f = f
 other_memory P memory other among w (Constant n) f = f
@@ -170,15 +166,15 @@ module _ (m : Module) (grade : ℕ → ℕ) where
       most = le;
     }
 
-    pub wire_graded : (base : Base) (x most : ℕ) (s : Signal) → 0 < base.first → ((j : ℕ) (c : Memory) → base.memory j ≡ Some c → slice_get m.memories j ≡ Some c)
-        → ((y : ℕ) → base.first ≤ y → y < x → grade y ≤ most) → IsWire a base x s → IsGradedSignal m grades x 3 most s
-    wire_graded base x most s some memories all t =
+    pub wire_graded : (base : Base) (inputs x most : ℕ) (s : Signal) → 0 < base.first → ((j : ℕ) (c : Memory) → base.memory j ≡ Some c → slice_get m.memories j ≡ Some c)
+        → ((y : ℕ) → base.first ≤ y → y < x → grade y ≤ most) → IsWire a base x s → IsGradedSignal m grades x inputs most s
+    wire_graded base inputs x most s some memories all t =
         let fits : IsRightSide m grades x s.width most t.right =
         other_memory (IsOperand m grades x most) base.memory (λ j. slice_get m.memories j) memories s.width t.right
         (fits_among (IsRead a base x) (IsOperand m grades x most) base.memory s.width t.right
         (λ y u among r. earlier_operand base x y u most some r.earlier r.before (all y r.earlier.after r.before)) t.fits)
         in
-        record { low = t.low; high = t.high; source = subst (λ (z : Source). IsGradedSource m grades x 3 s.width most z) (sym t.drives) fits }
+        record { low = t.low; high = t.high; source = subst (λ (z : Source). IsGradedSource m grades x inputs s.width most z) (sym t.drives) fits }
 
     pub wire_ranges : (base : Base) (x : ℕ) (s : Signal) (t : IsWire a base x s) → HasRange m t.right
     wire_ranges base x s t = range_of m (IsRead a base x) t.right (λ y u r. earlier_has base y u r.earlier) t.selects

@@ -4,6 +4,7 @@ use Rattle.std.proofs.Common.{refl, sym, ap, subst, ◌∙◌, arith, ⊎_elim, 
 use Rattle.std.proofs.lemmas.List.{length-map}
 use Rattle.interleaving.proofs.Update.{same_or_not}
 use Rattle.hls_ints.specs.Types.{IntegerType, width_of}
+use Rattle.bank_partition.specs.declared.banks.Spread.{Spread}
 use Rattle.block_ir.specs.declared.block.Operation.{Operation}
 use Rattle.block_ir.specs.declared.block.Block.{Block}
 use Rattle.block_ir.specs.declared.code.ThreadCode.{ThreadCode}
@@ -44,19 +45,21 @@ stands_long a b w place d t = ap length t.is ∙ length-append a (t.signal ∷ [
 pub stands_later : (a b : List Signal) (place w : ℕ) (d : Source) → Grows a b → StandsAt a place w d → StandsAt b place w d
 stands_later a b place w d g t = record { signal = t.signal; listed = listed a b place t.signal g t.listed; wide = t.wide; drives = t.drives }
 
-pub stand_later : (a b : List Signal) (from : ℕ) (widths : List ℕ) (registers : List Held) (n : ℕ) → Grows a b → StandFrom a from widths registers n → StandFrom b from widths registers n
-stand_later a b from widths registers n g t k w lt e = let f = t k w lt e in (f.0, f.1, f.2, f.3, stands_later a b (from + k) w (source.Register 0) g f.4)
+pub stand_later : (d : Source) (a b : List Signal) (from : ℕ) (widths : List ℕ) (registers : List Held) (n : ℕ) → Grows a b → StandFrom d a from widths registers n
+    → StandFrom d b from widths registers n
+stand_later d a b from widths registers n g t k w lt e = let f = t k w lt e in (f.0, f.1, f.2, f.3, stands_later a b (from + k) w d g f.4)
 
-pub lays_none : (a : List Signal) (widths : List ℕ) (registers : List Held) → registers ≡ [] → LaysAll a a widths 0 registers
-lays_none a widths registers e = record { grows = grows_refl a; long = omega arith; count = ap length e; each = λ k w lt there. absurd (omega arith) }
+pub lays_none : (d : Source) (a : List Signal) (widths : List ℕ) (registers : List Held) → registers ≡ [] → LaysAll d a a widths 0 registers
+lays_none d a widths registers e = record { grows = grows_refl a; long = omega arith; count = ap length e; each = λ k w lt there. absurd (omega arith) }
 
-pub lays_more : (a b c : List Signal) (widths : List ℕ) (n : ℕ) (registers after : List Held) (w : ℕ) (h : Held) → LaysAll a b widths n registers → slice_get widths n ≡ Some w
-    → LaysRegister b c w 0 h → after ≡ registers ++ h ∷ [] → LaysAll a c widths (n + 1) after
-lays_more a b c widths n registers after w h t here u e =
-    subst (λ (l : List Held). LaysAll a c widths (n + 1) l) (sym e)
+pub lays_more : (d : Source) (a b c : List Signal) (widths : List ℕ) (n : ℕ) (registers after : List Held) (w : ℕ) (h : Held) → LaysAll d a b widths n registers →
+    slice_get widths n ≡ Some w
+    → h.width ≡ w → Stands b c w d h.register → after ≡ registers ++ h ∷ [] → LaysAll d a c widths (n + 1) after
+lays_more d a b c widths n registers after w h t here says u e =
+    subst (λ (l : List Held). LaysAll d a c widths (n + 1) l) (sym e)
     (record {
       grows = grows_then a b c t.grows more;
-      long = (let x = t.long in let y = stands_long b c w h.register (source.Register 0) u.stands in omega arith);
+      long = (let x = t.long in let y = stands_long b c w h.register d u in omega arith);
       count = length-append registers (h ∷ []) ∙ ap (λ k. k + 1) t.count;
       each = λ k v lt there. ⊎_elim
           (λ (same : k ≡ n).
@@ -65,20 +68,20 @@ lays_more a b c widths n registers after w h t here u e =
           let at : length b ≡ length a + k = omega arith in (
             h,
             ap (slice_get (registers ++ h ∷ [])) (same ∙ sym t.count) ∙ got_last registers h,
-            u.width ∙ one,
-            u.stands.last ∙ at,
-            subst (λ (x : ℕ). StandsAt c x v (source.Register 0)) at
-                (subst (λ (x : ℕ). StandsAt c (length b) x (source.Register 0)) one (stands_last b c w h.register (source.Register 0) u.stands)),
+            says ∙ one,
+            u.last ∙ at,
+            subst (λ (x : ℕ). StandsAt c x v d) at
+                (subst (λ (x : ℕ). StandsAt c (length b) x d) one (stands_last b c w h.register d u)),
           ))
           (λ (ne : k ≢ n).
           let less : k < n = omega arith in
           let f = t.each k v less there in
-          (f.0, got_before registers (h ∷ []) k f.0 f.1, f.2, f.3, stands_later b c (length a + k) v (source.Register 0) more f.4))
+          (f.0, got_before registers (h ∷ []) k f.0 f.1, f.2, f.3, stands_later b c (length a + k) v d more f.4))
           (same_or_not k n);
     })
   where
     more : Grows b c
-    more = stands_grow b c w h.register (source.Register 0) u.stands
+    more = stands_grow b c w h.register d u
 
 held_at : (a b c : List Signal) (w initial place : ℕ) (h : Held) → LaysRegister a b w initial h → Grows b c → length a ≡ place → IsHeldAt c h place initial
 held_at a b c w initial place h t g e = record {
@@ -89,12 +92,16 @@ held_at a b c w initial place h t g e = record {
       (stands_later b c (length a) w (source.Register initial) g (stands_last a b w h.register (source.Register initial) t.stands)));
 }
 
-pub slot_laid : (a b c d e f : List Signal) (code : ThreadCode) (plan : Planned) (first end most stage_width state_width : ℕ) (widths kept_widths : List ℕ) (types : List IntegerType)
-    (plans : List StagePlan) (registers : Registers) → plans ≡ plan.stages → types ≡ code.variables → widths ≡ map width_of types → end ≡ length code.stages
+pub slot_laid : (a b c d e f : List Signal) (code : ThreadCode) (plan : Planned) (first end most stage_width state_width : ℕ) (widths kept_widths : List ℕ)
+    (types : List IntegerType)
+    (plans : List StagePlan) (words : List Held) (spreads : List Spread) (registers : Registers) → registers.words ≡ words → registers.spreads ≡ spreads → plans ≡ plan.stages →
+    types ≡ code.variables → widths ≡ map width_of types → end ≡ length code.stages
     → end < 2 ^ stage_width → most ≤ 2 ^ state_width → most < 2 ^ 64 → ((l : ℕ) (p : BlockPlan) → slice_get plans l ≡ Some (planned.Run p) → p.states ≤ most)
     → LaysRegister a b stage_width first registers.stage → LaysRegister b c state_width 0 registers.state → Stands c d 1 (source.Register 0) registers.beat
-    → LaysAll d e widths (length widths) registers.variables → LaysAll e f kept_widths (length kept_widths) registers.kept → LaysSlot code plan first kept_widths a f registers
-slot_laid a b c d e f code plan first end most stage_width state_width widths kept_widths types plans registers plans_are types_are widths_are end_is room state_room fits states s t u v w =
+    → LaysAll (source.Register 0) d e widths (length widths) registers.variables → LaysAll (source.Register 0) e f kept_widths (length kept_widths) registers.kept
+    → LaysSlot code plan first kept_widths words spreads a f registers
+slot_laid a b c d e f code plan first end most stage_width state_width widths kept_widths types plans words spreads registers words_are spreads_are plans_are types_are widths_are
+    end_is room state_room fits states s t u v w =
     let b_long = stands_long a b stage_width registers.stage.register (source.Register first) s.stands in
     let c_long = stands_long b c state_width registers.state.register (source.Register 0) t.stands in
     let d_long = stands_long c d 1 registers.beat (source.Register 0) u in
@@ -120,12 +127,14 @@ slot_laid a b c d e f code plan first end most stage_width state_width widths ke
           (stands_later d f (length c) 1 (source.Register 0) from_d (stands_last c d 1 registers.beat (source.Register 0) u));
       variables_count = v.count ∙ count;
       variables =
-          subst (λ (n : ℕ). StandFrom f (length a + 3) (map width_of code.variables) registers.variables n) count
-          (subst (λ (l : List ℕ). StandFrom f (length a + 3) l registers.variables (length widths)) list
-          (subst (λ (x : ℕ). StandFrom f x widths registers.variables (length widths)) at_variables
-          (stand_later e f (length d) widths registers.variables (length widths) w.grows v.each)));
+          subst (λ (n : ℕ). StandFrom (source.Register 0) f (length a + 3) (map width_of code.variables) registers.variables n) count
+          (subst (λ (l : List ℕ). StandFrom (source.Register 0) f (length a + 3) l registers.variables (length widths)) list
+          (subst (λ (x : ℕ). StandFrom (source.Register 0) f x widths registers.variables (length widths)) at_variables
+          (stand_later (source.Register 0) e f (length d) widths registers.variables (length widths) w.grows v.each)));
       kept_count = w.count;
-      kept = subst (λ (x : ℕ). StandFrom f x kept_widths registers.kept (length kept_widths)) at_kept w.each;
+      words_are = words_are;
+      spreads_are = spreads_are;
+      kept = subst (λ (x : ℕ). StandFrom (source.Register 0) f x kept_widths registers.kept (length kept_widths)) at_kept w.each;
       stage_room = subst (λ (n : ℕ). length code.stages < 2 ^ n) (sym s.width) (subst (λ (n : ℕ). n < 2 ^ stage_width) end_is room);
       state_room = λ l p listed. subst (λ (n : ℕ). p.states ≤ 2 ^ n) (sym t.width) (let h = held_states l p listed in omega arith);
       states_fit = λ l p listed. (let h = held_states l p listed in omega arith);
@@ -140,7 +149,8 @@ pub widens_then : (a b c : List ℕ) → Widens a b → Widens b c → Widens a 
 widens_then a b c t u = record { count = u.count ∙ t.count; more = λ x w h. u.more x w (t.more x w h) }
 
 module _ (globals : List IntegerType) (code : ThreadCode) where
-  pub operations_more : (b : Block) (p : BlockPlan) (first before after : List ℕ) (n w : ℕ) (o : Operation) → KeepsOperations globals code b p first before n → slice_get b.operations n ≡ Some o
+  pub operations_more : (b : Block) (p : BlockPlan) (first before after : List ℕ) (n w : ℕ) (o : Operation) → KeepsOperations globals code b p first before n →
+      slice_get b.operations n ≡ Some o
       → w ≡ width_of (value_type globals code o) → Widens before after → ((x : ℕ) → register_at p.registers n ≡ Some x → HasRoomAt after x w)
       → KeepsOperations globals code b p first after (n + 1)
   operations_more b p first before after n w o t listed e more room = record {

@@ -16,7 +16,7 @@ use Rattle.block_datapath.specs.Leave.{HasStage}
 use Rattle.block_ir.specs.declared.code.ThreadCode.{ThreadCode}
 use Rattle.planned_block.proofs.Bits.{same_is, other_is}
 use Rattle.fsm_datapath.specs.declared.chains.Chains.{Chains}
-use Rattle.fsm_datapath.specs.Links.{AreBits, AddsBit, LeadsTo, WaitsAt, WantsAt, IsStill, ShowSame, AreAsMany}
+use Rattle.fsm_datapath.specs.Links.{AreBits, AddsBit, LeadsTo, WaitsAt, IsStill, ShowSame, AreAsMany}
 use Rattle.fsm_datapath.specs.Stages.{KnowsStage, StepsOver}
 
 -- ---- bits
@@ -62,42 +62,23 @@ lead_made a b c before after w last target t u same = record {
   same = same;
 }
 
-pub wait_made : (a b c : List Signal) (before after : Chains) (condition : ℕ)
-    → Gives a b after.needs 1 (λ m r. word_inclusive_or (width m before.needs) (r.signal before.needs) (r.signal condition))
-    → Gives b c after.waits 1 (λ m r. word_inclusive_or (width m before.waits) (r.signal before.waits) (r.signal condition))
-    → after ≡ record before { needs = after.needs; waits = after.waits } → WaitsAt a c before after condition
-wait_made a b c before after condition t u same = record {
-  grows = grows_then a b c t.grows u.grows;
-  needs = bit_later b c before.needs after.needs condition u.grows (bit_added a b before.needs after.needs condition t);
-  bit = bit_added b c before.waits after.waits condition u;
-  same = same;
-}
-
-pub want_made : (a b c : List Signal) (before after : Chains) (condition : ℕ)
-    → Gives a b after.needs 1 (λ m r. word_inclusive_or (width m before.needs) (r.signal before.needs) (r.signal condition))
-    → Gives b c after.wants 1 (λ m r. word_inclusive_or (width m before.wants) (r.signal before.wants) (r.signal condition))
-    → after ≡ record before { needs = after.needs; wants = after.wants } → WantsAt a c before after condition
-want_made a b c before after condition t u same = record {
-  grows = grows_then a b c t.grows u.grows;
-  needs = bit_later b c before.needs after.needs condition u.grows (bit_added a b before.needs after.needs condition t);
-  bit = bit_added b c before.wants after.wants condition u;
-  same = same;
-}
+pub wait_made : (a b : List Signal) (before after : Chains) (condition : ℕ)
+    → Gives a b after.waits 1 (λ m r. word_inclusive_or (width m before.waits) (r.signal before.waits) (r.signal condition))
+    → after ≡ record before { waits = after.waits } → WaitsAt a b before after condition
+wait_made a b before after condition t same = record { grows = t.grows; bit = bit_added a b before.waits after.waits condition t; same = same }
 
 -- ---- what chains show
 
 pub same_refl : (r : Reading) (c : Chains) → ShowSame r c c
-same_refl r c = record { stage = refl; variables = λ x. refl; kept = λ x. refl; fields = λ x. refl; is_last = λ t e. e; waits = λ t e. e; wants = λ t e. e }
+same_refl r c = record { stage = refl; variables = λ x. refl; kept = λ x. refl; is_last = λ t e. e; waits = λ t e. e }
 
 pub same_then : (r : Reading) (a b c : Chains) → ShowSame r a b → ShowSame r b c → ShowSame r a c
 same_then r a b c t u = record {
   stage = u.stage ∙ t.stage;
   variables = λ x. u.variables x ∙ t.variables x;
   kept = λ x. u.kept x ∙ t.kept x;
-  fields = λ x. u.fields x ∙ t.fields x;
   is_last = λ v e. u.is_last v (t.is_last v e);
   waits = λ v e. u.waits v (t.waits v e);
-  wants = λ v e. u.wants v (t.wants v e);
 }
 
 pub still_later : (r : Reading) (registers : Registers) (a b : Chains) → ShowSame r a b → IsStill r registers a → IsStill r registers b
@@ -107,14 +88,13 @@ still_later r registers a b t still = record {
   kept = λ x h e. t.kept x ∙ still.kept x h e;
   is_last = t.is_last false still.is_last;
   waits = t.waits false still.waits;
-  wants = t.wants false still.wants;
 }
 
 pub many_refl : (c : Chains) → AreAsMany c c
-many_refl c = record { variables = refl; kept = refl; fields = refl }
+many_refl c = record { variables = refl; kept = refl }
 
 pub many_then : (a b c : Chains) → AreAsMany a b → AreAsMany b c → AreAsMany a c
-many_then a b c t u = record { variables = u.variables ∙ t.variables; kept = u.kept ∙ t.kept; fields = u.fields ∙ t.fields }
+many_then a b c t u = record { variables = u.variables ∙ t.variables; kept = u.kept ∙ t.kept }
 
 -- past the end of two lists of one length nothing differs
 pub same_everywhere : (r : Reading) (before after : List ℕ) → length after ≡ length before → ((x : ℕ) → x < length before → next_number r after x ≡ next_number r before x)
@@ -147,9 +127,7 @@ off_then at a b c x y z t u = record {
 pub bits_later : (a b : List Signal) (c : Chains) → Grows a b → AreBits a c → AreBits b c
 bits_later a b c grows e = record {
   is_last = λ m g. e.is_last m (grows_then a b m.signals grows g);
-  needs = λ m g. e.needs m (grows_then a b m.signals grows g);
   waits = λ m g. e.waits m (grows_then a b m.signals grows g);
-  wants = λ m g. e.wants m (grows_then a b m.signals grows g);
 }
 
 -- signals alone are put behind others
@@ -172,7 +150,8 @@ off_steps registers l at a b c x y told t = record {
       t.off m r g o (bits_later a b x told.grows e) off;
 }
 
-pub stage_on : (registers : Registers) (l at : ℕ) (a b : List Signal) (m : Module) (r : Reading) → TellsStage a b registers l at → Grows b m.signals → Obeys m r → HasStage registers l m r
+pub stage_on : (registers : Registers) (l at : ℕ) (a b : List Signal) (m : Module) (r : Reading) → TellsStage a b registers l at → Grows b m.signals → Obeys m r →
+    HasStage registers l m r
     → r.signal registers.stage.register ≡ l → r.signal at ≡ 1
 stage_on registers l at a b m r told g o has here = told.shows m r g o has.wide has.room has.fits ∙ ap bit_of (same_is (r.signal registers.stage.register) l here)
 
@@ -185,22 +164,17 @@ lead_off a b before after last target t = record {
   many = record {
     variables = ap (λ (c : Chains). length c.variables) t.same;
     kept = ap (λ (c : Chains). length c.kept) t.same;
-    fields = ap (λ (c : Chains). length c.fields) t.same;
   };
   bits = λ e. record {
     is_last = t.bit.wide;
-    needs = λ m g. ap (λ (c : Chains). width m c.needs) t.same ∙ e.needs m (grows_then a b m.signals t.grows g);
     waits = λ m g. ap (λ (c : Chains). width m c.waits) t.same ∙ e.waits m (grows_then a b m.signals t.grows g);
-    wants = λ m g. ap (λ (c : Chains). width m c.wants) t.same ∙ e.wants m (grows_then a b m.signals t.grows g);
   };
   off = λ m r g o e no. record {
     stage = t.stage m r g o ∙ ap (λ n. if nat_eq n 0 then r.signal before.stage else r.signal target) no;
     variables = λ x. ap (λ (c : Chains). next_number r c.variables x) t.same;
     kept = λ x. ap (λ (c : Chains). next_number r c.kept x) t.same;
-    fields = λ x. ap (λ (c : Chains). next_number r c.fields x) t.same;
     is_last = λ v is. t.bit.shows m r v false g o (e.is_last m (grows_then a b m.signals t.grows g)) is no ∙ ap bit_of (or_false v);
     waits = λ v is. ap (λ (c : Chains). r.signal c.waits) t.same ∙ is;
-    wants = λ v is. ap (λ (c : Chains). r.signal c.wants) t.same ∙ is;
   };
 }
 
@@ -210,53 +184,24 @@ wait_off a b before after condition t = record {
   many = record {
     variables = ap (λ (c : Chains). length c.variables) t.same;
     kept = ap (λ (c : Chains). length c.kept) t.same;
-    fields = ap (λ (c : Chains). length c.fields) t.same;
   };
   bits = λ e. record {
     is_last = λ m g. ap (λ (c : Chains). width m c.is_last) t.same ∙ e.is_last m (grows_then a b m.signals t.grows g);
-    needs = t.needs.wide;
     waits = t.bit.wide;
-    wants = λ m g. ap (λ (c : Chains). width m c.wants) t.same ∙ e.wants m (grows_then a b m.signals t.grows g);
   };
   off = λ m r g o e no. record {
     stage = ap (λ (c : Chains). r.signal c.stage) t.same;
     variables = λ x. ap (λ (c : Chains). next_number r c.variables x) t.same;
     kept = λ x. ap (λ (c : Chains). next_number r c.kept x) t.same;
-    fields = λ x. ap (λ (c : Chains). next_number r c.fields x) t.same;
     is_last = λ v is. ap (λ (c : Chains). r.signal c.is_last) t.same ∙ is;
     waits = λ v is. t.bit.shows m r v false g o (e.waits m (grows_then a b m.signals t.grows g)) is no ∙ ap bit_of (or_false v);
-    wants = λ v is. ap (λ (c : Chains). r.signal c.wants) t.same ∙ is;
-  };
-}
-
-pub want_off : (a b : List Signal) (before after : Chains) (condition : ℕ) → WantsAt a b before after condition → OffAt condition a b before after
-want_off a b before after condition t = record {
-  grows = t.grows;
-  many = record {
-    variables = ap (λ (c : Chains). length c.variables) t.same;
-    kept = ap (λ (c : Chains). length c.kept) t.same;
-    fields = ap (λ (c : Chains). length c.fields) t.same;
-  };
-  bits = λ e. record {
-    is_last = λ m g. ap (λ (c : Chains). width m c.is_last) t.same ∙ e.is_last m (grows_then a b m.signals t.grows g);
-    needs = t.needs.wide;
-    waits = λ m g. ap (λ (c : Chains). width m c.waits) t.same ∙ e.waits m (grows_then a b m.signals t.grows g);
-    wants = t.bit.wide;
-  };
-  off = λ m r g o e no. record {
-    stage = ap (λ (c : Chains). r.signal c.stage) t.same;
-    variables = λ x. ap (λ (c : Chains). next_number r c.variables x) t.same;
-    kept = λ x. ap (λ (c : Chains). next_number r c.kept x) t.same;
-    fields = λ x. ap (λ (c : Chains). next_number r c.fields x) t.same;
-    is_last = λ v is. ap (λ (c : Chains). r.signal c.is_last) t.same ∙ is;
-    waits = λ v is. ap (λ (c : Chains). r.signal c.waits) t.same ∙ is;
-    wants = λ v is. t.bit.shows m r v false g o (e.wants m (grows_then a b m.signals t.grows g)) is no ∙ ap bit_of (or_false v);
   };
 }
 
 -- ---- links whose condition holds
 
-pub lead_on : (a b : List Signal) (before after : Chains) (last target : ℕ) (m : Module) (r : Reading) → LeadsTo a b before after last target → AreBits a before → Grows b m.signals → Obeys m r
+pub lead_on : (a b : List Signal) (before after : Chains) (last target : ℕ) (m : Module) (r : Reading) → LeadsTo a b before after last target → AreBits a before →
+    Grows b m.signals → Obeys m r
     → r.signal before.is_last ≡ 0 → r.signal last ≡ 1 → (r.signal after.is_last ≡ 1) × (r.signal after.stage ≡ r.signal target)
 lead_on a b before after last target m r t e g o none on = (
   t.bit.shows m r false true g o (e.is_last m (grows_then a b m.signals t.grows g)) none on,

@@ -1,5 +1,6 @@
 -- What stores put.
-use Rattle.std.proofs.Common.{◌≡◌, ◌≢◌, ℕ, zero, suc, ◌+◌, ◌<◌, ◌≤◌, ◌^◌, Bool, true, false, ◌&&◌, nat_eq, nat_lt, if◌then◌else◌, List, [], ◌∷◌, ◌++◌, map, Option, Some, None, ℤ, pos, negsuc}
+use Rattle.std.proofs.Common.{◌≡◌, ◌≢◌, ℕ, zero, suc, ◌+◌, ◌<◌, ◌≤◌, ◌^◌, Bool, true, false, ◌&&◌, nat_eq}
+use Rattle.std.proofs.Common.{nat_lt, if◌then◌else◌, List, [], ◌∷◌, ◌++◌, map, Option, Some, None, ℤ, pos, negsuc}
 use Rattle.std.proofs.Common.{refl, sym, ap, subst, ◌∙◌, arith, ⊎_elim, append-nil, append_assoc}
 use Rattle.std.specs.Prelude.{Result, Ok, Err, OnOk, slice_get, slice_index}
 use Rattle.std.proofs.lemmas.Bool.Decides.{nat_tests}
@@ -52,7 +53,8 @@ same_test a b = grind (arith, nat_tests)
 module _ (r : Reading) (s : Store) (leave a j word : ℕ) (on : r.signal leave ≡ 1) (set : r.signal s.condition ≡ 1) where
   stored : word_after r (map (store_action leave) (s ∷ [])) a j word ≡ (if nat_eq s.memory a && nat_eq (r.signal s.address) j then r.signal s.source else word)
   stored =
-      ap (λ n. if nat_lt 0 n && (nat_lt 0 (r.signal s.condition) && true) then (if nat_eq s.memory a && nat_eq (r.signal s.address) j then r.signal s.source else word) else word) on
+      ap (λ n. if nat_lt 0 n && (nat_lt 0 (r.signal s.condition) && true) then (if nat_eq s.memory a && nat_eq (r.signal s.address) j then r.signal s.source else word) else word)
+      on
       ∙ ap (λ n. if nat_lt 0 n && true then (if nat_eq s.memory a && nat_eq (r.signal s.address) j then r.signal s.source else word) else word) set
 
 -- the place that is written is that of the address, among the elements
@@ -70,7 +72,8 @@ place_is (negsuc i) j n address less same past =
     let le = past tt in
     other_is address j (λ h. absurd (omega arith)) ∙ sym (other_is j (suc n) (λ h. absurd (omega arith)))
 
-pub word_put : (a b c d : List Signal) (registers : Registers) (number : ℕ) (array : Array) (index value source : Word) (moment : Moment) (condition address : ℕ) (before after : List Store)
+pub word_put : (a b c d : List Signal) (registers : Registers) (number : ℕ) (array : Array) (index value source : Word) (moment : Moment) (condition address : ℕ)
+    (before after : List Store)
     (s : Store) → TellsState a b registers moment condition → Addresses b c index array.length address → Becomes c d value array.ty (wrapped array.ty) source → s.memory ≡ number
     → s.condition ≡ condition → s.address ≡ address → s.source ≡ source.place → after ≡ before ++ s ∷ [] → PutsWord a d registers moment before after number array index value
 word_put a b c d registers number array index value source moment condition address before after s told addressed made in_ on_ at from same = record {
@@ -112,7 +115,8 @@ word_put a b c d registers number array index value source moment condition addr
 
 pub word_answered : {A E : Type 0} (x : Result A E) (a b c d : List Signal) (registers : Registers) (number : ℕ) (array : Array) (index value source : Word) (moment : Moment)
     (condition address : ℕ) (before after : List Store) (s : Store) → TellsState a b registers moment condition → Addresses b c index array.length address
-    → Becomes c d value array.ty (wrapped array.ty) source → s.memory ≡ number → s.condition ≡ condition → s.address ≡ address → s.source ≡ source.place → OnOk x (after ≡ before ++ s ∷ [])
+    → Becomes c d value array.ty (wrapped array.ty) source → s.memory ≡ number → s.condition ≡ condition → s.address ≡ address → s.source ≡ source.place →
+    OnOk x (after ≡ before ++ s ∷ [])
     → OnOk x (PutsWord a d registers moment before after number array index value)
 word_answered (Ok z) a b c d registers number array index value source moment condition address before after s told addressed made in_ on_ at from same =
     word_put a b c d registers number array index value source moment condition address before after s told addressed made in_ on_ at from same
@@ -147,9 +151,11 @@ puts_none a b registers moment stores code values o g same = record {
 }
 
 -- a write, where its array is
-module _ (a b c d : List Signal) (registers : Registers) (moment : Moment) (before after : List Store) (code : ThreadCode) (values : List Given) (number : ℕ) (own : Array) (index value : Operand)
+module _ (a b c d : List Signal) (registers : Registers) (moment : Moment) (before after : List Store) (code : ThreadCode) (values : List Given) (number : ℕ) (own : Array)
+    (index value : Operand)
     (index_word value_word : Word) (there : slice_get code.arrays number ≡ Some own) (first : ShowsOperand a b registers code.variables values moment.state index index_word)
-    (second : ShowsOperand b c registers code.variables values moment.state value value_word) (put : PutsWord c d registers moment before after number own index_word value_word) (n : ℕ) where
+    (second : ShowsOperand b c registers code.variables values moment.state value value_word) (put : PutsWord c d registers moment before after number own index_word value_word)
+    (n : ℕ) where
   to_c : (m : Module) → Grows d m.signals → Grows c m.signals
   to_c m g = grows_then c d m.signals put.adds.grows g
 
@@ -178,7 +184,8 @@ module _ (a b c d : List Signal) (registers : Registers) (moment : Moment) (befo
 
     by_test : (t : Bool) (i j old : ℕ) (array : Array) (v : ℤ) → (nat_eq i number && nat_eq j (place_written n place)) ≡ t → slice_get code.arrays i ≡ Some array
         → old ≡ residue_of (width_of array.ty) v → HasType array.ty v
-        → ((if t then residue_of (width_of own.ty) stored_value else old) ≡ residue_of (width_of array.ty) (if t then stored_value else v)) × HasType array.ty (if t then stored_value else v)
+        → ((if t then residue_of (width_of own.ty) stored_value else old) ≡ residue_of (width_of array.ty) (if t then stored_value else v)) × HasType array.ty
+        (if t then stored_value else v)
     by_test false i j old array v e listed is typed = (is, typed)
     by_test true i j old array v e listed is typed =
         let at : i ≡ number = same_number i number (and_first (nat_eq i number) (nat_eq j (place_written n place)) e) in
@@ -233,7 +240,8 @@ module _ (a b c d : List Signal) (registers : Registers) (moment : Moment) (befo
   }
 
 -- a write of no array
-pub puts_missing : (a d : List Signal) (registers : Registers) (moment : Moment) (stores : List Store) (code : ThreadCode) (values : List Given) (number n : ℕ) (index value : Operand) → Grows a d
+pub puts_missing : (a d : List Signal) (registers : Registers) (moment : Moment) (stores : List Store) (code : ThreadCode) (values : List Given) (number n : ℕ)
+    (index value : Operand) → Grows a d
     → slice_get code.arrays number ≡ None → PutsOne a d registers moment stores stores code values (WriteArray number n index value)
 puts_missing a d registers moment stores code values number n index value g missing = record {
   added = [];
@@ -252,7 +260,8 @@ pub off_stores : (r : Reading) (leave : ℕ) (stores : List Store) (j k old : �
 off_stores r leave [] j k old off = refl
 off_stores r leave (s ∷ stores) j k old off =
     off_stores r leave stores j k _ (λ i x e. off (suc i) x e)
-    ∙ ap (λ n. if nat_lt 0 (r.signal leave) && (nat_lt 0 n && true) then (if nat_eq s.memory j && nat_eq (r.signal s.address) k then r.signal s.source else old) else old) (off 0 s refl)
+    ∙ ap (λ n. if nat_lt 0 (r.signal leave) && (nat_lt 0 n && true) then (if nat_eq s.memory j && nat_eq (r.signal s.address) k then r.signal s.source else old) else old)
+    (off 0 s refl)
     ∙ either_old (nat_lt 0 (r.signal leave)) old (if nat_eq s.memory j && nat_eq (r.signal s.address) k then r.signal s.source else old)
   where
     either_old : (t : Bool) (old new : ℕ) → (if t && false then new else old) ≡ old
@@ -271,7 +280,8 @@ puts_off code r stores off = record {
   outside = λ a array v listed. refl;
 }
 
-pub puts_both : (code : ThreadCode) (r : Reading) (xs ys : List Store) (f g : Cells) → PutsCells code r xs f → PutsCells code r ys g → PutsCells code r (xs ++ ys) (λ a j v. g a j (f a j v))
+pub puts_both : (code : ThreadCode) (r : Reading) (xs ys : List Store) (f g : Cells) → PutsCells code r xs f → PutsCells code r ys g →
+    PutsCells code r (xs ++ ys) (λ a j v. g a j (f a j v))
 puts_both code r xs ys f g first second = record {
   words = λ leave a j old array v on listed below is typed.
       let one = first.words leave a j old array v on listed below is typed in
@@ -282,7 +292,8 @@ puts_both code r xs ys f g first second = record {
 
 -- ---- the operations of a block
 
-pub first_none : (a : List Signal) (registers : Registers) (at states : ℕ) (stores : List Store) (code : ThreadCode) (values : List Given) (operations : List Operation) (starts : List ℕ)
+pub first_none : (a : List Signal) (registers : Registers) (at states : ℕ) (stores : List Store) (code : ThreadCode) (values : List Given) (operations : List Operation)
+    (starts : List ℕ)
     → PutsFirst a a registers at states stores stores code values operations starts 0
 first_none a registers at states stores code values operations starts = record {
   added = [];
@@ -292,7 +303,8 @@ first_none a registers at states stores code values operations starts = record {
   here = λ m r variables given s g o moment_ sees. puts_off code r [] (nothing_off r);
 }
 
-module _ (a b c : List Signal) (registers : Registers) (at states start : ℕ) (before middle after : List Store) (code : ThreadCode) (values : List Given) (operations : List Operation)
+module _ (a b c : List Signal) (registers : Registers) (at states start : ℕ) (before middle after : List Store) (code : ThreadCode) (values : List Given)
+    (operations : List Operation)
     (starts : List ℕ) (n : ℕ) (o : Operation) (first : PutsFirst a b registers at states before middle code values operations starts n) (listed : slice_get operations n ≡ Some o)
     (start_is : start ≡ slice_index starts n)
     (next : PutsOne b c registers (record { at = at; state = start; states = states }) middle after code values o) where

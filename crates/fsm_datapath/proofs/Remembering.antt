@@ -22,7 +22,7 @@ use Rattle.operator_wires.specs.declared.wires.Role.TheVariants.{Clock, Enable, 
 use Rattle.operator_wires.specs.Built.{name_at}
 use Rattle.operator_wires.proofs.Wording.{at_least, at_most, some}
 use Rattle.block_datapath.specs.Wired.{HasMemories}
-use Rattle.fsm_datapath.specs.Memories.{memory_for, memories_from, inside_base}
+use Rattle.fsm_datapath.specs.Memories.{memory_for, memories_from}
 use Rattle.fsm_datapath.specs.Wired.{IsSpelled}
 use Rattle.fsm_datapath.proofs.Wiring.{digits_tell}
 
@@ -33,7 +33,8 @@ memory_listed n k [] a e = absurd cc
 memory_listed n zero (x ∷ arrays) a e = let same : x ≡ a = cc in let z : n ≡ n + 0 = omega arith in ap (λ y. Some (memory_for n y)) same ∙ ap (λ i. Some (memory_for i a)) z
 memory_listed n (suc k) (x ∷ arrays) a e = let z : suc n + k ≡ n + suc k = omega arith in memory_listed (suc n) k arrays a e ∙ ap (λ i. Some (memory_for i a)) z
 
-pub memory_found : (n k : ℕ) (arrays : List Array) (c : Memory) → slice_get (memories_from n arrays) k ≡ Some c → (a : Array) × (slice_get arrays k ≡ Some a) × (c ≡ memory_for (n + k) a)
+pub memory_found : (n k : ℕ) (arrays : List Array) (c : Memory) → slice_get (memories_from n arrays) k ≡ Some c →
+    (a : Array) × (slice_get arrays k ≡ Some a) × (c ≡ memory_for (n + k) a)
 memory_found n k [] c e = absurd cc
 memory_found n zero (x ∷ arrays) c e = let same : memory_for n x ≡ c = cc in let z : n ≡ n + 0 = omega arith in (x, refl, sym same ∙ ap (λ i. memory_for i x) z)
 memory_found n (suc k) (x ∷ arrays) c e = let f = memory_found (suc n) k arrays c e in let z : suc n + k ≡ n + suc k = omega arith in (f.0, f.1, f.2 ∙ ap (λ i. memory_for i f.0) z)
@@ -44,7 +45,8 @@ memories_append n (x ∷ xs) a =
     let z : suc n + length xs ≡ n + suc (length xs) = omega arith in
     ap (λ l. memory_for n x ∷ l) (memories_append (suc n) xs a ∙ ap (λ i. memories_from (suc n) xs ++ memory_for i a ∷ []) z)
 
-pub memories_more : (xs : List Array) (n : ℕ) (a : Array) (memories after : List Memory) (c : Memory) → memories ≡ memories_from 0 (take n xs) → slice_get xs n ≡ Some a → length (take n xs) ≡ n
+pub memories_more : (xs : List Array) (n : ℕ) (a : Array) (memories after : List Memory) (c : Memory) → memories ≡ memories_from 0 (take n xs) → slice_get xs n ≡ Some a →
+    length (take n xs) ≡ n
     → c ≡ memory_for n a → after ≡ memories ++ c ∷ [] → after ≡ memories_from 0 (take (n + 1) xs)
 memories_more xs n a memories after c is listed long one e =
     let next : n + 1 ≡ suc n = omega arith in
@@ -52,8 +54,9 @@ memories_more xs n a memories after c is listed long one e =
     e ∙ ap (λ l. l ++ c ∷ []) is ∙ ap (λ k. memories_from 0 (take n xs) ++ k ∷ []) one ∙ ap (λ i. memories_from 0 (take n xs) ++ memory_for i a ∷ []) (sym z)
     ∙ sym (memories_append 0 (take n xs) a) ∙ ap (memories_from 0) (sym (take-next xs n a listed)) ∙ ap (λ i. memories_from 0 (take i xs)) (sym next)
 
-pub has_memories : (code : ThreadCode) → HasMemories (inside_base code) code
-has_memories code = record {
+-- whatever the first signal is that wires may read
+pub has_memories : (first : ℕ) (code : ThreadCode) → HasMemories (record { first = first; memory = λ j. slice_get (memories_from 0 code.arrays) j }) code
+has_memories first code = record {
   each = λ k a listed. (memory_for (0 + k) a, memory_listed 0 k code.arrays a listed, refl, length-replicate a.length 0);
 }
 
@@ -98,7 +101,8 @@ named_at (c ∷ ms) zero x e = let same : c.name ≡ x = cc in (c, refl, same)
 named_at (c ∷ ms) (suc i) x e = named_at ms i x e
 
 module _ (m : Module) (arrays : List Array) (are : m.memories ≡ memories_from 0 arrays) (few : length arrays ≤ 2 ^ 64)
-    (some_words : (a : ℕ) (array : Array) → slice_get arrays a ≡ Some array → 1 ≤ array.length) (spelled : (x : ℕ) (s : Signal) → slice_get m.signals x ≡ Some s → IsSpelled x s) where
+    (some_words : (a : ℕ) (array : Array) → slice_get arrays a ≡ Some array → 1 ≤ array.length)
+    (spelled : (x : ℕ) (s : Signal) → slice_get m.signals x ≡ Some s → IsSpelled x s) where
   memory_is : (j : ℕ) (c : Memory) → slice_get m.memories j ≡ Some c → (a : Array) × (slice_get arrays j ≡ Some a) × (c ≡ memory_for j a)
   memory_is j c listed =
       let f = memory_found 0 j arrays c (ap (λ (l : List Memory). slice_get l j) (sym are) ∙ listed) in

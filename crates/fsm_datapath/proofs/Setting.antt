@@ -44,12 +44,14 @@ module _ (m : Module) (a : List Signal) (g : Grows a m.signals) (condition : ℕ
     };
   }
 
-  sets_of_right : (h : Held) (next : Option ℕ) → HasRegister m h.register h.width → ((y : ℕ) → next ≡ Some y → IsEarlier a control_base y h.width) → EachOf (ActsRight m) (sets_of condition h next)
+  sets_of_right : (h : Held) (next : Option ℕ) → HasRegister m h.register h.width → ((y : ℕ) → next ≡ Some y → IsEarlier a control_base y h.width) →
+      EachOf (ActsRight m) (sets_of condition h next)
   sets_of_right h None here e = tt
   sets_of_right h (Some y) here e = (set_right h.register y h.width here (e y refl), tt)
 
   pub sets_right : (nexts : List ℕ) (n : ℕ) (hs : List Held) → ((i : ℕ) (h : Held) → slice_get hs i ≡ Some h → HasRegister m h.register h.width)
-      → ((i y : ℕ) (h : Held) → slice_get nexts (n + i) ≡ Some y → slice_get hs i ≡ Some h → IsEarlier a control_base y h.width) → EachOf (ActsRight m) (sets_from condition nexts n hs)
+      → ((i y : ℕ) (h : Held) → slice_get nexts (n + i) ≡ Some y → slice_get hs i ≡ Some h → IsEarlier a control_base y h.width) →
+      EachOf (ActsRight m) (sets_from condition nexts n hs)
   sets_right nexts n [] here e = tt
   sets_right nexts n (h ∷ hs) here e =
       each_append (ActsRight m) (sets_of condition h (slice_get nexts n)) (sets_from condition nexts (suc n) hs)
@@ -58,7 +60,8 @@ module _ (m : Module) (a : List Signal) (g : Grows a m.signals) (condition : ℕ
       (λ i y k p q. e (suc i) y k (let same : n + suc i ≡ suc n + i = omega arith in ap (slice_get nexts) same ∙ p) q))
 
 -- a store
-module _ (m : Module) (a b : List Signal) (base : Base) (some : 0 < base.first) (g : Grows a m.signals) (h : Grows b m.signals) (condition : ℕ) (bit : IsEarlier a control_base condition 1)
+module _ (m : Module) (a b : List Signal) (base : Base) (some : 0 < base.first) (g : Grows a m.signals) (h : Grows b m.signals) (condition : ℕ)
+    (bit : IsEarlier a control_base condition 1)
     (memories : (j : ℕ) (c : Memory) → base.memory j ≡ Some c → slice_get m.memories j ≡ Some c) where
   store_right : (s : Store) → IsRightStore base b s → ActsRight m (store_action condition s)
   store_right s t = record {
@@ -74,7 +77,8 @@ module _ (m : Module) (a b : List Signal) (base : Base) (some : 0 < base.first) 
       has_in : (y w : ℕ) → IsEarlier b base y w → Has m y w
       has_in y w e = record { signal = e.signal; listed = listed b m.signals y e.signal h e.listed; wide = e.wide }
 
-  pub stores_right : (stores : List Store) → ((k : ℕ) (s : Store) → slice_get stores k ≡ Some s → IsRightStore base b s) → EachOf (ActsRight m) (map (store_action condition) stores)
+  pub stores_right : (stores : List Store) → ((k : ℕ) (s : Store) → slice_get stores k ≡ Some s → IsRightStore base b s) →
+      EachOf (ActsRight m) (map (store_action condition) stores)
   stores_right [] each = tt
   stores_right (s ∷ stores) each = (store_right s (each 0 s refl), stores_right stores (λ k z e. each (suc k) z e))
 

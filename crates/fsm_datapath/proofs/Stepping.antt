@@ -1,5 +1,5 @@
 -- One stage after the other.
-use Rattle.std.proofs.Common.{◌≡◌, ◌≢◌, ℕ, suc, ◌+◌, ◌%◌, ◌^◌, ◌<◌, ◌≤◌, Bool, true, false, nat_eq, if◌then◌else◌, List, length, slice_get, Option, Some}
+use Rattle.std.proofs.Common.{◌≡◌, ◌≢◌, ℕ, suc, ◌+◌, ◌%◌, ◌^◌, ◌<◌, ◌≤◌, Bool, true, false, nat_eq, if◌then◌else◌, List, length, slice_get, Option, Some, min}
 use Rattle.std.proofs.Common.{refl, sym, ap, subst, ◌∙◌, arith, ⊎_elim}
 use Rattle.std.proofs.lemmas.Option.{slice_get_within}
 use Rattle.interleaving.proofs.Update.{same_or_not}
@@ -22,7 +22,6 @@ use Rattle.verilog_meaning.specs.Readings.{Reading, width}
 use Rattle.circuit.specs.Modules.{Obeys}
 use Rattle.operator_wires.specs.Gives.{Grows}
 use Rattle.operator_wires.proofs.Giving.{grows_refl, grows_then}
-use Rattle.thread_promise.specs.Promise.{is_print}
 use Rattle.thread_promise.specs.Types.{value_type}
 use Rattle.block_datapath.specs.declared.registers.Registers.{Registers}
 use Rattle.block_datapath.specs.declared.leaving_block.Left.{Left}
@@ -31,9 +30,9 @@ use Rattle.block_datapath.specs.Leave.{HasRoom, LeavesBlock}
 use Rattle.fsm_datapath.specs.declared.shape.Printer.{Printer}
 use Rattle.fsm_datapath.specs.declared.chains.Chains.{Chains}
 use Rattle.operator_wires.proofs.Building.{wires_none, wires_then}
-use Rattle.fsm_datapath.specs.Links.{AreBits, LeadsTo, ShowSame, AreAsMany}
+use Rattle.fsm_datapath.specs.Links.{AreBits, LeadsTo, ShowSame}
 use Rattle.fsm_datapath.specs.Wired.{StepIsWired}
-use Rattle.fsm_datapath.specs.Stages.{KnowsStage, StepsOver, Idles, EndsAt, LeavesAct, Prints, TakesReturn, TakesPrint, Runs, RunsBlock, DoesStage, TakesStage, WalksFirst, WalksAll}
+use Rattle.fsm_datapath.specs.Stages.{KnowsStage, StepsOver, Idles, EndsAt, LeavesAct, TakesReturn, TakesPrint, Runs, RunsBlock, DoesStage, TakesStage, WalksFirst, WalksAll}
 use Rattle.fsm_datapath.proofs.Linking.{lead_off, bits_later, same_refl, same_then, same_everywhere, still_later, has_stage, many_refl, many_then}
 
 -- ---- a block
@@ -45,11 +44,12 @@ chosen_stage : (t : Bool) (S T L l : ℕ) → S ≡ l → (t ≡ true → T ≡ 
 chosen_stage true S T L l e f = f refl
 chosen_stage false S T L l e f = e
 
-module _ (globals : List IntegerType) (code : ThreadCode) (registers : Registers) (l : ℕ) (b : Block) (p : BlockPlan) (s0 s1 s2 s3 : List Signal) (before middle after : Chains) (left : Left)
+module _ (globals : List IntegerType) (code : ThreadCode) (registers : Registers) (l : ℕ) (b : Block) (p : BlockPlan) (s0 s1 s2 s3 : List Signal) (before middle after : Chains)
+    (left : Left)
     (same : middle ≡ record before { variables = middle.variables; kept = middle.kept })
     (leaves : LeavesBlock globals code registers l b p before.variables middle.variables left before.kept middle.kept s0 s1) (stores : Grows s1 s2)
     (leads : LeadsTo s2 s3 middle after left.last left.target)
-    (wired : (printer : Option Printer) → l ≤ length code.stages → StepIsWired code registers printer (Some (planned.Run p)) s0 s3 before after) where
+    (wired : l ≤ length code.stages → StepIsWired code registers (Some (planned.Run p)) s0 s3 before after) where
   back_1 : (m : Module) → Grows s3 m.signals → Grows s1 m.signals
   back_1 m g = grows_then s1 s2 m.signals stores (grows_then s2 s3 m.signals leads.grows g)
 
@@ -58,9 +58,7 @@ module _ (globals : List IntegerType) (code : ThreadCode) (registers : Registers
       let later = bits_later s0 s2 before (grows_then s0 s1 s2 leaves.grows stores) e in
       record {
         is_last = λ m g. ap (λ (c : Chains). width m c.is_last) same ∙ later.is_last m g;
-        needs = λ m g. ap (λ (c : Chains). width m c.needs) same ∙ later.needs m g;
         waits = λ m g. ap (λ (c : Chains). width m c.waits) same ∙ later.waits m g;
-        wants = λ m g. ap (λ (c : Chains). width m c.wants) same ∙ later.wants m g;
       }
 
   block_step : StepsOver registers l s0 s3 before after
@@ -69,7 +67,6 @@ module _ (globals : List IntegerType) (code : ThreadCode) (registers : Registers
     many = record {
       variables = ap (λ (c : Chains). length c.variables) leads.same ∙ leaves.count;
       kept = ap (λ (c : Chains). length c.kept) leads.same ∙ leaves.kept_count;
-      fields = ap (λ (c : Chains). length c.fields) leads.same ∙ ap (λ (c : Chains). length c.fields) same;
     };
     bits = λ e. (lead_off s2 s3 middle after left.last left.target leads).bits (middle_bits e);
     rests = λ m r g o e has ne.
@@ -79,10 +76,8 @@ module _ (globals : List IntegerType) (code : ThreadCode) (registers : Registers
           stage = ap (λ (c : Chains). r.signal c.stage) same;
           variables = same_everywhere r before.variables middle.variables leaves.count rests.variables;
           kept = same_everywhere r before.kept middle.kept leaves.kept_count (λ x less. leaves.kept_rests m r x (back_1 m g) o has ne less);
-          fields = λ x. ap (λ (c : Chains). next_number r c.fields x) same;
           is_last = λ t is. ap (λ (c : Chains). r.signal c.is_last) same ∙ is;
           waits = λ t is. ap (λ (c : Chains). r.signal c.waits) same ∙ is;
-          wants = λ t is. ap (λ (c : Chains). r.signal c.wants) same ∙ is;
         })
         ((lead_off s2 s3 middle after left.last left.target leads).off m r g o (middle_bits e) rests.last);
   }
@@ -113,11 +108,10 @@ module _ (globals : List IntegerType) (code : ThreadCode) (registers : Registers
             (ap (λ (c : Chains). next_number r c.kept x % 2 ^ width_of (value_type globals code t.operation)) leads.same ∙ shown.0, shown.1);
         typed = λ x ty declared. ends.typed x ty declared (sees.variables x ty declared).typed;
         waits = ap (λ (c : Chains). r.signal c.waits) leads.same ∙ ap (λ (c : Chains). r.signal c.waits) same ∙ still.waits;
-        wants = ap (λ (c : Chains). r.signal c.wants) leads.same ∙ ap (λ (c : Chains). r.signal c.wants) same ∙ still.wants;
       }
 
   pub run_made : RunsBlock globals code registers l b p s0 s3 before after
-  run_made = record { step = block_step; wants = ap (λ (c : Chains). c.wants) leads.same ∙ ap (λ (c : Chains). c.wants) same; runs = block_runs; wired = wired }
+  run_made = record { step = block_step; runs = block_runs; wired = wired }
 
 -- ---- stages of each kind
 
@@ -134,9 +128,8 @@ module _ (globals : List IntegerType) (code : ThreadCode) (registers : Registers
           (t.runs bits variables kept));
       prints = λ known site next values e. absurd cc;
       returns = λ next e. absurd cc;
-      quiet = λ none m r g o knows still here. ap r.signal t.wants ∙ still.wants;
     };
-    wired = subst (λ (z : StagePlan). l ≤ length code.stages → StepIsWired code registers printer (Some z) old new before after) (sym same) (t.wired printer);
+    wired = subst (λ (z : StagePlan). l ≤ length code.stages → StepIsWired code registers (Some z) old new before after) (sym same) t.wired;
   }
 
   -- a block without a plan of a block
@@ -148,9 +141,8 @@ module _ (globals : List IntegerType) (code : ThreadCode) (registers : Registers
       runs = λ c u e f. absurd (none u f);
       prints = λ known site next values e. absurd cc;
       returns = λ next e. absurd cc;
-      quiet = λ no m r g o knows still here. ap r.signal t.wants ∙ still.wants;
     };
-    wired = λ le base site_width known fits linked. t.wired base site_width code linked le;
+    wired = λ le base fits linked. t.wired base code linked le;
   }
 
   -- an act that is neither a printf nor a return
@@ -162,9 +154,8 @@ module _ (globals : List IntegerType) (code : ThreadCode) (registers : Registers
       runs = λ c u e. absurd cc;
       prints = λ known site to values e. absurd (no_print site values cc);
       returns = λ to e. absurd (no_return cc);
-      quiet = λ no m r g o knows still here. ap r.signal t.wants ∙ still.wants;
     };
-    wired = λ le base site_width known fits linked. t.wired base site_width code linked le;
+    wired = λ le base fits linked. t.wired base code linked le;
   }
 
   pub return_taken : (a : Act) (next : ℕ) (plan : Option StagePlan) → a ≡ Return → TakesReturn code registers l old new before after
@@ -175,56 +166,45 @@ module _ (globals : List IntegerType) (code : ThreadCode) (registers : Registers
       runs = λ c u e. absurd cc;
       prints = λ known site to values e. absurd cc;
       returns = λ to e m r g o knows still here. t.returns bits m r g o knows still le here;
-      quiet = λ no m r g o knows still here. ap r.signal t.wants ∙ still.wants;
     };
-    wired = λ le base site_width known fits linked. t.wired base site_width linked le;
+    wired = λ le base fits linked. t.wired base linked le;
   }
 
-  pub print_taken : (a : Act) (next : ℕ) (plan : Option StagePlan) (site : ℕ) (values given : List ActOperand) → a ≡ Print site values → given ≡ values
-      → TakesPrint code registers printer l site given next old new before after → TakesStage globals code registers printer l (stage.Act a next) plan old new before after
-  print_taken a next plan site values given same list t = record {
+  pub print_taken : (a : Act) (next : ℕ) (plan : Option StagePlan) (site : ℕ) (values : List ActOperand) → a ≡ Print site values →
+      TakesPrint code registers printer l next old new before after
+      → TakesStage globals code registers printer l (stage.Act a next) plan old new before after
+  print_taken a next plan site values same t = record {
     step = t.step;
     does = λ bits variables kept le. record {
       runs = λ c u e. absurd cc;
-      prints = λ known other to list_of e p m r vs g o knows still here seen.
-          let one : site ≡ other = cc in
+      prints = λ known other to list_of e p m r g o knows still here.
           let two : next ≡ to = cc in
-          let three : given ≡ list_of = cc in
-          subst (λ (z : ℕ). Prints code registers known z to list_of r vs before after) one
-          (subst (λ (z : ℕ). Prints code registers known site z list_of r vs before after) two
-          (subst (λ (z : List ActOperand). Prints code registers known site next z r vs before after) three (t.prints bits known p m r vs g o knows still le here seen)));
+          subst (λ (z : ℕ). LeavesAct code registers (min z (length code.stages)) r before after) two (t.prints bits known p m r g o knows still le here);
       returns = λ to e. absurd cc;
-      quiet = λ no. absurd (let clash : is_print (Some (stage.Act (Print site values) next)) ≡ false = ap (λ (z : Act). is_print (Some (stage.Act z next))) (sym same) ∙ no in cc);
     };
-    wired = λ le base site_width known fits linked. t.wired plan le base site_width known fits linked;
+    wired = λ le base fits linked. t.wired plan le base fits linked;
   }
 
 -- ---- one more stage
 
 module _ (globals : List IntegerType) (code : ThreadCode) (registers : Registers) (printer : Option Printer) where
   -- from links before it that show the same
-  started : (l : ℕ) (s : Stage) (plan : Option StagePlan) (new : List Signal) (start middle c : Chains) → AreAsMany start middle
+  started : (l : ℕ) (s : Stage) (plan : Option StagePlan) (new : List Signal) (start middle c : Chains)
       → ((m : Module) (r : Reading) → Grows new m.signals → Obeys m r → KnowsStage code registers m r → r.signal registers.stage.register ≡ l → ShowSame r start middle)
       → DoesStage globals code registers printer l s plan new middle c → DoesStage globals code registers printer l s plan new start c
-  started l s plan new start middle c many same t = record {
+  started l s plan new start middle c same t = record {
     runs = λ b p e f bank m r q wire g o still right inside sees wired widths knows.
         t.runs b p e f bank m r q wire g o (still_later r registers start middle (same m r g o knows inside.stage) still) right inside sees wired widths knows;
-    prints = λ known site next values e p m r vs g o knows still here seen.
+    prints = λ known site next values e p m r g o knows still here.
         let shown = same m r g o knows here in
-        let made = t.prints known site next values e p m r vs g o knows (still_later r registers start middle shown still) here seen in
-        record {
-          leaves = act_started l r start middle c shown _ made.leaves;
-          wants = made.wants;
-          site_is = λ some. made.site_is (subst (λ (n : ℕ). 0 < n) (sym many.fields) some);
-          values_are = λ j v listed typed less. made.values_are j v listed typed (subst (λ (n : ℕ). suc j < n) (sym many.fields) less);
-        };
+        act_started l r start middle c shown _ (t.prints known site next values e p m r g o knows (still_later r registers start middle shown still) here);
     returns = λ next e m r g o knows still here.
         let shown = same m r g o knows here in
         act_started l r start middle c shown _ (t.returns next e m r g o knows (still_later r registers start middle shown still) here);
-    quiet = λ no m r g o knows still here. t.quiet no m r g o knows (still_later r registers start middle (same m r g o knows here) still) here;
   }
     where
-      act_started : (l : ℕ) (r : Reading) (start middle c : Chains) → ShowSame r start middle → (target : ℕ) → LeavesAct code registers target r middle c → LeavesAct code registers target r start c
+      act_started : (l : ℕ) (r : Reading) (start middle c : Chains) → ShowSame r start middle → (target : ℕ) → LeavesAct code registers target r middle c →
+          LeavesAct code registers target r start c
       act_started l r start middle c shown target made = record {
         is_last = made.is_last;
         stage = made.stage;
@@ -248,19 +228,10 @@ module _ (globals : List IntegerType) (code : ThreadCode) (registers : Registers
               (ap (λ v. v % 2 ^ width_of (value_type globals code u.operation)) (shown.kept x) ∙ kept.0, kept.1);
           typed = made.typed;
           waits = shown.waits false made.waits;
-          wants = shown.wants false made.wants;
         };
-    prints = λ known site next values e p m r vs g o knows still here seen.
-        let shown = same m r g o knows here in
-        let made = t.prints known site next values e p m r vs (back m g) o knows still here seen in
-        record {
-          leaves = act_lifted m r shown _ made.leaves;
-          wants = shown.wants true made.wants;
-          site_is = λ some. shown.fields 0 ∙ made.site_is some;
-          values_are = λ j v listed typed less. shown.fields (suc j) ∙ made.values_are j v listed typed less;
-        };
+    prints = λ known site next values e p m r g o knows still here. act_lifted m r (same m r g o knows here) _
+        (t.prints known site next values e p m r (back m g) o knows still here);
     returns = λ next e m r g o knows still here. act_lifted m r (same m r g o knows here) _ (t.returns next e m r (back m g) o knows still here);
-    quiet = λ no m r g o knows still here. (same m r g o knows here).wants false (t.quiet no m r (back m g) o knows still here);
   }
     where
       back : (m : Module) → Grows new m.signals → Grows old m.signals
@@ -285,10 +256,11 @@ module _ (globals : List IntegerType) (code : ThreadCode) (registers : Registers
       bits = λ e. e;
       still = λ m r g o e knows none. same_refl r start;
       does = λ e variables kept k s lt. absurd (omega arith);
-      wired = λ base site_width known fits linked le. record { wires = wires_none base a; linked = linked };
+      wired = λ base fits linked le. record { wires = wires_none base a; linked = linked };
     }
 
-    pub walks_more : (b c : List Signal) (middle after : Chains) (n : ℕ) (s : Stage) → WalksFirst globals code registers printer plan a b start middle n → slice_get code.stages n ≡ Some s
+    pub walks_more : (b c : List Signal) (middle after : Chains) (n : ℕ) (s : Stage) → WalksFirst globals code registers printer plan a b start middle n →
+        slice_get code.stages n ≡ Some s
         → TakesStage globals code registers printer n s (slice_get plan.stages n) b c middle after → WalksFirst globals code registers printer plan a c start after (n + 1)
     walks_more b c middle after n s t listed u = record {
       grows = grows_then a b c t.grows u.step.grows;
@@ -303,15 +275,15 @@ module _ (globals : List IntegerType) (code : ThreadCode) (registers : Registers
           let made = u.does (t.bits e) (t.many.variables ∙ variables) (t.many.kept ∙ kept) inside in
           subst (λ (z : ℕ). DoesStage globals code registers printer z x (slice_get plan.stages z) c start after) (sym same)
           (subst (λ (z : Stage). DoesStage globals code registers printer n z (slice_get plan.stages n) c start after) one
-          (started n s (slice_get plan.stages n) c start middle after t.many
+          (started n s (slice_get plan.stages n) c start middle after
           (λ m r g o knows here. t.still m r (back m g) o e knows (λ k less. λ is. absurd (let z : k ≡ n = sym is ∙ here in omega arith))) made)))
           (λ (ne : k ≢ n).
           lifted k n x (slice_get plan.stages k) b c start middle after ne inside (t.bits e) u.step
           (t.does e variables kept k x (let less : k < n = omega arith in less) there))
           (same_or_not k n);
-      wired = λ base site_width known fits linked le.
-          let before = t.wired base site_width known fits linked inside in
-          let last = u.wired inside base site_width known (fits n) before.linked in
+      wired = λ base fits linked le.
+          let before = t.wired base fits linked inside in
+          let last = u.wired inside base (fits n) before.linked in
           record { wires = wires_then base a b c before.wires last.wires; linked = last.linked };
     }
       where
@@ -331,17 +303,15 @@ module _ (globals : List IntegerType) (code : ThreadCode) (registers : Registers
           let less = slice_get_within code.stages k s listed in
           lifted k (length code.stages) s (slice_get plan.stages k) b c start middle after (λ same. absurd (omega arith)) (omega arith) (t.bits e) u.idles.step
           (t.does e variables kept k s less listed);
-      beyond = λ m r g o e knows still none.
-          ap r.signal u.idles.wants ∙ (t.still m r (back m g) o e knows none).wants false still.wants;
       ends = λ m r g o e knows still here.
           u.idles.waits m r g o (t.bits e) (has_stage code registers (length code.stages) m r knows (omega arith)) here
           ((t.still m r (back m g) o e knows (λ k less is. absurd (let z : k ≡ length code.stages = sym is ∙ here in omega arith))).waits false still.waits);
       done_wide = u.told.wide;
       done_is = λ m r g o knows. u.told.shows m r g o knows.wide knows.room knows.fits;
-      wired = λ base site_width known fits linked.
-          let before = t.wired base site_width known fits linked (omega arith) in
-          let last = u.idles.wired base site_width code before.linked (omega arith) in
-          (record { wires = wires_then base a b c before.wires last.wires; linked = last.linked }, u.wired base site_width before.linked);
+      wired = λ base fits linked.
+          let before = t.wired base fits linked (omega arith) in
+          let last = u.idles.wired base code before.linked (omega arith) in
+          (record { wires = wires_then base a b c before.wires last.wires; linked = last.linked }, u.wired base before.linked);
     }
       where
         back : (m : Module) → Grows c m.signals → Grows b m.signals

@@ -18,7 +18,7 @@ use Rattle.operator_wires.proofs.Wording.{stands_as_after}
 use Rattle.block_datapath.specs.declared.registers.Registers.{Registers}
 use Rattle.block_datapath.specs.declared.operands.Given.{Given}
 use Rattle.block_datapath.specs.declared.states.Moment.{Moment}
-use Rattle.block_datapath.specs.Wired.{AreSources, IsStateBit, IsAddress}
+use Rattle.block_datapath.specs.Wired.{AreSources, IsStateBit, IsAddress, CanRead}
 use Rattle.block_datapath.specs.declared.leaving_block.Left.{Left}
 use Rattle.fsm_datapath.specs.declared.shape.Printer.{Printer}
 use Rattle.fsm_datapath.specs.declared.chains.Chains.{Chains}
@@ -58,7 +58,8 @@ pub stores_none : (a : List Signal) (code : ThreadCode) (registers : Registers) 
 stores_none a code registers values at states stores base slots stand bit few = stores_kept base a a stores (wires_none base a)
 
 pub stores_then : (a b c : List Signal) (code : ThreadCode) (registers : Registers) (values : List Given) (at states : ℕ) (before middle after : List Store)
-    → AddsStores a b code registers values at states before middle → AddsStores b c code registers values at states middle after → AddsStores a c code registers values at states before after
+    → AddsStores a b code registers values at states before middle → AddsStores b c code registers values at states middle after →
+    AddsStores a c code registers values at states before after
 stores_then a b c code registers values at states before middle after t u base slots stand bit few =
     let first = t base slots stand bit few in
     let g = first.wires.grows in
@@ -67,10 +68,13 @@ stores_then a b c code registers values at states before middle after t u base s
 
 -- ---- one store
 
-pub put_wired : (a b c d : List Signal) (registers : Registers) (number : ℕ) (array : Array) (index value source : Word) (moment : Moment) (condition address : ℕ) (before after : List Store)
-    (s : Store) → IsStateBit a b registers moment condition → IsAddress b c index array.length address → IsConverted c d value array.ty source → s.memory ≡ number → s.condition ≡ condition
+pub put_wired : (a b c d : List Signal) (registers : Registers) (number : ℕ) (array : Array) (index value source : Word) (moment : Moment) (condition address : ℕ)
+    (before after : List Store)
+    (s : Store) → IsStateBit a b registers moment condition → IsAddress b c index array.length address → IsConverted c d value array.ty source → s.memory ≡ number →
+    s.condition ≡ condition
     → s.address ≡ address → s.source ≡ source.place → after ≡ before ++ s ∷ [] → PutsStore a d registers number array index value moment before after
-put_wired a b c d registers number array index value source moment condition address before after s told addressed converted_ in_ on at from same base i v memory listed wide state bit few index_is
+put_wired a b c d registers number array index value source moment condition address before after s told addressed converted_ in_ on at from same base i v memory listed wide state
+    bit few index_is
     value_is =
     let one = told base state bit few in
     let two = addressed base i (stands_as_after base a b i index one.wires index_is) in
@@ -94,7 +98,8 @@ put_wired a b c d registers number array index value source moment condition add
     }
 
 pub put_answered : {A E : Type 0} (x : Result A E) (a b c d : List Signal) (registers : Registers) (number : ℕ) (array : Array) (index value source : Word) (moment : Moment)
-    (condition address : ℕ) (before after : List Store) (s : Store) → IsStateBit a b registers moment condition → IsAddress b c index array.length address → IsConverted c d value array.ty source
+    (condition address : ℕ) (before after : List Store) (s : Store) → IsStateBit a b registers moment condition → IsAddress b c index array.length address →
+    IsConverted c d value array.ty source
     → s.memory ≡ number → s.condition ≡ condition → s.address ≡ address → s.source ≡ source.place → OnOk x (after ≡ before ++ s ∷ [])
     → OnOk x (PutsStore a d registers number array index value moment before after)
 put_answered (Ok z) a b c d registers number array index value source moment condition address before after s told addressed made in_ on at from same =
@@ -102,18 +107,22 @@ put_answered (Ok z) a b c d registers number array index value source moment con
 put_answered (Err e) a b c d registers number array index value source moment condition address before after s told addressed made in_ on at from same = tt
 
 -- two operands, then what is put
-pub written_wired : {A E : Type 0} (x : Result A E) (a b c d : List Signal) (code : ThreadCode) (registers : Registers) (values : List Given) (types : List IntegerType) (number : ℕ) (own : Array)
+pub written_wired : {A E : Type 0} (x : Result A E) (a b c d : List Signal) (code : ThreadCode) (registers : Registers) (values : List Given) (types : List IntegerType)
+    (number : ℕ) (own : Array)
     (s t : IntegerType) (index value : Word) (moment : Moment) (before after : List Store) → types ≡ code.variables → slice_get code.arrays number ≡ Some own
-    → ((base : Base) → AreSources a base types registers values → AddsWord base a b s index) → ((base : Base) → AreSources b base types registers values → AddsWord base b c t value)
+    → ((base : Base) → AreSources a base types registers values → AddsWord base a b s index) →
+    ((base : Base) → AreSources b base types registers values → AddsWord base b c t value)
     → OnOk x (PutsStore c d registers number own index value moment before after) → OnOk x (AddsStores a d code registers values moment.at moment.states before after)
 written_wired (Err e) a b c d code registers values types number own s t index value moment before after same listed first second put = tt
 written_wired (Ok z) a b c d code registers values types number own s t index value moment before after same listed first second put = λ base slots stand bit few.
     let one = first base (subst (λ (l : List IntegerType). AreSources a base l registers values) (sym same) (sources_of base a code registers slots values stand)) in
-    let two = second base (subst (λ (l : List IntegerType). AreSources b base l registers values) (sym same) (sources_later base a b code registers values one.wires.grows slots stand)) in
+    let two = second base (subst (λ (l : List IntegerType). AreSources b base l registers values) (sym same)
+    (sources_later base a b code registers values one.wires.grows slots stand)) in
     let to_c = wires_then base a b c one.wires two.wires in
     let memory = slots.arrays.each number own listed in
     let last =
-    put base s t memory.0 memory.1 memory.2 (stands_after a c base registers.state.register registers.state.width to_c.grows slots.state) (stands_after a c base moment.at 1 to_c.grows bit) few
+    put base s t memory.0 memory.1 memory.2 (stands_after a c base registers.state.register registers.state.width to_c.grows slots.state)
+    (stands_after a c base moment.at 1 to_c.grows bit) few
     (stands_as_after base b c s index two.wires one.word) two.word in
     record { wires = wires_then base a c d to_c last.wires; right = λ right. last.right (stores_later base a c before to_c.grows right) }
 
@@ -122,33 +131,38 @@ written_wired (Ok z) a b c d code registers values types number own s t index va
 -- wires alone
 pub stage_kept : (code : ThreadCode) (registers : Registers) (l : ℕ) (plan : Option StagePlan) (a b : List Signal) (chains : Chains) (stores : List Store) → Grows a b
     → StageKeepsStores code registers l plan a b chains stores stores
-stage_kept code registers l plan a b chains stores g base site_width fits linked le right = stores_later base a b stores g right
+stage_kept code registers l plan a b chains stores g base fits linked le right = stores_later base a b stores g right
 
-pub run_stored : (code : ThreadCode) (registers : Registers) (l : ℕ) (p : BlockPlan) (s0 s1 s2 s3 : List Signal) (chains : Chains) (first second : List ℕ) (left : Left) (values : List Given)
+pub run_stored : (code : ThreadCode) (registers : Registers) (l : ℕ) (p : BlockPlan) (s0 s1 s2 s3 : List Signal) (chains : Chains) (first second : List ℕ) (left : Left)
+    (values : List Given)
     (before after : List Store)
-    → ((base : Base) → AreSlots base s0 code registers → l < 2 ^ registers.stage.width → p.states ≤ 2 ^ registers.state.width
+    → ((base : Base) → AreSlots base s0 code registers → CanRead base code registers → l < 2 ^ registers.stage.width → p.states ≤ 2 ^ registers.state.width
     → (length chains.variables ≡ length registers.variables) × LinkAll base s0 registers.variables chains.variables
     → (length chains.kept ≡ length registers.kept) × LinkAll base s0 registers.kept chains.kept → LinksBlock base s0 s1 registers left first second)
     → values ≡ left.values → AddsStores s1 s2 code registers values left.end.at left.end.states before after → Grows s2 s3
     → StageKeepsStores code registers l (Some (planned.Run p)) s0 s3 chains before after
-run_stored code registers l p s0 s1 s2 s3 chains first second left values before after leaves same stores more base site_width fits linked le right =
-    let t = leaves base linked.slots (stage_below base s0 code registers l linked.slots le) (fits p refl) (linked.variables_count, linked.variables) (linked.kept_count, linked.kept) in
+run_stored code registers l p s0 s1 s2 s3 chains first second left values before after leaves same stores more base fits linked le right =
+    let t = leaves base linked.slots linked.reads (stage_below base s0 code registers l linked.slots le) (fits p refl) (linked.variables_count, linked.variables)
+    (linked.kept_count, linked.kept) in
     let slots_1 = slots_later base s0 s1 t.wires.grows code registers linked.slots in
     let u = stores base slots_1 (subst (λ (vs : List Given). ValuesStand base s1 vs) (sym same) t.values) t.at t.states in
     stores_later base s2 s3 after more (u.right (stores_later base s0 s1 before t.wires.grows right))
 
 pub walk_begun : (code : ThreadCode) (registers : Registers) (printer : Option Printer) (plan : Planned) (a : List Signal) (chains : Chains) (stores : List Store)
     → StagesKeepStores code registers printer plan 0 a a chains stores stores
-walk_begun code registers printer plan a chains stores base site_width known fits linked le right = right
+walk_begun code registers printer plan a chains stores base fits linked le right = right
 
-pub walk_stored : (globals : List IntegerType) (code : ThreadCode) (registers : Registers) (printer : Option Printer) (plan : Planned) (a b c : List Signal) (start middle : Chains) (n : ℕ)
-    (before between after : List Store) → WalksFirst globals code registers printer plan a b start middle n → StagesKeepStores code registers printer plan n a b start before between
+pub walk_stored : (globals : List IntegerType) (code : ThreadCode) (registers : Registers) (printer : Option Printer) (plan : Planned) (a b c : List Signal) (start middle : Chains)
+    (n : ℕ)
+    (before between after : List Store) → WalksFirst globals code registers printer plan a b start middle n →
+    StagesKeepStores code registers printer plan n a b start before between
     → StageKeepsStores code registers n (slice_get plan.stages n) b c middle between after → StagesKeepStores code registers printer plan (n + 1) a c start before after
-walk_stored globals code registers printer plan a b c start middle n before between after walks t u base site_width known fits linked le right =
-    let here = walks.wired base site_width known fits linked (omega arith) in
-    u base site_width (λ p e. fits n p e) here.linked (omega arith) (t base site_width known fits linked (omega arith) right)
+walk_stored globals code registers printer plan a b c start middle n before between after walks t u base fits linked le right =
+    let here = walks.wired base fits linked (omega arith) in
+    u base (λ p e. fits n p e) here.linked (omega arith) (t base fits linked (omega arith) right)
 
-pub walk_ended : (code : ThreadCode) (registers : Registers) (printer : Option Printer) (plan : Planned) (n : ℕ) (a b c : List Signal) (chains : Chains) (before after : List Store) → Grows b c
+pub walk_ended : (code : ThreadCode) (registers : Registers) (printer : Option Printer) (plan : Planned) (n : ℕ) (a b c : List Signal) (chains : Chains)
+    (before after : List Store) → Grows b c
     → StagesKeepStores code registers printer plan n a b chains before after → StagesKeepStores code registers printer plan n a c chains before after
-walk_ended code registers printer plan n a b c chains before after g t base site_width known fits linked le right =
-    stores_later base b c after g (t base site_width known fits linked le right)
+walk_ended code registers printer plan n a b c chains before after g t base fits linked le right =
+    stores_later base b c after g (t base fits linked le right)

@@ -1,5 +1,6 @@
 -- Registers, links and wires that stand among signals.
-use Rattle.std.proofs.Common.{◌≡◌, ℕ, zero, suc, ◌+◌, ◌-◌, ◌*◌, ◌/◌, ◌%◌, ◌<◌, ◌≤◌, ◌^◌, Bool, true, false, if◌then◌else◌, List, [], ◌∷◌, ◌++◌, length, map, Some, refl, sym, ap, subst, ◌∙◌, arith}
+use Rattle.std.proofs.Common.{◌≡◌, ℕ, zero, suc, ◌+◌, ◌-◌, ◌*◌, ◌/◌, ◌%◌, ◌<◌, ◌≤◌, ◌^◌, Bool, true, false}
+use Rattle.std.proofs.Common.{if◌then◌else◌, List, [], ◌∷◌, ◌++◌, length, map, Some, refl, sym, ap, subst, ◌∙◌, arith}
 use Rattle.std.proofs.Common.{⊎_elim, length-append, fold}
 use Rattle.std.specs.Prelude.{slice_get, decimal}
 use Rattle.std.proofs.lemmas.Option.{slice_get_within}
@@ -18,7 +19,7 @@ use Rattle.operator_wires.specs.declared.wires.Role.TheVariants.{Clock, Enable, 
 use Rattle.operator_wires.specs.Gives.{Grows}
 use Rattle.operator_wires.specs.Built.{is_single, name_at, Lays}
 use Rattle.operator_wires.proofs.Building.{front}
-use Rattle.fsm_datapath.specs.Wired.{AreFit, Behind, LaysThree, IsSlotRegister, IsNamedOutput}
+use Rattle.fsm_datapath.specs.Wired.{AreFit, Behind, IsInnerInput, IsSlotRegister, IsNamedOutput}
 
 -- ---- names
 
@@ -44,7 +45,7 @@ name_tells Clock n x e small = absurd cc
 name_tells Enable n x e small = absurd cc
 name_tells Need n x e small = absurd cc
 name_tells Done n x e small = absurd cc
-name_tells Beat n x e small = absurd cc
+name_tells Beat n x e small = digits_tell x small
 name_tells Grant n x e small = digits_tell x small
 name_tells Told n x e small = digits_tell x small
 name_tells Ask n x e small = digits_tell x small
@@ -103,11 +104,6 @@ pub register_behind : (a b : List Signal) (role : Role) (w n place : ℕ) → La
 register_behind a b role w n place t many fits low high =
     behind_laid IsSlotRegister a b role w place false (Register n) t (register_signal a b role w n place t (λ k small. name_tells role k (length a) many small) fits low high)
 
--- the beat stands at place 5
-pub beat_behind : (a b : List Signal) (w n place : ℕ) → Lays a b Beat w false (Register n) place → length a ≡ 5 → n < 2 ^ w → 1 ≤ w → w ≤ 64 → Behind IsSlotRegister a b
-beat_behind a b w n place t at fits low high =
-    behind_laid IsSlotRegister a b Beat w place false (Register n) t (register_signal a b Beat w n place t (λ k small. ap Some (sym at)) fits low high)
-
 -- ---- outputs
 
 pub output_behind : (n : ℕ) (a b : List Signal) (role : Role) (w place : ℕ) (d : Source) → Lays a b role w true d place
@@ -139,14 +135,22 @@ outputs_named a b c e w place d t long g request done =
 
 -- ---- inputs
 
-pub three_laid : (a b c e : List Signal) (x y z : ℕ) → Lays a b Clock 1 false Input x → Lays b c Enable 1 false Input y → Lays c e Grant 1 false Input z → LaysThree a e
-three_laid a b c e x y z t u v = record {
-  with_clock = b;
-  with_enable = c;
-  clock = subst (Lays a b Clock 1 false Input) t.last t;
-  enable = subst (Lays b c Enable 1 false Input) u.last u;
-  grant = subst (Lays c e Grant 1 false Input) v.last v;
-}
+pub input_behind : (a b : List Signal) (role : Role) (w place : ℕ) → Lays a b role w false Input place →
+    (length a < 2 ^ 64 → (n : ℕ) → place_of n (name_at role (length a)) ≡ Some (length a))
+    → 1 ≤ w → w ≤ 64 → Behind IsInnerInput a b
+input_behind a b role w place t tells low high =
+    behind_laid IsInnerInput a b role w place false Input t
+    (record {
+      spelled = (role, t.named);
+      named = λ n small. ap (place_of n) t.named ∙ tells small n;
+      inner = t.flag;
+      low = subst (λ z. 1 ≤ z) (sym t.wide) low;
+      high = subst (λ z. z ≤ 64) (sym t.wide) high;
+      drives = t.drives;
+    })
+
+pub input_numbered : (a b : List Signal) (role : Role) (w place : ℕ) → Lays a b role w false Input place → is_single role ≡ false → 1 ≤ w → w ≤ 64 → Behind IsInnerInput a b
+input_numbered a b role w place t many low high = input_behind a b role w place t (λ small n. name_tells role n (length a) many small) low high
 
 -- ---- the registers of a slot
 
@@ -168,10 +172,10 @@ types_fit widths types e x w there = by_type types x w (ap (λ (l : List ℕ). s
     by_type (ty ∷ types) zero w e = let same : width_of ty ≡ w = cc in (let fit = bits_fit ty.width in (subst (λ n. 1 ≤ n) same fit.0, subst (λ n. n ≤ 64) same fit.1))
     by_type (ty ∷ types) (suc x) w e = by_type types x w e
 
-pub slots_behind : (a b c d e f : List Signal) (place : ℕ) → Lays c d Beat 1 false (Register 0) place → length c ≡ 5 → Grows b c → Grows d e → Grows e f → Behind IsSlotRegister a b
+pub slots_behind : (a b c d e f : List Signal) (place : ℕ) → Lays c d Beat 1 false (Register 0) place → Grows b c → Grows d e → Grows e f → Behind IsSlotRegister a b
     → Behind IsSlotRegister b c → Behind IsSlotRegister d e → Behind IsSlotRegister e f → Behind IsSlotRegister a f
-slots_behind a b c d e f place beat five bc de ef t u v w =
+slots_behind a b c d e f place beat bc de ef t u v w =
     behind_then IsSlotRegister a e f ef
     (behind_then IsSlotRegister a d e de
     (behind_then IsSlotRegister a c d (laid_grows c d Beat 1 place false (Register 0) beat) (behind_then IsSlotRegister a b c bc t u)
-    (beat_behind c d 1 0 place beat five (omega arith) (omega arith) (omega arith))) v) w
+    (register_behind c d Beat 1 0 place beat refl (omega arith) (omega arith) (omega arith))) v) w

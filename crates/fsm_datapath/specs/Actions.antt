@@ -1,4 +1,4 @@
--- What an edge does where the state is left: each register gets what its chain shows.
+-- What an edge does where the state is left: each register gets what its chain shows. What has been granted is set where a core grants, too.
 use Rattle.std.specs.Prelude.{ℕ, suc, List, [], ◌∷◌, ◌++◌, map, Option, Some, None, slice_get}
 use Rattle.netlist.specs.declared.netlist.Effect.TheVariants as effect
 use Rattle.netlist.specs.declared.netlist.Action.{Action}
@@ -23,9 +23,10 @@ sets_from condition nexts n (h ∷ hs) = sets_of condition h (slice_get nexts n)
 abbrev pub store_action : ℕ → Store → Action
 store_action condition s = record { conditions = condition ∷ s.condition ∷ []; effect = effect.Store s.memory s.address s.source }
 
-abbrev pub actions_of : Registers → Chains → List Store → Edge → List Action
-actions_of registers c stores edge =
+abbrev pub actions_of : Registers → Chains → List Held → List Store → Edge → List Action
+actions_of registers c granted stores edge =
     set_action edge.leave registers.stage.register c.stage
     ∷ set_action edge.leave registers.state.register edge.state
-    ∷ set_action edge.leave registers.beat edge.beat
-    ∷ [] ++ sets_from edge.leave c.variables 0 registers.variables ++ sets_from edge.leave c.kept 0 registers.kept ++ map (store_action edge.leave) stores
+    ∷ set_action edge.moved registers.beat edge.beat
+    ∷ [] ++ sets_from edge.leave c.variables 0 registers.variables ++ sets_from edge.leave c.kept 0 registers.kept ++ sets_from edge.moved edge.granted 0 granted
+    ++ map (store_action edge.leave) stores

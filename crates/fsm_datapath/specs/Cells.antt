@@ -15,7 +15,7 @@ use Rattle.block_ir.specs.declared.plan.StagePlan.{StagePlan}
 use Rattle.block_ir.specs.declared.plan.StagePlan.TheVariants as planned
 use Rattle.block_ir.specs.declared.plan.Planned.{Planned}
 use Rattle.interleaving.specs.Memory.{Location}
-use Rattle.planned_block.specs.Slot.{Slot, value_now, IsWired}
+use Rattle.planned_block.specs.Slot.{Slot, value_now}
 use Rattle.planned_view.specs.View.{planned_view, plan_view}
 use Rattle.block_ir.specs.declared.code.ThreadCode.{ThreadCode}
 use Rattle.netlist.specs.declared.netlist.Signal.{Signal}
@@ -30,7 +30,7 @@ use Rattle.block_datapath.specs.declared.registers.Registers.{Registers}
 use Rattle.block_datapath.specs.declared.operands.Given.{Given}
 use Rattle.block_datapath.specs.declared.states.Moment.{Moment}
 use Rattle.block_datapath.specs.Seen.{SeesSource}
-use Rattle.block_datapath.specs.Operations.{seen_value, SeesSlot, IsRight}
+use Rattle.block_datapath.specs.Operations.{seen_value, SeesSlot, IsRight, IsFed}
 use Rattle.block_datapath.specs.Leave.{HasStage, IsInStage}
 use Rattle.fsm_datapath.specs.Stages.{KnowsStage}
 use Rattle.block_datapath.specs.Chains.{IsMoment}
@@ -47,7 +47,8 @@ Cells = ℕ → ℕ → ℤ → ℤ
 
 -- where the state is left the memories, which hold the elements of arrays, hold what these become
 pub record PutsCells (code : ThreadCode) (r : Reading) (stores : List Store) (after : Cells) : Type 0 where
-  pub words : (leave a j old : ℕ) (array : Array) (v : ℤ) → r.signal leave ≡ 1 → slice_get code.arrays a ≡ Some array → j < array.length → old ≡ residue_of (width_of array.ty) v → HasType array.ty v →
+  pub words : (leave a j old : ℕ) (array : Array) (v : ℤ) → r.signal leave ≡ 1 → slice_get code.arrays a ≡ Some array → j < array.length → old ≡ residue_of (width_of array.ty) v →
+      HasType array.ty v →
       (word_after r (map (store_action leave) stores) a j old ≡ residue_of (width_of array.ty) (after a j v)) × HasType array.ty (after a j v)
   pub outside : (a : ℕ) (array : Array) (v : ℤ) → slice_get code.arrays a ≡ Some array → after a array.length v ≡ v
 
@@ -70,14 +71,16 @@ module _ (old new : List Signal) (registers : Registers) (moment : Moment) (befo
     pub grows : Grows old new
     pub more : after ≡ before ++ added
     pub rests : (m : Module) (r : Reading) → Grows new m.signals → Obeys m r → width m moment.at ≡ 1 → r.signal moment.at ≡ 0 → AreOff r added
-    pub elsewhere : (m : Module) (r : Reading) (s : ℕ) → Grows new m.signals → Obeys m r → IsMoment m r registers moment.at moment.states true s → moment.state < moment.states → s ≢ moment.state
+    pub elsewhere : (m : Module) (r : Reading) (s : ℕ) → Grows new m.signals → Obeys m r → IsMoment m r registers moment.at moment.states true s → moment.state < moment.states →
+        s ≢ moment.state
         → AreOff r added
 
   -- a word is stored at an index of an array
   pub record PutsWord (number : ℕ) (array : Array) (index value : Word) : Type 0 where
     pub added : List Store
     pub adds : AddsIn added
-    pub here : (m : Module) (r : Reading) (s : IntegerType) (v w : ℤ) (leave a j word : ℕ) → Grows new m.signals → Obeys m r → IsMoment m r registers moment.at moment.states true moment.state
+    pub here : (m : Module) (r : Reading) (s : IntegerType) (v w : ℤ) (leave a j word : ℕ) → Grows new m.signals → Obeys m r →
+        IsMoment m r registers moment.at moment.states true moment.state
         → moment.state < moment.states → IsWord m r index s v → IsWord m r value array.ty w → array.length < 2 ^ 31 → r.signal leave ≡ 1 → (a ≡ number → j < array.length) →
         word_after r (map (store_action leave) added) a j word ≡ (if nat_eq a number && nat_eq j (place_written array.length v) then residue_of (width_of array.ty) w else word)
 
@@ -102,14 +105,16 @@ cells_first operations starts s variables given (suc n) a j v =
     else cells_first operations starts s variables given n a j v
 
 -- WHAT THE FIRST n OPERATIONS STORE, at a stage that a bit tells, of so many states
-pub record PutsFirst (old new : List Signal) (registers : Registers) (at states : ℕ) (before after : List Store) (code : ThreadCode) (values : List Given) (operations : List Operation)
+pub record PutsFirst (old new : List Signal) (registers : Registers) (at states : ℕ) (before after : List Store) (code : ThreadCode) (values : List Given)
+    (operations : List Operation)
     (starts : List ℕ) (n : ℕ) : Type 0 where
   pub added : List Store
   pub grows : Grows old new
   pub more : after ≡ before ++ added
   pub rests : (m : Module) (r : Reading) → Grows new m.signals → Obeys m r → width m at ≡ 1 → r.signal at ≡ 0 → AreOff r added
   pub here : (m : Module) (r : Reading) (variables given : ℕ → ℤ) (s : ℕ) → Grows new m.signals → Obeys m r → IsMoment m r registers at states true s →
-      ((k : ℕ) (o : Operation) → k < n → slice_get operations k ≡ Some o → (slice_index starts k < states) × (slice_index starts k ≡ s → SeesWrite code registers values m r s variables given o)) →
+      ((k : ℕ) (o : Operation) → k < n → slice_get operations k ≡ Some o → (slice_index starts k < states) ×
+      (slice_index starts k ≡ s → SeesWrite code registers values m r s variables given o)) →
       PutsCells code r added (cells_first operations starts s variables given n)
 
 -- ---- a block at a stage, and all stages
@@ -119,7 +124,7 @@ module _ (globals : List IntegerType) (code : ThreadCode) (registers : Registers
   abbrev pub PutsBlock : List Signal → ℕ → Block → BlockPlan → List Store → Type 0
   PutsBlock new l b p stores =
       (bank : Location → ℕ) (m : Module) (r : Reading) (q : Slot) (wire : ℕ → ℤ) → Grows new m.signals → Obeys m r → IsRight globals code registers b p
-      → KnowsStage code registers m r → IsInStage globals code registers l b p m r q → SeesSlot globals code registers b p m r q → IsWired bank (planned_view b) (plan_view b p) q wire
+      → KnowsStage code registers m r → IsInStage globals code registers l b p m r q → SeesSlot globals code registers b p m r q → IsFed globals code registers b p bank m r q wire
       → PutsCells code r stores (cells_first b.operations p.starts q.state q.variables (value_now (planned_view b) (plan_view b p) q wire) (length b.operations))
 
   -- in a reading of another stage nothing is

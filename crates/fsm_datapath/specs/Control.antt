@@ -1,36 +1,67 @@
 -- When a state is left, and what follows it then.
-use Rattle.std.specs.Prelude.{◌≡◌, ℕ, ◌+◌, ◌%◌, ◌^◌, Bool, not, ◌&&◌, ◌||◌, if◌then◌else◌, List, length, Option, Some}
+use Rattle.std.specs.Prelude.{◌≡◌, ℕ, suc, ◌+◌, ◌<◌, ◌%◌, ◌^◌, Bool, false, not, ◌&&◌, ◌||◌, if◌then◌else◌, List, [], ◌∷◌, length, Option, Some, None, slice_get, slice_index}
 use Rattle.hls_ints.specs.Residues.{bit_of}
+use Rattle.bank_partition.specs.declared.banks.Spread.{Spread}
 use Rattle.netlist.specs.declared.netlist.Source.TheVariants.{Input}
 use Rattle.netlist.specs.declared.netlist.Signal.{Signal}
 use Rattle.netlist.specs.declared.netlist.Module.{Module}
 use Rattle.verilog_meaning.specs.Readings.{Reading, width}
 use Rattle.circuit.specs.Modules.{Obeys}
 use Rattle.operator_wires.specs.Gives.{Grows}
+use Rattle.operator_wires.specs.declared.wires.Role.TheVariants.{Clock}
+use Rattle.operator_wires.specs.Built.{Base, name_at, IsEarlier, Adds}
+use Rattle.planned_block.specs.Advance.{any_below}
 use Rattle.block_datapath.specs.declared.registers.Held.{Held}
 use Rattle.block_datapath.specs.declared.registers.Registers.{Registers}
 use Rattle.fsm_datapath.specs.declared.shape.Printer.{Printer}
 use Rattle.fsm_datapath.specs.declared.chains.Chains.{Chains}
-use Rattle.fsm_datapath.specs.declared.control.Inputs.{Inputs}
+use Rattle.fsm_datapath.specs.declared.inputs.Inputs.{Inputs}
 use Rattle.fsm_datapath.specs.declared.control.Edge.{Edge}
 use Rattle.fsm_datapath.specs.Slots.{StandsAt}
+use Rattle.fsm_datapath.specs.Bits.{HasBit, HaveBits, MakesBits, is_in, AreBitsOf, AddsBits}
 
--- the clock, whether the thread is enabled, and where there is a printer whether it grants
-pub record LaysInputs (printer : Option Printer) (old new : List Signal) (inputs : Inputs) : Type 0 where
+-- ---- inputs
+
+abbrev pub printer_bits : Option Printer → List ℕ
+printer_bits None = []
+printer_bits (Some p) = 1 ∷ []
+
+-- so many cores are asked: the banks, and the printer, where there is one
+abbrev pub core_count : Option Printer → ℕ → ℕ
+core_count None banks = banks
+core_count (Some p) banks = suc banks
+
+-- the clock, whether the thread is enabled, and whether each core grants
+pub record LaysInputs (printer : Option Printer) (banks : ℕ) (old new : List Signal) (inputs : Inputs) : Type 0 where
   pub grows : Grows old new
+  pub long : length new ≡ length old + 2 + core_count printer banks
   pub clock : StandsAt new (length old) 1 Input
+  pub clock_named : (s : Signal) → slice_get new (length old) ≡ Some s → s.name ≡ name_at Clock (length old)
   pub enable : inputs.enable ≡ length old + 1
   pub enable_stands : StandsAt new (length old + 1) 1 Input
-  pub printed : (known : Printer) → printer ≡ Some known → inputs.printed ≡ Some (length old + 2)
-  pub printed_stands : (known : Printer) → printer ≡ Some known → StandsAt new (length old + 2) 1 Input
-  pub long : (known : Printer) → printer ≡ Some known → length new ≡ length old + 3
+  pub count : length inputs.grants ≡ core_count printer banks
+  pub grants : (k : ℕ) → k < core_count printer banks → slice_index inputs.grants k ≡ length old + 2 + k
+  pub grants_stand : (k : ℕ) → k < core_count printer banks → StandsAt new (length old + 2 + k) 1 Input
 
--- a bit that is set where the state waits, or wants the printer and is not granted it
-pub record Blocks (old new : List Signal) (printed : Option ℕ) (waits wants asks place : ℕ) : Type 0 where
-  pub grows : Grows old new
-  pub wide : (m : Module) → Grows new m.signals → width m waits ≡ 1 → width m place ≡ 1
-  pub shows : (m : Module) (r : Reading) (grant : ℕ) (w a s g : Bool) → Grows new m.signals → Obeys m r → printed ≡ Some grant → width m waits ≡ 1 → width m wants ≡ 1 → width m asks ≡ 1 →
-      r.signal waits ≡ bit_of w → r.signal wants ≡ bit_of a → r.signal asks ≡ bit_of s → r.signal grant ≡ bit_of g → r.signal place ≡ bit_of (w || (a && not (s && g)))
+-- ---- what a cycle does, of cores that are open to be asked (raised), and that grant (grants)
+
+module _ (raised grants : ℕ → Bool) (enabled : Bool) where
+  -- core k is asked, and grants
+  abbrev pub got : ℕ → Bool
+  got k = (raised k && enabled) && grants k
+
+  abbrev pub unmet : ℕ → Bool
+  unmet k = raised k && not (got k)
+
+  -- of n cores
+  abbrev pub is_left : Bool → ℕ → Bool
+  is_left waits n = enabled && not (waits || any_below unmet n)
+
+abbrev pub counts_of : Option Spread → ℕ → Bool
+counts_of None k = false
+counts_of (Some s) k = is_in s k
+
+-- ---- the state that follows
 
 -- the state after a last one is 0, and after another one the next
 pub record Follows (old new : List Signal) (state : Held) (is_last place : ℕ) : Type 0 where
@@ -39,15 +70,59 @@ pub record Follows (old new : List Signal) (state : Held) (is_last place : ℕ) 
   pub shows : (m : Module) (r : Reading) (t : Bool) → Grows new m.signals → Obeys m r → width m state.register ≡ state.width → r.signal is_last ≡ bit_of t →
       r.signal place ≡ (if t then 0 else (r.signal state.register + 1) % 2 ^ state.width)
 
-pub record Controls (old new : List Signal) (registers : Registers) (inputs : Inputs) (c : Chains) (edge : Edge) : Type 0 where
+-- ---- grants that are remembered
+
+-- a bit that is set where one before is, or a bank of the global grants, and the state stays
+pub record RemembersOne (old new : List Signal) (mark : ℕ) (gots : List ℕ) (spread : Option Spread) (stay out : ℕ) : Type 0 where
   pub grows : Grows old new
-  pub asks_wide : (m : Module) → Grows new m.signals → width m edge.asks ≡ 1
-  pub asks : (m : Module) (r : Reading) (a e : Bool) → Grows new m.signals → Obeys m r → width m c.wants ≡ 1 → r.signal c.wants ≡ bit_of a → r.signal inputs.enable ≡ bit_of e →
-      r.signal edge.asks ≡ bit_of (a && e)
-  pub leave_wide : (m : Module) → Grows new m.signals → width m edge.leave ≡ 1
-  pub leave : (m : Module) (r : Reading) (grant : ℕ) (w a e g : Bool) → Grows new m.signals → Obeys m r → inputs.printed ≡ Some grant → width m c.waits ≡ 1 → width m c.wants ≡ 1 →
-      width m inputs.enable ≡ 1 → r.signal c.waits ≡ bit_of w → r.signal c.wants ≡ bit_of a → r.signal inputs.enable ≡ bit_of e → r.signal grant ≡ bit_of g →
-      r.signal edge.leave ≡ bit_of (e && not (w || (a && not ((a && e) && g))))
+  pub shows : (m : Module) (r : Reading) (s u : Bool) (t : ℕ → Bool) → Grows new m.signals → Obeys m r → HasBit m r mark s → HaveBits m r gots (length gots) t → HasBit m r stay u →
+      HasBit m r out ((s || any_below (λ k. counts_of spread k && t k) (length gots)) && u)
+
+-- so is bit number x made, of global x
+pub record Remembered (granted gots : List ℕ) (spreads : List Spread) (stay : ℕ) (m : Module) (r : Reading) (x : ℕ) (t : Bool) : Type 0 where
+  pub mark : Bool
+  pub has_mark : HasBit m r (slice_index granted x) mark
+  pub wins : ℕ → Bool
+  pub has_wins : HaveBits m r gots (length gots) wins
+  pub stays : Bool
+  pub has_stays : HasBit m r stay stays
+  pub is : t ≡ ((mark || any_below (λ k. counts_of (slice_get spreads x) k && wins k) (length gots)) && stays)
+
+abbrev pub Remembers : List Signal → List Signal → List ℕ → List ℕ → List Spread → ℕ → ℕ → List ℕ → Type 0
+Remembers old new granted gots spreads stay n nexts = MakesBits old new n nexts (Remembered granted gots spreads stay)
+
+abbrev pub AddsMark : List Signal → List Signal → ℕ → List ℕ → ℕ → ℕ → Type 0
+AddsMark old new mark gots stay out = (base : Base) → IsEarlier old base mark 1 → AreBitsOf base old gots → IsEarlier old base stay 1 → Adds base old new 1 out
+
+abbrev pub AddsRemembered : List Signal → List Signal → List ℕ → List ℕ → ℕ → List ℕ → Type 0
+AddsRemembered old new granted gots stay outs = (base : Base) → AreBitsOf base old granted → AreBitsOf base old gots → IsEarlier old base stay 1 → AddsBits base old new outs
+
+-- ---- control
+
+-- what is read: of each core whether it is open to be asked, and whether it grants; whether the state waits, and the enable
+pub record Steers (m : Module) (r : Reading) (inputs : Inputs) (c : Chains) (opens : List ℕ) (raised grants : ℕ → Bool) (waits enabled : Bool) : Type 0 where
+  pub has_opens : HaveBits m r opens (length opens) raised
+  pub has_grants : HaveBits m r inputs.grants (length opens) grants
+  pub has_waits : HasBit m r c.waits waits
+  pub has_enable : HasBit m r inputs.enable enabled
+
+pub record Controls (old new : List Signal) (registers : Registers) (inputs : Inputs) (c : Chains) (opens marks : List ℕ) (edge : Edge) : Type 0 where
+  pub grows : Grows old new
+  pub asks_count : length edge.asks ≡ length opens
+  pub asks : (m : Module) (r : Reading) (raised : ℕ → Bool) (enabled : Bool) → Grows new m.signals → Obeys m r → HaveBits m r opens (length opens) raised →
+      HasBit m r inputs.enable enabled →
+      HaveBits m r edge.asks (length opens) (λ k. raised k && enabled)
+  pub leave : (m : Module) (r : Reading) (raised grants : ℕ → Bool) (waits enabled : Bool) → Grows new m.signals → Obeys m r →
+      Steers m r inputs c opens raised grants waits enabled →
+      HasBit m r edge.leave (is_left raised grants enabled waits (length opens))
+  pub moved : (m : Module) (r : Reading) (raised grants : ℕ → Bool) (waits enabled : Bool) → Grows new m.signals → Obeys m r →
+      Steers m r inputs c opens raised grants waits enabled →
+      HasBit m r edge.moved (is_left raised grants enabled waits (length opens) || any_below (got raised grants enabled) (length opens))
+  pub granted_count : length edge.granted ≡ length marks
+  pub granted : (m : Module) (r : Reading) (raised grants : ℕ → Bool) (waits enabled : Bool) (x : ℕ) (mark : Bool) → Grows new m.signals → Obeys m r →
+      Steers m r inputs c opens raised grants waits enabled → x < length marks → HasBit m r (slice_index marks x) mark →
+      HasBit m r (slice_index edge.granted x)
+      ((mark || any_below (λ k. counts_of (slice_get registers.spreads x) k && got raised grants enabled k) (length opens)) && not
+      (is_left raised grants enabled waits (length opens)))
   pub follows : Follows old new registers.state c.is_last edge.state
-  pub beat_wide : (m : Module) → Grows new m.signals → width m edge.beat ≡ 1
-  pub beat : (m : Module) (r : Reading) (t : Bool) → Grows new m.signals → Obeys m r → width m registers.beat ≡ 1 → r.signal registers.beat ≡ bit_of t → r.signal edge.beat ≡ bit_of (not t)
+  pub beat : (m : Module) (r : Reading) (t : Bool) → Grows new m.signals → Obeys m r → HasBit m r registers.beat t → HasBit m r edge.beat (not t)

@@ -1,64 +1,71 @@
 -- The module of main, which prints, as a leaf of a net: its ports, and the order of its signals.
-use Rattle.std.specs.Prelude.{◌≡◌, ℕ, suc, ◌+◌, ◌<◌, false, nat_eq, if◌then◌else◌, List, length}
+use Rattle.std.specs.Prelude.{◌≡◌, ℕ, suc, ◌+◌, ◌-◌, ◌*◌, ◌<◌, false, nat_eq, nat_lt, if◌then◌else◌, List, length}
 use Rattle.block_ir.specs.declared.code.ThreadCode.{ThreadCode}
 use Rattle.block_ir.specs.declared.plan.Planned.{Planned}
 use Rattle.netlist.specs.declared.netlist.Module.{Module}
 use Rattle.circuit.specs.Rows.{EachOf}
 use Rattle.circuit.specs.Modules.{FitsMemory}
-use Rattle.leaf_machine.specs.Leaves.{Heard, Clock, Enable, Grant, LeafPorts, IsThreadLeaf, IsSlotBit, FitsPorts}
+use Rattle.leaf_machine.specs.Leaves.{Heard, Clock, Enable, Grant, Told, LeafPorts, IsThreadLeaf, IsSlotBit}
 use Rattle.module_sound.specs.Grades.{AreGrades, ActsRight, IsPort, IsSlotPort}
 use Rattle.module_sound.specs.Kinds.{IsPlaced}
 use Rattle.module_sound.specs.Sounds.{AreRightMemories, BeginsWithClock, IsSoundAlone}
+use Rattle.thread_promise.specs.Globals.{bank_total}
 use Rattle.fsm_datapath.specs.declared.shape.Printer.{Printer}
 use Rattle.fsm_datapath.specs.declared.shape.Shape.{Shape}
-use Rattle.fsm_datapath.specs.Thread.{first_output, IsPlain}
+use Rattle.fsm_datapath.specs.Thread.{input_count, first_output, IsServed}
 
-abbrev pub input_at : ℕ → Heard
-input_at x = if nat_eq x 0 then Clock else (if nat_eq x 1 then Enable else Grant 0)
+-- the clock, the enable, the grants of banks and of the printer, and the words of banks
+abbrev pub input_at : ℕ → ℕ → Heard
+input_at banks x = if nat_eq x 0 then Clock else (if nat_eq x 1 then Enable else (if nat_lt x (3 + banks) then Grant (x - 2) else Told (x - (3 + banks)) 0))
 
--- the printer is core 0
-abbrev pub leaf_of : Printer → Module → LeafPorts
-leaf_of printer m = record {
-  uses = λ k. nat_eq k 0;
+-- how many numbers core k is asked with, and how many it tells: the banks come first, and then the printer
+abbrev pub parts_of : ℕ → ℕ → ℕ → ℕ
+parts_of banks values k = if nat_lt k banks then 4 else 2 + values
+
+abbrev pub told_of : ℕ → ℕ → ℕ
+told_of banks k = if nat_lt k banks then 1 else 0
+
+abbrev pub leaf_of : ℕ → Printer → Module → LeafPorts
+leaf_of banks printer m = record {
+  uses = λ k. nat_lt k (suc banks);
   enable = 1;
-  ask = λ k j. first_output printer m + j;
-  grant = λ k. 2;
-  told = λ k j. 0;
-  need = first_output printer m + (printer.values + 2);
-  done = first_output printer m + (printer.values + 3);
-  heard = input_at;
+  ask = λ k j. first_output banks printer m + (4 * k + j);
+  grant = λ k. 2 + k;
+  told = λ k j. 3 + banks + k;
+  need = first_output banks printer m + (4 * banks + 2 + printer.values);
+  done = first_output banks printer m + (4 * banks + 3 + printer.values);
+  heard = input_at banks;
 }
 
 -- the statements fit, signals stand at the places of their kinds, no answer of the printer reaches what it is asked, and the
 -- slot alone tells the rest
-pub record HasPorts (printer : Printer) (m : Module) (grades : List ℕ) : Type 0 where
+pub record HasPorts (banks : ℕ) (printer : Printer) (m : Module) (grades : List ℕ) : Type 0 where
   pub acts : EachOf (ActsRight m) m.actions
-  pub placed : IsPlaced m 3 (first_output printer m)
+  pub placed : IsPlaced m (input_count banks) (first_output banks printer m)
   pub begins : BeginsWithClock m
-  pub asks : (j : ℕ) → j < printer.values + 2 → IsPort m grades 1 (first_output printer m + j)
-  pub need : IsSlotPort m grades (first_output printer m + (printer.values + 2))
-  pub done : IsSlotPort m grades (first_output printer m + (printer.values + 3))
+  pub asks : (j : ℕ) → j < 4 * banks + 2 + printer.values → IsPort m grades 1 (first_output banks printer m + j)
+  pub need : IsSlotPort m grades (leaf_of banks printer m).need
+  pub done : IsSlotPort m grades (leaf_of banks printer m).done
 
 -- each signal reads earlier ones, and the memories are right
-pub record IsChecked (printer : Printer) (m : Module) : Type 0 where
+pub record IsChecked (banks : ℕ) (printer : Printer) (m : Module) : Type 0 where
   pub memories : AreRightMemories m
   pub begun : EachOf FitsMemory m.memories
   pub grades : List ℕ
-  pub are : AreGrades m 3 (length m.signals) grades
-  pub ports : HasPorts printer m grades
+  pub are : AreGrades m (input_count banks) (length m.signals) grades
+  pub ports : HasPorts banks printer m grades
 
--- a thread's module, of one core that takes a site and values and tells nothing
-pub record IsLeafOf (printer : Printer) (m : Module) : Type 0 where
-  pub thread : IsThreadLeaf m 3 (leaf_of printer m) 1 (λ k. suc (suc printer.values)) (λ k. 0)
-  pub done : IsSlotBit m 3 (leaf_of printer m) 1 (λ k. suc (suc printer.values)) (λ k. 0) (leaf_of printer m).done
-  pub fits : FitsPorts m (leaf_of printer m) 1 (λ k. suc (suc printer.values)) (λ k. 0) (λ k j. 0)
+-- a thread's module, of so many banks, which tell words, and the printer, which tells nothing
+pub record IsLeafOf (banks : ℕ) (printer : Printer) (m : Module) : Type 0 where
+  pub thread : IsThreadLeaf m (input_count banks) (leaf_of banks printer m) (suc banks) (parts_of banks printer.values) (told_of banks)
+  pub done : IsSlotBit m (input_count banks) (leaf_of banks printer m) (suc banks) (parts_of banks printer.values) (told_of banks) (leaf_of banks printer m).done
   -- a text can tell it, and is well formed
-  pub alone : IsSoundAlone m 3 (first_output printer m)
+  pub alone : IsSoundAlone m (input_count banks) (first_output banks printer m)
   -- each statement sets a register to a number of its width
   pub acts : EachOf (ActsRight m) m.actions
   -- no output hangs on an answer
-  pub early : (x : ℕ) → x < printer.values + 4 → thread.late (first_output printer m + x) ≡ false
+  pub early : (x : ℕ) → x < 4 * banks + printer.values + 4 → thread.late (first_output banks printer m + x) ≡ false
 
 -- THE MODULE IS A LEAF
-abbrev pub IsLeafOfPlainCode : Shape → ThreadCode → Planned → Module → Type 0
-IsLeafOfPlainCode shape code plan m = (printer : Printer) → IsPlain shape code plan printer → IsLeafOf printer m
+abbrev pub IsLeafOfServedCode : Shape → ThreadCode → Planned → Module → Type 0
+IsLeafOfServedCode shape code plan m = (printer : Printer) → IsServed shape code plan printer → IsLeafOf (bank_total shape.spreads) printer m

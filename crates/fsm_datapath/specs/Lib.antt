@@ -11,3 +11,6 @@ pub mod Memories
 pub mod Stores
 pub mod Cells
 pub mod Leaf
+pub mod Asking
+pub mod Bits
+pub mod Early

@@ -11,17 +11,10 @@ use Rattle.block_datapath.specs.declared.registers.Registers.{Registers}
 use Rattle.block_datapath.specs.Chains.{next_number}
 use Rattle.fsm_datapath.specs.declared.chains.Chains.{Chains}
 
--- signals that are put behind others, and so many places of some
-pub record AreMore (old new : List Signal) (n : ℕ) (places : List ℕ) : Type 0 where
-  pub grows : Grows old new
-  pub count : length places ≡ n
-
 -- the bits of chains are one bit wide
 pub record AreBits (new : List Signal) (c : Chains) : Type 0 where
   pub is_last : (m : Module) → Grows new m.signals → width m c.is_last ≡ 1
-  pub needs : (m : Module) → Grows new m.signals → width m c.needs ≡ 1
   pub waits : (m : Module) → Grows new m.signals → width m c.waits ≡ 1
-  pub wants : (m : Module) → Grows new m.signals → width m c.wants ≡ 1
 
 -- a bit that is set where one before it is or this condition holds
 pub record AddsBit (new : List Signal) (before after condition : ℕ) : Type 0 where
@@ -40,49 +33,36 @@ module _ (old new : List Signal) (before after : Chains) where
   -- where a condition holds the thread waits
   pub record WaitsAt (condition : ℕ) : Type 0 where
     pub grows : Grows old new
-    pub needs : AddsBit new before.needs after.needs condition
     pub bit : AddsBit new before.waits after.waits condition
-    pub same : after ≡ record before { needs = after.needs; waits = after.waits }
-
-  -- where a condition holds it prints
-  pub record WantsAt (condition : ℕ) : Type 0 where
-    pub grows : Grows old new
-    pub needs : AddsBit new before.needs after.needs condition
-    pub bit : AddsBit new before.wants after.wants condition
-    pub same : after ≡ record before { needs = after.needs; wants = after.wants }
+    pub same : after ≡ record before { waits = after.waits }
 
 -- ---- readings
 
--- a reading that leaves registers as they are, and in which nothing is waited for or printed
+-- a reading that leaves registers as they are, and in which nothing is waited for
 pub record IsStill (r : Reading) (registers : Registers) (c : Chains) : Type 0 where
   pub stage : r.signal c.stage ≡ r.signal registers.stage.register
   pub variables : (x : ℕ) (h : Held) → slice_get registers.variables x ≡ Some h → next_number r c.variables x ≡ r.signal h.register
   pub kept : (x : ℕ) (h : Held) → slice_get registers.kept x ≡ Some h → next_number r c.kept x ≡ r.signal h.register
   pub is_last : r.signal c.is_last ≡ 0
   pub waits : r.signal c.waits ≡ 0
-  pub wants : r.signal c.wants ≡ 0
 
 -- chains show the same
 pub record ShowSame (r : Reading) (before after : Chains) : Type 0 where
   pub stage : r.signal after.stage ≡ r.signal before.stage
   pub variables : (x : ℕ) → next_number r after.variables x ≡ next_number r before.variables x
   pub kept : (x : ℕ) → next_number r after.kept x ≡ next_number r before.kept x
-  pub fields : (x : ℕ) → next_number r after.fields x ≡ next_number r before.fields x
   pub is_last : (t : Bool) → r.signal before.is_last ≡ bit_of t → r.signal after.is_last ≡ bit_of t
   pub waits : (t : Bool) → r.signal before.waits ≡ bit_of t → r.signal after.waits ≡ bit_of t
-  pub wants : (t : Bool) → r.signal before.wants ≡ bit_of t → r.signal after.wants ≡ bit_of t
 
 -- as many of each
 pub record AreAsMany (before after : Chains) : Type 0 where
   pub variables : length after.variables ≡ length before.variables
   pub kept : length after.kept ≡ length before.kept
-  pub fields : length after.fields ≡ length before.fields
 
 -- the first links
-pub record Begins (old new : List Signal) (registers : Registers) (field_widths : List ℕ) (c : Chains) : Type 0 where
+pub record Begins (old new : List Signal) (registers : Registers) (c : Chains) : Type 0 where
   pub grows : Grows old new
   pub bits : AreBits new c
   pub variables : length c.variables ≡ length registers.variables
   pub kept : length c.kept ≡ length registers.kept
-  pub fields : length c.fields ≡ length field_widths
   pub still : (m : Module) (r : Reading) → Grows new m.signals → Obeys m r → IsStill r registers c

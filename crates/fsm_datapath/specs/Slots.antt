@@ -1,6 +1,7 @@
 -- The registers of a slot: where they stand, and how wide they are.
 use Rattle.std.specs.Prelude.{◌≡◌, ℕ, ◌+◌, ◌<◌, ◌≤◌, ◌^◌, List, length, map, Option, Some, slice_get}
 use Rattle.hls_ints.specs.Types.{IntegerType, width_of}
+use Rattle.bank_partition.specs.declared.banks.Spread.{Spread}
 use Rattle.block_ir.specs.declared.block.Operation.{Operation}
 use Rattle.block_ir.specs.declared.block.Block.{Block}
 use Rattle.block_ir.specs.declared.code.Stage.{Stage}
@@ -32,17 +33,17 @@ pub record LaysRegister (old new : List Signal) (w initial : ℕ) (h : Held) : T
   pub width : h.width ≡ w
   pub stands : Stands old new w (source.Register initial) h.register
 
--- registers of these widths stand one behind the other from a place on
-abbrev pub StandFrom : List Signal → ℕ → List ℕ → List Held → ℕ → Type 0
-StandFrom signals from widths registers n =
-    (k w : ℕ) → k < n → slice_get widths k ≡ Some w → (h : Held) × (slice_get registers k ≡ Some h) × (h.width ≡ w) × (h.register ≡ from + k) × StandsAt signals (from + k) w (source.Register 0)
+-- signals of these widths, each driven so, stand one behind the other from a place on
+abbrev pub StandFrom : Source → List Signal → ℕ → List ℕ → List Held → ℕ → Type 0
+StandFrom driver signals from widths registers n =
+    (k w : ℕ) → k < n → slice_get widths k ≡ Some w → (h : Held) × (slice_get registers k ≡ Some h) × (h.width ≡ w) × (h.register ≡ from + k) × StandsAt signals (from + k) w driver
 
--- a register for each of the first n widths
-pub record LaysAll (old new : List Signal) (widths : List ℕ) (n : ℕ) (registers : List Held) : Type 0 where
+-- a signal for each of the first n widths
+pub record LaysAll (driver : Source) (old new : List Signal) (widths : List ℕ) (n : ℕ) (registers : List Held) : Type 0 where
   pub grows : Grows old new
   pub long : length new ≡ length old + n
   pub count : length registers ≡ n
-  pub each : StandFrom new (length old) widths registers n
+  pub each : StandFrom driver new (length old) widths registers n
 
 -- the register of a number that a width has room for
 pub record IsHeldAt (signals : List Signal) (h : Held) (place initial : ℕ) : Type 0 where
@@ -50,16 +51,20 @@ pub record IsHeldAt (signals : List Signal) (h : Held) (place initial : ℕ) : T
   pub stands : StandsAt signals place h.width (source.Register initial)
 
 -- THE SLOT: the stage, which begins with a first one, the state, the beat, the variables, the registers for values
-pub record LaysSlot (code : ThreadCode) (plan : Planned) (first : ℕ) (kept_widths : List ℕ) (old new : List Signal) (registers : Registers) : Type 0 where
+pub record LaysSlot (code : ThreadCode) (plan : Planned) (first : ℕ) (kept_widths : List ℕ) (words : List Held) (spreads : List Spread) (old new : List Signal)
+    (registers : Registers) :
+    Type 0 where
   pub grows : Grows old new
   pub stage : IsHeldAt new registers.stage (length old) first
   pub state : IsHeldAt new registers.state (length old + 1) 0
   pub beat : registers.beat ≡ length old + 2
   pub beat_stands : StandsAt new (length old + 2) 1 (source.Register 0)
   pub variables_count : length registers.variables ≡ length code.variables
-  pub variables : StandFrom new (length old + 3) (map width_of code.variables) registers.variables (length code.variables)
+  pub variables : StandFrom (source.Register 0) new (length old + 3) (map width_of code.variables) registers.variables (length code.variables)
   pub kept_count : length registers.kept ≡ length kept_widths
-  pub kept : StandFrom new (length old + 3 + length code.variables) kept_widths registers.kept (length kept_widths)
+  pub kept : StandFrom (source.Register 0) new (length old + 3 + length code.variables) kept_widths registers.kept (length kept_widths)
+  pub words_are : registers.words ≡ words
+  pub spreads_are : registers.spreads ≡ spreads
   -- the stage and the state have room for all that there are
   pub stage_room : length code.stages < 2 ^ registers.stage.width
   pub state_room : (l : ℕ) (p : BlockPlan) → slice_get plan.stages l ≡ Some (planned.Run p) → p.states ≤ 2 ^ registers.state.width
@@ -85,11 +90,13 @@ module _ (globals : List IntegerType) (code : ThreadCode) where
   -- the same of a stage, where it is a block with a plan of one
   pub record WidensStage (s : Stage) (plan : Option StagePlan) (before after : List ℕ) : Type 0 where
     pub widens : Widens before after
-    pub room : (b : Block) (p : BlockPlan) (k x : ℕ) (o : Operation) → s ≡ stage.Run b → plan ≡ Some (planned.Run p) → slice_get b.operations k ≡ Some o → register_at p.registers k ≡ Some x →
+    pub room : (b : Block) (p : BlockPlan) (k x : ℕ) (o : Operation) → s ≡ stage.Run b → plan ≡ Some (planned.Run p) → slice_get b.operations k ≡ Some o →
+        register_at p.registers k ≡ Some x →
         HasRoomAt after x (width_of (value_type globals code o))
 
   -- the same of the first n stages
   pub record AreKeptWidths (plan : Planned) (n : ℕ) (widths : List ℕ) : Type 0 where
     pub count : length widths ≡ plan.registers
-    pub room : (l : ℕ) (b : Block) (p : BlockPlan) (k x : ℕ) (o : Operation) → l < n → slice_get code.stages l ≡ Some (stage.Run b) → slice_get plan.stages l ≡ Some (planned.Run p) →
+    pub room : (l : ℕ) (b : Block) (p : BlockPlan) (k x : ℕ) (o : Operation) → l < n → slice_get code.stages l ≡ Some (stage.Run b) →
+        slice_get plan.stages l ≡ Some (planned.Run p) →
         slice_get b.operations k ≡ Some o → register_at p.registers k ≡ Some x → HasRoomAt widths x (width_of (value_type globals code o))

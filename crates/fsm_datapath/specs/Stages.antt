@@ -16,7 +16,7 @@ use Rattle.block_ir.specs.declared.plan.StagePlan.{StagePlan}
 use Rattle.block_ir.specs.declared.plan.StagePlan.TheVariants as planned
 use Rattle.block_ir.specs.declared.plan.Planned.{Planned}
 use Rattle.planned_block.specs.Block.{finished, leads_to}
-use Rattle.planned_block.specs.Slot.{Slot, operand_now, IsWired, RegistersAfter}
+use Rattle.planned_block.specs.Slot.{Slot, operand_now, RegistersAfter}
 use Rattle.planned_view.specs.View.{planned_view, plan_view}
 use Rattle.netlist.specs.declared.netlist.Signal.{Signal}
 use Rattle.netlist.specs.declared.netlist.Module.{Module}
@@ -27,11 +27,11 @@ use Rattle.operator_wires.specs.Words.{IsWord, resized_word}
 use Rattle.operator_wires.specs.declared.words.Word.{Word}
 use Rattle.thread_promise.specs.Types.{value_type}
 use Rattle.thread_promise.specs.Slots.{IsAlive}
-use Rattle.thread_promise.specs.Promise.{operand_of_act, is_print}
+use Rattle.thread_promise.specs.Promise.{operand_of_act}
 use Rattle.block_datapath.specs.declared.registers.Held.{Held}
 use Rattle.block_datapath.specs.declared.registers.Registers.{Registers}
 use Rattle.block_datapath.specs.Seen.{IsVariable}
-use Rattle.block_datapath.specs.Operations.{SeesSlot, IsRight}
+use Rattle.block_datapath.specs.Operations.{SeesSlot, IsRight, IsFed}
 use Rattle.block_datapath.specs.Chains.{next_number, TellsStage}
 use Rattle.block_datapath.specs.Leave.{HasStage, IsInStage}
 use Rattle.fsm_datapath.specs.declared.shape.Printer.{Printer}
@@ -71,7 +71,8 @@ module _ (code : ThreadCode) (registers : Registers) where
     pub first : (m : Module) (r : Reading) → Grows new m.signals → Obeys m r → 0 < length before → next_number r after 0 ≡ next_number r before 0
     pub asks : (m : Module) (r : Reading) (variables : ℕ → ℤ) (j : ℕ) (v : ActOperand) → Grows new m.signals → Obeys m r → r.signal at ≡ 1 → SeesVariables m r variables → j < n →
         slice_get values j ≡ Some v → IsTypedActOperand code v → suc j < length before → next_number r after (suc j) ≡ residue_of 64 (operand_of_act variables v)
-    pub wired : (base : Base) (site_width : ℕ) → AreSlots base old code registers → IsEarlier old base at 1 → LinkFields base old site_width before → KeepsFields base old new site_width after
+    pub wired : (base : Base) (site_width : ℕ) → AreSlots base old code registers → IsEarlier old base at 1 → LinkFields base old site_width before →
+        KeepsFields base old new site_width after
 
   -- one of them, in field number j + 1
   pub record AsksValue (old new : List Signal) (at : ℕ) (before after : List ℕ) (j : ℕ) (v : ActOperand) : Type 0 where
@@ -81,7 +82,8 @@ module _ (code : ThreadCode) (registers : Registers) where
     pub others : (m : Module) (r : Reading) (x : ℕ) → Grows new m.signals → Obeys m r → x ≢ suc j → x < length before → next_number r after x ≡ next_number r before x
     pub asks : (m : Module) (r : Reading) (variables : ℕ → ℤ) → Grows new m.signals → Obeys m r → r.signal at ≡ 1 → SeesVariables m r variables → IsTypedActOperand code v →
         suc j < length before → next_number r after (suc j) ≡ residue_of 64 (operand_of_act variables v)
-    pub wired : (base : Base) (site_width : ℕ) → AreSlots base old code registers → IsEarlier old base at 1 → LinkFields base old site_width before → KeepsFields base old new site_width after
+    pub wired : (base : Base) (site_width : ℕ) → AreSlots base old code registers → IsEarlier old base at 1 → LinkFields base old site_width before →
+        KeepsFields base old new site_width after
 
 -- where a bit is set the first field is the number of a site
 pub record AsksSite (old new : List Signal) (at : ℕ) (before after : List ℕ) (site_width site : ℕ) : Type 0 where
@@ -104,22 +106,23 @@ pub record StepsOver (registers : Registers) (l : ℕ) (old new : List Signal) (
   pub grows : Grows old new
   pub many : AreAsMany before after
   pub bits : AreBits old before → AreBits new after
-  pub rests : (m : Module) (r : Reading) → Grows new m.signals → Obeys m r → AreBits old before → HasStage registers l m r → r.signal registers.stage.register ≢ l → ShowSame r before after
+  pub rests : (m : Module) (r : Reading) → Grows new m.signals → Obeys m r → AreBits old before → HasStage registers l m r → r.signal registers.stage.register ≢ l →
+      ShowSame r before after
 
 -- a stage in which the thread waits forever
 pub record Idles (registers : Registers) (l : ℕ) (old new : List Signal) (before after : Chains) : Type 0 where
   pub step : StepsOver registers l old new before after
-  pub wants : after.wants ≡ before.wants
-  pub waits : (m : Module) (r : Reading) → Grows new m.signals → Obeys m r → AreBits old before → HasStage registers l m r → r.signal registers.stage.register ≡ l → r.signal before.waits ≡ 0 →
+  pub waits : (m : Module) (r : Reading) → Grows new m.signals → Obeys m r → AreBits old before → HasStage registers l m r → r.signal registers.stage.register ≡ l →
+      r.signal before.waits ≡ 0 →
       r.signal after.waits ≡ 1
-  pub wired : (base : Base) (site_width : ℕ) (code : ThreadCode) → AreLinked base old code registers site_width before → l ≤ length code.stages
-      → KeepsLinks base old new code registers site_width after
+  pub wired : (base : Base) (code : ThreadCode) → AreLinked base old code registers before → l ≤ length code.stages
+      → KeepsLinks base old new code registers after
 
 -- the last stage, past all others, and the bit that tells it
 pub record EndsAt (code : ThreadCode) (registers : Registers) (old new : List Signal) (before after : Chains) (at : ℕ) : Type 0 where
   pub idles : Idles registers (length code.stages) old new before after
   pub told : TellsStage old new registers (length code.stages) at
-  pub wired : (base : Base) (site_width : ℕ) → AreLinked base old code registers site_width before → IsEarlier new base at 1
+  pub wired : (base : Base) → AreLinked base old code registers before → IsEarlier new base at 1
 
 module _ (code : ThreadCode) (registers : Registers) where
   -- an act: it takes one state, which leads to a stage, and changes no variable
@@ -129,39 +132,19 @@ module _ (code : ThreadCode) (registers : Registers) where
     pub variables : (x : ℕ) → next_number r c.variables x ≡ next_number r start.variables x
     pub waits : r.signal c.waits ≡ 0
 
-  -- a printf asks for its site and its values
-  pub record Prints (printer : Printer) (site next : ℕ) (values : List ActOperand) (r : Reading) (variables : ℕ → ℤ) (start c : Chains) : Type 0 where
-    pub leaves : LeavesAct (min next (length code.stages)) r start c
-    pub wants : r.signal c.wants ≡ 1
-    pub site_is : 0 < length start.fields → next_number r c.fields 0 ≡ resized_word false 32 printer.site_width site
-    pub values_are : (j : ℕ) (v : ActOperand) → slice_get values j ≡ Some v → IsTypedActOperand code v → suc j < length start.fields →
-        next_number r c.fields (suc j) ≡ residue_of 64 (operand_of_act variables v)
-
   pub record TakesReturn (l : ℕ) (old new : List Signal) (before after : Chains) : Type 0 where
     pub step : StepsOver registers l old new before after
-    pub wants : after.wants ≡ before.wants
-    pub returns : AreBits old before → (m : Module) (r : Reading) → Grows new m.signals → Obeys m r → KnowsStage code registers m r → IsStill r registers before → l ≤ length code.stages
+    pub returns : AreBits old before → (m : Module) (r : Reading) → Grows new m.signals → Obeys m r → KnowsStage code registers m r → IsStill r registers before →
+        l ≤ length code.stages
         → r.signal registers.stage.register ≡ l → LeavesAct (length code.stages) r before after
-    pub wired : (base : Base) (site_width : ℕ) → AreLinked base old code registers site_width before → l ≤ length code.stages → KeepsLinks base old new code registers site_width after
+    pub wired : (base : Base) → AreLinked base old code registers before → l ≤ length code.stages → KeepsLinks base old new code registers after
 
-  pub record TakesPrint (printer : Option Printer) (l site : ℕ) (values : List ActOperand) (next : ℕ) (old new : List Signal) (before after : Chains) : Type 0 where
+  -- where there is a printer, a printf leads on
+  pub record TakesPrint (printer : Option Printer) (l next : ℕ) (old new : List Signal) (before after : Chains) : Type 0 where
     pub step : StepsOver registers l old new before after
-    pub prints : AreBits old before → (known : Printer) → printer ≡ Some known → (m : Module) (r : Reading) (variables : ℕ → ℤ) → Grows new m.signals → Obeys m r → KnowsStage code registers m r
-        → IsStill r registers before → l ≤ length code.stages → r.signal registers.stage.register ≡ l → SeesVariables code registers m r variables
-        → Prints known site next values r variables before after
-    pub wired : (plan : Option StagePlan) → l ≤ length code.stages → StepIsWired code registers printer plan old new before after
-
-  -- the fields of a request, where a bit is set
-  pub record Asks (printer : Printer) (at site : ℕ) (values : List ActOperand) (old new : List Signal) (before after : Chains) : Type 0 where
-    pub grows : Grows old new
-    pub same : after ≡ record before { fields = after.fields }
-    pub count : length after.fields ≡ length before.fields
-    pub rests : (m : Module) (r : Reading) (x : ℕ) → Grows new m.signals → Obeys m r → r.signal at ≡ 0 → x < length before.fields → next_number r after.fields x ≡ next_number r before.fields x
-    pub site_is : (m : Module) (r : Reading) → Grows new m.signals → Obeys m r → r.signal at ≡ 1 → 0 < length before.fields →
-        next_number r after.fields 0 ≡ resized_word false 32 printer.site_width site
-    pub values_are : (m : Module) (r : Reading) (variables : ℕ → ℤ) (j : ℕ) (v : ActOperand) → Grows new m.signals → Obeys m r → r.signal at ≡ 1 → SeesVariables code registers m r variables →
-        slice_get values j ≡ Some v → IsTypedActOperand code v → suc j < length before.fields → next_number r after.fields (suc j) ≡ residue_of 64 (operand_of_act variables v)
-    pub wired : (base : Base) → AreLinked base old code registers printer.site_width before → IsEarlier old base at 1 → KeepsLinks base old new code registers printer.site_width after
+    pub prints : AreBits old before → (known : Printer) → printer ≡ Some known → (m : Module) (r : Reading) → Grows new m.signals → Obeys m r → KnowsStage code registers m r
+        → IsStill r registers before → l ≤ length code.stages → r.signal registers.stage.register ≡ l → LeavesAct (min next (length code.stages)) r before after
+    pub wired : (plan : Option StagePlan) → l ≤ length code.stages → StepIsWired code registers plan old new before after
 
 module _ (globals : List IntegerType) (code : ThreadCode) (registers : Registers) where
   -- registers have room for the values that a plan keeps there
@@ -175,7 +158,8 @@ module _ (globals : List IntegerType) (code : ThreadCode) (registers : Registers
     pub is_last : r.signal c.is_last ≡ bit_of (nat_eq (suc q.state) p.states)
     pub stage : r.signal c.stage ≡ (if nat_eq (suc q.state) p.states then leads_to (operand_now (planned_view b) (plan_view b p) q wire) (planned_view b).next else l)
     pub variables : (x : ℕ) (ty : IntegerType) → slice_get code.variables x ≡ Some ty → next_number r c.variables x
-        ≡ residue_of (width_of ty) (if nat_eq (suc q.state) p.states then finished (operand_now (planned_view b) (plan_view b p) q wire) (planned_view b).finals q.variables x else q.variables x)
+        ≡ residue_of (width_of ty) (if nat_eq (suc q.state) p.states then finished (operand_now (planned_view b) (plan_view b p) q wire)
+        (planned_view b).finals q.variables x else q.variables x)
     pub typed : (x : ℕ) (ty : IntegerType) → slice_get code.variables x ≡ Some ty →
         HasType ty (if nat_eq (suc q.state) p.states then finished (operand_now (planned_view b) (plan_view b p) q wire) (planned_view b).finals q.variables x else q.variables x)
     pub kept : (registers_after : ℕ → ℤ) → RegistersAfter (planned_view b) (plan_view b p) q wire registers_after → (next : Slot) → next.state ≡ suc q.state → (k x : ℕ)
@@ -183,39 +167,36 @@ module _ (globals : List IntegerType) (code : ThreadCode) (registers : Registers
         (next_number r c.kept x % 2 ^ width_of (value_type globals code t.operation) ≡ residue_of (width_of (value_type globals code t.operation)) (registers_after x))
         × HasType (value_type globals code t.operation) (registers_after x)
     pub waits : r.signal c.waits ≡ 0
-    pub wants : r.signal c.wants ≡ 0
 
   -- what a block at stage l does, in a reading of one of its states
   abbrev pub Runs : ℕ → List Signal → Chains → Chains → Block → BlockPlan → Type 0
   Runs l new start c b p =
       (bank : Location → ℕ) (m : Module) (r : Reading) (q : Slot) (wire : ℕ → ℤ) → Grows new m.signals → Obeys m r → IsStill r registers start → IsRight globals code registers b p
-      → IsInStage globals code registers l b p m r q → SeesSlot globals code registers b p m r q → IsWired bank (planned_view b) (plan_view b p) q wire
+      → IsInStage globals code registers l b p m r q → SeesSlot globals code registers b p m r q → IsFed globals code registers b p bank m r q wire
       → HasWidths b p → KnowsStage code registers m r → LeavesState l b p r q wire c
 
   -- a block at stage l
   pub record RunsBlock (l : ℕ) (b : Block) (p : BlockPlan) (old new : List Signal) (before after : Chains) : Type 0 where
     pub step : StepsOver registers l old new before after
-    pub wants : after.wants ≡ before.wants
     pub runs : AreBits old before → length before.variables ≡ length code.variables → length before.kept ≡ length registers.kept → Runs l new before after b p
-    pub wired : (printer : Option Printer) → l ≤ length code.stages → StepIsWired code registers printer (Some (planned.Run p)) old new before after
+    pub wired : l ≤ length code.stages → StepIsWired code registers (Some (planned.Run p)) old new before after
 
   -- what stage l does, in a reading of it: from links that are still to those behind it
   pub record DoesStage (printer : Option Printer) (l : ℕ) (s : Stage) (plan : Option StagePlan) (new : List Signal) (start c : Chains) : Type 0 where
     pub runs : (b : Block) (p : BlockPlan) → s ≡ stage.Run b → plan ≡ Some (planned.Run p) → Runs l new start c b p
-    pub prints : (known : Printer) (site next : ℕ) (values : List ActOperand) → s ≡ stage.Act (Print site values) next → printer ≡ Some known → (m : Module) (r : Reading) (variables : ℕ → ℤ) →
-        Grows new m.signals → Obeys m r → KnowsStage code registers m r → IsStill r registers start → r.signal registers.stage.register ≡ l → SeesVariables code registers m r variables →
-        Prints code registers known site next values r variables start c
-    pub returns : (next : ℕ) → s ≡ stage.Act Return next → (m : Module) (r : Reading) → Grows new m.signals → Obeys m r → KnowsStage code registers m r → IsStill r registers start →
+    pub prints : (known : Printer) (site next : ℕ) (values : List ActOperand) → s ≡ stage.Act (Print site values) next → printer ≡ Some known → (m : Module) (r : Reading) →
+        Grows new m.signals → Obeys m r → KnowsStage code registers m r → IsStill r registers start → r.signal registers.stage.register ≡ l →
+        LeavesAct code registers (min next (length code.stages)) r start c
+    pub returns : (next : ℕ) → s ≡ stage.Act Return next → (m : Module) (r : Reading) → Grows new m.signals → Obeys m r → KnowsStage code registers m r →
+        IsStill r registers start →
         r.signal registers.stage.register ≡ l → LeavesAct code registers (length code.stages) r start c
-    pub quiet : is_print (Some s) ≡ false → (m : Module) (r : Reading) → Grows new m.signals → Obeys m r → KnowsStage code registers m r → IsStill r registers start →
-        r.signal registers.stage.register ≡ l → r.signal c.wants ≡ 0
 
   -- A STAGE
   pub record TakesStage (printer : Option Printer) (l : ℕ) (s : Stage) (plan : Option StagePlan) (old new : List Signal) (before after : Chains) : Type 0 where
     pub step : StepsOver registers l old new before after
     pub does : AreBits old before → length before.variables ≡ length code.variables → length before.kept ≡ length registers.kept → l ≤ length code.stages
         → DoesStage printer l s plan new before after
-    pub wired : l ≤ length code.stages → StepIsWired code registers printer plan old new before after
+    pub wired : l ≤ length code.stages → StepIsWired code registers plan old new before after
 
   -- an act is taken, whatever its plan
   abbrev pub TakesAct : Option Printer → ℕ → Stage → List Signal → List Signal → Chains → Chains → Type 0
@@ -226,29 +207,30 @@ module _ (globals : List IntegerType) (code : ThreadCode) (registers : Registers
     pub grows : Grows old new
     pub many : AreAsMany start c
     pub bits : AreBits old start → AreBits new c
-    pub still : (m : Module) (r : Reading) → Grows new m.signals → Obeys m r → AreBits old start → KnowsStage code registers m r → ((k : ℕ) → k < n → r.signal registers.stage.register ≢ k)
+    pub still : (m : Module) (r : Reading) → Grows new m.signals → Obeys m r → AreBits old start → KnowsStage code registers m r →
+        ((k : ℕ) → k < n → r.signal registers.stage.register ≢ k)
         → ShowSame r start c
-    pub does : AreBits old start → length start.variables ≡ length code.variables → length start.kept ≡ length registers.kept → (k : ℕ) (s : Stage) → k < n → slice_get code.stages k ≡ Some s →
+    pub does : AreBits old start → length start.variables ≡ length code.variables → length start.kept ≡ length registers.kept → (k : ℕ) (s : Stage) → k < n →
+        slice_get code.stages k ≡ Some s →
         DoesStage printer k s (slice_get plan.stages k) new start c
-    pub wired : (base : Base) (site_width : ℕ) → ((known : Printer) → printer ≡ Some known → known.site_width ≡ site_width) → FitStates registers plan →
-        AreLinked base old code registers site_width start
-        → n ≤ length code.stages → KeepsLinks base old new code registers site_width c
+    pub wired : (base : Base) → FitStates registers plan →
+        AreLinked base old code registers start
+        → n ≤ length code.stages → KeepsLinks base old new code registers c
 
   -- ALL STAGES, and the end: nothing is done there, and the bit `done` tells it
   pub record WalksAll (printer : Option Printer) (plan : Planned) (old new : List Signal) (start c : Chains) (done : ℕ) : Type 0 where
     pub grows : Grows old new
     pub many : AreAsMany start c
     pub bits : AreBits old start → AreBits new c
-    pub does : AreBits old start → length start.variables ≡ length code.variables → length start.kept ≡ length registers.kept → (k : ℕ) (s : Stage) → slice_get code.stages k ≡ Some s →
+    pub does : AreBits old start → length start.variables ≡ length code.variables → length start.kept ≡ length registers.kept → (k : ℕ) (s : Stage) →
+        slice_get code.stages k ≡ Some s →
         DoesStage printer k s (slice_get plan.stages k) new start c
-    -- past the last stage nothing is asked, and at the end the thread waits
-    pub beyond : (m : Module) (r : Reading) → Grows new m.signals → Obeys m r → AreBits old start → KnowsStage code registers m r → IsStill r registers start →
-        ((k : ℕ) → k < length code.stages → r.signal registers.stage.register ≢ k) → r.signal c.wants ≡ 0
+    -- at the end the thread waits
     pub ends : (m : Module) (r : Reading) → Grows new m.signals → Obeys m r → AreBits old start → KnowsStage code registers m r → IsStill r registers start →
         r.signal registers.stage.register ≡ length code.stages → r.signal c.waits ≡ 1
     pub done_wide : (m : Module) → Grows new m.signals → width m done ≡ 1
     pub done_is : (m : Module) (r : Reading) → Grows new m.signals → Obeys m r → KnowsStage code registers m r →
         r.signal done ≡ bit_of (nat_eq (r.signal registers.stage.register) (length code.stages))
-    pub wired : (base : Base) (site_width : ℕ) → ((known : Printer) → printer ≡ Some known → known.site_width ≡ site_width) → FitStates registers plan →
-        AreLinked base old code registers site_width start
-        → KeepsLinks base old new code registers site_width c × IsEarlier new base done 1
+    pub wired : (base : Base) → FitStates registers plan →
+        AreLinked base old code registers start
+        → KeepsLinks base old new code registers c × IsEarlier new base done 1

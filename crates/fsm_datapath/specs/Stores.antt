@@ -53,11 +53,11 @@ PutsStore old new registers number array index value moment before after =
 -- A STAGE, by its plan, keeps stores right
 abbrev pub StageKeepsStores : ThreadCode → Registers → ℕ → Option StagePlan → List Signal → List Signal → Chains → List Store → List Store → Type 0
 StageKeepsStores code registers l plan old new chains before after =
-    (base : Base) (site_width : ℕ) → ((p : BlockPlan) → plan ≡ Some (planned.Run p) → p.states ≤ 2 ^ registers.state.width) → AreLinked base old code registers site_width chains
+    (base : Base) → ((p : BlockPlan) → plan ≡ Some (planned.Run p) → p.states ≤ 2 ^ registers.state.width) → AreLinked base old code registers chains
     → l ≤ length code.stages → AreRightStores base old before → AreRightStores base new after
 
 -- so do the first n stages
 abbrev pub StagesKeepStores : ThreadCode → Registers → Option Printer → Planned → ℕ → List Signal → List Signal → Chains → List Store → List Store → Type 0
 StagesKeepStores code registers printer plan n old new chains before after =
-    (base : Base) (site_width : ℕ) → ((known : Printer) → printer ≡ Some known → known.site_width ≡ site_width) → FitStates registers plan → AreLinked base old code registers site_width chains
+    (base : Base) → FitStates registers plan → AreLinked base old code registers chains
     → n ≤ length code.stages → AreRightStores base old before → AreRightStores base new after

@@ -1,5 +1,7 @@
 -- What the module of a thread promises: it runs the thread's code by its plan.
-use Rattle.std.specs.Prelude.{◌≡◌, ℕ, suc, ◌+◌, ◌-◌, ◌<◌, ◌≤◌, ◌^◌, true, List, [], length, Some, slice_get}
+use Rattle.std.specs.Prelude.{◌≡◌, ℕ, suc, ◌+◌, ◌-◌, ◌*◌, ◌<◌, ◌≤◌, ◌^◌, true, List, [], length, take, Some, slice_get}
+use Rattle.hls_ints.specs.Types.{IntegerType, width_of}
+use Rattle.bank_partition.specs.declared.banks.Spread.{Spread}
 use Rattle.block_ir.specs.declared.block.Operation.{Operation}
 use Rattle.block_ir.specs.declared.block.Block.{Block}
 use Rattle.block_ir.specs.declared.code.ActOperand.{ActOperand}
@@ -14,37 +16,51 @@ use Rattle.planned_view.specs.View.{register_at}
 use Rattle.netlist.specs.declared.netlist.Module.{Module}
 use Rattle.circuit.specs.Modules.{Has, HasInput}
 use Rattle.thread_promise.specs.Slots.{Places}
-use Rattle.thread_promise.specs.Promise.{Ports, RunsCode}
-use Rattle.block_datapath.specs.Operations.{IsLocal}
+use Rattle.thread_promise.specs.Globals.{IsSmallPower, bank_total}
+use Rattle.thread_promise.specs.Promise.{BankPorts, Ports, RunsCode}
 use Rattle.fsm_datapath.specs.declared.shape.Printer.{Printer}
 use Rattle.fsm_datapath.specs.declared.shape.Shape.{Shape}
 use Rattle.fsm_datapath.specs.Stages.{IsTypedActOperand}
 
 -- ---- where what stands
 
--- three inputs, then the registers
-abbrev pub places_of : ThreadCode → Places
-places_of code = record {
-  stage = 3;
-  state = 4;
-  beat = 5;
-  variable = λ x. 6 + x;
-  kept = λ x. 6 + length code.variables + x;
+-- how many banks there are, and how many inputs: the clock, the enable, a grant of each bank and of the printer, the word of each bank
+abbrev pub input_count : ℕ → ℕ
+input_count banks = 3 + 2 * banks
+
+-- behind the inputs the registers: of the slot, of the variables, of values, and a bit for each global
+abbrev pub places_of : ℕ → ThreadCode → Planned → Places
+places_of banks code plan = record {
+  stage = input_count banks;
+  state = input_count banks + 1;
+  beat = input_count banks + 2;
+  variable = λ x. input_count banks + 3 + x;
+  kept = λ x. input_count banks + 3 + length code.variables + x;
+  granted = λ x. input_count banks + 3 + length code.variables + plan.registers + x;
 }
 
--- the outputs stand last: whether the printer is asked, the site, the values, whether it is needed, whether main has ended
-abbrev pub first_output : Printer → Module → ℕ
-first_output printer m = length m.signals - (printer.values + 4)
+-- the outputs stand last: of each bank whether it is asked, whether to write, the address and the value; whether the printer is asked, the site,
+-- the values; whether a core is needed, whether main has ended
+abbrev pub first_output : ℕ → Printer → Module → ℕ
+first_output banks printer m = length m.signals - (4 * banks + printer.values + 4)
 
-abbrev pub ports_of : Printer → Module → Ports
-ports_of printer m = record {
+abbrev pub ports_of : ℕ → Printer → Module → Ports
+ports_of banks printer m = record {
   enable = 1;
-  grant = 2;
-  ask = first_output printer m;
-  site = first_output printer m + 1;
-  value = λ j. first_output printer m + suc (suc j);
-  need = first_output printer m + (printer.values + 2);
-  done = first_output printer m + (printer.values + 3);
+  bank = λ n. record {
+    grant = 2 + n;
+    word = 3 + banks + n;
+    ask = first_output banks printer m + 4 * n;
+    writes = first_output banks printer m + (4 * n + 1);
+    address = first_output banks printer m + (4 * n + 2);
+    value = first_output banks printer m + (4 * n + 3);
+  };
+  grant = 2 + banks;
+  ask = first_output banks printer m + 4 * banks;
+  site = first_output banks printer m + (4 * banks + 1);
+  value = λ j. first_output banks printer m + (4 * banks + suc (suc j));
+  need = first_output banks printer m + (4 * banks + 2 + printer.values);
+  done = first_output banks printer m + (4 * banks + 3 + printer.values);
 }
 
 -- ---- codes that are spoken of
@@ -56,13 +72,23 @@ pub record IsPrintable (code : ThreadCode) (printer : Printer) (site : ℕ) (val
   pub typed : (j : ℕ) (v : ActOperand) → slice_get values j ≡ Some v → IsTypedActOperand code v
   pub leads : next ≤ length code.stages
 
--- the code of main without accesses of globals, planned with enough registers, with a printer that can print what it prints
-pub record IsPlain (shape : Shape) (code : ThreadCode) (plan : Planned) (printer : Printer) : Type 0 where
+-- globals have 1, 2, 4 or 8 banks each, one global's behind another's, and at most 2 ^ 63 elements
+pub record AreRightSpreads (globals : List IntegerType) (spreads : List Spread) : Type 0 where
+  pub count : length spreads ≡ length globals
+  pub powers : (x : ℕ) (s : Spread) → slice_get spreads x ≡ Some s → IsSmallPower s.count
+  pub short : (x : ℕ) (s : Spread) → slice_get spreads x ≡ Some s → s.length ≤ 2 ^ 63
+  pub firsts : (x : ℕ) (s : Spread) → slice_get spreads x ≡ Some s → s.first ≡ bank_total (take x spreads)
+  pub within : (x : ℕ) (s : Spread) → slice_get spreads x ≡ Some s → s.first + s.count ≤ bank_total spreads
+  pub few : bank_total spreads < 2 ^ 32
+  pub apart : (x y k l : ℕ) (s t : Spread) → slice_get spreads x ≡ Some s → slice_get spreads y ≡ Some t → k < s.count → l < t.count → s.first + k ≡ t.first + l → x ≡ y
+  pub all : (n : ℕ) → n < bank_total spreads → (x : ℕ) × (s : Spread) × (slice_get spreads x ≡ Some s) × (s.first ≤ n) × (n < s.first + s.count)
+
+-- the code of main, planned with enough registers, with a printer that can print what it prints
+pub record IsServed (shape : Shape) (code : ThreadCode) (plan : Planned) (printer : Printer) : Type 0 where
   pub main : shape.is_main ≡ true
-  pub globals : shape.globals ≡ []
   pub printer_is : shape.printer ≡ Some printer
+  pub spreads : AreRightSpreads shape.globals shape.spreads
   pub arrays : (a : ℕ) (array : Array) → slice_get code.arrays a ≡ Some array → (1 ≤ array.length) × (array.length < 2 ^ 31)
-  pub locals : (l k : ℕ) (b : Block) (o : Operation) → slice_get code.stages l ≡ Some (stage.Run b) → slice_get b.operations k ≡ Some o → IsLocal o
   pub registers : (l k x : ℕ) (b : Block) (p : BlockPlan) (o : Operation) → slice_get code.stages l ≡ Some (stage.Run b) → slice_get plan.stages l ≡ Some (planned.Run p) →
       slice_get b.operations k ≡ Some o → register_at p.registers k ≡ Some x → x < plan.registers
   pub site_low : 1 ≤ printer.site_width
@@ -70,20 +96,33 @@ pub record IsPlain (shape : Shape) (code : ThreadCode) (plan : Planned) (printer
   pub prints : (l site next : ℕ) (values : List ActOperand) → slice_get code.stages l ≡ Some (stage.Act (Print site values) next) → IsPrintable code printer site values next
 
 -- THE PROMISE of the module
-abbrev pub RunsPlainCode : Shape → ThreadCode → Planned → Module → Type 0
-RunsPlainCode shape code plan m = (printer : Printer) → IsPlain shape code plan printer → RunsCode [] code plan m (places_of code) (ports_of printer m)
+abbrev pub RunsServedCode : Shape → ThreadCode → Planned → Module → Type 0
+RunsServedCode shape code plan m =
+    (printer : Printer) → IsServed shape code plan printer →
+    RunsCode shape.globals shape.spreads code plan m (places_of (bank_total shape.spreads) code plan) (ports_of (bank_total shape.spreads) printer m)
+
+-- the output ports for a bank, whose words have this width
+pub record HasBankPorts (m : Module) (ports : BankPorts) (w : ℕ) : Type 0 where
+  pub ask : Has m ports.ask 1
+  pub writes : Has m ports.writes 1
+  pub address : Has m ports.address 64
+  pub value : Has m ports.value w
 
 -- the ports have their widths, the module has the name that is asked for, and no instances
 pub record HasShape (shape : Shape) (printer : Printer) (m : Module) : Type 0 where
   pub named : m.name ≡ shape.name
   pub alone : m.instances ≡ []
-  pub inputs : (x : ℕ) → x < 3 → HasInput m x × Has m x 1
-  pub long : printer.values + 4 ≤ length m.signals
-  pub ask : Has m (first_output printer m) 1
-  pub site : Has m (first_output printer m + 1) printer.site_width
-  pub values : (j : ℕ) → j < printer.values → Has m (first_output printer m + suc (suc j)) 64
-  pub need : Has m (first_output printer m + (printer.values + 2)) 1
-  pub done : Has m (first_output printer m + (printer.values + 3)) 1
+  pub bits : (x : ℕ) → x < 3 + bank_total shape.spreads → HasInput m x × Has m x 1
+  pub words : (x k : ℕ) (s : Spread) (ty : IntegerType) → slice_get shape.spreads x ≡ Some s → slice_get shape.globals x ≡ Some ty → k < s.count →
+      HasInput m (3 + bank_total shape.spreads + (s.first + k)) × Has m (3 + bank_total shape.spreads + (s.first + k)) (width_of ty)
+  pub long : 4 * bank_total shape.spreads + printer.values + 4 ≤ length m.signals
+  pub banks : (x k : ℕ) (s : Spread) (ty : IntegerType) → slice_get shape.spreads x ≡ Some s → slice_get shape.globals x ≡ Some ty → k < s.count →
+      HasBankPorts m ((ports_of (bank_total shape.spreads) printer m).bank (s.first + k)) (width_of ty)
+  pub ask : Has m (ports_of (bank_total shape.spreads) printer m).ask 1
+  pub site : Has m (ports_of (bank_total shape.spreads) printer m).site printer.site_width
+  pub values : (j : ℕ) → j < printer.values → Has m ((ports_of (bank_total shape.spreads) printer m).value j) 64
+  pub need : Has m (ports_of (bank_total shape.spreads) printer m).need 1
+  pub done : Has m (ports_of (bank_total shape.spreads) printer m).done 1
 
-abbrev pub HasShapeOfPlainCode : Shape → ThreadCode → Planned → Module → Type 0
-HasShapeOfPlainCode shape code plan m = (printer : Printer) → IsPlain shape code plan printer → HasShape shape printer m
+abbrev pub HasShapeOfServedCode : Shape → ThreadCode → Planned → Module → Type 0
+HasShapeOfServedCode shape code plan m = (printer : Printer) → IsServed shape code plan printer → HasShape shape printer m

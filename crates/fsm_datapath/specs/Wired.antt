@@ -7,24 +7,21 @@ use Rattle.block_ir.specs.declared.plan.BlockPlan.{BlockPlan}
 use Rattle.block_ir.specs.declared.plan.StagePlan.{StagePlan}
 use Rattle.block_ir.specs.declared.plan.StagePlan.TheVariants as planned
 use Rattle.block_ir.specs.declared.plan.Planned.{Planned}
-use Rattle.verilog_tree.specs.declared.tree.BinaryOperator.TheVariants.{And}
-use Rattle.netlist.specs.declared.netlist.Value.TheVariants.{Binary}
-use Rattle.netlist.specs.declared.netlist.Source.TheVariants.{Input, Register, Assigned}
+use Rattle.netlist.specs.declared.netlist.Source.TheVariants.{Input, Register}
 use Rattle.netlist.specs.declared.netlist.Signal.{Signal}
 use Rattle.module_sound.specs.Names.{place_of}
 use Rattle.operator_wires.specs.declared.wires.Role.{Role}
-use Rattle.operator_wires.specs.declared.wires.Role.TheVariants as role
 use Rattle.operator_wires.specs.Gives.{Grows}
-use Rattle.operator_wires.specs.Built.{Base, name_at, Lays, IsEarlier, AreWires, StandsAs}
+use Rattle.operator_wires.specs.Built.{Base, name_at, IsEarlier, AreWires, StandsAs}
 use Rattle.block_datapath.specs.declared.registers.Held.{Held}
 use Rattle.block_datapath.specs.declared.registers.Registers.{Registers}
 use Rattle.block_datapath.specs.declared.operands.Given.{Given}
-use Rattle.block_datapath.specs.Wired.{HasMemories}
-use Rattle.fsm_datapath.specs.declared.shape.Printer.{Printer}
+use Rattle.block_datapath.specs.Wired.{HasMemories, CanRead}
 use Rattle.fsm_datapath.specs.Outputs.{field_width}
 use Rattle.fsm_datapath.specs.declared.chains.Chains.{Chains}
-use Rattle.fsm_datapath.specs.declared.control.Inputs.{Inputs}
+use Rattle.fsm_datapath.specs.declared.inputs.Inputs.{Inputs}
 use Rattle.fsm_datapath.specs.declared.control.Edge.{Edge}
+use Rattle.fsm_datapath.specs.Bits.{LaysWith, AreBitsOf}
 
 -- P of each signal behind others
 abbrev pub Behind : (ℕ → Signal → Type 0) → List Signal → List Signal → Type 0
@@ -36,17 +33,18 @@ AreFit widths = (x w : ℕ) → slice_get widths x ≡ Some w → (1 ≤ w) × (
 
 -- ---- inputs, registers, outputs
 
--- the clock, the enable and the printer's grant
-pub record LaysThree (old new : List Signal) : Type 0 where
-  pub with_clock : List Signal
-  pub with_enable : List Signal
-  pub clock : Lays old with_clock role.Clock 1 false Input (length old)
-  pub enable : Lays with_clock with_enable role.Enable 1 false Input (length with_clock)
-  pub grant : Lays with_enable new role.Grant 1 false Input (length with_enable)
-
 -- the name is that of a signal at the place
 abbrev pub IsSpelled : ℕ → Signal → Type 0
 IsSpelled x s = (role : Role) × (s.name ≡ name_at role x)
+
+-- an input under a name that tells its place
+pub record IsInnerInput (x : ℕ) (s : Signal) : Type 0 where
+  pub spelled : IsSpelled x s
+  pub named : (n : ℕ) → x < 2 ^ 64 → place_of n s.name ≡ Some x
+  pub inner : s.is_output ≡ false
+  pub low : 1 ≤ s.width
+  pub high : s.width ≤ 64
+  pub drives : s.source ≡ Input
 
 -- a register under a name that tells its place
 pub record IsSlotRegister (x : ℕ) (s : Signal) : Type 0 where
@@ -97,28 +95,26 @@ module _ (base : Base) (signals : List Signal) where
     pub count : length registers.variables ≡ length code.variables
     pub room : length code.stages < 2 ^ registers.stage.width
     pub arrays : HasMemories base code
+    -- and inputs of banks, where they may be read
+    pub words : (n : ℕ) (h : Held) → slice_get registers.words n ≡ Some h → base.first ≤ h.register → IsEarlier signals base h.register h.width
 
   -- and chains of them
-  pub record AreLinked (code : ThreadCode) (registers : Registers) (site_width : ℕ) (c : Chains) : Type 0 where
+  pub record AreLinked (code : ThreadCode) (registers : Registers) (c : Chains) : Type 0 where
     pub slots : AreSlots code registers
-    pub site_low : 1 ≤ site_width
-    pub site_high : site_width ≤ 64
+    pub reads : CanRead base code registers
     pub stage : IsEarlier signals base c.stage registers.stage.width
     pub variables : LinkAll registers.variables c.variables
     pub kept : LinkAll registers.kept c.kept
     pub variables_count : length c.variables ≡ length registers.variables
     pub kept_count : length c.kept ≡ length registers.kept
-    pub fields : LinkFields site_width c.fields
     pub is_last : IsEarlier signals base c.is_last 1
-    pub needs : IsEarlier signals base c.needs 1
     pub waits : IsEarlier signals base c.waits 1
-    pub wants : IsEarlier signals base c.wants 1
 
 -- WIRES ARE ADDED, and the chains are of these registers still
 module _ (base : Base) (old new : List Signal) where
-  pub record KeepsLinks (code : ThreadCode) (registers : Registers) (site_width : ℕ) (c : Chains) : Type 0 where
+  pub record KeepsLinks (code : ThreadCode) (registers : Registers) (c : Chains) : Type 0 where
     pub wires : AreWires base old new
-    pub linked : AreLinked base new code registers site_width c
+    pub linked : AreLinked base new code registers c
 
   pub record AddsLinks (widths links : List ℕ) : Type 0 where
     pub wires : AreWires base old new
@@ -131,34 +127,37 @@ module _ (base : Base) (old new : List Signal) where
 -- ---- control
 
 -- what tells when a state is left, and what follows it, stands
-pub record IsSteered (base : Base) (signals : List Signal) (registers : Registers) (inputs : Inputs) (c : Chains) : Type 0 where
+pub record IsSteered (base : Base) (signals : List Signal) (registers : Registers) (inputs : Inputs) (c : Chains) (asked marked : List ℕ) : Type 0 where
   pub state : IsEarlier signals base registers.state.register registers.state.width
   pub beat : IsEarlier signals base registers.beat 1
   pub enable : IsEarlier signals base inputs.enable 1
-  pub printed : (grant : ℕ) → inputs.printed ≡ Some grant → IsEarlier signals base grant 1
+  pub grants : AreBitsOf base signals inputs.grants
+  pub count : length inputs.grants ≡ length asked
   pub is_last : IsEarlier signals base c.is_last 1
   pub waits : IsEarlier signals base c.waits 1
-  pub wants : IsEarlier signals base c.wants 1
+  pub opens : AreBitsOf base signals asked
+  pub granted : AreBitsOf base signals marked
 
--- the first of its wires asks the printer, and reads no grant
-pub record WiresControl (base : Base) (old new : List Signal) (registers : Registers) (inputs : Inputs) (c : Chains) (edge : Edge) : Type 0 where
+-- the first of its wires ask the cores, and read no grant
+pub record WiresControl (base : Base) (old new : List Signal) (registers : Registers) (inputs : Inputs) (opens granted : List ℕ) (edge : Edge) : Type 0 where
   pub with_asks : List Signal
-  pub first : Lays old with_asks role.Wire 1 false (Assigned (Binary And c.wants inputs.enable)) edge.asks
+  pub first : LaysWith old with_asks opens inputs.enable (length opens) edge.asks
   pub wires : AreWires base old new
   pub later : Grows with_asks new
-  pub asks : IsEarlier new base edge.asks 1
+  pub asks : AreBitsOf base new edge.asks
   pub leave : IsEarlier new base edge.leave 1
   pub state : IsEarlier new base edge.state registers.state.width
   pub beat : IsEarlier new base edge.beat 1
+  pub moved : IsEarlier new base edge.moved 1
+  pub marks : AreBitsOf base new edge.granted
 
 -- each state of a plan has a number in its register
 abbrev pub FitStates : Registers → Planned → Type 0
 FitStates registers plan = (k : ℕ) (p : BlockPlan) → slice_get plan.stages k ≡ Some (planned.Run p) → p.states ≤ 2 ^ registers.state.width
 
--- a stage of this plan, in a thread with such a printer, adds to chains so
-module _ (code : ThreadCode) (registers : Registers) (printer : Option Printer) (plan : Option StagePlan) (old new : List Signal) (before after : Chains) where
+-- a stage of this plan adds to chains so
+module _ (code : ThreadCode) (registers : Registers) (plan : Option StagePlan) (old new : List Signal) (before after : Chains) where
   abbrev pub StepIsWired : Type 0
   StepIsWired =
-      (base : Base) (site_width : ℕ) → ((known : Printer) → printer ≡ Some known → known.site_width ≡ site_width) →
-      ((p : BlockPlan) → plan ≡ Some (planned.Run p) → p.states ≤ 2 ^ registers.state.width)
-      → AreLinked base old code registers site_width before → KeepsLinks base old new code registers site_width after
+      (base : Base) → ((p : BlockPlan) → plan ≡ Some (planned.Run p) → p.states ≤ 2 ^ registers.state.width)
+      → AreLinked base old code registers before → KeepsLinks base old new code registers after

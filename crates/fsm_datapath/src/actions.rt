@@ -11,22 +11,23 @@ use netlist::netlist::{Action, Effect};
 use sqlite_items::Items;
 use std::alloc::{AllocError, Global};
 
-/// What an edge does where the state is left.
+/// What an edge does: where the state is left, and where a core grants.
 pub fn actions(
     alloc: Global,
     registers: &Registers,
     chains: &Chains,
+    granted: &[Held],
     stores: &[Store],
-    edge: Edge,
+    edge: &Edge,
 ) -> Result<Items<Action>, AllocError>
-    ensures { IfOk result (λ actions. actions ≡ actions_of registers.now chains.now stores.now edge) }
+    ensures { IfOk result (λ actions. actions ≡ actions_of registers.now chains.now granted.now stores.now edge.now) }
 {
     let mut actions = Items::new(alloc);
     let leave = edge.leave;
     let own = &mut actions;
     set_if(alloc, own, leave, registers.stage.register, chains.stage)?;
     set_if(alloc, own, leave, registers.state.register, edge.state)?;
-    set_if(alloc, own, leave, registers.beat, edge.beat)?;
+    set_if(alloc, own, edge.moved, registers.beat, edge.beat)?;
     let variables = registers.variables.as_slice();
     set_all(alloc, own, leave, variables, chains.variables.as_slice())?;
     set_all(
@@ -36,6 +37,7 @@ pub fn actions(
         registers.kept.as_slice(),
         chains.kept.as_slice(),
     )?;
+    set_all(alloc, own, edge.moved, granted, edge.granted.as_slice())?;
     store_all(alloc, own, leave, stores)?;
     Ok(actions)
 }

@@ -1,9 +1,9 @@
-// The wires of acts, and of what a thread asks of cores.
+// The wires of acts, and of what the printer is asked.
 
 ghost use Rattle.std.specs.Prelude.{List, ◌+◌, ◌^◌, ◌<◌, length, Some, IfOk, OnOk};
 ghost use Rattle.hls_ints.specs.Types.{IntegerType};
 ghost use Rattle.block_ir.specs.declared.code.Stage.TheVariants as taken;
-ghost use Rattle.fsm_datapath.specs.Stages.{ShowsActOperand, AsksValues, AsksValue, AsksSite, Asks, Idles, TakesReturn, TakesPrint, TakesAct};
+ghost use Rattle.fsm_datapath.specs.Stages.{ShowsActOperand, AsksValues, AsksValue, AsksSite, Idles, TakesReturn, TakesPrint, TakesAct};
 
 use crate::chains::Chains;
 use crate::shape::Printer;
@@ -29,15 +29,11 @@ pub fn take_act(
     act: &Act,
     next: usize,
 ) -> Result<(), AllocError>
-    ensures { OnOk result ((globals : List IntegerType) → TakesAct globals code.now registers.now printer stage (taken.Act act.now next) wires.old.signals wires.new.signals chains.old chains.new) }
+    ensures { OnOk result ((globals : List IntegerType) → TakesAct globals code.now registers.now printer stage
+        (taken.Act act.now next) wires.old.signals wires.new.signals chains.old chains.new) }
 {
     match act {
-        Act::Print { site, values } => {
-            let values = values.as_slice();
-            take_print(
-                wires, registers, chains, code, printer, stage, *site, values, next,
-            )
-        }
+        Act::Print { .. } => take_print(wires, registers, chains, code, printer, stage, next),
         Act::Return => take_return(wires, registers, chains, code, stage),
         _ => idle(wires, registers, chains, stage),
     }
@@ -71,7 +67,7 @@ fn take_return(
     chains.lead(wires, registers, at, target)
 }
 
-/// A printf, where there is a printer.
+/// A printf leads on, where there is a printer.
 fn take_print(
     wires: &mut Wires,
     registers: &Registers,
@@ -79,21 +75,16 @@ fn take_print(
     code: &ThreadCode,
     printer: Option<Printer>,
     stage: usize,
-    site: u32,
-    values: &[ActOperand],
     next: usize,
 ) -> Result<(), AllocError>
-    ensures { OnOk result (TakesPrint code.now registers.now printer stage site values.now next wires.old.signals wires.new.signals chains.old chains.new) }
+    ensures { OnOk result (TakesPrint code.now registers.now printer stage next wires.old.signals wires.new.signals chains.old chains.new) }
 {
     match printer {
-        Some(printer) => print(
-            wires, registers, chains, code, printer, stage, site, values, next,
-        ),
+        Some(printer) => print(wires, registers, chains, code, printer, stage, next),
         None => idle(wires, registers, chains, stage),
     }
 }
 
-/// The printer is asked to print a site with its values.
 fn print(
     wires: &mut Wires,
     registers: &Registers,
@@ -101,37 +92,18 @@ fn print(
     code: &ThreadCode,
     printer: Printer,
     stage: usize,
-    site: u32,
-    values: &[ActOperand],
     next: usize,
 ) -> Result<(), AllocError>
-    ensures { OnOk result (TakesPrint code.now registers.now (Some printer) stage site values.now next wires.old.signals wires.new.signals chains.old chains.new) }
+    ensures { OnOk result (TakesPrint code.now registers.now (Some printer) stage next wires.old.signals wires.new.signals chains.old chains.new) }
 {
     let at = at_stage(wires, registers, stage as u64)?;
-    chains.want(wires, at)?;
-    ask(wires, registers, chains, code, printer, at, site, values)?;
     let target = stage_number(wires, registers, code, next)?;
     chains.lead(wires, registers, at, target)
 }
 
-/// The fields of a request: the site, and behind it the values.
-fn ask(
-    wires: &mut Wires,
-    registers: &Registers,
-    chains: &mut Chains,
-    code: &ThreadCode,
-    printer: Printer,
-    at: usize,
-    site: u32,
-    values: &[ActOperand],
-) -> Result<(), AllocError>
-    ensures { OnOk result (Asks code.now registers.now printer at site values.now wires.old.signals wires.new.signals chains.old chains.new) }
-{
-    ask_site(wires, &mut chains.fields, printer.site_width, at, site)?;
-    ask_values(wires, registers, &mut chains.fields, code, at, values)
-}
+// ---- what the printer is asked
 
-fn ask_site(
+pub fn ask_site(
     wires: &mut Wires,
     fields: &mut Items<usize>,
     site_width: u64,
@@ -145,7 +117,7 @@ fn ask_site(
     set_next(wires, fields, 0, site_width, at, source)
 }
 
-fn ask_values(
+pub fn ask_values(
     wires: &mut Wires,
     registers: &Registers,
     fields: &mut Items<usize>,

@@ -1,124 +1,128 @@
 // When a state is left, and what follows it then.
 
-ghost use Rattle.std.specs.Prelude.{◌≡◌, ℕ, Some, IfOk};
+ghost use Rattle.std.specs.Prelude.{◌≡◌, slice_get, length, IfOk};
 ghost use Rattle.operator_wires.specs.Built.{Base, IsEarlier, Adds};
-ghost use Rattle.fsm_datapath.specs.declared.shape.Printer.{Printer};
-ghost use Rattle.fsm_datapath.specs.Wired.{LaysThree, IsSteered, WiresControl};
-ghost use Rattle.fsm_datapath.specs.Control.{LaysInputs, Blocks, Follows, Controls};
+ghost use Rattle.fsm_datapath.specs.Wired.{IsSteered, WiresControl};
+ghost use Rattle.fsm_datapath.specs.Control.{Follows, Controls, Remembers, RemembersOne, AddsRemembered, AddsMark};
 
+use crate::bits::{any_of, any_within, both_each, both_with, not_each};
 use crate::chains::Chains;
-use crate::shape::Printer;
+use crate::inputs::Inputs;
+use bank_partition::banks::Spread;
 use block_datapath::registers::Registers;
-use operator_wires::wires::{Role, Wires};
+use operator_wires::wires::Wires;
+use sqlite_items::Items;
 use std::alloc::AllocError;
 use verilog_tree::tree::BinaryOperator;
 
-/// The input ports, besides the clock.
-#[derive(Clone, Copy, Debug, PartialEq, Eq)]
-pub struct Inputs {
-    pub enable: usize,
-    /// Whether the printer grants.
-    pub printed: Option<usize>,
-}
-
 /// What happens at an edge.
-#[derive(Clone, Copy, Debug, PartialEq, Eq)]
+#[derive(Drop)]
 pub struct Edge {
-    /// Whether the printer is asked.
-    pub asks: usize,
+    /// Whether each bank is asked, and last the printer.
+    pub asks: Items<usize>,
     /// Whether the state is left.
     pub leave: usize,
     /// The state that follows then.
     pub state: usize,
     /// The turned beat.
     pub beat: usize,
+    /// Whether the state is left, or a core grants.
+    pub moved: usize,
+    /// Of each global whether its access in this state is granted then.
+    pub granted: Items<usize>,
 }
 
-pub fn lay_inputs(wires: &mut Wires, printer: Option<Printer>) -> Result<Inputs, AllocError>
-    ensures lays { IfOk result (LaysInputs printer wires.old.signals wires.new.signals) }
-    ensures wired { IfOk result (λ inputs. (known : Printer) → printer ≡ Some known → LaysThree wires.old.signals wires.new.signals) }
-{
-    wires.input(Role::Clock, 1)?;
-    let enable = wires.input(Role::Enable, 1)?;
-    match printer {
-        Some(_) => {
-            let grant = wires.input(Role::Grant, 1)?;
-            Ok(Inputs {
-                enable,
-                printed: Some(grant),
-            })
-        }
-        None => Ok(Inputs {
-            enable,
-            printed: None,
-        }),
-    }
-}
-
-/// Enabled, the state is left unless it waits or a request is not granted.
+/// Enabled, the state is left unless it waits or a request is not granted. What cores are asked that have not granted yet
+/// comes in as bits of banks, and last of the printer; what has been granted as a bit of each global.
 pub fn control(
     wires: &mut Wires,
     registers: &Registers,
-    inputs: Inputs,
+    inputs: &Inputs,
     chains: &Chains,
+    opens: &[usize],
+    granted: &[usize],
 ) -> Result<Edge, AllocError>
-    ensures controls { IfOk result (Controls wires.old.signals wires.new.signals registers.now inputs chains.now) }
-    ensures wired { IfOk result (λ edge. (base : Base) → IsSteered base wires.old.signals registers.now inputs chains.now →
-        WiresControl base wires.old.signals wires.new.signals registers.now inputs chains.now edge) }
+    ensures controls { IfOk result (Controls wires.old.signals wires.new.signals registers.now inputs.now chains.now opens.now granted.now) }
+    ensures wired { IfOk result (λ edge. (base : Base) → IsSteered base wires.old.signals registers.now inputs.now chains.now opens.now granted.now →
+        WiresControl base wires.old.signals wires.new.signals registers.now inputs.now opens.now granted.now edge) }
 {
-    let asks = wires.both(chains.wants, inputs.enable)?;
-    let blocked = blocked(wires, inputs.printed, chains.waits, chains.wants, asks)?;
+    let asks = both_with(wires, opens, inputs.enable)?;
+    let got = both_each(wires, asks.as_slice(), inputs.grants.as_slice())?;
+    let missing = not_each(wires, got.as_slice())?;
+    let unmet = both_each(wires, opens, missing.as_slice())?;
+    let blocked = any_of(wires, chains.waits, unmet.as_slice())?;
     let free = wires.not(1, blocked)?;
     let leave = wires.both(inputs.enable, free)?;
     let state = next_state(wires, registers, chains.is_last)?;
     let beat = wires.not(1, registers.beat)?;
+    let moved = any_of(wires, leave, got.as_slice())?;
+    let stay = wires.not(1, leave)?;
+    let granted = remember(
+        wires,
+        granted,
+        got.as_slice(),
+        registers.spreads.as_slice(),
+        stay,
+    )?;
     Ok(Edge {
         asks,
         leave,
         state,
         beat,
+        moved,
+        granted,
     })
 }
 
-/// Whether the state waits, or wants the printer and is not granted it.
-fn blocked(
+/// Of each global whether its access is granted, before or now, if the state stays.
+fn remember(
     wires: &mut Wires,
-    printed: Option<usize>,
-    waits: usize,
-    wants: usize,
-    asks: usize,
-) -> Result<usize, AllocError>
-    ensures blocks { IfOk result (Blocks wires.old.signals wires.new.signals printed waits wants asks) }
-    ensures wired { IfOk result (λ place. (base : Base) → IsEarlier wires.old.signals base waits 1 → IsEarlier wires.old.signals base wants 1 → IsEarlier wires.old.signals base asks 1
-        → ((grant : ℕ) → printed ≡ Some grant → IsEarlier wires.old.signals base grant 1) → Adds base wires.old.signals wires.new.signals 1 place) }
+    granted: &[usize],
+    got: &[usize],
+    spreads: &[Spread],
+    stay: usize,
+) -> Result<Items<usize>, AllocError>
+    ensures shows { IfOk result (λ nexts. Remembers wires.old.signals wires.new.signals granted.now got.now spreads.now stay (length granted.now) nexts) }
+    ensures wired { IfOk result (AddsRemembered wires.old.signals wires.new.signals granted.now got.now stay) }
 {
-    match printed {
-        Some(grant) => unmet(wires, grant, waits, wants, asks),
-        None => Ok(waits),
+    let mut nexts = Items::new(wires.alloc);
+    for (number, mark) in granted.iter().enumerate() {
+        let next = remember_one(wires, *mark, got, spread_at(spreads, number), stay)?;
+        nexts.push(next)?;
+    }
+    Ok(nexts)
+}
+
+fn remember_one(
+    wires: &mut Wires,
+    mark: usize,
+    got: &[usize],
+    spread: Option<Spread>,
+    stay: usize,
+) -> Result<usize, AllocError>
+    ensures shows { IfOk result (RemembersOne wires.old.signals wires.new.signals mark got.now spread stay) }
+    ensures wired { IfOk result (AddsMark wires.old.signals wires.new.signals mark got.now stay) }
+{
+    match spread {
+        Some(spread) => {
+            let any = any_within(wires, mark, got, spread)?;
+            wires.both(any, stay)
+        }
+        None => wires.both(mark, stay),
     }
 }
 
-fn unmet(
-    wires: &mut Wires,
-    grant: usize,
-    waits: usize,
-    wants: usize,
-    asks: usize,
-) -> Result<usize, AllocError>
-    ensures blocks { IfOk result (Blocks wires.old.signals wires.new.signals (Some grant) waits wants asks) }
-    ensures wired { IfOk result (λ place. (base : Base) → IsEarlier wires.old.signals base waits 1 → IsEarlier wires.old.signals base wants 1 → IsEarlier wires.old.signals base asks 1
-        → IsEarlier wires.old.signals base grant 1 → Adds base wires.old.signals wires.new.signals 1 place) }
+fn spread_at(spreads: &[Spread], number: usize) -> Option<Spread>
+    ensures { result ≡ slice_get spreads.now number }
 {
-    let granted = wires.both(asks, grant)?;
-    let missing = wires.not(1, granted)?;
-    let unmet = wires.both(wants, missing)?;
-    wires.either(waits, unmet)
+    spreads.get(number).copied()
 }
 
 /// The state after this one: the first one of the next stage, or the next one of this stage.
 fn next_state(wires: &mut Wires, registers: &Registers, is_last: usize) -> Result<usize, AllocError>
     ensures follows { IfOk result (Follows wires.old.signals wires.new.signals registers.now.state is_last) }
-    ensures wired { IfOk result (λ place. (base : Base) → IsEarlier wires.old.signals base registers.now.state.register registers.now.state.width → IsEarlier wires.old.signals base is_last 1
+    ensures wired { IfOk result (λ place. (base : Base) → IsEarlier wires.old.signals base registers.now.state.register registers.now.state.width →
+        IsEarlier wires.old.signals base is_last 1
         → Adds base wires.old.signals wires.new.signals registers.now.state.width place) }
 {
     let state = registers.state;

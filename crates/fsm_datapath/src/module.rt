@@ -1,28 +1,35 @@
 // The module of a thread.
 
-ghost use Rattle.std.specs.Prelude.{◌≡◌, ◌≤◌, ◌^◌, [], length, replicate, IfOk};
+ghost use Rattle.std.specs.Prelude.{◌≡◌, ◌≤◌, ◌^◌, map, length, replicate, IfOk};
+ghost use Rattle.netlist.specs.declared.netlist.Source.TheVariants as source;
+ghost use Rattle.block_datapath.specs.declared.registers.Held.{Held as HeldOf};
+ghost use Rattle.fsm_datapath.specs.Early.{LaysEarly};
+ghost use Rattle.fsm_datapath.specs.Slots.{LaysAll};
+ghost use Rattle.fsm_datapath.specs.Wired.{Behind, IsSlotRegister};
 ghost use Rattle.fsm_datapath.specs.Memories.{memory_for, memories_from};
 ghost use Rattle.fsm_datapath.specs.Stages.{WalksAll};
 ghost use Rattle.fsm_datapath.specs.Cells.{StoresFirst};
 ghost use Rattle.fsm_datapath.specs.Stores.{StagesKeepStores};
 ghost use Rattle.fsm_datapath.specs.Modules.{LaysInside, Closes, IsModule};
-ghost use Rattle.fsm_datapath.specs.Thread.{RunsPlainCode, HasShapeOfPlainCode};
-ghost use Rattle.fsm_datapath.specs.Leaf.{IsLeafOfPlainCode};
+ghost use Rattle.fsm_datapath.specs.Thread.{RunsServedCode, HasShapeOfServedCode};
+ghost use Rattle.fsm_datapath.specs.Leaf.{IsLeafOfServedCode};
 
 use crate::actions::actions;
-use crate::chains::Chains;
-use crate::control::{Edge, Inputs, control, lay_inputs};
-use crate::outputs::{field_widths, lay_outputs};
+use crate::chains::{Chains, places};
+use crate::control::{Edge, control};
+use crate::early::{Early, lay_early, word_widths};
+use crate::inputs::{Inputs, lay_inputs, lay_words};
+use crate::outputs::lay_outputs;
 use crate::shape::{Printer, Shape};
-use crate::slots::{kept_widths, lay_registers};
+use crate::slots::{kept_widths, lay_all, lay_registers};
 use crate::stages::{take_end, take_stages};
 use crate::stores::Store;
-use block_datapath::registers::Registers;
+use block_datapath::registers::{Held, Registers};
 use block_ir::code::{Array, ThreadCode};
 use block_ir::plan::Planned;
 use hls_ints::CType;
 use netlist::netlist::{Memory, Module};
-use operator_wires::wires::Wires;
+use operator_wires::wires::{Role, Wires};
 use sqlite_items::Items;
 use std::alloc::{AllocError, Global};
 use verilog_tree::name::Identifier;
@@ -34,9 +41,9 @@ pub fn module(
     code: &ThreadCode,
     planned: &Planned,
 ) -> Result<Module, AllocError>
-    ensures runs { IfOk result (RunsPlainCode shape.now code.now planned.now) }
-    ensures shape { IfOk result (HasShapeOfPlainCode shape.now code.now planned.now) }
-    ensures leaf { IfOk result (IsLeafOfPlainCode shape.now code.now planned.now) }
+    ensures runs { IfOk result (RunsServedCode shape.now code.now planned.now) }
+    ensures shape { IfOk result (HasShapeOfServedCode shape.now code.now planned.now) }
+    ensures leaf { IfOk result (IsLeafOfServedCode shape.now code.now planned.now) }
 {
     assembled(alloc, shape, code, planned)
 }
@@ -53,7 +60,8 @@ fn assembled(
     let inside = lay_inside(&mut wires, shape, code, planned)?;
     let edge = close(&mut wires, shape, &inside)?;
     let stores = inside.stores.as_slice();
-    let actions = actions(alloc, &inside.slot, &inside.chains, stores, edge)?;
+    let granted = inside.granted.as_slice();
+    let actions = actions(alloc, &inside.slot, &inside.chains, granted, stores, &edge)?;
     let memories = memories(alloc, code.arrays.as_slice())?;
     let name = shape.name.clone()?;
     Ok(Module {
@@ -70,9 +78,11 @@ fn assembled(
 pub struct Inside {
     pub inputs: Inputs,
     pub slot: Registers,
+    /// Of each global whether its access has been granted in this state.
+    pub granted: Items<Held>,
+    pub early: Early,
     pub chains: Chains,
     pub stores: Items<Store>,
-    pub done: usize,
 }
 
 fn lay_inside(
@@ -84,34 +94,79 @@ fn lay_inside(
     ensures { IfOk result (LaysInside shape.now code.now planned.now wires.old.signals wires.new.signals) }
 {
     let alloc = wires.alloc;
-    let printer = shape.printer;
     let globals = shape.globals.as_slice();
-    let inputs = lay_inputs(wires, printer)?;
+    let spreads = shape.spreads.as_slice();
+    let widths = word_widths(alloc, spreads, globals)?;
+    let inputs = lay_inputs(wires, widths.len(), shape.printer)?;
+    let words = lay_words(wires, widths.as_slice())?;
     let kept = kept_widths(alloc, code, planned, globals)?;
-    let slot = lay_registers(wires, code, planned, shape.is_main, kept.as_slice())?;
-    let fields = field_widths(alloc, printer)?;
-    let mut chains = Chains::begin(wires, &slot, fields.as_slice())?;
+    let own = Items::from_slice(alloc, spreads)?;
+    let main = shape.is_main;
+    let slot = lay_registers(wires, code, planned, main, kept.as_slice(), words, own)?;
+    let granted = lay_granted(wires, globals.len())?;
+    let early = lay_asked(wires, shape, code, planned, &slot, granted.as_slice())?;
+    let mut chains = Chains::begin(wires, &slot)?;
     let mut stores = Items::new(alloc);
-    let done = walk(
+    walk(
         wires,
         &slot,
         &mut chains,
         &mut stores,
         code,
         globals,
-        printer,
+        shape.printer,
         planned,
     )?;
     Ok(Inside {
         inputs,
         slot,
+        granted,
+        early,
         chains,
         stores,
-        done,
     })
 }
 
-/// The wires of all stages and of the end. Answers whether the slot is at the end.
+/// A register of one bit for each global.
+fn lay_granted(wires: &mut Wires, globals: usize) -> Result<Items<Held>, AllocError>
+    ensures lays { IfOk result (LaysAll (source.Register 0) wires.old.signals wires.new.signals (replicate globals 1) globals) }
+    ensures wired { IfOk result (λ granted. Behind IsSlotRegister wires.old.signals wires.new.signals) }
+{
+    let ones = bit_widths(wires.alloc, globals)?;
+    lay_all(wires, Role::Granted, ones.as_slice())
+}
+
+fn bit_widths(alloc: Global, count: usize) -> Result<Items<u64>, AllocError>
+    ensures { IfOk result (λ widths. widths ≡ replicate count 1) }
+{
+    Ok(Items::from_vec(vec![in alloc; 1; count]?))
+}
+
+fn lay_asked(
+    wires: &mut Wires,
+    shape: &Shape,
+    code: &ThreadCode,
+    planned: &Planned,
+    slot: &Registers,
+    granted: &[Held],
+) -> Result<Early, AllocError>
+    ensures { IfOk result
+        (LaysEarly shape.now.globals code.now slot.now (map (λ (h : HeldOf). h.register) granted.now) shape.now.printer planned.now wires.old.signals wires.new.signals) }
+{
+    let marks = places(wires.alloc, granted)?;
+    let globals = shape.globals.as_slice();
+    lay_early(
+        wires,
+        slot,
+        marks.as_slice(),
+        code,
+        globals,
+        shape.printer,
+        planned,
+    )
+}
+
+/// The wires of all stages and of the end.
 fn walk(
     wires: &mut Wires,
     registers: &Registers,
@@ -123,8 +178,10 @@ fn walk(
     planned: &Planned,
 ) -> Result<usize, AllocError>
     ensures walks { IfOk result (WalksAll globals.now code.now registers.now printer planned.now wires.old.signals wires.new.signals chains.old chains.new) }
-    ensures puts { IfOk result (λ done. StoresFirst globals.now code.now registers.now planned.now wires.old.signals wires.new.signals stores.old stores.new (length code.now.stages)) }
-    ensures stores { IfOk result (λ done. StagesKeepStores code.now registers.now printer planned.now (length code.now.stages) wires.old.signals wires.new.signals chains.old stores.old stores.new) }
+    ensures puts { IfOk result (λ done. StoresFirst globals.now code.now registers.now planned.now wires.old.signals wires.new.signals stores.old stores.new
+        (length code.now.stages)) }
+    ensures stores { IfOk result (λ done. StagesKeepStores code.now registers.now printer planned.now
+        (length code.now.stages) wires.old.signals wires.new.signals chains.old stores.old stores.new) }
 {
     take_stages(
         wires, registers, chains, stores, code, globals, printer, planned,
@@ -136,17 +193,27 @@ fn walk(
 fn close(wires: &mut Wires, shape: &Shape, inside: &Inside) -> Result<Edge, AllocError>
     ensures { IfOk result (Closes shape.now inside.now wires.old.signals wires.new.signals) }
 {
-    let edge = control(wires, &inside.slot, inside.inputs, &inside.chains)?;
-    let fields = inside.chains.fields.as_slice();
-    let needs = inside.chains.needs;
+    let slot = &inside.slot;
+    let early = &inside.early;
+    let marks = places(wires.alloc, inside.granted.as_slice())?;
+    let opens = early.opens.as_slice();
+    let edge = control(
+        wires,
+        slot,
+        &inside.inputs,
+        &inside.chains,
+        opens,
+        marks.as_slice(),
+    )?;
     lay_outputs(
         wires,
         shape.printer,
         shape.is_main,
-        edge.asks,
-        fields,
-        needs,
-        inside.done,
+        slot.words.as_slice(),
+        edge.asks.as_slice(),
+        &early.requests,
+        early.need,
+        early.done,
     )?;
     Ok(edge)
 }

@@ -1,11 +1,14 @@
 // The output ports.
 
-ghost use Rattle.std.specs.Prelude.{◌≡◌, ℕ, ◌+◌, ◌≤◌, ◌^◌, true, Some, slice_get, length, IfOk, OnOk};
+ghost use Rattle.std.specs.Prelude.{◌≡◌, ℕ, ◌+◌, ◌≤◌, ◌^◌, true, Some, slice_get, slice_index, length, IfOk, OnOk};
 ghost use Rattle.fsm_datapath.specs.declared.shape.Printer.{Printer};
 ghost use Rattle.fsm_datapath.specs.Wired.{Behind, IsNamedOutput};
-ghost use Rattle.fsm_datapath.specs.Outputs.{HasFieldWidths, LaysFields, LaysRequest, LaysDone, LaysOutputs, field_width};
+ghost use Rattle.fsm_datapath.specs.Outputs.{HasFieldWidths, LaysFields, LaysRequest, LaysDone, LaysOutputs, LaysBank, LaysBanks, LaysAllOutputs, field_width};
 
+use crate::requests::Requests;
 use crate::shape::Printer;
+use block_datapath::registers::Held;
+use block_datapath::requests::BankRequests;
 use operator_wires::wires::{Role, Wires};
 use sqlite_items::Items;
 use std::alloc::{AllocError, Global};
@@ -30,8 +33,75 @@ fn printed_widths(alloc: Global, printer: Printer) -> Result<Items<u64>, AllocEr
     Ok(widths)
 }
 
-/// The request, whether a core is needed, and of main whether it has ended.
+/// The requests at banks, with words as wide as these inputs, and at the printer; whether a core is needed, and of main
+/// whether it has ended.
 pub fn lay_outputs(
+    wires: &mut Wires,
+    printer: Option<Printer>,
+    is_main: bool,
+    words: &[Held],
+    asks: &[usize],
+    requests: &Requests,
+    needs: usize,
+    done: usize,
+) -> Result<(), AllocError>
+    ensures lays { OnOk result (LaysAllOutputs printer is_main wires.old.signals wires.new.signals words.now asks.now requests.now needs done) }
+    ensures named { OnOk result (is_main ≡ true → Behind (IsNamedOutput (length wires.new.signals)) wires.old.signals wires.new.signals) }
+    ensures few { OnOk result (is_main ≡ true → length wires.new.signals ≤ 2 ^ 64) }
+{
+    lay_banks(wires, words, asks, &requests.banks)?;
+    let last = place_at(asks, words.len());
+    let fields = requests.fields.as_slice();
+    lay_rest(wires, printer, is_main, last, fields, needs, done)
+}
+
+/// The output ports of requests at banks.
+fn lay_banks(
+    wires: &mut Wires,
+    words: &[Held],
+    asks: &[usize],
+    banks: &BankRequests,
+) -> Result<(), AllocError>
+    ensures lays { OnOk result (LaysBanks wires.old.signals wires.new.signals words.now asks.now banks.now (length words.now)) }
+    ensures named { OnOk result ((n : ℕ) → Behind (IsNamedOutput n) wires.old.signals wires.new.signals) }
+{
+    for (number, word) in words.iter().enumerate() {
+        let ask = place_at(asks, number);
+        let writes = place_at(banks.writes.as_slice(), number);
+        let address = place_at(banks.addresses.as_slice(), number);
+        let value = place_at(banks.values.as_slice(), number);
+        lay_bank(wires, word.width, ask, writes, address, value)?;
+    }
+    Ok(())
+}
+
+fn place_at(places: &[usize], number: usize) -> usize
+    ensures { result ≡ slice_index places.now number }
+{
+    places.get(number).copied().unwrap_or(0)
+}
+
+/// Whether a bank is asked, whether it is to write, the address, and what it writes.
+fn lay_bank(
+    wires: &mut Wires,
+    width: u64,
+    ask: usize,
+    writes: usize,
+    address: usize,
+    value: usize,
+) -> Result<(), AllocError>
+    ensures lays { OnOk result (LaysBank wires.old.signals wires.new.signals width ask writes address value) }
+    ensures named { OnOk result ((n : ℕ) → Behind (IsNamedOutput n) wires.old.signals wires.new.signals) }
+{
+    wires.output(Role::Ask, 1, ask)?;
+    wires.output(Role::Field, 1, writes)?;
+    wires.output(Role::Field, 64, address)?;
+    wires.output(Role::Field, width, value)?;
+    Ok(())
+}
+
+/// The request at the printer, whether a core is needed, and of main whether it has ended.
+fn lay_rest(
     wires: &mut Wires,
     printer: Option<Printer>,
     is_main: bool,

@@ -1,5 +1,6 @@
 // What surrounds the module of a thread: its place in the net.
 
+use bank_partition::banks::Spread;
 use hls_ints::CType;
 use sqlite_items::Items;
 use verilog_tree::name::Identifier;
@@ -22,5 +23,7 @@ pub struct Shape {
     pub is_main: bool,
     /// The types of the elements of the globals.
     pub globals: Items<CType>,
+    /// Where the banks of each global stand among all banks.
+    pub spreads: Items<Spread>,
     pub printer: Option<Printer>,
 }

@@ -6,10 +6,12 @@ ghost use Rattle.planned_view.specs.View.{register_at};
 ghost use Rattle.block_ir.specs.declared.plan.BlockPlan.{BlockPlan};
 ghost use Rattle.block_ir.specs.declared.code.Stage.TheVariants as taken;
 ghost use Rattle.block_ir.specs.declared.plan.StagePlan.TheVariants as planned;
+ghost use Rattle.netlist.specs.declared.netlist.Source.TheVariants as source;
 ghost use Rattle.operator_wires.specs.Built.{is_single};
 ghost use Rattle.fsm_datapath.specs.Wired.{Behind, AreFit, IsSlotRegister};
 ghost use Rattle.fsm_datapath.specs.Slots.{LaysRegister, LaysAll, LaysSlot, Widens, HasRoomAt, KeepsOperations, WidensStage, AreKeptWidths};
 
+use bank_partition::banks::Spread;
 use block_datapath::operations::{register_of, value_type};
 use block_datapath::registers::{Held, Registers};
 use block_ir::block::{Block, Operation};
@@ -54,17 +56,19 @@ fn states_of(stage: &StagePlan) -> u64
     }
 }
 
-/// The registers of a slot. Main begins at the first stage, and another thread past the last one.
+/// The registers of a slot, which reads these inputs of banks. Main begins at the first stage, and another thread past the last one.
 pub fn lay_registers(
     wires: &mut Wires,
     code: &ThreadCode,
     planned: &Planned,
     is_main: bool,
     kept_widths: &[u64],
+    words: Items<Held>,
+    spreads: Items<Spread>,
 ) -> Result<Registers, AllocError>
-    ensures slot { IfOk result (LaysSlot code.now planned.now (if is_main then 0 else length code.now.stages) kept_widths.now wires.old.signals wires.new.signals) }
+    ensures slot { IfOk result (LaysSlot code.now planned.now (if is_main then 0 else length code.now.stages) kept_widths.now words spreads wires.old.signals wires.new.signals) }
     ensures long { IfOk result (λ registers. length wires.new.signals ≡ length wires.old.signals + 3 + length code.now.variables + length kept_widths.now) }
-    ensures wired { IfOk result (λ registers. length wires.old.signals ≡ 3 → AreFit kept_widths.now → Behind IsSlotRegister wires.old.signals wires.new.signals) }
+    ensures wired { IfOk result (λ registers. AreFit kept_widths.now → Behind IsSlotRegister wires.old.signals wires.new.signals) }
 {
     let end = code.stages.len() as u64;
     let width = width_of(end);
@@ -83,6 +87,8 @@ pub fn lay_registers(
         beat,
         variables,
         kept,
+        words,
+        spreads,
     })
 }
 
@@ -111,8 +117,8 @@ fn lay_register(wires: &mut Wires, role: Role, width: u64, initial: u64) -> Resu
 }
 
 /// A register for each width, which begins with 0.
-fn lay_all(wires: &mut Wires, role: Role, widths: &[u64]) -> Result<Items<Held>, AllocError>
-    ensures lays { IfOk result (LaysAll wires.old.signals wires.new.signals widths.now (length widths.now)) }
+pub fn lay_all(wires: &mut Wires, role: Role, widths: &[u64]) -> Result<Items<Held>, AllocError>
+    ensures lays { IfOk result (LaysAll (source.Register 0) wires.old.signals wires.new.signals widths.now (length widths.now)) }
     ensures wired { IfOk result (λ registers. is_single role ≡ false → AreFit widths.now → Behind IsSlotRegister wires.old.signals wires.new.signals) }
 {
     let mut registers = Items::new(wires.alloc);

@@ -34,9 +34,11 @@ pub fn take_stages(
     printer: Option<Printer>,
     planned: &Planned,
 ) -> Result<(), AllocError>
-    ensures walks { OnOk result (WalksFirst globals.now code.now registers.now printer planned.now wires.old.signals wires.new.signals chains.old chains.new (length code.now.stages)) }
+    ensures walks { OnOk result (WalksFirst globals.now code.now registers.now printer planned.now wires.old.signals wires.new.signals chains.old chains.new
+        (length code.now.stages)) }
     ensures puts { OnOk result (StoresFirst globals.now code.now registers.now planned.now wires.old.signals wires.new.signals stores.old stores.new (length code.now.stages)) }
-    ensures stores { OnOk result (StagesKeepStores code.now registers.now printer planned.now (length code.now.stages) wires.old.signals wires.new.signals chains.old stores.old stores.new) }
+    ensures stores { OnOk result (StagesKeepStores code.now registers.now printer planned.now
+        (length code.now.stages) wires.old.signals wires.new.signals chains.old stores.old stores.new) }
 {
     for (number, stage) in code.stages.as_slice().iter().enumerate() {
         take_stage(
@@ -75,8 +77,10 @@ fn take_stage(
 ) -> Result<(), AllocError>
     ensures takes { OnOk result (TakesStage globals.now code.now registers.now printer number stage.now
         (slice_get planned.now.stages number) wires.old.signals wires.new.signals chains.old chains.new) }
-    ensures puts { OnOk result (StoresStage globals.now code.now registers.now number stage.now (slice_get planned.now.stages number) wires.old.signals wires.new.signals stores.old stores.new) }
-    ensures stores { OnOk result (StageKeepsStores code.now registers.now number (slice_get planned.now.stages number) wires.old.signals wires.new.signals chains.old stores.old stores.new) }
+    ensures puts { OnOk result (StoresStage globals.now code.now registers.now number stage.now
+        (slice_get planned.now.stages number) wires.old.signals wires.new.signals stores.old stores.new) }
+    ensures stores { OnOk result (StageKeepsStores code.now registers.now number (slice_get planned.now.stages number) wires.old.signals wires.new.signals
+        chains.old stores.old stores.new) }
 {
     match stage {
         Stage::Run(block) => match planned.stages.get(number) {
@@ -103,9 +107,11 @@ fn take_block(
     block: &Block,
     plan: &StagePlan,
 ) -> Result<(), AllocError>
-    ensures takes { OnOk result ((printer : Option Printer) → TakesStage globals.now code.now registers.now printer number (taken.Run block.now) (Some plan.now) wires.old.signals wires.new.signals
+    ensures takes { OnOk result ((printer : Option Printer) → TakesStage globals.now code.now registers.now printer number (taken.Run block.now)
+        (Some plan.now) wires.old.signals wires.new.signals
         chains.old chains.new) }
-    ensures puts { OnOk result (StoresStage globals.now code.now registers.now number (taken.Run block.now) (Some plan.now) wires.old.signals wires.new.signals stores.old stores.new) }
+    ensures puts { OnOk result (StoresStage globals.now code.now registers.now number (taken.Run block.now)
+        (Some plan.now) wires.old.signals wires.new.signals stores.old stores.new) }
     ensures stores { OnOk result (StageKeepsStores code.now registers.now number (Some plan.now) wires.old.signals wires.new.signals chains.old stores.old stores.new) }
 {
     match plan {
@@ -130,7 +136,8 @@ fn run(
 ) -> Result<(), AllocError>
     ensures runs { OnOk result (RunsBlock globals.now code.now registers.now number block.now plan.now wires.old.signals wires.new.signals chains.old chains.new) }
     ensures puts { OnOk result (StoresBlock globals.now code.now registers.now number block.now plan.now wires.old.signals wires.new.signals stores.old stores.new) }
-    ensures stores { OnOk result (StageKeepsStores code.now registers.now number (Some (stage_plan.Run plan.now)) wires.old.signals wires.new.signals chains.old stores.old stores.new) }
+    ensures stores { OnOk result (StageKeepsStores code.now registers.now number (Some (stage_plan.Run plan.now)) wires.old.signals wires.new.signals
+        chains.old stores.old stores.new) }
 {
     let left = leave_block(
         wires,

@@ -40,8 +40,8 @@ pub fn store_all(
     end: Moment,
 ) -> Result<(), AllocError>
     ensures grows { OnOk result (Grows wires.old.signals wires.new.signals) }
-    ensures puts { OnOk result (PutsFirst wires.old.signals wires.new.signals registers.now end.at end.states stores.old stores.new code.now values.now block.now.operations plan.now.starts
-        (length block.now.operations)) }
+    ensures puts { OnOk result (PutsFirst wires.old.signals wires.new.signals registers.now end.at end.states stores.old stores.new code.now values.now
+        block.now.operations plan.now.starts (length block.now.operations)) }
     ensures wired { OnOk result (AddsStores wires.old.signals wires.new.signals code.now registers.now values.now end.at end.states stores.old stores.new) }
 {
     for (number, operation) in block.operations.as_slice().iter().enumerate() {

@@ -19,11 +19,7 @@ has_barriers P h = inr (inr (inl h))
 pub has_thread_calls : (P : Program) → is_sequential_program P ≡ false → HasConstruct P construct.Threads
 has_thread_calls P h = inr (inr (inr h))
 
-pub has_globals : (P : Program) → P.globals ≢ [] → HasConstruct P construct.Globals
-has_globals P h = h
-
 pub alone : (P : Program) → IsSingle P → is_sequential_program P ≡ true → IsAlone P
 alone P is sequential = record {
   threads = ⊎_elim (λ h. h is.threads) (⊎_elim (λ h. h is.mutexes) (⊎_elim (λ h. h is.barriers) (λ h. absurd cc)));
-  globals = is.globals;
 }

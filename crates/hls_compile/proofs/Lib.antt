@@ -3,5 +3,6 @@ pub mod Arrays
 pub mod Few
 pub mod Good
 pub mod Main
-pub mod Plain
+pub mod Globals
+pub mod Served
 pub mod Printable

@@ -19,12 +19,10 @@ HasThreads P = (P.threads ≢ []) ⊎ ((P.mutexes ≢ []) ⊎ ((P.barriers ≢ [
 -- the program has the construct
 abbrev pub HasConstruct : Program → Construct → Type 0
 HasConstruct P construct.Threads = HasThreads P
-HasConstruct P construct.Globals = P.globals ≢ []
 
--- main alone, without pthread calls and without globals
+-- main alone, without pthread calls
 pub record IsAlone (P : Program) : Type 0 where
   pub threads : HasThreads P → ⊥
-  pub globals : P.globals ≡ []
 
 -- ---- what is
 

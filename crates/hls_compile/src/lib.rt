@@ -107,10 +107,13 @@ fn text_of(alloc: Global, program: &Program) -> Result<Written, BuildError>
     ensures unbuilt { IfErr result (StopsBuild (program_of program.now)) }
 {
     let code = code_of(alloc, program)?;
-    let main = parts::main_module(alloc, &code)?;
+    let banks = parts::banks(alloc, program)?;
+    let cores = parts::bank_shapes(alloc, banks.banks.as_slice())?;
+    let modules = parts::bank_modules(alloc, cores.as_slice())?;
+    let main = parts::main_module(alloc, program, banks.spreads.as_slice(), &code)?;
     let printer = parts::printer_module(alloc, program)?;
     let arbiter = parts::arbiter_module(alloc)?;
-    let written = verilog(alloc, main, arbiter, printer)?;
+    let written = verilog(alloc, cores.as_slice(), main, arbiter, modules, printer)?;
     Ok(written)
 }
 

@@ -16,8 +16,6 @@ use thiserror::Error;
 pub enum Construct {
     #[error("pthread objects and calls")]
     Threads,
-    #[error("globals")]
-    Globals,
 }
 
 /// The first construct of a program that is not built yet, where there is one.
@@ -38,9 +36,6 @@ pub fn unbuilt(program: &Program) -> Option<Construct>
     }
     if !is_sequential_program(program) {
         return Some(Construct::Threads);
-    }
-    if !program.globals.is_empty() {
-        return Some(Construct::Globals);
     }
     None
 }

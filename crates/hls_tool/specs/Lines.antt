@@ -77,7 +77,6 @@ refusal_line (refusal.Limit p) = limit_line p
 
 abbrev pub construct_words : Construct → List ℕ
 construct_words construct.Threads = codes "pthread objects and calls"
-construct_words construct.Globals = codes "globals"
 
 abbrev pub unbuilt_line : Construct → List ℕ
 unbuilt_line c = codes "hls: refused: not built yet: " ++ (construct_words c ++ codes "\n")

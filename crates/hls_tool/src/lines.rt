@@ -43,7 +43,6 @@ fn construct_words(construct: Construct) -> &'static str
 {
     match construct {
         Construct::Threads => "pthread objects and calls",
-        Construct::Globals => "globals",
     }
 }
 

@@ -50,6 +50,10 @@ fn builds(rt: HostRuntime) -> Result<(), Fail> {
             "hls: built, 1 threads, weight ",
         ),
         (
+            "int a[512], b[512], c[512], d[512]; int main(void){a[d[0]] = b[c[1]]; return 0;}",
+            "hls: built, 1 threads, weight ",
+        ),
+        (
             "int main(void){return (((((((((((((((((((((((((((((((((((((((((((((((((((((((((((((((0)))))))))))))))))))))))))))))))))))))))))))))))))))))))))))))));}",
             "hls: built, 1 threads, weight 2, ",
         ),
@@ -471,7 +475,7 @@ fn has_a_number_for_each_status(rt: HostRuntime) -> Result<(), Fail> {
     for (status, number) in [
         (Status::Ok, 0),
         (Status::Refused(Refusal::NoMain), 1),
-        (Status::NotBuilt(Construct::Globals), 1),
+        (Status::NotBuilt(Construct::Threads), 1),
         (Status::Usage, 2),
         (Status::ReadFault, 3),
         (Status::WriteFault { out: 0, err: 0 }, 4),
@@ -645,6 +649,28 @@ const CALLED: &str =
     "char low(char c){return c + 1;} int twice(int a){if (a > 300) return 2 * a; a = low(a); return a;} \
     int main(void){int x; x = twice(382); printf(\"%d\\n\", x); x = twice(255); printf(\"%d\\n\", x); low(x); return 0;}";
 
+/// The right operand of `&&`, an index past the array, is not evaluated.
+const SHORT_CIRCUIT: &str =
+    "int g[4]; int main(void){int i = 4; if (i < 4 && g[i]) i = 9; printf(\"%d\\n\", i); return 0;}";
+
+/// 5 squared, then 26 and 27 squared.
+const FILLED: &str =
+    "int g[3] = {5}; int sq(int a){return a * a;} int main(void){int i; for (i = 0; i < 3; i++) g[i] = sq(i + g[0]); \
+    printf(\"%d %d %d\\n\", g[0], g[1], g[2]); return 0;}";
+
+/// Globals that are named like words of Verilog, of three widths, several in one expression (6.3.1.3: 200 as a char is -56).
+const SWAPPED: &str =
+    "int wire[2] = {3, 7}; char reg = 200; unsigned char module = 200; int main(void){int t = wire[0]; wire[0] = wire[1]; wire[wire[0] - 6] = t; \
+    printf(\"%d %u %d %d\\n\", reg, module, wire[0], wire[1]); return 0;}";
+
+/// What C99 says of the integer types, each a line: a sum below 0 without sign, quotients towards 0, a narrow type, a shift of a negative value,
+/// operands of two types, the ends of the widest types.
+const INTEGERS: &str =
+    "int main(void){unsigned x = 0; x = x - 1; printf(\"%u\\n\", x); int a = -7, b = 2; printf(\"%d %d\\n\", a / b, a % b); char c = 200; \
+    printf(\"%d\\n\", c); short s = 70000; unsigned char u = 300; printf(\"%d %u\\n\", s, u); a = -8; printf(\"%d\\n\", a >> 1); unsigned one = 1; \
+    if (a < one) printf(\"1\\n\"); else printf(\"0\\n\"); long long l = 9223372036854775807; unsigned long long v = 18446744073709551615ULL; \
+    printf(\"%lld %llu\\n\", l, v); return 0;}";
+
 #[test]
 fn steps(rt: HostRuntime) -> Result<(), Fail> {
     let alloc = rt.alloc();
@@ -655,6 +681,16 @@ fn steps(rt: HostRuntime) -> Result<(), Fail> {
         (COUNTING, "0", 9, "", "hls: not done, 0 cycles\n"),
         (SQUARES, "9000", 0, "13\n", "hls: done, "),
         (CALLED, "99999", 0, "764\n0\n", "hls: done, "),
+        (
+            INTEGERS,
+            "99999",
+            0,
+            "4294967295\n-3 -1\n-56\n4464 44\n-4\n0\n9223372036854775807 18446744073709551615\n",
+            "hls: done, ",
+        ),
+        (SHORT_CIRCUIT, "99999", 0, "4\n", "hls: done, "),
+        (FILLED, "99999", 0, "25 676 729\n", "hls: done, "),
+        (SWAPPED, "99999", 0, "-56 200 7 3\n", "hls: done, "),
         ("int x;", "9", 1, "", "hls: refused E14: no main\n"),
     ] {
         let mut source = MemSource::new(text.as_bytes(), 4096, &[]);

@@ -87,6 +87,7 @@ module _ (p : ProgramTree) (f : FunctionTree) (at : slice_get p.functions.items 
       variables = variables_of (reached_locals P) ++ replicate (all_values P.functions) long_int;
       arrays = arrays_of (reached_locals P);
       globals = map (λ (g : GlobalVariable). g.ty) P.globals;
+      lengths = map (λ (g : GlobalVariable). g.length) P.globals;
     };
   }
 
@@ -99,6 +100,7 @@ module _ (p : ProgramTree) (f : FunctionTree) (at : slice_get p.functions.items 
   fits g d here reached = record {
     locals = λ x l e. home_typed l (slice_get (homes_in P g) x) (room_declared P g d here reached x l e);
     globals = refl;
+    lengths = refl;
   }
 
   words : HasWords typing.types size (all_values P.functions)

@@ -240,7 +240,7 @@ module _ (P : Program) (place : Place) (old new : Lowering) (d : Delivers place 
           ∙ operand_held old.block.current variables r.values (length old.variables) long_int (slice_get old.block.current (length old.variables)) in
           let x0 = operand_value variables s.values d.value in
           let done = store_done homes d.placed variables s seen fits homed' holds at.variable
-          (index_of i) at.ty x0 d.stored d.value at.index refl refl at.size part.2.written at.storage there d.target at.at
+          (index_of i) at.ty x0 d.stored d.value at.index refl at.size part.2.written part.2.global_written at.storage there d.target at.at
           d.stores in
           let right : wrapped at.ty x0 ≡ wrapped at.ty v = from_word at.ty x0 v (ap (wrapped long_int) value_kept ∙ has) in
           let u = operations_run variables stored_operations s in

@@ -56,8 +56,8 @@ module _ (variables : ℕ → ℤ) where
   one_length : (o : Operation) (r : Running) → length (operation_run variables o r).values ≡ suc (length r.values)
   one_length (Unary operator ty a) r = length-append r.values _ ∙ (omega arith)
   one_length (Binary operator ty a b) r = length-append r.values _ ∙ (omega arith)
-  one_length (ReadGlobal x i) r = length-append r.values _ ∙ (omega arith)
-  one_length (WriteGlobal x i a) r = length-append r.values _ ∙ (omega arith)
+  one_length (ReadGlobal x n i) r = length-append r.values _ ∙ (omega arith)
+  one_length (WriteGlobal x n i a) r = length-append r.values _ ∙ (omega arith)
   one_length (ReadArray x n i) r = length-append r.values _ ∙ (omega arith)
   one_length (WriteArray x n i a) r = length-append r.values _ ∙ (omega arith)
 

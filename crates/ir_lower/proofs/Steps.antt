@@ -73,7 +73,7 @@ located homes (Place.Scalar storage x ty) old new t p = record {
   below = λ fits. tt;
   part = λ variables r m v ls fits len holds is.
       let g = gives_is (c_target storage x ty (pos 0)) v ls is in
-      (reads_none r ls g.1, g.0, record { read = refl; written = refl });
+      (reads_none r ls g.1, g.0, record { read = refl; written = refl; global_read = refl; global_written = refl });
 }
 located homes (Place.Element storage x n ty e) old new t p = record {
   storage = storage;
@@ -203,7 +203,7 @@ assigns homes F old mid last new t a p st stepped = record {
       let holds' = hold_on homes old mid p.operations p.added variables r m ls fits len both.0 holds in
       let is' : record { target = c_target p.storage p.variable p.ty i; value = x } ≡ v = both.1 in
       let there' : IsThere p.storage m.locals p.variable (index_of i) = subst (λ (z : Assignment). IsThere z.target.storage m.locals z.target.variable z.target.index) (sym is') there in
-      let done = store_done homes mid variables s m fits' homed' holds' p.variable (index_of i) p.ty x last a p.index refl refl p.size both.2.written p.storage there' t p.at st in
+      let done = store_done homes mid variables s m fits' homed' holds' p.variable (index_of i) p.ty x last a p.index refl p.size both.2.written both.2.global_written p.storage there' t p.at st in
       let run = run_append variables p.operations (store_operations t a mid last st) r in
       let u = operations_run variables (store_operations t a mid last st) s in
       let spare = done.spares in
@@ -254,9 +254,9 @@ pub stores_array : (t : Target) (a n : ℕ) (ty : IntegerType) (index value stor
 stores_array t a n ty index value stored old new is converted_ added =
     rw is (record { stored = stored; converted = converted_; added = added })
 
-pub stores_global : (t : Target) (g : ℕ) (ty : IntegerType) (index value stored : Operand) (old new : OpenBlock) → t ≡ target.Global g ty index → IsConverted ty value stored →
-    new ≡ with_more old (WriteGlobal g index stored ∷ []) → Stores t value old new
-stores_global t g ty index value stored old new is converted_ added =
+pub stores_global : (t : Target) (g n : ℕ) (ty : IntegerType) (index value stored : Operand) (old new : OpenBlock) → t ≡ target.Global g n ty index → IsConverted ty value stored →
+    new ≡ with_more old (WriteGlobal g n index stored ∷ []) → Stores t value old new
+stores_global t g n ty index value stored old new is converted_ added =
     rw is (record { stored = stored; converted = converted_; added = added })
 
 -- The right side, then the index, then the old value, then the operator.
@@ -313,7 +313,7 @@ update_prepares homes place operator ty ty' e old mid found read new t a b c fir
       let holds2 = hold_on homes mid found loc.operations loc.added variables s1 m p2.first fits1 len1 last.0 holds1 in
       let i = operand_value variables s2.values loc.index in
       let is3 : load m loc.storage loc.variable (index_of i) ≡ Gives p3.value p3.first = ap (λ (z : CTarget). load m z.storage z.variable z.index) last.1 ∙ p3.is in
-      let there = load_comes homes found variables s2 m loc.variable (index_of i) loc.size loc.ty loc.index len2 holds2 refl last.2.read loc.storage p3.value p3.first is3 in
+      let there = load_comes homes found variables s2 m loc.variable (index_of i) loc.size loc.ty loc.index len2 holds2 last.2.read last.2.global_read loc.storage p3.value p3.first is3 in
       let comes : Comes variables s2 s3 (loaded t found) p3.value p3.first =
       subst (λ z. Comes variables s2 (operations_run variables (load_operations z) s2) (loaded z found) p3.value p3.first) (sym loc.at) there in
       let len3 : length s3.values ≡ length read.operations =

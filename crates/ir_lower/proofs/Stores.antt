@@ -9,7 +9,7 @@ use Rattle.thread_semantics.specs.Move.{Assignment}
 use Rattle.block_ir.specs.declared.operand.Operand.{Operand}
 use Rattle.block_ir.specs.declared.block.Operation.{Operation}
 use Rattle.block_ir.specs.declared.block.Operation.TheVariants.{WriteArray, WriteGlobal}
-use Rattle.block_ir.specs.Run.{Write, Running, converted, index_of, place_written, source_value, operand_value, operation_run, operations_run, with_cell}
+use Rattle.block_ir.specs.Run.{Write, Running, converted, place_written, global_written, source_value, operand_value, operation_run, operations_run, with_cell}
 use Rattle.ir_lower.specs.declared.homes.Home.{Home}
 use Rattle.ir_lower.specs.declared.homes.Home.TheVariants as home
 use Rattle.ir_lower.specs.declared.places.Target.{Target}
@@ -31,27 +31,27 @@ conversion_right variables values ty a b v h e =
 abbrev pub store_operations : (t : Target) (value : Operand) (old new : OpenBlock) → Stores t value old new → List Operation
 store_operations (target.Variable n ty) value old new h = []
 store_operations (target.Array a n ty index) value old new h = WriteArray a n index h.stored ∷ []
-store_operations (target.Global g ty index) value old new h = WriteGlobal g index h.stored ∷ []
+store_operations (target.Global g n ty index) value old new h = WriteGlobal g n index h.stored ∷ []
 
 pub store_added : (t : Target) (value : Operand) (old new : OpenBlock) (h : Stores t value old new) → new.operations ≡ old.operations ++ store_operations t value old new h
 store_added (target.Variable n ty) value old new h = h.operations ∙ sym (append-nil old.operations)
 store_added (target.Array a n ty index) value old new h = ap (λ (z : OpenBlock). z.operations) h.added
-store_added (target.Global g ty index) value old new h = ap (λ (z : OpenBlock). z.operations) h.added
+store_added (target.Global g n ty index) value old new h = ap (λ (z : OpenBlock). z.operations) h.added
 
 pub store_size : (t : Target) (value : Operand) (old new : OpenBlock) → Stores t value old new → length new.current ≡ length old.current
 store_size (target.Variable n ty) value old new h = ap length h.current ∙ set_length old.current n (Some h.stored)
 store_size (target.Array a n ty index) value old new h = ap (λ (z : OpenBlock). length z.current) h.added
-store_size (target.Global g ty index) value old new h = ap (λ (z : OpenBlock). length z.current) h.added
+store_size (target.Global g n ty index) value old new h = ap (λ (z : OpenBlock). length z.current) h.added
 
 pub store_steps : (t : Target) (value : Operand) (old new : OpenBlock) → Stores t value old new → new.steps ≡ old.steps
 store_steps (target.Variable n ty) value old new h = h.steps
 store_steps (target.Array a n ty index) value old new h = ap (λ (z : OpenBlock). z.steps) h.added
-store_steps (target.Global g ty index) value old new h = ap (λ (z : OpenBlock). z.steps) h.added
+store_steps (target.Global g n ty index) value old new h = ap (λ (z : OpenBlock). z.steps) h.added
 
 pub store_noted : (t : Target) (value : Operand) (old new : OpenBlock) → Stores t value old new → HasNoted old → HasNoted new
 store_noted (target.Variable n ty) value old new h noted = h.noted noted
 store_noted (target.Array a n ty index) value old new h noted = subst HasNoted (sym h.added) noted
-store_noted (target.Global g ty index) value old new h noted = subst HasNoted (sym h.added) noted
+store_noted (target.Global g n ty index) value old new h noted = subst HasNoted (sym h.added) noted
 
 pub store_below : (t : Target) (value : Operand) (old new : OpenBlock) (k : ℕ) → Stores t value old new → IsBelow k value → AreBelow k old.current → AreBelow k new.current
 store_below (target.Variable n ty) value old new k h below fits = λ x o e.
@@ -60,7 +60,7 @@ store_below (target.Variable n ty) value old new k h below fits = λ x o e.
     (λ p. fits x o p.1)
     (set_element old.current n x (Some h.stored) (Some o) (ap (λ c. slice_get c x) (sym h.current) ∙ e))
 store_below (target.Array a n ty index) value old new k h below fits = subst (AreBelow k) (sym (ap (λ (z : OpenBlock). z.current) h.added)) fits
-store_below (target.Global g ty index) value old new k h below fits = subst (AreBelow k) (sym (ap (λ (z : OpenBlock). z.current) h.added)) fits
+store_below (target.Global g n ty index) value old new k h below fits = subst (AreBelow k) (sym (ap (λ (z : OpenBlock). z.current) h.added)) fits
 
 -- what a local has is kept by a write of something else
 module _ (homes : List Home) (b : OpenBlock) (variables : ℕ → ℤ) (r : Running) (m : Memory) (fits : AreBelow (length r.values) b.current) (homed : HaveHomes homes (length b.current) m.locals)
@@ -165,8 +165,8 @@ module _ (homes : List Home) (b : OpenBlock) (variables : ℕ → ℤ) (r : Runn
       }
 
     -- the store of a value at a target
-    module _ (new : OpenBlock) (value index : Operand) (value_is : operand_value variables r.values value ≡ v) (index_is : index_of (operand_value variables r.values index) ≡ j) (n : ℕ)
-        (place_is : place_written n (operand_value variables r.values index) ≡ j) where
+    module _ (new : OpenBlock) (value index : Operand) (value_is : operand_value variables r.values value ≡ v) (n : ℕ)
+        (place_is : place_written n (operand_value variables r.values index) ≡ j) (element_is : global_written n (operand_value variables r.values index) ≡ j) where
       automatic : (h : Option Home) → slice_get homes x ≡ h → (there : HasElement m.locals x j) → IsHomed (length b.current) h there.row → (st : Stores (local_target h x n ty index) value b new) →
           Assigned homes b.current new.current variables m r (operations_run variables (store_operations (local_target h x n ty index) value b new st) r) (assignment_to Automatic) []
       automatic None at there fit st = absurd fit
@@ -209,14 +209,14 @@ module _ (homes : List Home) (b : OpenBlock) (variables : ℕ → ℤ) (r : Runn
           by Static there st =
               let w = operand_value variables r.values st.stored in
               let right : w ≡ wrapped ty v = conversion_right variables r.values ty value st.stored v st.converted value_is in
-              let s = operation_run variables (WriteGlobal x index st.stored) r in
+              let s = operation_run variables (WriteGlobal x n index st.stored) r in
               record {
-                accesses = ap (λ k. r.accesses ++ Write x k w ∷ []) index_is ∙ ap (λ u. r.accesses ++ Write x j u ∷ []) right;
+                accesses = ap (λ k. r.accesses ++ Write x k w ∷ []) element_is ∙ ap (λ u. r.accesses ++ Write x j u ∷ []) right;
                 holds =
                     subst (λ c. Holds homes c variables (memory_after Static (assignment_to Static) m) s) (sym (ap (λ (q : OpenBlock). q.current) st.added))
-                    (global_holds s w (pos 0) right refl refl (ap (λ k. with_cell x k w r.globals) index_is));
+                    (global_holds s w (pos 0) right refl refl (ap (λ k. with_cell x k w r.globals) element_is));
                 spares = λ size. record {
-                  variables_ = λ i lt none. added_held (pos 0) new (WriteGlobal x index st.stored) st.added i;
+                  variables_ = λ i lt none. added_held (pos 0) new (WriteGlobal x n index st.stored) st.added i;
                   arrays_ = λ c none. refl;
                 };
               }

@@ -88,17 +88,17 @@ module _ (T : Types) where
 abbrev pub target_type : Target → IntegerType
 target_type (target.Variable n ty) = ty
 target_type (target.Array a n ty index) = ty
-target_type (target.Global g ty index) = ty
+target_type (target.Global g n ty index) = ty
 
 abbrev pub IsTypedTarget : Types → List Operation → Target → Type 0
 IsTypedTarget T before (target.Variable n ty) = slice_get T.variables n ≡ Some ty
 IsTypedTarget T before (target.Array a n ty index) = IsTypedOperand T before index × IsArray T a n ty
-IsTypedTarget T before (target.Global g ty index) = IsTypedOperand T before index × (slice_get T.globals g ≡ Some ty)
+IsTypedTarget T before (target.Global g n ty index) = IsTypedOperand T before index × (slice_get T.globals g ≡ Some ty) × (slice_get T.lengths g ≡ Some n)
 
 pub target_more : (T : Types) (before more : List Operation) (t : Target) → IsTypedTarget T before t → IsTypedTarget T (before ++ more) t
 target_more T before more (target.Variable n ty) h = h
 target_more T before more (target.Array a n ty index) h = (operand_more T before more index h.0, h.1)
-target_more T before more (target.Global g ty index) h = (operand_more T before more index h.0, h.1)
+target_more T before more (target.Global g n ty index) h = (operand_more T before more index h.0, h.1, h.2)
 
 module _ (S : Typing) (homes : List Home) (fits : Fits S homes) (before : List Operation) (x length_ : ℕ) (ty : IntegerType) (index : Operand)
     (typed : IsTypedOperand S.types before index) where
@@ -108,17 +108,20 @@ module _ (S : Typing) (homes : List Home) (fits : Fits S homes) (before : List O
   local_typed (Some (home.Array a)) h = ((typed, h), refl)
   local_typed None h = absurd h
 
-  global_typed : (o : Option GlobalVariable) → slice_get S.program.globals x ≡ o → global_object o ≡ Some (record { ty = ty; length = length_ }) → slice_get S.types.globals x ≡ Some ty
+  global_typed : (o : Option GlobalVariable) → slice_get S.program.globals x ≡ o → global_object o ≡ Some (record { ty = ty; length = length_ }) →
+      (slice_get S.types.globals x ≡ Some ty) × (slice_get S.types.lengths x ≡ Some length_)
   global_typed None e is = cc
   global_typed (Some g) e is =
-      ap (λ l. slice_get l x) fits.globals ∙ map_at (λ (z : GlobalVariable). z.ty) S.program.globals x g e
-      ∙ ap Some (let same : record { ty = g.ty; length = g.length } ≡ record { ty = ty; length = length_ } = cc in ap (λ (l : LocalVariable). l.ty) same)
+      let same : record { ty = g.ty; length = g.length } ≡ record { ty = ty; length = length_ } = cc in (
+        ap (λ l. slice_get l x) fits.globals ∙ map_at (λ (z : GlobalVariable). z.ty) S.program.globals x g e ∙ ap Some (ap (λ (l : LocalVariable). l.ty) same),
+        ap (λ l. slice_get l x) fits.lengths ∙ map_at (λ (z : GlobalVariable). z.length) S.program.globals x g e ∙ ap Some (ap (λ (l : LocalVariable). l.length) same),
+      )
 
   -- a declared object
   pub target_typed : (storage : Storage) → IsObject S.program S.function storage x length_ ty →
       IsTypedTarget S.types before (target_at homes storage x length_ ty index) × (target_type (target_at homes storage x length_ ty index) ≡ ty)
   target_typed Automatic is = local_typed (slice_get homes x) (fits.locals x (record { ty = ty; length = length_ }) is)
-  target_typed Static is = ((typed, global_typed (slice_get S.program.globals x) refl is), refl)
+  target_typed Static is = let g = global_typed (slice_get S.program.globals x) refl is in ((typed, g.0, g.1), refl)
 
 module _ (T : Types) where
   there : (types : List IntegerType) (x : ℕ) (ty : IntegerType) → slice_get types x ≡ Some ty → (x < length types) × (type_there (slice_get types x) ≡ ty)
@@ -137,14 +140,14 @@ module _ (T : Types) where
   load_typed (target.Variable n ty) b new a is place few at open_ = rw (is, place) (held b n ty (slice_get b.current n) refl at open_)
   load_typed (target.Array x n ty index) b new a is place few at open_ =
       computed_last T b new (ReadArray x n index) ty a is (few open_.few) place (ap element_there at.1) open_ (at.0, (ty, at.1))
-  load_typed (target.Global x ty index) b new a is place few at open_ =
+  load_typed (target.Global x n ty index) b new a is place few at open_ =
       let h = there T.globals x ty at.1 in
-      computed_last T b new (ReadGlobal x index) ty a is (few open_.few) place h.1 open_ (at.0, h.0)
+      computed_last T b new (ReadGlobal x n index) ty a is (few open_.few) place h.1 open_ (at.0, h.0, at.2)
 
 pub load_count : (t : Target) (b new : OpenBlock) → new ≡ load_block t b → length new.operations ≤ length b.operations + 1
 load_count (target.Variable n ty) b new is = let e = ap (λ (z : OpenBlock). length z.operations) is in omega arith
 load_count (target.Array x n ty index) b new is = let e = ap (λ (z : OpenBlock). length z.operations) is ∙ length-append b.operations (ReadArray x n index ∷ []) in omega arith
-load_count (target.Global x ty index) b new is = let e = ap (λ (z : OpenBlock). length z.operations) is ∙ length-append b.operations (ReadGlobal x index ∷ []) in omega arith
+load_count (target.Global x n ty index) b new is = let e = ap (λ (z : OpenBlock). length z.operations) is ∙ length-append b.operations (ReadGlobal x n index ∷ []) in omega arith
 
 -- Expressions.
 

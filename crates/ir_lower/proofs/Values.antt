@@ -1,7 +1,8 @@
 -- The operations of each kind of expression.
-use Rattle.std.proofs.Common.{◌≡◌, ℕ, suc, ◌+◌, ◌^◌, ◌<◌, Bool, true, false, nat_lt, if◌then◌else◌, List, [], ◌∷◌, ◌++◌, length, ℤ, pos, negsuc, Option, Some, None}
+use Rattle.std.proofs.Common.{◌≡◌, ℕ, suc, ◌+◌, ◌*◌, ◌^◌, ◌<◌, Bool, true, false, nat_lt, if◌then◌else◌, List, [], ◌∷◌, ◌++◌, length, ℤ, pos, negsuc, Option, Some, None}
 use Rattle.std.proofs.Common.{refl, sym, ap, ◌∙◌, subst, arith, append-nil, append_assoc, length-append}
 use Rattle.std.specs.Prelude.{slice_get}
+use Rattle.hls_ints.specs.Residues.{residue_of}
 use Rattle.hls_ints.specs.Types.{IntegerType, int_type, wrapped}
 use Rattle.c_program.specs.declared.tree.Storage.{Storage}
 use Rattle.c_program.specs.declared.tree.Storage.TheVariants.{Automatic, Static}
@@ -18,7 +19,8 @@ use Rattle.block_ir.specs.declared.operand.Operand.{Operand}
 use Rattle.block_ir.specs.declared.block.Operation.{Operation}
 use Rattle.block_ir.specs.declared.block.Operation.TheVariants.{Unary, Binary, ReadGlobal, ReadArray}
 use Rattle.block_ir.specs.Arithmetic.{unary_total, binary_total}
-use Rattle.block_ir.specs.Run.{Read, Running, converted, index_of, place_read, place_written, source_value, operand_value, with_value, operations_run}
+use Rattle.block_ir.specs.Run.{Read, Running, converted, index_of, place_read, place_written, global_read as element_read}
+use Rattle.block_ir.specs.Run.{global_written as element_written, source_value, operand_value, with_value, operations_run}
 use Rattle.code_following.specs.Following.{reads_of}
 use Rattle.ir_lower.specs.declared.homes.Home.{Home}
 use Rattle.ir_lower.specs.declared.homes.Home.TheVariants as home
@@ -207,12 +209,12 @@ binary_at homes e f e' operator ty ty' old mid last new a b c is first second ad
 abbrev pub load_operations : Target → List Operation
 load_operations (target.Variable n ty) = []
 load_operations (target.Array a n ty index) = ReadArray a n index ∷ []
-load_operations (target.Global g ty index) = ReadGlobal g index ∷ []
+load_operations (target.Global g n ty index) = ReadGlobal g n index ∷ []
 
 pub load_added : (t : Target) (b : OpenBlock) → load_block t b ≡ with_more b (load_operations t)
 load_added (target.Variable n ty) b = nothing_added b
 load_added (target.Array a n ty index) b = refl
-load_added (target.Global g ty index) b = refl
+load_added (target.Global g n ty index) b = refl
 
 current_below : (o : Option (Option Operand)) (b : OpenBlock) (n : ℕ) (ty : IntegerType) → slice_get b.current n ≡ o → AreBelow (length b.operations) b.current →
     IsBelow (length b.operations) (current_operand o n ty)
@@ -224,7 +226,7 @@ pub loaded_below : (t : Target) (b new : OpenBlock) → new ≡ load_block t b �
 loaded_below (target.Variable n ty) b new e fits =
     rw e (current_below (slice_get b.current n) b n ty refl fits)
 loaded_below (target.Array a n ty index) b new e fits = last_below b new (ReadArray a n index) e
-loaded_below (target.Global g ty index) b new e fits = last_below b new (ReadGlobal g index) e
+loaded_below (target.Global g n ty index) b new e fits = last_below b new (ReadGlobal g n index) e
 
 current_right : (o : Option (Option Operand)) (variables : ℕ → ℤ) (values : List ℤ) (n : ℕ) (ty : IntegerType) →
     operand_value variables values (current_operand o n ty) ≡ current_value o variables values n
@@ -250,13 +252,20 @@ pub index_right : (n : ℕ) (i : ℤ) (j : ℕ) (ls : List Location) → checked
 index_right n (pos i) j ls e = index_at (nat_lt i n) n i j ls e
 index_right n (negsuc i) j ls e = cc
 
--- it is the place that is read, and the place that is written
+-- it is the place that is read, and the place that is written, of an array and of a global
 pub record IsInside (n : ℕ) (i : ℤ) : Type 0 where
   pub read : place_read n i ≡ index_of i
   pub written : place_written n i ≡ index_of i
+  pub global_read : element_read n i ≡ index_of i
+  pub global_written : element_written n i ≡ index_of i
 
 inside_at : (b : Bool) (n i j : ℕ) (ls : List Location) → nat_lt i n ≡ b → (if b then Gives i [] else Fails Index) ≡ Gives j ls → IsInside n (pos i)
-inside_at true n i j ls t e = record { read = ap (λ (c : Bool). if c then i else n) t; written = ap (λ (c : Bool). if c then i else suc n) t }
+inside_at true n i j ls t e = record {
+  read = ap (λ (c : Bool). if c then i else n) t;
+  written = ap (λ (c : Bool). if c then i else suc n) t;
+  global_read = ap (λ (c : Bool). if c then i else 16 * suc n + residue_of 3 (pos i)) t;
+  global_written = ap (λ (c : Bool). if c then i else 16 * suc n + 8 + residue_of 3 (pos i)) t;
+}
 inside_at false n i j ls t e = cc
 
 pub inside_right : (n : ℕ) (i : ℤ) (j : ℕ) (ls : List Location) → checked_index n i ≡ Gives j ls → IsInside n i
@@ -264,8 +273,8 @@ inside_right n (pos i) j ls e = inside_at (nat_lt i n) n i j ls refl e
 inside_right n (negsuc i) j ls e = cc
 
 module _ (homes : List Home) (b : OpenBlock) (variables : ℕ → ℤ) (r : Running) (m : Memory) (x j n : ℕ) (ty : IntegerType) (index : Operand)
-    (len : length r.values ≡ length b.operations) (holds : Holds homes b.current variables m r) (is_index : index_of (operand_value variables r.values index) ≡ j)
-    (is_place : place_read n (operand_value variables r.values index) ≡ j) where
+    (len : length r.values ≡ length b.operations) (holds : Holds homes b.current variables m r) (is_place : place_read n (operand_value variables r.values index) ≡ j)
+    (is_element : element_read n (operand_value variables r.values index) ≡ j) where
   local_comes : (o : Option Home) (v : ℤ) (ls : List Location) → ls ≡ [] → local_value o b.current variables r x j ≡ v →
       Comes variables r (operations_run variables (load_operations (local_target o x n ty index)) r) (loaded (local_target o x n ty index) b) v ls
   local_comes (Some (home.Array a)) v ls none is = record {
@@ -288,7 +297,7 @@ module _ (homes : List Home) (b : OpenBlock) (variables : ℕ → ℤ) (r : Runn
       local_comes (slice_get homes x) v ls g.1 (holds.locals x j v g.0)
   load_comes Static v ls q =
       let g = global_given (record { variable = x; index = j }) (element m.globals x j) v ls q in
-      let w = r.globals x (index_of (operand_value variables r.values index)) in
+      let w = r.globals x (element_read n (operand_value variables r.values index)) in
       record {
         reads = record {
           more = w ∷ [];
@@ -296,10 +305,10 @@ module _ (homes : List Home) (b : OpenBlock) (variables : ℕ → ℤ) (r : Runn
           arrays = refl;
           globals = refl;
           accesses =
-              ap (λ k. r.accesses ++ Read x k ∷ []) is_index
+              ap (λ k. r.accesses ++ Read x k ∷ []) is_element
               ∙ ap (λ l. r.accesses ++ reads_of l) (sym g.1);
         };
-        gives = last_value variables r.values w (length b.operations) len ∙ ap (r.globals x) is_index ∙ holds.globals x j v g.0;
+        gives = last_value variables r.values w (length b.operations) len ∙ ap (r.globals x) is_element ∙ holds.globals x j v g.0;
       }
 
 pub variable_at : (homes : List Home) (e : Expression) (storage : Storage) (x : ℕ) (ty : IntegerType) (b new : OpenBlock) (index a : Operand) (t : Target) →
@@ -319,8 +328,8 @@ variable_at homes e storage x ty b new index a t is first at added place few =
         load m storage x 0 ≡ Gives v ls → Comes variables r (operations_run variables (load_operations t) r) (loaded t b) v ls
     comes variables r m v ls len holds q =
         subst (λ z. Comes variables r (operations_run variables (load_operations z) r) (loaded z b) v ls) (sym at)
-        (load_comes homes b variables r m x 0 1 ty index len holds (ap (λ i. index_of (operand_value variables r.values i)) first)
-        (ap (λ i. place_read 1 (operand_value variables r.values i)) first) storage v ls q)
+        (load_comes homes b variables r m x 0 1 ty index len holds (ap (λ i. place_read 1 (operand_value variables r.values i)) first)
+        (ap (λ i. element_read 1 (operand_value variables r.values i)) first) storage v ls q)
 
 pub element_at : (homes : List Home) (e e' : Expression) (storage : Storage) (x n : ℕ) (ty : IntegerType) (old mid new : OpenBlock) (index a : Operand) (t : Target) →
     e' ≡ Expression.Element storage x n ty e → Evaluates homes e old mid index → t ≡ target_at homes storage x n ty index →
@@ -334,14 +343,14 @@ element_at homes e e' storage x n ty old mid new index a t is first at added pla
     (λ variables r m i v ls fits below len holds gives q.
     let p = parts (checked_index n i) (λ j. load m storage x j) v ls q in
     let inside = index_right n i p.value p.first p.is in
-    let j : index_of (operand_value variables r.values index) ≡ p.value = ap index_of gives ∙ inside.0 in
     let within = inside_right n i p.value p.first p.is in
     let read_at : place_read n (operand_value variables r.values index) ≡ p.value = ap (place_read n) gives ∙ within.read ∙ inside.0 in
+    let element_is : element_read n (operand_value variables r.values index) ≡ p.value = ap (element_read n) gives ∙ within.global_read ∙ inside.0 in
     let all : ls ≡ p.rest = p.reads ∙ ap (λ l. l ++ p.rest) inside.1 in
     let q' : load m storage x p.value ≡ Gives v ls = p.then_ ∙ ap (λ l. Gives v l) (sym all) in
     rw place
     (subst (λ z. Comes variables r (operations_run variables (load_operations z) r) (loaded z mid) v ls) (sym at)
-    (load_comes homes mid variables r m x p.value n ty index len holds j read_at storage v ls q')))
+    (load_comes homes mid variables r m x p.value n ty index len holds read_at element_is storage v ls q')))
 
 -- what each kind of expression comes to
 pub ruleset expression_steps = (constant_at, variable_at, element_at, unary_at, plus_at, binary_at, cast_at)

@@ -232,6 +232,7 @@ module _ (p : ProgramTree) (code : ThreadCode) (made : IsCodeOf p p.main code) (
     fits g d at reached = record {
       locals = λ x l e. home_typed l (slice_get (homes_in P g) x) (room_declared P g d at reached x l e);
       globals = refl;
+      lengths = refl;
     }
 
     words : HasWords (types_of P code) size (all_values P.functions)

@@ -106,16 +106,16 @@ module _ (T : Types) where
   store_typed (target.Array x n ty index) value old new s few at typed open_ =
       open_more T old new (WriteArray x n index s.stored) s.added (few open_.few) open_
       (at.0, operand_converted T ty old.operations value s.stored s.converted typed, at.1 ∙ ap (λ k. Some (record { ty = k; length = n })) (sym s.converted.type))
-  store_typed (target.Global x ty index) value old new s few at typed open_ =
-      open_more T old new (WriteGlobal x index s.stored) s.added (few open_.few) open_
-      (at.0, operand_converted T ty old.operations value s.stored s.converted typed, at.1 ∙ ap Some (sym s.converted.type))
+  store_typed (target.Global x n ty index) value old new s few at typed open_ =
+      open_more T old new (WriteGlobal x n index s.stored) s.added (few open_.few) open_
+      (at.0, operand_converted T ty old.operations value s.stored s.converted typed, at.1 ∙ ap Some (sym s.converted.type), at.2)
 
 pub store_count : (t : Target) (value : Operand) (old new : OpenBlock) → Stores t value old new → length new.operations ≤ length old.operations + 1
 store_count (target.Variable n ty) value old new s = let e = ap length s.operations in omega arith
 store_count (target.Array x n ty index) value old new s =
     let e = ap (λ (z : OpenBlock). length z.operations) s.added ∙ length-append old.operations (WriteArray x n index s.stored ∷ []) in omega arith
-store_count (target.Global x ty index) value old new s =
-    let e = ap (λ (z : OpenBlock). length z.operations) s.added ∙ length-append old.operations (WriteGlobal x index s.stored ∷ []) in omega arith
+store_count (target.Global x n ty index) value old new s =
+    let e = ap (λ (z : OpenBlock). length z.operations) s.added ∙ length-append old.operations (WriteGlobal x n index s.stored ∷ []) in omega arith
 
 -- one more step of the program
 pub stepped_typed : (T : Types) (b new : OpenBlock) → new ≡ record b { steps = suc b.steps } → IsTypedOpen T b → IsTypedOpen T new

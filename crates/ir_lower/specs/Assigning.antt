@@ -39,7 +39,7 @@ pub record StoresElement (writes : Operand → Operation) (ty : IntegerType) (va
 abbrev pub Stores : Target → Operand → OpenBlock → OpenBlock → Type 0
 Stores (target.Variable n ty) value old new = StoresVariable n ty value old new
 Stores (target.Array a n ty index) value old new = StoresElement (λ w. WriteArray a n index w) ty value old new
-Stores (target.Global g ty index) value old new = StoresElement (λ w. WriteGlobal g index w) ty value old new
+Stores (target.Global g n ty index) value old new = StoresElement (λ w. WriteGlobal g n index w) ty value old new
 
 -- the place is this target, once its index is evaluated
 pub record PlacesScalar (homes : List Home) (storage : Storage) (x : ℕ) (ty : IntegerType) (old new : OpenBlock) (t : Target) : Type 0 where

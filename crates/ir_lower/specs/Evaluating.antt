@@ -39,7 +39,7 @@ local_target None x n ty index = target.Variable x ty
 
 abbrev pub target_at : List Home → Storage → ℕ → ℕ → IntegerType → Operand → Target
 target_at homes Automatic x n ty index = local_target (slice_get homes x) x n ty index
-target_at homes Static x n ty index = target.Global x ty index
+target_at homes Static x n ty index = target.Global x n ty index
 
 abbrev pub with_more : OpenBlock → List Operation → OpenBlock
 with_more b operations = record b { operations = b.operations ++ operations }
@@ -48,12 +48,12 @@ with_more b operations = record b { operations = b.operations ++ operations }
 abbrev pub load_block : Target → OpenBlock → OpenBlock
 load_block (target.Variable n ty) b = b
 load_block (target.Array a n ty index) b = with_more b (ReadArray a n index ∷ [])
-load_block (target.Global g ty index) b = with_more b (ReadGlobal g index ∷ [])
+load_block (target.Global g n ty index) b = with_more b (ReadGlobal g n index ∷ [])
 
 abbrev pub loaded : Target → OpenBlock → Operand
 loaded (target.Variable n ty) b = current_operand (slice_get b.current n) n ty
 loaded (target.Array a n ty index) b = plain (FromValue (length b.operations) ty)
-loaded (target.Global g ty index) b = plain (FromValue (length b.operations) ty)
+loaded (target.Global g n ty index) b = plain (FromValue (length b.operations) ty)
 
 -- what stands for element j of local x in a run so far
 abbrev pub local_value : Option Home → List (Option Operand) → (ℕ → ℤ) → Running → ℕ → ℕ → ℤ

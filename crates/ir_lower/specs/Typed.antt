@@ -26,17 +26,19 @@ use Rattle.ir_lower.specs.Locals.{arrays_of, reached_locals}
 
 -- ---- operations
 
--- what code works on: the types of its variables, its arrays, the types of the elements of the globals
+-- what code works on: the types of its variables, its arrays, the types of the elements of the globals, and how many they have
 pub record Types : Type 0 where
   pub variables : List IntegerType
   pub arrays : List Array
   pub globals : List IntegerType
+  pub lengths : List ℕ
 
 abbrev pub types_of : Program → ThreadCode → Types
 types_of P code = record {
   variables = code.variables;
   arrays = code.arrays;
   globals = map (λ (g : GlobalVariable). g.ty) P.globals;
+  lengths = map (λ (g : GlobalVariable). g.length) P.globals;
 }
 
 abbrev pub source_type : Source → IntegerType
@@ -65,8 +67,8 @@ module _ (T : Types) where
   abbrev pub value_type : Operation → IntegerType
   value_type (Unary operator ty a) = unary_type operator ty
   value_type (Binary operator ty a b) = binary_type operator ty
-  value_type (ReadGlobal x i) = type_there (slice_get T.globals x)
-  value_type (WriteGlobal x i a) = int_type
+  value_type (ReadGlobal x n i) = type_there (slice_get T.globals x)
+  value_type (WriteGlobal x n i a) = int_type
   value_type (ReadArray x n i) = element_there (slice_get T.arrays x)
   value_type (WriteArray x n i a) = int_type
 
@@ -87,9 +89,9 @@ module _ (T : Types) where
   abbrev pub IsTypedOperation : List Operation → Operation → Type 0
   IsTypedOperation before (Unary operator ty a) = IsTypedOperand before a
   IsTypedOperation before (Binary operator ty a b) = IsTypedOperand before a × IsTypedOperand before b
-  IsTypedOperation before (ReadGlobal x i) = IsTypedOperand before i × (x < length T.globals)
-  IsTypedOperation before (WriteGlobal x i a) =
-      IsTypedOperand before i × IsTypedOperand before a × (slice_get T.globals x ≡ Some (operand_type a))
+  IsTypedOperation before (ReadGlobal x n i) = IsTypedOperand before i × (x < length T.globals) × (slice_get T.lengths x ≡ Some n)
+  IsTypedOperation before (WriteGlobal x n i a) =
+      IsTypedOperand before i × IsTypedOperand before a × (slice_get T.globals x ≡ Some (operand_type a)) × (slice_get T.lengths x ≡ Some n)
   IsTypedOperation before (ReadArray x n i) = IsTypedOperand before i × ((ty : IntegerType) × IsArray x n ty)
   IsTypedOperation before (WriteArray x n i a) =
       IsTypedOperand before i × IsTypedOperand before a × IsArray x n (operand_type a)

@@ -28,6 +28,7 @@ IsTypedHome T l None = ⊥
 pub record Fits (S : Typing) (homes : List Home) : Type 0 where
   pub locals : (x : ℕ) (l : LocalVariable) → slice_get S.function.locals x ≡ Some l → IsTypedHome S.types l (slice_get homes x)
   pub globals : S.types.globals ≡ map (λ (g : GlobalVariable). g.ty) S.program.globals
+  pub lengths : S.types.lengths ≡ map (λ (g : GlobalVariable). g.length) S.program.globals
 
 -- so many variables of 64 bits from n on
 abbrev pub HasWords : Types → ℕ → ℕ → Type 0

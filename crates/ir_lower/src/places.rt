@@ -18,12 +18,12 @@ use c_program::tree::{Place, Storage};
 use hls_ints::CType;
 use std::alloc::Global;
 
-/// Where a value of a type stands: a variable, or an element of an array of so many, or of a global.
+/// Where a value of a type stands: a variable, or an element of an array or of a global of so many.
 #[derive(Drop)]
 pub enum Target {
     Variable(u32, CType),
     Array(u32, u64, CType, Operand),
-    Global(u32, CType, Operand),
+    Global(u32, u64, CType, Operand),
 }
 
 /// The element of an object of so many at an index. An object with one element has no other.
@@ -38,7 +38,7 @@ pub fn target_at(
     ensures { result ≡ evaluating.target_at homes.now storage variable length ty index }
 {
     match storage {
-        Storage::Static => Target::Global(variable, ty, index),
+        Storage::Static => Target::Global(variable, length, ty, index),
         Storage::Automatic => match homes.get(variable as usize).copied() {
             Some(Home::Array(array)) => Target::Array(array, length, ty, index),
             Some(Home::Variable(number)) => Target::Variable(number, ty),
@@ -94,10 +94,11 @@ pub fn load(alloc: Global, block: &mut OpenBlock, target: &Target) -> Result<Ope
             let value = block.put(alloc, operation, *ty)?;
             Ok(value)
         }
-        Target::Global(global, ty, index) => {
+        Target::Global(global, length, ty, index) => {
             let index = copy_of(alloc, index)?;
             let operation = Operation::ReadGlobal {
                 global: *global,
+                length: *length,
                 index,
             };
             let value = block.put(alloc, operation, *ty)?;
@@ -135,10 +136,11 @@ pub fn store(
             let _ = block.put(alloc, operation, ty)?;
             Ok(())
         }
-        Target::Global(global, ty, index) => {
+        Target::Global(global, length, ty, index) => {
             let value = converted(alloc, value, ty)?;
             let operation = Operation::WriteGlobal {
                 global,
+                length,
                 index,
                 value,
             };

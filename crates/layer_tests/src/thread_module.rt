@@ -88,6 +88,7 @@ fn built(alloc: Global) -> Result<Module, AllocError> {
         name: Identifier::from_text(alloc, "fn_main")?,
         is_main: true,
         globals: Items::new(alloc),
+        spreads: Items::new(alloc),
         printer: Some(printer),
     };
     let code = code(alloc)?;
@@ -107,7 +108,7 @@ fn ports_and_registers(rt: HostRuntime) -> Result<(), Fail> {
         let register = signals.get(place).ok_or("register")?;
         assert_eq!(rt; register.width, width);
     }
-    for (place, name) in [(1, "en"), (5, "beat")] {
+    for (place, name) in [(1, "en"), (5, "beat_5")] {
         let signal = signals.get(place).ok_or("signal")?;
         assert_eq!(rt; signal.name.as_str(), name);
     }

@@ -102,8 +102,7 @@ if_false false x y e = refl
 
 by_name : (n : ℕ) (name : List ℕ) → is_clk name ≡ true → place_of n name ≡ Some 0
 by_name n name e = if_true (is_clk name) (Some 0) (if bytes_eq name (codes "en") then Some 1
-    else (if bytes_eq name (codes "beat") then Some 5
-    else (if bytes_eq name (codes "need") then Some (n - 2) else (if bytes_eq name (codes "done") then Some (n - 1) else last_number name)))) e
+    else (if bytes_eq name (codes "need") then Some (n - 2) else (if bytes_eq name (codes "done") then Some (n - 1) else last_number name))) e
 
 module _ (m : Module) (inputs first : ℕ) (grades : List ℕ) (are : AreGrades m inputs (length m.signals) grades) (acts : EachOf (ActsRight m) m.actions) (instances : m.instances ≡ [])
     (memories : AreRightMemories m) (placed : IsPlaced m inputs first) (begins : BeginsWithClock m) where

@@ -19,6 +19,5 @@ abbrev pub place_of : ℕ → List ℕ → Option ℕ
 place_of n name =
     if bytes_eq name (codes "clk") then Some 0
     else (if bytes_eq name (codes "en") then Some 1
-    else (if bytes_eq name (codes "beat") then Some 5
     else (if bytes_eq name (codes "need") then Some (n - 2)
-    else (if bytes_eq name (codes "done") then Some (n - 1) else last_number name))))
+    else (if bytes_eq name (codes "done") then Some (n - 1) else last_number name)))

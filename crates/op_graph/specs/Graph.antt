@@ -28,8 +28,8 @@ value_below k (Value j ty) = if nat_lt j k then Some j else None
 abbrev pub node_of : ℕ → Operation → Node
 node_of k (Unary operator ty a) = record { kind = Simple; left = value_below k a.source; right = None }
 node_of k (Binary operator ty a b) = record { kind = operator_kind operator ty; left = value_below k a.source; right = value_below k b.source }
-node_of k (ReadGlobal x i) = record { kind = Global x false; left = value_below k i.source; right = None }
-node_of k (WriteGlobal x i a) = record { kind = Global x true; left = value_below k i.source; right = value_below k a.source }
+node_of k (ReadGlobal x n i) = record { kind = Global x false; left = value_below k i.source; right = None }
+node_of k (WriteGlobal x n i a) = record { kind = Global x true; left = value_below k i.source; right = value_below k a.source }
 node_of k (ReadArray x n i) = record { kind = Array x false; left = value_below k i.source; right = None }
 node_of k (WriteArray x n i a) = record { kind = Array x true; left = value_below k i.source; right = value_below k a.source }
 

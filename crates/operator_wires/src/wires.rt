@@ -29,7 +29,7 @@ pub enum Role {
     Need,
     /// The output `done`.
     Done,
-    /// The register `beat`.
+    /// The register of the beat.
     Beat,
     /// An input: whether a core grants.
     Grant,
@@ -81,10 +81,7 @@ impl Role {
     fn is_single(self) -> bool
         ensures { result ≡ is_single self }
     {
-        matches!(
-            self,
-            Role::Clock | Role::Enable | Role::Need | Role::Done | Role::Beat
-        )
+        matches!(self, Role::Clock | Role::Enable | Role::Need | Role::Done)
     }
 
     /// The name of the signal at a place.

@@ -1,3 +1,4 @@
 pub mod Types
+pub mod Registered
 pub mod Chains
 pub mod Whole

@@ -22,8 +22,9 @@ use Rattle.block_ir.specs.declared.code.ThreadCode.{ThreadCode}
 use Rattle.planned_view.specs.Alike.{SourceNeedsBelow, NeedsBelow, OperationNeedsBelow, EachNeedsEarlier, FinalsNeedBelow, NextNeedsBelow, IsInOrder}
 use Rattle.operator_words.specs.Shown.{unary_result, binary_result}
 use Rattle.thread_promise.specs.Types as promise
-use Rattle.program_machine.specs.Built.{IsLocalOperation}
-use Rattle.ir_lower.specs.Typed.{Types, element_there, IsArray, last_type, source_type, operand_type, value_type}
+use Rattle.bank_partition.specs.declared.banks.Spread.{Spread}
+use Rattle.thread_promise.specs.Globals.{IsGlobalOf, IsAccess}
+use Rattle.ir_lower.specs.Typed.{Types, type_there, element_there, IsArray, last_type, source_type, operand_type, value_type}
 use Rattle.ir_lower.specs.Typed.{IsTypedSource, IsTypedOperand, IsTypedOperation, AreTyped, IsTypedFinal, IsTypedNext, IsTypedBlock}
 
 get_within : {A : Type 0} (xs : List A) (i : ℕ) (v : A) → slice_get xs i ≡ Some v → i < length xs
@@ -78,22 +79,11 @@ source_same (Value k ty) = refl
 operand_same : (o : Operand) → promise.operand_type o ≡ operand_type o
 operand_same o = last_same (promise.source_type o.source) o.conversions ∙ ap (λ ty. last_type ty o.conversions) (source_same o.source)
 
--- code in a program without globals
-module _ (T : Types) (code : ThreadCode) (variables : T.variables ≡ code.variables) (arrays : T.arrays ≡ code.arrays) (no_globals : T.globals ≡ []) where
-  no_access : (types : List IntegerType) (x : ℕ) → types ≡ [] → x < length types → ⊥
-  no_access types x e lt = let n = ap length e in omega arith
+global_same : (o : Option IntegerType) → promise.or_int o ≡ type_there o
+global_same None = refl
+global_same (Some ty) = refl
 
-  no_write : (types : List IntegerType) (x : ℕ) (ty : IntegerType) → types ≡ [] → slice_get types x ≡ Some ty → ⊥
-  no_write types x ty e at = no_access types x e (get_within types x ty at)
-
-  pub operator_of : (before : List Operation) (o : Operation) → IsTypedOperation T before o → IsLocalOperation o
-  operator_of before (Unary operator ty a) h = tt
-  operator_of before (Binary operator ty a b) h = tt
-  operator_of before (ReadGlobal x i) h = no_access T.globals x no_globals h.1
-  operator_of before (WriteGlobal x i a) h = no_write T.globals x (operand_type a) no_globals h.2
-  operator_of before (ReadArray x n i) h = tt
-  operator_of before (WriteArray x n i a) h = tt
-
+module _ (T : Types) (code : ThreadCode) (variables : T.variables ≡ code.variables) (arrays : T.arrays ≡ code.arrays) where
   -- arrays are those of the code
   element_same : (o : Option Array) → promise.element_type o ≡ element_there o
   element_same None = refl
@@ -102,34 +92,32 @@ module _ (T : Types) (code : ThreadCode) (variables : T.variables ≡ code.varia
   array_there : (x n : ℕ) (ty : IntegerType) → IsArray T x n ty → slice_get code.arrays x ≡ Some (record { ty = ty; length = n })
   array_there x n ty h = ap (λ (l : List Array). slice_get l x) (sym arrays) ∙ h
 
-  value_same : (o : Operation) → IsLocalOperation o → promise.value_type [] code o ≡ value_type T o
-  value_same (Unary operator ty a) h = unary_same operator ty
-  value_same (Binary operator ty a b) h = binary_same operator ty
-  value_same (ReadGlobal x i) h = absurd h
-  value_same (WriteGlobal x i a) h = absurd h
-  value_same (ReadArray x n i) h = element_same (slice_get code.arrays x) ∙ ap (λ (l : List Array). element_there (slice_get l x)) (sym arrays)
-  value_same (WriteArray x n i a) h = refl
+  value_same : (o : Operation) → promise.value_type T.globals code o ≡ value_type T o
+  value_same (Unary operator ty a) = unary_same operator ty
+  value_same (Binary operator ty a b) = binary_same operator ty
+  value_same (ReadGlobal x n i) = global_same (slice_get T.globals x)
+  value_same (WriteGlobal x n i a) = refl
+  value_same (ReadArray x n i) = element_same (slice_get code.arrays x) ∙ ap (λ (l : List Array). element_there (slice_get l x)) (sym arrays)
+  value_same (WriteArray x n i a) = refl
 
-  abbrev pub AreLocal : List Operation → Type 0
-  AreLocal os = (k : ℕ) (o : Operation) → slice_get os k ≡ Some o → IsLocalOperation o
-
-  module _ (all : List Operation) (operators : AreLocal all) where
+  module _ (all : List Operation) where
     -- what is typed behind the first of all operations is typed behind all
-    source_typed : (before more : List Operation) (s : Source) → all ≡ before ++ more → IsTypedSource T before s → promise.IsTypedSource [] code all s
+    source_typed : (before more : List Operation) (s : Source) → all ≡ before ++ more → IsTypedSource T before s → promise.IsTypedSource T.globals code all s
     source_typed before more (Constant ty v) is h = h
     source_typed before more (Variable x ty) is h = ap (λ ts. slice_get ts x) (sym variables) ∙ h
     source_typed before more (Value k ty) is h =
         let at : slice_get all k ≡ Some h.0 = ap (λ os. slice_get os k) is ∙ get_more before more k h.0 h.1 in
-        (h.0, at, value_same h.0 (operators k h.0 at) ∙ h.2)
+        (h.0, at, value_same h.0 ∙ h.2)
 
-    pub operand_typed : (before more : List Operation) (o : Operand) → all ≡ before ++ more → IsTypedOperand T before o → promise.IsTypedOperand [] code all o
+    pub operand_typed : (before more : List Operation) (o : Operand) → all ≡ before ++ more → IsTypedOperand T before o → promise.IsTypedOperand T.globals code all o
     operand_typed before more o is h = source_typed before more o.source is h
 
-    operation_typed : (before more : List Operation) (o : Operation) → all ≡ before ++ more → IsTypedOperation T before o → promise.IsTypedOperation [] code all o
+    operation_typed : (before more : List Operation) (o : Operation) → all ≡ before ++ more → IsTypedOperation T before o → promise.IsTypedOperation T.globals code all o
     operation_typed before more (Unary operator ty a) is h = operand_typed before more a is h
     operation_typed before more (Binary operator ty a b) is h = (operand_typed before more a is h.0, operand_typed before more b is h.1)
-    operation_typed before more (ReadGlobal x i) is h = absurd (no_access T.globals x no_globals h.1)
-    operation_typed before more (WriteGlobal x i a) is h = absurd (no_write T.globals x (operand_type a) no_globals h.2)
+    operation_typed before more (ReadGlobal x n i) is h = (operand_typed before more i is h.0, h.1)
+    operation_typed before more (WriteGlobal x n i a) is h =
+        (operand_typed before more i is h.0, operand_typed before more a is h.1, h.2 ∙ ap Some (sym (operand_same a)))
     operation_typed before more (ReadArray x n i) is h = (operand_typed before more i is h.0, (record { ty = h.1.0; length = n }, array_there x n h.1.0 h.1.1, refl))
     operation_typed before more (WriteArray x n i a) is h =
         let own = array_there x n (operand_type a) h.2 in (
@@ -139,39 +127,49 @@ module _ (T : Types) (code : ThreadCode) (variables : T.variables ≡ code.varia
           (record { ty = operand_type a; length = n }, own, operand_same a),
         )
 
-    operations_typed : (before os : List Operation) → all ≡ before ++ os → AreTyped T before os → (k : ℕ) (o : Operation) → slice_get os k ≡ Some o → promise.IsTypedOperation [] code all o
+    operations_typed : (before os : List Operation) → all ≡ before ++ os → AreTyped T before os → (k : ℕ) (o : Operation) → slice_get os k ≡ Some o →
+        promise.IsTypedOperation T.globals code all o
     operations_typed before [] is h k o e = cc
-    operations_typed before (x ∷ os) is h zero o e = subst (promise.IsTypedOperation [] code all) (let same : x ≡ o = cc in same) (operation_typed before (x ∷ os) x is h.0)
+    operations_typed before (x ∷ os) is h zero o e =
+        subst (promise.IsTypedOperation T.globals code all) (let same : x ≡ o = cc in same) (operation_typed before (x ∷ os) x is h.0)
     operations_typed before (x ∷ os) is h (suc k) o e = operations_typed (before ++ x ∷ []) os (is ∙ sym (append_assoc before (x ∷ []) os)) h.1 k o e
 
-  are_local : (before os : List Operation) → AreTyped T before os → AreLocal os
-  are_local before [] h k o e = cc
-  are_local before (x ∷ os) h zero o e = subst IsLocalOperation (let same : x ≡ o = cc in same) (operator_of before x h.0)
-  are_local before (x ∷ os) h (suc k) o e = are_local (before ++ x ∷ []) os h.1 k o e
-
   module _ (n m : ℕ) (b : Block) (t : IsTypedBlock T n m b) where
-    pub block_locals : AreLocal b.operations
-    block_locals = are_local [] b.operations t.operations
-
-    abbrev typed_in : (o : Operand) → IsTypedOperand T b.operations o → promise.IsTypedOperand [] code b.operations o
-    typed_in o h = operand_typed b.operations block_locals b.operations [] o (let e : b.operations ≡ b.operations ++ [] = sym (append_nothing b.operations) in e) h
+    abbrev typed_in : (o : Operand) → IsTypedOperand T b.operations o → promise.IsTypedOperand T.globals code b.operations o
+    typed_in o h = operand_typed b.operations b.operations [] o (let e : b.operations ≡ b.operations ++ [] = sym (append_nothing b.operations) in e) h
       where
         append_nothing : (xs : List Operation) → xs ++ [] ≡ xs
         append_nothing [] = refl
         append_nothing (x ∷ xs) = ap (λ l. x ∷ l) (append_nothing xs)
 
-    next_typed : (to : Next) → n ≡ length code.stages → IsTypedNext T n b.operations to → promise.IsTypedNext [] code b.operations to
+    next_typed : (to : Next) → n ≡ length code.stages → IsTypedNext T n b.operations to → promise.IsTypedNext T.globals code b.operations to
     next_typed (Jump l) is h = omega arith
     next_typed (Branch test l k) is h = (typed_in test h.0, let a = h.1 in omega arith, let a = h.2 in omega arith)
 
-    pub block_typed : n ≡ length code.stages → promise.IsTypedBlock [] code b
+    pub block_typed : n ≡ length code.stages → promise.IsTypedBlock T.globals code b
     block_typed is = record {
-      operations = operations_typed b.operations block_locals [] b.operations refl t.operations;
+      operations = operations_typed b.operations [] b.operations refl t.operations;
       finals = λ k f e.
           let h = t.finals k f e in
           (typed_in f.value h.0, ap (λ ts. slice_get ts f.variable) (sym variables) ∙ h.1 ∙ ap Some (sym (operand_same f.value)));
       next = next_typed b.next is t.next;
     }
+
+-- What is typed accesses globals that have banks.
+
+module _ (T : Types) (spreads : List Spread) (spread : (x n : ℕ) → slice_get T.lengths x ≡ Some n → IsGlobalOf spreads x n) where
+  access_is : (before : List Operation) (o : Operation) → IsTypedOperation T before o → IsAccess spreads o
+  access_is before (Unary operator ty a) h = tt
+  access_is before (Binary operator ty a b) h = tt
+  access_is before (ReadGlobal x n i) h = spread x n h.2
+  access_is before (WriteGlobal x n i a) h = spread x n h.3
+  access_is before (ReadArray x n i) h = tt
+  access_is before (WriteArray x n i a) h = tt
+
+  pub accesses_are : (before os : List Operation) → AreTyped T before os → (k : ℕ) (o : Operation) → slice_get os k ≡ Some o → IsAccess spreads o
+  accesses_are before [] h k o e = cc
+  accesses_are before (x ∷ os) h zero o e = subst (IsAccess spreads) (let same : x ≡ o = cc in same) (access_is before x h.0)
+  accesses_are before (x ∷ os) h (suc k) o e = accesses_are (before ++ x ∷ []) os h.1 k o e
 
 -- What is typed uses earlier operations alone.
 
@@ -187,8 +185,8 @@ module _ (T : Types) where
   operation_below : (before : List Operation) (o : Operation) → IsTypedOperation T before o → OperationNeedsBelow (length before) o
   operation_below before (Unary operator ty a) h = operand_below before a h
   operation_below before (Binary operator ty a b) h = (operand_below before a h.0, operand_below before b h.1)
-  operation_below before (ReadGlobal x i) h = operand_below before i h.0
-  operation_below before (WriteGlobal x i a) h = (operand_below before i h.0, operand_below before a h.1)
+  operation_below before (ReadGlobal x n i) h = operand_below before i h.0
+  operation_below before (WriteGlobal x n i a) h = (operand_below before i h.0, operand_below before a h.1)
   operation_below before (ReadArray x n i) h = operand_below before i h.0
   operation_below before (WriteArray x n i a) h = (operand_below before i h.0, operand_below before a h.1)
 

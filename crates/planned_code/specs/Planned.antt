@@ -1,7 +1,8 @@
 -- The code of a program of one thread, by its sequential plan.
-use Rattle.std.specs.Prelude.{◌≡◌, ℕ, ◌^◌, ◌<◌, Some, slice_get}
+use Rattle.std.specs.Prelude.{◌≡◌, ℕ, ◌^◌, ◌<◌, List, Some, slice_get}
 use Rattle.c_program.specs.Tree.{Program}
 use Rattle.c_program.specs.Resolved.{IsResolved}
+use Rattle.bank_partition.specs.Shapes.{spreads_from}
 use Rattle.block_ir.specs.declared.block.Block.{Block}
 use Rattle.block_ir.specs.declared.code.Stage.TheVariants as stage
 use Rattle.block_ir.specs.declared.code.ThreadCode.{ThreadCode}
@@ -11,14 +12,14 @@ use Rattle.block_ir.specs.declared.plan.Planned.{Planned}
 use Rattle.code_following.specs.Following.{IsLowered}
 use Rattle.ir_lower.specs.Typed.{IsTypedCode}
 use Rattle.fsm_plan.specs.Sequential.{IsSequential}
-use Rattle.program_machine.specs.Built.{IsSingle, IsCode}
+use Rattle.program_machine.specs.Built.{IsCode}
 
--- PLANNED: typed code that does main's steps, by its sequential plan, is what the machine is built of, a printf having at most 4
--- values
+-- PLANNED: typed code that does main's steps, by its sequential plan, is what the machine is built of, whatever the banks of the globals, a
+-- printf having at most 4 values
 abbrev pub SequentialIsCode : Type 0
 SequentialIsCode =
-    (P : Program) (code : ThreadCode) (plan : Planned) → IsResolved P → IsSingle P → IsLowered P code → IsTypedCode P code → IsSequential code plan →
-    IsCode P code plan 4
+    (P : Program) (threads : List ℕ) (code : ThreadCode) (plan : Planned) → IsResolved P → IsLowered P code → IsTypedCode P code → IsSequential code plan →
+    IsCode P (spreads_from threads 0 0 P.globals) code plan 4
 
 -- the number of a block's states has 64 bits
 abbrev pub PlansAreSmall : Type 0

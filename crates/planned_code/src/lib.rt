@@ -3,8 +3,8 @@
 
 ghost use Rattle.planned_code.specs.Planned.{SequentialIsCode, PlansAreSmall};
 
-/// The code of main alone, without globals, that does its steps and is typed, is code as the machine needs
-/// it, by its sequential plan. The number of states of a block has 64 bits.
+/// The code of main alone that does its steps and is typed, is code as the machine needs it, by its sequential plan,
+/// whatever the banks of the globals are. The number of states of a block has 64 bits.
 pub fn planned_code()
     ensures code { SequentialIsCode }
     ensures small { PlansAreSmall }

@@ -31,8 +31,8 @@ operand_below n o j below u = source_below n o.source j below (uses_converted o.
 operation_below : (n : ℕ) (o : CodeOperation) (j : ℕ) → OperationNeedsBelow n o → Uses (operation_view o) j → j < n
 operation_below n (Unary operator ty a) j below u = ⊎_elim (λ v. operand_below n a j below v) (λ v. absurd v) u
 operation_below n (Binary operator ty a b) j below u = ⊎_elim (λ v. operand_below n a j below.0 v) (λ v. operand_below n b j below.1 v) u
-operation_below n (ReadGlobal x i) j below u = ⊎_elim (λ v. operand_below n i j below v) (λ v. absurd v) u
-operation_below n (WriteGlobal x i a) j below u = ⊎_elim (λ v. operand_below n i j below.0 v) (λ v. operand_below n a j below.1 v) u
+operation_below n (ReadGlobal x size i) j below u = ⊎_elim (λ v. operand_below n i j below v) (λ v. absurd v) u
+operation_below n (WriteGlobal x size i a) j below u = ⊎_elim (λ v. operand_below n i j below.0 v) (λ v. operand_below n a j below.1 v) u
 operation_below n (ReadArray x size i) j below u = ⊎_elim (λ v. operand_below n i j below v) (λ v. absurd v) u
 operation_below n (WriteArray x size i a) j below u = ⊎_elim (λ v. operand_below n i j below.0 v) (λ v. operand_below n a j below.1 v) u
 

@@ -8,7 +8,7 @@ use Rattle.c_program.specs.declared.tree.BinaryOperator.{BinaryOperator}
 use Rattle.c_program.specs.declared.tree.BinaryOperator.TheVariants.{Multiply as Times, Divide as Over, Remainder}
 use Rattle.interleaving.specs.Memory.{Location, Memory, Access, Read, Write, memory_after}
 use Rattle.block_ir.specs.Arithmetic.{unary_total, binary_total}
-use Rattle.block_ir.specs.Run.{Cells, or_zero, place_read, place_written, converted, source_value}
+use Rattle.block_ir.specs.Run.{Cells, or_zero, place_read, place_written, global_read, global_written, converted, source_value}
 use Rattle.block_ir.specs.Run.{operand_value as code_value, operation_run, operations_run, started as code_started, with_cell, index_of as code_index}
 use Rattle.block_ir.specs.Run.{Running as CodeRunning, block_run as code_run, finished as code_finished, leads_to as code_leads_to, Access as CodeAccess, Read as CodeRead, Write as CodeWrite}
 use Rattle.block_ir.specs.declared.operand.Source.{Source}
@@ -140,31 +140,35 @@ module _ (variables : ℕ → ℤ) where
       ∙ ap (λ y. binary_total operator ty y (operand_value variables s.values (operand_view p))) (operand_alike s.values r.values a.values o)
       ∙ ap (λ y. binary_total operator ty (code_value variables r.values o) y) (operand_alike s.values r.values a.values p))
       (binary_bank operator (binary_total operator ty) _ _) (binary_array operator (binary_total operator ty) _ _)
-  step n r s a (ReadGlobal x i) =
+  step n r s a (ReadGlobal x size i) =
       let e = operand_alike s.values r.values a.values i in
-      let place = place_alike x (operand_value variables s.values (operand_view i)) (code_value variables r.values i) e in
-      let v = r.globals x (code_index (code_value variables r.values i)) in
+      let j = global_read size (code_value variables r.values i) in
+      let place : element x (pos (global_read size (operand_value variables s.values (operand_view i)))) ≡ record { object = x; index = j } =
+      ap (λ z. element x (pos (global_read size z))) e in
       record {
-        count = count_next n r s a v;
-        values = values_next n r s a (s.memory (element x (operand_value variables s.values (operand_view i)))) v
-            (ap s.memory place ∙ a.memory (record { object = x; index = code_index (code_value variables r.values i) }));
+        count = count_next n r s a (r.globals x j);
+        values = values_next n r s a (s.memory (element x (pos (global_read size (operand_value variables s.values (operand_view i)))))) (r.globals x j)
+            (ap s.memory place ∙ a.memory (record { object = x; index = j }));
         arrays = a.arrays;
         memory = a.memory;
-        accesses = accesses_next n r s a (Read (element x (operand_value variables s.values (operand_view i)))) (CodeRead x (code_index (code_value variables r.values i))) (ap Read place);
+        accesses = accesses_next n r s a (Read (element x (pos (global_read size (operand_value variables s.values (operand_view i)))))) (CodeRead x j) (ap Read place);
       }
-  step n r s a (WriteGlobal x i o) =
+  step n r s a (WriteGlobal x size i o) =
       let e = operand_alike s.values r.values a.values i in
       let f = operand_alike s.values r.values a.values o in
-      let place = place_alike x (operand_value variables s.values (operand_view i)) (code_value variables r.values i) e in
+      let j = global_written size (code_value variables r.values i) in
+      let place : element x (pos (global_written size (operand_value variables s.values (operand_view i)))) ≡ record { object = x; index = j } =
+      ap (λ z. element x (pos (global_written size z))) e in
       record {
         count = count_next n r s a (pos 0);
         values = values_next n r s a (pos 0) (pos 0) refl;
         arrays = a.arrays;
-        memory = write_alike r.globals s.memory a.memory x (operand_value variables s.values (operand_view i)) (code_value variables r.values i)
-            (operand_value variables s.values (operand_view o)) (code_value variables r.values o) e f;
-        accesses = accesses_next n r s a (Write (element x (operand_value variables s.values (operand_view i))) (operand_value variables s.values (operand_view o)))
-            (CodeWrite x (code_index (code_value variables r.values i)) (code_value variables r.values o))
-            (ap (λ p. Write p (operand_value variables s.values (operand_view o))) place ∙ ap (λ v. Write (record { object = x; index = code_index (code_value variables r.values i) }) v) f);
+        memory = write_alike r.globals s.memory a.memory x (pos (global_written size (operand_value variables s.values (operand_view i))))
+            (pos (global_written size (code_value variables r.values i))) (operand_value variables s.values (operand_view o)) (code_value variables r.values o)
+            (ap (λ z. pos (global_written size z)) e) f;
+        accesses = accesses_next n r s a (Write (element x (pos (global_written size (operand_value variables s.values (operand_view i))))) (operand_value variables s.values (operand_view o)))
+            (CodeWrite x j (code_value variables r.values o))
+            (ap (λ p. Write p (operand_value variables s.values (operand_view o))) place ∙ ap (λ v. Write (record { object = x; index = j }) v) f);
       }
   step n r s a (ReadArray x size i) =
       let e = operand_alike s.values r.values a.values i in

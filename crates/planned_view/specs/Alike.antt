@@ -44,8 +44,8 @@ NeedsBelow n o = SourceNeedsBelow n o.source
 abbrev pub OperationNeedsBelow : ℕ → CodeOperation → Type 0
 OperationNeedsBelow n (Unary operator ty a) = NeedsBelow n a
 OperationNeedsBelow n (Binary operator ty a b) = NeedsBelow n a × NeedsBelow n b
-OperationNeedsBelow n (ReadGlobal x i) = NeedsBelow n i
-OperationNeedsBelow n (WriteGlobal x i a) = NeedsBelow n i × NeedsBelow n a
+OperationNeedsBelow n (ReadGlobal x size i) = NeedsBelow n i
+OperationNeedsBelow n (WriteGlobal x size i a) = NeedsBelow n i × NeedsBelow n a
 OperationNeedsBelow n (ReadArray x size i) = NeedsBelow n i
 OperationNeedsBelow n (WriteArray x size i a) = NeedsBelow n i × NeedsBelow n a
 

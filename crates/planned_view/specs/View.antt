@@ -5,7 +5,7 @@ use Rattle.c_program.specs.declared.tree.BinaryOperator.{BinaryOperator}
 use Rattle.c_program.specs.declared.tree.BinaryOperator.TheVariants.{Multiply as Times, Divide as Over, Remainder}
 use Rattle.interleaving.specs.Memory.{Memory, Access, Read, Write}
 use Rattle.block_ir.specs.Arithmetic.{unary_total, binary_total}
-use Rattle.block_ir.specs.Run.{Cells, Access as CodeAccess, Read as CodeRead, Write as CodeWrite, place_read, place_written}
+use Rattle.block_ir.specs.Run.{Cells, Access as CodeAccess, Read as CodeRead, Write as CodeWrite, place_read, place_written, global_read, global_written}
 use Rattle.block_ir.specs.declared.operand.Source.{Source}
 use Rattle.block_ir.specs.declared.operand.Source.TheVariants.{Constant as FromConstant, Variable as FromVariable, Value as FromValue}
 use Rattle.block_ir.specs.declared.operand.Operand.{Operand as CodeOperand}
@@ -48,8 +48,8 @@ no_operand = Constant (pos 0)
 abbrev pub operation_view : CodeOperation → Operation
 operation_view (Unary operator ty a) = record { kind = Simple (λ l r. unary_total operator ty l); left = operand_view a; right = no_operand }
 operation_view (Binary operator ty a b) = record { kind = binary_kind operator (binary_total operator ty); left = operand_view a; right = operand_view b }
-operation_view (ReadGlobal x i) = record { kind = BankRead x; left = operand_view i; right = no_operand }
-operation_view (WriteGlobal x i a) = record { kind = BankWrite x; left = operand_view i; right = operand_view a }
+operation_view (ReadGlobal x n i) = record { kind = BankRead x; left = Through (λ v. pos (global_read n v)) (operand_view i); right = no_operand }
+operation_view (WriteGlobal x n i a) = record { kind = BankWrite x; left = Through (λ v. pos (global_written n v)) (operand_view i); right = operand_view a }
 operation_view (ReadArray x n i) = record { kind = ArrayRead x; left = Through (λ v. pos (place_read n v)) (operand_view i); right = no_operand }
 operation_view (WriteArray x n i a) = record { kind = ArrayWrite x; left = Through (λ v. pos (place_written n v)) (operand_view i); right = operand_view a }
 

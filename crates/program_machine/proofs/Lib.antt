@@ -1,4 +1,9 @@
 pub mod Bytes
+pub mod Banks
+pub mod Cores
+pub mod Holding
+pub mod Accessing
+pub mod Partitioned
 pub mod Slots
 pub mod Cycle
 pub mod Threads

@@ -1,13 +1,14 @@
 -- A cycle of the machine is a chain of moves: of none where the slot stays, and of one of thread 0 where it changes.
-use Rattle.std.specs.Prelude.{Bool, true, false, not, ◌&&◌, ◌||◌, ◌⊎◌, if◌then◌else◌, Option, Some, slice_get, ℤ}
+use Rattle.std.specs.Prelude.{Bool, true, false, not, ◌||◌, ◌⊎◌, Option, Some, slice_get, ℤ}
 use Rattle.std.proofs.Common.{◌≡◌, ◌≢◌, ℕ, zero, suc, ◌<◌, List, [], ◌∷◌, ◌++◌, length, refl, sym, ap, ap₂, ◌∙◌, subst, inl, inr, ⊎_elim, lit<}
 use Rattle.std.proofs.lemmas.List.{append-nil}
 use Rattle.c_program.specs.Tree.{Program}
 use Rattle.c_program.specs.Resolved.{IsResolved}
-use Rattle.interleaving.specs.Memory.{Access}
+use Rattle.interleaving.specs.Memory.{Memory, Access, memory_after}
 use Rattle.interleaving.specs.Hardware.{World, Turned}
 use Rattle.interleaving.specs.Cycle.{Chain}
 use Rattle.race_model.specs.Source.{c_source}
+use Rattle.bank_partition.specs.declared.banks.Spread.{Spread}
 use Rattle.block_ir.specs.declared.block.Block.{Block}
 use Rattle.block_ir.specs.declared.code.Stage.{Stage}
 use Rattle.block_ir.specs.declared.code.Stage.TheVariants as stage
@@ -16,16 +17,17 @@ use Rattle.block_ir.specs.declared.plan.BlockPlan.{BlockPlan}
 use Rattle.block_ir.specs.declared.plan.StagePlan.{StagePlan}
 use Rattle.block_ir.specs.declared.plan.Planned.{Planned}
 use Rattle.planned_block.specs.Block.{size}
-use Rattle.planned_block.specs.Slot.{Slot, accesses_where, bank_access_now, Turns}
-use Rattle.planned_block.specs.Advance.{requests, answered, is_ready, wires}
+use Rattle.planned_block.specs.Slot.{Slot, AreBanks, Turns}
+use Rattle.planned_block.specs.Advance.{is_ready, is_answered, accesses_of_cycle, wires}
 use Rattle.planned_block.proofs.Advancing.{advances}
 use Rattle.planned_block.proofs.Total.{advance_is}
 use Rattle.planned_view.specs.View.{planned_view, plan_view}
 use Rattle.block_refine.specs.Threads.{block_at, plan_at}
+use Rattle.thread_promise.specs.Globals.{bank_of}
 use Rattle.thread_promise.specs.Promise.{RunsAt, first_slot, went_on}
-use Rattle.program_machine.specs.Built.{IsCode}
-use Rattle.program_machine.proofs.Slots.{advanced_slot, none_asks, operators, ready, advanced_beat}
-use Rattle.program_machine.proofs.Cycle.{bank_of, first_memory, Does, Rests, Stops, Works, Prints, Returns}
+use Rattle.program_machine.specs.Built.{globals_of, IsCode}
+use Rattle.program_machine.proofs.Slots.{advanced_slot, IsReady, advanced_beat}
+use Rattle.program_machine.proofs.Cycle.{Does, Rests, Stops, Works, Prints, Returns}
 use Rattle.program_machine.proofs.Threads.{Core, Acts, ActsThere, Printed, Returned, H}
 
 -- one value for thread 0, or core 0, and one for all others
@@ -37,103 +39,106 @@ same_beyond : {A : Type 0} (x z y : A) (j : ℕ) → j ≢ 0 → at_zero x y j �
 same_beyond x z y zero ne = absurd (ne refl)
 same_beyond x z y (suc j) ne = refl
 
-none_made : (f : ℕ → Bool) (made : ℕ → List (Access ℤ)) (count n : ℕ) → ((k : ℕ) → f k ≡ false) → accesses_where f made count n ≡ []
-none_made f made zero n none = refl
-none_made f made (suc count) n none =
-    ap (λ (c : Bool). (if c then made n else []) ++ accesses_where f made count (suc n)) (none n) ∙ none_made f made count (suc n) none
+never_ready : (x y : Bool) → x ≡ true → (x || y) ≡ false → ⊥
+never_ready true y e z = cc
+never_ready false y e z = cc
 
-never_both : (b : Bool) → (b && false) ≡ false
-never_both true = refl
-never_both false = refl
-
-module _ (P : Program) (code : ThreadCode) (plan : Planned) (values : ℕ) (R : IsResolved P) (coded : IsCode P code plan values) where
-  -- the world of a slot of thread 0 and the bytes printed so far
-  abbrev pub world : Slot → List ℕ → World ℤ Slot (ℕ → Core)
-  world q out = record {
+module _ (P : Program) (spreads : List Spread) (code : ThreadCode) (plan : Planned) (values : ℕ) (R : IsResolved P) (coded : IsCode P spreads code plan values)
+    (apart : AreBanks (bank_of spreads)) where
+  -- the world of a slot of thread 0, the memory of the globals, and the bytes printed so far
+  abbrev pub world : Slot → Memory ℤ → List ℕ → World ℤ Slot (ℕ → Core)
+  world q memory out = record {
     slots = at_zero q (went_on (length code.stages) first_slot);
-    memory = first_memory P;
+    memory = memory;
     cores = at_zero out [];
   }
 
-  -- a cycle within a block makes no access
-  turns : (q : Slot) (b : Block) (p : BlockPlan) → RunsAt [] code plan q.stage b p → q.state < p.states →
-      Turns bank_of (planned_view b) (plan_view b p) q (first_memory P) [] (advanced_slot bank_of (first_memory P) q b p)
-  turns q b p runs lt =
-      let quiet = none_asks b (operators P code plan values coded q.stage b runs.listed) in
-      let is = advance_is bank_of (planned_view b) (plan_view b p) runs.keeps (λ x y e. e) q (first_memory P) (λ k. false) lt in
-      let none = none_made (answered (planned_view b) (plan_view b p) q (λ k. false)) (bank_access_now (planned_view b) (plan_view b p) q (wires bank_of (planned_view b) (plan_view b p) q))
-      (size (planned_view b)) 0 (λ k. never_both (requests (planned_view b) (plan_view b p) q k)) in
+  -- the accesses of a cycle
+  abbrev pub made : Slot → Block → BlockPlan → (ℕ → Bool) → List (Access ℤ)
+  made q b p grant = accesses_of_cycle (planned_view b) (plan_view b p) q grant (wires (bank_of spreads) (planned_view b) (plan_view b p) q)
+
+  -- a cycle within a block that leaves its state
+  turns : (q : Slot) (memory : Memory ℤ) (b : Block) (p : BlockPlan) (grant : ℕ → Bool) → RunsAt (globals_of P) spreads code plan q.stage b p → q.state < p.states →
+      ((k : ℕ) → grant k ≡ true → k < size (planned_view b)) → IsReady q b p grant →
+      Turns (bank_of spreads) (planned_view b) (plan_view b p) q memory (made q b p grant) (advanced_slot (bank_of spreads) memory grant q b p)
+  turns q memory b p grant runs lt within ready =
+      let is = advance_is (bank_of spreads) (planned_view b) (plan_view b p) runs.keeps apart q memory grant lt in
       ⊎_elim
-      (λ t. subst (λ es. Turns bank_of (planned_view b) (plan_view b p) q (first_memory P) es (advanced_slot bank_of (first_memory P) q b p)) none t.0)
-      (λ rest. absurd (never_ready (is_ready (planned_view b) (plan_view b p) q (λ k. false)) _
-      (ready bank_of (planned_view b) (plan_view b p) quiet q (first_memory P) (λ k. false)) rest.2))
-      (advances bank_of (planned_view b) (plan_view b p) q (first_memory P) (λ k. false) (wires bank_of (planned_view b) (plan_view b p) q)
-      (advanced_slot bank_of (first_memory P) q b p) is lt (λ k e. absurd cc))
-    where
-      never_ready : (x y : Bool) → x ≡ true → (x || y) ≡ false → ⊥
-      never_ready true y e z = cc
-      never_ready false y e z = cc
+      (λ t. t.0)
+      (λ rest. absurd (never_ready (is_ready (planned_view b) (plan_view b p) q grant) (is_answered (planned_view b) (plan_view b p) q grant) ready rest.2))
+      (advances (bank_of spreads) (planned_view b) (plan_view b p) q memory grant (wires (bank_of spreads) (planned_view b) (plan_view b p) q)
+      (advanced_slot (bank_of spreads) memory grant q b p) is lt within)
 
   -- in the code's words
-  turns_there : (q : Slot) (b : Block) (p : BlockPlan) → RunsAt [] code plan q.stage b p → q.state < p.states →
-      Turns bank_of (block_at (slice_get code.stages q.stage)) (plan_at (slice_get code.stages q.stage) (slice_get plan.stages q.stage)) q (first_memory P) []
-      (advanced_slot bank_of (first_memory P) q b p)
-  turns_there q b p runs lt =
-      subst (λ (o : Option Stage). Turns bank_of (block_at o) (plan_at o (slice_get plan.stages q.stage)) q (first_memory P) [] (advanced_slot bank_of (first_memory P) q b p)) (sym runs.listed)
-      (subst (λ (o : Option StagePlan). Turns bank_of (planned_view b) (plan_at (Some (stage.Run b)) o) q (first_memory P) [] (advanced_slot bank_of (first_memory P) q b p)) (sym runs.planned_so)
-      (turns q b p runs lt))
+  turns_there : (q : Slot) (memory : Memory ℤ) (b : Block) (p : BlockPlan) (grant : ℕ → Bool) → RunsAt (globals_of P) spreads code plan q.stage b p → q.state < p.states →
+      ((k : ℕ) → grant k ≡ true → k < size (planned_view b)) → IsReady q b p grant →
+      Turns (bank_of spreads) (block_at (slice_get code.stages q.stage)) (plan_at (slice_get code.stages q.stage) (slice_get plan.stages q.stage)) q memory (made q b p grant)
+      (advanced_slot (bank_of spreads) memory grant q b p)
+  turns_there q memory b p grant runs lt within ready =
+      subst (λ (o : Option Stage). Turns (bank_of spreads) (block_at o) (plan_at o (slice_get plan.stages q.stage)) q memory (made q b p grant)
+      (advanced_slot (bank_of spreads) memory grant q b p)) (sym runs.listed)
+      (subst (λ (o : Option StagePlan). Turns (bank_of spreads) (planned_view b) (plan_at (Some (stage.Run b)) o) q memory (made q b p grant)
+      (advanced_slot (bank_of spreads) memory grant q b p)) (sym runs.planned_so)
+      (turns q memory b p grant runs lt within ready))
 
   nothing_more : (out bytes : List ℕ) → bytes ≡ [] → out ++ bytes ≡ out
   nothing_more out bytes e = ap (λ (rest : List ℕ). out ++ rest) e ∙ append-nil out
 
-  module _ (q r : Slot) (out bytes : List ℕ) where
-    same_world : r ≡ q → bytes ≡ [] → world q out ≡ world r (out ++ bytes)
-    same_world e silent = ap₂ (λ (x : Slot) (o : List ℕ). world x o) (sym e) (sym (nothing_more out bytes silent))
+  module _ (q r : Slot) (memory after : Memory ℤ) (out bytes : List ℕ) where
+    same_world : r ≡ q → after ≡ memory → bytes ≡ [] → world q memory out ≡ world r after (out ++ bytes)
+    same_world e same silent =
+        ap₂ (λ (x : Slot) (o : List ℕ). world x memory o) (sym e) (sym (nothing_more out bytes silent)) ∙ ap (λ (n : Memory ℤ). world r n (out ++ bytes)) (sym same)
 
-    turned : (b : Block) (p : BlockPlan) → RunsAt [] code plan q.stage b p → q.state < p.states → r ≡ advanced_slot bank_of (first_memory P) q b p → bytes ≡ [] →
-        Turned (c_source P) (H P code plan values R coded) (world q out) 0 (world r (out ++ bytes))
-    turned b p runs lt e silent = record {
-      accesses = [];
-      turn = inl (subst (λ x. Turns bank_of (block_at (slice_get code.stages q.stage)) (plan_at (slice_get code.stages q.stage) (slice_get plan.stages q.stage)) q (first_memory P) [] x)
-          (sym e) (turns_there q b p runs lt));
+    turned : (b : Block) (p : BlockPlan) (grant : ℕ → Bool) → RunsAt (globals_of P) spreads code plan q.stage b p → q.state < p.states →
+        ((k : ℕ) → grant k ≡ true → k < size (planned_view b)) → IsReady q b p grant → r ≡ advanced_slot (bank_of spreads) memory grant q b p →
+        after ≡ memory_after (made q b p grant) memory → bytes ≡ [] →
+        Turned (c_source P) (H P spreads code plan values R coded) (world q memory out) 0 (world r after (out ++ bytes))
+    turned b p grant runs lt within ready e writes silent = record {
+      accesses = made q b p grant;
+      turn = inl (subst
+          (λ x. Turns (bank_of spreads) (block_at (slice_get code.stages q.stage))
+          (plan_at (slice_get code.stages q.stage) (slice_get plan.stages q.stage)) q memory (made q b p grant) x)
+          (sym e) (turns_there q memory b p grant runs lt within ready));
       others = λ j ne. same_beyond r q (went_on (length code.stages) first_slot) j ne;
-      memory = λ l. refl;
+      memory = λ l. ap (λ (n : Memory ℤ). n l) writes;
       cores = ap (λ (o : List ℕ). at_zero o []) (nothing_more out bytes silent);
     }
 
-    acted : Acts P code plan values R coded (world q out) (world r (out ++ bytes)) → ActsThere P code plan values R coded (world q out) 0 (world r (out ++ bytes))
-    acted act = record {
+    acted : after ≡ memory → Acts P spreads code plan values R coded (world q memory out) (world r after (out ++ bytes)) →
+        ActsThere P spreads code plan values R coded (world q memory out) 0 (world r after (out ++ bytes))
+    acted same act = record {
       main = refl;
       act = act;
       others = λ j ne. same_beyond r q (went_on (length code.stages) first_slot) j ne;
-      memory = λ l. refl;
+      memory = λ l. ap (λ (n : Memory ℤ). n l) same;
     }
 
     abbrev Chained : Type 0
-    Chained = (is : List ℕ) × Chain (c_source P) (H P code plan values R coded) 1 is (world q out) (world r (out ++ bytes))
+    Chained = (is : List ℕ) × Chain (c_source P) (H P spreads code plan values R coded) 1 is (world q memory out) (world r after (out ++ bytes))
 
-    one : Turned (c_source P) (H P code plan values R coded) (world q out) 0 (world r (out ++ bytes)) ⊎ ActsThere P code plan values R coded (world q out) 0 (world r (out ++ bytes)) → Chained
-    one move = (0 ∷ [], (world r (out ++ bytes), lit< tt, move, refl))
+    one : Turned (c_source P) (H P spreads code plan values R coded) (world q memory out) 0 (world r after (out ++ bytes))
+        ⊎ ActsThere P spreads code plan values R coded (world q memory out) 0 (world r after (out ++ bytes)) → Chained
+    one move = (0 ∷ [], (world r after (out ++ bytes), lit< tt, move, refl))
 
     -- THE CHAIN OF A CYCLE
-    pub chained : (enabled : Bool) → Does P code plan enabled q r bytes → Chained
-    chained enabled (Rests off e silent) = ([], same_world e silent)
-    chained enabled (Stops past e silent) = ([], same_world e silent)
-    chained enabled (Works b p runs lt e silent) = one (inl (turned b p runs lt e silent))
-    chained enabled (Prints site next vs listed e text) =
-        one (inr (acted (Printed site next vs listed e (ap (λ (rest : List ℕ). out ++ rest) text))))
-    chained enabled (Returns next listed e silent) = one (inr (acted (Returned next listed e (nothing_more out bytes silent))))
+    pub chained : (enabled : Bool) → Does P spreads code plan enabled q r memory after bytes → Chained
+    chained enabled (Rests off e same silent) = ([], same_world e same silent)
+    chained enabled (Stops past e same silent) = ([], same_world e same silent)
+    chained enabled (Works b p runs lt grant within ready e writes silent) = one (inl (turned b p grant runs lt within ready e writes silent))
+    chained enabled (Prints site next vs listed e same text) =
+        one (inr (acted same (Printed site next vs listed e (ap (λ (rest : List ℕ). out ++ rest) text))))
+    chained enabled (Returns next listed e same silent) = one (inr (acted same (Returned next listed e (nothing_more out bytes silent))))
 
     -- it is empty where the slot stays, and else the beat turns
     pub data IsEmptyOr (enabled : Bool) (is : List ℕ) : Type 0 where
       Stays : (slot : r ≡ q) (empty : is ≡ []) (why : (enabled ≡ false) ⊎ (q.stage ≡ length code.stages)) → IsEmptyOr enabled is
       Changes : (beat : r.beat ≡ not q.beat) (move : is ≡ 0 ∷ []) → IsEmptyOr enabled is
 
-    pub chained_is : (enabled : Bool) (d : Does P code plan enabled q r bytes) → IsEmptyOr enabled (chained enabled d).0
+    pub chained_is : (enabled : Bool) (d : Does P spreads code plan enabled q r memory after bytes) → IsEmptyOr enabled (chained enabled d).0
     unfolding chained one
-    chained_is enabled (Rests off e silent) = Stays e refl (inl off)
-    chained_is enabled (Stops past e silent) = Stays e refl (inr past)
-    chained_is enabled (Works b p runs lt e silent) =
-        Changes (ap (λ (x : Slot). x.beat) e ∙ advanced_beat P code plan values coded bank_of (first_memory P) q b p runs.listed lt) refl
-    chained_is enabled (Prints site next vs listed e text) = Changes (ap (λ (x : Slot). x.beat) e) refl
-    chained_is enabled (Returns next listed e silent) = Changes (ap (λ (x : Slot). x.beat) e) refl
+    chained_is enabled (Rests off e same silent) = Stays e refl (inl off)
+    chained_is enabled (Stops past e same silent) = Stays e refl (inr past)
+    chained_is enabled (Works b p runs lt grant within ready e writes silent) =
+        Changes (ap (λ (x : Slot). x.beat) e ∙ advanced_beat (bank_of spreads) memory grant q b p ready lt) refl
+    chained_is enabled (Prints site next vs listed e same text) = Changes (ap (λ (x : Slot). x.beat) e) refl
+    chained_is enabled (Returns next listed e same silent) = Changes (ap (λ (x : Slot). x.beat) e) refl

@@ -29,9 +29,10 @@ use Rattle.planned_hardware.specs.Hardware.{plan_of, Flies}
 use Rattle.planned_hardware.specs.Following.{IsStage}
 use Rattle.block_refine.specs.Threads.{blocks_of, plans_of, block_at, plan_at, AtStageOf, AtAct, IsTyped, Starts}
 use Rattle.block_refine.proofs.Stages.{Followed}
+use Rattle.bank_partition.specs.declared.banks.Spread.{Spread}
+use Rattle.thread_promise.specs.Globals.{bank_of}
 use Rattle.program_machine.specs.Built.{IsCode}
 use Rattle.program_machine.proofs.Slots.{leads_below, is_there}
-use Rattle.program_machine.proofs.Cycle.{bank_of}
 use Rattle.program_machine.proofs.Threads.{hardware_code, around, H}
 
 -- a thread that is over makes no move
@@ -53,7 +54,7 @@ at_act_runs : (P : Program) (Next : _) (a : Act) (next : ℕ) (x : Local) (varia
     AtStageOf P Next (Some (stage.Act a next)) x variables arrays → is_over x ≡ false
 at_act_runs P Next a next x variables arrays at = ap is_over at.1
 
-module _ (P : Program) (code : ThreadCode) (plan : Planned) (values : ℕ) (R : IsResolved P) (coded : IsCode P code plan values) where
+module _ (P : Program) (spreads : List Spread) (code : ThreadCode) (plan : Planned) (values : ℕ) (R : IsResolved P) (coded : IsCode P spreads code plan values) where
   first_typed : IsTyped P (memory_of (start P).globals)
   first_typed = record { globals = (start P).globals; lengths = (orderly P R (start P) ([], refl)).globals; is = refl }
 
@@ -61,7 +62,7 @@ module _ (P : Program) (code : ThreadCode) (plan : Planned) (values : ℕ) (R : 
   next_below : (f l : ℕ) (b : CodeBlock) → slice_get code.stages l ≡ Some (stage.Run b) → (value : Operand → ℤ) → leads_to value (blocks_of code f l).next < length code.stages
   next_below f l b e value =
       subst (λ (o : Option Stage). leads_to value (block_at o).next < length code.stages) (sym e)
-      (leads_below (length code.stages) b.next (coded.stages l (stage.Run b) e).1 value)
+      (leads_below (length code.stages) b.next (coded.stages l (stage.Run b) e) value)
 
   pub some_states : (f l : ℕ) (b : CodeBlock) → slice_get code.stages l ≡ Some (stage.Run b) → 0 < (plans_of code plan f l).states
   some_states f l b e =
@@ -123,7 +124,7 @@ module _ (P : Program) (code : ThreadCode) (plan : Planned) (values : ℕ) (R : 
       (less_or_not q.stage (length code.stages))
 
   -- what is in flight is at a block
-  is_flying : (q : Slot) → q.state < (plan_of (hardware_code P code plan values R coded) q).states → (b : CodeBlock) × (slice_get code.stages q.stage ≡ Some (stage.Run b))
+  is_flying : (q : Slot) → q.state < (plan_of (hardware_code P spreads code plan values R coded) q).states → (b : CodeBlock) × (slice_get code.stages q.stage ≡ Some (stage.Run b))
   is_flying q lt = go (slice_get code.stages q.stage) refl
     where
       none : (n : ℕ) → n ≡ 0 → q.state < n → ⊥
@@ -135,13 +136,13 @@ module _ (P : Program) (code : ThreadCode) (plan : Planned) (values : ℕ) (R : 
       go (Some (stage.Act a next)) e = absurd (none _ (ap (λ (o : Option Stage). (plan_at o (slice_get plan.stages q.stage)).states) e) lt)
 
   flight_runs : (x : Local) (m : Memory ℤ) (hs : List (Move ℤ Local)) (made : List (Access ℤ)) (q : Slot) → RunsAlone (c_source P) x m hs →
-      Flies bank_of (hardware_code P code plan values R coded) (around P code plan values R coded) (bound P) x m hs made q → is_over x ≡ false
+      Flies (bank_of spreads) (hardware_code P spreads code plan values R coded) (around P spreads code plan values R coded) (bound P) x m hs made q → is_over x ≡ false
   flight_runs x m [] made q run f =
       let b = is_flying q f.flight.inside in
       stage_runs x q.routine _ _ _ (next_below q.routine q.stage b.0 b.1 (operand_value q.variables f.values)) f.ends
   flight_runs x m (h ∷ hs) made q run f = unless_over (is_over x) (λ over. let e = sym (over_acts P x m over) ∙ run.0 in absurd cc)
 
-  flight_marks : (q : Slot) → q.state < (plan_of (hardware_code P code plan values R coded) q).states → marks q ≡ false
+  flight_marks : (q : Slot) → q.state < (plan_of (hardware_code P spreads code plan values R coded) q).states → marks q ≡ false
   flight_marks q lt =
       let b = is_flying q lt in
       ⊎_elim
@@ -149,12 +150,12 @@ module _ (P : Program) (code : ThreadCode) (plan : Planned) (values : ℕ) (R : 
       (λ le. absurd (let none : slice_get code.stages q.stage ≡ None = slice_get_past code.stages q.stage le in cc (b.1)))
       (less_or_not q.stage (length code.stages))
 
-  pub marks_end : MarksEnd (c_source P) (H P code plan values R coded) is_over marks
+  pub marks_end : MarksEnd (c_source P) (H P spreads code plan values R coded) is_over marks
   marks_end = record {
     ended = λ s at. (orderly P R s at).over;
     rests = λ c x q rests. ⊎_elim (λ begun. start_marks x q begun.starts) (λ waits. absurd (waits.0 refl)) rests;
     flies = λ s hs made q at run f. flight_marks q f.flight.inside ∙ sym (flight_runs (local_of s 0) (memory_of s.globals) hs made q run f);
   }
 
-  pub marked : DoneWhereEnded (c_source P) (H P code plan values R coded) marks
-  marked = done_where_ended (c_source P) (H P code plan values R coded) is_over marks marks_end
+  pub marked : DoneWhereEnded (c_source P) (H P spreads code plan values R coded) marks
+  marked = done_where_ended (c_source P) (H P spreads code plan values R coded) is_over marks marks_end

@@ -26,7 +26,8 @@ use Rattle.planned_block.specs.Block.{Block, IsOrdered, operation_at, size}
 use Rattle.planned_block.specs.Plan.{Plan, KeepsOrders}
 use Rattle.planned_block.specs.Slot.{Slot, AreBanks, is_request}
 use Rattle.planned_block.proofs.Bits.{both_true}
-use Rattle.planned_hardware.specs.Hardware.{Code, block_of, plan_of, is_open, changes_left, changes_of, Surroundings, Begins, IsLowered, FitsBlocks, PlannedThreads, planned_hardware}
+use Rattle.planned_hardware.specs.Hardware.{Code, block_of, plan_of, is_open, changes_left, changes_of, Surroundings, Begins, IsLowered, FitsBlocks}
+use Rattle.planned_hardware.specs.Hardware.{PlannedThreads, planned_hardware}
 use Rattle.planned_hardware.specs.Following.{code_of}
 use Rattle.planned_hardware.proofs.Counting.{count_le}
 use Rattle.block_refine.specs.Threads.{blocks_of, plans_of, block_at, plan_at, no_block, no_plan, Starts}
@@ -34,10 +35,11 @@ use Rattle.block_refine.specs.Acts.{IsDefined, KeepsOthers, words_of}
 use Rattle.block_refine.proofs.Laws.{blocks_are_steps}
 use Rattle.block_refine.proofs.Acts.{prints_are_steps, returns_are_steps}
 use Rattle.block_refine.proofs.Words.{words_print}
+use Rattle.bank_partition.specs.declared.banks.Spread.{Spread}
+use Rattle.thread_promise.specs.Globals.{bank_of}
 use Rattle.thread_promise.specs.Promise.{went_on}
 use Rattle.program_machine.specs.Built.{IsCode}
 use Rattle.program_machine.proofs.Bytes.{text_at}
-use Rattle.program_machine.proofs.Cycle.{bank_of}
 
 -- no block and no plan keep the orders: there is nothing to keep
 nothing_kept : KeepsOrders no_block no_plan
@@ -58,7 +60,7 @@ nothing_kept = record {
 abbrev pub Core : Type 0
 Core = List ℕ
 
-module _ (P : Program) (code : ThreadCode) (plan : Planned) (values : ℕ) (R : IsResolved P) (coded : IsCode P code plan values) where
+module _ (P : Program) (spreads : List Spread) (code : ThreadCode) (plan : Planned) (values : ℕ) (R : IsResolved P) (coded : IsCode P spreads code plan values) where
   abbrev pub blocks : ℕ → ℕ → Block
   blocks = blocks_of code
 
@@ -87,7 +89,8 @@ module _ (P : Program) (code : ThreadCode) (plan : Planned) (values : ℕ) (R : 
   -- a printf of thread 0, and its return
   pub data Acts (w v : World ℤ Slot (ℕ → Core)) : Type 0 where
     Printed : (site next : ℕ) (values : List ActOperand) (listed : slice_get code.stages (w.slots 0).stage ≡ Some (stage.Act (Print site values) next))
-        (slot : v.slots 0 ≡ went_on next (w.slots 0)) (text : v.cores 0 ≡ w.cores 0 ++ text_at (slice_get (print_formats P) site) (words_of (w.slots 0).variables values)) → Acts w v
+        (slot : v.slots 0 ≡ went_on next (w.slots 0)) (text : v.cores 0 ≡ w.cores 0 ++ text_at (slice_get (print_formats P) site) (words_of (w.slots 0).variables values)) →
+        Acts w v
     Returned : (next : ℕ) (listed : slice_get code.stages (w.slots 0).stage ≡ Some (stage.Act Return next)) (slot : v.slots 0 ≡ went_on (length code.stages) (w.slots 0))
         (text : v.cores 0 ≡ w.cores 0) → Acts w v
 
@@ -121,12 +124,12 @@ module _ (P : Program) (code : ThreadCode) (plan : Planned) (values : ℕ) (R : 
   no_states q o e z = ap (λ (x : Option Stage). (plan_at x (slice_get plan.stages q.stage)).states) e ∙ z
 
   abbrev pub H : Hardware ℤ Local State Slot (ℕ → Core)
-  H = planned_hardware bank_of hardware_code around (bound P)
+  H = planned_hardware (bank_of spreads) hardware_code around (bound P)
 
   -- ---- an act is a step
 
   module _ (s : State) (w v : World ℤ Slot (ℕ → Core)) (at : Reachable (c_source P) s) (defined : IsDefined P s 0) (stands : w.cores 0 ≡ s.output) (there : ActsThere w 0 v)
-      (begun : Begins bank_of hardware_code around (bound P) (local_of s 0) (w.slots 0)) where
+      (begun : Begins (bank_of spreads) hardware_code around (bound P) (local_of s 0) (w.slots 0)) where
     abbrev q : Slot
     q = w.slots 0
 
@@ -137,7 +140,7 @@ module _ (P : Program) (code : ThreadCode) (plan : Planned) (values : ℕ) (R : 
       steps = ap outcome_of steps;
       stands = shows;
       rests =
-          inl (subst (λ z. Begins bank_of hardware_code around (bound P) (local_of t 0) z) (sym slot)
+          inl (subst (λ z. Begins (bank_of spreads) hardware_code around (bound P) (local_of t 0) z) (sym slot)
           (record { starts = starts; state = refl; granted = λ k. refl }));
       spends =
           let lt = fresh_below (went_on l q) refl in
@@ -174,7 +177,7 @@ module _ (P : Program) (code : ThreadCode) (plan : Planned) (values : ℕ) (R : 
   main_there : (w v : World ℤ Slot (ℕ → Core)) (i : ℕ) → ActsThere w i v → ActsThere w 0 v
   main_there w v i there = record { main = refl; act = there.act; others = there.others; memory = there.memory }
 
-  pub fits : FitsBlocks (c_source P) bank_of hardware_code around (bound P)
+  pub fits : FitsBlocks (c_source P) (bank_of spreads) hardware_code around (bound P)
   fits = record {
     stands = λ c s t i y es at view shows moved. shows ∙ sym (ap (λ (z : Shared). z.output) (moves_keep_shared P R s t i y es at view moved));
     act = λ s i w v at defined stands rests there.
@@ -186,16 +189,13 @@ module _ (P : Program) (code : ThreadCode) (plan : Planned) (values : ℕ) (R : 
     wakes = λ c s i q r at rests wakes. absurd wakes;
   }
 
-  pub banks : AreBanks bank_of
-  banks p q e = e
-
-  abbrev pub threads : PlannedThreads
-  threads = record {
+  abbrev pub threads : AreBanks (bank_of spreads) → PlannedThreads
+  threads banks = record {
     Local = Local;
     State = State;
     Core = Core;
     source = c_source P;
-    bank = bank_of;
+    bank = bank_of spreads;
     banks = banks;
     code = hardware_code;
     keeps = keeps;

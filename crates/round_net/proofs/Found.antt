@@ -9,7 +9,7 @@ use Rattle.top_wiring.proofs.Lists.{get_either}
 use Rattle.round_net.specs.Found.{HasNo, RoundIsFound}
 use Rattle.round_net.proofs.Naming.{same_name, other_name}
 
-named_behind : (xs : List Module) (name : List ℕ) (y : Module) (ys : List Module) → HasNo name xs → y.name ≡ name → module_named (xs ++ y ∷ ys) name ≡ Some y
+pub named_behind : (xs : List Module) (name : List ℕ) (y : Module) (ys : List Module) → HasNo name xs → y.name ≡ name → module_named (xs ++ y ∷ ys) name ≡ Some y
 named_behind [] name y ys h e = ap (λ b. if b then Some y else module_named ys name) (same_name name y.name (sym e))
 named_behind (x ∷ xs) name y ys h e =
     ap (λ b. if b then Some x else module_named (xs ++ y ∷ ys) name) (other_name name x.name (λ q. h 0 x refl (sym q)))

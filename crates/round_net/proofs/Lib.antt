@@ -6,3 +6,5 @@ pub mod Turning
 pub mod Wrapping
 pub mod Alike
 pub mod Found
+pub mod Counting
+pub mod Stepped

@@ -2,6 +2,7 @@
 
 ghost use Rattle.round_net.specs.Alike.{EndsAsTop, RunsAsTop, WritesAsTop};
 ghost use Rattle.round_net.specs.Found.{RoundIsFound};
+ghost use Rattle.round_net.specs.Stepped.{StepsAsRound};
 
 /// After n cycles of `top_rr` the `top` in it is where n cycles of `top` under the choices of the rounds lead, and each run
 /// under these choices is one in `top_rr`.
@@ -23,4 +24,9 @@ pub fn ends_as_top()
 /// `top_rr` is found by its name.
 pub fn round_is_found()
     ensures { RoundIsFound }
+{}
+
+/// What `hls step` answers, which runs `top` under the choices of the rounds until it is done, `top_rr` does.
+pub fn steps_as_round()
+    ensures { StepsAsRound }
 {}

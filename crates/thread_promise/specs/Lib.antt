@@ -1,3 +1,4 @@
 pub mod Types
+pub mod Globals
 pub mod Slots
 pub mod Promise

@@ -1,8 +1,11 @@
--- What the module of a thread promises, stage by stage: without globals, with the printer as the only core.
-use Rattle.std.specs.Prelude.{◌≡◌, ℕ, suc, ◌<◌, Bool, true, false, not, List, length, ℤ, pos, Option, Some, slice_get, nat_eq}
+-- What the module of a thread promises, stage by stage: of its cores, which are the banks of the globals and the printer, it asks what its
+-- operations and acts need, and from what they grant and tell it goes on.
+use Rattle.std.specs.Prelude.{◌≡◌, ℕ, suc, ◌+◌, ◌<◌, Bool, true, false, not, List, length, ℤ, pos, Option, Some, slice_get, nat_eq}
 use Rattle.hls_ints.specs.Residues.{residue_of, bit_of}
-use Rattle.hls_ints.specs.Types.{IntegerType}
-use Rattle.interleaving.specs.Memory.{Location, Memory}
+use Rattle.hls_ints.specs.Types.{IntegerType, HasType, width_of}
+use Rattle.interleaving.specs.Memory.{Memory}
+use Rattle.bank_partition.specs.declared.banks.Spread.{Spread}
+use Rattle.block_ir.specs.declared.block.Operation.{Operation}
 use Rattle.block_ir.specs.declared.block.Block.{Block}
 use Rattle.block_ir.specs.declared.code.ActOperand.{ActOperand}
 use Rattle.block_ir.specs.declared.code.ActOperand.TheVariants as act_operand
@@ -15,17 +18,29 @@ use Rattle.block_ir.specs.declared.plan.StagePlan.TheVariants as planned
 use Rattle.block_ir.specs.declared.plan.Planned.{Planned}
 use Rattle.planned_block.specs.Plan.{KeepsOrders}
 use Rattle.planned_block.specs.Slot.{Slot}
-use Rattle.planned_block.specs.Advance.{advance}
+use Rattle.planned_block.specs.Advance.{is_ready, advance}
 use Rattle.planned_view.specs.View.{planned_view, plan_view}
 use Rattle.netlist.specs.declared.netlist.Module.{Module}
 use Rattle.verilog_meaning.specs.Readings.{Reading, next_reading, initial_reading}
 use Rattle.circuit.specs.Modules.{Obeys, Agree}
 use Rattle.thread_promise.specs.Slots.{Places, ShowsData, ShowsInBlock}
 use Rattle.thread_promise.specs.Types.{IsTypedBlock}
+use Rattle.thread_promise.specs.Globals.{bank_total, bank_of, IsAddress, IsAccess, AsksFromRegisters, place_now, bank_now, written_now, IsOpen}
 
--- where the ports stand: whether the printer grants, whether it is asked, the site, each value, need and done
+-- where the ports for a bank stand: whether it grants, and the word that it tells; whether it is asked, whether to write, the address and what
+-- is written
+pub record BankPorts : Type 0 where
+  pub grant : ℕ
+  pub word : ℕ
+  pub ask : ℕ
+  pub writes : ℕ
+  pub address : ℕ
+  pub value : ℕ
+
+-- where the ports stand: those for each bank; whether the printer grants, whether it is asked, the site, each value; need and done
 pub record Ports : Type 0 where
   pub enable : ℕ
+  pub bank : ℕ → BankPorts
   pub grant : ℕ
   pub ask : ℕ
   pub site : ℕ
@@ -70,22 +85,42 @@ first_slot = record {
   beat = false;
 }
 
--- the block at a stage, whose plan keeps its orders
-pub record RunsAt (globals : List IntegerType) (code : ThreadCode) (plan : Planned) (l : ℕ) (b : Block) (p : BlockPlan) : Type 0 where
+abbrev pub is_run : Option Stage → Bool
+is_run (Some (stage.Run b)) = true
+is_run _ = false
+
+-- in a reading a bank is asked, where the thread is enabled, for an access of element j of its global: to read, or to write a number
+pub record AsksBank (r : Reading) (enable : ℕ) (ports : BankPorts) (s : Spread) (j : ℕ) (writes : Bool) (number : ℕ) : Type 0 where
+  pub ask : r.signal ports.ask ≡ r.signal enable
+  pub operation : r.signal ports.writes ≡ bit_of writes
+  pub address : IsAddress s j (r.signal ports.address)
+  pub value : writes ≡ true → r.signal ports.value ≡ number
+
+-- the block at a stage, whose plan keeps its orders, and asks banks for what registers hold
+pub record RunsAt (globals : List IntegerType) (spreads : List Spread) (code : ThreadCode) (plan : Planned) (l : ℕ) (b : Block) (p : BlockPlan) : Type 0 where
   pub listed : slice_get code.stages l ≡ Some (stage.Run b)
   pub planned_so : slice_get plan.stages l ≡ Some (planned.Run p)
   pub typed : IsTypedBlock globals code b
+  pub accesses : (k : ℕ) (o : Operation) → slice_get b.operations k ≡ Some o → IsAccess spreads o
   pub keeps : KeepsOrders (planned_view b) (plan_view b p)
+  pub registered : AsksFromRegisters b p
 
-module _ (globals : List IntegerType) (code : ThreadCode) (plan : Planned) (m : Module) (places : Places) (ports : Ports) where
+module _ (globals : List IntegerType) (spreads : List Spread) (code : ThreadCode) (plan : Planned) (m : Module) (places : Places) (ports : Ports) where
   abbrev pub Shows : Reading → Slot → Type 0
   Shows = ShowsData globals code places
 
   -- the slot is within a stage's block
   pub record IsInside (r : Reading) (q : Slot) (b : Block) (p : BlockPlan) : Type 0 where
-    pub runs : RunsAt globals code plan q.stage b p
+    pub runs : RunsAt globals spreads code plan q.stage b p
     pub state : q.state < p.states
     pub shown : ShowsInBlock globals code places b p r q
+
+  -- what reaches the thread from banks: of each access that is still to be granted whether its bank grants it, and the words that the slot has
+  pub record HearsBanks (r : Reading) (q : Slot) (b : Block) (p : BlockPlan) (grant : ℕ → Bool) : Type 0 where
+    pub grants : (k x : ℕ) (writes : Bool) → IsOpen spreads b p q k x writes → r.signal (ports.bank (bank_now spreads b p q k x)).grant ≡ bit_of (grant k)
+    pub words : (x n : ℕ) (s : Spread) (ty : IntegerType) → slice_get spreads x ≡ Some s → slice_get globals x ≡ Some ty → n < s.count →
+        r.signal (ports.bank (s.first + n)).word ≡ residue_of (width_of ty) (q.words (s.first + n))
+    pub typed : (x n : ℕ) (s : Spread) (ty : IntegerType) → slice_get spreads x ≡ Some s → slice_get globals x ≡ Some ty → n < s.count → HasType ty (q.words (s.first + n))
 
   -- THE PROMISE, over every reading that the module obeys
   pub record RunsCode : Type 0 where
@@ -93,17 +128,30 @@ module _ (globals : List IntegerType) (code : ThreadCode) (plan : Planned) (m : 
     pub starts : Shows (initial_reading (Some m)) first_slot
     -- what is shown stands in registers and memory words
     pub keeps : (h g : Reading) (q : Slot) → Agree m h g → Shows h q → Shows g q
-    pub keeps_in_block : (h g : Reading) (q : Slot) (b : Block) (p : BlockPlan) → Agree m h g → RunsAt globals code plan q.stage b p → ShowsInBlock globals code places b p h q →
+    pub keeps_in_block : (h g : Reading) (q : Slot) (b : Block) (p : BlockPlan) → Agree m h g → RunsAt globals spreads code plan q.stage b p →
+        ShowsInBlock globals code places b p h q →
         ShowsInBlock globals code places b p g q
     -- whoever is not enabled stays
     pub rests : (r : Reading) → Obeys m r → r.signal ports.enable ≡ 0 → Agree m r (next_reading m r)
-    -- a state of a block is left as the planned block says, for the next one or for another stage
-    pub moves : (bank : Location → ℕ) (memory : Memory ℤ) (r : Reading) (q : Slot) (b : Block) (p : BlockPlan) → Obeys m r → IsInside r q b p →
+    -- in a state of a block it asks, where it is enabled, the bank of each access that is still to be granted, and no other one
+    pub asks : (r : Reading) (q : Slot) (b : Block) (p : BlockPlan) → Obeys m r → IsInside r q b p → (k x : ℕ) (writes : Bool) (s : Spread) (ty : IntegerType) →
+        IsOpen spreads b p q k x writes → slice_get spreads x ≡ Some s → slice_get globals x ≡ Some ty →
+        AsksBank r ports.enable (ports.bank (bank_now spreads b p q k x)) s (place_now spreads b p q k x).index writes (residue_of (width_of ty) (written_now spreads b p q k))
+    pub asks_none : (r : Reading) (q : Slot) (b : Block) (p : BlockPlan) (n : ℕ) → Obeys m r → IsInside r q b p → n < bank_total spreads →
+        ((k x : ℕ) (writes : Bool) → IsOpen spreads b p q k x writes → bank_now spreads b p q k x ≡ n → ⊥) → r.signal (ports.bank n).ask ≡ 0
+    -- elsewhere it asks no bank
+    pub asks_outside : (r : Reading) (q : Slot) (n : ℕ) → Obeys m r → Shows r q → is_run (slice_get code.stages q.stage) ≡ false → n < bank_total spreads →
+        r.signal (ports.bank n).ask ≡ 0
+    -- a state of a block does what the planned block says under these grants: once all its requests are granted it is left, for the next one or
+    -- for another stage; till then grants are remembered
+    pub moves : (memory : Memory ℤ) (grant : ℕ → Bool) (r : Reading) (q : Slot) (b : Block) (p : BlockPlan) → Obeys m r → IsInside r q b p → HearsBanks r q b p grant →
         r.signal ports.enable ≡ 1 →
-        ((suc q.state < p.states) → ShowsInBlock globals code places b p (next_reading m r) (advance bank (planned_view b) (plan_view b p) q memory (λ k. false)))
-        × Shows (next_reading m r) (advance bank (planned_view b) (plan_view b p) q memory (λ k. false))
+        ((is_ready (planned_view b) (plan_view b p) q grant ≡ true → suc q.state < p.states) →
+        ShowsInBlock globals code places b p (next_reading m r) (advance (bank_of spreads) (planned_view b) (plan_view b p) q memory grant))
+        × Shows (next_reading m r) (advance (bank_of spreads) (planned_view b) (plan_view b p) q memory grant)
     -- a printf asks the printer, with its site and its values, where it is enabled, and goes on when it is granted
-    pub prints : (r : Reading) (q : Slot) (site next : ℕ) (values : List ActOperand) → Obeys m r → Shows r q → slice_get code.stages q.stage ≡ Some (stage.Act (Print site values) next) →
+    pub prints : (r : Reading) (q : Slot) (site next : ℕ) (values : List ActOperand) → Obeys m r → Shows r q →
+        slice_get code.stages q.stage ≡ Some (stage.Act (Print site values) next) →
         (r.signal ports.ask ≡ r.signal ports.enable) × (r.signal ports.site ≡ site)
         × ((j : ℕ) (v : ActOperand) → slice_get values j ≡ Some v → r.signal (ports.value j) ≡ residue_of 64 (operand_of_act q.variables v))
         × (r.signal ports.enable ≡ 1 → r.signal ports.grant ≡ 1 → Shows (next_reading m r) (went_on next q))

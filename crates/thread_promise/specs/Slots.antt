@@ -1,5 +1,5 @@
 -- The slot of planned blocks that a reading of a thread's module shows.
-use Rattle.std.specs.Prelude.{◌≡◌, ℕ, ◌%◌, ◌^◌, ◌<◌, ◌≤◌, List, ℤ, pos, Some, slice_get}
+use Rattle.std.specs.Prelude.{◌≡◌, ℕ, ◌%◌, ◌^◌, ◌<◌, ◌≤◌, Bool, false, List, length, pos, Some, slice_get}
 use Rattle.hls_ints.specs.Residues.{residue_of, bit_of}
 use Rattle.hls_ints.specs.Types.{IntegerType, HasType, width_of}
 use Rattle.interleaving.specs.Memory.{Location}
@@ -8,7 +8,8 @@ use Rattle.block_ir.specs.declared.block.Block.{Block}
 use Rattle.block_ir.specs.declared.code.Array.{Array}
 use Rattle.block_ir.specs.declared.code.ThreadCode.{ThreadCode}
 use Rattle.block_ir.specs.declared.plan.BlockPlan.{BlockPlan}
-use Rattle.planned_block.specs.Plan.{last_state}
+use Rattle.planned_block.specs.Block.{operation_at, size}
+use Rattle.planned_block.specs.Plan.{OfGlobal, target_of, last_state}
 use Rattle.planned_block.specs.Slot.{Slot}
 use Rattle.planned_view.specs.View.{planned_view, plan_view}
 use Rattle.verilog_meaning.specs.Readings.{Reading}
@@ -21,6 +22,8 @@ pub record Places : Type 0 where
   pub beat : ℕ
   pub variable : ℕ → ℕ
   pub kept : ℕ → ℕ
+  -- by global: whether the access of it in this state has been granted
+  pub granted : ℕ → ℕ
 
 -- an array's word shows an element
 abbrev pub element_at : ℕ → ℕ → Location
@@ -48,10 +51,15 @@ module _ (globals : List IntegerType) (code : ThreadCode) where
       pub typed_words : (a i : ℕ) (array : Array) → slice_get code.arrays a ≡ Some array → i < array.length → HasType array.ty (q.arrays (element_at a i))
       -- the place past the end, which an index outside the array reads
       pub outside : (a : ℕ) (array : Array) → slice_get code.arrays a ≡ Some array → q.arrays (element_at a array.length) ≡ pos 0
+      -- where no grant is remembered no bit is set
+      pub none_granted : ((k : ℕ) → q.granted k ≡ false) → (x : ℕ) → x < length globals → r.signal (places.granted x) ≡ 0
 
-    -- within a block, the values that are alive too
+    -- within a block, the values that are alive too, and which accesses of this state have been granted
     pub record ShowsInBlock (b : Block) (p : BlockPlan) (r : Reading) (q : Slot) : Type 0 where
       pub shown : ShowsData r q
       pub alive : (k n : ℕ) (t : IsAlive b p q k n) →
           r.signal (places.kept n) % 2 ^ width_of (value_type globals code t.operation) ≡ residue_of (width_of (value_type globals code t.operation)) (q.registers n)
       pub typed_alive : (k n : ℕ) (t : IsAlive b p q k n) → HasType (value_type globals code t.operation) (q.registers n)
+      pub granted : (k x : ℕ) (writes : Bool) → k < size (planned_view b) → target_of (operation_at (planned_view b) k).kind ≡ OfGlobal x writes →
+          (plan_view b p).start k ≡ q.state →
+          r.signal (places.granted x) ≡ bit_of (q.granted k)

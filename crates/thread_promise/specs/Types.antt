@@ -1,5 +1,5 @@
 -- Types of the values, operands and accesses of a code.
-use Rattle.std.specs.Prelude.{◌≡◌, ℕ, ◌≤◌, List, [], ◌∷◌, Option, Some, None, slice_get, length}
+use Rattle.std.specs.Prelude.{◌≡◌, ℕ, ◌<◌, ◌≤◌, List, [], ◌∷◌, Option, Some, None, slice_get, length}
 use Rattle.hls_ints.specs.Types.{IntegerType, HasType}
 use Rattle.block_ir.specs.declared.operand.Source.{Source}
 use Rattle.block_ir.specs.declared.operand.Source.TheVariants.{Constant, Variable, Value}
@@ -48,8 +48,8 @@ module _ (globals : List IntegerType) (code : ThreadCode) where
   abbrev pub value_type : Operation → IntegerType
   value_type (Unary operator ty a) = unary_result operator ty
   value_type (Binary operator ty a b) = binary_result operator ty
-  value_type (ReadGlobal x i) = or_int (slice_get globals x)
-  value_type (WriteGlobal x i a) = truth_type
+  value_type (ReadGlobal x n i) = or_int (slice_get globals x)
+  value_type (WriteGlobal x n i a) = truth_type
   value_type (ReadArray x n i) = element_type (slice_get code.arrays x)
   value_type (WriteArray x n i a) = truth_type
 
@@ -65,8 +65,8 @@ module _ (globals : List IntegerType) (code : ThreadCode) where
   abbrev pub IsTypedOperation : List Operation → Operation → Type 0
   IsTypedOperation before (Unary operator ty a) = IsTypedOperand before a
   IsTypedOperation before (Binary operator ty a b) = IsTypedOperand before a × IsTypedOperand before b
-  IsTypedOperation before (ReadGlobal x i) = IsTypedOperand before i
-  IsTypedOperation before (WriteGlobal x i a) = IsTypedOperand before i × IsTypedOperand before a
+  IsTypedOperation before (ReadGlobal x n i) = IsTypedOperand before i × (x < length globals)
+  IsTypedOperation before (WriteGlobal x n i a) = IsTypedOperand before i × IsTypedOperand before a × (slice_get globals x ≡ Some (operand_type a))
   IsTypedOperation before (ReadArray x n i) = IsTypedOperand before i × IsOfLength code x n
   IsTypedOperation before (WriteArray x n i a) = IsTypedOperand before i × IsTypedOperand before a × IsOfLength code x n × StoresInto code x a
 

@@ -14,7 +14,8 @@ use Rattle.top_wiring.specs.Wired.{IsWired}
 use Rattle.leaf_machine.proofs.Leaves as leaves
 use Rattle.program_machine.proofs.Whole.{machine_follows}
 use Rattle.cycle_refine.proofs.Following.{net_follows}
-use Rattle.whole_net.specs.Layouts.{printing_layout}
+use Rattle.bank_cores.specs.declared.bank.Shape.{Shape as Bank}
+use Rattle.whole_net.specs.Layouts.{layout_of}
 use Rattle.whole_net.specs.Whole.{IsWritten, NetIsGood}
 use Rattle.whole_net.proofs.Whole.{net_is_good}
 
@@ -22,9 +23,10 @@ pub law : NetIsGood
 law = net_is_good (net_follows machine_follows) leaves.leaf_is_thread
     (λ m inputs ports cores parts told is bit. leaves.slot_bit_is m inputs ports cores parts told is ports.done bit)
 
-pub written : (given modules : List Module) (layout : Layout) (n : Netlist) (net : Net) (text : List ℕ) → modules ≡ given → layout ≡ printing_layout → IsWired modules layout n
-    → (AreSound layout modules → IsSound n) → (IsLaid n → netlist_of net ≡ n) → (IsSound n → IsWellFormed net) → (IsFull net → Reads text net) → IsWritten given n net text
-written given modules layout n net text e f wired sound netlist formed reads = record {
+pub written : (given modules : List Module) (banks : List Bank) (layout : Layout) (n : Netlist) (net : Net) (text : List ℕ) → modules ≡ given → layout ≡ layout_of banks →
+    IsWired modules layout n → (AreSound layout modules → IsSound n) → (IsLaid n → netlist_of net ≡ n) → (IsSound n → IsWellFormed net) → (IsFull net → Reads text net) →
+    IsWritten (layout_of banks) given n net text
+written given modules banks layout n net text e f wired sound netlist formed reads = record {
   wired = subst (λ l. IsWired given l n) f (subst (λ ms. IsWired ms layout n) e wired);
   sound = subst (λ l. AreSound l given → IsSound n) f (subst (λ ms. AreSound layout ms → IsSound n) e sound);
   netlist = netlist;

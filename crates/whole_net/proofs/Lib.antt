@@ -1,7 +1,10 @@
 pub mod Late
-pub mod Three
+pub mod Decimals
+pub mod Each
+pub mod Widths
 pub mod Main
 pub mod Arbiter
+pub mod Bank
 pub mod Printer
 pub mod Sound
 pub mod Whole

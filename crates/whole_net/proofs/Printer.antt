@@ -16,14 +16,15 @@ use Rattle.print_core.specs.declared.format.Part.{Part}
 use Rattle.print_core.specs.declared.printer.Shape.{Shape}
 use Rattle.print_core.specs.Printer.{grants, one, going, offers, rows}
 use Rattle.print_core.specs.Machine.{printer_machine, printer_places, part_place, is_late}
-use Rattle.whole_net.specs.Layouts.{group, printing_groups, printing_core, printing_layout}
+use Rattle.bank_cores.specs.declared.bank.Shape.{Shape as Bank}
+use Rattle.whole_net.specs.Layouts.{group, printing_groups, printing_core, layout_of}
 use Rattle.whole_net.specs.Table.{IsPrinterModule}
 
 abbrev shape_of : ℕ → ℕ → List (List Part) → Shape
 shape_of threads values sites = record { threads = threads; values = values; sites = sites }
 
 -- of one thread and four values
-module _ (sites : List (List Part)) (m : Module) (is : IsPrinterModule (shape_of 1 4 sites) m) where
+module _ (banks : List Bank) (number : ℕ) (sites : List (List Part)) (m : Module) (is : IsPrinterModule (shape_of 1 4 sites) m) where
   abbrev shape : Shape
   shape = shape_of 1 4 sites
 
@@ -60,7 +61,7 @@ module _ (sites : List (List Part)) (m : Module) (is : IsPrinterModule (shape_of
   ask_at (suc (suc zero)) j i x e = subst (λ z. j < z.count → i < 1 → part_place 1 4 (2 + j) i ≡ 1 + (1 * 2 + (i * z.count + j))) (same_Some (group 4 64) x e) (values_at j i)
   ask_at (suc (suc (suc g))) j i x e = absurd (none-some x e)
 
-  core_at : IsCoreAt printing_layout (printer_machine shape) (printer_places shape) printing_core m
+  core_at : IsCoreAt (layout_of banks) (printer_machine shape) (printer_places shape) (printing_core number) m
   core_at = record {
     is = is.core;
     parts = refl;
@@ -80,7 +81,7 @@ module _ (sites : List (List Part)) (m : Module) (is : IsPrinterModule (shape_of
       ap (λ b. b || is_between (going 1 4) (offers 1 4 (length sites)) x) (between_behind (grants 1 4) (one 1 4) x (omega arith) (omega arith))
       ∙ between_behind (going 1 4) (offers 1 4 (length sites)) x (omega arith) l
 
-  core_leaf : leaves.IsCoreLeaf printing_layout (is_late shape) printing_core m
+  core_leaf : leaves.IsCoreLeaf (layout_of banks) (is_late shape) (printing_core number) m
   core_leaf = record {
     leaf = is.leaf;
     ports = is.stands.interface.ports;
@@ -89,18 +90,18 @@ module _ (sites : List (List Part)) (m : Module) (is : IsPrinterModule (shape_of
   }
 
 -- a shape of one thread and four values
-module _ (shape : Shape) (alone : shape.threads ≡ 1) (four : shape.values ≡ 4) (m : Module) (is : IsPrinterModule shape m) where
+module _ (banks : List Bank) (number : ℕ) (shape : Shape) (alone : shape.threads ≡ 1) (four : shape.values ≡ 4) (m : Module) (is : IsPrinterModule shape m) where
   same : shape ≡ shape_of 1 4 shape.sites
   same = ap (λ z. shape_of z shape.values shape.sites) alone ∙ ap (λ z. shape_of 1 z shape.sites) four
 
   its : IsPrinterModule (shape_of 1 4 shape.sites) m
   its = subst (λ z. IsPrinterModule z m) same is
 
-  pub printer_at : IsCoreAt printing_layout (printer_machine shape) (printer_places shape) printing_core m
-  printer_at = subst (λ z. IsCoreAt printing_layout (printer_machine z) (printer_places z) printing_core m) (sym same) (core_at shape.sites m its)
+  pub printer_at : IsCoreAt (layout_of banks) (printer_machine shape) (printer_places shape) (printing_core number) m
+  printer_at = subst (λ z. IsCoreAt (layout_of banks) (printer_machine z) (printer_places z) (printing_core number) m) (sym same) (core_at banks number shape.sites m its)
 
-  pub printer_interface : HasInterface m (core_inputs printing_layout printing_core) (core_outputs (threads printing_layout) printing_core)
+  pub printer_interface : HasInterface m (core_inputs (layout_of banks) (printing_core number)) (core_outputs (threads (layout_of banks)) (printing_core number))
   printer_interface = its.stands.interface
 
-  pub printer_leaf : leaves.IsCoreLeaf printing_layout (is_late shape) printing_core m
-  printer_leaf = subst (λ z. leaves.IsCoreLeaf printing_layout (is_late z) printing_core m) (sym same) (core_leaf shape.sites m its)
+  pub printer_leaf : leaves.IsCoreLeaf (layout_of banks) (is_late shape) (printing_core number) m
+  printer_leaf = subst (λ z. leaves.IsCoreLeaf (layout_of banks) (is_late z) (printing_core number) m) (sym same) (core_leaf banks number shape.sites m its)

@@ -1,6 +1,8 @@
 -- The text of a program of one thread is good Verilog of it.
-use Rattle.std.specs.Prelude.{◌≡◌, ℕ, List, [], ◌∷◌, Some, codes}
+use Rattle.std.specs.Prelude.{◌≡◌, ℕ, ◌<◌, ◌^◌, List, [], ◌∷◌, ◌++◌, length, map, Some, codes}
 use Rattle.c_program.specs.Tree.{Program}
+use Rattle.bank_partition.specs.declared.banks.Spread.{Spread}
+use Rattle.bank_cores.specs.declared.bank.Shape.{Shape as Bank}
 use Rattle.block_ir.specs.declared.code.ThreadCode.{ThreadCode}
 use Rattle.block_ir.specs.declared.plan.Planned.{Planned}
 use Rattle.verilog_tree.specs.declared.tree.Net.{Net}
@@ -16,6 +18,7 @@ use Rattle.verilog_meaning.specs.Names.{top_of, IsSignal}
 use Rattle.verilog_meaning.specs.Cycles.{Choice}
 use Rattle.verilog_meaning.specs.Threads.{IsChoice, Place, Depends}
 use Rattle.circuit.specs.Nets.{FitsChoice}
+use Rattle.top_wiring.specs.declared.layout.Layout.{Layout}
 use Rattle.top_wiring.specs.Sound.{AreSound}
 use Rattle.top_wiring.specs.Wired.{IsWired}
 use Rattle.leaf_machine.specs.Standing.{IsMainModule}
@@ -23,27 +26,28 @@ use Rattle.leaf_machine.specs.Leaves.{LeafPorts}
 use Rattle.print_core.specs.declared.printer.Shape.{Shape}
 use Rattle.program_machine.specs.Built.{IsBuilt, IsPrinterOf}
 use Rattle.good_verilog.specs.GoodVerilog.{IsGoodVerilog}
-use Rattle.whole_net.specs.Layouts.{printing_layout}
-use Rattle.whole_net.specs.Table.{IsArbiterModule, IsPrinterModule}
+use Rattle.whole_net.specs.Layouts.{layout_of}
+use Rattle.whole_net.specs.Table.{IsArbiterModule, AreBankModules, IsPrinterModule}
 
 -- a net of these modules, its text's tree and the text, as they are promised: by `wire` of the net, by `text_of` of the tree,
 -- and by `write` of the text
-pub record IsWritten (modules : List Module) (n : Netlist) (net : Net) (text : List ℕ) : Type 0 where
-  pub wired : IsWired modules printing_layout n
-  pub sound : AreSound printing_layout modules → IsSound n
+pub record IsWritten (layout : Layout) (modules : List Module) (n : Netlist) (net : Net) (text : List ℕ) : Type 0 where
+  pub wired : IsWired modules layout n
+  pub sound : AreSound layout modules → IsSound n
   pub netlist : IsLaid n → netlist_of net ≡ n
   pub formed : IsSound n → IsWellFormed net
   pub reads : IsFull net → Reads text net
 
--- so it is of each program of which the modules of main, the arbiter and the printer are the parts
-abbrev pub OfParts : (Program → Type 0) → Module → Module → Module → Type 0
-OfParts Holds m arbiter printer =
-    (P : Program) (code : ThreadCode) (plan : Planned) (inputs : ℕ) (leaf : LeafPorts) (shape : Shape) →
-    IsBuilt P code plan m inputs leaf shape → IsPrinterOf P 4 shape → IsMainModule 4 m inputs leaf → IsArbiterModule arbiter → IsPrinterModule shape printer → Holds P
+-- so it is of each program of which the modules of main, the arbiter, the banks, of which there are few, and the printer are the parts
+abbrev pub OfParts : (Program → Type 0) → List Bank → Module → Module → List Module → Module → Type 0
+OfParts Holds banks m arbiter modules printer =
+    (P : Program) (spreads : List Spread) (code : ThreadCode) (plan : Planned) (inputs : ℕ) (leaf : LeafPorts) (shape : Shape) →
+    IsBuilt P spreads banks code plan m inputs leaf shape → length banks < 2 ^ 15 → IsPrinterOf P 4 shape → IsMainModule (map (λ (b : Bank). b.width) banks) 4 m inputs leaf →
+    IsArbiterModule arbiter → AreBankModules banks modules → IsPrinterModule shape printer → Holds P
 
 -- a text is good Verilog of each such program
-abbrev pub IsGoodOfParts : Module → Module → Module → List ℕ → Type 0
-IsGoodOfParts m arbiter printer text = OfParts (λ P. IsGoodVerilog P text) m arbiter printer
+abbrev pub IsGoodOfParts : List Bank → Module → Module → List Module → Module → List ℕ → Type 0
+IsGoodOfParts banks m arbiter modules printer text = OfParts (λ P. IsGoodVerilog P text) banks m arbiter modules printer
 
 -- the netlist that a text reads as: it is sound, its `top` shows `done`, no signal depends on itself, and it takes the choices of
 -- so many threads
@@ -59,10 +63,11 @@ pub record IsNetOf (threads : ℕ) (n : Netlist) (text : List ℕ) : Type 0 wher
   pub takes : (top : Module) → top_of n.modules ≡ Some top → (c : Choice) → IsChoice threads c → FitsChoice n.modules top c
 
 -- a text reads as a netlist of one thread, where there is such a program
-abbrev pub IsNetOfParts : Module → Module → Module → Netlist → List ℕ → Type 0
-IsNetOfParts m arbiter printer n text = OfParts (λ P. IsNetOf 1 n text) m arbiter printer
+abbrev pub IsNetOfParts : List Bank → Module → Module → List Module → Module → Netlist → List ℕ → Type 0
+IsNetOfParts banks m arbiter modules printer n text = OfParts (λ P. IsNetOf 1 n text) banks m arbiter modules printer
 
 -- THE TEXT IS GOOD: so it is where it is written of the net of these modules
 abbrev pub NetIsGood : Type 0
 NetIsGood =
-    (m arbiter printer : Module) (n : Netlist) (net : Net) (text : List ℕ) → IsWritten (m ∷ arbiter ∷ printer ∷ []) n net text → IsGoodOfParts m arbiter printer text
+    (banks : List Bank) (m arbiter printer : Module) (modules : List Module) (n : Netlist) (net : Net) (text : List ℕ) →
+    IsWritten (layout_of banks) (m ∷ arbiter ∷ modules ++ printer ∷ []) n net text → IsGoodOfParts banks m arbiter modules printer text

@@ -6,9 +6,9 @@ pub mod text;
 
 ghost use Rattle.whole_net.specs.Whole.{NetIsGood};
 
-pub use layout::{PRINT_VALUES, SITE_WIDTH};
+pub use layout::{ADDRESS_WIDTH, PRINT_VALUES, SITE_WIDTH};
 
-/// Where main's module runs its code, and the arbiter and the printer keep their promises, the text of the net that is
+/// Where main's module runs its code, and the arbiter, the banks and the printer keep their promises, the text of the net that is
 /// wired of them is good Verilog of the program.
 pub fn net_is_good()
     ensures { NetIsGood }

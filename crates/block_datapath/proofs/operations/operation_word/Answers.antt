@@ -1,7 +1,7 @@
 use Rattle.std.proofs.Common.{refl, sym, ap, slice_get}
 use Rattle.block_ir.specs.declared.block.Operation.TheVariants.{Unary, Binary, ReadGlobal, WriteGlobal, ReadArray, WriteArray}
-use Rattle.thread_promise.specs.Types.{value_type, element_type}
-use Rattle.block_datapath.proofs.Working.{of_start, of_end, zero_given}
+use Rattle.thread_promise.specs.Types.{value_type, or_int, element_type}
+use Rattle.block_datapath.proofs.Working.{of_start, of_end, of_read, zero_given}
 use Rattle.block_datapath.proofs.Wiring.{operation_wired, read_wired, constant_wired}
 use Rattle.operator_words.specs.Shown.{truth_type, unary_result, binary_result}
 use Rattle.block_datapath.proofs.operations.operation_word.Goals as goal
@@ -23,20 +23,20 @@ returns-in-ReadArray-clause-shows c =
 
 pub returns-in-ReadGlobal-clause-shows : goal.returns-in-ReadGlobal-clause-shows
 returns-in-ReadGlobal-clause-shows c =
-    zero_given c.constant_word.result c.args.wires.now.signals c.constant_word.new.self.signals c.args.globals.now c.args.code.now c.args.registers.now c.args.values.now c.args.start c.args.last
-    c.args.operation.now (ReadGlobal c.in-ReadGlobal.global c.in-ReadGlobal.index) _ _ c.in-ReadGlobal.is (λ variables given arrays. refl) c.constant_word.ensures.shows c.value_type.ensures refl
+    of_read c.told_value.result c.args.wires.now.signals c.told_value.new.wires.signals c.args.globals.now c.args.code.now c.args.registers.now c.args.values.now c.args.start c.args.last
+    c.args.operation.now c.in-ReadGlobal.global c.in-ReadGlobal.length c.in-ReadGlobal.index c.in-ReadGlobal.is c.told_value.ensures.shows
 
 pub returns-in-WriteGlobal-clause-shows : goal.returns-in-WriteGlobal-clause-shows
 returns-in-WriteGlobal-clause-shows c =
-    zero_given c.constant_word-in-WriteGlobal.result c.args.wires.now.signals c.constant_word-in-WriteGlobal.new.self.signals c.args.globals.now c.args.code.now c.args.registers.now
-    c.args.values.now c.args.start c.args.last c.args.operation.now (WriteGlobal c.in-WriteGlobal.global c.in-WriteGlobal.index c.in-WriteGlobal.value) _ _ c.in-WriteGlobal.is
-    (λ variables given arrays. refl) c.constant_word-in-WriteGlobal.ensures.shows (sym (ap (value_type c.args.globals.now c.args.code.now) c.in-WriteGlobal.is)) refl
+    zero_given c.constant_word.result c.args.wires.now.signals c.constant_word.new.self.signals c.args.globals.now c.args.code.now c.args.registers.now
+    c.args.values.now c.args.start c.args.last c.args.operation.now (WriteGlobal c.in-WriteGlobal.global c.in-WriteGlobal.length c.in-WriteGlobal.index c.in-WriteGlobal.value) _ _ c.in-WriteGlobal.is
+    (λ variables given arrays told. refl) c.constant_word.ensures.shows (sym (ap (value_type c.args.globals.now c.args.code.now) c.in-WriteGlobal.is)) refl
 
 pub returns-in-WriteArray-clause-shows : goal.returns-in-WriteArray-clause-shows
 returns-in-WriteArray-clause-shows c =
     zero_given c.constant_word-in-WriteArray.result c.args.wires.now.signals c.constant_word-in-WriteArray.new.self.signals c.args.globals.now c.args.code.now c.args.registers.now
     c.args.values.now c.args.start c.args.last c.args.operation.now (WriteArray c.in-WriteArray.array c.in-WriteArray.length c.in-WriteArray.index c.in-WriteArray.value) _ _ c.in-WriteArray.is
-    (λ variables given arrays. refl) c.constant_word-in-WriteArray.ensures.shows (sym (ap (value_type c.args.globals.now c.args.code.now) c.in-WriteArray.is)) refl
+    (λ variables given arrays told. refl) c.constant_word-in-WriteArray.ensures.shows (sym (ap (value_type c.args.globals.now c.args.code.now) c.in-WriteArray.is)) refl
 
 pub returns-in-Unary-clause-wired : goal.returns-in-Unary-clause-wired
 returns-in-Unary-clause-wired c =
@@ -58,13 +58,14 @@ returns-in-ReadArray-clause-wired c =
 
 pub returns-in-ReadGlobal-clause-wired : goal.returns-in-ReadGlobal-clause-wired
 returns-in-ReadGlobal-clause-wired c =
-    constant_wired c.constant_word.result c.args.wires.now.signals c.constant_word.new.self.signals c.args.globals.now c.args.code.now c.args.registers.now c.args.values.now
-    c.value_type.result c.args.operation.now c.constant_word.ensures.wired c.value_type.ensures
+    read_wired c.told_value.result c.args.wires.now.signals c.told_value.new.wires.signals c.args.globals.now c.args.code.now c.args.registers.now c.args.values.now
+    (or_int (slice_get c.args.globals.now c.in-ReadGlobal.global)) c.args.operation.now
+    (ReadGlobal c.in-ReadGlobal.global c.in-ReadGlobal.length c.in-ReadGlobal.index) c.in-ReadGlobal.is c.told_value.ensures.wired refl
 
 pub returns-in-WriteGlobal-clause-wired : goal.returns-in-WriteGlobal-clause-wired
 returns-in-WriteGlobal-clause-wired c =
-    constant_wired c.constant_word-in-WriteGlobal.result c.args.wires.now.signals c.constant_word-in-WriteGlobal.new.self.signals c.args.globals.now c.args.code.now c.args.registers.now
-    c.args.values.now truth_type c.args.operation.now c.constant_word-in-WriteGlobal.ensures.wired
+    constant_wired c.constant_word.result c.args.wires.now.signals c.constant_word.new.self.signals c.args.globals.now c.args.code.now c.args.registers.now
+    c.args.values.now truth_type c.args.operation.now c.constant_word.ensures.wired
     (sym (ap (value_type c.args.globals.now c.args.code.now) c.in-WriteGlobal.is))
 
 pub returns-in-WriteArray-clause-wired : goal.returns-in-WriteArray-clause-wired

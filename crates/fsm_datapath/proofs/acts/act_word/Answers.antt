@@ -20,7 +20,8 @@ returns-in-Constant c =
 
 pub returns-in-Variable : goal.returns-in-Variable
 returns-in-Variable c =
-    variable_act c.variable_word.result c.args.wires.now.signals c.variable_word.new.wires.signals c.args.code.now c.args.registers.now c.args.operand c.in-Variable.number c.in-Variable.ty
+    variable_act c.variable_word.result c.args.wires.now.signals c.variable_word.new.wires.signals c.args.code.now c.args.registers.now c.args.operand c.in-Variable.number
+    c.in-Variable.ty
     c.as_slice.result.now c.as_slice.ensures c.in-Variable.is c.variable_word.ensures.shows
     (of_ok c.variable_word.result (λ out. (base : Base) → AreRegisters c.args.wires.now.signals base c.as_slice.result.now c.args.registers.now
     → AddsWord base c.args.wires.now.signals c.variable_word.new.wires.signals c.in-Variable.ty out)

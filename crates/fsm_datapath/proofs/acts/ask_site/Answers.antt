@@ -11,7 +11,8 @@ returns c =
     (SetsFields c.resized.new.self.signals c.set_next.new.wires.signals c.args.fields.now c.set_next.new.nexts 0 c.args.site_width c.args.at c.in_ok-source.source)
     (AsksSite c.args.wires.now.signals c.set_next.new.wires.signals c.args.at c.args.fields.now c.set_next.new.nexts c.args.site_width c.args.site)
     (λ t u.
-    site_asked c.args.wires.now.signals c.constant.new.self.signals c.resized.new.self.signals c.set_next.new.wires.signals c.args.at c.args.fields.now c.set_next.new.nexts c.args.site_width
+    site_asked c.args.wires.now.signals c.constant.new.self.signals c.resized.new.self.signals c.set_next.new.wires.signals c.args.at c.args.fields.now c.set_next.new.nexts
+    c.args.site_width
     c.args.site c.from.result c.in_ok-whole.whole c.in_ok-source.source c.from.ensures c.in_ok-whole.ensures.shows c.in_ok-source.ensures.shows t
     (site_linked c.args.wires.now.signals c.constant.new.self.signals c.resized.new.self.signals c.set_next.new.wires.signals c.args.at c.in_ok-whole.whole c.in_ok-source.source
     c.args.site_width c.from.result c.args.fields.now c.set_next.new.nexts c.in_ok-whole.ensures.wired

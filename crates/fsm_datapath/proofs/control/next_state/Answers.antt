@@ -18,6 +18,8 @@ returns-clause-wired c =
     let room = room_of c.args.wires.now.signals base state.register state.width here in
     let one = longer c.args.wires.now.signals c.constant.new.self.signals c.in_ok-one.ensures.shows.grows in
     let two = longer c.constant.new.self.signals c.binary.new.self.signals c.in_ok-following.ensures.shows.grows in
-    state_wired base c.args.wires.now.signals c.constant.new.self.signals c.binary.new.self.signals c.constant-2.new.self.signals c.choice.new.self.signals state c.args.is_last c.in_ok-one.one
-    c.in_ok-following.following c.in_ok-first.first place (c.in_ok-one.ensures.wired base) (λ p q. c.in_ok-following.ensures.wired base (p, q)) (c.in_ok-first.ensures.wired base) (t base)
+    state_wired base c.args.wires.now.signals c.constant.new.self.signals c.binary.new.self.signals c.constant-2.new.self.signals c.choice.new.self.signals state c.args.is_last
+    c.in_ok-one.one
+    c.in_ok-following.following c.in_ok-first.first place (c.in_ok-one.ensures.wired base) (λ p q. c.in_ok-following.ensures.wired base (p, q)) (c.in_ok-first.ensures.wired base)
+    (t base)
     here last room (omega arith)) c.choice.ensures.wired

@@ -12,7 +12,8 @@ pub returns-clause-walks : goal.returns-clause-walks
 returns-clause-walks c =
     of_ok c.take_end.result
     (EndsAt c.args.code.now c.args.registers.now c.take_stages.new.wires.signals c.take_end.new.wires.signals c.take_stages.new.chains c.take_end.new.chains)
-    (WalksAll c.args.globals.now c.args.code.now c.args.registers.now c.args.printer c.args.planned.now c.args.wires.now.signals c.take_end.new.wires.signals c.args.chains.now c.take_end.new.chains)
+    (WalksAll c.args.globals.now c.args.code.now c.args.registers.now c.args.printer c.args.planned.now c.args.wires.now.signals c.take_end.new.wires.signals c.args.chains.now
+    c.take_end.new.chains)
     (λ done t.
     walked c.args.globals.now c.args.code.now c.args.registers.now c.args.printer c.args.planned.now c.args.wires.now.signals c.args.chains.now c.take_stages.new.wires.signals
     c.take_end.new.wires.signals c.take_stages.new.chains c.take_end.new.chains done c.in_ok-take_stages.ensures.walks t)
@@ -22,7 +23,8 @@ pub returns-clause-stores : goal.returns-clause-stores
 returns-clause-stores c =
     of_ok c.take_end.result
     (EndsAt c.args.code.now c.args.registers.now c.take_stages.new.wires.signals c.take_end.new.wires.signals c.take_stages.new.chains c.take_end.new.chains)
-    (λ done. StagesKeepStores c.args.code.now c.args.registers.now c.args.printer c.args.planned.now (length c.args.code.now.stages) c.args.wires.now.signals c.take_end.new.wires.signals
+    (λ done. StagesKeepStores c.args.code.now c.args.registers.now c.args.printer c.args.planned.now
+    (length c.args.code.now.stages) c.args.wires.now.signals c.take_end.new.wires.signals
     c.args.chains.now c.args.stores.now c.take_stages.new.stores)
     (λ done t.
     walk_ended c.args.code.now c.args.registers.now c.args.printer c.args.planned.now (length c.args.code.now.stages) c.args.wires.now.signals c.take_stages.new.wires.signals

@@ -1,4 +1,5 @@
 use Rattle.circuit.proofs.Growth.{got}
+use Rattle.netlist.specs.declared.netlist.Source.TheVariants as source
 use Rattle.fsm_datapath.specs.Wired.{IsSlotRegister}
 use Rattle.fsm_datapath.proofs.Laying.{lays_none, lays_more, stands_grow}
 use Rattle.fsm_datapath.proofs.Wiring.{behind_none, behind_then, power_some}
@@ -7,8 +8,10 @@ use Rattle.fsm_datapath.proofs.slots.lay_all.Goals as goal
 pub loop-width-preserved : goal.loop-width-preserved
 loop-width-preserved c = record {
   laid =
-      lays_more c.args.wires.now.signals c.loop-width.wires.signals c.lay_register.new.wires.signals c.args.widths.now c.loop-width.width-index c.loop-width.registers c.push.new.self _
-      c.in_ok-held.held c.loop-width.invariant.laid (got c.args.widths.now c.loop-width.width-index _ c.loop-width-test.true) c.in_ok-held.ensures.lays c.in_ok-push.ensures.ok;
+      lays_more (source.Register 0) c.args.wires.now.signals c.loop-width.wires.signals c.lay_register.new.wires.signals c.args.widths.now c.loop-width.width-index
+      c.loop-width.registers c.push.new.self _
+      c.in_ok-held.held c.loop-width.invariant.laid (got c.args.widths.now c.loop-width.width-index _ c.loop-width-test.true) c.in_ok-held.ensures.lays.width
+      c.in_ok-held.ensures.lays.stands c.in_ok-push.ensures.ok;
   wired = λ many fit.
       let own = fit c.loop-width.width-index _ (got c.args.widths.now c.loop-width.width-index _ c.loop-width-test.true) in
       behind_then IsSlotRegister c.args.wires.now.signals c.loop-width.wires.signals c.lay_register.new.wires.signals
@@ -19,6 +22,6 @@ loop-width-preserved c = record {
 
 pub loop-width-init : goal.loop-width-init
 loop-width-init c = record {
-  laid = lays_none c.args.wires.now.signals c.args.widths.now c.new-registers.result c.new-registers.ensures;
+  laid = lays_none (source.Register 0) c.args.wires.now.signals c.args.widths.now c.new-registers.result c.new-registers.ensures;
   wired = λ many fit. behind_none IsSlotRegister c.args.wires.now.signals;
 }

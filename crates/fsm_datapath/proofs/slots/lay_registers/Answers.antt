@@ -11,13 +11,33 @@ returns-clause-slot c =
     let first : c.first_stage-first.result ≡ (if c.args.is_main then 0 else length c.args.code.now.stages) =
     c.first_stage-first.ensures ∙ ap (λ (n : ℕ). if c.args.is_main then 0 else n) c.len-end.ensures in
     subst (λ (n : ℕ).
-    LaysSlot c.args.code.now c.args.planned.now n c.args.kept_widths.now c.args.wires.now.signals c.lay_all-2.new.wires.signals
-    (record { stage = c.in_ok-stage.stage; state = c.in_ok-state.state; beat = c.in_ok-beat.beat; variables = c.in_ok-variables.variables; kept = c.in_ok-kept.kept })) first
-    (slot_laid c.args.wires.now.signals c.lay_register.new.wires.signals c.lay_register-2.new.wires.signals c.register.new.self.signals c.lay_all.new.wires.signals c.lay_all-2.new.wires.signals
-    c.args.code.now c.args.planned.now c.first_stage-first.result c.len-end.result c.most_states-states.result c.width_of-width.result c.state_width-state_width.result c.as_slice-3.result.now
-    c.args.kept_widths.now c.as_slice-2.result.now c.as_slice.result.now
-    (record { stage = c.in_ok-stage.stage; state = c.in_ok-state.state; beat = c.in_ok-beat.beat; variables = c.in_ok-variables.variables; kept = c.in_ok-kept.kept })
-    c.as_slice.ensures c.as_slice-2.ensures (c.as_slice-3.ensures ∙ c.in_ok-widths.ensures) c.len-end.ensures c.width_of-width.ensures.room
+    LaysSlot c.args.code.now c.args.planned.now n c.args.kept_widths.now c.args.words c.args.spreads c.args.wires.now.signals c.lay_all-2.new.wires.signals
+    (record {
+      stage = c.in_ok-stage.stage;
+      state = c.in_ok-state.state;
+      beat = c.in_ok-beat.beat;
+      variables = c.in_ok-variables.variables;
+      kept = c.in_ok-kept.kept;
+      words =
+          c.args.words;
+      spreads = c.args.spreads;
+    })) first
+    (slot_laid c.args.wires.now.signals c.lay_register.new.wires.signals c.lay_register-2.new.wires.signals c.register.new.self.signals c.lay_all.new.wires.signals
+    c.lay_all-2.new.wires.signals
+    c.args.code.now c.args.planned.now c.first_stage-first.result c.len-end.result c.most_states-states.result c.width_of-width.result c.state_width-state_width.result
+    c.as_slice-3.result.now
+    c.args.kept_widths.now c.as_slice-2.result.now c.as_slice.result.now c.args.words c.args.spreads
+    (record {
+      stage = c.in_ok-stage.stage;
+      state = c.in_ok-state.state;
+      beat = c.in_ok-beat.beat;
+      variables = c.in_ok-variables.variables;
+      kept = c.in_ok-kept.kept;
+      words =
+          c.args.words;
+      spreads = c.args.spreads;
+    })
+    refl refl c.as_slice.ensures c.as_slice-2.ensures (c.as_slice-3.ensures ∙ c.in_ok-widths.ensures) c.len-end.ensures c.width_of-width.ensures.room
     c.state_width-state_width.ensures.room c.state_width-state_width.ensures.fits c.most_states-states.ensures
     c.in_ok-stage.ensures.lays c.in_ok-state.ensures.lays c.in_ok-beat.ensures.stands c.in_ok-variables.ensures.lays c.in_ok-kept.ensures.lays)
 
@@ -33,14 +53,14 @@ returns-clause-long c =
     omega arith
 
 pub returns-clause-wired : goal.returns-clause-wired
-returns-clause-wired c = λ three fit.
-    let one = stands_long c.args.wires.now.signals c.lay_register.new.wires.signals _ _ _ c.in_ok-stage.ensures.lays.stands in
-    let two = stands_long c.lay_register.new.wires.signals c.lay_register-2.new.wires.signals _ _ _ c.in_ok-state.ensures.lays.stands in
-    slots_behind c.args.wires.now.signals c.lay_register.new.wires.signals c.lay_register-2.new.wires.signals c.register.new.self.signals c.lay_all.new.wires.signals c.lay_all-2.new.wires.signals
-    _ c.in_ok-beat.ensures.laid (omega arith)
+returns-clause-wired c = λ fit.
+    slots_behind c.args.wires.now.signals c.lay_register.new.wires.signals c.lay_register-2.new.wires.signals c.register.new.self.signals c.lay_all.new.wires.signals
+    c.lay_all-2.new.wires.signals
+    _ c.in_ok-beat.ensures.laid
     (stands_grow c.lay_register.new.wires.signals c.lay_register-2.new.wires.signals _ _ _ c.in_ok-state.ensures.lays.stands)
     c.in_ok-variables.ensures.lays.grows c.in_ok-kept.ensures.lays.grows
-    (c.in_ok-stage.ensures.wired refl (first_fits c.args.is_main c.len-end.result c.first_stage-first.result c.width_of-width.result c.first_stage-first.ensures c.width_of-width.ensures.room)
+    (c.in_ok-stage.ensures.wired refl
+    (first_fits c.args.is_main c.len-end.result c.first_stage-first.result c.width_of-width.result c.first_stage-first.ensures c.width_of-width.ensures.room)
     c.width_of-width.ensures.low c.width_of-width.ensures.high)
     (c.in_ok-state.ensures.wired refl (power_some c.state_width-state_width.result) c.state_width-state_width.ensures.low c.state_width-state_width.ensures.high)
     (c.in_ok-variables.ensures.wired refl (types_fit _ c.as_slice-2.result.now (c.as_slice-3.ensures ∙ c.in_ok-widths.ensures))) (c.in_ok-kept.ensures.wired refl fit)

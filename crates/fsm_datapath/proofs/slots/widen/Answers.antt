@@ -7,7 +7,8 @@ use Rattle.fsm_datapath.proofs.slots.widen.Goals as goal
 pub loop-number-preserved : goal.loop-number-preserved
 loop-number-preserved c = record {
   room =
-      operations_more c.args.globals.now c.args.code.now c.args.block.now c.args.plan.now c.args.widths.now c.loop-number.widths c.widen_value.new.widths c.loop-number.number c.from-width.result
+      operations_more c.args.globals.now c.args.code.now c.args.block.now c.args.plan.now c.args.widths.now c.loop-number.widths c.widen_value.new.widths c.loop-number.number
+      c.from-width.result
       c.operation-item.result c.loop-number.invariant.room
       (item_is c.as_slice-operation-items.result.now c.args.block.now.operations c.loop-number.number c.operation-item.result c.loop-number-test.true c.operation-item.is
       c.as_slice-operation-items.ensures)

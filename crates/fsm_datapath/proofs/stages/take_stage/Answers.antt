@@ -21,29 +21,35 @@ returns-in-None-clause-takes c =
     (λ t.
     subst (λ (s : Stage). TakesStage c.args.globals.now c.args.code.now c.args.registers.now c.args.printer c.args.number s (slice_get c.args.planned.now.stages c.args.number)
     c.args.wires.now.signals c.idle.new.wires.signals c.args.chains.now c.idle.new.chains) (sym c.in-Run.is)
-    (idle_taken c.args.globals.now c.args.code.now c.args.registers.now c.args.printer c.args.number c.args.wires.now.signals c.idle.new.wires.signals c.args.chains.now c.idle.new.chains
+    (idle_taken c.args.globals.now c.args.code.now c.args.registers.now c.args.printer c.args.number c.args.wires.now.signals c.idle.new.wires.signals c.args.chains.now
+    c.idle.new.chains
     c.in-Run.block (slice_get c.args.planned.now.stages c.args.number) (λ p e. absurd (let none = c.in-None.ensures.value in cc)) t))
     c.idle.ensures
 
 pub returns-in-None-clause-stores : goal.returns-in-None-clause-stores
 returns-in-None-clause-stores c =
     on_ok c.idle.result (Idles c.args.registers.now c.args.number c.args.wires.now.signals c.idle.new.wires.signals c.args.chains.now c.idle.new.chains)
-    (StageKeepsStores c.args.code.now c.args.registers.now c.args.number (slice_get c.args.planned.now.stages c.args.number) c.args.wires.now.signals c.idle.new.wires.signals c.args.chains.now
+    (StageKeepsStores c.args.code.now c.args.registers.now c.args.number (slice_get c.args.planned.now.stages c.args.number) c.args.wires.now.signals c.idle.new.wires.signals
+    c.args.chains.now
     c.args.stores.now c.args.stores.now)
     (λ t.
-    stage_kept c.args.code.now c.args.registers.now c.args.number (slice_get c.args.planned.now.stages c.args.number) c.args.wires.now.signals c.idle.new.wires.signals c.args.chains.now
+    stage_kept c.args.code.now c.args.registers.now c.args.number (slice_get c.args.planned.now.stages c.args.number) c.args.wires.now.signals c.idle.new.wires.signals
+    c.args.chains.now
     c.args.stores.now t.step.grows)
     c.idle.ensures
 
 pub returns-in-Act-clause-stores : goal.returns-in-Act-clause-stores
 returns-in-Act-clause-stores c =
     on_ok c.take_act.result
-    ((globals : List IntegerType) → TakesAct globals c.args.code.now c.args.registers.now c.args.printer c.args.number (taken.Act c.in-Act.act c.in-Act.next) c.args.wires.now.signals
+    ((globals : List IntegerType) → TakesAct globals c.args.code.now c.args.registers.now c.args.printer c.args.number
+    (taken.Act c.in-Act.act c.in-Act.next) c.args.wires.now.signals
     c.take_act.new.wires.signals c.args.chains.now c.take_act.new.chains)
-    (StageKeepsStores c.args.code.now c.args.registers.now c.args.number (slice_get c.args.planned.now.stages c.args.number) c.args.wires.now.signals c.take_act.new.wires.signals c.args.chains.now
+    (StageKeepsStores c.args.code.now c.args.registers.now c.args.number (slice_get c.args.planned.now.stages c.args.number) c.args.wires.now.signals c.take_act.new.wires.signals
+    c.args.chains.now
     c.args.stores.now c.args.stores.now)
     (λ t.
-    stage_kept c.args.code.now c.args.registers.now c.args.number (slice_get c.args.planned.now.stages c.args.number) c.args.wires.now.signals c.take_act.new.wires.signals c.args.chains.now
+    stage_kept c.args.code.now c.args.registers.now c.args.number (slice_get c.args.planned.now.stages c.args.number) c.args.wires.now.signals c.take_act.new.wires.signals
+    c.args.chains.now
     c.args.stores.now (t [] None).step.grows)
     c.take_act.ensures
 
@@ -53,19 +59,22 @@ returns-in-None-clause-puts c =
     (StoresStage c.args.globals.now c.args.code.now c.args.registers.now c.args.number c.args.stage.now (slice_get c.args.planned.now.stages c.args.number) c.args.wires.now.signals
     c.idle.new.wires.signals c.args.stores.now c.args.stores.now)
     (λ t.
-    stage_of_none c.args.globals.now c.args.code.now c.args.registers.now c.args.number c.args.stage.now (slice_get c.args.planned.now.stages c.args.number) c.args.wires.now.signals
+    stage_of_none c.args.globals.now c.args.code.now c.args.registers.now c.args.number c.args.stage.now
+    (slice_get c.args.planned.now.stages c.args.number) c.args.wires.now.signals
     c.idle.new.wires.signals c.args.stores.now t.step.grows (λ x p e f. absurd (let none = c.in-None.ensures.value in cc)))
     c.idle.ensures
 
 pub returns-in-Act-clause-puts : goal.returns-in-Act-clause-puts
 returns-in-Act-clause-puts c =
     on_ok c.take_act.result
-    ((globals : List IntegerType) → TakesAct globals c.args.code.now c.args.registers.now c.args.printer c.args.number (taken.Act c.in-Act.act c.in-Act.next) c.args.wires.now.signals
+    ((globals : List IntegerType) → TakesAct globals c.args.code.now c.args.registers.now c.args.printer c.args.number
+    (taken.Act c.in-Act.act c.in-Act.next) c.args.wires.now.signals
     c.take_act.new.wires.signals c.args.chains.now c.take_act.new.chains)
     (StoresStage c.args.globals.now c.args.code.now c.args.registers.now c.args.number c.args.stage.now (slice_get c.args.planned.now.stages c.args.number) c.args.wires.now.signals
     c.take_act.new.wires.signals c.args.stores.now c.args.stores.now)
     (λ t.
-    stage_of_none c.args.globals.now c.args.code.now c.args.registers.now c.args.number c.args.stage.now (slice_get c.args.planned.now.stages c.args.number) c.args.wires.now.signals
+    stage_of_none c.args.globals.now c.args.code.now c.args.registers.now c.args.number c.args.stage.now
+    (slice_get c.args.planned.now.stages c.args.number) c.args.wires.now.signals
     c.take_act.new.wires.signals c.args.stores.now (t [] None).step.grows (λ x p e f. absurd (let is = c.in-Act.is in cc)))
     c.take_act.ensures
 

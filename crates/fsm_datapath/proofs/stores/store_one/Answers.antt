@@ -10,9 +10,11 @@ pub returns-in-Unary : goal.returns-in-Unary
 returns-in-Unary c = record {
   grows = grows_refl c.args.wires.now.signals;
   puts =
-      subst (λ (o : Operation). PutsOne c.args.wires.now.signals c.args.wires.now.signals c.args.registers.now c.args.moment c.args.stores.now c.args.stores.now c.args.code.now c.args.values.now o)
+      subst (λ (o : Operation). PutsOne c.args.wires.now.signals c.args.wires.now.signals c.args.registers.now c.args.moment c.args.stores.now c.args.stores.now c.args.code.now
+      c.args.values.now o)
       (sym c.in-Unary.is)
-      (puts_none c.args.wires.now.signals c.args.wires.now.signals c.args.registers.now c.args.moment c.args.stores.now c.args.code.now c.args.values.now _ (grows_refl c.args.wires.now.signals)
+      (puts_none c.args.wires.now.signals c.args.wires.now.signals c.args.registers.now c.args.moment c.args.stores.now c.args.code.now c.args.values.now _
+      (grows_refl c.args.wires.now.signals)
       (λ variables given i j v. refl));
   wired = stores_none c.args.wires.now.signals c.args.code.now c.args.registers.now c.args.values.now c.args.moment.at c.args.moment.states c.args.stores.now;
 }
@@ -21,9 +23,11 @@ pub returns-in-Binary : goal.returns-in-Binary
 returns-in-Binary c = record {
   grows = grows_refl c.args.wires.now.signals;
   puts =
-      subst (λ (o : Operation). PutsOne c.args.wires.now.signals c.args.wires.now.signals c.args.registers.now c.args.moment c.args.stores.now c.args.stores.now c.args.code.now c.args.values.now o)
+      subst (λ (o : Operation). PutsOne c.args.wires.now.signals c.args.wires.now.signals c.args.registers.now c.args.moment c.args.stores.now c.args.stores.now c.args.code.now
+      c.args.values.now o)
       (sym c.in-Binary.is)
-      (puts_none c.args.wires.now.signals c.args.wires.now.signals c.args.registers.now c.args.moment c.args.stores.now c.args.code.now c.args.values.now _ (grows_refl c.args.wires.now.signals)
+      (puts_none c.args.wires.now.signals c.args.wires.now.signals c.args.registers.now c.args.moment c.args.stores.now c.args.code.now c.args.values.now _
+      (grows_refl c.args.wires.now.signals)
       (λ variables given i j v. refl));
   wired = stores_none c.args.wires.now.signals c.args.code.now c.args.registers.now c.args.values.now c.args.moment.at c.args.moment.states c.args.stores.now;
 }
@@ -32,9 +36,11 @@ pub returns-in-ReadGlobal : goal.returns-in-ReadGlobal
 returns-in-ReadGlobal c = record {
   grows = grows_refl c.args.wires.now.signals;
   puts =
-      subst (λ (o : Operation). PutsOne c.args.wires.now.signals c.args.wires.now.signals c.args.registers.now c.args.moment c.args.stores.now c.args.stores.now c.args.code.now c.args.values.now o)
+      subst (λ (o : Operation). PutsOne c.args.wires.now.signals c.args.wires.now.signals c.args.registers.now c.args.moment c.args.stores.now c.args.stores.now c.args.code.now
+      c.args.values.now o)
       (sym c.in-ReadGlobal.is)
-      (puts_none c.args.wires.now.signals c.args.wires.now.signals c.args.registers.now c.args.moment c.args.stores.now c.args.code.now c.args.values.now _ (grows_refl c.args.wires.now.signals)
+      (puts_none c.args.wires.now.signals c.args.wires.now.signals c.args.registers.now c.args.moment c.args.stores.now c.args.code.now c.args.values.now _
+      (grows_refl c.args.wires.now.signals)
       (λ variables given i j v. refl));
   wired = stores_none c.args.wires.now.signals c.args.code.now c.args.registers.now c.args.values.now c.args.moment.at c.args.moment.states c.args.stores.now;
 }
@@ -43,9 +49,11 @@ pub returns-in-WriteGlobal : goal.returns-in-WriteGlobal
 returns-in-WriteGlobal c = record {
   grows = grows_refl c.args.wires.now.signals;
   puts =
-      subst (λ (o : Operation). PutsOne c.args.wires.now.signals c.args.wires.now.signals c.args.registers.now c.args.moment c.args.stores.now c.args.stores.now c.args.code.now c.args.values.now o)
+      subst (λ (o : Operation). PutsOne c.args.wires.now.signals c.args.wires.now.signals c.args.registers.now c.args.moment c.args.stores.now c.args.stores.now c.args.code.now
+      c.args.values.now o)
       (sym c.in-WriteGlobal.is)
-      (puts_none c.args.wires.now.signals c.args.wires.now.signals c.args.registers.now c.args.moment c.args.stores.now c.args.code.now c.args.values.now _ (grows_refl c.args.wires.now.signals)
+      (puts_none c.args.wires.now.signals c.args.wires.now.signals c.args.registers.now c.args.moment c.args.stores.now c.args.code.now c.args.values.now _
+      (grows_refl c.args.wires.now.signals)
       (λ variables given i j v. refl));
   wired = stores_none c.args.wires.now.signals c.args.code.now c.args.registers.now c.args.values.now c.args.moment.at c.args.moment.states c.args.stores.now;
 }
@@ -54,9 +62,11 @@ pub returns-in-ReadArray : goal.returns-in-ReadArray
 returns-in-ReadArray c = record {
   grows = grows_refl c.args.wires.now.signals;
   puts =
-      subst (λ (o : Operation). PutsOne c.args.wires.now.signals c.args.wires.now.signals c.args.registers.now c.args.moment c.args.stores.now c.args.stores.now c.args.code.now c.args.values.now o)
+      subst (λ (o : Operation). PutsOne c.args.wires.now.signals c.args.wires.now.signals c.args.registers.now c.args.moment c.args.stores.now c.args.stores.now c.args.code.now
+      c.args.values.now o)
       (sym c.in-ReadArray.is)
-      (puts_none c.args.wires.now.signals c.args.wires.now.signals c.args.registers.now c.args.moment c.args.stores.now c.args.code.now c.args.values.now _ (grows_refl c.args.wires.now.signals)
+      (puts_none c.args.wires.now.signals c.args.wires.now.signals c.args.registers.now c.args.moment c.args.stores.now c.args.code.now c.args.values.now _
+      (grows_refl c.args.wires.now.signals)
       (λ variables given i j v. refl));
   wired = stores_none c.args.wires.now.signals c.args.code.now c.args.registers.now c.args.values.now c.args.moment.at c.args.moment.states c.args.stores.now;
 }

@@ -13,9 +13,12 @@ use Rattle.fsm_datapath.proofs.stores.write_array.Goals as goal
 
 pub returns-in-Some-clause-wired : goal.returns-in-Some-clause-wired
 returns-in-Some-clause-wired c =
-    written_wired c.put.result c.args.wires.now.signals c.operand_word.new.wires.signals c.operand_word-2.new.wires.signals c.put.new.wires.signals c.args.code.now c.args.registers.now
-    c.args.values.now c.as_slice-types.result.now c.args.array c.in-Some.own _ _ c.in_ok-index.index c.in_ok-value.value c.args.moment c.args.stores.now c.put.new.stores c.as_slice-types.ensures
-    (ap (λ l. slice_get l c.args.array) (sym c.as_slice.ensures) ∙ sym c.array_at.ensures ∙ c.in-Some.is) c.in_ok-index.ensures.wired c.in_ok-value.ensures.wired c.put.ensures.wired
+    written_wired c.put.result c.args.wires.now.signals c.operand_word.new.wires.signals c.operand_word-2.new.wires.signals c.put.new.wires.signals c.args.code.now
+    c.args.registers.now
+    c.args.values.now c.as_slice-types.result.now c.args.array c.in-Some.own _ _ c.in_ok-index.index c.in_ok-value.value c.args.moment c.args.stores.now c.put.new.stores
+    c.as_slice-types.ensures
+    (ap (λ l. slice_get l c.args.array) (sym c.as_slice.ensures) ∙ sym c.array_at.ensures ∙ c.in-Some.is) c.in_ok-index.ensures.wired c.in_ok-value.ensures.wired
+    c.put.ensures.wired
 
 pub returns-in-None-clause-wired : goal.returns-in-None-clause-wired
 returns-in-None-clause-wired c = λ base slots values bit few.
@@ -26,23 +29,28 @@ returns-in-None-clause-wired c = λ base slots values bit few.
 pub returns-in-Some-clause-puts : goal.returns-in-Some-clause-puts
 returns-in-Some-clause-puts c =
     on_ok c.put.result
-    (PutsWord c.operand_word-2.new.wires.signals c.put.new.wires.signals c.args.registers.now c.args.moment c.args.stores.now c.put.new.stores c.args.array c.in-Some.own c.in_ok-index.index
+    (PutsWord c.operand_word-2.new.wires.signals c.put.new.wires.signals c.args.registers.now c.args.moment c.args.stores.now c.put.new.stores c.args.array c.in-Some.own
+    c.in_ok-index.index
     c.in_ok-value.value)
     ((n : ℕ) → PutsOne c.args.wires.now.signals c.put.new.wires.signals c.args.registers.now c.args.moment c.args.stores.now c.put.new.stores c.args.code.now c.args.values.now
     (WriteArray c.args.array n c.args.index.now c.args.value.now))
     (λ t n.
-    puts_write c.args.wires.now.signals c.operand_word.new.wires.signals c.operand_word-2.new.wires.signals c.put.new.wires.signals c.args.registers.now c.args.moment c.args.stores.now
+    puts_write c.args.wires.now.signals c.operand_word.new.wires.signals c.operand_word-2.new.wires.signals c.put.new.wires.signals c.args.registers.now c.args.moment
+    c.args.stores.now
     c.put.new.stores c.args.code.now c.args.values.now c.args.array c.in-Some.own c.args.index.now c.args.value.now c.in_ok-index.index c.in_ok-value.value
     (ap (λ l. slice_get l c.args.array) (sym c.as_slice.ensures) ∙ sym c.array_at.ensures ∙ c.in-Some.is)
-    (subst (λ (ts : List IntegerType). ShowsOperand c.args.wires.now.signals c.operand_word.new.wires.signals c.args.registers.now ts c.args.values.now c.args.moment.state c.args.index.now
+    (subst (λ (ts : List IntegerType). ShowsOperand c.args.wires.now.signals c.operand_word.new.wires.signals c.args.registers.now ts c.args.values.now c.args.moment.state
+    c.args.index.now
     c.in_ok-index.index) c.as_slice-types.ensures c.in_ok-index.ensures.shows)
-    (subst (λ (ts : List IntegerType). ShowsOperand c.operand_word.new.wires.signals c.operand_word-2.new.wires.signals c.args.registers.now ts c.args.values.now c.args.moment.state c.args.value.now
+    (subst (λ (ts : List IntegerType). ShowsOperand c.operand_word.new.wires.signals c.operand_word-2.new.wires.signals c.args.registers.now ts c.args.values.now
+    c.args.moment.state c.args.value.now
     c.in_ok-value.value) c.as_slice-types.ensures c.in_ok-value.ensures.shows) t n)
     c.put.ensures.puts
 
 pub returns-in-None-clause-puts : goal.returns-in-None-clause-puts
 returns-in-None-clause-puts c = λ n.
-    puts_missing c.args.wires.now.signals c.operand_word-2.new.wires.signals c.args.registers.now c.args.moment c.args.stores.now c.args.code.now c.args.values.now c.args.array n c.args.index.now
+    puts_missing c.args.wires.now.signals c.operand_word-2.new.wires.signals c.args.registers.now c.args.moment c.args.stores.now c.args.code.now c.args.values.now c.args.array n
+    c.args.index.now
     c.args.value.now
     (grows_then c.args.wires.now.signals c.operand_word.new.wires.signals c.operand_word-2.new.wires.signals c.in_ok-index.ensures.shows.grows c.in_ok-value.ensures.shows.grows)
     (ap (λ l. slice_get l c.args.array) (sym c.as_slice.ensures) ∙ sym c.array_at.ensures ∙ c.in-None.is)

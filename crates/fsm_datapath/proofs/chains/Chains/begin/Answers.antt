@@ -6,39 +6,29 @@ use Rattle.fsm_datapath.proofs.chains.Chains.begin.Goals as goal
 
 pub returns-clause-begins : goal.returns-clause-begins
 returns-clause-begins c =
-    begin_made c.args.wires.now.signals c.constant.new.self.signals c.zeros.new.wires.signals c.constant-2.new.self.signals c.constant-3.new.self.signals c.constant-4.new.self.signals
-    c.args.registers.now c.args.field_widths.now c.as_slice.result.now c.as_slice-2.result.now
+    begin_made c.args.wires.now.signals c.constant.new.self.signals c.constant-2.new.self.signals c.args.registers.now c.as_slice.result.now c.as_slice-2.result.now
     (record {
       stage = c.args.registers.now.stage.register;
       variables = c.in_ok-variables.variables;
       kept = c.in_ok-kept.kept;
       is_last = c.in_ok-is_last.is_last;
-      needs = c.in_ok-needs.needs;
       waits = c.in_ok-waits.waits;
-      wants = c.in_ok-wants.wants;
-      fields = c.in_ok-fields.fields;
     })
-    c.as_slice.ensures c.as_slice-2.ensures c.in_ok-variables.ensures c.in_ok-kept.ensures c.in_ok-wants.ensures.shows c.in_ok-fields.ensures.more c.in_ok-is_last.ensures.shows
-    c.in_ok-needs.ensures.shows c.in_ok-waits.ensures.shows refl
+    c.as_slice.ensures c.as_slice-2.ensures c.in_ok-variables.ensures c.in_ok-kept.ensures c.in_ok-is_last.ensures.shows c.in_ok-waits.ensures.shows refl
 
 pub returns-clause-wired : goal.returns-clause-wired
-returns-clause-wired c = λ base site_width code slots low high each.
+returns-clause-wired c = λ base code slots reads.
     let chains : Chains = record {
       stage = c.args.registers.now.stage.register;
       variables = c.in_ok-variables.variables;
       kept = c.in_ok-kept.kept;
       is_last = c.in_ok-is_last.is_last;
-      needs = c.in_ok-needs.needs;
       waits = c.in_ok-waits.waits;
-      wants = c.in_ok-wants.wants;
-      fields = c.in_ok-fields.fields;
     } in
     let begins =
-    begin_made c.args.wires.now.signals c.constant.new.self.signals c.zeros.new.wires.signals c.constant-2.new.self.signals c.constant-3.new.self.signals c.constant-4.new.self.signals
-    c.args.registers.now c.args.field_widths.now c.as_slice.result.now c.as_slice-2.result.now chains
-    c.as_slice.ensures c.as_slice-2.ensures c.in_ok-variables.ensures c.in_ok-kept.ensures c.in_ok-wants.ensures.shows c.in_ok-fields.ensures.more c.in_ok-is_last.ensures.shows
-    c.in_ok-needs.ensures.shows c.in_ok-waits.ensures.shows refl in
-    begun base site_width c.args.wires.now.signals c.constant.new.self.signals c.zeros.new.wires.signals c.constant-2.new.self.signals c.constant-3.new.self.signals c.constant-4.new.self.signals
-    code c.args.registers.now c.args.field_widths.now c.as_slice.result.now c.as_slice-2.result.now chains c.as_slice.ensures c.as_slice-2.ensures c.in_ok-variables.ensures c.in_ok-kept.ensures
-    begins slots low high each (c.in_ok-wants.ensures.wired base) (c.in_ok-fields.ensures.wired base) (c.in_ok-is_last.ensures.wired base) (c.in_ok-needs.ensures.wired base)
-    (c.in_ok-waits.ensures.wired base) c.in_ok-wants.ensures.shows.grows c.in_ok-fields.ensures.more.grows c.in_ok-is_last.ensures.shows.grows c.in_ok-needs.ensures.shows.grows refl
+    begin_made c.args.wires.now.signals c.constant.new.self.signals c.constant-2.new.self.signals c.args.registers.now c.as_slice.result.now c.as_slice-2.result.now chains
+    c.as_slice.ensures c.as_slice-2.ensures c.in_ok-variables.ensures c.in_ok-kept.ensures c.in_ok-is_last.ensures.shows c.in_ok-waits.ensures.shows refl in
+    begun base c.args.wires.now.signals c.constant.new.self.signals c.constant-2.new.self.signals code c.args.registers.now c.as_slice.result.now c.as_slice-2.result.now chains
+    c.as_slice.ensures c.as_slice-2.ensures c.in_ok-variables.ensures c.in_ok-kept.ensures begins slots reads (c.in_ok-is_last.ensures.wired base)
+    (c.in_ok-waits.ensures.wired base)
+    c.in_ok-is_last.ensures.shows.grows refl

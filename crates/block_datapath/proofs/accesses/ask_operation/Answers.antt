@@ -1,0 +1,69 @@
+use Rattle.std.proofs.Common.{ℕ, refl, sym, subst}
+use Rattle.block_ir.specs.declared.block.Operation.{Operation}
+use Rattle.block_ir.specs.declared.block.Operation.TheVariants.{ReadGlobal, WriteGlobal}
+use Rattle.block_datapath.specs.Accesses.{AsksOperation}
+use Rattle.block_datapath.proofs.Chaining.{on_ok}
+use Rattle.block_datapath.proofs.Accessing.{silent_asked, silent_linked}
+use Rattle.block_datapath.proofs.accesses.ask_operation.Goals as goal
+
+pub returns-in-ReadGlobal-clause-shows : goal.returns-in-ReadGlobal-clause-shows
+returns-in-ReadGlobal-clause-shows c =
+    on_ok c.ask_read.result
+    ((n : ℕ) → AsksOperation c.args.wires.now.signals c.ask_read.new.wires.signals c.args.registers.now c.args.code.now.variables c.args.values.now c.args.chains.now
+    c.ask_read.new.chains c.args.globals.now c.args.spreads.now c.args.moment (ReadGlobal c.in-ReadGlobal.global n c.in-ReadGlobal.index))
+    (AsksOperation c.args.wires.now.signals c.ask_read.new.wires.signals c.args.registers.now c.args.code.now.variables c.args.values.now c.args.chains.now
+    c.ask_read.new.chains c.args.globals.now c.args.spreads.now c.args.moment c.args.operation.now)
+    (λ t.
+    subst (λ (o : Operation). AsksOperation c.args.wires.now.signals c.ask_read.new.wires.signals c.args.registers.now c.args.code.now.variables c.args.values.now c.args.chains.now
+    c.ask_read.new.chains c.args.globals.now c.args.spreads.now c.args.moment o)
+    (sym c.in-ReadGlobal.is) (t c.in-ReadGlobal.length))
+    c.ask_read.ensures.shows
+
+pub returns-in-WriteGlobal-clause-shows : goal.returns-in-WriteGlobal-clause-shows
+returns-in-WriteGlobal-clause-shows c =
+    on_ok c.ask_write.result
+    ((n : ℕ) → AsksOperation c.args.wires.now.signals c.ask_write.new.wires.signals c.args.registers.now c.args.code.now.variables c.args.values.now c.args.chains.now
+    c.ask_write.new.chains c.args.globals.now c.args.spreads.now c.args.moment (WriteGlobal c.in-WriteGlobal.global n c.in-WriteGlobal.index c.in-WriteGlobal.value))
+    (AsksOperation c.args.wires.now.signals c.ask_write.new.wires.signals c.args.registers.now c.args.code.now.variables c.args.values.now c.args.chains.now
+    c.ask_write.new.chains c.args.globals.now c.args.spreads.now c.args.moment c.args.operation.now)
+    (λ t.
+    subst (λ (o : Operation). AsksOperation c.args.wires.now.signals c.ask_write.new.wires.signals c.args.registers.now c.args.code.now.variables c.args.values.now c.args.chains.now
+    c.ask_write.new.chains c.args.globals.now c.args.spreads.now c.args.moment o)
+    (sym c.in-WriteGlobal.is) (t c.in-WriteGlobal.length))
+    c.ask_write.ensures.shows
+
+pub returns-in-Unary-clause-shows : goal.returns-in-Unary-clause-shows
+returns-in-Unary-clause-shows c =
+    silent_asked c.args.registers.now c.args.code.now.variables c.args.values.now c.args.chains.now c.args.chains.now c.args.moment c.args.globals.now c.args.spreads.now c.args.wires.now.signals
+    c.args.operation.now _ c.in-Unary.is (λ variables given j. refl) refl
+
+pub returns-in-Unary-clause-wired : goal.returns-in-Unary-clause-wired
+returns-in-Unary-clause-wired c =
+    silent_linked c.args.registers.now c.args.code.now.variables c.args.values.now c.args.chains.now c.args.chains.now c.args.moment c.args.globals.now c.args.spreads.now c.args.wires.now.signals refl
+
+pub returns-in-Binary-clause-shows : goal.returns-in-Binary-clause-shows
+returns-in-Binary-clause-shows c =
+    silent_asked c.args.registers.now c.args.code.now.variables c.args.values.now c.args.chains.now c.args.chains.now c.args.moment c.args.globals.now c.args.spreads.now c.args.wires.now.signals
+    c.args.operation.now _ c.in-Binary.is (λ variables given j. refl) refl
+
+pub returns-in-Binary-clause-wired : goal.returns-in-Binary-clause-wired
+returns-in-Binary-clause-wired c =
+    silent_linked c.args.registers.now c.args.code.now.variables c.args.values.now c.args.chains.now c.args.chains.now c.args.moment c.args.globals.now c.args.spreads.now c.args.wires.now.signals refl
+
+pub returns-in-ReadArray-clause-shows : goal.returns-in-ReadArray-clause-shows
+returns-in-ReadArray-clause-shows c =
+    silent_asked c.args.registers.now c.args.code.now.variables c.args.values.now c.args.chains.now c.args.chains.now c.args.moment c.args.globals.now c.args.spreads.now c.args.wires.now.signals
+    c.args.operation.now _ c.in-ReadArray.is (λ variables given j. refl) refl
+
+pub returns-in-ReadArray-clause-wired : goal.returns-in-ReadArray-clause-wired
+returns-in-ReadArray-clause-wired c =
+    silent_linked c.args.registers.now c.args.code.now.variables c.args.values.now c.args.chains.now c.args.chains.now c.args.moment c.args.globals.now c.args.spreads.now c.args.wires.now.signals refl
+
+pub returns-in-WriteArray-clause-shows : goal.returns-in-WriteArray-clause-shows
+returns-in-WriteArray-clause-shows c =
+    silent_asked c.args.registers.now c.args.code.now.variables c.args.values.now c.args.chains.now c.args.chains.now c.args.moment c.args.globals.now c.args.spreads.now c.args.wires.now.signals
+    c.args.operation.now _ c.in-WriteArray.is (λ variables given j. refl) refl
+
+pub returns-in-WriteArray-clause-wired : goal.returns-in-WriteArray-clause-wired
+returns-in-WriteArray-clause-wired c =
+    silent_linked c.args.registers.now c.args.code.now.variables c.args.values.now c.args.chains.now c.args.chains.now c.args.moment c.args.globals.now c.args.spreads.now c.args.wires.now.signals refl

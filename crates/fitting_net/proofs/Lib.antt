@@ -1,0 +1,15 @@
+pub mod Tests
+pub mod Lists
+pub mod Declarations
+pub mod Signals
+pub mod Rights
+pub mod Statements
+pub mod Constants
+pub mod Earlier
+pub mod Connected
+pub mod Drivers
+pub mod Apart
+pub mod Modules
+pub mod Named
+pub mod Once
+pub mod Prints

@@ -1,0 +1,92 @@
+-- What a thread asks of cores in a state: of all stages, and which requests have not been granted.
+use Rattle.std.specs.Prelude.{◌≡◌, ℕ, ◌<◌, ◌≤◌, true, List, [], ◌∷◌, ◌++◌, length, map, replicate, slice_get, Option, Some, None}
+use Rattle.hls_ints.specs.Types.{IntegerType}
+use Rattle.bank_partition.specs.declared.banks.Spread.{Spread}
+use Rattle.block_ir.specs.declared.code.ThreadCode.{ThreadCode}
+use Rattle.block_ir.specs.declared.plan.Planned.{Planned}
+use Rattle.netlist.specs.declared.netlist.Signal.{Signal}
+use Rattle.netlist.specs.declared.netlist.Module.{Module}
+use Rattle.verilog_meaning.specs.Readings.{Reading}
+use Rattle.circuit.specs.Modules.{Obeys}
+use Rattle.operator_wires.specs.Gives.{Grows}
+use Rattle.operator_wires.specs.Built.{Base, IsEarlier, AreWires}
+use Rattle.block_datapath.specs.declared.registers.Held.{Held}
+use Rattle.block_datapath.specs.declared.registers.Registers.{Registers}
+use Rattle.block_datapath.specs.Requests.{AreAsMany, HaveWidths, asked_at, nothing_asked}
+use Rattle.block_datapath.specs.Accesses.{HaveBankWidths}
+use Rattle.fsm_datapath.specs.declared.shape.Printer.{Printer}
+use Rattle.fsm_datapath.specs.declared.requests.Requests.{Requests}
+use Rattle.fsm_datapath.specs.declared.early.Early.{Early}
+use Rattle.fsm_datapath.specs.Outputs.{HasFieldWidths, field_width}
+use Rattle.fsm_datapath.specs.Asking.{AreAskBits, AsksAll, AreAskLinks, KeepsAskLinks}
+use Rattle.fsm_datapath.specs.Bits.{NotOf, BothOf, MakesBits, MakesAny, AreBitsOf}
+use Rattle.fsm_datapath.specs.Wired.{AreSlots, FitStates}
+
+abbrev pub held_width : Held → ℕ
+held_width h = h.width
+
+abbrev pub copies_of : ℕ → Option ℕ → List ℕ
+copies_of n None = []
+copies_of n (Some v) = replicate n v
+
+-- for each bank what its global has
+abbrev pub spread_out : List Spread → List ℕ → List ℕ
+spread_out [] values = []
+spread_out (s ∷ spreads) [] = []
+spread_out (s ∷ spreads) (v ∷ values) = replicate s.count v ++ spread_out spreads values
+
+-- nobody is asked: requests with fields and words of these widths
+pub record BeginsAsking (old new : List Signal) (fields words : List ℕ) (c : Requests) : Type 0 where
+  pub grows : Grows old new
+  pub bits : AreAskBits new c
+  pub fields_count : length c.fields ≡ length fields
+  pub many : AreAsMany (length words) c.banks
+  pub silent : (m : Module) (r : Reading) → Grows new m.signals → Obeys m r → r.signal c.wants ≡ 0
+  pub nothing : (m : Module) (r : Reading) (j : ℕ) → Grows new m.signals → Obeys m r → j < length words → asked_at r c.banks j ≡ nothing_asked
+
+-- and they stand
+abbrev pub BeginsLinked : List Signal → List Signal → List ℕ → List ℕ → Requests → Type 0
+BeginsLinked old new fields words c =
+    (base : Base) (code : ThreadCode) (registers : Registers) (site_width : ℕ) (globals : List IntegerType) (spreads : List Spread) (bits wide own : List Held) →
+    AreSlots base old code registers →
+    1 ≤ site_width → site_width ≤ 64 → ((k w : ℕ) → slice_get fields k ≡ Some w → w ≡ field_width site_width k) → ((x w : ℕ) → slice_get words x ≡ Some w → (1 ≤ w) × (w ≤ 64)) →
+    HaveWidths bits (replicate (length words) 1) → HaveWidths wide (replicate (length words) 64) → HaveWidths own words → HaveBankWidths globals spreads bits wide own →
+    KeepsAskLinks base code registers site_width globals spreads bits wide own old new c
+
+abbrev pub printer_request : Option Printer → ℕ → List ℕ
+printer_request None wants = []
+printer_request (Some p) wants = wants ∷ []
+
+-- what stands on a base behind the inputs
+pub record AreEarly (base : Base) (old new : List Signal) (early : Early) (code : ThreadCode) (registers : Registers) (site_width : ℕ) (globals : List IntegerType)
+    (bits wide own : List Held) :
+    Type 0 where
+  pub wires : AreWires base old new
+  pub linked : AreAskLinks base code registers site_width globals registers.spreads bits wide own new early.requests
+  pub opens : AreBitsOf base new early.opens
+  pub need : IsEarlier new base early.need 1
+  pub done : IsEarlier new base early.done 1
+
+pub record LaysEarly (globals : List IntegerType) (code : ThreadCode) (registers : Registers) (granted : List ℕ) (printer : Option Printer) (plan : Planned) (old new : List Signal)
+    (early : Early) : Type 0 where
+  pub grows : Grows old new
+  pub fields : List ℕ
+  pub free : List ℕ
+  pub bank_opens : List ℕ
+  pub start : Requests
+  pub with_start : List Signal
+  pub with_asks : List Signal
+  pub with_free : List Signal
+  pub with_open : List Signal
+  pub widths : HasFieldWidths printer fields
+  pub begins : BeginsAsking old with_start fields (map held_width registers.words) start
+  pub asks : AsksAll globals registers.spreads code registers printer plan with_start with_asks start early.requests early.done
+  pub frees : MakesBits with_asks with_free (length (spread_out registers.spreads granted)) free (NotOf (spread_out registers.spreads granted))
+  pub opens : MakesBits with_free with_open (length early.requests.banks.wants) bank_opens (BothOf early.requests.banks.wants free)
+  pub open_is : early.opens ≡ bank_opens ++ printer_request printer early.requests.wants
+  pub needs : MakesAny with_open new early.requests.needs early.requests.banks.wants (λ k. true) (length early.requests.banks.wants) early.need
+  pub wired : (known : Printer) → printer ≡ Some known → 1 ≤ known.site_width → known.site_width ≤ 64 → (base : Base) (bits wide own : List Held) → FitStates registers plan →
+      AreSlots base old code registers → AreBitsOf base old (spread_out registers.spreads granted) → length (spread_out registers.spreads granted) ≡ length registers.words →
+      HaveBankWidths globals registers.spreads bits wide own → HaveWidths bits (replicate (length (map held_width registers.words)) 1) →
+      HaveWidths wide (replicate (length (map held_width registers.words)) 64) → HaveWidths own (map held_width registers.words) →
+      ((x w : ℕ) → slice_get (map held_width registers.words) x ≡ Some w → (1 ≤ w) × (w ≤ 64)) → AreEarly base old new early code registers known.site_width globals bits wide own

@@ -1,0 +1,64 @@
+// What is asked of cores: links of wires that read registers alone, one for each stage that asks.
+
+ghost use Rattle.std.specs.Prelude.{IfOk, OnOk};
+ghost use Rattle.fsm_datapath.specs.Asking.{AsksPrinter, NeedsCore, BitsAreLinked};
+ghost use Rattle.fsm_datapath.specs.Early.{BeginsAsking, BeginsLinked};
+
+use block_datapath::requests::{BankRequests, zeros};
+use operator_wires::wires::Wires;
+use sqlite_items::Items;
+use std::alloc::AllocError;
+
+/// What is asked of the cores: the last links so far.
+#[derive(Drop)]
+pub struct Requests {
+    /// Whether this state has something to print.
+    pub wants: usize,
+    /// The number of the site to print, then its values.
+    pub fields: Items<usize>,
+    /// Whether this state asks a core, or waits at one.
+    pub needs: usize,
+    /// What each bank is asked.
+    pub banks: BankRequests,
+}
+
+impl Requests {
+    /// Nothing is asked: of the printer, with fields of these widths, and of banks, with words of those.
+    pub fn begin(wires: &mut Wires, fields: &[u64], words: &[u64]) -> Result<Requests, AllocError>
+        ensures begins { IfOk result (BeginsAsking wires.old.signals wires.new.signals fields.now words.now) }
+        ensures wired { IfOk result (BeginsLinked wires.old.signals wires.new.signals fields.now words.now) }
+    {
+        let wants = wires.constant(1, 0)?;
+        let needs = wires.constant(1, 0)?;
+        let fields = zeros(wires, fields)?;
+        let banks = BankRequests::begin(wires, words)?;
+        Ok(Requests {
+            wants,
+            fields,
+            needs,
+            banks,
+        })
+    }
+
+    /// Where the condition holds the printer is asked.
+    pub fn want(&mut self, wires: &mut Wires, condition: usize) -> Result<(), AllocError>
+        ensures asks { OnOk result (AsksPrinter wires.old.signals wires.new.signals self.old self.new condition) }
+        ensures wired { OnOk result (BitsAreLinked wires.old.signals wires.new.signals self.old self.new condition) }
+    {
+        let needs = wires.either(self.needs, condition)?;
+        let wants = wires.either(self.wants, condition)?;
+        self.needs = needs;
+        self.wants = wants;
+        Ok(())
+    }
+
+    /// Where the condition holds a core is needed.
+    pub fn need(&mut self, wires: &mut Wires, condition: usize) -> Result<(), AllocError>
+        ensures needs { OnOk result (NeedsCore wires.old.signals wires.new.signals self.old self.new condition) }
+        ensures wired { OnOk result (BitsAreLinked wires.old.signals wires.new.signals self.old self.new condition) }
+    {
+        let needs = wires.either(self.needs, condition)?;
+        self.needs = needs;
+        Ok(())
+    }
+}

@@ -1,0 +1,4 @@
+pub mod Right
+pub mod Openable
+pub mod Texts
+pub mod Example

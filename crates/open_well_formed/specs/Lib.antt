@@ -1,0 +1,2 @@
+pub mod Openable
+pub mod Example

@@ -1,0 +1,4 @@
+//! Nets of well-formed texts can be opened by the simulator.
+#![tactic(auto)]
+
+pub mod law;
