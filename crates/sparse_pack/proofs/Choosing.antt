@@ -1,13 +1,15 @@
 -- The intervals that have a place, and the rows that they are given.
-use Rattle.std.proofs.Common.{◌≡◌, ◌≢◌, ℕ, zero, suc, ◌<◌, ◌≤◌, ◌+◌, List, [], ◌∷◌, ◌++◌, length, take, get_or, set, Bool, true, false}
+use Rattle.std.proofs.Common.{◌≡◌, ◌≢◌, ℕ, zero, suc, ◌<◌, ◌≤◌, ◌+◌, List, [], ◌∷◌, ◌++◌, length, take, get_or, set, map, Bool, true, false}
 use Rattle.std.proofs.Common.{nat_lt, if◌then◌else◌, refl, ap, subst, sym, ◌∙◌, ◌⊎◌, inl, inr, arith, get_or-set_other, get_or-set_same}
+use Rattle.std.specs.List.{count_by, range_with_len}
 use Rattle.std.proofs.lemmas.Bool.{cases_lt, cases_eq}
 use Rattle.std.proofs.lemmas.List.{get_or_append_left, get_or_push, length_push, length-set}
+use Rattle.std.proofs.lemmas.List.FromFn.{fill_by_all}
 use Rattle.std.proofs.lemmas.List.Sums.{sum_by-cons, sum_by-append, count_by_more_yes, count_by_more_no}
 use Rattle.interval_pack.specs.declared.interval.Interval.{Interval}
 use Rattle.interval_pack.specs.Packing.{at, nowhere, crowd_at}
 use Rattle.interval_pack.proofs.Counts.{holds}
-use Rattle.sparse_pack.specs.Sparse.{HasPlace, count_below}
+use Rattle.sparse_pack.specs.Sparse.{HasPlace}
 use Rattle.sparse_pack.specs.Chosen.{IsRisingBelow, IsSpread}
 
 -- one more number
@@ -53,31 +55,35 @@ more_if false xs k q l e = count_by_more_no (holds q) xs k nowhere l e ∙ (let 
 pub crowd-more : (xs : List Interval) (k q : ℕ) → k < length xs → crowd_at (take (k + 1) xs) q ≡ crowd_at (take k xs) q + one_if (holds q (at xs k))
 crowd-more xs k q l = more_if (holds q (at xs k)) xs k q l refl
 
--- how many hold a place, counted by index
-crowd-taken : (xs : List Interval) (q k : ℕ) → k ≤ length xs → crowd_at (take k xs) q ≡ count_below (λ i. holds q (at xs i)) k
-crowd-taken xs q zero l = refl
-crowd-taken xs q (suc k) l =
-    let h = crowd-taken xs q k (omega arith) in
-    let m = crowd-more xs k q (omega arith) in
-    let e : suc k ≡ k + 1 = omega arith in
-    rw e (omega (arith, h, m))
-
 pub take_all : (xs : List Interval) → take (length xs) xs ≡ xs
 take_all [] = refl
 take_all (x ∷ xs) = ap (λ (r : List Interval). x ∷ r) (take_all xs)
 
-pub crowd-counted : (xs : List Interval) (q : ℕ) → crowd_at xs q ≡ count_below (λ i. holds q (at xs i)) (length xs)
-crowd-counted xs q = ap (λ (r : List Interval). crowd_at r q) (sym (take_all xs)) ∙ crowd-taken xs q (length xs) (omega arith)
+count-map : (test : Interval → Bool) (f : ℕ → Interval) (is : List ℕ) → count_by test (map f is) ≡ count_by (λ (i : ℕ). test (f i)) is
+count-map test f [] = refl
+count-map test f (i ∷ is) =
+    sum_by-cons (λ (x : Interval). one_if (test x)) (f i) (map f is)
+    ∙ (ap (λ (m : ℕ). one_if (test (f i)) + m) (count-map test f is) ∙ sym (sum_by-cons (λ (j : ℕ). one_if (test (f j))) i is))
+
+-- how many hold a place, counted by index
+pub crowd-counted : (xs : List Interval) (q : ℕ) → crowd_at xs q ≡ count_by (λ (i : ℕ). holds q (at xs i)) (range_with_len 0 (length xs))
+crowd-counted xs q =
+    ap (λ (r : List Interval). crowd_at r q) (fill_by_all (at xs) xs (length xs) nowhere refl (λ k l. refl)) ∙ count-map (holds q) (at xs) (range_with_len 0 (length xs))
 
 holds_none : (q : ℕ) (a : Interval) → a.end ≤ a.start → holds q a ≡ false
 holds_none q a l = grind arith
 
-pub count-same : (f g : ℕ → Bool) (k : ℕ) → ((i : ℕ) → i < k → f i ≡ g i) → count_below f k ≡ count_below g k
-count-same f g zero same = refl
-count-same f g (suc k) same =
-    let h = count-same f g k (λ i l. same i (omega arith)) in
-    let e : one_if (f k) ≡ one_if (g k) = ap one_if (same k (omega arith)) in
-    omega (arith, h, e)
+count-same_from : (f g : ℕ → Bool) (a k : ℕ) → ((i : ℕ) → i < a + k → f i ≡ g i) → count_by f (range_with_len a k) ≡ count_by g (range_with_len a k)
+count-same_from f g a zero same = refl
+count-same_from f g a (suc k) same =
+    let rest = count-same_from f g (a + 1) k (λ i l. same i (omega arith)) in
+    sum_by-cons (λ (i : ℕ). one_if (f i)) a (range_with_len (a + 1) k)
+    ∙ (ap (λ (b : Bool). one_if b + count_by f (range_with_len (a + 1) k)) (same a (omega arith))
+    ∙ (ap (λ (m : ℕ). one_if (g a) + m) rest ∙ sym (sum_by-cons (λ (i : ℕ). one_if (g i)) a (range_with_len (a + 1) k))))
+
+-- tests that agree below k
+pub count-same : (f g : ℕ → Bool) (k : ℕ) → ((i : ℕ) → i < k → f i ≡ g i) → count_by f (range_with_len 0 k) ≡ count_by g (range_with_len 0 k)
+count-same f g k same = count-same_from f g 0 k (λ i l. same i (omega arith))
 
 -- the intervals that have a place among the first k
 pub record AreChosen (intervals : List Interval) (k : ℕ) (chosen : List ℕ) (solid : List Interval) : Type 0 where
@@ -158,7 +164,8 @@ module _ (intervals : List Interval) (k : ℕ) (l : k < length intervals) (chose
           let w = are.covers i (omega arith) f in
           (w.0, omega (arith, length_push chosen k, w.1), old w.0 w.1 ∙ w.2)
 
-      same : (a : ℕ) → a < length (chosen ++ k ∷ []) → (a < length chosen) ⊎ (length chosen ≤ a) → at (solid ++ at intervals k ∷ []) a ≡ at intervals (get_or (chosen ++ k ∷ []) a 0)
+      same : (a : ℕ) → a < length (chosen ++ k ∷ []) → (a < length chosen) ⊎ (length chosen ≤ a) →
+          at (solid ++ at intervals k ∷ []) a ≡ at intervals (get_or (chosen ++ k ∷ []) a 0)
       same a m (inl n) =
           let lw : a < length solid = omega (arith, are.same_count) in
           rw (old a n) (get_or_append_left solid (at intervals k ∷ []) nowhere a lw ∙ are.same a n)

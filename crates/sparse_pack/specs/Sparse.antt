@@ -1,16 +1,11 @@
 -- Intervals packed into rows by the left edge, where some have no place: these meet none.
-use Rattle.std.specs.Prelude.{◌≡◌, ℕ, zero, suc, ◌+◌, ◌<◌, ◌≤◌, List, length, slice_index, Bool, if◌then◌else◌}
+use Rattle.std.specs.Prelude.{◌≡◌, ℕ, ◌<◌, ◌≤◌, List, length, slice_index}
 use Rattle.interval_pack.specs.declared.interval.Interval.{Interval}
 use Rattle.interval_pack.specs.LeftEdge.{IsLeftEdge}
 use Rattle.interval_pack.specs.Packing.{at, start_of, Meet, crowd_at}
 
 abbrev pub HasPlace : Interval → Type 0
 HasPlace a = a.start < a.end
-
--- how many of the numbers below k pass the test
-abbrev pub count_below : (ℕ → Bool) → ℕ → ℕ
-count_below test zero = 0
-count_below test (suc k) = count_below test k + (if test k then 1 else 0)
 
 -- the two have a place in common
 abbrev pub Share : List Interval → ℕ → ℕ → Type 0

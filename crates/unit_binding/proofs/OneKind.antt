@@ -1,19 +1,20 @@
 -- The operations of one kind, with the rows of their packing.
-use Rattle.std.proofs.Common.{◌≡◌, ◌≢◌, ℕ, ◌+◌, ◌<◌, ◌≤◌, List, length, get_or, Bool, true, false, if◌then◌else◌, nat_lt, ◌&&◌, refl, ap, subst, sym, ◌∙◌, ◌⊎◌, inl, inr, arith}
+use Rattle.std.proofs.Common.{◌≡◌, ◌≢◌, ℕ, ◌+◌, ◌<◌, List, length, get_or, Bool, true, false, if◌then◌else◌, nat_lt, ◌&&◌, refl, ap, subst, sym, ◌∙◌, ◌⊎◌, inl, inr, arith}
 use Rattle.std.specs.Prelude.{nat_le, slice_index}
-use Rattle.std.proofs.lemmas.Bool.{cases_eq}
+use Rattle.std.specs.List.{count_by, range_with_len}
+use Rattle.std.proofs.lemmas.Bool.{cases_eq, cases_Bool, cond-true, cond-false}
 use Rattle.interval_pack.specs.declared.interval.Interval.{Interval}
 use Rattle.interval_pack.specs.LeftEdge.{IsBefore}
 use Rattle.interval_pack.specs.Packing.{at, nowhere, start_of, Meet, crowd_at}
 use Rattle.interval_pack.proofs.Counts.{holds}
-use Rattle.sparse_pack.specs.Sparse.{HasPlace, Share, IsSparsePacking, count_below}
+use Rattle.sparse_pack.specs.Sparse.{HasPlace, IsSparsePacking}
 use Rattle.sparse_pack.proofs.Choosing.{crowd-counted, count-same}
 use Rattle.op_graph.specs.declared.node.Kind.{Kind}
 use Rattle.op_graph.specs.declared.node.Node.{Node}
-use Rattle.op_graph.specs.Graph.{kind_at, latency_at, done}
+use Rattle.op_graph.specs.Graph.{kind_at, done}
 use Rattle.op_graph.proofs.OneByOne.{at_least_one}
 use Rattle.unit_binding.specs.Units.{same_kind, WorkTogether, works_at, use_at, IsGreatestUse}
-use Rattle.unit_binding.specs.Works.{work_of, AreWorks, IsTakenOver, IsTaken, IsBoundKind}
+use Rattle.unit_binding.specs.Works.{AreWorks, IsTakenOver, IsTaken, IsBoundKind}
 use Rattle.unit_binding.proofs.SameKinds.{same_along, same_back}
 
 -- one more unit
@@ -34,16 +35,6 @@ taken_more nodes kind row k old new newer s n here other = record {
         subst (λ (z : ℕ). get_or newer z 0 ≡ (if same_kind kind (kind_at nodes z) then get_or row z 0 else get_or old z 0)) (sym e) now
     taken i l (inr ne) = let n' : i ≢ k = ne in other i n' ∙ s.taken i (omega arith)
 
-then_is : {A : Type 0} (b : Bool) (x y : A) → b ≡ true → (if b then x else y) ≡ x
-then_is b x y e = rw e refl
-
-else_is : {A : Type 0} (b : Bool) (x y : A) → b ≡ false → (if b then x else y) ≡ y
-else_is b x y e = rw e refl
-
-either : (b : Bool) → (b ≡ true) ⊎ (b ≡ false)
-either true = inl refl
-either false = inr refl
-
 module _ (nodes : List Node) (starts : List ℕ) (kind : Kind) (works : List Interval) (are : AreWorks nodes starts kind works) where
   abbrev n : ℕ
   n = length nodes
@@ -52,10 +43,10 @@ module _ (nodes : List Node) (starts : List ℕ) (kind : Kind) (works : List Int
   IsOfKind i = same_kind kind (kind_at nodes i) ≡ true
 
   work_is : (i : ℕ) → i < n → IsOfKind i → at works i ≡ record { start = slice_index starts i; end = done nodes starts i }
-  work_is i l e = are.each i l ∙ then_is (same_kind kind (kind_at nodes i)) (record { start = slice_index starts i; end = done nodes starts i }) nowhere e
+  work_is i l e = are.each i l ∙ cond-true (same_kind kind (kind_at nodes i)) (record { start = slice_index starts i; end = done nodes starts i }) nowhere e
 
   no_work : (i : ℕ) → i < n → same_kind kind (kind_at nodes i) ≡ false → at works i ≡ nowhere
-  no_work i l e = are.each i l ∙ else_is (same_kind kind (kind_at nodes i)) (record { start = slice_index starts i; end = done nodes starts i }) nowhere e
+  no_work i l e = are.each i l ∙ cond-false (same_kind kind (kind_at nodes i)) (record { start = slice_index starts i; end = done nodes starts i }) nowhere e
 
   start_is : (i : ℕ) → i < n → IsOfKind i → start_of works i ≡ slice_index starts i
   start_is i l e = ap (λ (x : Interval). x.start) (work_is i l e)
@@ -94,7 +85,7 @@ module _ (nodes : List Node) (starts : List ℕ) (kind : Kind) (works : List Int
     use_is : (p : ℕ) → crowd_at works p ≡ use_at nodes starts kind p
     use_is p =
         let c = crowd-counted works p in
-        let m : count_below (λ i. holds p (at works i)) (length works) ≡ count_below (λ i. holds p (at works i)) n = ap (count_below (λ i. holds p (at works i))) are.count in
+        let m = ap (λ (k : ℕ). count_by (λ (i : ℕ). holds p (at works i)) (range_with_len 0 k)) are.count in
         let s = count-same (λ i. holds p (at works i)) (works_at nodes starts kind p) n (λ i l. works_if (same_kind kind (kind_at nodes i)) p i refl l) in
         c ∙ (m ∙ s)
 
@@ -106,7 +97,7 @@ module _ (nodes : List Node) (starts : List ℕ) (kind : Kind) (works : List Int
 
     module _ (old new : List ℕ) (count : length old ≡ length nodes) (taken : IsTakenOver nodes kind row (length nodes) old new) where
       new_is : (i : ℕ) → i < n → IsOfKind i → slice_index new i ≡ slice_index row i
-      new_is i l e = taken.taken i l ∙ then_is (same_kind kind (kind_at nodes i)) (slice_index row i) (slice_index old i) e
+      new_is i l e = taken.taken i l ∙ cond-true (same_kind kind (kind_at nodes i)) (slice_index row i) (slice_index old i) e
 
       apart : (i j : ℕ) → i < n → j < n → IsOfKind i → IsBefore (slice_index starts) i j → WorkTogether nodes starts i j → slice_index new i ≢ slice_index new j
       apart i j li lj ki before together =
@@ -124,7 +115,7 @@ module _ (nodes : List Node) (starts : List ℕ) (kind : Kind) (works : List Int
           let g = new_is j lj kj in
           let w = packing.packed.least j r (omega (arith, are.count)) (omega arith) in
           let li : w.0 < n = omega (arith, are.count, w.1) in
-          let ki = of_kind w.0 li w.3.0 (either (same_kind kind (kind_at nodes w.0))) in
+          let ki = of_kind w.0 li w.3.0 (cases_Bool (same_kind kind (kind_at nodes w.0))) in
           let a = start_is w.0 li ki in
           let b = start_is j lj kj in
           let c = end_is w.0 li ki in
@@ -135,7 +126,7 @@ module _ (nodes : List Node) (starts : List ℕ) (kind : Kind) (works : List Int
       pub bound_kind : IsBoundKind nodes starts kind old new
       bound_kind = record {
         count = taken.count;
-        others = λ i l e. taken.taken i l ∙ else_is (same_kind kind (kind_at nodes i)) (slice_index row i) (slice_index old i) e;
+        others = λ i l e. taken.taken i l ∙ cond-false (same_kind kind (kind_at nodes i)) (slice_index row i) (slice_index old i) e;
         apart = apart;
         least = least;
       }

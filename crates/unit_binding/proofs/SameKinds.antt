@@ -1,29 +1,19 @@
 -- Kinds that share units are equal.
-use Rattle.std.proofs.Common.{◌≡◌, ℕ, suc, zero, ◌+◌, ◌<◌, ◌≤◌, List, [], ◌∷◌, ◌++◌, Bool, true, false, not, ◌&&◌, ◌||◌, if◌then◌else◌, nat_eq, refl, ap, subst, sym, ◌∙◌, arith}
+use Rattle.std.proofs.Common.{◌≡◌, ℕ, suc, zero, ◌<◌, List, [], ◌∷◌, ◌++◌, length, get_or, Bool, true, false, ◌||◌, nat_eq, refl, ap, subst, sym, ◌∙◌, arith}
+use Rattle.std.specs.Bool.{beq}
+use Rattle.std.specs.Cmp.{booleans_Decides}
+use Rattle.std.proofs.lemmas.Bool.{eqb-true, and_parts, or_parts}
 use Rattle.op_graph.specs.declared.node.Kind.{Kind}
 use Rattle.op_graph.specs.declared.node.Kind.TheVariants.{Multiply, Divide}
 use Rattle.unit_binding.specs.declared.bind.UnitCount.{UnitCount}
-use Rattle.unit_binding.specs.Units.{same_bool, same_kind, is_listed}
-
-same_number : (w v : ℕ) → nat_eq w v ≡ true → w ≡ v
-same_number w v e = grind arith
-
-same_sign : (s t : Bool) → same_bool s t ≡ true → s ≡ t
-same_sign true true e = refl
-same_sign true false e = absurd cc
-same_sign false true e = absurd cc
-same_sign false false e = refl
-
-same_both : (a : Bool) (w v : ℕ) (s t : Bool) → nat_eq w v ≡ a → (a && same_bool s t) ≡ true → Divide w s ≡ Divide v t
-same_both true w v s t p e =
-    let n = same_number w v p in
-    let b = same_sign s t e in
-    ap (λ (z : ℕ). Divide z s) n ∙ ap (λ (z : Bool). Divide v z) b
-same_both false w v s t p e = absurd cc
+use Rattle.unit_binding.specs.Units.{same_kind, is_listed}
 
 pub same_is : (a b : Kind) → same_kind a b ≡ true → a ≡ b
-same_is (Multiply w) (Multiply v) e = ap (λ (z : ℕ). Multiply z) (same_number w v e)
-same_is (Divide w s) (Divide v t) e = same_both (nat_eq w v) w v s t refl e
+same_is (Multiply w) (Multiply v) e = ap (λ (z : ℕ). Multiply z) (eqb-true w v e)
+same_is (Divide w s) (Divide v t) e =
+    let both = and_parts (nat_eq w v) (beq s t) e in
+    let sign = booleans_Decides s t in
+    ap (λ (z : ℕ). Divide z s) (eqb-true w v both.0) ∙ ap (λ (z : Bool). Divide v z) (sign.0 both.1)
 same_is a b e = absurd cc
 
 -- of three kinds
@@ -38,10 +28,6 @@ same_back a b e =
 
 -- ---- lists of kinds
 
-or_true : (b : Bool) → (b || true) ≡ true
-or_true true = refl
-or_true false = refl
-
 or_assoc : (a b c : Bool) → ((a || b) || c) ≡ (a || (b || c))
 or_assoc true b c = refl
 or_assoc false b c = refl
@@ -55,15 +41,8 @@ listed-append [] c k = or_false (same_kind c.kind k)
 listed-append (x ∷ cs) c k =
     ap (λ (b : Bool). same_kind x.kind k || b) (listed-append cs c k) ∙ sym (or_assoc (same_kind x.kind k) (is_listed cs k) (same_kind c.kind k))
 
-listed_if : (b : Bool) (x : UnitCount) (cs : List UnitCount) (k : Kind) → same_kind x.kind k ≡ b → (b || is_listed cs k) ≡ true → (is_listed cs k ≡ true → same_kind k k ≡ true) → same_kind k k ≡ true
-listed_if true x cs k e f rest = let p = same_back x.kind k e in same_along k x.kind k p e
-listed_if false x cs k e f rest = rest f
-
--- a kind that is listed shares units
-pub listed_shares : (cs : List UnitCount) (k : Kind) → is_listed cs k ≡ true → same_kind k k ≡ true
-listed_shares [] k e = absurd cc
-listed_shares (x ∷ cs) k e = listed_if (same_kind x.kind k) x cs k refl e (listed_shares cs k)
-
--- a kind is listed with every kind that is the same
-pub listed_along : (cs : List UnitCount) (k l : Kind) → same_kind k l ≡ true → is_listed cs k ≡ true → is_listed cs l ≡ true
-listed_along cs k l e f = subst (λ (z : Kind). is_listed cs z ≡ true) (same_is k l e) f
+-- a kind that is not listed is none of those that are
+pub unlisted : (cs : List UnitCount) (k : Kind) → is_listed cs k ≡ false → (i : ℕ) (d : UnitCount) → i < length cs → same_kind (get_or cs i d).kind k ≡ false
+unlisted [] k e i d l = absurd (omega arith)
+unlisted (x ∷ cs) k e zero d l = let both = or_parts (same_kind x.kind k) (is_listed cs k) e in both.0
+unlisted (x ∷ cs) k e (suc i) d l = let both = or_parts (same_kind x.kind k) (is_listed cs k) e in unlisted cs k both.1 i d (omega arith)

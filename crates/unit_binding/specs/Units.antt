@@ -1,23 +1,20 @@
 -- Functional units (left edge: Hashimoto and Stevens 1971). By start and then by index, each operation has the least unit of its kind
 -- that no operation at work in the same states has. Only products, quotients and remainders share units: every other operation is a kind
 -- of its own.
-use Rattle.std.specs.Prelude.{◌≡◌, ℕ, ◌+◌, ◌^◌, ◌<◌, ◌≤◌, List, length, slice_index, Bool, true, false, not, ◌&&◌, if◌then◌else◌, nat_eq, nat_lt, nat_le}
-use Rattle.std.specs.List.{Contains, list_any}
+use Rattle.std.specs.Prelude.{◌≡◌, ℕ, ◌^◌, ◌<◌, ◌≤◌, List, length, slice_index, Bool, true, false, ◌&&◌, nat_eq, nat_lt, nat_le, count_by}
+use Rattle.std.specs.Bool.{beq}
+use Rattle.std.specs.List.{AllPairs, Contains, list_any, range_with_len}
 use Rattle.interval_pack.specs.LeftEdge.{IsLeftEdge}
-use Rattle.sparse_pack.specs.Sparse.{count_below}
 use Rattle.op_graph.specs.declared.node.Kind.{Kind}
 use Rattle.op_graph.specs.declared.node.Kind.TheVariants.{Multiply, Divide}
 use Rattle.op_graph.specs.declared.node.Node.{Node}
-use Rattle.op_graph.specs.Graph.{kind_at, latency_at, done}
+use Rattle.op_graph.specs.Graph.{kind_at, done}
 use Rattle.unit_binding.specs.declared.bind.UnitCount.{UnitCount}
-
-abbrev pub same_bool : Bool → Bool → Bool
-same_bool s t = if s then t else not t
 
 -- the kinds that share units: products of one width, and quotients and remainders of one width, signed or not
 abbrev pub same_kind : Kind → Kind → Bool
 same_kind (Multiply w) (Multiply v) = nat_eq w v
-same_kind (Divide w s) (Divide v t) = nat_eq w v && same_bool s t
+same_kind (Divide w s) (Divide v t) = nat_eq w v && beq s t
 same_kind k l = false
 
 -- the states after the last ones are numbers of 64 bits
@@ -27,6 +24,14 @@ Fits nodes starts = (i : ℕ) → i < length nodes → done nodes starts i < 2 ^
 -- a list of kinds has this one
 abbrev pub is_listed : List UnitCount → Kind → Bool
 is_listed counts kind = list_any (λ c. same_kind c.kind kind) counts
+
+-- no kind is there twice
+abbrev pub AreOnce : List UnitCount → Type 0
+AreOnce counts = AllPairs (λ c d. same_kind c.kind d.kind ≡ false) counts
+
+-- an operation of the block is of the kind
+abbrev pub IsPresent : List Node → Kind → Type 0
+IsPresent nodes kind = (i : ℕ) × (i < length nodes) × (same_kind kind (kind_at nodes i) ≡ true)
 
 module _ (nodes : List Node) (starts : List ℕ) where
   -- operations of one kind that are at work in one state
@@ -38,7 +43,7 @@ module _ (nodes : List Node) (starts : List ℕ) where
   works_at kind p i = same_kind kind (kind_at nodes i) && (nat_le (slice_index starts i) p && nat_lt p (done nodes starts i))
 
   abbrev pub use_at : Kind → ℕ → ℕ
-  use_at kind p = count_below (works_at kind p) (length nodes)
+  use_at kind p = count_by (works_at kind p) (range_with_len 0 (length nodes))
 
   -- so many operations of the kind are at work in some state, and in none more
   abbrev pub IsGreatestUse : Kind → ℕ → Type 0
@@ -49,9 +54,11 @@ module _ (nodes : List Node) (starts : List ℕ) where
     pub count : length units ≡ length nodes
     pub bound : IsLeftEdge (length nodes) (slice_index starts) WorkTogether (slice_index units)
 
-  -- for each kind that shares units, and has an operation, its greatest use
+  -- for each kind that shares units, and has an operation, its greatest use; each such kind once, and no other
   pub record AreCounts (counts : List UnitCount) : Type 0 where
     pub listed : (i : ℕ) → i < length nodes → same_kind (kind_at nodes i) (kind_at nodes i) ≡ true → is_listed counts (kind_at nodes i) ≡ true
+    pub once : AreOnce counts
+    pub present : (c : UnitCount) → Contains counts c → IsPresent nodes c.kind
     pub greatest : (c : UnitCount) → Contains counts c → IsGreatestUse c.kind c.count
 
 abbrev pub UnitsAgree : Type 0

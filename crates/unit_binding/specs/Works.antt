@@ -1,5 +1,5 @@
 -- Steps of the binding: the units of one kind, and of the kinds so far.
-use Rattle.std.specs.Prelude.{◌≡◌, ◌≢◌, ℕ, ◌<◌, List, [], length, slice_index, Bool, true, false, if◌then◌else◌}
+use Rattle.std.specs.Prelude.{◌≡◌, ◌≢◌, ℕ, ◌<◌, List, length, slice_index, true, false, if◌then◌else◌}
 use Rattle.std.specs.List.{Contains}
 use Rattle.interval_pack.specs.declared.interval.Interval.{Interval}
 use Rattle.interval_pack.specs.LeftEdge.{IsBefore}
@@ -8,7 +8,7 @@ use Rattle.op_graph.specs.declared.node.Kind.{Kind}
 use Rattle.op_graph.specs.declared.node.Node.{Node}
 use Rattle.op_graph.specs.Graph.{kind_at, done}
 use Rattle.unit_binding.specs.declared.bind.UnitCount.{UnitCount}
-use Rattle.unit_binding.specs.Units.{same_kind, WorkTogether, IsGreatestUse, is_listed}
+use Rattle.unit_binding.specs.Units.{same_kind, WorkTogether, IsPresent, IsGreatestUse, is_listed, AreOnce}
 
 -- the states in which operation i works, if it is of the kind
 abbrev pub work_of : List Node → List ℕ → Kind → ℕ → Interval
@@ -28,7 +28,7 @@ pub record IsTakenOver (nodes : List Node) (kind : Kind) (row : List ℕ) (k : �
 abbrev pub IsTaken : List Node → List ℕ → List ℕ → ℕ → ℕ → Type 0
 IsTaken nodes starts units j r = (i : ℕ) × (i < length nodes) × IsBefore (slice_index starts) i j × WorkTogether nodes starts i j × (slice_index units i ≡ r)
 
--- the operations of the kind have their units, and the others those that they had
+-- the operations of the kind have their units, and the others those that they present
 pub record IsBoundKind (nodes : List Node) (starts : List ℕ) (kind : Kind) (old new : List ℕ) : Type 0 where
   pub count : length new ≡ length old
   pub others : (i : ℕ) → i < length nodes → same_kind kind (kind_at nodes i) ≡ false → slice_index new i ≡ slice_index old i
@@ -44,4 +44,6 @@ pub record AreBound (nodes : List Node) (starts : List ℕ) (k : ℕ) (units : L
       slice_index units i ≢ slice_index units j
   pub least : (j r : ℕ) → j < length nodes → is_listed counts (kind_at nodes j) ≡ true → r < slice_index units j → IsTaken nodes starts units j r
   pub listed : (i : ℕ) → i < k → same_kind (kind_at nodes i) (kind_at nodes i) ≡ true → is_listed counts (kind_at nodes i) ≡ true
+  pub once : AreOnce counts
+  pub present : (c : UnitCount) → Contains counts c → IsPresent nodes c.kind
   pub greatest : (c : UnitCount) → Contains counts c → IsGreatestUse nodes starts c.kind c.count

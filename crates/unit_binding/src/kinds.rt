@@ -1,6 +1,6 @@
 // Kinds of units.
 ghost use Rattle.std.specs.Prelude.{◌≡◌};
-ghost use Rattle.unit_binding.specs.Units.{same_kind, same_bool};
+ghost use Rattle.unit_binding.specs.Units.{same_kind};
 
 use op_graph::node::Kind;
 
@@ -20,13 +20,7 @@ pub fn share_units(left: Kind, right: Kind) -> bool
                 width: v,
                 signed: t,
             },
-        ) => w == v && same(s, t),
+        ) => w == v && s == t,
         _ => false,
     }
-}
-
-fn same(left: bool, right: bool) -> bool
-    ensures { result ≡ same_bool left right }
-{
-    if left { right } else { !right }
 }

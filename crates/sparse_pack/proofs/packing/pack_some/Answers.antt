@@ -10,7 +10,8 @@ loop-i-init c = none_chosen c.args.intervals.now _ _ (search rules) (search rule
 
 pub loop-i-preserved : goal.loop-i-preserved
 loop-i-preserved c =
-    choose_next c.args.intervals.now c.loop-i.i c.loop-i-test.true c.loop-i.chosen.items c.loop-i.solid.items c.loop-i.invariant _ _ c.in_ok-choose.ensures.chosen c.in_ok-choose.ensures.solid
+    choose_next c.args.intervals.now c.loop-i.i c.loop-i-test.true c.loop-i.chosen.items c.loop-i.solid.items c.loop-i.invariant _ _
+    c.in_ok-choose.ensures.chosen c.in_ok-choose.ensures.solid
 
 pub pack-requires : goal.pack-requires
 pack-requires c =

@@ -1,0 +1,10 @@
+mod Bridge
+mod Orders
+mod Agree
+mod CodeAgree
+mod Starting
+mod Small
+mod Whole
+mod StageLists
+mod Short
+mod Right

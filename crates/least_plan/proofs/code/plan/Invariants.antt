@@ -1,0 +1,6 @@
+use Rattle.std.proofs.Common.{take}
+use Rattle.least_plan.proofs.StageLists.{SoFar}
+use Rattle.least_plan.proofs.code.plan.Given as goal
+
+abbrev pub invariant-loop-stage : goal.invariant-loop-stage
+invariant-loop-stage l = SoFar l.registers (take l.stage-index l.stage-items) l.stages

@@ -1,0 +1,3 @@
+mod Commute
+mod Sort
+mod Agree

@@ -1,0 +1,3 @@
+pub mod Used
+pub mod Registers
+pub mod Steps

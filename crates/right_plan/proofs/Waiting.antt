@@ -1,0 +1,25 @@
+-- What waits for its operands works on registers.
+use Rattle.std.proofs.Common.{◌≡◌, ◌<◌, true, false, ◌⊎◌, inl, inr, refl, arith}
+use Rattle.std.proofs.lemmas.Bool.{cases_Bool}
+use Rattle.planned_block.specs.Block.{Kind, Simple, Multiply, Divide, BankRead, BankWrite, ArrayRead, ArrayWrite, operation_at}
+use Rattle.planned_block.specs.Plan.{further_states, is_simple, last_state}
+use Rattle.right_plan.specs.Right.{TableGivesRegisters}
+
+simple_now : (kind : Kind) → is_simple kind ≡ true → further_states kind ≡ 0
+simple_now (Simple f) e = refl
+simple_now (Multiply f) e = absurd cc
+simple_now (Divide f) e = absurd cc
+simple_now (BankRead x) e = absurd cc
+simple_now (BankWrite x) e = absurd cc
+simple_now (ArrayRead x) e = absurd cc
+simple_now (ArrayWrite x) e = absurd cc
+
+pub works_from_registers : TableGivesRegisters
+works_from_registers b p t j k below complex uses = by_kind (cases_Bool (is_simple (operation_at b j).kind))
+  where
+    by_kind : (is_simple (operation_at b j).kind ≡ true) ⊎ (is_simple (operation_at b j).kind ≡ false) → last_state b p j < p.start k
+    by_kind (inl simple) =
+        let gap = t.kept j k below uses simple complex in
+        let none = simple_now (operation_at b j).kind simple in
+        omega (arith, gap, none)
+    by_kind (inr slow) = let gap = t.awaited j k below uses slow in omega (arith, gap)

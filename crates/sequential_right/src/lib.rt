@@ -1,0 +1,4 @@
+//! The sequential plan of a code is right.
+#![tactic(auto)]
+
+pub mod law;
