@@ -51,6 +51,7 @@ use Rattle.block_datapath.specs.Requests.{AddressesBank, Asked, asked_at, asked_
 use Rattle.block_datapath.specs.Accesses.{AddsRegistered, IsRegistered, AreRegistered, IsZero, AreZeros, is_bank, FitsSpread, AreFitSpreads, index_number, reaches, asked_so, reaches_bank, asked_of}
 use Rattle.block_datapath.specs.Accesses.{reaches_in, asked_in, SeesOperand, SeesAccess, AsksIndex, AsksOperation, AsksFirst, HaveBankWidths, HasOwnWidths, AreIndexLinks, AreAccessLinks}
 use Rattle.block_datapath.specs.Accesses.{IsAskRight, AsksBlock, IsAskingBlock}
+use Rattle.block_datapath.proofs.Indexing.{request_is_slow}
 use Rattle.block_datapath.proofs.Walking.{listed_view, within_view, uses_source, got_before, got_last}
 use Rattle.block_datapath.proofs.Wiring.{one_more, registers_after, values_after, sources_after, word_stands_after}
 use Rattle.block_datapath.proofs.Chaining.{within_list}
@@ -402,7 +403,7 @@ module _ (globals : List IntegerType) (spreads : List Spread) (code : ThreadCode
           let given : Given = found.0 in
           let is : IsRegistered globals code p j o given = found.2 in
           let small = within_view b.operations j o listed in
-          let past : last_state (planned_view b) (plan_view b p) j < (plan_view b p).start n = right.registered j n below request u in
+          let past : last_state (planned_view b) (plan_view b p) j < (plan_view b p).start n = right.registered j n below (request_is_slow (operation_at (planned_view b) n).kind request) u in
           let used : last_state (planned_view b) (plan_view b p) n ≤ (plan_view b p).until j = right.keeps.used j n below u in
           let before : last_state (planned_view b) (plan_view b p) j < q.state = subst (λ (k : ℕ). last_state (planned_view b) (plan_view b p) j < k) (sym at) past in
           let has = right.keeps.has j small (omega arith) in

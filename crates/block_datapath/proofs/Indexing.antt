@@ -1,5 +1,5 @@
 -- What an access uses in the state in which it starts has a type.
-use Rattle.std.proofs.Common.{◌≡◌, ℕ, ◌<◌, ◌≤◌, nat_eq, Bool, true, if◌then◌else◌, List, [], ◌∷◌, slice_get, slice_index, Some, ℤ, refl, sym, ap, subst, ◌∙◌, arith, inl}
+use Rattle.std.proofs.Common.{◌≡◌, ℕ, ◌<◌, ◌≤◌, nat_eq, Bool, true, false, if◌then◌else◌, List, [], ◌∷◌, slice_get, slice_index, Some, ℤ, refl, sym, ap, subst, ◌∙◌, arith, inl}
 use Rattle.hls_ints.specs.Types.{IntegerType, HasType, wrapped}
 use Rattle.hls_ints.proofs.Conversions.{wrapped-range}
 use Rattle.block_ir.specs.declared.operand.Source.{Source}
@@ -10,8 +10,9 @@ use Rattle.block_ir.specs.declared.block.Operation.TheVariants.{ReadGlobal, Writ
 use Rattle.block_ir.specs.declared.block.Block.{Block}
 use Rattle.block_ir.specs.declared.code.ThreadCode.{ThreadCode}
 use Rattle.block_ir.specs.declared.plan.BlockPlan.{BlockPlan}
+use Rattle.planned_block.specs.Block.{Kind, Simple, Multiply, Divide, BankRead, BankWrite, ArrayRead, ArrayWrite}
 use Rattle.planned_block.specs.Block.{Operand as PlannedOperand, Operation as PlannedOperation, Through, operand_value, operation_at, size, Uses, UsesIn}
-use Rattle.planned_block.specs.Plan.{last_state}
+use Rattle.planned_block.specs.Plan.{is_simple, last_state}
 use Rattle.planned_block.specs.Slot.{Slot, is_request, value_now, register_value}
 use Rattle.planned_block.proofs.Bits.{other_is}
 use Rattle.planned_view.specs.View.{source_view, converted_to, operand_view, operation_view, planned_view, plan_view}
@@ -22,6 +23,16 @@ use Rattle.block_datapath.specs.declared.registers.Registers.{Registers}
 use Rattle.block_datapath.specs.Operations.{seen_value, SeesSlot}
 use Rattle.block_datapath.specs.Accesses.{IsAskRight}
 use Rattle.block_datapath.proofs.Walking.{uses_source, listed_view, within_view}
+
+-- a request is no mere logic
+pub request_is_slow : (kind : Kind) → is_request kind ≡ true → is_simple kind ≡ false
+request_is_slow (Simple f) e = absurd cc
+request_is_slow (Multiply f) e = refl
+request_is_slow (Divide f) e = refl
+request_is_slow (BankRead x) e = refl
+request_is_slow (BankWrite x) e = refl
+request_is_slow (ArrayRead x) e = refl
+request_is_slow (ArrayWrite x) e = refl
 
 module _ (variables given : ℕ → ℤ) where
   converted_typed : (types : List IntegerType) (ty : IntegerType) (o : PlannedOperand) → HasType ty (operand_value variables given o)
@@ -38,7 +49,7 @@ module _ (globals : List IntegerType) (code : ThreadCode) (registers : Registers
     -- the value is in a register since an earlier state
     value_typed : (j : ℕ) (o : Operation) → Uses (operation_at (planned_view b) n) j → slice_get b.operations j ≡ Some o → HasType (value_type globals code o) (given j)
     value_typed j o uses listed =
-        let past = right.registered j n below request uses in
+        let past = right.registered j n below (request_is_slow (operation_at (planned_view b) n).kind request) uses in
         let earlier = right.keeps.earlier j n below uses in
         let small : j < size (planned_view b) = omega arith in
         let until = right.keeps.used j n below uses in

@@ -9,11 +9,12 @@ use Rattle.block_ir.specs.declared.block.Operation.TheVariants.{Unary, Binary, R
 use Rattle.block_ir.specs.declared.block.Block.{Block}
 use Rattle.block_ir.specs.declared.code.ThreadCode.{ThreadCode}
 use Rattle.block_ir.specs.declared.plan.BlockPlan.{BlockPlan}
-use Rattle.planned_block.specs.Block.{operation_at, size, Uses}
-use Rattle.planned_block.specs.Plan.{further_states, last_state, KeepsOrders}
-use Rattle.planned_block.specs.Slot.{Slot, is_request, value_now}
+use Rattle.planned_block.specs.Block.{size}
+use Rattle.planned_block.specs.Plan.{further_states, KeepsOrders}
+use Rattle.planned_block.specs.Slot.{Slot, value_now}
 use Rattle.planned_block.specs.Advance.{last_of}
 use Rattle.planned_view.specs.View.{operation_view, planned_view, plan_view, register_at}
+use Rattle.right_plan.specs.Right.{WorksFromRegisters}
 use Rattle.netlist.specs.declared.netlist.Signal.{Signal}
 use Rattle.netlist.specs.declared.netlist.Module.{Module}
 use Rattle.verilog_meaning.specs.Readings.{Reading, width}
@@ -209,8 +210,7 @@ pub record IsAskRight (globals : List IntegerType) (code : ThreadCode) (b : Bloc
   pub typed : IsTypedBlock globals code b
   pub keeps : KeepsOrders (planned_view b) (plan_view b p)
   pub small : p.states < 2 ^ 64
-  pub registered : (j k : ℕ) → k < size (planned_view b) → is_request (operation_at (planned_view b) k).kind ≡ true → Uses (operation_at (planned_view b) k) j →
-      last_state (planned_view b) (plan_view b p) j < (plan_view b p).start k
+  pub registered : WorksFromRegisters (planned_view b) (plan_view b p)
 
 module _ (globals : List IntegerType) (spreads : List Spread) (code : ThreadCode) (registers : Registers) (l : ℕ) (b : Block) (p : BlockPlan) where
   -- operation k asks bank j in this slot

@@ -19,7 +19,7 @@ use Rattle.ir_lower.specs.Typed.{IsTypedCode}
 use Rattle.thread_promise.specs.Globals.{bank_total}
 use Rattle.program_machine.specs.Built.{IsSingle, IsCode, ArePartitioned, part_of}
 use Rattle.program_machine.proofs.Partitioned.{total}
-use Rattle.planned_code.proofs.Whole.{sequential_is_code}
+use Rattle.planned_code.proofs.Whole.{plan_is_code}
 use Rattle.fsm_datapath.specs.Thread.{input_count}
 use Rattle.fsm_datapath.specs.Leaf.{leaf_of}
 use Rattle.whole_net.specs.Table.{IsArbiterModule, AreBankModules}
@@ -64,7 +64,7 @@ module _ (P : Program) (code : ThreadCode) (parted : Banks) (banks : List Bank) 
 
     coded : IsCode P spreads code is_main.plan 4
     coded =
-        subst (λ (ss : List Spread). IsCode P ss code is_main.plan 4) (sym part.is.spreads) (sequential_is_code P [] code is_main.plan resolved lowered typed is_main.sequential)
+        subst (λ (ss : List Spread). IsCode P ss code is_main.plan 4) (sym part.is.spreads) (plan_is_code P [] code is_main.plan resolved lowered typed is_main.right)
 
     few : length banks < 2 ^ 15
     few = few_banks P parted banks resolved limits part cores
@@ -72,7 +72,7 @@ module _ (P : Program) (code : ThreadCode) (parted : Banks) (banks : List Bank) 
     pub of_parts : (Holds : Program → Type 0) → OfParts Holds banks main arbiter modules printer → Holds P
     of_parts Holds given =
         let served =
-        is_served P spreads code is_main.plan (few_formats P printer is_printer) typed is_main.sequential (right_spreads P resolved limits parted part.is part.are)
+        is_served P spreads code is_main.plan (few_formats P printer is_printer) typed is_main.right (right_spreads P resolved limits parted part.is part.are)
         (arrays_fit P code resolved typed limits) in
         let shape = is_main.shape main_printer served in
         let leaf = is_main.leaf main_printer served in

@@ -1,6 +1,6 @@
--- The code of main alone by its sequential plan is served: its arrays fit, its globals have few banks, registers enough, and a printf that the
+-- The code of main alone by a right plan is served: its arrays fit, its globals have few banks, registers enough, and a printf that the
 -- printer can print.
-use Rattle.std.proofs.Common.{◌≡◌, ℕ, zero, suc, ◌<◌, ◌≤◌, ◌^◌, Bool, true, false, if◌then◌else◌, List, [], ◌∷◌, length, Option, Some, None, refl, sym, ap, ◌∙◌, subst, arith}
+use Rattle.std.proofs.Common.{◌≡◌, ℕ, zero, suc, ◌<◌, ◌≤◌, ◌^◌, List, [], ◌∷◌, length, Some, refl, sym, ◌∙◌, subst, arith}
 use Rattle.std.specs.Prelude.{slice_get}
 use Rattle.std.specs.List.{AllByRecursion}
 use Rattle.std.proofs.lemmas.Option.{slice_get_within}
@@ -15,14 +15,12 @@ use Rattle.block_ir.specs.declared.code.Stage.TheVariants as stage
 use Rattle.block_ir.specs.declared.code.Array.{Array}
 use Rattle.block_ir.specs.declared.code.ThreadCode.{ThreadCode}
 use Rattle.block_ir.specs.declared.plan.BlockPlan.{BlockPlan}
-use Rattle.block_ir.specs.declared.plan.StagePlan.{StagePlan}
 use Rattle.block_ir.specs.declared.plan.StagePlan.TheVariants as planned
 use Rattle.block_ir.specs.declared.plan.Planned.{Planned}
-use Rattle.planned_block.specs.Block.{size}
-use Rattle.planned_block.specs.Table.{sequential}
-use Rattle.planned_view.specs.View.{register_at, operations_view, planned_view}
+use Rattle.planned_view.specs.View.{register_at}
 use Rattle.code_following.specs.Following.{print_formats}
-use Rattle.fsm_plan.specs.Sequential.{IsSequentialBlock, EachSequential, IsSequential}
+use Rattle.right_plan.specs.Right.{IsRight, IsRightPlan}
+use Rattle.right_plan.proofs.Stages.{right_plans_are_there}
 use Rattle.ir_lower.specs.Typed.{types_of, IsTypedValue, IsTypedCode}
 use Rattle.bank_partition.specs.declared.banks.Spread.{Spread}
 use Rattle.program_machine.specs.Built.{globals_of}
@@ -31,35 +29,6 @@ use Rattle.fsm_datapath.specs.Thread.{IsPrintable, AreRightSpreads, IsServed}
 use Rattle.planned_code.proofs.Chains.{typed_at}
 use Rattle.hls_compile.specs.Parts.{main_shape, main_printer}
 use Rattle.hls_compile.proofs.Arrays.{IsFit}
-
--- ---- registers
-
--- the plan of a stage, with registers enough
-kept_at : (r : ℕ) (ss : List Stage) (ps : List StagePlan) (l : ℕ) (b : Block) (p : BlockPlan) → EachSequential r ss ps → slice_get ss l ≡ Some (stage.Run b) →
-    slice_get ps l ≡ Some (planned.Run p) → length b.operations < 2 ^ 32 → IsSequentialBlock b p × (length b.operations ≤ r)
-kept_at r [] ps l b p each e f few = absurd cc
-kept_at r (s ∷ ss) [] l b p each e f few = absurd each
-kept_at r (stage.Run d ∷ ss) (planned.Run q ∷ ps) zero b p each e f few =
-    let same : d ≡ b = cc in
-    let same_plan : q ≡ p = cc in
-    subst (λ z. length z.operations < 2 ^ 32 → IsSequentialBlock z p × (length z.operations ≤ r)) same
-    (subst (λ z. length d.operations < 2 ^ 32 → IsSequentialBlock d z × (length d.operations ≤ r)) same_plan each.0) few
-kept_at r (stage.Run d ∷ ss) (planned.Act ∷ ps) zero b p each e f few = absurd each.0
-kept_at r (stage.Act a next ∷ ss) (q ∷ ps) zero b p each e f few = absurd cc
-kept_at r (s ∷ ss) (q ∷ ps) (suc l) b p each e f few = kept_at r ss ps l b p each.1 e f few
-
-register_there : (rs : List (Option ℕ)) (k : ℕ) (r : Option ℕ) → slice_get rs k ≡ Some r → register_at rs k ≡ r
-register_there [] k r e = absurd cc
-register_there (x ∷ rs) zero r e = let same : x ≡ r = cc in same
-register_there (x ∷ rs) (suc k) r e = register_there rs k r e
-
-own_number : (b : Bool) (k x : ℕ) → (if b then Some k else None) ≡ Some x → x ≡ k
-own_number true k x e = let same : k ≡ x = cc in sym same
-own_number false k x e = absurd cc
-
-view_length : (os : List Operation) → length (operations_view os) ≡ length os
-view_length [] = refl
-view_length (o ∷ os) = ap suc (view_length os)
 
 -- ---- operations and operands
 
@@ -75,17 +44,15 @@ all_at P code (w ∷ vs) (suc j) v all e = all_at P code vs j v all.1 e
 
 -- ---- all of it
 
-module _ (P : Program) (spreads : List Spread) (code : ThreadCode) (plan : Planned) (few : length (print_formats P) < 2 ^ 16) (typed : IsTypedCode P code) (is : IsSequential code plan)
-    (right : AreRightSpreads (globals_of P) spreads) (arrays : (a : ℕ) (array : Array) → slice_get code.arrays a ≡ Some array → IsFit array) where
+module _ (P : Program) (spreads : List Spread) (code : ThreadCode) (plan : Planned) (few : length (print_formats P) < 2 ^ 16) (typed : IsTypedCode P code) (is : IsRightPlan code plan)
+    (right_spreads : AreRightSpreads (globals_of P) spreads) (arrays : (a : ℕ) (array : Array) → slice_get code.arrays a ≡ Some array → IsFit array) where
   enough : (l k x : ℕ) (b : Block) (p : BlockPlan) (o : Operation) → slice_get code.stages l ≡ Some (stage.Run b) → slice_get plan.stages l ≡ Some (planned.Run p) →
       slice_get b.operations k ≡ Some o → register_at p.registers k ≡ Some x → x < plan.registers
   enough l k x b p o at planned_so listed kept =
-      let h = kept_at plan.registers code.stages plan.stages l b p is at planned_so (typed_at P code plan typed is l b at).few in
-      let inside : k < length b.operations = slice_get_within b.operations k o listed in
-      let there : k < size (planned_view b) = (let s = view_length b.operations in omega (arith, s, inside)) in
-      let register = register_there p.registers k ((sequential (planned_view b)).register k) (h.0.registers k there) in
-      let same : x ≡ k = own_number _ k x (sym register ∙ kept) in
-      (let most = h.1 in omega (arith, same, inside, most))
+      let q = right_plans_are_there code plan is l b at (typed_at P code plan typed is l b at).few in
+      let same : q.0 ≡ p = (let both : Some (planned.Run q.0) ≡ Some (planned.Run p) = sym q.1 ∙ planned_so in cc) in
+      let right : IsRight plan.registers b p = subst (λ (z : BlockPlan). IsRight plan.registers b z) same q.2 in
+      right.below k x (slice_get_within b.operations k o listed) kept
 
   printable : (l site next : ℕ) (values : List ActOperand) → slice_get code.stages l ≡ Some (stage.Act (Print site values) next) → IsPrintable code main_printer site values next
   printable l site next values at =
@@ -101,7 +68,7 @@ module _ (P : Program) (spreads : List Spread) (code : ThreadCode) (plan : Plann
   is_served = record {
     main = refl;
     printer_is = refl;
-    spreads = right;
+    spreads = right_spreads;
     arrays = arrays;
     registers = enough;
     site_low = (let some : 1 ≤ 16 = omega arith in some);

@@ -11,7 +11,8 @@ use Rattle.bank_cores.specs.declared.bank.Shape.{Shape as Bank}
 use Rattle.bank_cores.specs.Bank.{IsShape}
 use Rattle.block_ir.specs.declared.code.ThreadCode.{ThreadCode}
 use Rattle.block_ir.specs.declared.plan.Planned.{Planned}
-use Rattle.fsm_plan.specs.Sequential.{IsSequential}
+use Rattle.right_plan.specs.Right.{IsRightPlan}
+use Rattle.least_plan.specs.Planned.{IsPlanned}
 use Rattle.fsm_datapath.specs.Thread.{RunsServedCode, HasShapeOfServedCode}
 use Rattle.fsm_datapath.specs.Leaf.{IsLeafOfServedCode}
 use Rattle.fsm_datapath.specs.declared.shape.Printer.{Printer}
@@ -33,10 +34,11 @@ main_printer = record { site_width = 16; values = 4 }
 abbrev pub main_shape : Program → List Spread → ThreadShape
 main_shape P spreads = record { name = codes "fn_main"; is_main = true; globals = globals_of P; spreads = spreads; printer = Some main_printer }
 
--- main's module by the sequential plan of its code, as `module` makes it
+-- main's module by the plan of its code, as `module` makes it
 pub record IsMadeOf (P : Program) (spreads : List Spread) (code : ThreadCode) (m : Module) : Type 0 where
   pub plan : Planned
-  pub sequential : IsSequential code plan
+  pub planned : IsPlanned code plan
+  pub right : IsRightPlan code plan
   pub runs : RunsServedCode (main_shape P spreads) code plan m
   pub shape : HasShapeOfServedCode (main_shape P spreads) code plan m
   pub leaf : IsLeafOfServedCode (main_shape P spreads) code plan m

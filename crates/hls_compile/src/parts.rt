@@ -20,8 +20,9 @@ use block_ir::code::ThreadCode;
 use c_program::tree::Program;
 use fsm_datapath::module::module;
 use fsm_datapath::shape as thread;
-use fsm_plan::sequential::plan;
 use hls_ints::CType;
+use least_plan::law::planned_is_right;
+use least_plan::plan;
 use netlist::netlist::Module;
 use print_core::printer;
 use sqlite_items::Items;
@@ -75,7 +76,7 @@ fn main_shape(
     })
 }
 
-/// The module of main by the sequential plan of its code.
+/// The module of main by the plan of its code: least starts, and registers packed by the left edge.
 pub fn main_module(
     alloc: Global,
     program: &Program,
@@ -84,6 +85,7 @@ pub fn main_module(
 ) -> Result<Module, AllocError>
     ensures { IfOk result (IsMadeOf (program_of program.now) spreads.now code.now) }
 {
+    planned_is_right();
     let plan = plan(alloc, code)?;
     let shape = main_shape(alloc, program, spreads)?;
     let made = module(alloc, &shape, code, &plan)?;

@@ -2,3 +2,4 @@ pub mod Settled
 pub mod Leaves
 pub mod Example
 pub mod Standing
+pub mod Steady

@@ -20,10 +20,12 @@ use Rattle.planned_view.specs.Alike.{IsInOrder}
 use Rattle.planned_view.proofs.Ordering.{view_ordered}
 use Rattle.op_graph.specs.declared.node.Kind.TheVariants.{Global, Array}
 use Rattle.op_graph.specs.declared.node.Node.{Node}
-use Rattle.op_graph.specs.Graph.{node, nodes_of, kind_at, is_simple, latency_of, latency_at, Uses as UsesNode, UsesValue, done}
+use Rattle.op_graph.specs.Graph.{node, nodes_of, kind_at, is_simple, latency_of, latency_at, Uses as UsesNode, UsesValue, done, same_kind}
 use Rattle.op_graph.specs.Table.{Row, Ends, Chained, ChainedTwice, Kept, Awaited, OneGlobal, OneArray, gap_after}
 use Rattle.op_graph.specs.Listed.{row}
 use Rattle.op_graph.proofs.OneByOne.{at_least_one}
+use Rattle.right_plan.specs.Right.{AreUnitsApart}
+use Rattle.unit_binding.proofs.SameKinds.{same_back}
 use Rattle.register_binding.specs.Used.{any_final, is_used_at_end}
 use Rattle.register_binding.specs.Registers.{uses_value, needed_to, life_end, Lives, LiveTogether, register_at, number}
 use Rattle.least_plan.specs.Planned.{IsPlannedBlock, PlanKeepsOrders}
@@ -352,6 +354,34 @@ module _ (b : CodeBlock) (q : BlockPlan) (is : IsPlannedBlock b q) (order : IsIn
 
   keeps : KeepsOrders v p
   keeps = keeps_orders v p ordered meets packed
+
+  -- an operation that starts no earlier than another one on its unit waits for it
+  unit_free : (j k : ℕ) → j < n → k < n → IsBefore s j k → s j ≤ s k → same_kind (kind_at nodes j) (kind_at nodes k) ≡ true → slice_index q.units j ≡ slice_index q.units k →
+      last_state v p j < slice_index q.starts k
+  unit_free j k lj lk first early same e = by_order (cases_lt (s k) (done nodes is.starts j))
+    where
+      by_order : (s k < done nodes is.starts j) ⊎ (done nodes is.starts j ≤ s k) → last_state v p j < slice_index q.starts k
+      by_order (inl x) =
+          let d = last_is k lk in
+          let a = start_is k lk in
+          let grows : p.start k ≤ last_state v p k = omega arith in
+          let works : s j < done nodes is.starts k = omega (arith, d, a, grows, early) in
+          absurd (is.units.bound.apart j k (within j lj) (within k lk) first (same, works, x) e)
+      by_order (inr x) =
+          let d = last_is j lj in
+          let a = start_is k lk in
+          omega (arith, d, a, x)
+
+  pub units_apart : AreUnitsApart b q
+  units_apart j k before below same e = by_starts (cases_lt (s j) (s k)) (cases_lt (s k) (s j))
+    where
+      lj : j < n
+      lj = omega arith
+
+      by_starts : (s j < s k) ⊎ (s k ≤ s j) → (s k < s j) ⊎ (s j ≤ s k) → (last_state v p j < slice_index q.starts k) ⊎ (last_state v p k < slice_index q.starts j)
+      by_starts (inl x) y = inl (unit_free j k lj below (inl x) (omega arith) same e)
+      by_starts (inr x) (inl y) = inr (unit_free k j below lj (inl y) x (same_back (kind_at nodes j) (kind_at nodes k) same) (sym e))
+      by_starts (inr x) (inr y) = inl (unit_free j k lj below (inr (omega arith, before)) y same e)
 
 pub plan_keeps_orders : PlanKeepsOrders
 plan_keeps_orders b q is order = keeps b q is order

@@ -11,7 +11,7 @@ use Rattle.right_plan.specs.Right.{IsRight, EachRight}
 use Rattle.right_plan.proofs.Waiting.{works_from_registers}
 use Rattle.least_plan.specs.Planned.{IsPlannedRun, EachPlanned, PlannedIsRight}
 use Rattle.least_plan.proofs.Bridge.{length-nodes}
-use Rattle.least_plan.proofs.Orders.{view_register_is, meets, plan_keeps_orders}
+use Rattle.least_plan.proofs.Orders.{view_register_is, meets, units_apart, plan_keeps_orders}
 use Rattle.least_plan.proofs.Short.{plan_is_short}
 
 module _ (registers : ℕ) (b : Block) (q : BlockPlan) (count : ℕ) (run : IsPlannedRun b q count) (most : count ≤ registers) where
@@ -29,6 +29,7 @@ module _ (registers : ℕ) (b : Block) (q : BlockPlan) (count : ℕ) (run : IsPl
       record {
         keeps = λ order. plan_keeps_orders b q run.plan order;
         registered = λ order. works_from_registers (planned_view b) (plan_view b q) (meets b q run.plan order);
+        units = λ order. units_apart b q run.plan order;
         some = brief.0;
         short = brief.1;
         below = below;

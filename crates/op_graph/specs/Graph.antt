@@ -1,5 +1,6 @@
 -- A block as a schedule sees it: of each operation its kind, and the earlier operations whose values it uses.
-use Rattle.std.specs.Prelude.{◌≡◌, ℕ, suc, zero, ◌+◌, ◌<◌, List, [], ◌∷◌, length, Bool, true, false, Option, Some, None, ◌⊎◌, nat_lt, slice_index, slice_index_or, if◌then◌else◌}
+use Rattle.std.specs.Prelude.{◌≡◌, ℕ, suc, zero, ◌+◌, ◌^◌, ◌<◌, ◌&&◌, nat_eq, List, [], ◌∷◌, length, Bool, true, false, Option, Some, None, ◌⊎◌, nat_lt, slice_index, slice_index_or, if◌then◌else◌}
+use Rattle.std.specs.Bool.{beq}
 use Rattle.hls_ints.specs.Types.{IntegerType, width_of}
 use Rattle.c_program.specs.declared.tree.BinaryOperator.{BinaryOperator}
 use Rattle.c_program.specs.declared.tree.BinaryOperator.TheVariants.{Multiply as Times, Divide as Over, Remainder}
@@ -89,3 +90,13 @@ time_before nodes (suc k) = time_before nodes k + latency_at nodes k
 -- the state after the last one in which operation k works, from these starts
 abbrev pub done : List Node → List ℕ → ℕ → ℕ
 done nodes starts k = slice_index starts k + latency_at nodes k
+
+-- the states after the last ones are numbers of 64 bits
+abbrev pub Fits : List Node → List ℕ → Type 0
+Fits nodes starts = (i : ℕ) → i < length nodes → done nodes starts i < 2 ^ 64
+
+-- the kinds that share functional units: products of one width, and quotients and remainders of one width, signed or not
+abbrev pub same_kind : Kind → Kind → Bool
+same_kind (Multiply w) (Multiply v) = nat_eq w v
+same_kind (Divide w s) (Divide v t) = nat_eq w v && beq s t
+same_kind k l = false

@@ -1,5 +1,5 @@
 -- The plans of typed code are short.
-use Rattle.std.proofs.Common.{◌≡◌, ℕ, zero, suc, ◌+◌, ◌*◌, ◌<◌, ◌≤◌, ◌^◌, Bool, true, false, nat_lt, if◌then◌else◌, List, [], ◌∷◌, length, Option, Some, None, refl, sym, ap, ◌∙◌, subst, arith}
+use Rattle.std.proofs.Common.{◌≡◌, ℕ, zero, suc, ◌+◌, ◌*◌, ◌<◌, ◌≤◌, List, [], ◌∷◌, length, Option, Some, None, refl, sym, ap, ◌∙◌, subst, arith}
 use Rattle.std.specs.Prelude.{slice_get}
 use Rattle.c_program.specs.Tree.{Program}
 use Rattle.c_program.specs.Weight.{weight}
@@ -9,15 +9,16 @@ use Rattle.block_ir.specs.declared.code.Stage.{Stage}
 use Rattle.block_ir.specs.declared.code.Stage.TheVariants as stage
 use Rattle.block_ir.specs.declared.code.ThreadCode.{ThreadCode}
 use Rattle.block_ir.specs.declared.plan.BlockPlan.{BlockPlan}
-use Rattle.block_ir.specs.declared.plan.StagePlan.{StagePlan}
 use Rattle.block_ir.specs.declared.plan.StagePlan.TheVariants as planned
 use Rattle.block_ir.specs.declared.plan.Planned.{Planned}
 use Rattle.planned_block.specs.Block.{Block, Kind, Simple, Multiply, Divide, BankRead, BankWrite, ArrayRead, ArrayWrite, operation_at, size}
-use Rattle.planned_block.specs.Table.{greater, latency, latencies_before}
+use Rattle.planned_block.specs.Table.{latency, latencies_before}
+use Rattle.planned_block.proofs.Tables.{sequential_short}
 use Rattle.planned_view.specs.View.{operations_view, planned_view}
 use Rattle.planned_hardware.specs.Following.{own_latencies, AreChains}
 use Rattle.block_refine.specs.Threads.{block_at, plan_at, blocks_of, plans_of}
-use Rattle.fsm_plan.specs.Sequential.{IsSequentialBlock, EachSequential, IsSequential}
+use Rattle.right_plan.specs.Right.{IsRight, IsRightPlan}
+use Rattle.right_plan.proofs.Stages.{right_plans_are_there}
 use Rattle.planned_code.specs.Planned.{PlansAreSmall}
 use Rattle.ir_lower.specs.Typed.{types_of, IsTypedBlock, IsTypedCode}
 
@@ -38,31 +39,12 @@ view_length : (os : List CodeOperation) → length (operations_view os) ≡ leng
 view_length [] = refl
 view_length (o ∷ os) = ap suc (view_length os)
 
-one_at_least : (n : ℕ) → (0 < greater 1 n) × (greater 1 n ≤ n + 1)
-one_at_least n = by (nat_lt 1 n) refl
-  where
-    by : (b : Bool) → nat_lt 1 n ≡ b → (0 < (if b then n else 1)) × ((if b then n else 1) ≤ n + 1)
-    by true e = (let more : 1 < n = grind arith in omega arith, omega arith)
-    by false e = (omega arith, omega arith)
-
--- the plan of a stage
-each_at : (r : ℕ) (ss : List Stage) (ps : List StagePlan) (l : ℕ) (b : CodeBlock) → EachSequential r ss ps → slice_get ss l ≡ Some (stage.Run b) → length b.operations < 2 ^ 32 →
-    (p : BlockPlan) × (slice_get ps l ≡ Some (planned.Run p)) × IsSequentialBlock b p
-each_at r [] ps l b each e few = absurd cc
-each_at r (s ∷ ss) [] l b each e few = absurd each
-each_at r (stage.Run d ∷ ss) (planned.Run p ∷ ps) zero b each e few =
-    let same : d ≡ b = cc in
-    (p, refl, subst (λ z. length z.operations < 2 ^ 32 → IsSequentialBlock z p) same (λ h. (each.0 h).0) few)
-each_at r (stage.Run d ∷ ss) (planned.Act ∷ ps) zero b each e few = absurd each.0
-each_at r (stage.Act a next ∷ ss) (p ∷ ps) zero b each e few = cc
-each_at r (s ∷ ss) (p ∷ ps) (suc l) b each e few = each_at r ss ps l b each.1 e few
-
-module _ (P : Program) (code : ThreadCode) (plan : Planned) (typed : IsTypedCode P code) (is : IsSequential code plan) where
+module _ (P : Program) (code : ThreadCode) (plan : Planned) (typed : IsTypedCode P code) (is : IsRightPlan code plan) where
   pub typed_at : (l : ℕ) (b : CodeBlock) → slice_get code.stages l ≡ Some (stage.Run b) → IsTypedBlock (types_of P code) (length code.stages) (4 * weight P) b
   typed_at l b at = typed.stages l (stage.Run b) at
 
-  pub planned_at : (l : ℕ) (b : CodeBlock) → slice_get code.stages l ≡ Some (stage.Run b) → (p : BlockPlan) × (slice_get plan.stages l ≡ Some (planned.Run p)) × IsSequentialBlock b p
-  planned_at l b at = each_at plan.registers code.stages plan.stages l b is at (typed_at l b at).few
+  pub planned_at : (l : ℕ) (b : CodeBlock) → slice_get code.stages l ≡ Some (stage.Run b) → (p : BlockPlan) × (slice_get plan.stages l ≡ Some (planned.Run p)) × IsRight plan.registers b p
+  planned_at l b at = right_plans_are_there code plan is l b at (typed_at l b at).few
 
   abbrev pub chain : ℕ → ℕ → ℕ
   chain f l = own_latencies (blocks_of code f l)
@@ -73,9 +55,9 @@ module _ (P : Program) (code : ThreadCode) (plan : Planned) (typed : IsTypedCode
   short l (Some (stage.Run b)) at =
       let p = planned_at l b at in
       let v = planned_view b in
-      let most = one_at_least (latencies_before v (size v)) in
-      subst (λ q. (plan_at (Some (stage.Run b)) q).states ≤ own_latencies v) (sym p.1)
-      (subst (λ n. n ≤ own_latencies v) (sym p.2.states) most.1)
+      let most = sequential_short v in
+      let brief = p.2.short in
+      subst (λ q. (plan_at (Some (stage.Run b)) q).states ≤ own_latencies v) (sym p.1) (omega (arith, brief, most))
 
   busy : (l : ℕ) (o : Option Stage) → slice_get code.stages l ≡ o → 0 < (plan_at o (slice_get plan.stages l)).states → (block_at o).steps ≡ 0 → ⊥
   busy l None at some idle = omega arith
@@ -100,17 +82,15 @@ module _ (P : Program) (code : ThreadCode) (plan : Planned) (typed : IsTypedCode
     bounded = λ f l. bounded l (slice_get code.stages l) refl;
   }
 
-  pub some_states : (b : CodeBlock) (p : BlockPlan) → IsSequentialBlock b p → 0 < p.states
-  some_states b p s = let v = planned_view b in let h = (one_at_least (latencies_before v (size v))).0 in subst (λ n. 0 < n) (sym s.states) h
-
 pub plans_are_small : PlansAreSmall
 plans_are_small P code plan typed is l b p at here =
     let q = planned_at P code plan typed is l b at in
     let v = planned_view b in
     let same : p ≡ q.0 = (let both : Some (planned.Run p) ≡ Some (planned.Run q.0) = sym here ∙ q.1 in cc) in
-    let states : p.states ≡ greater 1 (latencies_before v (size v)) = ap (λ (z : BlockPlan). z.states) same ∙ q.2.states in
-    let most = (one_at_least (latencies_before v (size v))).1 in
+    let states : p.states ≡ q.0.states = ap (λ (z : BlockPlan). z.states) same in
+    let brief = q.2.short in
+    let most = sequential_short v in
     let sum = latencies_most v (size v) in
     let long = view_length b.operations in
     let few = (typed_at P code plan typed is l b at).few in
-    omega (arith, states, most, sum, long, few)
+    omega (arith, states, brief, most, sum, long, few)

@@ -1,4 +1,3 @@
 pub mod Types
-pub mod Registered
 pub mod Chains
 pub mod Whole

@@ -1,4 +1,4 @@
--- Typed code by its sequential plan is code as the machine needs it.
+-- Typed code by a right plan is code as the machine needs it.
 use Rattle.std.proofs.Common.{◌≡◌, ℕ, zero, suc, ◌+◌, ◌*◌, ◌<◌, List, [], ◌∷◌, length, map, Some, refl, arith}
 use Rattle.std.specs.Prelude.{slice_get}
 use Rattle.c_program.specs.Tree.{GlobalVariable, Program}
@@ -14,18 +14,16 @@ use Rattle.block_ir.specs.declared.code.Stage.TheVariants as stage
 use Rattle.block_ir.specs.declared.code.ThreadCode.{ThreadCode}
 use Rattle.block_ir.specs.declared.plan.BlockPlan.{BlockPlan}
 use Rattle.block_ir.specs.declared.plan.Planned.{Planned}
-use Rattle.fsm_plan.specs.Sequential.{IsSequential}
-use Rattle.fsm_plan.proofs.Keeps.{sequential_keeps_orders}
+use Rattle.right_plan.specs.Right.{IsRightPlan}
 use Rattle.ir_lower.specs.Typed.{types_of, IsTypedNext, IsTypedStage, IsTypedCode}
 use Rattle.thread_promise.specs.Promise.{RunsAt}
 use Rattle.bank_partition.specs.declared.banks.Spread.{Spread}
 use Rattle.bank_partition.specs.Shapes.{count_of, spreads_from}
 use Rattle.thread_promise.specs.Globals.{IsGlobalOf}
 use Rattle.program_machine.specs.Built.{globals_of, LeadsBelow, IsStage}
-use Rattle.planned_code.specs.Planned.{SequentialIsCode}
+use Rattle.planned_code.specs.Planned.{PlanIsCode}
 use Rattle.planned_code.proofs.Types.{accesses_are, block_typed, in_order}
-use Rattle.planned_code.proofs.Registered.{sequential_registered}
-use Rattle.planned_code.proofs.Chains.{planned_at, typed_at, chain, chains, some_states}
+use Rattle.planned_code.proofs.Chains.{planned_at, typed_at, chain, chains}
 
 -- the banks of the global that has this length
 spread_at : (threads : List ℕ) (globals : List GlobalVariable) (y first x n : ℕ) → slice_get (map (λ (g : GlobalVariable). g.length) globals) x ≡ Some n →
@@ -34,7 +32,7 @@ spread_at threads [] y first x n e = cc
 spread_at threads (g ∷ globals) y first zero n e = (record { first = first; count = count_of threads y g; length = g.length }, refl, (let same : g.length ≡ n = cc in same))
 spread_at threads (g ∷ globals) y first (suc x) n e = spread_at threads globals (y + 1) (first + count_of threads y g) x n e
 
-module _ (P : Program) (threads : List ℕ) (code : ThreadCode) (plan : Planned) (resolved : IsResolved P) (typed : IsTypedCode P code) (is : IsSequential code plan) where
+module _ (P : Program) (threads : List ℕ) (code : ThreadCode) (plan : Planned) (resolved : IsResolved P) (typed : IsTypedCode P code) (is : IsRightPlan code plan) where
   abbrev spreads : List Spread
   spreads = spreads_from threads 0 0 P.globals
 
@@ -59,21 +57,23 @@ module _ (P : Program) (threads : List ℕ) (code : ThreadCode) (plan : Planned)
   planned : (l : ℕ) (b : Block) → slice_get code.stages l ≡ Some (stage.Run b) → (p : BlockPlan) × RunsAt (globals_of P) spreads code plan l b p × (0 < p.states)
   planned l b at =
       let p = planned_at P code plan typed is l b at in
-      let t = typed_at P code plan typed is l b at in (
+      let t = typed_at P code plan typed is l b at in
+      let order = in_order (types_of P code) (length code.stages) (4 * weight P) b t in (
         p.0,
         record {
           listed = at;
           planned_so = p.1;
           typed = block_typed (types_of P code) code refl refl (length code.stages) (4 * weight P) b t refl;
           accesses = accesses_are (types_of P code) spreads (λ x n e. spread_at threads P.globals 0 0 x n e) [] b.operations t.operations;
-          keeps = sequential_keeps_orders b p.0 p.2 (in_order (types_of P code) (length code.stages) (4 * weight P) b t);
-          registered = sequential_registered b p.0 p.2 (in_order (types_of P code) (length code.stages) (4 * weight P) b t);
+          keeps = p.2.keeps order;
+          registered = p.2.registered order;
+          units = p.2.units order;
         },
-        some_states P code plan typed is b p.0 p.2,
+        p.2.some,
       )
 
-pub sequential_is_code : SequentialIsCode
-sequential_is_code P threads code plan resolved lowered typed is = record {
+pub plan_is_code : PlanIsCode
+plan_is_code P threads code plan resolved lowered typed is = record {
   lowered = lowered;
   some = typed.some;
   stages = λ l s at. stage_is P threads code plan resolved typed is s (typed.stages l s at);

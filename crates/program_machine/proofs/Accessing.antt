@@ -27,7 +27,7 @@ use Rattle.block_ir.specs.declared.plan.BlockPlan.{BlockPlan}
 use Rattle.block_ir.specs.declared.plan.Planned.{Planned}
 use Rattle.planned_block.specs.Block.{Operand, Through, Kind, Simple, Multiply, Divide, BankRead, BankWrite, ArrayRead, ArrayWrite}
 use Rattle.planned_block.specs.Block.{Operation, operation_at, size, operand_value, UsesIn, Uses, element, no_operation}
-use Rattle.planned_block.specs.Plan.{NoTarget, OfGlobal, target_of, last_state, gap_after}
+use Rattle.planned_block.specs.Plan.{NoTarget, OfGlobal, target_of, is_simple, last_state, gap_after}
 use Rattle.planned_block.specs.Run.{bank_access}
 use Rattle.planned_block.specs.Slot.{Slot, is_request, accesses_where, register_value, value_now, operand_now, asks, starts_now}
 use Rattle.planned_block.specs.Advance.{requests, last_of}
@@ -209,6 +209,16 @@ uses_converted : (types : List IntegerType) (o : Operand) (j : ℕ) → UsesIn o
 uses_converted [] o j u = u
 uses_converted (t ∷ types) o j u = uses_converted types (Through (wrapped t) o) j u
 
+-- a request is no mere logic
+request_is_slow : (kind : Kind) → is_request kind ≡ true → is_simple kind ≡ false
+request_is_slow (Simple f) e = absurd cc
+request_is_slow (Multiply f) e = refl
+request_is_slow (Divide f) e = refl
+request_is_slow (BankRead x) e = refl
+request_is_slow (BankWrite x) e = refl
+request_is_slow (ArrayRead x) e = refl
+request_is_slow (ArrayWrite x) e = refl
+
 module _ (globals : List IntegerType) (spreads : List Spread) (code : ThreadCode) (plan : Planned) (places : Places) (q : Slot) (b : Block) (p : BlockPlan)
     (runs : RunsAt globals spreads code plan q.stage b p) where
   -- operation k has a request in this state
@@ -293,7 +303,7 @@ module _ (globals : List IntegerType) (spreads : List Spread) (code : ThreadCode
     value_typed : (j : ℕ) (o : CodeOperation) → slice_get b.operations j ≡ Some o → Uses (operation_at (planned_view b) k) j →
         HasType (value_type globals code o) (value_now (planned_view b) (plan_view b p) q (wires_now spreads b p q) j)
     value_typed j o listed uses =
-        let early = runs.registered j k asked.below (request_now k asked.requested).0 uses in
+        let early = runs.registered j k asked.below (request_is_slow (operation_at (planned_view b) k).kind (request_now k asked.requested).0) uses in
         let before = runs.keeps.earlier j k asked.below uses in
         let used = runs.keeps.used j k asked.below uses in
         let start = at_state in

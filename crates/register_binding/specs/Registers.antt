@@ -1,7 +1,7 @@
 -- Registers (left edge: Kurdahi and Parker 1987). A value of an operation with start s and latency l lives from state s + l to the last
 -- state in which a user of it works, that state included; what is used at the block's end is used in its last state. By the state in which
 -- it begins to live and then by operation, each value that lives has the least register that no value has which lives in one of its states.
-use Rattle.std.specs.Prelude.{◌≡◌, ℕ, zero, suc, ◌^◌, ◌<◌, ◌≤◌, List, length, slice_index, slice_index_or, Bool, false, ◌&&◌, ◌||◌, if◌then◌else◌, nat_eq}
+use Rattle.std.specs.Prelude.{◌≡◌, ℕ, zero, suc, ◌<◌, ◌≤◌, List, length, slice_index, slice_index_or, Bool, false, ◌&&◌, ◌||◌, if◌then◌else◌, nat_eq}
 use Rattle.std.specs.Prelude.{nat_lt, nat_le, max, Option, Some, None, count_by}
 use Rattle.std.specs.List.{range_with_len}
 use Rattle.interval_pack.specs.LeftEdge.{IsLeftEdge}
@@ -17,10 +17,6 @@ uses_value o i = is_operand o.left i || is_operand o.right i
 
 abbrev pub is_marked : List Bool → ℕ → Bool
 is_marked marks i = slice_index_or marks i false
-
--- the states after the last ones are numbers of 64 bits
-abbrev pub Fits : List Node → List ℕ → Type 0
-Fits nodes starts = (i : ℕ) → i < length nodes → done nodes starts i < 2 ^ 64
 
 -- the starts are those of the operations and of the end; some values are used at the end
 module _ (nodes : List Node) (starts : List ℕ) (at_end : ℕ → Bool) where

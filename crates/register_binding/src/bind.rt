@@ -1,7 +1,7 @@
 // The registers of a block.
 ghost use Rattle.std.specs.Prelude.{◌≡◌, ◌+◌, length, IfOk};
-ghost use Rattle.op_graph.specs.Graph.{UseEarlier};
-ghost use Rattle.register_binding.specs.Registers.{Fits, AreRegisters, RegistersBelow, AreCrowded};
+ghost use Rattle.op_graph.specs.Graph.{UseEarlier, Fits};
+ghost use Rattle.register_binding.specs.Registers.{AreRegisters, RegistersBelow, AreCrowded};
 ghost use Rattle.register_binding.specs.Used.{is_used_at_end};
 
 use crate::lives::{lives_of, rows_of};

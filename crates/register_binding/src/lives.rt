@@ -1,8 +1,8 @@
 // The states in which values live.
 ghost use Rattle.std.specs.Prelude.{◌≡◌, ◌∷◌, ℕ, ◌+◌, ◌^◌, ◌<◌, ◌≤◌, length, slice_index, slice_index_or, Some, None, nat_lt, max, IfOk, if◌then◌else◌};
 ghost use Rattle.interval_pack.specs.Packing.{at};
-ghost use Rattle.op_graph.specs.Graph.{UseEarlier, done};
-ghost use Rattle.register_binding.specs.Registers.{Fits, is_marked, life_end, is_operand};
+ghost use Rattle.op_graph.specs.Graph.{UseEarlier, done, Fits};
+ghost use Rattle.register_binding.specs.Registers.{is_marked, life_end, is_operand};
 ghost use Rattle.register_binding.specs.Steps.{AreLives, AreEnds, IsUsedTo, AreRows};
 
 use interval_pack::Interval;

@@ -1,5 +1,5 @@
 -- What a machine asks of the plan of a code, whatever made the plan.
-use Rattle.std.specs.Prelude.{◌≡◌, ℕ, ◌<◌, ◌≤◌, ◌^◌, false, List, [], ◌∷◌, length, Some, slice_get}
+use Rattle.std.specs.Prelude.{◌≡◌, ℕ, ◌<◌, ◌≤◌, ◌^◌, ◌⊎◌, true, false, List, [], ◌∷◌, length, Some, slice_get, slice_index}
 use Rattle.block_ir.specs.declared.block.Block.{Block as CodeBlock}
 use Rattle.block_ir.specs.declared.code.Stage.{Stage}
 use Rattle.block_ir.specs.declared.code.Stage.TheVariants as stage
@@ -13,16 +13,25 @@ use Rattle.planned_block.specs.Plan.{Plan, is_simple, last_state, KeepsOrders}
 use Rattle.planned_block.specs.Table.{MeetsTable, sequential}
 use Rattle.planned_view.specs.View.{planned_view, plan_view, register_at}
 use Rattle.planned_view.specs.Alike.{IsInOrder}
+use Rattle.op_graph.specs.Graph.{nodes_of, kind_at, same_kind}
 
 -- what takes more than logic works on values that were there in an earlier state, so that registers hold them
 abbrev pub WorksFromRegisters : Block → Plan → Type 0
 WorksFromRegisters b p =
     (j k : ℕ) → k < size b → is_simple (operation_at b k).kind ≡ false → Uses (operation_at b k) j → last_state b p j < p.start k
 
+-- two operations that share a functional unit are never at work in one state
+abbrev pub AreUnitsApart : CodeBlock → BlockPlan → Type 0
+AreUnitsApart b p =
+    (j k : ℕ) → j < k → k < length b.operations → same_kind (kind_at (nodes_of b.operations) j) (kind_at (nodes_of b.operations) k) ≡ true →
+    slice_index p.units j ≡ slice_index p.units k →
+    (last_state (planned_view b) (plan_view b p) j < slice_index p.starts k) ⊎ (last_state (planned_view b) (plan_view b p) k < slice_index p.starts j)
+
 -- what a machine asks of the plan of a block, where it has so many registers
 pub record IsRight (registers : ℕ) (b : CodeBlock) (p : BlockPlan) : Type 0 where
   pub keeps : IsInOrder b → KeepsOrders (planned_view b) (plan_view b p)
   pub registered : IsInOrder b → WorksFromRegisters (planned_view b) (plan_view b p)
+  pub units : IsInOrder b → AreUnitsApart b p
   pub some : 0 < p.states
   -- no longer than the operations one after another
   pub short : p.states ≤ (sequential (planned_view b)).states

@@ -1,6 +1,7 @@
 -- The sequential plan is right.
-use Rattle.std.proofs.Common.{◌≡◌, ℕ, zero, suc, ◌<◌, ◌≤◌, Bool, true, false, if◌then◌else◌, List, [], ◌∷◌, length, Option, Some, None, refl, sym, ap, ◌∙◌, arith}
+use Rattle.std.proofs.Common.{◌≡◌, ℕ, zero, suc, ◌<◌, ◌≤◌, Bool, true, false, if◌then◌else◌, List, [], ◌∷◌, length, Option, Some, None, refl, sym, ap, ◌∙◌, ◌+◌, ⊎_elim, inl, arith}
 use Rattle.std.specs.Prelude.{slice_get}
+use Rattle.std.proofs.lemmas.Bool.{cases_lt}
 use Rattle.std.proofs.lemmas.Option.{get_or_from_slice_get}
 use Rattle.block_ir.specs.declared.block.Operation.{Operation}
 use Rattle.block_ir.specs.declared.block.Block.{Block as CodeBlock}
@@ -9,16 +10,16 @@ use Rattle.block_ir.specs.declared.code.Stage.TheVariants as stage
 use Rattle.block_ir.specs.declared.plan.BlockPlan.{BlockPlan}
 use Rattle.block_ir.specs.declared.plan.StagePlan.{StagePlan}
 use Rattle.block_ir.specs.declared.plan.StagePlan.TheVariants as planned
-use Rattle.planned_block.specs.Block.{Block, size}
+use Rattle.planned_block.specs.Block.{Block, operation_at, size}
 use Rattle.planned_block.specs.Plan.{Plan}
-use Rattle.planned_block.specs.Table.{sequential}
+use Rattle.planned_block.specs.Table.{latency, latencies_before, sequential}
 use Rattle.planned_block.proofs.Tables.{sequential_meets, sequential_some}
 use Rattle.planned_view.specs.View.{operations_view, planned_view, plan_view, register_at}
 use Rattle.planned_view.specs.Alike.{IsInOrder}
 use Rattle.planned_view.proofs.Ordering.{view_ordered}
 use Rattle.fsm_plan.specs.Sequential.{IsSequentialBlock, EachSequential}
 use Rattle.fsm_plan.proofs.Keeps.{sequential_keeps_orders}
-use Rattle.right_plan.specs.Right.{WorksFromRegisters, IsRight, EachRight}
+use Rattle.right_plan.specs.Right.{WorksFromRegisters, AreUnitsApart, IsRight, EachRight}
 use Rattle.right_plan.proofs.Waiting.{works_from_registers}
 use Rattle.sequential_right.specs.Law.{SequentialIsRight}
 
@@ -34,6 +35,14 @@ own_number false k x e = absurd cc
 view_length : (os : List Operation) → length (operations_view os) ≡ length os
 view_length [] = refl
 view_length (o ∷ os) = ap suc (view_length os)
+
+-- operations come one after another
+sum_steps : (v : Block) (i j : ℕ) → i < j → latencies_before v i + latency (operation_at v i).kind ≤ latencies_before v j
+sum_steps v i zero lt = absurd (omega arith)
+sum_steps v i (suc j) lt =
+    let same : i ≡ j → latencies_before v i + latency (operation_at v i).kind ≡ latencies_before v j + latency (operation_at v j).kind =
+    λ e. ap (λ (k : ℕ). latencies_before v k + latency (operation_at v k).kind) e in
+    ⊎_elim (λ (x : i < j). let rest = sum_steps v i j x in omega (arith, rest)) (λ (x : j ≤ i). let e = same (omega arith) in omega (arith, e)) (cases_lt i j)
 
 module _ (registers : ℕ) (b : CodeBlock) (q : BlockPlan) (is : IsSequentialBlock b q) (most : length b.operations ≤ registers) where
   abbrev v : Block
@@ -54,6 +63,15 @@ module _ (registers : ℕ) (b : CodeBlock) (q : BlockPlan) (is : IsSequentialBlo
       let second = start_is k below in
       omega (arith, waits, first, second)
 
+  units : AreUnitsApart b q
+  units j k before inside same e =
+      let n = view_length b.operations in
+      let there : k < size v = omega (arith, n, inside) in
+      let first = start_is j (omega arith) in
+      let second = start_is k there in
+      let steps = sum_steps v j k before in
+      inl (omega (arith, first, second, steps))
+
   below : (k r : ℕ) → k < length b.operations → register_at q.registers k ≡ Some r → r < registers
   below k r inside kept =
       let there : k < size v = (let n = view_length b.operations in omega (arith, n, inside)) in
@@ -65,6 +83,7 @@ module _ (registers : ℕ) (b : CodeBlock) (q : BlockPlan) (is : IsSequentialBlo
   right = record {
     keeps = λ order. sequential_keeps_orders b q is order;
     registered = registered;
+    units = λ order. units;
     some = (let one = sequential_some v in let states = is.states in omega (arith, one, states));
     short = (let states = is.states in omega (arith, states));
     below = below;

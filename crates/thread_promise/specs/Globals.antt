@@ -11,9 +11,9 @@ use Rattle.block_ir.specs.declared.block.Operation.{Operation}
 use Rattle.block_ir.specs.declared.block.Operation.TheVariants.{Unary, Binary, ReadGlobal, WriteGlobal, ReadArray, WriteArray}
 use Rattle.block_ir.specs.declared.block.Block.{Block}
 use Rattle.block_ir.specs.declared.plan.BlockPlan.{BlockPlan}
-use Rattle.planned_block.specs.Block.{operation_at, size, Uses, element}
-use Rattle.planned_block.specs.Plan.{OfGlobal, target_of, last_state}
-use Rattle.planned_block.specs.Slot.{Slot, is_request, operand_now}
+use Rattle.planned_block.specs.Block.{operation_at, size, element}
+use Rattle.planned_block.specs.Plan.{OfGlobal, target_of}
+use Rattle.planned_block.specs.Slot.{Slot, operand_now}
 use Rattle.planned_block.specs.Advance.{requests, wires}
 use Rattle.planned_view.specs.View.{planned_view, plan_view}
 
@@ -54,12 +54,6 @@ IsAccess spreads (ReadGlobal x n i) = IsGlobalOf spreads x n
 IsAccess spreads (WriteGlobal x n i a) = IsGlobalOf spreads x n
 IsAccess spreads (ReadArray x n i) = Unit {0}
 IsAccess spreads (WriteArray x n i a) = Unit {0}
-
--- a bank is asked for values that registers hold: what an access of a global uses was there in an earlier state
-abbrev pub AsksFromRegisters : Block → BlockPlan → Type 0
-AsksFromRegisters b p =
-    (j k : ℕ) → k < size (planned_view b) → is_request (operation_at (planned_view b) k).kind ≡ true → Uses (operation_at (planned_view b) k) j →
-    last_state (planned_view b) (plan_view b p) j < (plan_view b p).start k
 
 -- ---- what a state asks
 

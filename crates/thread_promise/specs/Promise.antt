@@ -20,12 +20,13 @@ use Rattle.planned_block.specs.Plan.{KeepsOrders}
 use Rattle.planned_block.specs.Slot.{Slot}
 use Rattle.planned_block.specs.Advance.{is_ready, advance}
 use Rattle.planned_view.specs.View.{planned_view, plan_view}
+use Rattle.right_plan.specs.Right.{WorksFromRegisters, AreUnitsApart}
 use Rattle.netlist.specs.declared.netlist.Module.{Module}
 use Rattle.verilog_meaning.specs.Readings.{Reading, next_reading, initial_reading}
 use Rattle.circuit.specs.Modules.{Obeys, Agree}
 use Rattle.thread_promise.specs.Slots.{Places, ShowsData, ShowsInBlock}
 use Rattle.thread_promise.specs.Types.{IsTypedBlock}
-use Rattle.thread_promise.specs.Globals.{bank_total, bank_of, IsAddress, IsAccess, AsksFromRegisters, place_now, bank_now, written_now, IsOpen}
+use Rattle.thread_promise.specs.Globals.{bank_total, bank_of, IsAddress, IsAccess, place_now, bank_now, written_now, IsOpen}
 
 -- where the ports for a bank stand: whether it grants, and the word that it tells; whether it is asked, whether to write, the address and what
 -- is written
@@ -96,14 +97,16 @@ pub record AsksBank (r : Reading) (enable : ℕ) (ports : BankPorts) (s : Spread
   pub address : IsAddress s j (r.signal ports.address)
   pub value : writes ≡ true → r.signal ports.value ≡ number
 
--- the block at a stage, whose plan keeps its orders, and asks banks for what registers hold
+-- the block at a stage, whose plan keeps its orders; what takes more than logic works on what registers hold, and each functional unit for
+-- one operation at a time
 pub record RunsAt (globals : List IntegerType) (spreads : List Spread) (code : ThreadCode) (plan : Planned) (l : ℕ) (b : Block) (p : BlockPlan) : Type 0 where
   pub listed : slice_get code.stages l ≡ Some (stage.Run b)
   pub planned_so : slice_get plan.stages l ≡ Some (planned.Run p)
   pub typed : IsTypedBlock globals code b
   pub accesses : (k : ℕ) (o : Operation) → slice_get b.operations k ≡ Some o → IsAccess spreads o
   pub keeps : KeepsOrders (planned_view b) (plan_view b p)
-  pub registered : AsksFromRegisters b p
+  pub registered : WorksFromRegisters (planned_view b) (plan_view b p)
+  pub units : AreUnitsApart b p
 
 module _ (globals : List IntegerType) (spreads : List Spread) (code : ThreadCode) (plan : Planned) (m : Module) (places : Places) (ports : Ports) where
   abbrev pub Shows : Reading → Slot → Type 0

@@ -11,9 +11,9 @@ use Rattle.interval_pack.specs.LeftEdge.{IsBefore}
 use Rattle.interval_pack.proofs.Unique.{same_numbers}
 use Rattle.op_graph.specs.declared.node.Kind.{Kind}
 use Rattle.op_graph.specs.declared.node.Node.{Node}
-use Rattle.op_graph.specs.Graph.{kind_at}
+use Rattle.op_graph.specs.Graph.{kind_at, same_kind}
 use Rattle.unit_binding.specs.declared.bind.UnitCount.{UnitCount}
-use Rattle.unit_binding.specs.Units.{same_kind, is_listed, AreOnce, WorkTogether, IsPresent, IsGreatestUse, AreUnits, AreCounts, UnitsAgree}
+use Rattle.unit_binding.specs.Units.{is_listed, AreOnce, WorkTogether, IsPresent, IsGreatestUse, AreUnits, AreCounts, UnitsAgree}
 use Rattle.unit_binding.specs.Works.{IsTaken, IsBoundKind, AreBound}
 use Rattle.unit_binding.proofs.SameKinds.{same_along, same_back, listed-append, unlisted}
 

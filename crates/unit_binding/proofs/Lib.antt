@@ -1,3 +1,3 @@
-mod SameKinds
+pub mod SameKinds
 mod OneKind
 mod AllKinds

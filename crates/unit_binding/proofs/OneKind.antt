@@ -11,9 +11,9 @@ use Rattle.sparse_pack.specs.Sparse.{HasPlace, IsSparsePacking}
 use Rattle.sparse_pack.proofs.Choosing.{crowd-counted, count-same}
 use Rattle.op_graph.specs.declared.node.Kind.{Kind}
 use Rattle.op_graph.specs.declared.node.Node.{Node}
-use Rattle.op_graph.specs.Graph.{kind_at, done}
+use Rattle.op_graph.specs.Graph.{kind_at, done, same_kind}
 use Rattle.op_graph.proofs.OneByOne.{at_least_one}
-use Rattle.unit_binding.specs.Units.{same_kind, WorkTogether, works_at, use_at, IsGreatestUse}
+use Rattle.unit_binding.specs.Units.{WorkTogether, works_at, use_at, IsGreatestUse}
 use Rattle.unit_binding.specs.Works.{AreWorks, IsTakenOver, IsTaken, IsBoundKind}
 use Rattle.unit_binding.proofs.SameKinds.{same_along, same_back}
 

@@ -6,7 +6,8 @@ use Rattle.std.proofs.lemmas.Bool.{eqb-true, and_parts, or_parts}
 use Rattle.op_graph.specs.declared.node.Kind.{Kind}
 use Rattle.op_graph.specs.declared.node.Kind.TheVariants.{Multiply, Divide}
 use Rattle.unit_binding.specs.declared.bind.UnitCount.{UnitCount}
-use Rattle.unit_binding.specs.Units.{same_kind, is_listed}
+use Rattle.unit_binding.specs.Units.{is_listed}
+use Rattle.op_graph.specs.Graph.{same_kind}
 
 pub same_is : (a b : Kind) → same_kind a b ≡ true → a ≡ b
 same_is (Multiply w) (Multiply v) e = ap (λ (z : ℕ). Multiply z) (eqb-true w v e)

@@ -1,25 +1,13 @@
 -- Functional units (left edge: Hashimoto and Stevens 1971). By start and then by index, each operation has the least unit of its kind
 -- that no operation at work in the same states has. Only products, quotients and remainders share units: every other operation is a kind
 -- of its own.
-use Rattle.std.specs.Prelude.{◌≡◌, ℕ, ◌^◌, ◌<◌, ◌≤◌, List, length, slice_index, Bool, true, false, ◌&&◌, nat_eq, nat_lt, nat_le, count_by}
-use Rattle.std.specs.Bool.{beq}
+use Rattle.std.specs.Prelude.{◌≡◌, ℕ, ◌<◌, ◌≤◌, List, length, slice_index, Bool, true, false, ◌&&◌, nat_lt, nat_le, count_by}
 use Rattle.std.specs.List.{AllPairs, Contains, list_any, range_with_len}
 use Rattle.interval_pack.specs.LeftEdge.{IsLeftEdge}
 use Rattle.op_graph.specs.declared.node.Kind.{Kind}
-use Rattle.op_graph.specs.declared.node.Kind.TheVariants.{Multiply, Divide}
 use Rattle.op_graph.specs.declared.node.Node.{Node}
-use Rattle.op_graph.specs.Graph.{kind_at, done}
+use Rattle.op_graph.specs.Graph.{kind_at, done, same_kind}
 use Rattle.unit_binding.specs.declared.bind.UnitCount.{UnitCount}
-
--- the kinds that share units: products of one width, and quotients and remainders of one width, signed or not
-abbrev pub same_kind : Kind → Kind → Bool
-same_kind (Multiply w) (Multiply v) = nat_eq w v
-same_kind (Divide w s) (Divide v t) = nat_eq w v && beq s t
-same_kind k l = false
-
--- the states after the last ones are numbers of 64 bits
-abbrev pub Fits : List Node → List ℕ → Type 0
-Fits nodes starts = (i : ℕ) → i < length nodes → done nodes starts i < 2 ^ 64
 
 -- a list of kinds has this one
 abbrev pub is_listed : List UnitCount → Kind → Bool

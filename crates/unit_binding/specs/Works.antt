@@ -6,9 +6,9 @@ use Rattle.interval_pack.specs.LeftEdge.{IsBefore}
 use Rattle.interval_pack.specs.Packing.{at, nowhere}
 use Rattle.op_graph.specs.declared.node.Kind.{Kind}
 use Rattle.op_graph.specs.declared.node.Node.{Node}
-use Rattle.op_graph.specs.Graph.{kind_at, done}
+use Rattle.op_graph.specs.Graph.{kind_at, done, same_kind}
 use Rattle.unit_binding.specs.declared.bind.UnitCount.{UnitCount}
-use Rattle.unit_binding.specs.Units.{same_kind, WorkTogether, IsPresent, IsGreatestUse, is_listed, AreOnce}
+use Rattle.unit_binding.specs.Units.{WorkTogether, IsPresent, IsGreatestUse, is_listed, AreOnce}
 
 -- the states in which operation i works, if it is of the kind
 abbrev pub work_of : List Node → List ℕ → Kind → ℕ → Interval

@@ -1,7 +1,7 @@
 // The units of a block.
 ghost use Rattle.std.specs.Prelude.{◌≡◌, ◌≤◌, ◌∷◌, [], ◌++◌, ◌+◌, length, IfOk, OnOk, suc, true, ◌<◌, if◌then◌else◌};
-ghost use Rattle.op_graph.specs.Graph.{kind_at};
-ghost use Rattle.unit_binding.specs.Units.{Fits, AreUnits, AreCounts, is_listed, IsGreatestUse, same_kind};
+ghost use Rattle.op_graph.specs.Graph.{kind_at, Fits, same_kind};
+ghost use Rattle.unit_binding.specs.Units.{AreUnits, AreCounts, is_listed, IsGreatestUse};
 ghost use Rattle.unit_binding.specs.Works.{IsBoundKind, AreBound};
 
 use crate::kinds::share_units;

@@ -1,6 +1,6 @@
 // Kinds of units.
 ghost use Rattle.std.specs.Prelude.{◌≡◌};
-ghost use Rattle.unit_binding.specs.Units.{same_kind};
+ghost use Rattle.op_graph.specs.Graph.{same_kind};
 
 use op_graph::node::Kind;
 

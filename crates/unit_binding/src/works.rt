@@ -1,8 +1,7 @@
 // The states in which operations of one kind work, and their units.
 ghost use Rattle.std.specs.Prelude.{◌≡◌, ℕ, ◌+◌, ◌^◌, ◌<◌, ◌≤◌, length, slice_index, IfOk, if◌then◌else◌};
 ghost use Rattle.interval_pack.specs.Packing.{at};
-ghost use Rattle.op_graph.specs.Graph.{kind_at, latency_at};
-ghost use Rattle.unit_binding.specs.Units.{same_kind, Fits};
+ghost use Rattle.op_graph.specs.Graph.{kind_at, latency_at, same_kind, Fits};
 ghost use Rattle.unit_binding.specs.Works.{AreWorks, work_of, IsTakenOver};
 
 use crate::kinds::share_units;

@@ -150,7 +150,7 @@ module _ (P : Program) (spreads : List Spread) (banks : List Bank) (code : Threa
   core_is_late : (k : ℕ) → late (1 + k) ≡ late_after k
   core_is_late k = ap late (let e : 1 + k ≡ suc k = omega arith in e)
 
-  are_leaves : AreLeaves layout modules
+  pub are_leaves : AreLeaves layout modules
   are_leaves = record {
     late = late;
     each = each_module banks (λ i x. leaves.IsThreadLeaf layout (late i) i x) (λ k c x. leaves.IsCoreLeaf layout (late (1 + k)) c x)
@@ -177,7 +177,7 @@ module _ (P : Program) (spreads : List Spread) (banks : List Bank) (code : Threa
   net_sound : IsSound n
   net_sound = written.sound sound
 
-  found : IsFound layout modules n top
+  pub found : IsFound layout modules n top
   found = tops_are_found layout modules n written.wired (is_small banks few)
 
   -- ---- the whole net
@@ -233,7 +233,7 @@ module _ (P : Program) (spreads : List Spread) (banks : List Bank) (code : Threa
   any : EachModule layout modules (λ i y. Unit {0}) (λ i c y. Unit {0}) (λ i y. Unit {0})
   any = each_module banks (λ i y. Unit {0}) (λ i c y. Unit {0}) (λ i y. Unit {0}) m arbiter printer ms are tt (λ k d x e is. tt) tt (λ k. tt)
 
-  has_banks : HasBanks P spreads banks code plan m inputs leaf shape n.modules top at
+  pub has_banks : HasBanks P spreads banks code plan m inputs leaf shape n.modules top at
   has_banks = record {
     stands = λ x k g s declared listed below.
         let core = core_of P spreads banks built.banked x k s g listed declared below in
@@ -288,13 +288,13 @@ module _ (P : Program) (spreads : List Spread) (banks : List Bank) (code : Threa
       alone = sound.alone;
     }
 
-    is_net : IsNet 1 (suc (length banks)) (threads_of P spreads banks m leaf shape) (cores_of P spreads banks m leaf shape)
+    pub is_net : IsNet 1 (suc (length banks)) (threads_of P spreads banks m leaf shape) (cores_of P spreads banks m leaf shape)
         (places_of P spreads banks code plan m inputs leaf shape n.modules top at) n.modules top
     is_net =
         subst (λ k. IsNet 1 k (threads_of P spreads banks m leaf shape) (cores_of P spreads banks m leaf shape) (places k) n.modules top) (cores_are banks)
         (netting.is_net layout modules n written.wired (threads_of P spreads banks m leaf shape) (cores_of P spreads banks m leaf shape) (places (length layout.cores)) keep)
 
-    has_done : HasDone P spreads banks code plan m inputs leaf shape n.modules top at
+    pub has_done : HasDone P spreads banks code plan m inputs leaf shape n.modules top at
     has_done = record {
       place = found.done_at;
       signal = output (done_place modules layout);
@@ -309,7 +309,7 @@ module _ (P : Program) (spreads : List Spread) (banks : List Bank) (code : Threa
       );
     }
 
-    is_whole : IsWhole P spreads banks code plan m inputs leaf shape n.modules top
+    abbrev pub is_whole : IsWhole P spreads banks code plan m inputs leaf shape n.modules top
     is_whole =
         let staged = nets_have_stages layout modules n written.wired (omega arith) are_leaves in
         record {
@@ -336,10 +336,10 @@ module _ (P : Program) (spreads : List Spread) (banks : List Bank) (code : Threa
   enables : HasEnable top (thread_count P)
   enables = record { place = 1; signal = input (codes "en") 1; is = found.enable; input = refl; wide = sym one_thread }
 
-  top_is : top_of n.modules ≡ Some top
+  pub top_is : top_of n.modules ≡ Some top
   top_is = found.top_is (λ k x e. (sound.no_top k x e).0)
 
-  loopless : (p : Place) → Depends n.modules top p p → ⊥
+  pub loopless : (p : Place) → Depends n.modules top p p → ⊥
   loopless =
       let staged = nets_have_stages layout modules n written.wired (omega arith) are_leaves in
       no_loop n.modules top (net_level n.modules top staged.0 staged.1) (net_levelled n.modules top staged.0 staged.1)

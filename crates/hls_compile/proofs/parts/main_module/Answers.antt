@@ -6,7 +6,8 @@ use Rattle.hls_compile.proofs.parts.main_module.Goals as goal
 pub returns : goal.returns
 returns c = record {
   plan = c.in_ok-plan.plan;
-  sequential = c.in_ok-plan.ensures;
+  planned = c.in_ok-plan.ensures;
+  right = c.planned_is_right.ensures c.args.code.now c.in_ok-plan.plan c.in_ok-plan.ensures;
   runs = subst (λ s. RunsServedCode s c.args.code.now c.in_ok-plan.plan c.in_ok-made.made) c.in_ok-shape.ensures c.in_ok-made.ensures.runs;
   shape = subst (λ s. HasShapeOfServedCode s c.args.code.now c.in_ok-plan.plan c.in_ok-made.made) c.in_ok-shape.ensures c.in_ok-made.ensures.shape;
   leaf = subst (λ s. IsLeafOfServedCode s c.args.code.now c.in_ok-plan.plan c.in_ok-made.made) c.in_ok-shape.ensures c.in_ok-made.ensures.leaf;

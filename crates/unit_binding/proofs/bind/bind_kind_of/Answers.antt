@@ -1,6 +1,6 @@
 use Rattle.std.proofs.Common.{◌≡◌, true, false, if◌then◌else◌}
-use Rattle.op_graph.specs.Graph.{kind_at}
-use Rattle.unit_binding.specs.Units.{same_kind, is_listed}
+use Rattle.op_graph.specs.Graph.{kind_at, same_kind}
+use Rattle.unit_binding.specs.Units.{is_listed}
 use Rattle.unit_binding.proofs.AllKinds.{known_kind, not_done, not_listed, one_more}
 use Rattle.unit_binding.proofs.bind.bind_kind_of.Goals as goal
 

@@ -1,0 +1,9 @@
+mod Lists
+mod Ways
+mod Values
+mod Moves
+mod Stepping
+mod Typing
+mod Merging
+mod Counted
+mod Chains

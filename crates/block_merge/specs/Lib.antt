@@ -1,0 +1,5 @@
+pub mod Joined
+pub mod Maximal
+pub mod Kept
+pub mod Steps
+pub mod Counting
