@@ -29,8 +29,8 @@ use Rattle.circuit.specs.Modules.{Obeys}
 use Rattle.operator_words.proofs.Typed.{residue_of-zero}
 use Rattle.operator_wires.specs.declared.words.Word.{Word}
 use Rattle.operator_wires.specs.Gives.{Grows, Gives}
-use Rattle.operator_wires.specs.Words.{IsWord, Holds, Becomes}
-use Rattle.operator_wires.specs.Built.{Base, IsEarlier, Adds, StandsAs}
+use Rattle.operator_wires.specs.Words.{Holds, Becomes}
+use Rattle.operator_wires.specs.Built.{Base, IsEarlier, Adds}
 use Rattle.operator_wires.specs.Added.{ConstantAdds, NumberAdds, IsConstant, IsConverted}
 use Rattle.operator_wires.proofs.Giving.{grows_refl, grows_then}
 use Rattle.operator_wires.proofs.Building.{room_of, stands_after, wires_none, wires_then}
@@ -45,11 +45,12 @@ use Rattle.block_datapath.specs.declared.requests.BankAccess.{BankAccess}
 use Rattle.block_datapath.specs.Seen.{IsKept, IsValue, SeesSource, ShowsOperand}
 use Rattle.block_datapath.specs.Operations.{seen_value, SeesSlot}
 use Rattle.block_datapath.specs.Chains.{TellsStage, TellsState, IsMoment}
-use Rattle.block_datapath.specs.Wired.{HasWidthAt, AreValues, AreSources, IsSourced, IsStateBit}
+use Rattle.block_datapath.specs.Wired.{AreValues, IsSourced, IsStateBit}
 use Rattle.thread_promise.specs.Globals.{IsSmallPower}
 use Rattle.block_datapath.specs.Requests.{AddressesBank, Asked, asked_at, asked_by, AreAsMany, AsksBank, AreBankChains, AreAsksAdded}
-use Rattle.block_datapath.specs.Accesses.{AddsRegistered, IsRegistered, AreRegistered, IsZero, AreZeros, is_bank, FitsSpread, AreFitSpreads, index_number, reaches, asked_so, reaches_bank, asked_of}
-use Rattle.block_datapath.specs.Accesses.{reaches_in, asked_in, SeesOperand, SeesAccess, AsksIndex, AsksOperation, AsksFirst, HaveBankWidths, HasOwnWidths, AreIndexLinks, AreAccessLinks}
+use Rattle.block_datapath.specs.Accesses.{AddsRegistered, IsRegistered, AreRegistered, IsZero, AreZeros, FitsSpread, index_number, reaches, asked_so, reaches_bank, asked_of}
+use Rattle.block_datapath.specs.Accesses.{reaches_in, asked_in, SeesOperand, SeesAccess, AsksIndex, AsksOperation}
+use Rattle.block_datapath.specs.Accesses.{AsksFirst, HaveBankWidths, HasOwnWidths, AreIndexLinks, AreAccessLinks}
 use Rattle.block_datapath.specs.Accesses.{IsAskRight, AsksBlock, IsAskingBlock}
 use Rattle.block_datapath.proofs.Indexing.{request_is_slow}
 use Rattle.block_datapath.proofs.Walking.{listed_view, within_view, uses_source, got_before, got_last}
@@ -60,7 +61,8 @@ use Rattle.block_datapath.proofs.Requesting.{same_asked, not_yet, bank_chains_af
 -- ---- values in registers
 
 module _ (globals : List IntegerType) (code : ThreadCode) (p : BlockPlan) where
-  pub registered_one : (a b : List Signal) (k start : ℕ) (o : Operation) (nought : Word) (given : Given) (ty : IntegerType) (v : ℤ) → Holds a b ty v nought → start ≡ slice_index p.starts k
+  pub registered_one : (a b : List Signal) (k start : ℕ) (o : Operation) (nought : Word) (given : Given) (ty : IntegerType) (v : ℤ) → Holds a b ty v nought →
+      start ≡ slice_index p.starts k
       → ty ≡ value_type globals code o → given.word.width ≡ width_of ty → given.word.signed ≡ ty.signed → given.register ≡ register_at p.registers k
       → (start + further_states (operation_view o).kind < 2 ^ 64 → given.last ≡ start + further_states (operation_view o).kind) → AddsRegistered globals code p a b k o given
   registered_one a b k start o nought given ty v t first e says sign register last = record {
@@ -76,8 +78,10 @@ module _ (globals : List IntegerType) (code : ThreadCode) (p : BlockPlan) where
   pub registered_none : (b : Block) (a : List Signal) → AreRegistered globals code p b a a 0 []
   registered_none b a = record { grows = grows_refl a; count = refl; each = λ k o lt listed. absurd (omega arith) }
 
-  pub registered_more : (b : Block) (first old new : List Signal) (values : List Given) (n number : ℕ) (o : Operation) (given : Given) → AreRegistered globals code p b first old n values
-      → slice_get b.operations n ≡ Some o → number ≡ n → AddsRegistered globals code p old new number o given → AreRegistered globals code p b first new (n + 1) (values ++ given ∷ [])
+  pub registered_more : (b : Block) (first old new : List Signal) (values : List Given) (n number : ℕ) (o : Operation) (given : Given) →
+      AreRegistered globals code p b first old n values
+      → slice_get b.operations n ≡ Some o → number ≡ n → AddsRegistered globals code p old new number o given →
+      AreRegistered globals code p b first new (n + 1) (values ++ given ∷ [])
   registered_more b first old new values n number o given before listed same next = record {
     grows = grows_then first old new before.grows next.grows;
     count = length-append values (given ∷ []) ∙ ap (λ k. k + 1) before.count;
@@ -100,7 +104,8 @@ module _ (globals : List IntegerType) (code : ThreadCode) (p : BlockPlan) where
           let t = before.each k x less there in
           (t.0, got_before values (given ∷ []) k t.0 t.1, t.2)
 
-pub zero_wired : (a b : List Signal) (ty : IntegerType) (nought : Word) (given : Given) → IsConstant a b ty nought → given.word.place ≡ nought.place → given.word.width ≡ width_of ty
+pub zero_wired : (a b : List Signal) (ty : IntegerType) (nought : Word) (given : Given) → IsConstant a b ty nought → given.word.place ≡ nought.place →
+    given.word.width ≡ width_of ty
     → given.word.signed ≡ ty.signed → IsZero a b given
 zero_wired a b ty nought given t at wide sign base low =
     let made = t base low in
@@ -173,7 +178,8 @@ module _ (registers : Registers) (types : List IntegerType) (values : List Given
       to_b : (m : Module) → Grows g m.signals → Grows b m.signals
       to_b m grown = grows_then b c m.signals u.grows (to_c m grown)
 
-      by : (m : Module) (r : Reading) (at : Bool) (now : ℕ) (variables given : ℕ → ℤ) (shown j many : ℕ) → Grows g m.signals → Obeys m r → IsMoment m r registers moment.at moment.states at now
+      by : (m : Module) (r : Reading) (at : Bool) (now : ℕ) (variables given : ℕ → ℤ) (shown j many : ℕ) → Grows g m.signals → Obeys m r →
+          IsMoment m r registers moment.at moment.states at now
           → moment.state < moment.states → FitsSpread (Some s) → AreAsMany many before → j < many
           → (at ≡ true → now ≡ moment.state → SeesOperand m r registers types values moment.state variables given index × (r.signal value.place ≡ shown))
           → (z : Bool) → (at && nat_eq now moment.state) ≡ z
@@ -231,7 +237,8 @@ module _ (registers : Registers) (types : List IntegerType) (values : List Given
       })
       (stands_after d f base wide.place 64 from_d k.word.stands) widths.1 in
       record {
-        wires = wires_then base a b g p.wires (wires_then base b c g q.wires (wires_then base c d g k.wires (wires_then base d e g l.wires (wires_then base e f g n.wires last.wires))));
+        wires = wires_then base a b g p.wires
+            (wires_then base b c g q.wires (wires_then base c d g k.wires (wires_then base d e g l.wires (wires_then base e f g n.wires last.wires))));
         chains = last.chains;
       }
 
@@ -255,8 +262,10 @@ module _ (registers : Registers) (types : List IntegerType) (values : List Given
   module _ (globals : List IntegerType) (spreads : List Spread) where
     -- ---- a read and a write
 
-    pub read_asked : (a b c : List Signal) (x length_ : ℕ) (ty : IntegerType) (s : Option Spread) (index : Operand) (nought : Word) → Holds a b ty (wrapped ty (pos 0)) nought → s ≡ slice_get spreads x
-        → AsksIndex b c registers types values before after moment s index false nought → AsksOperation a c registers types values before after globals spreads moment (ReadGlobal x length_ index)
+    pub read_asked : (a b c : List Signal) (x length_ : ℕ) (ty : IntegerType) (s : Option Spread) (index : Operand) (nought : Word) → Holds a b ty (wrapped ty (pos 0)) nought →
+        s ≡ slice_get spreads x
+        → AsksIndex b c registers types values before after moment s index false nought → AsksOperation a c registers types values before after globals spreads moment
+        (ReadGlobal x length_ index)
     read_asked a b c x length_ ty s index nought t e u =
         let y = subst (λ (z : Option Spread). AsksIndex b c registers types values before after moment z index false nought) e u in
         record {
@@ -270,7 +279,8 @@ module _ (registers : Registers) (types : List IntegerType) (values : List Given
 
     pub write_asked : (a b c d : List Signal) (x length_ : ℕ) (s : Option Spread) (index operand : Operand) (word value : Word) (ty : IntegerType) →
         ShowsOperand a b registers types values moment.state operand word
-        → Becomes b c word ty (wrapped ty) value → ty ≡ or_int (slice_get globals x) → s ≡ slice_get spreads x → AsksIndex c d registers types values before after moment s index true value
+        → Becomes b c word ty (wrapped ty) value → ty ≡ or_int (slice_get globals x) → s ≡ slice_get spreads x →
+        AsksIndex c d registers types values before after moment s index true value
         → AsksOperation a d registers types values before after globals spreads moment (WriteGlobal x length_ index operand)
     write_asked a b c d x length_ s index operand word value ty t u same e v =
         let y = subst (λ (z : Option Spread). AsksIndex c d registers types values before after moment z index true value) e v in
@@ -280,13 +290,15 @@ module _ (registers : Registers) (types : List IntegerType) (values : List Given
           shows = λ m r on now variables given j many grown o is low fits as_many less seen.
               let to_c = grows_then c d m.signals y.grows grown in
               let to_b = grows_then b c m.signals u.grows to_c in
-              y.shows m r on now variables given (residue_of (width_of (or_int (slice_get globals x))) (seen_value variables given operand)) j many grown o is low (fits x) as_many less
+              y.shows m r on now variables given (residue_of (width_of (or_int (slice_get globals x))) (seen_value variables given operand)) j many grown o is low
+              (fits x) as_many less
               (λ p q.
               let see = seen p q in
               let first = t.shows m r variables given to_b o see.1 in
               let own = u.shows m r (operand_type operand) (seen_value variables given operand) to_c o first in (
                 see.0,
-                own.shows ∙ residue_of-wrapped ty (seen_value variables given operand) ∙ ap (λ (k : IntegerType). residue_of (width_of k) (seen_value variables given operand)) same,
+                own.shows ∙ residue_of-wrapped ty (seen_value variables given operand) ∙ ap
+                    (λ (k : IntegerType). residue_of (width_of k) (seen_value variables given operand)) same,
               ));
           rests = y.rests;
         }
@@ -297,28 +309,35 @@ module _ (registers : Registers) (types : List IntegerType) (values : List Given
     own_widths bits high own x ty same are None e = tt
     own_widths bits high own x ty same are (Some s) e = ((λ k less h f. are.own x k s e less h f ∙ ap width_of (sym same)), are.powers x s e)
 
-    pub read_linked : (a b c : List Signal) (x : ℕ) (s : Option Spread) (nought : Word) (ty : IntegerType) → IsConstant a b ty nought → ty ≡ or_int (slice_get globals x) → s ≡ slice_get spreads x
+    pub read_linked : (a b c : List Signal) (x : ℕ) (s : Option Spread) (nought : Word) (ty : IntegerType) → IsConstant a b ty nought → ty ≡ or_int (slice_get globals x) →
+        s ≡ slice_get spreads x
         → AreIndexLinks b c registers types values before after moment s nought → AreAccessLinks a c registers types values before after globals spreads moment
     read_linked a b c x s nought ty t same e u base bits high own sources chains are on room =
         let word = t base (room_of a base registers.stage.register registers.stage.width sources.registers.stage) in
         let more = word.wires.grows in
-        let last = u base bits high own ty (sources_after a b base types registers values more sources) (bank_chains_after a b base bits high own before more chains) are.bits are.wide
-        (subst (λ (z : Option Spread). HasOwnWidths z own ty) (sym e) (own_widths bits high own x ty same are (slice_get spreads x) refl)) word.word (stands_after a b base moment.at 1 more on) room in
+        let last = u base bits high own ty (sources_after a b base types registers values more sources)
+        (bank_chains_after a b base bits high own before more chains) are.bits are.wide
+        (subst (λ (z : Option Spread). HasOwnWidths z own ty) (sym e) (own_widths bits high own x ty same are (slice_get spreads x) refl)) word.word
+        (stands_after a b base moment.at 1 more on) room in
         record { wires = wires_then base a b c word.wires last.wires; chains = last.chains }
 
-    pub write_linked : (a b c d : List Signal) (x : ℕ) (s : Option Spread) (operand : Operand) (word value : Word) (ty : IntegerType) → IsSourced a b types registers values (operand_type operand) word
+    pub write_linked : (a b c d : List Signal) (x : ℕ) (s : Option Spread) (operand : Operand) (word value : Word) (ty : IntegerType) →
+        IsSourced a b types registers values (operand_type operand) word
         → IsConverted b c word ty value → ty ≡ or_int (slice_get globals x) → s ≡ slice_get spreads x → AreIndexLinks c d registers types values before after moment s value
         → AreAccessLinks a d registers types values before after globals spreads moment
     write_linked a b c d x s operand word value ty t u same e v base bits high own sources chains are on room =
         let p = t base sources in
         let q = u base (operand_type operand) p.word in
         let more = grows_then a b c p.wires.grows q.wires.grows in
-        let last = v base bits high own ty (sources_after a c base types registers values more sources) (bank_chains_after a c base bits high own before more chains) are.bits are.wide
-        (subst (λ (z : Option Spread). HasOwnWidths z own ty) (sym e) (own_widths bits high own x ty same are (slice_get spreads x) refl)) q.word (stands_after a c base moment.at 1 more on) room in
+        let last = v base bits high own ty (sources_after a c base types registers values more sources)
+        (bank_chains_after a c base bits high own before more chains) are.bits are.wide
+        (subst (λ (z : Option Spread). HasOwnWidths z own ty) (sym e) (own_widths bits high own x ty same are (slice_get spreads x) refl)) q.word
+        (stands_after a c base moment.at 1 more on) room in
         record { wires = wires_then base a b d p.wires (wires_then base b c d q.wires last.wires); chains = last.chains }
 
     -- what is no access of a global
-    pub silent_asked : (a : List Signal) (o known : Operation) → o ≡ known → ((variables given : ℕ → ℤ) (j : ℕ) → reaches_bank variables given globals spreads known j ≡ false) → after ≡ before
+    pub silent_asked : (a : List Signal) (o known : Operation) → o ≡ known → ((variables given : ℕ → ℤ) (j : ℕ) → reaches_bank variables given globals spreads known j ≡ false) →
+        after ≡ before
         → AsksOperation a a registers types values before after globals spreads moment o
     silent_asked a o known e never same =
         subst (λ (z : BankRequests). AsksOperation a a registers types values before z globals spreads moment o) (sym same)
@@ -327,7 +346,8 @@ module _ (registers : Registers) (types : List IntegerType) (values : List Given
           many = λ n is. is;
           shows = λ m r on now variables given j many grown ob is low fits as_many less seen.
               not_yet on (nat_eq now moment.state) (asked_of variables given globals spreads known) (asked_at r before j)
-              ∙ ap (λ (c : Bool). if on && (nat_eq now moment.state && c) then asked_of variables given globals spreads known else asked_at r before j) (sym (never variables given j));
+              ∙ ap (λ (c : Bool). if on && (nat_eq now moment.state && c) then asked_of variables given globals spreads known else asked_at r before j)
+              (sym (never variables given j));
           rests = λ m r j many grown ob one off as_many less. refl;
         }))
 
@@ -337,7 +357,8 @@ module _ (registers : Registers) (types : List IntegerType) (values : List Given
 
 -- ---- all operations
 
-module _ (registers : Registers) (types : List IntegerType) (values : List Given) (globals : List IntegerType) (spreads : List Spread) (b : Block) (p : BlockPlan) (end : Moment) where
+module _ (registers : Registers) (types : List IntegerType) (values : List Given) (globals : List IntegerType) (spreads : List Spread) (b : Block) (p : BlockPlan)
+    (end : Moment) where
   pub first_asked_none : (a : List Signal) (before : BankRequests) → AsksFirst a a registers types values before before globals spreads b p end 0
   first_asked_none a before = record {
     grows = grows_refl a;
@@ -346,7 +367,8 @@ module _ (registers : Registers) (types : List IntegerType) (values : List Given
     rests = λ m r j many grown o one off as_many less. refl;
   }
 
-  pub first_asked_more : (a c d : List Signal) (before mid after : BankRequests) (n start : ℕ) (x : Operation) → AsksFirst a c registers types values before mid globals spreads b p end n
+  pub first_asked_more : (a c d : List Signal) (before mid after : BankRequests) (n start : ℕ) (x : Operation) →
+      AsksFirst a c registers types values before mid globals spreads b p end n
       → slice_get b.operations n ≡ Some x → start ≡ slice_index p.starts n
       → AsksOperation c d registers types values mid after globals spreads (record { at = end.at; state = start; states = end.states }) x
       → AsksFirst a d registers types values before after globals spreads b p end (n + 1)
@@ -363,7 +385,8 @@ module _ (registers : Registers) (types : List IntegerType) (values : List Given
             u.shows m r on now variables given j many grown o is (low n x listed) fits (t.many many as_many) less (seen n x listed)
             ∙ ap (λ (z : Asked). if here then asked_of variables given globals spreads x else z)
             (t.shows m r on now variables given j many (grows_then c d m.signals u.grows grown) o is low fits as_many less seen)
-            ∙ ap (λ (z : Option Operation). if on && (nat_eq now (slice_index p.starts n) && reaches_in variables given globals spreads z j) then asked_in variables given globals spreads z
+            ∙ ap (λ (z : Option Operation). if on && (nat_eq now (slice_index p.starts n) && reaches_in variables given globals spreads z j) then asked_in variables given globals
+            spreads z
             else last_of test asked old n) (sym listed)
             ∙ ap (last_of test asked old) (sym (add-one n));
         rests = λ m r j many grown o one off as_many less.
@@ -389,7 +412,8 @@ module _ (globals : List IntegerType) (spreads : List Spread) (code : ThreadCode
 
   module _ (old new : List Signal) (values : List Given) (are : AreRegistered globals code p b old new (length b.operations) values) (right : IsAskRight globals code b p)
       (m : Module) (r : Reading) (q : Slot) (wire : ℕ → ℤ) (sees : SeesSlot globals code registers b p m r q) where
-    register_later : (j x : ℕ) → last_state (planned_view b) (plan_view b p) j < q.state → (plan_view b p).register j ≡ Some x → value_now (planned_view b) (plan_view b p) q wire j ≡ q.registers x
+    register_later : (j x : ℕ) → last_state (planned_view b) (plan_view b p) j < q.state → (plan_view b p).register j ≡ Some x →
+        value_now (planned_view b) (plan_view b p) q wire j ≡ q.registers x
     register_later j x less e =
         ap (λ (c : Bool). if c then wire j else register_value q.registers ((plan_view b p).register j))
         (other_is (last_state (planned_view b) (plan_view b p) j) q.state (λ same. absurd (omega arith)))
@@ -403,11 +427,13 @@ module _ (globals : List IntegerType) (spreads : List Spread) (code : ThreadCode
           let given : Given = found.0 in
           let is : IsRegistered globals code p j o given = found.2 in
           let small = within_view b.operations j o listed in
-          let past : last_state (planned_view b) (plan_view b p) j < (plan_view b p).start n = right.registered j n below (request_is_slow (operation_at (planned_view b) n).kind request) u in
+          let past : last_state (planned_view b) (plan_view b p) j < (plan_view b p).start n =
+          right.registered j n below (request_is_slow (operation_at (planned_view b) n).kind request) u in
           let used : last_state (planned_view b) (plan_view b p) n ≤ (plan_view b p).until j = right.keeps.used j n below u in
           let before : last_state (planned_view b) (plan_view b p) j < q.state = subst (λ (k : ℕ). last_state (planned_view b) (plan_view b p) j < k) (sym at) past in
           let has = right.keeps.has j small (omega arith) in
-          let alive : q.state ≤ (plan_view b p).until j = subst (λ (k : ℕ). k ≤ (plan_view b p).until j) (sym at) (let e : (plan_view b p).start n ≤ (plan_view b p).until j = omega arith in e) in
+          let alive : q.state ≤ (plan_view b p).until j = subst (λ (k : ℕ). k ≤ (plan_view b p).until j) (sym at)
+          (let e : (plan_view b p).start n ≤ (plan_view b p).until j = omega arith in e) in
           let kept : IsKept m r registers (Some has.0) (value_type globals code o) (q.registers has.0) =
           sees.alive j has.0 (record { operation = o; listed = listed; register = has.1; past = before; used = alive })
           in
@@ -430,7 +456,8 @@ module _ (globals : List IntegerType) (spreads : List Spread) (code : ThreadCode
             };
           }
 
-      source_kept : (source : Source) → IsTypedSource globals code b.operations source → ((j : ℕ) (ty : IntegerType) → source ≡ Value j ty → Uses (operation_at (planned_view b) n) j)
+      source_kept : (source : Source) → IsTypedSource globals code b.operations source → ((j : ℕ) (ty : IntegerType) → source ≡ Value j ty →
+          Uses (operation_at (planned_view b) n) j)
           → SeesSource m r registers code.variables values (slice_index p.starts n) q.variables (value_now (planned_view b) (plan_view b p) q wire) source
       source_kept (Constant ty v) typed uses = typed
       source_kept (Variable x ty) typed uses = sees.variables x ty typed
@@ -456,7 +483,8 @@ module _ (globals : List IntegerType) (spreads : List Spread) (code : ThreadCode
     access_seen n (Unary operator ty a) listed at typed = tt
     access_seen n (Binary operator ty a c) listed at typed = tt
     access_seen n (ReadGlobal x count i) listed at typed =
-        operand_kept n (within_view b.operations n (ReadGlobal x count i) listed) (requested n (ReadGlobal x count i) listed refl) at i typed.0 (λ j u. uses_left n (ReadGlobal x count i) j listed u)
+        operand_kept n (within_view b.operations n (ReadGlobal x count i) listed) (requested n (ReadGlobal x count i) listed refl) at i typed.0
+        (λ j u. uses_left n (ReadGlobal x count i) j listed u)
     access_seen n (WriteGlobal x count i a) listed at typed =
         let below = within_view b.operations n (WriteGlobal x count i a) listed in
         let request = requested n (WriteGlobal x count i a) listed refl in (
@@ -468,7 +496,8 @@ module _ (globals : List IntegerType) (spreads : List Spread) (code : ThreadCode
 
   -- ---- the block
 
-  pub block_asked : (a c d e : List Signal) (before after : BankRequests) (at : ℕ) (values given : List Given) (end : Moment) → values ≡ given → end.at ≡ at → end.states ≡ max 1 p.states
+  pub block_asked : (a c d e : List Signal) (before after : BankRequests) (at : ℕ) (values given : List Given) (end : Moment) → values ≡ given → end.at ≡ at →
+      end.states ≡ max 1 p.states
       → TellsStage a c registers l at → AreRegistered globals code p b c d (length b.operations) given
       → AsksFirst d e registers code.variables values before after globals spreads b p end (length b.operations)
       → AsksBlock globals spreads code registers l b p a e before after
@@ -477,7 +506,8 @@ module _ (globals : List IntegerType) (spreads : List Spread) (code : ThreadCode
     many = v.many;
     rests = λ m r j many g o has other as_many less.
         let one = ap (λ (n : ℕ). width m n) is_at ∙ t.wide m (to_c m g) in
-        let off : r.signal end.at ≡ 0 = ap (λ (n : ℕ). r.signal n) is_at ∙ t.shows m r (to_c m g) o has.wide has.room has.fits ∙ ap bit_of (other_is (r.signal registers.stage.register) l other) in
+        let off : r.signal end.at ≡ 0 = ap (λ (n : ℕ). r.signal n) is_at ∙ t.shows m r (to_c m g) o has.wide has.room has.fits ∙ ap bit_of
+        (other_is (r.signal registers.stage.register) l other) in
         v.rests m r j many g o one off as_many less;
     asks = λ m r q wire j many right g o inside sees fits as_many less.
         let moment : IsMoment m r registers end.at end.states true q.state =
@@ -486,7 +516,8 @@ module _ (globals : List IntegerType) (spreads : List Spread) (code : ThreadCode
         let some : max 1 p.states ≡ p.states = omega arith in
         record {
           wide = ap (λ (n : ℕ). width m n) is_at ∙ t.wide m (to_c m g);
-          shows = ap (λ (n : ℕ). r.signal n) is_at ∙ t.shows m r (to_c m g) o inside.has.wide inside.has.room inside.has.fits ∙ ap bit_of (same_is (r.signal registers.stage.register) l inside.stage);
+          shows = ap (λ (n : ℕ). r.signal n) is_at ∙ t.shows m r (to_c m g) o inside.has.wide inside.has.room inside.has.fits ∙ ap bit_of
+              (same_is (r.signal registers.stage.register) l inside.stage);
           state_wide = λ z. inside.wide;
           state = λ z. inside.state;
           below = λ z. omega arith;
@@ -505,7 +536,8 @@ module _ (globals : List IntegerType) (spreads : List Spread) (code : ThreadCode
       to_c : (m : Module) → Grows e m.signals → Grows c m.signals
       to_c m g = grows_then c d m.signals u.grows (grows_then d e m.signals v.grows g)
 
-  pub block_linked : (a c d e : List Signal) (before after : BankRequests) (at : ℕ) (values given : List Given) (end : Moment) → values ≡ given → end.at ≡ at → end.states ≡ max 1 p.states
+  pub block_linked : (a c d e : List Signal) (before after : BankRequests) (at : ℕ) (values given : List Given) (end : Moment) → values ≡ given → end.at ≡ at →
+      end.states ≡ max 1 p.states
       → NumberAdds a c registers.stage.width registers.stage.register l at → AreZeros c d given
       → AreAccessLinks d e registers code.variables values before after globals spreads end
       → IsAskingBlock globals spreads code registers l b p a e before after

@@ -150,7 +150,8 @@ address_is s p N power bits_ same past = record {
 }
 
 module _ (s : Spread) (power : IsSmallPower s.count) (short : s.length ≤ 2 ^ 63) where
-  positive_place : (p j : ℕ) (t : Bool) → nat_lt j s.length ≡ t → j < 2 ^ 64 → p % s.count ≡ residue_of 64 (pos j) % s.count → (out : ℕ) → s.length ≤ out → p ≡ (if t then j else out) →
+  positive_place : (p j : ℕ) (t : Bool) → nat_lt j s.length ≡ t → j < 2 ^ 64 → p % s.count ≡ residue_of 64 (pos j) % s.count → (out : ℕ) → s.length ≤ out →
+      p ≡ (if t then j else out) →
       IsAddress s p (residue_of 64 (pos j) / s.count)
   positive_place p j true e small last out le is =
       let number : residue_of 64 (pos j) ≡ j = positive 64 j ∙ mod-eq_of_lt small in

@@ -169,7 +169,8 @@ keep_none a registers at states before g e = record {
   rests = λ m r x grows o wide off less. refl;
 }
 
-pub keep_missing : (a : List Signal) (registers : Registers) (at states : ℕ) (before : List ℕ) (g : Given) (number : ℕ) → g.register ≡ Some number → slice_get registers.kept number ≡ None
+pub keep_missing : (a : List Signal) (registers : Registers) (at states : ℕ) (before : List ℕ) (g : Given) (number : ℕ) → g.register ≡ Some number →
+    slice_get registers.kept number ≡ None
     → KeepsOne a a registers at states before before g
 keep_missing a registers at states before g number e missing = record {
   grows = grows_refl a;
@@ -213,7 +214,13 @@ keep_linked a b c d registers moment states before after g number condition sour
 -- ---- all of them
 
 pub keeps_none : (a : List Signal) (registers : Registers) (at states : ℕ) (before : List ℕ) (values : List Given) → KeepsFirst a a registers at states before before values 0
-keeps_none a registers at states before values = record { grows = grows_refl a; count = refl; shows = λ m r t s x g o is can less same. refl; rests = λ m r x grows o wide off less. refl }
+keeps_none a registers at states before values = record {
+  grows = grows_refl a;
+  count = refl;
+  shows = λ m r t s x g o is can less same. refl;
+  rests = λ m r x grows o wide off less.
+      refl;
+}
 
 pub keeps_more : (a b c : List Signal) (registers : Registers) (at states : ℕ) (before middle after : List ℕ) (values : List Given) (n : ℕ) (g : Given)
     → KeepsFirst a b registers at states before middle values n → slice_get values n ≡ Some g → KeepsOne b c registers at states middle after g

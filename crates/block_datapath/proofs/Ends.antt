@@ -20,7 +20,7 @@ use Rattle.block_ir.specs.declared.code.ThreadCode.{ThreadCode}
 use Rattle.block_ir.specs.declared.plan.BlockPlan.{BlockPlan}
 use Rattle.planned_block.specs.Block.{Operand as PlannedOperand, Final as PlannedFinal, IsAmong, IsUsedAtEnd, finished, leads_to, is_zero as planned_zero}
 use Rattle.planned_block.specs.Advance.{last_of}
-use Rattle.planned_block.specs.Slot.{Slot, value_now, operand_now, IsWired}
+use Rattle.planned_block.specs.Slot.{Slot, value_now, operand_now}
 use Rattle.planned_block.proofs.Bits.{same_is, other_is}
 use Rattle.planned_view.specs.View.{operand_view, finals_view, next_view, planned_view, plan_view}
 use Rattle.circuit.specs.Modules.{Obeys}
@@ -75,7 +75,8 @@ Finishes r x w value fs os =
 
 -- what a variable gets has its type
 finals_typed : (ty : IntegerType) (x : ℕ) (value : PlannedOperand → ℤ) (fs : List Final) (after : ℕ → ℤ)
-    → ((k : ℕ) (f : Final) → slice_get fs k ≡ Some f → f.variable ≡ x → HasType ty (value (operand_view f.value))) → HasType ty (after x) → HasType ty (finished value (finals_view fs) after x)
+    → ((k : ℕ) (f : Final) → slice_get fs k ≡ Some f → f.variable ≡ x → HasType ty (value (operand_view f.value))) → HasType ty (after x) →
+    HasType ty (finished value (finals_view fs) after x)
 finals_typed ty x value [] after each e = e
 finals_typed ty x value (f ∷ fs) after each e =
     finals_typed ty x value fs (λ y. if nat_eq y f.variable then value (operand_view f.value) else after y) (λ k g listed. each (suc k) g listed)
@@ -102,7 +103,8 @@ one_final r x w old value f o after e variable shows =
         ap (λ (t : Bool). if t then r.signal o.word.place else old) (other_is x f.variable ne) ∙ e
         ∙ ap (λ (t : Bool). residue_of w (if t then value (operand_view f.value) else after x)) (sym (other_is x f.variable ne))
 
-finals_last : (r : Reading) (x w : ℕ) (value : PlannedOperand → ℤ) (fs : List Final) (os : List Finish) (old : ℕ) (after : ℕ → ℤ) → Finishes r x w value fs os → old ≡ residue_of w (after x)
+finals_last : (r : Reading) (x w : ℕ) (value : PlannedOperand → ℤ) (fs : List Final) (os : List Finish) (old : ℕ) (after : ℕ → ℤ) → Finishes r x w value fs os →
+    old ≡ residue_of w (after x)
     → last_of (λ k. finishes_in (slice_get os k) x && true) (λ k. finish_number r (slice_get os k)) old (length fs) ≡ residue_of w (finished value (finals_view fs) after x)
 finals_last r x w value [] os old after each e = e
 finals_last r x w value (f ∷ fs) [] old after each e = let t = each 0 f refl in let h = t.1 in absurd cc
@@ -112,12 +114,14 @@ finals_last r x w value (f ∷ fs) (o ∷ os) old after each e =
     let variable : o.variable ≡ f.variable = ap (λ (z : Finish). z.variable) (sym first) ∙ t.2 in
     let shows : f.variable ≡ x → r.signal o.word.place ≡ residue_of w (value (operand_view f.value)) = λ s. ap (λ (z : Finish). r.signal z.word.place) (sym first) ∙ t.3 s in
     last_of-shift (λ k. finishes_in (slice_get (o ∷ os) k) x && true) (λ k. finish_number r (slice_get (o ∷ os) k)) old (length fs)
-    ∙ finals_last r x w value fs os (if nat_eq x o.variable && true then r.signal o.word.place else old) (λ y. if nat_eq y f.variable then value (operand_view f.value) else after y)
+    ∙ finals_last r x w value fs os (if nat_eq x o.variable && true then r.signal o.word.place else old)
+    (λ y. if nat_eq y f.variable then value (operand_view f.value) else after y)
     (λ k g listed. each (suc k) g listed) (one_final r x w old value f o after e variable shows)
 
 -- ---- what the end of a block sees
 
-module _ (globals : List IntegerType) (code : ThreadCode) (registers : Registers) (b : Block) (p : BlockPlan) (right : IsRight globals code registers b p) (new : List Signal) (values : List Given)
+module _ (globals : List IntegerType) (code : ThreadCode) (registers : Registers) (b : Block) (p : BlockPlan) (right : IsRight globals code registers b p) (new : List Signal)
+    (values : List Given)
     (shown : (k : ℕ) (o : Operation) → k < length b.operations → slice_get b.operations k ≡ Some o
     → (given : Given) × (slice_get values k ≡ Some given) × IsShown globals code registers b p new k o given)
     (bank : Location → ℕ) (m : Module) (r : Reading) (q : Slot) (wire : ℕ → ℤ) (grows : Grows new m.signals) (obeys : Obeys m r) (sees : SeesSlot globals code registers b p m r q)
@@ -130,7 +134,8 @@ module _ (globals : List IntegerType) (code : ThreadCode) (registers : Registers
       got_below (x ∷ os) zero o e = omega arith
       got_below (x ∷ os) (suc k) o e = let h = got_below os k o e in omega arith
 
-  source_end : (source : Source) (state : ℕ) → state ≡ q.state → IsTypedSource globals code b.operations source → ((j : ℕ) (ty : IntegerType) → source ≡ Value j ty → IsUsedAtEnd (planned_view b) j)
+  source_end : (source : Source) (state : ℕ) → state ≡ q.state → IsTypedSource globals code b.operations source →
+      ((j : ℕ) (ty : IntegerType) → source ≡ Value j ty → IsUsedAtEnd (planned_view b) j)
       → SeesSource m r registers code.variables values state q.variables (value_now (planned_view b) (plan_view b p) q wire) source
   source_end (Constant ty v) state at typed uses = typed
   source_end (Variable x ty) state at typed uses = sees.variables x ty typed
@@ -139,7 +144,8 @@ module _ (globals : List IntegerType) (code : ThreadCode) (registers : Registers
       let used = right.keeps.used_last j u in
       let ends = right.keeps.ends j (right.keeps.final j u) in
       subst (λ (t : IntegerType). IsValue m r registers values state j t (value_now (planned_view b) (plan_view b p) q wire j)) typed.2
-      (value_here globals code registers b p right new values (length b.operations) shown bank m r q wire grows obeys sees wired j typed.0 state (below_all j typed.0 typed.1) typed.1 at
+      (value_here globals code registers b p right new values (length b.operations) shown bank m r q wire grows obeys sees wired j typed.0 state
+      (below_all j typed.0 typed.1) typed.1 at
       (omega arith) (omega arith))
 
   final_end : (k : ℕ) (f : Final) (state : ℕ) → state ≡ q.state → slice_get b.finals k ≡ Some f
@@ -156,7 +162,8 @@ module _ (globals : List IntegerType) (code : ThreadCode) (registers : Registers
       (λ j ty s. inr (operand_view test, nonzero, otherwise, ap next_view e, uses_source test j ty s))
 
   stage_end : (next : Next) (state : ℕ) → IsTypedNext globals code b.operations next
-      → next_stage registers code values state q.variables (value_now (planned_view b) (plan_view b p) q wire) next ≡ leads_to (operand_now (planned_view b) (plan_view b p) q wire) (next_view next)
+      → next_stage registers code values state q.variables (value_now (planned_view b) (plan_view b p) q wire) next
+      ≡ leads_to (operand_now (planned_view b) (plan_view b p) q wire) (next_view next)
   stage_end (Jump l) state typed = min_is l (length code.stages) typed
     where
       min_is : (a c : ℕ) → a ≤ c → min a c ≡ a
@@ -257,7 +264,8 @@ module _ (globals : List IntegerType) (code : ThreadCode) (registers : Registers
       state_at : suc q.state ≡ p.states → end.state ≡ q.state
       state_at at_end = omega arith
 
-      finish_word : (at_end : suc q.state ≡ p.states) (x : ℕ) (ty : IntegerType) (k : ℕ) (f : Final) (out : Finish) → slice_get code.variables x ≡ Some ty → slice_get b.finals k ≡ Some f
+      finish_word : (at_end : suc q.state ≡ p.states) (x : ℕ) (ty : IntegerType) (k : ℕ) (f : Final) (out : Finish) → slice_get code.variables x ≡ Some ty →
+          slice_get b.finals k ≡ Some f
           → IsFinal registers code values end.state s3 f out → f.variable ≡ x → IsWord m r out.word ty (operand_now (planned_view b) (plan_view b p) q wire (operand_view f.value))
       finish_word at_end x ty k f out declared listed is same =
           let typed = right.typed.finals k f listed in
@@ -298,7 +306,8 @@ module _ (globals : List IntegerType) (code : ThreadCode) (registers : Registers
 
       variables_at : (x : ℕ) (ty : IntegerType) → slice_get code.variables x ≡ Some ty → x < length before → next_number r before x ≡ residue_of (width_of ty) (q.variables x)
           → next_number r after x
-          ≡ residue_of (width_of ty) (if nat_eq (suc q.state) p.states then finished (operand_now (planned_view b) (plan_view b p) q wire) (finals_view b.finals) q.variables x else q.variables x)
+          ≡ residue_of (width_of ty) (if nat_eq (suc q.state) p.states then finished (operand_now (planned_view b) (plan_view b p) q wire)
+          (finals_view b.finals) q.variables x else q.variables x)
       variables_at x ty declared less rest =
           sets.shows m r (nat_eq (suc q.state) p.states) x g o last_at less ∙ variables_by (nat_eq (suc q.state) p.states) x ty refl declared rest
 
@@ -337,13 +346,16 @@ module _ (globals : List IntegerType) (code : ThreadCode) (registers : Registers
   }
 
 -- the same, where lists are seen as slices
-pub block_left_by : (globals : List IntegerType) (code : ThreadCode) (registers : Registers) (l : ℕ) (b : Block) (p : BlockPlan) (s0 s1 s2 s3 s4 s5 s6 : List Signal) (before after : List ℕ)
-    (values given : List Given) (finals : List Final) (finishes finishing : List Finish) (end : Moment) (last target at : ℕ) (left : Left) → given ≡ values → finals ≡ b.finals → finishing ≡ finishes
+pub block_left_by : (globals : List IntegerType) (code : ThreadCode) (registers : Registers) (l : ℕ) (b : Block) (p : BlockPlan) (s0 s1 s2 s3 s4 s5 s6 : List Signal)
+    (before after : List ℕ)
+    (values given : List Given) (finals : List Final) (finishes finishing : List Finish) (end : Moment) (last target at : ℕ) (left : Left) → given ≡ values → finals ≡ b.finals →
+    finishing ≡ finishes
     → end.at ≡ at → end.state ≡ max 1 p.states - 1 → end.states ≡ max 1 p.states → TellsStage s0 s1 registers l at
     → ShowsFirst globals code registers b p s1 s2 (length b.operations) values → ShowsFinals registers code given end.state s2 s3 finals (length finals) finishes
     → ShowsNext registers code given end.state s3 s4 b.next target → TellsState s4 s5 registers end last → SetsFirst s5 s6 last before after finishing (length finishing)
     → left.values ≡ values → left.end ≡ end → left.last ≡ last → left.target ≡ target → FinishesBlock globals code registers l b p before after left s0 s6
-block_left_by globals code registers l b p s0 s1 s2 s3 s4 s5 s6 before after values given finals finishes finishing end last target at left e f h place state states t u v w x y values_are end_is
+block_left_by globals code registers l b p s0 s1 s2 s3 s4 s5 s6 before after values given finals finishes finishing end last target at left e f h place state states t u v w x y
+    values_are end_is
     last_is_it target_is_it =
     let v' : ShowsFinals registers code values end.state s2 s3 b.finals (length b.finals) finishes =
     subst (λ (z : List Final). ShowsFinals registers code values end.state s2 s3 z (length z) finishes) f
@@ -351,4 +363,5 @@ block_left_by globals code registers l b p s0 s1 s2 s3 s4 s5 s6 before after val
     let w' : ShowsNext registers code values end.state s3 s4 b.next target = subst (λ (z : List Given). ShowsNext registers code z end.state s3 s4 b.next target) e w in
     let y' : SetsFirst s5 s6 last before after finishes (length finishes) = subst (λ (z : List Finish). SetsFirst s5 s6 last before after z (length z)) h y in
     let t' : TellsStage s0 s1 registers l end.at = subst (λ (z : ℕ). TellsStage s0 s1 registers l z) (sym place) t in
-    block_left globals code registers l b p s0 s1 s2 s3 s4 s5 s6 before after values finishes end last target state states t' u v' w' x y' left values_are end_is last_is_it target_is_it
+    block_left globals code registers l b p s0 s1 s2 s3 s4 s5 s6 before after values finishes end last target state states t' u v' w' x y' left values_are end_is last_is_it
+    target_is_it

@@ -1,5 +1,5 @@
 -- What an access uses in the state in which it starts has a type.
-use Rattle.std.proofs.Common.{◌≡◌, ℕ, ◌<◌, ◌≤◌, nat_eq, Bool, true, false, if◌then◌else◌, List, [], ◌∷◌, slice_get, slice_index, Some, ℤ, refl, sym, ap, subst, ◌∙◌, arith, inl}
+use Rattle.std.proofs.Common.{◌≡◌, ℕ, ◌<◌, ◌≤◌, Bool, true, false, if◌then◌else◌, List, [], ◌∷◌, slice_get, slice_index, Some, ℤ, refl, sym, ap, subst, ◌∙◌, arith, inl}
 use Rattle.hls_ints.specs.Types.{IntegerType, HasType, wrapped}
 use Rattle.hls_ints.proofs.Conversions.{wrapped-range}
 use Rattle.block_ir.specs.declared.operand.Source.{Source}
@@ -40,7 +40,8 @@ module _ (variables given : ℕ → ℤ) where
   converted_typed [] ty o typed = typed
   converted_typed (t ∷ types) ty o typed = converted_typed types t (Through (wrapped t) o) (wrapped-range t (operand_value variables given o))
 
-module _ (globals : List IntegerType) (code : ThreadCode) (registers : Registers) (b : Block) (p : BlockPlan) (right : IsAskRight globals code b p) (m : Module) (r : Reading) (q : Slot)
+module _ (globals : List IntegerType) (code : ThreadCode) (registers : Registers) (b : Block) (p : BlockPlan) (right : IsAskRight globals code b p) (m : Module) (r : Reading)
+    (q : Slot)
     (sees : SeesSlot globals code registers b p m r q) (wire : ℕ → ℤ) where
   abbrev given : ℕ → ℤ
   given = value_now (planned_view b) (plan_view b p) q wire
@@ -85,9 +86,11 @@ module _ (globals : List IntegerType) (code : ThreadCode) (registers : Registers
   uses_left n o j listed u = subst (λ (z : PlannedOperation). Uses z j) (sym (listed_view b.operations n o listed)) (inl u)
 
   -- THE INDEX of a read, and of a write
-  pub index_typed : (k x n : ℕ) (i : Operand) → slice_get b.operations k ≡ Some (ReadGlobal x n i) → slice_index p.starts k ≡ q.state → (ty : IntegerType) × HasType ty (seen_value q.variables given i)
+  pub index_typed : (k x n : ℕ) (i : Operand) → slice_get b.operations k ≡ Some (ReadGlobal x n i) → slice_index p.starts k ≡ q.state →
+      (ty : IntegerType) × HasType ty (seen_value q.variables given i)
   index_typed k x n i listed at =
-      operand_typed k (within_view b.operations k (ReadGlobal x n i) listed) (requested k (ReadGlobal x n i) listed refl) at i (right.typed.operations k (ReadGlobal x n i) listed).0
+      operand_typed k (within_view b.operations k (ReadGlobal x n i) listed) (requested k (ReadGlobal x n i) listed refl) at i
+      (right.typed.operations k (ReadGlobal x n i) listed).0
       (λ j u. uses_left k (ReadGlobal x n i) j listed u)
 
   pub target_typed : (k x n : ℕ) (i a : Operand) → slice_get b.operations k ≡ Some (WriteGlobal x n i a) → slice_index p.starts k ≡ q.state → (ty : IntegerType)

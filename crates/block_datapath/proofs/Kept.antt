@@ -93,7 +93,8 @@ module _ (globals : List IntegerType) (code : ThreadCode) (registers : Registers
     (end_at : ℕ) (first : ShowsFirst globals code registers b p s0 s1 (length b.operations) values)
     (kept : KeepsFirst s1 s2 registers end_at (max 1 p.states) before after values (length values)) where
   module _ (bank : Location → ℕ) (m : Module) (r : Reading) (q : Slot) (wire : ℕ → ℤ) (right : IsRight globals code registers b p) (g : Grows s2 m.signals) (o : Obeys m r)
-      (moment : IsMoment m r registers end_at (max 1 p.states) true q.state) (sees : SeesSlot globals code registers b p m r q) (wired : IsFed globals code registers b p bank m r q wire)
+      (moment : IsMoment m r registers end_at (max 1 p.states) true q.state) (sees : SeesSlot globals code registers b p m r q)
+      (wired : IsFed globals code registers b p bank m r q wire)
     where
       earlier : Grows s1 m.signals
       earlier = grows_then s1 s2 m.signals kept.grows g
@@ -150,7 +151,8 @@ module _ (globals : List IntegerType) (code : ThreadCode) (registers : Registers
             register = sym t.shown.register ∙ named v.register x name;
           }
 
-      module _ (registers_after : ℕ → ℤ) (after_is : RegistersAfter (planned_view b) (plan_view b p) q wire registers_after) (room : HasRoom globals code registers b p m r before) (next : Slot)
+      module _ (registers_after : ℕ → ℤ) (after_is : RegistersAfter (planned_view b) (plan_view b p) q wire registers_after) (room : HasRoom globals code registers b p m r before)
+          (next : Slot)
           (at : next.state ≡ suc q.state) (k x : ℕ) (t : IsAlive b p next k x) where
         small : k < size (planned_view b)
         small = within_view b.operations k t.operation t.listed
@@ -198,7 +200,8 @@ module _ (globals : List IntegerType) (code : ThreadCode) (registers : Registers
             chain ∙ last_of-one (test x) (λ j. kept_number r w (slice_get values j)) (next_number r before x) (length values) k below hit one
             ∙ ap (kept_number r w) found.1 ∙ widened (nat_lt w v.word.width) v.word.width w (r.signal v.word.place) le refl ∙ word.shows
             in (
-              ap (λ n. n % 2 ^ width_of ty) number ∙ mod-eq_of_lt (residue_of-below (width_of ty) (wire k)) ∙ ap (residue_of (width_of ty)) (sym (after_is.written k x small e t.register)),
+              ap (λ n. n % 2 ^ width_of ty) number ∙ mod-eq_of_lt (residue_of-below (width_of ty) (wire k)) ∙ ap (residue_of (width_of ty))
+                  (sym (after_is.written k x small e t.register)),
               subst (λ (z : ℤ). HasType ty z) (sym (after_is.written k x small e t.register)) word.typed,
             )
 
@@ -211,7 +214,8 @@ module _ (globals : List IntegerType) (code : ThreadCode) (registers : Registers
             let past = t.past in
             let used = t.used in
             let less : last_state (planned_view b) (plan_view b p) k < q.state = omega arith in
-            let not_now : (j : ℕ) → Gets x j → ⊥ = λ j other. ⊎_elim (λ (e : j ≡ k). ne (ap (last_state (planned_view b) (plan_view b p)) (sym e) ∙ other.ends)) (λ z. z) (alone j other) in
+            let not_now : (j : ℕ) → Gets x j → ⊥ = λ j other. ⊎_elim (λ (e : j ≡ k). ne (ap (last_state (planned_view b) (plan_view b p)) (sym e) ∙ other.ends)) (λ z. z)
+            (alone j other) in
             let alive : IsKept m r registers (Some x) ty (q.registers x) =
             sees.alive k x (record { operation = t.operation; listed = t.listed; register = t.register; past = less; used = omega arith })
             in
@@ -227,7 +231,8 @@ module _ (globals : List IntegerType) (code : ThreadCode) (registers : Registers
               subst (λ (z : ℤ). HasType ty z) (sym rest) alive.typed,
             )
 
-        pub kept_next : (next_number r after x % 2 ^ width_of (value_type globals code t.operation) ≡ residue_of (width_of (value_type globals code t.operation)) (registers_after x))
+        pub kept_next : (next_number r after x % 2 ^ width_of (value_type globals code t.operation)
+            ≡ residue_of (width_of (value_type globals code t.operation)) (registers_after x))
             × HasType (value_type globals code t.operation) (registers_after x)
         kept_next = ⊎_elim now before_now (same_or_not (last_state (planned_view b) (plan_view b p) k) q.state)
 

@@ -44,7 +44,8 @@ own_answer x a b types number word own e made =
           subst (λ (k : IntegerType). IsWord m r out k v) (sym same) (own_word m r out own v here.typed (t.shows m r own v g o here));
     }) made
 
-pub final_made : (registers : Registers) (code : ThreadCode) (values : List Given) (state : ℕ) (a b c : List Signal) (f : Final) (word : Word) (out : Finish) (types : List IntegerType)
+pub final_made : (registers : Registers) (code : ThreadCode) (values : List Given) (state : ℕ) (a b c : List Signal) (f : Final) (word : Word) (out : Finish)
+    (types : List IntegerType)
     → types ≡ code.variables → ShowsOperand a b registers types values state f.value word → BecomesOwn b c types f.variable word out.word → out.variable ≡ f.variable
     → ShowsFinal registers code values state a c f out
 final_made registers code values state a b c f word out types e t u variable = record {
@@ -61,7 +62,8 @@ final_made registers code values state a b c f word out types e t u variable = r
 
 -- ---- all of them
 
-pub finals_none : (registers : Registers) (code : ThreadCode) (values : List Given) (state : ℕ) (a : List Signal) (finals : List Final) → ShowsFinals registers code values state a a finals 0 []
+pub finals_none : (registers : Registers) (code : ThreadCode) (values : List Given) (state : ℕ) (a : List Signal) (finals : List Final) →
+    ShowsFinals registers code values state a a finals 0 []
 finals_none registers code values state a finals = record { grows = grows_refl a; count = refl; each = λ k f lt listed. absurd (omega arith) }
 
 final_lifted : (registers : Registers) (code : ThreadCode) (values : List Given) (state : ℕ) (a b : List Signal) (f : Final) (out : Finish) → Grows a b
@@ -71,7 +73,8 @@ final_lifted registers code values state a b f out grows is = record {
   shows = λ m r variables given ty g. is.shows m r variables given ty (grows_then a b m.signals grows g);
 }
 
-pub finals_more : (registers : Registers) (code : ThreadCode) (values : List Given) (state : ℕ) (a b c : List Signal) (finals : List Final) (n : ℕ) (finishes after : List Finish) (f : Final)
+pub finals_more : (registers : Registers) (code : ThreadCode) (values : List Given) (state : ℕ) (a b c : List Signal) (finals : List Final) (n : ℕ) (finishes after : List Finish)
+    (f : Final)
     (out : Finish) → ShowsFinals registers code values state a b finals n finishes → slice_get finals n ≡ Some f → ShowsFinal registers code values state b c f out
     → after ≡ finishes ++ out ∷ [] → ShowsFinals registers code values state a c finals (n + 1) after
 finals_more registers code values state a b c finals n finishes after f out t listed u e =
@@ -122,14 +125,16 @@ sets_more a b c last before middle after finishes n f t listed u = record {
 
 -- ---- the stage that follows
 
-pub jump_shown : {E : Type 0} (x : Result ℕ E) (registers : Registers) (code : ThreadCode) (values : List Given) (state : ℕ) (a b : List Signal) (next : Next) (l : ℕ) → next ≡ Jump l
+pub jump_shown : {E : Type 0} (x : Result ℕ E) (registers : Registers) (code : ThreadCode) (values : List Given) (state : ℕ) (a b : List Signal) (next : Next) (l : ℕ) →
+    next ≡ Jump l
     → IfOk x (λ place. Gives a b place registers.stage.width (λ m r. min l (length code.stages))) → IfOk x (ShowsNext registers code values state a b next)
 jump_shown x registers code values state a b next l e made =
     subst (λ (n : Next). IfOk x (ShowsNext registers code values state a b n)) (sym e)
     (of_ok x (λ place. Gives a b place registers.stage.width (λ m r. min l (length code.stages))) (ShowsNext registers code values state a b (Jump l))
     (λ place t. record { grows = t.grows; wide = t.wide; shows = λ m r variables given g o seen. t.shows m r g o }) made)
 
-pub branch_known : {E : Type 0} (x : Result ℕ E) (registers : Registers) (code : ThreadCode) (values : List Given) (state : ℕ) (a b : List Signal) (next known : Next) → next ≡ known
+pub branch_known : {E : Type 0} (x : Result ℕ E) (registers : Registers) (code : ThreadCode) (values : List Given) (state : ℕ) (a b : List Signal) (next known : Next) →
+    next ≡ known
     → IfOk x (ShowsNext registers code values state a b known) → IfOk x (ShowsNext registers code values state a b next)
 branch_known x registers code values state a b next known e made = subst (λ (n : Next). IfOk x (ShowsNext registers code values state a b n)) (sym e) made
 
@@ -137,8 +142,10 @@ chosen_stage : (t : Bool) (y n : ℕ) → (if nat_eq (bit_of t) 0 then n else y)
 chosen_stage true y n = refl
 chosen_stage false y n = refl
 
-pub branch_shown : {E : Type 0} (x : Result ℕ E) (registers : Registers) (code : ThreadCode) (values : List Given) (state : ℕ) (a b c d e f : List Signal) (test : Operand) (nonzero otherwise : ℕ)
-    (word : Word) (bit yes_place no_place : ℕ) (types : List IntegerType) → types ≡ code.variables → ShowsOperand a b registers types values state test word → TestsZero b c word bit
+pub branch_shown : {E : Type 0} (x : Result ℕ E) (registers : Registers) (code : ThreadCode) (values : List Given) (state : ℕ) (a b c d e f : List Signal) (test : Operand)
+    (nonzero otherwise : ℕ)
+    (word : Word) (bit yes_place no_place : ℕ) (types : List IntegerType) → types ≡ code.variables → ShowsOperand a b registers types values state test word →
+    TestsZero b c word bit
     → Gives c d no_place registers.stage.width (λ m r. min nonzero (length code.stages)) → Gives d e yes_place registers.stage.width (λ m r. min otherwise (length code.stages))
     → IfOk x (λ place. Gives e f place registers.stage.width (λ m r. if nat_eq (r.signal bit) 0 then r.signal no_place else r.signal yes_place))
     → IfOk x (ShowsNext registers code values state a f (Branch test nonzero otherwise))

@@ -5,6 +5,7 @@ pub mod Chaining
 pub mod Leaving
 pub mod Ends
 pub mod Kept
+pub mod Sharing
 pub mod Wiring
 pub mod Linking
 pub mod Requesting

@@ -21,7 +21,8 @@ use Rattle.block_datapath.specs.declared.states.Moment.{Moment}
 use Rattle.block_datapath.specs.declared.ending.Finish.{Finish}
 use Rattle.block_datapath.specs.declared.leaving_block.Left.{Left}
 use Rattle.block_datapath.specs.Wired.{AreValues, AreSources, IsOwnWord, AreFinishes, AreChains, HasWidthAt, AddsLinks}
-use Rattle.block_datapath.specs.Wired.{IsSourced, AreGiven, IsStateBit, IsBitOfState, IsLinked, KeepsLinks, GivenStands, ValuesStand, IsOwnAdded, IsFinishAdded, AreFinishesAdded, SetsLinks}
+use Rattle.block_datapath.specs.Wired.{IsSourced, AreGiven, IsStateBit, IsBitOfState, IsLinked, KeepsLinks}
+use Rattle.block_datapath.specs.Wired.{GivenStands, ValuesStand, IsOwnAdded, IsFinishAdded, AreFinishesAdded, SetsLinks}
 use Rattle.block_datapath.specs.Wired.{IsStageNumber, IsTarget, IsBlockAdded, IsKeptBlockAdded}
 use Rattle.block_datapath.proofs.Wiring.{registers_after, values_after, sources_after, word_stands_after, room}
 
@@ -88,12 +89,14 @@ stage_wired x a b w register number t = t
 pub single_state : (a : List Signal) (registers : Registers) (moment : Moment) → IsStateBit a a registers moment moment.at
 single_state a registers moment base e f room = record { wires = wires_none base a; stands = f }
 
-pub known_state : {E : Type 0} (x : Result ℕ E) (a b : List Signal) (registers : Registers) (moment : Moment) → moment.state < moment.states → IfOk x (IsBitOfState a b registers moment)
+pub known_state : {E : Type 0} (x : Result ℕ E) (a b : List Signal) (registers : Registers) (moment : Moment) → moment.state < moment.states →
+    IfOk x (IsBitOfState a b registers moment)
     → IfOk x (IsStateBit a b registers moment)
 known_state x a b registers moment less made =
     of_ok x (IsBitOfState a b registers moment) (IsStateBit a b registers moment) (λ place t base e f room. t base e f (omega arith)) made
 
-pub unknown_state : {E : Type 0} (x : Result ℕ E) (a b : List Signal) (registers : Registers) (moment : Moment) → IfOk x (ConstantAdds a b 1 0) → IfOk x (IsStateBit a b registers moment)
+pub unknown_state : {E : Type 0} (x : Result ℕ E) (a b : List Signal) (registers : Registers) (moment : Moment) → IfOk x (ConstantAdds a b 1 0) →
+    IfOk x (IsStateBit a b registers moment)
 unknown_state x a b registers moment made =
     of_ok x (ConstantAdds a b 1 0) (IsStateBit a b registers moment)
     (λ place t base e f room. t base (room_of a base moment.at 1 f) f.low f.high (some 1)) made
@@ -120,7 +123,8 @@ keep_wired a b c d registers moment before after given number condition source h
     let wide = u base (stands_after a b base given.word.place given.word.width bit.wires.grows stands) kept.low kept.high (λ (none : false ≡ true). absurd cc) in
     let both = wires_then base a b c bit.wires wide.wires in
     let same : HasWidthAt registers.kept number held.width = λ k f. (let one : k ≡ held = cc in ap (λ (z : Held). z.width) one) in
-    let link = v base registers.kept (chains_after a c base registers.kept before both.grows chains) same (stands_after b c base condition 1 wide.wires.grows bit.stands) wide.stands in
+    let link = v base registers.kept (chains_after a c base registers.kept before both.grows chains) same
+    (stands_after b c base condition 1 wide.wires.grows bit.stands) wide.stands in
     record { wires = wires_then base a c d both link.wires; chains = link.chains }
 
 given_stands : (a : List Signal) (base : Base) (values : List Given) (k : ℕ) (g : Given) → slice_get values k ≡ Some g → AreValues a base values → GivenStands a g base
@@ -156,13 +160,16 @@ final_wired a b c code registers values number ty word out t u base is =
     let next = u base ty first.word in
     record { wires = wires_then base a b c first.wires next.wires; word = next.word }
 
-own_after : (a b : List Signal) (base : Base) (types : List IntegerType) (number : ℕ) (word : Word) → Grows a b → IsOwnWord a base types number word → IsOwnWord b base types number word
+own_after : (a b : List Signal) (base : Base) (types : List IntegerType) (number : ℕ) (word : Word) → Grows a b → IsOwnWord a base types number word →
+    IsOwnWord b base types number word
 own_after a b base types number word g is = record { ty = is.ty; own = is.own; stands = word_stands_after a b base is.ty word g is.stands }
 
-pub finishes_after : (a b : List Signal) (base : Base) (types : List IntegerType) (finishes : List Finish) → Grows a b → AreFinishes a base types finishes → AreFinishes b base types finishes
+pub finishes_after : (a b : List Signal) (base : Base) (types : List IntegerType) (finishes : List Finish) → Grows a b → AreFinishes a base types finishes →
+    AreFinishes b base types finishes
 finishes_after a b base types finishes g is k f e = own_after a b base types f.variable f.word g (is k f e)
 
-finish_more : (a : List Signal) (base : Base) (types : List IntegerType) (finishes : List Finish) (f : Finish) → AreFinishes a base types finishes → IsOwnWord a base types f.variable f.word
+finish_more : (a : List Signal) (base : Base) (types : List IntegerType) (finishes : List Finish) (f : Finish) → AreFinishes a base types finishes →
+    IsOwnWord a base types f.variable f.word
     → AreFinishes a base types (finishes ++ f ∷ [])
 finish_more a base types [] f is own zero v e = let same : f ≡ v = cc in subst (λ (z : Finish). IsOwnWord a base types z.variable z.word) same own
 finish_more a base types [] f is own (suc k) v e = absurd cc
@@ -243,7 +250,8 @@ pub block_wired : (a b c d e f g : List Signal) (code : ThreadCode) (registers :
     → NumberAdds a b registers.stage.width registers.stage.register stage at → AreGiven b c code registers values → AreFinishesAdded c d code registers values finishes
     → IsTarget d e code registers values target → IsStateBit e f registers end last → SetsLinks f g last before after finishes → end.at ≡ at → end.states ≡ max 1 plan.states
     → left.values ≡ values → left.end ≡ end → left.last ≡ last → left.target ≡ target → IsBlockAdded a g code registers stage plan before after left
-block_wired a b c d e f g code registers stage plan before after values finishes end last target at left told given finals leads state sets at_is states_are same_values same_end same_last
+block_wired a b c d e f g code registers stage plan before after values finishes end last target at left told given finals leads state sets at_is states_are same_values same_end
+    same_last
     same_target base fits is chains =
     let types = code.variables in
     let first = told base is.stage fits.stage in
@@ -259,13 +267,15 @@ block_wired a b c d e f g code registers stage plan before after values finishes
     let bit_e : IsEarlier e base end.at 1 = subst (λ n. IsEarlier e base n 1) (sym at_is) (stands_after b e base at 1 b_to_e.grows first.stands) in
     let some_states = some registers.state.width in
     let fit_states = fits.states in
-    let few : end.states ≤ 2 ^ registers.state.width = subst (λ n. n ≤ 2 ^ registers.state.width) (sym states_are) (let m : max 1 plan.states ≤ 2 ^ registers.state.width = grind arith in m) in
+    let few : end.states ≤ 2 ^ registers.state.width = subst (λ n. n ≤ 2 ^ registers.state.width) (sym states_are)
+    (let m : max 1 plan.states ≤ 2 ^ registers.state.width = grind arith in m) in
     let there = state base in_e.registers.state bit_e few in
     let in_f = registers_after e f base types registers there.wires.grows in_e.registers in
     let a_to_e = wires_then base a b e first.wires b_to_e in
     let a_to_f = wires_then base a e f a_to_e there.wires in
     let d_to_f = grows_then d e f to.wires.grows there.wires.grows in
-    let linked = sets base types registers in_f (finishes_after d f base types finishes d_to_f ends.finishes) there.stands (chains_after a f base registers.variables before a_to_f.grows chains) in
+    let linked = sets base types registers in_f (finishes_after d f base types finishes d_to_f ends.finishes) there.stands
+    (chains_after a f base registers.variables before a_to_f.grows chains) in
     let f_to_g = linked.wires.grows in
     let e_to_g = grows_then e f g there.wires.grows f_to_g in
     let last_g : IsEarlier g base last 1 = stands_after f g base last 1 f_to_g there.stands in
@@ -282,7 +292,8 @@ block_wired a b c d e f g code registers stage plan before after values finishes
       chains = linked.chains;
     }
 
-pub kept_block_wired : (a b c : List Signal) (code : ThreadCode) (registers : Registers) (stage : ℕ) (plan : BlockPlan) (before after kept kept_after : List ℕ) (left : Left) (values : List Given)
+pub kept_block_wired : (a b c : List Signal) (code : ThreadCode) (registers : Registers) (stage : ℕ) (plan : BlockPlan) (before after kept kept_after : List ℕ) (left : Left)
+    (values : List Given)
     → values ≡ left.values → left.end.states ≡ max 1 plan.states → IsBlockAdded a b code registers stage plan before after left
     → KeepsLinks b c registers left.end.at left.end.states kept kept_after (ValuesStand b values)
     → IsKeptBlockAdded a c code registers stage plan before after kept kept_after left

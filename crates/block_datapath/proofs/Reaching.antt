@@ -1,13 +1,10 @@
 -- In a state a bank is asked by one operation at most: what the links of a block show of a bank is what that operation asks.
-use Rattle.std.proofs.Common.{◌≡◌, ◌≢◌, ℕ, zero, suc, ◌+◌, ◌/◌, ◌%◌, ◌<◌, ◌≤◌, nat_eq, Bool, true, false, ◌&&◌}
-use Rattle.std.proofs.Common.{if◌then◌else◌, List, [], ◌∷◌, length, slice_get, slice_index, Option, Some, None, ℤ, pos}
+use Rattle.std.proofs.Common.{◌≡◌, ◌≢◌, ℕ, zero, suc, ◌+◌, ◌%◌, ◌<◌, ◌≤◌, nat_eq, Bool, true, false, ◌&&◌}
+use Rattle.std.proofs.Common.{if◌then◌else◌, List, length, slice_get, slice_index, Option, Some, None, ℤ}
 use Rattle.std.proofs.Common.{refl, sym, ap, subst, ◌∙◌, arith, ◌⊎◌, ⊎_elim}
 use Rattle.std.proofs.lemmas.Bool.{cases_lt}
-use Rattle.interleaving.proofs.Update.{same_or_not}
-use Rattle.hls_ints.specs.Residues.{residue_of, bit_of}
-use Rattle.hls_ints.specs.Types.{IntegerType, width_of}
+use Rattle.hls_ints.specs.Types.{IntegerType}
 use Rattle.bank_partition.specs.declared.banks.Spread.{Spread}
-use Rattle.block_ir.specs.Run.{global_read, global_written}
 use Rattle.block_ir.specs.declared.operand.Operand.{Operand}
 use Rattle.block_ir.specs.declared.block.Operation.{Operation}
 use Rattle.block_ir.specs.declared.block.Operation.TheVariants.{Unary, Binary, ReadGlobal, WriteGlobal, ReadArray, WriteArray}
@@ -18,17 +15,17 @@ use Rattle.planned_block.specs.Block.{Operation as PlannedOperation, operation_a
 use Rattle.planned_block.specs.Plan.{OfGlobal, target_of, gap_after, KeepsOrders}
 use Rattle.planned_block.specs.Slot.{Slot, value_now}
 use Rattle.planned_block.specs.Advance.{last_of}
-use Rattle.planned_view.specs.View.{operation_view, planned_view, plan_view}
+use Rattle.planned_view.specs.View.{planned_view, plan_view}
 use Rattle.thread_promise.specs.Globals.{IsSmallPower}
 use Rattle.block_datapath.specs.declared.registers.Registers.{Registers}
-use Rattle.block_datapath.specs.Operations.{seen_value}
 use Rattle.block_datapath.specs.Requests.{Asked}
-use Rattle.block_datapath.specs.Accesses.{is_bank, index_number, reaches_bank, reaches_in, asked_of, asked_in, reaches_now, asked_now}
+use Rattle.block_datapath.specs.Accesses.{is_bank, index_number, reaches_bank, reaches_in, reaches_now, asked_now}
 use Rattle.block_datapath.proofs.Walking.{listed_view, within_view}
 
 -- ---- the last that passes
 
-last_hit : {A : Type 0} (test : ℕ → Bool) (value : ℕ → A) (old : A) (n k : ℕ) → k < n → test k ≡ true → ((j : ℕ) → j < n → test j ≡ true → j ≡ k) → last_of test value old n ≡ value k
+last_hit : {A : Type 0} (test : ℕ → Bool) (value : ℕ → A) (old : A) (n k : ℕ) → k < n → test k ≡ true → ((j : ℕ) → j < n → test j ≡ true → j ≡ k) →
+    last_of test value old n ≡ value k
 last_hit test value old zero k lt e one = absurd (omega arith)
 last_hit test value old (suc n) k lt e one = by (test n) refl (λ less. last_hit test value old n k less e (λ j l t. one j (omega arith) t))
   where
@@ -65,7 +62,8 @@ some_banks n K power =
     (λ (other : (K ≡ 2) ⊎ ((K ≡ 4) ⊎ (K ≡ 8))).
     ⊎_elim (λ (e : K ≡ 2). subst (λ k. n % k < k) (sym e) (let h : n % 2 < 2 = omega arith in h))
     (λ (more : (K ≡ 4) ⊎ (K ≡ 8)).
-    ⊎_elim (λ (e : K ≡ 4). subst (λ k. n % k < k) (sym e) (let h : n % 4 < 4 = omega arith in h)) (λ (e : K ≡ 8). subst (λ k. n % k < k) (sym e) (let h : n % 8 < 8 = omega arith in h)) more)
+    ⊎_elim (λ (e : K ≡ 4). subst (λ k. n % k < k) (sym e) (let h : n % 4 < 4 = omega arith in h))
+    (λ (e : K ≡ 8). subst (λ k. n % k < k) (sym e) (let h : n % 8 < 8 = omega arith in h)) more)
     other)
     power
 
@@ -90,7 +88,8 @@ module _ (globals : List IntegerType) (spreads : List Spread) (code : ThreadCode
   spread_named None i j e = absurd cc
   spread_named (Some t) i j e = (t, refl, is_number j (t.first + index_number q.variables given i % t.count) e)
 
-  of_operation : (j k : ℕ) (o : Operation) → slice_get b.operations k ≡ Some o → q.state ≡ slice_index p.starts k → reaches_bank q.variables given globals spreads o j ≡ true → Reaches j k
+  of_operation : (j k : ℕ) (o : Operation) → slice_get b.operations k ≡ Some o → q.state ≡ slice_index p.starts k → reaches_bank q.variables given globals spreads o j ≡ true →
+      Reaches j k
   of_operation j k (Unary operator ty a) listed at e = absurd cc
   of_operation j k (Binary operator ty a c) listed at e = absurd cc
   of_operation j k (ReadGlobal x n i) listed at e =
@@ -131,7 +130,8 @@ module _ (globals : List IntegerType) (spreads : List Spread) (code : ThreadCode
       by None listed at h = absurd cc
       by (Some o) listed at h = of_operation j k o listed at h
 
-  module _ (keeps : KeepsOrders (planned_view b) (plan_view b p)) (powers : (x : ℕ) (s : Spread) → slice_get spreads x ≡ Some s → IsSmallPower s.count) (apart : AreApart spreads) where
+  module _ (keeps : KeepsOrders (planned_view b) (plan_view b p)) (powers : (x : ℕ) (s : Spread) → slice_get spreads x ≡ Some s → IsSmallPower s.count)
+      (apart : AreApart spreads) where
     pub only_one : (j k n : ℕ) → Reaches j k → Reaches j n → k ≡ n
     only_one j k n t u =
         let same : t.global ≡ u.global =
@@ -142,10 +142,12 @@ module _ (globals : List IntegerType) (spreads : List Spread) (code : ThreadCode
         let at = t.at in
         let too = u.at in
         ⊎_elim
-        (λ (less : k < n). absurd (let late = keeps.banks k n t.global t.writes u.writes less u.below t.target target in let gap = some_gap t.writes in omega (arith, late, gap, at, too)))
+        (λ (less : k < n). absurd (let late = keeps.banks k n t.global t.writes u.writes less u.below t.target target in let gap = some_gap t.writes in omega
+        (arith, late, gap, at, too)))
         (λ (le : n ≤ k).
         ⊎_elim
-        (λ (less : n < k). absurd (let late = keeps.banks n k t.global u.writes t.writes less t.below target t.target in let gap = some_gap u.writes in omega (arith, late, gap, at, too)))
+        (λ (less : n < k). absurd (let late = keeps.banks n k t.global u.writes t.writes less t.below target t.target in let gap = some_gap u.writes in omega
+        (arith, late, gap, at, too)))
         (λ (more : k ≤ n). omega arith)
         (cases_lt n k))
         (cases_lt k n)
@@ -164,4 +166,5 @@ module _ (globals : List IntegerType) (spreads : List Spread) (code : ThreadCode
 
   pub asked_nobody : (j : ℕ) (old : Asked) → ((k : ℕ) → k < length b.operations → reaches_now globals spreads code registers l b p q wire j k ≡ true → ⊥) →
       last_of (reaches_now globals spreads code registers l b p q wire j) (asked_now globals spreads code registers l b p q wire) old (length b.operations) ≡ old
-  asked_nobody j old none = last_miss (reaches_now globals spreads code registers l b p q wire j) (asked_now globals spreads code registers l b p q wire) old (length b.operations) none
+  asked_nobody j old none = last_miss (reaches_now globals spreads code registers l b p q wire j) (asked_now globals spreads code registers l b p q wire) old
+      (length b.operations) none

@@ -333,7 +333,8 @@ some_all a b before after s bits index access n all counts t = record {
 }
 
 -- none is, where their numbers are too great
-pub none_asked : (a : List Signal) (chains : BankRequests) (s : Spread) (index : ℕ) (access : BankAccess) → (s.first + s.count < 2 ^ 64 → ⊥) → AsksBank a a chains chains s index access
+pub none_asked : (a : List Signal) (chains : BankRequests) (s : Spread) (index : ℕ) (access : BankAccess) → (s.first + s.count < 2 ^ 64 → ⊥) →
+    AsksBank a a chains chains s index access
 none_asked a chains s index access no_room = record {
   grows = grows_refl a;
   many = λ n is. is;

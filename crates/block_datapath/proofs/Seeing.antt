@@ -1,5 +1,6 @@
 -- Operands are seen: lemmas of each function that puts the word of an operand together.
-use Rattle.std.proofs.Common.{◌≡◌, ◌≢◌, ℕ, ◌-◌, ◌^◌, ◌<◌, Bool, true, false, List, [], ◌∷◌, ◌++◌, slice_get, Some, None, ℤ, pos, negsuc, FitsSigned, refl, sym, ap, subst, ◌∙◌, arith}
+use Rattle.std.proofs.Common.{◌≡◌, ◌≢◌, ℕ, ◌-◌, ◌^◌, ◌<◌, Bool, true, false, List, [], ◌∷◌, ◌++◌}
+use Rattle.std.proofs.Common.{slice_get, Some, None, ℤ, pos, negsuc, FitsSigned, refl, sym, ap, subst, ◌∙◌, arith}
 use Rattle.std.specs.Prelude.{Result, IfOk}
 use Rattle.netlist.specs.declared.netlist.Signal.{Signal}
 use Rattle.netlist.specs.declared.netlist.Module.{Module}
@@ -54,7 +55,8 @@ typed_by false W (negsuc n) h = absurd cc
 pub fits_typed : (ty : IntegerType) (v : ℤ) → HasType ty v → FitsSigned w128 v
 fits_typed ty v h = typed_by ty.signed ty.width v h
 
-pub constant_source : {E : Type 0} (x : Result Word E) (a b : List Signal) (registers : Registers) (types : List IntegerType) (values : List Given) (state : ℕ) (source : Source) (ty :
+pub constant_source : {E : Type 0} (x : Result Word E) (a b : List Signal) (registers : Registers) (types : List IntegerType) (values : List Given) (state : ℕ) (source : Source)
+    (ty :
     IntegerType) (v z : ℤ)
     → (HasType ty v → z ≡ v) → source ≡ Constant ty v → IfOk x (Holds a b ty (wrapped ty z)) → IfOk x (ShowsSource a b registers types values state source)
 constant_source x a b registers types values state source ty v z same e made =
@@ -65,7 +67,8 @@ constant_source x a b registers types values state source ty v z same e made =
       shows = λ m r variables given g o typed. own_word m r out ty v typed (subst (λ (k : ℤ). IsWord m r out ty (wrapped ty k)) (same typed) (t.shows m r g o));
     }) made)
 
-pub variable_source : {E : Type 0} (x : Result Word E) (a b : List Signal) (registers : Registers) (types : List IntegerType) (values : List Given) (state : ℕ) (source : Source) (k :
+pub variable_source : {E : Type 0} (x : Result Word E) (a b : List Signal) (registers : Registers) (types : List IntegerType) (values : List Given) (state : ℕ) (source : Source)
+    (k :
     ℕ) (ty : IntegerType)
     → source ≡ Variable k ty → IfOk x (ShowsVariable a b registers types k ty) → IfOk x (ShowsSource a b registers types values state source)
 variable_source x a b registers types values state source k ty e made =
@@ -73,7 +76,8 @@ variable_source x a b registers types values state source k ty e made =
     (of_ok x (ShowsVariable a b registers types k ty) (ShowsSource a b registers types values state (Variable k ty))
     (λ out t. record { grows = t.grows; shows = λ m r variables given g o seen. t.shows m r (variables k) g o seen }) made)
 
-pub value_source : {E : Type 0} (x : Result Word E) (a b : List Signal) (registers : Registers) (types : List IntegerType) (values : List Given) (state : ℕ) (source : Source) (k : ℕ)
+pub value_source : {E : Type 0} (x : Result Word E) (a b : List Signal) (registers : Registers) (types : List IntegerType) (values : List Given) (state : ℕ) (source : Source)
+    (k : ℕ)
     (ty : IntegerType)
     → source ≡ Value k ty → IfOk x (ShowsValue a b registers values state k ty) → IfOk x (ShowsSource a b registers types values state source)
 value_source x a b registers types values state source k ty e made =
@@ -94,7 +98,8 @@ no_type x a b registers types k ty v e made =
     of_ok x (Holds a b ty v) (ShowsVariable a b registers types k ty)
     (λ out t. record { grows = t.grows; shows = λ m r v g o is. let h = is.declared in absurd cc }) made
 
-pub variable_shown : {E : Type 0} (x : Result Word E) (a b : List Signal) (registers : Registers) (types : List IntegerType) (k : ℕ) (ty own : IntegerType) (held : Held) (word : Word)
+pub variable_shown : {E : Type 0} (x : Result Word E) (a b : List Signal) (registers : Registers) (types : List IntegerType) (k : ℕ) (ty own : IntegerType) (held : Held)
+    (word : Word)
     → slice_get registers.variables k ≡ Some held → slice_get types k ≡ Some own → word.place ≡ held.register → word.width ≡ width_of own → word.signed ≡ own.signed
     → IfOk x (Becomes a b word ty (wrapped ty)) → IfOk x (ShowsVariable a b registers types k ty)
 variable_shown x a b registers types k ty own held word e f place wide sign made =
@@ -125,7 +130,8 @@ no_value x a b registers values state k ty v e made =
     of_ok x (Holds a b ty v) (ShowsValue a b registers values state k ty)
     (λ out t. record { grows = t.grows; shows = λ m r v g o is. let h = is.listed in absurd cc }) made
 
-pub value_shown : {E : Type 0} (x : Result Word E) (a b c : List Signal) (registers : Registers) (values : List Given) (state k : ℕ) (ty : IntegerType) (given : Given) (word : Word)
+pub value_shown : {E : Type 0} (x : Result Word E) (a b c : List Signal) (registers : Registers) (values : List Given) (state k : ℕ) (ty : IntegerType) (given : Given)
+    (word : Word)
     → slice_get values k ≡ Some given → ShowsGiven a b registers given state word → IfOk x (Becomes b c word ty (wrapped ty)) → IfOk x (ShowsValue a c registers values state k ty)
 value_shown x a b c registers values state k ty given word e t made =
     of_ok x (Becomes b c word ty (wrapped ty)) (ShowsValue a c registers values state k ty)
@@ -161,7 +167,8 @@ last_more : (types : List IntegerType) (t from : IntegerType) → last_type from
 last_more [] t from = refl
 last_more (s ∷ types) t from = last_more types t s
 
-pub converts_more : (a b c : List Signal) (word middle out : Word) (types : List IntegerType) (t : IntegerType) → Converts a b word types middle → Becomes b c middle t (wrapped t) out
+pub converts_more : (a b c : List Signal) (word middle out : Word) (types : List IntegerType) (t : IntegerType) → Converts a b word types middle →
+    Becomes b c middle t (wrapped t) out
     → Converts a c word (types ++ t ∷ []) out
 converts_more a b c word middle out types t u v = record {
   grows = grows_then a b c u.grows v.grows;
@@ -172,8 +179,10 @@ converts_more a b c word middle out types t u v = record {
       (subst (λ (k : IntegerType). IsWord m r out k (wrapped t (operand_value variables given (converted_to types o)))) (sym (last_more types t from)) next);
 }
 
-pub operand_shown : {E : Type 0} (x : Result Word E) (a b c : List Signal) (registers : Registers) (types : List IntegerType) (values : List Given) (state : ℕ) (operand : Operand) (word : Word)
-    → ShowsSource a b registers types values state operand.source word → IfOk x (Converts b c word operand.conversions) → IfOk x (ShowsOperand a c registers types values state operand)
+pub operand_shown : {E : Type 0} (x : Result Word E) (a b c : List Signal) (registers : Registers) (types : List IntegerType) (values : List Given) (state : ℕ) (operand : Operand)
+    (word : Word)
+    → ShowsSource a b registers types values state operand.source word → IfOk x (Converts b c word operand.conversions) →
+    IfOk x (ShowsOperand a c registers types values state operand)
 operand_shown x a b c registers types values state operand word t made =
     of_ok x (Converts b c word operand.conversions) (ShowsOperand a c registers types values state operand)
     (λ out u. record {

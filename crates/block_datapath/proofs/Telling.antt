@@ -1,10 +1,9 @@
 -- Words that banks tell: lemmas of each function that takes one.
-use Rattle.std.proofs.Common.{◌≡◌, ◌≢◌, ℕ, suc, ◌+◌, ◌-◌, ◌*◌, ◌/◌, ◌%◌, ◌^◌, ◌<◌, ◌≤◌, nat_eq, nat_lt, Bool, true}
-use Rattle.std.proofs.Common.{false, ◌&&◌, if◌then◌else◌, List, slice_get, Some, None, ℤ, pos, refl, sym, ap, subst, ◌∙◌}
+use Rattle.std.proofs.Common.{◌≡◌, ◌≢◌, ℕ, ◌+◌, ◌%◌, ◌^◌, ◌<◌, nat_eq}
+use Rattle.std.proofs.Common.{false, if◌then◌else◌, List, slice_get, Some, None, ℤ, pos, refl, sym, ap, subst, ◌∙◌}
 use Rattle.std.proofs.Common.{arith, ⊎_elim}
 use Rattle.std.specs.Prelude.{Result, IfOk}
 use Rattle.std.proofs.lemmas.Nat.{pow_pos, mod_below}
-use Rattle.interleaving.specs.Memory.{Memory}
 use Rattle.interleaving.proofs.Update.{same_or_not}
 use Rattle.hls_ints.specs.Residues.{residue_of, bit_of}
 use Rattle.hls_ints.specs.Types.{IntegerType, width_of, long_int, wrapped}
@@ -12,17 +11,14 @@ use Rattle.hls_ints.proofs.Conversions.{residue_of-wrapped}
 use Rattle.bank_partition.specs.declared.banks.Spread.{Spread}
 use Rattle.block_ir.specs.Run.{global_read}
 use Rattle.block_ir.specs.declared.operand.Operand.{Operand}
-use Rattle.block_ir.specs.declared.block.Operation.{Operation}
 use Rattle.block_ir.specs.declared.block.Operation.TheVariants.{ReadGlobal}
 use Rattle.block_ir.specs.declared.code.ThreadCode.{ThreadCode}
 use Rattle.planned_block.specs.Block.{element}
 use Rattle.planned_block.proofs.Bits.{same_is, other_is, not_less_is}
 use Rattle.netlist.specs.declared.netlist.Signal.{Signal}
-use Rattle.netlist.specs.declared.netlist.Module.{Module}
-use Rattle.verilog_meaning.specs.Readings.{Reading, width, repeated}
-use Rattle.circuit.specs.Modules.{Obeys}
+use Rattle.verilog_meaning.specs.Readings.{width}
 use Rattle.operator_wires.specs.declared.words.Word.{Word}
-use Rattle.operator_wires.specs.Gives.{Grows, Gives}
+use Rattle.operator_wires.specs.Gives.{Gives}
 use Rattle.operator_wires.specs.Words.{IsWord, Holds, Becomes, Resizes, resized_word}
 use Rattle.operator_wires.specs.Built.{Base, IsEarlier, Adds}
 use Rattle.operator_wires.specs.Added.{ConstantAdds, ResizedAdds, ChoiceAdds, IsConverted}
@@ -30,13 +26,13 @@ use Rattle.operator_wires.proofs.Giving.{grows_then}
 use Rattle.operator_wires.proofs.Building.{stands_after, wires_then}
 use Rattle.operator_wires.proofs.Making.{of_ok}
 use Rattle.operator_wires.proofs.Wording.{at_least, at_most, word_of}
-use Rattle.thread_promise.specs.Types.{operand_type, or_int, value_type}
+use Rattle.thread_promise.specs.Types.{operand_type, or_int}
 use Rattle.thread_promise.specs.Globals.{IsSmallPower}
 use Rattle.block_datapath.specs.declared.registers.Held.{Held}
 use Rattle.block_datapath.specs.declared.registers.Registers.{Registers}
 use Rattle.block_datapath.specs.declared.operands.Given.{Given}
 use Rattle.block_datapath.specs.Seen.{ShowsOperand}
-use Rattle.block_datapath.specs.Operations.{seen_value, operation_value, IsTold, ShowsOperation}
+use Rattle.block_datapath.specs.Operations.{seen_value, IsTold, ShowsOperation}
 use Rattle.block_datapath.specs.Wired.{IsSourced, IsOperationWord}
 use Rattle.block_datapath.specs.Requests.{TellsBank}
 use Rattle.block_datapath.specs.Told.{TellsNumber, ShowsNumber, ChoosesSome, ChoosesWord, TakesWord, IsNumberWire, IsChosenWord}
@@ -49,7 +45,8 @@ unchanged w n = rw (not_less_is w w (omega arith)) refl
 module _ (registers : Registers) where
   -- ---- one bank
 
-  pub number_told : {E : Type 0} (x : Result ℕ E) (a b : List Signal) (n w : ℕ) (held : Held) → slice_get registers.words n ≡ Some held → IfOk x (Resizes a b held.register held.width w false)
+  pub number_told : {E : Type 0} (x : Result ℕ E) (a b : List Signal) (n w : ℕ) (held : Held) → slice_get registers.words n ≡ Some held →
+      IfOk x (Resizes a b held.register held.width w false)
       → IfOk x (ShowsNumber a b registers n w)
   number_told x a b n w held listed made =
       of_ok x (Resizes a b held.register held.width w false) (ShowsNumber a b registers n w)
@@ -133,7 +130,8 @@ module _ (registers : Registers) where
     pub choice_begun : (a b : List Signal) (place : ℕ) → ConstantAdds a b w 0 place → IsChosenWord a b registers s w index place
     choice_begun a b place t base types slot reads at power low high = t base (room a base types registers slot) low high (pow_pos w)
 
-    pub choice_wired : (a b c d e : List Signal) (bits n old chosen told place : ℕ) → n < s.count → (IsSmallPower s.count → 2 ^ bits ≡ s.count) → IsChosenWord a b registers s w index old
+    pub choice_wired : (a b c d e : List Signal) (bits n old chosen told place : ℕ) → n < s.count → (IsSmallPower s.count → 2 ^ bits ≡ s.count) →
+        IsChosenWord a b registers s w index old
         → ((base : Base) → IsEarlier b base index 64 → n < 2 ^ bits → Adds base b c 1 chosen) → IsNumberWire c d registers w told → ChoiceAdds d e w chosen told old place
         → IsChosenWord a e registers s w index place
     choice_wired a b c d e bits n old chosen told place less counts t u v x base types slot reads at power low high =
@@ -148,8 +146,10 @@ module _ (registers : Registers) where
 
   -- ---- the bank of an operand
 
-  pub word_taken : (a b c d : List Signal) (types : List IntegerType) (values : List Given) (state : ℕ) (s : Spread) (ty : IntegerType) (index : Operand) (word wide : Word) (w place : ℕ) (out : Word)
-      → ShowsOperand a b registers types values state index word → Becomes b c word long_int (wrapped long_int) wide → w ≡ width_of ty → ChoosesWord c d registers s w wide.place place
+  pub word_taken : (a b c d : List Signal) (types : List IntegerType) (values : List Given) (state : ℕ) (s : Spread) (ty : IntegerType) (index : Operand) (word wide : Word)
+      (w place : ℕ) (out : Word)
+      → ShowsOperand a b registers types values state index word → Becomes b c word long_int (wrapped long_int) wide → w ≡ width_of ty →
+      ChoosesWord c d registers s w wide.place place
       → out.place ≡ place → out.width ≡ width_of ty → out.signed ≡ ty.signed → TakesWord a d registers types values state s ty index out
   word_taken a b c d types values state s ty index word wide w place out t u is_width v at says sign = record {
     grows = grows_then a b d t.grows (grows_then b c d u.grows v.grows);
@@ -166,7 +166,8 @@ module _ (registers : Registers) where
         record { says = says; sign = sign; wide = ap (width m) at ∙ v.wide m g ∙ is_width; shows = ap r.signal at ∙ number; typed = told.typed };
   }
 
-  pub word_wired : (a b c d : List Signal) (code : ThreadCode) (values : List Given) (x : ℕ) (s : Spread) (ty : IntegerType) (index : Operand) (word wide : Word) (w place : ℕ) (out : Word)
+  pub word_wired : (a b c d : List Signal) (code : ThreadCode) (values : List Given) (x : ℕ) (s : Spread) (ty : IntegerType) (index : Operand) (word wide : Word) (w place : ℕ)
+      (out : Word)
       → slice_get registers.spreads x ≡ Some s → IsSourced a b code.variables registers values (operand_type index) word → IsConverted b c word long_int wide → w ≡ width_of ty
       → IsChosenWord c d registers s w wide.place place → out.place ≡ place → out.width ≡ width_of ty → out.signed ≡ ty.signed → IsOperationWord a d code registers values ty out
   word_wired a b c d code values x s ty index word wide w place out listed t u is_width v at says sign base reads sources =
@@ -175,7 +176,8 @@ module _ (registers : Registers) where
       let p = t base sources in
       let q = u base (operand_type index) p.word in
       let to_c = grows_then a b c p.wires.grows q.wires.grows in
-      let last = v base code.variables (registers_after a c base code.variables registers to_c sources.registers) reads.words q.word.stands (reads.powers x s listed) (omega arith) (omega arith) in
+      let last = v base code.variables (registers_after a c base code.variables registers to_c sources.registers) reads.words q.word.stands (reads.powers x s listed) (omega arith)
+      (omega arith) in
       word_of base a d ty place out (record {
         wires = wires_then base a b d p.wires (wires_then base b c d q.wires last.wires);
         stands = subst (λ (k : ℕ). IsEarlier d base place k) is_width last.stands;
@@ -183,14 +185,18 @@ module _ (registers : Registers) where
 
   -- ---- a read of a global
 
-  pub read_told : {E : Type 0} (x : Result Word E) (a b : List Signal) (globals : List IntegerType) (code : ThreadCode) (values : List Given) (last global : ℕ) (s : Spread) (ty : IntegerType)
-      (index : Operand) → slice_get registers.spreads global ≡ Some s → ty ≡ or_int (slice_get globals global) → IfOk x (TakesWord a b registers code.variables values last s ty index)
-      → IfOk x (λ out. (start n : ℕ) → ShowsOperation a b globals code registers values start last (ReadGlobal global n index) out)
+  pub read_told : {E : Type 0} (x : Result Word E) (a b : List Signal) (globals : List IntegerType) (code : ThreadCode) (values : List Given) (last global : ℕ) (s : Spread)
+      (ty : IntegerType)
+      (index : Operand) → slice_get registers.spreads global ≡ Some s → ty ≡ or_int (slice_get globals global) →
+      IfOk x (TakesWord a b registers code.variables values last s ty index)
+      → IfOk x (λ out. (unit start n : ℕ) → ShowsOperation a b globals code registers values unit start last (ReadGlobal global n index) out)
   read_told x a b globals code values last global s ty index listed is_type made =
-      of_ok x (TakesWord a b registers code.variables values last s ty index) (λ out. (start n : ℕ) → ShowsOperation a b globals code registers values start last (ReadGlobal global n index) out)
-      (λ out t start n. record {
+      of_ok x (TakesWord a b registers code.variables values last s ty index) (λ out. (unit start n : ℕ) →
+      ShowsOperation a b globals code registers values unit start last (ReadGlobal global n index) out)
+      (λ out t unit start n. record {
         grows = t.grows;
-        shows = λ m r variables given arrays told g o has hears seen sized.
+        shared = λ place e. absurd cc;
+        shows = λ m r variables given arrays told g o has hears seen sized result.
             let there = sized.listed in
             let same : sized.spread ≡ s = cc in
             let long : s.length ≡ n = subst (λ (k : Spread). k.length ≡ n) same sized.long in
@@ -204,12 +210,14 @@ module _ (registers : Registers) where
             (subst (λ (k : ℕ). IsWord m r out ty (told (element global (pos (global_read k (seen_value variables given index)))))) long word);
       }) made
 
-  pub read_missing : {E : Type 0} (x : Result Word E) (a b : List Signal) (globals : List IntegerType) (code : ThreadCode) (values : List Given) (last global : ℕ) (ty : IntegerType) (v : ℤ)
+  pub read_missing : {E : Type 0} (x : Result Word E) (a b : List Signal) (globals : List IntegerType) (code : ThreadCode) (values : List Given) (last global : ℕ)
+      (ty : IntegerType) (v : ℤ)
       (index : Operand) → slice_get registers.spreads global ≡ None → IfOk x (Holds a b ty v)
-      → IfOk x (λ out. (start n : ℕ) → ShowsOperation a b globals code registers values start last (ReadGlobal global n index) out)
+      → IfOk x (λ out. (unit start n : ℕ) → ShowsOperation a b globals code registers values unit start last (ReadGlobal global n index) out)
   read_missing x a b globals code values last global ty v index none made =
-      of_ok x (Holds a b ty v) (λ out. (start n : ℕ) → ShowsOperation a b globals code registers values start last (ReadGlobal global n index) out)
-      (λ out t start n. record {
+      of_ok x (Holds a b ty v) (λ out. (unit start n : ℕ) → ShowsOperation a b globals code registers values unit start last (ReadGlobal global n index) out)
+      (λ out t unit start n. record {
         grows = t.grows;
-        shows = λ m r variables given arrays told g o has hears seen sized. absurd (let there = sized.listed in cc);
+        shared = λ place e. absurd cc;
+        shows = λ m r variables given arrays told g o has hears seen sized result. absurd (let there = sized.listed in cc);
       }) made

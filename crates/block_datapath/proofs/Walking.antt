@@ -20,7 +20,7 @@ use Rattle.block_ir.specs.declared.code.ThreadCode.{ThreadCode}
 use Rattle.block_ir.specs.declared.plan.BlockPlan.{BlockPlan}
 use Rattle.planned_block.specs.Block.{Operand as PlannedOperand, Through, Operation as PlannedOperation, UsesIn, Uses, operation_at, size, no_operation}
 use Rattle.planned_block.specs.Plan.{last_state, further_states}
-use Rattle.planned_block.specs.Slot.{Slot, value_now, operand_now, register_value, result_of, IsWired}
+use Rattle.planned_block.specs.Slot.{Slot, value_now, operand_now, register_value, result_of}
 use Rattle.planned_block.proofs.Bits.{same_is, other_is}
 use Rattle.planned_view.specs.View.{source_view, operand_view, operation_view, operations_view, converted_to, binary_kind, planned_view, plan_view}
 use Rattle.circuit.specs.Modules.{Obeys}
@@ -33,7 +33,9 @@ use Rattle.block_datapath.specs.declared.operands.Given.{Given}
 use Rattle.thread_promise.specs.Globals.{IsAccess}
 use Rattle.thread_promise.specs.Types.{value_type, IsTypedSource, IsTypedOperand, IsTypedOperation}
 use Rattle.block_datapath.specs.Seen.{IsKept, IsValue, SeesSource}
-use Rattle.block_datapath.specs.Operations.{seen_value, operation_value, SeesOperands, GivesOperation, IsSized, SeesSlot, IsFed, IsRight, IsShown, ShowsFirst}
+use Rattle.block_datapath.specs.Units.{word_at}
+use Rattle.block_datapath.proofs.Sharing.{result_own}
+use Rattle.block_datapath.specs.Operations.{operation_value, SeesOperands, HasResult, GivesOperation, IsSized, SeesSlot, IsFed, IsRight, IsShown, ShowsFirst}
 
 -- ---- the view of a list of operations
 
@@ -92,14 +94,17 @@ module _ (globals : List IntegerType) (code : ThreadCode) (registers : Registers
   -- ---- what an operation sees in its last state
 
   module _ (right : IsRight globals code registers b p) (new : List Signal) (values : List Given) (n : ℕ)
-      (shown : (k : ℕ) (o : Operation) → k < n → slice_get b.operations k ≡ Some o → (given : Given) × (slice_get values k ≡ Some given) × IsShown globals code registers b p new k o given)
-      (bank : Location → ℕ) (m : Module) (r : Reading) (q : Slot) (wire : ℕ → ℤ) (grows : Grows new m.signals) (obeys : Obeys m r) (sees : SeesSlot globals code registers b p m r q)
+      (shown : (k : ℕ) (o : Operation) → k < n → slice_get b.operations k ≡ Some o → (given : Given) ×
+      (slice_get values k ≡ Some given) × IsShown globals code registers b p new k o given)
+      (bank : Location → ℕ) (m : Module) (r : Reading) (q : Slot) (wire : ℕ → ℤ) (grows : Grows new m.signals) (obeys : Obeys m r)
+      (sees : SeesSlot globals code registers b p m r q)
       (wired : IsFed globals code registers b p bank m r q wire) where
     now_here : (j : ℕ) → last_state (planned_view b) (plan_view b p) j ≡ q.state → value_now (planned_view b) (plan_view b p) q wire j ≡ wire j
     now_here j e =
         ap (λ (c : Bool). if c then wire j else register_value q.registers ((plan_view b p).register j)) (same_is (last_state (planned_view b) (plan_view b p) j) q.state e)
 
-    now_later : (j x : ℕ) → last_state (planned_view b) (plan_view b p) j ≢ q.state → (plan_view b p).register j ≡ Some x → value_now (planned_view b) (plan_view b p) q wire j ≡ q.registers x
+    now_later : (j x : ℕ) → last_state (planned_view b) (plan_view b p) j ≢ q.state → (plan_view b p).register j ≡ Some x →
+        value_now (planned_view b) (plan_view b p) q wire j ≡ q.registers x
     now_later j x ne e =
         ap (λ (c : Bool). if c then wire j else register_value q.registers ((plan_view b p).register j)) (other_is (last_state (planned_view b) (plan_view b p) j) q.state ne)
         ∙ ap (register_value q.registers) e
@@ -131,7 +136,8 @@ module _ (globals : List IntegerType) (code : ThreadCode) (registers : Registers
         }
 
     -- an operand of operation n
-    source_here : (source : Source) (state : ℕ) → n < size (planned_view b) → state ≡ q.state → (plan_view b p).start n ≤ q.state → q.state ≤ last_state (planned_view b) (plan_view b p) n
+    source_here : (source : Source) (state : ℕ) → n < size (planned_view b) → state ≡ q.state → (plan_view b p).start n ≤ q.state →
+        q.state ≤ last_state (planned_view b) (plan_view b p) n
         → IsTypedSource globals code b.operations source → ((j : ℕ) (ty : IntegerType) → source ≡ Value j ty → Uses (operation_at (planned_view b) n) j)
         → SeesSource m r registers code.variables values state q.variables (value_now (planned_view b) (plan_view b p) q wire) source
     source_here (Constant ty v) state lt at from to typed uses = typed
@@ -144,7 +150,8 @@ module _ (globals : List IntegerType) (code : ThreadCode) (registers : Registers
         subst (λ (t : IntegerType). IsValue m r registers values state j t (value_now (planned_view b) (plan_view b p) q wire j)) typed.2
         (value_here j typed.0 state early typed.1 at (omega arith) (omega arith))
 
-    pub operand_here : (operand : Operand) (state : ℕ) → n < size (planned_view b) → state ≡ q.state → (plan_view b p).start n ≤ q.state → q.state ≤ last_state (planned_view b) (plan_view b p) n
+    pub operand_here : (operand : Operand) (state : ℕ) → n < size (planned_view b) → state ≡ q.state → (plan_view b p).start n ≤ q.state →
+        q.state ≤ last_state (planned_view b) (plan_view b p) n
         → IsTypedOperand globals code b.operations operand → ((j : ℕ) → UsesIn (operand_view operand) j → Uses (operation_at (planned_view b) n) j)
         → SeesSource m r registers code.variables values state q.variables (value_now (planned_view b) (plan_view b p) q wire) operand.source
     operand_here operand state lt at from to typed uses =
@@ -187,10 +194,27 @@ module _ (globals : List IntegerType) (code : ThreadCode) (registers : Registers
         → wire n ≡ operation_value q.variables (value_now (planned_view b) (plan_view b p) q wire) q.arrays (λ l. q.words (bank l)) o
     wire_is o listed lt at =
         wired.wired n lt at
-        ∙ ap (λ (z : PlannedOperation). result_of bank z.kind q.words q.arrays (operand_now (planned_view b) (plan_view b p) q wire z.left) (operand_now (planned_view b) (plan_view b
+        ∙ ap (λ (z : PlannedOperation). result_of bank z.kind q.words q.arrays (operand_now (planned_view b) (plan_view b p) q wire z.left)
+        (operand_now (planned_view b) (plan_view b
         p) q wire z.right))
         (listed_view b.operations n o listed)
         ∙ gives o
+
+    -- the unit of operation n, if it is shared, shows what it gives
+    result_here : (o : Operation) → slice_get b.operations n ≡ Some o → n < size (planned_view b) → last_state (planned_view b) (plan_view b p) n ≡ q.state →
+        HasResult registers.units (slice_index p.units n) o m r (value_type globals code o)
+        (operation_value q.variables (value_now (planned_view b) (plan_view b p) q wire) q.arrays (λ l. q.words (bank l)) o)
+    result_here (Unary operator ty a) listed lt at place e = absurd cc
+    result_here (Binary operator ty a c) listed lt at place e =
+        let from : slice_index p.starts n ≤ q.state = omega arith in
+        let to : q.state ≤ last_state (planned_view b) (plan_view b p) n = omega arith in
+        subst (λ (k : IntegerType). IsWord m r (word_at place k) k
+        (operation_value q.variables (value_now (planned_view b) (plan_view b p) q wire) q.arrays (λ l. q.words (bank l)) (Binary operator ty a c)))
+        (sym (result_own registers.units operator ty (slice_index p.units n) place e)) (wired.units n place operator ty a c listed from to e)
+    result_here (ReadGlobal x count i) listed lt at place e = absurd cc
+    result_here (WriteGlobal x count i a) listed lt at place e = absurd cc
+    result_here (ReadArray x count i) listed lt at place e = absurd cc
+    result_here (WriteArray x count i a) listed lt at place e = absurd cc
 
     sized_here : (o : Operation) → IsTypedOperation globals code b.operations o → IsAccess registers.spreads o → IsSized globals code registers o
     sized_here (Unary operator ty a) typed access = tt
@@ -204,16 +228,19 @@ module _ (globals : List IntegerType) (code : ThreadCode) (registers : Registers
 
   -- ---- one more operation
 
-  lifted : (old new : List Signal) (k : ℕ) (o : Operation) (given : Given) → Grows old new → IsShown globals code registers b p old k o given → IsShown globals code registers b p new k o given
+  lifted : (old new : List Signal) (k : ℕ) (o : Operation) (given : Given) → Grows old new → IsShown globals code registers b p old k o given →
+      IsShown globals code registers b p new k o given
   lifted old new k o given grows is = record {
     says = is.says;
     sign = is.sign;
     last = is.last;
     register = is.register;
+    shared = is.shared;
     shows = λ bank m r q wire right g. is.shows bank m r q wire right (grows_then old new m.signals grows g);
   }
 
-  further_is : (n : ℕ) (o : Operation) → slice_get b.operations n ≡ Some o → (plan_view b p).start n + further_states (operation_view o).kind ≡ last_state (planned_view b) (plan_view b p) n
+  further_is : (n : ℕ) (o : Operation) → slice_get b.operations n ≡ Some o → (plan_view b p).start n + further_states (operation_view o).kind
+      ≡ last_state (planned_view b) (plan_view b p) n
   further_is n o listed = ap (λ (z : PlannedOperation). (plan_view b p).start n + further_states z.kind) (sym (listed_view b.operations n o listed))
 
   -- with signals behind them
@@ -246,15 +273,19 @@ module _ (globals : List IntegerType) (code : ThreadCode) (registers : Registers
         sign = next.sign;
         last = last;
         register = next.register;
+        shared = λ place e. (next.shows.shared place e).1;
         shows = λ bank m r q wire right g obeys sees wired at.
             let before_it = grows_then old new m.signals next.shows.grows g in
             let same = further_is n o listed in
             let first_state : further_states (operation_view o).kind ≡ 0 → (plan_view b p).start n ≡ q.state = λ z. omega arith in
             let from : (plan_view b p).start n ≤ q.state = omega arith in
+            let result = result_here right old values n before.each bank m r q wire before_it obeys sees wired o listed lt at in
             let shown = next.shows.shows m r q.variables (value_now (planned_view b) (plan_view b p) q wire) q.arrays (λ l. q.words (bank l)) g obeys sees.arrays wired.told
-            (operands_here right old values n before.each bank m r q wire before_it obeys sees wired o (slice_index p.starts n) given.last listed (right.typed.operations n o listed) lt
+            (operands_here right old values n before.each bank m r q wire before_it obeys sees wired o (slice_index p.starts n) given.last listed
+            (right.typed.operations n o listed) lt
             (last right ∙ at) first_state from (omega arith))
             (sized_here right old values n before.each bank m r q wire before_it obeys sees wired o (right.typed.operations n o listed) (right.accesses n o listed))
+            result
             in
             subst (λ (z : ℤ). IsWord m r given.word (value_type globals code o) z)
             (sym (wire_is right old values n before.each bank m r q wire before_it obeys sees wired o listed lt at)) shown;
@@ -264,7 +295,8 @@ module _ (globals : List IntegerType) (code : ThreadCode) (registers : Registers
   first_none a = record { grows = grows_refl a; count = refl; each = λ k o lt listed. absurd (omega arith) }
 
   pub first_more : (first old new : List Signal) (values : List Given) (n : ℕ) (o : Operation) (given : Given) → ShowsFirst globals code registers b p first old n values
-      → slice_get b.operations n ≡ Some o → GivesOperation old new globals code registers values p n o given → ShowsFirst globals code registers b p first new (n + 1) (values ++ given ∷ [])
+      → slice_get b.operations n ≡ Some o → GivesOperation old new globals code registers values p n o given →
+      ShowsFirst globals code registers b p first new (n + 1) (values ++ given ∷ [])
   first_more first old new values n o given before listed next = record {
     grows = grows_then first old new before.grows next.shows.grows;
     count = length-append values (given ∷ []) ∙ ap (λ k. k + 1) before.count;
@@ -289,10 +321,12 @@ module _ (globals : List IntegerType) (code : ThreadCode) (registers : Registers
           (t.0, got_before values (given ∷ []) k t.0 t.1, lifted old new k x t.0 next.shows.grows t.2)
 
 -- a value that was given over the same values, in other words
-pub next_same : (old new : List Signal) (globals : List IntegerType) (code : ThreadCode) (registers : Registers) (values others : List Given) (p : BlockPlan) (n k : ℕ) (o : Operation) (given : Given)
+pub next_same : (old new : List Signal) (globals : List IntegerType) (code : ThreadCode) (registers : Registers) (values others : List Given) (p : BlockPlan) (n k : ℕ)
+    (o : Operation) (given : Given)
     → others ≡ values → k ≡ n → GivesOperation old new globals code registers others p k o given → GivesOperation old new globals code registers values p n o given
 next_same old new globals code registers values others p n k o given e f t =
-    subst (λ (z : ℕ). GivesOperation old new globals code registers values p z o given) f (subst (λ (z : List Given). GivesOperation old new globals code registers z p k o given) e t)
+    subst (λ (z : ℕ). GivesOperation old new globals code registers values p z o given) f (subst
+    (λ (z : List Given). GivesOperation old new globals code registers z p k o given) e t)
 
 pub item_is : {X : Type 0} (xs ys : List X) (i : ℕ) (x : X) → i < length xs → x ≡ get_or xs i x → xs ≡ ys → slice_get ys i ≡ Some x
 item_is xs ys i x lt e f = ap (λ l. slice_get l i) (sym f) ∙ got xs i x lt ∙ ap Some (sym e)

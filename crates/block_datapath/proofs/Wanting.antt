@@ -1,5 +1,5 @@
 -- Operations that ask in a state of a block, and the banks that they ask.
-use Rattle.std.proofs.Common.{◌≡◌, ℕ, zero, suc, ◌+◌, ◌/◌, ◌%◌, ◌<◌, ◌≤◌, ◌^◌, nat_eq, Bool, true, false, ◌&&◌, List, [], ◌∷◌, length, slice_get, slice_index, Option, Some, None, ℤ, pos}
+use Rattle.std.proofs.Common.{◌≡◌, ℕ, zero, suc, ◌+◌, ◌/◌, ◌%◌, ◌<◌, ◌≤◌, ◌^◌, nat_eq, Bool, true, false, ◌&&◌, List, [], ◌∷◌, length, slice_get, slice_index, Option, Some, ℤ, pos}
 use Rattle.std.proofs.Common.{refl, sym, ap, subst, ◌∙◌, arith}
 use Rattle.interleaving.specs.Memory.{Location}
 use Rattle.hls_ints.specs.Residues.{residue_of, bit_of}
@@ -77,7 +77,8 @@ module _ (globals : List IntegerType) (spreads : List Spread) (code : ThreadCode
     pub wanted : (asked_now globals spreads code registers l b p q wire k).wants ≡ 1
     pub operation : (asked_now globals spreads code registers l b p q wire k).writes ≡ bit_of writes
     pub address : IsAddress spread (place_now spreads b p q k global).index (asked_now globals spreads code registers l b p q wire k).address
-    pub number_written : writes ≡ true → (asked_now globals spreads code registers l b p q wire k).value ≡ residue_of (width_of (or_int (slice_get globals global))) (written_now spreads b p q k)
+    pub number_written : writes ≡ true → (asked_now globals spreads code registers l b p q wire k).value
+        ≡ residue_of (width_of (or_int (slice_get globals global))) (written_now spreads b p q k)
 
   abbrev operand_of : PlannedOperation → ℤ
   operand_of z = operand_now (planned_view b) (plan_view b p) q wire z.left
@@ -88,20 +89,23 @@ module _ (globals : List IntegerType) (spreads : List Spread) (code : ThreadCode
   reach_so : (k : ℕ) (o : Operation) (j : ℕ) → slice_get b.operations k ≡ Some o → slice_index p.starts k ≡ q.state → reaches_bank q.variables given globals spreads o j ≡ true
       → reaches_now globals spreads code registers l b p q wire j k ≡ true
   reach_so k o j listed at e =
-      both_from (nat_eq q.state (slice_index p.starts k)) (reaches_in q.variables given globals spreads (slice_get b.operations k) j) (same_is q.state (slice_index p.starts k) (sym at))
+      both_from (nat_eq q.state (slice_index p.starts k)) (reaches_in q.variables given globals spreads (slice_get b.operations k) j)
+      (same_is q.state (slice_index p.starts k) (sym at))
       (ap (λ (s : Option Operation). reaches_in q.variables given globals spreads s j) listed ∙ e)
 
   module _ (accesses : (k : ℕ) (o : Operation) → slice_get b.operations k ≡ Some o → IsAccess spreads o)
       (powers : (x : ℕ) (s : Spread) → slice_get spreads x ≡ Some s → IsSmallPower s.count) (short : (x : ℕ) (s : Spread) → slice_get spreads x ≡ Some s → s.length ≤ 2 ^ 63)
       (indices : (k x n : ℕ) (i : Operand) → slice_get b.operations k ≡ Some (ReadGlobal x n i) → slice_index p.starts k ≡ q.state → (ty : IntegerType) × HasType ty (value i))
-      (targets : (k x n : ℕ) (i a : Operand) → slice_get b.operations k ≡ Some (WriteGlobal x n i a) → slice_index p.starts k ≡ q.state → (ty : IntegerType) × HasType ty (value i)) where
+      (targets : (k x n : ℕ) (i a : Operand) → slice_get b.operations k ≡ Some (WriteGlobal x n i a) → slice_index p.starts k ≡ q.state →
+      (ty : IntegerType) × HasType ty (value i)) where
     read_asks : (k x n : ℕ) (i : Operand) → slice_get b.operations k ≡ Some (ReadGlobal x n i) → slice_index p.starts k ≡ q.state → Asker k
     read_asks k x n i listed at =
         let own = accesses k (ReadGlobal x n i) listed in
         let power = powers x own.0 own.1 in
         let view : operation_at (planned_view b) k ≡ operation_view (ReadGlobal x n i) = listed_view b.operations k (ReadGlobal x n i) listed in
         let place : place_now spreads b p q k x ≡ element x (pos (global_read n (value i))) = ap (λ (z : PlannedOperation). element x (operand_of z)) view in
-        let bank : bank_now spreads b p q k x ≡ own.0.first + residue_of 64 (value i) % own.0.count = ap (bank_of spreads) place ∙ bank_read spreads x own.0 own.1 power n (value i) in
+        let bank : bank_now spreads b p q k x ≡ own.0.first + residue_of 64 (value i) % own.0.count = ap (bank_of spreads) place ∙ bank_read spreads x own.0 own.1 power n
+        (value i) in
         let asked : asked_now globals spreads code registers l b p q wire k ≡ asked_of q.variables given globals spreads (ReadGlobal x n i) =
         ap (asked_in q.variables given globals spreads) listed in
         let typed = indices k x n i listed at in
@@ -120,7 +124,8 @@ module _ (globals : List IntegerType) (spreads : List Spread) (code : ThreadCode
           wanted = ap (λ (z : Asked). z.wants) asked;
           operation = ap (λ (z : Asked). z.writes) asked;
           address =
-              subst (λ a. IsAddress own.0 (place_now spreads b p q k x).index a) (sym (ap (λ (z : Asked). z.address) asked ∙ ap (λ (s : Option Spread). address_in s (residue_of 64 (value i))) own.1))
+              subst (λ a. IsAddress own.0 (place_now spreads b p q k x).index a)
+              (sym (ap (λ (z : Asked). z.address) asked ∙ ap (λ (s : Option Spread). address_in s (residue_of 64 (value i))) own.1))
               (subst (λ (z : Location). IsAddress own.0 z.index (residue_of 64 (value i) / own.0.count)) (sym place)
               (subst (λ m. IsAddress own.0 (global_read m (value i)) (residue_of 64 (value i) / own.0.count)) own.2
               (address_read own.0 power (short x own.0 own.1) typed.0 (value i) typed.1)));
@@ -133,7 +138,8 @@ module _ (globals : List IntegerType) (spreads : List Spread) (code : ThreadCode
         let power = powers x own.0 own.1 in
         let view : operation_at (planned_view b) k ≡ operation_view (WriteGlobal x n i a) = listed_view b.operations k (WriteGlobal x n i a) listed in
         let place : place_now spreads b p q k x ≡ element x (pos (global_written n (value i))) = ap (λ (z : PlannedOperation). element x (operand_of z)) view in
-        let bank : bank_now spreads b p q k x ≡ own.0.first + residue_of 64 (value i) % own.0.count = ap (bank_of spreads) place ∙ bank_written spreads x own.0 own.1 power n (value i) in
+        let bank : bank_now spreads b p q k x ≡ own.0.first + residue_of 64 (value i) % own.0.count = ap (bank_of spreads) place ∙ bank_written spreads x own.0 own.1 power n
+        (value i) in
         let asked : asked_now globals spreads code registers l b p q wire k ≡ asked_of q.variables given globals spreads (WriteGlobal x n i a) =
         ap (asked_in q.variables given globals spreads) listed in
         let typed = targets k x n i a listed at in
@@ -152,7 +158,8 @@ module _ (globals : List IntegerType) (spreads : List Spread) (code : ThreadCode
           wanted = ap (λ (z : Asked). z.wants) asked;
           operation = ap (λ (z : Asked). z.writes) asked;
           address =
-              subst (λ c. IsAddress own.0 (place_now spreads b p q k x).index c) (sym (ap (λ (z : Asked). z.address) asked ∙ ap (λ (s : Option Spread). address_in s (residue_of 64 (value i))) own.1))
+              subst (λ c. IsAddress own.0 (place_now spreads b p q k x).index c)
+              (sym (ap (λ (z : Asked). z.address) asked ∙ ap (λ (s : Option Spread). address_in s (residue_of 64 (value i))) own.1))
               (subst (λ (z : Location). IsAddress own.0 z.index (residue_of 64 (value i) / own.0.count)) (sym place)
               (subst (λ m. IsAddress own.0 (global_written m (value i)) (residue_of 64 (value i) / own.0.count)) own.2
               (address_written own.0 power (short x own.0 own.1) typed.0 (value i) typed.1)));

@@ -9,7 +9,8 @@ use Rattle.block_ir.specs.declared.operand.Source.{Source}
 use Rattle.block_ir.specs.declared.operand.Operand.{Operand}
 use Rattle.block_ir.specs.declared.block.Operation.{Operation}
 use Rattle.block_ir.specs.declared.code.ThreadCode.{ThreadCode}
-use Rattle.operator_words.specs.Shown.{truth_type}
+use Rattle.c_program.specs.declared.tree.BinaryOperator.{BinaryOperator}
+use Rattle.operator_words.specs.Shown.{truth_type, binary_result}
 use Rattle.operator_wires.specs.declared.words.Word.{Word}
 use Rattle.operator_wires.specs.Gives.{Grows}
 use Rattle.operator_wires.specs.Built.{Base, IsEarlier, Adds, StandsAs, AddsWord}
@@ -23,11 +24,14 @@ use Rattle.block_datapath.specs.declared.registers.Registers.{Registers}
 use Rattle.block_datapath.specs.declared.operands.Given.{Given}
 use Rattle.block_datapath.specs.Seen.{kept_register}
 use Rattle.block_datapath.specs.Wired.{AreRegisters, AreValues, AreSources, IsSourced, AreConverted, IsVariableWord, IsValueWord, IsGivenWord, IsNarrow}
-use Rattle.block_datapath.specs.Wired.{IsOperationWord, IsElementWord, IsAddress, AddsAddress, HasMemories, AreGiven}
+use Rattle.block_datapath.specs.Wired.{IsOperationWord, IsElementWord, IsAddress, AreGiven}
+use Rattle.block_datapath.specs.Units.{unit_place}
+use Rattle.block_datapath.proofs.Sharing.{listed_at, result_own, wide_as}
 
 -- ---- what stands goes on standing
 
-pub registers_after : (a b : List Signal) (base : Base) (types : List IntegerType) (registers : Registers) → Grows a b → AreRegisters a base types registers → AreRegisters b base types registers
+pub registers_after : (a b : List Signal) (base : Base) (types : List IntegerType) (registers : Registers) → Grows a b → AreRegisters a base types registers →
+    AreRegisters b base types registers
 registers_after a b base types registers g is = record {
   stage = stands_after a b base registers.stage.register registers.stage.width g is.stage;
   state = stands_after a b base registers.state.register registers.state.width g is.state;
@@ -37,6 +41,7 @@ registers_after a b base types registers g is = record {
       record { ty = v.ty; declared = v.declared; says = v.says; stands = stands_after a b base h.register (width_of v.ty) g v.stands };
   kept = λ x h e. stands_after a b base h.register h.width g (is.kept x h e);
   words = λ n h e l. stands_after a b base h.register h.width g (is.words n h e l);
+  units = λ x n place u e f. stands_after a b base place (width_of u.ty) g (is.units x n place u e f);
 }
 
 pub word_stands_after : (a b : List Signal) (base : Base) (ty : IntegerType) (word : Word) → Grows a b → StandsAs a base ty word → StandsAs b base ty word
@@ -45,7 +50,8 @@ word_stands_after a b base ty word g is = record { says = is.says; sign = is.sig
 pub values_after : (a b : List Signal) (base : Base) (values : List Given) → Grows a b → AreValues a base values → AreValues b base values
 values_after a b base values g is k v e = let w = is k v e in (w.0, word_stands_after a b base w.0 v.word g w.1)
 
-pub sources_after : (a b : List Signal) (base : Base) (types : List IntegerType) (registers : Registers) (values : List Given) → Grows a b → AreSources a base types registers values
+pub sources_after : (a b : List Signal) (base : Base) (types : List IntegerType) (registers : Registers) (values : List Given) → Grows a b →
+    AreSources a base types registers values
     → AreSources b base types registers values
 sources_after a b base types registers values g is =
     record { registers = registers_after a b base types registers g is.registers; values = values_after a b base values g is.values }
@@ -56,19 +62,23 @@ room a base types registers is = room_of a base registers.stage.register registe
 
 -- ---- operands
 
-pub constant_sourced : {E : Type 0} (x : Result Word E) (a b : List Signal) (types : List IntegerType) (registers : Registers) (values : List Given) (source known : Source) → source ≡ known
+pub constant_sourced : {E : Type 0} (x : Result Word E) (a b : List Signal) (types : List IntegerType) (registers : Registers) (values : List Given) (source known : Source) →
+    source ≡ known
     → IfOk x (IsConstant a b (source_type known)) → IfOk x (IsSourced a b types registers values (source_type source))
 constant_sourced x a b types registers values source known e made =
     subst (λ (s : Source). IfOk x (IsSourced a b types registers values (source_type s))) (sym e)
-    (of_ok x (IsConstant a b (source_type known)) (IsSourced a b types registers values (source_type known)) (λ out t base is. t base (room a base types registers is.registers)) made)
+    (of_ok x (IsConstant a b (source_type known)) (IsSourced a b types registers values (source_type known))
+    (λ out t base is. t base (room a base types registers is.registers)) made)
 
-pub variable_sourced : {E : Type 0} (x : Result Word E) (a b : List Signal) (types : List IntegerType) (registers : Registers) (values : List Given) (source known : Source) → source ≡ known
+pub variable_sourced : {E : Type 0} (x : Result Word E) (a b : List Signal) (types : List IntegerType) (registers : Registers) (values : List Given) (source known : Source) →
+    source ≡ known
     → IfOk x (IsVariableWord a b types registers (source_type known)) → IfOk x (IsSourced a b types registers values (source_type source))
 variable_sourced x a b types registers values source known e made =
     subst (λ (s : Source). IfOk x (IsSourced a b types registers values (source_type s))) (sym e)
     (of_ok x (IsVariableWord a b types registers (source_type known)) (IsSourced a b types registers values (source_type known)) (λ out t base is. t base is.registers) made)
 
-pub value_sourced : {E : Type 0} (x : Result Word E) (a b : List Signal) (types : List IntegerType) (registers : Registers) (values : List Given) (source known : Source) → source ≡ known
+pub value_sourced : {E : Type 0} (x : Result Word E) (a b : List Signal) (types : List IntegerType) (registers : Registers) (values : List Given) (source known : Source) →
+    source ≡ known
     → IfOk x (IsValueWord a b registers values (source_type known)) → IfOk x (IsSourced a b types registers values (source_type source))
 value_sourced x a b types registers values source known e made =
     subst (λ (s : Source). IfOk x (IsSourced a b types registers values (source_type s))) (sym e)
@@ -85,7 +95,8 @@ pub missing_value : {E : Type 0} (x : Result Word E) (a b : List Signal) (regist
 missing_value x a b registers values ty made =
     of_ok x (IsConstant a b ty) (IsValueWord a b registers values ty) (λ out t base types is. t base (room a base types registers is.registers)) made
 
-pub variable_wired : {E : Type 0} (x : Result Word E) (a b : List Signal) (types : List IntegerType) (registers : Registers) (k : ℕ) (ty own : IntegerType) (held : Held) (word : Word)
+pub variable_wired : {E : Type 0} (x : Result Word E) (a b : List Signal) (types : List IntegerType) (registers : Registers) (k : ℕ) (ty own : IntegerType) (held : Held)
+    (word : Word)
     → slice_get registers.variables k ≡ Some held → slice_get types k ≡ Some own → word.place ≡ held.register → word.width ≡ width_of own → word.signed ≡ own.signed
     → IfOk x (IsConverted a b word ty) → IfOk x (IsVariableWord a b types registers ty)
 variable_wired x a b types registers k ty own held word e f place wide sign made =
@@ -114,13 +125,15 @@ kept_stands : (a : List Signal) (base : Base) (types : List IntegerType) (regist
 kept_stands a base types registers None held e is = absurd cc
 kept_stands a base types registers (Some n) held e is = is.kept n held e
 
-pub kept_wired : {E : Type 0} (x : Result Word E) (a b : List Signal) (registers : Registers) (given : Given) (held : Held) → kept_register registers.kept given.register ≡ Some held
+pub kept_wired : {E : Type 0} (x : Result Word E) (a b : List Signal) (registers : Registers) (given : Given) (held : Held) →
+    kept_register registers.kept given.register ≡ Some held
     → IfOk x (IsNarrow a b held given.word) → IfOk x (IsGivenWord a b registers given)
 kept_wired x a b registers given held e made =
     of_ok x (IsNarrow a b held given.word) (IsGivenWord a b registers given)
     (λ out t base types ty is stands. t base ty (kept_stands a base types registers given.register held e is) stands) made
 
-pub zero_wired : {E : Type 0} (x : Result Word E) (a b : List Signal) (registers : Registers) (given : Given) → IfOk x (LikeOne a b given.word) → IfOk x (IsGivenWord a b registers given)
+pub zero_wired : {E : Type 0} (x : Result Word E) (a b : List Signal) (registers : Registers) (given : Given) → IfOk x (LikeOne a b given.word) →
+    IfOk x (IsGivenWord a b registers given)
 zero_wired x a b registers given made = of_ok x (LikeOne a b given.word) (IsGivenWord a b registers given) (λ out t base types ty is stands. t base ty stands) made
 
 like : (base : Base) (a b : List Signal) (ty : IntegerType) (word out : Word) (place : ℕ) → StandsAs a base ty word → Adds base a b word.width place → out.place ≡ place
@@ -134,7 +147,8 @@ narrow_wired a b held word out place t at wide sign base ty e is =
     let w = own base a ty word is in
     like base a b ty word out place is (t base e w.low w.high (λ (no : false ≡ true). absurd cc)) at wide sign
 
-pub zero_like_wired : (a b : List Signal) (word out : Word) (place : ℕ) → ConstantAdds a b word.width 0 place → out.place ≡ place → out.width ≡ word.width → out.signed ≡ word.signed
+pub zero_like_wired : (a b : List Signal) (word out : Word) (place : ℕ) → ConstantAdds a b word.width 0 place → out.place ≡ place → out.width ≡ word.width →
+    out.signed ≡ word.signed
     → LikeOne a b word out
 zero_like_wired a b word out place t at wide sign base ty is =
     let w = own base a ty word is in
@@ -155,7 +169,8 @@ converted_more a b c word middle out types t u v base from is =
     let first = u base from is in
     subst (λ (k : IntegerType). AddsWord base a c k out) (sym (last_is types t from)) (word_after base a b c t out first.wires (v base (last_type from types) first.word))
 
-pub operand_wired : {E : Type 0} (x : Result Word E) (a b c : List Signal) (types : List IntegerType) (registers : Registers) (values : List Given) (operand : Operand) (word : Word)
+pub operand_wired : {E : Type 0} (x : Result Word E) (a b c : List Signal) (types : List IntegerType) (registers : Registers) (values : List Given) (operand : Operand)
+    (word : Word)
     → IsSourced a b types registers values (source_type operand.source) word → IfOk x (AreConverted b c word operand.conversions)
     → IfOk x (IsSourced a c types registers values (operand_type operand))
 operand_wired x a b c types registers values operand word t made =
@@ -166,7 +181,8 @@ operand_wired x a b c types registers values operand word t made =
 
 -- ---- operations
 
-pub unary_wired : {E : Type 0} (x : Result Word E) (a b c : List Signal) (types : List IntegerType) (registers : Registers) (values : List Given) (own ty : IntegerType) (word : Word)
+pub unary_wired : {E : Type 0} (x : Result Word E) (a b c : List Signal) (types : List IntegerType) (registers : Registers) (values : List Given) (own ty : IntegerType)
+    (word : Word)
     → IsSourced a b types registers values own word → IfOk x (IsConverted b c word ty) → IfOk x (IsSourced a c types registers values ty)
 unary_wired x a b c types registers values own ty word t made =
     of_ok x (IsConverted b c word ty) (IsSourced a c types registers values ty)
@@ -174,8 +190,10 @@ unary_wired x a b c types registers values own ty word t made =
     let first = t base is in
     word_after base a b c ty out first.wires (u base own first.word)) made
 
-pub binary_wired : {E : Type 0} (x : Result Word E) (a b c d : List Signal) (types : List IntegerType) (registers : Registers) (values : List Given) (s t ty : IntegerType) (left right : Word)
-    → IsSourced a b types registers values s left → IsSourced b c types registers values t right → IfOk x (IsOfTwo c d left right ty) → IfOk x (IsSourced a d types registers values ty)
+pub binary_wired : {E : Type 0} (x : Result Word E) (a b c d : List Signal) (types : List IntegerType) (registers : Registers) (values : List Given) (s t ty : IntegerType)
+    (left right : Word)
+    → IsSourced a b types registers values s left → IsSourced b c types registers values t right → IfOk x (IsOfTwo c d left right ty) →
+    IfOk x (IsSourced a d types registers values ty)
 binary_wired x a b c d types registers values s t ty left right one two made =
     of_ok x (IsOfTwo c d left right ty) (IsSourced a d types registers values ty)
     (λ out u base is.
@@ -184,8 +202,20 @@ binary_wired x a b c d types registers values s t ty left right one two made =
     word_after base a c d ty out (wires_then base a b c first.wires second.wires)
     (u base s t (word_stands_after b c base s left second.wires.grows first.word) second.word)) made
 
+-- the result of a unit that is shared
+pub unit_wired : (a : List Signal) (types : List IntegerType) (registers : Registers) (values : List Given) (operator : BinaryOperator) (ty : IntegerType) (n place : ℕ) (out : Word)
+    → unit_place registers.units operator ty n ≡ Some place → out.place ≡ place → out.width ≡ width_of ty → out.signed ≡ ty.signed →
+    IsSourced a a types registers values (binary_result operator ty) out
+unit_wired a types registers values operator ty n place out found at says sign base is =
+    let t = listed_at registers.units operator ty n place found in
+    let stands = is.registers.units t.number n place t.results t.listed t.stands in
+    let there : IsEarlier a base place (width_of ty) = subst (λ (w : ℕ). IsEarlier a base place w) (wide_as registers.units operator ty n place found t) stands in
+    let word : StandsAs a base ty out = record { says = says; sign = sign; stands = subst (λ (k : ℕ). IsEarlier a base k (width_of ty)) (sym at) there } in
+    subst (λ (k : IntegerType). AddsWord base a a k out) (sym (result_own registers.units operator ty n place found)) (word_none base a ty out word)
+
 -- 0 where there is no such array
-pub no_element : {E : Type 0} (x : Result Word E) (a b : List Signal) (code : ThreadCode) (array : ℕ) (index : Word) → slice_get code.arrays array ≡ None → IfOk x (IsConstant a b truth_type)
+pub no_element : {E : Type 0} (x : Result Word E) (a b : List Signal) (code : ThreadCode) (array : ℕ) (index : Word) → slice_get code.arrays array ≡ None →
+    IfOk x (IsConstant a b truth_type)
     → IfOk x (IsElementWord a b code array index)
 no_element x a b code array index none made =
     of_ok x (IsConstant a b truth_type) (IsElementWord a b code array index)
@@ -227,7 +257,8 @@ element_read a b c code array address place w index out array_is listed t u wide
     subst (λ (k : IntegerType). AddsWord base a c k out) (sym (ap element_type listed))
     (word_after base a b c array_is.ty out addressed.wires (word_of base b c array_is.ty place out (subst (λ n. Adds base b c n place) wide made) at says sign))
 
-pub element_wired : {E : Type 0} (x : Result Word E) (a b c : List Signal) (code : ThreadCode) (registers : Registers) (values : List Given) (array : ℕ) (own : IntegerType) (word : Word)
+pub element_wired : {E : Type 0} (x : Result Word E) (a b c : List Signal) (code : ThreadCode) (registers : Registers) (values : List Given) (array : ℕ) (own : IntegerType)
+    (word : Word)
     → IsSourced a b code.variables registers values own word → IfOk x (IsElementWord b c code array word)
     → IfOk x (IsOperationWord a c code registers values (element_type (slice_get code.arrays array)))
 element_wired x a b c code registers values array own word t made =
@@ -237,7 +268,8 @@ element_wired x a b c code registers values array own word t made =
     word_after base a b c (element_type (slice_get code.arrays array)) out first.wires (u base own memories.memories first.word)) made
 
 -- an arm of a match on an operation
-pub operation_wired : {E : Type 0} (x : Result Word E) (a b : List Signal) (globals : List IntegerType) (code : ThreadCode) (registers : Registers) (values : List Given) (ty : IntegerType)
+pub operation_wired : {E : Type 0} (x : Result Word E) (a b : List Signal) (globals : List IntegerType) (code : ThreadCode) (registers : Registers) (values : List Given)
+    (ty : IntegerType)
     (operation known : Operation) → operation ≡ known → IfOk x (IsSourced a b code.variables registers values ty) → value_type globals code known ≡ ty
     → IfOk x (IsOperationWord a b code registers values (value_type globals code operation))
 operation_wired x a b globals code registers values ty operation known e made same =
@@ -245,14 +277,16 @@ operation_wired x a b globals code registers values ty operation known e made sa
     (of_ok x (IsSourced a b code.variables registers values ty) (IsOperationWord a b code registers values (value_type globals code known))
     (λ out t base memories is. subst (λ (k : IntegerType). AddsWord base a b k out) (sym same) (t base is)) made)
 
-pub read_wired : {E : Type 0} (x : Result Word E) (a b : List Signal) (globals : List IntegerType) (code : ThreadCode) (registers : Registers) (values : List Given) (ty : IntegerType)
+pub read_wired : {E : Type 0} (x : Result Word E) (a b : List Signal) (globals : List IntegerType) (code : ThreadCode) (registers : Registers) (values : List Given)
+    (ty : IntegerType)
     (operation known : Operation) → operation ≡ known → IfOk x (IsOperationWord a b code registers values ty) → value_type globals code known ≡ ty
     → IfOk x (IsOperationWord a b code registers values (value_type globals code operation))
 read_wired x a b globals code registers values ty operation known e made same =
     subst (λ (o : Operation). IfOk x (IsOperationWord a b code registers values (value_type globals code o))) (sym e)
     (subst (λ (k : IntegerType). IfOk x (IsOperationWord a b code registers values k)) (sym same) made)
 
-pub constant_wired : {E : Type 0} (x : Result Word E) (a b : List Signal) (globals : List IntegerType) (code : ThreadCode) (registers : Registers) (values : List Given) (ty : IntegerType)
+pub constant_wired : {E : Type 0} (x : Result Word E) (a b : List Signal) (globals : List IntegerType) (code : ThreadCode) (registers : Registers) (values : List Given)
+    (ty : IntegerType)
     (operation : Operation) → IfOk x (IsConstant a b ty) → ty ≡ value_type globals code operation
     → IfOk x (IsOperationWord a b code registers values (value_type globals code operation))
 constant_wired x a b globals code registers values ty operation made same =
@@ -260,14 +294,16 @@ constant_wired x a b globals code registers values ty operation made same =
     (λ out t base memories is. subst (λ (k : IntegerType). AddsWord base a b k out) same (t base (room a base code.variables registers is.registers))) made
 
 -- 0 where a global has no banks
-pub missing_read : {E : Type 0} (x : Result Word E) (a b : List Signal) (code : ThreadCode) (registers : Registers) (values : List Given) (ty known : IntegerType) → IfOk x (IsConstant a b ty)
+pub missing_read : {E : Type 0} (x : Result Word E) (a b : List Signal) (code : ThreadCode) (registers : Registers) (values : List Given) (ty known : IntegerType) →
+    IfOk x (IsConstant a b ty)
     → ty ≡ known → IfOk x (IsOperationWord a b code registers values known)
 missing_read x a b code registers values ty known made same =
     of_ok x (IsConstant a b ty) (IsOperationWord a b code registers values known)
     (λ out t base reads is. subst (λ (k : IntegerType). AddsWord base a b k out) same (t base (room a base code.variables registers is.registers))) made
 
 -- the same word under its type's own width and sign
-pub given_wired : (a b : List Signal) (code : ThreadCode) (registers : Registers) (values : List Given) (ty : IntegerType) (word out : Word) → IsOperationWord a b code registers values ty word
+pub given_wired : (a b : List Signal) (code : ThreadCode) (registers : Registers) (values : List Given) (ty : IntegerType) (word out : Word) →
+    IsOperationWord a b code registers values ty word
     → out.place ≡ word.place → out.width ≡ width_of ty → out.signed ≡ ty.signed → IsOperationWord a b code registers values ty out
 given_wired a b code registers values ty word out t at wide sign base memories is =
     let made = t base memories is in
@@ -278,7 +314,8 @@ given_wired a b code registers values ty word out t at wide sign base memories i
 pub given_none : (a : List Signal) (code : ThreadCode) (registers : Registers) → AreGiven a a code registers []
 given_none a code registers base memories is = record { wires = wires_none base a; values = λ k g e. absurd cc }
 
-pub one_more : (a : List Signal) (base : Base) (values : List Given) (g : Given) (ty : IntegerType) → AreValues a base values → StandsAs a base ty g.word → AreValues a base (values ++ g ∷ [])
+pub one_more : (a : List Signal) (base : Base) (values : List Given) (g : Given) (ty : IntegerType) → AreValues a base values → StandsAs a base ty g.word →
+    AreValues a base (values ++ g ∷ [])
 one_more a base [] g ty is stands zero v e = (ty, (let same : g ≡ v = cc in subst (λ (z : Given). StandsAs a base ty z.word) same stands))
 one_more a base [] g ty is stands (suc k) v e = absurd cc
 one_more a base (w ∷ values) g ty is stands zero v e = is zero v e

@@ -40,17 +40,31 @@ use Rattle.thread_promise.specs.Slots.{element_at}
 use Rattle.block_ir.specs.declared.plan.BlockPlan.{BlockPlan}
 use Rattle.planned_block.specs.Plan.{further_states}
 use Rattle.planned_view.specs.View.{operation_view, register_at}
-use Rattle.block_datapath.specs.Operations.{seen_value, operation_value, HasArrays, IsOutside, Addresses, ReadsArray, ShowsOperation, GivesOperation}
+use Rattle.block_datapath.specs.Units.{unit_place}
+use Rattle.block_datapath.specs.Operations.{seen_value, operation_value, HasArrays, IsOutside, result_place, Addresses, ReadsArray, ShowsOperation, GivesOperation}
 use Rattle.block_datapath.proofs.Seeing.{own_word}
+use Rattle.block_datapath.proofs.Sharing.{result_own}
 
 -- whatever the globals are, and in whatever state it starts or ends
 abbrev pub AtAnyStart : List Signal → List Signal → ThreadCode → Registers → List Given → ℕ → Operation → Word → Type 0
-AtAnyStart a b code registers values last operation out = (globals : List IntegerType) (start : ℕ) → ShowsOperation a b globals code registers values start last operation out
+AtAnyStart a b code registers values last operation out =
+    (globals : List IntegerType) (unit start : ℕ) → ShowsOperation a b globals code registers values unit start last operation out
+
+-- where its unit is not shared
+abbrev pub AtOwn : List Signal → List Signal → ThreadCode → Registers → List Given → ℕ → BinaryOperator → IntegerType → Operand → Operand → Word → Type 0
+AtOwn a b code registers values last operator ty left right out =
+    (globals : List IntegerType) (unit start : ℕ) → unit_place registers.units operator ty unit ≡ None →
+    ShowsOperation a b globals code registers values unit start last (Binary operator ty left right) out
+
+-- and on this unit
+abbrev pub OnUnit : List Signal → List Signal → ThreadCode → Registers → List Given → ℕ → ℕ → Operation → Word → Type 0
+OnUnit a b code registers values unit last operation out =
+    (globals : List IntegerType) (start : ℕ) → ShowsOperation a b globals code registers values unit start last operation out
 
 -- and however many elements the array has
 abbrev pub AtAnyEnd : List Signal → List Signal → ThreadCode → Registers → List Given → ℕ → ℕ → Operand → Word → Type 0
 AtAnyEnd a b code registers values start array index out =
-    (globals : List IntegerType) (last n : ℕ) → ShowsOperation a b globals code registers values start last (ReadArray array n index) out
+    (globals : List IntegerType) (unit last n : ℕ) → ShowsOperation a b globals code registers values unit start last (ReadArray array n index) out
 
 -- ---- operators
 
@@ -59,25 +73,55 @@ pub unary_given : {E : Type 0} (x : Result Word E) (a b c : List Signal) (code :
     → IfOk x (Becomes b c word (unary_result operator ty) (unary_total operator ty)) → IfOk x (AtAnyStart a c code registers values last (Unary operator ty operand))
 unary_given x a b c code registers values last operator ty operand word t made =
     of_ok x (Becomes b c word (unary_result operator ty) (unary_total operator ty)) (AtAnyStart a c code registers values last (Unary operator ty operand))
-    (λ out u globals start. record {
+    (λ out u globals unit start. record {
       grows = grows_then a b c t.grows u.grows;
-      shows = λ m r variables given arrays told g o has hears seen sized.
+      shared = λ place e. absurd cc;
+      shows = λ m r variables given arrays told g o has hears seen sized result.
           u.shows m r (operand_type operand) (seen_value variables given operand) g o (t.shows m r variables given (grows_then b c m.signals u.grows g) o seen);
     }) made
 
 pub binary_given : {E : Type 0} (x : Result Word E) (a b c d : List Signal) (code : ThreadCode) (registers : Registers) (values : List Given) (last : ℕ)
     (operator : BinaryOperator) (ty : IntegerType) (left right : Operand) (first second : Word) → ShowsOperand a b registers code.variables values last left first
     → ShowsOperand b c registers code.variables values last right second → IfOk x (Combine c d first second (binary_result operator ty) (binary_total operator ty))
-    → IfOk x (AtAnyStart a d code registers values last (Binary operator ty left right))
+    → IfOk x (AtOwn a d code registers values last operator ty left right)
 binary_given x a b c d code registers values last operator ty left right first second t u made =
-    of_ok x (Combine c d first second (binary_result operator ty) (binary_total operator ty)) (AtAnyStart a d code registers values last (Binary operator ty left right))
-    (λ out v globals start. record {
+    of_ok x (Combine c d first second (binary_result operator ty) (binary_total operator ty)) (AtOwn a d code registers values last operator ty left right)
+    (λ out v globals unit start none. record {
       grows = grows_then a b d t.grows (grows_then b c d u.grows v.grows);
-      shows = λ m r variables given arrays told g o has hears seen sized.
+      shared = λ place e. absurd (cc (e, none));
+      shows = λ m r variables given arrays told g o has hears seen sized result.
           let later = grows_then c d m.signals v.grows g in
           v.shows m r (operand_type left) (operand_type right) (seen_value variables given left) (seen_value variables given right) g o
           (t.shows m r variables given (grows_then b c m.signals u.grows later) o seen.0) (u.shows m r variables given later o seen.1);
     }) made
+
+-- the result of a unit that is shared
+pub shared_given : (a : List Signal) (code : ThreadCode) (registers : Registers) (values : List Given) (unit last : ℕ) (operator : BinaryOperator) (ty : IntegerType)
+    (left right : Operand) (place : ℕ) (out : Word) → unit_place registers.units operator ty unit ≡ Some place → out.place ≡ place → out.width ≡ width_of ty →
+    out.signed ≡ ty.signed → OnUnit a a code registers values unit last (Binary operator ty left right) out
+shared_given a code registers values unit last operator ty left right place out found at says sign globals start =
+    let own = result_own registers.units operator ty unit place found in
+    record {
+      grows = grows_refl a;
+      shared = λ other e. (refl, at ∙ (let same : place ≡ other = cc in same));
+      shows = λ m r variables given arrays told g o has hears seen sized result.
+          let is = result place found in
+          record {
+            says = says ∙ sym (ap width_of own);
+            sign = sign ∙ sym (ap (λ (k : IntegerType). k.signed) own);
+            wide = ap (width m) at ∙ is.wide;
+            shows = ap r.signal at ∙ is.shows;
+            typed = is.typed;
+          };
+    }
+
+-- by the place that was looked for
+pub on_unit : {E : Type 0} (x : Result Word E) (a b : List Signal) (code : ThreadCode) (registers : Registers) (values : List Given) (unit last : ℕ)
+    (operator : BinaryOperator) (ty : IntegerType) (left right : Operand) → unit_place registers.units operator ty unit ≡ None →
+    IfOk x (AtOwn a b code registers values last operator ty left right) → IfOk x (OnUnit a b code registers values unit last (Binary operator ty left right))
+on_unit x a b code registers values unit last operator ty left right none made =
+    of_ok x (AtOwn a b code registers values last operator ty left right) (OnUnit a b code registers values unit last (Binary operator ty left right))
+    (λ out t globals start. t globals unit start none) made
 
 -- ---- elements of arrays
 
@@ -86,9 +130,10 @@ pub element_given : {E : Type 0} (x : Result Word E) (a b c : List Signal) (code
     → IfOk x (AtAnyEnd a c code registers values start array index)
 element_given x a b c code registers values start array index word t made =
     of_ok x (ReadsArray b c code array word) (AtAnyEnd a c code registers values start array index)
-    (λ out u globals last n. record {
+    (λ out u globals unit last n. record {
       grows = grows_then a b c t.grows u.grows;
-      shows = λ m r variables given arrays told g o has hears seen sized.
+      shared = λ place e. absurd cc;
+      shows = λ m r variables given arrays told g o has hears seen sized result.
           let own : Array = sized.0 in
           let first = t.shows m r variables given (grows_then b c m.signals u.grows g) o seen in
           element_word m r code globals array n index out own variables given arrays told sized.1 sized.2
@@ -135,7 +180,8 @@ array_read a b c code array address place w index out own e t u wide at says sig
     counted m r arrays has = let memory = has.declared array own e in ap memory_words memory.1 ∙ memory.2
 
     -- an index inside
-    read : (m : Module) (r : Reading) (ty : IntegerType) (i : ℕ) (arrays : Memory ℤ) → Grows c m.signals → Obeys m r → HasArrays code m r arrays → IsWord m r index ty (pos i) → i < own.length
+    read : (m : Module) (r : Reading) (ty : IntegerType) (i : ℕ) (arrays : Memory ℤ) → Grows c m.signals → Obeys m r → HasArrays code m r arrays → IsWord m r index ty (pos i) →
+        i < own.length
         → IsWord m r out own.ty (arrays (element_at array i))
     read m r ty i arrays g o has is less =
         let there = t.inside m r ty i (grows_then b c m.signals u.grows g) o is less in
@@ -148,7 +194,8 @@ array_read a b c code array address place w index out own e t u wide at says sig
         }
 
     -- an index outside
-    past : (m : Module) (r : Reading) (ty : IntegerType) (v : ℤ) (arrays : Memory ℤ) → Grows c m.signals → Obeys m r → HasArrays code m r arrays → IsWord m r index ty v → IsOutside own.length v
+    past : (m : Module) (r : Reading) (ty : IntegerType) (v : ℤ) (arrays : Memory ℤ) → Grows c m.signals → Obeys m r → HasArrays code m r arrays → IsWord m r index ty v →
+        IsOutside own.length v
         → IsWord m r out own.ty (arrays (element_at array own.length))
     past m r ty v arrays g o has is out_ =
         let there = t.outside m r ty v (grows_then b c m.signals u.grows g) o is (has.few array own e) out_ in
@@ -161,7 +208,8 @@ array_read a b c code array address place w index out own e t u wide at says sig
           typed = has_zero own.ty;
         })
 
-    by_test : (m : Module) (r : Reading) (ty : IntegerType) (i : ℕ) (arrays : Memory ℤ) (less : Bool) → nat_lt i own.length ≡ less → Grows c m.signals → Obeys m r → HasArrays code m r arrays
+    by_test : (m : Module) (r : Reading) (ty : IntegerType) (i : ℕ) (arrays : Memory ℤ) (less : Bool) → nat_lt i own.length ≡ less → Grows c m.signals → Obeys m r →
+        HasArrays code m r arrays
         → IsWord m r index ty (pos i) → IsWord m r out own.ty (arrays (element_at array (if less then i else own.length)))
     by_test m r ty i arrays true f g o has is = read m r ty i arrays g o has is (let l : i < own.length = grind (arith, nat_tests) in l)
     by_test m r ty i arrays false f g o has is = past m r ty (pos i) arrays g o has is (let l : own.length ≤ i = grind (arith, nat_tests) in l)
@@ -236,75 +284,96 @@ address_widened x a b index size small made =
         → Grows b m.signals → Obeys m r → IsWord m r index ty v → r.signal place ≡ residue_of 64 v
     wide_number a b index place t m r ty v g o is =
         let wide : width m index.place ≡ index.width = is.wide ∙ sym is.says in
-        t.shows m r g o wide ∙ ap (λ (s : Bool). resized_word s index.width 64 (r.signal index.place)) is.sign ∙ ap (λ w. resized_word ty.signed w 64 (r.signal index.place)) is.says
+        t.shows m r g o wide ∙ ap (λ (s : Bool). resized_word s index.width 64 (r.signal index.place)) is.sign ∙ ap
+        (λ w. resized_word ty.signed w 64 (r.signal index.place)) is.says
         ∙ ap (resized_word ty.signed (width_of ty) 64) is.shows ∙ resized_shows ty 64 v (omega arith) is.typed
 
 -- ---- what gives nothing
 
 -- a word of 0
-pub zero_given : {E : Type 0} (x : Result Word E) (a b : List Signal) (globals : List IntegerType) (code : ThreadCode) (registers : Registers) (values : List Given) (start last : ℕ)
-    (operation known : Operation) (ty : IntegerType) (z : ℤ) → operation ≡ known → ((variables given : ℕ → ℤ) (arrays told : Memory ℤ) → operation_value variables given arrays told known ≡ pos 0)
-    → IfOk x (Holds a b ty (wrapped ty z)) → ty ≡ value_type globals code operation → z ≡ pos 0 → IfOk x (ShowsOperation a b globals code registers values start last operation)
-zero_given x a b globals code registers values start last operation known ty z is f made e g =
-    of_ok x (Holds a b ty (wrapped ty z)) (ShowsOperation a b globals code registers values start last operation)
+pub zero_given : {E : Type 0} (x : Result Word E) (a b : List Signal) (globals : List IntegerType) (code : ThreadCode) (registers : Registers) (values : List Given)
+    (unit start last : ℕ)
+    (operation known : Operation) (ty : IntegerType) (z : ℤ) → operation ≡ known → ((variables given : ℕ → ℤ) (arrays told : Memory ℤ) →
+    operation_value variables given arrays told known ≡ pos 0) → result_place registers.units unit known ≡ None
+    → IfOk x (Holds a b ty (wrapped ty z)) → ty ≡ value_type globals code operation → z ≡ pos 0 →
+    IfOk x (ShowsOperation a b globals code registers values unit start last operation)
+zero_given x a b globals code registers values unit start last operation known ty z is f none made e g =
+    of_ok x (Holds a b ty (wrapped ty z)) (ShowsOperation a b globals code registers values unit start last operation)
     (λ out t. record {
       grows = t.grows;
-      shows = λ m r variables given arrays told grows o has hears seen sized.
+      shared = λ place there. absurd (let nowhere : None ≡ Some place = sym none ∙ ap (result_place registers.units unit) (sym is) ∙ there in cc);
+      shows = λ m r variables given arrays told grows o has hears seen sized result.
           let zeroed : IsWord m r out ty (wrapped ty (pos 0)) = subst (λ (k : ℤ). IsWord m r out ty (wrapped ty k)) g (t.shows m r grows o) in
           subst (λ (k : ℤ). IsWord m r out (value_type globals code operation) k) (sym (ap (operation_value variables given arrays told) is ∙ f variables given arrays told))
           (subst (λ (k : IntegerType). IsWord m r out k (pos 0)) e (own_word m r out ty (pos 0) (has_zero ty) zeroed));
     }) made
 
 -- an operation of this form
-pub of_start : {E : Type 0} (x : Result Word E) (a b : List Signal) (globals : List IntegerType) (code : ThreadCode) (registers : Registers) (values : List Given) (start last : ℕ)
-    (operation known : Operation) → operation ≡ known → IfOk x (AtAnyStart a b code registers values last known) → IfOk x (ShowsOperation a b globals code registers values start last operation)
-of_start x a b globals code registers values start last operation known e made =
-    subst (λ (o : Operation). IfOk x (ShowsOperation a b globals code registers values start last o)) (sym e)
-    (of_ok x (AtAnyStart a b code registers values last known) (ShowsOperation a b globals code registers values start last known) (λ out t. t globals start) made)
+pub of_start : {E : Type 0} (x : Result Word E) (a b : List Signal) (globals : List IntegerType) (code : ThreadCode) (registers : Registers) (values : List Given)
+    (unit start last : ℕ) (operation known : Operation) → operation ≡ known → IfOk x (AtAnyStart a b code registers values last known) →
+    IfOk x (ShowsOperation a b globals code registers values unit start last operation)
+of_start x a b globals code registers values unit start last operation known e made =
+    subst (λ (o : Operation). IfOk x (ShowsOperation a b globals code registers values unit start last o)) (sym e)
+    (of_ok x (AtAnyStart a b code registers values last known) (ShowsOperation a b globals code registers values unit start last known) (λ out t. t globals unit start) made)
 
-pub of_end : {E : Type 0} (x : Result Word E) (a b : List Signal) (globals : List IntegerType) (code : ThreadCode) (registers : Registers) (values : List Given) (start last : ℕ)
-    (operation : Operation) (array n : ℕ) (index : Operand) → operation ≡ ReadArray array n index → IfOk x (AtAnyEnd a b code registers values start array index)
-    → IfOk x (ShowsOperation a b globals code registers values start last operation)
-of_end x a b globals code registers values start last operation array n index e made =
-    subst (λ (o : Operation). IfOk x (ShowsOperation a b globals code registers values start last o)) (sym e)
-    (of_ok x (AtAnyEnd a b code registers values start array index) (ShowsOperation a b globals code registers values start last (ReadArray array n index)) (λ out t. t globals last n) made)
+pub of_shared : {E : Type 0} (x : Result Word E) (a b : List Signal) (globals : List IntegerType) (code : ThreadCode) (registers : Registers) (values : List Given)
+    (unit start last : ℕ) (operation known : Operation) → operation ≡ known → IfOk x (OnUnit a b code registers values unit last known) →
+    IfOk x (ShowsOperation a b globals code registers values unit start last operation)
+of_shared x a b globals code registers values unit start last operation known e made =
+    subst (λ (o : Operation). IfOk x (ShowsOperation a b globals code registers values unit start last o)) (sym e)
+    (of_ok x (OnUnit a b code registers values unit last known) (ShowsOperation a b globals code registers values unit start last known) (λ out t. t globals start) made)
 
-pub of_read : {E : Type 0} (x : Result Word E) (a b : List Signal) (globals : List IntegerType) (code : ThreadCode) (registers : Registers) (values : List Given) (start last : ℕ)
-    (operation : Operation) (global n : ℕ) (index : Operand) → operation ≡ ReadGlobal global n index
-    → IfOk x (λ out. (start n : ℕ) → ShowsOperation a b globals code registers values start last (ReadGlobal global n index) out)
-    → IfOk x (ShowsOperation a b globals code registers values start last operation)
-of_read x a b globals code registers values start last operation global n index e made =
-    subst (λ (o : Operation). IfOk x (ShowsOperation a b globals code registers values start last o)) (sym e)
-    (of_ok x (λ out. (start n : ℕ) → ShowsOperation a b globals code registers values start last (ReadGlobal global n index) out)
-    (ShowsOperation a b globals code registers values start last (ReadGlobal global n index)) (λ out t. t start n) made)
+pub of_end : {E : Type 0} (x : Result Word E) (a b : List Signal) (globals : List IntegerType) (code : ThreadCode) (registers : Registers) (values : List Given)
+    (unit start last : ℕ) (operation : Operation) (array n : ℕ) (index : Operand) → operation ≡ ReadArray array n index →
+    IfOk x (AtAnyEnd a b code registers values start array index) → IfOk x (ShowsOperation a b globals code registers values unit start last operation)
+of_end x a b globals code registers values unit start last operation array n index e made =
+    subst (λ (o : Operation). IfOk x (ShowsOperation a b globals code registers values unit start last o)) (sym e)
+    (of_ok x (AtAnyEnd a b code registers values start array index) (ShowsOperation a b globals code registers values unit start last (ReadArray array n index))
+    (λ out t. t globals unit last n) made)
+
+pub of_read : {E : Type 0} (x : Result Word E) (a b : List Signal) (globals : List IntegerType) (code : ThreadCode) (registers : Registers) (values : List Given)
+    (unit start last : ℕ) (operation : Operation) (global n : ℕ) (index : Operand) → operation ≡ ReadGlobal global n index
+    → IfOk x (λ out. (unit start n : ℕ) → ShowsOperation a b globals code registers values unit start last (ReadGlobal global n index) out)
+    → IfOk x (ShowsOperation a b globals code registers values unit start last operation)
+of_read x a b globals code registers values unit start last operation global n index e made =
+    subst (λ (o : Operation). IfOk x (ShowsOperation a b globals code registers values unit start last o)) (sym e)
+    (of_ok x (λ out. (unit start n : ℕ) → ShowsOperation a b globals code registers values unit start last (ReadGlobal global n index) out)
+    (ShowsOperation a b globals code registers values unit start last (ReadGlobal global n index)) (λ out t. t unit start n) made)
 
 -- ---- what is kept of an operation
 
-retyped : (a b : List Signal) (globals : List IntegerType) (code : ThreadCode) (registers : Registers) (values : List Given) (start last : ℕ) (operation : Operation) (word out : Word)
-    → ShowsOperation a b globals code registers values start last operation word → out.place ≡ word.place → out.width ≡ width_of (value_type globals code operation)
-    → out.signed ≡ (value_type globals code operation).signed → ShowsOperation a b globals code registers values start last operation out
-retyped a b globals code registers values start last operation word out t place says sign = record {
+retyped : (a b : List Signal) (globals : List IntegerType) (code : ThreadCode) (registers : Registers) (values : List Given) (unit start last : ℕ) (operation : Operation)
+    (word out : Word)
+    → ShowsOperation a b globals code registers values unit start last operation word → out.place ≡ word.place → out.width ≡ width_of (value_type globals code operation)
+    → out.signed ≡ (value_type globals code operation).signed → ShowsOperation a b globals code registers values unit start last operation out
+retyped a b globals code registers values unit start last operation word out t place says sign = record {
   grows = t.grows;
-  shows = λ m r variables given arrays told g o has hears seen sized.
-      let is = t.shows m r variables given arrays told g o has hears seen sized in
+  shared = λ there e. let on = t.shared there e in (on.0, place ∙ on.1);
+  shows = λ m r variables given arrays told g o has hears seen sized result.
+      let is = t.shows m r variables given arrays told g o has hears seen sized result in
       record { says = says; sign = sign; wide = ap (width m) place ∙ is.wide; shows = ap r.signal place ∙ is.shows; typed = is.typed };
 }
 
-pub operation_kept : (a b : List Signal) (globals : List IntegerType) (code : ThreadCode) (registers : Registers) (values : List Given) (plan : BlockPlan) (k start : ℕ) (operation : Operation)
-    (word : Word) (given : Given) (ty : IntegerType) → ShowsOperation a b globals code registers values start given.last operation word → start ≡ slice_index plan.starts k
-    → ty ≡ value_type globals code operation → given.word.place ≡ word.place → given.word.width ≡ width_of ty → given.word.signed ≡ ty.signed → given.register ≡ register_at plan.registers k
+pub operation_kept : (a b : List Signal) (globals : List IntegerType) (code : ThreadCode) (registers : Registers) (values : List Given) (plan : BlockPlan) (k unit start : ℕ)
+    (operation : Operation)
+    (word : Word) (given : Given) (ty : IntegerType) → ShowsOperation a b globals code registers values unit start given.last operation word →
+    unit ≡ slice_index plan.units k → start ≡ slice_index plan.starts k
+    → ty ≡ value_type globals code operation → given.word.place ≡ word.place → given.word.width ≡ width_of ty → given.word.signed ≡ ty.signed →
+    given.register ≡ register_at plan.registers k
     → (start + further_states (operation_view operation).kind < 2 ^ 64 → given.last ≡ start + further_states (operation_view operation).kind)
     → GivesOperation a b globals code registers values plan k operation given
-operation_kept a b globals code registers values plan k start operation word given ty t first e place says sign register last =
+operation_kept a b globals code registers values plan k unit start operation word given ty t own first e place says sign register last =
     let wide : given.word.width ≡ width_of (value_type globals code operation) = says ∙ ap width_of e in
     let signed : given.word.signed ≡ (value_type globals code operation).signed = sign ∙ ap (λ (x : IntegerType). x.signed) e in
     record {
       says = wide;
       sign = signed;
-      last = λ small. subst (λ (n : ℕ). n + further_states (operation_view operation).kind < 2 ^ 64 → given.last ≡ n + further_states (operation_view operation).kind) first last small;
+      last = λ small. subst (λ (n : ℕ). n + further_states (operation_view operation).kind < 2 ^ 64 →
+          given.last ≡ n + further_states (operation_view operation).kind) first last small;
       register = register;
-      shows = subst (λ (n : ℕ). ShowsOperation a b globals code registers values n given.last operation given.word) first
-          (retyped a b globals code registers values start given.last operation word given.word t place wide signed);
+      shows = subst (λ (n : ℕ). ShowsOperation a b globals code registers values n (slice_index plan.starts k) given.last operation given.word) own
+          (subst (λ (n : ℕ). ShowsOperation a b globals code registers values unit n given.last operation given.word) first
+          (retyped a b globals code registers values unit start given.last operation word given.word t place wide signed));
     }
 
 pub register_got : (registers : List (Option ℕ)) (k : ℕ) (x : Option ℕ) → slice_get registers k ≡ Some x → x ≡ register_at registers k

@@ -1,12 +1,10 @@
 -- Nothing is asked of banks: chains that begin with zeros.
-use Rattle.std.proofs.Common.{◌≡◌, ◌≢◌, ℕ, zero, suc, ◌+◌, ◌^◌, ◌<◌, ◌≤◌, List, [], ◌∷◌, ◌++◌, length, replicate, slice_get, slice_index, Some, refl, sym, ap, subst, ◌∙◌, arith, ⊎_elim, length-append}
+use Rattle.std.proofs.Common.{◌≡◌, ◌≢◌, ℕ, zero, suc, ◌+◌, ◌<◌, ◌≤◌, List, [], ◌∷◌, ◌++◌, length, replicate}
+use Rattle.std.proofs.Common.{slice_get, slice_index, Some, refl, sym, ap, subst, ◌∙◌, arith, ⊎_elim, length-append}
 use Rattle.std.proofs.lemmas.Nat.{pow_pos}
 use Rattle.interleaving.proofs.Update.{same_or_not}
 use Rattle.netlist.specs.declared.netlist.Signal.{Signal}
-use Rattle.netlist.specs.declared.netlist.Module.{Module}
-use Rattle.verilog_meaning.specs.Readings.{Reading}
-use Rattle.circuit.specs.Modules.{Obeys}
-use Rattle.operator_wires.specs.Gives.{Grows, Gives}
+use Rattle.operator_wires.specs.Gives.{Gives}
 use Rattle.operator_wires.specs.Built.{Base, IsEarlier, AreWires}
 use Rattle.operator_wires.specs.Added.{ConstantAdds}
 use Rattle.operator_wires.proofs.Giving.{grows_refl, grows_then}
@@ -14,7 +12,6 @@ use Rattle.operator_wires.proofs.Building.{stands_after, wires_none, wires_then,
 use Rattle.block_datapath.specs.declared.registers.Held.{Held}
 use Rattle.block_datapath.specs.declared.requests.BankRequests.{BankRequests}
 use Rattle.block_datapath.specs.Chains.{next_number}
-use Rattle.block_datapath.specs.Wired.{AddsLinks}
 use Rattle.block_datapath.specs.Requests.{ShowsZeros, AsksNothing, HaveWidths, AreZeroChains, AreEmptyChains, asked_at, nothing_asked}
 use Rattle.block_datapath.proofs.Linking.{chains_after}
 use Rattle.block_datapath.proofs.Requesting.{same_asked}
@@ -72,7 +69,8 @@ pub first_none : (a : List Signal) (widths places : List ℕ) → places ≡ [] 
 first_none a widths places e base registers low fit have =
     record { wires = wires_none base a; each = λ x y h f g. absurd (let none = ap (λ (l : List ℕ). slice_get l x) e in cc) }
 
-pub first_more : (a b c : List Signal) (widths places after : List ℕ) (w place : ℕ) → AreFirstZeros a b widths places → slice_get widths (length places) ≡ Some w → ConstantAdds b c w 0 place →
+pub first_more : (a b c : List Signal) (widths places after : List ℕ) (w place : ℕ) → AreFirstZeros a b widths places → slice_get widths (length places) ≡ Some w →
+    ConstantAdds b c w 0 place →
     after ≡ places ++ place ∷ [] → AreFirstZeros a c widths after
 first_more a b c widths places after w place t listed u same base registers low fit have =
     let before = t base registers low fit have in
@@ -100,7 +98,8 @@ first_all a b widths places count t base registers low fit have =
 -- ---- four chains
 
 pub begun_asks : (a b c d e : List Signal) (words bits wide : List ℕ) (chains : BankRequests) → bits ≡ replicate (length words) 1 → wide ≡ replicate (length words) 64 →
-    ShowsZeros a b (length bits) chains.wants → ShowsZeros b c (length bits) chains.writes → ShowsZeros c d (length wide) chains.addresses → ShowsZeros d e (length words) chains.values →
+    ShowsZeros a b (length bits) chains.wants → ShowsZeros b c (length bits) chains.writes → ShowsZeros c d (length wide) chains.addresses →
+    ShowsZeros d e (length words) chains.values →
     AsksNothing a e words chains
 begun_asks a b c d e words bits wide chains one many t u v w = record {
   grows = grows_then a b e t.grows (grows_then b c e u.grows (grows_then c d e v.grows w.grows));

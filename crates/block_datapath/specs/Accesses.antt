@@ -1,5 +1,6 @@
 -- What the accesses of globals in a block ask of banks, by wires that read registers alone.
-use Rattle.std.specs.Prelude.{◌≡◌, ℕ, ◌+◌, ◌/◌, ◌%◌, ◌^◌, ◌<◌, ◌≤◌, ◌≢◌, nat_eq, Bool, true, false, ◌&&◌, if◌then◌else◌, List, length, Option, Some, None, slice_get, slice_index, ℤ}
+use Rattle.std.specs.Prelude.{◌≡◌, ℕ, ◌+◌, ◌/◌, ◌%◌, ◌^◌, ◌<◌, ◌≤◌, ◌≢◌, nat_eq, Bool, true, false, ◌&&◌}
+use Rattle.std.specs.Prelude.{if◌then◌else◌, List, length, Option, Some, None, slice_get, slice_index, ℤ}
 use Rattle.hls_ints.specs.Residues.{residue_of, bit_of}
 use Rattle.hls_ints.specs.Types.{IntegerType, width_of}
 use Rattle.bank_partition.specs.declared.banks.Spread.{Spread}
@@ -9,7 +10,6 @@ use Rattle.block_ir.specs.declared.block.Operation.TheVariants.{Unary, Binary, R
 use Rattle.block_ir.specs.declared.block.Block.{Block}
 use Rattle.block_ir.specs.declared.code.ThreadCode.{ThreadCode}
 use Rattle.block_ir.specs.declared.plan.BlockPlan.{BlockPlan}
-use Rattle.planned_block.specs.Block.{size}
 use Rattle.planned_block.specs.Plan.{further_states, KeepsOrders}
 use Rattle.planned_block.specs.Slot.{Slot, value_now}
 use Rattle.planned_block.specs.Advance.{last_of}
@@ -21,7 +21,6 @@ use Rattle.verilog_meaning.specs.Readings.{Reading, width}
 use Rattle.circuit.specs.Modules.{Obeys}
 use Rattle.operator_wires.specs.declared.words.Word.{Word}
 use Rattle.operator_wires.specs.Gives.{Grows}
-use Rattle.operator_wires.specs.Words.{IsWord}
 use Rattle.operator_wires.specs.Built.{Base, IsEarlier, StandsAs, AddsWord}
 use Rattle.thread_promise.specs.Types.{value_type, or_int, IsTypedBlock}
 use Rattle.block_datapath.specs.declared.registers.Held.{Held}
@@ -200,7 +199,8 @@ module _ (old new : List Signal) (registers : Registers) (types : List IntegerTy
   -- and for accesses
   abbrev pub AreAccessLinks : List IntegerType → List Spread → Moment → Type 0
   AreAccessLinks globals spreads moment =
-      (base : Base) (bits wide own : List Held) → AreSources old base types registers values → AreBankChains old base bits wide own before → HaveBankWidths globals spreads bits wide own →
+      (base : Base) (bits wide own : List Held) → AreSources old base types registers values → AreBankChains old base bits wide own before →
+      HaveBankWidths globals spreads bits wide own →
       IsEarlier old base moment.at 1 → moment.states ≤ 2 ^ registers.state.width → AddsBankLinks base old new bits wide own after
 
 -- ---- a block at a stage
@@ -226,13 +226,16 @@ module _ (globals : List IntegerType) (spreads : List Spread) (code : ThreadCode
   pub record AsksBlock (old new : List Signal) (before after : BankRequests) : Type 0 where
     pub grows : Grows old new
     pub many : (n : ℕ) → AreAsMany n before → AreAsMany n after
-    pub rests : (m : Module) (r : Reading) (j many : ℕ) → Grows new m.signals → Obeys m r → HasStage registers l m r → r.signal registers.stage.register ≢ l → AreAsMany many before →
+    pub rests : (m : Module) (r : Reading) (j many : ℕ) → Grows new m.signals → Obeys m r → HasStage registers l m r → r.signal registers.stage.register ≢ l →
+        AreAsMany many before →
         j < many → asked_at r after j ≡ asked_at r before j
-    pub asks : (m : Module) (r : Reading) (q : Slot) (wire : ℕ → ℤ) (j many : ℕ) → IsAskRight globals code b p → Grows new m.signals → Obeys m r → IsInStage globals code registers l b p m r q →
+    pub asks : (m : Module) (r : Reading) (q : Slot) (wire : ℕ → ℤ) (j many : ℕ) → IsAskRight globals code b p → Grows new m.signals → Obeys m r →
+        IsInStage globals code registers l b p m r q →
         SeesSlot globals code registers b p m r q → AreFitSpreads spreads → AreAsMany many before → j < many →
         asked_at r after j ≡ last_of (reaches_now q wire j) (asked_now q wire) (asked_at r before j) (length b.operations)
 
   abbrev pub IsAskingBlock : List Signal → List Signal → BankRequests → BankRequests → Type 0
   IsAskingBlock old new before after =
-      (base : Base) (bits wide own : List Held) → AreRegisters old base code.variables registers → AreBankChains old base bits wide own before → HaveBankWidths globals spreads bits wide own →
+      (base : Base) (bits wide own : List Held) → AreRegisters old base code.variables registers → AreBankChains old base bits wide own before →
+      HaveBankWidths globals spreads bits wide own →
       l < 2 ^ registers.stage.width → p.states ≤ 2 ^ registers.state.width → AddsBankLinks base old new bits wide own after

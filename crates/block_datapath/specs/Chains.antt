@@ -79,12 +79,14 @@ pub record CanKeep (m : Module) (states : ℕ) (t : Bool) (s : ℕ) (g : Given) 
 -- at another stage nothing is kept
 abbrev pub KeepsNone : List Signal → ℕ → List ℕ → List ℕ → Type 0
 KeepsNone new end_at before after =
-    (m : Module) (r : Reading) (x : ℕ) → Grows new m.signals → Obeys m r → width m end_at ≡ 1 → r.signal end_at ≡ 0 → x < length before → next_number r after x ≡ next_number r before x
+    (m : Module) (r : Reading) (x : ℕ) → Grows new m.signals → Obeys m r → width m end_at ≡ 1 → r.signal end_at ≡ 0 → x < length before →
+    next_number r after x ≡ next_number r before x
 
 pub record KeepsOne (old new : List Signal) (registers : Registers) (end_at states : ℕ) (before after : List ℕ) (g : Given) : Type 0 where
   pub grows : Grows old new
   pub count : length after ≡ length before
-  pub shows : (m : Module) (r : Reading) (t : Bool) (s x : ℕ) → Grows new m.signals → Obeys m r → IsMoment m r registers end_at states t s → CanKeep m states t s g → x < length before →
+  pub shows : (m : Module) (r : Reading) (t : Bool) (s x : ℕ) → Grows new m.signals → Obeys m r → IsMoment m r registers end_at states t s → CanKeep m states t s g →
+      x < length before →
       length before ≡ length registers.kept →
       next_number r after x ≡ (if keeps_in (Some g) t s x then kept_number r (held_width (slice_get registers.kept x)) (Some g) else next_number r before x)
   pub rests : KeepsNone new end_at before after

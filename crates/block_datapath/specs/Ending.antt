@@ -26,7 +26,8 @@ use Rattle.block_datapath.specs.Chains.{next_number}
 -- a word of a value of a variable's type becomes one of that type
 pub record BecomesOwn (old new : List Signal) (types : List IntegerType) (number : ℕ) (word out : Word) : Type 0 where
   pub grows : Grows old new
-  pub shows : (m : Module) (r : Reading) (ty : IntegerType) (v : ℤ) → Grows new m.signals → Obeys m r → slice_get types number ≡ Some ty → IsWord m r word ty v → IsWord m r out ty v
+  pub shows : (m : Module) (r : Reading) (ty : IntegerType) (v : ℤ) → Grows new m.signals → Obeys m r → slice_get types number ≡ Some ty → IsWord m r word ty v →
+      IsWord m r out ty v
 
 module _ (registers : Registers) (code : ThreadCode) (values : List Given) (state : ℕ) where
   -- the word of what a variable holds at the end, in each reading in which the operand can be seen
@@ -48,7 +49,8 @@ module _ (registers : Registers) (code : ThreadCode) (values : List Given) (stat
   -- the number of the stage that follows; past the last one there is one more
   abbrev pub next_stage : (ℕ → ℤ) → (ℕ → ℤ) → Next → ℕ
   next_stage variables given (Jump l) = min l (length code.stages)
-  next_stage variables given (Branch test nonzero otherwise) = if is_zero (seen_value variables given test) then min otherwise (length code.stages) else min nonzero (length code.stages)
+  next_stage variables given (Branch test nonzero otherwise) = if is_zero (seen_value variables given test) then min otherwise (length code.stages) else min nonzero
+      (length code.stages)
 
   abbrev pub SeesTest : Module → Reading → (ℕ → ℤ) → (ℕ → ℤ) → Next → Type 0
   SeesTest m r variables given (Jump l) = Unit {0}
@@ -57,7 +59,8 @@ module _ (registers : Registers) (code : ThreadCode) (values : List Given) (stat
   pub record ShowsNext (old new : List Signal) (next : Next) (place : ℕ) : Type 0 where
     pub grows : Grows old new
     pub wide : (m : Module) → Grows new m.signals → width m place ≡ registers.stage.width
-    pub shows : (m : Module) (r : Reading) (variables given : ℕ → ℤ) → Grows new m.signals → Obeys m r → SeesTest m r variables given next → r.signal place ≡ next_stage variables given next
+    pub shows : (m : Module) (r : Reading) (variables given : ℕ → ℤ) → Grows new m.signals → Obeys m r → SeesTest m r variables given next →
+        r.signal place ≡ next_stage variables given next
 
 -- ---- chains of variables
 

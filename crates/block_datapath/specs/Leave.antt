@@ -74,7 +74,8 @@ module _ (globals : List IntegerType) (code : ThreadCode) (registers : Registers
       pub last : r.signal left.last ≡ bit_of (nat_eq (suc q.state) p.states)
       pub variables : (x : ℕ) (ty : IntegerType) → slice_get code.variables x ≡ Some ty → x < length before → next_number r before x ≡ residue_of (width_of ty) (q.variables x) →
           next_number r after x
-          ≡ residue_of (width_of ty) (if nat_eq (suc q.state) p.states then finished (operand_now (planned_view b) (plan_view b p) q wire) (planned_view b).finals q.variables x else q.variables x)
+          ≡ residue_of (width_of ty) (if nat_eq (suc q.state) p.states then finished (operand_now (planned_view b) (plan_view b p) q wire)
+          (planned_view b).finals q.variables x else q.variables x)
       pub typed : (x : ℕ) (ty : IntegerType) → slice_get code.variables x ≡ Some ty → HasType ty (q.variables x) →
           HasType ty (if nat_eq (suc q.state) p.states then finished (operand_now (planned_view b) (plan_view b p) q wire) (planned_view b).finals q.variables x else q.variables x)
       pub target : suc q.state ≡ p.states → r.signal left.target ≡ leads_to (operand_now (planned_view b) (plan_view b p) q wire) (planned_view b).next
@@ -92,7 +93,8 @@ module _ (globals : List IntegerType) (code : ThreadCode) (registers : Registers
       pub count : length after ≡ length before
       pub wide : (m : Module) → Grows new m.signals → width m left.last ≡ 1
       pub rests : (m : Module) (r : Reading) → Grows new m.signals → Obeys m r → HasStage registers l m r → r.signal registers.stage.register ≢ l → RestsSo r
-      pub moves : (bank : Location → ℕ) (m : Module) (r : Reading) (q : Slot) (wire : ℕ → ℤ) → IsRight globals code registers b p → Grows new m.signals → Obeys m r → IsInStage m r q →
+      pub moves : (bank : Location → ℕ) (m : Module) (r : Reading) (q : Slot) (wire : ℕ → ℤ) → IsRight globals code registers b p → Grows new m.signals → Obeys m r →
+          IsInStage m r q →
           SeesSlot globals code registers b p m r q → IsFed globals code registers b p bank m r q wire → FinishesSo m r q wire
 
     -- A BLOCK AT A STAGE: the same, of the registers for values too
@@ -102,7 +104,8 @@ module _ (globals : List IntegerType) (code : ThreadCode) (registers : Registers
       pub kept_count : length kept_after ≡ length kept
       -- the values of its operations, the bit of its stage, and the moment that a state of it is
       pub shown : ShowsFirst globals code registers b p old new (length b.operations) left.values
-      pub bit : (m : Module) (r : Reading) → Grows new m.signals → Obeys m r → HasStage registers l m r → r.signal left.end.at ≡ bit_of (nat_eq (r.signal registers.stage.register) l)
+      pub bit : (m : Module) (r : Reading) → Grows new m.signals → Obeys m r → HasStage registers l m r →
+          r.signal left.end.at ≡ bit_of (nat_eq (r.signal registers.stage.register) l)
       pub moment : (m : Module) (r : Reading) (q : Slot) → Grows new m.signals → Obeys m r → IsInStage m r q → IsMoment m r registers left.end.at left.end.states true q.state
       pub bit_wide : (m : Module) → Grows new m.signals → width m left.end.at ≡ 1
       pub states : left.end.states ≡ max 1 p.states
@@ -110,6 +113,7 @@ module _ (globals : List IntegerType) (code : ThreadCode) (registers : Registers
       pub rests : (m : Module) (r : Reading) → Grows new m.signals → Obeys m r → HasStage registers l m r → r.signal registers.stage.register ≢ l → RestsSo r
       pub kept_rests : (m : Module) (r : Reading) (x : ℕ) → Grows new m.signals → Obeys m r → HasStage registers l m r → r.signal registers.stage.register ≢ l → x < length kept →
           next_number r kept_after x ≡ next_number r kept x
-      pub moves : (bank : Location → ℕ) (m : Module) (r : Reading) (q : Slot) (wire : ℕ → ℤ) → IsRight globals code registers b p → Grows new m.signals → Obeys m r → IsInStage m r q →
+      pub moves : (bank : Location → ℕ) (m : Module) (r : Reading) (q : Slot) (wire : ℕ → ℤ) → IsRight globals code registers b p → Grows new m.signals → Obeys m r →
+          IsInStage m r q →
           SeesSlot globals code registers b p m r q → IsFed globals code registers b p bank m r q wire →
           FinishesSo m r q wire × KeepsSo globals code registers b p m r q wire kept kept_after

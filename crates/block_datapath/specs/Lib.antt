@@ -7,3 +7,4 @@ pub mod Wired
 pub mod Requests
 pub mod Accesses
 pub mod Told
+pub mod Units

@@ -1,5 +1,5 @@
 -- What the operations of a block give, and what their words show.
-use Rattle.std.specs.Prelude.{◌≡◌, ℕ, ◌<◌, ◌≤◌, ◌+◌, ◌%◌, ◌^◌, List, length, Some, slice_get, slice_index, ℤ, pos, negsuc}
+use Rattle.std.specs.Prelude.{◌≡◌, ℕ, ◌<◌, ◌≤◌, ◌+◌, ◌%◌, ◌^◌, List, length, Option, Some, None, slice_get, slice_index, ℤ, pos, negsuc}
 use Rattle.interleaving.specs.Memory.{Location, Memory}
 use Rattle.hls_ints.specs.Residues.{residue_of}
 use Rattle.hls_ints.specs.Types.{IntegerType, HasType, width_of}
@@ -26,11 +26,13 @@ use Rattle.operator_wires.specs.declared.words.Word.{Word}
 use Rattle.operator_wires.specs.Gives.{Grows}
 use Rattle.operator_wires.specs.Words.{IsWord}
 use Rattle.block_datapath.specs.declared.registers.Held.{Held}
+use Rattle.block_datapath.specs.declared.registers.UnitResults.{UnitResults}
 use Rattle.block_datapath.specs.declared.registers.Registers.{Registers}
 use Rattle.block_datapath.specs.declared.operands.Given.{Given}
 use Rattle.thread_promise.specs.Types.{value_type, IsOfLength, IsTypedBlock}
 use Rattle.thread_promise.specs.Globals.{IsSmallPower, IsAccess}
 use Rattle.block_datapath.specs.Seen.{IsVariable, IsKept, SeesSource}
+use Rattle.block_datapath.specs.Units.{unit_place, word_at, HasUnits}
 use Rattle.thread_promise.specs.Slots.{element_at, IsAlive}
 
 -- the value of an operand, where the variables and the values of operations are these
@@ -106,12 +108,26 @@ IsSized globals code registers (WriteGlobal x n i a) = Unit {0}
 IsSized globals code registers (ReadArray x n i) = IsOfLength code x n
 IsSized globals code registers (WriteArray x n i a) = IsOfLength code x n
 
+-- where the result of an operation on unit n stands, if that is shared
+abbrev pub result_place : List UnitResults → ℕ → Operation → Option ℕ
+result_place units n (Unary operator ty a) = None
+result_place units n (Binary operator ty a b) = unit_place units operator ty n
+result_place units n (ReadGlobal x count i) = None
+result_place units n (WriteGlobal x count i a) = None
+result_place units n (ReadArray x count i) = None
+result_place units n (WriteArray x count i a) = None
+
+-- where it is shared, it shows this value
+abbrev pub HasResult : List UnitResults → ℕ → Operation → Module → Reading → IntegerType → ℤ → Type 0
+HasResult units n o m r ty v = (place : ℕ) → result_place units n o ≡ Some place → IsWord m r (word_at place ty) ty v
+
 module _ (old new : List Signal) where
   -- the address of an index: its own number where it is one of so many, and else none of their numbers
   pub record Addresses (index : Word) (size place : ℕ) : Type 0 where
     pub grows : Grows old new
     pub inside : (m : Module) (r : Reading) (ty : IntegerType) (i : ℕ) → Grows new m.signals → Obeys m r → IsWord m r index ty (pos i) → i < size → r.signal place ≡ i
-    pub outside : (m : Module) (r : Reading) (ty : IntegerType) (v : ℤ) → Grows new m.signals → Obeys m r → IsWord m r index ty v → size < 2 ^ 31 → IsOutside size v → size ≤ r.signal place
+    pub outside : (m : Module) (r : Reading) (ty : IntegerType) (v : ℤ) → Grows new m.signals → Obeys m r → IsWord m r index ty v → size < 2 ^ 31 → IsOutside size v →
+        size ≤ r.signal place
 
   pub record ReadsArray (code : ThreadCode) (a : ℕ) (index out : Word) : Type 0 where
     pub grows : Grows old new
@@ -119,20 +135,26 @@ module _ (old new : List Signal) where
         slice_get code.arrays a ≡ Some array → IsWord m r index ty v → IsWord m r out array.ty (arrays (element_at a (place_read array.length v)))
 
   -- THE WORD OF AN OPERATION shows what it gives, in each reading in which its operands can be seen
-  pub record ShowsOperation (globals : List IntegerType) (code : ThreadCode) (registers : Registers) (values : List Given) (start last : ℕ) (operation : Operation) (out : Word) : Type 0 where
+  pub record ShowsOperation (globals : List IntegerType) (code : ThreadCode) (registers : Registers) (values : List Given) (unit start last : ℕ) (operation : Operation)
+      (out : Word) : Type 0 where
     pub grows : Grows old new
+    -- an operation on a shared unit has no operator of its own
+    pub shared : (place : ℕ) → result_place registers.units unit operation ≡ Some place → (new ≡ old) × (out.place ≡ place)
     pub shows : (m : Module) (r : Reading) (variables given : ℕ → ℤ) (arrays told : Memory ℤ) → Grows new m.signals → Obeys m r → HasArrays code m r arrays →
         HasTold globals registers m r told → SeesOperands m r registers code values start last variables given operation → IsSized globals code registers operation →
+        HasResult registers.units unit operation m r (value_type globals code operation) (operation_value variables given arrays told operation) →
         IsWord m r out (value_type globals code operation) (operation_value variables given arrays told operation)
 
   -- the same of what is kept of it
-  pub record GivesOperation (globals : List IntegerType) (code : ThreadCode) (registers : Registers) (values : List Given) (plan : BlockPlan) (k : ℕ) (operation : Operation) (given :
+  pub record GivesOperation (globals : List IntegerType) (code : ThreadCode) (registers : Registers) (values : List Given) (plan : BlockPlan) (k : ℕ) (operation : Operation)
+      (given :
       Given) : Type 0 where
     pub says : given.word.width ≡ width_of (value_type globals code operation)
     pub sign : given.word.signed ≡ (value_type globals code operation).signed
-    pub last : slice_index plan.starts k + further_states (operation_view operation).kind < 2 ^ 64 → given.last ≡ slice_index plan.starts k + further_states (operation_view operation).kind
+    pub last : slice_index plan.starts k + further_states (operation_view operation).kind < 2 ^ 64 →
+        given.last ≡ slice_index plan.starts k + further_states (operation_view operation).kind
     pub register : given.register ≡ register_at plan.registers k
-    pub shows : ShowsOperation globals code registers values (slice_index plan.starts k) given.last operation given.word
+    pub shows : ShowsOperation globals code registers values (slice_index plan.units k) (slice_index plan.starts k) given.last operation given.word
 
 -- ---- the operations of a block
 
@@ -143,10 +165,11 @@ module _ (globals : List IntegerType) (code : ThreadCode) (registers : Registers
     pub arrays : HasArrays code m r q.arrays
     pub alive : (k n : ℕ) (t : IsAlive b p q k n) → IsKept m r registers (Some n) (value_type globals code t.operation) (q.registers n)
 
-  -- its wires are those of the planned block, and banks tell the words that the slot has
+  -- its wires are those of the planned block, banks tell the words that the slot has, and shared units show what their operations give
   pub record IsFed (bank : Location → ℕ) (m : Module) (r : Reading) (q : Slot) (wire : ℕ → ℤ) : Type 0 where
     pub wired : IsWired bank (planned_view b) (plan_view b p) q wire
     pub told : HasTold globals registers m r (λ l. q.words (bank l))
+    pub units : HasUnits registers.units b p m r q wire
 
   -- the block is right: its operands have the types that they say, its accesses the lengths, and its plan keeps its orders
   pub record IsRight : Type 0 where
@@ -155,12 +178,14 @@ module _ (globals : List IntegerType) (code : ThreadCode) (registers : Registers
     pub keeps : KeepsOrders (planned_view b) (plan_view b p)
     pub small : p.states < 2 ^ 64
 
-  -- the value of operation k: its word shows what the planned block's wire has in the operation's last state
+  -- the value of operation k: its word shows what the planned block's wire has in the operation's last state, and stands where the result of
+  -- its unit does, if that is shared
   pub record IsShown (new : List Signal) (k : ℕ) (o : Operation) (given : Given) : Type 0 where
     pub says : given.word.width ≡ width_of (value_type globals code o)
     pub sign : given.word.signed ≡ (value_type globals code o).signed
     pub last : IsRight → given.last ≡ last_state (planned_view b) (plan_view b p) k
     pub register : given.register ≡ (plan_view b p).register k
+    pub shared : (place : ℕ) → result_place registers.units (slice_index p.units k) o ≡ Some place → given.word.place ≡ place
     pub shows : (bank : Location → ℕ) (m : Module) (r : Reading) (q : Slot) (wire : ℕ → ℤ) → IsRight → Grows new m.signals → Obeys m r → SeesSlot m r q →
         IsFed bank m r q wire → last_state (planned_view b) (plan_view b p) k ≡ q.state →
         IsWord m r given.word (value_type globals code o) (wire k)

@@ -82,7 +82,8 @@ module _ (old new : List Signal) (before after : BankRequests) where
         r.signal chosen ≡ bit_of u → AreAsMany many before → n < many →
         asked_at r after n ≡ (if nat_eq n number && (t && u) then asked_by r access else asked_at r before n)
     -- not where the bit of the state is 0
-    pub rests : (m : Module) (r : Reading) (j many : ℕ) → Grows new m.signals → Obeys m r → width m access.state ≡ 1 → r.signal access.state ≡ 0 → AreAsMany many before → j < many →
+    pub rests : (m : Module) (r : Reading) (j many : ℕ) → Grows new m.signals → Obeys m r → width m access.state ≡ 1 → r.signal access.state ≡ 0 → AreAsMany many before →
+        j < many →
         asked_at r after j ≡ asked_at r before j
 
   -- where the state's bit is set the bank of an index is asked so: of the first n banks of a global
@@ -94,7 +95,8 @@ module _ (old new : List Signal) (before after : BankRequests) where
         n < 1 + 2 ^ bits → AreAsMany many before → j < many →
         asked_at r after j ≡ (if t && (nat_eq j (s.first + r.signal index % 2 ^ bits) && nat_lt (r.signal index % 2 ^ bits) n) then asked_by r access else asked_at r before j)
     -- not where the bit of the state is 0
-    pub rests : (m : Module) (r : Reading) (j many : ℕ) → Grows new m.signals → Obeys m r → width m access.state ≡ 1 → r.signal access.state ≡ 0 → AreAsMany many before → j < many →
+    pub rests : (m : Module) (r : Reading) (j many : ℕ) → Grows new m.signals → Obeys m r → width m access.state ≡ 1 → r.signal access.state ≡ 0 → AreAsMany many before →
+        j < many →
         asked_at r after j ≡ asked_at r before j
 
   -- THE BANK of an index IS ASKED
@@ -106,7 +108,8 @@ module _ (old new : List Signal) (before after : BankRequests) where
         IsSmallPower s.count → s.first + s.count < 2 ^ 64 → AreAsMany many before → j < many →
         asked_at r after j ≡ (if t && nat_eq j (s.first + r.signal index % s.count) then asked_by r access else asked_at r before j)
     -- not where the bit of the state is 0
-    pub rests : (m : Module) (r : Reading) (j many : ℕ) → Grows new m.signals → Obeys m r → width m access.state ≡ 1 → r.signal access.state ≡ 0 → AreAsMany many before → j < many →
+    pub rests : (m : Module) (r : Reading) (j many : ℕ) → Grows new m.signals → Obeys m r → width m access.state ≡ 1 → r.signal access.state ≡ 0 → AreAsMany many before →
+        j < many →
         asked_at r after j ≡ asked_at r before j
 
 -- ---- how they are put together

@@ -88,7 +88,8 @@ module _ (old new : List Signal) (registers : Registers) where
   -- THE WORD OF AN OPERAND shows its value, in each reading in which the operand can be seen
   pub record ShowsOperand (types : List IntegerType) (values : List Given) (state : ℕ) (operand : Operand) (out : Word) : Type 0 where
     pub grows : Grows old new
-    pub shows : (m : Module) (r : Reading) (variables given : ℕ → ℤ) → Grows new m.signals → Obeys m r → SeesSource m r registers types values state variables given operand.source →
+    pub shows : (m : Module) (r : Reading) (variables given : ℕ → ℤ) → Grows new m.signals → Obeys m r →
+        SeesSource m r registers types values state variables given operand.source →
         IsWord m r out (operand_type operand) (operand_value variables given (operand_view operand))
 
 -- a word, converted to these types one after the other

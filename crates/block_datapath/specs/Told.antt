@@ -18,7 +18,7 @@ use Rattle.block_datapath.specs.declared.registers.Registers.{Registers}
 use Rattle.block_datapath.specs.declared.operands.Given.{Given}
 use Rattle.block_datapath.specs.Seen.{SeesSource}
 use Rattle.block_datapath.specs.Operations.{seen_value, IsTold}
-use Rattle.block_datapath.specs.Wired.{AreRegisters, CanRead}
+use Rattle.block_datapath.specs.Wired.{AreRegisters}
 
 -- the input of bank n tells a number of w bits
 pub record TellsNumber (registers : Registers) (m : Module) (r : Reading) (n w number : ℕ) : Type 0 where
@@ -60,7 +60,8 @@ module _ (old new : List Signal) (registers : Registers) where
 
   abbrev pub IsNumberWire : ℕ → ℕ → Type 0
   IsNumberWire w place =
-      (base : Base) (types : List IntegerType) → AreRegisters old base types registers → ((n : ℕ) (h : Held) → slice_get registers.words n ≡ Some h → base.first ≤ h.register) → 1 ≤ w →
+      (base : Base) (types : List IntegerType) → AreRegisters old base types registers → ((n : ℕ) (h : Held) → slice_get registers.words n ≡ Some h → base.first ≤ h.register) →
+      1 ≤ w →
       w ≤ 64 → Adds base old new w place
 
   abbrev pub IsChosenWord : Spread → ℕ → ℕ → ℕ → Type 0

@@ -9,10 +9,10 @@ use Rattle.block_ir.specs.declared.code.Array.{Array}
 use Rattle.block_ir.specs.declared.code.ThreadCode.{ThreadCode}
 use Rattle.block_ir.specs.declared.plan.BlockPlan.{BlockPlan}
 use Rattle.operator_wires.specs.declared.words.Word.{Word}
-use Rattle.operator_words.specs.Shown.{truth_type}
 use Rattle.operator_wires.specs.Built.{Base, IsEarlier, AreWires, Adds, StandsAs, AddsWord}
 use Rattle.thread_promise.specs.Types.{last_type, element_type}
 use Rattle.block_datapath.specs.declared.registers.Held.{Held}
+use Rattle.block_datapath.specs.declared.registers.UnitResults.{UnitResults}
 use Rattle.block_datapath.specs.declared.registers.Registers.{Registers}
 use Rattle.block_datapath.specs.declared.operands.Given.{Given}
 use Rattle.block_datapath.specs.declared.states.Moment.{Moment}
@@ -38,6 +38,10 @@ module _ (signals : List Signal) (base : Base) where
     pub says : h.width ≡ width_of ty
     pub stands : IsEarlier signals base h.register (width_of ty)
 
+  -- the results of units stand, as wide as their types
+  abbrev pub AreUnits : List UnitResults → Type 0
+  AreUnits units = (x n place : ℕ) (u : UnitResults) → slice_get units x ≡ Some u → slice_get u.places n ≡ Some place → IsEarlier signals base place (width_of u.ty)
+
   -- THE REGISTERS of a slot stand at earlier places, as wide as they say
   pub record AreRegisters (types : List IntegerType) (registers : Registers) : Type 0 where
     pub stage : IsEarlier signals base registers.stage.register registers.stage.width
@@ -47,6 +51,7 @@ module _ (signals : List Signal) (base : Base) where
     pub kept : (x : ℕ) (h : Held) → slice_get registers.kept x ≡ Some h → IsEarlier signals base h.register h.width
     -- and inputs of banks, where they may be read
     pub words : (n : ℕ) (h : Held) → slice_get registers.words n ≡ Some h → base.first ≤ h.register → IsEarlier signals base h.register h.width
+    pub units : AreUnits registers.units
 
   -- values are words of types
   abbrev pub AreValues : List Given → Type 0
@@ -164,16 +169,19 @@ module _ (old new : List Signal) where
   -- bits of states
   abbrev pub IsStateBit : Registers → Moment → ℕ → Type 0
   IsStateBit registers moment place =
-      (base : Base) → IsEarlier old base registers.state.register registers.state.width → IsEarlier old base moment.at 1 → moment.states ≤ 2 ^ registers.state.width → Adds base old new 1 place
+      (base : Base) → IsEarlier old base registers.state.register registers.state.width → IsEarlier old base moment.at 1 → moment.states ≤ 2 ^ registers.state.width →
+      Adds base old new 1 place
 
   abbrev pub IsBitOfState : Registers → Moment → ℕ → Type 0
   IsBitOfState registers moment place =
-      (base : Base) → IsEarlier old base registers.state.register registers.state.width → IsEarlier old base moment.at 1 → moment.state < 2 ^ registers.state.width → Adds base old new 1 place
+      (base : Base) → IsEarlier old base registers.state.register registers.state.width → IsEarlier old base moment.at 1 → moment.state < 2 ^ registers.state.width →
+      Adds base old new 1 place
 
   -- a link for the register of a number
   abbrev pub IsLinked : ℕ → ℕ → ℕ → ℕ → List ℕ → List ℕ → Type 0
   IsLinked number width condition source before after =
-      (base : Base) (registers : List Held) → AreChains old base registers before → HasWidthAt registers number width → IsEarlier old base condition 1 → IsEarlier old base source width
+      (base : Base) (registers : List Held) → AreChains old base registers before → HasWidthAt registers number width → IsEarlier old base condition 1 →
+      IsEarlier old base source width
       → AddsLinks base old new registers after
 
   -- links for registers for values, where P holds of what they get
@@ -200,7 +208,8 @@ module _ (old new : List Signal) where
   -- numbers of stages
   abbrev pub IsStageNumber : ThreadCode → Registers → ℕ → Type 0
   IsStageNumber code registers place =
-      (base : Base) → IsEarlier old base registers.stage.register registers.stage.width → length code.stages < 2 ^ registers.stage.width → Adds base old new registers.stage.width place
+      (base : Base) → IsEarlier old base registers.stage.register registers.stage.width → length code.stages < 2 ^ registers.stage.width →
+      Adds base old new registers.stage.width place
 
   abbrev pub IsTarget : ThreadCode → Registers → List Given → ℕ → Type 0
   IsTarget code registers values place =
@@ -214,7 +223,8 @@ module _ (old new : List Signal) where
 
   abbrev pub IsKeptBlockAdded : ThreadCode → Registers → ℕ → BlockPlan → List ℕ → List ℕ → List ℕ → List ℕ → Left → Type 0
   IsKeptBlockAdded code registers stage plan before after kept kept_after left =
-      (base : Base) → FitsStage base code registers stage plan → AreRegisters old base code.variables registers → AreChains old base registers.variables before → AreChains old base registers.kept kept
+      (base : Base) → FitsStage base code registers stage plan → AreRegisters old base code.variables registers → AreChains old base registers.variables before →
+      AreChains old base registers.kept kept
       → AddsKeptBlock base old new registers after kept_after left
 
 -- a value, and each of some values, stands

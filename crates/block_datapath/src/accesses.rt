@@ -3,7 +3,19 @@
 ghost use Rattle.std.specs.Prelude.{◌≡◌, ℕ, ◌<◌, length, slice_get, Some, IfOk, OnOk};
 ghost use Rattle.hls_ints.specs.Residues.{bit_of};
 ghost use Rattle.block_ir.specs.declared.block.Operation.TheVariants as operation;
-ghost use Rattle.block_datapath.specs.Accesses.{AddsRegistered, AreRegistered, IsZero, AreZeros, AsksIndex, AsksOperation, AsksFirst, AreIndexLinks, AreAccessLinks, AsksBlock, IsAskingBlock};
+ghost use Rattle.block_datapath.specs.Accesses.{
+  AddsRegistered,
+  AreRegistered,
+  IsZero,
+  AreZeros,
+  AsksIndex,
+  AsksOperation,
+  AsksFirst,
+  AreIndexLinks,
+  AreAccessLinks,
+  AsksBlock,
+  IsAskingBlock,
+};
 
 use crate::leaving_block::end_of;
 use crate::operands::{Given, operand_word};
@@ -248,7 +260,8 @@ fn ask_index(
     writes: bool,
     value: Word,
 ) -> Result<(), AllocError>
-    ensures shows { OnOk result (AsksIndex wires.old.signals wires.new.signals registers.now code.now.variables values.now chains.old chains.new moment (Some spread) index.now writes value) }
+    ensures shows { OnOk result (AsksIndex wires.old.signals wires.new.signals registers.now code.now.variables values.now chains.old chains.new moment
+        (Some spread) index.now writes value) }
     ensures wired { OnOk result (AreIndexLinks wires.old.signals wires.new.signals registers.now code.now.variables values.now chains.old chains.new moment (Some spread) value) }
 {
     let types = code.variables.as_slice();

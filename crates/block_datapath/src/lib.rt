@@ -44,5 +44,6 @@ pub mod operations;
 pub mod registers;
 pub mod requests;
 pub mod states;
-mod timing;
+pub mod timing;
 mod told;
+pub mod units;

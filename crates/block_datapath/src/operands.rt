@@ -39,7 +39,7 @@ pub fn operand_word(
     all_converted(wires, word, operand.conversions.as_slice())
 }
 
-fn all_converted(wires: &mut Wires, word: Word, types: &[CType]) -> Result<Word, AllocError>
+pub fn all_converted(wires: &mut Wires, word: Word, types: &[CType]) -> Result<Word, AllocError>
     ensures shows { IfOk result (Converts wires.old.signals wires.new.signals word types.now) }
     ensures wired { IfOk result (AreConverted wires.old.signals wires.new.signals word types.now) }
 {

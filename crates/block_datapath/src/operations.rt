@@ -1,6 +1,6 @@
 // The values of the operations of a block.
 
-ghost use Rattle.std.specs.Prelude.{◌≡◌, ◌<◌, ◌≤◌, ◌-◌, ◌^◌, ℕ, ℤ, slice_get, slice_index, length, List, IfOk, IsTrue};
+ghost use Rattle.std.specs.Prelude.{◌≡◌, ◌<◌, ◌≤◌, ◌-◌, ◌^◌, ℕ, ℤ, None, slice_get, slice_index, length, List, IfOk, IsTrue};
 ghost use Rattle.operator_words.specs.Shown.{unary_result, binary_result};
 ghost use Rattle.block_datapath.specs.Wired.{IsSourced, IsOperationWord, IsElementWord, IsAddress, AreGiven};
 ghost use Rattle.hls_ints.specs.Types.{IntegerType};
@@ -8,11 +8,13 @@ ghost use Rattle.planned_view.specs.View.{register_at};
 ghost use Rattle.thread_promise.specs.Types.{value_type, or_int, element_type};
 ghost use Rattle.block_datapath.specs.Operations.{Addresses, ReadsArray, ShowsOperation, GivesOperation, ShowsFirst};
 ghost use Rattle.block_ir.specs.declared.block.Operation.TheVariants as operation;
+ghost use Rattle.block_datapath.specs.Units.{unit_place};
 
 use crate::operands::{Given, operand_word};
 use crate::registers::Registers;
 use crate::timing::further_states;
 use crate::told::told_value;
+use crate::units::unit_place;
 use block_ir::block::{Block, Operation};
 use block_ir::code::{Array, ThreadCode};
 use block_ir::operand::Operand;
@@ -101,12 +103,14 @@ fn given_value(
     operation: &Operation,
 ) -> Result<Given, AllocError>
     ensures shows { IfOk result (GivesOperation wires.old.signals wires.new.signals globals.now code.now registers.now values.now plan.now number operation.now) }
-    ensures wired { IfOk result (λ given. IsOperationWord wires.old.signals wires.new.signals code.now registers.now values.now (value_type globals.now code.now operation.now) given.word) }
+    ensures wired { IfOk result (λ given. IsOperationWord wires.old.signals wires.new.signals code.now registers.now values.now
+        (value_type globals.now code.now operation.now) given.word) }
 {
     let start = start_of(plan, number);
     let last = start.saturating_add(further_states(operation));
+    let unit = unit_of(plan, number) as usize;
     let word = operation_word(
-        wires, registers, code, globals, values, start, last, operation,
+        wires, registers, code, globals, values, unit, start, last, operation,
     )?;
     let register = register_of(plan, number);
     Ok(Given {
@@ -127,6 +131,19 @@ fn start_at(starts: &[u64], number: usize) -> u64
     ensures { result ≡ slice_index starts.now number }
 {
     starts.get(number).copied().unwrap_or(0)
+}
+
+/// The number of the unit of an operation among those of its kind.
+pub fn unit_of(plan: &BlockPlan, number: usize) -> u32
+    ensures { result ≡ slice_index plan.now.units number }
+{
+    unit_at(plan.units.as_slice(), number)
+}
+
+fn unit_at(units: &[u32], number: usize) -> u32
+    ensures { result ≡ slice_index units.now number }
+{
+    units.get(number).copied().unwrap_or(0)
 }
 
 /// The register that a plan gives a value, if it does.
@@ -153,11 +170,12 @@ fn operation_word(
     code: &ThreadCode,
     globals: &[CType],
     values: &[Given],
+    unit: usize,
     start: u64,
     last: u64,
     operation: &Operation,
 ) -> Result<Word, AllocError>
-    ensures shows { IfOk result (ShowsOperation wires.old.signals wires.new.signals globals.now code.now registers.now values.now start last operation.now) }
+    ensures shows { IfOk result (ShowsOperation wires.old.signals wires.new.signals globals.now code.now registers.now values.now unit start last operation.now) }
     ensures wired { IfOk result (IsOperationWord wires.old.signals wires.new.signals code.now registers.now values.now (value_type globals.now code.now operation.now)) }
 {
     match operation {
@@ -173,8 +191,8 @@ fn operation_word(
             ty,
             left,
             right,
-        } => binary_value(
-            wires, registers, code, values, last, *operator, *ty, left, right,
+        } => shared_value(
+            wires, registers, code, values, unit, last, *operator, *ty, left, right,
         ),
         Operation::ReadArray { array, index, .. } => {
             element_value(
@@ -214,13 +232,39 @@ fn unary_value(
     ty: CType,
     operand: &Operand,
 ) -> Result<Word, AllocError>
-    ensures shows { IfOk result (λ out. (globals : List IntegerType) (start : ℕ) → ShowsOperation wires.old.signals wires.new.signals globals code.now registers.now values.now start last
-        (operation.Unary operator ty operand.now) out) }
+    ensures shows { IfOk result (λ out. (globals : List IntegerType) (unit start : ℕ) →
+        ShowsOperation wires.old.signals wires.new.signals globals code.now registers.now values.now unit start last (operation.Unary operator ty operand.now) out) }
     ensures wired { IfOk result (IsSourced wires.old.signals wires.new.signals code.now.variables registers.now values.now (unary_result operator ty)) }
 {
     let types = code.variables.as_slice();
     let word = operand_word(wires, registers, types, values, operand, last)?;
     wires.unary(operator, ty, word)
+}
+
+/// The value of an operator: the result of the unit of that number, if it is shared, and else that of an operator of its
+/// own.
+fn shared_value(
+    wires: &mut Wires,
+    registers: &Registers,
+    code: &ThreadCode,
+    values: &[Given],
+    unit: usize,
+    last: u64,
+    operator: BinaryOperator,
+    ty: CType,
+    left: &Operand,
+    right: &Operand,
+) -> Result<Word, AllocError>
+    ensures shows { IfOk result (λ out. (globals : List IntegerType) (start : ℕ) → ShowsOperation wires.old.signals wires.new.signals globals code.now registers.now values.now
+        unit start last (operation.Binary operator ty left.now right.now) out) }
+    ensures wired { IfOk result (IsSourced wires.old.signals wires.new.signals code.now.variables registers.now values.now (binary_result operator ty)) }
+{
+    match unit_place(registers.units.as_slice(), operator, ty, unit) {
+        Some(place) => Ok(Word::of_type(place, ty)),
+        None => binary_value(
+            wires, registers, code, values, last, operator, ty, left, right,
+        ),
+    }
 }
 
 fn binary_value(
@@ -234,8 +278,8 @@ fn binary_value(
     left: &Operand,
     right: &Operand,
 ) -> Result<Word, AllocError>
-    ensures shows { IfOk result (λ out. (globals : List IntegerType) (start : ℕ) → ShowsOperation wires.old.signals wires.new.signals globals code.now registers.now values.now start last
-        (operation.Binary operator ty left.now right.now) out) }
+    ensures shows { IfOk result (λ out. (globals : List IntegerType) (unit start : ℕ) → unit_place registers.now.units operator ty unit ≡ None →
+        ShowsOperation wires.old.signals wires.new.signals globals code.now registers.now values.now unit start last (operation.Binary operator ty left.now right.now) out) }
     ensures wired { IfOk result (IsSourced wires.old.signals wires.new.signals code.now.variables registers.now values.now (binary_result operator ty)) }
 {
     let types = code.variables.as_slice();
@@ -254,8 +298,8 @@ fn element_value(
     array: usize,
     index: &Operand,
 ) -> Result<Word, AllocError>
-    ensures shows { IfOk result (λ out. (globals : List IntegerType) (last n : ℕ) → ShowsOperation wires.old.signals wires.new.signals globals code.now registers.now values.now start last
-        (operation.ReadArray array n index.now) out) }
+    ensures shows { IfOk result (λ out. (globals : List IntegerType) (unit last n : ℕ) →
+        ShowsOperation wires.old.signals wires.new.signals globals code.now registers.now values.now unit start last (operation.ReadArray array n index.now) out) }
     ensures wired { IfOk result (IsOperationWord wires.old.signals wires.new.signals code.now registers.now values.now (element_type (slice_get code.now.arrays array))) }
 {
     let types = code.variables.as_slice();

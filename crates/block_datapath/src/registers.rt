@@ -5,6 +5,8 @@ ghost use Rattle.block_datapath.specs.Wired.{IsLinked};
 ghost use Rattle.block_datapath.specs.Chains.{SetsNext};
 
 use bank_partition::banks::Spread;
+use c_program::tree::BinaryOperator;
+use hls_ints::CType;
 use operator_wires::wires::Wires;
 use sqlite_items::Items;
 use std::alloc::AllocError;
@@ -14,6 +16,17 @@ use std::alloc::AllocError;
 pub struct Held {
     pub register: usize,
     pub width: u64,
+}
+
+/// The results of the functional units of one kind for one operator, by the number of the unit.
+#[derive(Drop)]
+pub struct UnitResults {
+    /// Multiply, Divide or Remainder.
+    pub operator: BinaryOperator,
+    /// The type in which the units work; products of both signs are made in the unsigned one.
+    pub ty: CType,
+    /// Where the results stand, each as wide as the type.
+    pub places: Items<usize>,
 }
 
 /// Where the parts of a slot stand.
@@ -30,6 +43,8 @@ pub struct Registers {
     pub words: Items<Held>,
     /// For each global where its banks are among them.
     pub spreads: Items<Spread>,
+    /// The results of the functional units.
+    pub units: Items<UnitResults>,
 }
 
 /// Where a condition holds the register of that number, if there is one, gets what another signal of its width shows,

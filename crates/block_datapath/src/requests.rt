@@ -3,7 +3,19 @@
 ghost use Rattle.std.specs.Prelude.{◌≡◌, ℕ, ◌+◌, ◌<◌, ◌≤◌, ◌^◌, length, replicate, IfOk, OnOk, IsTrue};
 ghost use Rattle.operator_wires.specs.Built.{Base, IsEarlier, Adds};
 ghost use Rattle.thread_promise.specs.Globals.{IsSmallPower};
-ghost use Rattle.block_datapath.specs.Requests.{ShowsZeros, AsksNothing, AreZeroChains, AreEmptyChains, TellsBank, AddressesBank, AsksOne, AsksSome, AsksBank, IsAskAdded, AreAsksAdded};
+ghost use Rattle.block_datapath.specs.Requests.{
+  ShowsZeros,
+  AsksNothing,
+  AreZeroChains,
+  AreEmptyChains,
+  TellsBank,
+  AddressesBank,
+  AsksOne,
+  AsksSome,
+  AsksBank,
+  IsAskAdded,
+  AreAsksAdded,
+};
 
 use crate::registers::set_next;
 use bank_partition::banks::Spread;

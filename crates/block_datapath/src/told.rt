@@ -32,7 +32,7 @@ pub fn told_value(
     global: usize,
     index: &Operand,
 ) -> Result<Word, AllocError>
-    ensures shows { IfOk result (λ out. (start n : ℕ) → ShowsOperation wires.old.signals wires.new.signals globals.now code.now registers.now values.now start last
+    ensures shows { IfOk result (λ out. (unit start n : ℕ) → ShowsOperation wires.old.signals wires.new.signals globals.now code.now registers.now values.now unit start last
         (operation.ReadGlobal global n index.now) out) }
     ensures wired { IfOk result (IsOperationWord wires.old.signals wires.new.signals code.now registers.now values.now (or_int (slice_get globals.now global))) }
 {

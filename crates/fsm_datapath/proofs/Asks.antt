@@ -41,8 +41,8 @@ use Rattle.fsm_datapath.specs.declared.shape.Printer.{Printer}
 use Rattle.fsm_datapath.specs.declared.requests.Requests.{Requests}
 use Rattle.fsm_datapath.specs.Stages.{KnowsStage, AsksSite, AsksValues}
 use Rattle.fsm_datapath.specs.Wired.{LinkFields}
-use Rattle.fsm_datapath.specs.Asking.{AreAskBits, AsksPrinter, NeedsCore, AsksFields, AskSame, AskAsMany, AsksOver, AreAskLinks, BitsAreLinked}
-use Rattle.fsm_datapath.specs.Asking.{AskIsWired, AsksAt, AsksStage, AsksFirst, AsksAll}
+use Rattle.fsm_datapath.specs.Asking.{AreAskBits, AsksPrinter, AsksFields, AskSame, AskAsMany, AsksOver, AreAskLinks, BitsAreLinked}
+use Rattle.fsm_datapath.specs.Asking.{AskIsWired, AsksAt, AsksStage, AsksFirst, AsksAllWired}
 use Rattle.fsm_datapath.proofs.Between.{registers_of}
 use Rattle.fsm_datapath.proofs.Linked.{slots_later}
 use Rattle.fsm_datapath.proofs.Linking.{bit_added, bit_later, same_everywhere, stage_on, has_stage}
@@ -50,40 +50,13 @@ use Rattle.fsm_datapath.proofs.Taken.{Told, stage_below}
 
 -- ---- bits
 
-pub printer_made : (a b c : List Signal) (before after : Requests) (condition : ℕ)
-    → Gives a b after.needs 1 (λ m r. word_inclusive_or (width m before.needs) (r.signal before.needs) (r.signal condition))
-    → Gives b c after.wants 1 (λ m r. word_inclusive_or (width m before.wants) (r.signal before.wants) (r.signal condition))
-    → after ≡ record before { needs = after.needs; wants = after.wants } → AsksPrinter a c before after condition
-printer_made a b c before after condition t u same = record {
-  grows = grows_then a b c t.grows u.grows;
-  needs = bit_later b c before.needs after.needs condition u.grows (bit_added a b before.needs after.needs condition t);
-  bit = bit_added b c before.wants after.wants condition u;
-  same = same;
-}
+pub printer_made : (a b : List Signal) (before after : Requests) (condition : ℕ)
+    → Gives a b after.wants 1 (λ m r. word_inclusive_or (width m before.wants) (r.signal before.wants) (r.signal condition)) → after ≡ record before { wants = after.wants }
+    → AsksPrinter a b before after condition
+printer_made a b before after condition t same = record { grows = t.grows; bit = bit_added a b before.wants after.wants condition t; same = same }
 
-pub printer_linked : (a b c : List Signal) (before after : Requests) (condition : ℕ) → BothAdds a b before.needs condition after.needs →
-    BothAdds b c before.wants condition after.wants
-    → BitsAreLinked a c before after condition
-printer_linked a b c before after condition t u base needs wants bit =
-    let first = t base needs bit in
-    let more = first.wires.grows in
-    let last = u base (stands_after a b base before.wants 1 more wants) (stands_after a b base condition 1 more bit) in
-    record { wires = wires_then base a b c first.wires last.wires; needs = stands_after b c base after.needs 1 last.wires.grows first.stands; wants = last.stands }
-
-pub need_made : (a b : List Signal) (before after : Requests) (condition : ℕ)
-    → Gives a b after.needs 1 (λ m r. word_inclusive_or (width m before.needs) (r.signal before.needs) (r.signal condition))
-    → after ≡ record before { needs = after.needs } → NeedsCore a b before after condition
-need_made a b before after condition t same = record { grows = t.grows; bit = bit_added a b before.needs after.needs condition t; same = same }
-
-pub need_linked : (a b : List Signal) (before after : Requests) (condition : ℕ) → after ≡ record before { needs = after.needs } → BothAdds a b before.needs condition after.needs
-    → BitsAreLinked a b before after condition
-need_linked a b before after condition same t base needs wants bit =
-    let made = t base needs bit in
-    record {
-      wires = made.wires;
-      needs = made.stands;
-      wants = subst (λ (c : Requests). IsEarlier b base c.wants 1) (sym same) (stands_after a b base before.wants 1 made.wires.grows wants);
-    }
+pub printer_linked : (a b : List Signal) (before after : Requests) (condition : ℕ) → BothAdds a b before.wants condition after.wants → BitsAreLinked a b before after condition
+printer_linked a b before after condition t base wants bit = let made = t base wants bit in record { wires = made.wires; wants = made.stands }
 
 -- ---- fields
 
@@ -142,7 +115,7 @@ ask_off_then at a b c x y z t u = record {
 }
 
 pub ask_bits_later : (a b : List Signal) (c : Requests) → Grows a b → AreAskBits a c → AreAskBits b c
-ask_bits_later a b c grows e = record { needs = λ m g. e.needs m (grows_then a b m.signals grows g); wants = λ m g. e.wants m (grows_then a b m.signals grows g) }
+ask_bits_later a b c grows e = record { wants = λ m g. e.wants m (grows_then a b m.signals grows g) }
 
 or_nothing : (t : Bool) → (t || false) ≡ t
 or_nothing true = refl
@@ -152,7 +125,7 @@ pub printer_off : (a b : List Signal) (before after : Requests) (at : ℕ) → A
 printer_off a b before after at t = record {
   grows = t.grows;
   many = record { fields = ap (λ (c : Requests). length c.fields) t.same; banks = λ n is. subst (λ (c : Requests). AreAsMany n c.banks) (sym t.same) is };
-  bits = λ e. record { needs = t.needs.wide; wants = t.bit.wide };
+  bits = λ e. record { wants = t.bit.wide };
   off = λ m r g o e no. record {
     wants = λ v is. t.bit.shows m r v false g o (e.wants m (grows_then a b m.signals t.grows g)) is no ∙ ap bit_of (or_nothing v);
     fields = λ x. ap (λ (c : Requests). next_number r c.fields x) t.same;
@@ -167,7 +140,7 @@ fields_off a b code registers printer at site values before after same t = recor
   many = record { fields = t.count; banks = λ n is. subst (λ (c : Requests). AreAsMany n c.banks) (sym same) is };
   bits = λ e.
       let later = ask_bits_later a b before t.grows e in
-      record { needs = λ m g. ap (λ (c : Requests). width m c.needs) same ∙ later.needs m g; wants = λ m g. ap (λ (c : Requests). width m c.wants) same ∙ later.wants m g };
+      record { wants = λ m g. ap (λ (c : Requests). width m c.wants) same ∙ later.wants m g };
   off = λ m r g o e no. record {
     wants = λ v is. ap (λ (c : Requests). r.signal c.wants) same ∙ is;
     fields = same_everywhere r before.fields after.fields t.count (λ x less. t.rests m r x g o no less);
@@ -204,7 +177,6 @@ module _ (globals : List IntegerType) (spreads : List Spread) (code : ThreadCode
       site_low = t.site_low;
       site_high = t.site_high;
       fields = λ x y e. stands_after a b base y _ g (t.fields x y e);
-      needs = stands_after a b base c.needs 1 g t.needs;
       wants = stands_after a b base c.wants 1 g t.wants;
       banks = bank_chains_after a b base bits wide own c.banks g t.banks;
       widths = t.widths;
@@ -245,7 +217,7 @@ module _ (globals : List IntegerType) (spreads : List Spread) (code : ThreadCode
         let one : printer.site_width ≡ site_width = known printer refl in
         let p = told_wired base links.slots.stage (stage_below base a code registers l links.slots le) in
         let in_b = ask_links_after base site_width bits wide own a b x p.wires.grows links in
-        let q = bits_wired base in_b.needs in_b.wants p.stands in
+        let q = bits_wired base in_b.wants p.stands in
         let in_c = ask_links_after base site_width bits wide own b c x q.wires.grows in_b in
         let fields_y : LinkFields base c printer.site_width y.fields =
         subst (λ (k : Requests). LinkFields base c printer.site_width k.fields) (sym wanted.same) (subst (λ (n : ℕ). LinkFields base c n x.fields) (sym one) in_c.fields) in
@@ -260,7 +232,6 @@ module _ (globals : List IntegerType) (spreads : List Spread) (code : ThreadCode
             site_low = low;
             site_high = high;
             fields = subst (λ (n : ℕ). LinkFields base d n z.fields) one k.linked;
-            needs = subst (λ (r : Requests). IsEarlier d base r.needs 1) (sym same) (stands_after c d base y.needs 1 k.wires.grows q.needs);
             wants = subst (λ (r : Requests). IsEarlier d base r.wants 1) (sym same) (stands_after c d base y.wants 1 k.wires.grows q.wants);
             banks = subst (λ (r : Requests). AreBankChains d base bits wide own r.banks) (sym same)
                 (subst (λ (r : Requests). AreBankChains d base bits wide own r.banks) (sym wanted.same) in_d.banks);
@@ -317,7 +288,7 @@ module _ (globals : List IntegerType) (spreads : List Spread) (code : ThreadCode
         many = record { fields = ap (λ (k : Requests). length k.fields) same; banks = t.many };
         bits = λ e.
             let later = ask_bits_later a c x t.grows e in
-            record { needs = λ m g. ap (λ (k : Requests). width m k.needs) same ∙ later.needs m g; wants = λ m g. ap (λ (k : Requests). width m k.wants) same ∙ later.wants m g };
+            record { wants = λ m g. ap (λ (k : Requests). width m k.wants) same ∙ later.wants m g };
         rests = λ m r g o e has ne. record {
           wants = λ v is. ap (λ (k : Requests). r.signal k.wants) same ∙ is;
           fields = λ n. ap (λ (k : Requests). next_number r k.fields n) same;
@@ -344,7 +315,6 @@ module _ (globals : List IntegerType) (spreads : List Spread) (code : ThreadCode
               site_low = links.site_low;
               site_high = links.site_high;
               fields = subst (λ (k : Requests). LinkFields base c site_width k.fields) (sym same) later.fields;
-              needs = subst (λ (k : Requests). IsEarlier c base k.needs 1) (sym same) later.needs;
               wants = subst (λ (k : Requests). IsEarlier c base k.wants 1) (sym same) later.wants;
               banks = made.chains;
               widths = links.widths;
@@ -454,75 +424,43 @@ module _ (globals : List IntegerType) (spreads : List Spread) (code : ThreadCode
           inside : n ≤ length code.stages
           inside = let less = slice_get_within code.stages n s listed in omega arith
 
-      -- the end: nothing is asked, and a core is needed
-      pub asks_all : (b c d : List Signal) (middle after : Requests) (number at : ℕ) → AsksFirst globals spreads code registers printer plan a b start middle (length code.stages)
-          → number ≡ length code.stages → TellsStage b c registers number at → Told b c registers number at → NeedsCore c d middle after at → BitsAreLinked c d middle after at
-          → AsksAll globals spreads code registers printer plan a d start after at
-      asks_all b c d middle after number at t is_number told told_wired need need_wired = record {
-        grows = grows_then a b d t.grows (grows_then b c d told.grows need.grows);
-        many = ask_many_then start middle after t.many many;
-        bits = λ e.
-            let later = ask_bits_later b c middle told.grows (t.bits e) in
-            record { needs = need.bit.wide; wants = λ m g. ap (λ (k : Requests). width m k.wants) need.same ∙ later.wants m (grows_then c d m.signals need.grows g) };
-        does = λ e k s listed.
-            let less = slice_get_within code.stages k s listed in
-            lifted_over k s (slice_get plan.stages k) (t.does e k s less listed);
-        beyond = λ m r g o e knows none. ask_then r start middle after t.many (t.still m r (back m g) o e knows none) (same_asked r);
-        done_wide = λ m g. told.wide m (grows_then c d m.signals need.grows g);
-        done_is = λ m r g o knows.
-            told.shows m r (grows_then c d m.signals need.grows g) o knows.wide (let room = knows.room in omega (arith, room, is_number)) knows.fits
-            ∙ ap (λ (n : ℕ). bit_of (nat_eq (r.signal registers.stage.register) n)) is_number;
+      -- the end: nothing is asked
+      pub asks_all : (b c : List Signal) (after : Requests) (number at : ℕ) → AsksFirst globals spreads code registers printer plan a b start after (length code.stages)
+          → number ≡ length code.stages → TellsStage b c registers number at → Told b c registers number at → AsksAllWired globals spreads code registers printer plan a c start after at
+      asks_all b c after number at t is_number told told_wired = record {
+        asks = record {
+          grows = grows_then a b c t.grows told.grows;
+          many = t.many;
+          bits = λ e. ask_bits_later b c after told.grows (t.bits e);
+          does = λ e k s listed.
+              let less = slice_get_within code.stages k s listed in
+              lifted_over k s (slice_get plan.stages k) (t.does e k s less listed);
+          beyond = λ m r g o e knows none. t.still m r (back m g) o e knows none;
+          done_wide = told.wide;
+          done_is = λ m r g o knows.
+              told.shows m r g o knows.wide (let room = knows.room in omega (arith, room, is_number)) knows.fits
+              ∙ ap (λ (n : ℕ). bit_of (nat_eq (r.signal registers.stage.register) n)) is_number;
+        };
         wired = λ fits base site_width bits wide own known links.
             let before = t.wired (omega arith) fits base site_width bits wide own known links in
             let room = before.linked.slots.room in
-            let p = told_wired base before.linked.slots.stage (omega (arith, room, is_number)) in
-            let in_c = ask_links_after base site_width bits wide own b c middle p.wires.grows before.linked in
-            let q = need_wired base in_c.needs in_c.wants p.stands in
-            let in_d = ask_links_after base site_width bits wide own c d middle q.wires.grows in_c in (
+            let p = told_wired base before.linked.slots.stage (omega (arith, room, is_number)) in (
               record {
-                wires = wires_then base a b d before.wires (wires_then base b c d p.wires q.wires);
-                linked = record {
-                  slots = in_d.slots;
-                  site_low = links.site_low;
-                  site_high = links.site_high;
-                  fields = subst (λ (k : Requests). LinkFields base d site_width k.fields) (sym need.same) in_d.fields;
-                  needs = q.needs;
-                  wants = q.wants;
-                  banks = subst (λ (k : Requests). AreBankChains d base bits wide own k.banks) (sym need.same) in_d.banks;
-                  widths = links.widths;
-                };
+                wires = wires_then base a b c before.wires p.wires;
+                linked = ask_links_after base site_width bits wide own b c after p.wires.grows before.linked;
               },
-              stands_after c d base at 1 q.wires.grows p.stands,
+              p.stands,
             );
       }
         where
-          back : (m : Module) → Grows d m.signals → Grows b m.signals
-          back m g = grows_then b c m.signals told.grows (grows_then c d m.signals need.grows g)
+          back : (m : Module) → Grows c m.signals → Grows b m.signals
+          back m g = grows_then b c m.signals told.grows g
 
-          many : AskAsMany middle after
-          many = record { fields = ap (λ (k : Requests). length k.fields) need.same; banks = λ n is. subst (λ (k : Requests). AreAsMany n k.banks) (sym need.same) is }
-
-          same_asked : (r : Reading) → AskSame r middle after
-          same_asked r = record {
-            wants = λ v is. ap (λ (k : Requests). r.signal k.wants) need.same ∙ is;
-            fields = λ x. ap (λ (k : Requests). next_number r k.fields x) need.same;
-            banks = λ j n as_many less. ap (λ (k : Requests). asked_at r k.banks j) need.same;
-          }
-
-          lifted_over : (l : ℕ) (s : Stage) (p : Option StagePlan) → AsksAt globals spreads code registers printer l s p b start middle
-              → AsksAt globals spreads code registers printer l s p d start after
+          lifted_over : (l : ℕ) (s : Stage) (p : Option StagePlan) → AsksAt globals spreads code registers printer l s p b start after
+              → AsksAt globals spreads code registers printer l s p c start after
           lifted_over l s p made = record {
-            prints = λ known site next values e f m r vs g o knows here none seen.
-                let asks = made.prints known site next values e f m r vs (back m g) o knows here none seen in
-                let shown = same_asked r in
-                record {
-                  wants = shown.wants true asks.wants;
-                  site_is = λ some. shown.fields 0 ∙ asks.site_is some;
-                  values_are = λ j v listed typed less. shown.fields (suc j) ∙ asks.values_are j v listed typed less;
-                };
-            quiet = λ no m r g o knows here none. (same_asked r).wants false (made.quiet no m r (back m g) o knows here none);
-            blocks = λ u v e f m r q wire j k right g o knows inside sees fit as_many less.
-                (same_asked r).banks j k (t.many.banks k as_many) less ∙ made.blocks u v e f m r q wire j k right (back m g) o knows inside sees fit as_many less;
-            silent = λ no m r j k g o knows here as_many less.
-                (same_asked r).banks j k (t.many.banks k as_many) less ∙ made.silent no m r j k (back m g) o knows here as_many less;
+            prints = λ known site next values e f m r vs g. made.prints known site next values e f m r vs (back m g);
+            quiet = λ no m r g. made.quiet no m r (back m g);
+            blocks = λ u v e f m r q wire j k right g. made.blocks u v e f m r q wire j k right (back m g);
+            silent = λ no m r j k g. made.silent no m r j k (back m g);
           }

@@ -37,6 +37,7 @@ module _ (base : Base) (a : List Signal) (code : ThreadCode) (registers : Regist
         record { ty = ty.0; declared = ty.1; says = says; stands = subst (λ n. IsEarlier a base h.register n) says (slots.variables x h listed) };
     kept = slots.kept;
     words = slots.words;
+    units = slots.units;
   }
 
   pub sources_of : (values : List Given) → ValuesStand base a values → AreSources a base code.variables registers values

@@ -16,7 +16,7 @@ use Rattle.netlist.specs.declared.netlist.Module.{Module}
 use Rattle.verilog_meaning.specs.Readings.{Reading, width}
 use Rattle.circuit.specs.Modules.{Obeys}
 use Rattle.circuit.proofs.Growth.{take-next}
-use Rattle.operator_wires.specs.declared.wires.Role.TheVariants.{Clock}
+use Rattle.operator_wires.specs.declared.wires.Role.TheVariants.{Clock, Need}
 use Rattle.operator_wires.specs.Gives.{Grows, Stands, Gives}
 use Rattle.operator_wires.specs.Built.{Lays}
 use Rattle.operator_wires.proofs.Giving.{grows_refl, grows_then, listed}
@@ -32,7 +32,7 @@ use Rattle.planned_block.specs.Advance.{any_below}
 use Rattle.fsm_datapath.specs.Slots.{StandsAt, LaysAll}
 use Rattle.fsm_datapath.specs.Bits.{HasBit, HaveBits, NotOf, BothOf, WithOf, MakesBits, MakesAny, is_in}
 use Rattle.fsm_datapath.specs.Control.{printer_bits, core_count, LaysInputs, got, unmet, is_left, counts_of, Follows, RemembersOne, Remembered, Remembers, Steers, Controls}
-use Rattle.fsm_datapath.specs.Outputs.{field_width, CopiesAt, LaysFields, LaysRequest, LaysDone, LaysOutputs, LaysBank, HasBankOutputs, LaysBanks}
+use Rattle.fsm_datapath.specs.Outputs.{field_width, CopiesAt, IsNeedOutput, LaysFields, LaysRequest, LaysDone, LaysOutputs, LaysBank, HasBankOutputs, LaysBanks}
 use Rattle.fsm_datapath.specs.Actions.{sets_of, sets_from}
 use Rattle.fsm_datapath.proofs.Gating.{has_not, has_both, bits_more, index_got}
 use Rattle.fsm_datapath.proofs.Laying.{stands_last, stands_grow, stands_long, stands_later}
@@ -307,8 +307,9 @@ ask_laid a b c printer asks place fields t u =
     }
 
 pub outputs_laid : (a b c d : List Signal) (printer : Option Printer) (is_main : Bool) (asks needs done place : ℕ) (fields : List ℕ) → LaysRequest printer a b asks fields
-    → Stands b c 1 (Assigned (Copy needs)) place → LaysDone is_main c d done → LaysOutputs printer is_main a d asks fields needs done
-outputs_laid a b c d printer is_main asks needs done place fields t u v =
+    → Stands b c 1 (Assigned (Copy needs)) place → Lays b c Need 1 true (Assigned (Copy needs)) place → LaysDone is_main c d done
+    → LaysOutputs printer is_main a d asks fields needs done
+outputs_laid a b c d printer is_main asks needs done place fields t u put v =
     let more = stands_grow b c 1 place (Assigned (Copy needs)) u in
     let c_long = stands_long b c 1 place (Assigned (Copy needs)) u in
     let later = grows_then b c d more v.grows in
@@ -321,6 +322,15 @@ outputs_laid a b c d printer is_main asks needs done place fields t u v =
           let at = t.long known same in
           subst (λ (p : ℕ). CopiesAt d p 1 needs) at
           (stands_later c d (length b) 1 (Assigned (Copy needs)) v.grows (stands_last b c 1 place (Assigned (Copy needs)) u));
+      need_put = λ known same.
+          let at = t.long known same in
+          subst (λ (p : ℕ). IsNeedOutput d p) at
+          (record {
+            signal = put.signal;
+            listed = listed c d (length b) put.signal v.grows (ap (λ (l : List Signal). slice_get l (length b)) put.is ∙ got_last b put.signal);
+            named = put.named;
+            flag = put.flag;
+          });
       done_at = λ known same main.
           let b_long = t.long known same in
           let at : length c ≡ length a + 2 + length fields = omega arith in

@@ -43,7 +43,7 @@ use Rattle.fsm_datapath.specs.Outputs.{CopiesAt, HasBankOutputs, field_width}
 use Rattle.fsm_datapath.specs.Actions.{set_action, sets_from, store_action}
 use Rattle.fsm_datapath.specs.Modules.{marks_of, IsWiredInside, IsModule}
 use Rattle.fsm_datapath.specs.Thread.{input_count, first_output, IsServed}
-use Rattle.fsm_datapath.specs.Memories.{memories_from, early_base, inside_base, control_base}
+use Rattle.fsm_datapath.specs.Memories.{memories_from, early_base, heard_base, control_base}
 use Rattle.fsm_datapath.specs.Wired.{IsSpelled, IsInnerInput, IsSlotRegister, IsSteered, WiresControl}
 use Rattle.fsm_datapath.specs.Leaf.{IsChecked}
 use Rattle.fsm_datapath.proofs.Gating.{index_there}
@@ -51,7 +51,7 @@ use Rattle.fsm_datapath.proofs.Laying.{stands_later}
 use Rattle.fsm_datapath.proofs.Wiring.{name_tells}
 use Rattle.fsm_datapath.proofs.Opened.{wired}
 use Rattle.fsm_datapath.proofs.Resting.{mark_at}
-use Rattle.fsm_datapath.proofs.Placed.{from_inside, from_control, from_early, from_slot, from_inputs}
+use Rattle.fsm_datapath.proofs.Placed.{from_inside, from_control, from_heard, from_early, from_slot, from_inputs}
 use Rattle.fsm_datapath.proofs.Placed.{from_ports, inputs_long, registers_long, cores, words_count, opens_count, got_any}
 use Rattle.fsm_datapath.proofs.Placed.{enable_at, enable_stands, grant_at, grant_stands, stage_at, stage_stands, state_at, state_stands, beat_at, beat_stands}
 use Rattle.fsm_datapath.proofs.Placed.{variable_held, kept_held, mark_held, variables_at, kept_at, granted_at, fields_count, before_outputs}
@@ -72,7 +72,7 @@ mapped_from : (hs : List Held) (k x : ℕ) → slice_get (map (λ (h : Held). h.
 mapped_from hs k x e = let less = slice_get_within (map (λ (h : Held). h.register) hs) k x e in let count = length-map hs (λ (h : Held). h.register) in omega arith
 
 module _ (shape : Shape) (code : ThreadCode) (plan : Planned) (printer : Printer) (m : Module) (t : IsModule shape code plan m) (served : IsServed shape code plan printer) where
-  inner : IsWiredInside code shape printer t.laid.with_inputs t.laid.with_slot t.laid.with_early t.with_inside t.inside
+  inner : IsWiredInside code plan shape printer t.laid.with_inputs t.laid.with_slot t.laid.with_early t.laid.with_heard t.with_inside t.inside
   inner = wired shape code plan printer m t served
 
   abbrev banks : ℕ
@@ -90,6 +90,9 @@ module _ (shape : Shape) (code : ThreadCode) (plan : Planned) (printer : Printer
   abbrev early_to : Grows t.laid.with_early m.signals
   early_to = from_early shape code plan printer m t served
 
+  abbrev heard_to : Grows t.laid.with_heard m.signals
+  heard_to = from_heard shape code plan printer m t served
+
   abbrev slot_to : Grows t.laid.with_slot m.signals
   slot_to = from_slot shape code plan printer m t served
 
@@ -97,8 +100,11 @@ module _ (shape : Shape) (code : ThreadCode) (plan : Planned) (printer : Printer
   abbrev before : Base
   before = early_base (length t.inside.slot.words) code
 
+  abbrev hearing : Base
+  hearing = heard_base (length t.inside.slot.words) code
+
   abbrev stages : Base
-  stages = inside_base (length t.inside.slot.words) code
+  stages = early_base (length t.inside.slot.words) code
 
   -- where parts begin
   abbrev n : ℕ
@@ -106,6 +112,9 @@ module _ (shape : Shape) (code : ThreadCode) (plan : Planned) (printer : Printer
 
   abbrev l : ℕ
   l = length t.laid.with_early
+
+  abbrev u : ℕ
+  u = length t.laid.with_heard
 
   abbrev d : ℕ
   d = length t.with_inside
@@ -130,7 +139,10 @@ module _ (shape : Shape) (code : ThreadCode) (plan : Planned) (printer : Printer
   slot_before = longer t.laid.with_slot t.laid.with_early inner.early.wires.grows
 
   early_before : l ≤ d
-  early_before = longer t.laid.with_early t.with_inside inner.wires.grows
+  early_before = longer t.laid.with_early t.with_inside (grows_then t.laid.with_early t.laid.with_heard t.with_inside inner.heard.grows inner.wires.grows)
+
+  heard_before : u ≤ d
+  heard_before = longer t.laid.with_heard t.with_inside inner.wires.grows
 
   inputs_before : behind ≤ l
   inputs_before = let one = slot_count in let two = slot_before in omega arith
@@ -170,7 +182,8 @@ module _ (shape : Shape) (code : ThreadCode) (plan : Planned) (printer : Printer
   from_stages y w = lowered stages t.with_inside y w (omega arith)
 
   from_early_wire : (y w : ℕ) → IsEarlier t.laid.with_early before y w → IsEarlier t.with_inside control_base y w
-  from_early_wire y w r = stands_after t.laid.with_early t.with_inside control_base y w inner.wires.grows (lowered before t.laid.with_early y w (omega arith) r)
+  from_early_wire y w r = stands_after t.laid.with_early t.with_inside control_base y w
+      (grows_then t.laid.with_early t.laid.with_heard t.with_inside inner.heard.grows inner.wires.grows) (lowered before t.laid.with_early y w (omega arith) r)
 
   inputs_inside : behind ≤ d
   inputs_inside = let one = inputs_before in let two = early_before in omega arith
@@ -378,7 +391,7 @@ module _ (shape : Shape) (code : ThreadCode) (plan : Planned) (printer : Printer
       let some : i < one.1.count = omega arith in
       let global : one.0 < length shape.globals = subst (λ z. one.0 < z) served.spreads.count (slice_get_within shape.spreads one.0 one.1 one.2) in
       let ty = got_any shape.globals one.0 global in
-      let spread_is : slice_get t.inside.slot.spreads one.0 ≡ Some one.1 = ap (λ z. slice_get z one.0) t.laid.slot.spreads_are ∙ one.2 in
+      let spread_is : slice_get inner.asking.spreads one.0 ≡ Some one.1 = ap (λ z. slice_get z one.0) (inner.spreads ∙ t.laid.slot.spreads_are) ∙ one.2 in
       bank_part x k j (width_of ty.0) less
       (subst (λ z. HasBankOutputs m.signals (first_output banks printer m) t.edge.asks t.inside.early.requests.banks z (width_of ty.0)) number
       (bank_outputs shape code plan printer m t served one.0 i one.1 ty.0 one.2 ty.1 some))
@@ -480,10 +493,18 @@ module _ (shape : Shape) (code : ThreadCode) (plan : Planned) (printer : Printer
       wire_graded m grade t.closed.with_control control_to control_base behind x 2 s (omega arith) (none_read m) (λ y after under. grade_most y (omega arith))
       (control_wire x s there (omega arith) less)
 
-  stage_wire : (x : ℕ) (s : Signal) → slice_get m.signals x ≡ Some s → l ≤ x → x < d → IsWire t.with_inside stages x s
+  heard_wire : (x : ℕ) (s : Signal) → slice_get m.signals x ≡ Some s → l ≤ x → x < u → IsWire t.laid.with_heard hearing x s
+  heard_wire x s there le less = inner.heard.each x s le (sym (front t.laid.with_heard m.signals x heard_to less) ∙ there)
+
+  heard_graded : (x : ℕ) (s : Signal) → slice_get m.signals x ≡ Some s → l ≤ x → x < u → Graded x 2 s
+  heard_graded x s there le less =
+      wire_graded m grade t.laid.with_heard heard_to hearing behind x 2 s (omega arith) inside_read
+      (λ y after under. grade_most y (let one = asks_before in let two = heard_before in omega arith)) (heard_wire x s there le less)
+
+  stage_wire : (x : ℕ) (s : Signal) → slice_get m.signals x ≡ Some s → u ≤ x → x < d → IsWire t.with_inside stages x s
   stage_wire x s there le less = inner.wires.each x s le (sym (front t.with_inside m.signals x inside_to less) ∙ there)
 
-  stage_graded : (x : ℕ) (s : Signal) → slice_get m.signals x ≡ Some s → l ≤ x → x < d → Graded x 2 s
+  stage_graded : (x : ℕ) (s : Signal) → slice_get m.signals x ≡ Some s → u ≤ x → x < d → Graded x 2 s
   stage_graded x s there le less =
       wire_graded m grade t.with_inside inside_to stages behind x 2 s (omega arith) inside_read (λ y after under. grade_most y (let one = asks_before in omega arith))
       (stage_wire x s there le less)
@@ -529,7 +550,7 @@ module _ (shape : Shape) (code : ThreadCode) (plan : Planned) (printer : Printer
   graded x s there =
       by_part (λ z. Graded x (grade x) s) x (λ p. input_graded x s p there) (λ p q. register_graded x (grade x) s (register_is x s there p q))
       (λ p q. graded_at x 0 s (grade_slot x (let one = slot_count in omega arith) q) (early_graded x s there p q))
-      (λ p q. graded_at x 2 s (grade_stage x p q) (stage_graded x s there p q))
+      (λ p q. graded_at x 2 s (grade_stage x p q) (⊎_elim (heard_graded x s there p) (λ (r : u ≤ x). stage_graded x s there r q) (cases_lt x u)))
       (λ p q. graded_at x 1 s (grade_asks x p q) (asks_graded x s there p q)) (λ p q. graded_at x 2 s (grade_control x p q) (control_graded x s there p q))
       (λ p. output_graded x s there p)
 
@@ -797,10 +818,13 @@ module _ (shape : Shape) (code : ThreadCode) (plan : Planned) (printer : Printer
       let two = slot_before in
       let three = early_before in
       let four = asks_before in
+      let five = heard_before in
       let at = outputs_at in
       by_part (λ z. IsPut x s) x (λ p. input_placed x s p there) (λ p q. register_placed x s there p q)
       (λ p q. wire_placed t.laid.with_early before x s early_to (early_wire x s there p q) there (omega arith) (omega arith))
-      (λ p q. wire_placed t.with_inside stages x s inside_to (stage_wire x s there p q) there (omega arith) (omega arith))
+      (λ p q.
+      ⊎_elim (λ (r : x < u). wire_placed t.laid.with_heard hearing x s heard_to (heard_wire x s there p r) there (omega arith) (omega arith))
+      (λ (r : u ≤ x). wire_placed t.with_inside stages x s inside_to (stage_wire x s there r q) there (omega arith) (omega arith)) (cases_lt x u))
       (λ p q. wire_placed t.closed.with_control control_base x s control_to (control_wire x s there p (omega arith)) there (omega arith) (omega arith))
       (λ p q. wire_placed t.closed.with_control control_base x s control_to (control_wire x s there (omega arith) q) there (omega arith) (omega arith))
       (λ p. output_placed x s there p)

@@ -10,7 +10,7 @@ use Rattle.thread_promise.specs.Types.{or_int}
 use Rattle.netlist.specs.declared.netlist.Source.{Source}
 use Rattle.netlist.specs.declared.netlist.Source.TheVariants.{Input, Register}
 use Rattle.operator_wires.specs.Gives.{Grows}
-use Rattle.operator_wires.specs.Built.{Base, IsEarlier}
+use Rattle.operator_wires.specs.Built.{Base, IsEarlier, AreWires}
 use Rattle.operator_wires.proofs.Building.{wires_then, stands_after, longer}
 use Rattle.operator_wires.proofs.Giving.{grows_then}
 use Rattle.block_datapath.specs.declared.registers.Held.{Held}
@@ -18,6 +18,7 @@ use Rattle.block_datapath.specs.declared.registers.Registers.{Registers}
 use Rattle.block_datapath.specs.Wired.{HasMemories, CanRead}
 use Rattle.block_datapath.specs.Requests.{HaveWidths}
 use Rattle.block_datapath.specs.Accesses.{HaveBankWidths}
+use Rattle.unit_datapath.specs.Units.{CanHaveUnits, IsInCode, LaysAll as LaysUnits}
 use Rattle.block_ir.specs.declared.code.ThreadCode.{ThreadCode}
 use Rattle.block_ir.specs.declared.plan.Planned.{Planned}
 use Rattle.netlist.specs.declared.netlist.Signal.{Signal}
@@ -28,17 +29,20 @@ use Rattle.fsm_datapath.specs.declared.module.Inside.{Inside}
 use Rattle.fsm_datapath.specs.Stages.{WalksAll}
 use Rattle.fsm_datapath.specs.Slots.{StandsAt, StandFrom, IsHeldAt, LaysAll, LaysSlot, AreKeptWidths}
 use Rattle.fsm_datapath.specs.Bits.{AreBitsOf}
-use Rattle.fsm_datapath.specs.Early.{held_width, spread_out, LaysEarly}
-use Rattle.fsm_datapath.specs.Memories.{early_base, inside_base}
+use Rattle.fsm_datapath.specs.Early.{held_width, spread_out, AreEarly, LaysEarly, LaysEarlyWired}
+use Rattle.fsm_datapath.specs.Memories.{early_base, heard_base}
 use Rattle.fsm_datapath.specs.Thread.{AreRightSpreads}
 use Rattle.fsm_datapath.specs.declared.stores.Store.{Store}
 use Rattle.fsm_datapath.specs.Stores.{AreRightStores, StagesKeepStores}
-use Rattle.fsm_datapath.specs.Wired.{Behind, AreFit, IsInnerInput, IsSlotRegister, AreSlots, KeepsLinks}
+use Rattle.fsm_datapath.specs.Wired.{Behind, AreFit, IsInnerInput, IsSlotRegister, AreSlots, AreLinked, KeepsLinks, FitStates}
 use Rattle.fsm_datapath.specs.Links.{Begins}
 use Rattle.fsm_datapath.specs.Control.{core_count, LaysInputs}
 use Rattle.fsm_datapath.specs.Cells.{StoresFirst}
-use Rattle.fsm_datapath.specs.Modules.{marks_of, IsWiredInside, LaysInside}
+use Rattle.fsm_datapath.specs.Hearing.{HearsWords, AddsHeard}
+use Rattle.fsm_datapath.specs.Modules.{marks_of, worded, IsWiredInside, LaysInside}
 use Rattle.fsm_datapath.proofs.Linked.{slots_later}
+use Rattle.fsm_datapath.proofs.Between.{registers_of}
+use Rattle.fsm_datapath.proofs.Rewording.{slots_reworded, slot_reworded, early_reworded, code_back}
 use Rattle.fsm_datapath.proofs.Remembering.{has_memories}
 use Rattle.fsm_datapath.proofs.Wiring.{behind_then, types_fit}
 use Rattle.fsm_datapath.proofs.Spreading.{spread_there, spread_count, spread_from}
@@ -47,6 +51,10 @@ some_at : {X : Type 0} (xs : List X) (i : ℕ) → i < length xs → (x : X) × 
 some_at [] i h = absurd (omega arith)
 some_at (x ∷ xs) zero h = (x, refl)
 some_at (x ∷ xs) (suc i) h = some_at xs i (omega arith)
+
+none_listed : {X : Type 0} (xs : List X) (x : ℕ) (u : X) → xs ≡ [] → slice_get xs x ≡ Some u → ⊥
+none_listed [] x u e listed = absurd cc
+none_listed (y ∷ xs) x u e listed = absurd cc
 
 -- ---- registers that stand, and inputs
 
@@ -82,8 +90,9 @@ module _ (base : Base) (b c : List Signal) (room : base.first ≤ length b) (beh
 
   pub slots_stand : (code : ThreadCode) (plan : Planned) (first : ℕ) (kept_widths : List ℕ) (words : List Held) (spreads : List Spread) (registers : Registers)
       → LaysSlot code plan first kept_widths words spreads b c registers → HasMemories base code
-      → ((n : ℕ) (h : Held) → slice_get registers.words n ≡ Some h → base.first ≤ h.register → IsEarlier c base h.register h.width) → AreSlots base c code registers
-  slots_stand code plan first kept_widths words spreads registers t memories told = record {
+      → ((n : ℕ) (h : Held) → slice_get registers.words n ≡ Some h → base.first ≤ h.register → IsEarlier c base h.register h.width) → registers.units ≡ []
+      → AreSlots base c code registers
+  slots_stand code plan first kept_widths words spreads registers t memories told none = record {
     stage = held_earlier registers.stage (length b) first (omega arith) t.stage;
     state = held_earlier registers.state (length b + 1) 0 (omega arith) t.state;
     beat = subst (λ x. IsEarlier c base x 1) (sym t.beat) (stands_earlier (length b + 2) 1 (Register 0) (omega arith) t.beat_stands);
@@ -100,6 +109,7 @@ module _ (base : Base) (b c : List Signal) (room : base.first ≤ length b) (beh
     room = t.stage_room;
     arrays = memories;
     words = told;
+    units = λ x n place u listed there. absurd (none_listed registers.units x u none listed);
   }
     where
       widths_count : length (map width_of code.variables) ≡ length code.variables
@@ -188,42 +198,47 @@ bank_widths globals spreads n right = record {
   powers = right.powers;
 }
 
+no_stores : (base : Base) (signals : List Signal) → AreRightStores base signals []
+no_stores base signals k s listed = absurd cc
+
 -- ---- the inside
 
--- a: nothing, b: the ports, c: the words of banks, d: the slot, e: what is granted, f: what is asked, g: the first links, h: all stages
-pub inside_wired : (shape : Shape) (code : ThreadCode) (plan : Planned) (b c d e f g h : List Signal) (first : ℕ) (kept ones : List ℕ) (start : Chains) (past : ℕ) (inside : Inside)
-    (known : Printer)
+-- a: nothing, b: the ports, c: the words of banks, d: the slot, e: what is granted, f: what is asked, u: what is heard, v: units, g: the first links, h: all stages
+pub inside_wired : (shape : Shape) (code : ThreadCode) (plan : Planned) (b c d e f u v g h : List Signal) (first : ℕ) (kept ones : List ℕ) (start : Chains) (past : ℕ) (inside : Inside)
+    (told : Registers) (known : Printer)
     → shape.printer ≡ Some known → 1 ≤ known.site_width → known.site_width ≤ 64 → AreRightSpreads shape.globals shape.spreads
     → length b ≡ 3 + length (spread_out shape.spreads (map width_of shape.globals)) → Behind IsInnerInput [] b
-    → LaysAll Input b c (spread_out shape.spreads (map width_of shape.globals)) (length (spread_out shape.spreads (map width_of shape.globals))) inside.slot.words
-    → Behind IsInnerInput b c → Behind IsInnerInput [] c → LaysSlot code plan first kept inside.slot.words shape.spreads c d inside.slot → Behind IsSlotRegister c d
+    → LaysAll Input b c (spread_out shape.spreads (map width_of shape.globals)) (length (spread_out shape.spreads (map width_of shape.globals))) told.words
+    → Behind IsInnerInput b c → Behind IsInnerInput [] c → LaysSlot code plan first kept told.words shape.spreads c d told → Behind IsSlotRegister c d
     → ones ≡ replicate (length shape.globals) 1 → LaysAll (Register 0) d e ones (length ones) inside.granted → Behind IsSlotRegister d e → Behind IsSlotRegister c e
     → ((x w : ℕ) → slice_get (spread_out shape.spreads (map width_of shape.globals)) x ≡ Some w → (1 ≤ w) × (w ≤ 64))
-    → LaysEarly shape.globals code inside.slot (marks_of inside) shape.printer plan e f inside.early
-    → ((base : Base) (code : ThreadCode) → AreSlots base f code inside.slot → CanRead base code inside.slot → KeepsLinks base f g code inside.slot start)
+    → LaysEarlyWired shape.globals code told (marks_of inside) shape.printer plan e f inside.early → inside.slot ≡ worded told inside.slot.words inside.slot.units
+    → length inside.slot.words ≡ length told.words → AddsHeard f u inside.early.need told.words inside.slot.words
+    → told.units ≡ [] → LaysUnits code told plan u v inside.slot.units
+    → ((base : Base) (code : ThreadCode) → AreSlots base v code inside.slot → CanRead base code inside.slot → KeepsLinks base v g code inside.slot start)
     → WalksAll shape.globals code inside.slot shape.printer plan g h start inside.chains past → (none : List Store) → none ≡ []
-    → StagesKeepStores code inside.slot shape.printer plan (length code.stages) g h start none inside.stores → IsWiredInside code shape known c e f h inside
-inside_wired shape code plan b c d e f g h first kept ones start past inside known same low high right b_long inputs_b words words_behind inputs slot slot_behind ones_are granted
+    → StagesKeepStores code inside.slot shape.printer plan (length code.stages) g h start none inside.stores → IsWiredInside code plan shape known c e f u h inside
+inside_wired shape code plan b c d e f u v g h first kept ones start past inside told known same low high right b_long inputs_b words words_behind inputs slot slot_behind ones_are granted
     granted_behind
-    registers fit early begins walks none empty stores =
+    registers fit early reworded heard_count hears unshared units begins walks none empty stores =
     let banks = length (spread_out shape.spreads (map width_of shape.globals)) in
-    let count : length inside.slot.words ≡ banks = words.count in
+    let count : length told.words ≡ banks = words.count in
     let c_long : length c ≡ length b + banks = words.long in
-    let first_is : (early_base (length inside.slot.words) code).first ≡ length c = (let z = count in omega arith) in
-    let inside_is : (inside_base (length inside.slot.words) code).first ≡ length b = (let z = count in omega arith) in
-    let spreads_are : inside.slot.spreads ≡ shape.spreads = slot.spreads_are in
-    let widths : map held_width inside.slot.words ≡ spread_out shape.spreads (map width_of shape.globals) = widths_same b c _ inside.slot.words words in
+    let first_is : (early_base (length told.words) code).first ≡ length c = (let z = count in omega arith) in
+    let heard_is : (heard_base (length told.words) code).first ≡ length b = (let z = count in omega arith) in
+    let spreads_are : told.spreads ≡ shape.spreads = slot.spreads_are in
+    let widths : map held_width told.words ≡ spread_out shape.spreads (map width_of shape.globals) = widths_same b c _ told.words words in
     -- on the base of what is asked no word may be read
-    let early_slots_d : AreSlots (early_base (length inside.slot.words) code) d code inside.slot =
-    slots_stand (early_base (length inside.slot.words) code) c d (omega arith) slot_behind code plan first kept inside.slot.words shape.spreads inside.slot slot
-    (has_memories (3 + 2 * length inside.slot.words) code)
+    let early_slots_d : AreSlots (early_base (length told.words) code) d code told =
+    slots_stand (early_base (length told.words) code) c d (omega arith) slot_behind code plan first kept told.words shape.spreads told slot
+    (has_memories (3 + 2 * length told.words) code)
     (λ n w listed after.
-    absurd (let at = (word_at (early_base (length inside.slot.words) code) b c _ inside.slot.words words words_behind n w listed).1 in
-    let less = slice_get_within inside.slot.words n w listed in omega arith)) in
-    let early_slots = slots_later (early_base (length inside.slot.words) code) d e granted.grows code inside.slot early_slots_d in
-    let marks_stand : AreBitsOf (early_base (length inside.slot.words) code) e (spread_out inside.slot.spreads (marks_of inside)) =
+    absurd (let at = (word_at (early_base (length told.words) code) b c _ told.words words words_behind n w listed).1 in
+    let less = slice_get_within told.words n w listed in omega arith)) unshared in
+    let early_slots = slots_later (early_base (length told.words) code) d e granted.grows code told early_slots_d in
+    let marks_stand : AreBitsOf (early_base (length told.words) code) e (spread_out told.spreads (marks_of inside)) =
     λ k y there.
-    let from = spread_from inside.slot.spreads (marks_of inside) k y there in
+    let from = spread_from told.spreads (marks_of inside) k y there in
     let less : from.0 < length inside.granted = subst (λ z. from.0 < z) (length-map inside.granted (λ (q : Held). q.register))
     (slice_get_within (marks_of inside) from.0 y from.1) in
     let q = some_at inside.granted from.0 less in
@@ -231,59 +246,101 @@ inside_wired shape code plan b c d e f g h first kept ones start past inside kno
     (option_map (λ (z : Held). z.register)) q.1 in
     let register_is : q.0.register ≡ y = (let z = from.1 in cc) in
     let stands =
-    row_earlier (early_base (length inside.slot.words) code) d e (let z = slot.grows in let l = longer_than c d z in omega arith) granted_behind (length d)
+    row_earlier (early_base (length told.words) code) d e (let z = slot.grows in let l = longer_than c d z in omega arith) granted_behind (length d)
     (length ones) ones inside.granted granted.each
     refl granted.count (omega arith) from.0 q.0 q.1 in
     let one_wide : q.0.width ≡ 1 = one_of ones (length shape.globals) from.0 q.0 ones_are granted q.1 in
-    subst (λ z. IsEarlier e (early_base (length inside.slot.words) code) z 1) register_is (subst
-    (λ z. IsEarlier e (early_base (length inside.slot.words) code) q.0.register z) one_wide stands) in
-    let marks_count : length (spread_out inside.slot.spreads (marks_of inside)) ≡ length inside.slot.words =
-    spread_count inside.slot.spreads (marks_of inside)
+    subst (λ z. IsEarlier e (early_base (length told.words) code) z 1) register_is (subst
+    (λ z. IsEarlier e (early_base (length told.words) code) q.0.register z) one_wide stands) in
+    let marks_count : length (spread_out told.spreads (marks_of inside)) ≡ length told.words =
+    spread_count told.spreads (marks_of inside)
     (length-map inside.granted (λ (q : Held). q.register) ∙ granted.count ∙ ap length ones_are ∙ length-replicate (length shape.globals) 1 ∙ sym right.count ∙ ap length
     (sym spreads_are))
     ∙ ap bank_total spreads_are
     ∙ sym (spread_count shape.spreads (map width_of shape.globals) (length-map shape.globals width_of ∙ sym right.count))
     ∙ sym count in
-    let n = length (map held_width inside.slot.words) in
+    let n = length (map held_width told.words) in
     let asked =
-    early.wired known same low high (early_base (length inside.slot.words) code) (map held_of (replicate n 1)) (map held_of (replicate n 64))
-    (map held_of (map held_width inside.slot.words))
+    early.wired known same low high (early_base (length told.words) code) (map held_of (replicate n 1)) (map held_of (replicate n 64))
+    (map held_of (map held_width told.words))
     slot.state_room early_slots marks_stand marks_count
-    (subst (λ (z : List ℕ). HaveBankWidths shape.globals inside.slot.spreads (map held_of (replicate n 1)) (map held_of (replicate n 64)) (map held_of z)) (sym widths)
+    (subst (λ (z : List ℕ). HaveBankWidths shape.globals told.spreads (map held_of (replicate n 1)) (map held_of (replicate n 64)) (map held_of z)) (sym widths)
     (subst (λ (z : List Spread). HaveBankWidths shape.globals z (map held_of (replicate n 1)) (map held_of (replicate n 64))
     (map held_of (spread_out shape.spreads (map width_of shape.globals))))
     (sym spreads_are) (bank_widths shape.globals shape.spreads n right)))
-    (have_widths (replicate n 1)) (have_widths (replicate n 64)) (have_widths (map held_width inside.slot.words))
+    (have_widths (replicate n 1)) (have_widths (replicate n 64)) (have_widths (map held_width told.words))
     (λ x w listed. fit x w (ap (λ l. slice_get l x) (sym widths) ∙ listed)) in
-    -- the stages read words
-    let late_slots_d : AreSlots (inside_base (length inside.slot.words) code) d code inside.slot =
-    slots_stand (inside_base (length inside.slot.words) code) c d (omega arith) slot_behind code plan first kept inside.slot.words shape.spreads inside.slot slot
-    (has_memories (3 + length inside.slot.words) code)
-    (λ m w listed after.
-    stands_after c d (inside_base (length inside.slot.words) code) w.register w.width slot.grows
-    (word_earlier (inside_base (length inside.slot.words) code) b c _ inside.slot.words words words_behind m w listed after)) in
-    let to_f = grows_then d e f granted.grows asked.wires.grows in
-    let late_slots = slots_later (inside_base (length inside.slot.words) code) d f to_f code inside.slot late_slots_d in
-    let reads : CanRead (inside_base (length inside.slot.words) code) code inside.slot = record {
-      memories = has_memories (3 + length inside.slot.words) code;
-      words = λ m w listed.
-          let at = (word_at (inside_base (length inside.slot.words) code) b c _ inside.slot.words words words_behind m w listed).1 in omega arith;
-      powers = λ x s listed. right.powers x s (ap (λ l. slice_get l x) (sym spreads_are) ∙ listed);
+    -- what is heard reads words
+    let lower : (y w : ℕ) → IsEarlier f (early_base (length told.words) code) y w → IsEarlier f (heard_base (length told.words) code) y w = λ y w r. record {
+      signal = r.signal;
+      listed = r.listed;
+      wide = r.wide;
+      after = (let z = r.after in omega arith);
+      low = r.low;
+      high = r.high;
     } in
-    let started = begins (inside_base (length inside.slot.words) code) code late_slots reads in
-    let walked = walks.wired (inside_base (length inside.slot.words) code) slot.state_room started.linked in
-    let first_stores : AreRightStores (inside_base (length inside.slot.words) code) g none =
-    subst (AreRightStores (inside_base (length inside.slot.words) code) g) (sym empty) (λ k s listed. absurd cc) in
+    let to_f = grows_then d e f granted.grows asked.wires.grows in
+    let from_c = grows_then c d f slot.grows to_f in
+    let heard =
+    hears (heard_base (length told.words) code) (lower inside.early.need 1 asked.need)
+    (λ m w listed.
+    stands_after c f (heard_base (length told.words) code) w.register w.width from_c
+    (word_earlier (heard_base (length told.words) code) b c _ told.words words words_behind m w listed
+    (let at = (word_at (heard_base (length told.words) code) b c _ told.words words words_behind m w listed).1 in omega arith))) in
+    let behind_f : (early_base (length told.words) code).first ≤ length f = (let z = longer_than c f from_c in omega arith) in
+    let heard_stand = heard.stand (early_base (length told.words) code) behind_f in
+    -- units read registers
+    let told_slots : AreSlots (early_base (length told.words) code) u code told =
+    slots_later (early_base (length told.words) code) d u (grows_then d f u to_f heard.wires.grows) code told early_slots_d in
+    let can : CanHaveUnits (early_base (length told.words) code) u code told plan = record {
+      slots = registers_of (early_base (length told.words) code) u code told told_slots;
+      stages = slot.stage_room;
+      states = slot.state_room;
+    } in
+    let unit_wires = units.wires (early_base (length told.words) code) can in
+    -- the stages read registers, what is heard, and units
+    let late_slots : AreSlots (early_base (length told.words) code) v code inside.slot =
+    subst (λ (z : Registers). AreSlots (early_base (length told.words) code) v code z) (sym reworded)
+    (slots_reworded (early_base (length told.words) code) v code told inside.slot.words inside.slot.units
+    (slots_later (early_base (length told.words) code) u v units.grows code told told_slots)
+    (λ k word listed. stands_after u v (early_base (length told.words) code) word.register word.width units.grows (heard_stand k word listed))
+    (units.stands (early_base (length told.words) code) can)) in
+    let inside_spreads : inside.slot.spreads ≡ told.spreads = ap (λ (z : Registers). z.spreads) reworded in
+    let reads : CanRead (early_base (length told.words) code) code inside.slot = record {
+      memories = has_memories (3 + 2 * length told.words) code;
+      words = λ m w listed. (heard_stand m w listed).after;
+      powers = λ x s listed. right.powers x s (ap (λ l. slice_get l x) (sym (inside_spreads ∙ spreads_are)) ∙ listed);
+    } in
+    let room : FitStates inside.slot plan = subst (λ (z : Registers). FitStates z plan) (sym reworded) slot.state_room in
+    let started = begins (early_base (length told.words) code) code late_slots reads in
+    let walked = walks.wired (early_base (length told.words) code) room started.linked in
+    let first_stores : AreRightStores (early_base (length told.words) code) g none =
+    subst (AreRightStores (early_base (length told.words) code) g) (sym empty) (no_stores (early_base (length told.words) code) g) in
+    let made = sym heard_count in
     record {
       inputs = inputs;
       registers = registers;
       bits = map held_of (replicate n 1);
       wide = map held_of (replicate n 64);
-      own = map held_of (map held_width inside.slot.words);
-      early = asked;
-      wires = wires_then (inside_base (length inside.slot.words) code) f g h started.wires walked.0.wires;
-      linked = walked.0.linked;
-      stores = stores (inside_base (length inside.slot.words) code) slot.state_room started.linked (omega arith) first_stores;
+      own = map held_of (map held_width told.words);
+      asking = told;
+      spreads = sym inside_spreads;
+      early =
+          subst
+          (λ k. AreEarly (early_base k code) e f inside.early code told known.site_width shape.globals (map held_of (replicate n 1)) (map held_of (replicate n 64))
+          (map held_of (map held_width told.words))) made asked;
+      heard = subst (λ k. AreWires (heard_base k code) f u) made heard.wires;
+      wires = subst (λ k. AreWires (early_base k code) u h) made (wires_then (early_base (length told.words) code) u v h unit_wires
+          (wires_then (early_base (length told.words) code) v g h started.wires walked.0.wires));
+      linked = subst (λ k. AreLinked (early_base k code) h code inside.slot inside.chains) made walked.0.linked;
+      stores =
+          subst (λ k. AreRightStores (early_base k code) h inside.stores) made
+          (stores (early_base (length told.words) code) room started.linked (omega arith) first_stores);
+      shares = λ globals m r q block p wire grows obeys here.
+          units.shows (early_base (length told.words) code) can globals m r q block p wire
+          (grows_then v h m.signals (grows_then v g h started.wires.grows walked.0.wires.grows) grows) obeys
+          (code_back code told inside.slot.words inside.slot.units m r globals plan block p q
+          (subst (λ (z : Registers). IsInCode code z plan globals m r q block p) reworded here));
     }
   where
     longer_than : (a b : List Signal) → Grows a b → length a ≤ length b
@@ -298,33 +355,57 @@ inside_wired shape code plan b c d e f g h first kept ones start past inside kno
         let one : f.0 ≡ q = (let z = f.1 in cc) in
         ap held_width (sym one) ∙ f.2 ∙ replicated n 1 x w.0 (ap (λ l. slice_get l x) (sym are) ∙ w.1)
 
-pub inside_laid : (shape : Shape) (code : ThreadCode) (plan : Planned) (a b c d e f g h : List Signal) (globals : List IntegerType) (widths kept given_kept : List ℕ)
+-- what is heard is as wide as the words
+heard_widths : (words outs : List Held) (f u : List Signal) (need : ℕ) → HearsWords f u need words (length words) outs → map held_width outs ≡ map held_width words
+heard_widths words outs f u need t =
+    list_same (map held_width outs) (map held_width words) (length-map outs held_width ∙ t.count ∙ sym (length-map words held_width))
+    (λ k w there.
+    let less : k < length words = subst (λ z. k < z) (length-map words held_width) (slice_get_within (map held_width words) k w there) in
+    let own = some_at words k less in
+    let wide : slice_get (map held_width words) k ≡ Some (held_width own.0) = slice_get-map held_width words k ∙ ap (option_map held_width) own.1 in
+    let same : held_width own.0 ≡ w = cc in
+    let g = t.each k own.0 less own.1 in
+    slice_get-map held_width outs k ∙ ap (option_map held_width) g.1 ∙ ap Some (g.2.says ∙ same))
+
+pub inside_laid : (shape : Shape) (code : ThreadCode) (plan : Planned) (a b c d e f u v g h : List Signal) (globals : List IntegerType) (widths kept given_kept : List ℕ)
     (spreads : List Spread)
-    (words : List Held) (n count : ℕ) (start : Chains) (past : ℕ) (inside : Inside) (none : List Store) → globals ≡ shape.globals
+    (words : List Held) (n count : ℕ) (start : Chains) (past : ℕ) (inside : Inside) (told : Registers) (asked_words : List Held) (none : List Store) → globals ≡ shape.globals
     → widths ≡ spread_out shape.spreads (map width_of shape.globals) → n ≡ length widths → count ≡ length shape.globals → given_kept ≡ kept → spreads ≡ shape.spreads
     → LaysInputs shape.printer n a b inside.inputs → (length a ≡ 0 → Behind IsInnerInput a b) → LaysAll Input b c widths (length widths) words →
     (AreFit widths → Behind IsInnerInput b c)
     → AreKeptWidths globals code plan (length code.stages) kept → AreFit kept
-    → LaysSlot code plan (if shape.is_main then 0 else length code.stages) given_kept words spreads c d inside.slot → (AreFit given_kept → Behind IsSlotRegister c d)
+    → LaysSlot code plan (if shape.is_main then 0 else length code.stages) given_kept words spreads c d told → (AreFit given_kept → Behind IsSlotRegister c d)
     → length d ≡ length c + 3 + length code.variables + length given_kept → LaysAll (Register 0) d e (replicate count 1) count inside.granted → Behind IsSlotRegister d e →
-    LaysEarly shape.globals code inside.slot (marks_of inside) shape.printer plan e f inside.early
-    → Begins f g inside.slot start
-    → ((base : Base) (code : ThreadCode) → AreSlots base f code inside.slot → CanRead base code inside.slot → KeepsLinks base f g code inside.slot start)
+    LaysEarlyWired shape.globals code told (marks_of inside) shape.printer plan e f inside.early → inside.slot ≡ worded told inside.slot.words inside.slot.units → asked_words ≡ told.words
+    → HearsWords f u inside.early.need asked_words (length asked_words) inside.slot.words → AddsHeard f u inside.early.need asked_words inside.slot.words
+    → told.units ≡ [] → LaysUnits code told plan u v inside.slot.units → Begins v g inside.slot start
+    → ((base : Base) (code : ThreadCode) → AreSlots base v code inside.slot → CanRead base code inside.slot → KeepsLinks base v g code inside.slot start)
     → WalksAll globals code inside.slot shape.printer plan g h start inside.chains past → none ≡ []
     → StoresFirst globals code inside.slot plan g h none inside.stores (length code.stages)
     → StagesKeepStores code inside.slot shape.printer plan (length code.stages) g h start none inside.stores → LaysInside shape code plan a h inside
-inside_laid shape code plan a b c d e f g h globals widths kept given_kept spreads words n count start past inside none globals_are widths_are n_is count_is kept_is spreads_are
+inside_laid shape code plan a b c d e f u v g h globals widths kept given_kept spreads words n count start past inside told asked_words none globals_are widths_are n_is count_is kept_is spreads_are
     inputs
-    inputs_behind laid_words words_behind kept_widths kept_fit slot slot_behind long_slot granted granted_behind early begins begins_wired walks empty puts stores =
+    inputs_behind laid_words words_behind kept_widths kept_fit slot slot_behind long_slot granted granted_behind early reworded asked_are given_hears given_hears_wired unshared units begins begins_wired walks empty puts stores =
     let banks : n ≡ length (spread_out shape.spreads (map width_of shape.globals)) = n_is ∙ ap length widths_are in
     let inputs' : LaysInputs shape.printer (length (spread_out shape.spreads (map width_of shape.globals))) a b inside.inputs =
     subst (λ k. LaysInputs shape.printer k a b inside.inputs) banks inputs in
-    let words' : LaysAll Input b c (spread_out shape.spreads (map width_of shape.globals)) (length (spread_out shape.spreads (map width_of shape.globals))) inside.slot.words =
-    subst (λ (z : List ℕ). LaysAll Input b c z (length z) inside.slot.words) widths_are (subst (λ (z : List Held). LaysAll Input b c widths (length widths) z)
+    let words' : LaysAll Input b c (spread_out shape.spreads (map width_of shape.globals)) (length (spread_out shape.spreads (map width_of shape.globals))) told.words =
+    subst (λ (z : List ℕ). LaysAll Input b c z (length z) told.words) widths_are (subst (λ (z : List Held). LaysAll Input b c widths (length widths) z)
     (sym slot.words_are) laid_words) in
-    let slot' : LaysSlot code plan (if shape.is_main then 0 else length code.stages) given_kept inside.slot.words shape.spreads c d inside.slot =
-    subst (λ (z : List Spread). LaysSlot code plan (if shape.is_main then 0 else length code.stages) given_kept inside.slot.words z c d inside.slot) spreads_are
-    (subst (λ (z : List Held). LaysSlot code plan (if shape.is_main then 0 else length code.stages) given_kept z spreads c d inside.slot) (sym slot.words_are) slot) in
+    let slot' : LaysSlot code plan (if shape.is_main then 0 else length code.stages) given_kept told.words shape.spreads c d told =
+    subst (λ (z : List Spread). LaysSlot code plan (if shape.is_main then 0 else length code.stages) given_kept told.words z c d told) spreads_are
+    (subst (λ (z : List Held). LaysSlot code plan (if shape.is_main then 0 else length code.stages) given_kept z spreads c d told) (sym slot.words_are) slot) in
+    let late_slot : LaysSlot code plan (if shape.is_main then 0 else length code.stages) given_kept inside.slot.words shape.spreads c d inside.slot =
+    subst (λ (z : Registers). LaysSlot code plan (if shape.is_main then 0 else length code.stages) given_kept inside.slot.words shape.spreads c d z) (sym reworded)
+    (slot_reworded code plan (if shape.is_main then 0 else length code.stages) given_kept told.words inside.slot.words inside.slot.units shape.spreads c d told slot') in
+    let hears : HearsWords f u inside.early.need told.words (length told.words) inside.slot.words =
+    subst (λ (z : List Held). HearsWords f u inside.early.need z (length z) inside.slot.words) asked_are given_hears in
+    let hears_wired : AddsHeard f u inside.early.need told.words inside.slot.words =
+    subst (λ (z : List Held). AddsHeard f u inside.early.need z inside.slot.words) asked_are given_hears_wired in
+    let late_early : LaysEarly shape.globals code inside.slot (marks_of inside) shape.printer plan e f inside.early =
+    subst (λ (z : Registers). LaysEarly shape.globals code z (marks_of inside) shape.printer plan e f inside.early) (sym reworded)
+    (early_reworded shape.globals code told inside.slot.words inside.slot.units shape.printer (marks_of inside) plan e f inside.early (heard_widths told.words inside.slot.words f u inside.early.need hears)
+    early.lays) in
     let granted' : LaysAll (Register 0) d e (replicate (length shape.globals) 1) (length shape.globals) inside.granted =
     subst (λ k. LaysAll (Register 0) d e (replicate k 1) k inside.granted) count_is granted in
     let walks' : WalksAll shape.globals code inside.slot shape.printer plan g h start inside.chains past =
@@ -340,17 +421,23 @@ inside_laid shape code plan a b c d e f g h globals widths kept given_kept sprea
       with_registers = d;
       with_slot = e;
       with_early = f;
+      with_heard = u;
+      with_units = v;
       with_start = g;
       kept_widths = kept;
+      told = told.words;
+      asking = told;
       start = start;
       past = past;
       inputs = inputs';
       words = words';
       kept = subst (λ (z : List IntegerType). AreKeptWidths z code plan (length code.stages) kept) globals_are kept_widths;
-      slot = subst (λ (z : List ℕ). LaysSlot code plan (if shape.is_main then 0 else length code.stages) z inside.slot.words shape.spreads c d inside.slot) kept_is slot';
+      slot = subst (λ (z : List ℕ). LaysSlot code plan (if shape.is_main then 0 else length code.stages) z inside.slot.words shape.spreads c d inside.slot) kept_is late_slot;
       registers_long = long_slot ∙ ap (λ (z : List ℕ). length c + 3 + length code.variables + length z) kept_is;
       granted = granted';
-      early = early;
+      early = late_early;
+      hears = hears;
+      units = units;
       begins = begins;
       walks = walks';
       stores =
@@ -362,10 +449,10 @@ inside_laid shape code plan a b c d e f g h globals widths kept given_kept sprea
           inputs'.long ∙ ap (λ (z : List Signal). length z + 2 + core_count shape.printer (length (spread_out shape.spreads (map width_of shape.globals)))) nothing
           ∙ ap (λ (p : Option Printer). 2 + core_count p (length (spread_out shape.spreads (map width_of shape.globals)))) same in
           let long = one_to_three (length b) (length (spread_out shape.spreads (map width_of shape.globals))) counted in
-          inside_wired shape code plan b c d e f g h (if shape.is_main then 0 else length code.stages) given_kept
-          (replicate (length shape.globals) 1) start past inside known same low high right
+          inside_wired shape code plan b c d e f u v g h (if shape.is_main then 0 else length code.stages) given_kept
+          (replicate (length shape.globals) 1) start past inside told known same low high right
           long ports words' words_stand (behind_then IsInnerInput [] b c laid_words.grows ports words_stand) slot' slot_stands refl ones_granted granted_behind
-          (behind_then IsSlotRegister c d e granted.grows slot_stands granted_behind) fit early begins_wired walks' none empty stores;
+          (behind_then IsSlotRegister c d e granted.grows slot_stands granted_behind) fit early reworded hears.count hears_wired unshared units begins_wired walks' none empty stores;
     }
   where
     one_to_three : (n k : ℕ) → n ≡ 2 + suc k → n ≡ 3 + k

@@ -1,4 +1,10 @@
 pub mod Wiring
+mod Heard
+mod Needs
+mod Needed
+mod Alike
+mod Steadying
+mod Rewording
 pub mod Linked
 pub mod Taken
 pub mod Between

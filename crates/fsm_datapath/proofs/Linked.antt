@@ -3,6 +3,7 @@ use Rattle.std.proofs.Common.{◌≡◌, ℕ, suc, ◌<◌, ◌≤◌, ◌^◌, 
 use Rattle.std.specs.Prelude.{slice_get, option_map}
 use Rattle.std.proofs.lemmas.Option.{slice_get-map}
 use Rattle.std.proofs.lemmas.Bool.Decides.{nat_tests}
+use Rattle.hls_ints.specs.Types.{width_of}
 use Rattle.block_ir.specs.declared.code.ThreadCode.{ThreadCode}
 use Rattle.netlist.specs.declared.netlist.Signal.{Signal}
 use Rattle.operator_wires.specs.Gives.{Grows}
@@ -35,6 +36,7 @@ module _ (base : Base) (a b : List Signal) (g : Grows a b) where
     room = t.room;
     arrays = t.arrays;
     words = λ n h e f. later h.register h.width (t.words n h e f);
+    units = λ x n place u e f. later place (width_of u.ty) (t.units x n place u e f);
   }
 
   pub fields_later : (site_width : ℕ) (links : List ℕ) → LinkFields base a site_width links → LinkFields base b site_width links

@@ -171,7 +171,7 @@ module _ (shape : Shape) (code : ThreadCode) (plan : Planned) (printer : Printer
         any_is (reached shape code plan printer m t served r q b p o inside (bank k)) (length b.operations) k (subst (λ n. k < n) (view_count b.operations) below)
         (reached_own k below e)
 
-    asker : (n : ℕ) → n < banks → wanted shape code plan printer m t served r q b p o inside n ≡ true → (k : ℕ) × (k < size (planned_view b)) × (asking k ≡ true) × (bank k ≡ n)
+    pub asker : (n : ℕ) → n < banks → wanted shape code plan printer m t served r q b p o inside n ≡ true → (k : ℕ) × (k < size (planned_view b)) × (asking k ≡ true) × (bank k ≡ n)
     asker n less e =
         let k = any_found (reached shape code plan printer m t served r q b p o inside n) (length b.operations) e in
         let reach = reaching shape.globals shape.spreads code t.inside.slot q.stage b p q (wires_now shape.spreads b p q) n k.0 k.2 in

@@ -33,7 +33,7 @@ use Rattle.fsm_datapath.proofs.Spreading.{spread_there, spread_count}
 
 -- ---- lists
 
-front_index : (xs ys : List ℕ) (n : ℕ) → n < length xs → slice_index (xs ++ ys) n ≡ slice_index xs n
+pub front_index : (xs ys : List ℕ) (n : ℕ) → n < length xs → slice_index (xs ++ ys) n ≡ slice_index xs n
 front_index [] ys n less = absurd (omega arith)
 front_index (x ∷ xs) ys zero less = refl
 front_index (x ∷ xs) ys (suc n) less = front_index xs ys n (omega arith)
@@ -60,10 +60,10 @@ module _ (shape : Shape) (code : ThreadCode) (plan : Planned) (printer : Printer
   abbrev pub raised_by : (ℕ → Bool) → (ℕ → Bool) → Bool → ℕ → Bool
   raised_by wants marked prints n = if nat_lt n banks then wants n && not (marked n) else prints
 
-  pub wired : IsWiredInside code shape printer t.laid.with_inputs t.laid.with_slot t.laid.with_early t.with_inside t.inside
+  pub wired : IsWiredInside code plan shape printer t.laid.with_inputs t.laid.with_slot t.laid.with_early t.laid.with_heard t.with_inside t.inside
   wired = t.laid.wired printer served.printer_is served.site_low served.site_high served.spreads refl
 
-  wants_count : length t.inside.early.requests.banks.wants ≡ banks
+  pub wants_count : length t.inside.early.requests.banks.wants ≡ banks
   wants_count = wired.early.linked.banks.wants.count ∙ bits_count
     where
       bits_count : length wired.bits ≡ banks

@@ -1,11 +1,11 @@
 -- Where the parts of a module stand, and what a reading shows there.
-use Rattle.std.proofs.Common.{◌≡◌, ℕ, zero, suc, ◌+◌, ◌*◌, ◌<◌, ◌^◌, Bool, true, false, if◌then◌else◌, List, [], ◌∷◌, length, map, slice_get, Option, Some, None}
+use Rattle.std.proofs.Common.{◌≡◌, ℕ, zero, suc, ◌+◌, ◌*◌, ◌<◌, ◌^◌, Bool, true, false, if◌then◌else◌, List, [], ◌∷◌, length, map, slice_get, Option, Some, None, pos}
 use Rattle.std.proofs.Common.{refl, sym, ap, subst, ◌∙◌, arith, length-append}
 use Rattle.std.specs.Prelude.{option_map, replicate, slice_index}
 use Rattle.std.proofs.lemmas.List.{length-map}
 use Rattle.std.proofs.lemmas.Option.{slice_get_within, slice_get-map}
 use Rattle.hls_ints.specs.Residues.{bit_of}
-use Rattle.hls_ints.specs.Types.{IntegerType, width_of}
+use Rattle.hls_ints.specs.Types.{Width, bits_8, bits_16, bits_32, bits_64, IntegerType, HasType, width_of}
 use Rattle.bank_partition.specs.declared.banks.Spread.{Spread}
 use Rattle.thread_promise.specs.Globals.{bank_total}
 use Rattle.block_ir.specs.declared.code.ThreadCode.{ThreadCode}
@@ -29,6 +29,7 @@ use Rattle.fsm_datapath.specs.Slots.{StandsAt}
 use Rattle.fsm_datapath.specs.Outputs.{CopiesAt, field_width, HasBankOutputs}
 use Rattle.fsm_datapath.specs.Modules.{IsModule}
 use Rattle.fsm_datapath.specs.Control.{core_count}
+use Rattle.fsm_datapath.specs.Hearing.{IsHeard}
 use Rattle.fsm_datapath.specs.Early.{held_width, printer_request, spread_out}
 use Rattle.fsm_datapath.specs.Thread.{input_count, first_output, ports_of, IsServed, HasBankPorts, HasShape}
 use Rattle.fsm_datapath.proofs.Closing.{bank_outputs_later}
@@ -66,6 +67,16 @@ by_signal m r x (Some s) o e w = small (r.signal x) (subst (λ (n : ℕ). r.sign
 pub wide_bit : (m : Module) (r : Reading) (x : ℕ) → Obeys m r → width m x ≡ 1 → (b : Bool) × (r.signal x ≡ bit_of b)
 wide_bit m r x o w = by_signal m r x (slice_get m.signals x) o refl w
 
+pub zero_typed : (w : Width) (s : Bool) → HasType (record { width = w; signed = s }) (pos 0)
+zero_typed bits_8 true = refl
+zero_typed bits_8 false = refl
+zero_typed bits_16 true = refl
+zero_typed bits_16 false = refl
+zero_typed bits_32 true = refl
+zero_typed bits_32 false = refl
+zero_typed bits_64 true = refl
+zero_typed bits_64 false = refl
+
 pub got_any : {X : Type 0} (xs : List X) (i : ℕ) → i < length xs → (x : X) × (slice_get xs i ≡ Some x)
 got_any [] i h = absurd (omega arith)
 got_any (x ∷ xs) zero h = (x, refl)
@@ -93,8 +104,12 @@ module _ (shape : Shape) (code : ThreadCode) (plan : Planned) (printer : Printer
   pub from_start : Grows t.laid.with_start m.signals
   from_start = grows_then t.laid.with_start t.with_inside m.signals t.laid.walks.grows from_inside
 
+  pub from_heard : Grows t.laid.with_heard m.signals
+  from_heard = grows_then t.laid.with_heard t.laid.with_units m.signals t.laid.units.grows
+      (grows_then t.laid.with_units t.laid.with_start m.signals t.laid.begins.grows from_start)
+
   pub from_early : Grows t.laid.with_early m.signals
-  from_early = grows_then t.laid.with_early t.laid.with_start m.signals t.laid.begins.grows from_start
+  from_early = grows_then t.laid.with_early t.laid.with_heard m.signals t.laid.hears.grows from_heard
 
   pub from_slot : Grows t.laid.with_slot m.signals
   from_slot = grows_then t.laid.with_slot t.laid.with_early m.signals t.laid.early.grows from_early
@@ -111,8 +126,11 @@ module _ (shape : Shape) (code : ThreadCode) (plan : Planned) (printer : Printer
   pub bank_count : length (spread_out shape.spreads (map width_of shape.globals)) ≡ banks
   bank_count = spread_count shape.spreads (map width_of shape.globals) (length-map shape.globals width_of ∙ sym served.spreads.count)
 
+  pub told_count : length t.laid.told ≡ banks
+  told_count = t.laid.words.count ∙ bank_count
+
   pub words_count : length t.inside.slot.words ≡ banks
-  words_count = t.laid.words.count ∙ bank_count
+  words_count = t.laid.hears.count ∙ told_count
 
   pub cores : core_count shape.printer (length (spread_out shape.spreads (map width_of shape.globals))) ≡ suc banks
   cores = ap (λ (p : Option Printer). core_count p (length (spread_out shape.spreads (map width_of shape.globals)))) served.printer_is ∙ ap suc bank_count
@@ -153,12 +171,15 @@ module _ (shape : Shape) (code : ThreadCode) (plan : Planned) (printer : Printer
   pub grant_stands : (k : ℕ) → k < suc banks → StandsAt m.signals (2 + k) 1 Input
   grant_stands k less = stands_later t.laid.with_ports m.signals (2 + k) 1 Input from_ports (t.laid.inputs.grants_stand k (subst (λ n. k < n) (sym cores) less))
 
-  -- the word of bank k of a global
+  -- the word of bank k of a global: where it is told, and what is heard of it
   pub record HasWord (n w : ℕ) : Type 0 where
     pub held : Held
     pub listed : slice_get t.inside.slot.words n ≡ Some held
     pub wide : held.width ≡ w
-    pub at : held.register ≡ 3 + banks + n
+    pub told : Held
+    pub own : told.width ≡ w
+    pub heard : IsHeard t.laid.with_heard t.inside.early.need told held
+    pub at : told.register ≡ 3 + banks + n
     pub stands : StandsAt m.signals (3 + banks + n) w Input
 
   pub word_held : (x k : ℕ) (s : Spread) (ty : IntegerType) → slice_get shape.spreads x ≡ Some s → slice_get shape.globals x ≡ Some ty → k < s.count →
@@ -170,10 +191,14 @@ module _ (shape : Shape) (code : ThreadCode) (plan : Planned) (printer : Printer
       ∙ spread_there shape.spreads (map width_of shape.globals) x k (width_of ty) s listed wide less in
       let f = t.laid.words.each (s.first + k) (width_of ty) (slice_get_within (spread_out shape.spreads (map width_of shape.globals)) (s.first + k) (width_of ty) there) there in
       let place : length t.laid.with_ports + (s.first + k) ≡ 3 + banks + (s.first + k) = (let e = ports_long in omega arith) in
+      let g = t.laid.hears.each (s.first + k) f.0 (slice_get_within t.laid.told (s.first + k) f.0 f.1) f.1 in
       record {
-        held = f.0;
-        listed = f.1;
-        wide = f.2;
+        held = g.0;
+        listed = g.1;
+        wide = g.2.says ∙ f.2;
+        told = f.0;
+        own = f.2;
+        heard = g.2;
         at = f.3 ∙ place;
         stands =
             subst (λ (n : ℕ). StandsAt m.signals n (width_of ty) Input) place

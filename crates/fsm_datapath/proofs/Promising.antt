@@ -1,6 +1,6 @@
 -- The module of a thread runs its code.
 use Rattle.std.proofs.Common.{◌≡◌, ◌≢◌, ℕ, suc, ◌+◌, ◌%◌, ◌<◌, ◌≤◌, ◌^◌, Bool, true, false}
-use Rattle.std.proofs.Common.{◌||◌, nat_eq, if◌then◌else◌, List, length, map, ℤ}
+use Rattle.std.proofs.Common.{◌||◌, nat_eq, if◌then◌else◌, List, length, map, ℤ, pos}
 use Rattle.std.proofs.Common.{refl, sym, ap, subst, ◌∙◌, arith}
 use Rattle.std.proofs.Math.Nat.{mod-eq_of_lt}
 use Rattle.std.proofs.lemmas.Option.{slice_get_within}
@@ -12,8 +12,10 @@ use Rattle.block_ir.specs.declared.code.Stage.TheVariants as stage
 use Rattle.block_ir.specs.declared.code.ThreadCode.{ThreadCode}
 use Rattle.block_ir.specs.declared.plan.BlockPlan.{BlockPlan}
 use Rattle.block_ir.specs.declared.plan.Planned.{Planned}
-use Rattle.planned_block.specs.Block.{Operand, size, finished, leads_to}
-use Rattle.planned_block.specs.Slot.{Slot, operand_now, arrays_next, stayed, gone_on}
+use Rattle.planned_block.specs.Block.{Operand, Kind, Simple, Multiply, Divide, BankRead, BankWrite, ArrayRead, ArrayWrite, operation_at, size, finished, leads_to}
+use Rattle.planned_block.specs.Plan.{last_state}
+use Rattle.planned_block.specs.Closed.{with_words}
+use Rattle.planned_block.specs.Slot.{Slot, operand_now, arrays_next, result_of, stayed, gone_on}
 use Rattle.planned_block.specs.Advance.{answered, is_ready, is_answered, wires, words_next, registers_next, left_for_next, state_left, advance}
 use Rattle.planned_block.proofs.Bits.{same_is}
 use Rattle.planned_block.proofs.Total.{wires_wired, registers_right}
@@ -25,7 +27,8 @@ use Rattle.thread_promise.specs.Globals.{bank_total, bank_of}
 use Rattle.thread_promise.specs.Types.{value_type}
 use Rattle.thread_promise.specs.Slots.{element_at, IsAlive, ShowsData, ShowsInBlock}
 use Rattle.thread_promise.specs.Promise.{IsInside, HearsBanks, RunsCode}
-use Rattle.block_datapath.specs.Operations.{IsFed}
+use Rattle.block_datapath.specs.Leave.{IsInStage}
+use Rattle.block_datapath.specs.Operations.{SeesSlot, IsFed}
 use Rattle.fsm_datapath.specs.declared.shape.Printer.{Printer}
 use Rattle.fsm_datapath.specs.declared.shape.Shape.{Shape}
 use Rattle.fsm_datapath.specs.declared.stores.Store.{Store}
@@ -36,13 +39,14 @@ use Rattle.fsm_datapath.specs.Thread.{input_count, places_of, ports_of, IsServed
 use Rattle.fsm_datapath.proofs.Blocks.{cells, next_arrays}
 use Rattle.fsm_datapath.proofs.Meeting.{any_found}
 use Rattle.fsm_datapath.proofs.Moving.{block_leave, block_moved, block_mark}
-use Rattle.fsm_datapath.proofs.Placed.{from_inside, beat_at, granted_at}
+use Rattle.fsm_datapath.proofs.Needed.{need_wide, taken_needs}
+use Rattle.fsm_datapath.proofs.Placed.{wide_bit, from_inside, beat_at, granted_at}
 use Rattle.fsm_datapath.proofs.Printing.{HoldsArrays, shows_next, prints_so, returns_so, ends_so, done_so}
 use Rattle.fsm_datapath.proofs.Requested.{indices, targets, printing, asks_so, asks_none_so}
 use Rattle.fsm_datapath.proofs.Resting.{agrees_off, rests_so}
 use Rattle.fsm_datapath.proofs.Shown.{starts_so, keeps_so, keeps_in_so, global_within}
 use Rattle.fsm_datapath.proofs.Sight.{stored, all_stored, does, still, knows, stays_but, words_stay, next_beat, next_mark, next_kept}
-use Rattle.fsm_datapath.proofs.Sight.{is_right, kept_of, has_widths, sees_slot, in_stage, told_so}
+use Rattle.fsm_datapath.proofs.Sight.{is_right, kept_of, has_widths, sees_slot, in_stage, shared_so, told_so, told_nothing}
 use Rattle.fsm_datapath.proofs.Unasked.{asks_outside_so, quiet_so}
 
 is_same : (x n : ℕ) → nat_eq x n ≡ true → x ≡ n
@@ -98,20 +102,85 @@ module _ (shape : Shape) (code : ThreadCode) (plan : Planned) (printer : Printer
     abbrev words : ℕ → ℤ
     words = words_next bank (planned_view b) (plan_view b p) q memory grants
 
-    fed : IsFed shape.globals code t.inside.slot b p bank m r q wire
-    fed = record {
-      wired = wires_wired bank (planned_view b) (plan_view b p) inside.runs.keeps q;
-      told = told_so shape code plan printer m t served r o q b p inside.runs inside.state inside.shown grant hears;
-    }
+    -- where no core is needed the thread hears nothing, and takes no word
+    needed : (c : Bool) → r.signal t.inside.early.need ≡ bit_of c → (heard : ℕ → ℤ) × IsFed shape.globals code t.inside.slot b p bank m r (with_words q heard) wire
+    needed true e = (
+      q.words,
+      record {
+        wired = wires_wired bank (planned_view b) (plan_view b p) inside.runs.keeps q;
+        told = told_so shape code plan printer m t served r o q b p inside.runs inside.state inside.shown e grant hears;
+        units = shared_so shape code plan printer m t served r o q b p inside.runs inside.state inside.shown wire;
+      },
+    )
+    needed false e = (
+      λ n. pos 0,
+      record {
+        wired = λ k below last. wires_wired bank (planned_view b) (plan_view b p) inside.runs.keeps q k below last ∙ unheard k below last (operation_at (planned_view b) k).kind refl;
+        told = told_nothing shape code plan printer m t served r o q b p inside.runs inside.state inside.shown e;
+        units = shared_so shape code plan printer m t served r o q b p inside.runs inside.state inside.shown wire;
+      },
+    )
+      where
+        unheard : (k : ℕ) → k < size (planned_view b) → last_state (planned_view b) (plan_view b p) k ≡ q.state → (kind : Kind) → (operation_at (planned_view b) k).kind ≡ kind
+            → result_of bank (operation_at (planned_view b) k).kind q.words q.arrays (value (operation_at (planned_view b) k).left) (value (operation_at (planned_view b) k).right)
+            ≡ result_of bank (operation_at (planned_view b) k).kind (λ n. pos 0) q.arrays (value (operation_at (planned_view b) k).left)
+            (value (operation_at (planned_view b) k).right)
+        unheard k below last kind is =
+            ap (λ z. result_of bank z q.words q.arrays (value (operation_at (planned_view b) k).left) (value (operation_at (planned_view b) k).right)) is
+            ∙ by_kind kind is
+            ∙ ap (λ z. result_of bank z (λ n. pos 0) q.arrays (value (operation_at (planned_view b) k).left) (value (operation_at (planned_view b) k).right)) (sym is)
+          where
+            by_kind : (kind : Kind) → (operation_at (planned_view b) k).kind ≡ kind
+                → result_of bank kind q.words q.arrays (value (operation_at (planned_view b) k).left) (value (operation_at (planned_view b) k).right)
+                ≡ result_of bank kind (λ n. pos 0) q.arrays (value (operation_at (planned_view b) k).left) (value (operation_at (planned_view b) k).right)
+            by_kind (Simple f) e' = refl
+            by_kind (Multiply f) e' = refl
+            by_kind (Divide f) e' = refl
+            by_kind (BankRead x) e' =
+                absurd (let clash : 0 ≡ 1 = sym e ∙ taken_needs shape code plan printer m t served r o q b p inside k x below last e' in cc)
+            by_kind (BankWrite x) e' = refl
+            by_kind (ArrayRead x) e' = refl
+            by_kind (ArrayWrite x) e' = refl
+
+    need_now : (c : Bool) × (r.signal t.inside.early.need ≡ bit_of c)
+    need_now = wide_bit m r t.inside.early.need o (need_wide shape code plan printer m t served)
+
+    fed : (heard : ℕ → ℤ) × IsFed shape.globals code t.inside.slot b p bank m r (with_words q heard) wire
+    fed = needed need_now.0 need_now.1
+
+    -- the slot beside what is heard
+    abbrev heard_slot : Slot
+    heard_slot = with_words q fed.0
+
+    heard_stage : IsInStage shape.globals code t.inside.slot q.stage b p m r heard_slot
+    heard_stage =
+        let own = in_stage shape code plan printer m t served r o q b p inside.runs inside.state inside.shown in
+        record { has = own.has; stage = own.stage; wide = own.wide; state = own.state; below = own.below; room = own.room }
+
+    heard_sees : SeesSlot shape.globals code t.inside.slot b p m r heard_slot
+    heard_sees =
+        let own = sees_slot shape code plan printer m t served r o q b p inside.runs inside.state inside.shown in
+        record {
+          variables = own.variables;
+          arrays = own.arrays;
+          alive = λ k n a. own.alive k n (record { operation = a.operation; listed = a.listed; register = a.register; past = a.past; used = a.used });
+        }
 
     made : LeavesState shape.globals code t.inside.slot q.stage b p r q wire t.inside.chains
     made =
-        (does shape code plan printer m t served q.stage (stage.Run b) inside.runs.listed).runs b p refl inside.runs.planned_so bank m r q wire
+        let left =
+        (does shape code plan printer m t served q.stage (stage.Run b) inside.runs.listed).runs b p refl inside.runs.planned_so bank m r heard_slot wire
         (from_inside shape code plan printer m t served) o (still shape code plan printer m t served r o)
-        (is_right shape code plan printer m t served r o q b p inside.runs inside.state inside.shown)
-        (in_stage shape code plan printer m t served r o q b p inside.runs inside.state inside.shown)
-        (sees_slot shape code plan printer m t served r o q b p inside.runs inside.state inside.shown)
-        fed (has_widths shape code plan printer m t served r o q b p inside.runs inside.state inside.shown) (knows shape code plan printer m t served r o)
+        (is_right shape code plan printer m t served r o q b p inside.runs inside.state inside.shown) heard_stage heard_sees
+        fed.1 (has_widths shape code plan printer m t served r o q b p inside.runs inside.state inside.shown) (knows shape code plan printer m t served r o) in
+        record {
+          is_last = left.is_last;
+          stage = left.stage;
+          variables = left.variables;
+          typed = left.typed;
+          kept = λ after is. left.kept after (record { written = is.written; kept = is.kept });
+          waits = left.waits;
+        }
 
     leave_is : r.signal t.edge.leave ≡ bit_of (is_ready (planned_view b) (plan_view b p) q grant)
     leave_is =
@@ -135,11 +204,9 @@ module _ (shape : Shape) (code : ThreadCode) (plan : Planned) (printer : Printer
           let listed = inside.runs.listed in
           let put =
           (stored shape code plan printer m t served).runs q.stage b p (slice_get_within code.stages q.stage (stage.Run b) listed)
-          (let z : length code.stages ≤ length code.stages = omega arith in z) listed inside.runs.planned_so bank m r q wire (from_inside shape code plan printer m t served) o
-          (is_right shape code plan printer m t served r o q b p inside.runs inside.state inside.shown) (knows shape code plan printer m t served r o)
-          (in_stage shape code plan printer m t served r o q b p inside.runs inside.state inside.shown)
-          (sees_slot shape code plan printer m t served r o q b p inside.runs inside.state inside.shown)
-          fed in
+          (let z : length code.stages ≤ length code.stages = omega arith in z) listed inside.runs.planned_so bank m r heard_slot wire (from_inside shape code plan printer m t served) o
+          (is_right shape code plan printer m t served r o q b p inside.runs inside.state inside.shown) (knows shape code plan printer m t served r o) heard_stage heard_sees
+          fed.1 in
           let shows = inside.shown.shown in
           let is : (a i : ℕ) → s.arrays (element_at a i) ≡ cells b p q wire (length b.operations) a i (q.arrays (element_at a i)) = λ a i. same
           (element_at a i) ∙ next_arrays b p q wire a i in

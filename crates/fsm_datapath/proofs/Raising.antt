@@ -61,11 +61,14 @@ module _ (shape : Shape) (code : ThreadCode) (plan : Planned) (printer : Printer
       by None e = tt
       by (Some s) e = (served.spreads.powers x s e, (let within = served.spreads.within x s e in let few = served.spreads.few in omega arith))
 
-  pub from_asks : Grows t.laid.early.with_asks m.signals
-  from_asks =
-      grows_then t.laid.early.with_asks t.laid.early.with_free m.signals t.laid.early.frees.grows
+  pub from_needs : Grows t.laid.early.with_needs m.signals
+  from_needs =
+      grows_then t.laid.early.with_needs t.laid.early.with_free m.signals t.laid.early.frees.grows
       (grows_then t.laid.early.with_free t.laid.early.with_open m.signals t.laid.early.opens.grows
       (grows_then t.laid.early.with_open t.laid.with_early m.signals t.laid.early.needs.grows (from_early shape code plan printer m t served)))
+
+  pub from_asks : Grows t.laid.early.with_asks m.signals
+  from_asks = grows_then t.laid.early.with_asks t.laid.early.with_needs m.signals t.laid.early.holds.grows from_needs
 
   module _ (r : Reading) (q : Slot) (b : Block) (p : BlockPlan) (o : Obeys m r)
       (inside : IsInside shape.globals shape.spreads code plan m (places_of banks code plan) (ports_of banks printer m) r q b p) where

@@ -4,7 +4,7 @@ use Rattle.std.proofs.Common.{refl, sym, ap, subst, ◌∙◌, arith}
 use Rattle.std.specs.Prelude.{replicate}
 use Rattle.std.proofs.lemmas.List.{length-replicate}
 use Rattle.std.proofs.lemmas.Option.{slice_get_within}
-use Rattle.hls_ints.specs.Types.{Width, bits_8, bits_16, bits_32, bits_64, HasType, width_of}
+use Rattle.hls_ints.specs.Types.{width_of}
 use Rattle.operator_words.proofs.Typed.{residue_of-zero}
 use Rattle.bank_partition.specs.declared.banks.Spread.{Spread}
 use Rattle.c_program.specs.declared.tree.BinaryOperator.{BinaryOperator}
@@ -33,18 +33,8 @@ use Rattle.fsm_datapath.specs.declared.shape.Shape.{Shape}
 use Rattle.fsm_datapath.specs.Memories.{memory_for}
 use Rattle.fsm_datapath.specs.Modules.{IsModule}
 use Rattle.fsm_datapath.specs.Thread.{input_count, places_of, IsServed}
-use Rattle.fsm_datapath.proofs.Placed.{stands_agrees, stands_begins, stage_stands, state_stands, beat_stands, variable_held, kept_held, kept_within, mark_held, got_any}
+use Rattle.fsm_datapath.proofs.Placed.{zero_typed, stands_agrees, stands_begins, stage_stands, state_stands, beat_stands, variable_held, kept_held, kept_within, mark_held, got_any}
 use Rattle.fsm_datapath.proofs.Sight.{memory_of}
-
-zero_typed : (w : Width) (s : Bool) → HasType (record { width = w; signed = s }) (pos 0)
-zero_typed bits_8 true = refl
-zero_typed bits_8 false = refl
-zero_typed bits_16 true = refl
-zero_typed bits_16 false = refl
-zero_typed bits_32 true = refl
-zero_typed bits_32 false = refl
-zero_typed bits_64 true = refl
-zero_typed bits_64 false = refl
 
 zero_word : (n i : ℕ) → or_zero (slice_get (replicate n 0) i) ≡ 0
 zero_word zero i = refl

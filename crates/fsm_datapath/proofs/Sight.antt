@@ -1,11 +1,11 @@
 -- What a reading of a thread's module shows of the slot, and when it leaves the state.
-use Rattle.std.proofs.Common.{◌≡◌, ◌≢◌, ℕ, suc, ◌+◌, ◌%◌, ◌<◌, ◌≤◌, ◌^◌, Bool, not, if◌then◌else◌, List, [], length, map, slice_get, slice_index, Option, Some, pos}
-use Rattle.std.proofs.Common.{sym, ap, subst, ◌∙◌, arith}
+use Rattle.std.proofs.Common.{◌≡◌, ◌≢◌, ℕ, suc, ◌+◌, ◌%◌, ◌<◌, ◌≤◌, ◌^◌, nat_eq, Bool, not, if◌then◌else◌, List, [], length, map, slice_get, slice_index, Option, Some, ℤ, pos}
+use Rattle.std.proofs.Common.{refl, sym, ap, subst, ◌∙◌, arith}
 use Rattle.std.proofs.lemmas.Option.{slice_get_within}
 use Rattle.hls_ints.specs.Residues.{residue_of, bit_of}
 use Rattle.hls_ints.specs.Types.{IntegerType, HasType, width_of}
 use Rattle.bank_partition.specs.declared.banks.Spread.{Spread}
-use Rattle.thread_promise.specs.Globals.{bank_total, bank_of, IsAccess}
+use Rattle.thread_promise.specs.Globals.{IsSmallPower, bank_total, bank_of, IsAccess}
 use Rattle.block_ir.specs.Run.{global_read}
 use Rattle.planned_block.specs.Block.{element}
 use Rattle.block_ir.specs.declared.block.Operation.{Operation}
@@ -34,6 +34,7 @@ use Rattle.block_datapath.proofs.Banking.{bank_read}
 use Rattle.block_datapath.proofs.Reaching.{some_banks}
 use Rattle.block_datapath.specs.Chains.{next_number}
 use Rattle.block_datapath.specs.Leave.{IsInStage}
+use Rattle.block_datapath.specs.Units.{HasUnits}
 use Rattle.fsm_datapath.specs.declared.shape.Printer.{Printer}
 use Rattle.fsm_datapath.specs.declared.shape.Shape.{Shape}
 use Rattle.fsm_datapath.specs.Links.{AreBits, IsStill}
@@ -52,7 +53,8 @@ use Rattle.fsm_datapath.specs.Actions.{actions_of}
 use Rattle.fsm_datapath.specs.Thread.{input_count, places_of, ports_of, IsServed}
 use Rattle.fsm_datapath.proofs.Edges.{edge_stores, edge_stays, edge_keeps, edge_words, stage_next, state_next, beat_next, variable_next, kept_next, granted_next}
 use Rattle.fsm_datapath.proofs.Gating.{index_there}
-use Rattle.fsm_datapath.proofs.Placed.{stands_wide, stands_fits, wide_bit, from_control, from_inside, from_start}
+use Rattle.fsm_datapath.proofs.Placed.{zero_typed, stands_wide, stands_fits, wide_bit, from_control, from_inside, from_start, from_heard}
+use Rattle.operator_words.proofs.Typed.{residue_of-zero}
 use Rattle.fsm_datapath.proofs.Placed.{enable_at, enable_stands, grant_at, grant_stands, stage_at, stage_stands, state_at}
 use Rattle.fsm_datapath.proofs.Placed.{state_stands, beat_at, beat_stands, variable_held, kept_held}
 use Rattle.fsm_datapath.proofs.Placed.{kept_within, variables_at, kept_at, granted_at, mark_held, word_held, opens_count}
@@ -344,13 +346,36 @@ module _ (shape : Shape) (code : ThreadCode) (plan : Planned) (printer : Printer
             room = t.laid.slot.state_room q.stage p runs.planned_so;
           }
 
-      -- what banks tell is what the slot has of their words
-      pub told_so : (grant : ℕ → Bool) → HearsBanks shape.globals shape.spreads code plan m (places_of banks code plan) (ports_of banks printer m) r q b p grant
+      -- shared units show what their operations give
+      pub shared_so : (wire : ℕ → ℤ) → HasUnits t.inside.slot.units b p m r q wire
+      shared_so wire =
+          (t.laid.wired printer served.printer_is served.site_low served.site_high served.spreads refl).shares shape.globals m r q b p wire
+          (from_inside shape code plan printer m t served) o
+          (record {
+            listed = runs.listed;
+            planned_so = runs.planned_so;
+            right = record {
+              typed = runs.typed;
+              keeps = runs.keeps;
+              registered = runs.registered;
+              units = runs.units;
+              small = t.laid.slot.states_fit q.stage p runs.planned_so;
+            };
+            inside = in_stage;
+            sees = sees_slot;
+          })
+
+      fits_told : (x : ℕ) (s : Spread) → slice_get t.inside.slot.spreads x ≡ Some s → IsSmallPower s.count × (s.first + s.count < 2 ^ 64)
+      fits_told x s listed =
+          let there : slice_get shape.spreads x ≡ Some s = ap (λ l. slice_get l x) (sym t.laid.slot.spreads_are) ∙ listed in
+          (served.spreads.powers x s there, (let within = served.spreads.within x s there in let few = served.spreads.few in omega arith))
+
+      -- where a core is needed what is heard is what the slot has of the words of banks
+      pub told_so : r.signal t.inside.early.need ≡ 1 → (grant : ℕ → Bool) →
+          HearsBanks shape.globals shape.spreads code plan m (places_of banks code plan) (ports_of banks printer m) r q b p grant
           → HasTold shape.globals t.inside.slot m r (λ l. q.words (bank_of shape.spreads l))
-      told_so grant hears = record {
-        fits = λ x s listed.
-            let there : slice_get shape.spreads x ≡ Some s = ap (λ l. slice_get l x) (sym t.laid.slot.spreads_are) ∙ listed in
-            (served.spreads.powers x s there, (let within = served.spreads.within x s there in let few = served.spreads.few in omega arith));
+      told_so needed grant hears = record {
+        fits = fits_told;
         words = λ x s ty v listed declared.
             let there : slice_get shape.spreads x ≡ Some s = ap (λ l. slice_get l x) (sym t.laid.slot.spreads_are) ∙ listed in
             let power = served.spreads.powers x s there in
@@ -362,9 +387,32 @@ module _ (shape : Shape) (code : ThreadCode) (plan : Planned) (printer : Printer
               held = w.held;
               listed = w.listed;
               says = w.wide;
-              wide = ap (width m) w.at ∙ stands_wide m (3 + banks + (s.first + k)) (width_of ty) Input w.stands;
-              shows = ap r.signal w.at ∙ hears.words x k s ty there declared less ∙ ap (λ n. residue_of (width_of ty) (q.words n)) (sym bank);
+              wide = w.heard.wide m (from_heard shape code plan printer m t served) ∙ w.own;
+              shows =
+                  w.heard.shows m r (from_heard shape code plan printer m t served) o ∙ ap (λ n. if nat_eq n 0 then 0 else r.signal w.told.register) needed
+                  ∙ ap r.signal w.at ∙ hears.words x k s ty there declared less ∙ ap (λ n. residue_of (width_of ty) (q.words n)) (sym bank);
               typed = subst (λ n. HasType ty (q.words n)) (sym bank) (hears.typed x k s ty there declared less);
+            };
+      }
+
+      -- and elsewhere it is nothing
+      pub told_nothing : r.signal t.inside.early.need ≡ 0 → HasTold shape.globals t.inside.slot m r (λ l. pos 0)
+      told_nothing none = record {
+        fits = fits_told;
+        words = λ x s ty v listed declared.
+            let there : slice_get shape.spreads x ≡ Some s = ap (λ l. slice_get l x) (sym t.laid.slot.spreads_are) ∙ listed in
+            let k = residue_of 64 v % s.count in
+            let less : k < s.count = some_banks (residue_of 64 v) s.count (served.spreads.powers x s there) in
+            let w = word_held shape code plan printer m t served x k s ty there declared less in
+            record {
+              held = w.held;
+              listed = w.listed;
+              says = w.wide;
+              wide = w.heard.wide m (from_heard shape code plan printer m t served) ∙ w.own;
+              shows =
+                  w.heard.shows m r (from_heard shape code plan printer m t served) o ∙ ap (λ n. if nat_eq n 0 then 0 else r.signal w.told.register) none
+                  ∙ sym (residue_of-zero (width_of ty));
+              typed = zero_typed ty.width ty.signed;
             };
       }
 

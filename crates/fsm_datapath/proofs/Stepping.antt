@@ -1,5 +1,5 @@
 -- One stage after the other.
-use Rattle.std.proofs.Common.{◌≡◌, ◌≢◌, ℕ, suc, ◌+◌, ◌%◌, ◌^◌, ◌<◌, ◌≤◌, Bool, true, false, nat_eq, if◌then◌else◌, List, length, slice_get, Option, Some, min}
+use Rattle.std.proofs.Common.{◌≡◌, ◌≢◌, ℕ, suc, ◌+◌, ◌%◌, ◌^◌, ◌<◌, ◌≤◌, Bool, true, false, not, nat_eq, if◌then◌else◌, List, length, slice_get, Option, Some, None, min}
 use Rattle.std.proofs.Common.{refl, sym, ap, subst, ◌∙◌, arith, ⊎_elim}
 use Rattle.std.proofs.lemmas.Option.{slice_get_within}
 use Rattle.interleaving.proofs.Update.{same_or_not}
@@ -33,6 +33,8 @@ use Rattle.operator_wires.proofs.Building.{wires_none, wires_then}
 use Rattle.fsm_datapath.specs.Links.{AreBits, LeadsTo, ShowSame}
 use Rattle.fsm_datapath.specs.Wired.{StepIsWired}
 use Rattle.fsm_datapath.specs.Stages.{KnowsStage, StepsOver, Idles, EndsAt, LeavesAct, TakesReturn, TakesPrint, Runs, RunsBlock, DoesStage, TakesStage, WalksFirst, WalksAll}
+use Rattle.fsm_datapath.specs.Needing.{goes_on, has_printer, is_idle}
+use Rattle.fsm_datapath.proofs.Needs.{act_stays}
 use Rattle.fsm_datapath.proofs.Linking.{lead_off, bits_later, same_refl, same_then, same_everywhere, still_later, has_stage, many_refl, many_then}
 
 -- ---- a block
@@ -111,9 +113,23 @@ module _ (globals : List IntegerType) (code : ThreadCode) (registers : Registers
       }
 
   pub run_made : RunsBlock globals code registers l b p s0 s3 before after
-  run_made = record { step = block_step; runs = block_runs; wired = wired }
+  run_made = record {
+    step = block_step;
+    runs = block_runs;
+    goes = λ r still. ap (λ (c : Chains). r.signal c.waits) leads.same ∙ ap (λ (c : Chains). r.signal c.waits) same ∙ still.waits;
+    wired = wired;
+  }
 
 -- ---- stages of each kind
+
+planned_of : (prints : Bool) (b : Block) (plan : Option StagePlan) → is_idle prints (stage.Run b) plan ≡ false → (p : BlockPlan) × (plan ≡ Some (planned.Run p))
+planned_of prints b (Some (planned.Run p)) e = (p, refl)
+planned_of prints b (Some planned.Act) e = absurd cc
+planned_of prints b None e = absurd cc
+
+printer_of : (printer : Option Printer) (site : ℕ) (values : List ActOperand) → not (goes_on (has_printer printer) (Print site values)) ≡ false → (known : Printer) × (printer ≡ Some known)
+printer_of None site values e = absurd cc
+printer_of (Some known) site values e = (known, refl)
 
 module _ (globals : List IntegerType) (code : ThreadCode) (registers : Registers) (printer : Option Printer) (l : ℕ) (old new : List Signal) (before after : Chains) where
   pub run_taken : (b : Block) (p : BlockPlan) (plan : StagePlan) → plan ≡ planned.Run p → RunsBlock globals code registers l b p old new before after
@@ -128,6 +144,7 @@ module _ (globals : List IntegerType) (code : ThreadCode) (registers : Registers
           (t.runs bits variables kept));
       prints = λ known site next values e. absurd cc;
       returns = λ next e. absurd cc;
+      goes = λ no m r g o knows still here. t.goes r still;
     };
     wired = subst (λ (z : StagePlan). l ≤ length code.stages → StepIsWired code registers (Some z) old new before after) (sym same) t.wired;
   }
@@ -141,6 +158,7 @@ module _ (globals : List IntegerType) (code : ThreadCode) (registers : Registers
       runs = λ c u e f. absurd (none u f);
       prints = λ known site next values e. absurd cc;
       returns = λ next e. absurd cc;
+      goes = λ no. absurd (none (planned_of (has_printer printer) b plan no).0 (planned_of (has_printer printer) b plan no).1);
     };
     wired = λ le base fits linked. t.wired base code linked le;
   }
@@ -154,6 +172,7 @@ module _ (globals : List IntegerType) (code : ThreadCode) (registers : Registers
       runs = λ c u e. absurd cc;
       prints = λ known site to values e. absurd (no_print site values cc);
       returns = λ to e. absurd (no_return cc);
+      goes = λ no. absurd (let clash : true ≡ false = ap not (sym (act_stays (has_printer printer) a no_print no_return)) ∙ no in cc);
     };
     wired = λ le base fits linked. t.wired base code linked le;
   }
@@ -166,6 +185,7 @@ module _ (globals : List IntegerType) (code : ThreadCode) (registers : Registers
       runs = λ c u e. absurd cc;
       prints = λ known site to values e. absurd cc;
       returns = λ to e m r g o knows still here. t.returns bits m r g o knows still le here;
+      goes = λ no m r g o knows still here. (t.returns bits m r g o knows still le here).waits;
     };
     wired = λ le base fits linked. t.wired base linked le;
   }
@@ -181,6 +201,9 @@ module _ (globals : List IntegerType) (code : ThreadCode) (registers : Registers
           let two : next ≡ to = cc in
           subst (λ (z : ℕ). LeavesAct code registers (min z (length code.stages)) r before after) two (t.prints bits known p m r g o knows still le here);
       returns = λ to e. absurd cc;
+      goes = λ no m r g o knows still here.
+          let known = printer_of printer site values (ap not (ap (goes_on (has_printer printer)) (sym same)) ∙ no) in
+          (t.prints bits known.0 known.1 m r g o knows still le here).waits;
     };
     wired = λ le base fits linked. t.wired plan le base fits linked;
   }
@@ -201,6 +224,7 @@ module _ (globals : List IntegerType) (code : ThreadCode) (registers : Registers
     returns = λ next e m r g o knows still here.
         let shown = same m r g o knows here in
         act_started l r start middle c shown _ (t.returns next e m r g o knows (still_later r registers start middle shown still) here);
+    goes = λ no m r g o knows still here. t.goes no m r g o knows (still_later r registers start middle (same m r g o knows here) still) here;
   }
     where
       act_started : (l : ℕ) (r : Reading) (start middle c : Chains) → ShowSame r start middle → (target : ℕ) → LeavesAct code registers target r middle c →
@@ -232,6 +256,7 @@ module _ (globals : List IntegerType) (code : ThreadCode) (registers : Registers
     prints = λ known site next values e p m r g o knows still here. act_lifted m r (same m r g o knows here) _
         (t.prints known site next values e p m r (back m g) o knows still here);
     returns = λ next e m r g o knows still here. act_lifted m r (same m r g o knows here) _ (t.returns next e m r (back m g) o knows still here);
+    goes = λ no m r g o knows still here. (same m r g o knows here).waits false (t.goes no m r (back m g) o knows still here);
   }
     where
       back : (m : Module) → Grows new m.signals → Grows old m.signals
@@ -306,6 +331,9 @@ module _ (globals : List IntegerType) (code : ThreadCode) (registers : Registers
       ends = λ m r g o e knows still here.
           u.idles.waits m r g o (t.bits e) (has_stage code registers (length code.stages) m r knows (omega arith)) here
           ((t.still m r (back m g) o e knows (λ k less is. absurd (let z : k ≡ length code.stages = sym is ∙ here in omega arith))).waits false still.waits);
+      past = λ m r g o e knows still none.
+          (u.idles.step.rests m r g o (t.bits e) (has_stage code registers (length code.stages) m r knows (omega arith)) (none (length code.stages) (omega arith))).waits false
+          ((t.still m r (back m g) o e knows (λ k less. none k (omega arith))).waits false still.waits);
       done_wide = u.told.wide;
       done_is = λ m r g o knows. u.told.shows m r g o knows.wide knows.room knows.fits;
       wired = λ base fits linked.

@@ -38,24 +38,16 @@ use Rattle.fsm_datapath.specs.Wired.{AreSlots, LinkFields, KeepsFields, FitState
 
 -- ---- one more link
 
--- the bits are one bit wide
+-- the bit is one bit wide
 pub record AreAskBits (new : List Signal) (c : Requests) : Type 0 where
-  pub needs : (m : Module) → Grows new m.signals → width m c.needs ≡ 1
   pub wants : (m : Module) → Grows new m.signals → width m c.wants ≡ 1
 
 module _ (old new : List Signal) (before after : Requests) where
   -- where a condition holds the printer is asked
   pub record AsksPrinter (condition : ℕ) : Type 0 where
     pub grows : Grows old new
-    pub needs : AddsBit new before.needs after.needs condition
     pub bit : AddsBit new before.wants after.wants condition
-    pub same : after ≡ record before { needs = after.needs; wants = after.wants }
-
-  -- where a condition holds a core is needed
-  pub record NeedsCore (condition : ℕ) : Type 0 where
-    pub grows : Grows old new
-    pub bit : AddsBit new before.needs after.needs condition
-    pub same : after ≡ record before { needs = after.needs }
+    pub same : after ≡ record before { wants = after.wants }
 
 -- where a bit is set the fields of a request are a site and its values
 pub record AsksFields (code : ThreadCode) (registers : Registers) (printer : Printer) (at site : ℕ) (values : List ActOperand) (old new : List Signal) (before after : List ℕ) :
@@ -101,7 +93,6 @@ module _ (base : Base) (code : ThreadCode) (registers : Registers) (site_width :
     pub site_low : 1 ≤ site_width
     pub site_high : site_width ≤ 64
     pub fields : LinkFields base signals site_width c.fields
-    pub needs : IsEarlier signals base c.needs 1
     pub wants : IsEarlier signals base c.wants 1
     pub banks : AreBankChains signals base bits wide own c.banks
     pub widths : HaveBankWidths globals spreads bits wide own
@@ -110,15 +101,14 @@ module _ (base : Base) (code : ThreadCode) (registers : Registers) (site_width :
     pub wires : AreWires base old new
     pub linked : AreAskLinks new c
 
--- the bits of requests stand
+-- the bit of requests at the printer stands
 pub record LinksBits (base : Base) (old new : List Signal) (c : Requests) : Type 0 where
   pub wires : AreWires base old new
-  pub needs : IsEarlier new base c.needs 1
   pub wants : IsEarlier new base c.wants 1
 
 abbrev pub BitsAreLinked : List Signal → List Signal → Requests → Requests → ℕ → Type 0
 BitsAreLinked old new before after condition =
-    (base : Base) → IsEarlier old base before.needs 1 → IsEarlier old base before.wants 1 → IsEarlier old base condition 1 → LinksBits base old new after
+    (base : Base) → IsEarlier old base before.wants 1 → IsEarlier old base condition 1 → LinksBits base old new after
 
 -- links are added, by a thread with such a printer
 abbrev pub AskIsWired : ThreadCode → Registers → List IntegerType → List Spread → Option Printer → List Signal → List Signal → Requests → Requests → Type 0
@@ -187,6 +177,10 @@ module _ (globals : List IntegerType) (spreads : List Spread) (code : ThreadCode
     pub done_wide : (m : Module) → Grows new m.signals → width m done ≡ 1
     pub done_is : (m : Module) (r : Reading) → Grows new m.signals → Obeys m r → KnowsStage code registers m r →
         r.signal done ≡ bit_of (nat_eq (r.signal registers.stage.register) (length code.stages))
+
+  -- and it stands
+  pub record AsksAllWired (plan : Planned) (old new : List Signal) (start c : Requests) (done : ℕ) : Type 0 where
+    pub asks : AsksAll plan old new start c done
     pub wired : FitStates registers plan → (base : Base) (site_width : ℕ) (bits wide own : List Held) → ((known : Printer) → printer ≡ Some known → known.site_width ≡ site_width)
         → AreAskLinks base code registers site_width globals spreads bits wide own old start →
         KeepsAskLinks base code registers site_width globals spreads bits wide own old new c × IsEarlier new base done 1

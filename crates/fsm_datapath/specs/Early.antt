@@ -19,6 +19,7 @@ use Rattle.fsm_datapath.specs.declared.requests.Requests.{Requests}
 use Rattle.fsm_datapath.specs.declared.early.Early.{Early}
 use Rattle.fsm_datapath.specs.Outputs.{HasFieldWidths, field_width}
 use Rattle.fsm_datapath.specs.Asking.{AreAskBits, AsksAll, AreAskLinks, KeepsAskLinks}
+use Rattle.fsm_datapath.specs.Needing.{NeedsMore, FitStages, IsNeedOfFirst, has_printer}
 use Rattle.fsm_datapath.specs.Bits.{NotOf, BothOf, MakesBits, MakesAny, AreBitsOf}
 use Rattle.fsm_datapath.specs.Wired.{AreSlots, FitStates}
 
@@ -75,16 +76,26 @@ pub record LaysEarly (globals : List IntegerType) (code : ThreadCode) (registers
   pub bank_opens : List ℕ
   pub start : Requests
   pub with_start : List Signal
+  pub held : ℕ
+  pub asked : List ℕ
   pub with_asks : List Signal
+  pub with_needs : List Signal
   pub with_free : List Signal
   pub with_open : List Signal
   pub widths : HasFieldWidths printer fields
   pub begins : BeginsAsking old with_start fields (map held_width registers.words) start
   pub asks : AsksAll globals registers.spreads code registers printer plan with_start with_asks start early.requests early.done
-  pub frees : MakesBits with_asks with_free (length (spread_out registers.spreads granted)) free (NotOf (spread_out registers.spreads granted))
+  pub holds : NeedsMore registers (FitStages registers code plan) (IsNeedOfFirst registers (has_printer printer) code plan (length code.stages)) with_asks with_needs early.done held
+  pub frees : MakesBits with_needs with_free (length (spread_out registers.spreads granted)) free (NotOf (spread_out registers.spreads granted))
   pub opens : MakesBits with_free with_open (length early.requests.banks.wants) bank_opens (BothOf early.requests.banks.wants free)
   pub open_is : early.opens ≡ bank_opens ++ printer_request printer early.requests.wants
-  pub needs : MakesAny with_open new early.requests.needs early.requests.banks.wants (λ k. true) (length early.requests.banks.wants) early.need
+  pub asked_is : asked ≡ early.requests.banks.wants ++ printer_request printer early.requests.wants
+  pub needs : MakesAny with_open new held asked (λ k. true) (length asked) early.need
+
+-- and it stands
+pub record LaysEarlyWired (globals : List IntegerType) (code : ThreadCode) (registers : Registers) (granted : List ℕ) (printer : Option Printer) (plan : Planned) (old new : List Signal)
+    (early : Early) : Type 0 where
+  pub lays : LaysEarly globals code registers granted printer plan old new early
   pub wired : (known : Printer) → printer ≡ Some known → 1 ≤ known.site_width → known.site_width ≤ 64 → (base : Base) (bits wide own : List Held) → FitStates registers plan →
       AreSlots base old code registers → AreBitsOf base old (spread_out registers.spreads granted) → length (spread_out registers.spreads granted) ≡ length registers.words →
       HaveBankWidths globals registers.spreads bits wide own → HaveWidths bits (replicate (length (map held_width registers.words)) 1) →

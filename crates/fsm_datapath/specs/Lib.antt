@@ -14,3 +14,6 @@ pub mod Leaf
 pub mod Asking
 pub mod Bits
 pub mod Early
+pub mod Hearing
+pub mod Needing
+pub mod Steady

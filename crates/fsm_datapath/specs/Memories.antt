@@ -16,13 +16,13 @@ abbrev pub memories_from : ℕ → List Array → List Memory
 memories_from n [] = []
 memories_from n (a ∷ arrays) = memory_for n a ∷ memories_from (suc n) arrays
 
--- what wires stand on, of a thread with so many banks: those of what is asked read no input, and those of stages neither the enable nor a grant; both read
--- the memories of the code's arrays; those of control do not read the clock, and no memory
+-- what wires stand on, of a thread with so many banks: those of what is asked and of stages read no input, and those of what is heard neither the enable
+-- nor a grant; all these read the memories of the code's arrays; those of control do not read the clock, and no memory
 abbrev pub early_base : ℕ → ThreadCode → Base
 early_base banks code = record { first = 3 + 2 * banks; memory = λ j. slice_get (memories_from 0 code.arrays) j }
 
-abbrev pub inside_base : ℕ → ThreadCode → Base
-inside_base banks code = record { first = 3 + banks; memory = λ j. slice_get (memories_from 0 code.arrays) j }
+abbrev pub heard_base : ℕ → ThreadCode → Base
+heard_base banks code = record { first = 3 + banks; memory = λ j. slice_get (memories_from 0 code.arrays) j }
 
 abbrev pub control_base : Base
 control_base = record { first = 1; memory = no_memory }

@@ -1,13 +1,23 @@
 -- A thread's module as its parts: ports, registers, what is asked, the wires of its stages, when a state is left, and what an edge does.
-use Rattle.std.specs.Prelude.{◌≡◌, ℕ, ◌+◌, ◌^◌, ◌≤◌, true, if◌then◌else◌, List, [], length, map, replicate, Some}
-use Rattle.hls_ints.specs.Types.{width_of}
+use Rattle.std.specs.Prelude.{◌≡◌, ℕ, ◌+◌, ◌^◌, ◌≤◌, true, if◌then◌else◌, List, [], length, map, replicate, Some, ℤ}
+use Rattle.hls_ints.specs.Types.{IntegerType, width_of}
+use Rattle.block_ir.specs.declared.block.Block.{Block}
 use Rattle.block_ir.specs.declared.code.ThreadCode.{ThreadCode}
+use Rattle.block_ir.specs.declared.plan.BlockPlan.{BlockPlan}
 use Rattle.block_ir.specs.declared.plan.Planned.{Planned}
 use Rattle.netlist.specs.declared.netlist.Source.TheVariants.{Input, Register}
 use Rattle.netlist.specs.declared.netlist.Signal.{Signal}
 use Rattle.netlist.specs.declared.netlist.Module.{Module}
+use Rattle.planned_block.specs.Slot.{Slot}
+use Rattle.verilog_meaning.specs.Readings.{Reading}
+use Rattle.circuit.specs.Modules.{Obeys}
+use Rattle.operator_wires.specs.Gives.{Grows}
 use Rattle.operator_wires.specs.Built.{AreWires}
 use Rattle.block_datapath.specs.declared.registers.Held.{Held}
+use Rattle.block_datapath.specs.declared.registers.UnitResults.{UnitResults}
+use Rattle.block_datapath.specs.declared.registers.Registers.{Registers}
+use Rattle.block_datapath.specs.Units.{HasUnits}
+use Rattle.unit_datapath.specs.Units.{IsInCode, LaysAll as LaysUnits}
 use Rattle.fsm_datapath.specs.declared.shape.Printer.{Printer}
 use Rattle.fsm_datapath.specs.declared.shape.Shape.{Shape}
 use Rattle.fsm_datapath.specs.declared.chains.Chains.{Chains}
@@ -18,9 +28,10 @@ use Rattle.fsm_datapath.specs.Stages.{WalksAll}
 use Rattle.fsm_datapath.specs.Slots.{LaysAll, LaysSlot, AreKeptWidths}
 use Rattle.fsm_datapath.specs.Control.{LaysInputs, Controls}
 use Rattle.fsm_datapath.specs.Early.{LaysEarly, AreEarly, spread_out}
+use Rattle.fsm_datapath.specs.Hearing.{HearsWords}
 use Rattle.fsm_datapath.specs.Outputs.{LaysAllOutputs}
 use Rattle.fsm_datapath.specs.Actions.{actions_of}
-use Rattle.fsm_datapath.specs.Memories.{memories_from, early_base, inside_base, control_base}
+use Rattle.fsm_datapath.specs.Memories.{memories_from, early_base, heard_base, control_base}
 use Rattle.fsm_datapath.specs.Stores.{AreRightStores}
 use Rattle.fsm_datapath.specs.Cells.{StoresFirst}
 use Rattle.fsm_datapath.specs.Thread.{AreRightSpreads}
@@ -29,42 +40,63 @@ use Rattle.fsm_datapath.specs.Wired.{Behind, IsInnerInput, IsSlotRegister, IsNam
 abbrev pub marks_of : Inside → List ℕ
 marks_of inside = map (λ (h : Held). h.register) inside.granted
 
--- the inside stands in order: inputs, registers, wires of what is asked, which read registers alone, and wires of the stages, which read words of banks too
-pub record IsWiredInside (code : ThreadCode) (shape : Shape) (printer : Printer) (with_inputs with_slot with_early new : List Signal) (inside : Inside) : Type 0 where
+-- registers, with what is heard in place of the inputs on which banks tell words, and with units
+abbrev pub worded : Registers → List Held → List UnitResults → Registers
+worded registers words units = record registers { words = words; units = units }
+
+-- THE UNITS show what their operations give, in each reading of a state of a block that is right
+abbrev pub ShareUnits : ThreadCode → Registers → Planned → List Signal → Type 0
+ShareUnits code registers plan signals =
+    (globals : List IntegerType) (m : Module) (r : Reading) (q : Slot) (b : Block) (p : BlockPlan) (wire : ℕ → ℤ) → Grows signals m.signals → Obeys m r →
+    IsInCode code registers plan globals m r q b p → HasUnits registers.units b p m r q wire
+
+-- the inside stands in order: inputs, registers, wires of what is asked, which read registers alone, wires of what is heard, which read the words of
+-- banks, wires of units, which read registers, and wires of the stages, which read registers, what is heard, and units
+pub record IsWiredInside (code : ThreadCode) (plan : Planned) (shape : Shape) (printer : Printer) (with_inputs with_slot with_early with_heard new : List Signal) (inside : Inside) : Type 0 where
   pub inputs : Behind IsInnerInput [] with_inputs
   pub registers : Behind IsSlotRegister with_inputs with_slot
   pub bits : List Held
   pub wide : List Held
   pub own : List Held
-  pub early : AreEarly (early_base (length inside.slot.words) code) with_slot with_early inside.early code inside.slot printer.site_width shape.globals bits wide own
-  pub wires : AreWires (inside_base (length inside.slot.words) code) with_early new
-  pub linked : AreLinked (inside_base (length inside.slot.words) code) new code inside.slot inside.chains
-  pub stores : AreRightStores (inside_base (length inside.slot.words) code) new inside.stores
+  pub asking : Registers
+  pub spreads : asking.spreads ≡ inside.slot.spreads
+  pub early : AreEarly (early_base (length inside.slot.words) code) with_slot with_early inside.early code asking printer.site_width shape.globals bits wide own
+  pub heard : AreWires (heard_base (length inside.slot.words) code) with_early with_heard
+  pub wires : AreWires (early_base (length inside.slot.words) code) with_heard new
+  pub linked : AreLinked (early_base (length inside.slot.words) code) new code inside.slot inside.chains
+  pub stores : AreRightStores (early_base (length inside.slot.words) code) new inside.stores
+  pub shares : ShareUnits code inside.slot plan new
 
--- inputs, then registers, then the wires of what is asked, and of all stages
+-- inputs, then registers, then the wires of what is asked, of what is heard, of units, and of all stages
 pub record LaysInside (shape : Shape) (code : ThreadCode) (plan : Planned) (old new : List Signal) (inside : Inside) : Type 0 where
   pub with_ports : List Signal
   pub with_inputs : List Signal
   pub with_registers : List Signal
   pub with_slot : List Signal
   pub with_early : List Signal
+  pub with_heard : List Signal
+  pub with_units : List Signal
   pub with_start : List Signal
   pub kept_widths : List ℕ
+  pub told : List Held
+  pub asking : Registers
   pub start : Chains
   pub past : ℕ
   pub inputs : LaysInputs shape.printer (length (spread_out shape.spreads (map width_of shape.globals))) old with_ports inside.inputs
   pub words : LaysAll Input with_ports with_inputs (spread_out shape.spreads (map width_of shape.globals))
-      (length (spread_out shape.spreads (map width_of shape.globals))) inside.slot.words
+      (length (spread_out shape.spreads (map width_of shape.globals))) told
   pub kept : AreKeptWidths shape.globals code plan (length code.stages) kept_widths
   pub slot : LaysSlot code plan (if shape.is_main then 0 else length code.stages) kept_widths inside.slot.words shape.spreads with_inputs with_registers inside.slot
   pub registers_long : length with_registers ≡ length with_inputs + 3 + length code.variables + length kept_widths
   pub granted : LaysAll (Register 0) with_registers with_slot (replicate (length shape.globals) 1) (length shape.globals) inside.granted
   pub early : LaysEarly shape.globals code inside.slot (marks_of inside) shape.printer plan with_slot with_early inside.early
-  pub begins : Begins with_early with_start inside.slot start
+  pub hears : HearsWords with_early with_heard inside.early.need told (length told) inside.slot.words
+  pub units : LaysUnits code asking plan with_heard with_units inside.slot.units
+  pub begins : Begins with_units with_start inside.slot start
   pub walks : WalksAll shape.globals code inside.slot shape.printer plan with_start new start inside.chains past
   pub stores : StoresFirst shape.globals code inside.slot plan with_start new [] inside.stores (length code.stages)
   pub wired : (known : Printer) → shape.printer ≡ Some known → 1 ≤ known.site_width → known.site_width ≤ 64 → AreRightSpreads shape.globals shape.spreads → old ≡ []
-      → IsWiredInside code shape known with_inputs with_slot with_early new inside
+      → IsWiredInside code plan shape known with_inputs with_slot with_early with_heard new inside
 
 -- then when a state is left, and the outputs
 pub record Closes (shape : Shape) (inside : Inside) (old new : List Signal) (edge : Edge) : Type 0 where

@@ -1,5 +1,5 @@
 -- The output ports: one behind the other, each a copy.
-use Rattle.std.specs.Prelude.{◌≡◌, ℕ, ◌+◌, ◌*◌, ◌<◌, nat_eq, Bool, true, if◌then◌else◌, List, length, Option, Some, slice_get, slice_index}
+use Rattle.std.specs.Prelude.{◌≡◌, ℕ, ◌+◌, ◌*◌, ◌<◌, nat_eq, Bool, true, if◌then◌else◌, List, length, Option, Some, slice_get, slice_index, codes}
 use Rattle.netlist.specs.declared.netlist.Value.TheVariants.{Copy}
 use Rattle.netlist.specs.declared.netlist.Source.TheVariants.{Assigned}
 use Rattle.netlist.specs.declared.netlist.Signal.{Signal}
@@ -39,6 +39,13 @@ pub record LaysDone (is_main : Bool) (old new : List Signal) (done : ℕ) : Type
   pub long : is_main ≡ true → length new ≡ length old + 1
   pub at : is_main ≡ true → CopiesAt new (length old) 1 done
 
+-- an output of the name need stands at a place
+pub record IsNeedOutput (signals : List Signal) (place : ℕ) : Type 0 where
+  pub signal : Signal
+  pub listed : slice_get signals place ≡ Some signal
+  pub named : signal.name ≡ codes "need"
+  pub flag : signal.is_output ≡ true
+
 -- the outputs of main behind those of banks: the request at the printer, whether it needs a core, and whether it has ended
 pub record LaysOutputs (printer : Option Printer) (is_main : Bool) (old new : List Signal) (asks : ℕ) (fields : List ℕ) (needs done : ℕ) : Type 0 where
   pub grows : Grows old new
@@ -46,6 +53,7 @@ pub record LaysOutputs (printer : Option Printer) (is_main : Bool) (old new : Li
   pub ask : (known : Printer) → printer ≡ Some known → CopiesAt new (length old) 1 asks
   pub each : (known : Printer) (k x : ℕ) → printer ≡ Some known → slice_get fields k ≡ Some x → CopiesAt new (length old + 1 + k) (field_width known.site_width k) x
   pub need : (known : Printer) → printer ≡ Some known → CopiesAt new (length old + 1 + length fields) 1 needs
+  pub need_put : (known : Printer) → printer ≡ Some known → IsNeedOutput new (length old + 1 + length fields)
   pub done_at : (known : Printer) → printer ≡ Some known → is_main ≡ true → CopiesAt new (length old + 2 + length fields) 1 done
 
 -- ---- banks

@@ -37,6 +37,7 @@ use Rattle.block_datapath.specs.Leave.{HasStage, IsInStage}
 use Rattle.fsm_datapath.specs.declared.shape.Printer.{Printer}
 use Rattle.fsm_datapath.specs.declared.chains.Chains.{Chains}
 use Rattle.operator_wires.specs.Built.{Base, IsEarlier, AddsWord}
+use Rattle.fsm_datapath.specs.Needing.{has_printer, is_idle}
 use Rattle.fsm_datapath.specs.Links.{AreBits, IsStill, ShowSame, AreAsMany}
 use Rattle.fsm_datapath.specs.Wired.{AreSlots, AreLinked, LinkFields, KeepsFields, KeepsLinks, FitStates, StepIsWired}
 
@@ -179,6 +180,7 @@ module _ (globals : List IntegerType) (code : ThreadCode) (registers : Registers
   pub record RunsBlock (l : ℕ) (b : Block) (p : BlockPlan) (old new : List Signal) (before after : Chains) : Type 0 where
     pub step : StepsOver registers l old new before after
     pub runs : AreBits old before → length before.variables ≡ length code.variables → length before.kept ≡ length registers.kept → Runs l new before after b p
+    pub goes : (r : Reading) → IsStill r registers before → r.signal after.waits ≡ 0
     pub wired : l ≤ length code.stages → StepIsWired code registers (Some (planned.Run p)) old new before after
 
   -- what stage l does, in a reading of it: from links that are still to those behind it
@@ -190,6 +192,9 @@ module _ (globals : List IntegerType) (code : ThreadCode) (registers : Registers
     pub returns : (next : ℕ) → s ≡ stage.Act Return next → (m : Module) (r : Reading) → Grows new m.signals → Obeys m r → KnowsStage code registers m r →
         IsStill r registers start →
         r.signal registers.stage.register ≡ l → LeavesAct code registers (length code.stages) r start c
+    -- whoever is not idle does not wait
+    pub goes : is_idle (has_printer printer) s plan ≡ false → (m : Module) (r : Reading) → Grows new m.signals → Obeys m r → KnowsStage code registers m r →
+        IsStill r registers start → r.signal registers.stage.register ≡ l → r.signal c.waits ≡ 0
 
   -- A STAGE
   pub record TakesStage (printer : Option Printer) (l : ℕ) (s : Stage) (plan : Option StagePlan) (old new : List Signal) (before after : Chains) : Type 0 where
@@ -228,6 +233,9 @@ module _ (globals : List IntegerType) (code : ThreadCode) (registers : Registers
     -- at the end the thread waits
     pub ends : (m : Module) (r : Reading) → Grows new m.signals → Obeys m r → AreBits old start → KnowsStage code registers m r → IsStill r registers start →
         r.signal registers.stage.register ≡ length code.stages → r.signal c.waits ≡ 1
+    -- and at no number past it
+    pub past : (m : Module) (r : Reading) → Grows new m.signals → Obeys m r → AreBits old start → KnowsStage code registers m r → IsStill r registers start →
+        ((k : ℕ) → k ≤ length code.stages → r.signal registers.stage.register ≢ k) → r.signal c.waits ≡ 0
     pub done_wide : (m : Module) → Grows new m.signals → width m done ≡ 1
     pub done_is : (m : Module) (r : Reading) → Grows new m.signals → Obeys m r → KnowsStage code registers m r →
         r.signal done ≡ bit_of (nat_eq (r.signal registers.stage.register) (length code.stages))

@@ -16,7 +16,7 @@ use Rattle.operator_wires.specs.Built.{Base, name_at, IsEarlier, AreWires, Stand
 use Rattle.block_datapath.specs.declared.registers.Held.{Held}
 use Rattle.block_datapath.specs.declared.registers.Registers.{Registers}
 use Rattle.block_datapath.specs.declared.operands.Given.{Given}
-use Rattle.block_datapath.specs.Wired.{HasMemories, CanRead}
+use Rattle.block_datapath.specs.Wired.{AreUnits, HasMemories, CanRead}
 use Rattle.fsm_datapath.specs.Outputs.{field_width}
 use Rattle.fsm_datapath.specs.declared.chains.Chains.{Chains}
 use Rattle.fsm_datapath.specs.declared.inputs.Inputs.{Inputs}
@@ -97,6 +97,7 @@ module _ (base : Base) (signals : List Signal) where
     pub arrays : HasMemories base code
     -- and inputs of banks, where they may be read
     pub words : (n : ℕ) (h : Held) → slice_get registers.words n ≡ Some h → base.first ≤ h.register → IsEarlier signals base h.register h.width
+    pub units : AreUnits signals base registers.units
 
   -- and chains of them
   pub record AreLinked (code : ThreadCode) (registers : Registers) (c : Chains) : Type 0 where

@@ -8,7 +8,7 @@ ghost use Rattle.block_ir.specs.declared.code.Act.TheVariants as act_taken;
 ghost use Rattle.hls_ints.specs.Types.{IntegerType};
 ghost use Rattle.bank_partition.specs.declared.banks.Spread.{Spread as SpreadOf};
 ghost use Rattle.fsm_datapath.specs.declared.shape.Printer.{Printer as PrinterOf};
-ghost use Rattle.fsm_datapath.specs.Asking.{AsksFields, AsksStage, AsksFirst, AsksAll};
+ghost use Rattle.fsm_datapath.specs.Asking.{AsksFields, AsksStage, AsksFirst, AsksAllWired};
 
 use crate::acts::{ask_site, ask_values};
 use crate::requests::Requests;
@@ -37,14 +37,12 @@ pub fn ask_stages(
     printer: Option<Printer>,
     planned: &Planned,
 ) -> Result<usize, AllocError>
-    ensures { IfOk result (AsksAll globals.now spreads.now code.now registers.now printer planned.now wires.old.signals wires.new.signals requests.old requests.new) }
+    ensures { IfOk result (AsksAllWired globals.now spreads.now code.now registers.now printer planned.now wires.old.signals wires.new.signals requests.old requests.new) }
 {
     ask_each(
         wires, registers, requests, code, globals, spreads, printer, planned,
     )?;
-    let at = at_stage(wires, registers, code.stages.len() as u64)?;
-    requests.need(wires, at)?;
-    Ok(at)
+    at_stage(wires, registers, code.stages.len() as u64)
 }
 
 fn ask_each(

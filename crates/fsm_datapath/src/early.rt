@@ -2,10 +2,11 @@
 
 ghost use Rattle.std.specs.Prelude.{◌≡◌, ◌++◌, map, option_map, slice_get, IfOk, OnOk};
 ghost use Rattle.hls_ints.specs.Types.{width_of};
-ghost use Rattle.fsm_datapath.specs.Early.{LaysEarly, copies_of, held_width, printer_request, spread_out};
+ghost use Rattle.fsm_datapath.specs.Early.{LaysEarlyWired, copies_of, held_width, printer_request, spread_out};
 
 use crate::asking::ask_stages;
 use crate::bits::{any_of, both_each, not_each};
+use crate::needing::{has_printer, need_stages};
 use crate::outputs::field_widths;
 use crate::requests::Requests;
 use crate::shape::Printer;
@@ -24,7 +25,7 @@ pub struct Early {
     pub requests: Requests,
     /// Of each bank, and last of the printer, where there is one, whether it is to be asked: it has not granted yet.
     pub opens: Items<usize>,
-    /// Whether a core is needed.
+    /// Whether a core is needed: one is asked, or tells a word that is taken, or the thread waits.
     pub need: usize,
     /// Whether the slot is at the end.
     pub done: usize,
@@ -40,7 +41,7 @@ pub fn lay_early(
     printer: Option<Printer>,
     planned: &Planned,
 ) -> Result<Early, AllocError>
-    ensures { IfOk result (LaysEarly globals.now code.now registers.now granted.now printer planned.now wires.old.signals wires.new.signals) }
+    ensures { IfOk result (LaysEarlyWired globals.now code.now registers.now granted.now printer planned.now wires.old.signals wires.new.signals) }
 {
     let alloc = wires.alloc;
     let spreads = registers.spreads.as_slice();
@@ -57,11 +58,15 @@ pub fn lay_early(
         printer,
         planned,
     )?;
+    let prints = has_printer(printer);
+    let held = need_stages(wires, registers, code, prints, planned, done)?;
     let marks = marks(alloc, spreads, granted)?;
     let free = not_each(wires, marks.as_slice())?;
     let wants = requests.banks.wants.as_slice();
     let mut opens = both_each(wires, wants, free.as_slice())?;
-    let need = any_of(wires, requests.needs, wants)?;
+    let mut asked = Items::from_slice(alloc, wants)?;
+    add_printer(&mut asked, printer, requests.wants)?;
+    let need = any_of(wires, held, asked.as_slice())?;
     add_printer(&mut opens, printer, requests.wants)?;
     Ok(Early {
         requests,

@@ -18,8 +18,14 @@
 // What is asked comes first: wires that read registers alone. A bank is open where an access of this state names it and its
 // global's bit is not set; each core that is open is asked where the thread is enabled.
 //
+// What banks tell is heard where a core is needed: for each bank a wire shows its word there, and 0 elsewhere. No other wire
+// reads an input on which a word is told, so what a cycle does that needs no core hangs on registers alone.
+//
+// Multipliers and dividers are shared by the operations of all blocks (crate `unit_datapath`): their wires read registers alone,
+// and an operation that has a unit takes its result, in place of an operator of its own.
+//
 // What a register holds next is a chain of conditionals, one link for each place in the code that sets it: under "this
-// stage and this state" the value, else what the chain said before. Chains read registers and the words of banks, and no
+// stage and this state" the value, else what the chain said before. Chains read registers and what is heard, and no
 // grant. Grants come in one place only: the state is left where the thread is enabled, waits for nothing, and each request is
 // granted, now or before. Registers are set under this condition alone, but for the bits of globals and the beat, which are
 // set where some core grants, too.
@@ -38,12 +44,13 @@
 // - requests, asking: the same of what is asked (`AsksOver`, `AsksStage`, `AsksAll`): of a block by each bank what the one
 //   access asks that names it, and of a printf its site and its values;
 // - bits, early: which cores are open (`LaysEarly`);
+// - hearing: what banks tell, where a core is needed (`HearsWords`);
 // - slots: where registers stand, and that each has room for what it keeps;
 // - control, outputs, actions: when a state is left, the ports, and what an edge sets;
 // - module: all of it together (`IsModule`), from which follows that the module runs the code by its plan (`RunsCode`).
 //
 // The same functions promise, in clauses `wired`, that signals stand in order (specs/Wired): inputs, registers, wires of what
-// is asked, wires of the stages, wires of control, and outputs; each wire reads earlier signals of right widths, and each signal
+// is asked, wires of what is heard, wires of units, wires of the stages, wires of control, and outputs; each wire reads earlier signals of right widths, and each signal
 // has a name that tells its place. So the signals have grades by their places: 0 is what registers alone reach, 1 what the enable
 // reaches, 2 what a grant or a word of a bank reaches; and the module is a leaf of the net (`IsLeafOf`): no answer reaches a request.
 //
@@ -60,8 +67,10 @@ mod bits;
 mod chains;
 mod control;
 mod early;
+mod hearing;
 mod inputs;
 pub mod module;
+mod needing;
 mod outputs;
 pub mod requests;
 pub mod shape;

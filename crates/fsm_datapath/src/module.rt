@@ -3,7 +3,7 @@
 ghost use Rattle.std.specs.Prelude.{◌≡◌, ◌≤◌, ◌^◌, map, length, replicate, IfOk};
 ghost use Rattle.netlist.specs.declared.netlist.Source.TheVariants as source;
 ghost use Rattle.block_datapath.specs.declared.registers.Held.{Held as HeldOf};
-ghost use Rattle.fsm_datapath.specs.Early.{LaysEarly};
+ghost use Rattle.fsm_datapath.specs.Early.{LaysEarlyWired};
 ghost use Rattle.fsm_datapath.specs.Slots.{LaysAll};
 ghost use Rattle.fsm_datapath.specs.Wired.{Behind, IsSlotRegister};
 ghost use Rattle.fsm_datapath.specs.Memories.{memory_for, memories_from};
@@ -13,11 +13,13 @@ ghost use Rattle.fsm_datapath.specs.Stores.{StagesKeepStores};
 ghost use Rattle.fsm_datapath.specs.Modules.{LaysInside, Closes, IsModule};
 ghost use Rattle.fsm_datapath.specs.Thread.{RunsServedCode, HasShapeOfServedCode};
 ghost use Rattle.fsm_datapath.specs.Leaf.{IsLeafOfServedCode};
+ghost use Rattle.fsm_datapath.specs.Steady.{IsSteadyServedCode};
 
 use crate::actions::actions;
 use crate::chains::{Chains, places};
 use crate::control::{Edge, control};
 use crate::early::{Early, lay_early, word_widths};
+use crate::hearing::hear;
 use crate::inputs::{Inputs, lay_inputs, lay_words};
 use crate::outputs::lay_outputs;
 use crate::shape::{Printer, Shape};
@@ -32,6 +34,7 @@ use netlist::netlist::{Memory, Module};
 use operator_wires::wires::{Role, Wires};
 use sqlite_items::Items;
 use std::alloc::{AllocError, Global};
+use unit_datapath::units::lay_units;
 use verilog_tree::name::Identifier;
 
 /// The module of a thread: its code, run by its plan.
@@ -44,6 +47,7 @@ pub fn module(
     ensures runs { IfOk result (RunsServedCode shape.now code.now planned.now) }
     ensures shape { IfOk result (HasShapeOfServedCode shape.now code.now planned.now) }
     ensures leaf { IfOk result (IsLeafOfServedCode shape.now code.now planned.now) }
+    ensures steady { IfOk result (IsSteadyServedCode shape.now code.now planned.now) }
 {
     assembled(alloc, shape, code, planned)
 }
@@ -77,6 +81,7 @@ fn assembled(
 #[derive(Drop)]
 pub struct Inside {
     pub inputs: Inputs,
+    /// The registers, what is heard of banks, and the results of shared units.
     pub slot: Registers,
     /// Of each global whether its access has been granted in this state.
     pub granted: Items<Held>,
@@ -102,9 +107,13 @@ fn lay_inside(
     let kept = kept_widths(alloc, code, planned, globals)?;
     let own = Items::from_slice(alloc, spreads)?;
     let main = shape.is_main;
-    let slot = lay_registers(wires, code, planned, main, kept.as_slice(), words, own)?;
+    let mut slot = lay_registers(wires, code, planned, main, kept.as_slice(), words, own)?;
     let granted = lay_granted(wires, globals.len())?;
     let early = lay_asked(wires, shape, code, planned, &slot, granted.as_slice())?;
+    let heard = hear(wires, early.need, slot.words.as_slice())?;
+    let units = lay_units(wires, &slot, code, planned)?;
+    slot.words = heard;
+    slot.units = units;
     let mut chains = Chains::begin(wires, &slot)?;
     let mut stores = Items::new(alloc);
     walk(
@@ -151,7 +160,7 @@ fn lay_asked(
     granted: &[Held],
 ) -> Result<Early, AllocError>
     ensures { IfOk result
-        (LaysEarly shape.now.globals code.now slot.now (map (λ (h : HeldOf). h.register) granted.now) shape.now.printer planned.now wires.old.signals wires.new.signals) }
+        (LaysEarlyWired shape.now.globals code.now slot.now (map (λ (h : HeldOf). h.register) granted.now) shape.now.printer planned.now wires.old.signals wires.new.signals) }
 {
     let marks = places(wires.alloc, granted)?;
     let globals = shape.globals.as_slice();

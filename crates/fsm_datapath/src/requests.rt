@@ -1,7 +1,7 @@
 // What is asked of cores: links of wires that read registers alone, one for each stage that asks.
 
 ghost use Rattle.std.specs.Prelude.{IfOk, OnOk};
-ghost use Rattle.fsm_datapath.specs.Asking.{AsksPrinter, NeedsCore, BitsAreLinked};
+ghost use Rattle.fsm_datapath.specs.Asking.{AsksPrinter, BitsAreLinked};
 ghost use Rattle.fsm_datapath.specs.Early.{BeginsAsking, BeginsLinked};
 
 use block_datapath::requests::{BankRequests, zeros};
@@ -16,8 +16,6 @@ pub struct Requests {
     pub wants: usize,
     /// The number of the site to print, then its values.
     pub fields: Items<usize>,
-    /// Whether this state asks a core, or waits at one.
-    pub needs: usize,
     /// What each bank is asked.
     pub banks: BankRequests,
 }
@@ -29,13 +27,11 @@ impl Requests {
         ensures wired { IfOk result (BeginsLinked wires.old.signals wires.new.signals fields.now words.now) }
     {
         let wants = wires.constant(1, 0)?;
-        let needs = wires.constant(1, 0)?;
         let fields = zeros(wires, fields)?;
         let banks = BankRequests::begin(wires, words)?;
         Ok(Requests {
             wants,
             fields,
-            needs,
             banks,
         })
     }
@@ -45,20 +41,8 @@ impl Requests {
         ensures asks { OnOk result (AsksPrinter wires.old.signals wires.new.signals self.old self.new condition) }
         ensures wired { OnOk result (BitsAreLinked wires.old.signals wires.new.signals self.old self.new condition) }
     {
-        let needs = wires.either(self.needs, condition)?;
         let wants = wires.either(self.wants, condition)?;
-        self.needs = needs;
         self.wants = wants;
-        Ok(())
-    }
-
-    /// Where the condition holds a core is needed.
-    pub fn need(&mut self, wires: &mut Wires, condition: usize) -> Result<(), AllocError>
-        ensures needs { OnOk result (NeedsCore wires.old.signals wires.new.signals self.old self.new condition) }
-        ensures wired { OnOk result (BitsAreLinked wires.old.signals wires.new.signals self.old self.new condition) }
-    {
-        let needs = wires.either(self.needs, condition)?;
-        self.needs = needs;
         Ok(())
     }
 }

@@ -1,6 +1,6 @@
 // The registers of a slot, and how wide they are.
 
-ghost use Rattle.std.specs.Prelude.{◌≡◌, ℕ, ◌+◌, ◌^◌, ◌<◌, ◌≤◌, false, map, length, slice_get, Some, IfOk, if◌then◌else◌};
+ghost use Rattle.std.specs.Prelude.{◌≡◌, ℕ, ◌+◌, ◌^◌, ◌<◌, ◌≤◌, false, [], map, length, slice_get, Some, IfOk, if◌then◌else◌};
 ghost use Rattle.hls_ints.specs.Types.{width_of as type_width};
 ghost use Rattle.planned_view.specs.View.{register_at};
 ghost use Rattle.block_ir.specs.declared.plan.BlockPlan.{BlockPlan};
@@ -56,7 +56,7 @@ fn states_of(stage: &StagePlan) -> u64
     }
 }
 
-/// The registers of a slot, which reads these inputs of banks. Main begins at the first stage, and another thread past the last one.
+/// The registers of a slot, which reads these inputs of banks, and has no units yet. Main begins at the first stage, and another thread past the last one.
 pub fn lay_registers(
     wires: &mut Wires,
     code: &ThreadCode,
@@ -68,6 +68,7 @@ pub fn lay_registers(
 ) -> Result<Registers, AllocError>
     ensures slot { IfOk result (LaysSlot code.now planned.now (if is_main then 0 else length code.now.stages) kept_widths.now words spreads wires.old.signals wires.new.signals) }
     ensures long { IfOk result (λ registers. length wires.new.signals ≡ length wires.old.signals + 3 + length code.now.variables + length kept_widths.now) }
+    ensures units { IfOk result (λ registers. registers.units ≡ []) }
     ensures wired { IfOk result (λ registers. AreFit kept_widths.now → Behind IsSlotRegister wires.old.signals wires.new.signals) }
 {
     let end = code.stages.len() as u64;
@@ -81,6 +82,7 @@ pub fn lay_registers(
     let widths = variable_widths(wires.alloc, code.variables.as_slice())?;
     let variables = lay_all(wires, Role::Variable, widths.as_slice())?;
     let kept = lay_all(wires, Role::Kept, kept_widths)?;
+    let units = Items::new(wires.alloc);
     Ok(Registers {
         stage,
         state,
@@ -89,6 +91,7 @@ pub fn lay_registers(
         kept,
         words,
         spreads,
+        units,
     })
 }
 

@@ -6,3 +6,4 @@ pub mod Main
 pub mod Globals
 pub mod Served
 pub mod Printable
+pub mod Planned

@@ -1,9 +1,12 @@
 -- What a text is compiled to, and what programs have that is not built yet.
-use Rattle.std.specs.Prelude.{◌≡◌, ◌≢◌, ◌⊎◌, ℕ, ◌≤◌, List, [], false}
+use Rattle.std.specs.Prelude.{◌≡◌, ◌≢◌, ◌⊎◌, ℕ, ◌≤◌, List, [], Some, false}
 use Rattle.c_program.specs.Tree.{Program}
 use Rattle.c_program.specs.Weight.{thread_count}
 use Rattle.ir_lower.specs.Taken.{is_sequential_program}
+use Rattle.netlist.specs.declared.netlist.Module.{Module}
 use Rattle.netlist.specs.declared.netlist.Netlist.{Netlist}
+use Rattle.verilog_meaning.specs.Names.{top_of}
+use Rattle.verilog_meaning.specs.Threads.{IsThreaded}
 use Rattle.good_verilog.specs.GoodVerilog.{IsGoodVerilog}
 use Rattle.whole_net.specs.Whole.{IsNetOf}
 use Rattle.c_profile.specs.Profile.{IsAccepted}
@@ -26,25 +29,21 @@ pub record IsAlone (P : Program) : Type 0 where
 
 -- ---- what is
 
--- the text is accepted as a program of main alone, of so many threads and this weight; and what is written is good Verilog of it
-pub record IsCompiled (text : List ℕ) (threads weight : ℕ) (written : List ℕ) : Type 0 where
-  pub program : Program
-  pub accepted : IsAccepted text program weight
-  pub alone : IsAlone program
-  pub counted : threads ≡ thread_count program
-  pub good : IsGoodVerilog program written
+-- a netlist of so many threads is threaded: what their modules do while they need no core hangs on nothing outside them
+pub record IsThreadedNet (n : Netlist) (threads : ℕ) : Type 0 where
+  pub top : Module
+  pub is_top : top_of n.modules ≡ Some top
+  pub threaded : IsThreaded n.modules top threads
 
--- the text is accepted as a program of main alone, of so many threads, what is written is good Verilog of it, and reads as this
--- netlist
-pub record IsRunnable (text : List ℕ) (threads : ℕ) (n : Netlist) (written : List ℕ) : Type 0 where
-  pub program : Program
-  pub weight : ℕ
-  pub accepted : IsAccepted text program weight
-  pub alone : IsAlone program
-  pub counted : threads ≡ thread_count program
-  pub few : threads ≤ 63
-  pub good : IsGoodVerilog program written
-  pub net : IsNetOf threads n written
+-- the text is accepted as this program, which is main alone, of this weight; what is written is good Verilog of it, and reads as this netlist,
+-- which is threaded
+pub record IsCompiled (text : List ℕ) (P : Program) (weight : ℕ) (n : Netlist) (written : List ℕ) : Type 0 where
+  pub accepted : IsAccepted text P weight
+  pub alone : IsAlone P
+  pub few : thread_count P ≤ 63
+  pub good : IsGoodVerilog P written
+  pub net : IsNetOf (thread_count P) n written
+  pub threaded : IsThreadedNet n (thread_count P)
 
 -- the text is accepted, and its program has a construct that is not built yet
 pub record IsUnbuilt (text : List ℕ) (c : Construct) : Type 0 where

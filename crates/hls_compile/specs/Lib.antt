@@ -1,4 +1,5 @@
 pub mod Compiled
 pub mod Parts
+pub mod Plans
 pub mod Sites
 pub mod Stops

@@ -15,6 +15,7 @@ use Rattle.right_plan.specs.Right.{IsRightPlan}
 use Rattle.least_plan.specs.Planned.{IsPlanned}
 use Rattle.fsm_datapath.specs.Thread.{RunsServedCode, HasShapeOfServedCode}
 use Rattle.fsm_datapath.specs.Leaf.{IsLeafOfServedCode}
+use Rattle.fsm_datapath.specs.Steady.{IsSteadyServedCode}
 use Rattle.fsm_datapath.specs.declared.shape.Printer.{Printer}
 use Rattle.fsm_datapath.specs.declared.shape.Shape.{Shape as ThreadShape}
 use Rattle.program_machine.specs.Built.{globals_of, IsPrinterOf}
@@ -35,13 +36,13 @@ abbrev pub main_shape : Program → List Spread → ThreadShape
 main_shape P spreads = record { name = codes "fn_main"; is_main = true; globals = globals_of P; spreads = spreads; printer = Some main_printer }
 
 -- main's module by the plan of its code, as `module` makes it
-pub record IsMadeOf (P : Program) (spreads : List Spread) (code : ThreadCode) (m : Module) : Type 0 where
-  pub plan : Planned
+pub record IsMadeOf (P : Program) (spreads : List Spread) (code : ThreadCode) (plan : Planned) (m : Module) : Type 0 where
   pub planned : IsPlanned code plan
   pub right : IsRightPlan code plan
   pub runs : RunsServedCode (main_shape P spreads) code plan m
   pub shape : HasShapeOfServedCode (main_shape P spreads) code plan m
   pub leaf : IsLeafOfServedCode (main_shape P spreads) code plan m
+  pub steady : IsSteadyServedCode (main_shape P spreads) code plan m
 
 -- ---- banks
 

@@ -8,6 +8,7 @@ ghost use Rattle.c_program.specs.Resolved.{IsResolved};
 ghost use Rattle.bank_partition.specs.Partition.{shapes, IsPartition, HasElements, AreBanks, AreHeld};
 ghost use Rattle.bank_partition.specs.Shapes.{shape_of};
 ghost use Rattle.program_machine.specs.Built.{globals_of};
+ghost use Rattle.least_plan.specs.Planned.{IsPlanned};
 ghost use Rattle.whole_net.specs.Table.{IsArbiterModule, AreBankModules};
 ghost use Rattle.hls_compile.specs.Parts.{main_shape, core_shape, core_shapes, IsNamed, AreNamed, IsOneBank, IsMadeOf, IsPrinterFor};
 
@@ -17,12 +18,12 @@ use bank_cores::bank::{self, Shape};
 use bank_cores::name::GlobalName;
 use bank_partition::banks::{Bank, Banks, Spread, partition};
 use block_ir::code::ThreadCode;
+use block_ir::plan::Planned;
 use c_program::tree::Program;
 use fsm_datapath::module::module;
 use fsm_datapath::shape as thread;
 use hls_ints::CType;
 use least_plan::law::planned_is_right;
-use least_plan::plan;
 use netlist::netlist::Module;
 use print_core::printer;
 use sqlite_items::Items;
@@ -82,13 +83,14 @@ pub fn main_module(
     program: &Program,
     spreads: &[Spread],
     code: &ThreadCode,
+    plan: &Planned,
 ) -> Result<Module, AllocError>
-    ensures { IfOk result (IsMadeOf (program_of program.now) spreads.now code.now) }
+    requires { IsPlanned code.now plan.now }
+    ensures { IfOk result (IsMadeOf (program_of program.now) spreads.now code.now plan.now) }
 {
     planned_is_right();
-    let plan = plan(alloc, code)?;
     let shape = main_shape(alloc, program, spreads)?;
-    let made = module(alloc, &shape, code, &plan)?;
+    let made = module(alloc, &shape, code, plan)?;
     Ok(made)
 }
 

@@ -1,7 +1,7 @@
 use Rattle.std.proofs.Common.{◌≡◌, ℕ, ◌<◌, List, length, Option, Some, None, subst, refl}
 use Rattle.std.specs.Prelude.{IsSome}
 use Rattle.hls_words.specs.declared.task.Task.{Task}
-use Rattle.hls_words.specs.declared.task.Task.TheVariants.{Step}
+use Rattle.hls_words.specs.declared.task.Task.TheVariants.{Build, Step}
 use Rattle.c_profile.specs.declared.refusal.Refusal.{Refusal}
 use Rattle.c_profile.specs.declared.refusal.Refusal.TheVariants as refusal
 use Rattle.c_profile.specs.Profile.{most_bytes, IsRefused}
@@ -44,12 +44,12 @@ stops_any task left rose (stop.Refused r) is = is
 stops_any task left rose (stop.NotBuilt c) is = absurd is.0
 stops_any task left rose stop.Memory is = tt
 
--- what stops a step does so whatever number of cycles it is asked for
-pub stops_step : (a b : ℕ) (left : Option (List ℕ)) (rose : Type 0) (s : Stop) → StopsBy (Some (Step a)) left rose s → StopsBy (Some (Step b)) left rose s
-stops_step a b left rose stop.ReadFault is = is
-stops_step a b left rose (stop.Refused r) is = is
-stops_step a b left rose (stop.NotBuilt c) is = is
-stops_step a b left rose stop.Memory is = is
+-- what stops a build stops a step
+pub stops_step : (jobs most : ℕ) (left : Option (List ℕ)) (rose : Type 0) (s : Stop) → StopsBy (Some (Build jobs)) left rose s → StopsBy (Some (Step most)) left rose s
+stops_step jobs most left rose stop.ReadFault is = is
+stops_step jobs most left rose (stop.Refused r) is = is
+stops_step jobs most left rose (stop.NotBuilt c) is = is
+stops_step jobs most left rose stop.Memory is = is
 
 -- a command that stops owes its cause
 pub stop_owes : (task : Option Task) (left : Option (List ℕ)) (rose : Type 0) (d : Due) (s : Stop) → IsSome task → StopsBy task left rose s → (t : Status) → StopStatus s d t

@@ -32,20 +32,20 @@ module _ (text : List ℕ) (r : Refusal) (refused : IsRefused text r) where
 
   never_succeeds : (task : Option Task) (d : Due) → Succeeds task (Some text) d → ⊥
   never_succeeds None d h = h
-  never_succeeds (Some Build) d h = is_not_accepted h.text h.compiled.program h.weight h.gave h.compiled.accepted
-  never_succeeds (Some (Step most)) d h = is_not_accepted h.1.text h.1.compiled.program h.1.compiled.weight h.1.gave h.1.compiled.accepted
+  never_succeeds (Some (Build jobs)) d h = is_not_accepted h.text h.program h.weight h.gave h.compiled.accepted
+  never_succeeds (Some (Step most)) d h = is_not_accepted h.1.text h.1.program h.1.weight h.1.gave h.1.compiled.accepted
   never_succeeds (Some (Walk turns)) d h = is_not_accepted h.text h.program h.weight h.gave h.accepted
 
   never_halts : (task : Option Task) (d : Due) (s : Status) → Halts task (Some text) d s → ⊥
   never_halts None d s h = h
-  never_halts (Some Build) d s h = h
+  never_halts (Some (Build jobs)) d s h = h
   never_halts (Some (Step most)) d s h = h
   never_halts (Some (Walk turns)) d s h = is_not_accepted h.text h.program h.weight h.gave h.accepted
 
   never_runs_out : (task : Option Task) (d : Due) (cycles : ℕ) → RunsOut task (Some text) d cycles → ⊥
   never_runs_out None d cycles h = h
-  never_runs_out (Some Build) d cycles h = h
-  never_runs_out (Some (Step most)) d cycles h = is_not_accepted h.text h.compiled.program h.compiled.weight h.gave h.compiled.accepted
+  never_runs_out (Some (Build jobs)) d cycles h = h
+  never_runs_out (Some (Step most)) d cycles h = is_not_accepted h.text h.program h.weight h.gave h.compiled.accepted
   never_runs_out (Some (Walk turns)) d cycles h = h
 
   owes_refusal : (task : Option Task) (rose : Type 0) (d : Due) (s : Status) → OwesAt task (Some text) rose d s → TellsRefusal r s

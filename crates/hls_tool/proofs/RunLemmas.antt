@@ -17,18 +17,20 @@ use Rattle.cycle_sim.proofs.Printing.{one_printer}
 use Rattle.cycle_sim.proofs.Right.{right_of_sound}
 use Rattle.cycle_sim.proofs.Taking.{turns_taken}
 use Rattle.hls_words.specs.declared.task.Task.TheVariants.{Step}
-use Rattle.hls_compile.specs.Compiled.{IsRunnable}
+use Rattle.c_program.specs.Tree.{Program}
+use Rattle.c_program.specs.Weight.{thread_count}
+use Rattle.hls_compile.specs.Compiled.{IsCompiled}
 use Rattle.hls_tool.specs.declared.status.Status.{Status}
 use Rattle.hls_tool.specs.Answers.{Due, IsRun, IsStepped, OwesAt, run_status}
 
-module _ (text : List ℕ) (threads : ℕ) (n : Netlist) (written : List ℕ) (is : IsRunnable text threads n written) where
+module _ (text : List ℕ) (P : Program) (weight : ℕ) (n : Netlist) (written : List ℕ) (is : IsCompiled text P weight n written) where
   -- the net enables as many threads as the program has
-  pub threads_are : threads_of n.modules ≡ threads
+  pub threads_are : threads_of n.modules ≡ thread_count P
   threads_are =
       let one = reads_one written is.good.net is.net.net is.good.reads is.net.reads in
       let modules : (netlist_of is.good.net).modules ≡ n.modules = ap (λ (t : Net). (netlist_of t).modules) one ∙ ap (λ (k : Netlist). k.modules) is.net.is in
       let enable = is.good.enables in
-      threads_of_sound n is.net.sound is.good.top enable.place enable.signal (sym (ap top_of modules) ∙ is.good.is_top) enable.is ∙ enable.wide ∙ sym is.counted
+      threads_of_sound n is.net.sound is.good.top enable.place enable.signal (sym (ap top_of modules) ∙ is.good.is_top) enable.is ∙ enable.wide
 
   pub openable : IsOpenable n.modules
   openable = record {
@@ -37,7 +39,7 @@ module _ (text : List ℕ) (threads : ℕ) (n : Netlist) (written : List ℕ) (i
     right = right_of_sound n is.net.sound is.net.top is.net.is_top;
     printer = one_printer n is.net.sound;
     done = is.net.done;
-    takes = turns_taken n.modules is.net.top threads threads_are (is.net.takes is.net.top is.net.is_top);
+    takes = turns_taken n.modules is.net.top (thread_count P) threads_are (is.net.takes is.net.top is.net.is_top);
   }
 
   -- it has a simulator: of the causes none but want of memory comes

@@ -5,6 +5,7 @@ use Rattle.hls_words.specs.declared.task.Task.TheVariants.{Build, Step, Walk}
 use Rattle.turns.specs.declared.Turn.{Turn}
 use Rattle.turns.specs.Turns.{threads_of}
 use Rattle.c_program.specs.Tree.{Program}
+use Rattle.c_program.specs.Weight.{thread_count}
 use Rattle.c_interpreter.specs.declared.walk.WalkEnd.{WalkEnd as Ends}
 use Rattle.c_interpreter.specs.declared.walk.WalkEnd.TheVariants as ends
 use Rattle.c_interpreter.specs.Walk.{IsWalk}
@@ -13,7 +14,7 @@ use Rattle.c_profile.specs.declared.refusal.Refusal.TheVariants as refusal
 use Rattle.c_profile.specs.Profile.{most_bytes, IsAccepted, IsRefused}
 use Rattle.netlist.specs.declared.netlist.Netlist.{Netlist}
 use Rattle.hls_compile.specs.declared.unbuilt.Construct.{Construct}
-use Rattle.hls_compile.specs.Compiled.{IsCompiled, IsRunnable, IsUnbuilt}
+use Rattle.hls_compile.specs.Compiled.{IsCompiled, IsUnbuilt}
 use Rattle.round_robin.specs.Round.{IsRound}
 use Rattle.hls_tool.specs.declared.status.Status.{Status}
 use Rattle.hls_tool.specs.declared.status.Status.TheVariants as status
@@ -51,22 +52,22 @@ IsUnbuiltBy left c = (text : List ℕ) × Gave left text × IsUnbuilt text c
 
 -- the tasks that leave constructs out: a walk takes all programs
 abbrev pub LeavesOut : Option Task → Type 0
-LeavesOut (Some Build) = ⊤
+LeavesOut (Some (Build jobs)) = ⊤
 LeavesOut (Some (Step most)) = ⊤
 LeavesOut other = ⊥
 
 -- ---- what each command owes
 
--- the text is accepted as a program of so many threads and this weight, and its Verilog, good Verilog of the program,
--- goes to out
+-- the text is accepted as a program of this weight, and its Verilog, good Verilog of the program, goes to out
 pub record IsBuilt (left : Option (List ℕ)) (d : Due) : Type 0 where
   pub text : List ℕ
-  pub threads : ℕ
+  pub program : Program
   pub weight : ℕ
+  pub net : Netlist
   pub gave : Gave left text
-  pub compiled : IsCompiled text threads weight d.text
+  pub compiled : IsCompiled text program weight net d.text
   pub out : d.out ≡ d.text
-  pub err : d.err ≡ built_line threads weight (length d.text)
+  pub err : d.err ≡ built_line (thread_count program) weight (length d.text)
 
 -- main returned, or the walk ended before
 abbrev pub status_of : Ends → Status
@@ -92,11 +93,12 @@ pub record IsWalked (turns : List Turn) (left : Option (List ℕ)) (d : Due) (s 
 -- the fewest after which done is shown, or else so many as were asked for; and what was written goes to out
 pub record IsRun (most : ℕ) (left : Option (List ℕ)) (d : Due) (cycles : ℕ) (done : Bool) : Type 0 where
   pub text : List ℕ
-  pub threads : ℕ
+  pub program : Program
+  pub weight : ℕ
   pub net : Netlist
   pub gave : Gave left text
-  pub compiled : IsRunnable text threads net d.text
-  pub ran : IsRound net.modules threads most cycles done d.out
+  pub compiled : IsCompiled text program weight net d.text
+  pub ran : IsRound net.modules (thread_count program) most cycles done d.out
   pub err : d.err ≡ cycles_line done cycles
 
 -- done is shown, or not
@@ -110,7 +112,7 @@ IsStepped most left d s = (cycles : ℕ) × (done : Bool) × IsRun most left d c
 -- the task did all that it asks for
 abbrev pub Succeeds : Option Task → Option (List ℕ) → Due → Type 0
 Succeeds None left d = ⊥
-Succeeds (Some Build) left d = IsBuilt left d
+Succeeds (Some (Build jobs)) left d = IsBuilt left d
 Succeeds (Some (Step most)) left d = (cycles : ℕ) × IsRun most left d cycles true
 Succeeds (Some (Walk turns)) left d = IsWalked turns left d status.Ok
 

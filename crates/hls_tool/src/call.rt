@@ -13,9 +13,11 @@ use crate::deliver::deliver;
 use crate::{Outcome, Status};
 use hls_io::{Sink, Source};
 use std::alloc::Global;
+use std::thread::Threads;
 
 /// Does all that the program does.
-pub fn hls<S: Source, O: Sink, E: Sink>(
+pub fn hls<R: Threads + Sync, S: Source, O: Sink, E: Sink>(
+    rt: &R,
     alloc: Global,
     words: &[String],
     source: &mut S,
@@ -40,6 +42,6 @@ pub fn hls<S: Source, O: Sink, E: Sink>(
         (passage (O.held out.old) (O.held out.new) (O.faults out.old) (O.faults out.new))
         (passage (E.held err.old) (E.held err.new) (E.faults err.old) (E.faults err.new)) result }
 {
-    let answer = answer(alloc, words, source);
+    let answer = answer(rt, alloc, words, source);
     deliver(answer, out, err)
 }

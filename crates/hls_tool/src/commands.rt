@@ -3,11 +3,12 @@ ghost use Rattle.std.specs.Prelude.{◌≡◌, ◌≤◌, None, Some, map, strin
 ghost use Rattle.hls_io.specs.Causes.{Rose};
 ghost use Rattle.hls_words.specs.Line.{task_of};
 ghost use Rattle.c_program.specs.Plain.{program_of};
+ghost use Rattle.c_program.specs.Weight.{thread_count};
 ghost use Rattle.c_profile.specs.Profile.{IsAccepted};
 ghost use Rattle.hls_tool.specs.Answers.{Gave, IsBuilt, IsPlain, IsStepped, IsWalked, Owes, run_status, status_of};
 ghost use Rattle.hls_tool.specs.Inside.{AnswersStop, StopsBy, due_of, line_bytes, stop_of};
 ghost use Rattle.hls_tool.specs.declared.commands.Stop.TheVariants.{Memory};
-ghost use Rattle.hls_compile.specs.Compiled.{IsCompiled, IsRunnable};
+ghost use Rattle.hls_compile.specs.Compiled.{IsCompiled};
 ghost use Rattle.round_robin.specs.Round.{IsRound};
 ghost use Rattle.cycle_sim.specs.declared.sim.OpenError.TheVariants as causes;
 
@@ -18,12 +19,14 @@ use crate::lines::{
 use crate::{Status, WalkEnd};
 use c_interpreter::walk::{WalkEnd as Ends, walk};
 use c_profile::{Accepted, ProfileError, Refusal, accept};
+use c_program::threads::thread_count;
 use cycle_sim::sim::OpenError;
-use hls_compile::{CompileError, Compiled, Construct, Runnable, compile, compile_to_run};
+use hls_compile::{CompileError, Compiled, Construct, compile};
 use hls_io::{Bytes, ReadAllError, Source, read_all};
 use hls_words::{Task, WordsError, parse};
 use round_robin::run::{Ran, run};
 use std::alloc::{AllocError, Global};
+use std::thread::Threads;
 use thiserror::Error;
 use turns::Turn;
 
@@ -90,25 +93,36 @@ fn stop_of(error: CompileError) -> Stop
 
 /// Reads the text and compiles it.
 #[tactic(auto, using(crate::proofs::RefusalLemmas::stops_any))]
-fn compiled<S: Source>(alloc: Global, source: &mut S) -> Result<Compiled, Stop>
-    ensures ok { IfOk result (λ c. (text : _) × Gave (S.left source.old) text × IsCompiled text c.threads c.weight c.text) }
-    ensures stop { IfErr result (StopsBy (Some Task.Build) (S.left source.old) (Rose (S.faults source.old) (S.faults source.new))) }
+fn compiled<R: Threads + Sync, S: Source>(
+    rt: &R,
+    alloc: Global,
+    source: &mut S,
+    jobs: u32,
+) -> Result<Compiled, Stop>
+    ensures ok { IfOk result (λ c. (text : _) × Gave (S.left source.old) text × IsCompiled text (program_of c.program) c.weight c.net c.text) }
+    ensures stop { IfErr result (StopsBy (Some (Task.Build jobs)) (S.left source.old) (Rose (S.faults source.old) (S.faults source.new))) }
     ensures later { S.faults source.old ≤ S.faults source.new }
 {
     let text = text_read(alloc, source)?;
-    match compile(alloc, text.as_slice()) {
+    match compile(rt, alloc, text.as_slice(), jobs) {
         Ok(compiled) => Ok(compiled),
         Err(error) => Err(stop_of(error)),
     }
 }
 
-fn build<S: Source>(alloc: Global, source: &mut S) -> Result<Answer, Stop>
+fn build<R: Threads + Sync, S: Source>(
+    rt: &R,
+    alloc: Global,
+    source: &mut S,
+    jobs: u32,
+) -> Result<Answer, Stop>
     ensures ok { IfOk result (λ a. (a.status ≡ Status.Ok) × IsBuilt (S.left source.old) (due_of a)) }
-    ensures stop { IfErr result (StopsBy (Some Task.Build) (S.left source.old) (Rose (S.faults source.old) (S.faults source.new))) }
+    ensures stop { IfErr result (StopsBy (Some (Task.Build jobs)) (S.left source.old) (Rose (S.faults source.old) (S.faults source.new))) }
     ensures later { S.faults source.old ≤ S.faults source.new }
 {
-    let made = compiled(alloc, source)?;
-    let line = built_line(alloc, made.threads, made.weight, made.text.len())?;
+    let made = compiled(rt, alloc, source, jobs)?;
+    let threads = thread_count(&made.program);
+    let line = built_line(alloc, threads, made.weight, made.text.len())?;
     Ok(Answer {
         status: Status::Ok,
         text: made.text,
@@ -176,20 +190,6 @@ fn walk_turns<S: Source>(alloc: Global, source: &mut S, turns: &[Turn]) -> Resul
     })
 }
 
-/// Reads the text and compiles it to be run.
-#[tactic(auto, using(crate::proofs::RefusalLemmas::stops_any))]
-fn runnable<S: Source>(alloc: Global, source: &mut S) -> Result<Runnable, Stop>
-    ensures ok { IfOk result (λ r. (text : _) × Gave (S.left source.old) text × IsRunnable text r.threads r.net r.text) }
-    ensures stop { IfErr result (StopsBy (Some (Task.Step 0)) (S.left source.old) (Rose (S.faults source.old) (S.faults source.new))) }
-    ensures later { S.faults source.old ≤ S.faults source.new }
-{
-    let text = text_read(alloc, source)?;
-    match compile_to_run(alloc, text.as_slice()) {
-        Ok(runnable) => Ok(runnable),
-        Err(error) => Err(stop_of(error)),
-    }
-}
-
 /// What an error is where none but want of memory can come.
 fn memory_alone(error: OpenError) -> AllocError
     requires { error ≡ causes.Memory }
@@ -200,10 +200,10 @@ fn memory_alone(error: OpenError) -> AllocError
     }
 }
 
-/// Runs a net. Each that is compiled to be run has a simulator.
-fn ran(alloc: Global, built: &Runnable, cycles: u32) -> Result<Ran, AllocError>
-    requires { (text : _) × IsRunnable text built.now.threads built.now.net built.now.text }
-    ensures { IfOk result (λ r. IsRound built.now.net.modules built.now.threads cycles r.cycles r.is_done r.printed) }
+/// Runs a net. Each that a text is compiled to has a simulator.
+fn ran(alloc: Global, built: &Compiled, cycles: u32) -> Result<Ran, AllocError>
+    requires { (text : _) × IsCompiled text (program_of built.now.program) built.now.weight built.now.net built.now.text }
+    ensures { IfOk result (λ r. IsRound built.now.net.modules (thread_count (program_of built.now.program)) cycles r.cycles r.is_done r.printed) }
 {
     match run(alloc, built.net.modules.as_slice(), cycles) {
         Ok(ran) => Ok(ran),
@@ -224,12 +224,17 @@ fn run_status(ran: &Ran) -> Status
 
 /// Runs the Verilog for so many cycles at most.
 #[tactic(auto, using(crate::proofs::RefusalLemmas::stops_step))]
-fn step<S: Source>(alloc: Global, source: &mut S, cycles: u32) -> Result<Answer, Stop>
+fn step<R: Threads + Sync, S: Source>(
+    rt: &R,
+    alloc: Global,
+    source: &mut S,
+    cycles: u32,
+) -> Result<Answer, Stop>
     ensures ok { IfOk result (λ a. IsStepped cycles (S.left source.old) (due_of a) a.status) }
     ensures stop { IfErr result (StopsBy (Some (Task.Step cycles)) (S.left source.old) (Rose (S.faults source.old) (S.faults source.new))) }
     ensures later { S.faults source.old ≤ S.faults source.new }
 {
-    let built = runnable(alloc, source)?;
+    let built = compiled(rt, alloc, source, 1)?;
     let ran = ran(alloc, &built, cycles)?;
     let line = cycles_line(alloc, ran.is_done, ran.cycles)?;
     Ok(Answer {
@@ -268,13 +273,18 @@ fn stopped(alloc: Global, stop: Stop) -> Answer
 }
 
 #[tactic(auto, using(crate::proofs::RunLemmas::stepped_owes, crate::proofs::RefusalLemmas::stops_any, crate::proofs::RefusalLemmas::stop_owes))]
-fn run_task<S: Source>(alloc: Global, task: Task, source: &mut S) -> Answer
+fn run_task<R: Threads + Sync, S: Source>(
+    rt: &R,
+    alloc: Global,
+    task: Task,
+    source: &mut S,
+) -> Answer
     ensures owes { Owes (Some task) (S.left source.old) (Rose (S.faults source.old) (S.faults source.new)) (due_of result) }
     ensures later { S.faults source.old ≤ S.faults source.new }
 {
     let done = match task {
-        Task::Build => build(alloc, source),
-        Task::Step { cycles } => step(alloc, source, cycles),
+        Task::Build { jobs } => build(rt, alloc, source, jobs),
+        Task::Step { cycles } => step(rt, alloc, source, cycles),
         Task::Walk(turns) => walk_turns(alloc, source, turns.as_slice()),
     };
     match done {
@@ -284,12 +294,17 @@ fn run_task<S: Source>(alloc: Global, task: Task, source: &mut S) -> Answer
 }
 
 /// All that the call owes, before a byte is written.
-pub fn answer<S: Source>(alloc: Global, words: &[String], source: &mut S) -> Answer
+pub fn answer<R: Threads + Sync, S: Source>(
+    rt: &R,
+    alloc: Global,
+    words: &[String],
+    source: &mut S,
+) -> Answer
     ensures owes { Owes (task_of (map string_bytes words.now)) (S.left source.old) (Rose (S.faults source.old) (S.faults source.new)) (due_of result) }
     ensures later { S.faults source.old ≤ S.faults source.new }
 {
     match parse(alloc, words) {
-        Ok(task) => run_task(alloc, task, source),
+        Ok(task) => run_task(rt, alloc, task, source),
         Err(WordsError::Usage) => plain(alloc, Status::Usage, Line::Fixed(USAGE)),
         Err(WordsError::Mem) => plain(alloc, Status::Memory, Line::Fixed(MEMORY)),
     }

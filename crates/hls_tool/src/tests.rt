@@ -4,12 +4,14 @@ use hls_compile::Construct;
 use hls_io::{MemSink, MemSource, Sink, Source, SureSink, SureSource};
 use std::alloc::{AllocError, Global};
 use std::test::Fail;
+use std::thread::Threads;
 
 const MAIN: &str = "int main(void){return 0;}";
 
 const ROOM: usize = 100_000;
 
-fn call<S: Source, O: Sink, E: Sink>(
+fn call<R: Threads + Sync, S: Source, O: Sink, E: Sink>(
+    rt: &R,
     alloc: Global,
     words: &[&str],
     source: &mut S,
@@ -20,15 +22,26 @@ fn call<S: Source, O: Sink, E: Sink>(
         .iter()
         .map(|word| word.to_string(alloc))
         .try_collect(alloc)?;
-    Ok(hls(alloc, words.as_slice(), source, out, err))
+    Ok(hls(rt, alloc, words.as_slice(), source, out, err))
 }
 
 /// The line of a build of the text, and the Verilog's length.
-fn built(alloc: Global, text: &str) -> Result<(MemSink, MemSink), AllocError> {
+fn built<'a, R: Threads + Sync>(
+    rt: &R,
+    alloc: Global,
+    text: &'a str,
+) -> Result<(MemSink<'a>, MemSink<'a>), AllocError> {
     let mut source = MemSource::new(text.as_bytes(), 4096, &[]);
     let mut out = MemSink::new(alloc, ROOM, 4096, &[])?;
     let mut err = MemSink::new(alloc, 1000, 4096, &[])?;
-    call(alloc, &["hls", "build"], &mut source, &mut out, &mut err)?;
+    call(
+        rt,
+        alloc,
+        &["hls", "build"],
+        &mut source,
+        &mut out,
+        &mut err,
+    )?;
     Ok((out, err))
 }
 
@@ -58,7 +71,7 @@ fn builds(rt: HostRuntime) -> Result<(), Fail> {
             "hls: built, 1 threads, weight 2, ",
         ),
     ] {
-        let (out, err) = built(alloc, text)?;
+        let (out, err) = built(&rt, alloc, text)?;
         assert!(rt; err.held().starts_with(front.as_bytes()), "at {text}");
         assert!(rt; out.held().starts_with(b"module "), "at {text}");
     }
@@ -190,7 +203,7 @@ fn refuses(rt: HostRuntime) -> Result<(), Fail> {
             "hls: refused: not built yet: pthread objects and calls\n",
         ),
     ] {
-        let (out, err) = built(alloc, text)?;
+        let (out, err) = built(&rt, alloc, text)?;
         assert_eq!(rt; err.held(), line.as_bytes(), "at {text}");
         assert!(rt; out.held().is_empty(), "at {text}");
     }
@@ -221,7 +234,7 @@ const LISTED: &str = "hls: listed, 1 steps\n";
 fn keeps_the_limit_of_bytes(rt: HostRuntime) -> Result<(), Fail> {
     let alloc = rt.alloc();
     let most = repeating(alloc, MAIN, "                             ", 2259, "")?;
-    let (_, _, err) = walked(alloc, most.as_str(), "0")?;
+    let (_, _, err) = walked(&rt, alloc, most.as_str(), "0")?;
     assert_eq!(rt; most.len(), 65_536);
     assert_eq!(rt; err.held(), ENDED.as_bytes());
     Ok(())
@@ -249,7 +262,7 @@ fn keeps_the_limits_of_tokens(rt: HostRuntime) -> Result<(), Fail> {
         ),
     ] {
         let text = repeating(alloc, front, part, count, back)?;
-        let (_, _, err) = walked(alloc, text.as_str(), "0")?;
+        let (_, _, err) = walked(&rt, alloc, text.as_str(), "0")?;
         assert_eq!(rt; err.held(), line.as_bytes(), "at {front}{count}");
     }
     Ok(())
@@ -313,7 +326,7 @@ fn keeps_the_limits_of_objects(rt: HostRuntime) -> Result<(), Fail> {
         ),
     ] {
         let text = repeating(alloc, front, part, count, back)?;
-        let (_, _, err) = walked(alloc, text.as_str(), "0")?;
+        let (_, _, err) = walked(&rt, alloc, text.as_str(), "0")?;
         assert_eq!(rt; err.held(), line.as_bytes(), "at {front}{count}");
     }
     Ok(())
@@ -361,7 +374,7 @@ fn keeps_the_limits_of_code(rt: HostRuntime) -> Result<(), Fail> {
         ),
     ] {
         let text = repeating(alloc, front, part, count, back)?;
-        let (_, _, err) = walked(alloc, text.as_str(), "0")?;
+        let (_, _, err) = walked(&rt, alloc, text.as_str(), "0")?;
         assert_eq!(rt; err.held(), line.as_bytes(), "at {front}{count}");
     }
     Ok(())
@@ -399,7 +412,7 @@ fn counts_functions_and_what_is_inlined(rt: HostRuntime) -> Result<(), Fail> {
         ),
     ] {
         let text = calling(alloc, functions, calls, main)?;
-        let (_, _, err) = walked(alloc, text.as_str(), "0")?;
+        let (_, _, err) = walked(&rt, alloc, text.as_str(), "0")?;
         assert_eq!(rt; err.held(), line.as_bytes(), "at {functions} functions");
     }
     Ok(())
@@ -412,6 +425,7 @@ fn refuses_a_long_text(rt: HostRuntime) -> Result<(), Fail> {
     let mut source = SureSource::new(spaces.as_slice(), 4096);
     let mut err = MemSink::new(alloc, 1000, 4096, &[])?;
     let outcome = call(
+        &rt,
         alloc,
         &["hls", "build"],
         &mut source,
@@ -432,14 +446,35 @@ fn answers_each_fault(rt: HostRuntime) -> Result<(), Fail> {
     let mut source = MemSource::new(MAIN.as_bytes(), 4, &[2]);
     let mut out = MemSink::new(alloc, ROOM, 16, &[3])?;
     let mut err = MemSink::new(alloc, 1000, 16, &[])?;
-    let faulty = call(alloc, &["hls", "build"], &mut source, &mut out, &mut err)?;
+    let faulty = call(
+        &rt,
+        alloc,
+        &["hls", "build"],
+        &mut source,
+        &mut out,
+        &mut err,
+    )?;
     assert_eq!(rt; faulty.status, Status::ReadFault);
     assert_eq!(rt; err.held(), b"hls: read fault\n".as_slice());
-    let usage = call(alloc, &["hls", "step"], &mut source, &mut out, &mut err)?;
+    let usage = call(
+        &rt,
+        alloc,
+        &["hls", "step"],
+        &mut source,
+        &mut out,
+        &mut err,
+    )?;
     assert_eq!(rt; usage.status, Status::Usage);
     assert_eq!(rt; err.held(), b"hls: read fault\nhls: usage\n".as_slice());
     let mut source = MemSource::new(MAIN.as_bytes(), 4, &[]);
-    let short = call(alloc, &["hls", "build"], &mut source, &mut out, &mut err)?;
+    let short = call(
+        &rt,
+        alloc,
+        &["hls", "build"],
+        &mut source,
+        &mut out,
+        &mut err,
+    )?;
     assert_eq!(rt; short.status, Status::WriteFault { out: 32, err: 17 });
     assert_eq!(rt; out.held().len(), 32);
     assert!(rt; short.text.as_slice().starts_with(out.held()));
@@ -464,8 +499,49 @@ fn counts_what_each_sink_took(rt: HostRuntime) -> Result<(), Fail> {
         let mut source = SureSource::new(MAIN.as_bytes(), 4096);
         let mut out = MemSink::new(alloc, ROOM, 16, out_fails)?;
         let mut err = MemSink::new(alloc, 1000, 64, err_fails)?;
-        let outcome = call(alloc, &["hls", "build"], &mut source, &mut out, &mut err)?;
+        let outcome = call(
+            &rt,
+            alloc,
+            &["hls", "build"],
+            &mut source,
+            &mut out,
+            &mut err,
+        )?;
         assert_eq!(rt; outcome.status, status);
+    }
+    Ok(())
+}
+
+/// What a build by so many jobs writes, and its status.
+fn built_by<'a, R: Threads + Sync>(
+    rt: &R,
+    alloc: Global,
+    text: &'a str,
+    jobs: &str,
+) -> Result<(Status, MemSink<'a>), AllocError> {
+    let mut source = MemSource::new(text.as_bytes(), 4096, &[]);
+    let mut out = MemSink::new(alloc, ROOM, 4096, &[])?;
+    let mut err = MemSink::new(alloc, 1000, 4096, &[])?;
+    let words = ["hls", "build", "--jobs", jobs];
+    let outcome = call(rt, alloc, &words, &mut source, &mut out, &mut err)?;
+    Ok((outcome.status, out))
+}
+
+#[test]
+fn builds_the_same_by_every_number_of_jobs(rt: HostRuntime) -> Result<(), Fail> {
+    let alloc = rt.alloc();
+    for text in [MAIN, COUNTING, FILLED] {
+        let (plain, _) = built(&rt, alloc, text)?;
+        for jobs in ["1", "2", "16"] {
+            let (status, out) = built_by(&rt, alloc, text, jobs)?;
+            assert_eq!(rt; status, Status::Ok, "at {jobs}");
+            assert_eq!(rt; out.held(), plain.held(), "at {jobs}");
+        }
+    }
+    for jobs in ["0", "17", "two"] {
+        let (status, out) = built_by(&rt, alloc, MAIN, jobs)?;
+        assert_eq!(rt; status.number(), 2, "at {jobs}");
+        assert!(rt; out.held().is_empty(), "at {jobs}");
     }
     Ok(())
 }
@@ -488,7 +564,8 @@ fn has_a_number_for_each_status(rt: HostRuntime) -> Result<(), Fail> {
 }
 
 /// What a walk of the text along a list prints, and its line.
-fn walked<'a>(
+fn walked<'a, R: Threads + Sync>(
+    rt: &R,
     alloc: Global,
     text: &'a str,
     list: &str,
@@ -497,7 +574,7 @@ fn walked<'a>(
     let mut out = MemSink::new(alloc, 1000, 4096, &[])?;
     let mut err = MemSink::new(alloc, 1000, 4096, &[])?;
     let words = ["hls", "walk", "--threads", list];
-    let outcome = call(alloc, &words, &mut source, &mut out, &mut err)?;
+    let outcome = call(rt, alloc, &words, &mut source, &mut out, &mut err)?;
     Ok((outcome.status, out, err))
 }
 
@@ -631,7 +708,7 @@ fn walks(rt: HostRuntime) -> Result<(), Fail> {
         (RACING, "0*11,1*3,2*3", 10, "", "hls: listed, 17 steps\n"),
         ("int x;", "0", 1, "", "hls: refused E14: no main\n"),
     ] {
-        let (status, out, err) = walked(alloc, text, list)?;
+        let (status, out, err) = walked(&rt, alloc, text, list)?;
         assert_eq!(rt; err.held(), line.as_bytes(), "at {text}");
         assert_eq!(rt; out.held(), printed.as_bytes(), "at {text}");
         assert_eq!(rt; status.number(), number, "at {text}");
@@ -663,6 +740,10 @@ const SWAPPED: &str =
     "int wire[2] = {3, 7}; char reg = 200; unsigned char module = 200; int main(void){int t = wire[0]; wire[0] = wire[1]; wire[wire[0] - 6] = t; \
     printf(\"%d %u %d %d\\n\", reg, module, wire[0], wire[1]); return 0;}";
 
+/// A word of a bank is taken in the state after its request's, and a global is read back after it is written.
+const REGISTERED: &str =
+    "int g; int main(void){int a; g = 6; a = g; g = a + 1; printf(\"%d\\n\", g); return 0;}";
+
 /// What C99 says of the integer types, each a line: a sum below 0 without sign, quotients towards 0, a narrow type, a shift of a negative value,
 /// operands of two types, the ends of the widest types.
 const INTEGERS: &str =
@@ -691,13 +772,14 @@ fn steps(rt: HostRuntime) -> Result<(), Fail> {
         (SHORT_CIRCUIT, "99999", 0, "4\n", "hls: done, "),
         (FILLED, "99999", 0, "25 676 729\n", "hls: done, "),
         (SWAPPED, "99999", 0, "-56 200 7 3\n", "hls: done, "),
+        (REGISTERED, "99999", 0, "7\n", "hls: done, "),
         ("int x;", "9", 1, "", "hls: refused E14: no main\n"),
     ] {
         let mut source = MemSource::new(text.as_bytes(), 4096, &[]);
         let mut out = MemSink::new(alloc, 1000, 4096, &[])?;
         let mut err = MemSink::new(alloc, 1000, 4096, &[])?;
         let words = ["hls", "step", "--cycles", cycles];
-        let outcome = call(alloc, &words, &mut source, &mut out, &mut err)?;
+        let outcome = call(&rt, alloc, &words, &mut source, &mut out, &mut err)?;
         assert!(rt; err.held().starts_with(front.as_bytes()), "at {text}");
         assert_eq!(rt; out.held(), printed.as_bytes(), "at {text}");
         assert_eq!(rt; outcome.status.number(), number, "at {text}");

@@ -6,16 +6,16 @@ use Rattle.turns.specs.Turns.{turn}
 use Rattle.hls_words.specs.declared.task.Task.TheVariants.{Build, Step, Walk}
 use Rattle.hls_words.specs.Line.{command_line, task_of}
 
-builds : task_of (codes "hls" ∷ codes "build" ∷ []) ≡ Some Build
+builds : task_of (codes "hls" ∷ codes "build" ∷ []) ≡ Some (Build 1)
 unfolding clap_on_literals command_line
 builds = refl
 
-ends_the_options : task_of (codes "hls" ∷ codes "build" ∷ codes "--" ∷ []) ≡ Some Build
+ends_the_options : task_of (codes "hls" ∷ codes "build" ∷ codes "--" ∷ []) ≡ Some (Build 1)
 unfolding clap_on_literals command_line
 ends_the_options = refl
 
 -- the first word is free
-any_name : (name : List ℕ) → task_of (name ∷ codes "build" ∷ []) ≡ Some Build
+any_name : (name : List ℕ) → task_of (name ∷ codes "build" ∷ []) ≡ Some (Build 1)
 unfolding clap_on_literals command_line
 any_name name = refl
 
@@ -34,10 +34,6 @@ unknown_command = refl
 other_case : task_of (codes "hls" ∷ codes "Build" ∷ []) ≡ None
 unfolding clap_on_literals command_line
 other_case = refl
-
-option_to_come : task_of (codes "hls" ∷ codes "build" ∷ codes "--jobs" ∷ codes "2" ∷ []) ≡ None
-unfolding clap_on_literals command_line
-option_to_come = refl
 
 word_too_many : task_of (codes "hls" ∷ codes "build" ∷ codes "first.c" ∷ []) ≡ None
 unfolding clap_on_literals command_line
@@ -70,6 +66,48 @@ version = refl
 help_of_build : task_of (codes "hls" ∷ codes "build" ∷ codes "--help" ∷ []) ≡ None
 unfolding clap_on_literals command_line
 help_of_build = refl
+
+-- ---- numbers of jobs
+
+jobs : task_of (codes "hls" ∷ codes "build" ∷ codes "--jobs" ∷ codes "2" ∷ []) ≡ Some (Build 2)
+unfolding clap_on_literals command_line
+jobs = refl
+
+jobs_in_one_word : task_of (codes "hls" ∷ codes "build" ∷ codes "--jobs=2" ∷ []) ≡ Some (Build 2)
+unfolding clap_on_literals command_line
+jobs_in_one_word = refl
+
+most_jobs : task_of (codes "hls" ∷ codes "build" ∷ codes "--jobs" ∷ codes "16" ∷ []) ≡ Some (Build 16)
+unfolding clap_on_literals command_line
+most_jobs = refl
+
+one_job_more : task_of (codes "hls" ∷ codes "build" ∷ codes "--jobs" ∷ codes "17" ∷ []) ≡ None
+unfolding clap_on_literals command_line
+one_job_more = refl
+
+no_jobs : task_of (codes "hls" ∷ codes "build" ∷ codes "--jobs" ∷ codes "0" ∷ []) ≡ None
+unfolding clap_on_literals command_line
+no_jobs = refl
+
+no_number_of_jobs : task_of (codes "hls" ∷ codes "build" ∷ codes "--jobs" ∷ codes "two" ∷ []) ≡ None
+unfolding clap_on_literals command_line
+no_number_of_jobs = refl
+
+jobs_left_out : task_of (codes "hls" ∷ codes "build" ∷ codes "--jobs" ∷ []) ≡ None
+unfolding clap_on_literals command_line
+jobs_left_out = refl
+
+jobs_twice : task_of (codes "hls" ∷ codes "build" ∷ codes "--jobs=2" ∷ codes "--jobs=2" ∷ []) ≡ None
+unfolding clap_on_literals command_line
+jobs_twice = refl
+
+jobs_of_steps : task_of (codes "hls" ∷ codes "step" ∷ codes "--cycles" ∷ codes "9" ∷ codes "--jobs" ∷ codes "2" ∷ []) ≡ None
+unfolding clap_on_literals command_line
+jobs_of_steps = refl
+
+jobs_of_a_walk : task_of (codes "hls" ∷ codes "walk" ∷ codes "--threads" ∷ codes "0" ∷ codes "--jobs" ∷ codes "2" ∷ []) ≡ None
+unfolding clap_on_literals command_line
+jobs_of_a_walk = refl
 
 -- ---- numbers of cycles
 

@@ -25,9 +25,9 @@ number_rule name low high =
 abbrev pub required : Rule → Rule
 required rule = record rule { required = true }
 
--- build
+-- build, with `--jobs n` or without
 abbrev pub build_line : App
-build_line = new_app (codes "build")
+build_line = with_rule (new_app (codes "build")) (number_rule (codes "jobs") 1 16)
 
 -- step --cycles n
 abbrev pub step_line : App
@@ -74,6 +74,10 @@ number_in low high default text =
     if is_some text
     then option_and_then (in_range low high) (option_and_then number_of text) else default
 
+abbrev pub build_in : List Row → Option Task
+build_in rows = option_map (λ n. task.Build n)
+    (number_in 1 16 (Some 1) (one_of (codes "jobs") rows))
+
 abbrev pub step_in : List Row → Option Task
 step_in rows = option_map (λ n. task.Step n)
     (number_in 0 4294967295 None (one_of (codes "cycles") rows))
@@ -88,7 +92,7 @@ walk_in rows = option_map (λ turns. task.Walk turns) (turns_in (first_of (codes
 -- the command of this name with the values given to its options
 abbrev pub task_in : Text → List Row → Option Task
 task_in name rows =
-    if bytes_eq name (codes "build") then Some task.Build
+    if bytes_eq name (codes "build") then build_in rows
     else (if bytes_eq name (codes "step") then step_in rows
     else (if bytes_eq name (codes "walk") then walk_in rows
     else None))

@@ -2,7 +2,7 @@ ghost use Rattle.std.specs.Prelude.{◌≡◌, Option, Some, None, false, map, s
 ghost use Rattle.clap.specs.Words.{app_of, rule_of, rows_of, one_of, first_of, found_of, kind_of, subcommand_rows_of, with_rule, with_subcommand};
 ghost use Rattle.clap.specs.declared.builder.command.Command.TheViews.{out-Command as fields_of};
 ghost use Rattle.clap.specs.declared.error.kind.ErrorKind.TheVariants.{OutOfMemory};
-ghost use Rattle.hls_words.specs.Line.{build_line, command_line, in_range, number_in, number_of, number_rule, task_in, required, step_in, step_line, task_of, text_rule, turns_in, walk_in, walk_line};
+ghost use Rattle.hls_words.specs.Line.{build_in, build_line, command_line, in_range, number_in, number_of, number_rule, task_in, required, step_in, step_line, task_of, text_rule, turns_in, walk_in, walk_line};
 
 use crate::{Task, WordsError};
 use clap::error::ErrorKind;
@@ -10,6 +10,9 @@ use clap::{Arg, ArgMatches, Command, Error, value_parser};
 use sqlite_items::Items;
 use std::alloc::{AllocError, Global};
 use turns::{Turn, turns};
+
+/// The most threads that a build may take.
+const MOST_JOBS: u32 = 16;
 
 /// `--NAME n`, n from low to high.
 fn number_option<'a>(alloc: Global, name: &'a str, low: u32, high: u32) -> Arg<'a>
@@ -29,11 +32,11 @@ fn required_number<'a>(alloc: Global, name: &'a str, low: u32, high: u32) -> Arg
     number_option(alloc, name, low, high).required(true)
 }
 
-fn build_command<'a>(alloc: Global) -> Command<'a>
-    ensures app { app_of result ≡ build_line }
-    ensures local { (fields_of result).has_globals ≡ false }
+fn build_command<'a>(alloc: Global) -> Result<Command<'a>, AllocError>
+    ensures { IfOk result (λ c. (app_of c ≡ build_line) × ((fields_of c).has_globals ≡ false)) }
 {
-    Command::new(alloc, "build")
+    let jobs = number_option(alloc, "jobs", 1, MOST_JOBS);
+    Command::new(alloc, "build").arg(jobs)
 }
 
 fn step_command<'a>(alloc: Global) -> Result<Command<'a>, AllocError>
@@ -71,7 +74,7 @@ fn whole_command<'a>(alloc: Global) -> Result<Command<'a>, AllocError>
     ensures { IfOk result (λ c. app_of c ≡ command_line) }
 {
     let program = Command::new(alloc, "hls").subcommand_required(true);
-    let build = with_command(program, build_command(alloc))?;
+    let build = with_command(program, build_command(alloc)?)?;
     let step = with_command(build, step_command(alloc)?)?;
     with_command(step, walk_command(alloc)?)
 }
@@ -114,6 +117,13 @@ fn number(
     }
 }
 
+fn build_task(matches: &ArgMatches<'_>) -> Option<Task>
+    ensures { result ≡ build_in (rows_of (found_of matches.now)) }
+{
+    let jobs = number(matches, "jobs", 1, MOST_JOBS, Some(1))?;
+    Some(Task::Build { jobs })
+}
+
 fn step_task(matches: &ArgMatches<'_>) -> Option<Task>
     ensures { result ≡ step_in (rows_of (found_of matches.now)) }
 {
@@ -149,7 +159,7 @@ fn task(alloc: Global, name: &str, matches: &ArgMatches<'_>) -> Result<Option<Ta
     ensures { IfOk result (λ r. r ≡ task_in name.now (rows_of (found_of matches.now))) }
 {
     match name {
-        "build" => Ok(Some(Task::Build)),
+        "build" => Ok(build_task(matches)),
         "step" => Ok(step_task(matches)),
         "walk" => walk_task(alloc, matches),
         _ => Ok(None),

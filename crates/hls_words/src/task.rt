@@ -5,8 +5,8 @@ use turns::Turn;
 /// What the program is asked to do.
 #[derive(Debug, Drop)]
 pub enum Task {
-    /// Write the Verilog text of the C text.
-    Build,
+    /// Write the Verilog text of the C text; so many threads at most make it.
+    Build { jobs: u32 },
     /// Run the Verilog for so many cycles at most.
     Step { cycles: u32 },
     /// Take C steps of threads, in these turns.

@@ -15,11 +15,6 @@ fn words_of(alloc: Global, line: &str) -> Result<Vec<String>, AllocError> {
 #[test]
 fn takes_the_commands(rt: HostRuntime) -> Result<(), Fail> {
     let alloc = rt.alloc();
-    let words = words_of(alloc, "hls build")?;
-    assert_eq!(rt;
-        matches!(parse(alloc, words.as_slice()), Ok(Task::Build)),
-        true
-    );
     let words = words_of(alloc, "hls walk --threads 0*3,1")?;
     let turns = match parse(alloc, words.as_slice()) {
         Ok(Task::Walk(turns)) => turns,
@@ -49,7 +44,11 @@ fn takes_the_commands(rt: HostRuntime) -> Result<(), Fail> {
         "hls",
         "hls step",
         "hls step --cycles 4294967296",
-        "hls build --jobs=2",
+        "hls build --jobs",
+        "hls build --jobs 17",
+        "hls build --jobs=0",
+        "hls build --jobs two",
+        "hls step --cycles 9 --jobs 2",
         "hls walk",
         "hls walk --threads 0*0",
         "hls --help",
@@ -60,6 +59,29 @@ fn takes_the_commands(rt: HostRuntime) -> Result<(), Fail> {
             true,
             "at {line}"
         );
+    }
+    Ok(())
+}
+
+fn jobs_of(alloc: Global, line: &str) -> Result<Option<u32>, AllocError> {
+    let words = words_of(alloc, line)?;
+    match parse(alloc, words.as_slice()) {
+        Ok(Task::Build { jobs }) => Ok(Some(jobs)),
+        _ => Ok(None),
+    }
+}
+
+#[test]
+fn reads_the_number_of_jobs(rt: HostRuntime) -> Result<(), Fail> {
+    let alloc = rt.alloc();
+    for (line, want) in [
+        ("hls build", Some(1)),
+        ("hls build --jobs 1", Some(1)),
+        ("hls build --jobs=2", Some(2)),
+        ("hls build --jobs 16", Some(16)),
+        ("hls build --jobs 17", None),
+    ] {
+        assert_eq!(rt; jobs_of(alloc, line)?, want, "at {line}");
     }
     Ok(())
 }

@@ -9,3 +9,4 @@ pub mod Printer
 pub mod Sound
 pub mod Whole
 pub mod Law
+pub mod First

@@ -38,6 +38,10 @@ pub record IsWritten (layout : Layout) (modules : List Module) (n : Netlist) (ne
   pub formed : IsSound n → IsWellFormed net
   pub reads : IsFull net → Reads text net
 
+-- and these are the net and its text of a table of modules
+abbrev pub IsWrittenOf : List Bank → Module → Module → List Module → Module → Netlist → List ℕ → Type 0
+IsWrittenOf banks m arbiter modules printer n text = (net : Net) × IsWritten (layout_of banks) (m ∷ arbiter ∷ modules ++ printer ∷ []) n net text
+
 -- so it is of each program of which the modules of main, the arbiter, the banks, of which there are few, and the printer are the parts
 abbrev pub OfParts : (Program → Type 0) → List Bank → Module → Module → List Module → Module → Type 0
 OfParts Holds banks m arbiter modules printer =

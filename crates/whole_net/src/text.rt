@@ -1,7 +1,7 @@
 // The text of the net of a program of one thread.
 
-ghost use Rattle.std.specs.Prelude.{◌≡◌, ◌<◌, ◌^◌, ◌++◌, [], ◌∷◌, length, IfOk};
-ghost use Rattle.whole_net.specs.Whole.{IsGoodOfParts, IsNetOfParts};
+ghost use Rattle.std.specs.Prelude.{◌≡◌, ◌<◌, ◌^◌, ◌++◌, [], ◌∷◌, length, IfOk, Some, slice_get};
+ghost use Rattle.whole_net.specs.Whole.{IsGoodOfParts, IsNetOfParts, IsWrittenOf};
 
 use crate::layout::layout;
 use bank_cores::bank::Shape;
@@ -41,7 +41,7 @@ pub struct Written {
 /// The net of main's module, the arbiter of one thread, the modules of these banks, fewer than 2 to the 15, and the printer, and
 /// its text.
 ///
-/// It is good Verilog of each program of which these are the parts, and the text reads as the net.
+/// It is good Verilog of each program of which these are the parts, and the text reads as the net, whose first module is main's.
 pub fn verilog(
     alloc: Global,
     banks: &[Shape],
@@ -53,6 +53,8 @@ pub fn verilog(
     requires { length banks.now < 2 ^ 15 }
     ensures good { IfOk result (λ w. IsGoodOfParts banks.now main arbiter modules printer w.text) }
     ensures net { IfOk result (λ w. IsNetOfParts banks.now main arbiter modules printer w.net w.text) }
+    ensures written { IfOk result (λ w. IsWrittenOf banks.now main arbiter modules printer w.net w.text) }
+    ensures first { IfOk result (λ w. slice_get w.net.modules 0 ≡ Some main) }
 {
     let table = table(alloc, main, arbiter, modules, printer)?;
     let layout = layout(alloc, banks)?;

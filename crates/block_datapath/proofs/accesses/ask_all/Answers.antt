@@ -29,5 +29,6 @@ pub returns-clause-shows : goal.returns-clause-shows
 returns-clause-shows c =
     let same : length c.as_slice-operation-items.result.now ≡ length c.args.block.now.operations = ap length c.as_slice-operation-items.ensures in
     let all : c.loop-number.number ≡ length c.args.block.now.operations = omega arith in
-    subst (λ (n : ℕ). AsksFirst c.args.wires.now.signals c.loop-number.wires.signals c.args.registers.now c.args.code.now.variables c.args.values.now c.args.chains.now c.loop-number.chains
+    subst (λ (n : ℕ). AsksFirst c.args.wires.now.signals c.loop-number.wires.signals c.args.registers.now c.args.code.now.variables c.args.values.now c.args.chains.now
+    c.loop-number.chains
     c.args.globals.now c.args.spreads.now c.args.block.now c.args.plan.now c.args.end n) all c.loop-number.invariant.0

@@ -27,43 +27,52 @@ returns-in-WriteGlobal-clause-shows c =
     (AsksOperation c.args.wires.now.signals c.ask_write.new.wires.signals c.args.registers.now c.args.code.now.variables c.args.values.now c.args.chains.now
     c.ask_write.new.chains c.args.globals.now c.args.spreads.now c.args.moment c.args.operation.now)
     (λ t.
-    subst (λ (o : Operation). AsksOperation c.args.wires.now.signals c.ask_write.new.wires.signals c.args.registers.now c.args.code.now.variables c.args.values.now c.args.chains.now
+    subst (λ (o : Operation). AsksOperation c.args.wires.now.signals c.ask_write.new.wires.signals c.args.registers.now c.args.code.now.variables c.args.values.now
+    c.args.chains.now
     c.ask_write.new.chains c.args.globals.now c.args.spreads.now c.args.moment o)
     (sym c.in-WriteGlobal.is) (t c.in-WriteGlobal.length))
     c.ask_write.ensures.shows
 
 pub returns-in-Unary-clause-shows : goal.returns-in-Unary-clause-shows
 returns-in-Unary-clause-shows c =
-    silent_asked c.args.registers.now c.args.code.now.variables c.args.values.now c.args.chains.now c.args.chains.now c.args.moment c.args.globals.now c.args.spreads.now c.args.wires.now.signals
+    silent_asked c.args.registers.now c.args.code.now.variables c.args.values.now c.args.chains.now c.args.chains.now c.args.moment c.args.globals.now c.args.spreads.now
+    c.args.wires.now.signals
     c.args.operation.now _ c.in-Unary.is (λ variables given j. refl) refl
 
 pub returns-in-Unary-clause-wired : goal.returns-in-Unary-clause-wired
 returns-in-Unary-clause-wired c =
-    silent_linked c.args.registers.now c.args.code.now.variables c.args.values.now c.args.chains.now c.args.chains.now c.args.moment c.args.globals.now c.args.spreads.now c.args.wires.now.signals refl
+    silent_linked c.args.registers.now c.args.code.now.variables c.args.values.now c.args.chains.now c.args.chains.now c.args.moment c.args.globals.now c.args.spreads.now
+    c.args.wires.now.signals refl
 
 pub returns-in-Binary-clause-shows : goal.returns-in-Binary-clause-shows
 returns-in-Binary-clause-shows c =
-    silent_asked c.args.registers.now c.args.code.now.variables c.args.values.now c.args.chains.now c.args.chains.now c.args.moment c.args.globals.now c.args.spreads.now c.args.wires.now.signals
+    silent_asked c.args.registers.now c.args.code.now.variables c.args.values.now c.args.chains.now c.args.chains.now c.args.moment c.args.globals.now c.args.spreads.now
+    c.args.wires.now.signals
     c.args.operation.now _ c.in-Binary.is (λ variables given j. refl) refl
 
 pub returns-in-Binary-clause-wired : goal.returns-in-Binary-clause-wired
 returns-in-Binary-clause-wired c =
-    silent_linked c.args.registers.now c.args.code.now.variables c.args.values.now c.args.chains.now c.args.chains.now c.args.moment c.args.globals.now c.args.spreads.now c.args.wires.now.signals refl
+    silent_linked c.args.registers.now c.args.code.now.variables c.args.values.now c.args.chains.now c.args.chains.now c.args.moment c.args.globals.now c.args.spreads.now
+    c.args.wires.now.signals refl
 
 pub returns-in-ReadArray-clause-shows : goal.returns-in-ReadArray-clause-shows
 returns-in-ReadArray-clause-shows c =
-    silent_asked c.args.registers.now c.args.code.now.variables c.args.values.now c.args.chains.now c.args.chains.now c.args.moment c.args.globals.now c.args.spreads.now c.args.wires.now.signals
+    silent_asked c.args.registers.now c.args.code.now.variables c.args.values.now c.args.chains.now c.args.chains.now c.args.moment c.args.globals.now c.args.spreads.now
+    c.args.wires.now.signals
     c.args.operation.now _ c.in-ReadArray.is (λ variables given j. refl) refl
 
 pub returns-in-ReadArray-clause-wired : goal.returns-in-ReadArray-clause-wired
 returns-in-ReadArray-clause-wired c =
-    silent_linked c.args.registers.now c.args.code.now.variables c.args.values.now c.args.chains.now c.args.chains.now c.args.moment c.args.globals.now c.args.spreads.now c.args.wires.now.signals refl
+    silent_linked c.args.registers.now c.args.code.now.variables c.args.values.now c.args.chains.now c.args.chains.now c.args.moment c.args.globals.now c.args.spreads.now
+    c.args.wires.now.signals refl
 
 pub returns-in-WriteArray-clause-shows : goal.returns-in-WriteArray-clause-shows
 returns-in-WriteArray-clause-shows c =
-    silent_asked c.args.registers.now c.args.code.now.variables c.args.values.now c.args.chains.now c.args.chains.now c.args.moment c.args.globals.now c.args.spreads.now c.args.wires.now.signals
+    silent_asked c.args.registers.now c.args.code.now.variables c.args.values.now c.args.chains.now c.args.chains.now c.args.moment c.args.globals.now c.args.spreads.now
+    c.args.wires.now.signals
     c.args.operation.now _ c.in-WriteArray.is (λ variables given j. refl) refl
 
 pub returns-in-WriteArray-clause-wired : goal.returns-in-WriteArray-clause-wired
 returns-in-WriteArray-clause-wired c =
-    silent_linked c.args.registers.now c.args.code.now.variables c.args.values.now c.args.chains.now c.args.chains.now c.args.moment c.args.globals.now c.args.spreads.now c.args.wires.now.signals refl
+    silent_linked c.args.registers.now c.args.code.now.variables c.args.values.now c.args.chains.now c.args.chains.now c.args.moment c.args.globals.now c.args.spreads.now
+    c.args.wires.now.signals refl

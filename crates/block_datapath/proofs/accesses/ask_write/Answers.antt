@@ -12,16 +12,20 @@ use Rattle.block_datapath.proofs.accesses.ask_write.Goals as goal
 pub returns-clause-shows : goal.returns-clause-shows
 returns-clause-shows c =
     on_ok c.ask_spread.result
-    (AsksIndex c.converted.new.self.signals c.ask_spread.new.wires.signals c.args.registers.now c.args.code.now.variables c.args.values.now c.args.chains.now c.ask_spread.new.chains c.args.moment
+    (AsksIndex c.converted.new.self.signals c.ask_spread.new.wires.signals c.args.registers.now c.args.code.now.variables c.args.values.now c.args.chains.now
+    c.ask_spread.new.chains c.args.moment
     c.spread_at-spread.result c.args.index.now true c.in_ok-own.own)
     ((n : ℕ) → AsksOperation c.args.wires.now.signals c.ask_spread.new.wires.signals c.args.registers.now c.args.code.now.variables c.args.values.now c.args.chains.now
     c.ask_spread.new.chains c.args.globals.now c.args.spreads.now
     c.args.moment (WriteGlobal c.args.global n c.args.index.now c.args.value.now))
     (λ last n.
-    write_asked c.args.registers.now c.args.code.now.variables c.args.values.now c.args.chains.now c.ask_spread.new.chains c.args.moment c.args.globals.now c.args.spreads.now c.args.wires.now.signals
-    c.operand_word.new.wires.signals c.converted.new.self.signals c.ask_spread.new.wires.signals c.args.global n c.spread_at-spread.result c.args.index.now c.args.value.now c.in_ok-word.word
+    write_asked c.args.registers.now c.args.code.now.variables c.args.values.now c.args.chains.now c.ask_spread.new.chains c.args.moment c.args.globals.now c.args.spreads.now
+    c.args.wires.now.signals
+    c.operand_word.new.wires.signals c.converted.new.self.signals c.ask_spread.new.wires.signals c.args.global n c.spread_at-spread.result c.args.index.now c.args.value.now
+    c.in_ok-word.word
     c.in_ok-own.own c.global_type-ty.result
-    (subst (λ (ts : List IntegerType). ShowsOperand c.args.wires.now.signals c.operand_word.new.wires.signals c.args.registers.now ts c.args.values.now c.args.moment.state c.args.value.now
+    (subst (λ (ts : List IntegerType). ShowsOperand c.args.wires.now.signals c.operand_word.new.wires.signals c.args.registers.now ts c.args.values.now c.args.moment.state
+    c.args.value.now
     c.in_ok-word.word) c.as_slice-types.ensures c.in_ok-word.ensures.shows)
     c.in_ok-own.ensures.shows c.global_type-ty.ensures c.spread_at-spread.ensures last)
     c.ask_spread.ensures.shows
@@ -29,14 +33,17 @@ returns-clause-shows c =
 pub returns-clause-wired : goal.returns-clause-wired
 returns-clause-wired c =
     on_ok c.ask_spread.result
-    (AreIndexLinks c.converted.new.self.signals c.ask_spread.new.wires.signals c.args.registers.now c.args.code.now.variables c.args.values.now c.args.chains.now c.ask_spread.new.chains c.args.moment
+    (AreIndexLinks c.converted.new.self.signals c.ask_spread.new.wires.signals c.args.registers.now c.args.code.now.variables c.args.values.now c.args.chains.now
+    c.ask_spread.new.chains c.args.moment
     c.spread_at-spread.result c.in_ok-own.own)
     (AreAccessLinks c.args.wires.now.signals c.ask_spread.new.wires.signals c.args.registers.now c.args.code.now.variables c.args.values.now c.args.chains.now
     c.ask_spread.new.chains c.args.globals.now c.args.spreads.now
     c.args.moment)
     (λ last.
-    write_linked c.args.registers.now c.args.code.now.variables c.args.values.now c.args.chains.now c.ask_spread.new.chains c.args.moment c.args.globals.now c.args.spreads.now c.args.wires.now.signals
-    c.operand_word.new.wires.signals c.converted.new.self.signals c.ask_spread.new.wires.signals c.args.global c.spread_at-spread.result c.args.value.now c.in_ok-word.word c.in_ok-own.own
+    write_linked c.args.registers.now c.args.code.now.variables c.args.values.now c.args.chains.now c.ask_spread.new.chains c.args.moment c.args.globals.now c.args.spreads.now
+    c.args.wires.now.signals
+    c.operand_word.new.wires.signals c.converted.new.self.signals c.ask_spread.new.wires.signals c.args.global c.spread_at-spread.result c.args.value.now c.in_ok-word.word
+    c.in_ok-own.own
     c.global_type-ty.result
     (subst (λ (ts : List IntegerType). IsSourced c.args.wires.now.signals c.operand_word.new.wires.signals ts c.args.registers.now c.args.values.now (operand_type c.args.value.now)
     c.in_ok-word.word) c.as_slice-types.ensures c.in_ok-word.ensures.wired)

@@ -6,7 +6,8 @@ use Rattle.block_datapath.proofs.accesses.registered_value.Goals as goal
 pub returns-clause-value : goal.returns-clause-value
 returns-clause-value c =
     let given : Given = record { word = c.of_type.result; last = c.saturating_add-last.result; register = c.register_of-register.result } in
-    registered_one c.args.globals.now c.args.code.now c.args.plan.now c.args.wires.now.signals c.constant_word.new.self.signals c.args.number c.start_of-start.result c.args.operation.now
+    registered_one c.args.globals.now c.args.code.now c.args.plan.now c.args.wires.now.signals c.constant_word.new.self.signals c.args.number c.start_of-start.result
+    c.args.operation.now
     c.in_ok-zero.zero given c.value_type-ty.result _ c.in_ok-zero.ensures.shows c.start_of-start.ensures c.value_type-ty.ensures c.of_type.ensures.width c.of_type.ensures.signed
     c.register_of-register.ensures (λ small. omega arith)
 

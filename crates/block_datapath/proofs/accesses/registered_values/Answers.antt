@@ -12,13 +12,16 @@ loop-operation-preserved c =
     let block = c.args.block.now in
     let plan = c.args.plan.now in
     let i = c.loop-operation.operation-index in (
-      subst (λ (values : List Given). AreRegistered globals code plan block c.args.wires.now.signals c.registered_value.new.wires.signals (i + 1) values) (sym c.in_ok-push.ensures.ok)
-          (registered_more globals code plan block c.args.wires.now.signals c.loop-operation.wires.signals c.registered_value.new.wires.signals c.loop-operation.values i c.len-number.result
+      subst (λ (values : List Given). AreRegistered globals code plan block c.args.wires.now.signals c.registered_value.new.wires.signals (i + 1) values)
+          (sym c.in_ok-push.ensures.ok)
+          (registered_more globals code plan block c.args.wires.now.signals c.loop-operation.wires.signals c.registered_value.new.wires.signals c.loop-operation.values i
+          c.len-number.result
           c.operation-item.result c.in_ok-given.given c.loop-operation.invariant.0
           (item_is c.as_slice-operations.result.now block.operations i c.operation-item.result c.loop-operation-test.true c.operation-item.is c.as_slice-operations.ensures)
           (c.len-number.ensures ∙ c.loop-operation.invariant.0.count) c.in_ok-given.ensures.value),
       subst (λ (values : List Given). AreZeros c.args.wires.now.signals c.registered_value.new.wires.signals values) (sym c.in_ok-push.ensures.ok)
-          (zeros_more c.args.wires.now.signals c.loop-operation.wires.signals c.registered_value.new.wires.signals c.loop-operation.values c.in_ok-given.given c.loop-operation.invariant.1
+          (zeros_more c.args.wires.now.signals c.loop-operation.wires.signals c.registered_value.new.wires.signals c.loop-operation.values c.in_ok-given.given
+          c.loop-operation.invariant.1
           c.in_ok-given.ensures.wired),
     )
 

@@ -5,4 +5,5 @@ use Rattle.block_datapath.proofs.ending.stage_number.Goals as goal
 pub returns-clause-wired : goal.returns-clause-wired
 returns-clause-wired c =
     let most : c.min-number.result ≤ length c.args.code.now.stages = search rules in
-    number_wired c.constant.result c.args.wires.now.signals c.constant.new.self.signals c.args.code.now c.args.registers.now c.args.stage c.min-number.result most c.constant.ensures.wired
+    number_wired c.constant.result c.args.wires.now.signals c.constant.new.self.signals c.args.code.now c.args.registers.now c.args.stage c.min-number.result most
+    c.constant.ensures.wired

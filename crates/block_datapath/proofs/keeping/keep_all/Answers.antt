@@ -9,16 +9,19 @@ use Rattle.block_datapath.proofs.keeping.keep_all.Goals as goal
 pub loop-given-preserved : goal.loop-given-preserved
 loop-given-preserved c =
     let next = got c.args.values.now c.loop-given.given-index _ c.loop-given-test.true in (
-      keeps_more c.args.wires.now.signals c.loop-given.wires.signals c.keep.new.wires.signals c.args.registers.now c.args.end.at c.args.end.states c.args.nexts.now c.loop-given.nexts c.keep.new.nexts
+      keeps_more c.args.wires.now.signals c.loop-given.wires.signals c.keep.new.wires.signals c.args.registers.now c.args.end.at c.args.end.states c.args.nexts.now
+          c.loop-given.nexts c.keep.new.nexts
           c.args.values.now c.loop-given.given-index _ c.loop-given.invariant.0 next c.in_ok-keep.ensures.shows,
-      keeps_one_more c.args.wires.now.signals c.loop-given.wires.signals c.keep.new.wires.signals c.args.registers.now c.args.end.at c.args.end.states c.args.nexts.now c.loop-given.nexts
+      keeps_one_more c.args.wires.now.signals c.loop-given.wires.signals c.keep.new.wires.signals c.args.registers.now c.args.end.at c.args.end.states c.args.nexts.now
+          c.loop-given.nexts
           c.keep.new.nexts c.args.values.now c.loop-given.given-index _ c.loop-given.invariant.1 next c.in_ok-keep.ensures.wired,
     )
 
 pub returns-clause-shows : goal.returns-clause-shows
 returns-clause-shows c =
     let all : c.loop-given.given-index ≡ length c.args.values.now = omega arith in
-    subst (λ (n : ℕ). KeepsFirst c.args.wires.now.signals c.loop-given.wires.signals c.args.registers.now c.args.end.at c.args.end.states c.args.nexts.now c.loop-given.nexts c.args.values.now n)
+    subst (λ (n : ℕ). KeepsFirst c.args.wires.now.signals c.loop-given.wires.signals c.args.registers.now c.args.end.at c.args.end.states c.args.nexts.now c.loop-given.nexts
+    c.args.values.now n)
     all c.loop-given.invariant.0
 
 pub loop-given-init : goal.loop-given-init

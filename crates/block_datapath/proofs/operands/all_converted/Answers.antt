@@ -14,10 +14,12 @@ loop-ty-preserved c =
     let t = c.ty-item.result in
     let one_more : take (i + 1) types ≡ take i types ++ t ∷ [] = take_more types i t c.loop-ty-test.true ∙ ap (λ k. take i types ++ k ∷ []) (sym c.ty-item.is) in (
       subst (λ (ts : List IntegerType). Converts c.args.wires.now.signals c.converted.new.self.signals c.args.word ts c.in_ok-out.out) (sym one_more)
-          (converts_more c.args.wires.now.signals c.loop-ty.wires.signals c.converted.new.self.signals c.args.word c.loop-ty.out c.in_ok-out.out (take i types) t c.loop-ty.invariant.0
+          (converts_more c.args.wires.now.signals c.loop-ty.wires.signals c.converted.new.self.signals c.args.word c.loop-ty.out c.in_ok-out.out
+          (take i types) t c.loop-ty.invariant.0
           c.in_ok-out.ensures.shows),
       subst (λ (ts : List IntegerType). AreConverted c.args.wires.now.signals c.converted.new.self.signals c.args.word ts c.in_ok-out.out) (sym one_more)
-          (converted_more c.args.wires.now.signals c.loop-ty.wires.signals c.converted.new.self.signals c.args.word c.loop-ty.out c.in_ok-out.out (take i types) t c.loop-ty.invariant.1
+          (converted_more c.args.wires.now.signals c.loop-ty.wires.signals c.converted.new.self.signals c.args.word c.loop-ty.out c.in_ok-out.out
+          (take i types) t c.loop-ty.invariant.1
           c.in_ok-out.ensures.wired),
     )
 

@@ -5,4 +5,5 @@ use Rattle.block_datapath.proofs.operands.all_converted.Given as goal
 
 abbrev pub invariant-loop-ty : goal.invariant-loop-ty
 invariant-loop-ty l =
-    Converts l.fn.wires.signals l.wires.signals l.fn.word (take l.ty-index l.types) l.out × AreConverted l.fn.wires.signals l.wires.signals l.fn.word (take l.ty-index l.types) l.out
+    Converts l.fn.wires.signals l.wires.signals l.fn.word (take l.ty-index l.types) l.out × AreConverted l.fn.wires.signals l.wires.signals l.fn.word
+    (take l.ty-index l.types) l.out

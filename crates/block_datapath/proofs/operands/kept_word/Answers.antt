@@ -4,7 +4,8 @@ use Rattle.block_datapath.proofs.operands.kept_word.Goals as goal
 
 pub returns-in-Some-clause-wired : goal.returns-in-Some-clause-wired
 returns-in-Some-clause-wired c =
-    kept_wired c.narrowed.result c.args.wires.now.signals c.narrowed.new.wires.signals c.args.registers.now c.args.given c.in-Some.held (sym c.kept_in.ensures ∙ c.in-Some.is) c.narrowed.ensures.wired
+    kept_wired c.narrowed.result c.args.wires.now.signals c.narrowed.new.wires.signals c.args.registers.now c.args.given c.in-Some.held
+    (sym c.kept_in.ensures ∙ c.in-Some.is) c.narrowed.ensures.wired
 
 pub returns-in-None-clause-wired : goal.returns-in-None-clause-wired
 returns-in-None-clause-wired c =

@@ -5,12 +5,14 @@ use Rattle.block_datapath.proofs.operands.value_word.Goals as goal
 
 pub returns-clause-shows : goal.returns-clause-shows
 returns-clause-shows c =
-    value_shown c.converted.result c.args.wires.now.signals c.given_word.new.wires.signals c.converted.new.self.signals c.args.registers.now c.args.values.now c.args.state c.args.number c.args.ty
+    value_shown c.converted.result c.args.wires.now.signals c.given_word.new.wires.signals c.converted.new.self.signals c.args.registers.now c.args.values.now c.args.state
+    c.args.number c.args.ty
     c.in-Some.given c.in_ok-word.word (sym c.given_at.ensures ∙ c.in-Some.is) c.in_ok-word.ensures.shows c.converted.ensures.shows
 
 pub returns-clause-wired : goal.returns-clause-wired
 returns-clause-wired c =
-    value_wired c.converted.result c.args.wires.now.signals c.given_word.new.wires.signals c.converted.new.self.signals c.args.registers.now c.args.values.now c.args.number c.args.ty
+    value_wired c.converted.result c.args.wires.now.signals c.given_word.new.wires.signals c.converted.new.self.signals c.args.registers.now c.args.values.now c.args.number
+    c.args.ty
     c.in-Some.given c.in_ok-word.word (sym c.given_at.ensures ∙ c.in-Some.is) c.in_ok-word.ensures.wired c.converted.ensures.wired
 
 pub returns-in_default-clause-wired : goal.returns-in_default-clause-wired

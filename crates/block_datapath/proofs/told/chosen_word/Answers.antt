@@ -1,4 +1,4 @@
-use Rattle.std.proofs.Common.{◌≡◌, ◌<◌, arith}
+use Rattle.std.proofs.Common.{◌<◌, arith}
 use Rattle.block_datapath.proofs.Telling.{choice_none, choice_more, choice_all, choice_begun, choice_wired}
 use Rattle.block_datapath.proofs.told.chosen_word.Goals as goal
 
@@ -6,7 +6,8 @@ pub loop-number-preserved : goal.loop-number-preserved
 loop-number-preserved c =
     let less : c.loop-number.number < c.args.spread.count = omega arith in (
       choice_more c.args.registers.now c.args.spread c.args.width c.args.index c.args.wires.now.signals c.loop-number.wires.signals c.bank_bit.new.wires.signals
-          c.word_of_bank.new.wires.signals c.choice.new.self.signals c.bank_bits-bits.result c.loop-number.number c.bank_number.result c.loop-number.word c.in_ok-chosen.chosen c.in_ok-told.told
+          c.word_of_bank.new.wires.signals c.choice.new.self.signals c.bank_bits-bits.result c.loop-number.number c.bank_number.result c.loop-number.word c.in_ok-chosen.chosen
+          c.in_ok-told.told
           c.in_ok-word.word c.loop-number.invariant.0 c.in_ok-chosen.ensures.shows c.in_ok-told.ensures.shows c.bank_number.ensures c.in_ok-word.ensures.shows,
       choice_wired c.args.registers.now c.args.spread c.args.width c.args.index c.args.wires.now.signals c.loop-number.wires.signals c.bank_bit.new.wires.signals
           c.word_of_bank.new.wires.signals c.choice.new.self.signals c.bank_bits-bits.result c.loop-number.number c.loop-number.word c.in_ok-chosen.chosen c.in_ok-told.told
@@ -22,7 +23,8 @@ loop-number-init c = (
 
 pub returns-clause-shows : goal.returns-clause-shows
 returns-clause-shows c =
-    choice_all c.args.registers.now c.args.spread c.args.width c.args.index c.args.wires.now.signals c.loop-number.wires.signals c.bank_bits-bits.result c.loop-number.number c.loop-number.word
+    choice_all c.args.registers.now c.args.spread c.args.width c.args.index c.args.wires.now.signals c.loop-number.wires.signals c.bank_bits-bits.result c.loop-number.number
+    c.loop-number.word
     (omega arith) c.bank_bits-bits.ensures.power c.loop-number.invariant.0
 
 pub returns-clause-wired : goal.returns-clause-wired

@@ -16,7 +16,8 @@ returns-clause-shows c =
 
 pub returns-clause-wired : goal.returns-clause-wired
 returns-clause-wired c =
-    word_wired c.args.registers.now c.args.wires.now.signals c.operand_word.new.wires.signals c.converted.new.self.signals c.chosen_word.new.wires.signals c.args.code.now c.args.values.now
+    word_wired c.args.registers.now c.args.wires.now.signals c.operand_word.new.wires.signals c.converted.new.self.signals c.chosen_word.new.wires.signals c.args.code.now
+    c.args.values.now
     c.args.global c.args.spread c.args.ty c.args.index.now c.in_ok-word.word c.in_ok-wide.wide c.from-width.result c.in_ok-place.place c.of_type.result c.requires
     (subst (λ (ts : List IntegerType). IsSourced c.args.wires.now.signals c.operand_word.new.wires.signals ts c.args.registers.now c.args.values.now (operand_type c.args.index.now)
     c.in_ok-word.word) c.as_slice-types.ensures c.in_ok-word.ensures.wired)

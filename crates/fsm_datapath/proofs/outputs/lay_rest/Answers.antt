@@ -13,7 +13,7 @@ returns-clause-lays c =
     (LaysOutputs c.args.printer c.args.is_main c.args.wires.now.signals c.lay_done.new.wires.signals c.args.asks c.args.fields.now c.args.needs c.args.done)
     (outputs_laid c.args.wires.now.signals c.lay_request.new.wires.signals c.output.new.self.signals c.lay_done.new.wires.signals c.args.printer c.args.is_main c.args.asks
     c.args.needs c.args.done _
-    c.args.fields.now c.in_ok-lay_request.ensures.lays c.in_ok-output.ensures.stands)
+    c.args.fields.now c.in_ok-lay_request.ensures.lays c.in_ok-output.ensures.stands c.in_ok-output.ensures.laid)
     c.lay_done.ensures.lays
 
 pub returns-clause-named : goal.returns-clause-named

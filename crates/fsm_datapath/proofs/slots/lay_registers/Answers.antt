@@ -21,6 +21,7 @@ returns-clause-slot c =
       words =
           c.args.words;
       spreads = c.args.spreads;
+      units = c.new-units.result;
     })) first
     (slot_laid c.args.wires.now.signals c.lay_register.new.wires.signals c.lay_register-2.new.wires.signals c.register.new.self.signals c.lay_all.new.wires.signals
     c.lay_all-2.new.wires.signals
@@ -36,6 +37,7 @@ returns-clause-slot c =
       words =
           c.args.words;
       spreads = c.args.spreads;
+      units = c.new-units.result;
     })
     refl refl c.as_slice.ensures c.as_slice-2.ensures (c.as_slice-3.ensures ∙ c.in_ok-widths.ensures) c.len-end.ensures c.width_of-width.ensures.room
     c.state_width-state_width.ensures.room c.state_width-state_width.ensures.fits c.most_states-states.ensures

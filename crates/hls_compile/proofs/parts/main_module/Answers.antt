@@ -1,14 +1,15 @@
 use Rattle.std.proofs.Common.{subst}
 use Rattle.fsm_datapath.specs.Thread.{RunsServedCode, HasShapeOfServedCode}
 use Rattle.fsm_datapath.specs.Leaf.{IsLeafOfServedCode}
+use Rattle.fsm_datapath.specs.Steady.{IsSteadyServedCode}
 use Rattle.hls_compile.proofs.parts.main_module.Goals as goal
 
 pub returns : goal.returns
 returns c = record {
-  plan = c.in_ok-plan.plan;
-  planned = c.in_ok-plan.ensures;
-  right = c.planned_is_right.ensures c.args.code.now c.in_ok-plan.plan c.in_ok-plan.ensures;
-  runs = subst (λ s. RunsServedCode s c.args.code.now c.in_ok-plan.plan c.in_ok-made.made) c.in_ok-shape.ensures c.in_ok-made.ensures.runs;
-  shape = subst (λ s. HasShapeOfServedCode s c.args.code.now c.in_ok-plan.plan c.in_ok-made.made) c.in_ok-shape.ensures c.in_ok-made.ensures.shape;
-  leaf = subst (λ s. IsLeafOfServedCode s c.args.code.now c.in_ok-plan.plan c.in_ok-made.made) c.in_ok-shape.ensures c.in_ok-made.ensures.leaf;
+  planned = c.requires;
+  right = c.planned_is_right.ensures c.args.code.now c.args.plan.now c.requires;
+  runs = subst (λ s. RunsServedCode s c.args.code.now c.args.plan.now c.in_ok-made.made) c.in_ok-shape.ensures c.in_ok-made.ensures.runs;
+  shape = subst (λ s. HasShapeOfServedCode s c.args.code.now c.args.plan.now c.in_ok-made.made) c.in_ok-shape.ensures c.in_ok-made.ensures.shape;
+  leaf = subst (λ s. IsLeafOfServedCode s c.args.code.now c.args.plan.now c.in_ok-made.made) c.in_ok-shape.ensures c.in_ok-made.ensures.leaf;
+  steady = subst (λ s. IsSteadyServedCode s c.args.code.now c.args.plan.now c.in_ok-made.made) c.in_ok-shape.ensures c.in_ok-made.ensures.steady;
 }

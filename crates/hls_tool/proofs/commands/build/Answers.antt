@@ -1,4 +1,5 @@
 use Rattle.std.proofs.Common.{rules, refl}
+use Rattle.c_program.specs.Plain.{program_of}
 use Rattle.hls_tool.proofs.commands.build.Goals as goal
 
 pub returns-clause-ok : goal.returns-clause-ok
@@ -6,8 +7,9 @@ returns-clause-ok g c = (
   refl,
   record {
     text = c.in_ok-made.ensures.ok.0;
-    threads = c.in_ok-made.made.threads;
+    program = program_of c.in_ok-made.made.program;
     weight = c.in_ok-made.made.weight;
+    net = c.in_ok-made.made.net;
     gave = c.in_ok-made.ensures.ok.1;
     compiled = c.in_ok-made.ensures.ok.2;
     out = refl;

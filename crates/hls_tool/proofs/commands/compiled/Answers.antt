@@ -7,5 +7,5 @@ use Rattle.hls_tool.proofs.commands.compiled.Goals as goal
 
 pub returns-clause-stop : goal.returns-clause-stop
 returns-clause-stop g c =
-    subst (StopsBy (Some Build) (g.S.Source.left c.args.source.now) (Rose (g.S.Source.faults c.args.source.now) (g.S.Source.faults c.text_read.new.source))) (sym c.stop_of.ensures)
-    (stops (Some Build) (g.S.Source.left c.args.source.now) _ c.as_slice.result.now c.in-Err.error (search rules) c.in-Err.ensures.refused c.in-Err.ensures.unbuilt tt)
+    subst (StopsBy (Some (Build c.args.jobs)) (g.S.Source.left c.args.source.now) (Rose (g.S.Source.faults c.args.source.now) (g.S.Source.faults c.text_read.new.source))) (sym c.stop_of.ensures)
+    (stops (Some (Build c.args.jobs)) (g.S.Source.left c.args.source.now) _ c.as_slice.result.now c.in-Err.error (search rules) c.in-Err.ensures.refused c.in-Err.ensures.unbuilt tt)

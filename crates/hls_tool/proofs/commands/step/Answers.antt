@@ -1,4 +1,5 @@
 use Rattle.std.proofs.Common.{rules}
+use Rattle.c_program.specs.Plain.{program_of}
 use Rattle.hls_tool.proofs.commands.step.Goals as goal
 
 pub returns-clause-ok : goal.returns-clause-ok
@@ -7,7 +8,8 @@ returns-clause-ok g c = (
   c.in_ok-ran.ran.is_done,
   record {
     text = c.in_ok-built.ensures.ok.0;
-    threads = c.in_ok-built.built.threads;
+    program = program_of c.in_ok-built.built.program;
+    weight = c.in_ok-built.built.weight;
     net = c.in_ok-built.built.net;
     gave = c.in_ok-built.ensures.ok.1;
     compiled = c.in_ok-built.ensures.ok.2;

@@ -8,7 +8,7 @@ pub returns : goal.returns
 unfolding command_line
 returns c =
     let program_is : app_of c.subcommand_required-program.result ≡ program_line = search rules in
-    let first = c.in_ok-build.ensures ∙ ap₂ with_subcommand program_is (ap (λ (a : App). a.top) c.build_command.ensures.app) in
+    let first = c.in_ok-build.ensures ∙ ap₂ with_subcommand program_is (ap (λ (a : App). a.top) c.in_ok-build_command.ensures.0) in
     let second = c.in_ok-step.ensures ∙ ap₂ with_subcommand first (ap (λ (a : App). a.top) c.in_ok-step_command.ensures.0) in
     IfOk-weaker c.with_command-3.result _ _
     (λ last h. h ∙ ap₂ with_subcommand second (ap (λ (a : App). a.top) c.in_ok-walk_command.ensures.0)) c.with_command-3.ensures

@@ -15,7 +15,8 @@ returns-clause-shows c =
     c.as_slice-longs.ensures ∙ c.in_ok-wide.ensures
     in
     begun_asks c.args.wires.now.signals c.zeros.new.wires.signals c.zeros-2.new.wires.signals c.zeros-3.new.wires.signals c.zeros-4.new.wires.signals c.args.words.now
-    c.as_slice-ones.result.now c.as_slice-longs.result.now chains ones longs c.in_ok-wants.ensures.shows c.in_ok-writes.ensures.shows c.in_ok-addresses.ensures.shows c.in_ok-values.ensures.shows
+    c.as_slice-ones.result.now c.as_slice-longs.result.now chains ones longs c.in_ok-wants.ensures.shows c.in_ok-writes.ensures.shows c.in_ok-addresses.ensures.shows
+    c.in_ok-values.ensures.shows
 
 pub returns-clause-wired : goal.returns-clause-wired
 returns-clause-wired c =
@@ -29,4 +30,5 @@ returns-clause-wired c =
     c.as_slice-longs.ensures ∙ c.in_ok-wide.ensures
     in
     begun_links c.args.wires.now.signals c.zeros.new.wires.signals c.zeros-2.new.wires.signals c.zeros-3.new.wires.signals c.zeros-4.new.wires.signals c.args.words.now
-    c.as_slice-ones.result.now c.as_slice-longs.result.now chains ones longs c.in_ok-wants.ensures.wired c.in_ok-writes.ensures.wired c.in_ok-addresses.ensures.wired c.in_ok-values.ensures.wired
+    c.as_slice-ones.result.now c.as_slice-longs.result.now chains ones longs c.in_ok-wants.ensures.wired c.in_ok-writes.ensures.wired c.in_ok-addresses.ensures.wired
+    c.in_ok-values.ensures.wired

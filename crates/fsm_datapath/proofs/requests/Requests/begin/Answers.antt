@@ -3,16 +3,12 @@ use Rattle.fsm_datapath.proofs.requests.Requests.begin.Goals as goal
 
 pub returns-clause-begins : goal.returns-clause-begins
 returns-clause-begins c =
-    begins_asking c.args.wires.now.signals c.constant.new.self.signals c.constant-2.new.self.signals c.zeros.new.wires.signals c.begin.new.wires.signals c.args.fields.now
-    c.args.words.now
-    (record { wants = c.in_ok-wants.wants; fields = c.in_ok-fields.fields; needs = c.in_ok-needs.needs; banks = c.in_ok-banks.banks }) c.in_ok-wants.ensures.shows
-    c.in_ok-needs.ensures.shows
-    c.in_ok-fields.ensures.shows c.in_ok-banks.ensures.shows
+    begins_asking c.args.wires.now.signals c.constant.new.self.signals c.zeros.new.wires.signals c.begin.new.wires.signals c.args.fields.now c.args.words.now
+    (record { wants = c.in_ok-wants.wants; fields = c.in_ok-fields.fields; banks = c.in_ok-banks.banks }) c.in_ok-wants.ensures.shows c.in_ok-fields.ensures.shows
+    c.in_ok-banks.ensures.shows
 
 pub returns-clause-wired : goal.returns-clause-wired
 returns-clause-wired c =
-    begins_linked c.args.wires.now.signals c.constant.new.self.signals c.constant-2.new.self.signals c.zeros.new.wires.signals c.begin.new.wires.signals c.args.fields.now
-    c.args.words.now
-    (record { wants = c.in_ok-wants.wants; fields = c.in_ok-fields.fields; needs = c.in_ok-needs.needs; banks = c.in_ok-banks.banks }) c.in_ok-wants.ensures.wired
-    c.in_ok-needs.ensures.wired
-    c.in_ok-fields.ensures.wired c.in_ok-banks.ensures.wired c.in_ok-fields.ensures.shows.count
+    begins_linked c.args.wires.now.signals c.constant.new.self.signals c.zeros.new.wires.signals c.begin.new.wires.signals c.args.fields.now c.args.words.now
+    (record { wants = c.in_ok-wants.wants; fields = c.in_ok-fields.fields; banks = c.in_ok-banks.banks }) c.in_ok-wants.ensures.wired c.in_ok-fields.ensures.wired
+    c.in_ok-banks.ensures.wired c.in_ok-fields.ensures.shows.count

@@ -6,13 +6,11 @@ use Rattle.fsm_datapath.proofs.requests.Requests.want.Goals as goal
 pub returns-clause-asks : goal.returns-clause-asks
 returns-clause-asks c =
     let before = c.args.self.now in
-    let after : Requests = record before { needs = c.in_ok-needs.needs; wants = c.in_ok-wants.wants } in
-    printer_made c.args.wires.now.signals c.either.new.self.signals c.either-2.new.self.signals before after c.args.condition c.in_ok-needs.ensures.shows
-    c.in_ok-wants.ensures.shows refl
+    let after : Requests = record before { wants = c.in_ok-wants.wants } in
+    printer_made c.args.wires.now.signals c.either.new.self.signals before after c.args.condition c.in_ok-wants.ensures.shows refl
 
 pub returns-clause-wired : goal.returns-clause-wired
 returns-clause-wired c =
     let before = c.args.self.now in
-    let after : Requests = record before { needs = c.in_ok-needs.needs; wants = c.in_ok-wants.wants } in
-    printer_linked c.args.wires.now.signals c.either.new.self.signals c.either-2.new.self.signals before after c.args.condition c.in_ok-needs.ensures.wired
-    c.in_ok-wants.ensures.wired
+    let after : Requests = record before { wants = c.in_ok-wants.wants } in
+    printer_linked c.args.wires.now.signals c.either.new.self.signals before after c.args.condition c.in_ok-wants.ensures.wired

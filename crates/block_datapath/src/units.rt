@@ -1,0 +1,74 @@
+// The functional units that operations share.
+
+ghost use Rattle.std.specs.Prelude.{◌≡◌, false, slice_get};
+ghost use Rattle.block_datapath.specs.Units.{same_operator, same_type, unit_type, is_for, unit_place};
+
+use crate::registers::UnitResults;
+use c_program::tree::BinaryOperator;
+use hls_ints::CType;
+
+/// The type in which the units of an operator work: products of both signs are made in the unsigned type of their width.
+pub fn unit_type(operator: BinaryOperator, ty: CType) -> CType
+    ensures { result ≡ unit_type operator ty }
+{
+    match operator {
+        BinaryOperator::Multiply => unsigned(ty),
+        _ => ty,
+    }
+}
+
+fn unsigned(ty: CType) -> CType
+    ensures width { result.width ≡ ty.width }
+    ensures sign { result.signed ≡ false }
+{
+    CType {
+        width: ty.width,
+        signed: false,
+    }
+}
+
+/// Where the result of a unit stands, of the units of an operator at a type that of this number, if it is shared.
+pub fn unit_place(
+    units: &[UnitResults],
+    operator: BinaryOperator,
+    ty: CType,
+    number: usize,
+) -> Option<usize>
+    ensures { result ≡ unit_place units.now operator ty number }
+{
+    for results in units {
+        if serves(results, operator, ty) {
+            return place_of(results.places.as_slice(), number);
+        }
+    }
+    None
+}
+
+fn serves(results: &UnitResults, operator: BinaryOperator, ty: CType) -> bool
+    ensures { result ≡ is_for operator ty results.now }
+{
+    is_same(results.operator, operator) && is_type(results.ty, unit_type(operator, ty))
+}
+
+fn is_type(left: CType, right: CType) -> bool
+    ensures { result ≡ same_type left right }
+{
+    left.bits() == right.bits() && left.is_signed() == right.is_signed()
+}
+
+fn is_same(left: BinaryOperator, right: BinaryOperator) -> bool
+    ensures { result ≡ same_operator left right }
+{
+    match (left, right) {
+        (BinaryOperator::Multiply, BinaryOperator::Multiply) => true,
+        (BinaryOperator::Divide, BinaryOperator::Divide) => true,
+        (BinaryOperator::Remainder, BinaryOperator::Remainder) => true,
+        _ => false,
+    }
+}
+
+fn place_of(places: &[usize], number: usize) -> Option<usize>
+    ensures { result ≡ slice_get places.now number }
+{
+    places.get(number).copied()
+}

@@ -1,0 +1,22 @@
+use Rattle.std.proofs.Common.{subst, sym}
+use Rattle.c_program.specs.Plain.{program_of}
+use Rattle.code_following.specs.Following.{IsLowered}
+use Rattle.ir_lower.specs.Typed.{IsTypedCode}
+use Rattle.hls_compile.proofs.Good.{one_thread}
+use Rattle.hls_compile.proofs.build.Goals as goal
+
+pub returns-clause-one : goal.returns-clause-one
+returns-clause-one g c = one_thread (program_of c.args.program.now) c.in_ok-code.ensures.single
+
+pub returns-clause-plans : goal.returns-clause-plans
+returns-clause-plans g c = (
+  c.in_ok-main.main,
+  c.in_ok-plans.ensures,
+  record {
+    named = c.in_ok-main.ensures.named;
+    lowered = subst (IsLowered (program_of c.args.program.now)) (sym c.in_ok-main.ensures.code) c.in_ok-code.ensures.lowered;
+    typed = subst (IsTypedCode (program_of c.args.program.now)) (sym c.in_ok-main.ensures.code) c.in_ok-code.ensures.typed;
+    planned = c.in_ok-main.ensures.planned;
+    runs = c.in_ok-written.ensures.runs;
+  },
+)

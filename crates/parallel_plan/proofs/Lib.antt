@@ -1,0 +1,3 @@
+mod Agree
+mod Lists
+mod Parts

@@ -1,0 +1,10 @@
+//! Plans of the codes of threads, made side by side. They are the same for each number of jobs.
+#![tactic(auto)]
+
+pub mod law;
+mod plans;
+mod shares;
+#[cfg(test)]
+mod tests;
+
+pub use plans::plan_all;

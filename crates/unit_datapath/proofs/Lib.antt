@@ -1,0 +1,12 @@
+pub mod Answering
+pub mod Wording
+pub mod Working
+pub mod Inputting
+pub mod Kinding
+pub mod Linking
+pub mod Resulting
+pub mod Counting
+pub mod Valuing
+pub mod Laying
+pub mod Counted
+pub mod Uniting

@@ -1,0 +1,20 @@
+use Rattle.block_datapath.specs.Chains.{SetsNext}
+use Rattle.block_datapath.specs.Wired.{IsLinked}
+use Rattle.unit_datapath.specs.declared.inputs.UnitInputs.{UnitInputs}
+use Rattle.unit_datapath.specs.Inputs.{LinksUnit}
+use Rattle.unit_datapath.proofs.Answering.{on_two}
+use Rattle.unit_datapath.proofs.Inputting.{unit_linked}
+use Rattle.unit_datapath.proofs.inputs.link_unit.Goals as goal
+
+pub returns : goal.returns
+returns c =
+    let after : UnitInputs = record { lefts = c.set_next.new.nexts; rights = c.set_next-2.new.nexts } in
+    on_two c.set_next-2.result
+    (SetsNext c.set_next.new.wires.signals c.set_next-2.new.wires.signals c.args.inputs.now.rights c.set_next-2.new.nexts c.args.unit c.args.here c.args.right)
+    (IsLinked c.set_next.new.wires.signals c.set_next-2.new.wires.signals c.args.unit c.args.width c.args.here c.args.right c.args.inputs.now.rights c.set_next-2.new.nexts)
+    (LinksUnit c.args.wires.now.signals c.set_next-2.new.wires.signals c.args.inputs.now after c.args.unit c.args.width c.args.here c.args.left c.args.right)
+    (λ t u.
+    unit_linked c.args.wires.now.signals c.set_next.new.wires.signals c.set_next-2.new.wires.signals c.args.inputs.now after c.args.unit c.args.width c.args.here c.args.left
+    c.args.right
+    c.in_ok-set_next.ensures.shows c.in_ok-set_next.ensures.wired t u)
+    c.set_next-2.ensures.shows c.set_next-2.ensures.wired

@@ -1,0 +1,58 @@
+use Rattle.std.proofs.Common.{◌∙◌, refl, sym, ap}
+use Rattle.block_datapath.proofs.Chaining.{on_ok}
+use Rattle.unit_datapath.specs.Kinds.{is_work}
+use Rattle.unit_datapath.specs.Links.{LinksOperands, LinksOperation}
+use Rattle.unit_datapath.proofs.Linking.{operation_linked, nothing_linked}
+use Rattle.unit_datapath.proofs.links.link_operation.Goals as goal
+
+pub returns-then-is_of : goal.returns-then-is_of
+returns-then-is_of c =
+    on_ok c.link_operands.result
+    (LinksOperands c.args.code.now c.args.registers.now c.args.plan.now c.args.kind.now.ty c.args.number c.args.end c.further_states-further.result c.in-Binary.left
+    c.in-Binary.right
+    c.args.wires.now.signals c.link_operands.new.wires.signals c.args.inputs.now c.link_operands.new.inputs)
+    (LinksOperation c.args.code.now c.args.registers.now c.args.kind.now c.args.plan.now c.args.end c.args.number c.args.operation.now c.args.wires.now.signals
+    c.link_operands.new.wires.signals
+    c.args.inputs.now c.link_operands.new.inputs)
+    (λ t.
+    operation_linked c.args.code.now c.args.registers.now c.args.kind.now c.args.plan.now c.args.end c.args.number c.args.operation.now c.in-Binary.operator c.in-Binary.ty
+    c.in-Binary.left
+    c.in-Binary.right c.further_states-further.result c.args.wires.now.signals c.link_operands.new.wires.signals c.args.inputs.now c.link_operands.new.inputs c.in-Binary.is
+    c.further_states-further.ensures.value (sym c.is_of.ensures ∙ c.if-is_of.true) t)
+    c.link_operands.ensures
+
+pub returns-else-is_of : goal.returns-else-is_of
+returns-else-is_of c =
+    nothing_linked c.args.code.now c.args.registers.now c.args.kind.now c.args.plan.now c.args.end c.args.number c.args.operation.now c.args.wires.now.signals c.args.inputs.now
+    c.args.inputs.now refl
+    (ap (is_work c.args.kind.now) c.in-Binary.is ∙ sym c.is_of.ensures ∙ c.if-is_of.false)
+
+pub returns-in-Unary : goal.returns-in-Unary
+returns-in-Unary c =
+    nothing_linked c.args.code.now c.args.registers.now c.args.kind.now c.args.plan.now c.args.end c.args.number c.args.operation.now c.args.wires.now.signals c.args.inputs.now
+    c.args.inputs.now refl
+    (ap (is_work c.args.kind.now) c.in-Unary.is)
+
+pub returns-in-ReadGlobal : goal.returns-in-ReadGlobal
+returns-in-ReadGlobal c =
+    nothing_linked c.args.code.now c.args.registers.now c.args.kind.now c.args.plan.now c.args.end c.args.number c.args.operation.now c.args.wires.now.signals c.args.inputs.now
+    c.args.inputs.now refl
+    (ap (is_work c.args.kind.now) c.in-ReadGlobal.is)
+
+pub returns-in-WriteGlobal : goal.returns-in-WriteGlobal
+returns-in-WriteGlobal c =
+    nothing_linked c.args.code.now c.args.registers.now c.args.kind.now c.args.plan.now c.args.end c.args.number c.args.operation.now c.args.wires.now.signals c.args.inputs.now
+    c.args.inputs.now refl
+    (ap (is_work c.args.kind.now) c.in-WriteGlobal.is)
+
+pub returns-in-ReadArray : goal.returns-in-ReadArray
+returns-in-ReadArray c =
+    nothing_linked c.args.code.now c.args.registers.now c.args.kind.now c.args.plan.now c.args.end c.args.number c.args.operation.now c.args.wires.now.signals c.args.inputs.now
+    c.args.inputs.now refl
+    (ap (is_work c.args.kind.now) c.in-ReadArray.is)
+
+pub returns-in-WriteArray : goal.returns-in-WriteArray
+returns-in-WriteArray c =
+    nothing_linked c.args.code.now c.args.registers.now c.args.kind.now c.args.plan.now c.args.end c.args.number c.args.operation.now c.args.wires.now.signals c.args.inputs.now
+    c.args.inputs.now refl
+    (ap (is_work c.args.kind.now) c.in-WriteArray.is)

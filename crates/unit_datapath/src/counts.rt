@@ -1,0 +1,124 @@
+// How many units there are for an operator.
+
+ghost use Rattle.std.specs.Prelude.{◌≡◌, ◌≤◌, ◌⊎◌, ◌&&◌, length, slice_get, Some};
+ghost use Rattle.block_ir.specs.declared.code.Stage.TheVariants as taken;
+ghost use Rattle.block_datapath.specs.Units.{same_operator, same_type, unit_type};
+ghost use Rattle.unit_datapath.specs.Counts.{IsCountOf, OperationHas, BlockHas, StageHas, CodeHas};
+
+use crate::kinds::{is_type, same_operator};
+use block_datapath::operations::unit_of;
+use block_ir::block::{Block, Operation};
+use block_ir::code::{Stage, ThreadCode};
+use block_ir::plan::{BlockPlan, Planned, StagePlan};
+use c_program::tree::BinaryOperator;
+use hls_ints::CType;
+
+/// One more than the greatest number of a unit that an operation has which makes this operator in the type of its units,
+/// or 0 if there is none.
+pub fn unit_count(
+    code: &ThreadCode,
+    planned: &Planned,
+    operator: BinaryOperator,
+    ty: CType,
+) -> usize
+    ensures { IsCountOf (CodeHas operator ty code.now planned.now (length code.now.stages)) result }
+{
+    let mut count = 0;
+    for (number, stage) in code.stages.as_slice().iter().enumerate() {
+        let own = stage_count(planned, operator, ty, number, stage);
+        count = greater(count, own);
+    }
+    count
+}
+
+/// The greater of two numbers.
+pub fn greater(left: usize, right: usize) -> usize
+    ensures left { left ≤ result }
+    ensures right { right ≤ result }
+    ensures one { (result ≡ left) ⊎ (result ≡ right) }
+{
+    if left < right { right } else { left }
+}
+
+fn stage_count(
+    planned: &Planned,
+    operator: BinaryOperator,
+    ty: CType,
+    number: usize,
+    stage: &Stage,
+) -> usize
+    ensures { IsCountOf (StageHas operator ty stage.now (slice_get planned.now.stages number)) result }
+{
+    match stage {
+        Stage::Run(block) => match planned.stages.get(number) {
+            Some(plan) => plan_count(operator, ty, block, plan),
+            None => 0,
+        },
+        Stage::Act { .. } => 0,
+    }
+}
+
+fn plan_count(operator: BinaryOperator, ty: CType, block: &Block, plan: &StagePlan) -> usize
+    ensures { IsCountOf (StageHas operator ty (taken.Run block.now) (Some plan.now)) result }
+{
+    match plan {
+        StagePlan::Run(plan) => block_count(operator, ty, block, plan),
+        StagePlan::Act => 0,
+    }
+}
+
+fn block_count(operator: BinaryOperator, ty: CType, block: &Block, plan: &BlockPlan) -> usize
+    ensures { IsCountOf (BlockHas operator ty block.now plan.now (length block.now.operations)) result }
+{
+    let mut count = 0;
+    for (number, operation) in block.operations.as_slice().iter().enumerate() {
+        let own = operation_count(operator, ty, plan, number, operation);
+        count = greater(count, own);
+    }
+    count
+}
+
+fn operation_count(
+    operator: BinaryOperator,
+    ty: CType,
+    plan: &BlockPlan,
+    number: usize,
+    operation: &Operation,
+) -> usize
+    ensures { IsCountOf (OperationHas operator ty plan.now number operation.now) result }
+{
+    match operation {
+        Operation::Binary {
+            operator: own,
+            ty: own_type,
+            ..
+        } => {
+            if is_made(operator, ty, *own, *own_type) {
+                unit_of(plan, number) as usize + 1
+            } else {
+                0
+            }
+        }
+        Operation::Unary { .. } => 0,
+        Operation::ReadGlobal { .. } => 0,
+        Operation::WriteGlobal { .. } => 0,
+        Operation::ReadArray { .. } => 0,
+        Operation::WriteArray { .. } => 0,
+    }
+}
+
+/// Whether units of an operator and a type make what another operator gives in a type.
+fn is_made(operator: BinaryOperator, unit: CType, own: BinaryOperator, ty: CType) -> bool
+    ensures { result ≡ (same_operator operator own && same_type unit (unit_type own ty)) }
+{
+    same_operator(operator, own) && is_unit_type(unit, own, ty)
+}
+
+fn is_unit_type(unit: CType, own: BinaryOperator, ty: CType) -> bool
+    ensures { result ≡ same_type unit (unit_type own ty) }
+{
+    match own {
+        BinaryOperator::Multiply => is_type(unit, ty.bits(), false),
+        _ => is_type(unit, ty.bits(), ty.is_signed()),
+    }
+}

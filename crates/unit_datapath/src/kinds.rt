@@ -1,0 +1,62 @@
+// Kinds of functional units.
+
+ghost use Rattle.std.specs.Prelude.{◌≡◌, ◌&&◌, nat_eq};
+ghost use Rattle.std.specs.Bool.{beq};
+ghost use Rattle.hls_ints.specs.Types.{width_of};
+ghost use Rattle.block_datapath.specs.Units.{same_operator};
+ghost use Rattle.unit_datapath.specs.Kinds.{is_of, is_work};
+
+use block_ir::block::Operation;
+use c_program::tree::BinaryOperator;
+use hls_ints::CType;
+
+/// A kind of units: multipliers or dividers that work in a type, multipliers in an unsigned one.
+#[derive(Clone, Copy)]
+pub struct UnitKind {
+    pub divides: bool,
+    pub ty: CType,
+}
+
+/// Whether an operator that works in a type is of the kind: products of both signs are made in the unsigned type.
+pub fn is_of(kind: &UnitKind, operator: BinaryOperator, ty: CType) -> bool
+    ensures { result ≡ is_of kind.now operator ty }
+{
+    match operator {
+        BinaryOperator::Multiply => !kind.divides && is_type(kind.ty, ty.bits(), false),
+        BinaryOperator::Divide => kind.divides && is_type(kind.ty, ty.bits(), ty.is_signed()),
+        BinaryOperator::Remainder => kind.divides && is_type(kind.ty, ty.bits(), ty.is_signed()),
+        _ => false,
+    }
+}
+
+pub fn is_type(ty: CType, width: u32, signed: bool) -> bool
+    ensures { result ≡ (nat_eq (width_of ty) width && beq ty.signed signed) }
+{
+    ty.bits() == width && ty.is_signed() == signed
+}
+
+/// Whether an operation is of the kind.
+pub fn is_work(kind: &UnitKind, operation: &Operation) -> bool
+    ensures { result ≡ is_work kind.now operation.now }
+{
+    match operation {
+        Operation::Binary { operator, ty, .. } => is_of(kind, *operator, *ty),
+        Operation::Unary { .. } => false,
+        Operation::ReadGlobal { .. } => false,
+        Operation::WriteGlobal { .. } => false,
+        Operation::ReadArray { .. } => false,
+        Operation::WriteArray { .. } => false,
+    }
+}
+
+/// Whether the operators are the same, and one that has units.
+pub fn same_operator(left: BinaryOperator, right: BinaryOperator) -> bool
+    ensures { result ≡ same_operator left right }
+{
+    match (left, right) {
+        (BinaryOperator::Multiply, BinaryOperator::Multiply) => true,
+        (BinaryOperator::Divide, BinaryOperator::Divide) => true,
+        (BinaryOperator::Remainder, BinaryOperator::Remainder) => true,
+        _ => false,
+    }
+}

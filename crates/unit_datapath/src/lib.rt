@@ -1,0 +1,25 @@
+//! The functional units of a thread: multipliers and dividers that the operations of all its blocks share.
+#![tactic(auto)]
+
+// Products, quotients and remainders have units, and each kind of them, as multipliers of 32 bits or dividers of 64 bits
+// with a sign, its own. The plan of a block gives each operation the number of its unit. No two operations of one kind
+// and number are at work in one state, and their operands stand in registers while they work. So a unit is one operator
+// behind two multiplexers: chains of conditionals with a link for each operation, under "this stage, and a state in which
+// the operation works". Its result is right in each of these states.
+//
+// - kinds: which operations are of a kind;
+// - counts: how many units of a kind there are, for an operator;
+// - words: operands as registers hold them;
+// - states: whether an operation is at work;
+// - inputs: the chains of the units of a kind;
+// - links: a link for each operation, block by block;
+// - results, units: the operators, and all kinds.
+
+mod counts;
+mod inputs;
+mod kinds;
+mod links;
+mod results;
+mod states;
+pub mod units;
+mod words;
