@@ -25,9 +25,9 @@ use Rattle.accepted_program.proofs.Statements.{IsStatement, IsItem, IsBlock, IsS
 use Rattle.accepted_program.proofs.Statements.{empty_is, simple_is, break_is, continue_is, return_is, block_statement_is, if_is, while_is, do_is, for_is}
 use Rattle.c_program.specs.Tree.{Statement as Step}
 use Rattle.c_rules.specs.Walks as walk
-use Rattle.c_types.specs.Simple as simply
-use Rattle.c_types.specs.States.{finding}
-use Rattle.c_types.specs.Statements as y
+use Rattle.c_resolution.specs.Simple as simply
+use Rattle.c_resolution.specs.States.{finding}
+use Rattle.c_resolution.specs.Statements as y
 
 module _ (cast expr : Phrase Expression) (of_cast : Good IsExpression cast) (of_expr : Good IsExpression expr) where
   -- ---- statements with no statement in them

@@ -24,9 +24,9 @@ use Rattle.c_tree.specs.Statements as h
 use Rattle.c_tree.specs.Declarations as d
 use Rattle.c_program.specs.Resolved.{IsName}
 use Rattle.c_rules.specs.Walks.{Outcome, and_then}
-use Rattle.c_types.specs.Files.{File}
-use Rattle.c_types.specs.Texts.{declaration}
-use Rattle.c_types.specs.Resolving.{after}
+use Rattle.c_resolution.specs.Files.{File}
+use Rattle.c_resolution.specs.Texts.{declaration}
+use Rattle.c_resolution.specs.Resolving.{after}
 use Rattle.resolved_program.specs.Leaves.{AreValid, IsValidLeaf, HasValidLeaves, of_any, expression_leaves, block_leaves, initializer_leaves, global_leaves, external_leaves}
 use Rattle.accepted_program.proofs.Lists.{all_both}
 use Rattle.accepted_program.proofs.Rules.{Gives, gives_as, gives_pure, gives_one, gives_then, gives_either, gives_nested, gives_many, gives_each, gives_optional}

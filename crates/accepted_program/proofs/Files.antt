@@ -4,9 +4,9 @@ use Rattle.std.specs.Prelude.{◌+◌, fold}
 use Rattle.std.specs.List.{AllByRecursion}
 use Rattle.c_program.specs.Tree.{Function}
 use Rattle.c_rules.specs.Walks.{Outcome, pure, and_then, ◌>>=◌}
-use Rattle.c_types.specs.States.{State, Goes, state}
-use Rattle.c_types.specs.Files.{File, Tables, Declares, in_file, going, tabling, with_function}
-use Rattle.c_types.specs.Resolving.{after}
+use Rattle.c_resolution.specs.States.{State, Goes, state}
+use Rattle.c_resolution.specs.Files.{File, Tables, Declares, in_file, going, tabling, with_function}
+use Rattle.c_resolution.specs.Resolving.{after}
 use Rattle.accepted_program.proofs.Growing.{Grows, locals_behind}
 use Rattle.accepted_program.proofs.Lists.{all_both}
 

@@ -8,10 +8,10 @@ use Rattle.c_program.specs.Tree.{Statement}
 use Rattle.c_rules.specs.declared.names.Header.{Header}
 use Rattle.c_rules.specs.Names.{closed}
 use Rattle.c_rules.specs.Walks.{place_in_tree, ◌>>=◌}
-use Rattle.c_types.specs.States.{scoping}
-use Rattle.c_types.specs.Files.{going}
-use Rattle.c_types.specs.Functions as y
-use Rattle.c_types.specs.Statements.{items}
+use Rattle.c_resolution.specs.States.{scoping}
+use Rattle.c_resolution.specs.Files.{going}
+use Rattle.c_resolution.specs.Functions as y
+use Rattle.c_resolution.specs.Statements.{items}
 use Rattle.accepted_program.proofs.Growing.{Grows, grows_scoping, closed_same}
 use Rattle.accepted_program.proofs.Parameters.{head_grows}
 use Rattle.accepted_program.proofs.Files.{Does, small_more, does_then, does_going, does_quiet, with_function_tabled}

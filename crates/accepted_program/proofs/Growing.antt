@@ -15,9 +15,9 @@ use Rattle.c_rules.specs.declared.specifiers.Spelled.{Spelled}
 use Rattle.c_rules.specs.Names.{Names, is_taken, declaring, opened, closed, closed_to}
 use Rattle.c_rules.specs.Specifiers.{c_type, plain, spelled_by}
 use Rattle.c_rules.specs.Walks.{Outcome, Finds, pure, and_then, through, finds, ◌>>=◌, ◌>>◌}
-use Rattle.c_types.specs.States.{State, Goes, in_scope, finding, scoping}
-use Rattle.c_types.specs.Locals as y
-use Rattle.c_types.specs.Resolving.{after}
+use Rattle.c_resolution.specs.States.{State, Goes, in_scope, finding, scoping}
+use Rattle.c_resolution.specs.Locals as y
+use Rattle.c_resolution.specs.Resolving.{after}
 
 -- how many locals there are behind a part
 abbrev pub locals_behind : {A : Type 0} → Outcome State A → ℕ

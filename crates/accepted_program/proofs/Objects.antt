@@ -13,10 +13,10 @@ use Rattle.c_rules.specs.declared.names.Variable.{Variable}
 use Rattle.c_rules.specs.declared.specifiers.Spelled.{Spelled}
 use Rattle.c_rules.specs.Specifiers.{spelled_by}
 use Rattle.c_rules.specs.Walks.{Outcome, pure, through, finds, ◌>>=◌}
-use Rattle.c_types.specs.States.{finding}
-use Rattle.c_types.specs.Files.{Tables, Declares, going, tabling}
-use Rattle.c_types.specs.Locals.{optional_length, declare}
-use Rattle.c_types.specs.Globals as y
+use Rattle.c_resolution.specs.States.{finding}
+use Rattle.c_resolution.specs.Files.{Tables, Declares, going, tabling}
+use Rattle.c_resolution.specs.Locals.{optional_length, declare}
+use Rattle.c_resolution.specs.Globals as y
 use Rattle.accepted_program.proofs.Growing.{Grows, grows_finding, declare_grows}
 use Rattle.accepted_program.proofs.Parts.{in_turn}
 use Rattle.accepted_program.proofs.Files.{IsTabled, tabled_more, Does, small_more, does_then, does_pure, does_quiet, does_tabling, does_each, one_longer}

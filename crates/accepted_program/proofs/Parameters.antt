@@ -16,9 +16,9 @@ use Rattle.c_rules.specs.Library.{function_named}
 use Rattle.c_rules.specs.Names.{is_start_routine, opened}
 use Rattle.c_rules.specs.Specifiers.{plain, spelled_by}
 use Rattle.c_rules.specs.Walks.{pure, finds, finds_if, ◌>>=◌, ◌>>◌}
-use Rattle.c_types.specs.States.{State, Goes, finding, scoping}
-use Rattle.c_types.specs.Locals.{new_local, refused_local, declare}
-use Rattle.c_types.specs.Functions as y
+use Rattle.c_resolution.specs.States.{State, Goes, finding, scoping}
+use Rattle.c_resolution.specs.Locals.{new_local, refused_local, declare}
+use Rattle.c_resolution.specs.Functions as y
 use Rattle.accepted_program.proofs.Growing.{Grows, grows_more, grows_pure, grows_finding, grows_scoping, grows_through, new_local_grows, declare_grows, opened_same, locals_behind}
 use Rattle.accepted_program.proofs.Parts.{in_turn}
 

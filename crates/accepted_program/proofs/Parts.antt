@@ -9,10 +9,10 @@ use Rattle.c_program.specs.Tree.{Condition, Statement}
 use Rattle.c_rules.specs.Names.{opened, closed}
 use Rattle.c_rules.specs.Walks.{pure, ◌>>=◌, ◌>>◌}
 use Rattle.c_expressions.specs.Expressions.{condition}
-use Rattle.c_types.specs.Simple.{check_jump}
-use Rattle.c_types.specs.Locals.{declaration}
-use Rattle.c_types.specs.States.{Goes, finding, scoping}
-use Rattle.c_types.specs.Statements as y
+use Rattle.c_resolution.specs.Simple.{check_jump}
+use Rattle.c_resolution.specs.Locals.{declaration}
+use Rattle.c_resolution.specs.States.{Goes, finding, scoping}
+use Rattle.c_resolution.specs.Statements as y
 use Rattle.accepted_program.proofs.Growing.{Grows, grows_more, grows_then, grows_pure, grows_finding, grows_scoping, opened_same, closed_same, declaration_grows}
 
 pub in_turn : {A B : Type 0} (k m n : ℕ) (p : Goes A) (q : A → Goes B) → m + n ≤ k → Grows m p → ((a : A) → Grows n (q a)) → Grows k (p >>= q)

@@ -13,10 +13,10 @@ use Rattle.c_program.specs.Tree.{Function, Program}
 use Rattle.c_rules.specs.declared.fault.Fault.{Fault}
 use Rattle.c_rules.specs.declared.findings.Creation.{Creation}
 use Rattle.c_rules.specs.Walks.{Outcome}
-use Rattle.c_types.specs.Files.{File}
-use Rattle.c_types.specs.Texts.{declarations}
-use Rattle.c_types.specs.Routines as y
-use Rattle.c_types.specs.Resolving.{Spells, before, behind, program_at}
+use Rattle.c_resolution.specs.Files.{File}
+use Rattle.c_resolution.specs.Texts.{declarations}
+use Rattle.c_resolution.specs.Routines as y
+use Rattle.c_resolution.specs.Resolving.{Spells, before, behind, program_at}
 use Rattle.resolved_program.specs.Leaves.{HasValidLeaves}
 use Rattle.resolved_program.specs.Laws.{IsNumbered}
 use Rattle.accepted_program.proofs.Rules.{AreValid}

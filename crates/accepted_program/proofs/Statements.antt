@@ -18,11 +18,11 @@ use Rattle.c_tree.specs.declared.statement.BlockItem.TheFolds.{map-Statement, fo
 use Rattle.c_tree.specs.Trees as tree
 use Rattle.c_program.specs.Tree.{Statement}
 use Rattle.c_rules.specs.Walks.{Outcome, and_then, pure as nothing}
-use Rattle.c_types.specs.Simple.{simple, returned}
-use Rattle.c_types.specs.Locals.{declaration}
-use Rattle.c_types.specs.States.{State, Goes, finding}
-use Rattle.c_types.specs.Statements as y
-use Rattle.c_types.specs.Statements.{Adds, item_step, statement_step, block_step, item, statement, items}
+use Rattle.c_resolution.specs.Simple.{simple, returned}
+use Rattle.c_resolution.specs.Locals.{declaration}
+use Rattle.c_resolution.specs.States.{State, Goes, finding}
+use Rattle.c_resolution.specs.Statements as y
+use Rattle.c_resolution.specs.Statements.{Adds, item_step, statement_step, block_step, item, statement, items}
 use Rattle.resolved_program.specs.Leaves.{Leaves, AreValid, IsValidLeaf, of_any, expression_leaves, simple_leaves, start_leaves, item_layer, statement_layer, block_layer, block_leaves}
 use Rattle.accepted_program.proofs.Lists.{all_both}
 use Rattle.accepted_program.proofs.Trees.{IsExpression, IfAny, all_parts}

@@ -11,7 +11,7 @@ use Rattle.c_rules.specs.declared.names.Header.{Header}
 use Rattle.c_rules.specs.declared.names.Scope.{Scope}
 use Rattle.c_rules.specs.Library.{takes}
 use Rattle.c_rules.specs.Names.{is_void_type, is_start_routine, gives_pointer, look_up}
-use Rattle.c_rules.specs.Walks.{Finds, pure, finds, finds_if, calls, starts, ◌>>=◌, ◌>>◌}
+use Rattle.c_rules.specs.Walks.{Finds, pure, finds, finds_if, calls, ◌>>=◌, ◌>>◌}
 
 -- a function that is declared with the header, called with so many arguments, as a value or not
 unfoldable pub header_rules : Header → ℕ → Bool → ℕ → Finds (Unit {0})
@@ -40,8 +40,6 @@ function_name s number count is_value at = header_call s count is_value at (slic
 
 -- where a function of the library may be called
 unfoldable pub library_place : Scope → LibraryFunction → ℕ → Finds (Unit {0})
-library_place s library.Create at = starts s.function at
-library_place s library.Join at = starts s.function at
 library_place s library.Exit at = finds_if (is_none s.function || not (gives_pointer s.gives)) rule.Threads at
 library_place s function at = pure tt
 

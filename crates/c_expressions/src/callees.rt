@@ -70,25 +70,15 @@ pub fn function_name(
 
 /// The rules on where a function of the library is called.
 #[tactic(auto, unfolding(crate::specs::Callees::library_place))]
-fn check_place(
-    scope: &Scope<'_>,
-    found: &mut Findings,
-    function: LibraryFunction,
-    offset: usize,
-) -> Result<(), AllocError>
-    ensures { Walks (λ x. x) (spec.library_place scope.now function offset found.old) result found.new }
+fn check_place(scope: &Scope<'_>, found: &mut Findings, function: LibraryFunction, offset: usize)
+    ensures { spec.library_place scope.now function offset found.old ≡ Outcome.Gives tt found.new }
 {
-    match function {
-        LibraryFunction::Create | LibraryFunction::Join => found.add_thread(scope.function, offset),
-        LibraryFunction::Exit => {
-            found.add_if(
-                scope.function.is_none() || !scope.gives.is_pointer(),
-                Rule::Threads,
-                offset,
-            );
-            Ok(())
-        }
-        _ => Ok(()),
+    if matches!(function, LibraryFunction::Exit) {
+        found.add_if(
+            scope.function.is_none() || !scope.gives.is_pointer(),
+            Rule::Threads,
+            offset,
+        );
     }
 }
 
@@ -100,11 +90,11 @@ pub fn library_name(
     function: LibraryFunction,
     count: usize,
     offset: usize,
-) -> Result<(), AllocError>
-    ensures { Walks (λ x. x) (spec.library_name scope.now function count offset found.old) result found.new }
+)
+    ensures { spec.library_name scope.now function count offset found.old ≡ Outcome.Gives tt found.new }
 {
     found.add_if(!function.takes(count), Rule::Arguments, offset);
-    check_place(scope, found, function, offset)
+    check_place(scope, found, function, offset);
 }
 
 /// The rules on a name, by what it stands for, that is called where no call may stand.
@@ -119,7 +109,10 @@ fn misplaced_name(
     ensures { Walks (λ x. x) (spec.misplaced_name scope.now known count offset found.old) result found.new }
 {
     match known {
-        Known::Library(function) => library_name(scope, found, function, count, offset),
+        Known::Library(function) => {
+            library_name(scope, found, function, count, offset);
+            Ok(())
+        }
         Known::Declared(Meaning::Function(number)) => {
             function_name(scope, found, number, count, true, offset)?;
             Ok(())

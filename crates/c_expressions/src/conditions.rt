@@ -86,7 +86,7 @@ fn operand(
 ) -> Result<resolved::Condition, AllocError>
     ensures { Walks condition_of (spec.operand scope.now e.now found.old) result found.new }
 {
-    let value = expression(alloc, scope, found, e)?;
+    let value = Box::new(alloc, expression(alloc, scope, found, e)?)?;
     Ok(resolved::Condition::Operand(place(e.offset), value))
 }
 

@@ -1,9 +1,7 @@
-//! Expressions, places, conditions and calls of a text as those of its program, and the rules that they break.
+//! Expressions, places, conditions and called names of a text as those of its program, and the rules that they break.
 #![tactic(auto)]
 
-pub mod arguments;
 pub mod callees;
-pub mod calls;
 pub mod conditions;
 pub mod expressions;
 pub mod targets;

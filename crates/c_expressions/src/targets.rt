@@ -1,6 +1,6 @@
 // What is assigned to (C99 6.5.16).
 
-ghost use Rattle.std.specs.Prelude.{◌≡◌, option_map};
+ghost use Rattle.std.specs.Prelude.{◌≡◌, box_value, option_map, IfOk};
 ghost use Rattle.c_program.specs.Plain.{expression_of, place_of};
 ghost use Rattle.c_rules.specs.Walks.{Walks};
 ghost use Rattle.c_expressions.specs.Expressions as spec_value;
@@ -38,25 +38,47 @@ fn target_fault(known: Known, has_index: bool) -> Option<Rule>
     }
 }
 
-fn variable_place(variable: Variable, index: Option<resolved::Expression>) -> resolved::Place
-    ensures { place_of result ≡ spec.variable_place variable variable.length (option_map expression_of index) }
+fn variable_place(
+    alloc: Global,
+    variable: Variable,
+    index: Option<resolved::Expression>,
+) -> Result<Box<resolved::Place>, AllocError>
+    ensures { IfOk result (λ p. place_of (box_value p) ≡ spec.variable_place variable variable.length (option_map expression_of index)) }
 {
     let ty = variable.ty.c_type();
     match (variable.length, index) {
         (Some(length), Some(index)) => {
-            resolved::Place::Element(variable.storage, variable.number, length, ty, index)
+            let index = Box::new(alloc, index)?;
+            let place = resolved::Place::Element(
+                variable.storage,
+                variable.number,
+                length,
+                ty,
+                index,
+            );
+            Ok(Box::new(alloc, place)?)
         }
-        _ => resolved::Place::Scalar(variable.storage, variable.number, ty),
+        _ => Ok(Box::new(
+            alloc,
+            resolved::Place::Scalar(variable.storage, variable.number, ty),
+        )?),
     }
 }
 
 /// What a name stands for, as a place that is assigned to.
-fn named_place(known: Known, index: Option<resolved::Expression>) -> resolved::Place
-    ensures { place_of result ≡ spec.named_place (spec_value.variable_of known) (option_map expression_of index) }
+fn named_place(
+    alloc: Global,
+    known: Known,
+    index: Option<resolved::Expression>,
+) -> Result<Box<resolved::Place>, AllocError>
+    ensures { IfOk result (λ p. place_of (box_value p) ≡ spec.named_place (spec_value.variable_of known) (option_map expression_of index)) }
 {
     match variable_of(known) {
-        Some(variable) => variable_place(variable, index),
-        None => resolved::Place::Scalar(resolved::Storage::Automatic, 0, CType::INT),
+        Some(variable) => variable_place(alloc, variable, index),
+        None => {
+            let nothing = resolved::Place::Scalar(resolved::Storage::Automatic, 0, CType::INT);
+            Ok(Box::new(alloc, nothing)?)
+        }
     }
 }
 
@@ -67,11 +89,11 @@ pub fn target(
     scope: &Scope<'_>,
     found: &mut Findings,
     place: &Place,
-) -> Result<resolved::Place, AllocError>
-    ensures { Walks place_of (spec.target scope.now place.now found.old) result found.new }
+) -> Result<Box<resolved::Place>, AllocError>
+    ensures { Walks (λ p. place_of (box_value p)) (spec.target scope.now place.now found.old) result found.new }
 {
     let index = index(alloc, scope, found, place)?;
     let known = scope.look_up(place.name.bytes.as_slice());
     found.add_any(target_fault(known, index.is_some()), place.name.offset);
-    Ok(named_place(known, index))
+    named_place(alloc, known, index)
 }

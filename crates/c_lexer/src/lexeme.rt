@@ -7,7 +7,7 @@ ghost use Rattle.c_lexer.specs.Finding as finding;
 use c_token::{Constant, Punctuator};
 
 /// What a lexeme is, by its first byte, or by two where it begins with a slash.
-#[derive(Clone, Copy, Debug, PartialEq, Eq)]
+#[derive(Clone, Copy, PartialEq, Eq)]
 pub enum Class {
     /// A space, tab or carriage return.
     Blank,
@@ -32,7 +32,7 @@ pub enum Class {
 }
 
 /// Which bytes go on.
-#[derive(Clone, Copy, Debug, PartialEq, Eq)]
+#[derive(Clone, Copy, PartialEq, Eq)]
 pub enum Run {
     Word,
     Number,

@@ -13,7 +13,7 @@ use sqlite_items::Items;
 use std::alloc::{AllocError, Global};
 
 /// What a directive awaits next, besides blanks and comments.
-#[derive(Clone, Copy, Debug, PartialEq, Eq)]
+#[derive(Clone, Copy, PartialEq, Eq)]
 pub enum Awaits {
     /// `include` or `define`.
     Word,
@@ -28,7 +28,7 @@ pub enum Awaits {
 }
 
 /// Where a lexeme stands.
-#[derive(Clone, Copy, Debug, PartialEq, Eq)]
+#[derive(Clone, Copy, PartialEq, Eq)]
 pub enum Mode {
     /// In a line that has only blanks and comments so far: a directive may begin.
     LineStart,
@@ -39,7 +39,7 @@ pub enum Mode {
 }
 
 /// What a lexeme gives.
-#[derive(Debug, Drop)]
+#[derive(Drop)]
 pub enum Action {
     Nothing,
     Token(Kind),
@@ -50,7 +50,7 @@ pub enum Action {
 }
 
 /// What a lexeme gives, and where the next one stands.
-#[derive(Debug, Drop)]
+#[derive(Drop)]
 pub struct Effect {
     pub mode: Mode,
     pub action: Action,

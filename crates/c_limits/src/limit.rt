@@ -59,10 +59,9 @@ impl Limit {
     {
         match self {
             Limit::Tokens | Limit::GlobalElements | Limit::LocalElements => 16_384,
-            Limit::NameLength => 63,
+            Limit::NameLength | Limit::ThreadIds => 63,
             Limit::Nesting | Limit::MutexElements => 64,
             Limit::Functions => 128,
-            Limit::ThreadIds => 15,
             Limit::BarrierElements => 16,
             Limit::OneArray => 4_096,
             Limit::PrintSites => 256,

@@ -8,7 +8,7 @@ use Rattle.c_tree.specs.Declarations.{unit}
 use Rattle.c_parser.specs.declared.ParseError.{ParseError}
 use Rattle.c_parser.specs.declared.ParseError.TheVariants as error
 use Rattle.c_parser.specs.Parsed.{Parsed, Finds, AnswersOnly, offset_at}
-use Rattle.c_parser.proofs.Texts as t
+use Rattle.c_reading.proofs.Texts as t
 
 -- the clauses of `parse`
 pub record Answered (ts : List Token) (r : Result TranslationUnit ParseError) : Type 0 where

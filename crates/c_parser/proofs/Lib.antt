@@ -1,13 +1,1 @@
-pub mod Fewer
-pub mod Rooms
-pub mod Below
-pub mod TokenProofs
-pub mod LevelProofs
-pub mod Pairs
-pub mod ExprShapes
-pub mod ExprProofs
-pub mod PlainProofs
-pub mod StatementProofs
-pub mod DeclarationProofs
-pub mod Texts
 pub mod Answered

@@ -2,12 +2,7 @@
 //! nest too deep.
 #![tactic(auto)]
 
-mod cursor;
 mod declarations;
-mod expressions;
-mod plain;
-mod statements;
-mod tokens;
 
 ghost use Rattle.std.specs.Prelude.{◌≡◌, ◌≤◌, ◌+◌, ◌-◌, ℕ, length};
 ghost use Rattle.grammar.specs.Sentences.{SentenceWithin, FaultAt, TooDeepAt};
@@ -16,9 +11,10 @@ ghost use Rattle.c_tree.specs.Declarations.{unit};
 ghost use Rattle.c_parser.specs.Parsed as spec;
 ghost use Rattle.c_parser.specs.declared.ParseError.TheVariants.{Syntax, Nesting};
 
+use c_cursor::Cursor;
 use c_token::Token;
 use c_tree::TranslationUnit;
-use cursor::Cursor;
+use declarations::unit;
 use grammar::Fault;
 use std::alloc::Global;
 
@@ -88,7 +84,7 @@ pub fn parse(alloc: Global, tokens: &[Token]) -> Result<TranslationUnit, ParseEr
     ensures nesting { (k count : ℕ) → TooDeepAt unit 64 tokens.now k count → spec.AnswersOnly (Nesting k count (spec.offset_at tokens.now k)) result }
 {
     let mut cursor = Cursor { rest: tokens };
-    match cursor.unit(alloc, NESTING_LIMIT + 1) {
+    match unit(alloc, &mut cursor, NESTING_LIMIT + 1) {
         Ok(tree) => {
             let left = cursor.left();
             if left == 0 {

@@ -4,7 +4,7 @@ use Rattle.std.specs.Prelude.{Result, Ok, Err, IfOk}
 use Rattle.c_token.specs.Spelling.{Bytes}
 use Rattle.c_tree.specs.declared.declaration.TranslationUnit.{TranslationUnit}
 use Rattle.c_program.specs.Tree.{Program}
-use Rattle.c_types.specs.Resolving.{Spells}
+use Rattle.c_resolution.specs.Resolving.{Spells}
 use Rattle.c_profile.specs.Profile.{IsTreeOf, IsWithin, IsAccepted}
 
 pub accepted : (text : Bytes) (tree : TranslationUnit) (spelled P : Program) (w : ℕ) → IsTreeOf text tree → Spells tree spelled → P ≡ spelled → IsWithin P w → IsAccepted text P w

@@ -16,7 +16,7 @@ use Rattle.call_graph.proofs.Searching.{is_reach}
 use Rattle.grammar.specs.Readers.{Reading, Syntax, Deep}
 use Rattle.c_tree.specs.declared.declaration.TranslationUnit.{TranslationUnit}
 use Rattle.c_parser.specs.Parsed.{offset_at}
-use Rattle.c_parser.proofs.Texts as t
+use Rattle.c_reading.proofs.Texts as t
 use Rattle.c_program.specs.Tree.{Program, Function}
 use Rattle.c_program.specs.Weight.{weight}
 use Rattle.c_program.specs.Counting.{capped}
@@ -26,9 +26,9 @@ use Rattle.c_limits.specs.declared.limit.Passed.{Passed}
 use Rattle.c_rules.specs.declared.fault.Fault.{Fault}
 use Rattle.c_rules.specs.declared.findings.Findings.{Findings}
 use Rattle.c_rules.specs.Faults.{first}
-use Rattle.c_types.specs.CallRules.{IsCallFault, call_of, with_call, with_site}
-use Rattle.c_types.specs.Texts.{main_number}
-use Rattle.c_types.specs.Resolving.{IsFirstFault, Spells, behind, routines_given, program_at}
+use Rattle.c_resolution.specs.CallRules.{IsCallFault, call_of, with_call}
+use Rattle.c_resolution.specs.Texts.{main_number}
+use Rattle.c_resolution.specs.Resolving.{IsFirstFault, Spells, behind, routines_given, program_at}
 use Rattle.c_profile.specs.declared.refusal.Refusal.TheVariants as refusal
 use Rattle.c_profile.specs.Profile.{most_bytes, IsTreeOf}
 use Rattle.c_profile.specs.Laws.{HasAnswer}
@@ -86,7 +86,7 @@ first_fault tree =
     let functions : List Function = (behind tree.declarations).tables.functions in
     let found : Findings = (behind tree.declarations).found in
     let rows : List (List Bool) = all_marks (table (map call_of found.calls) (length functions)) (length functions) in
-    let calls : Option Fault = fold (with_site functions (leads rows)) (fold (with_call (leads rows)) found.fault found.calls) found.threads in
+    let calls : Option Fault = fold (with_call (leads rows)) found.fault found.calls in
     let is_calls : IsCallFault functions found calls = record { leads = leads rows; decides = is_reach (length functions) (map call_of found.calls); is = refl } in
     (first calls (routines_given (behind tree.declarations)).1, record { calls = calls; is_calls = is_calls; is = refl })
 

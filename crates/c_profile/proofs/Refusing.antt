@@ -7,7 +7,7 @@ use Rattle.c_program.specs.Tree.{Program}
 use Rattle.c_rules.specs.declared.fault.Fault.{Fault}
 use Rattle.c_rules.specs.declared.fault.ResolveError.{ResolveError}
 use Rattle.c_rules.specs.declared.fault.ResolveError.TheVariants as stop
-use Rattle.c_types.specs.Resolving.{IsFirstFault, LacksMain, Spells}
+use Rattle.c_resolution.specs.Resolving.{IsFirstFault, LacksMain, Spells}
 use Rattle.c_profile.specs.declared.text.ProfileError.TheVariants as error
 use Rattle.c_profile.specs.declared.refusal.Refusal.{Refusal}
 use Rattle.c_profile.specs.declared.refusal.Refusal.TheVariants as refusal

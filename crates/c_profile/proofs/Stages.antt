@@ -15,7 +15,7 @@ use Rattle.c_tree.specs.Declarations.{unit}
 use Rattle.c_parser.specs.declared.ParseError.{ParseError}
 use Rattle.c_parser.specs.declared.ParseError.TheVariants as parse
 use Rattle.c_parser.specs.Parsed.{offset_at}
-use Rattle.c_parser.proofs.Texts as t
+use Rattle.c_reading.proofs.Texts as t
 use Rattle.c_program.specs.Tree.{Program}
 use Rattle.c_program.specs.Weight.{weight}
 use Rattle.c_program.specs.Counting.{capped}
@@ -24,10 +24,10 @@ use Rattle.c_limits.specs.declared.limit.Limit.{Limit}
 use Rattle.c_limits.specs.declared.limit.Limit.TheVariants as limit
 use Rattle.c_limits.specs.declared.limit.Passed.{Passed}
 use Rattle.c_rules.specs.declared.fault.Fault.{Fault}
-use Rattle.c_types.specs.Files.{File}
-use Rattle.c_types.specs.Texts.{main_number}
-use Rattle.c_types.proofs.Once.{first_fault_once}
-use Rattle.c_types.specs.Resolving.{IsFirstFault, Spells, behind, routines_given, program_at}
+use Rattle.c_resolution.specs.Files.{File}
+use Rattle.c_resolution.specs.Texts.{main_number}
+use Rattle.c_resolution.proofs.Once.{first_fault_once}
+use Rattle.c_resolution.specs.Resolving.{IsFirstFault, Spells, behind, routines_given, program_at}
 use Rattle.c_profile.specs.declared.refusal.Refusal.{Refusal}
 use Rattle.c_profile.specs.declared.refusal.Refusal.TheVariants as refusal
 use Rattle.c_profile.specs.Profile.{most_bytes, IsTreeOf, IsAccepted, IsRefused, IsPassedAt, limit_of_text}

@@ -17,7 +17,7 @@ use Rattle.c_limits.specs.Counts.{first_passed}
 use Rattle.c_limits.specs.declared.limit.Limit.{Limit}
 use Rattle.c_limits.specs.declared.limit.Limit.TheVariants.{Tokens, NameLength, Nesting}
 use Rattle.c_limits.specs.declared.limit.Passed.{Passed}
-use Rattle.c_types.specs.Resolving.{IsFirstFault, Spells, LacksMain}
+use Rattle.c_resolution.specs.Resolving.{IsFirstFault, Spells, LacksMain}
 use Rattle.c_profile.specs.declared.refusal.Refusal.{Refusal}
 use Rattle.c_profile.specs.declared.refusal.Refusal.TheVariants as refusal
 

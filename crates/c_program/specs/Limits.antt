@@ -56,7 +56,7 @@ local_elements functions f = inlined own_elements functions (length functions) f
 -- no count is above its limit
 pub record IsWithinLimits (P : Program) : Type 0 where
   pub functions : length P.functions ≤ 128
-  pub threads : thread_ids P ≤ 15
+  pub threads : thread_ids P ≤ 63
   pub mutexes : mutex_elements P ≤ 64
   pub barriers : barrier_elements P ≤ 16
   pub arrays : longest_array P ≤ 4096

@@ -1,5 +1,5 @@
 -- What a program's tree, which has pointers, stands for.
-use Rattle.std.specs.Prelude.{List, map, Option, Some, None, string_bytes}
+use Rattle.std.specs.Prelude.{List, map, Option, Some, None, string_bytes, Box, box_value}
 use Rattle.c_program.specs.declared.tree.Expression.{Expression as ExpressionTree}
 use Rattle.c_program.specs.declared.tree.Expression.TheVariants as expression
 use Rattle.c_program.specs.declared.tree.Place.{Place as PlaceTree}
@@ -37,31 +37,31 @@ expressions_of list = map expression_of list
 abbrev pub place_of : PlaceTree → Place
 place_of (place.Scalar storage variable ty) = Place.Scalar storage variable ty
 place_of (place.Element storage variable length ty index) =
-    Place.Element storage variable length ty (expression_of index)
+    Place.Element storage variable length ty (expression_of (box_value index))
 
 abbrev pub condition_of : ConditionTree → Condition
-condition_of (condition.Operand offset operand) = Condition.Operand offset (expression_of operand)
+condition_of (condition.Operand offset operand) = Condition.Operand offset (expression_of (box_value operand))
 condition_of (condition.Both' p first q second) = Condition.Both (condition_of first) (condition_of second)
 condition_of (condition.Either' p first q second) = Condition.Either (condition_of first) (condition_of second)
 condition_of (condition.Opposite' p inner) = Condition.Opposite (condition_of inner)
 
 abbrev pub right_side_of : RightSideTree → RightSide
-right_side_of (right.Value value) = RightSide.Value (expression_of value)
+right_side_of (right.Value value) = RightSide.Value (expression_of (box_value value))
 right_side_of (right.Call function arguments) = RightSide.Call function (expressions_of arguments.items)
 
 abbrev pub object_place_of : ObjectPlaceTree → ObjectPlace
 object_place_of (object.Single number) = ObjectPlace.Single number
-object_place_of (object.Element number length index) = ObjectPlace.Element number length (expression_of index)
+object_place_of (object.Element number length index) = ObjectPlace.Element number length (expression_of (box_value index))
 
 abbrev pub thread_call_of : ThreadCallTree → ThreadCall
 thread_call_of (call.Create thread routine argument) =
-    ThreadCall.Create (object_place_of thread) routine (expression_of argument)
+    ThreadCall.Create (object_place_of thread) routine (expression_of (box_value argument))
 thread_call_of (call.Join thread) = ThreadCall.Join (object_place_of thread)
 thread_call_of (call.MutexInit mutex) = ThreadCall.MutexInit (object_place_of mutex)
 thread_call_of (call.MutexDestroy mutex) = ThreadCall.MutexDestroy (object_place_of mutex)
 thread_call_of (call.MutexLock mutex) = ThreadCall.MutexLock (object_place_of mutex)
 thread_call_of (call.MutexUnlock mutex) = ThreadCall.MutexUnlock (object_place_of mutex)
-thread_call_of (call.BarrierInit barrier count) = ThreadCall.BarrierInit (object_place_of barrier) (expression_of count)
+thread_call_of (call.BarrierInit barrier count) = ThreadCall.BarrierInit (object_place_of barrier) (expression_of (box_value count))
 thread_call_of (call.BarrierDestroy barrier) = ThreadCall.BarrierDestroy (object_place_of barrier)
 thread_call_of (call.BarrierWait barrier) = ThreadCall.BarrierWait (object_place_of barrier)
 
@@ -82,9 +82,9 @@ statement_of (statement.Sequence' p first q rest) = Statement.Sequence (statemen
 statement_of statement.Empty = Statement.Empty
 statement_of (statement.Block' p body) = Statement.Block (statement_of body)
 statement_of (statement.Declare offset local operators) = Statement.Declare offset local operators
-statement_of (statement.Assign offset place right) = Statement.Assign offset (place_of place) (right_side_of right)
+statement_of (statement.Assign offset place right) = Statement.Assign offset (place_of (box_value place)) (right_side_of right)
 statement_of (statement.Update offset place operator ty right) =
-    Statement.Update offset (place_of place) operator ty (expression_of right)
+    Statement.Update offset (place_of (box_value place)) operator ty (expression_of (box_value right))
 statement_of (statement.If' condition p consequent q alternative) =
     Statement.If (condition_of condition) (statement_of consequent) (statement_of alternative)
 statement_of (statement.While' condition p body) = Statement.While (condition_of condition) (statement_of body)
@@ -98,7 +98,11 @@ statement_of (statement.Call offset function arguments) =
     Statement.Call offset function (expressions_of arguments.items)
 statement_of (statement.Print offset format arguments) =
     Statement.Print offset (pieces_of format.items) (expressions_of arguments.items)
-statement_of (statement.Thread offset call) = Statement.Thread offset (thread_call_of call)
+statement_of (statement.Thread offset call) = Statement.Thread offset (thread_call_of (box_value call))
+
+-- a statement that travels in a box
+abbrev pub boxed_statement_of : {A : Type 0} → Box StatementTree A → Statement
+boxed_statement_of b = statement_of (box_value b)
 
 abbrev pub function_of : FunctionTree → Function
 function_of f = record {

@@ -16,7 +16,7 @@ use Rattle.c_program.specs.declared.tree.MutexObject.{MutexObject}
 use Rattle.c_program.specs.declared.tree.BarrierObject.{BarrierObject}
 use Rattle.c_program.specs.Tree.{Expression, Place, Condition, RightSide, ObjectPlace, ThreadCall, Piece, Statement, Function, GlobalVariable, Program}
 use Rattle.c_program.specs.Types.{type_of, working_type}
-use Rattle.c_program.specs.Calls.{Reaches, IsAcyclic}
+use Rattle.c_program.specs.Calls.{IsAcyclic}
 
 -- a declared object: the type of its elements, and their number
 abbrev pub global_object : Option GlobalVariable → Option LocalVariable
@@ -281,27 +281,6 @@ pub record IsMutexObject (object : MutexObject) : Type 0 where
   pub not_empty : 0 < object.length
   pub initialised : object.initialised ≡ true → object.length ≡ 1
 
--- whether a statement creates or joins a thread
-abbrev pub starts_or_joins : Statement → Bool
-starts_or_joins (Statement.Sequence first rest) = starts_or_joins first || starts_or_joins rest
-starts_or_joins (Statement.Block body) = starts_or_joins body
-starts_or_joins (Statement.If condition consequent alternative) =
-    starts_or_joins consequent || starts_or_joins alternative
-starts_or_joins (Statement.While condition body) = starts_or_joins body
-starts_or_joins (Statement.DoWhile body condition) = starts_or_joins body
-starts_or_joins (Statement.For first condition last body) =
-    starts_or_joins first || (starts_or_joins last || starts_or_joins body)
-starts_or_joins (Statement.Thread offset (ThreadCall.Create thread routine argument)) = true
-starts_or_joins (Statement.Thread offset (ThreadCall.Join thread)) = true
-starts_or_joins statement = false
-
--- a start routine, and a function that one reaches by calls, neither creates nor joins a thread
-pub record OnlyMainStarts (P : Program) : Type 0 where
-  pub own : (f : Function) → Contains P.functions f → is_pointer f.returns ≡ true → starts_or_joins f.body ≡ false
-  pub reached :
-      (r g : ℕ) (f code : Function) → slice_get P.functions r ≡ Some f → is_pointer f.returns ≡ true →
-      Reaches P.functions r g → slice_get P.functions g ≡ Some code → starts_or_joins code.body ≡ false
-
 -- what holds of each program that a text spells
 pub record IsResolved (P : Program) : Type 0 where
   pub main : IsMain P
@@ -312,6 +291,5 @@ pub record IsResolved (P : Program) : Type 0 where
   pub mutexes : AllByRecursion IsMutexObject P.mutexes
   pub barriers : AllByRecursion (λ (object : BarrierObject). 0 < object.length) P.barriers
   pub acyclic : IsAcyclic P.functions
-  pub starters : OnlyMainStarts P
   pub function_names : IsDistinct (pointwise nat_eq) (map (λ (f : Function). f.name) P.functions)
   pub global_names : IsDistinct (pointwise nat_eq) (map (λ (g : GlobalVariable). g.name) P.globals)

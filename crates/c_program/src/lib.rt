@@ -2,8 +2,7 @@
 //! tree means as plain data, the facts that name resolution gives, and the weight of its functions.
 #![tactic(auto)]
 
-#[cfg(test)]
-mod tests;
+mod boxed;
 pub mod threads;
 pub mod tree;
 pub mod types;

@@ -5,7 +5,7 @@
 use hls_ints::CType;
 
 /// The storage duration of a variable (C99 6.2.4): that of a call of its function, or the program's.
-#[derive(Clone, Copy, PartialEq, Eq, Debug)]
+#[derive(Clone, Copy, PartialEq, Eq)]
 pub enum Storage {
     /// A parameter or a local of the function at hand.
     Automatic,
@@ -14,7 +14,7 @@ pub enum Storage {
 }
 
 /// A unary operator (C99 6.5.3.3).
-#[derive(Clone, Copy, PartialEq, Eq, Debug)]
+#[derive(Clone, Copy, PartialEq, Eq)]
 pub enum UnaryOperator {
     Plus,
     Minus,
@@ -23,7 +23,7 @@ pub enum UnaryOperator {
 }
 
 /// A binary operator without short circuit (C99 6.5.5 to 6.5.12).
-#[derive(Clone, Copy, PartialEq, Eq, Debug)]
+#[derive(Clone, Copy, PartialEq, Eq)]
 pub enum BinaryOperator {
     Multiply,
     Divide,
@@ -64,13 +64,13 @@ pub enum Expression {
 #[derive(Drop)]
 pub enum Place {
     Scalar(Storage, u32, CType),
-    Element(Storage, u32, u64, CType, Expression),
+    Element(Storage, u32, u64, CType, Box<Expression>),
 }
 
 /// A condition: operands, each with its offset, joined by short circuits (C99 6.5.13, 6.5.14) and `!`.
 #[derive(Drop)]
 pub enum Condition {
-    Operand(u32, Expression),
+    Operand(u32, Box<Expression>),
     Both(Box<Condition>, Box<Condition>),
     Either(Box<Condition>, Box<Condition>),
     Opposite(Box<Condition>),
@@ -79,7 +79,7 @@ pub enum Condition {
 /// A value that may come from a call: the right side of `=`, an initialiser or the operand of a return.
 #[derive(Drop)]
 pub enum RightSide {
-    Value(Expression),
+    Value(Box<Expression>),
     /// A call of the function of that number, with its arguments.
     Call(u32, Vec<Expression>),
 }
@@ -89,21 +89,21 @@ pub enum RightSide {
 #[derive(Drop)]
 pub enum ObjectPlace {
     Single(u32),
-    Element(u32, u64, Expression),
+    Element(u32, u64, Box<Expression>),
 }
 
 /// A pthread call but `pthread_exit`, which is a return.
 #[derive(Drop)]
 pub enum ThreadCall {
     /// The thread, the number of its start routine, the argument.
-    Create(ObjectPlace, u32, Expression),
+    Create(ObjectPlace, u32, Box<Expression>),
     Join(ObjectPlace),
     MutexInit(ObjectPlace),
     MutexDestroy(ObjectPlace),
     MutexLock(ObjectPlace),
     MutexUnlock(ObjectPlace),
     /// The barrier and its count, which keeps its own type.
-    BarrierInit(ObjectPlace, Expression),
+    BarrierInit(ObjectPlace, Box<Expression>),
     BarrierDestroy(ObjectPlace),
     BarrierWait(ObjectPlace),
 }
@@ -130,10 +130,10 @@ pub enum Statement {
     /// A declarator without an initialiser: the local, and how many operators and casts the length of an array has.
     Declare(u32, u32, u32),
     /// `=`, and a declarator with an initialiser, whose place is the local.
-    Assign(u32, Place, RightSide),
+    Assign(u32, Box<Place>, RightSide),
     /// A compound assignment with the operator and the type in which it works; `++` and `--` add and subtract an
     /// int 1 (C99 6.5.3.1).
-    Update(u32, Place, BinaryOperator, CType, Expression),
+    Update(u32, Box<Place>, BinaryOperator, CType, Box<Expression>),
     If(Condition, Box<Statement>, Box<Statement>),
     While(Condition, Box<Statement>),
     DoWhile(Box<Statement>, Condition),
@@ -145,11 +145,11 @@ pub enum Statement {
     /// A call whose value, if any, is dropped: the function's number and the arguments.
     Call(u32, u32, Vec<Expression>),
     Print(u32, Vec<Piece>, Vec<Expression>),
-    Thread(u32, ThreadCall),
+    Thread(u32, Box<ThreadCall>),
 }
 
 /// A local of a function: the type of its elements and their number, 1 of a scalar.
-#[derive(Clone, Copy, PartialEq, Eq, Debug)]
+#[derive(Clone, Copy, PartialEq, Eq)]
 pub struct LocalVariable {
     pub ty: CType,
     pub length: u64,
@@ -187,21 +187,21 @@ pub struct GlobalVariable {
 }
 
 /// A pthread_t object: the number of its elements, and the start routine that creates name for it.
-#[derive(Clone, Copy, PartialEq, Eq, Debug)]
+#[derive(Clone, Copy, PartialEq, Eq)]
 pub struct ThreadObject {
     pub length: u64,
     pub routine: Option<u32>,
 }
 
 /// A pthread_mutex_t object: the number of its elements, and whether they are initialised at the start.
-#[derive(Clone, Copy, PartialEq, Eq, Debug)]
+#[derive(Clone, Copy, PartialEq, Eq)]
 pub struct MutexObject {
     pub length: u64,
     pub initialised: bool,
 }
 
 /// A pthread_barrier_t object: the number of its elements.
-#[derive(Clone, Copy, PartialEq, Eq, Debug)]
+#[derive(Clone, Copy, PartialEq, Eq)]
 pub struct BarrierObject {
     pub length: u64,
 }

@@ -213,7 +213,7 @@ fn push_calls(statement: &Statement, calls: &mut Vec<u32>) -> Result<(), AllocEr
 }
 
 /// What of a function is counted.
-#[derive(Clone, Copy, PartialEq, Eq, Debug)]
+#[derive(Clone, Copy, PartialEq, Eq)]
 pub enum Amount {
     /// Its weight.
     Weight,

@@ -3,11 +3,10 @@ use Rattle.std.specs.Prelude.{ℕ, Bool, true, false, Option, Some, None, List, 
 use Rattle.c_rules.specs.declared.fault.Rule.{Rule}
 use Rattle.c_rules.specs.declared.findings.Findings.{Findings}
 use Rattle.c_rules.specs.declared.findings.CallSite.{CallSite}
-use Rattle.c_rules.specs.declared.findings.ThreadSite.{ThreadSite}
 use Rattle.c_rules.specs.Faults.{first}
 
 abbrev pub nothing : Findings
-nothing = record { fault = None; calls = []; threads = []; creations = [] }
+nothing = record { fault = None; calls = []; creations = [] }
 
 -- a rule is broken at the place
 unfoldable pub broken : Rule → ℕ → Findings → Findings
@@ -28,11 +27,6 @@ abbrev pub called : Option ℕ → ℕ → ℕ → Findings → Findings
 called None callee at f = f
 called (Some caller) callee at f =
     record f { calls = f.calls ++ (record { caller = caller; callee = callee; offset = at }) ∷ [] }
-
--- a create or a join
-abbrev pub starting : Option ℕ → ℕ → Findings → Findings
-starting None at f = f
-starting (Some function) at f = record f { threads = f.threads ++ (record { function = function; offset = at }) ∷ [] }
 
 -- a create of the thread object by the start routine
 abbrev pub created : ℕ → ℕ → ℕ → Findings → Findings

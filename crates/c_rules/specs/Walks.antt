@@ -73,9 +73,6 @@ finds_any rule at found = Outcome.Gives tt (findings.broken_any rule at found)
 abbrev pub calls : Option ℕ → ℕ → ℕ → Finds (Unit {0})
 calls caller callee at found = Outcome.Gives tt (findings.called caller callee at found)
 
-abbrev pub starts : Option ℕ → ℕ → Finds (Unit {0})
-starts function at found = Outcome.Gives tt (findings.starting function at found)
-
 abbrev pub creates : ℕ → ℕ → ℕ → Finds (Unit {0})
 creates thread routine at found = Outcome.Gives tt (findings.created thread routine at found)
 

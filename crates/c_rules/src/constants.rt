@@ -13,14 +13,14 @@ use hls_ints::{
 };
 
 /// A value of a type.
-#[derive(Clone, Copy, PartialEq, Eq, Debug)]
+#[derive(Clone, Copy, PartialEq, Eq)]
 pub struct Typed {
     pub ty: CType,
     pub number: i128,
 }
 
 /// What an expression is as a constant expression.
-#[derive(Clone, Copy, PartialEq, Eq, Debug)]
+#[derive(Clone, Copy, PartialEq, Eq)]
 pub enum Constancy {
     Constant(Typed),
     /// A constant or a type in it breaks a rule of its own, so that it has no value.

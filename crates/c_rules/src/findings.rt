@@ -8,22 +8,15 @@ use sqlite_items::Items;
 use std::alloc::{AllocError, Global};
 
 /// A call in a defined function: the numbers of both definitions, and the place of the called name.
-#[derive(Clone, Copy, PartialEq, Eq, Debug)]
+#[derive(Clone, Copy, PartialEq, Eq)]
 pub struct CallSite {
     pub caller: u32,
     pub callee: u32,
     pub offset: usize,
 }
 
-/// A create or a join in a defined function.
-#[derive(Clone, Copy, PartialEq, Eq, Debug)]
-pub struct ThreadSite {
-    pub function: u32,
-    pub offset: usize,
-}
-
 /// A create: the number of the thread object, that of the start routine's definition, and the place of its name.
-#[derive(Clone, Copy, PartialEq, Eq, Debug)]
+#[derive(Clone, Copy, PartialEq, Eq)]
 pub struct Creation {
     pub thread: u32,
     pub routine: u32,
@@ -36,7 +29,6 @@ pub struct Findings {
     pub fault: Option<Fault>,
     /// In the order of the text.
     pub calls: Items<CallSite>,
-    pub threads: Items<ThreadSite>,
     pub creations: Items<Creation>,
 }
 
@@ -47,7 +39,6 @@ impl Findings {
         Findings {
             fault: None,
             calls: Items::new(alloc),
-            threads: Items::new(alloc),
             creations: Items::new(alloc),
         }
     }
@@ -92,15 +83,6 @@ impl Findings {
                 callee,
                 offset,
             })?;
-        }
-        Ok(())
-    }
-
-    pub fn add_thread(&mut self, function: Option<u32>, offset: usize) -> Result<(), AllocError>
-        ensures { OnOk result (self.new ≡ spec.starting function offset self.old) }
-    {
-        if let Some(function) = function {
-            self.threads.push(ThreadSite { function, offset })?;
         }
         Ok(())
     }

@@ -13,7 +13,7 @@ use std::alloc::{AllocError, Global};
 use std::mem;
 
 /// An integer object: its number among those of its storage, and its length where it is an array.
-#[derive(Clone, Copy, PartialEq, Eq, Debug)]
+#[derive(Clone, Copy, PartialEq, Eq)]
 pub struct Variable {
     pub storage: Storage,
     pub number: u32,
@@ -23,7 +23,7 @@ pub struct Variable {
 }
 
 /// A kind of objects of POSIX threads.
-#[derive(Clone, Copy, PartialEq, Eq, Debug)]
+#[derive(Clone, Copy, PartialEq, Eq)]
 pub enum ObjectKind {
     Thread,
     Mutex,
@@ -45,7 +45,7 @@ impl ObjectKind {
 }
 
 /// An object of POSIX threads: its number among those of its kind, and its length where it is an array.
-#[derive(Clone, Copy, PartialEq, Eq, Debug)]
+#[derive(Clone, Copy, PartialEq, Eq)]
 pub struct Object {
     pub kind: ObjectKind,
     pub number: u32,
@@ -53,7 +53,7 @@ pub struct Object {
 }
 
 /// What a declared name stands for.
-#[derive(Clone, Copy, PartialEq, Eq, Debug)]
+#[derive(Clone, Copy, PartialEq, Eq)]
 pub enum Meaning {
     Variable(Variable),
     /// The parameter of a start routine.
@@ -66,7 +66,7 @@ pub enum Meaning {
 }
 
 /// What a name stands for at a place of the text.
-#[derive(Clone, Copy, PartialEq, Eq, Debug)]
+#[derive(Clone, Copy, PartialEq, Eq)]
 pub enum Known {
     Library(LibraryFunction),
     Declared(Meaning),
@@ -83,7 +83,7 @@ impl Known {
 }
 
 /// A type with the `*` that may stand behind it.
-#[derive(Clone, Copy, PartialEq, Eq, Debug)]
+#[derive(Clone, Copy, PartialEq, Eq)]
 pub struct DeclaredType {
     pub base: BaseType,
     pub is_pointer: bool,
@@ -162,7 +162,7 @@ fn either(first: Option<Meaning>, other: Option<Meaning>) -> Option<Meaning>
 }
 
 /// What a function gives back, as its returns see it.
-#[derive(Clone, Copy, PartialEq, Eq, Debug)]
+#[derive(Clone, Copy, PartialEq, Eq)]
 pub enum Gives {
     Nothing,
     Integer,

@@ -7,7 +7,7 @@ use c_tree::{Specifiers, TypeWord};
 use hls_ints::CType;
 
 /// An integer type of the profile; `long long` is `long` (C99 6.2.5).
-#[derive(Clone, Copy, PartialEq, Eq, Debug)]
+#[derive(Clone, Copy, PartialEq, Eq)]
 pub enum BasicType {
     /// Of 8 bits; `char` is signed.
     Char,
@@ -66,7 +66,7 @@ impl BasicType {
 }
 
 /// What a list of words spells.
-#[derive(Clone, Copy, PartialEq, Eq, Debug)]
+#[derive(Clone, Copy, PartialEq, Eq)]
 pub enum BaseType {
     Void,
     Integer(BasicType),
@@ -81,7 +81,7 @@ pub enum BaseType {
 }
 
 /// A list of words: the type, and whether `static` and `const` are among them.
-#[derive(Clone, Copy, PartialEq, Eq, Debug)]
+#[derive(Clone, Copy, PartialEq, Eq)]
 pub struct Spelled {
     pub base: BaseType,
     pub is_static: bool,

@@ -5,7 +5,7 @@ ghost use Rattle.std.specs.List.{find, prefix_len};
 ghost use Rattle.c_token.specs.Constants as spec;
 
 /// A type that a constant may have.
-#[derive(Clone, Copy, Debug, PartialEq, Eq)]
+#[derive(Clone, Copy, PartialEq, Eq)]
 pub enum ConstantType {
     /// `int`, of 32 bits.
     Int,
@@ -18,7 +18,7 @@ pub enum ConstantType {
 }
 
 /// A constant of a text: an integer, or a character, whose type is int.
-#[derive(Clone, Copy, Debug, PartialEq, Eq)]
+#[derive(Clone, Copy, PartialEq, Eq)]
 pub enum Constant {
     /// Its value, which is below 2 to the 64, and its type, which holds the value.
     Typed(u64, ConstantType),
@@ -27,7 +27,7 @@ pub enum Constant {
 }
 
 /// The base of an integer constant.
-#[derive(Clone, Copy, Debug, PartialEq, Eq)]
+#[derive(Clone, Copy, PartialEq, Eq)]
 pub enum Base {
     Decimal,
     /// Behind a first digit 0.
@@ -37,7 +37,7 @@ pub enum Base {
 }
 
 /// What stands behind the digits of an integer constant.
-#[derive(Clone, Copy, Debug, PartialEq, Eq)]
+#[derive(Clone, Copy, PartialEq, Eq)]
 pub struct Suffix {
     /// `u` or `U`
     pub is_unsigned: bool,

@@ -6,7 +6,7 @@ use crate::punctuator::Punctuator;
 use sqlite_items::Items;
 
 /// What a token is.
-#[derive(Debug, Drop)]
+#[derive(Drop)]
 pub enum Kind {
     Keyword(Keyword),
     /// A letter or `_`, then letters, digits and `_`; no reserved word.
@@ -20,7 +20,7 @@ pub enum Kind {
 }
 
 /// A token and the place of its first byte, counted from 0; the end stands at the text's length.
-#[derive(Debug, Drop)]
+#[derive(Drop)]
 pub struct Token {
     pub kind: Kind,
     pub offset: usize,

@@ -5,14 +5,14 @@ use crate::statement::Block;
 use sqlite_items::Items;
 
 /// Variables of a block.
-#[derive(Debug, Drop)]
+#[derive(Drop)]
 pub struct Declaration {
     pub specifiers: Specifiers,
     pub declarators: Items<Declarator>,
 }
 
 /// A variable of a block.
-#[derive(Debug, Drop)]
+#[derive(Drop)]
 pub struct Declarator {
     pub name: Name,
     /// Between brackets.
@@ -22,19 +22,19 @@ pub struct Declarator {
 }
 
 /// A whole text.
-#[derive(Debug, Drop)]
+#[derive(Drop)]
 pub struct TranslationUnit {
     pub declarations: Items<ExternalDeclaration>,
 }
 
-#[derive(Debug, Drop)]
+#[derive(Drop)]
 pub enum ExternalDeclaration {
     Function(Function),
     Objects(GlobalDeclaration),
 }
 
 /// A function's definition, or its prototype.
-#[derive(Debug, Drop)]
+#[derive(Drop)]
 pub struct Function {
     pub specifiers: Specifiers,
     /// Whether a `*` stands before the name.
@@ -45,7 +45,7 @@ pub struct Function {
     pub body: Option<Block>,
 }
 
-#[derive(Debug, Drop)]
+#[derive(Drop)]
 pub struct Parameter {
     pub specifiers: Specifiers,
     pub is_pointer: bool,
@@ -53,7 +53,7 @@ pub struct Parameter {
 }
 
 /// Variables at file scope.
-#[derive(Debug, Drop)]
+#[derive(Drop)]
 pub struct GlobalDeclaration {
     pub specifiers: Specifiers,
     /// Whether a `*` stands before the first name; none stands before the others.
@@ -62,7 +62,7 @@ pub struct GlobalDeclaration {
 }
 
 /// A variable at file scope.
-#[derive(Debug, Drop)]
+#[derive(Drop)]
 pub struct GlobalDeclarator {
     pub name: Name,
     /// Between brackets.
@@ -71,7 +71,7 @@ pub struct GlobalDeclarator {
     pub initializer: Option<Initializer>,
 }
 
-#[derive(Debug, Drop)]
+#[derive(Drop)]
 pub enum Initializer {
     Value(Expression),
     /// Between braces; at least one.

@@ -7,7 +7,7 @@ use c_token::Constant;
 use sqlite_items::{Boxed, Items};
 
 /// A name where it stands.
-#[derive(Debug, Drop)]
+#[derive(Drop)]
 pub struct Name {
     pub bytes: Items<u8>,
     /// Of its first byte.
@@ -15,7 +15,7 @@ pub struct Name {
 }
 
 /// A word of a type: a type specifier, a storage class or a qualifier (C99 6.7).
-#[derive(Clone, Copy, Debug, PartialEq, Eq)]
+#[derive(Clone, Copy, PartialEq, Eq)]
 pub enum TypeWord {
     Static,
     Const,
@@ -35,14 +35,14 @@ pub enum TypeWord {
 }
 
 /// One or more words, as they are written: not each combination is a type.
-#[derive(Debug, Drop)]
+#[derive(Drop)]
 pub struct Specifiers {
     pub words: Items<TypeWord>,
     /// Of the first word.
     pub offset: usize,
 }
 
-#[derive(Clone, Copy, Debug, PartialEq, Eq)]
+#[derive(Clone, Copy, PartialEq, Eq)]
 pub enum UnaryOperator {
     Plus,
     Minus,
@@ -53,7 +53,7 @@ pub enum UnaryOperator {
 }
 
 /// A binary operator, `&&` and `||` among them.
-#[derive(Clone, Copy, Debug, PartialEq, Eq)]
+#[derive(Clone, Copy, PartialEq, Eq)]
 pub enum BinaryOperator {
     /// `||`
     LogicalOr,
@@ -78,7 +78,7 @@ pub enum BinaryOperator {
 }
 
 #[cycle(expressions)]
-#[derive(Debug, Drop)]
+#[derive(Drop)]
 pub struct Expression {
     /// Of the first byte of its text: of `(a)` that of the parenthesis.
     pub offset: usize,
@@ -87,7 +87,7 @@ pub struct Expression {
 
 /// What an expression is made of.
 #[cycle(expressions)]
-#[derive(Debug, Drop)]
+#[derive(Drop)]
 pub enum Form {
     /// A constant and the place of its first byte.
     Constant(Constant, usize),
@@ -107,7 +107,7 @@ pub enum Form {
 
 /// An operator and its right operand.
 #[cycle(expressions)]
-#[derive(Debug, Drop)]
+#[derive(Drop)]
 pub struct Term {
     pub operator: BinaryOperator,
     /// Of the operator.
@@ -117,7 +117,7 @@ pub struct Term {
 
 /// A condition with its `?`, and the third operand.
 #[cycle(expressions)]
-#[derive(Debug, Drop)]
+#[derive(Drop)]
 pub struct Choice {
     pub condition: Expression,
     /// Of the `?`.
@@ -127,21 +127,21 @@ pub struct Choice {
 
 /// An object, or an element of one.
 #[cycle(expressions)]
-#[derive(Debug, Drop)]
+#[derive(Drop)]
 pub struct Place {
     pub name: Name,
     pub index: Option<Boxed<Expression>>,
 }
 
 #[cycle(expressions)]
-#[derive(Debug, Drop)]
+#[derive(Drop)]
 pub struct Call {
     pub name: Name,
     pub arguments: Items<Argument>,
 }
 
 #[cycle(expressions)]
-#[derive(Debug, Drop)]
+#[derive(Drop)]
 pub enum Argument {
     Value(Expression),
     /// The bytes between the quotes of a string literal as they are written, and the place of its first quote.
@@ -153,7 +153,7 @@ pub enum Argument {
 
 /// A pointer to void.
 #[cycle(expressions)]
-#[derive(Debug, Drop)]
+#[derive(Drop)]
 pub struct Pointer {
     /// The operand of `(void *)`; none for `NULL`.
     pub operand: Option<Boxed<Expression>>,

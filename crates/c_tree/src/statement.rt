@@ -5,28 +5,28 @@ use crate::expression::{BinaryOperator, Call, Expression, Place, Pointer};
 use sqlite_items::{Boxed, Items};
 
 /// `=`, or a compound assignment by its binary operator.
-#[derive(Clone, Copy, Debug, PartialEq, Eq)]
+#[derive(Clone, Copy, PartialEq, Eq)]
 pub enum AssignmentOperator {
     Set,
     Compound(BinaryOperator),
 }
 
 /// Up for `++`, down for `--`.
-#[derive(Clone, Copy, Debug, PartialEq, Eq)]
+#[derive(Clone, Copy, PartialEq, Eq)]
 pub enum Direction {
     Up,
     Down,
 }
 
 /// What stands as a statement by itself, or in the head of a `for`.
-#[derive(Debug, Drop)]
+#[derive(Drop)]
 pub struct SimpleStatement {
     pub form: SimpleForm,
     /// Of its first byte.
     pub offset: usize,
 }
 
-#[derive(Debug, Drop)]
+#[derive(Drop)]
 pub enum SimpleForm {
     Assign(Place, AssignmentOperator, Expression),
     /// `++` or `--`, before the place or behind it.
@@ -35,7 +35,7 @@ pub enum SimpleForm {
 }
 
 /// What a `return` gives back.
-#[derive(Debug, Drop)]
+#[derive(Drop)]
 pub enum Returned {
     Nothing,
     Value(Expression),
@@ -43,7 +43,7 @@ pub enum Returned {
 }
 
 /// What the head of a `for` begins with.
-#[derive(Debug, Drop)]
+#[derive(Drop)]
 pub enum ForStart {
     Nothing,
     Declaration(Declaration),
@@ -52,7 +52,7 @@ pub enum ForStart {
 
 /// `{`, declarations and statements, `}`.
 #[cycle(statements)]
-#[derive(Debug, Drop)]
+#[derive(Drop)]
 pub struct Block {
     pub items: Items<BlockItem>,
     /// Of the closing brace.
@@ -60,7 +60,7 @@ pub struct Block {
 }
 
 #[cycle(statements)]
-#[derive(Debug, Drop)]
+#[derive(Drop)]
 pub enum BlockItem {
     Declaration(Declaration),
     Statement(Statement),
@@ -68,7 +68,7 @@ pub enum BlockItem {
 
 /// The numbers are the places of the first words, `if` and so on.
 #[cycle(statements)]
-#[derive(Debug, Drop)]
+#[derive(Drop)]
 pub enum Statement {
     Block(Block),
     /// `;`

@@ -1,15 +1,13 @@
-// The rules on calls that only the whole text shows: none leads back to its caller, and what start routines reach neither
-// creates nor joins a thread.
+// The rule on calls that only the whole text shows: none leads back to its caller.
 
 ghost use Rattle.std.specs.Prelude.{◌≡◌, map, fold, IfOk};
 ghost use Rattle.call_graph.specs.Reaching.{leads};
 ghost use Rattle.c_program.specs.Plain.{function_of};
-ghost use Rattle.c_program.specs.Resolved.{is_pointer as is_pointer_return};
-ghost use Rattle.c_types.specs.CallRules as spec;
+ghost use Rattle.c_resolution.specs.CallRules as spec;
 
-use c_program::tree::{Function, ReturnType};
+use c_program::tree::Function;
 use c_rules::fault::{Fault, Rule, first};
-use c_rules::findings::{CallSite, Findings, ThreadSite};
+use c_rules::findings::{CallSite, Findings};
 use call_graph::{Call, Reach, reach_of};
 use sqlite_items::Items;
 use std::alloc::{AllocError, Global};
@@ -61,63 +59,6 @@ fn with_calls(fault: Option<Fault>, reach: &Reach, calls: &[CallSite]) -> Option
     fault
 }
 
-fn is_pointer(returns: ReturnType) -> bool
-    ensures { result ≡ is_pointer_return returns }
-{
-    matches!(returns, ReturnType::Pointer)
-}
-
-/// Whether the function of the first number is a start routine, and calls lead from it to that of the second.
-#[tactic(auto, using(crate::proofs::Numbers::places))]
-fn is_led_to(functions: &[Function], reach: &Reach, routine: usize, function: u32) -> bool
-    ensures { result ≡ spec.is_led_to (map function_of functions.now) (leads reach.now.rows) function routine }
-{
-    match functions.get(routine) {
-        Some(code) => is_pointer(code.returns) && reach.leads(routine, function as usize),
-        None => false,
-    }
-}
-
-/// Whether calls lead from some start routine to the function.
-fn is_reached(functions: &[Function], reach: &Reach, function: u32) -> bool
-    ensures { result ≡ spec.is_reached (map function_of functions.now) (leads reach.now.rows) function }
-{
-    for routine in 0..functions.len() {
-        if is_led_to(functions, reach, routine, function) {
-            return true;
-        }
-    }
-    false
-}
-
-/// The first fault, with that of a create or a join that a start routine reaches.
-fn with_site(
-    fault: Option<Fault>,
-    functions: &[Function],
-    reach: &Reach,
-    site: ThreadSite,
-) -> Option<Fault>
-    ensures { result ≡ spec.with_site (map function_of functions.now) (leads reach.now.rows) fault site }
-{
-    let is_broken = is_reached(functions, reach, site.function);
-    first(fault, fault_if(is_broken, Rule::Threads, site.offset))
-}
-
-fn with_sites(
-    fault: Option<Fault>,
-    functions: &[Function],
-    reach: &Reach,
-    sites: &[ThreadSite],
-) -> Option<Fault>
-    ensures { result ≡ fold (spec.with_site (map function_of functions.now) (leads reach.now.rows)) fault sites.now }
-{
-    let mut fault = fault;
-    for site in sites {
-        fault = with_site(fault, functions, reach, *site);
-    }
-    fault
-}
-
 /// The first fault, those of calls among them.
 pub fn with_call_faults(
     alloc: Global,
@@ -128,6 +69,5 @@ pub fn with_call_faults(
 {
     let calls = calls_of(alloc, found.calls.as_slice())?;
     let reach = reach_of(alloc, functions.len(), calls.as_slice())?;
-    let fault = with_calls(found.fault, &reach, found.calls.as_slice());
-    Ok(with_sites(fault, functions, &reach, found.threads.as_slice()))
+    Ok(with_calls(found.fault, &reach, found.calls.as_slice()))
 }

@@ -2,14 +2,8 @@
 #![tactic(auto)]
 
 mod calls;
-mod functions;
-mod globals;
-pub mod locals;
 mod resolving;
 mod routines;
-pub mod simple;
-pub mod statements;
-mod tables;
 mod texts;
 
 pub use c_rules::fault::{Fault, ResolveError, Rule, first};

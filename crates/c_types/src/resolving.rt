@@ -5,15 +5,15 @@ ghost use Rattle.c_program.specs.Plain.{program_of};
 ghost use Rattle.c_program.specs.Tree as code;
 ghost use Rattle.c_rules.specs.declared.fault.Fault as fault;
 ghost use Rattle.c_rules.specs.declared.fault.ResolveError.TheVariants as error;
-ghost use Rattle.c_types.specs.Files.{file};
-ghost use Rattle.c_types.specs.Tabled.{tables_of};
-ghost use Rattle.c_types.specs.Resolving as spec;
-ghost use Rattle.c_types.specs.Answers.{ResolvesOnly, BreaksOnly, LacksMainOnly};
+ghost use Rattle.c_globals.specs.Tabled.{tables_of};
+ghost use Rattle.c_resolution.specs.Resolving as spec;
+ghost use Rattle.c_resolution.specs.Texts.{main_number as main_of_scope};
+ghost use Rattle.c_resolution.specs.Answers.{ResolvesOnly, BreaksOnly, LacksMainOnly};
 
 use crate::calls::with_call_faults;
 use crate::routines::give_routines;
-use crate::tables::Tables;
 use crate::texts::{definitions_of, main_number, walk};
+use c_globals::tables::Tables;
 use c_program::tree::Program;
 use c_rules::fault::{ResolveError, first};
 use c_rules::findings::Findings;
@@ -23,10 +23,10 @@ use c_tree::{ExternalDeclaration, TranslationUnit};
 use sqlite_items::Items;
 use std::alloc::{AllocError, Global};
 
-/// What is known behind a text.
+/// What is known behind a text: the number of main's definition, what was found, and the declarations.
 #[derive(Drop)]
-struct Text<'t> {
-    scope: Scope<'t>,
+struct Text {
+    main: Option<u32>,
     found: Findings,
     tables: Tables,
 }
@@ -60,37 +60,19 @@ fn no_tables(alloc: Global) -> Tables
     }
 }
 
-/// What is known before the first declaration: which functions the text defines.
-fn before<'t>(
-    alloc: Global,
-    declarations: &'t [ExternalDeclaration],
-) -> Result<Text<'t>, AllocError>
-    ensures { IfOk result (λ t. file t.scope t.found (tables_of t.tables) ≡ spec.before declarations.now) }
-{
-    let definitions = definitions_of(alloc, declarations)?;
-    Ok(Text {
-        scope: file_scope(alloc, definitions),
-        found: Findings::new(alloc),
-        tables: no_tables(alloc),
-    })
-}
-
 /// Goes through the whole text.
-#[tactic(auto, unfolding(crate::specs::Resolving::behind))]
-fn go_through<'t>(
-    alloc: Global,
-    declarations: &'t [ExternalDeclaration],
-) -> Result<Text<'t>, AllocError>
-    ensures { IfOk result (λ t. file t.scope t.found (tables_of t.tables) ≡ spec.behind declarations.now) }
+#[tactic(auto, unfolding(c_resolution::specs::Resolving::behind))]
+fn go_through(alloc: Global, declarations: &[ExternalDeclaration]) -> Result<Text, AllocError>
+    ensures main { IfOk result (λ t. t.main ≡ main_of_scope (spec.behind declarations.now).scope) }
+    ensures found { IfOk result (λ t. t.found ≡ (spec.behind declarations.now).found) }
+    ensures tables { IfOk result (λ t. tables_of t.tables ≡ (spec.behind declarations.now).tables) }
 {
-    let Text {
-        mut scope,
-        mut found,
-        mut tables,
-    } = before(alloc, declarations)?;
+    let mut scope = file_scope(alloc, definitions_of(alloc, declarations)?);
+    let mut found = Findings::new(alloc);
+    let mut tables = no_tables(alloc);
     walk(alloc, &mut scope, &mut found, &mut tables, declarations)?;
     Ok(Text {
-        scope,
+        main: main_number(&scope),
         found,
         tables,
     })
@@ -124,7 +106,7 @@ fn program_or_fault(alloc: Global, tree: &TranslationUnit) -> Result<Program, Re
     ensures no_main { IfErr result (λ e. e ≡ error.NoMain → spec.LacksMain tree.now) }
 {
     let Text {
-        scope,
+        main,
         found,
         mut tables,
     } = go_through(alloc, tree.declarations.as_slice())?;
@@ -133,7 +115,7 @@ fn program_or_fault(alloc: Global, tree: &TranslationUnit) -> Result<Program, Re
     if let Some(fault) = first(calls, given) {
         return Err(ResolveError::Broken(fault));
     }
-    match main_number(&scope) {
+    match main {
         Some(main) => Ok(program(tables, main)),
         None => Err(ResolveError::NoMain),
     }

@@ -1,7 +1,7 @@
 // Which start routine the creates of a text name for each thread object.
 
 ghost use Rattle.std.specs.Prelude.{◌≡◌, None, fold};
-ghost use Rattle.c_types.specs.Routines as spec;
+ghost use Rattle.c_resolution.specs.Routines as spec;
 
 use c_program::tree::ThreadObject;
 use c_rules::fault::{Fault, Rule, first};

@@ -2,13 +2,13 @@
 
 ghost use Rattle.std.specs.Prelude.{◌≡◌, IfOk};
 ghost use Rattle.c_rules.specs.Walks.{Walks};
-ghost use Rattle.c_types.specs.Files.{file};
-ghost use Rattle.c_types.specs.Tabled.{tables_of};
-ghost use Rattle.c_types.specs.Texts as spec;
+ghost use Rattle.c_resolution.specs.Files.{file};
+ghost use Rattle.c_globals.specs.Tabled.{tables_of};
+ghost use Rattle.c_resolution.specs.Texts as spec;
 
-use crate::functions::function;
-use crate::globals::objects;
-use crate::tables::Tables;
+use c_functions::functions::function;
+use c_globals::globals::objects;
+use c_globals::tables::Tables;
 use c_rules::findings::Findings;
 use c_rules::level::Definitions;
 use c_rules::names::{Header, Meaning, Scope};
@@ -77,7 +77,7 @@ fn declaration<'t>(
 }
 
 /// The declarations of the text one after another.
-#[tactic(auto, unfolding(crate::specs::Texts::declarations))]
+#[tactic(auto, unfolding(c_resolution::specs::Texts::declarations))]
 pub fn walk<'t>(
     alloc: Global,
     scope: &mut Scope<'t>,

@@ -22,11 +22,11 @@ use Rattle.c_rules.specs.declared.names.Meaning.TheVariants as meaning
 use Rattle.c_rules.specs.declared.names.Known.{Known}
 use Rattle.c_rules.specs.declared.names.Known.TheVariants as known
 use Rattle.c_rules.specs.Names.{look_up, is_start_routine, is_void_pointer, is_void_base, is_pointer_alone}
-use Rattle.c_types.specs.Functions.{return_by, return_type}
+use Rattle.c_resolution.specs.Functions.{return_by, return_type}
 use Rattle.std.proofs.lemmas.Bool.{and_parts}
 use Rattle.c_rules.specs.Walks.{pure, finds, finds_if, finds_any, ◌>>◌}
 use Rattle.c_expressions.specs.Expressions.{index, argument, variable_of}
-use Rattle.c_expressions.specs.Arguments as a
+use Rattle.c_calls.specs.Arguments as a
 use Rattle.c_expressions.specs.Targets as t
 use Rattle.resolved_program.specs.Leaves.{AreValid, expression_leaves, place_leaves, pointer_leaves, argument_leaves}
 use Rattle.resolved_program.specs.Orders.{IsHeader, IsOrderly, IsPointerAt}

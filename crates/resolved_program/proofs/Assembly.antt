@@ -1,23 +1,21 @@
 -- A program whose declarations are in order one by one, and whose tree breaks no rule, is resolved.
 use Rattle.std.proofs.Common.{◌≡◌, sym, subst, ◌∙◌, inl, inr, ℕ, ◌<◌, Bool, false, Option, Some, None}
-use Rattle.std.specs.Prelude.{◌⊎◌, fold, slice_get}
+use Rattle.std.specs.Prelude.{◌⊎◌, slice_get}
 use Rattle.std.specs.List.{AllByRecursion}
 use Rattle.c_tree.specs.declared.declaration.TranslationUnit.{TranslationUnit}
 use Rattle.c_program.specs.declared.tree.ThreadObject.{ThreadObject}
 use Rattle.c_program.specs.Tree.{Program}
 use Rattle.c_program.specs.Resolved as r
 use Rattle.c_rules.specs.declared.findings.CallSite.{CallSite}
-use Rattle.c_rules.specs.declared.findings.ThreadSite.{ThreadSite}
 use Rattle.c_rules.specs.declared.findings.Creation.{Creation}
-use Rattle.c_types.specs.CallRules as c
-use Rattle.c_types.specs.Resolving.{behind, routines_given, program_at, IsFirstFault}
-use Rattle.c_types.specs.Files.{File}
+use Rattle.c_resolution.specs.Resolving.{behind, routines_given, program_at, IsFirstFault}
+use Rattle.c_resolution.specs.Files.{File}
 use Rattle.resolved_program.specs.Gathered.{IsGathered, IsDeclaredThread}
 use Rattle.resolved_program.specs.Laws.{GatheredIsResolved}
 use Rattle.resolved_program.specs.Orders.{GivesRoutines}
 use Rattle.resolved_program.proofs.Walks.{IfAny, first-none, none-some}
 use Rattle.resolved_program.proofs.Arguments.{element_is}
-use Rattle.resolved_program.proofs.Graph.{first-second, calls_none, sites_none, acyclic, own_quiet, reached_quiet}
+use Rattle.resolved_program.proofs.Graph.{first-second, calls_none, acyclic}
 use Rattle.resolved_program.proofs.Routines.{Among, all_later, all_given}
 
 module _ (tree : TranslationUnit) (main : ℕ) (faultless : IsFirstFault tree None) where
@@ -36,11 +34,8 @@ module _ (tree : TranslationUnit) (main : ℕ) (faultless : IsFirstFault tree No
   abbrev leads : ℕ → ℕ → Bool
   leads = faultless.is_calls.leads
 
-  no_sites : (fold (c.with_call leads) x.found.fault x.found.calls ≡ None) × AllByRecursion (λ (s : ThreadSite). c.is_reached x.tables.functions leads s.function ≡ false) x.found.threads
-  no_sites = sites_none x.tables.functions leads x.found.threads (fold (c.with_call leads) x.found.fault x.found.calls) (sym faultless.is_calls.is ∙ no_calls)
-
   no_returns : (x.found.fault ≡ None) × AllByRecursion (λ (s : CallSite). leads s.callee s.caller ≡ false) x.found.calls
-  no_returns = calls_none leads x.found.calls x.found.fault no_sites.0
+  no_returns = calls_none leads x.found.calls x.found.fault (sym faultless.is_calls.is ∙ no_calls)
 
   pub no_fault : x.found.fault ≡ None
   no_fault = no_returns.0
@@ -84,11 +79,7 @@ module _ (tree : TranslationUnit) (main : ℕ) (faultless : IsFirstFault tree No
     threads = thread_is g;
     mutexes = g.mutexes;
     barriers = g.barriers;
-    acyclic = acyclic x.tables.functions x.found leads faultless.is_calls.decides no_returns.1 no_sites.1 g.bodies;
-    starters = record {
-      own = own_quiet x.tables.functions x.found leads faultless.is_calls.decides no_returns.1 no_sites.1 g.bodies;
-      reached = reached_quiet x.tables.functions x.found leads faultless.is_calls.decides no_returns.1 no_sites.1 g.bodies;
-    };
+    acyclic = acyclic x.tables.functions x.found leads faultless.is_calls.decides no_returns.1 g.bodies;
     function_names = g.function_names;
     global_names = g.global_names;
   }

@@ -8,9 +8,9 @@ use Rattle.c_program.specs.Tree.{Function, Program}
 use Rattle.c_rules.specs.declared.findings.Findings.{Findings}
 use Rattle.c_rules.specs.declared.names.Header.{Header}
 use Rattle.c_rules.specs.Walks.{place_in_tree}
-use Rattle.c_types.specs.States.{state}
-use Rattle.c_types.specs.Files.{File, Tables}
-use Rattle.c_types.specs.Functions as y
+use Rattle.c_resolution.specs.States.{state}
+use Rattle.c_resolution.specs.Files.{File, Tables}
+use Rattle.c_resolution.specs.Functions as y
 use Rattle.resolved_program.specs.Leaves.{AreValid, block_leaves, of_any}
 use Rattle.resolved_program.specs.Orders.{left, IsFront, IsHeader, IsPartOf, GivesRoutines}
 use Rattle.resolved_program.proofs.Trees.{all_left}

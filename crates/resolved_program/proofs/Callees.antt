@@ -15,8 +15,8 @@ use Rattle.c_rules.specs.Library.{takes}
 use Rattle.c_rules.specs.Names.{is_void_type, is_start_routine, gives_pointer, look_up}
 use Rattle.c_rules.specs.Walks.{pure, finds, finds_if, calls, ◌>>◌}
 use Rattle.c_expressions.specs.Callees as c
-use Rattle.resolved_program.specs.Orders.{IsFoundCall, IsFoundStart}
-use Rattle.resolved_program.proofs.Walks.{Shows, shows_pure, shows_then, shows_as, shows_broken, shows_if, shows_call, shows_start, IfAny}
+use Rattle.resolved_program.specs.Orders.{IsFoundCall}
+use Rattle.resolved_program.proofs.Walks.{Shows, shows_pure, shows_then, shows_as, shows_broken, shows_if, shows_call, IfAny}
 
 -- what a header says of a call without fault
 pub record IsCalled (h : Header) (count : ℕ) (is_value : Bool) : Type 0 where
@@ -36,8 +36,6 @@ IsCallOf whole number (Some h) count is_value callee = IsDefined whole number h 
 
 -- where a function of the library stands without fault
 abbrev pub IsPlaced : Findings → ℕ → Scope → LibraryFunction → Type 0
-IsPlaced whole number s library.Create = IsFoundStart whole number
-IsPlaced whole number s library.Join = IsFoundStart whole number
 IsPlaced whole number s library.Exit = (is_none s.function || not (gives_pointer s.gives)) ≡ false
 IsPlaced whole number s function = ⊤
 
@@ -82,8 +80,8 @@ module _ {whole : Findings} where
   library_place_shows : (number : ℕ) (s : Scope) (function : LibraryFunction) (at : ℕ) →
       Shows whole (s.function ≡ Some number) (λ _. IsPlaced whole number s function) (c.library_place s function at)
   unfolding c.library_place
-  library_place_shows number s library.Create at = shows_start s.function number at
-  library_place_shows number s library.Join at = shows_start s.function number at
+  library_place_shows number s library.Create at = shows_pure tt (λ _. tt)
+  library_place_shows number s library.Join at = shows_pure tt (λ _. tt)
   library_place_shows number s library.Exit at = shows_if (is_none s.function || not (gives_pointer s.gives)) rule.Threads at
   library_place_shows number s library.Print at = shows_pure tt (λ _. tt)
   library_place_shows number s library.MutexInit at = shows_pure tt (λ _. tt)

@@ -2,7 +2,7 @@
 use Rattle.std.proofs.Common.{◌≡◌, refl, sym, ap, subst, ◌∙◌, ℕ, zero, suc, ◌<◌, ◌≤◌, Bool, true, false, List, [], ◌∷◌, map, length, Option, Some, None, eqb-true, leb-true, arith}
 use Rattle.std.specs.Prelude.{◌||◌, ◌&&◌, not, is_none, nat_eq, nat_le, slice_get, slice_index_or, count_by, Contains, ⊤}
 use Rattle.std.specs.List.{AllByRecursion}
-use Rattle.std.proofs.lemmas.Bool.{and_parts, false≢true}
+use Rattle.std.proofs.lemmas.Bool.{and_parts}
 use Rattle.c_tree.specs.declared.expression.Argument.{Argument, out-Argument}
 use Rattle.c_tree.specs.declared.expression.Argument.TheOpen.{Argument-F, Form-F}
 use Rattle.c_tree.specs.declared.expression.Form.{out-Form}
@@ -31,11 +31,11 @@ use Rattle.c_rules.specs.Names.{look_up, is_start_routine, is_void_base, gives_p
 use Rattle.c_rules.specs.Walks.{pure, finds, finds_if, creates, ◌>>=◌, ◌>>◌}
 use Rattle.c_expressions.specs.Callees.{function_name, library_name}
 use Rattle.c_expressions.specs.Expressions.{value, argument, arguments}
-use Rattle.c_expressions.specs.Arguments as a
-use Rattle.c_expressions.specs.Calls as c
-use Rattle.c_types.specs.Functions.{gives_by, is_unlisted, return_by}
+use Rattle.c_calls.specs.Arguments as a
+use Rattle.c_calls.specs.Calls as c
+use Rattle.c_resolution.specs.Functions.{gives_by, is_unlisted, return_by}
 use Rattle.resolved_program.specs.Leaves.{AreValid, expression_leaves, argument_leaves, call_leaves}
-use Rattle.resolved_program.specs.Orders.{IsHeader, IsOrderly, IsGiven, IsPointerAt, IsFoundCall, IsFoundStart, IsFoundCreation, IsInOrder, GivesRoutines}
+use Rattle.resolved_program.specs.Orders.{IsHeader, IsOrderly, IsGiven, IsPointerAt, IsFoundCall, IsFoundCreation, IsInOrder, GivesRoutines}
 use Rattle.resolved_program.proofs.Walks.{Shows, shows_pure, shows_then, shows_as, shows_broken, shows_if, shows_creation, shows_visited, none-some, IfAny}
 use Rattle.resolved_program.proofs.Known.{Is, IsKnown, look_up_is}
 use Rattle.resolved_program.proofs.Callees.{IsCalled, IsCallOf, IsPlaced, function_name_shows, library_name_shows}
@@ -124,7 +124,8 @@ only y x inside = at inside.0 inside.1 inside.2
     at zero lt is = is
     at (suc k) lt is = absurd (omega arith)
 
-has_routine : (o : Option ThreadObject) (n routine : ℕ) → r.thread_length o ≡ Some n → ((object : ThreadObject) → o ≡ Some object → object.routine ≡ Some routine) → r.HasRoutine o routine
+has_routine : (o : Option ThreadObject) (n routine : ℕ) → r.thread_length o ≡ Some n → ((object : ThreadObject) → o ≡ Some object → object.routine ≡ Some routine) →
+    r.HasRoutine o routine
 has_routine None n routine is given = none-some n (sym is)
 has_routine (Some object) n routine is given = given object refl
 
@@ -132,13 +133,12 @@ object_there : (P : Program) (f : Function) (t : ObjectPlace) → IsObjectAt P f
 object_there P f (ObjectPlace.Single object) is = (1, is)
 object_there P f (ObjectPlace.Element object size index) is = (size, is.0)
 
--- a statement without calls, creates and joins
+-- a statement without calls and creates
 pub plain_in : (whole : Findings) (P : Program) (number : ℕ) (f : Function) (in_loop : Bool) (x : Statement) → r.IsStatement P f in_loop x → calls_of x ≡ [] →
-    r.starts_or_joins x ≡ false → r.creates_of x ≡ [] → IsInOrder whole P number f in_loop x
-plain_in whole P number f in_loop x is calls starts creates = record {
+    r.creates_of x ≡ [] → IsInOrder whole P number f in_loop x
+plain_in whole P number f in_loop x is calls creates = record {
   is = is;
   calls = λ callee inside. absurd (nothing_in callee (subst (λ list. Contains list callee) calls inside));
-  starts = λ h. absurd (none_of (r.starts_or_joins x) starts h);
   creates = λ thread routine inside. absurd (nothing_in (thread, routine) (subst (λ list. Contains list (thread, routine)) creates inside));
 }
 
@@ -149,11 +149,11 @@ module _ (whole : Findings) (P : Program) (number : ℕ) (f : Function) (s : Sco
   abbrev InOrder : Statement → Type 0
   InOrder x = IsInOrder whole P number f in_loop x
 
-  pub plain : (x : Statement) → r.IsStatement P f in_loop x → calls_of x ≡ [] → r.starts_or_joins x ≡ false → r.creates_of x ≡ [] → InOrder x
-  plain x is calls starts creates = plain_in whole P number f in_loop x is calls starts creates
+  pub plain : (x : Statement) → r.IsStatement P f in_loop x → calls_of x ≡ [] → r.creates_of x ≡ [] → InOrder x
+  plain x is calls creates = plain_in whole P number f in_loop x is calls creates
 
   pub empty : InOrder Statement.Empty
-  empty = plain Statement.Empty tt refl refl refl
+  empty = plain Statement.Empty tt refl refl
 
   abbrev AllValid : List Argument → Type 0
   AllValid list = AllByRecursion (λ x. AreValid (argument_leaves x)) list
@@ -165,82 +165,78 @@ module _ (whole : Findings) (P : Program) (number : ℕ) (f : Function) (s : Sco
   looked_call_shows : (list : List Argument) → AllValid list → Shows whole Now InOrder (c.looked_call s list)
   unfolding c.looked_call
   looked_call_shows list valid =
-      shows_then (arguments s list) (λ _. pure Statement.Empty) (shows_visited (λ x. x) (map (argument s) list) (each_looked list valid)) (λ _. shows_pure Statement.Empty (λ _. empty))
+      shows_then (arguments s list) (λ _. pure Statement.Empty) (shows_visited (λ x. x) (map (argument s) list) (each_looked list valid))
+      (λ _. shows_pure Statement.Empty (λ _. empty))
 
   -- ---- pthread_create
 
-  created_is : (at : ℕ) (t : ObjectPlace) (v : Expression) (routine : ℕ) → IsObjectAt P f Thread t → Is P f v → IsPointerAt P routine → IsFoundStart whole number →
+  created_is : (at : ℕ) (t : ObjectPlace) (v : Expression) (routine : ℕ) → IsObjectAt P f Thread t → Is P f v → IsPointerAt P routine →
       IsFoundCreation whole (r.object_of t) routine → InOrder (Statement.Thread at (ThreadCall.Create t routine v))
-  created_is at t v routine object is pointer start found =
+  created_is at t v routine object is pointer found =
       let there = object_there P f t object in
       record {
         is = (object, has_routine (slice_get P.threads (r.object_of t)) there.0 routine there.1 (λ o at. given_routines (r.object_of t) routine o found at), is);
         calls = λ callee inside. absurd (nothing_in callee inside);
-        starts = λ _. start;
         creates = λ thread given inside.
             subst (λ (x : ℕ × ℕ). IsPointerAt P x.1 × IsFoundCreation whole x.0 x.1) (only (r.object_of t, routine) (thread, given) inside) (pointer, found);
       }
 
   created_shows : (at : ℕ) (t : ObjectPlace) (v : Expression) (routine : Option (ℕ × ℕ)) →
-      Shows whole (IsFoundStart whole number × IsObjectAt P f Thread t × IfAny (λ (r : ℕ × ℕ). IsPointerAt P r.0) routine × Is P f v) InOrder (c.created at t v routine)
+      Shows whole (IsObjectAt P f Thread t × IfAny (λ (r : ℕ × ℕ). IsPointerAt P r.0) routine × Is P f v) InOrder (c.created at t v routine)
   unfolding c.created
   created_shows at t v None = shows_pure Statement.Empty (λ _. empty)
   created_shows at t v (Some routine) =
       shows_then (creates (r.object_of t) routine.0 routine.1) (λ _. pure (Statement.Thread at (ThreadCall.Create t routine.0 v)))
       (shows_creation (r.object_of t) routine.0 routine.1)
-      (λ _. shows_pure (Statement.Thread at (ThreadCall.Create t routine.0 v)) (λ b. created_is at t v routine.0 b.0.1 b.0.3 b.0.2 b.0.0 b.1))
-
-  abbrev Started : Type 0
-  Started = Now × IsFoundStart whole number
+      (λ _. shows_pure (Statement.Thread at (ThreadCall.Create t routine.0 v)) (λ b. created_is at t v routine.0 b.0.0 b.0.2 b.0.1 b.1))
 
   create_shows : (at : ℕ) (thread attributes routine x : Argument) → AreValid (argument_leaves thread) → AreValid (argument_leaves attributes) →
-      AreValid (argument_leaves routine) → AreValid (argument_leaves x) → Shows whole Started InOrder (c.create s at thread attributes routine x)
+      AreValid (argument_leaves routine) → AreValid (argument_leaves x) → Shows whole Now InOrder (c.create s at thread attributes routine x)
   unfolding c.create
   create_shows at thread attributes routine x h0 h1 h2 h3 =
       let pointed = λ (t : ObjectPlace) (q : Option (ℕ × ℕ)). a.pointer_argument s x >>= (λ v. c.created at t v q) in
       let routed = λ (t : ObjectPlace). a.routine_argument s routine >>= pointed t in
       shows_then (a.address_argument s Thread thread) (λ t. a.null_argument s attributes >> routed t)
-      (shows_as (a.address_argument s Thread thread) (λ b. b.0) (λ _ _ is. is) (p.address_argument_shows whole P number f s Thread thread h0))
+      (p.address_argument_shows whole P number f s Thread thread h0)
       (λ t. shows_then (a.null_argument s attributes) (λ _. routed t)
-      (shows_as (a.null_argument s attributes) (λ b. b.0.0) (λ _ _ is. is) (p.null_argument_shows whole P number f s attributes h1))
+      (shows_as (a.null_argument s attributes) (λ b. b.0) (λ _ _ is. is) (p.null_argument_shows whole P number f s attributes h1))
       (λ _. shows_then (a.routine_argument s routine) (pointed t)
-      (shows_as (a.routine_argument s routine) (λ b. b.0.0.0) (λ _ _ is. is) (p.routine_argument_shows whole P number f s routine h2))
+      (shows_as (a.routine_argument s routine) (λ b. b.0.0) (λ _ _ is. is) (p.routine_argument_shows whole P number f s routine h2))
       (λ q. shows_then (a.pointer_argument s x) (λ v. c.created at t v q)
-      (shows_as (a.pointer_argument s x) (λ b. b.0.0.0.0) (λ _ _ is. is) (p.pointer_argument_shows whole P number f s x h3))
-      (λ v. shows_as (c.created at t v q) (λ b. (b.0.0.0.0.1, b.0.0.0.1, b.0.1, b.1)) (λ _ _ is. is) (created_shows at t v q)))))
+      (shows_as (a.pointer_argument s x) (λ b. b.0.0.0) (λ _ _ is. is) (p.pointer_argument_shows whole P number f s x h3))
+      (λ v. shows_as (c.created at t v q) (λ b. (b.0.0.0.1, b.0.1, b.1)) (λ _ _ is. is) (created_shows at t v q)))))
 
-  create_of_shows : (at : ℕ) (list : List Argument) → AllValid list → Shows whole Started InOrder (c.create_of s at list (c.four list))
-  create_of_shows at [] valid = shows_as (c.looked_call s []) (λ b. b.0) (λ _ _ is. is) (looked_call_shows [] valid)
-  create_of_shows at (x ∷ []) valid = shows_as (c.looked_call s (x ∷ [])) (λ b. b.0) (λ _ _ is. is) (looked_call_shows (x ∷ []) valid)
-  create_of_shows at (x ∷ y ∷ []) valid = shows_as (c.looked_call s (x ∷ y ∷ [])) (λ b. b.0) (λ _ _ is. is) (looked_call_shows (x ∷ y ∷ []) valid)
-  create_of_shows at (x ∷ y ∷ z ∷ []) valid = shows_as (c.looked_call s (x ∷ y ∷ z ∷ [])) (λ b. b.0) (λ _ _ is. is) (looked_call_shows (x ∷ y ∷ z ∷ []) valid)
+  create_of_shows : (at : ℕ) (list : List Argument) → AllValid list → Shows whole Now InOrder (c.create_of s at list (c.four list))
+  create_of_shows at [] valid = looked_call_shows [] valid
+  create_of_shows at (x ∷ []) valid = looked_call_shows (x ∷ []) valid
+  create_of_shows at (x ∷ y ∷ []) valid = looked_call_shows (x ∷ y ∷ []) valid
+  create_of_shows at (x ∷ y ∷ z ∷ []) valid = looked_call_shows (x ∷ y ∷ z ∷ []) valid
   create_of_shows at (x ∷ y ∷ z ∷ w ∷ []) valid = create_shows at x y z w valid.0 valid.1.0 valid.1.1.0 valid.1.1.1.0
   create_of_shows at (x ∷ y ∷ z ∷ w ∷ v ∷ more) valid =
-      shows_as (c.looked_call s (x ∷ y ∷ z ∷ w ∷ v ∷ more)) (λ b. b.0) (λ _ _ is. is) (looked_call_shows (x ∷ y ∷ z ∷ w ∷ v ∷ more) valid)
+      looked_call_shows (x ∷ y ∷ z ∷ w ∷ v ∷ more) valid
 
   -- ---- pthread_join
 
   join_shows : (at : ℕ) (thread outcome : Argument) → AreValid (argument_leaves thread) → AreValid (argument_leaves outcome) →
-      Shows whole Started InOrder (c.join s at thread outcome)
+      Shows whole Now InOrder (c.join s at thread outcome)
   unfolding c.join
   join_shows at thread outcome h0 h1 =
       let joined = λ (t : ObjectPlace). Statement.Thread at (ThreadCall.Join t) in
       shows_then (a.thread_argument s thread) (λ t. a.null_argument s outcome >> pure (joined t))
-      (shows_as (a.thread_argument s thread) (λ b. b.0) (λ _ _ is. is) (p.thread_argument_shows whole P number f s thread h0))
+      (p.thread_argument_shows whole P number f s thread h0)
       (λ t. shows_then (a.null_argument s outcome) (λ _. pure (joined t))
-      (shows_as (a.null_argument s outcome) (λ b. b.0.0) (λ _ _ is. is) (p.null_argument_shows whole P number f s outcome h1))
+      (shows_as (a.null_argument s outcome) (λ b. b.0) (λ _ _ is. is) (p.null_argument_shows whole P number f s outcome h1))
       (λ _. shows_pure (joined t) (λ b. record {
         is = b.0.1;
         calls = λ callee inside. absurd (nothing_in callee inside);
-        starts = λ _. b.0.0.1;
         creates = λ thread routine inside. absurd (nothing_in (thread, routine) inside);
       })))
 
-  join_of_shows : (at : ℕ) (list : List Argument) → AllValid list → Shows whole Started InOrder (c.join_of s at list (c.two list))
-  join_of_shows at [] valid = shows_as (c.looked_call s []) (λ b. b.0) (λ _ _ is. is) (looked_call_shows [] valid)
-  join_of_shows at (x ∷ []) valid = shows_as (c.looked_call s (x ∷ [])) (λ b. b.0) (λ _ _ is. is) (looked_call_shows (x ∷ []) valid)
+  join_of_shows : (at : ℕ) (list : List Argument) → AllValid list → Shows whole Now InOrder (c.join_of s at list (c.two list))
+  join_of_shows at [] valid = looked_call_shows [] valid
+  join_of_shows at (x ∷ []) valid = looked_call_shows (x ∷ []) valid
   join_of_shows at (x ∷ y ∷ []) valid = join_shows at x y valid.0 valid.1.0
-  join_of_shows at (x ∷ y ∷ z ∷ more) valid = shows_as (c.looked_call s (x ∷ y ∷ z ∷ more)) (λ b. b.0) (λ _ _ is. is) (looked_call_shows (x ∷ y ∷ z ∷ more) valid)
+  join_of_shows at (x ∷ y ∷ z ∷ more) valid = looked_call_shows (x ∷ y ∷ z ∷ more) valid
 
   -- ---- pthread_exit
 
@@ -261,7 +257,7 @@ module _ (whole : Findings) (P : Program) (number : ℕ) (f : Function) (s : Sco
       (shows_as (a.pointer_argument s x) (λ b. b.0) (λ _ _ is. is) (p.pointer_argument_shows whole P number f s x h))
       (λ v. shows_pure (left v) (λ b.
       let pointer = (or_parts (is_none s.function) (not (gives_pointer s.gives)) b.0.1).1 in
-      plain (left v) (subst (λ returns. r.IsReturn P f returns (Some (RightSide.Value v))) (sym (pointer_given s.gives pointer b.0.0.gives)) b.1) refl refl refl))
+      plain (left v) (subst (λ returns. r.IsReturn P f returns (Some (RightSide.Value v))) (sym (pointer_given s.gives pointer b.0.0.gives)) b.1) refl refl))
 
   exit_of_shows : (at : ℕ) (list : List Argument) → AllValid list → Shows whole Exiting InOrder (c.exit_of s at list (c.one list))
   exit_of_shows at [] valid = shows_as (c.looked_call s []) (λ b. b.0) (λ _ _ is. is) (looked_call_shows [] valid)
@@ -279,7 +275,7 @@ module _ (whole : Findings) (P : Program) (number : ℕ) (f : Function) (s : Sco
       (p.address_argument_shows whole P number f s Mutex mutex h0)
       (λ m. shows_then (a.null_argument s attributes) (λ _. pure (made m))
       (shows_as (a.null_argument s attributes) (λ b. b.0) (λ _ _ is. is) (p.null_argument_shows whole P number f s attributes h1))
-      (λ _. shows_pure (made m) (λ b. plain (made m) b.0.1 refl refl refl)))
+      (λ _. shows_pure (made m) (λ b. plain (made m) b.0.1 refl refl)))
 
   mutex_init_of_shows : (at : ℕ) (list : List Argument) → AllValid list → Shows whole Now InOrder (c.mutex_init_of s at list (c.two list))
   mutex_init_of_shows at [] valid = looked_call_shows [] valid
@@ -299,7 +295,7 @@ module _ (whole : Findings) (P : Program) (number : ℕ) (f : Function) (s : Sco
       (shows_as (a.null_argument s attributes) (λ h. h.0) (λ _ _ is. is) (p.null_argument_shows whole P number f s attributes h1))
       (λ _. shows_then (a.value_argument s count) (λ n. pure (made b n))
       (shows_as (a.value_argument s count) (λ h. h.0.0) (λ _ _ is. is) (p.value_argument_shows whole P number f s count h2))
-      (λ n. shows_pure (made b n) (λ h. plain (made b n) (h.0.0.1, h.1) refl refl refl))))
+      (λ n. shows_pure (made b n) (λ h. plain (made b n) (h.0.0.1, h.1) refl refl))))
 
   barrier_init_of_shows : (at : ℕ) (list : List Argument) → AllValid list → Shows whole Now InOrder (c.barrier_init_of s at list (c.three list))
   barrier_init_of_shows at [] valid = looked_call_shows [] valid
@@ -319,11 +315,11 @@ module _ (whole : Findings) (P : Program) (number : ℕ) (f : Function) (s : Sco
 
   on_object_is : (function : LibraryFunction) (at : ℕ) (o : ObjectPlace) → IsOfObject function → IsObjectAt P f (c.object_kind function) o →
       InOrder (Statement.Thread at (c.on_object function o))
-  on_object_is library.MutexDestroy at o of is = plain (Statement.Thread at (ThreadCall.MutexDestroy o)) is refl refl refl
-  on_object_is library.MutexLock at o of is = plain (Statement.Thread at (ThreadCall.MutexLock o)) is refl refl refl
-  on_object_is library.MutexUnlock at o of is = plain (Statement.Thread at (ThreadCall.MutexUnlock o)) is refl refl refl
-  on_object_is library.BarrierDestroy at o of is = plain (Statement.Thread at (ThreadCall.BarrierDestroy o)) is refl refl refl
-  on_object_is library.BarrierWait at o of is = plain (Statement.Thread at (ThreadCall.BarrierWait o)) is refl refl refl
+  on_object_is library.MutexDestroy at o of is = plain (Statement.Thread at (ThreadCall.MutexDestroy o)) is refl refl
+  on_object_is library.MutexLock at o of is = plain (Statement.Thread at (ThreadCall.MutexLock o)) is refl refl
+  on_object_is library.MutexUnlock at o of is = plain (Statement.Thread at (ThreadCall.MutexUnlock o)) is refl refl
+  on_object_is library.BarrierDestroy at o of is = plain (Statement.Thread at (ThreadCall.BarrierDestroy o)) is refl refl
+  on_object_is library.BarrierWait at o of is = plain (Statement.Thread at (ThreadCall.BarrierWait o)) is refl refl
   on_object_is library.Print at o of is = absurd of
   on_object_is library.Create at o of is = absurd of
   on_object_is library.Join at o of is = absurd of
@@ -365,7 +361,7 @@ module _ (whole : Findings) (P : Program) (number : ℕ) (f : Function) (s : Sco
         count = eqb-true (count_by r.is_conversion pieces) count parts.0 ∙ sym counted;
         most = subst (λ n. n ≤ 4) (sym counted) (leb-true count 4 parts.1);
         passed = all;
-      }) refl refl refl
+      }) refl refl
 
   print_arguments_show : (at : ℕ) (first : Argument) (values : List Argument) → AreValid (argument_leaves first) → AllValid values →
       Shows whole Now InOrder (c.print_arguments s at first values)
@@ -394,8 +390,10 @@ module _ (whole : Findings) (P : Program) (number : ℕ) (f : Function) (s : Sco
       Shows whole (Now × IsPlaced whole number s function) InOrder (c.library_statement s function at name_at list)
   unfolding c.library_statement c.create_call c.join_call c.exit_call c.mutex_init_call c.barrier_init_call
   library_statement_shows library.Print at name_at list valid = shows_as (c.print_call s at name_at list) (λ b. b.0) (λ _ _ is. is) (print_call_shows at name_at list valid)
-  library_statement_shows library.Create at name_at list valid = create_of_shows at list valid
-  library_statement_shows library.Join at name_at list valid = join_of_shows at list valid
+  library_statement_shows library.Create at name_at list valid =
+      shows_as (c.create_of s at list (c.four list)) (λ b. b.0) (λ _ _ is. is) (create_of_shows at list valid)
+  library_statement_shows library.Join at name_at list valid =
+      shows_as (c.join_of s at list (c.two list)) (λ b. b.0) (λ _ _ is. is) (join_of_shows at list valid)
   library_statement_shows library.Exit at name_at list valid = exit_of_shows at list valid
   library_statement_shows library.MutexInit at name_at list valid =
       shows_as (c.mutex_init_of s at list (c.two list)) (λ b. b.0) (λ _ _ is. is) (mutex_init_of_shows at list valid)
@@ -444,7 +442,6 @@ module _ (whole : Findings) (P : Program) (number : ℕ) (f : Function) (s : Sco
   called_is at (Some h) count (Some callee) values header is all counted = record {
     is = is_call P f h count header false callee values (sym is.0) is.1 all counted;
     calls = λ g inside. subst (λ n. IsFoundCall whole number n) (only callee g inside) is.2;
-    starts = λ h. absurd (false≢true h);
     creates = λ thread routine inside. absurd (nothing_in (thread, routine) inside);
   }
 

@@ -10,7 +10,7 @@ use Rattle.c_rules.specs.declared.names.Header.{Header}
 use Rattle.c_rules.specs.declared.names.Scope.{Scope}
 use Rattle.c_rules.specs.Levels.{named_in}
 use Rattle.c_rules.specs.Walks.{place_in_tree}
-use Rattle.c_types.specs.Functions as y
+use Rattle.c_resolution.specs.Functions as y
 use Rattle.resolved_program.proofs.Walks.{some-some}
 use Rattle.resolved_program.proofs.Growing.{front_at, Grows}
 

@@ -10,10 +10,10 @@ use Rattle.c_program.specs.Resolved.{creates_of}
 use Rattle.c_rules.specs.declared.findings.Creation.{Creation}
 use Rattle.c_rules.specs.declared.names.Header.{Header}
 use Rattle.c_rules.specs.declared.specifiers.Spelled.{Spelled}
-use Rattle.c_types.specs.States.{state}
-use Rattle.c_types.specs.Files.{File}
-use Rattle.c_types.specs.Functions as y
-use Rattle.c_types.specs.Globals as g
+use Rattle.c_resolution.specs.States.{state}
+use Rattle.c_resolution.specs.Files.{File}
+use Rattle.c_resolution.specs.Functions as y
+use Rattle.c_resolution.specs.Globals as g
 use Rattle.resolved_program.specs.Orders.{left}
 use Rattle.resolved_program.proofs.Making.{IsOf}
 use Rattle.resolved_program.proofs.Makings.{body_makes}

@@ -18,9 +18,9 @@ use Rattle.c_rules.specs.Library.{function_named}
 use Rattle.c_rules.specs.Names.{opened, is_start_routine}
 use Rattle.c_rules.specs.Specifiers.{plain, spelled_by}
 use Rattle.c_rules.specs.Walks.{pure, finds, finds_if, ◌>>◌}
-use Rattle.c_types.specs.States.{Goes, finding, scoping}
-use Rattle.c_types.specs.Locals.{new_local, refused_local, declare}
-use Rattle.c_types.specs.Functions as y
+use Rattle.c_resolution.specs.States.{Goes, finding, scoping}
+use Rattle.c_resolution.specs.Locals.{new_local, refused_local, declare}
+use Rattle.c_resolution.specs.Functions as y
 use Rattle.resolved_program.proofs.Quiet.{IsQuiet, quiet_then, quiet_pure, quiet_finds, quiet_if}
 use Rattle.resolved_program.proofs.Makings as k
 

@@ -25,11 +25,11 @@ use Rattle.c_rules.specs.Levels.{named_in}
 use Rattle.c_rules.specs.Library.{function_named}
 use Rattle.c_rules.specs.Names.{is_taken, declaring}
 use Rattle.c_rules.specs.Specifiers.{c_type}
-use Rattle.c_rules.specs.Walks.{Outcome, Finds, and_then, finds, place_in_tree, ◌>>=◌, ◌>>◌}
-use Rattle.c_types.specs.States.{State, state, Goes, finding, scoping}
-use Rattle.c_types.specs.Locals.{declare, optional_length}
-use Rattle.c_types.specs.Files.{File, Tables, Declares, file, going, tabling}
-use Rattle.c_types.specs.Globals as g
+use Rattle.c_rules.specs.Walks.{Outcome, Finds, and_then, finds, place_in_tree, ◌>>=◌}
+use Rattle.c_resolution.specs.States.{State, state, Goes, finding, scoping}
+use Rattle.c_resolution.specs.Locals.{declare, optional_length}
+use Rattle.c_resolution.specs.Files.{File, Tables, Declares, file, going, tabling}
+use Rattle.c_resolution.specs.Globals as g
 use Rattle.resolved_program.specs.Leaves.{AreValid, expression_leaves, initializer_leaves, of_any}
 use Rattle.resolved_program.specs.Orders.{left, given, IsPartOf}
 use Rattle.resolved_program.proofs.Walks.{Shows, shows_pure, shows_broken, turn, IfAny}

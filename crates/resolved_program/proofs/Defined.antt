@@ -87,7 +87,7 @@ module _ {whole : Findings} {P : Program} {number : ℕ} {h : Header} {code : Fu
   function_is name = record { name = name; parameters = d.front; scalars = d.scalars; lengths = d.lengths; body = d.body.is }
 
   pub found_is : IsFound P.functions whole number code
-  found_is = record { calls = d.body.calls; inside = statement_inside P code code.body false d.body.is; starts = d.body.starts }
+  found_is = record { calls = d.body.calls; inside = statement_inside P code code.body false d.body.is }
 
   -- a function that returns a pointer is a start routine
   pub start_is : r.IfStartRoutine code code.returns

@@ -1,5 +1,6 @@
 -- A definition of a function is in order.
-use Rattle.std.proofs.Common.{◌≡◌, refl, sym, ap, subst, ◌∙◌, ℕ, zero, suc, ◌<◌, ◌≤◌, true, false, List, [], ◌∷◌, ◌++◌, map, length, Some, append-nil, length-append, le_trans, arith}
+use Rattle.std.proofs.Common.{◌≡◌, refl, sym, ap, subst, ◌∙◌, ℕ, zero, suc, ◌<◌, ◌≤◌, true, false, List, []}
+use Rattle.std.proofs.Common.{◌∷◌, ◌++◌, map, length, Some, append-nil, length-append, le_trans, arith}
 use Rattle.std.specs.Prelude.{◌^◌, slice_get, is_some, unwrap_or}
 use Rattle.std.specs.List.{AllByRecursion}
 use Rattle.std.proofs.lemmas.Bool.{and_parts}
@@ -14,9 +15,9 @@ use Rattle.c_rules.specs.declared.findings.Findings.{Findings}
 use Rattle.c_rules.specs.declared.names.Header.{Header}
 use Rattle.c_rules.specs.Names.{opened, is_start_routine, is_pointer_alone, is_void_pointer}
 use Rattle.c_rules.specs.Walks.{Outcome, place_in_tree}
-use Rattle.c_types.specs.States.{State, state}
-use Rattle.c_types.specs.Statements.{items}
-use Rattle.c_types.specs.Functions as y
+use Rattle.c_resolution.specs.States.{State, state}
+use Rattle.c_resolution.specs.Statements.{items}
+use Rattle.c_resolution.specs.Functions as y
 use Rattle.resolved_program.specs.Leaves.{AreValid, block_leaves}
 use Rattle.resolved_program.specs.Orders.{left, given, IsFront, AreMeant, IsHeader, IsGiven, IsPartOf, IsAhead, Holds, IsInOrder, GivesRoutines}
 use Rattle.resolved_program.proofs.Steps.{all_more}

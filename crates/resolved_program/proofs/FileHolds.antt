@@ -16,14 +16,14 @@ use Rattle.c_rules.specs.declared.names.Meaning.TheVariants as meaning
 use Rattle.c_rules.specs.declared.names.Header.{Header}
 use Rattle.c_rules.specs.declared.names.Scope.{Scope}
 use Rattle.c_rules.specs.Levels.{named_in}
-use Rattle.c_types.specs.Files.{File, Tables}
-use Rattle.c_types.specs.Functions as y
-use Rattle.c_types.specs.Globals.{text}
-use Rattle.c_types.specs.Texts.{definitions}
+use Rattle.c_resolution.specs.Files.{File, Tables}
+use Rattle.c_resolution.specs.Functions as y
+use Rattle.c_resolution.specs.Globals.{text}
+use Rattle.c_resolution.specs.Texts.{definitions}
 use Rattle.resolved_program.proofs.Walks.{none-some, some-some, length-more}
 use Rattle.resolved_program.proofs.Locals.{number_is}
 use Rattle.resolved_program.proofs.Ready.{IsFileScope}
-use Rattle.resolved_program.proofs.Functions.{named, defined_at}
+use Rattle.resolved_program.proofs.Functions.{defined_at}
 use Rattle.resolved_program.proofs.Filed.{headed}
 use Rattle.resolved_program.proofs.Numbers.{names_of, names_in, body_names, definition_number}
 use Rattle.resolved_program.proofs.Firsts.{body_names_more, first_number}

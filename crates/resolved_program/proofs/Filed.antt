@@ -8,10 +8,10 @@ use Rattle.c_rules.specs.declared.findings.Findings.{Findings}
 use Rattle.c_rules.specs.declared.names.Header.{Header}
 use Rattle.c_rules.specs.Names.{closed}
 use Rattle.c_rules.specs.Walks.{Outcome, place_in_tree, ◌>>◌}
-use Rattle.c_types.specs.States.{State, state, scoping}
-use Rattle.c_types.specs.Statements.{items}
-use Rattle.c_types.specs.Files.{File, Declares, file, going}
-use Rattle.c_types.specs.Functions as y
+use Rattle.c_resolution.specs.States.{State, state, scoping}
+use Rattle.c_resolution.specs.Statements.{items}
+use Rattle.c_resolution.specs.Files.{File, Declares, file, going}
+use Rattle.c_resolution.specs.Functions as y
 use Rattle.resolved_program.specs.Leaves.{AreValid, block_leaves}
 use Rattle.resolved_program.specs.Orders.{left, given, IsPartOf, GivesRoutines}
 use Rattle.resolved_program.proofs.Walks.{turn}

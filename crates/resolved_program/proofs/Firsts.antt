@@ -6,7 +6,7 @@ use Rattle.c_tree.specs.declared.declaration.Function.{Function as FunctionTree}
 use Rattle.c_tree.specs.declared.declaration.ExternalDeclaration.{ExternalDeclaration}
 use Rattle.c_tree.specs.declared.declaration.ExternalDeclaration.TheVariants as external
 use Rattle.c_rules.specs.Levels.{named_in, inserted}
-use Rattle.c_types.specs.Texts as y
+use Rattle.c_resolution.specs.Texts as y
 use Rattle.resolved_program.proofs.Numbers.{names_in, body_names, all_noted, least_is}
 use Rattle.resolved_program.proofs.Growing.{inserted_there, inserted_keeps}
 

@@ -1,5 +1,5 @@
 -- What is known at some place of a text is a part of what is known behind it.
-use Rattle.c_types.specs.Files.{Tables, File}
+use Rattle.c_resolution.specs.Files.{Tables, File}
 use Rattle.resolved_program.specs.Orders.{IsFront, IsPartOf}
 use Rattle.resolved_program.proofs.Growing.{front_same, front_on}
 

@@ -21,11 +21,11 @@ use Rattle.c_rules.specs.Specifiers.{plain, spelled_by}
 use Rattle.c_rules.specs.Names.{opened, is_start_routine, is_pointer_alone, is_void_pointer, is_void_base}
 use Rattle.c_rules.specs.Findings as findings
 use Rattle.c_rules.specs.Walks.{Outcome, pure, and_then, finds_if, place_in_tree, ◌>>◌}
-use Rattle.c_types.specs.States.{State, state, Goes, finding, scoping}
-use Rattle.c_types.specs.Locals.{new_local, refused_local, declare}
-use Rattle.c_types.specs.Statements.{items}
-use Rattle.c_types.specs.Files.{File, Tables, Declares, file, going, in_file, with_function}
-use Rattle.c_types.specs.Functions as y
+use Rattle.c_resolution.specs.States.{State, state, Goes, finding, scoping}
+use Rattle.c_resolution.specs.Locals.{new_local, refused_local, declare}
+use Rattle.c_resolution.specs.Statements.{items}
+use Rattle.c_resolution.specs.Files.{File, Tables, Declares, file, going, in_file, with_function}
+use Rattle.c_resolution.specs.Functions as y
 use Rattle.resolved_program.specs.Orders.{left, given, IsGiven}
 use Rattle.resolved_program.proofs.Walks.{turn}
 use Rattle.resolved_program.proofs.Moving as m
@@ -59,7 +59,8 @@ moving_named p routine has_body (Some name) =
 moving_named p routine has_body None =
     let at = p.specifiers.offset in
     let last : Goes (Unit {0}) = finding (λ s. finds_if has_body rule.Kind at) in
-    m.moving_then (y.parameter_meaning p routine at) (λ _. last) (moving_meaning p routine at) (λ _. m.moving_staying last (m.staying_finding (λ s. finds_if has_body rule.Kind at)))
+    m.moving_then (y.parameter_meaning p routine at) (λ _. last) (moving_meaning p routine at)
+    (λ _. m.moving_staying last (m.staying_finding (λ s. finds_if has_body rule.Kind at)))
 
 moving_parameter : (routine has_body : Bool) (p : Parameter) → m.IsMoving (y.parameter routine has_body p)
 unfolding y.parameter

@@ -14,11 +14,11 @@ use Rattle.c_rules.specs.declared.names.Header.{Header}
 use Rattle.c_rules.specs.Names.{is_int}
 use Rattle.c_rules.specs.Levels.{named_in}
 use Rattle.c_rules.specs.Walks.{Outcome}
-use Rattle.c_types.specs.Files.{File, Tables}
-use Rattle.c_types.specs.Functions as y
-use Rattle.c_types.specs.Globals as g
-use Rattle.c_types.specs.Resolving as z
-use Rattle.c_types.specs.Texts.{definitions, declarations, main_number}
+use Rattle.c_resolution.specs.Files.{File, Tables}
+use Rattle.c_resolution.specs.Functions as y
+use Rattle.c_resolution.specs.Globals as g
+use Rattle.c_resolution.specs.Resolving as z
+use Rattle.c_resolution.specs.Texts.{definitions, declarations, main_number}
 use Rattle.resolved_program.specs.Laws.{IsNumbered}
 use Rattle.resolved_program.specs.Leaves.{AreValid, external_leaves, of_each}
 use Rattle.resolved_program.specs.Gathered.{IsGathered}
@@ -90,7 +90,7 @@ module _ (L : List ExternalDeclaration) (main : ℕ) (valid : AreValid (of_each 
 
   within : IsWithin X X
   within = record {
-    found = record { no_fault = no_fault; calls = λ c is. is; threads = λ t is. is; creations = λ c is. is };
+    found = record { no_fault = no_fault; calls = λ c is. is; creations = λ c is. is };
     tables = fronts_same X.tables;
     headers = front_same X.scope.headers;
   }

@@ -23,8 +23,8 @@ use Rattle.c_rules.specs.Names.{same_kind}
 use Rattle.c_rules.specs.Specifiers.{c_type}
 use Rattle.c_rules.specs.Walks.{pure, finds, finds_if, through, ◌>>=◌, ◌>>◌}
 use Rattle.c_expressions.specs.Expressions.{value}
-use Rattle.c_types.specs.Locals as l
-use Rattle.c_types.specs.Globals as g
+use Rattle.c_resolution.specs.Locals as l
+use Rattle.c_resolution.specs.Globals as g
 use Rattle.resolved_program.specs.Leaves.{AreValid, expression_leaves, initializer_leaves, of_any, of_each}
 use Rattle.resolved_program.proofs.Walks.{Shows, shows_pure, shows_then, shows_as, shows_broken, shows_if, shows_through, shows_visited, length-more, all_more, IfAny}
 use Rattle.resolved_program.proofs.Trees.{value_shows, all_left, all_right}
@@ -114,8 +114,11 @@ module _ (whole : Findings) (P : Program) (f : Function) (s : Scope) where
 
   each_looked : (list : List ExpressionTree) → AreValid (of_each expression_leaves list) → AllByRecursion (λ e. Shows whole ⊤ (λ _. ⊤) (g.looked_value s e)) list
   each_looked [] valid = tt
-  each_looked (e ∷ list) valid =
-      (looked_value_shows e (all_left _ (expression_leaves e) (of_each expression_leaves list) valid), each_looked list (all_right _ (expression_leaves e) (of_each expression_leaves list) valid))
+  each_looked (e ∷ list) valid = (
+    looked_value_shows e (all_left _ (expression_leaves e) (of_each expression_leaves list) valid),
+    each_looked list
+        (all_right _ (expression_leaves e) (of_each expression_leaves list) valid),
+  )
 
   initializer_shows : (i : Initializer) → AreValid (initializer_leaves i) → Shows whole ⊤ (λ _. ⊤) (g.looked i s)
   unfolding g.looked_values

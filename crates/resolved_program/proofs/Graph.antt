@@ -1,28 +1,25 @@
--- What the rules on calls that only the whole text shows give: no call leads back to its caller, and no start routine reaches a
--- create or a join.
-use Rattle.std.proofs.Common.{◌≡◌, refl, sym, ap, subst, ◌∙◌, inl, inr, ℕ, zero, suc, ◌<◌, ◌≤◌, Bool, true, false, List, [], ◌∷◌, ◌++◌, map, length, Option, Some, None, eq-eqb, arith}
-use Rattle.std.specs.Prelude.{◌+◌, ◌-◌, ◌&&◌, nat_eq, if◌then◌else◌, fold, slice_get, slice_index_or, Contains}
+-- What the rule on calls that only the whole text shows gives: no call leads back to its caller.
+use Rattle.std.proofs.Common.{◌≡◌, refl, ap, subst, ◌∙◌, inl, inr, ℕ, zero, suc, ◌<◌, ◌≤◌, Bool, true}
+use Rattle.std.proofs.Common.{false, List, [], ◌∷◌, ◌++◌, map, length, Option, Some, None, eq-eqb, arith}
+use Rattle.std.specs.Prelude.{◌+◌, ◌-◌, nat_eq, if◌then◌else◌, fold, slice_get, slice_index_or, Contains}
 use Rattle.std.specs.List.{AllByRecursion}
 use Rattle.std.specs.Bool.{Decides}
 use Rattle.std.proofs.lemmas.Bool.{cases_lt, false≢true}
-use Rattle.std.proofs.lemmas.Option.{slice_get_within, slice_get-get_or}
+use Rattle.std.proofs.lemmas.Option.{slice_get_within}
 use Rattle.std.proofs.lemmas.List.Elements.{Contains-append_left, Contains-append_right}
 use Rattle.call_graph.specs.declared.table.Call.{Call}
 use Rattle.call_graph.specs.Graphs.{with_call}
 use Rattle.call_graph.specs.Reaching.{Leads, Here, Further}
 use Rattle.c_program.specs.Tree.{Function}
-use Rattle.c_program.specs.Calls.{Calls, Reaches, Directly, Through, IsAcyclic}
-use Rattle.c_program.specs.Resolved as r
+use Rattle.c_program.specs.Calls.{Calls, IsAcyclic}
 use Rattle.c_rules.specs.declared.fault.Rule.{Rule}
 use Rattle.c_rules.specs.declared.fault.Fault.{Fault}
 use Rattle.c_rules.specs.declared.findings.CallSite.{CallSite}
-use Rattle.c_rules.specs.declared.findings.ThreadSite.{ThreadSite}
 use Rattle.c_rules.specs.declared.findings.Findings.{Findings}
 use Rattle.c_rules.specs.Faults.{first}
-use Rattle.c_types.specs.CallRules as c
+use Rattle.c_resolution.specs.CallRules as c
 use Rattle.resolved_program.specs.Gathered.{IsFound}
 use Rattle.resolved_program.proofs.Walks.{first-some, first-none, none-some}
-use Rattle.resolved_program.proofs.Calls.{none_of, or_parts}
 
 -- ---- no fault in the whole means none in each part
 
@@ -43,14 +40,6 @@ calls_none leads (s ∷ list) fault h =
     let later = calls_none leads list (c.with_call leads fault s) h in
     let part = c.fault_if (leads s.callee s.caller) _ s.offset in
     (first-none fault part later.0, (fault_if_none (leads s.callee s.caller) _ s.offset (first-second fault part later.0), later.1))
-
-pub sites_none : (functions : List Function) (leads : ℕ → ℕ → Bool) (list : List ThreadSite) (fault : Option Fault) → fold (c.with_site functions leads) fault list ≡ None →
-    (fault ≡ None) × AllByRecursion (λ (s : ThreadSite). c.is_reached functions leads s.function ≡ false) list
-sites_none functions leads [] fault h = (h, tt)
-sites_none functions leads (s ∷ list) fault h =
-    let later = sites_none functions leads list (c.with_site functions leads fault s) h in
-    let part = c.fault_if (c.is_reached functions leads s.function) _ s.offset in
-    (first-none fault part later.0, (fault_if_none (c.is_reached functions leads s.function) _ s.offset (first-second fault part later.0), later.1))
 
 pub all_at : {A : Type 0} (Is : A → Type 0) (list : List A) (x : A) → AllByRecursion Is list → Contains list x → Is x
 all_at Is list x all inside = at list inside.0 all inside.1 inside.2
@@ -146,7 +135,6 @@ mapped (x ∷ list) s (suc k) lt is = let h = mapped list s k (omega arith) is i
 module _ (functions : List Function) (found : Findings) (leads : ℕ → ℕ → Bool)
     (decides : (from to : ℕ) → Decides (leads from to) ((from < length functions) × (to < length functions) × Leads (length functions) (map c.call_of found.calls) from to))
     (no_return : AllByRecursion (λ (s : CallSite). leads s.callee s.caller ≡ false) found.calls)
-    (no_start : AllByRecursion (λ (s : ThreadSite). c.is_reached functions leads s.function ≡ false) found.threads)
     (bodies : (number : ℕ) (code : Function) → slice_get functions number ≡ Some code → IsFound functions found number code) where
   abbrev Way : ℕ → ℕ → Type 0
   Way f g = Leads (length functions) (map c.call_of found.calls) f g
@@ -201,49 +189,3 @@ module _ (functions : List Function) (found : Findings) (leads : ℕ → ℕ →
 
   pub acyclic : IsAcyclic functions
   acyclic = record { rank = rank; below = rank_below; falls = rank_falls }
-
-  -- ---- start routines
-
-  any_found : (P : ℕ → Bool) (n k : ℕ) → k < n → c.any_below P n ≡ false → P k ≡ false
-  any_found P zero k lt h = absurd (omega arith)
-  any_found P (suc n) k lt h =
-      let parts = or_parts (c.any_below P n) (P n) h in
-      elim (cases_lt k n) [
-        | inl less ↦ any_found P n k less parts.0
-        | inr le ↦ let is : n ≡ k = omega arith in subst (λ m. P m ≡ false) is parts.1
-      ]
-
-  led_by : (site routine : ℕ) (code : Function) → slice_get functions routine ≡ Some code → c.is_led_to functions leads site routine ≡ false → r.is_pointer code.returns ≡ true →
-      leads routine site ≡ false
-  led_by site routine code at h pointer = not_both (r.is_pointer code.returns) (leads routine site) (ap (c.is_led_by leads site routine) (sym at) ∙ h) pointer
-    where
-      not_both : (a b : Bool) → (a && b) ≡ false → a ≡ true → b ≡ false
-      not_both true b h k = h
-      not_both false b h k = cc
-
-  -- no start routine leads to a function that creates or joins
-  unreached : (site routine : ℕ) (code f : Function) → slice_get functions routine ≡ Some f → r.is_pointer f.returns ≡ true → slice_get functions site ≡ Some code →
-      leads routine site ≡ true → r.starts_or_joins code.body ≡ false
-  unreached site routine code f at pointer here way = by (r.starts_or_joins code.body) refl
-    where
-      by : (b : Bool) → r.starts_or_joins code.body ≡ b → r.starts_or_joins code.body ≡ false
-      by false is = is
-      by true is =
-          let found_at = (bodies site code here).starts is in
-          let quiet = all_at (λ (s : ThreadSite). c.is_reached functions leads s.function ≡ false) found.threads (record { function = site; offset = found_at.0 }) no_start found_at.1 in
-          let led = any_found (c.is_led_to functions leads site) (length functions) routine (slice_get_within functions routine f at) quiet in
-          absurd (none_of (leads routine site) (led_by site routine f at led pointer) way)
-
-  ways : (f g : ℕ) → Reaches functions f g → Way f g
-  ways f g (Directly call) = one_call f g call
-  ways f g (Through {g = h} call rest) = on (one_call f h call) (ways h g rest)
-
-  pub own_quiet : (f : Function) → Contains functions f → r.is_pointer f.returns ≡ true → r.starts_or_joins f.body ≡ false
-  own_quiet f inside pointer =
-      let at = slice_get-get_or functions inside.0 f inside.1 ∙ ap Some inside.2 in
-      unreached inside.0 inside.0 f f at pointer at (itself inside.0 inside.1)
-
-  pub reached_quiet : (s g : ℕ) (f code : Function) → slice_get functions s ≡ Some f → r.is_pointer f.returns ≡ true → Reaches functions s g → slice_get functions g ≡ Some code →
-      r.starts_or_joins code.body ≡ false
-  reached_quiet s g f code at pointer way here =
-      unreached g s code f at pointer here ((decides s g).1 (slice_get_within functions s f at, slice_get_within functions g code here, ways s g way))

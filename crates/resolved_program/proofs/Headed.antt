@@ -10,7 +10,7 @@ use Rattle.c_rules.specs.declared.names.Header.{Header}
 use Rattle.c_rules.specs.declared.names.Scope.{Scope}
 use Rattle.c_rules.specs.Levels.{named_in, inserted}
 use Rattle.c_rules.specs.Names.{is_int}
-use Rattle.c_types.specs.Functions as y
+use Rattle.c_resolution.specs.Functions as y
 use Rattle.resolved_program.specs.Orders.{IsFront}
 use Rattle.resolved_program.proofs.Walks.{none-some, some-some}
 use Rattle.resolved_program.proofs.Growing.{inserted_there, inserted_keeps, inserted_back, front_same, at_front, Grows}

@@ -11,7 +11,7 @@ use Rattle.c_rules.specs.declared.specifiers.BaseType.TheVariants as base
 use Rattle.c_rules.specs.declared.names.DeclaredType.{DeclaredType}
 use Rattle.c_rules.specs.declared.names.Header.{Header}
 use Rattle.c_rules.specs.Names.{is_start_routine, is_pointer_alone, is_void_pointer}
-use Rattle.c_types.specs.Functions as y
+use Rattle.c_resolution.specs.Functions as y
 
 basic_same : (a b : BasicType) → sameb basic_type.the_type a b ≡ true → a ≡ b
 basic_same a b h = same_true basic_type.the_type (search rules) a b h
@@ -89,7 +89,8 @@ pub function_same : (a b : Header) → y.is_same_function a b ≡ true → IsSam
 function_same a b h =
     let parts = and_parts (y.same_type a.returns b.returns) (nat_eq (length a.parameters) (length b.parameters)
     && list_all (λ (p : DeclaredType × DeclaredType). y.same_type p.0 p.1) (zip a.parameters b.parameters)) h in
-    let more = and_parts (nat_eq (length a.parameters) (length b.parameters)) (list_all (λ (p : DeclaredType × DeclaredType). y.same_type p.0 p.1) (zip a.parameters b.parameters)) parts.1 in
+    let more = and_parts (nat_eq (length a.parameters) (length b.parameters))
+    (list_all (λ (p : DeclaredType × DeclaredType). y.same_type p.0 p.1) (zip a.parameters b.parameters)) parts.1 in
     record {
       returns = type_same a.returns b.returns parts.0;
       parameters = types_same a.parameters b.parameters (eqb-true (length a.parameters) (length b.parameters) more.0) more.1;

@@ -11,10 +11,10 @@ use Rattle.c_rules.specs.declared.names.Header.{Header}
 use Rattle.c_rules.specs.declared.names.Scope.{Scope}
 use Rattle.c_rules.specs.Names.{Names, opened, closed, closed_to, is_start_routine}
 use Rattle.c_rules.specs.Walks.{Outcome, place_in_tree, ◌>>◌}
-use Rattle.c_types.specs.States.{State, state, scoping}
-use Rattle.c_types.specs.Statements.{items}
-use Rattle.c_types.specs.Files.{File, Declares, file, going, with_function}
-use Rattle.c_types.specs.Functions as y
+use Rattle.c_resolution.specs.States.{State, state, scoping}
+use Rattle.c_resolution.specs.Statements.{items}
+use Rattle.c_resolution.specs.Files.{File, Declares, file, going, with_function}
+use Rattle.c_resolution.specs.Functions as y
 use Rattle.resolved_program.specs.Leaves.{AreValid, block_leaves, of_any}
 use Rattle.resolved_program.specs.Orders.{left, IsFront, IsPartOf, IsAhead, GivesRoutines}
 use Rattle.resolved_program.proofs.Walks.{turn, none-some, some-some}

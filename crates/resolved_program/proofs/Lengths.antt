@@ -6,7 +6,7 @@ use Rattle.c_program.specs.Resolved.{thread_length}
 use Rattle.c_rules.specs.declared.fault.Fault.{Fault}
 use Rattle.c_rules.specs.declared.findings.Creation.{Creation}
 use Rattle.c_rules.specs.Faults.{first}
-use Rattle.c_types.specs.Routines as y
+use Rattle.c_resolution.specs.Routines as y
 use Rattle.resolved_program.proofs.Walks.{some-some}
 
 set_length : (list : List ThreadObject) (k n : ℕ) (a b : ThreadObject) → slice_get list k ≡ Some a → b.length ≡ a.length →

@@ -26,9 +26,9 @@ use Rattle.c_rules.specs.Constants.{constancy}
 use Rattle.c_rules.specs.Specifiers.{c_type, plain, spelled_by}
 use Rattle.c_rules.specs.Walks.{pure, finds, finds_if, through, place_in_tree, ◌>>=◌, ◌>>◌}
 use Rattle.c_expressions.specs.Expressions.{value}
-use Rattle.c_expressions.specs.Calls.{right_side}
-use Rattle.c_types.specs.States.{finding}
-use Rattle.c_types.specs.Locals as y
+use Rattle.c_calls.specs.Calls.{right_side}
+use Rattle.c_resolution.specs.States.{finding}
+use Rattle.c_resolution.specs.Locals as y
 use Rattle.resolved_program.specs.Leaves.{AreValid, expression_leaves, declarator_leaves, declaration_leaves, of_any, of_each}
 use Rattle.resolved_program.specs.Orders.{IsMeant, IsOrderly, IsInOrder, GivesRoutines}
 use Rattle.resolved_program.proofs.Walks.{Shows, shows_pure, shows_then, shows_as, shows_broken, shows_if, IfAny}
@@ -65,7 +65,8 @@ module _ {whole : Findings} {Before : Type 0} where
   -- ---- what is refused
 
   refused_by : (b : Bool) (words : Spelled) (at : ℕ) →
-      Shows whole Before (λ (m : Meaning). ⊥) (if b then finds_if words.is_static rule.Kind at >> (finds rule.Threads at >> pure meaning.Unusable) else finds rule.Kind at >> pure meaning.Unusable)
+      Shows whole Before (λ (m : Meaning). ⊥) (if b then finds_if words.is_static rule.Kind at >>
+      (finds rule.Threads at >> pure meaning.Unusable) else finds rule.Kind at >> pure meaning.Unusable)
   refused_by true words at =
       shows_then (finds_if words.is_static rule.Kind at) (λ _. finds rule.Threads at >> pure meaning.Unusable) (shows_if words.is_static rule.Kind at)
       (λ _. shows_then (finds rule.Threads at) (λ _. pure meaning.Unusable) (shows_broken {Is = λ _. ⊥} rule.Threads at) (λ _. shows_pure meaning.Unusable (λ b. b.1)))
@@ -113,7 +114,8 @@ module _ (whole : Findings) (P : Program) (number : ℕ) (f : Function) (given_r
 
   local_of_does : (words : Spelled) (at : ℕ) (size : Option ℕ) (ty : Option BasicType) → Does whole P number f in_loop (Size size) IsLocal (y.local_of words at size ty)
   local_of_does words at size (Some ty) = new_local_does words size ty
-  local_of_does words at size None = does_finding (λ s. y.refused_local words at) (λ s. shows_as (y.refused_local words at) (λ b. b) (λ _ _ no. absurd no) (refused_local_shows words at))
+  local_of_does words at size None = does_finding (λ s. y.refused_local words at)
+      (λ s. shows_as (y.refused_local words at) (λ b. b) (λ _ _ no. absurd no) (refused_local_shows words at))
 
   pub local_does : (words : Spelled) (at : ℕ) (size : Option ℕ) → Does whole P number f in_loop (Size size) IsLocal (y.local words at size)
   unfolding y.local
@@ -130,7 +132,8 @@ module _ (whole : Findings) (P : Program) (number : ℕ) (f : Function) (given_r
 
   uninitialised_is : (d : Declarator) (m : Meaning) (s : Scope) → IsLocal m → InOrder (y.uninitialised d m)
   uninitialised_is d (meaning.Variable v) s is =
-      k.plain whole P number f s given_routines flag (y.uninitialised d (meaning.Variable v)) (in_locals v.storage v.number (unwrap_or v.length 1) (c_type v.ty) is.0 is.1) refl refl refl
+      k.plain whole P number f s given_routines flag (y.uninitialised d (meaning.Variable v))
+      (in_locals v.storage v.number (unwrap_or v.length 1) (c_type v.ty) is.0 is.1) refl refl
   uninitialised_is d meaning.Argument s is = k.empty whole P number f s given_routines flag
   uninitialised_is d (meaning.Object o) s is = k.empty whole P number f s given_routines flag
   uninitialised_is d (meaning.Function n) s is = k.empty whole P number f s given_routines flag

@@ -14,8 +14,8 @@ use Rattle.c_rules.specs.declared.names.Meaning.TheVariants as meaning
 use Rattle.c_rules.specs.declared.names.Scope.{Scope}
 use Rattle.c_rules.specs.Levels.{named_in}
 use Rattle.c_rules.specs.Names.{is_int, is_int_base, is_start_routine}
-use Rattle.c_types.specs.Functions as y
-use Rattle.c_types.specs.Texts as t
+use Rattle.c_resolution.specs.Functions as y
+use Rattle.c_resolution.specs.Texts as t
 use Rattle.resolved_program.proofs.Walks.{none-some}
 
 -- a main that is defined has the name main and a header

@@ -28,9 +28,9 @@ use Rattle.c_rules.specs.Names.{look_up, is_start_routine}
 use Rattle.c_rules.specs.Walks.{Outcome, Finds, pure, finds, finds_if, finds_any, ◌>>=◌, ◌>>◌}
 use Rattle.c_expressions.specs.Callees.{function_name, library_name}
 use Rattle.c_expressions.specs.Expressions.{value, index, argument, arguments, variable_of}
-use Rattle.c_expressions.specs.Arguments as a
+use Rattle.c_calls.specs.Arguments as a
 use Rattle.c_expressions.specs.Targets as t
-use Rattle.c_expressions.specs.Calls as c
+use Rattle.c_calls.specs.Calls as c
 use Rattle.resolved_program.specs.Orders.{left, given}
 use Rattle.resolved_program.proofs.Walks.{turn}
 use Rattle.resolved_program.proofs.Quiet as q
@@ -96,8 +96,10 @@ module _ (s : Scope) where
   unfolding a.object_at
   object_at at o None None = quiet_pure (ObjectPlace.Single o.number)
   object_at at o (Some size) (Some i) = quiet_pure (ObjectPlace.Element o.number size i)
-  object_at at o None (Some i) = quiet_then (finds rule.Kind at) (λ _. pure (ObjectPlace.Single o.number)) (quiet_finds rule.Kind at) (λ _. quiet_pure (ObjectPlace.Single o.number))
-  object_at at o (Some size) None = quiet_then (finds rule.Kind at) (λ _. pure (ObjectPlace.Single o.number)) (quiet_finds rule.Kind at) (λ _. quiet_pure (ObjectPlace.Single o.number))
+  object_at at o None (Some i) = quiet_then (finds rule.Kind at) (λ _. pure (ObjectPlace.Single o.number)) (quiet_finds rule.Kind at)
+      (λ _. quiet_pure (ObjectPlace.Single o.number))
+  object_at at o (Some size) None = quiet_then (finds rule.Kind at) (λ _. pure (ObjectPlace.Single o.number)) (quiet_finds rule.Kind at)
+      (λ _. quiet_pure (ObjectPlace.Single o.number))
 
   misused_object : (k : Known) (name_at at : ℕ) → IsQuiet (a.misused_object k name_at at)
   unfolding a.misused_object
@@ -140,7 +142,8 @@ module _ (s : Scope) where
   unfolding a.routine
   routine h name_at at =
       let r = option_map (λ number. (number, name_at)) h.definition in
-      quiet_then (finds_if (not (is_start_routine h)) rule.Kind at) (λ _. finds_if (is_none h.definition) rule.Unknown name_at >> pure r) (quiet_if (not (is_start_routine h)) rule.Kind at)
+      quiet_then (finds_if (not (is_start_routine h)) rule.Kind at) (λ _. finds_if (is_none h.definition) rule.Unknown name_at >> pure r)
+      (quiet_if (not (is_start_routine h)) rule.Kind at)
       (λ _. quiet_then (finds_if (is_none h.definition) rule.Unknown name_at) (λ _. pure r) (quiet_if (is_none h.definition) rule.Unknown name_at) (λ _. quiet_pure r))
 
   routine_from : (x : Argument) (h : Option Header) (name_at at : ℕ) → IsQuiet (a.routine_from s x h name_at at)
@@ -357,7 +360,8 @@ module _ (s : Scope) where
   no_function : (k : Known) (name_at : ℕ) (list : List Argument) → MakesIt (c.no_function s k name_at list)
   unfolding c.no_function
   no_function k name_at list =
-      makes_quiet (finds_if (a.is_unknown k) rule.Unknown name_at) (λ _. finds_if (a.is_usable k) rule.Kind name_at >> c.looked_call s list) (quiet_if (a.is_unknown k) rule.Unknown name_at)
+      makes_quiet (finds_if (a.is_unknown k) rule.Unknown name_at) (λ _. finds_if (a.is_usable k) rule.Kind name_at >> c.looked_call s list)
+      (quiet_if (a.is_unknown k) rule.Unknown name_at)
       (λ _. makes_quiet (finds_if (a.is_usable k) rule.Kind name_at) (λ _. c.looked_call s list) (quiet_if (a.is_usable k) rule.Kind name_at) (λ _. looked_call list))
 
   call_of : (k : Known) (at name_at : ℕ) (list : List Argument) → MakesIt (c.call_of s k at name_at list)

@@ -1,5 +1,6 @@
 -- The creates that a body finds are those of its statements.
-use Rattle.std.proofs.Common.{◌≡◌, refl, sym, subst, ◌∙◌, inl, inr, ℕ, zero, suc, Bool, true, false, List, [], ◌∷◌, ◌++◌, map, length, Option, Some, None, ◌<◌, ◌≤◌, leb-true, le-leb, arith}
+use Rattle.std.proofs.Common.{◌≡◌, refl, sym, subst, ◌∙◌, inl, inr, ℕ, zero, suc, Bool, true, false, List, []}
+use Rattle.std.proofs.Common.{◌∷◌, ◌++◌, map, length, Option, Some, None, ◌<◌, ◌≤◌, leb-true, le-leb, arith}
 use Rattle.std.specs.Prelude.{◌+◌, ◌⊎◌, not, nat_eq, fold, if◌then◌else◌, Contains}
 use Rattle.std.specs.List.{AllByRecursion}
 use Rattle.std.proofs.lemmas.List.Elements.{Contains-append_left, Contains-append_right}
@@ -44,14 +45,14 @@ use Rattle.c_rules.specs.Specifiers.{c_type, plain, spelled_by}
 use Rattle.c_rules.specs.Names.{is_taken, declaring, opened, closed}
 use Rattle.c_rules.specs.Walks.{Outcome, Finds, pure, finds, finds_if, through, place_in_tree, ◌>>=◌, ◌>>◌}
 use Rattle.c_expressions.specs.Expressions.{value, condition}
-use Rattle.c_expressions.specs.Arguments as a
-use Rattle.c_expressions.specs.Calls as c
+use Rattle.c_calls.specs.Arguments as a
+use Rattle.c_calls.specs.Calls as c
 use Rattle.c_expressions.specs.Targets.{target}
-use Rattle.c_types.specs.Simple as z
-use Rattle.c_types.specs.Locals as l
-use Rattle.c_types.specs.States.{State, Goes, finding, scoping}
-use Rattle.c_types.specs.Statements as y
-use Rattle.c_types.specs.Statements.{Adds, item_step, statement_step, block_step, item, statement, items}
+use Rattle.c_resolution.specs.Simple as z
+use Rattle.c_resolution.specs.Locals as l
+use Rattle.c_resolution.specs.States.{State, Goes, finding, scoping}
+use Rattle.c_resolution.specs.Statements as y
+use Rattle.c_resolution.specs.Statements.{Adds, item_step, statement_step, block_step, item, statement, items}
 use Rattle.resolved_program.specs.Orders.{left, given}
 use Rattle.resolved_program.proofs.Walks.{turn, length-more}
 use Rattle.resolved_program.proofs.Steps as s
@@ -99,7 +100,8 @@ module _ (w : Scope) where
   unfolding z.returned
   returned_makes x at =
       let made = λ (right : Option RightSide). Statement.Return (place_in_tree at) right in
-      makes_quiet (finds_if (not (z.may_return w.gives x)) rule.Kind at) (λ _. z.right_of w x >>= (λ right. pure (made right))) (quiet_if (not (z.may_return w.gives x)) rule.Kind at)
+      makes_quiet (finds_if (not (z.may_return w.gives x)) rule.Kind at) (λ _. z.right_of w x >>= (λ right. pure (made right)))
+      (quiet_if (not (z.may_return w.gives x)) rule.Kind at)
       (λ _. makes_quiet (z.right_of w x) (λ right. pure (made right)) (quiet_right_of x) (λ right. makes_pure (made right)))
 
 -- ---- parts that change the names in scope
@@ -179,7 +181,8 @@ making_new_local words size ty = record { new = λ x k inside. inl inside; kept 
 pub quiet_refused_local : (words : Spelled) (at : ℕ) → IsQuiet (l.refused_local words at)
 unfolding l.refused_local
 quiet_refused_local words at =
-    q.quiet_either (l.is_object_type words.base) (finds_if words.is_static rule.Kind at >> (finds rule.Threads at >> pure meaning.Unusable)) (finds rule.Kind at >> pure meaning.Unusable)
+    q.quiet_either (l.is_object_type words.base) (finds_if words.is_static rule.Kind at >> (finds rule.Threads at >> pure meaning.Unusable))
+    (finds rule.Kind at >> pure meaning.Unusable)
     (quiet_then (finds_if words.is_static rule.Kind at) (λ _. finds rule.Threads at >> pure meaning.Unusable) (quiet_if words.is_static rule.Kind at)
     (λ _. quiet_then (finds rule.Threads at) (λ _. pure meaning.Unusable) (quiet_finds rule.Threads at) (λ _. quiet_pure meaning.Unusable)))
     (quiet_then (finds rule.Kind at) (λ _. pure meaning.Unusable) (quiet_finds rule.Kind at) (λ _. quiet_pure meaning.Unusable))
@@ -219,7 +222,8 @@ declared_step_makes : (d : Declarator) (m : Meaning) (e : Option ExpressionTree)
 unfolding l.initialised
 declared_step_makes d m None w = makes_pure (l.uninitialised d m)
 declared_step_makes d m (Some e) w =
-    makes_quiet (c.right_side w e) (λ right. l.initialised_by (l.scalar_in m) d.name.offset right) (quiet_right w e) (λ right. initialised_by_makes (l.scalar_in m) d.name.offset right)
+    makes_quiet (c.right_side w e) (λ right. l.initialised_by (l.scalar_in m) d.name.offset right) (quiet_right w e)
+    (λ right. initialised_by_makes (l.scalar_in m) d.name.offset right)
 
 making_declarator : (words : Spelled) (d : Declarator) → Making (λ _. ⊥) IsOf (l.declarator words d)
 unfolding l.declarator
@@ -248,7 +252,8 @@ any_more (z ∷ list) x k (inr of) = inr (any_more list x k (inr of))
 making_more : (list : List Statement) (w : Goes Statement) → Making (λ _. ⊥) IsOf w → Making (IsOfAny list) IsOfAny (w >>= (λ x. pure (list ++ x ∷ [])))
 making_more list w h = making_then w (λ x. pure (list ++ x ∷ [])) (making_beside w h) (λ x. making_pure (list ++ x ∷ []) (λ k of. any_more list x k of))
 
-pub making_through : {A B : Type 0} {Made : A → Creation → Type 0} (step : A → B → Goes A) (a : A) (list : List B) → AllByRecursion (λ b. (a : A) → Making (Made a) Made (step a b)) list →
+pub making_through : {A B : Type 0} {Made : A → Creation → Type 0} (step : A → B → Goes A) (a : A) (list : List B) → AllByRecursion
+    (λ b. (a : A) → Making (Made a) Made (step a b)) list →
     Making (Made a) Made (through step a list)
 making_through step a [] all = record { new = λ x k inside. inl inside; kept = λ x k made. made }
 making_through {A} {B} {Made} step a (b ∷ rest) all = record {
@@ -554,7 +559,8 @@ statement_case Statement-F.Empty = making_pure Statement.Empty (λ k no_k. absur
 statement_case (Statement-F.Simple x) = making_finding (λ s. z.simple s x) (λ s. simple_makes s x)
 statement_case (Statement-F.Break at) = making_jump Statement.Break at
 statement_case (Statement-F.Continue at) = making_jump Statement.Continue at
-statement_case (Statement-F.If test consequent None) = making_branch test (statement consequent.0) (pure Statement.Done) consequent.1 (making_pure Statement.Done (λ k no_k. absurd no_k))
+statement_case (Statement-F.If test consequent None) = making_branch test (statement consequent.0) (pure Statement.Done) consequent.1
+    (making_pure Statement.Done (λ k no_k. absurd no_k))
 statement_case (Statement-F.If test consequent (Some alternative)) = making_branch test (statement consequent.0) (statement alternative.0) consequent.1 alternative.1
 statement_case (Statement-F.While test body) = making_while test (statement body.0) body.1
 statement_case (Statement-F.DoWhile body test) = making_do_while test (statement body.0) body.1
@@ -566,14 +572,16 @@ item_induct x t e = subst (λ k. ClaimBlockItem (roll-BlockItem k)) e
     (λ list. subst (λ (w : Adds). Making (IsOfAny list) IsOfAny (w list))
     (sym (fold-roll-BlockItem Adds (Goes Statement) (Goes Statement) item_step statement_step block_step (seen_item t))) (item_case t list))
 
-statement_induct : (x : Statement-F BlockItemTree StatementTree BlockTree) (t : Statement-F SomeBlockItem SomeStatement SomeBlock) → seen_statement t ≡ x → ClaimStatement (roll-Statement x)
+statement_induct : (x : Statement-F BlockItemTree StatementTree BlockTree) (t : Statement-F SomeBlockItem SomeStatement SomeBlock) → seen_statement t ≡ x → ClaimStatement
+    (roll-Statement x)
 statement_induct x t e = subst (λ k. ClaimStatement (roll-Statement k)) e
     (subst (λ (w : Goes Statement). Making (λ _. ⊥) IsOf w)
     (sym (fold-roll-Statement Adds (Goes Statement) (Goes Statement) item_step statement_step block_step (seen_statement t))) (statement_case t))
 
 block_induct : (x : Block-F BlockItemTree StatementTree BlockTree) (t : Block-F SomeBlockItem SomeStatement SomeBlock) → seen_block t ≡ x → ClaimBlock (roll-Block x)
 block_induct x t e = subst (λ k. ClaimBlock (roll-Block k)) e
-    (subst (λ (w : Goes Statement). Making (λ _. ⊥) IsOf w) (sym (fold-roll-Block Adds (Goes Statement) (Goes Statement) item_step statement_step block_step (seen_block t))) (block_case t))
+    (subst (λ (w : Goes Statement). Making (λ _. ⊥) IsOf w) (sym (fold-roll-Block Adds (Goes Statement) (Goes Statement) item_step statement_step block_step (seen_block t)))
+    (block_case t))
 
 -- each create that a body finds is one of its statements
 pub body_makes : (x : BlockTree) → Making (λ _. ⊥) IsOf (items x)

@@ -15,9 +15,9 @@ use Rattle.c_rules.specs.Names.{Names, is_taken, declaring, opened, closed, clos
 use Rattle.c_rules.specs.Specifiers.{plain, spelled_by}
 use Rattle.c_rules.specs.Walks.{Outcome, Finds, pure, and_then, through, finds, ◌>>=◌, ◌>>◌}
 use Rattle.c_rules.specs.declared.fault.Rule.TheVariants as rule
-use Rattle.c_types.specs.States.{State, state, Goes, finding, scoping}
-use Rattle.c_types.specs.Locals as y
-use Rattle.c_types.specs.Statements.{deeper, shallower, loop_body}
+use Rattle.c_resolution.specs.States.{State, state, Goes, finding, scoping}
+use Rattle.c_resolution.specs.Locals as y
+use Rattle.c_resolution.specs.Statements.{deeper, shallower, loop_body}
 use Rattle.resolved_program.proofs.Walks.{turn, length-more}
 use Rattle.resolved_program.specs.Orders.{left, given}
 use Rattle.resolved_program.proofs.Steps.{in_scope_is}
@@ -99,7 +99,8 @@ moving_each step a items all x = moving_after_each step items (Outcome.Gives a x
 
 -- ---- declarations
 
-moving_by : {A : Type 0} (b : Bool) (v w : Goes A) (x : State) → Moves x.scope (left (v x)).scope → Moves x.scope (left (w x)).scope → Moves x.scope (left (if b then v x else w x)).scope
+moving_by : {A : Type 0} (b : Bool) (v w : Goes A) (x : State) → Moves x.scope (left (v x)).scope → Moves x.scope (left (w x)).scope → Moves x.scope
+    (left (if b then v x else w x)).scope
 moving_by true v w x h k = h
 moving_by false v w x h k = k
 
@@ -142,7 +143,8 @@ unfolding y.declaration
 moving_declaration steps d =
     let step = λ (done : List Statement) (x : Declarator). y.declarator (spelled_by d.specifiers) x >>= (λ s. pure (done ++ s ∷ [])) in
     moving_through step steps d.declarators
-    (λ done x. moving_then (y.declarator (spelled_by d.specifiers) x) (λ s. pure (done ++ s ∷ [])) (moving_declarator (spelled_by d.specifiers) x) (λ s. moving_pure (done ++ s ∷ [])))
+    (λ done x. moving_then (y.declarator (spelled_by d.specifiers) x) (λ s. pure (done ++ s ∷ [])) (moving_declarator (spelled_by d.specifiers) x)
+    (λ s. moving_pure (done ++ s ∷ [])))
 
 -- ---- blocks and loops
 
@@ -157,7 +159,8 @@ remove_last (x ∷ xs) a = ap (λ l. x ∷ l) (remove_last xs a)
 last_place : {A : Type 0} (xs : List A) (a : A) → length (xs ++ a ∷ []) - 1 ≡ length xs
 last_place xs a = omega (arith, length-more xs a)
 
-closed_is : (s : Scope) (outer : List Names) (inner : Names) (level : Option Names) → s.outer ≡ outer ++ inner ∷ [] → level ≡ Some inner → remove s.outer (length s.outer - 1) ≡ outer →
+closed_is : (s : Scope) (outer : List Names) (inner : Names) (level : Option Names) → s.outer ≡ outer ++ inner ∷ [] → level ≡ Some inner → remove s.outer
+    (length s.outer - 1) ≡ outer →
     ((closed_to level s).outer ≡ outer) × ((closed_to level s).inner ≡ inner)
 closed_is s outer inner None is none gone = cc
 closed_is s outer inner (Some level) is same gone = (gone, ap (λ o. unwrap_or o level) same)
@@ -182,7 +185,8 @@ closed_moves s t h =
       both.1,
     )
   where
-    closed_same : (level : Option Names) (t : Scope) → ((closed_to level t).headers ≡ t.headers) × ((closed_to level t).definitions ≡ t.definitions) × ((closed_to level t).function ≡ t.function)
+    closed_same : (level : Option Names) (t : Scope) → ((closed_to level t).headers ≡ t.headers) × ((closed_to level t).definitions ≡ t.definitions) ×
+        ((closed_to level t).function ≡ t.function)
         × ((closed_to level t).gives ≡ t.gives) × ((closed_to level t).loops ≡ t.loops)
     closed_same None t = (refl, refl, refl, refl, refl)
     closed_same (Some level) t = (refl, refl, refl, refl, refl)

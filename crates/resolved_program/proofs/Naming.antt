@@ -11,8 +11,8 @@ use Rattle.c_rules.specs.declared.names.Scope.{Scope}
 use Rattle.c_rules.specs.Levels.{named_in}
 use Rattle.c_rules.specs.Library.{function_named}
 use Rattle.c_rules.specs.Walks.{Outcome, finds_if}
-use Rattle.c_types.specs.States.{State}
-use Rattle.c_types.specs.Functions as y
+use Rattle.c_resolution.specs.States.{State}
+use Rattle.c_resolution.specs.Functions as y
 use Rattle.resolved_program.specs.Orders.{left, IsPartOf}
 use Rattle.resolved_program.proofs.Walks.{Shows, shows_pure, shows_then, shows_as, shows_broken, shows_if, IfAny}
 use Rattle.resolved_program.proofs.Steps.{in_scope_is}

@@ -10,7 +10,7 @@ use Rattle.c_tree.specs.declared.declaration.Function.{Function as FunctionTree}
 use Rattle.c_tree.specs.declared.declaration.ExternalDeclaration.{ExternalDeclaration}
 use Rattle.c_tree.specs.declared.declaration.ExternalDeclaration.TheVariants as external
 use Rattle.c_rules.specs.Levels.{named_in, inserted}
-use Rattle.c_types.specs.Texts as y
+use Rattle.c_resolution.specs.Texts as y
 use Rattle.resolved_program.proofs.Walks.{none-some, some-some, length-more}
 
 -- the names of the functions that have a body, in the order of the text
@@ -107,13 +107,15 @@ all_noted (x ∷ list) done d small are =
     subst (λ l. AreNoted l (fold y.with_declaration (y.with_declaration d x) list)) e
     (all_noted list (done ++ names_in x) (y.with_declaration d x) small_too (noted_declaration x done d (omega arith) are))
 
-found_by : (b : Bool) (done : List (List ℕ)) (e : List ℕ × ℕ) (o : Option ℕ) (name : List ℕ) (n : ℕ) → bytes_eq name e.0 ≡ b → IsAt done e → (o ≡ Some n → slice_get done n ≡ Some name) →
+found_by : (b : Bool) (done : List (List ℕ)) (e : List ℕ × ℕ) (o : Option ℕ) (name : List ℕ) (n : ℕ) → bytes_eq name e.0 ≡ b → IsAt done e →
+    (o ≡ Some n → slice_get done n ≡ Some name) →
     (if b then Some e.1 else o) ≡ Some n → slice_get done n ≡ Some name
 found_by true done e o name n same at later is =
     ap (λ k. slice_get done k) (sym (some-some e.1 n is)) ∙ at ∙ ap Some (sym ((bytes_eq-Decides name e.0).0 same))
 found_by false done e o name n same at later is = later is
 
-found_at : (done : List (List ℕ)) (names : List (List ℕ × ℕ)) (name : List ℕ) (n : ℕ) → AllByRecursion (IsAt done) names → named_in names name ≡ Some n → slice_get done n ≡ Some name
+found_at : (done : List (List ℕ)) (names : List (List ℕ × ℕ)) (name : List ℕ) (n : ℕ) → AllByRecursion (IsAt done) names → named_in names name ≡ Some n →
+    slice_get done n ≡ Some name
 found_at done [] name n all is = absurd (none-some n (sym is))
 found_at done (e ∷ names) name n all is = found_by (bytes_eq name e.0) done e (named_in names name) name n refl all.0 (found_at done names name n all.1) is
 

@@ -18,9 +18,9 @@ use Rattle.c_rules.specs.Levels.{named_in, inserted}
 use Rattle.c_rules.specs.Names.{declaring}
 use Rattle.c_rules.specs.Specifiers.{c_type}
 use Rattle.c_rules.specs.Walks.{place_in_tree}
-use Rattle.c_types.specs.Files.{File, Tables}
-use Rattle.c_types.specs.Globals as g
-use Rattle.c_types.specs.Resolving.{program_at}
+use Rattle.c_resolution.specs.Files.{File, Tables}
+use Rattle.c_resolution.specs.Globals as g
+use Rattle.c_resolution.specs.Resolving.{program_at}
 use Rattle.resolved_program.specs.Laws.{IsNumbered}
 use Rattle.resolved_program.specs.Orders.{IsFront, IsMeant, AreMeant, object_length}
 use Rattle.resolved_program.proofs.Steps.{inserted_is, next_in, front_length}
@@ -150,7 +150,8 @@ module _ (X : File) (main : ℕ) (numbered : IsNumbered (program_at X main)) whe
   same_functions d x z (inr o) =
       ap (λ (t : Tables). t.functions) o.tables ∙ object_functions o.object.kind (unwrap_or o.object.length 1) o.initialised x.tables
 
-  module _ (D : List (List ℕ × ℕ)) (done : List ExternalDeclaration) (d : GlobalDeclarator) (x z : File) (is : IsGlobalLeft X.found d x z) (fronts : AreFronts z.tables X.tables) where
+  module _ (D : List (List ℕ × ℕ)) (done : List ExternalDeclaration) (d : GlobalDeclarator) (x z : File) (is : IsGlobalLeft X.found d x z)
+      (fronts : AreFronts z.tables X.tables) where
     pub object_grows : Grows x.scope z.scope
     object_grows = by is.is
       where

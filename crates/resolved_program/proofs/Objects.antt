@@ -18,7 +18,7 @@ use Rattle.c_rules.specs.Specifiers.{c_type}
 use Rattle.c_rules.specs.Walks.{pure, finds, finds_if, ◌>>◌}
 use Rattle.c_expressions.specs.Expressions.{variable_of}
 use Rattle.c_expressions.specs.Targets as t
-use Rattle.c_expressions.specs.Arguments as a
+use Rattle.c_calls.specs.Arguments as a
 use Rattle.resolved_program.specs.Orders.{object_length}
 use Rattle.resolved_program.proofs.Walks.{Shows, shows_pure, shows_then, shows_as, shows_broken, shows_if, none-some, IfAny}
 use Rattle.resolved_program.proofs.Known.{IsKnown, IsIndex}

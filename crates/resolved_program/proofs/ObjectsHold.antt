@@ -17,9 +17,9 @@ use Rattle.c_rules.specs.declared.names.Meaning.TheVariants as meaning
 use Rattle.c_rules.specs.Specifiers.{c_type}
 use Rattle.c_rules.specs.declared.names.Scope.{Scope}
 use Rattle.c_rules.specs.Levels.{named_in}
-use Rattle.c_types.specs.Files.{File, Tables}
-use Rattle.c_types.specs.Globals as g
-use Rattle.c_types.specs.Resolving.{program_at}
+use Rattle.c_resolution.specs.Files.{File, Tables}
+use Rattle.c_resolution.specs.Globals as g
+use Rattle.c_resolution.specs.Resolving.{program_at}
 use Rattle.resolved_program.specs.Laws.{IsNumbered}
 use Rattle.resolved_program.specs.Gathered.{IsDeclaredThread}
 use Rattle.resolved_program.proofs.Walks.{some-some, all_more}

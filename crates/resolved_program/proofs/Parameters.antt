@@ -17,9 +17,9 @@ use Rattle.c_rules.specs.declared.names.Meaning.TheVariants as meaning
 use Rattle.c_rules.specs.Specifiers.{c_type, plain, spelled_by}
 use Rattle.c_rules.specs.Names.{is_taken, declaring}
 use Rattle.c_rules.specs.Walks.{Outcome, through, finds, finds_if}
-use Rattle.c_types.specs.States.{State, Goes, finding, scoping}
-use Rattle.c_types.specs.Locals.{new_local, refused_local, declare}
-use Rattle.c_types.specs.Functions as y
+use Rattle.c_resolution.specs.States.{State, Goes, finding, scoping}
+use Rattle.c_resolution.specs.Locals.{new_local, refused_local, declare}
+use Rattle.c_resolution.specs.Functions as y
 use Rattle.resolved_program.specs.Orders.{left, given, IsFront, IsMeant, AreMeant, IsPartOf}
 use Rattle.resolved_program.proofs.Walks.{shows_if, shows_broken, turn}
 use Rattle.resolved_program.proofs.Steps.{after_one, in_scope_is, inserted_is, front_length, next_in}
@@ -183,7 +183,8 @@ module _ (whole : Findings) (P : Program) (f : Function) (small : length f.local
     pub names : IsFront y.scope.locals f.locals → (routine ≡ true → IsMeant P f meaning.Argument) → AreMeant P f x.scope.inner → AreMeant P f y.scope.inner
 
   all_add : (routine has_body : Bool) (list : List Parameter) (a : Unit {0}) (x : State) →
-      IsPartOf whole (left (through (λ _ p. y.parameter routine has_body p) a list x)).found → AddsAll routine list x (left (through (λ _ p. y.parameter routine has_body p) a list x))
+      IsPartOf whole (left (through (λ _ p. y.parameter routine has_body p) a list x)).found → AddsAll routine list x
+      (left (through (λ _ p. y.parameter routine has_body p) a list x))
   unfolding rest_of first_or
   all_add routine has_body [] a x part = record {
     found = part;

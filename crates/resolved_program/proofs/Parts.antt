@@ -10,8 +10,9 @@ use Rattle.c_tree.specs.declared.expression.Place.{Place as PlaceTree}
 use Rattle.c_tree.specs.declared.expression.Pointer.{Pointer as PointerTree, out-Pointer}
 use Rattle.c_tree.specs.declared.expression.Term.{Term as TermTree}
 use Rattle.c_tree.specs.declared.expression.Argument.TheOpen.{Argument-F, Form-F, Pointer-F}
-use Rattle.c_tree.specs.declared.expression.Argument.TheFolds.{map-Argument, map-Form, map-Pointer, fold_out-Argument, fold_out-Call, fold_out-Pointer, fold_out-Form, fold_out-Expression}
-use Rattle.c_expressions.specs.Arguments as a
+use Rattle.c_tree.specs.declared.expression.Argument.TheFolds.{map-Argument, map-Form, map-Pointer, fold_out-Argument, fold_out-Call}
+use Rattle.c_tree.specs.declared.expression.Argument.TheFolds.{fold_out-Pointer, fold_out-Form, fold_out-Expression}
+use Rattle.c_calls.specs.Arguments as a
 use Rattle.resolved_program.specs.Leaves.{Leaves, AreValid, all_of, argument_layer, form_layer, call_layer, choice_layer, expression_layer, place_layer, pointer_layer, term_layer}
 use Rattle.resolved_program.specs.Leaves.{argument_leaves, form_leaves, call_leaves, choice_leaves, expression_leaves, place_leaves, pointer_leaves, term_leaves}
 use Rattle.resolved_program.proofs.Walks.{IfAny}

@@ -10,9 +10,9 @@ use Rattle.c_rules.specs.declared.names.Header.{Header}
 use Rattle.c_rules.specs.declared.names.Scope.{Scope}
 use Rattle.c_rules.specs.Findings as findings
 use Rattle.c_rules.specs.Levels.{named_in, inserted}
-use Rattle.c_types.specs.States.{state}
-use Rattle.c_types.specs.Files.{File}
-use Rattle.c_types.specs.Functions as y
+use Rattle.c_resolution.specs.States.{state}
+use Rattle.c_resolution.specs.Files.{File}
+use Rattle.c_resolution.specs.Functions as y
 use Rattle.resolved_program.specs.Orders.{IsMeant, AreMeant, IsPartOf}
 use Rattle.resolved_program.proofs.Walks.{shows_if, IfAny}
 use Rattle.resolved_program.proofs.Steps.{inserted_is}

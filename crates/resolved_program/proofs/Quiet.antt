@@ -17,7 +17,8 @@ use Rattle.c_tree.specs.declared.expression.Place.{Place as PlaceTree, roll-Plac
 use Rattle.c_tree.specs.declared.expression.Pointer.{Pointer as PointerTree, roll-Pointer}
 use Rattle.c_tree.specs.declared.expression.Term.{Term as TermTree, roll-Term}
 use Rattle.c_tree.specs.declared.expression.Argument.TheOpen.{Argument-F, Form-F, Call-F, Choice-F, Expression-F, Place-F, Pointer-F, Term-F}
-use Rattle.c_tree.specs.declared.expression.Argument.TheBlock.{the_family, member-Argument, member-Form, member-Call, member-Choice, member-Expression, member-Place, member-Pointer, member-Term}
+use Rattle.c_tree.specs.declared.expression.Argument.TheBlock.{the_family, member-Argument, member-Form, member-Call, member-Choice}
+use Rattle.c_tree.specs.declared.expression.Argument.TheBlock.{member-Expression, member-Place, member-Pointer, member-Term}
 use Rattle.c_tree.specs.declared.expression.Argument.TheFolds.{claims, map-Argument, map-Form, map-Call, map-Choice, map-Expression, map-Place, map-Pointer, map-Term}
 use Rattle.c_tree.specs.declared.expression.Argument.TheFolds.{fold-Form, fold-Call, fold-Pointer}
 use Rattle.c_tree.specs.declared.expression.Argument.TheFolds.{fold-roll-Argument, fold-roll-Form, fold-roll-Call, fold-roll-Choice}
@@ -43,10 +44,11 @@ use Rattle.c_rules.specs.Library.{takes}
 use Rattle.c_rules.specs.Names.{look_up, is_void_type, is_start_routine, gives_pointer}
 use Rattle.c_rules.specs.Specifiers.{c_type, plain_integer}
 use Rattle.c_rules.specs.Findings as findings
-use Rattle.c_rules.specs.Walks.{Outcome, Finds, pure, optional, through, visited, finds, finds_if, finds_any, calls, starts, place_in_tree, ◌>>=◌, ◌>>◌}
+use Rattle.c_rules.specs.Walks.{Outcome, Finds, pure, optional, through, visited, finds, finds_if, finds_any, calls, place_in_tree, ◌>>=◌, ◌>>◌}
 use Rattle.c_expressions.specs.Callees as c
 use Rattle.c_expressions.specs.Expressions as e
-use Rattle.c_expressions.specs.Expressions.{Looked, Formed, Called, Meant, Placed, Operand, argument_step, form_step, call_step, choice_step, expression_step, place_step, pointer_step, term_step}
+use Rattle.c_expressions.specs.Expressions.{Looked, Formed, Called, Meant, Placed, Operand, argument_step, form_step, call_step}
+use Rattle.c_expressions.specs.Expressions.{choice_step, expression_step, place_step, pointer_step, term_step}
 use Rattle.c_expressions.specs.Expressions.{meant, placed, term, choice, argument, value, condition, index}
 use Rattle.resolved_program.specs.Orders.{left, given}
 use Rattle.resolved_program.proofs.Walks.{IfAny, turn, after_one}
@@ -81,10 +83,6 @@ pub quiet_call : (caller : Option ℕ) (callee at : ℕ) → IsQuiet (calls call
 quiet_call (Some caller) callee at = record { same = λ found. refl }
 quiet_call None callee at = record { same = λ found. refl }
 
-pub quiet_start : (function : Option ℕ) (at : ℕ) → IsQuiet (starts function at)
-quiet_start (Some function) at = record { same = λ found. refl }
-quiet_start None at = record { same = λ found. refl }
-
 pub quiet_either : {A : Type 0} (b : Bool) (v w : Finds A) → IsQuiet v → IsQuiet w → IsQuiet (if b then v else w)
 quiet_either true v w h k = h
 quiet_either false v w h k = k
@@ -101,7 +99,8 @@ quiet_through {A} step a (b ∷ rest) all = record {
       ∙ (quiet_through step (given (step a b found)) rest all.1).same (left (step a b found)) ∙ (all.0 a).same found;
 }
 
-quiet_items : {B : Type 0} (walk : B → Finds (Unit {0})) (items : List B) → AllByRecursion (λ b. IsQuiet (walk b)) items → AllByRecursion (λ b. (a : Unit {0}) → IsQuiet (walk b)) items
+quiet_items : {B : Type 0} (walk : B → Finds (Unit {0})) (items : List B) → AllByRecursion (λ b. IsQuiet (walk b)) items → AllByRecursion
+    (λ b. (a : Unit {0}) → IsQuiet (walk b)) items
 quiet_items walk [] all = tt
 quiet_items walk (b ∷ items) all = (λ _. all.0, quiet_items walk items all.1)
 
@@ -138,8 +137,8 @@ quiet_function_name s header count is_value at = quiet_header_call s count is_va
 
 quiet_library_place : (s : Scope) (function : LibraryFunction) (at : ℕ) → IsQuiet (c.library_place s function at)
 unfolding c.library_place
-quiet_library_place s library.Create at = quiet_start s.function at
-quiet_library_place s library.Join at = quiet_start s.function at
+quiet_library_place s library.Create at = quiet_pure tt
+quiet_library_place s library.Join at = quiet_pure tt
 quiet_library_place s library.Exit at = quiet_if (is_none s.function || not (gives_pointer s.gives)) rule.Threads at
 quiet_library_place s library.Print at = quiet_pure tt
 quiet_library_place s library.MutexInit at = quiet_pure tt
@@ -308,7 +307,8 @@ module _ (s : Scope) where
       quiet_then (c.misplaced s k.name (length k.arguments)) (λ _. visited (λ a. a) k.arguments >> pure e.nothing) (quiet_misplaced s k.name (length k.arguments))
       (λ _. quiet_then (visited (λ a. a) k.arguments) (λ _. pure e.nothing) (quiet_visited (λ a. a) k.arguments all) (λ _. quiet_pure e.nothing))
 
-  conditional_value : (first : Meant) (choices : List Looked) → QuietMeant first → AllByRecursion (λ (w : Looked). IsQuiet w) choices → IsQuiet (e.conditional_value s first choices)
+  conditional_value : (first : Meant) (choices : List Looked) → QuietMeant first → AllByRecursion (λ (w : Looked). IsQuiet w) choices → IsQuiet
+      (e.conditional_value s first choices)
   unfolding e.choices_value
   conditional_value first choices h all =
       quiet_then first.value (λ _. e.choices_value s choices >> pure e.nothing) h.value
@@ -396,7 +396,8 @@ module _ (s : Scope) where
   seen_argument y = map-Argument SomeArgument SomeForm SomeCall SomeChoice SomeExpression SomePlace SomePointer SomeTerm ArgumentTree FormTree CallTree ChoiceTree ExpressionTree
       PlaceTree PointerTree TermTree (λ e. e.0) (λ e. e.0) (λ e. e.0) (λ e. e.0) (λ e. e.0) (λ e. e.0) (λ e. e.0) (λ e. e.0) y
 
-  abbrev parts_in_argument : Argument-F ArgumentTree FormTree CallTree ChoiceTree ExpressionTree PlaceTree PointerTree TermTree → Argument-F Looked Formed Called Looked Meant Placed Looked Operand
+  abbrev parts_in_argument : Argument-F ArgumentTree FormTree CallTree ChoiceTree ExpressionTree PlaceTree PointerTree TermTree →
+      Argument-F Looked Formed Called Looked Meant Placed Looked Operand
   parts_in_argument x = map-Argument ArgumentTree FormTree CallTree ChoiceTree ExpressionTree PlaceTree PointerTree TermTree Looked Formed Called Looked Meant Placed Looked Operand
       (argument s) (formed) (called) (choice s) (meant s) (placed s) (pointed) (term s) x
 
@@ -405,7 +406,8 @@ module _ (s : Scope) where
   seen_form y = map-Form SomeArgument SomeForm SomeCall SomeChoice SomeExpression SomePlace SomePointer SomeTerm ArgumentTree FormTree CallTree ChoiceTree ExpressionTree PlaceTree
       PointerTree TermTree (λ e. e.0) (λ e. e.0) (λ e. e.0) (λ e. e.0) (λ e. e.0) (λ e. e.0) (λ e. e.0) (λ e. e.0) y
 
-  abbrev parts_in_form : Form-F ArgumentTree FormTree CallTree ChoiceTree ExpressionTree PlaceTree PointerTree TermTree → Form-F Looked Formed Called Looked Meant Placed Looked Operand
+  abbrev parts_in_form : Form-F ArgumentTree FormTree CallTree ChoiceTree ExpressionTree PlaceTree PointerTree TermTree →
+      Form-F Looked Formed Called Looked Meant Placed Looked Operand
   parts_in_form x = map-Form ArgumentTree FormTree CallTree ChoiceTree ExpressionTree PlaceTree PointerTree TermTree Looked Formed Called Looked Meant Placed Looked Operand
       (argument s) (formed) (called) (choice s) (meant s) (placed s) (pointed) (term s) x
 
@@ -414,7 +416,8 @@ module _ (s : Scope) where
   seen_call y = map-Call SomeArgument SomeForm SomeCall SomeChoice SomeExpression SomePlace SomePointer SomeTerm ArgumentTree FormTree CallTree ChoiceTree ExpressionTree PlaceTree
       PointerTree TermTree (λ e. e.0) (λ e. e.0) (λ e. e.0) (λ e. e.0) (λ e. e.0) (λ e. e.0) (λ e. e.0) (λ e. e.0) y
 
-  abbrev parts_in_call : Call-F ArgumentTree FormTree CallTree ChoiceTree ExpressionTree PlaceTree PointerTree TermTree → Call-F Looked Formed Called Looked Meant Placed Looked Operand
+  abbrev parts_in_call : Call-F ArgumentTree FormTree CallTree ChoiceTree ExpressionTree PlaceTree PointerTree TermTree →
+      Call-F Looked Formed Called Looked Meant Placed Looked Operand
   parts_in_call x = map-Call ArgumentTree FormTree CallTree ChoiceTree ExpressionTree PlaceTree PointerTree TermTree Looked Formed Called Looked Meant Placed Looked Operand
       (argument s) (formed) (called) (choice s) (meant s) (placed s) (pointed) (term s) x
 
@@ -423,7 +426,8 @@ module _ (s : Scope) where
   seen_choice y = map-Choice SomeArgument SomeForm SomeCall SomeChoice SomeExpression SomePlace SomePointer SomeTerm ArgumentTree FormTree CallTree ChoiceTree ExpressionTree
       PlaceTree PointerTree TermTree (λ e. e.0) (λ e. e.0) (λ e. e.0) (λ e. e.0) (λ e. e.0) (λ e. e.0) (λ e. e.0) (λ e. e.0) y
 
-  abbrev parts_in_choice : Choice-F ArgumentTree FormTree CallTree ChoiceTree ExpressionTree PlaceTree PointerTree TermTree → Choice-F Looked Formed Called Looked Meant Placed Looked Operand
+  abbrev parts_in_choice : Choice-F ArgumentTree FormTree CallTree ChoiceTree ExpressionTree PlaceTree PointerTree TermTree →
+      Choice-F Looked Formed Called Looked Meant Placed Looked Operand
   parts_in_choice x = map-Choice ArgumentTree FormTree CallTree ChoiceTree ExpressionTree PlaceTree PointerTree TermTree Looked Formed Called Looked Meant Placed Looked Operand
       (argument s) (formed) (called) (choice s) (meant s) (placed s) (pointed) (term s) x
 
@@ -442,7 +446,8 @@ module _ (s : Scope) where
   seen_place y = map-Place SomeArgument SomeForm SomeCall SomeChoice SomeExpression SomePlace SomePointer SomeTerm ArgumentTree FormTree CallTree ChoiceTree ExpressionTree
       PlaceTree PointerTree TermTree (λ e. e.0) (λ e. e.0) (λ e. e.0) (λ e. e.0) (λ e. e.0) (λ e. e.0) (λ e. e.0) (λ e. e.0) y
 
-  abbrev parts_in_place : Place-F ArgumentTree FormTree CallTree ChoiceTree ExpressionTree PlaceTree PointerTree TermTree → Place-F Looked Formed Called Looked Meant Placed Looked Operand
+  abbrev parts_in_place : Place-F ArgumentTree FormTree CallTree ChoiceTree ExpressionTree PlaceTree PointerTree TermTree →
+      Place-F Looked Formed Called Looked Meant Placed Looked Operand
   parts_in_place x = map-Place ArgumentTree FormTree CallTree ChoiceTree ExpressionTree PlaceTree PointerTree TermTree Looked Formed Called Looked Meant Placed Looked Operand
       (argument s) (formed) (called) (choice s) (meant s) (placed s) (pointed) (term s) x
 
@@ -451,7 +456,8 @@ module _ (s : Scope) where
   seen_pointer y = map-Pointer SomeArgument SomeForm SomeCall SomeChoice SomeExpression SomePlace SomePointer SomeTerm ArgumentTree FormTree CallTree ChoiceTree ExpressionTree
       PlaceTree PointerTree TermTree (λ e. e.0) (λ e. e.0) (λ e. e.0) (λ e. e.0) (λ e. e.0) (λ e. e.0) (λ e. e.0) (λ e. e.0) y
 
-  abbrev parts_in_pointer : Pointer-F ArgumentTree FormTree CallTree ChoiceTree ExpressionTree PlaceTree PointerTree TermTree → Pointer-F Looked Formed Called Looked Meant Placed Looked Operand
+  abbrev parts_in_pointer : Pointer-F ArgumentTree FormTree CallTree ChoiceTree ExpressionTree PlaceTree PointerTree TermTree →
+      Pointer-F Looked Formed Called Looked Meant Placed Looked Operand
   parts_in_pointer x = map-Pointer ArgumentTree FormTree CallTree ChoiceTree ExpressionTree PlaceTree PointerTree TermTree Looked Formed Called Looked Meant Placed Looked Operand
       (argument s) (formed) (called) (choice s) (meant s) (placed s) (pointed) (term s) x
 
@@ -460,7 +466,8 @@ module _ (s : Scope) where
   seen_term y = map-Term SomeArgument SomeForm SomeCall SomeChoice SomeExpression SomePlace SomePointer SomeTerm ArgumentTree FormTree CallTree ChoiceTree ExpressionTree PlaceTree
       PointerTree TermTree (λ e. e.0) (λ e. e.0) (λ e. e.0) (λ e. e.0) (λ e. e.0) (λ e. e.0) (λ e. e.0) (λ e. e.0) y
 
-  abbrev parts_in_term : Term-F ArgumentTree FormTree CallTree ChoiceTree ExpressionTree PlaceTree PointerTree TermTree → Term-F Looked Formed Called Looked Meant Placed Looked Operand
+  abbrev parts_in_term : Term-F ArgumentTree FormTree CallTree ChoiceTree ExpressionTree PlaceTree PointerTree TermTree →
+      Term-F Looked Formed Called Looked Meant Placed Looked Operand
   parts_in_term x = map-Term ArgumentTree FormTree CallTree ChoiceTree ExpressionTree PlaceTree PointerTree TermTree Looked Formed Called Looked Meant Placed Looked Operand
       (argument s) (formed) (called) (choice s) (meant s) (placed s) (pointed) (term s) x
 
@@ -475,7 +482,8 @@ module _ (s : Scope) where
       a_value (e.conditional_value s (meant s first.0) (map (choice s) (map (λ e. e.0) choices)))
       (conditional_value (meant s first.0) (map (choice s) (map (λ e. e.0) choices)) first.1 (are_choices choices))
 
-  argument_case : (y : Argument-F SomeArgument SomeForm SomeCall SomeChoice SomeExpression SomePlace SomePointer SomeTerm) → IsQuiet (argument_step s (parts_in_argument (seen_argument y)))
+  argument_case : (y : Argument-F SomeArgument SomeForm SomeCall SomeChoice SomeExpression SomePlace SomePointer SomeTerm) → IsQuiet
+      (argument_step s (parts_in_argument (seen_argument y)))
   argument_case (Argument-F.Value x) = looked (meant s x.0).value x.1.value
   argument_case (Argument-F.Text bytes at) = quiet_pure tt
   argument_case (Argument-F.Address p at) = looked_at (placed s p.0).index p.1
@@ -506,7 +514,8 @@ module _ (s : Scope) where
   pointer_at offset None = quiet_pure tt
   pointer_at offset (Some x) = looked (meant s x.0).value x.1.value
 
-  pointer_case : (y : Pointer-F SomeArgument SomeForm SomeCall SomeChoice SomeExpression SomePlace SomePointer SomeTerm) → IsQuiet (pointer_step s (parts_in_pointer (seen_pointer y)))
+  pointer_case : (y : Pointer-F SomeArgument SomeForm SomeCall SomeChoice SomeExpression SomePlace SomePointer SomeTerm) → IsQuiet
+      (pointer_step s (parts_in_pointer (seen_pointer y)))
   pointer_case y = pointer_at y.offset y.operand
 
   term_case : (y : Term-F SomeArgument SomeForm SomeCall SomeChoice SomeExpression SomePlace SomePointer SomeTerm) → QuietOperand (term_step s (parts_in_term (seen_term y)))

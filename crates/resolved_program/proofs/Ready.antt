@@ -10,8 +10,8 @@ use Rattle.c_rules.specs.declared.names.Meaning.TheVariants as meaning
 use Rattle.c_rules.specs.declared.names.Header.{Header}
 use Rattle.c_rules.specs.declared.names.Scope.{Scope}
 use Rattle.c_rules.specs.Findings as findings
-use Rattle.c_types.specs.States.{State, state}
-use Rattle.c_types.specs.Functions as y
+use Rattle.c_resolution.specs.States.{State, state}
+use Rattle.c_resolution.specs.Functions as y
 use Rattle.resolved_program.specs.Orders.{IsMeant, AreMeant, IsHeader, IsPartOf}
 use Rattle.resolved_program.proofs.Walks.{shows_if}
 use Rattle.resolved_program.proofs.Steps.{inserted_is}

@@ -6,7 +6,7 @@ use Rattle.c_program.specs.declared.tree.ThreadObject.{ThreadObject}
 use Rattle.c_rules.specs.declared.fault.Fault.{Fault}
 use Rattle.c_rules.specs.declared.findings.Creation.{Creation}
 use Rattle.c_rules.specs.Faults.{first}
-use Rattle.c_types.specs.Routines as y
+use Rattle.c_resolution.specs.Routines as y
 use Rattle.resolved_program.proofs.Walks.{first-none, none-some, some-some}
 use Rattle.resolved_program.proofs.Graph.{first-second}
 
@@ -70,7 +70,8 @@ given_to_later : (c : Creation) (object : ThreadObject) (routine : Option ℕ) (
 given_to_later c object None threads at is = set_later c object threads at is
 given_to_later c object (Some routine) threads at is = λ k o here. (o, here, same_later o (By c k))
 
-given_at_later : (c : Creation) (object : Option ThreadObject) (threads : List ThreadObject) → slice_get threads c.thread ≡ object → AreLater threads (y.given_at c object threads).0 (By c)
+given_at_later : (c : Creation) (object : Option ThreadObject) (threads : List ThreadObject) → slice_get threads c.thread ≡ object → AreLater threads
+    (y.given_at c object threads).0 (By c)
 given_at_later c None threads at = λ k o here. (o, here, same_later o (By c k))
 given_at_later c (Some object) threads at = given_to_later c object object.routine threads at refl
 

@@ -1,15 +1,14 @@
 -- What statements and blocks give.
-use Rattle.std.proofs.Common.{◌≡◌, inl, inr, ℕ, zero, suc, Bool, true, false, List, [], ◌∷◌, ◌++◌, length, Option, Some, None}
-use Rattle.std.specs.Prelude.{◌||◌, fold, if◌then◌else◌, Contains, ⊤}
+use Rattle.std.proofs.Common.{inl, inr, ℕ, zero, suc, Bool, true, false, List, [], ◌∷◌, ◌++◌, length, Option, Some, None}
+use Rattle.std.specs.Prelude.{fold, if◌then◌else◌, Contains, ⊤}
 use Rattle.std.specs.List.{AllByRecursion}
-use Rattle.std.proofs.lemmas.Bool.{or_cases}
 use Rattle.std.proofs.lemmas.List.Elements.{Contains-append_cases}
 use Rattle.c_program.specs.Tree.{Condition, Statement, Function, Program}
 use Rattle.c_program.specs.Calls.{calls_of}
 use Rattle.c_program.specs.Resolved as r
 use Rattle.c_rules.specs.declared.findings.Findings.{Findings}
-use Rattle.c_types.specs.Statements as y
-use Rattle.resolved_program.specs.Orders.{IsInOrder, IsFoundCall, IsFoundStart, IsFoundCreation, IsPointerAt}
+use Rattle.c_resolution.specs.Statements as y
+use Rattle.resolved_program.specs.Orders.{IsInOrder, IsFoundCall, IsFoundCreation, IsPointerAt}
 use Rattle.resolved_program.proofs.Calls as k
 use Rattle.resolved_program.proofs.Steps.{all_more}
 
@@ -23,9 +22,6 @@ module _ (whole : Findings) (P : Program) (number : ℕ) (f : Function) where
   abbrev Called : List ℕ → Type 0
   Called list = (callee : ℕ) → Contains list callee → IsFoundCall whole number callee
 
-  abbrev Started : Bool → Type 0
-  Started b = b ≡ true → IsFoundStart whole number
-
   abbrev Created : List (ℕ × ℕ) → Type 0
   Created list = (thread routine : ℕ) → Contains list (thread, routine) → IsPointerAt P routine × IsFoundCreation whole thread routine
 
@@ -34,13 +30,6 @@ module _ (whole : Findings) (P : Program) (number : ℕ) (f : Function) where
       elim (Contains-append_cases xs ys callee inside) [
         | inl first ↦ h callee first
         | inr later ↦ k callee later
-      ]
-
-  both_started : (a b : Bool) → Started a → Started b → Started (a || b)
-  both_started a b h k is =
-      elim (or_cases a b is) [
-        | inl first ↦ h first
-        | inr later ↦ k later
       ]
 
   both_created : (xs ys : List (ℕ × ℕ)) → Created xs → Created ys → Created (xs ++ ys)
@@ -54,7 +43,6 @@ module _ (whole : Findings) (P : Program) (number : ℕ) (f : Function) where
   sequence_of b first rest h k = record {
     is = (h.is, k.is);
     calls = both_called (calls_of first) (calls_of rest) h.calls k.calls;
-    starts = both_started (r.starts_or_joins first) (r.starts_or_joins rest) h.starts k.starts;
     creates = both_created (r.creates_of first) (r.creates_of rest) h.creates k.creates;
   }
 
@@ -101,7 +89,6 @@ module _ (whole : Findings) (P : Program) (number : ℕ) (f : Function) where
   nothing_in_order b = record {
     is = tt;
     calls = λ callee inside. absurd (k.nothing_in callee inside);
-    starts = λ h. cc;
     creates = λ thread routine inside. absurd (k.nothing_in (thread, routine) inside);
   }
 
@@ -117,21 +104,20 @@ module _ (whole : Findings) (P : Program) (number : ℕ) (f : Function) where
   -- ---- statements by their parts
 
   pub block_is : (b : Bool) (body : Statement) → InOrder b body → InOrder b (y.block_of body)
-  block_is b body h = record { is = h.is; calls = h.calls; starts = h.starts; creates = h.creates }
+  block_is b body h = record { is = h.is; calls = h.calls; creates = h.creates }
 
   pub if_is : (b : Bool) (c : Condition) (x z : Statement) → r.IsCondition P f c → InOrder b x → InOrder b z → InOrder b (y.if_of c x z)
   if_is b c x z is h k = record {
     is = (is, h.is, k.is);
     calls = both_called (calls_of x) (calls_of z) h.calls k.calls;
-    starts = both_started (r.starts_or_joins x) (r.starts_or_joins z) h.starts k.starts;
     creates = both_created (r.creates_of x) (r.creates_of z) h.creates k.creates;
   }
 
   pub while_is : (b : Bool) (c : Condition) (x : Statement) → r.IsCondition P f c → InOrder true x → InOrder b (y.while_of c x)
-  while_is b c x is h = record { is = (is, h.is); calls = h.calls; starts = h.starts; creates = h.creates }
+  while_is b c x is h = record { is = (is, h.is); calls = h.calls; creates = h.creates }
 
   pub do_while_is : (b : Bool) (x : Statement) (c : Condition) → InOrder true x → r.IsCondition P f c → InOrder b (y.do_while_of x c)
-  do_while_is b x c h is = record { is = (h.is, is); calls = h.calls; starts = h.starts; creates = h.creates }
+  do_while_is b x c h is = record { is = (h.is, is); calls = h.calls; creates = h.creates }
 
   -- what the head of a for has
   abbrev pub IsHead : y.Head → Type 0
@@ -141,9 +127,6 @@ module _ (whole : Findings) (P : Program) (number : ℕ) (f : Function) where
   for_is b head body h k = record {
     is = (h.0.is, h.1, h.2.is, k.is);
     calls = both_called (calls_of head.0) (calls_of head.2 ++ calls_of body) h.0.calls (both_called (calls_of head.2) (calls_of body) h.2.calls k.calls);
-    starts =
-        both_started (r.starts_or_joins head.0) (r.starts_or_joins head.2 || r.starts_or_joins body) h.0.starts
-        (both_started (r.starts_or_joins head.2) (r.starts_or_joins body) h.2.starts k.starts);
     creates =
         both_created (r.creates_of head.0) (r.creates_of head.2 ++ r.creates_of body) h.0.creates
         (both_created (r.creates_of head.2) (r.creates_of body) h.2.creates k.creates);

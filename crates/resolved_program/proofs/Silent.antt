@@ -21,10 +21,10 @@ use Rattle.c_rules.specs.Constants.{constancy}
 use Rattle.c_rules.specs.Specifiers.{c_type}
 use Rattle.c_rules.specs.Walks.{Outcome, Finds, pure, finds, finds_if, ◌>>=◌, ◌>>◌}
 use Rattle.c_expressions.specs.Expressions.{value}
-use Rattle.c_types.specs.States.{state, Goes, finding}
-use Rattle.c_types.specs.Locals.{declare, optional_length}
-use Rattle.c_types.specs.Files.{File, Tables, Declares, going, tabling}
-use Rattle.c_types.specs.Globals as g
+use Rattle.c_resolution.specs.States.{state, Goes, finding}
+use Rattle.c_resolution.specs.Locals.{declare, optional_length}
+use Rattle.c_resolution.specs.Files.{File, Tables, Declares, going, tabling}
+use Rattle.c_resolution.specs.Globals as g
 use Rattle.resolved_program.specs.Orders.{left, given}
 use Rattle.resolved_program.proofs.Walks.{turn}
 use Rattle.resolved_program.proofs.Functions.{in_file_is}

@@ -29,10 +29,10 @@ use Rattle.c_rules.specs.declared.names.Gives.TheVariants as gives
 use Rattle.c_rules.specs.declared.names.Scope.{Scope}
 use Rattle.c_rules.specs.Walks.{pure, finds, finds_if, place_in_tree, ◌>>=◌}
 use Rattle.c_expressions.specs.Expressions.{binary_operator, value}
-use Rattle.c_expressions.specs.Arguments as a
-use Rattle.c_expressions.specs.Calls as c
+use Rattle.c_calls.specs.Arguments as a
+use Rattle.c_calls.specs.Calls as c
 use Rattle.c_expressions.specs.Targets.{target}
-use Rattle.c_types.specs.Simple as y
+use Rattle.c_resolution.specs.Simple as y
 use Rattle.resolved_program.specs.Leaves.{AreValid, expression_leaves, place_leaves, simple_form_leaves, simple_leaves, returned_leaves}
 use Rattle.resolved_program.specs.Orders.{IsOrderly, IsGiven, IsFoundCall, IsInOrder, GivesRoutines}
 use Rattle.resolved_program.proofs.Walks.{Shows, shows_pure, shows_then, shows_as, shows_broken, shows_if, IfAny}
@@ -76,7 +76,6 @@ module _ (whole : Findings) (P : Program) (number : ℕ) (f : Function) (s : Sco
   assign_is at q right target is = record {
     is = (target, is.0);
     calls = is.1;
-    starts = λ h. cc;
     creates = λ thread routine inside. absurd (nothing_in (thread, routine) inside);
   }
 
@@ -93,7 +92,7 @@ module _ (whole : Findings) (P : Program) (number : ℕ) (f : Function) (s : Sco
       InOrder (y.updated at p operator right)
   updated_is at p operator right compound target is =
       k.plain whole P number f s given_routines in_loop (y.updated at p operator right)
-      (record { compound = compound; works_in = refl; target = target; operand = is }) refl refl refl
+      (record { compound = compound; works_in = refl; target = target; operand = is }) refl refl
 
   compound_by_shows : (o : Option ResolvedBinary) (at : ℕ) (p : Place) (right : Expression) → IfAny (λ o. r.is_comparison o ≡ false) o →
       Shows whole (r.IsPlace P f p × Is P f right) InOrder (y.compound_by o at p right)
@@ -199,6 +198,5 @@ module _ (whole : Findings) (P : Program) (number : ℕ) (f : Function) (s : Sco
       (λ right. shows_pure (made right) (λ b. record {
         is = b.1.0;
         calls = b.1.1;
-        starts = λ h. cc;
         creates = λ thread routine inside. absurd (nothing_in (thread, routine) inside);
       })))

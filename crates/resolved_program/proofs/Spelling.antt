@@ -5,7 +5,7 @@ use Rattle.std.specs.List.{AllByRecursion}
 use Rattle.std.proofs.lemmas.Bool.Decides.{nat_tests}
 use Rattle.std.proofs.lemmas.Str.Ascii.{encode_ascii}
 use Rattle.c_program.specs.Resolved.{IsName, is_letter, is_letter_or_digit}
-use Rattle.c_types.specs.Globals.{text}
+use Rattle.c_resolution.specs.Globals.{text}
 
 letter_small : (b : ℕ) → is_letter b ≡ true → b < 128
 letter_small b h = grind (arith, nat_tests)

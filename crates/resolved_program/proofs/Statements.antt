@@ -21,11 +21,11 @@ use Rattle.c_rules.specs.declared.findings.Findings.{Findings}
 use Rattle.c_rules.specs.Names.{opened, closed}
 use Rattle.c_rules.specs.Walks.{pure, ◌>>=◌, ◌>>◌}
 use Rattle.c_expressions.specs.Expressions.{condition}
-use Rattle.c_types.specs.Simple.{simple, returned, check_jump}
-use Rattle.c_types.specs.Locals.{declaration}
-use Rattle.c_types.specs.States.{state, Goes, finding, scoping}
-use Rattle.c_types.specs.Statements as y
-use Rattle.c_types.specs.Statements.{Adds, item_step, statement_step, block_step, item, statement, items}
+use Rattle.c_resolution.specs.Simple.{simple, returned, check_jump}
+use Rattle.c_resolution.specs.Locals.{declaration}
+use Rattle.c_resolution.specs.States.{state, Goes, finding, scoping}
+use Rattle.c_resolution.specs.Statements as y
+use Rattle.c_resolution.specs.Statements.{Adds, item_step, statement_step, block_step, item, statement, items}
 use Rattle.resolved_program.specs.Leaves.{Leaves, AreValid, all_of, of_any, expression_leaves, simple_leaves, start_leaves}
 use Rattle.resolved_program.specs.Leaves.{item_layer, statement_layer, block_layer, block_leaves}
 use Rattle.resolved_program.specs.Orders.{left, given, IsInOrder, IsAhead, Holds, GivesRoutines}
@@ -119,7 +119,8 @@ module _ (whole : Findings) (P : Program) (number : ℕ) (f : Function) (given_r
   for_condition_does b None valid = does_finding (y.for_condition None) (λ s. shows_pure y.int_one (λ _. refl))
   for_condition_does b (Some test) valid = condition_does b test valid
 
-  for_step_does : (b : Bool) {Before : Type 0} (x : Option SimpleStatement) → AreValid (of_any simple_leaves x) → Does whole P number f b Before (InOrder false) (finding (y.for_step x))
+  for_step_does : (b : Bool) {Before : Type 0} (x : Option SimpleStatement) → AreValid (of_any simple_leaves x) → Does whole P number f b Before (InOrder false)
+      (finding (y.for_step x))
   for_step_does b None valid = does_finding (y.for_step None) (λ s. shows_pure Statement.Done (λ _. q.nothing_in_order whole P number f false))
   for_step_does b (Some x) valid = simple_does b false x valid
 
@@ -265,10 +266,10 @@ module _ (whole : Findings) (P : Program) (number : ℕ) (f : Function) (given_r
   }
 
   break_is : (b : Bool) → b ≡ true → InOrder b Statement.Break
-  break_is b h = k.plain_in whole P number f b Statement.Break h refl refl refl
+  break_is b h = k.plain_in whole P number f b Statement.Break h refl refl
 
   continue_is : (b : Bool) → b ≡ true → InOrder b Statement.Continue
-  continue_is b h = k.plain_in whole P number f b Statement.Continue h refl refl refl
+  continue_is b h = k.plain_in whole P number f b Statement.Continue h refl refl
 
   block_statement_is : (leaves : Leaves) (w : Goes Statement) → IsBlock leaves w → IsStatement leaves (y.block_statement w)
   block_statement_is leaves w h = record {
@@ -301,7 +302,8 @@ module _ (whole : Findings) (P : Program) (number : ℕ) (f : Function) (given_r
   done_is : IsStatement [] (pure Statement.Done)
   done_is = record { stays = m.staying_pure Statement.Done; does = λ valid b. does_pure Statement.Done (λ _. q.nothing_in_order whole P number f b) }
 
-  while_loop_is : (test : ExpressionTree) (leaves : Leaves) (body : Goes Statement) → IsStatement leaves body → IsStatement (expression_leaves test ++ leaves) (y.while_loop test body)
+  while_loop_is : (test : ExpressionTree) (leaves : Leaves) (body : Goes Statement) → IsStatement leaves body → IsStatement (expression_leaves test ++ leaves)
+      (y.while_loop test body)
   while_loop_is test leaves body h =
       let next = λ (c : Condition). y.loop_body body >>= (λ x. pure (y.while_of c x)) in
       record {
@@ -318,7 +320,8 @@ module _ (whole : Findings) (P : Program) (number : ℕ) (f : Function) (given_r
       let next = λ (x : Statement). finding (λ s. condition s test) >>= (λ c. pure (y.do_while_of x c)) in
       record {
         stays = m.staying_then (y.loop_body body) next (m.in_loop_body body h.stays)
-            (λ x. m.staying_then (finding (λ s. condition s test)) (λ c. pure (y.do_while_of x c)) (m.staying_finding (λ s. condition s test)) (λ c. m.staying_pure (y.do_while_of x c)));
+            (λ x. m.staying_then (finding (λ s. condition s test)) (λ c. pure (y.do_while_of x c)) (m.staying_finding (λ s. condition s test))
+            (λ c. m.staying_pure (y.do_while_of x c)));
         does = λ valid b.
             does_then (y.loop_body body) next (loop_body_does b body h.stays (h.does (all_left _ leaves (expression_leaves test) valid) true))
             (λ x. does_then (finding (λ s. condition s test)) (λ c. pure (y.do_while_of x c)) (condition_does b test (all_right _ leaves (expression_leaves test) valid))
@@ -355,7 +358,7 @@ module _ (whole : Findings) (P : Program) (number : ℕ) (f : Function) (given_r
   statement_case (Statement-F.Block body) = block_statement_is (block_leaves body.0) (items body.0) body.1
   statement_case Statement-F.Empty = record {
     stays = m.staying_pure Statement.Empty;
-    does = λ valid b. does_pure Statement.Empty (λ _. k.plain_in whole P number f b Statement.Empty tt refl refl refl);
+    does = λ valid b. does_pure Statement.Empty (λ _. k.plain_in whole P number f b Statement.Empty tt refl refl);
   }
   statement_case (Statement-F.Simple x) = record { stays = m.staying_finding (λ s. simple s x); does = λ valid b. simple_does b b x valid }
   statement_case (Statement-F.Break at) = jump_case Statement.Break at break_is
@@ -369,18 +372,22 @@ module _ (whole : Findings) (P : Program) (number : ℕ) (f : Function) (given_r
   statement_case (Statement-F.For begin test step body) = for_loop_is begin test step (statement_leaves body.0) (statement body.0) body.1
   statement_case (Statement-F.Return x at) = record {
     stays = m.staying_finding (λ s. returned s x at);
-    does = λ valid b. does_finding (λ s. returned s x at) (λ s. shows_as (returned s x at) (λ c. c.1) (λ _ _ is. is) (returned_shows whole P number f s given_routines b x at valid));
+    does = λ valid b. does_finding (λ s. returned s x at) (λ s. shows_as (returned s x at) (λ c. c.1) (λ _ _ is. is)
+        (returned_shows whole P number f s given_routines b x at valid));
   }
 
-  item_induct : (x : BlockItem-F BlockItemTree StatementTree BlockTree) (z : BlockItem-F SomeBlockItem SomeStatement SomeBlock) → seen_item z ≡ x → ClaimBlockItem (roll-BlockItem x)
+  item_induct : (x : BlockItem-F BlockItemTree StatementTree BlockTree) (z : BlockItem-F SomeBlockItem SomeStatement SomeBlock) → seen_item z ≡ x → ClaimBlockItem
+      (roll-BlockItem x)
   item_induct x z e = subst (λ t. ClaimBlockItem (roll-BlockItem t)) e
       (subst (λ leaves. IsItem leaves (item (roll-BlockItem (seen_item z)))) (sym (fold-roll-BlockItem Leaves Leaves Leaves item_layer statement_layer block_layer (seen_item z)))
       (subst (λ w. IsItem (item_layer (leaves_in_item (seen_item z))) w)
       (sym (fold-roll-BlockItem Adds (Goes Statement) (Goes Statement) item_step statement_step block_step (seen_item z))) (item_case z)))
 
-  statement_induct : (x : Statement-F BlockItemTree StatementTree BlockTree) (z : Statement-F SomeBlockItem SomeStatement SomeBlock) → seen_statement z ≡ x → ClaimStatement (roll-Statement x)
+  statement_induct : (x : Statement-F BlockItemTree StatementTree BlockTree) (z : Statement-F SomeBlockItem SomeStatement SomeBlock) → seen_statement z ≡ x → ClaimStatement
+      (roll-Statement x)
   statement_induct x z e = subst (λ t. ClaimStatement (roll-Statement t)) e
-      (subst (λ leaves. IsStatement leaves (statement (roll-Statement (seen_statement z)))) (sym (fold-roll-Statement Leaves Leaves Leaves item_layer statement_layer block_layer (seen_statement z)))
+      (subst (λ leaves. IsStatement leaves (statement (roll-Statement (seen_statement z))))
+      (sym (fold-roll-Statement Leaves Leaves Leaves item_layer statement_layer block_layer (seen_statement z)))
       (subst (λ w. IsStatement (statement_layer (leaves_in_statement (seen_statement z))) w)
       (sym (fold-roll-Statement Adds (Goes Statement) (Goes Statement) item_step statement_step block_step (seen_statement z))) (statement_case z)))
 

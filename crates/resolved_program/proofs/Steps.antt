@@ -12,8 +12,8 @@ use Rattle.c_rules.specs.declared.names.Scope.{Scope}
 use Rattle.c_rules.specs.Levels.{inserted}
 use Rattle.c_rules.specs.Names.{Names, is_taken, declaring, opened, closed, closed_to}
 use Rattle.c_rules.specs.Walks.{Outcome, Finds, pure, and_then, through, finds, ◌>>=◌}
-use Rattle.c_types.specs.States.{State, state, Goes, in_scope, finding, scoping}
-use Rattle.c_types.specs.Locals.{declare}
+use Rattle.c_resolution.specs.States.{State, state, Goes, in_scope, finding, scoping}
+use Rattle.c_resolution.specs.Locals.{declare}
 use Rattle.resolved_program.specs.Orders.{left, given, IsMeant, AreMeant, IsOrderly, IsFront, IsAhead, Holds}
 use Rattle.resolved_program.proofs.Walks.{Shows, shows_broken, outcome, turn, IfAny}
 use Rattle.std.proofs.lemmas.Option.{slice_get_within}
@@ -72,7 +72,8 @@ removed_is Is [] (suc k) all = tt
 removed_is Is (x ∷ xs) zero all = all.1
 removed_is Is (x ∷ xs) (suc k) all = (all.0, removed_is Is xs k all.1)
 
-closed_ahead : (whole : Findings) (f : Function) (level : Option Names) (s : Scope) (found : Findings) → IsAhead whole f (state (closed_to level s) found) → IsAhead whole f (state s found)
+closed_ahead : (whole : Findings) (f : Function) (level : Option Names) (s : Scope) (found : Findings) → IsAhead whole f (state (closed_to level s) found) → IsAhead whole f
+    (state s found)
 closed_ahead whole f None s found ahead = ahead
 closed_ahead whole f (Some level) s found ahead = record { found = ahead.found; locals = ahead.locals }
 

@@ -12,7 +12,8 @@ use Rattle.c_tree.specs.declared.expression.Place.{Place as PlaceTree, roll-Plac
 use Rattle.c_tree.specs.declared.expression.Pointer.{Pointer as PointerTree, roll-Pointer}
 use Rattle.c_tree.specs.declared.expression.Term.{Term as TermTree, roll-Term}
 use Rattle.c_tree.specs.declared.expression.Argument.TheOpen.{Argument-F, Form-F, Call-F, Choice-F, Expression-F, Place-F, Pointer-F, Term-F}
-use Rattle.c_tree.specs.declared.expression.Argument.TheBlock.{the_family, member-Argument, member-Form, member-Call, member-Choice, member-Expression, member-Place, member-Pointer, member-Term}
+use Rattle.c_tree.specs.declared.expression.Argument.TheBlock.{the_family, member-Argument, member-Form, member-Call, member-Choice}
+use Rattle.c_tree.specs.declared.expression.Argument.TheBlock.{member-Expression, member-Place, member-Pointer, member-Term}
 use Rattle.c_tree.specs.declared.expression.Argument.TheFolds.{claims, map-Argument, map-Form, map-Call, map-Choice, map-Expression, map-Place, map-Pointer, map-Term}
 use Rattle.c_tree.specs.declared.expression.Argument.TheFolds.{fold-Form, fold-Call, fold-Pointer}
 use Rattle.c_tree.specs.declared.expression.Argument.TheFolds.{fold-roll-Argument, fold-roll-Form, fold-roll-Call, fold-roll-Choice}
@@ -21,7 +22,8 @@ use Rattle.c_tree.specs.declared.expression.Argument.TheFolds.{ind-Argument, ind
 use Rattle.c_program.specs.Tree.{Function, Program}
 use Rattle.c_rules.specs.declared.findings.Findings.{Findings}
 use Rattle.c_rules.specs.declared.names.Scope.{Scope}
-use Rattle.c_expressions.specs.Expressions.{Looked, Formed, Called, Meant, Placed, Operand, argument_step, form_step, call_step, choice_step, expression_step, place_step, pointer_step, term_step}
+use Rattle.c_expressions.specs.Expressions.{Looked, Formed, Called, Meant, Placed, Operand, argument_step, form_step, call_step}
+use Rattle.c_expressions.specs.Expressions.{choice_step, expression_step, place_step, pointer_step, term_step}
 use Rattle.c_expressions.specs.Expressions.{meant, placed, term, choice, argument, value, condition, index}
 use Rattle.resolved_program.specs.Leaves.{Leaves, AreValid, all_of, argument_layer, form_layer, call_layer, choice_layer, expression_layer, place_layer, pointer_layer, term_layer}
 use Rattle.resolved_program.specs.Leaves.{argument_leaves, form_leaves, call_leaves, choice_leaves, expression_leaves, place_leaves, pointer_leaves, term_leaves}
@@ -104,21 +106,24 @@ module _ (whole : Findings) (P : Program) (number : ℕ) (f : Function) (s : Sco
 
   -- ---- lists of parts
 
-  are_terms : (list : List SomeTerm) → AreValid (all_of (map term_leaves (map (λ e. e.0) list))) → AllByRecursion (l.IsOperand whole P number f s) (map (term s) (map (λ e. e.0) list))
+  are_terms : (list : List SomeTerm) → AreValid (all_of (map term_leaves (map (λ e. e.0) list))) → AllByRecursion (l.IsOperand whole P number f s)
+      (map (term s) (map (λ e. e.0) list))
   are_terms [] valid = tt
   are_terms (x ∷ list) valid = (
     x.1 (all_left _ (term_leaves x.0) (all_of (map term_leaves (map (λ e. e.0) list))) valid),
     are_terms list (all_right _ (term_leaves x.0) (all_of (map term_leaves (map (λ e. e.0) list))) valid),
   )
 
-  are_choices : (list : List SomeChoice) → AreValid (all_of (map choice_leaves (map (λ e. e.0) list))) → AllByRecursion (l.IsLooked whole P number f s) (map (choice s) (map (λ e. e.0) list))
+  are_choices : (list : List SomeChoice) → AreValid (all_of (map choice_leaves (map (λ e. e.0) list))) → AllByRecursion (l.IsLooked whole P number f s)
+      (map (choice s) (map (λ e. e.0) list))
   are_choices [] valid = tt
   are_choices (x ∷ list) valid = (
     x.1 (all_left _ (choice_leaves x.0) (all_of (map choice_leaves (map (λ e. e.0) list))) valid),
     are_choices list (all_right _ (choice_leaves x.0) (all_of (map choice_leaves (map (λ e. e.0) list))) valid),
   )
 
-  are_arguments : (list : List SomeArgument) → AreValid (all_of (map argument_leaves (map (λ e. e.0) list))) → AllByRecursion (l.IsLooked whole P number f s) (map (argument s) (map (λ e. e.0) list))
+  are_arguments : (list : List SomeArgument) → AreValid (all_of (map argument_leaves (map (λ e. e.0) list))) → AllByRecursion (l.IsLooked whole P number f s)
+      (map (argument s) (map (λ e. e.0) list))
   are_arguments [] valid = tt
   are_arguments (x ∷ list) valid = (
     x.1 (all_left _ (argument_leaves x.0) (all_of (map argument_leaves (map (λ e. e.0) list))) valid),
@@ -130,11 +135,13 @@ module _ (whole : Findings) (P : Program) (number : ℕ) (f : Function) (s : Sco
   seen_argument y = map-Argument SomeArgument SomeForm SomeCall SomeChoice SomeExpression SomePlace SomePointer SomeTerm ArgumentTree FormTree CallTree ChoiceTree ExpressionTree
       PlaceTree PointerTree TermTree (λ e. e.0) (λ e. e.0) (λ e. e.0) (λ e. e.0) (λ e. e.0) (λ e. e.0) (λ e. e.0) (λ e. e.0) y
 
-  abbrev leaves_in_argument : Argument-F ArgumentTree FormTree CallTree ChoiceTree ExpressionTree PlaceTree PointerTree TermTree → Argument-F Leaves Leaves Leaves Leaves Leaves Leaves Leaves Leaves
+  abbrev leaves_in_argument : Argument-F ArgumentTree FormTree CallTree ChoiceTree ExpressionTree PlaceTree PointerTree TermTree →
+      Argument-F Leaves Leaves Leaves Leaves Leaves Leaves Leaves Leaves
   leaves_in_argument x = map-Argument ArgumentTree FormTree CallTree ChoiceTree ExpressionTree PlaceTree PointerTree TermTree Leaves Leaves Leaves Leaves Leaves Leaves Leaves
       Leaves argument_leaves form_leaves call_leaves choice_leaves expression_leaves place_leaves pointer_leaves term_leaves x
 
-  abbrev parts_in_argument : Argument-F ArgumentTree FormTree CallTree ChoiceTree ExpressionTree PlaceTree PointerTree TermTree → Argument-F Looked Formed Called Looked Meant Placed Looked Operand
+  abbrev parts_in_argument : Argument-F ArgumentTree FormTree CallTree ChoiceTree ExpressionTree PlaceTree PointerTree TermTree →
+      Argument-F Looked Formed Called Looked Meant Placed Looked Operand
   parts_in_argument x = map-Argument ArgumentTree FormTree CallTree ChoiceTree ExpressionTree PlaceTree PointerTree TermTree Looked Formed Called Looked Meant Placed Looked Operand
       (argument s) (formed) (called) (choice s) (meant s) (placed s) (pointed) (term s) x
 
@@ -143,11 +150,13 @@ module _ (whole : Findings) (P : Program) (number : ℕ) (f : Function) (s : Sco
   seen_form y = map-Form SomeArgument SomeForm SomeCall SomeChoice SomeExpression SomePlace SomePointer SomeTerm ArgumentTree FormTree CallTree ChoiceTree ExpressionTree PlaceTree
       PointerTree TermTree (λ e. e.0) (λ e. e.0) (λ e. e.0) (λ e. e.0) (λ e. e.0) (λ e. e.0) (λ e. e.0) (λ e. e.0) y
 
-  abbrev leaves_in_form : Form-F ArgumentTree FormTree CallTree ChoiceTree ExpressionTree PlaceTree PointerTree TermTree → Form-F Leaves Leaves Leaves Leaves Leaves Leaves Leaves Leaves
+  abbrev leaves_in_form : Form-F ArgumentTree FormTree CallTree ChoiceTree ExpressionTree PlaceTree PointerTree TermTree →
+      Form-F Leaves Leaves Leaves Leaves Leaves Leaves Leaves Leaves
   leaves_in_form x = map-Form ArgumentTree FormTree CallTree ChoiceTree ExpressionTree PlaceTree PointerTree TermTree Leaves Leaves Leaves Leaves Leaves Leaves Leaves Leaves
       argument_leaves form_leaves call_leaves choice_leaves expression_leaves place_leaves pointer_leaves term_leaves x
 
-  abbrev parts_in_form : Form-F ArgumentTree FormTree CallTree ChoiceTree ExpressionTree PlaceTree PointerTree TermTree → Form-F Looked Formed Called Looked Meant Placed Looked Operand
+  abbrev parts_in_form : Form-F ArgumentTree FormTree CallTree ChoiceTree ExpressionTree PlaceTree PointerTree TermTree →
+      Form-F Looked Formed Called Looked Meant Placed Looked Operand
   parts_in_form x = map-Form ArgumentTree FormTree CallTree ChoiceTree ExpressionTree PlaceTree PointerTree TermTree Looked Formed Called Looked Meant Placed Looked Operand
       (argument s) (formed) (called) (choice s) (meant s) (placed s) (pointed) (term s) x
 
@@ -156,11 +165,13 @@ module _ (whole : Findings) (P : Program) (number : ℕ) (f : Function) (s : Sco
   seen_call y = map-Call SomeArgument SomeForm SomeCall SomeChoice SomeExpression SomePlace SomePointer SomeTerm ArgumentTree FormTree CallTree ChoiceTree ExpressionTree PlaceTree
       PointerTree TermTree (λ e. e.0) (λ e. e.0) (λ e. e.0) (λ e. e.0) (λ e. e.0) (λ e. e.0) (λ e. e.0) (λ e. e.0) y
 
-  abbrev leaves_in_call : Call-F ArgumentTree FormTree CallTree ChoiceTree ExpressionTree PlaceTree PointerTree TermTree → Call-F Leaves Leaves Leaves Leaves Leaves Leaves Leaves Leaves
+  abbrev leaves_in_call : Call-F ArgumentTree FormTree CallTree ChoiceTree ExpressionTree PlaceTree PointerTree TermTree →
+      Call-F Leaves Leaves Leaves Leaves Leaves Leaves Leaves Leaves
   leaves_in_call x = map-Call ArgumentTree FormTree CallTree ChoiceTree ExpressionTree PlaceTree PointerTree TermTree Leaves Leaves Leaves Leaves Leaves Leaves Leaves Leaves
       argument_leaves form_leaves call_leaves choice_leaves expression_leaves place_leaves pointer_leaves term_leaves x
 
-  abbrev parts_in_call : Call-F ArgumentTree FormTree CallTree ChoiceTree ExpressionTree PlaceTree PointerTree TermTree → Call-F Looked Formed Called Looked Meant Placed Looked Operand
+  abbrev parts_in_call : Call-F ArgumentTree FormTree CallTree ChoiceTree ExpressionTree PlaceTree PointerTree TermTree →
+      Call-F Looked Formed Called Looked Meant Placed Looked Operand
   parts_in_call x = map-Call ArgumentTree FormTree CallTree ChoiceTree ExpressionTree PlaceTree PointerTree TermTree Looked Formed Called Looked Meant Placed Looked Operand
       (argument s) (formed) (called) (choice s) (meant s) (placed s) (pointed) (term s) x
 
@@ -169,11 +180,13 @@ module _ (whole : Findings) (P : Program) (number : ℕ) (f : Function) (s : Sco
   seen_choice y = map-Choice SomeArgument SomeForm SomeCall SomeChoice SomeExpression SomePlace SomePointer SomeTerm ArgumentTree FormTree CallTree ChoiceTree ExpressionTree
       PlaceTree PointerTree TermTree (λ e. e.0) (λ e. e.0) (λ e. e.0) (λ e. e.0) (λ e. e.0) (λ e. e.0) (λ e. e.0) (λ e. e.0) y
 
-  abbrev leaves_in_choice : Choice-F ArgumentTree FormTree CallTree ChoiceTree ExpressionTree PlaceTree PointerTree TermTree → Choice-F Leaves Leaves Leaves Leaves Leaves Leaves Leaves Leaves
+  abbrev leaves_in_choice : Choice-F ArgumentTree FormTree CallTree ChoiceTree ExpressionTree PlaceTree PointerTree TermTree →
+      Choice-F Leaves Leaves Leaves Leaves Leaves Leaves Leaves Leaves
   leaves_in_choice x = map-Choice ArgumentTree FormTree CallTree ChoiceTree ExpressionTree PlaceTree PointerTree TermTree Leaves Leaves Leaves Leaves Leaves Leaves Leaves Leaves
       argument_leaves form_leaves call_leaves choice_leaves expression_leaves place_leaves pointer_leaves term_leaves x
 
-  abbrev parts_in_choice : Choice-F ArgumentTree FormTree CallTree ChoiceTree ExpressionTree PlaceTree PointerTree TermTree → Choice-F Looked Formed Called Looked Meant Placed Looked Operand
+  abbrev parts_in_choice : Choice-F ArgumentTree FormTree CallTree ChoiceTree ExpressionTree PlaceTree PointerTree TermTree →
+      Choice-F Looked Formed Called Looked Meant Placed Looked Operand
   parts_in_choice x = map-Choice ArgumentTree FormTree CallTree ChoiceTree ExpressionTree PlaceTree PointerTree TermTree Looked Formed Called Looked Meant Placed Looked Operand
       (argument s) (formed) (called) (choice s) (meant s) (placed s) (pointed) (term s) x
 
@@ -197,11 +210,13 @@ module _ (whole : Findings) (P : Program) (number : ℕ) (f : Function) (s : Sco
   seen_place y = map-Place SomeArgument SomeForm SomeCall SomeChoice SomeExpression SomePlace SomePointer SomeTerm ArgumentTree FormTree CallTree ChoiceTree ExpressionTree
       PlaceTree PointerTree TermTree (λ e. e.0) (λ e. e.0) (λ e. e.0) (λ e. e.0) (λ e. e.0) (λ e. e.0) (λ e. e.0) (λ e. e.0) y
 
-  abbrev leaves_in_place : Place-F ArgumentTree FormTree CallTree ChoiceTree ExpressionTree PlaceTree PointerTree TermTree → Place-F Leaves Leaves Leaves Leaves Leaves Leaves Leaves Leaves
+  abbrev leaves_in_place : Place-F ArgumentTree FormTree CallTree ChoiceTree ExpressionTree PlaceTree PointerTree TermTree →
+      Place-F Leaves Leaves Leaves Leaves Leaves Leaves Leaves Leaves
   leaves_in_place x = map-Place ArgumentTree FormTree CallTree ChoiceTree ExpressionTree PlaceTree PointerTree TermTree Leaves Leaves Leaves Leaves Leaves Leaves Leaves Leaves
       argument_leaves form_leaves call_leaves choice_leaves expression_leaves place_leaves pointer_leaves term_leaves x
 
-  abbrev parts_in_place : Place-F ArgumentTree FormTree CallTree ChoiceTree ExpressionTree PlaceTree PointerTree TermTree → Place-F Looked Formed Called Looked Meant Placed Looked Operand
+  abbrev parts_in_place : Place-F ArgumentTree FormTree CallTree ChoiceTree ExpressionTree PlaceTree PointerTree TermTree →
+      Place-F Looked Formed Called Looked Meant Placed Looked Operand
   parts_in_place x = map-Place ArgumentTree FormTree CallTree ChoiceTree ExpressionTree PlaceTree PointerTree TermTree Looked Formed Called Looked Meant Placed Looked Operand
       (argument s) (formed) (called) (choice s) (meant s) (placed s) (pointed) (term s) x
 
@@ -210,11 +225,13 @@ module _ (whole : Findings) (P : Program) (number : ℕ) (f : Function) (s : Sco
   seen_pointer y = map-Pointer SomeArgument SomeForm SomeCall SomeChoice SomeExpression SomePlace SomePointer SomeTerm ArgumentTree FormTree CallTree ChoiceTree ExpressionTree
       PlaceTree PointerTree TermTree (λ e. e.0) (λ e. e.0) (λ e. e.0) (λ e. e.0) (λ e. e.0) (λ e. e.0) (λ e. e.0) (λ e. e.0) y
 
-  abbrev leaves_in_pointer : Pointer-F ArgumentTree FormTree CallTree ChoiceTree ExpressionTree PlaceTree PointerTree TermTree → Pointer-F Leaves Leaves Leaves Leaves Leaves Leaves Leaves Leaves
+  abbrev leaves_in_pointer : Pointer-F ArgumentTree FormTree CallTree ChoiceTree ExpressionTree PlaceTree PointerTree TermTree →
+      Pointer-F Leaves Leaves Leaves Leaves Leaves Leaves Leaves Leaves
   leaves_in_pointer x = map-Pointer ArgumentTree FormTree CallTree ChoiceTree ExpressionTree PlaceTree PointerTree TermTree Leaves Leaves Leaves Leaves Leaves Leaves Leaves Leaves
       argument_leaves form_leaves call_leaves choice_leaves expression_leaves place_leaves pointer_leaves term_leaves x
 
-  abbrev parts_in_pointer : Pointer-F ArgumentTree FormTree CallTree ChoiceTree ExpressionTree PlaceTree PointerTree TermTree → Pointer-F Looked Formed Called Looked Meant Placed Looked Operand
+  abbrev parts_in_pointer : Pointer-F ArgumentTree FormTree CallTree ChoiceTree ExpressionTree PlaceTree PointerTree TermTree →
+      Pointer-F Looked Formed Called Looked Meant Placed Looked Operand
   parts_in_pointer x = map-Pointer ArgumentTree FormTree CallTree ChoiceTree ExpressionTree PlaceTree PointerTree TermTree Looked Formed Called Looked Meant Placed Looked Operand
       (argument s) (formed) (called) (choice s) (meant s) (placed s) (pointed) (term s) x
 
@@ -223,11 +240,13 @@ module _ (whole : Findings) (P : Program) (number : ℕ) (f : Function) (s : Sco
   seen_term y = map-Term SomeArgument SomeForm SomeCall SomeChoice SomeExpression SomePlace SomePointer SomeTerm ArgumentTree FormTree CallTree ChoiceTree ExpressionTree PlaceTree
       PointerTree TermTree (λ e. e.0) (λ e. e.0) (λ e. e.0) (λ e. e.0) (λ e. e.0) (λ e. e.0) (λ e. e.0) (λ e. e.0) y
 
-  abbrev leaves_in_term : Term-F ArgumentTree FormTree CallTree ChoiceTree ExpressionTree PlaceTree PointerTree TermTree → Term-F Leaves Leaves Leaves Leaves Leaves Leaves Leaves Leaves
+  abbrev leaves_in_term : Term-F ArgumentTree FormTree CallTree ChoiceTree ExpressionTree PlaceTree PointerTree TermTree →
+      Term-F Leaves Leaves Leaves Leaves Leaves Leaves Leaves Leaves
   leaves_in_term x = map-Term ArgumentTree FormTree CallTree ChoiceTree ExpressionTree PlaceTree PointerTree TermTree Leaves Leaves Leaves Leaves Leaves Leaves Leaves Leaves
       argument_leaves form_leaves call_leaves choice_leaves expression_leaves place_leaves pointer_leaves term_leaves x
 
-  abbrev parts_in_term : Term-F ArgumentTree FormTree CallTree ChoiceTree ExpressionTree PlaceTree PointerTree TermTree → Term-F Looked Formed Called Looked Meant Placed Looked Operand
+  abbrev parts_in_term : Term-F ArgumentTree FormTree CallTree ChoiceTree ExpressionTree PlaceTree PointerTree TermTree →
+      Term-F Looked Formed Called Looked Meant Placed Looked Operand
   parts_in_term x = map-Term ArgumentTree FormTree CallTree ChoiceTree ExpressionTree PlaceTree PointerTree TermTree Looked Formed Called Looked Meant Placed Looked Operand
       (argument s) (formed) (called) (choice s) (meant s) (placed s) (pointed) (term s) x
 

@@ -17,11 +17,11 @@ use Rattle.c_rules.specs.declared.names.Header.{Header}
 use Rattle.c_rules.specs.declared.specifiers.Spelled.{Spelled}
 use Rattle.c_rules.specs.Specifiers.{c_type, spelled_by}
 use Rattle.c_rules.specs.Walks.{Outcome, and_then, through, pure}
-use Rattle.c_types.specs.Files.{File, Tables, Declares}
-use Rattle.c_types.specs.Functions as y
-use Rattle.c_types.specs.Globals as g
-use Rattle.c_types.specs.Resolving.{program_at}
-use Rattle.c_types.specs.Texts.{declaration, declarations}
+use Rattle.c_resolution.specs.Files.{File, Tables, Declares}
+use Rattle.c_resolution.specs.Functions as y
+use Rattle.c_resolution.specs.Globals as g
+use Rattle.c_resolution.specs.Resolving.{program_at}
+use Rattle.c_resolution.specs.Texts.{declaration, declarations}
 use Rattle.resolved_program.specs.Laws.{IsNumbered}
 use Rattle.resolved_program.specs.Leaves.{AreValid, expression_leaves, initializer_leaves, global_leaves, function_leaves, external_leaves, of_any, of_each}
 use Rattle.resolved_program.specs.Orders.{left, given, IsFront, GivesRoutines}

@@ -7,12 +7,11 @@ use Rattle.c_rules.specs.declared.fault.Rule.{Rule}
 use Rattle.c_rules.specs.declared.fault.Fault.{Fault}
 use Rattle.c_rules.specs.declared.findings.Findings.{Findings}
 use Rattle.c_rules.specs.declared.findings.CallSite.{CallSite}
-use Rattle.c_rules.specs.declared.findings.ThreadSite.{ThreadSite}
 use Rattle.c_rules.specs.declared.findings.Creation.{Creation}
 use Rattle.c_rules.specs.Faults.{first, is_before}
 use Rattle.c_rules.specs.Findings as findings
-use Rattle.c_rules.specs.Walks.{Outcome, Walk, Finds, pure, and_then, ◌>>=◌, optional, through, each, visited, finds, finds_if, finds_any, calls, starts, creates}
-use Rattle.resolved_program.specs.Orders.{left, given, IsPartOf, IsFoundCall, IsFoundStart, IsFoundCreation}
+use Rattle.c_rules.specs.Walks.{Outcome, Walk, Finds, pure, and_then, ◌>>=◌, optional, through, each, visited, finds, finds_if, finds_any, calls, creates}
+use Rattle.resolved_program.specs.Orders.{left, given, IsPartOf, IsFoundCall, IsFoundCreation}
 
 -- ---- outcomes
 
@@ -113,7 +112,11 @@ module _ {whole : Findings} where
   }
 
   pub shows_if : {Before : Type 0} (b : Bool) (r : Rule) (at : ℕ) → Shows whole Before (λ _. b ≡ false) (finds_if b r at)
-  shows_if true r at = record { back = (shows_broken {Before = ⊤} {Is = λ _. ⊤} r at).back; forth = λ found part before. (shows_broken {Before = ⊤} {Is = λ _. true ≡ false} r at).forth found part tt }
+  shows_if true r at = record {
+    back = (shows_broken {Before = ⊤} {Is = λ _. ⊤} r at).back;
+    forth = λ found part before.
+        (shows_broken {Before = ⊤} {Is = λ _. true ≡ false} r at).forth found part tt;
+  }
   shows_if false r at = record { back = λ found part. part; forth = λ found part before. refl }
 
   pub shows_any : {Before : Type 0} (o : Option Rule) (at : ℕ) → Shows whole Before (λ _. o ≡ None) (finds_any o at)
@@ -133,28 +136,11 @@ module _ {whole : Findings} where
         back = λ found part. record {
           no_fault = part.no_fault;
           calls = λ c inside. part.calls c (Contains-append_left found.calls (site ∷ []) c inside);
-          threads = part.threads;
           creations = part.creations;
         };
         forth = λ found part is.
             subst (λ n. IsFoundCall whole n callee) (some-some caller number is)
             (at, part.calls site (Contains-append_right found.calls (site ∷ []) site (0, omega arith, refl)));
-      }
-
-  pub shows_start : (function : Option ℕ) (number at : ℕ) → Shows whole (function ≡ Some number) (λ _. IsFoundStart whole number) (starts function at)
-  shows_start None number at = record { back = λ found part. part; forth = λ found part is. absurd (none-some number (sym is)) }
-  shows_start (Some function) number at =
-      let site : ThreadSite = record { function = function; offset = at } in
-      record {
-        back = λ found part. record {
-          no_fault = part.no_fault;
-          calls = part.calls;
-          threads = λ c inside. part.threads c (Contains-append_left found.threads (site ∷ []) c inside);
-          creations = part.creations;
-        };
-        forth = λ found part is.
-            subst (λ n. IsFoundStart whole n) (some-some function number is)
-            (at, part.threads site (Contains-append_right found.threads (site ∷ []) site (0, omega arith, refl)));
       }
 
   pub shows_creation : {Before : Type 0} (thread routine at : ℕ) → Shows whole Before (λ _. IsFoundCreation whole thread routine) (creates thread routine at)
@@ -164,7 +150,6 @@ module _ {whole : Findings} where
         back = λ found part. record {
           no_fault = part.no_fault;
           calls = part.calls;
-          threads = part.threads;
           creations = λ c inside. part.creations c (Contains-append_left found.creations (site ∷ []) c inside);
         };
         forth = λ found part before. (at, part.creations site (Contains-append_right found.creations (site ∷ []) site (0, omega arith, refl)));

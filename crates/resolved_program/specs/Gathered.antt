@@ -1,21 +1,20 @@
 -- What the declarations of a text give one by one, before its calls and creates are judged as a whole.
-use Rattle.std.specs.Prelude.{◌≡◌, ℕ, ◌<◌, true, List, length, map, Some, None, slice_get, nat_eq, Contains}
+use Rattle.std.specs.Prelude.{◌≡◌, ℕ, ◌<◌, List, length, map, Some, None, slice_get, nat_eq, Contains}
 use Rattle.std.specs.List.{AllByRecursion, IsDistinct}
 use Rattle.std.specs.Cmp.Lexicographic.{pointwise}
 use Rattle.c_program.specs.declared.tree.ThreadObject.{ThreadObject}
 use Rattle.c_program.specs.declared.tree.BarrierObject.{BarrierObject}
 use Rattle.c_program.specs.Tree.{Function, GlobalVariable, Program}
 use Rattle.c_program.specs.Calls.{calls_of}
-use Rattle.c_program.specs.Resolved.{IsMain, IsFunction, IfStartRoutine, IsGlobal, IsMutexObject, IsRoutineAt, IsCreated, starts_or_joins}
+use Rattle.c_program.specs.Resolved.{IsMain, IsFunction, IfStartRoutine, IsGlobal, IsMutexObject, IsRoutineAt, IsCreated}
 use Rattle.c_rules.specs.declared.findings.Creation.{Creation}
 use Rattle.c_rules.specs.declared.findings.Findings.{Findings}
-use Rattle.resolved_program.specs.Orders.{IsFoundCall, IsFoundStart}
+use Rattle.resolved_program.specs.Orders.{IsFoundCall}
 
--- the calls, creates and joins of each function are found, and it calls functions of the program
+-- the calls of each function are found, and it calls functions of the program
 pub record IsFound (functions : List Function) (found : Findings) (number : ℕ) (code : Function) : Type 0 where
   pub calls : (callee : ℕ) → Contains (calls_of code.body) callee → IsFoundCall found number callee
   pub inside : (callee : ℕ) → Contains (calls_of code.body) callee → callee < length functions
-  pub starts : starts_or_joins code.body ≡ true → IsFoundStart found number
 
 -- an object of POSIX threads as it is declared: no create has given it a routine
 pub record IsDeclaredThread (object : ThreadObject) : Type 0 where

@@ -10,9 +10,9 @@ use Rattle.c_rules.specs.declared.findings.Findings.{Findings}
 use Rattle.c_rules.specs.declared.names.Scope.{Scope}
 use Rattle.c_rules.specs.Formats.{pieces_in}
 use Rattle.c_expressions.specs.Expressions.{value}
-use Rattle.c_types.specs.States.{State}
-use Rattle.c_types.specs.Statements.{items}
-use Rattle.c_types.specs.Resolving.{Spells, behind}
+use Rattle.c_resolution.specs.States.{State}
+use Rattle.c_resolution.specs.Statements.{items}
+use Rattle.c_resolution.specs.Resolving.{Spells, behind}
 use Rattle.resolved_program.specs.Leaves.{Leaf, IsValidLeaf, AreValid, HasValidLeaves, expression_leaves, block_leaves}
 use Rattle.resolved_program.specs.Gathered.{IsGathered}
 use Rattle.resolved_program.specs.Orders.{left, given, IsPartOf, IsOrderly, IsAhead, Holds, IsInOrder, GivesRoutines}

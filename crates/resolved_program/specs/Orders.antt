@@ -10,10 +10,9 @@ use Rattle.c_program.specs.declared.tree.LocalVariable.{LocalVariable}
 use Rattle.c_program.specs.declared.tree.ThreadObject.{ThreadObject}
 use Rattle.c_program.specs.Tree.{Statement, Function, Program}
 use Rattle.c_program.specs.Calls.{calls_of}
-use Rattle.c_program.specs.Resolved.{IsObject, IsStatement, creates_of, starts_or_joins, thread_length, mutex_length, barrier_length}
+use Rattle.c_program.specs.Resolved.{IsObject, IsStatement, creates_of, thread_length, mutex_length, barrier_length}
 use Rattle.c_rules.specs.declared.findings.Findings.{Findings}
 use Rattle.c_rules.specs.declared.findings.CallSite.{CallSite}
-use Rattle.c_rules.specs.declared.findings.ThreadSite.{ThreadSite}
 use Rattle.c_rules.specs.declared.findings.Creation.{Creation}
 use Rattle.c_rules.specs.declared.names.ObjectKind.{ObjectKind}
 use Rattle.c_rules.specs.declared.names.ObjectKind.TheVariants.{Thread, Mutex, Barrier}
@@ -26,8 +25,8 @@ use Rattle.c_rules.specs.declared.names.Scope.{Scope}
 use Rattle.c_rules.specs.Names.{Names}
 use Rattle.c_rules.specs.Specifiers.{c_type}
 use Rattle.c_rules.specs.Walks.{Outcome}
-use Rattle.c_types.specs.States.{State}
-use Rattle.c_types.specs.Functions.{gives_of, is_unlisted, return_type}
+use Rattle.c_resolution.specs.States.{State}
+use Rattle.c_resolution.specs.Functions.{gives_of, is_unlisted, return_type}
 
 -- ---- names
 
@@ -91,15 +90,11 @@ pub record IsOrderly (P : Program) (number : ℕ) (f : Function) (s : Scope) : T
 pub record IsPartOf (whole found : Findings) : Type 0 where
   pub no_fault : found.fault ≡ None
   pub calls : (c : CallSite) → Contains found.calls c → Contains whole.calls c
-  pub threads : (t : ThreadSite) → Contains found.threads t → Contains whole.threads t
   pub creations : (c : Creation) → Contains found.creations c → Contains whole.creations c
 
--- the calls, the creates and joins, and the routines of creates of the function of that number are found
+-- the calls, and the routines of creates, of the function of that number are found
 abbrev pub IsFoundCall : Findings → ℕ → ℕ → Type 0
 IsFoundCall whole caller callee = (at : ℕ) × Contains whole.calls (record { caller = caller; callee = callee; offset = at })
-
-abbrev pub IsFoundStart : Findings → ℕ → Type 0
-IsFoundStart whole function = (at : ℕ) × Contains whole.threads (record { function = function; offset = at })
 
 abbrev pub IsFoundCreation : Findings → ℕ → ℕ → Type 0
 IsFoundCreation whole thread routine = (at : ℕ) × Contains whole.creations (record { thread = thread; routine = routine; offset = at })
@@ -129,11 +124,10 @@ pub record Holds (P : Program) (number : ℕ) (f : Function) (in_loop : Bool) (x
 
 -- ---- statements
 
--- a statement of the function of that number: in order in a loop or not, and with each call, create and join found
+-- a statement of the function of that number: in order in a loop or not, and with each call and create found
 pub record IsInOrder (whole : Findings) (P : Program) (number : ℕ) (f : Function) (in_loop : Bool) (x : Statement) : Type 0 where
   pub is : IsStatement P f in_loop x
   pub calls : (callee : ℕ) → Contains (calls_of x) callee → IsFoundCall whole number callee
-  pub starts : starts_or_joins x ≡ true → IsFoundStart whole number
   pub creates : (thread routine : ℕ) → Contains (creates_of x) (thread, routine) → IsPointerAt P routine × IsFoundCreation whole thread routine
 
 -- a create that is found has given its routine to its thread object

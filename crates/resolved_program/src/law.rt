@@ -12,14 +12,14 @@ pub fn format_is_pieces()
     ensures { FormatIsPieces }
 {}
 
-/// The body of a function, gone through without a fault from a scope that is in order, is in order, and its calls, creates
-/// and joins are found.
+/// The body of a function, gone through without a fault from a scope that is in order, is in order, and its calls and
+/// creates are found.
 pub fn body_is_in_order()
     ensures { BodyIsInOrder }
 {}
 
 /// A program that a tree spells is resolved where its declarations are in order one by one: no call leads back to its caller,
-/// no start routine reaches a create or a join, and each thread object has the one routine that creates give it.
+/// and each thread object has the one routine that creates give it.
 pub fn gathered_is_resolved()
     ensures { GatheredIsResolved }
 {}

@@ -1,6 +1,6 @@
 -- What the reading gives decides the answer.
 use Rattle.std.proofs.Common.{Ok, Err, arith}
-use Rattle.c_parser.proofs.Texts as t
+use Rattle.c_reading.proofs.Texts as t
 use Rattle.c_parser.proofs.Answered as a
 use Rattle.c_parser.proofs.parse.Goals as goal
 

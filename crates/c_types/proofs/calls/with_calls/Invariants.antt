@@ -1,6 +1,6 @@
 use Rattle.std.proofs.Common.{◌≡◌, fold, take}
 use Rattle.call_graph.specs.Reaching.{leads}
-use Rattle.c_types.specs.CallRules.{with_call}
+use Rattle.c_resolution.specs.CallRules.{with_call}
 use Rattle.c_types.proofs.calls.with_calls.Given as goal
 
 abbrev pub invariant-loop-call : goal.invariant-loop-call

@@ -1,4 +1,4 @@
-use Rattle.c_types.proofs.Once.{resolves_only, breaks_only, lacks_main_only}
+use Rattle.c_resolution.proofs.Once.{resolves_only, breaks_only, lacks_main_only}
 use Rattle.c_types.proofs.resolving.resolve.Goals as goal
 
 pub returns-clause-spells : goal.returns-clause-spells

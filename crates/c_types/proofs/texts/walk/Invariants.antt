@@ -1,8 +1,8 @@
 use Rattle.std.proofs.Common.{◌≡◌, take}
 use Rattle.c_rules.specs.Walks.{Outcome, visited}
-use Rattle.c_types.specs.Files.{file}
-use Rattle.c_types.specs.Tabled.{tables_of}
-use Rattle.c_types.specs.Texts.{declaration}
+use Rattle.c_resolution.specs.Files.{file}
+use Rattle.c_globals.specs.Tabled.{tables_of}
+use Rattle.c_resolution.specs.Texts.{declaration}
 use Rattle.c_types.proofs.texts.walk.Given as goal
 
 abbrev pub invariant-loop-next : goal.invariant-loop-next

@@ -1,0 +1,5 @@
+pub mod Sight
+pub mod Parts
+pub mod Formats
+pub mod Breaks
+pub mod Laws

@@ -1,0 +1,700 @@
+// Calls of functions of the text, of printf and of POSIX threads, as statements and as right sides (C99 6.5.2.2).
+
+ghost use Rattle.std.specs.Prelude.{◌≡◌, option_map, IfOk};
+ghost use Rattle.std.specs.Option.{option_copied};
+ghost use Rattle.c_program.specs.Plain.{expression_of, expressions_of, object_place_of, pieces_of, boxed_statement_of, thread_call_of, right_side_of};
+ghost use Rattle.c_program.specs.Tree.{Statement};
+ghost use Rattle.c_program.specs.Resolved.{object_of};
+ghost use Rattle.c_rules.specs.Walks.{Walks};
+ghost use Rattle.c_calls.specs.Calls as spec;
+
+use crate::arguments::{
+    address_argument, argument_offset, is_unknown, is_usable, null, null_argument,
+    pointer_argument, routine_argument, thread_argument, value_argument, value_arguments,
+};
+use c_expressions::callees::{function_name, library_name};
+use c_expressions::expressions::{
+    argument as look_through, arguments as look_through_all, expression,
+};
+use c_program::tree as resolved;
+use c_rules::fault::Rule;
+use c_rules::findings::Findings;
+use c_rules::format::{conversions, pieces};
+use c_rules::library::LibraryFunction;
+use c_rules::names::{Known, Meaning, ObjectKind, Scope};
+use c_tree::{Argument, Call, Expression, Form};
+use std::alloc::{AllocError, Global};
+
+/// The first argument and the rest.
+fn front(arguments: &[Argument]) -> Option<(&Argument, &[Argument])>
+    ensures { option_map (λ r. (r.0.now, r.1.now)) result ≡ spec.front arguments.now }
+{
+    match arguments {
+        [] => None,
+        [first, rest @ ..] => Some((first, rest)),
+    }
+}
+
+/// An argument that stands alone.
+fn one(arguments: &[Argument]) -> Option<&Argument>
+    ensures { option_copied result ≡ spec.one arguments.now }
+{
+    match arguments {
+        [a] => Some(a),
+        _ => None,
+    }
+}
+
+fn two(arguments: &[Argument]) -> Option<(&Argument, &Argument)>
+    ensures { option_map (λ r. (r.0.now, r.1.now)) result ≡ spec.two arguments.now }
+{
+    match arguments {
+        [a, b] => Some((a, b)),
+        _ => None,
+    }
+}
+
+fn three(arguments: &[Argument]) -> Option<(&Argument, &Argument, &Argument)>
+    ensures { option_map (λ r. (r.0.now, r.1.now, r.2.now)) result ≡ spec.three arguments.now }
+{
+    match arguments {
+        [a, b, c] => Some((a, b, c)),
+        _ => None,
+    }
+}
+
+fn four(arguments: &[Argument]) -> Option<(&Argument, &Argument, &Argument, &Argument)>
+    ensures { option_map (λ r. (r.0.now, r.1.now, r.2.now, r.3.now)) result ≡ spec.four arguments.now }
+{
+    match arguments {
+        [a, b, c, d] => Some((a, b, c, d)),
+        _ => None,
+    }
+}
+
+/// The kind of object that a call with one object has.
+fn object_kind(function: LibraryFunction) -> ObjectKind
+    ensures { result ≡ spec.object_kind function }
+{
+    match function {
+        LibraryFunction::BarrierDestroy | LibraryFunction::BarrierWait => ObjectKind::Barrier,
+        _ => ObjectKind::Mutex,
+    }
+}
+
+/// A call with one object.
+fn on_object(function: LibraryFunction, place: resolved::ObjectPlace) -> resolved::ThreadCall
+    ensures { thread_call_of result ≡ spec.on_object function (object_place_of place) }
+{
+    match function {
+        LibraryFunction::MutexDestroy => resolved::ThreadCall::MutexDestroy(place),
+        LibraryFunction::MutexLock => resolved::ThreadCall::MutexLock(place),
+        LibraryFunction::MutexUnlock => resolved::ThreadCall::MutexUnlock(place),
+        LibraryFunction::BarrierDestroy => resolved::ThreadCall::BarrierDestroy(place),
+        _ => resolved::ThreadCall::BarrierWait(place),
+    }
+}
+
+/// The number of the object that a place names.
+fn object_number(place: &resolved::ObjectPlace) -> u32
+    ensures { result ≡ object_of (object_place_of place.now) }
+{
+    match place {
+        resolved::ObjectPlace::Single(number) => *number,
+        resolved::ObjectPlace::Element(number, _, _) => *number,
+    }
+}
+
+/// The pieces of the format that the text is; none where it is none of the profile.
+fn text_pieces(alloc: Global, text: &[u8]) -> Result<Option<Vec<resolved::Piece>>, AllocError>
+    ensures { IfOk result (λ r. option_map (λ v. pieces_of v.items) r ≡ spec.text_pieces text.now) }
+{
+    if text.is_empty() {
+        Ok(None)
+    } else {
+        pieces(alloc, text)
+    }
+}
+
+/// The pieces of the format that the argument is; none where it is none of the profile.
+fn format(alloc: Global, argument: &Argument) -> Result<Option<Vec<resolved::Piece>>, AllocError>
+    ensures { IfOk result (λ r. option_map (λ v. pieces_of v.items) r ≡ spec.format argument.now) }
+{
+    match argument {
+        Argument::Text(bytes, _) => text_pieces(alloc, bytes.as_slice()),
+        Argument::Value(_) | Argument::Address(_, _) | Argument::Pointer(_) => Ok(None),
+    }
+}
+
+/// Whether a printf with the format may have so many values.
+fn takes(format: &Option<Vec<resolved::Piece>>, values: usize) -> bool
+    ensures { result ≡ spec.takes (option_map (λ v. pieces_of v.items) format.now) values }
+{
+    match format {
+        Some(pieces) => conversions(pieces.as_slice()) == values && values <= 4,
+        None => false,
+    }
+}
+
+fn printed(
+    alloc: Global,
+    at: u32,
+    format: Option<Vec<resolved::Piece>>,
+    values: Vec<resolved::Expression>,
+) -> Result<Box<resolved::Statement>, AllocError>
+    ensures { IfOk result (λ s. boxed_statement_of s ≡ spec.printed at (option_map (λ v. pieces_of v.items) format) (expressions_of values.items)) }
+{
+    match format {
+        Some(pieces) => resolved::Statement::Print(at, pieces, values).boxed(alloc),
+        None => resolved::Statement::Empty.boxed(alloc),
+    }
+}
+
+/// A pthread call as a statement.
+fn thread_statement(
+    alloc: Global,
+    at: u32,
+    call: resolved::ThreadCall,
+) -> Result<Box<resolved::Statement>, AllocError>
+    ensures { IfOk result (λ s. boxed_statement_of s ≡ Statement.Thread at (thread_call_of call)) }
+{
+    let call = Box::new(alloc, call)?;
+    resolved::Statement::Thread(at, call).boxed(alloc)
+}
+
+/// A create, if it names a routine.
+#[tactic(auto, unfolding(crate::specs::Calls::created))]
+fn created(
+    alloc: Global,
+    found: &mut Findings,
+    at: u32,
+    thread: resolved::ObjectPlace,
+    argument: resolved::Expression,
+    routine: Option<(u32, usize)>,
+) -> Result<Box<resolved::Statement>, AllocError>
+    ensures { Walks boxed_statement_of (spec.created at (object_place_of thread) (expression_of argument) routine found.old) result found.new }
+{
+    let Some((number, offset)) = routine else {
+        return resolved::Statement::Empty.boxed(alloc);
+    };
+    found.add_creation(object_number(&thread), number, offset)?;
+    let argument = Box::new(alloc, argument)?;
+    thread_statement(
+        alloc,
+        at,
+        resolved::ThreadCall::Create(thread, number, argument),
+    )
+}
+
+fn called(
+    alloc: Global,
+    at: u32,
+    function: Option<u32>,
+    values: Vec<resolved::Expression>,
+) -> Result<Box<resolved::Statement>, AllocError>
+    ensures { IfOk result (λ s. boxed_statement_of s ≡ spec.called at function (expressions_of values.items)) }
+{
+    match function {
+        Some(function) => resolved::Statement::Call(at, function, values).boxed(alloc),
+        None => resolved::Statement::Empty.boxed(alloc),
+    }
+}
+
+fn right_called(
+    alloc: Global,
+    function: Option<u32>,
+    values: Vec<resolved::Expression>,
+) -> Result<resolved::RightSide, AllocError>
+    ensures { IfOk result (λ r. right_side_of r ≡ spec.right_called function (expressions_of values.items)) }
+{
+    match function {
+        Some(function) => Ok(resolved::RightSide::Call(function, values)),
+        None => Ok(resolved::RightSide::Value(Box::new(alloc, null())?)),
+    }
+}
+
+/// A call with the wrong number of arguments.
+#[tactic(auto, unfolding(crate::specs::Calls::looked_call))]
+fn looked_call(
+    alloc: Global,
+    scope: &Scope<'_>,
+    found: &mut Findings,
+    arguments: &[Argument],
+) -> Result<Box<resolved::Statement>, AllocError>
+    ensures { Walks boxed_statement_of (spec.looked_call scope.now arguments.now found.old) result found.new }
+{
+    look_through_all(alloc, scope, found, arguments)?;
+    resolved::Statement::Empty.boxed(alloc)
+}
+
+/// `pthread_create`
+#[tactic(auto, unfolding(crate::specs::Calls::create))]
+fn create(
+    alloc: Global,
+    scope: &Scope<'_>,
+    found: &mut Findings,
+    at: u32,
+    thread: &Argument,
+    attributes: &Argument,
+    routine: &Argument,
+    value: &Argument,
+) -> Result<Box<resolved::Statement>, AllocError>
+    ensures { Walks boxed_statement_of (spec.create scope.now at thread.now attributes.now routine.now value.now found.old) result found.new }
+{
+    let thread = address_argument(alloc, scope, found, ObjectKind::Thread, thread)?;
+    null_argument(alloc, scope, found, attributes)?;
+    let routine = routine_argument(alloc, scope, found, routine)?;
+    let value = pointer_argument(alloc, scope, found, value)?;
+    created(alloc, found, at, thread, value, routine)
+}
+
+#[tactic(auto, unfolding(crate::specs::Calls::create_call))]
+fn create_call(
+    alloc: Global,
+    scope: &Scope<'_>,
+    found: &mut Findings,
+    at: u32,
+    arguments: &[Argument],
+) -> Result<Box<resolved::Statement>, AllocError>
+    ensures { Walks boxed_statement_of (spec.create_call scope.now at arguments.now found.old) result found.new }
+{
+    match four(arguments) {
+        Some((thread, attributes, routine, value)) => {
+            create(alloc, scope, found, at, thread, attributes, routine, value)
+        }
+        None => looked_call(alloc, scope, found, arguments),
+    }
+}
+
+/// `pthread_join`
+#[tactic(auto, unfolding(crate::specs::Calls::join))]
+fn join(
+    alloc: Global,
+    scope: &Scope<'_>,
+    found: &mut Findings,
+    at: u32,
+    thread: &Argument,
+    outcome: &Argument,
+) -> Result<Box<resolved::Statement>, AllocError>
+    ensures { Walks boxed_statement_of (spec.join scope.now at thread.now outcome.now found.old) result found.new }
+{
+    let thread = thread_argument(alloc, scope, found, thread)?;
+    null_argument(alloc, scope, found, outcome)?;
+    thread_statement(alloc, at, resolved::ThreadCall::Join(thread))
+}
+
+#[tactic(auto, unfolding(crate::specs::Calls::join_call))]
+fn join_call(
+    alloc: Global,
+    scope: &Scope<'_>,
+    found: &mut Findings,
+    at: u32,
+    arguments: &[Argument],
+) -> Result<Box<resolved::Statement>, AllocError>
+    ensures { Walks boxed_statement_of (spec.join_call scope.now at arguments.now found.old) result found.new }
+{
+    match two(arguments) {
+        Some((thread, outcome)) => join(alloc, scope, found, at, thread, outcome),
+        None => looked_call(alloc, scope, found, arguments),
+    }
+}
+
+/// `pthread_exit`, which is a return
+#[tactic(auto, unfolding(crate::specs::Calls::exit))]
+fn exit(
+    alloc: Global,
+    scope: &Scope<'_>,
+    found: &mut Findings,
+    at: u32,
+    value: &Argument,
+) -> Result<Box<resolved::Statement>, AllocError>
+    ensures { Walks boxed_statement_of (spec.exit scope.now at value.now found.old) result found.new }
+{
+    let value = Box::new(alloc, pointer_argument(alloc, scope, found, value)?)?;
+    let right = resolved::RightSide::Value(value);
+    resolved::Statement::Return(at, Some(right)).boxed(alloc)
+}
+
+#[tactic(auto, unfolding(crate::specs::Calls::exit_call))]
+fn exit_call(
+    alloc: Global,
+    scope: &Scope<'_>,
+    found: &mut Findings,
+    at: u32,
+    arguments: &[Argument],
+) -> Result<Box<resolved::Statement>, AllocError>
+    ensures { Walks boxed_statement_of (spec.exit_call scope.now at arguments.now found.old) result found.new }
+{
+    match one(arguments) {
+        Some(value) => exit(alloc, scope, found, at, value),
+        None => looked_call(alloc, scope, found, arguments),
+    }
+}
+
+/// `pthread_mutex_init`
+#[tactic(auto, unfolding(crate::specs::Calls::mutex_init))]
+fn mutex_init(
+    alloc: Global,
+    scope: &Scope<'_>,
+    found: &mut Findings,
+    at: u32,
+    mutex: &Argument,
+    attributes: &Argument,
+) -> Result<Box<resolved::Statement>, AllocError>
+    ensures { Walks boxed_statement_of (spec.mutex_init scope.now at mutex.now attributes.now found.old) result found.new }
+{
+    let mutex = address_argument(alloc, scope, found, ObjectKind::Mutex, mutex)?;
+    null_argument(alloc, scope, found, attributes)?;
+    thread_statement(alloc, at, resolved::ThreadCall::MutexInit(mutex))
+}
+
+#[tactic(auto, unfolding(crate::specs::Calls::mutex_init_call))]
+fn mutex_init_call(
+    alloc: Global,
+    scope: &Scope<'_>,
+    found: &mut Findings,
+    at: u32,
+    arguments: &[Argument],
+) -> Result<Box<resolved::Statement>, AllocError>
+    ensures { Walks boxed_statement_of (spec.mutex_init_call scope.now at arguments.now found.old) result found.new }
+{
+    match two(arguments) {
+        Some((mutex, attributes)) => mutex_init(alloc, scope, found, at, mutex, attributes),
+        None => looked_call(alloc, scope, found, arguments),
+    }
+}
+
+/// `pthread_barrier_init`
+#[tactic(auto, unfolding(crate::specs::Calls::barrier_init))]
+fn barrier_init(
+    alloc: Global,
+    scope: &Scope<'_>,
+    found: &mut Findings,
+    at: u32,
+    barrier: &Argument,
+    attributes: &Argument,
+    count: &Argument,
+) -> Result<Box<resolved::Statement>, AllocError>
+    ensures { Walks boxed_statement_of (spec.barrier_init scope.now at barrier.now attributes.now count.now found.old) result found.new }
+{
+    let barrier = address_argument(alloc, scope, found, ObjectKind::Barrier, barrier)?;
+    null_argument(alloc, scope, found, attributes)?;
+    let count = Box::new(alloc, value_argument(alloc, scope, found, count)?)?;
+    thread_statement(alloc, at, resolved::ThreadCall::BarrierInit(barrier, count))
+}
+
+#[tactic(auto, unfolding(crate::specs::Calls::barrier_init_call))]
+fn barrier_init_call(
+    alloc: Global,
+    scope: &Scope<'_>,
+    found: &mut Findings,
+    at: u32,
+    arguments: &[Argument],
+) -> Result<Box<resolved::Statement>, AllocError>
+    ensures { Walks boxed_statement_of (spec.barrier_init_call scope.now at arguments.now found.old) result found.new }
+{
+    match three(arguments) {
+        Some((barrier, attributes, count)) => {
+            barrier_init(alloc, scope, found, at, barrier, attributes, count)
+        }
+        None => looked_call(alloc, scope, found, arguments),
+    }
+}
+
+/// A call with one object.
+#[tactic(auto, unfolding(crate::specs::Calls::object_statement))]
+fn object_statement(
+    alloc: Global,
+    scope: &Scope<'_>,
+    found: &mut Findings,
+    function: LibraryFunction,
+    at: u32,
+    object: &Argument,
+) -> Result<Box<resolved::Statement>, AllocError>
+    ensures { Walks boxed_statement_of (spec.object_statement scope.now function at object.now found.old) result found.new }
+{
+    let place = address_argument(alloc, scope, found, object_kind(function), object)?;
+    thread_statement(alloc, at, on_object(function, place))
+}
+
+#[tactic(auto, unfolding(crate::specs::Calls::object_call))]
+fn object_call(
+    alloc: Global,
+    scope: &Scope<'_>,
+    found: &mut Findings,
+    function: LibraryFunction,
+    at: u32,
+    arguments: &[Argument],
+) -> Result<Box<resolved::Statement>, AllocError>
+    ensures { Walks boxed_statement_of (spec.object_call scope.now function at arguments.now found.old) result found.new }
+{
+    match one(arguments) {
+        Some(object) => object_statement(alloc, scope, found, function, at, object),
+        None => looked_call(alloc, scope, found, arguments),
+    }
+}
+
+/// A printf by its first argument and its values.
+#[tactic(auto, unfolding(crate::specs::Calls::print_arguments))]
+fn print_arguments(
+    alloc: Global,
+    scope: &Scope<'_>,
+    found: &mut Findings,
+    at: u32,
+    first: &Argument,
+    values: &[Argument],
+) -> Result<Box<resolved::Statement>, AllocError>
+    ensures { Walks boxed_statement_of (spec.print_arguments scope.now at first.now values.now found.old) result found.new }
+{
+    let format = format(alloc, first)?;
+    let is_taken = takes(&format, values.len());
+    found.add_if(!is_taken, Rule::Format, argument_offset(first));
+    look_through(alloc, scope, found, first)?;
+    let values = value_arguments(alloc, scope, found, values)?;
+    printed(alloc, at, format, values)
+}
+
+/// A printf whose name stands at the offset.
+#[tactic(auto, unfolding(crate::specs::Calls::print_call))]
+fn print_call(
+    alloc: Global,
+    scope: &Scope<'_>,
+    found: &mut Findings,
+    at: u32,
+    offset: usize,
+    arguments: &[Argument],
+) -> Result<Box<resolved::Statement>, AllocError>
+    ensures { Walks boxed_statement_of (spec.print_call scope.now at offset arguments.now found.old) result found.new }
+{
+    match front(arguments) {
+        Some((first, values)) => print_arguments(alloc, scope, found, at, first, values),
+        None => {
+            found.add(Rule::Format, offset);
+            resolved::Statement::Empty.boxed(alloc)
+        }
+    }
+}
+
+/// A call of a function of the library as a statement.
+#[tactic(auto, unfolding(crate::specs::Calls::library_statement))]
+fn library_statement(
+    alloc: Global,
+    scope: &Scope<'_>,
+    found: &mut Findings,
+    function: LibraryFunction,
+    at: u32,
+    offset: usize,
+    arguments: &[Argument],
+) -> Result<Box<resolved::Statement>, AllocError>
+    ensures { Walks boxed_statement_of (spec.library_statement scope.now function at offset arguments.now found.old) result found.new }
+{
+    match function {
+        LibraryFunction::Print => print_call(alloc, scope, found, at, offset, arguments),
+        LibraryFunction::Create => create_call(alloc, scope, found, at, arguments),
+        LibraryFunction::Join => join_call(alloc, scope, found, at, arguments),
+        LibraryFunction::Exit => exit_call(alloc, scope, found, at, arguments),
+        LibraryFunction::MutexInit => mutex_init_call(alloc, scope, found, at, arguments),
+        LibraryFunction::BarrierInit => barrier_init_call(alloc, scope, found, at, arguments),
+        LibraryFunction::MutexDestroy
+        | LibraryFunction::MutexLock
+        | LibraryFunction::MutexUnlock
+        | LibraryFunction::BarrierDestroy
+        | LibraryFunction::BarrierWait => {
+            object_call(alloc, scope, found, function, at, arguments)
+        }
+    }
+}
+
+#[tactic(auto, unfolding(crate::specs::Calls::library_call))]
+fn library_call(
+    alloc: Global,
+    scope: &Scope<'_>,
+    found: &mut Findings,
+    function: LibraryFunction,
+    at: u32,
+    offset: usize,
+    arguments: &[Argument],
+) -> Result<Box<resolved::Statement>, AllocError>
+    ensures { Walks boxed_statement_of (spec.library_call scope.now function at offset arguments.now found.old) result found.new }
+{
+    library_name(scope, found, function, arguments.len(), offset);
+    library_statement(alloc, scope, found, function, at, offset, arguments)
+}
+
+/// A call of a function of the text: the number of its definition, and the arguments.
+#[tactic(auto, unfolding(crate::specs::Calls::function_call))]
+fn function_call(
+    alloc: Global,
+    scope: &Scope<'_>,
+    found: &mut Findings,
+    number: usize,
+    is_value: bool,
+    offset: usize,
+    arguments: &[Argument],
+) -> Result<(Option<u32>, Vec<resolved::Expression>), AllocError>
+    ensures { Walks (λ r. (r.0, expressions_of r.1.items)) (spec.function_call scope.now number is_value offset arguments.now found.old) result found.new }
+{
+    let definition = function_name(scope, found, number, arguments.len(), is_value, offset)?;
+    let values = value_arguments(alloc, scope, found, arguments)?;
+    Ok((definition, values))
+}
+
+#[tactic(auto, unfolding(crate::specs::Calls::function_statement))]
+fn function_statement(
+    alloc: Global,
+    scope: &Scope<'_>,
+    found: &mut Findings,
+    number: usize,
+    at: u32,
+    offset: usize,
+    arguments: &[Argument],
+) -> Result<Box<resolved::Statement>, AllocError>
+    ensures { Walks boxed_statement_of (spec.function_statement scope.now number at offset arguments.now found.old) result found.new }
+{
+    let (definition, values) = function_call(
+        alloc, scope, found, number, false, offset, arguments,
+    )?;
+    called(alloc, at, definition, values)
+}
+
+/// A call of a name that stands for no function.
+#[tactic(auto, unfolding(crate::specs::Calls::no_function))]
+fn no_function(
+    alloc: Global,
+    scope: &Scope<'_>,
+    found: &mut Findings,
+    known: Known,
+    offset: usize,
+    arguments: &[Argument],
+) -> Result<Box<resolved::Statement>, AllocError>
+    ensures { Walks boxed_statement_of (spec.no_function scope.now known offset arguments.now found.old) result found.new }
+{
+    found.add_if(is_unknown(known), Rule::Unknown, offset);
+    found.add_if(is_usable(known), Rule::Kind, offset);
+    looked_call(alloc, scope, found, arguments)
+}
+
+/// A call by what its name stands for.
+#[tactic(auto, unfolding(crate::specs::Calls::call_of))]
+fn call_of(
+    alloc: Global,
+    scope: &Scope<'_>,
+    found: &mut Findings,
+    known: Known,
+    at: u32,
+    offset: usize,
+    arguments: &[Argument],
+) -> Result<Box<resolved::Statement>, AllocError>
+    ensures { Walks boxed_statement_of (spec.call_of scope.now known at offset arguments.now found.old) result found.new }
+{
+    match known {
+        Known::Library(function) => {
+            library_call(alloc, scope, found, function, at, offset, arguments)
+        }
+        Known::Declared(Meaning::Function(number)) => {
+            function_statement(alloc, scope, found, number, at, offset, arguments)
+        }
+        Known::Declared(
+            Meaning::Variable(_) | Meaning::Argument | Meaning::Object(_) | Meaning::Unusable,
+        )
+        | Known::Unknown => no_function(alloc, scope, found, known, offset, arguments),
+    }
+}
+
+/// A call as a statement at the place.
+#[tactic(auto, unfolding(crate::specs::Calls::call))]
+pub fn call(
+    alloc: Global,
+    scope: &Scope<'_>,
+    found: &mut Findings,
+    at: u32,
+    call: &Call,
+) -> Result<Box<resolved::Statement>, AllocError>
+    ensures { Walks boxed_statement_of (spec.call scope.now at call.now found.old) result found.new }
+{
+    let known = scope.look_up(call.name.bytes.as_slice());
+    call_of(
+        alloc,
+        scope,
+        found,
+        known,
+        at,
+        call.name.offset,
+        call.arguments.as_slice(),
+    )
+}
+
+/// The number of the header of the function that a name stands for.
+fn number_of(known: Known) -> Option<usize>
+    ensures { result ≡ spec.number_of known }
+{
+    match known {
+        Known::Declared(Meaning::Function(number)) => Some(number),
+        _ => None,
+    }
+}
+
+/// The call of a function of the text that an expression is, by the number of the function's header.
+fn function_called<'e>(scope: &Scope<'_>, e: &'e Expression) -> Option<(usize, &'e Call)>
+    ensures { option_map (λ r. (r.0, r.1.now)) result ≡ spec.function_called scope.now e.now }
+{
+    match &e.form {
+        Form::Call(call) => {
+            let known = scope.look_up(call.name.bytes.as_slice());
+            number_of(known).map(|number| (number, call))
+        }
+        _ => None,
+    }
+}
+
+/// The value of a call of a function of the text.
+#[tactic(auto, unfolding(crate::specs::Calls::right_call))]
+fn right_call(
+    alloc: Global,
+    scope: &Scope<'_>,
+    found: &mut Findings,
+    number: usize,
+    call: &Call,
+) -> Result<resolved::RightSide, AllocError>
+    ensures { Walks right_side_of (spec.right_call scope.now number call.now found.old) result found.new }
+{
+    let (definition, values) = function_call(
+        alloc,
+        scope,
+        found,
+        number,
+        true,
+        call.name.offset,
+        call.arguments.as_slice(),
+    )?;
+    right_called(alloc, definition, values)
+}
+
+#[tactic(auto, unfolding(crate::specs::Calls::right_value))]
+fn right_value(
+    alloc: Global,
+    scope: &Scope<'_>,
+    found: &mut Findings,
+    e: &Expression,
+) -> Result<resolved::RightSide, AllocError>
+    ensures { Walks right_side_of (spec.right_value scope.now e.now found.old) result found.new }
+{
+    let value = Box::new(alloc, expression(alloc, scope, found, e)?)?;
+    Ok(resolved::RightSide::Value(value))
+}
+
+/// A value that may be the value of a call: the right side of an assignment, an initialiser or the operand of a return.
+#[tactic(auto, unfolding(crate::specs::Calls::right_side))]
+pub fn right_side(
+    alloc: Global,
+    scope: &Scope<'_>,
+    found: &mut Findings,
+    e: &Expression,
+) -> Result<resolved::RightSide, AllocError>
+    ensures { Walks right_side_of (spec.right_side scope.now e.now found.old) result found.new }
+{
+    match function_called(scope, e) {
+        Some((number, call)) => right_call(alloc, scope, found, number, call),
+        None => right_value(alloc, scope, found, e),
+    }
+}

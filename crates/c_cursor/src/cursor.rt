@@ -1,0 +1,382 @@
+// A cursor over tokens.
+
+ghost use Rattle.std.specs.Prelude.{◌≡◌, ◌||◌, [], ◌∷◌, length};
+ghost use Rattle.grammar.specs.Readers.{sees, sees_all};
+ghost use Rattle.grammar.specs.Steps.{Steps};
+ghost use Rattle.c_tree.specs.Tokens as tokens_of;
+ghost use Rattle.c_reading.specs.Tokens as spec;
+
+use crate::tokens;
+use c_token::{Keyword, Kind, Punctuator, Token};
+use c_tree::{
+    AssignmentOperator, BinaryOperator, Direction, Expression, Form, Name, Sign, TypeWord,
+    UnaryOperator,
+};
+use grammar::Fault;
+use sqlite_items::Items;
+use std::alloc::Global;
+
+/// The tokens that are not read yet.
+#[derive(Drop)]
+pub struct Cursor<'a> {
+    pub rest: &'a [Token],
+}
+
+/// A fact of the next token.
+impl<'a> Cursor<'a> {
+    pub fn left(&self) -> usize
+        ensures { result ≡ length self.now.rest.now }
+    {
+        self.rest.len()
+    }
+
+    pub fn sees(&self, sign: Sign) -> bool
+        ensures { result ≡ sees (tokens_of.is sign) self.now.rest.now }
+    {
+        match self.rest {
+            [token, ..] => tokens::is(token, sign),
+            [] => false,
+        }
+    }
+
+    pub fn sees_name(&self) -> bool
+        ensures { result ≡ sees tokens_of.is_name self.now.rest.now }
+    {
+        match self.rest {
+            [token, ..] => tokens::is_name(token),
+            [] => false,
+        }
+    }
+
+    pub fn sees_constant(&self) -> bool
+        ensures { result ≡ sees tokens_of.is_constant self.now.rest.now }
+    {
+        match self.rest {
+            [token, ..] => tokens::is_constant(token),
+            [] => false,
+        }
+    }
+
+    pub fn sees_text(&self) -> bool
+        ensures { result ≡ sees tokens_of.is_text self.now.rest.now }
+    {
+        match self.rest {
+            [token, ..] => tokens::is_text(token),
+            [] => false,
+        }
+    }
+
+    pub fn sees_type_word(&self) -> bool
+        ensures { result ≡ sees tokens_of.is_type_word self.now.rest.now }
+    {
+        match self.rest {
+            [token, ..] => tokens::type_word(token).is_some(),
+            [] => false,
+        }
+    }
+
+    pub fn sees_unary_operator(&self) -> bool
+        ensures { result ≡ sees tokens_of.is_unary self.now.rest.now }
+    {
+        match self.rest {
+            [token, ..] => tokens::unary_operator(token).is_some(),
+            [] => false,
+        }
+    }
+
+    pub fn sees_direction(&self) -> bool
+        ensures { result ≡ sees tokens_of.is_direction self.now.rest.now }
+    {
+        match self.rest {
+            [token, ..] => tokens::direction(token).is_some(),
+            [] => false,
+        }
+    }
+
+    /// Whether a binary operator of the level is next.
+    pub fn binds_at(&self, level: usize) -> bool
+        ensures { result ≡ sees (tokens_of.binds_at level) self.now.rest.now }
+    {
+        match self.rest {
+            [token, ..] => tokens::operator_at(level, token).is_some(),
+            [] => false,
+        }
+    }
+
+    pub fn begins_cast(&self) -> bool
+        ensures { result ≡ sees spec.begins_cast self.now.rest.now }
+    {
+        match self.rest {
+            [token, ..] => tokens::begins_cast(token),
+            [] => false,
+        }
+    }
+
+    pub fn begins_argument(&self) -> bool
+        ensures { result ≡ sees spec.begins_argument self.now.rest.now }
+    {
+        match self.rest {
+            [token, ..] => tokens::begins_argument(token),
+            [] => false,
+        }
+    }
+
+    pub fn begins_simple(&self) -> bool
+        ensures { result ≡ sees spec.begins_simple self.now.rest.now }
+    {
+        match self.rest {
+            [token, ..] => tokens::begins_simple(token),
+            [] => false,
+        }
+    }
+
+    pub fn begins_compound(&self) -> bool
+        ensures { result ≡ sees spec.begins_compound self.now.rest.now }
+    {
+        match self.rest {
+            [token, ..] => tokens::begins_compound(token),
+            [] => false,
+        }
+    }
+
+    pub fn begins_statement(&self) -> bool
+        ensures { result ≡ sees spec.begins_statement self.now.rest.now }
+    {
+        match self.rest {
+            [token, ..] => tokens::begins_statement(token),
+            [] => false,
+        }
+    }
+
+    pub fn begins_item(&self) -> bool
+        ensures { result ≡ sees spec.begins_item self.now.rest.now }
+    {
+        match self.rest {
+            [token, ..] => tokens::begins_item(token),
+            [] => false,
+        }
+    }
+}
+
+/// A fact of the next tokens.
+impl<'a> Cursor<'a> {
+    /// `(` and a type.
+    pub fn begins_conversion(&self) -> bool
+        ensures { result ≡ sees_all (tokens_of.is (Sign.Mark Punctuator.OpenRound) ∷ tokens_of.is_type_word ∷ []) self.now.rest.now }
+    {
+        match self.rest {
+            [first, second, ..] => {
+                tokens::is(first, Sign::Mark(Punctuator::OpenRound))
+                    && tokens::type_word(second).is_some()
+            }
+            _ => false,
+        }
+    }
+
+    /// `(void *`
+    pub fn begins_conversion_to_pointer(&self) -> bool
+        ensures { result ≡ sees_all (tokens_of.is (Sign.Mark Punctuator.OpenRound) ∷ tokens_of.is (Sign.Word Keyword.Void) ∷ tokens_of.is (Sign.Mark Punctuator.Star) ∷ []) self.now.rest.now }
+    {
+        match self.rest {
+            [first, second, third, ..] => {
+                tokens::is(first, Sign::Mark(Punctuator::OpenRound))
+                    && tokens::is(second, Sign::Word(Keyword::Void))
+                    && tokens::is(third, Sign::Mark(Punctuator::Star))
+            }
+            _ => false,
+        }
+    }
+
+    /// A comma and a value.
+    pub fn begins_next_value(&self) -> bool
+        ensures { result ≡ sees_all (tokens_of.is (Sign.Mark Punctuator.Comma) ∷ spec.begins_cast ∷ []) self.now.rest.now }
+    {
+        match self.rest {
+            [first, second, ..] => {
+                tokens::is(first, Sign::Mark(Punctuator::Comma)) && tokens::begins_cast(second)
+            }
+            _ => false,
+        }
+    }
+}
+
+/// Taking a token.
+impl<'a> Cursor<'a> {
+    /// Takes the sign, and gives its place in the text.
+    #[tactic(auto, unfolding(c_reading::specs::Tokens::expect))]
+    pub fn expect(&mut self, sign: Sign) -> Result<usize, Fault>
+        ensures { Steps (spec.expect sign self.old.rest.now) result self.new.rest.now }
+    {
+        match self.rest {
+            [token, rest @ ..] if tokens::is(token, sign) => {
+                self.rest = rest;
+                Ok(token.offset)
+            }
+            _ => Err(Fault::Syntax),
+        }
+    }
+
+    pub fn mark(&mut self, mark: Punctuator) -> Result<usize, Fault>
+        ensures { Steps (spec.expect (Sign.Mark mark) self.old.rest.now) result self.new.rest.now }
+    {
+        self.expect(Sign::Mark(mark))
+    }
+
+    pub fn word(&mut self, word: Keyword) -> Result<usize, Fault>
+        ensures { Steps (spec.expect (Sign.Word word) self.old.rest.now) result self.new.rest.now }
+    {
+        self.expect(Sign::Word(word))
+    }
+
+    #[tactic(auto, unfolding(c_reading::specs::Tokens::read_name))]
+    pub fn name(&mut self, alloc: Global) -> Result<Name, Fault>
+        ensures { Steps (spec.read_name self.old.rest.now) result self.new.rest.now }
+    {
+        let [token, rest @ ..] = self.rest else {
+            return Err(Fault::Syntax);
+        };
+        let Kind::Name(bytes) = &token.kind else {
+            return Err(Fault::Syntax);
+        };
+        self.rest = rest;
+        Ok(Name {
+            bytes: Items::from_slice(alloc, bytes.as_slice())?,
+            offset: token.offset,
+        })
+    }
+
+    /// The bytes of a string literal and its place.
+    #[tactic(auto, unfolding(c_reading::specs::Tokens::read_text))]
+    pub fn text(&mut self, alloc: Global) -> Result<(Items<u8>, usize), Fault>
+        ensures { Steps (spec.read_text self.old.rest.now) result self.new.rest.now }
+    {
+        let [token, rest @ ..] = self.rest else {
+            return Err(Fault::Syntax);
+        };
+        let Kind::StringLiteral(bytes) = &token.kind else {
+            return Err(Fault::Syntax);
+        };
+        self.rest = rest;
+        Ok((Items::from_slice(alloc, bytes.as_slice())?, token.offset))
+    }
+
+    #[tactic(auto, unfolding(c_reading::specs::Tokens::read_constant))]
+    pub fn constant(&mut self) -> Result<Expression, Fault>
+        ensures { Steps (spec.read_constant self.old.rest.now) result self.new.rest.now }
+    {
+        let [token, rest @ ..] = self.rest else {
+            return Err(Fault::Syntax);
+        };
+        let Kind::Constant(constant) = &token.kind else {
+            return Err(Fault::Syntax);
+        };
+        self.rest = rest;
+        Ok(Expression {
+            offset: token.offset,
+            form: Form::Constant(*constant, token.offset),
+        })
+    }
+
+    /// A word of a type and its place.
+    #[tactic(auto, unfolding(c_reading::specs::Tokens::read_first_word))]
+    pub fn first_word(&mut self) -> Result<(TypeWord, usize), Fault>
+        ensures { Steps (spec.read_first_word self.old.rest.now) result self.new.rest.now }
+    {
+        let [token, rest @ ..] = self.rest else {
+            return Err(Fault::Syntax);
+        };
+        let Some(word) = tokens::type_word(token) else {
+            return Err(Fault::Syntax);
+        };
+        self.rest = rest;
+        Ok((word, token.offset))
+    }
+
+    /// A binary operator of the level and its place.
+    #[tactic(auto, unfolding(c_reading::specs::Tokens::read_operator))]
+    pub fn operator(&mut self, level: usize) -> Result<(BinaryOperator, usize), Fault>
+        ensures { Steps (spec.read_operator level self.old.rest.now) result self.new.rest.now }
+    {
+        let [token, rest @ ..] = self.rest else {
+            return Err(Fault::Syntax);
+        };
+        let Some(operator) = tokens::operator_at(level, token) else {
+            return Err(Fault::Syntax);
+        };
+        self.rest = rest;
+        Ok((operator, token.offset))
+    }
+
+    #[tactic(auto, unfolding(c_reading::specs::Tokens::read_type_word))]
+    pub fn type_word(&mut self) -> Result<TypeWord, Fault>
+        ensures { Steps (spec.read_type_word self.old.rest.now) result self.new.rest.now }
+    {
+        let [token, rest @ ..] = self.rest else {
+            return Err(Fault::Syntax);
+        };
+        let Some(word) = tokens::type_word(token) else {
+            return Err(Fault::Syntax);
+        };
+        self.rest = rest;
+        Ok(word)
+    }
+
+    /// A unary operator and its place.
+    #[tactic(auto, unfolding(c_reading::specs::Tokens::read_unary_operator))]
+    pub fn unary_operator(&mut self) -> Result<(UnaryOperator, usize), Fault>
+        ensures { Steps (spec.read_unary_operator self.old.rest.now) result self.new.rest.now }
+    {
+        let [token, rest @ ..] = self.rest else {
+            return Err(Fault::Syntax);
+        };
+        let Some(operator) = tokens::unary_operator(token) else {
+            return Err(Fault::Syntax);
+        };
+        self.rest = rest;
+        Ok((operator, token.offset))
+    }
+
+    #[tactic(auto, unfolding(c_reading::specs::Tokens::read_assignment_operator))]
+    pub fn assignment_operator(&mut self) -> Result<AssignmentOperator, Fault>
+        ensures { Steps (spec.read_assignment_operator self.old.rest.now) result self.new.rest.now }
+    {
+        let [token, rest @ ..] = self.rest else {
+            return Err(Fault::Syntax);
+        };
+        let Some(operator) = tokens::assignment_operator(token) else {
+            return Err(Fault::Syntax);
+        };
+        self.rest = rest;
+        Ok(operator)
+    }
+
+    /// `++` or `--`, and its place.
+    #[tactic(auto, unfolding(c_reading::specs::Tokens::read_direction))]
+    pub fn direction(&mut self) -> Result<(Direction, usize), Fault>
+        ensures { Steps (spec.read_direction self.old.rest.now) result self.new.rest.now }
+    {
+        let [token, rest @ ..] = self.rest else {
+            return Err(Fault::Syntax);
+        };
+        let Some(direction) = tokens::direction(token) else {
+            return Err(Fault::Syntax);
+        };
+        self.rest = rest;
+        Ok((direction, token.offset))
+    }
+
+    /// `++` or `--`
+    #[tactic(auto, unfolding(c_reading::specs::Tokens::read_way))]
+    pub fn way(&mut self) -> Result<Direction, Fault>
+        ensures { Steps (spec.read_way self.old.rest.now) result self.new.rest.now }
+    {
+        let [token, rest @ ..] = self.rest else {
+            return Err(Fault::Syntax);
+        };
+        let Some(direction) = tokens::direction(token) else {
+            return Err(Fault::Syntax);
+        };
+        self.rest = rest;
+        Ok(direction)
+    }
+}

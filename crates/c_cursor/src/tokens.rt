@@ -1,0 +1,241 @@
+// What single tokens give to the grammar.
+
+ghost use Rattle.std.specs.Prelude.{◌≡◌};
+ghost use Rattle.c_tree.specs.Tokens as spec;
+ghost use Rattle.c_reading.specs.Tokens as begins;
+
+use c_token::{Keyword, Kind, Punctuator, Token};
+use c_tree::{AssignmentOperator, BinaryOperator, Direction, Sign, TypeWord, UnaryOperator};
+
+#[tactic(auto, unfolding(c_tree::specs::Tokens::same_keyword))]
+fn same_keyword(a: Keyword, b: Keyword) -> bool
+    ensures { result ≡ spec.same_keyword a b }
+{
+    a == b
+}
+
+#[tactic(auto, unfolding(c_tree::specs::Tokens::same_punctuator))]
+fn same_punctuator(a: Punctuator, b: Punctuator) -> bool
+    ensures { result ≡ spec.same_punctuator a b }
+{
+    a == b
+}
+
+/// Whether the token is of the sign.
+pub fn is(token: &Token, sign: Sign) -> bool
+    ensures { result ≡ spec.is sign token.now }
+{
+    match (&token.kind, sign) {
+        (Kind::Keyword(found), Sign::Word(word)) => same_keyword(word, *found),
+        (Kind::Punctuator(found), Sign::Mark(mark)) => same_punctuator(mark, *found),
+        (Kind::End, Sign::End) => true,
+        _ => false,
+    }
+}
+
+pub fn is_name(token: &Token) -> bool
+    ensures { result ≡ spec.is_name token.now }
+{
+    matches!(&token.kind, Kind::Name(_))
+}
+
+pub fn is_constant(token: &Token) -> bool
+    ensures { result ≡ spec.is_constant token.now }
+{
+    matches!(&token.kind, Kind::Constant(_))
+}
+
+pub fn is_text(token: &Token) -> bool
+    ensures { result ≡ spec.is_text token.now }
+{
+    matches!(&token.kind, Kind::StringLiteral(_))
+}
+
+fn word_type(word: Keyword) -> Option<TypeWord>
+    ensures { result ≡ spec.word_type word }
+{
+    match word {
+        Keyword::Static => Some(TypeWord::Static),
+        Keyword::Const => Some(TypeWord::Const),
+        Keyword::Void => Some(TypeWord::Void),
+        Keyword::Char => Some(TypeWord::Char),
+        Keyword::Short => Some(TypeWord::Short),
+        Keyword::Int => Some(TypeWord::Int),
+        Keyword::Long => Some(TypeWord::Long),
+        Keyword::Signed => Some(TypeWord::Signed),
+        Keyword::Unsigned => Some(TypeWord::Unsigned),
+        Keyword::ThreadId => Some(TypeWord::ThreadId),
+        Keyword::Mutex => Some(TypeWord::Mutex),
+        Keyword::Barrier => Some(TypeWord::Barrier),
+        _ => None,
+    }
+}
+
+pub fn type_word(token: &Token) -> Option<TypeWord>
+    ensures { result ≡ spec.type_word_at token.now }
+{
+    match &token.kind {
+        Kind::Keyword(word) => word_type(*word),
+        _ => None,
+    }
+}
+
+pub fn unary_operator(token: &Token) -> Option<UnaryOperator>
+    ensures { result ≡ spec.unary_of token.now }
+{
+    match &token.kind {
+        Kind::Punctuator(Punctuator::Plus) => Some(UnaryOperator::Plus),
+        Kind::Punctuator(Punctuator::Minus) => Some(UnaryOperator::Minus),
+        Kind::Punctuator(Punctuator::Tilde) => Some(UnaryOperator::Complement),
+        Kind::Punctuator(Punctuator::Exclamation) => Some(UnaryOperator::Not),
+        _ => None,
+    }
+}
+
+/// How tightly a binary operator binds, the tightest first, and which one it is.
+fn binding(mark: Punctuator) -> Option<(usize, BinaryOperator)>
+    ensures { result ≡ spec.binding mark }
+{
+    match mark {
+        Punctuator::Star => Some((1, BinaryOperator::Multiply)),
+        Punctuator::Slash => Some((1, BinaryOperator::Divide)),
+        Punctuator::Percent => Some((1, BinaryOperator::Remainder)),
+        Punctuator::Plus => Some((2, BinaryOperator::Add)),
+        Punctuator::Minus => Some((2, BinaryOperator::Subtract)),
+        Punctuator::ShiftLeft => Some((3, BinaryOperator::ShiftLeft)),
+        Punctuator::ShiftRight => Some((3, BinaryOperator::ShiftRight)),
+        Punctuator::Less => Some((4, BinaryOperator::Less)),
+        Punctuator::Greater => Some((4, BinaryOperator::Greater)),
+        Punctuator::LessEqual => Some((4, BinaryOperator::LessEqual)),
+        Punctuator::GreaterEqual => Some((4, BinaryOperator::GreaterEqual)),
+        Punctuator::EqualEqual => Some((5, BinaryOperator::Equal)),
+        Punctuator::NotEqual => Some((5, BinaryOperator::NotEqual)),
+        Punctuator::And => Some((6, BinaryOperator::BitAnd)),
+        Punctuator::Xor => Some((7, BinaryOperator::BitXor)),
+        Punctuator::Or => Some((8, BinaryOperator::BitOr)),
+        Punctuator::AndAnd => Some((9, BinaryOperator::LogicalAnd)),
+        Punctuator::OrOr => Some((10, BinaryOperator::LogicalOr)),
+        _ => None,
+    }
+}
+
+/// The binary operator that the token is at the level.
+pub fn operator_at(level: usize, token: &Token) -> Option<BinaryOperator>
+    ensures { result ≡ spec.binary_of level token.now }
+{
+    let Kind::Punctuator(mark) = &token.kind else {
+        return None;
+    };
+    match binding(*mark) {
+        Some((bound, operator)) if bound == level => Some(operator),
+        _ => None,
+    }
+}
+
+fn mark_assignment(mark: Punctuator) -> Option<AssignmentOperator>
+    ensures { result ≡ spec.mark_assignment mark }
+{
+    match mark {
+        Punctuator::Assign => Some(AssignmentOperator::Set),
+        Punctuator::StarAssign => Some(AssignmentOperator::Compound(BinaryOperator::Multiply)),
+        Punctuator::SlashAssign => Some(AssignmentOperator::Compound(BinaryOperator::Divide)),
+        Punctuator::PercentAssign => Some(AssignmentOperator::Compound(BinaryOperator::Remainder)),
+        Punctuator::PlusAssign => Some(AssignmentOperator::Compound(BinaryOperator::Add)),
+        Punctuator::MinusAssign => Some(AssignmentOperator::Compound(BinaryOperator::Subtract)),
+        Punctuator::ShiftLeftAssign => Some(AssignmentOperator::Compound(
+            BinaryOperator::ShiftLeft,
+        )),
+        Punctuator::ShiftRightAssign => Some(AssignmentOperator::Compound(
+            BinaryOperator::ShiftRight,
+        )),
+        Punctuator::AndAssign => Some(AssignmentOperator::Compound(BinaryOperator::BitAnd)),
+        Punctuator::XorAssign => Some(AssignmentOperator::Compound(BinaryOperator::BitXor)),
+        Punctuator::OrAssign => Some(AssignmentOperator::Compound(BinaryOperator::BitOr)),
+        _ => None,
+    }
+}
+
+pub fn assignment_operator(token: &Token) -> Option<AssignmentOperator>
+    ensures { result ≡ spec.assignment_at token.now }
+{
+    match &token.kind {
+        Kind::Punctuator(mark) => mark_assignment(*mark),
+        _ => None,
+    }
+}
+
+pub fn direction(token: &Token) -> Option<Direction>
+    ensures { result ≡ spec.direction_of token.now }
+{
+    match &token.kind {
+        Kind::Punctuator(Punctuator::PlusPlus) => Some(Direction::Up),
+        Kind::Punctuator(Punctuator::MinusMinus) => Some(Direction::Down),
+        _ => None,
+    }
+}
+
+fn begins_primary(token: &Token) -> bool
+    ensures { result ≡ begins.begins_primary token.now }
+{
+    is_name(token) || is_constant(token) || is(token, Sign::Mark(Punctuator::OpenRound))
+}
+
+/// Whether the token begins an operand: a unary operator, a name, a constant or a parenthesis.
+pub fn begins_cast(token: &Token) -> bool
+    ensures { result ≡ begins.begins_cast token.now }
+{
+    unary_operator(token).is_some() || begins_primary(token)
+}
+
+pub fn begins_argument(token: &Token) -> bool
+    ensures { result ≡ begins.begins_argument token.now }
+{
+    begins_cast(token)
+        || is_text(token)
+        || is(token, Sign::Mark(Punctuator::And))
+        || is(token, Sign::Word(Keyword::Null))
+}
+
+pub fn begins_simple(token: &Token) -> bool
+    ensures { result ≡ begins.begins_simple token.now }
+{
+    is_name(token) || direction(token).is_some()
+}
+
+/// Whether the token begins a block or a control statement.
+pub fn begins_compound(token: &Token) -> bool
+    ensures { result ≡ begins.begins_compound token.now }
+{
+    is(token, Sign::Mark(Punctuator::OpenCurly))
+        || is(token, Sign::Word(Keyword::If))
+        || is(token, Sign::Word(Keyword::While))
+        || is(token, Sign::Word(Keyword::Do))
+        || is(token, Sign::Word(Keyword::For))
+}
+
+fn begins_jump(token: &Token) -> bool
+    ensures { result ≡ begins.begins_jump token.now }
+{
+    is(token, Sign::Word(Keyword::Break))
+        || is(token, Sign::Word(Keyword::Continue))
+        || is(token, Sign::Word(Keyword::Return))
+}
+
+fn begins_plain(token: &Token) -> bool
+    ensures { result ≡ begins.begins_plain token.now }
+{
+    is(token, Sign::Mark(Punctuator::Semicolon)) || begins_jump(token) || begins_simple(token)
+}
+
+pub fn begins_statement(token: &Token) -> bool
+    ensures { result ≡ begins.begins_statement token.now }
+{
+    begins_compound(token) || begins_plain(token)
+}
+
+/// Whether the token begins a declaration or a statement.
+pub fn begins_item(token: &Token) -> bool
+    ensures { result ≡ begins.begins_item token.now }
+{
+    type_word(token).is_some() || begins_statement(token)
+}

@@ -1,0 +1,480 @@
+// Objects at file scope and their initial values (C99 6.9.2, 6.7.8).
+
+ghost use Rattle.std.specs.Prelude.{◌≡◌, IfOk, OnOk, string_bytes};
+ghost use Rattle.c_rules.specs.Walks.{Outcome, Walks};
+ghost use Rattle.c_resolution.specs.States.{state};
+ghost use Rattle.c_resolution.specs.Files.{file};
+ghost use Rattle.c_globals.specs.Tabled.{tables_of};
+ghost use Rattle.c_resolution.specs.Globals as spec;
+
+use crate::tables::Tables;
+use c_expressions::expressions::expression;
+use c_locals::lengths::optional_length;
+use c_locals::locals::declare;
+use c_program::tree as resolved;
+use c_rules::constants::{Constancy, constancy_of};
+use c_rules::fault::Rule;
+use c_rules::findings::{Findings, place};
+use c_rules::names::{Meaning, Object, ObjectKind, Scope, Variable};
+use c_rules::specifiers::{BaseType, Spelled, spelled_by};
+use c_tree::{Expression, GlobalDeclaration, GlobalDeclarator, Initializer, Name};
+use hls_ints::{CType, wrap};
+use std::alloc::{AllocError, Global};
+
+/// A name as text.
+pub fn text(alloc: Global, name: &Name) -> Result<String, AllocError>
+    ensures { IfOk result (λ t. string_bytes t ≡ spec.text name.now.bytes) }
+{
+    let mut text = String::new(alloc);
+    for byte in name.bytes.as_slice() {
+        text.push(char::from(*byte))?;
+    }
+    Ok(text)
+}
+
+#[tactic(auto, unfolding(c_resolution::specs::Globals::initial_from))]
+fn initial_from(found: &mut Findings, ty: CType, constancy: Constancy, offset: usize) -> i128
+    ensures { spec.initial_from ty constancy offset found.old ≡ Outcome.Gives result found.new }
+{
+    match constancy {
+        Constancy::Constant(value) => wrap(ty, value.number),
+        Constancy::Unknown => 0,
+        Constancy::NotConstant => {
+            found.add(Rule::Constant, offset);
+            0
+        }
+    }
+}
+
+/// An initial value of a type.
+#[tactic(auto, unfolding(c_resolution::specs::Globals::initial_value))]
+fn initial_value(
+    alloc: Global,
+    scope: &Scope<'_>,
+    found: &mut Findings,
+    ty: CType,
+    e: &Expression,
+) -> Result<i128, AllocError>
+    ensures { Walks (λ x. x) (spec.initial_value ty e.now scope.now found.old) result found.new }
+{
+    expression(alloc, scope, found, e)?;
+    Ok(initial_from(found, ty, constancy_of(e), e.offset))
+}
+
+#[tactic(auto, unfolding(c_resolution::specs::Globals::initial_values))]
+fn initial_values(
+    alloc: Global,
+    scope: &Scope<'_>,
+    found: &mut Findings,
+    ty: CType,
+    length: u64,
+    list: &[Expression],
+) -> Result<Vec<i128>, AllocError>
+    ensures { Walks (λ v. v.items) (spec.initial_values ty length list.now scope.now found.old) result found.new }
+{
+    let mut values = Vec::new(alloc);
+    for e in list {
+        found.add_if(length <= values.len() as u64, Rule::Constant, e.offset);
+        let value = initial_value(alloc, scope, found, ty, e)?;
+        values.push(value)?;
+    }
+    Ok(values)
+}
+
+#[tactic(auto, unfolding(c_resolution::specs::Globals::looked_values))]
+fn look_through_all(
+    alloc: Global,
+    scope: &Scope<'_>,
+    found: &mut Findings,
+    list: &[Expression],
+) -> Result<(), AllocError>
+    ensures { Walks (λ x. x) (spec.looked_values list.now scope.now found.old) result found.new }
+{
+    for e in list {
+        expression(alloc, scope, found, e)?;
+    }
+    Ok(())
+}
+
+fn look_through(
+    alloc: Global,
+    scope: &Scope<'_>,
+    found: &mut Findings,
+    initializer: &Initializer,
+) -> Result<(), AllocError>
+    ensures { Walks (λ x. x) (spec.looked initializer.now scope.now found.old) result found.new }
+{
+    match initializer {
+        Initializer::Value(e) => {
+            expression(alloc, scope, found, e)?;
+            Ok(())
+        }
+        Initializer::List(list) => look_through_all(alloc, scope, found, list.as_slice()),
+        Initializer::Mutex => Ok(()),
+    }
+}
+
+/// An initialiser of another form than the object's.
+#[tactic(auto, unfolding(c_resolution::specs::Globals::refused))]
+fn refuse(
+    alloc: Global,
+    scope: &Scope<'_>,
+    found: &mut Findings,
+    name: &Name,
+    initializer: &Initializer,
+) -> Result<(), AllocError>
+    ensures { Walks (λ x. x) (spec.refused name.now initializer.now scope.now found.old) result found.new }
+{
+    found.add(Rule::Kind, name.offset);
+    look_through(alloc, scope, found, initializer)
+}
+
+#[tactic(auto, unfolding(c_resolution::specs::Globals::refused_values))]
+fn refused_values(
+    alloc: Global,
+    scope: &Scope<'_>,
+    found: &mut Findings,
+    name: &Name,
+    initializer: &Initializer,
+) -> Result<Vec<i128>, AllocError>
+    ensures { Walks (λ v. v.items) (spec.refused_values name.now initializer.now scope.now found.old) result found.new }
+{
+    refuse(alloc, scope, found, name, initializer)?;
+    Ok(Vec::new(alloc))
+}
+
+/// The value of a scalar.
+fn one_value(
+    alloc: Global,
+    scope: &Scope<'_>,
+    found: &mut Findings,
+    ty: CType,
+    e: &Expression,
+) -> Result<Vec<i128>, AllocError>
+    ensures { Walks (λ v. v.items) (spec.one_value ty e.now scope.now found.old) result found.new }
+{
+    let value = initial_value(alloc, scope, found, ty, e)?;
+    let mut values = Vec::new(alloc);
+    values.push(value)?;
+    Ok(values)
+}
+
+/// The initial values of an integer object, by its initialiser.
+fn initial_of(
+    alloc: Global,
+    scope: &Scope<'_>,
+    found: &mut Findings,
+    name: &Name,
+    ty: CType,
+    length: Option<u64>,
+    initializer: &Initializer,
+) -> Result<Vec<i128>, AllocError>
+    ensures { Walks (λ v. v.items) (spec.initial_of name.now ty length initializer.now scope.now found.old) result found.new }
+{
+    match (length, initializer) {
+        (None, Initializer::Value(e)) => one_value(alloc, scope, found, ty, e),
+        (Some(length), Initializer::List(list)) => {
+            initial_values(alloc, scope, found, ty, length, list.as_slice())
+        }
+        (None, Initializer::List(_) | Initializer::Mutex)
+        | (Some(_), Initializer::Value(_) | Initializer::Mutex) => {
+            refused_values(alloc, scope, found, name, initializer)
+        }
+    }
+}
+
+fn initial(
+    alloc: Global,
+    scope: &Scope<'_>,
+    found: &mut Findings,
+    name: &Name,
+    variable: Variable,
+    initializer: &Option<Initializer>,
+) -> Result<Vec<i128>, AllocError>
+    ensures { Walks (λ v. v.items) (spec.initial name.now variable initializer.now scope.now found.old) result found.new }
+{
+    match initializer {
+        Some(initializer) => {
+            let ty = variable.ty.c_type();
+            initial_of(alloc, scope, found, name, ty, variable.length, initializer)
+        }
+        None => Ok(Vec::new(alloc)),
+    }
+}
+
+/// Adds an integer object to the program.
+fn add_global(
+    alloc: Global,
+    tables: &mut Tables,
+    name: &Name,
+    variable: Variable,
+    initial: Vec<i128>,
+) -> Result<(), AllocError>
+    ensures { OnOk result (tables_of tables.new ≡ spec.with_variable name.now variable initial.items (tables_of tables.old)) }
+{
+    let global = resolved::GlobalVariable {
+        name: text(alloc, name)?,
+        ty: variable.ty.c_type(),
+        length: variable.length.unwrap_or(1),
+        initial,
+    };
+    tables.globals.push(global)?;
+    Ok(())
+}
+
+/// An integer object.
+#[tactic(auto, unfolding(c_resolution::specs::Globals::global_variable))]
+fn global_variable<'t>(
+    alloc: Global,
+    scope: &mut Scope<'t>,
+    found: &mut Findings,
+    tables: &mut Tables,
+    declared: &'t GlobalDeclarator,
+    variable: Variable,
+) -> Result<(), AllocError>
+    ensures { Walks (λ x. x) (spec.global_variable declared.now variable (file scope.old found.old (tables_of tables.old)))
+        result (file scope.new found.new (tables_of tables.new)) }
+{
+    declare(scope, found, &declared.name, Meaning::Variable(variable))?;
+    let values = initial(
+        alloc,
+        scope,
+        found,
+        &declared.name,
+        variable,
+        &declared.initializer,
+    )?;
+    add_global(alloc, tables, &declared.name, variable, values)
+}
+
+fn is_scalar_mutex(object: Object) -> bool
+    ensures { result ≡ spec.is_scalar_mutex object }
+{
+    object.kind.is(ObjectKind::Mutex) && object.length.is_none()
+}
+
+fn is_mutex_initializer(initializer: &Initializer) -> bool
+    ensures { result ≡ spec.is_mutex_initializer initializer.now }
+{
+    matches!(initializer, Initializer::Mutex)
+}
+
+fn initialised_by(
+    alloc: Global,
+    scope: &Scope<'_>,
+    found: &mut Findings,
+    object: Object,
+    name: &Name,
+    initializer: &Initializer,
+) -> Result<bool, AllocError>
+    ensures { Walks (λ x. x) (spec.initialised_by object name.now initializer.now scope.now found.old) result found.new }
+{
+    if is_mutex_initializer(initializer) && is_scalar_mutex(object) {
+        return Ok(true);
+    }
+    refuse(alloc, scope, found, name, initializer)?;
+    Ok(false)
+}
+
+/// Whether an object is initialised where it is declared; only a scalar mutex may be.
+fn is_initialised(
+    alloc: Global,
+    scope: &Scope<'_>,
+    found: &mut Findings,
+    object: Object,
+    name: &Name,
+    initializer: &Option<Initializer>,
+) -> Result<bool, AllocError>
+    ensures { Walks (λ x. x) (spec.is_initialised object name.now initializer.now scope.now found.old) result found.new }
+{
+    match initializer {
+        Some(initializer) => initialised_by(alloc, scope, found, object, name, initializer),
+        None => Ok(false),
+    }
+}
+
+/// Adds an object to the table of its kind.
+fn add_object(tables: &mut Tables, object: Object, initialised: bool) -> Result<(), AllocError>
+    ensures { OnOk result (tables_of tables.new ≡ spec.with_object object initialised (tables_of tables.old)) }
+{
+    let length = object.length.unwrap_or(1);
+    match object.kind {
+        ObjectKind::Thread => {
+            tables.threads.push(resolved::ThreadObject {
+                length,
+                routine: None,
+            })?;
+            Ok(())
+        }
+        ObjectKind::Mutex => {
+            tables.mutexes.push(resolved::MutexObject {
+                length,
+                initialised,
+            })?;
+            Ok(())
+        }
+        ObjectKind::Barrier => {
+            tables.barriers.push(resolved::BarrierObject { length })?;
+            Ok(())
+        }
+    }
+}
+
+/// An object of POSIX threads.
+#[tactic(auto, unfolding(c_resolution::specs::Globals::global_object))]
+fn global_object<'t>(
+    alloc: Global,
+    scope: &mut Scope<'t>,
+    found: &mut Findings,
+    tables: &mut Tables,
+    declared: &'t GlobalDeclarator,
+    object: Object,
+) -> Result<(), AllocError>
+    ensures { Walks (λ x. x) (spec.global_object declared.now object (file scope.old found.old (tables_of tables.old)))
+        result (file scope.new found.new (tables_of tables.new)) }
+{
+    declare(scope, found, &declared.name, Meaning::Object(object))?;
+    let initialised = is_initialised(
+        alloc,
+        scope,
+        found,
+        object,
+        &declared.name,
+        &declared.initializer,
+    )?;
+    add_object(tables, object, initialised)
+}
+
+fn refuse_any(
+    alloc: Global,
+    scope: &Scope<'_>,
+    found: &mut Findings,
+    name: &Name,
+    initializer: &Option<Initializer>,
+) -> Result<(), AllocError>
+    ensures { Walks (λ x. x) (spec.refused_initial name.now initializer.now scope.now found.old) result found.new }
+{
+    match initializer {
+        Some(initializer) => refuse(alloc, scope, found, name, initializer),
+        None => Ok(()),
+    }
+}
+
+/// An object whose type breaks a rule.
+#[tactic(auto, unfolding(c_resolution::specs::Globals::unusable))]
+fn unusable<'t>(
+    alloc: Global,
+    scope: &mut Scope<'t>,
+    found: &mut Findings,
+    declared: &'t GlobalDeclarator,
+) -> Result<(), AllocError>
+    ensures { Walks (λ x. x) (spec.unusable declared.now (state scope.old found.old)) result (state scope.new found.new) }
+{
+    found.add(Rule::Kind, declared.name.offset);
+    declare(scope, found, &declared.name, Meaning::Unusable)?;
+    refuse_any(alloc, scope, found, &declared.name, &declared.initializer)
+}
+
+fn object(kind: ObjectKind, count: usize, length: Option<u64>) -> Meaning
+    ensures { result ≡ spec.object kind count length }
+{
+    Meaning::Object(Object {
+        kind,
+        number: place(count),
+        length,
+    })
+}
+
+/// The object that words of a type declare: it is the next one of its kind.
+fn meaning_by(tables: &Tables, words: Spelled, length: Option<u64>) -> Meaning
+    ensures { result ≡ spec.meaning_by (tables_of tables.now) words length words.base }
+{
+    match words.base {
+        BaseType::Integer(ty) => Meaning::Variable(Variable {
+            storage: resolved::Storage::Static,
+            number: place(tables.globals.len()),
+            ty,
+            length,
+            is_const: words.is_const,
+        }),
+        BaseType::Thread => object(ObjectKind::Thread, tables.threads.len(), length),
+        BaseType::Mutex => object(ObjectKind::Mutex, tables.mutexes.len(), length),
+        BaseType::Barrier => object(ObjectKind::Barrier, tables.barriers.len(), length),
+        BaseType::Void => Meaning::Unusable,
+        BaseType::Unlisted => Meaning::Unusable,
+    }
+}
+
+/// The same of words behind which a `*` may stand.
+fn global_meaning(tables: &Tables, words: Spelled, is_pointer: bool, length: Option<u64>) -> Meaning
+    ensures { result ≡ spec.global_meaning (tables_of tables.now) words is_pointer length }
+{
+    if is_pointer {
+        Meaning::Unusable
+    } else {
+        meaning_by(tables, words, length)
+    }
+}
+
+/// An object by what its words declare.
+#[tactic(auto, unfolding(c_resolution::specs::Globals::global_as))]
+fn global_as<'t>(
+    alloc: Global,
+    scope: &mut Scope<'t>,
+    found: &mut Findings,
+    tables: &mut Tables,
+    declared: &'t GlobalDeclarator,
+    meaning: Meaning,
+) -> Result<(), AllocError>
+    ensures { Walks (λ x. x) (spec.global_as declared.now meaning (file scope.old found.old (tables_of tables.old)))
+        result (file scope.new found.new (tables_of tables.new)) }
+{
+    match meaning {
+        Meaning::Variable(variable) => {
+            global_variable(alloc, scope, found, tables, declared, variable)
+        }
+        Meaning::Object(object) => global_object(alloc, scope, found, tables, declared, object),
+        Meaning::Argument | Meaning::Function(_) | Meaning::Unusable => {
+            unusable(alloc, scope, found, declared)
+        }
+    }
+}
+
+#[tactic(auto, unfolding(c_resolution::specs::Globals::global))]
+fn global<'t>(
+    alloc: Global,
+    scope: &mut Scope<'t>,
+    found: &mut Findings,
+    tables: &mut Tables,
+    words: Spelled,
+    is_pointer: bool,
+    declared: &'t GlobalDeclarator,
+) -> Result<(), AllocError>
+    ensures { Walks (λ x. x) (spec.global words is_pointer declared.now (file scope.old found.old (tables_of tables.old)))
+        result (file scope.new found.new (tables_of tables.new)) }
+{
+    let length = optional_length(alloc, scope, found, &declared.length)?;
+    let meaning = global_meaning(tables, words, is_pointer, length);
+    global_as(alloc, scope, found, tables, declared, meaning)
+}
+
+/// Objects at file scope. A `*` stands before the first name alone.
+#[tactic(auto, unfolding(c_resolution::specs::Globals::objects))]
+pub fn objects<'t>(
+    alloc: Global,
+    scope: &mut Scope<'t>,
+    found: &mut Findings,
+    tables: &mut Tables,
+    declaration: &'t GlobalDeclaration,
+) -> Result<(), AllocError>
+    ensures { Walks (λ x. x) (spec.objects declaration.now (file scope.old found.old (tables_of tables.old)))
+        result (file scope.new found.new (tables_of tables.new)) }
+{
+    let words = spelled_by(&declaration.specifiers);
+    let mut is_pointer = declaration.is_pointer;
+    for declared in declaration.declarators.as_slice() {
+        global(alloc, scope, found, tables, words, is_pointer, declared)?;
+        is_pointer = false;
+    }
+    Ok(())
+}

@@ -1,0 +1,9 @@
+pub mod TokenProofs
+pub mod LevelProofs
+pub mod Pairs
+pub mod ExprShapes
+pub mod ExprProofs
+pub mod PlainProofs
+pub mod StatementProofs
+pub mod DeclarationProofs
+pub mod Texts

@@ -1,0 +1,12 @@
+pub mod Answers
+pub mod CallRules
+pub mod Files
+pub mod Functions
+pub mod Globals
+pub mod Locals
+pub mod Resolving
+pub mod Routines
+pub mod Simple
+pub mod States
+pub mod Statements
+pub mod Texts

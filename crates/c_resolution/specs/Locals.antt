@@ -1,0 +1,155 @@
+-- Declarations in blocks (C99 6.7).
+use Rattle.std.specs.Prelude.{ℕ, zero, suc, Bool, true, false, min, if◌then◌else◌, List, [], ◌∷◌, ◌++◌, length, Option, Some, None, unwrap_or, pos, negsuc, ℤ}
+use Rattle.c_tree.specs.declared.expression.Name.{Name}
+use Rattle.c_tree.specs.declared.expression.Expression.{Expression as ExpressionTree, out-Expression}
+use Rattle.c_tree.specs.declared.declaration.Declaration.{Declaration}
+use Rattle.c_tree.specs.declared.declaration.Declarator.{Declarator}
+use Rattle.c_program.specs.declared.tree.Storage.TheVariants.{Automatic}
+use Rattle.c_program.specs.declared.tree.LocalVariable.{LocalVariable}
+use Rattle.c_program.specs.Tree.{Place, RightSide, Statement}
+use Rattle.c_rules.specs.declared.fault.Rule.TheVariants as rule
+use Rattle.c_rules.specs.declared.specifiers.BasicType.{BasicType}
+use Rattle.c_rules.specs.declared.specifiers.BaseType.{BaseType}
+use Rattle.c_rules.specs.declared.specifiers.BaseType.TheVariants as base
+use Rattle.c_rules.specs.declared.specifiers.Spelled.{Spelled}
+use Rattle.c_rules.specs.declared.constants.Constancy.{Constancy}
+use Rattle.c_rules.specs.declared.constants.Constancy.TheVariants as is
+use Rattle.c_rules.specs.declared.names.Variable.{Variable}
+use Rattle.c_rules.specs.declared.names.Meaning.{Meaning}
+use Rattle.c_rules.specs.declared.names.Meaning.TheVariants as meaning
+use Rattle.c_rules.specs.declared.names.Scope.{Scope}
+use Rattle.c_rules.specs.Constants.{constancy, operator_count}
+use Rattle.c_rules.specs.Names.{is_taken, declaring}
+use Rattle.c_rules.specs.Specifiers.{c_type, plain, spelled_by}
+use Rattle.c_rules.specs.Walks.{Finds, pure, finds, finds_if, through, place_in_tree, ◌>>=◌, ◌>>◌}
+use Rattle.c_expressions.specs.Expressions.{value}
+use Rattle.c_calls.specs.Calls.{right_side}
+use Rattle.c_resolution.specs.States.{Goes, finding, scoping}
+
+-- ---- lengths of arrays (6.7.5.2): constant expressions of at least 1
+
+-- a positive number, as far as a length goes
+abbrev pub positive : ℤ → Option ℕ
+positive (pos zero) = None
+positive (pos (suc n)) = Some (min (suc n) 0xffff_ffff_ffff_ffff)
+positive (negsuc n) = None
+
+abbrev pub length_of_number : Option ℕ → ℕ → Finds ℕ
+length_of_number (Some n) at = pure n
+length_of_number None at = do
+  finds rule.Constant at
+  pure 1
+
+unfoldable pub length_from : Constancy → ℕ → Finds ℕ
+length_from (is.Constant x) at = length_of_number (positive x.number) at
+length_from is.Unknown at = pure 1
+length_from is.NotConstant at = length_of_number None at
+
+unfoldable pub array_length : ExpressionTree → Scope → Finds ℕ
+array_length e s = do
+  value s e
+  length_from (constancy e) (out-Expression e).offset
+
+abbrev pub optional_length : Option ExpressionTree → Scope → Finds (Option ℕ)
+optional_length None s = pure None
+optional_length (Some e) s = do
+  n ← array_length e s
+  pure (Some n)
+
+-- ---- what a name is declared as
+
+-- one more local
+abbrev pub with_local : LocalVariable → Scope → Scope
+with_local l s = record s { locals = s.locals ++ l ∷ [] }
+
+-- a local of the type that is numbered next
+abbrev pub local_variable : Spelled → Option ℕ → BasicType → ℕ → Variable
+local_variable words length ty number =
+    record { storage = Automatic; number = number; ty = ty; length = length; is_const = words.is_const }
+
+unfoldable pub new_local : Spelled → Option ℕ → BasicType → Goes Meaning
+new_local words size ty s = (do
+  scoping (with_local (record { ty = c_type ty; length = unwrap_or size 1 }))
+  pure (meaning.Variable (local_variable words size ty (place_in_tree (length s.scope.locals))))) s
+
+abbrev pub is_object_type : BaseType → Bool
+is_object_type base.Thread = true
+is_object_type base.Mutex = true
+is_object_type base.Barrier = true
+is_object_type other = false
+
+-- an object of POSIX threads is global
+unfoldable pub refused_local : Spelled → ℕ → Finds Meaning
+refused_local words at =
+    if is_object_type words.base then finds_if words.is_static rule.Kind at >> (finds rule.Threads at >> pure meaning.Unusable)
+    else finds rule.Kind at >> pure meaning.Unusable
+
+abbrev pub local_of : Spelled → ℕ → Option ℕ → Option BasicType → Goes Meaning
+local_of words at size (Some ty) = new_local words size ty
+local_of words at size None = finding (λ s. refused_local words at)
+
+-- an object of a block
+unfoldable pub local : Spelled → ℕ → Option ℕ → Goes Meaning
+local words at size = local_of words at size (plain words.is_static words.base)
+
+-- a name in the innermost scope, unless it is taken there
+unfoldable pub declare : Name → Meaning → Goes (Unit {0})
+declare name m s =
+    if is_taken s.scope name.bytes then finding (λ scope. finds rule.Twice name.offset) s
+    else scoping (declaring name.bytes m) s
+
+-- ---- the step of a declarator
+
+abbrev pub variable_in : Meaning → Option Variable
+variable_in (meaning.Variable v) = Some v
+variable_in other = None
+
+abbrev pub operators_in : Option ExpressionTree → ℕ
+operators_in None = 0
+operators_in (Some e) = operator_count e
+
+abbrev pub uninitialised_by : Option Variable → Declarator → Statement
+uninitialised_by None d = Statement.Empty
+uninitialised_by (Some v) d = Statement.Declare (place_in_tree d.name.offset) v.number (operators_in d.length)
+
+-- without an initialiser
+abbrev pub uninitialised : Declarator → Meaning → Statement
+uninitialised d m = uninitialised_by (variable_in m) d
+
+abbrev pub scalar_by : Option ℕ → Variable → Option Variable
+scalar_by None v = Some v
+scalar_by (Some length) v = None
+
+abbrev pub scalar_in : Meaning → Option Variable
+scalar_in (meaning.Variable v) = scalar_by v.length v
+scalar_in other = None
+
+unfoldable pub initialised_by : Option Variable → ℕ → RightSide → Finds Statement
+initialised_by (Some v) at right =
+    pure (Statement.Assign (place_in_tree at) (Place.Scalar v.storage v.number (c_type v.ty)) right)
+initialised_by None at right = do
+  finds rule.Kind at
+  pure Statement.Empty
+
+-- with one: only a scalar may have it
+unfoldable pub initialised : Name → Meaning → ExpressionTree → Scope → Finds Statement
+initialised name m e s = do
+  right ← right_side s e
+  initialised_by (scalar_in m) name.offset right
+
+abbrev pub declared_step : Declarator → Meaning → Option ExpressionTree → Scope → Finds Statement
+declared_step d m None s = pure (uninitialised d m)
+declared_step d m (Some e) s = initialised d.name m e s
+
+-- the name is in scope in its initialiser (6.2.1)
+unfoldable pub declarator : Spelled → Declarator → Goes Statement
+declarator words d = do
+  size ← finding (optional_length d.length)
+  m ← local words d.name.offset size
+  declare d.name m
+  finding (declared_step d m d.initializer)
+
+-- the steps of a declaration behind other steps
+unfoldable pub declaration : List Statement → Declaration → Goes (List Statement)
+declaration steps d =
+    through (λ done x. declarator (spelled_by d.specifiers) x >>= (λ step. pure (done ++ step ∷ []))) steps d.declarators

@@ -1,0 +1,224 @@
+// Statements with statements in them. The rules take the function that reads those as a parameter, so that each is proved
+// by itself.
+
+ghost use Rattle.std.specs.Prelude.{◌≡◌, ◌-◌, ◌<◌, ◌≤◌};
+ghost use Rattle.grammar.specs.Readers.{reads_many};
+ghost use Rattle.grammar.specs.Steps.{Steps};
+ghost use Rattle.c_reading.specs.Tokens as tokens_of;
+ghost use Rattle.c_reading.specs.Statements as spec;
+ghost use Rattle.c_statement_parser.specs.NestsStatements.{NestsStatements};
+
+use crate::plain::{condition, declaration, for_head, plain_statement};
+use c_cursor::Cursor;
+use c_token::{Keyword, Punctuator};
+use c_tree::{Block, BlockItem, Sign, Statement};
+use grammar::{Fault, too_deep};
+use sqlite_items::{Boxed, Items};
+use std::alloc::Global;
+
+/// The rules of statements, by the function that reads the statements in them. The room of each is how many levels of
+/// nesting are left for those.
+#[derive(Clone, Copy)]
+pub struct Bodies<F> {
+    pub alloc: Global,
+    pub read: F,
+}
+
+impl<F: Fn(Global, &mut Cursor<'_>, usize) -> Result<Statement, Fault>> Bodies<F> {
+    /// A statement inside.
+    fn body(&self, cursor: &mut Cursor<'_>, room: usize) -> Result<Statement, Fault>
+        requires { NestsStatements room (F.pre self.now.read) (F.post self.now.read) }
+        ensures { Steps (spec.read_statement room cursor.old.rest.now) result cursor.new.rest.now }
+    {
+        (self.read)(self.alloc, cursor, room)
+    }
+
+    /// The same on the heap.
+    fn boxed_body(&self, cursor: &mut Cursor<'_>, room: usize) -> Result<Boxed<Statement>, Fault>
+        requires { NestsStatements room (F.pre self.now.read) (F.post self.now.read) }
+        ensures { Steps (spec.read_statement room cursor.old.rest.now) result cursor.new.rest.now }
+    {
+        let body = self.body(cursor, room)?;
+        Ok(Boxed::new(self.alloc, body)?)
+    }
+
+    #[tactic(auto, unfolding(c_reading::specs::Statements::read_declared_item))]
+    fn declared_item(&self, cursor: &mut Cursor<'_>, room: usize) -> Result<BlockItem, Fault>
+        requires { NestsStatements room (F.pre self.now.read) (F.post self.now.read) }
+        ensures { Steps (spec.read_declared_item (spec.read_statement room) room cursor.old.rest.now) result cursor.new.rest.now }
+    {
+        Ok(BlockItem::Declaration(declaration(self.alloc, cursor, room)?))
+    }
+
+    #[tactic(auto, unfolding(c_reading::specs::Statements::read_statement_item))]
+    fn statement_item(&self, cursor: &mut Cursor<'_>, room: usize) -> Result<BlockItem, Fault>
+        requires { NestsStatements room (F.pre self.now.read) (F.post self.now.read) }
+        ensures { Steps (spec.read_statement_item (spec.read_statement room) room cursor.old.rest.now) result cursor.new.rest.now }
+    {
+        Ok(BlockItem::Statement(self.body(cursor, room)?))
+    }
+
+    /// A declaration or a statement.
+    #[tactic(auto, unfolding(c_reading::specs::Statements::read_item))]
+    fn item(&self, cursor: &mut Cursor<'_>, room: usize) -> Result<BlockItem, Fault>
+        requires { NestsStatements room (F.pre self.now.read) (F.post self.now.read) }
+        ensures { Steps (spec.read_item (spec.read_statement room) room cursor.old.rest.now) result cursor.new.rest.now }
+    {
+        if cursor.sees_type_word() {
+            self.declared_item(cursor, room)
+        } else {
+            self.statement_item(cursor, room)
+        }
+    }
+
+    fn items(&self, cursor: &mut Cursor<'_>, room: usize) -> Result<Items<BlockItem>, Fault>
+        requires { NestsStatements room (F.pre self.now.read) (F.post self.now.read) }
+        ensures { Steps (reads_many tokens_of.begins_item (spec.read_item (spec.read_statement room) room) cursor.old.rest.now) result cursor.new.rest.now }
+    {
+        let mut found = Items::new(self.alloc);
+        for _turn in 0..cursor.left() {
+            if !cursor.begins_item() {
+                return Ok(found);
+            }
+            found.push(self.item(cursor, room)?)?;
+        }
+        Ok(found)
+    }
+
+    #[tactic(auto, unfolding(c_reading::specs::Statements::read_block))]
+    pub fn block(&self, cursor: &mut Cursor<'_>, room: usize) -> Result<Block, Fault>
+        requires { NestsStatements room (F.pre self.now.read) (F.post self.now.read) }
+        ensures { Steps (spec.read_block (spec.read_statement room) room cursor.old.rest.now) result cursor.new.rest.now }
+    {
+        if room == 0 {
+            return Err(too_deep(cursor.sees(Sign::Mark(Punctuator::OpenCurly)), false));
+        }
+        cursor.mark(Punctuator::OpenCurly)?;
+        let items = self.items(cursor, room)?;
+        let close = cursor.mark(Punctuator::CloseCurly)?;
+        Ok(Block { items, close })
+    }
+
+    #[tactic(auto, unfolding(c_reading::specs::Statements::read_block_statement))]
+    fn block_statement(&self, cursor: &mut Cursor<'_>, room: usize) -> Result<Statement, Fault>
+        requires { NestsStatements room (F.pre self.now.read) (F.post self.now.read) }
+        ensures { Steps (spec.read_block_statement (spec.read_statement room) room cursor.old.rest.now) result cursor.new.rest.now }
+    {
+        Ok(Statement::Block(self.block(cursor, room)?))
+    }
+
+    /// `else` and its statement, if there is one.
+    #[tactic(auto, unfolding(c_reading::specs::Statements::read_other))]
+    fn other(&self, cursor: &mut Cursor<'_>, room: usize) -> Result<Option<Boxed<Statement>>, Fault>
+        requires { NestsStatements room (F.pre self.now.read) (F.post self.now.read) }
+        ensures { Steps (spec.read_other (spec.read_statement room) room cursor.old.rest.now) result cursor.new.rest.now }
+    {
+        if !cursor.sees(Sign::Word(Keyword::Else)) {
+            return Ok(None);
+        }
+        cursor.word(Keyword::Else)?;
+        Ok(Some(self.boxed_body(cursor, room)?))
+    }
+
+    #[tactic(auto, unfolding(c_reading::specs::Statements::read_branch))]
+    fn branch(&self, cursor: &mut Cursor<'_>, room: usize) -> Result<Statement, Fault>
+        requires { NestsStatements room (F.pre self.now.read) (F.post self.now.read) }
+        ensures { Steps (spec.read_branch (spec.read_statement room) room cursor.old.rest.now) result cursor.new.rest.now }
+    {
+        cursor.word(Keyword::If)?;
+        let condition = condition(self.alloc, cursor, room)?;
+        let body = self.boxed_body(cursor, room)?;
+        let other = self.other(cursor, room)?;
+        Ok(Statement::If(condition, body, other))
+    }
+
+    #[tactic(auto, unfolding(c_reading::specs::Statements::read_while))]
+    fn while_loop(&self, cursor: &mut Cursor<'_>, room: usize) -> Result<Statement, Fault>
+        requires { NestsStatements room (F.pre self.now.read) (F.post self.now.read) }
+        ensures { Steps (spec.read_while (spec.read_statement room) room cursor.old.rest.now) result cursor.new.rest.now }
+    {
+        cursor.word(Keyword::While)?;
+        let condition = condition(self.alloc, cursor, room)?;
+        let body = self.boxed_body(cursor, room)?;
+        Ok(Statement::While(condition, body))
+    }
+
+    #[tactic(auto, unfolding(c_reading::specs::Statements::read_do))]
+    fn do_loop(&self, cursor: &mut Cursor<'_>, room: usize) -> Result<Statement, Fault>
+        requires { NestsStatements room (F.pre self.now.read) (F.post self.now.read) }
+        ensures { Steps (spec.read_do (spec.read_statement room) room cursor.old.rest.now) result cursor.new.rest.now }
+    {
+        cursor.word(Keyword::Do)?;
+        let body = self.boxed_body(cursor, room)?;
+        cursor.word(Keyword::While)?;
+        let condition = condition(self.alloc, cursor, room)?;
+        cursor.mark(Punctuator::Semicolon)?;
+        Ok(Statement::DoWhile(body, condition))
+    }
+
+    /// The body, with what stands before it.
+    #[tactic(auto, unfolding(c_reading::specs::Statements::read_with_body))]
+    fn with_body<H: Drop>(
+        &self,
+        cursor: &mut Cursor<'_>,
+        room: usize,
+        head: H,
+    ) -> Result<(H, Boxed<Statement>), Fault>
+        requires { NestsStatements room (F.pre self.now.read) (F.post self.now.read) }
+        ensures { Steps (spec.read_with_body (spec.read_statement room) room head cursor.old.rest.now) result cursor.new.rest.now }
+    {
+        let body = self.boxed_body(cursor, room)?;
+        Ok((head, body))
+    }
+
+    #[tactic(auto, unfolding(c_reading::specs::Statements::read_for))]
+    fn for_loop(&self, cursor: &mut Cursor<'_>, room: usize) -> Result<Statement, Fault>
+        requires { NestsStatements room (F.pre self.now.read) (F.post self.now.read) }
+        ensures { Steps (spec.read_for (spec.read_statement room) room cursor.old.rest.now) result cursor.new.rest.now }
+    {
+        cursor.word(Keyword::For)?;
+        let head = for_head(self.alloc, cursor, room)?;
+        let ((start, condition, step), body) = self.with_body(cursor, room, head)?;
+        Ok(Statement::For(start, condition, step, body))
+    }
+
+    /// A block or a control statement.
+    #[tactic(auto, unfolding(c_reading::specs::Statements::read_compound))]
+    fn compound(&self, cursor: &mut Cursor<'_>, room: usize) -> Result<Statement, Fault>
+        requires { NestsStatements room (F.pre self.now.read) (F.post self.now.read) }
+        ensures { Steps (spec.read_compound (spec.read_statement room) room cursor.old.rest.now) result cursor.new.rest.now }
+    {
+        if cursor.sees(Sign::Mark(Punctuator::OpenCurly)) {
+            self.block_statement(cursor, room)
+        } else if cursor.sees(Sign::Word(Keyword::If)) {
+            self.branch(cursor, room)
+        } else if cursor.sees(Sign::Word(Keyword::While)) {
+            self.while_loop(cursor, room)
+        } else if cursor.sees(Sign::Word(Keyword::Do)) {
+            self.do_loop(cursor, room)
+        } else {
+            self.for_loop(cursor, room)
+        }
+    }
+}
+
+/// A statement; the room is how many levels of nesting are left, its own among them.
+pub fn statement(alloc: Global, cursor: &mut Cursor<'_>, room: usize) -> Result<Statement, Fault>
+    ensures { Steps (spec.read_statement room cursor.old.rest.now) result cursor.new.rest.now }
+{
+    if room == 0 {
+        return Err(too_deep(
+            cursor.begins_statement(),
+            cursor.sees(Sign::Mark(Punctuator::OpenCurly)),
+        ));
+    }
+    if cursor.begins_compound() {
+        let bodies = Bodies {
+            alloc,
+            read: statement,
+        };
+        bodies.compound(cursor, room - 1)
+    } else {
+        plain_statement(alloc, cursor, room)
+    }
+}
