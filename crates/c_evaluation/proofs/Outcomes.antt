@@ -26,7 +26,8 @@ one_more : (a : Evaluation (List ℤ)) (v : ℤ) → outcome (and_then a (λ vs.
 one_more (Gives vs reads) v = refl
 one_more (Fails cause) v = refl
 
-pub values_ok : (e : Expression) (es : List Expression) (m : Memory) (v : ℤ) → outcome (value e m) ≡ Ok v → outcome (values (e ∷ es) m) ≡ after_values (v ∷ []) (outcome (values es m))
+pub values_ok : (e : Expression) (es : List Expression) (m : Memory) (v : ℤ) → outcome (value e m) ≡ Ok v →
+    outcome (values (e ∷ es) m) ≡ after_values (v ∷ []) (outcome (values es m))
 values_ok e es m v h = outcome_ok (value e m) _ v h ∙ one_more (values es m) v
 
 pub after_values-append : (xs : List ℤ) (v : ℤ) (r : Result (List ℤ) UndefinedCause) → after_values (xs ++ v ∷ []) r ≡ after_values xs (after_values (v ∷ []) r)

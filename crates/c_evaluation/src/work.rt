@@ -176,7 +176,8 @@ fn unfold<'p>(statement: &'p Statement, work: &mut VecDeque<Item<'p>>) -> Result
 
 /// The end of the body of a loop comes first; says whether what stands first then may still take no step.
 fn turn<'p>(looping: Loop<'p>, work: &mut VecDeque<Item<'p>>) -> Result<bool, AllocError>
-    ensures same { IfOk result (λ again. next_turn (loop_of looping.entry) (work_of work.old.items) (λ g. settled g (work_of work.old.items)) ≡ settled Onward (work_of work.new.items)) }
+    ensures same { IfOk result (λ again. next_turn (loop_of looping.entry) (work_of work.old.items) (λ g. settled g (work_of work.old.items))
+        ≡ settled Onward (work_of work.new.items)) }
     ensures less { IfOk result (λ again. again ≡ true → work_size (work_of work.new.items) < turn_size (loop_of looping.entry) + work_size (work_of work.old.items)) }
     ensures done { IfOk result (λ again. again ≡ false → settled Onward (work_of work.new.items) ≡ work_of work.new.items) }
 {

@@ -1,25 +1,23 @@
 -- The parts of a step, put together.
-use Rattle.std.proofs.Common.{◌≡◌, ℕ, false, List, [], ◌∷◌, refl, ap, sym, ◌∙◌, Some, None, ℤ}
-use Rattle.std.specs.Prelude.{Result, Ok, Err, OnErr, slice_get}
-use Rattle.std.specs.List.{list_any}
+use Rattle.std.proofs.Common.{◌≡◌, ℕ, List, [], ◌∷◌, refl, ap, sym, ◌∙◌, Some, None, ℤ}
+use Rattle.std.specs.Prelude.{Result, Ok, Err, OnErr}
 use Rattle.c_program.specs.Tree.{Program}
 use Rattle.thread_semantics.specs.State.{Frame, Running, State}
-use Rattle.thread_semantics.specs.Move.{Move, Moves, Acts, Ends, Faults, move, returned}
-use Rattle.thread_semantics.specs.Step.{Steps, with_slot, moved, is_waiter, step}
+use Rattle.thread_semantics.specs.Move.{Move, Moves, Acts, Ends, Faults, Impossible, move, returned}
+use Rattle.thread_semantics.specs.Step.{Steps, with_slot, moved, step}
 use Rattle.c_interpreter.specs.declared.step.Rest.{Rest}
-use Rattle.c_interpreter.specs.declared.plan.Plan.{Plan}
-use Rattle.c_interpreter.specs.Plan.{erased, plan_of}
-use Rattle.c_interpreter.specs.Stepping.{rest_frame, Resumes, IsPlan}
+use Rattle.c_step_parts.specs.declared.plan.Plan.{Plan}
+use Rattle.c_step_parts.specs.Plan.{erased, plan_of}
+use Rattle.c_step_parts.specs.Planned.{IsPlan}
+use Rattle.c_step_parts.proofs.Running.{step_runs}
+use Rattle.c_interpreter.specs.Stepping.{rest_frame, Resumes}
 
 pub moved-erased : (P : Program) (s : State) (i : ℕ) (m : Move) → moved P s i (erased m) ≡ moved P s i m
 moved-erased P s i (Moves frames reads write) = refl
 moved-erased P s i (Acts offset act operands frames) = refl
 moved-erased P s i (Ends offset reads) = refl
 moved-erased P s i (Faults offset cause) = refl
-
-pub step_runs : (P : Program) (s : State) (i : ℕ) (frames : List Frame) → slice_get s.slots i ≡ Some (Running frames) → list_any (is_waiter i) s.barriers ≡ false →
-    step P s i ≡ moved P s i (move P s.globals frames)
-step_runs P s i frames running calm = rw (running, calm) refl
+moved-erased P s i Impossible = refl
 
 pub step_planned : (P : Program) (s : State) (i : ℕ) (plan : Plan) (p : IsPlan P s i plan) → moved P s i (plan_of P plan p.call p.callers) ≡ step P s i
 step_planned P s i plan p =

@@ -1,5 +1,6 @@
 -- Lists of steps, one step longer and some turns longer.
-use Rattle.std.proofs.Common.{◌≡◌, ℕ, zero, suc, ◌+◌, ◌<◌, ◌≤◌, List, [], ◌∷◌, ◌++◌, refl, ap, sym, subst, ◌∙◌, length, take, replicate, get_or, length-append, arith, Some, false, inl, inr}
+use Rattle.std.proofs.Common.{◌≡◌, ℕ, zero, suc, ◌+◌, ◌<◌, ◌≤◌, List, [], ◌∷◌, ◌++◌, refl, ap, sym, subst, ◌∙◌}
+use Rattle.std.proofs.Common.{length, take, replicate, get_or, length-append, arith, Some, false, inl, inr}
 use Rattle.std.proofs.Math.Nat.{eq-or-lt_of_le}
 use Rattle.std.proofs.Math.Seq.{take-suc}
 use Rattle.std.proofs.lemmas.Option.{slice_get_within, get_or_from_slice_get, slice_get-get_or}
@@ -74,7 +75,8 @@ module _ (ts : List Turn) (i : ℕ) (d : Turn) (there : i < length ts) where
 
   flat_at : Lists (flat_map turn_numbers ts) (length (flat_map turn_numbers (take i ts))) (get_or ts i d)
   flat_at k h =
-      let within : length (flat_map turn_numbers (take i ts)) + length (turn_numbers (get_or ts i d)) ≤ length (flat_map turn_numbers ts) = length-flat_map-take turn_numbers ts i d there in
+      let within : length (flat_map turn_numbers (take i ts)) + length (turn_numbers (get_or ts i d)) ≤ length (flat_map turn_numbers ts) =
+      length-flat_map-take turn_numbers ts i d there in
       let inside : k < length (turn_numbers (get_or ts i d)) = subst (λ (n : ℕ). k < n) (sym numbers_of) h in
       let bound : length (flat_map turn_numbers (take i ts)) + k < length (flat_map turn_numbers ts) = omega (arith, within, inside) in
       slice_get-get_or (flat_map turn_numbers ts) (length (flat_map turn_numbers (take i ts)) + k) 0 bound

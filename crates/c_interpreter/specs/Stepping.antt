@@ -1,17 +1,14 @@
 -- What the code's answers of steps stand for.
 use Rattle.std.specs.Prelude.{◌≡◌, ℕ, Bool, true, false, List, [], ◌∷◌, ℤ, Option, Some, None, Result, Ok, Err, slice_get, slice_set}
-use Rattle.std.specs.List.{list_any}
 use Rattle.c_program.specs.Tree.{Program}
 use Rattle.thread_semantics.specs.Work.{Work, Drop}
 use Rattle.thread_semantics.specs.State.{Frame, Running, State}
-use Rattle.thread_semantics.specs.Move.{Write, returned_value, return_type, resumed, move}
-use Rattle.thread_semantics.specs.Step.{Stepped, Steps, Blocks, Undefines, written_to, is_waiter, step}
+use Rattle.thread_semantics.specs.Move.{Write, returned_value, return_type, resumed}
+use Rattle.thread_semantics.specs.Step.{Stepped, Steps, Blocks, Undefines, written_to}
 use Rattle.c_evaluation.specs.View.{work_of}
 use Rattle.c_interpreter.specs.declared.step.Stepped.{Stepped as Answer}
 use Rattle.c_interpreter.specs.declared.step.Stepped.TheVariants as answer
 use Rattle.c_interpreter.specs.declared.step.Rest.{Rest}
-use Rattle.c_interpreter.specs.declared.plan.Plan.{Plan}
-use Rattle.c_interpreter.specs.Plan.{erased, plan_of}
 
 -- an answer, where the state is then s
 abbrev pub stepped_of : Answer → State → Stepped
@@ -49,21 +46,3 @@ Resumes P values f (g ∷ gs) (Some rest) =
 abbrev pub with_frames : State → ℕ → Option Write → List Frame → State
 with_frames s i write frames =
     record s { globals = written_to s.globals write; slots = slice_set s.slots i (Running frames) }
-
--- thread i runs and doesn't wait at a barrier, and this is its own part of its next step
-pub record IsPlan (P : Program) (s : State) (i : ℕ) (plan : Plan) : Type 0 where
-  pub call : Frame
-  pub callers : List Frame
-  pub running : slice_get s.slots i ≡ Some (Running (call ∷ callers))
-  pub calm : list_any (is_waiter i) s.barriers ≡ false
-  pub planned : plan_of P plan call callers ≡ erased (move P s.globals (call ∷ callers))
-
-abbrev pub is_taken : Answer → Bool
-is_taken answer.Stepped = true
-is_taken (answer.Blocked cause) = false
-is_taken (answer.Undefined offset cause) = false
-
--- the thread's own part of its next step, or the answer where it has none: the step isn't taken
-abbrev pub IsPlanned : Program → State → ℕ → Result Plan Answer → Type 0
-IsPlanned P s i (Ok plan) = IsPlan P s i plan
-IsPlanned P s i (Err answer) = (stepped_of answer s ≡ step P s i) × (is_taken answer ≡ false)

@@ -1,25 +1,25 @@
 // The next step of a thread.
-ghost use Rattle.std.specs.Prelude.{◌≡◌, ◌≢◌, nat_eq, Some, MatchOption, [], ◌∷◌, drop, map, slice_get, slice_set, IfOk, OnErr};
+ghost use Rattle.std.specs.Prelude.{◌≡◌, Some, [], ◌∷◌, drop, map, slice_get, slice_set, IfOk, OnErr};
 ghost use Rattle.std.specs.Option.{option_to_list};
-ghost use Rattle.std.specs.List.{list_any, list_all};
 ghost use Rattle.c_program.specs.Plain.{program_of};
 ghost use Rattle.thread_semantics.specs.State.{Frame as Frames, Running};
 ghost use Rattle.thread_semantics.specs.Move.{returned_value, return_type, resumed, returned, going_on};
-ghost use Rattle.thread_semantics.specs.Step.{with_slot, is_unused, created_slots, finished, written_to, acted, moved, is_waiter, step};
+ghost use Rattle.thread_semantics.specs.Step.{with_slot, finished, written_to, acted, moved, step};
 ghost use Rattle.c_evaluation.specs.Outcome.{rows_of};
 ghost use Rattle.c_evaluation.specs.View.{work_of, act_of};
-ghost use Rattle.c_interpreter.specs.View.{frame_of, slot_of, barrier_of, state_of};
-ghost use Rattle.c_interpreter.specs.Change.{change_write};
-ghost use Rattle.c_interpreter.specs.Plan.{Callers, gone_on, waiting, plan_of, erased};
-ghost use Rattle.c_interpreter.specs.Effect.{effect_of};
-ghost use Rattle.c_interpreter.specs.Stepping.{stepped_of, rest_frame, IsKept, StaysUnlessStepped, is_dropping, Resumes, with_frames, IsPlanned};
+ghost use Rattle.c_state.specs.View.{frame_of, slot_of, barrier_of, state_of};
+ghost use Rattle.c_state.specs.Change.{change_write};
+ghost use Rattle.c_step_parts.specs.Plan.{Callers, gone_on, waiting, plan_of, erased};
+ghost use Rattle.c_step_parts.specs.Effect.{effect_of};
+ghost use Rattle.c_interpreter.specs.Stepping.{stepped_of, rest_frame, IsKept, StaysUnlessStepped, is_dropping, Resumes, with_frames};
 
-use crate::act::{Effect, effect_of_act, slot_at};
-use crate::memory::{Change, carry_out};
-use crate::plan::{Plan, next_plan, rest_of};
-use crate::state::{Barrier, Frame, Slot, State};
 use c_evaluation::work::{Act, Item, settle};
 use c_program::tree::{Program, ReturnType};
+use c_state::memory::{Change, carry_out};
+use c_state::state::{Barrier, Frame, Slot, State};
+use c_state::threads::{all_joined, first_caller, innermost, running};
+use c_step_parts::act::{Effect, effect_of_act};
+use c_step_parts::plan::{Plan, next_plan, rest_of};
 use hls_ints::wrap;
 use std::alloc::{AllocError, Global};
 use std::collections::VecDeque;
@@ -204,31 +204,6 @@ fn leaves<'p>(s: &mut State<'p>, i: u32, rest: Rest<'p>)
     }
 }
 
-/// The calls of thread i, where it runs; the innermost is the first.
-pub fn running<'a, 'p>(slots: &'a [Slot<'p>], i: u128) -> Option<&'a VecDeque<Frame<'p>>>
-    ensures { MatchOption result ((fs : Callers)
-        → slice_get (map slot_of slots.now) i ≢ Some (Running fs)) (λ frames. slice_get (map slot_of slots.now) i ≡ Some (Running (map frame_of frames.now.items))) }
-{
-    match slot_at(slots, i) {
-        Some(Slot::Running(frames)) => Some(frames),
-        Some(Slot::Unused) | Some(Slot::Finished) | None => None,
-    }
-}
-
-/// The innermost of the calls.
-pub fn innermost<'a, 'p>(frames: &'a VecDeque<Frame<'p>>) -> Option<&'a Frame<'p>>
-    ensures { MatchOption result (frames.now.items ≡ []) (λ frame. frames.now.items ≡ frame.now ∷ drop 1 frames.now.items) }
-{
-    frames.front()
-}
-
-/// The call that the innermost one returns to.
-pub fn first_caller<'a, 'p>(frames: &'a VecDeque<Frame<'p>>) -> Option<&'a Frame<'p>>
-    ensures { MatchOption result (drop 1 frames.now.items ≡ []) (λ frame. drop 1 frames.now.items ≡ frame.now ∷ drop 2 frames.now.items) }
-{
-    frames.get(1)
-}
-
 /// A value that is converted to what a function returns, if that is an integer.
 fn converted(returns: ReturnType, value: Option<i128>) -> Option<i128>
     ensures { option_to_list result ≡ returned_value returns (option_to_list value) }
@@ -334,35 +309,6 @@ fn resumption<'p>(
     let value = converted(return_type(program, callee.function), value);
     let rest = resumed(alloc, caller, value)?;
     Ok(Some(rest))
-}
-
-fn all_unused(slots: &[Slot]) -> bool
-    ensures { result ≡ list_all is_unused (map slot_of slots.now) }
-{
-    for slot in slots {
-        match slot {
-            Slot::Unused => {}
-            Slot::Running(_) | Slot::Finished => return false,
-        }
-    }
-    true
-}
-
-/// The threads but main.
-fn created<'a, 'p>(slots: &'a [Slot<'p>]) -> &'a [Slot<'p>]
-    ensures { map slot_of result.now ≡ created_slots (map slot_of slots.now) }
-{
-    match slots {
-        [] => slots,
-        [_, others @ ..] => others,
-    }
-}
-
-/// Whether each created thread is joined, so that main may return.
-pub fn all_joined(s: &State) -> bool
-    ensures { result ≡ list_all is_unused (created_slots (state_of s.now).slots) }
-{
-    all_unused(created(&s.slots))
 }
 
 /// Main returns: each created thread is joined.
@@ -507,64 +453,7 @@ fn carry_out_plan<'p>(
         Plan::Return(offset, value) => returns(alloc, program, s, i, offset, value),
         Plan::Perform(offset, act, work) => acts(alloc, program, s, i, offset, act, work),
         Plan::Fault(offset, cause) => Ok(Stepped::Undefined { offset, cause }),
-    }
-}
-
-fn is_among(i: u128, threads: &[u32]) -> bool
-    ensures { result ≡ list_any (nat_eq i) threads.now }
-{
-    threads.iter().any(|x| i == *x as u128)
-}
-
-/// Whether thread i waits at the barrier.
-fn is_waiter(i: u128, barrier: &Barrier) -> bool
-    ensures { result ≡ is_waiter i (barrier_of barrier.now) }
-{
-    match barrier {
-        Barrier::Uninitialised => false,
-        Barrier::Awaits(_, waiters) => is_among(i, waiters),
-    }
-}
-
-/// Whether thread i waits at a barrier.
-fn waits(i: u128, barriers: &[Barrier]) -> bool
-    ensures { result ≡ list_any (is_waiter i) (map barrier_of barriers.now) }
-{
-    for barrier in barriers {
-        if is_waiter(i, barrier) {
-            return true;
-        }
-    }
-    false
-}
-
-/// The thread's own part of the next step of thread i, any number, where it runs and doesn't wait at a barrier; else why
-/// the step isn't taken.
-pub fn plan_or_answer<'p>(
-    alloc: Global,
-    program: &'p Program,
-    s: &State<'p>,
-    i: u128,
-) -> Result<Result<Plan<'p>, Stepped>, AllocError>
-    ensures { IfOk result (λ r. IsPlanned (program_of program.now) (state_of s.now) i r) }
-{
-    let Some(frames) = running(&s.slots, i) else {
-        return Ok(Err(Stepped::Blocked(BlockedCause::NotRunning)));
-    };
-    if waits(i, &s.barriers) {
-        return Ok(Err(Stepped::Blocked(BlockedCause::Barrier)));
-    }
-    match innermost(frames) {
-        None => {
-            Ok(Err(Stepped::Undefined {
-                offset: 0,
-                cause: UndefinedCause::NoValue,
-            }))
-        }
-        Some(frame) => {
-            let plan = next_plan(alloc, program, frame, &s.globals)?;
-            Ok(Ok(plan))
-        }
+        Plan::Impossible => Ok(Stepped::Blocked(BlockedCause::NotRunning)),
     }
 }
 
@@ -579,8 +468,8 @@ pub fn step<'p>(
     ensures step { IfOk result (λ r. stepped_of r (state_of s.new) ≡ step (program_of program.now) (state_of s.old) i) }
     ensures unchanged { IsKept result (state_of s.old) (state_of s.new) }
 {
-    match plan_or_answer(alloc, program, s, i as u128)? {
-        Err(answer) => Ok(answer),
+    match next_plan(alloc, program, s, i as u128)? {
+        Err(cause) => Ok(Stepped::Blocked(cause)),
         Ok(plan) => carry_out_plan(alloc, program, s, i, plan),
     }
 }

@@ -3,12 +3,12 @@
 ghost use Rattle.std.specs.Prelude.{◌≡◌, ◌+◌, ◌≤◌, ◌^◌, Some, slice_get, IfOk};
 ghost use Rattle.c_program.specs.Plain.{program_of};
 ghost use Rattle.turns.specs.Turns.{threads_of};
-ghost use Rattle.c_interpreter.specs.View.{state_of};
+ghost use Rattle.c_state.specs.View.{state_of};
 ghost use Rattle.c_interpreter.specs.Walk.{Numbers, IsAt, IsWalk, Lists, WalksOn};
 
-use crate::state::{State, start};
 use crate::step::{Stepped, step};
 use c_program::tree::Program;
+use c_state::state::{State, start};
 use hls_io::Bytes;
 use std::alloc::{AllocError, Global};
 use thread_semantics::{BlockedCause, UndefinedCause};

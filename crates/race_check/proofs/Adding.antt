@@ -12,7 +12,8 @@ use Rattle.c_program.specs.Tree.{Expression, Place, ObjectPlace}
 use Rattle.thread_semantics.specs.declared.cause.UndefinedCause.{UndefinedCause}
 use Rattle.thread_semantics.specs.declared.cause.UndefinedCause.TheVariants.{Index}
 use Rattle.thread_semantics.specs.Memory.{Location, Memory, Evaluation, Gives, Fails, after_reads, and_then, element}
-use Rattle.thread_semantics.specs.Value.{value, values, load, local_value, global_value, checked_index, calculated, unary_result, binary_result, right_operand, unary_value, binary_value}
+use Rattle.thread_semantics.specs.Value.{value, values, load, local_value, global_value, checked_index, calculated, unary_result, binary_result}
+use Rattle.thread_semantics.specs.Value.{right_operand, unary_value, binary_value}
 use Rattle.thread_semantics.specs.Move.{Target, Assignment, target_of, assignment, update, object_number, alone, with_operand}
 use Rattle.thread_semantics.specs.Races.{Touch, read_of}
 use Rattle.c_evaluation.specs.Outcome.{outcome, element_at}
@@ -23,7 +24,8 @@ use Rattle.race_check.specs.Reads.{index_in, Adds, LoadAdds}
 pub no_more : (before : List Touch) → before ≡ before ++ map read_of []
 no_more before = sym (append-nil before)
 
-after_adds : {B : Type 0} (reads : List Location) (e : Evaluation B) (before mid after : List Touch) → mid ≡ before ++ map read_of reads → Adds e mid after → Adds (after_reads reads e) before after
+after_adds : {B : Type 0} (reads : List Location) (e : Evaluation B) (before mid after : List Touch) → mid ≡ before ++ map read_of reads →
+    Adds e mid after → Adds (after_reads reads e) before after
 after_adds reads (Gives v more) before mid after h g =
     g
     ∙ ap (λ (xs : List Touch). xs ++ map read_of more) h
@@ -45,7 +47,8 @@ adds_ok (Gives x reads) next v before mid after is h g =
     after_adds reads (next x) before mid after h (subst (λ y. Adds (next y) mid after) same g)
 adds_ok (Fails cause) next v before mid after is h g = tt
 
-pub adds_err : {A B : Type 0} (e : Evaluation A) (next : A → Evaluation B) (cause : UndefinedCause) (before after : List Touch) → outcome e ≡ Err cause → Adds (and_then e next) before after
+pub adds_err : {A B : Type 0} (e : Evaluation A) (next : A → Evaluation B) (cause : UndefinedCause) (before after : List Touch) → outcome e ≡ Err cause →
+    Adds (and_then e next) before after
 adds_err (Gives x reads) next cause before after is = absurd (let never : ⊥ = cc in never)
 adds_err (Fails other) next cause before after is = tt
 
@@ -128,7 +131,8 @@ binary_adds m operator ty left right before mid after h g =
     (λ a. adds_and (value right m) (λ b. binary_value operator ty a b) mid after after g
     (λ b. calculated_adds (binary_result operator ty (wrapped ty a) (right_operand operator ty b)) after))
 
-pub cast_adds : (m : Memory) (ty : IntegerType) (operand : Expression) (before after : List Touch) → Adds (value operand m) before after → Adds (value (Expression.Cast ty operand) m) before after
+pub cast_adds : (m : Memory) (ty : IntegerType) (operand : Expression) (before after : List Touch) → Adds (value operand m) before after →
+    Adds (value (Expression.Cast ty operand) m) before after
 cast_adds m ty operand before after h =
     adds_and (value operand m) (λ a. Gives (wrapped ty a) []) before after after h (λ a. no_more after)
 
@@ -176,7 +180,8 @@ update_adds m place operator ty right before mid more after h g l =
     adds_and (value right m) (λ v. and_then (target_of place m) (λ target. old_then m operator ty v target)) before mid after h
     (λ v. old_adds m (target_of place m) operator ty v mid more after g l)
 
-pub old_ok : (m : Memory) (e : Evaluation Target) (t : Target) (before after : List Touch) → Ok t ≡ outcome e → Adds (load m t.storage t.variable t.index) before after → LoadAdds e m before after
+pub old_ok : (m : Memory) (e : Evaluation Target) (t : Target) (before after : List Touch) → Ok t ≡ outcome e → Adds (load m t.storage t.variable t.index) before after →
+    LoadAdds e m before after
 old_ok m (Gives x reads) t before after is h =
     let same : t ≡ x = cc in
     subst (λ (y : Target). Adds (load m y.storage y.variable y.index) before after) same h

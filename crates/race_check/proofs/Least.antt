@@ -184,7 +184,8 @@ take_whole [] (suc k) h = refl
 take_whole (x ∷ xs) zero h = absurd (omega arith)
 take_whole (x ∷ xs) (suc k) h = ap (λ l. x ∷ l) (take_whole xs k (omega arith))
 
-pub hits_all : (xs : List Access) (k : ℕ) (zs : List Touch) (best : Option Location) → length xs ≤ k → IsLeast (Hits (touches_of (take k xs)) zs) best → IsLeast (Hits (touches_of xs) zs) best
+pub hits_all : (xs : List Access) (k : ℕ) (zs : List Touch) (best : Option Location) → length xs ≤ k → IsLeast (Hits (touches_of (take k xs)) zs) best →
+    IsLeast (Hits (touches_of xs) zs) best
 hits_all xs k zs best h l =
     subst (λ ts. IsLeast (Hits (touches_of ts) zs) best) (take_whole xs k h) l
 
@@ -241,7 +242,8 @@ conflict_least ys zs p r a b =
     p r a b
 
 -- What the search for a conflict found, where the lists are known by other names.
-pub none_here : (ys zs us vs : List Touch) (o : Option LocationCode) → IsLeast (Conflict ys zs) (option_map location_of o) → o ≡ None → ys ≡ us → zs ≡ vs → (q : Location) → Conflict us vs q → ⊥
+pub none_here : (ys zs us vs : List Touch) (o : Option LocationCode) → IsLeast (Conflict ys zs) (option_map location_of o) → o ≡ None → ys ≡ us → zs ≡ vs →
+    (q : Location) → Conflict us vs q → ⊥
 none_here ys zs us vs None l e a b q c =
     l q (subst (λ ts. Conflict ts zs q) (sym a) (subst (λ ts. Conflict us ts q) (sym b) c))
 none_here ys zs us vs (Some p) l e a b q c = let never : ⊥ = cc in never

@@ -6,8 +6,8 @@ use Rattle.thread_semantics.specs.Memory.{Location}
 use Rattle.thread_semantics.specs.State.{State}
 use Rattle.thread_semantics.specs.Step.{slot_step}
 use Rattle.thread_semantics.specs.Races.{Touch, Races, footprint, if_taken, thread_touched}
-use Rattle.c_interpreter.specs.declared.state.Slot.{Slot as SlotCode}
-use Rattle.c_interpreter.specs.View.{slot_of}
+use Rattle.c_state.specs.declared.state.Slot.{Slot as SlotCode}
+use Rattle.c_state.specs.View.{slot_of}
 use Rattle.race_check.specs.declared.access.Access.{Access}
 use Rattle.race_check.specs.declared.race.Race.{Race}
 use Rattle.race_check.specs.Access.{touches_of, location_of}
@@ -151,7 +151,8 @@ none_with_all rows i n long before l q h c =
       | inr k ↦ before l q h k c
     ]
 
-pub none_below_more : (touched : ℕ → List Touch) (i : ℕ) → NoneBelow touched i → ((l : ℕ) (q : Location) → i < l → Conflict (touched i) (touched l) q → ⊥) → NoneBelow touched (i + 1)
+pub none_below_more : (touched : ℕ → List Touch) (i : ℕ) → NoneBelow touched i → ((l : ℕ) (q : Location) → i < l → Conflict (touched i) (touched l) q → ⊥) →
+    NoneBelow touched (i + 1)
 none_below_more touched i before here k l q h g c =
     elim (at_most_or i k) [
       | inl m ↦

@@ -3,18 +3,17 @@ use Rattle.std.proofs.Common.{◌≡◌, ℕ, zero, suc, ◌||◌, Bool, true, f
 use Rattle.std.specs.Prelude.{slice_get, slice_set, if◌then◌else◌}
 use Rattle.std.specs.List.{list_all}
 use Rattle.c_program.specs.Tree.{Program}
+use Rattle.thread_semantics.specs.declared.cause.BlockedCause.{BlockedCause}
 use Rattle.thread_semantics.specs.declared.cause.UndefinedCause.TheVariants.{LiveThread}
 use Rattle.thread_semantics.specs.State.{Frame, Finished, State}
-use Rattle.thread_semantics.specs.Move.{Write, Move, Moves, Acts, Ends, Faults, move}
+use Rattle.thread_semantics.specs.Move.{Write, Move, Moves, Acts, Ends, Faults, Impossible, move}
 use Rattle.thread_semantics.specs.Step.{Stepped, Steps, Blocks, Undefines, moved, finished, is_unused, created_slots, step}
 use Rattle.thread_semantics.specs.Races.{Touch, read_of, write_of, touched, thread_touched, if_taken, footprint}
-use Rattle.c_interpreter.specs.declared.step.Stepped.{Stepped as Answer}
-use Rattle.c_interpreter.specs.declared.step.Stepped.TheVariants as answer
-use Rattle.c_interpreter.specs.declared.plan.Plan.{Plan}
-use Rattle.c_interpreter.specs.declared.plan.Plan.TheVariants as plan
-use Rattle.c_interpreter.specs.Plan.{erased, plan_of}
-use Rattle.c_interpreter.specs.Stepping.{stepped_of, is_taken, IsPlan}
-use Rattle.c_interpreter.proofs.Steps.{step_runs}
+use Rattle.c_step_parts.specs.declared.plan.Plan.{Plan}
+use Rattle.c_step_parts.specs.declared.plan.Plan.TheVariants as plan
+use Rattle.c_step_parts.specs.Plan.{erased, plan_of}
+use Rattle.c_step_parts.specs.Planned.{IsPlan}
+use Rattle.c_step_parts.proofs.Running.{step_runs}
 use Rattle.race_check.specs.Reads.{MoveAdds}
 use Rattle.race_check.specs.Planned.{plan_write, may_end, may_return, may_touch, has_callers}
 
@@ -23,13 +22,9 @@ nothing_if_taken (Steps s) = refl
 nothing_if_taken (Blocks cause) = refl
 nothing_if_taken (Undefines offset cause) = refl
 
--- a step that isn't taken touches nothing
-pub not_taken : (P : Program) (s : State) (i : ℕ) (a : Answer) → stepped_of a s ≡ step P s i → is_taken a ≡ false → footprint P s i ≡ []
-not_taken P s i answer.Stepped e h = absurd (let never : ⊥ = cc in never)
-not_taken P s i (answer.Blocked cause) e h =
-    sym (ap (λ o. if_taken o (thread_touched P s (slice_get s.slots i))) e)
-not_taken P s i (answer.Undefined offset cause) e h =
-    sym (ap (λ o. if_taken o (thread_touched P s (slice_get s.slots i))) e)
+-- a step that is blocked touches nothing
+pub blocked_touches : (P : Program) (s : State) (i : ℕ) (cause : BlockedCause) → step P s i ≡ Blocks cause → [] ≡ footprint P s i
+blocked_touches P s i cause e = sym (ap (λ o. if_taken o (thread_touched P s (slice_get s.slots i))) e)
 
 -- what a move of thread i touches
 abbrev touched_by : Program → State → ℕ → Move → List Touch
@@ -65,6 +60,7 @@ write_is P (plan.Return offset value) f [] frames write e = cc
 write_is P (plan.Return offset value) f (g ∷ gs) frames write e = cc
 write_is P (plan.Perform offset act work) f fs frames write e = cc
 write_is P (plan.Fault offset cause) f fs frames write e = cc
+write_is P plan.Impossible f fs frames write e = cc
 
 taken : (P : Program) (s : State) (i : ℕ) (m : Move) (p : Plan) (f : Frame) (fs : List Frame) (reads : List Touch) → plan_of P p f fs ≡ erased m → may_touch s i p fs ≡ true →
     MoveAdds m [] reads → touched_by P s i m ≡ reads ++ write_of (plan_write p)
@@ -76,6 +72,7 @@ taken P s i (Acts offset act operands frames) (plan.Return at value) f [] reads 
 taken P s i (Acts offset act operands frames) (plan.Return at value) f (g ∷ gs) reads e may adds = cc
 taken P s i (Acts offset act operands frames) (plan.Perform at own work) f fs reads e may adds = cc
 taken P s i (Acts offset act operands frames) (plan.Fault at cause) f fs reads e may adds = cc
+taken P s i (Acts offset act operands frames) plan.Impossible f fs reads e may adds = cc
 taken P s i (Ends offset places) (plan.Onward work kept change) f fs reads e may adds = cc
 taken P s i (Ends offset places) (plan.Enter work callee) f fs reads e may adds = cc
 taken P s i (Ends offset places) (plan.Return at value) f [] reads e may adds =
@@ -83,12 +80,21 @@ taken P s i (Ends offset places) (plan.Return at value) f [] reads e may adds =
 taken P s i (Ends offset places) (plan.Return at value) f (g ∷ gs) reads e may adds = cc
 taken P s i (Ends offset places) (plan.Perform at own work) f fs reads e may adds = cc
 taken P s i (Ends offset places) (plan.Fault at cause) f fs reads e may adds = cc
+taken P s i (Ends offset places) plan.Impossible f fs reads e may adds = cc
 taken P s i (Faults offset cause) (plan.Onward work kept change) f fs reads e may adds = cc
 taken P s i (Faults offset cause) (plan.Enter work callee) f fs reads e may adds = cc
 taken P s i (Faults offset cause) (plan.Return at value) f [] reads e may adds = cc
 taken P s i (Faults offset cause) (plan.Return at value) f (g ∷ gs) reads e may adds = cc
 taken P s i (Faults offset cause) (plan.Perform at own work) f fs reads e may adds = cc
 taken P s i (Faults offset cause) (plan.Fault at other) f fs reads e may adds = cc
+taken P s i (Faults offset cause) plan.Impossible f fs reads e may adds = cc
+taken P s i Impossible (plan.Onward work kept change) f fs reads e may adds = cc
+taken P s i Impossible (plan.Enter work callee) f fs reads e may adds = cc
+taken P s i Impossible (plan.Return at value) f [] reads e may adds = cc
+taken P s i Impossible (plan.Return at value) f (g ∷ gs) reads e may adds = cc
+taken P s i Impossible (plan.Perform at own work) f fs reads e may adds = cc
+taken P s i Impossible (plan.Fault at other) f fs reads e may adds = cc
+taken P s i Impossible plan.Impossible f fs reads e may adds = cc
 
 idle : (P : Program) (s : State) (i : ℕ) (m : Move) (p : Plan) (f : Frame) (fs : List Frame) → plan_of P p f fs ≡ erased m → may_touch s i p fs ≡ false → touched_by P s i m ≡ []
 idle P s i (Moves frames places write) (plan.Onward work kept change) f fs e may = cc
@@ -97,6 +103,7 @@ idle P s i (Moves frames places write) (plan.Return at value) f [] e may = cc
 idle P s i (Moves frames places write) (plan.Return at value) f (g ∷ gs) e may = cc
 idle P s i (Moves frames places write) (plan.Perform at own work) f fs e may = cc
 idle P s i (Moves frames places write) (plan.Fault at cause) f fs e may = cc
+idle P s i (Moves frames places write) plan.Impossible f fs e may = cc
 idle P s i (Acts offset act operands frames) p f fs e may = nothing_if_taken (moved P s i (Acts offset act operands frames))
 idle P s i (Ends offset places) (plan.Onward work kept change) f fs e may = cc
 idle P s i (Ends offset places) (plan.Enter work callee) f fs e may = cc
@@ -104,7 +111,9 @@ idle P s i (Ends offset places) (plan.Return at value) f [] e may = ended_false 
 idle P s i (Ends offset places) (plan.Return at value) f (g ∷ gs) e may = cc
 idle P s i (Ends offset places) (plan.Perform at own work) f fs e may = cc
 idle P s i (Ends offset places) (plan.Fault at cause) f fs e may = cc
+idle P s i (Ends offset places) plan.Impossible f fs e may = cc
 idle P s i (Faults offset cause) p f fs e may = refl
+idle P s i Impossible p f fs e may = refl
 
 pub footprint_taken : (P : Program) (s : State) (i : ℕ) (p : Plan) (is : IsPlan P s i p) (reads all : List Touch) → may_touch s i p is.callers ≡ true →
     MoveAdds (move P s.globals (is.call ∷ is.callers)) [] reads → all ≡ reads ++ write_of (plan_write p) → all ≡ footprint P s i

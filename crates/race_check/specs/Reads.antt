@@ -5,7 +5,7 @@ use Rattle.thread_semantics.specs.Memory.{Memory, Evaluation, Gives, Fails, and_
 use Rattle.thread_semantics.specs.Value.{value, checked_index, load}
 use Rattle.thread_semantics.specs.Work.{Work}
 use Rattle.thread_semantics.specs.State.{Frame}
-use Rattle.thread_semantics.specs.Move.{Target, Move, Moves, Acts, Ends, Faults}
+use Rattle.thread_semantics.specs.Move.{Target, Move, Moves, Acts, Ends, Faults, Impossible}
 use Rattle.thread_semantics.specs.Races.{Touch, read_of}
 
 -- the outer calls of a thread
@@ -38,3 +38,4 @@ MoveAdds (Moves frames reads write) before after = after ≡ before ++ map read_
 MoveAdds (Acts offset act operands frames) before after = Unit {0}
 MoveAdds (Ends offset reads) before after = after ≡ before ++ map read_of reads
 MoveAdds (Faults offset cause) before after = Unit {0}
+MoveAdds Impossible before after = Unit {0}

@@ -5,19 +5,19 @@ ghost use Rattle.c_program.specs.Plain.{program_of};
 ghost use Rattle.thread_semantics.specs.State.{Frame as Frames, Running};
 ghost use Rattle.thread_semantics.specs.Move.{move};
 ghost use Rattle.thread_semantics.specs.Races.{write_of, footprint};
-ghost use Rattle.c_interpreter.specs.View.{slot_of, state_of};
-ghost use Rattle.c_interpreter.specs.Change.{change_write};
+ghost use Rattle.c_state.specs.View.{slot_of, state_of};
+ghost use Rattle.c_state.specs.Change.{change_write};
 ghost use Rattle.race_check.specs.Access.{touch_of, touches_of};
 ghost use Rattle.race_check.specs.Reads.{Callers, MoveAdds};
 ghost use Rattle.race_check.specs.Planned.{plan_write, may_end, may_return, may_touch, has_callers};
 
 use crate::access::{Access, Location};
 use crate::reads::read_step;
-use c_interpreter::memory::Change;
-use c_interpreter::plan::Plan;
-use c_interpreter::state::{Slot, State};
-use c_interpreter::step::{all_joined, first_caller, innermost, plan_or_answer, running};
 use c_program::tree::{Program, Storage};
+use c_state::memory::Change;
+use c_state::state::{Slot, State};
+use c_state::threads::{all_joined, first_caller, innermost, running};
+use c_step_parts::plan::{Plan, next_plan};
 use sqlite_items::Items;
 use std::alloc::{AllocError, Global};
 
@@ -53,6 +53,7 @@ fn push_write(plan: &Plan, list: &mut Items<Access>) -> Result<(), AllocError>
         Plan::Return(_, _) => Ok(()),
         Plan::Perform(_, _, _) => Ok(()),
         Plan::Fault(_, _) => Ok(()),
+        Plan::Impossible => Ok(()),
     }
 }
 
@@ -91,6 +92,7 @@ fn may_touch(state: &State, thread: usize, plan: &Plan) -> bool
         Plan::Return(_, _) => may_return(state, thread),
         Plan::Perform(_, _, _) => false,
         Plan::Fault(_, _) => false,
+        Plan::Impossible => false,
     }
 }
 
@@ -119,7 +121,7 @@ pub fn footprint<'p>(
     ensures { IfOk result (λ list. touches_of list ≡ footprint (program_of program.now) (state_of state.now) thread) }
 {
     let mut list = Items::new(alloc);
-    let plan = match plan_or_answer(alloc, program, state, thread as u128)? {
+    let plan = match next_plan(alloc, program, state, thread as u128)? {
         Ok(plan) => plan,
         Err(_) => return Ok(list),
     };

@@ -7,5 +7,3 @@ pub mod conflict;
 pub mod footprint;
 pub mod race;
 pub mod reads;
-#[cfg(test)]
-mod tests;

@@ -1,15 +1,15 @@
 // The first race in a state.
 ghost use Rattle.std.specs.Prelude.{◌≡◌, ◌<◌, ℕ, length, IfOk};
 ghost use Rattle.c_program.specs.Plain.{program_of};
-ghost use Rattle.c_interpreter.specs.View.{state_of};
+ghost use Rattle.c_state.specs.View.{state_of};
 ghost use Rattle.race_check.specs.Access.{touches_of};
 ghost use Rattle.race_check.specs.First.{IsFirstRace, row, AreFootprints, FirstWith, FirstOf};
 
 use crate::access::{Access, Location};
 use crate::conflict::least_conflict;
 use crate::footprint::footprint;
-use c_interpreter::state::State;
 use c_program::tree::Program;
+use c_state::state::State;
 use sqlite_items::Items;
 use std::alloc::{AllocError, Global};
 

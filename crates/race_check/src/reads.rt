@@ -12,19 +12,19 @@ ghost use Rattle.thread_semantics.specs.Move.{target_of, assignment, update, obj
 ghost use Rattle.thread_semantics.specs.Races.{read_of};
 ghost use Rattle.c_evaluation.specs.Outcome.{outcome, memory_of};
 ghost use Rattle.c_evaluation.specs.View.{work_of};
-ghost use Rattle.c_interpreter.specs.View.{frame_of};
-ghost use Rattle.c_interpreter.specs.Plan.{assign_move, return_move};
+ghost use Rattle.c_state.specs.View.{frame_of};
+ghost use Rattle.c_step_parts.specs.Plan.{assign_move, return_move};
 ghost use Rattle.race_check.specs.Access.{touches_of};
 ghost use Rattle.race_check.specs.Reads.{Callers, Works, Touches, index_in, Adds, LoadAdds, MoveAdds};
 
 use crate::access::{Access, Location};
 use c_evaluation::evaluate::{evaluate, index_within};
 use c_evaluation::work::Item;
-use c_interpreter::place::located;
-use c_interpreter::state::Frame;
 use c_program::tree::{
     Condition, Expression, ObjectPlace, Place, RightSide, Statement, Storage, ThreadCall,
 };
+use c_state::place::located;
+use c_state::state::Frame;
 use sqlite_items::Items;
 use std::alloc::AllocError;
 use thread_semantics::UndefinedCause;
@@ -147,7 +147,8 @@ fn read_old(
     globals: &[Vec<i128>],
     list: &mut Items<Access>,
 ) -> Result<(), AllocError>
-    ensures { IfOk result (λ _. LoadAdds (target_of (place_of place.now) (memory_of locals.now globals.now)) (memory_of locals.now globals.now) (touches_of list.old) (touches_of list.new)) }
+    ensures { IfOk result (λ _. LoadAdds (target_of (place_of place.now) (memory_of locals.now globals.now))
+        (memory_of locals.now globals.now) (touches_of list.old) (touches_of list.new)) }
 {
     match located(place, locals, globals) {
         Ok(target) => load(target.storage, target.variable, target.index, list),
@@ -193,7 +194,8 @@ fn read_object(
     globals: &[Vec<i128>],
     list: &mut Items<Access>,
 ) -> Result<(), AllocError>
-    ensures { IfOk result (λ _. (first : ℕ → ℕ) → Adds (object_number first (object_place_of place.now) (memory_of locals.now globals.now)) (touches_of list.old) (touches_of list.new)) }
+    ensures { IfOk result (λ _. (first : ℕ → ℕ)
+        → Adds (object_number first (object_place_of place.now) (memory_of locals.now globals.now)) (touches_of list.old) (touches_of list.new)) }
 {
     match place {
         ObjectPlace::Single(_) => Ok(()),

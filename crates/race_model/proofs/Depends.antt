@@ -171,12 +171,14 @@ IsDefined (Move.Moves frames reads write) = Unit {0}
 IsDefined (Move.Acts offset act operands frames) = Unit {0}
 IsDefined (Move.Ends offset reads) = Unit {0}
 IsDefined (Move.Faults offset cause) = ⊥
+IsDefined Move.Impossible = ⊥
 
 abbrev pub reads_in : Move → List Location
 reads_in (Move.Moves frames reads write) = reads
 reads_in (Move.Acts offset act operands frames) = []
 reads_in (Move.Ends offset reads) = reads
 reads_in (Move.Faults offset cause) = []
+reads_in Move.Impossible = []
 
 -- a move that is defined in one memory is the same in each other one that is the same at the locals and at its reads
 abbrev pub MoveDepends : (Memory → Move) → Type 0

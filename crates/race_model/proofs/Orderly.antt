@@ -12,9 +12,11 @@ use Rattle.c_program.specs.declared.tree.BarrierObject.{BarrierObject}
 use Rattle.c_program.specs.Tree.{Program}
 use Rattle.c_program.specs.Resolved.{IsResolved}
 use Rattle.c_program.specs.Weight.{thread_count}
+use Rattle.thread_semantics.specs.Work.{Act}
 use Rattle.thread_semantics.specs.State.{Frame, Slot, Unused, Running, Finished, Barrier, NoBarrier, Awaits, State, started, start}
 use Rattle.thread_semantics.specs.Move.{Move, move}
-use Rattle.thread_semantics.specs.Step.{Stepped, Steps, Blocks, Undefines, with_slot, finished, is_count, written_to, moved, is_waiter, is_blocked, slot_step, step, is_running, is_live}
+use Rattle.thread_semantics.specs.Step.{Stepped, Steps, Blocks, Undefines, with_slot, finished, is_count, written_to, moved, is_waiter}
+use Rattle.thread_semantics.specs.Step.{is_blocked, slot_step, step, is_running, is_live}
 use Rattle.race_model.specs.Source.{outcome_of, c_source}
 use Rattle.race_model.specs.Orderly.{is_finished, waits_in, waits_at, AreWaiters, IsOrderly}
 use Rattle.race_model.proofs.Lists.{get-set_other, get-set_same, length_set, list_any_at}
@@ -33,7 +35,8 @@ lives_set : (slots : List Slot) (i j : ℕ) (old frames : List Frame) → slice_
     is_running (slice_get (slice_set slots i (Running frames)) j) ≡ true
 lives_set slots i j old frames at live =
     ⊎_elim
-    (λ (same : i ≡ j). subst (λ k. is_running (slice_get (slice_set slots i (Running frames)) k) ≡ true) same (ap is_running (get-set_same slots i (Running frames) (Running old) at)))
+    (λ (same : i ≡ j).
+    subst (λ k. is_running (slice_get (slice_set slots i (Running frames)) k) ≡ true) same (ap is_running (get-set_same slots i (Running frames) (Running old) at)))
     (λ (other : i ≢ j). ap is_running (get-set_other slots i j (Running frames) other) ∙ live)
     (same_or_not i j)
 
@@ -112,9 +115,9 @@ waited s t i object n j change e = go (slice_get t.barriers n) refl e
 
 module _ (P : Program) (R : IsResolved P) where
   -- an act of a thread that runs and waits nowhere
-  act_order : (s t : State) (i : ℕ) (frames : List Frame) → Order P s → slice_get s.slots i ≡ Some (Running frames) →
-      list_any (is_waiter i) s.barriers ≡ false → s.ended ≡ false → ActsOn P s i t → Order P t
-  act_order s t i frames order at free on a = record {
+  act_order : (s t : State) (i : ℕ) (frames : List Frame) (act : Act) → Order P s → slice_get s.slots i ≡ Some (Running frames) →
+      list_any (is_waiter i) s.barriers ≡ false → s.ended ≡ false → ActsOn P s i act t → Order P t
+  act_order s t i frames act order at free on a = record {
     threads = a.threads ∙ order.threads;
     main = λ _. a.lives 0 (order.main on);
     over = a.ended ∙ on ∙ live_over (slice_get t.slots 0) (a.lives 0 (order.main on));
@@ -202,10 +205,11 @@ module _ (P : Program) (R : IsResolved P) where
       subst (Order P) same (running_order s i old frames (written_to s.globals write) order at on)
   moved_order s t i old (Move.Acts offset act operands frames) order at free on e =
       let u : State = with_slot s i (Running frames) in
-      act_order u t i frames (running_order s i old frames s.globals order at on) (get-set_same s.slots i (Running frames) (Running old) at) free on
+      act_order u t i frames act (running_order s i old frames s.globals order at on) (get-set_same s.slots i (Running frames) (Running old) at) free on
       (act_acts P u i t offset act operands e)
   moved_order s t i old (Move.Ends offset reads) order at free on e = end_order s t i offset old order at free on e
   moved_order s t i old (Move.Faults offset cause) order at free on e = absurd cc
+  moved_order s t i old Move.Impossible order at free on e = absurd cc
 
   step_order : (s t : State) (i : ℕ) → IsSound P s → Order P s → step P s i ≡ Steps t → Order P t
   step_order s t i sound order e =

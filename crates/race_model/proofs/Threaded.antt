@@ -54,6 +54,7 @@ defined_of (Move.Moves frames reads write) h = tt
 defined_of (Move.Acts offset act operands frames) h = tt
 defined_of (Move.Ends offset reads) h = tt
 defined_of (Move.Faults offset cause) h = h
+defined_of Move.Impossible h = h
 
 same_reads : (P : Program) (m n : Memory ℤ) (reads : List GlobalElement) →
     ((p : Location) → Touches {Value = ℤ} p (reads_of (map location_of reads)) → m p ≡ n p) → SameGlobals (globals_in P m) (globals_in P n) reads
@@ -66,6 +67,7 @@ same_touched P m n (Move.Moves frames reads write) h =
 same_touched P m n (Move.Acts offset act operands frames) h = tt
 same_touched P m n (Move.Ends offset reads) h = same_reads P m n reads h
 same_touched P m n (Move.Faults offset cause) h = tt
+same_touched P m n Move.Impossible h = tt
 
 view_frame : (P : Program) (x : Local) (w : View ℤ Local) (m n : Memory ℤ) → IsMoveOrEnd w → view_of P x m ≡ w → AgreeOn (touched_by w) m n → view_of P x n ≡ w
 view_frame P x w m n kind e agree =
@@ -140,6 +142,7 @@ module _ (P : Program) (R : IsResolved P) where
       go (Move.Acts offset act operands frames) q v is = absurd cc
       go (Move.Ends offset reads) q v is = absurd cc
       go (Move.Faults offset cause) q v is = absurd cc
+      go Move.Impossible q v is = absurd is
 
   lives_of : (s : State) (i : ℕ) (w : View ℤ Local) → IsSound P s → Sight P s i w → (s.ended ≡ false) × (is_live s i ≡ true)
   lives_of s i w sound see = (runs_on P R s i see.frames sound see.at, ap is_running see.at)
@@ -154,6 +157,7 @@ module _ (P : Program) (R : IsResolved P) where
       go (Move.Acts offset act operands frames) q v = absurd cc
       go (Move.Ends offset reads) q v = (offset, step_moved P s i see.frames see.at see.free ∙ ap (λ (mv : Move). moved P s i mv) q)
       go (Move.Faults offset cause) q v = absurd cc
+      go Move.Impossible q v = absurd cc
 
   not_blocked : (s : State) (i offset : ℕ) → outcome_of (finished s i offset) ≡ Blocked → ⊥
   not_blocked s zero offset e = go (list_all is_unused (created_slots s.slots)) e
@@ -224,6 +228,7 @@ module _ (P : Program) (R : IsResolved P) where
       go (Move.Acts offset act operands frames) q v = absurd cc
       go (Move.Ends offset reads) q v = absurd cc
       go (Move.Faults offset cause) q v = ap outcome_of (step_moved P s i see.frames see.at see.free ∙ ap (λ (mv : Move). moved P s i mv) q)
+      go Move.Impossible q v = absurd cc
 
   keeps_globals : (s t : State) (i : ℕ) → IsSound P s → IsSynchronizing (view_at (c_source P) s i) → step P s i ≡ Steps t → t.globals ≡ s.globals
   keeps_globals s t i sound acts e =
@@ -235,6 +240,7 @@ module _ (P : Program) (R : IsResolved P) where
       go (Move.Acts offset act operands frames) k x = (act_acts P (with_slot s i (Running frames)) i t offset act operands x).globals
       go (Move.Ends offset reads) k x = finished_globals s t i offset x
       go (Move.Faults offset cause) k x = absurd k
+      go Move.Impossible k x = absurd cc
 
   pub threaded : IsThreaded (c_source P)
   threaded = record {

@@ -1,11 +1,16 @@
 -- What a thread has still to do in a resolved program: statements of its function, and places that are declared.
 use Rattle.std.proofs.Common.{List, [], ◌∷◌}
-use Rattle.std.specs.Prelude.{Bool, true, false}
+use Rattle.std.specs.Prelude.{◌≡◌, Bool, true, false, Some, slice_get}
 use Rattle.std.specs.List.{AllByRecursion}
 use Rattle.c_program.specs.Tree.{Condition, Statement, Function, Program}
 use Rattle.c_program.specs.Resolved.{IsPlace, IsCondition, IsStatement}
-use Rattle.thread_semantics.specs.Work.{Loop, Work, Going, in_order, in_loop, asked, while_loop, for_loop, opened, next_turn, settled, decided, waiting_parts}
+use Rattle.thread_semantics.specs.Work.{Loop, Act, Work, Going, in_order, in_loop, asked, while_loop, for_loop, opened, next_turn, settled, decided, waiting_parts}
 use Rattle.thread_semantics.specs.Work.{Onward, Leaving, Turning}
+
+-- the routine of a create is a function of the program
+abbrev pub IsAct : Program → Act → Type 0
+IsAct P (Act.Create routine) = (code : Function) × (slice_get P.functions routine ≡ Some code)
+IsAct P act = Unit {0}
 
 module _ (P : Program) (f : Function) where
   -- a statement of the function
@@ -29,7 +34,7 @@ module _ (P : Program) (f : Function) where
   IsWork (Work.Store offset place) = IsPlace P f place
   IsWork (Work.Hand offset) = Unit {0}
   IsWork Work.Drop = Unit {0}
-  IsWork (Work.Perform offset act) = Unit {0}
+  IsWork (Work.Perform offset act) = IsAct P act
 
   abbrev pub AreWork : List Work → Type 0
   AreWork work = AllByRecursion IsWork work

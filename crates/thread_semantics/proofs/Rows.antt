@@ -8,10 +8,10 @@ use Rattle.hls_ints.specs.Operators.{result_of}
 use Rattle.c_program.specs.declared.tree.Storage.TheVariants.{Automatic, Static}
 use Rattle.c_program.specs.declared.tree.BinaryOperator.TheVariants.{Multiply, Divide, Add, ShiftLeft}
 use Rattle.c_program.specs.declared.tree.ReturnType.TheVariants.{Integer}
-use Rattle.c_program.specs.Tree.{Expression, Place, Condition, RightSide, ThreadCall, Piece, Statement, Function, Program}
+use Rattle.c_program.specs.Tree.{Expression, Place, Condition, RightSide, ObjectPlace, ThreadCall, Piece, Statement, Function, Program}
 use Rattle.c_program.specs.Resolved.{scalar}
 use Rattle.c_program.proofs.Samples.{number, local, local_set, local_raised, return_zero, list_of, main_of, alone, is_below, counted}
-use Rattle.c_program.proofs.Samples.{print_int, null, return_null, shared_by, single, called, three_threads, racing_threads}
+use Rattle.c_program.proofs.Samples.{print_int, null, return_null, global, global_raised, routine_of, shared_by, single, called, three_threads, racing_threads}
 use Rattle.thread_semantics.specs.declared.cause.UndefinedCause.{UndefinedCause}
 use Rattle.thread_semantics.specs.declared.cause.UndefinedCause.TheVariants as undefined
 use Rattle.thread_semantics.specs.declared.cause.BlockedCause.{BlockedCause}
@@ -189,6 +189,47 @@ again : seen (after twice (steps 0 2 ++ steps 1 1 ++ steps 0 2)) ≡ Breaks 0 un
 unfolding twice wrapped residue_of signed_value_of result_of
 again = refl
 
+-- a thread joins itself: pthread_t t; void *w(void *p){pthread_join(t, NULL); return NULL;} .. pthread_create(&t, NULL, w,
+-- NULL); pthread_join(t, NULL); return 0; is undefined at w's join, which is the step 3
+own_join : Program
+own_join =
+    shared_by 1 false
+    (Statement.Thread 30 (ThreadCall.Join single) ∷ return_null ∷ [])
+    (create ∷ called (ThreadCall.Join single) ∷ return_zero ∷ [])
+
+until_own_join : seen (after own_join (steps 0 2 ++ steps 1 1)) ≡ Shows false []
+unfolding own_join wrapped residue_of signed_value_of result_of
+until_own_join = refl
+
+joins_itself : seen (after own_join (steps 0 2 ++ steps 1 2)) ≡ Breaks 30 undefined.ThreadId
+unfolding own_join wrapped residue_of signed_value_of result_of
+joins_itself = refl
+
+-- a thread that creates and joins another one: pthread_t a; pthread_t b; int x; void *g(void *p){x = x + 1; return NULL;}
+-- void *f(void *p){x = 5; pthread_create(&b, NULL, g, NULL); pthread_join(b, NULL); x = x * 2; return NULL;} int
+-- main(void){pthread_create(&a, NULL, f, NULL); pthread_join(a, NULL); printf("%d\n", x); return 0;}
+abbrev global_set : Expression → Statement
+global_set e = Statement.Assign 0 (Place.Scalar Static 0 int_type) (RightSide.Value e)
+
+creators : Program
+creators = record {
+  functions =
+      routine_of (global_raised ∷ return_null ∷ []) ∷
+      routine_of (
+      global_set (number 5) ∷ called (ThreadCall.Create (ObjectPlace.Single 1) 0 null) ∷ called (ThreadCall.Join (ObjectPlace.Single 1)) ∷
+      global_set (Expression.Binary Multiply int_type global (number 2)) ∷ return_null ∷ []) ∷
+      main_of (called (ThreadCall.Create single 1 null) ∷ called (ThreadCall.Join single) ∷ print_int global ∷ return_zero ∷ []) ∷ [];
+  main = 2;
+  globals = record { name = 120 ∷ []; ty = int_type; length = 1; initial = [] } ∷ [];
+  threads = record { length = 1; routine = Some 1 } ∷ record { length = 1; routine = Some 0 } ∷ [];
+  mutexes = [];
+  barriers = [];
+}
+
+thread_creates : ends_in creators (steps 0 2 ++ steps 1 3 ++ steps 2 2 ++ steps 1 4 ++ steps 0 5) (49 ∷ 50 ∷ 10 ∷ [])
+unfolding creators wrapped residue_of signed_value_of result_of digits
+thread_creates = refl
+
 -- a barrier for two at which one thread waits, while main joins it
 meeting : Program
 meeting =
@@ -214,7 +255,8 @@ unfolding wrapped residue_of signed_value_of result_of
 no_party = refl
 
 -- a count of 64 bits keeps its value: 4294967297L
-large_party : seen (after (shared_by 0 false [] (called (ThreadCall.BarrierInit single (Expression.Constant long_int (pos 4294967297))) ∷ [])) (steps 0 2)) ≡ Breaks 0 undefined.Barrier
+large_party :
+    seen (after (shared_by 0 false [] (called (ThreadCall.BarrierInit single (Expression.Constant long_int (pos 4294967297))) ∷ [])) (steps 0 2)) ≡ Breaks 0 undefined.Barrier
 unfolding wrapped residue_of signed_value_of result_of
 large_party = refl
 

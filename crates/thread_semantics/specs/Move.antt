@@ -32,10 +32,9 @@ pub data Move : Type 0 where
   -- the thread's outermost call returns
   Ends : (offset : ℕ) (reads : List Location) → Move
   Faults : (offset : ℕ) (cause : UndefinedCause) → Move
-
--- no thread comes to it: settled work begins with nothing of the kind
-abbrev pub impossible : Move
-impossible = Faults 0 NoValue
+  -- calls that no thread of a program comes to: there is none, its work begins with an item that takes no step by
+  -- itself, or a function is called that isn't there
+  Impossible : Move
 
 -- a part of a step at that offset, and what follows from its value and its reads
 abbrev pub moving : {A : Type 0} → ℕ → Evaluation A → (A → List Location → Move) → Move
@@ -116,7 +115,7 @@ without_values locals x = slice_set locals x (blank_row (slice_get locals x))
 
 -- the call of a function with these arguments, before the caller's work k
 abbrev pub entered : Option Function → ℕ → List ℤ → List Location → Frame → List Frame → List Work → Move
-entered None g arguments reads f fs k = impossible
+entered None g arguments reads f fs k = Impossible
 entered (Some code) g arguments reads f fs k =
     Moves (begun code g arguments ∷ record f { work = k; kept = [] } ∷ fs) reads None
 
@@ -217,7 +216,7 @@ statement_move P m f fs k (Statement.Print offset format arguments) =
     prepared offset (Print format) (values arguments m) f fs k
 statement_move P m f fs k (Statement.Thread offset call) =
     prepared offset (act_of call) (operands_of P call m) f fs k
-statement_move P m f fs k statement = impossible
+statement_move P m f fs k statement = Impossible
 
 -- an operand of a condition, which is true where it isn't 0 (6.8.4.1)
 abbrev pub operand_move : ℕ → Evaluation ℤ → Frame → List Frame → List Work → Move
@@ -246,9 +245,9 @@ work_move P m f fs (Ask condition ∷ k) =
 work_move P m f fs (Store offset place ∷ k) = store_move offset place m f fs k f.kept
 work_move P m f fs (Hand offset ∷ k) = hand_move P offset f fs f.kept
 work_move P m f fs (Perform offset act ∷ k) = Acts offset act f.kept (going_on f k ∷ fs)
-work_move P m f fs (item ∷ k) = impossible
+work_move P m f fs (item ∷ k) = Impossible
 
 -- the move of a thread with these calls
 abbrev pub move : Program → List (List ℤ) → List Frame → Move
-move P globals [] = impossible
+move P globals [] = Impossible
 move P globals (f ∷ fs) = work_move P (record { locals = f.locals; globals = globals }) f fs f.work

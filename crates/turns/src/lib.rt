@@ -8,9 +8,6 @@ ghost use Rattle.turns.specs.Turns.{all_turns, most_steps, number_of, read_numbe
 use sqlite_items::Items;
 use std::alloc::{AllocError, Global};
 
-#[cfg(test)]
-mod tests;
-
 /// A thread takes so many steps, one behind the other.
 #[derive(Clone, Copy, Debug, PartialEq, Eq)]
 pub struct Turn {

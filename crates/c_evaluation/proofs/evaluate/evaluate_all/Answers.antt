@@ -31,6 +31,7 @@ loop-expression-preserved c =
     let l : c.push.new.self.items ≡ c.loop-expression.list.items ++ c.in-Ok.v ∷ [] = grind (arith, to_z-of_z) in
     let rest = expressions_of (drop (suc c.loop-expression.expression-index) c.args.expressions.now) in
     let more = values_ok (expression_of c.expression-item.result) rest m c.in-Ok.v v in
-    let step : outcome (values (expressions_of (drop c.loop-expression.expression-index c.args.expressions.now)) m) ≡ after_values (c.in-Ok.v ∷ []) (outcome (values rest m)) = rw e more in
+    let step : outcome (values (expressions_of (drop c.loop-expression.expression-index c.args.expressions.now)) m) ≡ after_values (c.in-Ok.v ∷ []) (outcome (values rest m)) =
+    rw e more in
     rw (add-one, l)
     (c.loop-expression.invariant ∙ ap (after_values c.loop-expression.list.items) step ∙ sym (after_values-append c.loop-expression.list.items c.in-Ok.v (outcome (values rest m))))

@@ -4,8 +4,8 @@ use Rattle.c_program.specs.Plain.{program_of}
 use Rattle.thread_semantics.specs.State.{Running}
 use Rattle.thread_semantics.specs.Step.{with_slot, acted}
 use Rattle.c_evaluation.specs.View.{act_of, work_of}
-use Rattle.c_interpreter.specs.View.{state_of}
-use Rattle.c_interpreter.specs.Plan.{waiting}
+use Rattle.c_state.specs.View.{state_of}
+use Rattle.c_step_parts.specs.Plan.{waiting}
 use Rattle.c_interpreter.proofs.step.acts.Goals as goal
 
 pub returns-clause-step : goal.returns-clause-step

@@ -1,7 +1,7 @@
 use Rattle.std.proofs.Common.{◌<◌, ◌∷◌, length, rules}
 use Rattle.thread_semantics.specs.State.{Running}
-use Rattle.c_interpreter.specs.View.{state_of}
-use Rattle.c_interpreter.proofs.Slots.{slot_put, with_slots}
+use Rattle.c_state.specs.View.{state_of}
+use Rattle.c_state.proofs.Slots.{slot_put, with_slots}
 use Rattle.c_interpreter.proofs.step.leaves.Goals as goal
 
 pub returns-then-k-len : goal.returns-then-k-len

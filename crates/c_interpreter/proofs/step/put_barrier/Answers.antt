@@ -1,5 +1,5 @@
-use Rattle.c_interpreter.specs.View.{barrier_of}
-use Rattle.c_interpreter.proofs.Slots.{map-slice_set}
+use Rattle.c_state.specs.View.{barrier_of}
+use Rattle.c_state.proofs.Slots.{map-slice_set}
 use Rattle.c_interpreter.proofs.step.put_barrier.Goals as goal
 
 pub returns-then-n-len : goal.returns-then-n-len

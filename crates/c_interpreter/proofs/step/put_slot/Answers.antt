@@ -1,5 +1,5 @@
-use Rattle.c_interpreter.specs.View.{slot_of}
-use Rattle.c_interpreter.proofs.Slots.{map-slice_set}
+use Rattle.c_state.specs.View.{slot_of}
+use Rattle.c_state.proofs.Slots.{map-slice_set}
 use Rattle.c_interpreter.proofs.step.put_slot.Goals as goal
 
 pub returns-then-n-len : goal.returns-then-n-len

@@ -1,7 +1,7 @@
 use Rattle.std.proofs.Common.{◌≡◌, ◌+◌, ℕ, Some, arith, sym, subst}
 use Rattle.std.specs.Prelude.{slice_get}
 use Rattle.c_program.specs.Plain.{program_of}
-use Rattle.c_interpreter.specs.View.{state_of}
+use Rattle.c_state.specs.View.{state_of}
 use Rattle.c_interpreter.specs.Walk.{IsAt}
 use Rattle.c_interpreter.proofs.walk.take_turn.Goals as goal
 

@@ -1,6 +1,6 @@
 use Rattle.std.proofs.Common.{◌+◌}
 use Rattle.c_program.specs.Plain.{program_of}
-use Rattle.c_interpreter.specs.View.{state_of}
+use Rattle.c_state.specs.View.{state_of}
 use Rattle.c_interpreter.specs.Walk.{Numbers, IsAt, Lists}
 use Rattle.c_interpreter.proofs.walk.take_turn.Given as goal
 

@@ -4,7 +4,7 @@ use Rattle.c_program.specs.Plain.{program_of}
 use Rattle.turns.specs.declared.Turn.{Turn}
 use Rattle.turns.specs.Turns.{threads_of}
 use Rattle.thread_semantics.specs.State.{State}
-use Rattle.c_interpreter.specs.View.{state_of}
+use Rattle.c_state.specs.View.{state_of}
 use Rattle.c_interpreter.specs.Walk.{IsAt, Lists}
 use Rattle.c_interpreter.proofs.Walking.{start_at, lists_at, threads_more}
 use Rattle.c_interpreter.proofs.walk.walk.Goals as goal

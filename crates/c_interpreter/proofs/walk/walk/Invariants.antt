@@ -1,7 +1,7 @@
 use Rattle.std.proofs.Common.{◌≡◌, ◌≤◌, ◌*◌, ◌^◌, length, take}
 use Rattle.c_program.specs.Plain.{program_of}
 use Rattle.turns.specs.Turns.{threads_of}
-use Rattle.c_interpreter.specs.View.{state_of}
+use Rattle.c_state.specs.View.{state_of}
 use Rattle.c_interpreter.specs.Walk.{IsAt}
 use Rattle.c_interpreter.proofs.walk.walk.Given as goal
 

@@ -1,8 +1,8 @@
 use Rattle.std.proofs.Common.{rules, ◌≡◌, ◌∷◌, ◌∙◌, true, false, sym, ap, subst}
 use Rattle.c_program.specs.Plain.{program_of}
 use Rattle.thread_semantics.specs.Move.{move}
-use Rattle.c_interpreter.specs.View.{state_of}
-use Rattle.c_interpreter.specs.Stepping.{IsPlan}
+use Rattle.c_state.specs.View.{state_of}
+use Rattle.c_step_parts.specs.Planned.{IsPlan}
 use Rattle.race_check.specs.Access.{touches_of}
 use Rattle.race_check.specs.Reads.{MoveAdds}
 use Rattle.race_check.proofs.Touching.{footprint_idle, footprint_taken}

@@ -2,7 +2,7 @@ use Rattle.std.proofs.Common.{◌≡◌, ◌+◌, ◌<◌, ◌∷◌, ◌++◌, 
 use Rattle.std.proofs.Common.{length-append}
 use Rattle.c_program.specs.Plain.{program_of}
 use Rattle.thread_semantics.specs.Races.{footprint}
-use Rattle.c_interpreter.specs.View.{state_of}
+use Rattle.c_state.specs.View.{state_of}
 use Rattle.race_check.specs.First.{row}
 use Rattle.race_check.proofs.Racing.{footprints_more, footprints_all}
 use Rattle.race_check.proofs.race.footprints.Goals as goal

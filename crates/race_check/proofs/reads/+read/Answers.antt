@@ -13,7 +13,8 @@ pub returns-in_ok-read-in-Element : goal.returns-in_ok-read-in-Element
 returns-in_ok-read-in-Element t c =
     let m = memory_of c.args.locals.now c.args.globals.now in
     let before = touches_of c.args.list.now in
-    let own = subst (λ x. Adds (value (expression_of x) m) before (touches_of c.read.new.list)) (c.deref.ensures ∙ sym c.deref-in-Element.ensures) c.in_ok-read-in-Element.ensures in
+    let own =
+    subst (λ x. Adds (value (expression_of x) m) before (touches_of c.read.new.list)) (c.deref.ensures ∙ sym c.deref-in-Element.ensures) c.in_ok-read-in-Element.ensures in
     let whole = ap (λ e. value (expression_of e) m) c.in-Element.is ∙ ap
     (λ x. value (Expression.Element c.in-Element.storage c.in-Element.variable c.in-Element.length c.in-Element.field-3 (expression_of x)) m)
     (sym c.deref-in-Element.ensures) in

@@ -17,6 +17,7 @@ loop-expression-preserved c after rest =
     let e : drop k xs ≡ item ∷ drop (suc k) xs = drop-item xs k item c.expression-item.is c.loop-expression-test.true in
     let one : k + 1 ≡ suc k = omega arith in
     let own = subst (λ j. Adds (values (expressions_of (drop j xs)) m) (touches_of c.read.new.list) after) one rest in
-    let more = values_adds m (expression_of item) (expressions_of (drop (suc k) xs)) (touches_of c.loop-expression.list) (touches_of c.read.new.list) after c.in_ok-read.ensures own in
+    let more =
+    values_adds m (expression_of item) (expressions_of (drop (suc k) xs)) (touches_of c.loop-expression.list) (touches_of c.read.new.list) after c.in_ok-read.ensures own in
     c.loop-expression.invariant after
     (subst (λ es. Adds (values (expressions_of es) m) (touches_of c.loop-expression.list) after) (sym e) more)

@@ -1,0 +1,4 @@
+pub mod View
+pub mod Change
+pub mod Kind
+pub mod Fresh

@@ -1,0 +1,8 @@
+//! The state of a C program with POSIX threads, as a program that is equal to the definitions of `thread_semantics`: the
+//! state at the start, where values are stored, what a step changes in memory, and who runs and who waits.
+#![tactic(auto)]
+
+pub mod memory;
+pub mod place;
+pub mod state;
+pub mod threads;
