@@ -3,5 +3,3 @@
 
 pub mod banks;
 pub mod count;
-#[cfg(test)]
-mod tests;

@@ -7,8 +7,8 @@ use Rattle.block_ir.specs.declared.block.Final.{Final}
 use Rattle.block_ir.specs.declared.block.Block.{Block}
 use Rattle.block_ir.specs.declared.code.Stage.{Stage}
 use Rattle.block_ir.specs.declared.code.Stage.TheVariants.{Run}
-use Rattle.ir_lower.specs.declared.open_block.OpenBlock.{OpenBlock}
-use Rattle.ir_lower.specs.Closing.{IsFresh, HasNoted}
+use Rattle.straight_code.specs.declared.open_block.OpenBlock.{OpenBlock}
+use Rattle.straight_code.specs.Closing.{IsFresh, HasNoted}
 use Rattle.block_merge.specs.declared.merger.Merger.{Merger}
 use Rattle.block_merge.specs.Joined.{joined, HasLeft}
 use Rattle.block_merge.specs.Maximal.{IsMaximalAt, AreCounted, Follows}

@@ -15,9 +15,9 @@ use Rattle.block_ir.specs.declared.code.Array.{Array}
 use Rattle.block_ir.specs.declared.code.Stage.{Stage}
 use Rattle.block_ir.specs.declared.code.Stage.TheVariants.{Run}
 use Rattle.block_ir.specs.Run.{finished}
-use Rattle.ir_lower.specs.Evaluating.{current_value}
-use Rattle.ir_lower.specs.Closing.{IsUnchanged}
-use Rattle.ir_lower.specs.Typed.{Types, types_of, IsTypedBlock, IsTypedStage, IsTypedCode}
+use Rattle.straight_code.specs.Evaluating.{current_value}
+use Rattle.straight_code.specs.Closing.{IsUnchanged}
+use Rattle.code_following.specs.Typed.{Types, types_of, IsTypedBlock, IsTypedStage, IsTypedCode}
 use Rattle.block_merge.specs.Joined.{joined, moved_next, moved_operation, left_in, there, AreLeft, AreWithin, HasLeft}
 use Rattle.block_merge.specs.Maximal.{one_way, next_ways, ways, IsTooLarge, IsMaximalAt, AreCounted, Follows}
 use Rattle.block_merge.specs.Kept.{code_of, Keeps}

@@ -5,7 +5,7 @@ use Rattle.std.proofs.lemmas.Bool.Decides.{eqb_tells}
 use Rattle.c_program.specs.Tree.{Program}
 use Rattle.thread_semantics.specs.Memory.{Location, element, row_element, with_element, with_row}
 use Rattle.thread_semantics.specs.State.{Frame}
-use Rattle.thread_semantics.specs.Move.{Move, Moves, Acts, Ends, Faults, Write, move}
+use Rattle.thread_semantics.specs.Move.{Move, Moves, Acts, Ends, Faults, Impossible, Write, move}
 use Rattle.thread_semantics.specs.Step.{written_to}
 use Rattle.block_ir.specs.declared.block.Operation.{Operation}
 use Rattle.block_ir.specs.declared.block.Operation.TheVariants.{Unary, Binary, ReadGlobal, WriteGlobal, ReadArray, WriteArray}
@@ -121,6 +121,7 @@ after_one (Moves next reads write) globals N Q go h = go next reads write h
 after_one (Acts offset act operands after) globals N Q go h = h
 after_one (Ends offset reads) globals N Q go h = h
 after_one (Faults offset cause) globals N Q go h = tt
+after_one Impossible globals N Q go h = tt
 
 module _ (P : Program) where
   -- n moves, and then k

@@ -5,7 +5,7 @@ use Rattle.std.proofs.lemmas.Bool.Decides.{eqb_tells}
 use Rattle.hls_ints.specs.Operators.{is_zero}
 use Rattle.c_program.specs.Tree.{Program}
 use Rattle.thread_semantics.specs.State.{Frame}
-use Rattle.thread_semantics.specs.Move.{Move, Moves, Acts, Ends, Faults, move}
+use Rattle.thread_semantics.specs.Move.{Move, Moves, Acts, Ends, Faults, Impossible, move}
 use Rattle.block_ir.specs.declared.operand.Operand.{Operand}
 use Rattle.block_ir.specs.declared.block.Final.{Final}
 use Rattle.block_ir.specs.declared.block.Next.{Next}
@@ -104,6 +104,7 @@ module _ (P : Program) (Next Other : AtStage) where
   is_act_so variables a (Acts offset act operands frames) N Q go h = (h.0, go frames h.1)
   is_act_so variables a (Ends offset reads) N Q go h = h
   is_act_so variables a (Faults offset cause) N Q go h = h
+  is_act_so variables a Impossible N Q go h = h
 
   act_so : (a : CodeAct) (next : ℕ) (variables : ℕ → ℤ) (arrays : Cells) (frames : List Frame) →
       ((fs : List Frame) → Next next variables arrays fs → Other next variables arrays fs) → DoesAct P Next a next variables arrays frames →

@@ -13,10 +13,10 @@ use Rattle.block_ir.specs.declared.block.Final.{Final}
 use Rattle.block_ir.specs.declared.block.Next.{Next}
 use Rattle.block_ir.specs.declared.block.Next.TheVariants.{Jump, Branch}
 use Rattle.block_ir.specs.declared.block.Block.{Block}
-use Rattle.ir_lower.specs.Needs.{IsBelow, SourceIsBelow}
-use Rattle.ir_lower.specs.Evaluating.{current_operand}
-use Rattle.ir_lower.specs.Typed.{Types, source_type, last_type, operand_type, value_type, IsTypedSource}
-use Rattle.ir_lower.specs.Typed.{IsTypedOperand, IsTypedOperation, AreTyped, IsTypedFinal, IsTypedNext, IsTypedBlock}
+use Rattle.straight_code.specs.Needs.{IsBelow, SourceIsBelow}
+use Rattle.straight_code.specs.Evaluating.{current_operand}
+use Rattle.code_following.specs.Typed.{Types, source_type, last_type, operand_type, value_type, IsTypedSource}
+use Rattle.code_following.specs.Typed.{IsTypedOperand, IsTypedOperation, AreTyped, IsTypedFinal, IsTypedNext, IsTypedBlock}
 use Rattle.block_merge.specs.Joined.{later, moved_source, moved, moved_operation, moved_final, moved_next, joined, left_in, there, AreLeft, AreWithin}
 use Rattle.block_merge.proofs.Lists.{get_left, get_right, get_within, get_map, map_from, either_part}
 use Rattle.block_merge.proofs.Values.{LeftBelow}

@@ -18,8 +18,8 @@ use Rattle.block_ir.specs.declared.block.Block.{Block}
 use Rattle.block_ir.specs.Run.{Cells, Access, Read, Write, Running, or_zero, converted}
 use Rattle.block_ir.specs.Run.{source_value, operand_value, with_value, with_cell, place_read, place_written, global_read, global_written}
 use Rattle.block_ir.specs.Run.{operation_run, operations_run, finished, leads_to, started, block_run, variables_after, stage_after}
-use Rattle.ir_lower.specs.Needs.{IsBelow, SourceIsBelow}
-use Rattle.ir_lower.specs.Evaluating.{current_operand}
+use Rattle.straight_code.specs.Needs.{IsBelow, SourceIsBelow}
+use Rattle.straight_code.specs.Evaluating.{current_operand}
 use Rattle.block_merge.specs.Joined.{later, moved_source, moved, moved_operation, moved_final, moved_next, joined, left_in, there, AreLeft}
 use Rattle.block_merge.proofs.Lists.{get_left, get_right, get_past}
 

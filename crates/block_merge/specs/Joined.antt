@@ -10,8 +10,8 @@ use Rattle.block_ir.specs.declared.block.Final.{Final}
 use Rattle.block_ir.specs.declared.block.Next.{Next}
 use Rattle.block_ir.specs.declared.block.Next.TheVariants.{Jump, Branch}
 use Rattle.block_ir.specs.declared.block.Block.{Block}
-use Rattle.ir_lower.specs.Needs.{plain}
-use Rattle.ir_lower.specs.Evaluating.{current_operand}
+use Rattle.straight_code.specs.Needs.{plain}
+use Rattle.straight_code.specs.Evaluating.{current_operand}
 
 -- an operand, converted to these types after its own
 abbrev pub with_conversions : Operand → List IntegerType → Operand

@@ -7,7 +7,7 @@ use Rattle.block_ir.specs.declared.code.Array.{Array}
 use Rattle.block_ir.specs.declared.code.Stage.{Stage}
 use Rattle.block_ir.specs.declared.code.ThreadCode.{ThreadCode}
 use Rattle.code_following.specs.Following.{IsLowered}
-use Rattle.ir_lower.specs.Typed.{IsTypedCode}
+use Rattle.code_following.specs.Typed.{IsTypedCode}
 
 abbrev pub code_of : List IntegerType → List Array → List Stage → ThreadCode
 code_of variables arrays stages = record { variables = variables; arrays = arrays; stages = stages }

@@ -7,8 +7,8 @@ use Rattle.block_ir.specs.declared.block.Block.{Block}
 use Rattle.block_ir.specs.declared.code.Stage.{Stage}
 use Rattle.block_ir.specs.declared.code.Stage.TheVariants.{Run, Act}
 use Rattle.block_ir.specs.Run.{finished}
-use Rattle.ir_lower.specs.Evaluating.{current_value}
-use Rattle.ir_lower.specs.Closing.{HasNoted, IsFresh}
+use Rattle.straight_code.specs.Evaluating.{current_value}
+use Rattle.straight_code.specs.Closing.{HasNoted, IsFresh}
 use Rattle.block_merge.specs.declared.merger.Merger.{Merger}
 use Rattle.block_merge.specs.Joined.{joined, HasLeft}
 use Rattle.block_merge.specs.Maximal.{IsTooLarge, IsMaximalAt, AreCounted}

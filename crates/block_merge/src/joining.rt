@@ -2,15 +2,15 @@
 
 ghost use Rattle.std.specs.Prelude.{◌≡◌, ◌+◌, ◌^◌, ◌<◌, List, ◌++◌, length, map, IfOk, OnOk};
 ghost use Rattle.block_ir.specs.declared.block.Final.{Final as GhostFinal};
-ghost use Rattle.ir_lower.specs.Closing.{HasNoted};
+ghost use Rattle.straight_code.specs.Closing.{HasNoted};
 ghost use Rattle.block_merge.specs.Joined as spec;
 
 use crate::moving::{Before, moved_finals, moved_next, push_moved};
 use block_ir::block::{Block, Final};
-use ir_lower::open_block::OpenBlock;
-use ir_lower::operands::copy_of;
 use sqlite_items::Items;
 use std::alloc::{AllocError, Global};
+use straight_code::open_block::OpenBlock;
+use straight_code::operands::copy_of;
 
 /// Variables hold what these finals give them, from now on.
 #[tactic(auto, using(crate::proofs::Merging::left_more))]

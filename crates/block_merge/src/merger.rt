@@ -4,8 +4,8 @@ ghost use Rattle.std.specs.Prelude.{◌≡◌, ◌≢◌, ℕ, ◌*◌, ◌<◌,
 ghost use Rattle.c_program.specs.Tree.{Program as GhostProgram};
 ghost use Rattle.c_program.specs.Weight.{weight};
 ghost use Rattle.code_following.specs.Following.{IsLowered};
-ghost use Rattle.ir_lower.specs.Typed.{IsTypedCode};
-ghost use Rattle.ir_lower.specs.Closing.{HasNoted, IsFresh};
+ghost use Rattle.code_following.specs.Typed.{IsTypedCode};
+ghost use Rattle.straight_code.specs.Closing.{HasNoted, IsFresh};
 ghost use Rattle.block_merge.specs.Joined.{HasLeft};
 ghost use Rattle.block_merge.specs.Kept.{Keeps};
 ghost use Rattle.block_merge.specs.Maximal.{IsMaximal, IsMaximalAt, AreCounted, Follows};
@@ -15,10 +15,10 @@ use crate::follow::{block_at, counts, fit, is_once, jump_of};
 use crate::joining::{hold, joined};
 use block_ir::block::{Block, Next};
 use block_ir::code::{Stage, ThreadCode};
-use ir_lower::open_block::OpenBlock;
 use sqlite_items::Items;
 use std::alloc::{AllocError, Global};
 use std::mem;
+use straight_code::open_block::OpenBlock;
 
 /// Code whose blocks are being merged, chain after chain.
 #[derive(Drop)]

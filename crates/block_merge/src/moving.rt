@@ -5,10 +5,10 @@ ghost use Rattle.block_merge.specs.Joined as spec;
 
 use block_ir::block::{Final, Next, Operation};
 use block_ir::operand::{Operand, Source};
-use ir_lower::open_block::OpenBlock;
-use ir_lower::operands::plain;
 use sqlite_items::Items;
 use std::alloc::{AllocError, Global};
+use straight_code::open_block::OpenBlock;
+use straight_code::operands::plain;
 
 /// A block of so many operations, and what it leaves in variables.
 #[derive(Clone, Copy)]

@@ -26,6 +26,7 @@ use Rattle.race_model.specs.Orderly.{is_finished, is_over}
 use Rattle.race_model.proofs.Lists.{get-set_other, get-set_same, length_set}
 use Rattle.race_model.proofs.Sound.{IsSound, step_moved, runs_on, reachable_sound}
 use Rattle.race_model.proofs.Threaded.{view_is}
+use Rattle.race_model.proofs.Possible.{is_possible}
 use Rattle.code_following.specs.Following.{IsAct, IsEnd, SameAct}
 use Rattle.block_refine.specs.Threads.{plan_at, AtActOf, AtStageOf, Starts}
 use Rattle.block_refine.specs.Acts.{IsDefined, IsStepOf, ActsAreSteps, PrintsThere, PrintsAreSteps, ReturnsThere, ReturnsAreSteps}
@@ -122,6 +123,7 @@ module _ (P : Program) (code : ThreadCode) (plan : Planned) (f : ℕ) where
         }
         go (Move.Ends offset reads) e k = absurd (k 0)
         go (Move.Faults offset cause) e k = absurd (is_defined (Undefines offset cause) (steps_as (Move.Faults offset cause) e) refl)
+        go Move.Impossible e k = absurd (is_possible P R s i calls sound slot e)
 
     pub prints : (site : ℕ) (values : List ActOperand) → a ≡ act.Print site values → PrintsThere P code plan s i f next variables arrays site values
     prints site values print =
@@ -167,6 +169,7 @@ module _ (P : Program) (code : ThreadCode) (plan : Planned) (f : ℕ) where
         go (Move.Acts offset c operands new) e k = absurd k
         go (Move.Ends offset reads) e k = (offset, map location_of reads, sees_as (Move.Ends offset reads) e, steps_as (Move.Ends offset reads) e)
         go (Move.Faults offset cause) e k = absurd (is_defined (Undefines offset cause) (steps_as (Move.Faults offset cause) e) refl)
+        go Move.Impossible e k = absurd (is_possible P R s i calls sound slot e)
 
   -- where main returns, its slot is finished and the program ended
   main_returns : (s : State) (variables : ℕ → ℤ) (arrays : Memory ℤ) (frames : List Frame) (reads : List Location) → slice_get s.slots 0 ≡ Some (Running frames) →

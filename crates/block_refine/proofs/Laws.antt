@@ -33,7 +33,7 @@ pub code_follows : CodeFollows
 code_follows P code plan R lowered planned variables arrays n =
     subst (λ x. Followed P code plan 0 n x 0 variables arrays) (sym (starts_running P))
     (follows P R code plan planned 0 n 0 variables (λ x j. arrays (record { object = x; index = j })) (first_frames P)
-    (started_is P R (slice_get P.functions P.main) P.main [] refl) (lowered n variables (λ x j. arrays (record { object = x; index = j }))))
+    (started_is P R R.main.code P.main [] R.main.found) (lowered n variables (λ x j. arrays (record { object = x; index = j }))))
 
 pub blocks_are_steps : BlocksAreSteps
 blocks_are_steps P code plan chain R ordered chains =

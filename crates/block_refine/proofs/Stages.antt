@@ -111,9 +111,10 @@ module _ (P : Program) (R : IsResolved P) (code : ThreadCode) (plan : Planned) (
         IsAct P variables a mv (λ after. CodeFollows P code.stages n next variables arrays after) →
         IsAct P variables a mv (λ after. Followed P code plan f n (running after) next variables (memory_of_cells arrays))
     is_act a next (Move.Moves new reads write) is k = k
-    is_act a next (Move.Acts offset c operands new) is k = (k.0, later next variables arrays new is k.1)
+    is_act a next (Move.Acts offset c operands new) is k = (k.0, later next variables arrays new is.0 k.1)
     is_act a next (Move.Ends offset reads) is k = k
     is_act a next (Move.Faults offset cause) is k = tt
+    is_act a next Move.Impossible is k = absurd is
 
     at_act : (a : CodeAct) (next : ℕ) → DoesAct P (CodeFollows P code.stages n) a next variables arrays frames →
         AtActOf P (Followed P code plan f n) a next variables (memory_of_cells arrays) frames

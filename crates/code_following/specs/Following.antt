@@ -7,7 +7,7 @@ use Rattle.thread_semantics.specs.Memory.{Location, element}
 use Rattle.thread_semantics.specs.State.{Frame, started}
 use Rattle.thread_semantics.specs.Work.{Act}
 use Rattle.thread_semantics.specs.Work as c
-use Rattle.thread_semantics.specs.Move.{Move, Moves, Acts, Ends, Faults, Write, move}
+use Rattle.thread_semantics.specs.Move.{Move, Moves, Acts, Ends, Faults, Impossible, Write, move}
 use Rattle.thread_semantics.specs.Step.{written_to}
 use Rattle.block_ir.specs.declared.block.Block.{Block}
 use Rattle.block_ir.specs.declared.code.Act.{Act as CodeAct}
@@ -47,12 +47,14 @@ abbrev pub write_of : Option Write → List Access
 write_of None = []
 write_of (Some w) = run.Write w.place.variable w.place.index w.value ∷ []
 
--- the step is a move, and Next holds of the calls and the globals that it leaves and of its accesses; or it is undefined
+-- the step is a move, and Next holds of the calls and the globals that it leaves and of its accesses; or it is undefined, or
+-- none that a thread of a resolved program comes to
 abbrev pub AfterMove : Move → List (List ℤ) → (List Frame → List (List ℤ) → List Access → Type 0) → Type 0
 AfterMove (Moves frames reads write) globals Next = Next frames (written_to globals write) (reads_of reads ++ write_of write)
 AfterMove (Acts offset act operands frames) globals Next = ⊥
 AfterMove (Ends offset reads) globals Next = ⊥
 AfterMove (Faults offset cause) globals Next = Unit {0}
+AfterMove Impossible globals Next = Unit {0}
 
 -- the next n steps of a thread with these calls, while no other thread writes the globals, are moves, up to one that is
 -- undefined; Next holds of the calls that they leave, and of the accesses made till then
@@ -110,6 +112,7 @@ IsAct P variables a (Moves frames reads write) Next = ⊥
 IsAct P variables a (Acts offset act operands frames) Next = SameAct P variables a act operands × Next frames
 IsAct P variables a (Ends offset reads) Next = ⊥
 IsAct P variables a (Faults offset cause) Next = Unit {0}
+IsAct P variables a Impossible Next = Unit {0}
 
 -- the step is the return that ends the thread; or it is undefined
 abbrev pub IsEnd : Move → Type 0
@@ -117,6 +120,7 @@ IsEnd (Moves frames reads write) = ⊥
 IsEnd (Acts offset act operands frames) = ⊥
 IsEnd (Ends offset reads) = Unit {0}
 IsEnd (Faults offset cause) = Unit {0}
+IsEnd Impossible = Unit {0}
 
 -- Stages.
 

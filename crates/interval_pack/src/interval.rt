@@ -1,7 +1,7 @@
 // Intervals, and what packing them gives.
 
 /// The places from `start` on, `end` left out. One whose start is not below its end has no place.
-#[derive(Clone, Copy, PartialEq, Eq, Debug)]
+#[derive(Clone, Copy, PartialEq, Eq)]
 pub struct Interval {
     pub start: u64,
     pub end: u64,

@@ -11,38 +11,41 @@ use Rattle.c_program.specs.Limits.{print_sites, IsWithinLimits}
 use Rattle.c_program.specs.Calls.{calls_of, IsAcyclic}
 use Rattle.c_program.specs.Weight.{function_weight}
 use Rattle.c_program.specs.Resolved.{IsFunction, IsResolved}
-use Rattle.ir_lower.specs.declared.fault.LoweringFault.{LoweringFault}
-use Rattle.ir_lower.specs.declared.fault.LoweringFault.TheVariants.{TooLarge}
+use Rattle.straight_code.specs.declared.fault.LoweringFault.{LoweringFault}
+use Rattle.straight_code.specs.declared.fault.LoweringFault.TheVariants.{TooLarge}
 use Rattle.ir_lower.specs.declared.fault.LowerError.{LowerError}
 use Rattle.ir_lower.specs.declared.fault.LowerError.TheVariants.{Fault}
-use Rattle.ir_lower.specs.declared.homes.Home.{Home}
-use Rattle.ir_lower.specs.declared.homes.Home.TheVariants as home
-use Rattle.ir_lower.specs.declared.rooms.Rooms.{Rooms}
-use Rattle.ir_lower.specs.declared.lowering.Lowering.{Lowering}
-use Rattle.ir_lower.specs.Taken.{is_sequential_program}
-use Rattle.ir_lower.specs.Values.{most_values, all_values}
-use Rattle.ir_lower.specs.Reaching.{has, marks_of}
-use Rattle.ir_lower.specs.Locals.{variables_of, arrays_of, reached_locals, homes_in, AreRoomsOf}
-use Rattle.ir_lower.specs.Weighing.{inlined_weight}
-use Rattle.ir_lower.specs.Typing.{Typing, IsTypedHome, Fits, HasWords}
-use Rattle.ir_lower.specs.Resuming.{HasSites}
-use Rattle.ir_lower.specs.Apart.{IsTypedNow, IsGood}
-use Rattle.ir_lower.specs.Seats.{HasWord}
-use Rattle.ir_lower.specs.Doing.{Shifts, SuitsTyping, IsNew, Starts}
-use Rattle.ir_lower.specs.Room.{IsFull}
-use Rattle.ir_lower.specs.Needing.{needed, IsFullFor, IsFullProgram}
-use Rattle.ir_lower.proofs.Cells.{get_within}
-use Rattle.ir_lower.proofs.Room.{full_more, homed_length}
-use Rattle.ir_lower.proofs.Typing.{get_more}
-use Rattle.ir_lower.proofs.Staying.{fresh_typed, words_less}
-use Rattle.ir_lower.proofs.Resuming.{fresh_sound}
-use Rattle.ir_lower.proofs.Growing.{shifts_both, begins_shifts}
-use Rattle.ir_lower.proofs.LocalHomes.{IsDeclaredHome}
-use Rattle.ir_lower.proofs.Rooming.{room_declared, room_sites}
-use Rattle.ir_lower.proofs.Reached.{main_reached, locals_few}
-use Rattle.ir_lower.proofs.Weighing.{body_weighs}
-use Rattle.ir_lower.proofs.Callees.{function_in, sequential_in}
-use Rattle.ir_lower.proofs.Whole.{get_map, formats_count, values_among, word_at}
+use Rattle.straight_code.specs.declared.homes.Home.{Home}
+use Rattle.straight_code.specs.declared.homes.Home.TheVariants as home
+use Rattle.thread_rooms.specs.declared.rooms.Rooms.{Rooms}
+use Rattle.code_places.specs.declared.lowering.Lowering.{Lowering}
+use Rattle.code_places.specs.Sequential.{is_sequential_program}
+use Rattle.thread_rooms.specs.Values.{most_values, all_values}
+use Rattle.thread_rooms.specs.Reaching.{has, marks_of}
+use Rattle.thread_rooms.specs.Locals.{variables_of, arrays_of, reached_locals, homes_in, AreRoomsOf}
+use Rattle.code_places.specs.Weighing.{inlined_weight}
+use Rattle.straight_code.specs.Typing.{Typing, IsTypedHome, Fits, HasWords}
+use Rattle.thread_rooms.specs.Formats.{HasSites}
+use Rattle.code_places.specs.Apart.{IsTypedNow, IsGood}
+use Rattle.code_places.specs.Seats.{HasWord}
+use Rattle.code_places.specs.Doing.{Shifts, SuitsTyping, IsNew, Starts}
+use Rattle.straight_code.specs.Room.{IsFull}
+use Rattle.code_places.specs.Needing.{needed, IsFullFor}
+use Rattle.ir_lower.specs.Mains.{IsFullProgram}
+use Rattle.straight_code.proofs.Cells.{get_within}
+use Rattle.straight_code.proofs.Room.{full_more}
+use Rattle.thread_rooms.proofs.RoomsFull.{homed_length}
+use Rattle.straight_code.proofs.Typing.{get_more}
+use Rattle.code_places.proofs.Staying.{fresh_typed, words_less}
+use Rattle.code_places.proofs.Resuming.{fresh_sound}
+use Rattle.code_places.proofs.Growing.{shifts_both, begins_shifts}
+use Rattle.thread_rooms.proofs.LocalHomes.{IsDeclaredHome}
+use Rattle.thread_rooms.proofs.Rooming.{room_declared, room_sites}
+use Rattle.thread_rooms.proofs.Reached.{main_reached, locals_few}
+use Rattle.code_places.proofs.Weighing.{body_weighs}
+use Rattle.code_calls.proofs.Callees.{function_in, sequential_in}
+use Rattle.ir_lower.proofs.Whole.{get_map, values_among, word_at}
+use Rattle.thread_rooms.proofs.Sites.{formats_count}
 
 map_long : (fs : List FunctionTree) → length (map function_of fs) ≡ length fs
 map_long [] = refl

@@ -1,44 +1,6 @@
-mod Room
-mod Operators
-mod Conversions
-mod Running
-mod Values
-mod Cells
-mod Stores
-mod Steps
-mod Finals
-mod Puts
-mod Words
-mod Shapes
-mod Typing
-mod Working
-mod Sites
-mod Staying
-mod Resuming
-mod LocalHomes
-mod Whole
+pub mod Ample
+pub mod Proceeding
+pub mod Sizes
+pub mod Stepping
 pub mod Untaken
-pub mod Formats
-mod Sizes
-mod Labelling
-mod Advancing
-mod Opening
-mod Binding
-mod Proceeding
-mod Controlling
-mod Deciding
-mod Growing
-mod Stepping
-mod Nesting
-mod Filling
-mod Ample
-mod Rooming
-mod Seating
-mod Arguments
-mod Answering
-mod Backing
-mod Callees
-mod Weighing
-mod Reached
-mod Overfull
-mod Continuing
+pub mod Whole

@@ -1,54 +1,52 @@
 -- The code of main is that of the program.
 use Rattle.std.proofs.Common.{◌≡◌, true, false, ℕ, zero, suc, ◌+◌, ◌*◌, ◌<◌, ◌≤◌, List, [], ◌∷◌, ◌++◌, length, map, replicate, Option, Some, None, refl, sym, ap, ◌∙◌, subst}
-use Rattle.std.proofs.Common.{arith, append-nil, length-append, sum_by}
+use Rattle.std.proofs.Common.{arith, append-nil}
 use Rattle.std.specs.Prelude.{slice_get, slice_index}
-use Rattle.std.specs.List.{flat_map}
-use Rattle.std.proofs.lemmas.List.Sums.{sum_by-append}
 use Rattle.hls_ints.specs.Types.{IntegerType, long_int}
 use Rattle.c_program.specs.declared.tree.LocalVariable.{LocalVariable}
 use Rattle.c_program.specs.declared.tree.Function.{Function as FunctionTree}
 use Rattle.c_program.specs.declared.tree.Program.{Program as ProgramTree}
 use Rattle.c_program.specs.Plain.{function_of, program_of, statement_of}
 use Rattle.c_program.specs.Tree.{Statement, Function, Program}
-use Rattle.c_program.specs.Limits.{print_count}
 use Rattle.c_program.specs.Weight.{function_weight, routines, weight}
 use Rattle.c_program.specs.Resolved.{IsFunction, IsResolved}
 use Rattle.thread_semantics.specs.State.{begun, started}
 use Rattle.thread_semantics.specs.Work.{Do, Onward, settled}
 use Rattle.block_ir.specs.declared.code.Stage.{Stage}
 use Rattle.block_ir.specs.declared.code.ThreadCode.{ThreadCode}
-use Rattle.code_following.specs.Following.{formats_of, Follows, IsLowered}
-use Rattle.ir_lower.specs.declared.homes.Home.{Home}
-use Rattle.ir_lower.specs.declared.homes.Home.TheVariants as home
-use Rattle.ir_lower.specs.Resuming.{nothing_kept, HasSites}
-use Rattle.ir_lower.specs.Taken.{is_sequential_program}
-use Rattle.ir_lower.specs.Labels.{led_stage, led}
-use Rattle.ir_lower.specs.Apart.{IsTypedNow, IsGood}
-use Rattle.ir_lower.specs.Control.{Whole, IsIn, AtLabel}
-use Rattle.ir_lower.specs.Seats.{LeadsBack, IsSeated, HasWord}
-use Rattle.ir_lower.specs.Doing.{Grows, Shifts, OnwardUpTo, Suits, SuitsTyping, Leads}
-use Rattle.ir_lower.specs.Calling.{IsCodeOf}
-use Rattle.ir_lower.specs.Locals.{variables_of, arrays_of, reached_locals, homes_in}
-use Rattle.ir_lower.specs.Reaching.{has, marks_of}
-use Rattle.ir_lower.specs.Values.{most_values, all_values}
-use Rattle.ir_lower.specs.Weighing.{inlined_weight}
-use Rattle.ir_lower.specs.Typed.{types_of, IsTypedStage, IsTypedCode}
-use Rattle.ir_lower.specs.Typing.{Typing, IsTypedHome, Fits, HasWords}
-use Rattle.ir_lower.proofs.Words.{sum_cons}
-use Rattle.ir_lower.proofs.Typing.{get_more}
-use Rattle.ir_lower.proofs.Staying.{stage_more, fresh_typed, words_less}
-use Rattle.ir_lower.proofs.Resuming.{fresh_sound}
-use Rattle.ir_lower.proofs.Controlling.{led_length, begin_at, begun_idle}
-use Rattle.ir_lower.proofs.Growing.{grows_both, shifts_both, begins_shifts, begun_reached}
-use Rattle.ir_lower.proofs.Seating.{seat_on}
-use Rattle.ir_lower.proofs.Backing.{closes_shifts, closes_goes}
-use Rattle.ir_lower.proofs.Callees.{function_in, sequential_in}
-use Rattle.ir_lower.proofs.Weighing.{body_weighs}
-use Rattle.ir_lower.proofs.Reached.{main_reached}
-use Rattle.ir_lower.proofs.Shapes.{shape_fresh, nothing_written}
-use Rattle.ir_lower.proofs.Sites.{formats_length}
-use Rattle.ir_lower.proofs.LocalHomes.{IsDeclaredHome}
-use Rattle.ir_lower.proofs.Rooming.{room_homes, room_declared, room_sites}
+use Rattle.code_following.specs.Following.{Follows, IsLowered}
+use Rattle.straight_code.specs.declared.homes.Home.{Home}
+use Rattle.straight_code.specs.declared.homes.Home.TheVariants as home
+use Rattle.code_places.specs.Resuming.{nothing_kept}
+use Rattle.thread_rooms.specs.Formats.{HasSites}
+use Rattle.code_places.specs.Sequential.{is_sequential_program}
+use Rattle.code_places.specs.Labels.{led_stage, led}
+use Rattle.code_places.specs.Apart.{IsTypedNow, IsGood}
+use Rattle.code_places.specs.Control.{Whole, IsIn, AtLabel}
+use Rattle.code_places.specs.Seats.{LeadsBack, IsSeated, HasWord}
+use Rattle.code_places.specs.Doing.{Grows, Shifts, OnwardUpTo, Suits, SuitsTyping, Leads}
+use Rattle.ir_lower.specs.Mains.{IsCodeOf}
+use Rattle.thread_rooms.specs.Locals.{variables_of, arrays_of, reached_locals, homes_in}
+use Rattle.thread_rooms.specs.Reaching.{has, marks_of}
+use Rattle.thread_rooms.specs.Values.{most_values, all_values}
+use Rattle.code_places.specs.Weighing.{inlined_weight}
+use Rattle.code_following.specs.Typed.{types_of, IsTypedStage, IsTypedCode}
+use Rattle.straight_code.specs.Typing.{Typing, IsTypedHome, Fits, HasWords}
+use Rattle.straight_code.proofs.Words.{sum_cons}
+use Rattle.straight_code.proofs.Typing.{get_more}
+use Rattle.code_places.proofs.Staying.{stage_more, fresh_typed, words_less}
+use Rattle.code_places.proofs.Resuming.{fresh_sound}
+use Rattle.code_places.proofs.Controlling.{led_length, begin_at, begun_idle}
+use Rattle.code_places.proofs.Growing.{grows_both, shifts_both, begins_shifts, begun_reached}
+use Rattle.code_places.proofs.Seating.{seat_on}
+use Rattle.code_calls.proofs.Backing.{closes_shifts, closes_goes}
+use Rattle.code_calls.proofs.Callees.{function_in, sequential_in}
+use Rattle.code_places.proofs.Weighing.{body_weighs}
+use Rattle.thread_rooms.proofs.Reached.{main_reached}
+use Rattle.code_places.proofs.Shapes.{shape_fresh, nothing_written}
+use Rattle.thread_rooms.proofs.LocalHomes.{IsDeclaredHome}
+use Rattle.thread_rooms.proofs.LocalArrays.{array_local}
+use Rattle.thread_rooms.proofs.Rooming.{room_homes, room_declared, room_sites}
 
 pub get_map : {A B : Type 0} (g : A → B) (xs : List A) (n : ℕ) (x : A) → slice_get xs n ≡ Some x → slice_get (map g xs) n ≡ Some (g x)
 get_map g [] n x at = absurd cc
@@ -59,16 +57,6 @@ pub get_none : {A B : Type 0} (g : A → B) (xs : List A) (n : ℕ) → slice_ge
 get_none g [] n at = refl
 get_none g (y ∷ ys) zero at = cc
 get_none g (y ∷ ys) (suc n) at = get_none g ys n at
-
-pub formats_count : (fs : List Function) → length (flat_map (λ (f : Function). formats_of f.body) fs) ≡ sum_by (λ (f : Function). print_count f.body) fs
-formats_count [] = refl
-formats_count (f ∷ fs) =
-    let both = length-append (formats_of f.body) (flat_map (λ (g : Function). formats_of g.body) fs) in
-    let own = formats_length f.body in
-    let rest = formats_count fs in
-    let sum : sum_by (λ (g : Function). print_count g.body) (f ∷ fs) ≡ (0 + print_count f.body) + sum_by (λ (g : Function). print_count g.body) fs = sum_by-append
-    (λ (g : Function). print_count g.body) (f ∷ []) fs in
-    omega (arith, both, own, rest, sum)
 
 -- main's weight is in the program's
 main_weighs : (P : Program) (f : Function) → IsResolved P → slice_get P.functions P.main ≡ Some f → inlined_weight P f.body ≤ weight P
@@ -295,5 +283,5 @@ module _ (p : ProgramTree) (code : ThreadCode) (made : IsCodeOf p p.main code) (
     typed_at = record {
       some = (let e = long in let b = made.finished.finishes.below 0 in omega (arith, e, b));
       stages = stage_typed;
-      arrays = arrays_are;
+      arrays = λ a array e. array_local P a array (ap (λ arrays. slice_get arrays a) (sym arrays_are) ∙ e);
     }

@@ -4,20 +4,20 @@ ghost use Rattle.std.specs.Prelude.{◌≡◌, ℕ, true, Some, is_some, IfOk, O
 ghost use Rattle.c_program.specs.Plain.{expression_of, expressions_of, pieces_of, place_of, returned_of, right_side_of, statement_of};
 ghost use Rattle.c_program.specs.Tree as tree;
 ghost use Rattle.c_program.specs.Weight.{expression_weight, place_weight, returned_weight, right_side_weight};
-ghost use Rattle.ir_lower.specs.Doing as doing;
-ghost use Rattle.ir_lower.specs.Needing.{IsFullFor};
-ghost use Rattle.ir_lower.specs.Room.{IsFull};
+ghost use Rattle.code_places.specs.Doing as doing;
+ghost use Rattle.code_places.specs.Needing.{IsFullFor};
+ghost use Rattle.straight_code.specs.Room.{IsFull};
 ghost use Rattle.ir_lower.specs.Taken.{is_simple, is_taken, is_value, is_value_or_none};
 
-use crate::acts::{lower_print, lower_thread_call};
-use crate::assignments::{lower_assignment, lower_update};
-use crate::branching::Loop;
-use crate::fault::LoweringFault;
-use crate::lowering::Lowering;
-use crate::returning::{lower_return, return_nothing};
 use c_program::tree::{BinaryOperator, Expression, Place, RightSide, Statement};
+use code_acts::acts::{lower_print, lower_thread_call};
+use code_calls::returning::{lower_return, return_nothing};
+use code_places::lowering::Lowering;
+use code_places::targets::Loop;
 use hls_ints::CType;
 use std::alloc::{AllocError, Global};
+use straight_code::assignments::{lower_assignment, lower_update};
+use straight_code::fault::LoweringFault;
 
 /// An assignment, whose right side is no call.
 fn lower_assign(

@@ -5,33 +5,38 @@ ghost use Rattle.c_program.specs.Plain.{expressions_of, program_of, statement_of
 ghost use Rattle.c_program.specs.Limits.{IsWithinLimits};
 ghost use Rattle.c_program.specs.Resolved.{IsResolved};
 ghost use Rattle.code_following.specs.Following.{IsLowered};
-ghost use Rattle.ir_lower.specs.Doing as doing;
-ghost use Rattle.ir_lower.specs.Calling as calling;
-ghost use Rattle.ir_lower.specs.Needing.{IsFullFor, IsFullCall, IsFullProgram};
-ghost use Rattle.ir_lower.specs.Taken.{are_taken, is_sequential_program, is_taken, is_taken_program};
-ghost use Rattle.ir_lower.specs.Typed.{IsTypedCode};
+ghost use Rattle.code_places.specs.Doing as doing;
+ghost use Rattle.code_calls.specs.Calling as calling;
+ghost use Rattle.ir_lower.specs.Mains as mains;
+ghost use Rattle.code_places.specs.Needing.{IsFullFor, IsFullCall};
+ghost use Rattle.ir_lower.specs.Mains.{IsFullProgram};
+ghost use Rattle.ir_lower.specs.Taken.{are_taken, is_taken, is_taken_program};
+ghost use Rattle.code_places.specs.Sequential.{is_sequential_program};
+ghost use Rattle.code_following.specs.Typed.{IsTypedCode};
 
-use crate::branching::{
-    Loop, close_do, close_for, close_turn, open_choice, open_for, open_loop, open_turn,
-    turn_choice, turn_for,
-};
-use crate::calling::{close_call, lower_delivery, lower_handing, open_call};
-use crate::fault::{LowerError, LoweringFault};
-use crate::lowering::Lowering;
-use crate::objects::objects_of;
-use crate::prints::{all_values, print_count};
-use crate::returning::return_reached;
-use crate::rooms::rooms_of;
+use crate::fault::LowerError;
 use crate::simple::lower_simple;
 use crate::taken::is_taken_program;
 use block_ir::code::ThreadCode;
 use c_program::tree::{Expression, Program, RightSide, Statement};
+use code_calls::calling::{close_call, lower_delivery, lower_handing, open_call};
+use code_calls::returning::return_reached;
+use code_control::branching::{
+    close_do, close_for, close_turn, open_choice, open_for, open_loop, open_turn, turn_choice,
+    turn_for,
+};
+use code_places::lowering::Lowering;
+use code_places::targets::Loop;
 use sqlite_items::at;
 use std::alloc::Global;
+use straight_code::fault::LoweringFault;
+use thread_rooms::objects::objects_of;
+use thread_rooms::prints::{all_values, print_count};
+use thread_rooms::rooms::rooms_of;
 
 /// The code of a statement, in which calls are less than so deep. What the program never comes to has none.
 #[cycle(statements)]
-#[tactic(auto, using(crate::proofs::Nesting::via_all, crate::proofs::Filling::behind_none))]
+#[tactic(auto, using(code_control::proofs::Nesting::via_all, code_control::proofs::Filling::behind_none))]
 pub fn lower_statement(
     alloc: Global,
     program: &Program,
@@ -196,7 +201,7 @@ fn lower_main(alloc: Global, program: &Program) -> Result<ThreadCode, LowerError
     ensures taken { OnOk result (is_taken_program (program_of program.now) ≡ true) }
     ensures not_yet { is_taken_program (program_of program.now) ≡ false → result ≡ Err LowerError.NotYet }
     ensures untaken { IfErr result (λ e. e ≡ LowerError.NotYet → is_taken_program (program_of program.now) ≡ false) }
-    ensures done { IfOk result (λ code. calling.IsCodeOf program.now program.now.main code) }
+    ensures done { IfOk result (λ code. mains.IsCodeOf program.now program.now.main code) }
     ensures full { IfErr result (IsFullProgram (program_of program.now)) }
 {
     if !is_taken_program(program) {

@@ -2,6 +2,7 @@
 
 ghost use Rattle.std.specs.Prelude.{◌≡◌, map};
 ghost use Rattle.c_program.specs.Plain.{expressions_of, function_of, pieces_of, program_of, statement_of};
+ghost use Rattle.code_places.specs.Sequential as sequential;
 ghost use Rattle.ir_lower.specs.Taken as taken;
 
 use c_program::tree::{Expression, Function, Piece, Program, Statement};
@@ -86,7 +87,7 @@ pub fn is_taken_program(program: &Program) -> bool
 
 /// Whether a statement makes no pthread call.
 fn is_sequential(statement: &Statement) -> bool
-    ensures { result ≡ taken.is_sequential (statement_of statement.now) }
+    ensures { result ≡ sequential.is_sequential (statement_of statement.now) }
 {
     let mut rest = statement;
     while let Statement::Sequence(first, next) = rest {
@@ -121,7 +122,7 @@ fn is_sequential(statement: &Statement) -> bool
 }
 
 fn are_sequential(functions: &[Function]) -> bool
-    ensures { result ≡ taken.are_sequential (map function_of functions.now) }
+    ensures { result ≡ sequential.are_sequential (map function_of functions.now) }
 {
     let [function, rest @ ..] = functions else {
         return true;
@@ -131,7 +132,7 @@ fn are_sequential(functions: &[Function]) -> bool
 
 /// Whether no function makes a pthread call.
 pub fn is_sequential_program(program: &Program) -> bool
-    ensures { result ≡ taken.is_sequential_program (program_of program.now) }
+    ensures { result ≡ sequential.is_sequential_program (program_of program.now) }
 {
     are_sequential(program.functions.as_slice())
 }

@@ -37,7 +37,7 @@ module _ (registers : ℕ) (b : Block) (q : BlockPlan) (count : ℕ) (run : IsPl
 
 each_right : (n : ℕ) (ss : List Stage) (ps : List StagePlan) → EachPlanned n ss ps → EachRight n ss ps
 each_right n [] [] h = tt
-each_right n (stage.Run b ∷ ss) (planned.Run p ∷ ps) h = ((λ few. (let w = h.0 few in right n b p w.0 w.1 w.2)), each_right n ss ps h.1)
+each_right n (stage.Run b ∷ ss) (planned.Run p ∷ ps) h = ((λ few. (let w = h.0 in right n b p w.0 w.1 w.2)), each_right n ss ps h.1)
 each_right n (stage.Act a next ∷ ss) (planned.Act ∷ ps) h = (tt, each_right n ss ps h.1)
 each_right n (stage.Run b ∷ ss) (planned.Act ∷ ps) h = absurd h.0
 each_right n (stage.Act a next ∷ ss) (planned.Run p ∷ ps) h = absurd h.0

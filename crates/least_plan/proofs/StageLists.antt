@@ -2,6 +2,7 @@
 use Rattle.std.proofs.Common.{◌≡◌, ℕ, zero, suc, ◌+◌, ◌<◌, ◌≤◌, List, [], ◌∷◌, ◌++◌, length, slice_get, get_or, take, Some, refl, ap, subst, sym, ◌∙◌, ◌⊎◌, inl, inr}
 use Rattle.std.proofs.Common.{arith, add-one}
 use Rattle.std.specs.Prelude.{max}
+use Rattle.std.specs.List.{AllByRecursion}
 use Rattle.std.proofs.lemmas.Bool.{cases_lt}
 use Rattle.block_ir.specs.declared.code.Stage.{Stage}
 use Rattle.block_ir.specs.declared.code.Stage.TheVariants as stage
@@ -9,12 +10,12 @@ use Rattle.block_ir.specs.declared.code.ThreadCode.{ThreadCode}
 use Rattle.block_ir.specs.declared.plan.Planned.{Planned}
 use Rattle.block_ir.specs.declared.plan.StagePlan.{StagePlan}
 use Rattle.block_ir.specs.declared.plan.StagePlan.TheVariants as planned
-use Rattle.least_plan.specs.Planned.{IsPlannedStage, EachPlanned, StageReaches, SomeReaches, IsPlanned}
+use Rattle.least_plan.specs.Planned.{IsPlannedStage, EachPlanned, StageReaches, SomeReaches, IsPlanned, IsNumbered}
 use Rattle.least_plan.specs.Stages.{IsPlannedAlone}
 
 -- more registers serve too
 stage_more : (n m : ℕ) (s : Stage) (p : StagePlan) → n ≤ m → IsPlannedStage n s p → IsPlannedStage m s p
-stage_more n m (stage.Run b) (planned.Run p) l h = λ few. (let w = h few in (w.0, w.1, (let k = w.2 in omega arith)))
+stage_more n m (stage.Run b) (planned.Run p) l h = (h.0, h.1, (let k = h.2 in omega arith))
 stage_more n m (stage.Act a next) planned.Act l h = tt
 stage_more n m (stage.Run b) planned.Act l h = absurd h
 stage_more n m (stage.Act a next) (planned.Run p) l h = absurd h
@@ -46,17 +47,17 @@ reaches_last n m (x ∷ ss) (y ∷ ps) s p e h = inr (reaches_last n m ss ps s p
 reaches_last n m [] (y ∷ ps) s p e h = absurd e
 reaches_last n m (x ∷ ss) [] s p e h = absurd e
 
-alone_served : (n count : ℕ) (s : Stage) (p : StagePlan) → count ≤ n → IsPlannedAlone s p count → IsPlannedStage n s p
-alone_served n count (stage.Run b) (planned.Run p) l h = λ few. (count, h few, l)
-alone_served n count (stage.Act a next) planned.Act l h = tt
-alone_served n count (stage.Run b) planned.Act l h = absurd h
-alone_served n count (stage.Act a next) (planned.Run p) l h = absurd h
+alone_served : (n count : ℕ) (s : Stage) (p : StagePlan) → IsNumbered s → count ≤ n → IsPlannedAlone s p count → IsPlannedStage n s p
+alone_served n count (stage.Run b) (planned.Run p) few l h = (count, h few, l)
+alone_served n count (stage.Act a next) planned.Act few l h = tt
+alone_served n count (stage.Run b) planned.Act few l h = absurd h
+alone_served n count (stage.Act a next) (planned.Run p) few l h = absurd h
 
-alone_reaches : (count : ℕ) (s : Stage) (p : StagePlan) → IsPlannedAlone s p count → (count ≡ 0) ⊎ StageReaches count s p
-alone_reaches count (stage.Run b) (planned.Run p) h = inr h
-alone_reaches count (stage.Act a next) planned.Act h = inl h
-alone_reaches count (stage.Run b) planned.Act h = absurd h
-alone_reaches count (stage.Act a next) (planned.Run p) h = absurd h
+alone_reaches : (count : ℕ) (s : Stage) (p : StagePlan) → IsNumbered s → IsPlannedAlone s p count → (count ≡ 0) ⊎ StageReaches count s p
+alone_reaches count (stage.Run b) (planned.Run p) few h = inr (h few)
+alone_reaches count (stage.Act a next) planned.Act few h = inl h
+alone_reaches count (stage.Run b) planned.Act few h = absurd h
+alone_reaches count (stage.Act a next) (planned.Run p) few h = absurd h
 
 abbrev pub IsReached : ℕ → List Stage → List StagePlan → Type 0
 IsReached n ss ps = (n ≡ 0) ⊎ SomeReaches n ss ps
@@ -72,14 +73,14 @@ item_is (x ∷ ss) zero s l e = ap Some (sym e)
 item_is (x ∷ ss) (suc i) s l e = item_is ss i s (omega arith) e
 
 module _ (ss : List Stage) (ps : List StagePlan) (n : ℕ) (s : Stage) (p : StagePlan) (count : ℕ) (each : EachPlanned n ss ps) (reached : IsReached n ss ps)
-    (alone : IsPlannedAlone s p count) where
+    (few : IsNumbered s) (alone : IsPlannedAlone s p count) where
   next_each : EachPlanned (max n count) (ss ++ s ∷ []) (ps ++ p ∷ [])
-  next_each = each-append (max n count) ss ps s p (each_more n (max n count) ss ps (grind arith) each) (alone_served (max n count) count s p (grind arith) alone)
+  next_each = each-append (max n count) ss ps s p (each_more n (max n count) ss ps (grind arith) each) (alone_served (max n count) count s p few (grind arith) alone)
 
   next_reached : (n < count) ⊎ (count ≤ n) → IsReached (max n count) (ss ++ s ∷ []) (ps ++ p ∷ [])
   next_reached (inl l) =
       let e : count ≡ max n count = grind arith in
-      subst (λ (z : ℕ). IsReached z (ss ++ s ∷ []) (ps ++ p ∷ [])) e (by_alone (alone_reaches count s p alone))
+      subst (λ (z : ℕ). IsReached z (ss ++ s ∷ []) (ps ++ p ∷ [])) e (by_alone (alone_reaches count s p few alone))
     where
       by_alone : (count ≡ 0) ⊎ StageReaches count s p → IsReached count (ss ++ s ∷ []) (ps ++ p ∷ [])
       by_alone (inl z) = inl z
@@ -92,19 +93,23 @@ module _ (ss : List Stage) (ps : List StagePlan) (n : ℕ) (s : Stage) (p : Stag
       by_before (inl z) = inl z
       by_before (inr r) = inr (reaches_first n n ss ps s p each r)
 
+numbered_at : (ss : List Stage) (i : ℕ) (s : Stage) → AllByRecursion IsNumbered ss → slice_get ss i ≡ Some s → IsNumbered s
+numbered_at [] i s all e = absurd cc
+numbered_at (x ∷ ss) zero s all e = let same : x ≡ s = cc in subst IsNumbered same all.0
+numbered_at (x ∷ ss) (suc i) s all e = numbered_at ss i s all.1 e
+
 -- what holds of the stages so far
 pub record SoFar (n : ℕ) (ss : List Stage) (ps : List StagePlan) : Type 0 where
   pub each : EachPlanned n ss ps
   pub reached : IsReached n ss ps
 
-pub next_stage : (ss : List Stage) (i n m count : ℕ) (s : Stage) (p : StagePlan) (ps qs : List StagePlan) → slice_get ss i ≡ Some s → SoFar n (take i ss) ps →
-    IsPlannedAlone s p count →
-    m ≡ max n count → qs ≡ ps ++ p ∷ [] → SoFar m (take (i + 1) ss) qs
-next_stage ss i n m count s p ps qs e sofar alone f g =
+pub next_stage : (ss : List Stage) (i n m count : ℕ) (s : Stage) (p : StagePlan) (ps qs : List StagePlan) → slice_get ss i ≡ Some s →
+    AllByRecursion IsNumbered ss → SoFar n (take i ss) ps → IsPlannedAlone s p count → m ≡ max n count → qs ≡ ps ++ p ∷ [] → SoFar m (take (i + 1) ss) qs
+next_stage ss i n m count s p ps qs e all sofar alone f g =
     let t : take (i + 1) ss ≡ take i ss ++ s ∷ [] = ap (λ (k : ℕ). take k ss) (add-one i) ∙ take_next ss i s e in
     rw (f, g, t) (record {
-      each = next_each (take i ss) ps n s p count sofar.each sofar.reached alone;
-      reached = next_reached (take i ss) ps n s p count sofar.each sofar.reached alone (cases_lt n count);
+      each = next_each (take i ss) ps n s p count sofar.each sofar.reached (numbered_at ss i s all e) alone;
+      reached = next_reached (take i ss) ps n s p count sofar.each sofar.reached (numbered_at ss i s all e) alone (cases_lt n count);
     })
 
 take_past : (ss : List Stage) (i : ℕ) → length ss ≤ i → take i ss ≡ ss

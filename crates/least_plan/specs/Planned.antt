@@ -51,7 +51,7 @@ pub record IsPlannedRun (b : Block) (p : BlockPlan) (count : ℕ) : Type 0 where
 
 -- so many registers serve the stage, and no more are used in a state of it than `count`
 abbrev pub IsPlannedStage : ℕ → Stage → StagePlan → Type 0
-IsPlannedStage registers (stage.Run b) (planned.Run p) = length b.operations < 2 ^ 32 → (count : ℕ) × IsPlannedRun b p count × (count ≤ registers)
+IsPlannedStage registers (stage.Run b) (planned.Run p) = (count : ℕ) × IsPlannedRun b p count × (count ≤ registers)
 IsPlannedStage registers (stage.Act a next) planned.Act = Unit {0}
 IsPlannedStage registers (stage.Run b) planned.Act = ⊥
 IsPlannedStage registers (stage.Act a next) (planned.Run p) = ⊥
@@ -64,7 +64,7 @@ EachPlanned registers (s ∷ ss) [] = ⊥
 
 -- some state of a stage uses so many registers
 abbrev pub StageReaches : ℕ → Stage → StagePlan → Type 0
-StageReaches registers (stage.Run b) (planned.Run p) = length b.operations < 2 ^ 32 → IsPlannedRun b p registers
+StageReaches registers (stage.Run b) (planned.Run p) = IsPlannedRun b p registers
 StageReaches registers (stage.Act a next) planned.Act = ⊥
 StageReaches registers (stage.Run b) planned.Act = ⊥
 StageReaches registers (stage.Act a next) (planned.Run p) = ⊥
@@ -83,14 +83,20 @@ pub record IsPlanned (code : ThreadCode) (p : Planned) : Type 0 where
 abbrev pub PlansAgree : Type 0
 PlansAgree = (b : Block) (p q : BlockPlan) → IsPlannedBlock b p → IsPlannedBlock b q → p ≡ q
 
--- the operations of a block have numbers of 32 bits
+-- A CODE HAS AT MOST ONE PLAN
+abbrev pub CodePlansAgree : Type 0
+CodePlansAgree = (code : ThreadCode) (p q : Planned) → IsPlanned code p → IsPlanned code q → p ≡ q
+
+-- ---- codes that are planned: the operations of a block have numbers of 32 bits
+
 abbrev pub IsNumbered : Stage → Type 0
 IsNumbered (stage.Run b) = length b.operations < 2 ^ 32
 IsNumbered (stage.Act a next) = Unit {0}
 
--- A CODE HAS AT MOST ONE PLAN
-abbrev pub CodePlansAgree : Type 0
-CodePlansAgree = (code : ThreadCode) (p q : Planned) → AllByRecursion IsNumbered code.stages → IsPlanned code p → IsPlanned code q → p ≡ q
+abbrev pub IsNumberedCode : ThreadCode → Type 0
+IsNumberedCode code = AllByRecursion IsNumbered code.stages
+
+-- ---- laws of planned blocks and codes
 
 -- THE PLAN KEEPS THE ORDERS of every block in order, as plans see it
 abbrev pub PlanKeepsOrders : Type 0

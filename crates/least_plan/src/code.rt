@@ -1,6 +1,6 @@
 // The plan of the code of a thread.
 ghost use Rattle.std.specs.Prelude.{◌≤◌, ◌≡◌, IfOk, max};
-ghost use Rattle.least_plan.specs.Planned.{IsPlanned};
+ghost use Rattle.least_plan.specs.Planned.{IsNumberedCode, IsPlanned};
 ghost use Rattle.least_plan.specs.Stages.{IsPlannedAlone};
 
 use crate::blocks::plan_block;
@@ -18,8 +18,10 @@ pub struct PlannedStage {
 
 /// The plan of the code: of each block least starts, shared units and packed registers, and as many registers as some
 /// state of some block uses. The only error is want of memory.
+///
+/// A code with a block of 2 ^ 32 operations or more, whose values have no names, gets some plan.
 pub fn plan(alloc: Global, code: &ThreadCode) -> Result<Planned, AllocError>
-    ensures { IfOk result (IsPlanned code.now) }
+    ensures { IfOk result (λ p. IsNumberedCode code.now → IsPlanned code.now p) }
 {
     let mut stages = Items::new(alloc);
     let mut registers = 0;

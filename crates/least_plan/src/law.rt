@@ -13,7 +13,7 @@ pub fn plans_agree()
     registers_agree();
 }
 
-/// A code each of whose blocks has fewer than 2 ^ 32 operations has at most one plan.
+/// A code has at most one plan.
 pub fn code_plans_agree()
     ensures { CodePlansAgree }
 {

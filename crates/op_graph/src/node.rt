@@ -26,7 +26,7 @@ pub enum Kind {
 }
 
 /// An operation of a block, and the earlier ones whose values it uses.
-#[derive(Clone, Copy, PartialEq, Eq, Debug)]
+#[derive(Clone, Copy, PartialEq, Eq)]
 pub struct Node {
     pub kind: Kind,
     /// The left operand of an operator, or the index of an access.

@@ -3,7 +3,7 @@ use Rattle.std.proofs.Common.{◌≡◌, ℕ, ◌+◌, ◌<◌, ◌≤◌, List,
 use Rattle.std.proofs.lemmas.List.{take_more, take_all}
 use Rattle.block_ir.specs.declared.code.ThreadCode.{ThreadCode}
 use Rattle.block_ir.specs.declared.plan.Planned.{Planned}
-use Rattle.least_plan.specs.Planned.{IsPlanned}
+use Rattle.least_plan.specs.Planned.{IsNumberedCode, IsPlanned}
 use Rattle.parallel_plan.specs.Plans.{ArePlanned}
 
 pub planned-append : (cs ds : List ThreadCode) (ps qs : List Planned) → ArePlanned cs ps → ArePlanned ds qs → ArePlanned (cs ++ ds) (ps ++ qs)
@@ -17,7 +17,7 @@ none_planned [] plans e = rw e tt
 none_planned (c ∷ cs) plans e = rw e tt
 
 pub next_planned : (codes : List ThreadCode) (i : ℕ) (code : ThreadCode) (plan : Planned) (plans qs : List Planned) → i < length codes → code ≡ get_or codes i code →
-    ArePlanned (take i codes) plans → IsPlanned code plan → qs ≡ plans ++ plan ∷ [] → ArePlanned (take (i + 1) codes) qs
+    ArePlanned (take i codes) plans → (IsNumberedCode code → IsPlanned code plan) → qs ≡ plans ++ plan ∷ [] → ArePlanned (take (i + 1) codes) qs
 next_planned codes i code plan plans qs l e h one f =
     let t : take (i + 1) codes ≡ take i codes ++ code ∷ [] = take_more codes i code l ∙ ap (λ (z : ThreadCode). take i codes ++ z ∷ []) (sym e) in
     rw (f, t) (planned-append (take i codes) (code ∷ []) plans (plan ∷ []) h (one, tt))

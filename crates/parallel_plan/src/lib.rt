@@ -4,7 +4,5 @@
 pub mod law;
 mod plans;
 mod shares;
-#[cfg(test)]
-mod tests;
 
 pub use plans::plan_all;

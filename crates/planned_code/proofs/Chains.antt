@@ -20,7 +20,7 @@ use Rattle.block_refine.specs.Threads.{block_at, plan_at, blocks_of, plans_of}
 use Rattle.right_plan.specs.Right.{IsRight, IsRightPlan}
 use Rattle.right_plan.proofs.Stages.{right_plans_are_there}
 use Rattle.planned_code.specs.Planned.{PlansAreSmall}
-use Rattle.ir_lower.specs.Typed.{types_of, IsTypedBlock, IsTypedCode}
+use Rattle.code_following.specs.Typed.{types_of, IsTypedBlock, IsTypedCode}
 
 latency_most : (kind : Kind) → latency kind ≤ 8
 latency_most (Simple f) = omega arith

@@ -24,8 +24,8 @@ use Rattle.operator_words.specs.Shown.{unary_result, binary_result}
 use Rattle.thread_promise.specs.Types as promise
 use Rattle.bank_partition.specs.declared.banks.Spread.{Spread}
 use Rattle.thread_promise.specs.Globals.{IsGlobalOf, IsAccess}
-use Rattle.ir_lower.specs.Typed.{Types, type_there, element_there, IsArray, last_type, source_type, operand_type, value_type}
-use Rattle.ir_lower.specs.Typed.{IsTypedSource, IsTypedOperand, IsTypedOperation, AreTyped, IsTypedFinal, IsTypedNext, IsTypedBlock}
+use Rattle.code_following.specs.Typed.{Types, type_there, element_there, IsArray, last_type, source_type, operand_type, value_type}
+use Rattle.code_following.specs.Typed.{IsTypedSource, IsTypedOperand, IsTypedOperation, AreTyped, IsTypedFinal, IsTypedNext, IsTypedBlock}
 
 get_within : {A : Type 0} (xs : List A) (i : ℕ) (v : A) → slice_get xs i ≡ Some v → i < length xs
 get_within [] i v e = cc

@@ -15,7 +15,7 @@ use Rattle.block_ir.specs.declared.code.ThreadCode.{ThreadCode}
 use Rattle.block_ir.specs.declared.plan.BlockPlan.{BlockPlan}
 use Rattle.block_ir.specs.declared.plan.Planned.{Planned}
 use Rattle.right_plan.specs.Right.{IsRightPlan}
-use Rattle.ir_lower.specs.Typed.{types_of, IsTypedNext, IsTypedStage, IsTypedCode}
+use Rattle.code_following.specs.Typed.{types_of, IsTypedNext, IsTypedStage, IsTypedCode}
 use Rattle.thread_promise.specs.Promise.{RunsAt}
 use Rattle.bank_partition.specs.declared.banks.Spread.{Spread}
 use Rattle.bank_partition.specs.Shapes.{count_of, spreads_from}

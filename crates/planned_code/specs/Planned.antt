@@ -10,7 +10,7 @@ use Rattle.block_ir.specs.declared.plan.BlockPlan.{BlockPlan}
 use Rattle.block_ir.specs.declared.plan.StagePlan.TheVariants as planned
 use Rattle.block_ir.specs.declared.plan.Planned.{Planned}
 use Rattle.code_following.specs.Following.{IsLowered}
-use Rattle.ir_lower.specs.Typed.{IsTypedCode}
+use Rattle.code_following.specs.Typed.{IsTypedCode}
 use Rattle.right_plan.specs.Right.{IsRightPlan}
 use Rattle.program_machine.specs.Built.{IsCode}
 

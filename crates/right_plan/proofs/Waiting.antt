@@ -3,6 +3,7 @@ use Rattle.std.proofs.Common.{◌≡◌, ◌<◌, true, false, ◌⊎◌, inl, i
 use Rattle.std.proofs.lemmas.Bool.{cases_Bool}
 use Rattle.planned_block.specs.Block.{Kind, Simple, Multiply, Divide, BankRead, BankWrite, ArrayRead, ArrayWrite, operation_at}
 use Rattle.planned_block.specs.Plan.{further_states, is_simple, last_state}
+use Rattle.planned_block.specs.Slot.{is_request}
 use Rattle.right_plan.specs.Right.{TableGivesRegisters}
 
 simple_now : (kind : Kind) → is_simple kind ≡ true → further_states kind ≡ 0
@@ -13,6 +14,16 @@ simple_now (BankRead x) e = absurd cc
 simple_now (BankWrite x) e = absurd cc
 simple_now (ArrayRead x) e = absurd cc
 simple_now (ArrayWrite x) e = absurd cc
+
+-- a request is no mere logic
+pub request_is_slow : (kind : Kind) → is_request kind ≡ true → is_simple kind ≡ false
+request_is_slow (Simple f) e = absurd cc
+request_is_slow (Multiply f) e = refl
+request_is_slow (Divide f) e = refl
+request_is_slow (BankRead x) e = refl
+request_is_slow (BankWrite x) e = refl
+request_is_slow (ArrayRead x) e = refl
+request_is_slow (ArrayWrite x) e = refl
 
 pub works_from_registers : TableGivesRegisters
 works_from_registers b p t j k below complex uses = by_kind (cases_Bool (is_simple (operation_at b j).kind))

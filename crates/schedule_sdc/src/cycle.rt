@@ -8,7 +8,7 @@ use crate::history::Step;
 use std::alloc::{AllocError, Global};
 
 /// Two steps of one place, the earlier behind the later.
-#[derive(Clone, Copy, Debug)]
+#[derive(Clone, Copy)]
 pub struct Return {
     pub later: usize,
     pub earlier: usize,

@@ -9,7 +9,7 @@ use crate::relax::later_start;
 use std::alloc::AllocError;
 
 /// A start that a place had at some time, and the step from which a constraint gave it.
-#[derive(Clone, Copy, Debug)]
+#[derive(Clone, Copy)]
 pub struct Step {
     pub place: usize,
     /// The index of the step before it; its own, where none is.
@@ -21,7 +21,7 @@ pub struct Step {
 }
 
 /// What a constraint did to the start of its place.
-#[derive(Clone, Copy, PartialEq, Eq, Debug)]
+#[derive(Clone, Copy, PartialEq, Eq)]
 pub enum Change {
     /// It was met.
     Kept,

@@ -1,6 +1,6 @@
 use Rattle.std.proofs.Common.{◌≡◌, ◌++◌, List, length, take}
 use Rattle.block_ir.specs.declared.block.Final.{Final}
-use Rattle.ir_lower.specs.Closing.{HasNoted}
+use Rattle.straight_code.specs.Closing.{HasNoted}
 use Rattle.block_merge.specs.Joined as spec
 use Rattle.block_merge.proofs.joining.hold.Given as goal
 

@@ -1,5 +1,5 @@
 use Rattle.ir_lower.proofs.Stepping.{break_at}
-use Rattle.ir_lower.proofs.Proceeding.{break_proceeds}
+use Rattle.code_places.proofs.Proceeding.{break_proceeds}
 use Rattle.ir_lower.proofs.simple.lower_break.Goals as goal
 
 pub returns-clause-lowers : goal.returns-clause-lowers

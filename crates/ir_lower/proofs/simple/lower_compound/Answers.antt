@@ -1,7 +1,7 @@
 use Rattle.std.proofs.Common.{refl}
 use Rattle.c_program.specs.Plain.{expression_of, place_of}
 use Rattle.ir_lower.proofs.Stepping.{update_at}
-use Rattle.ir_lower.proofs.Proceeding.{proceeds_same}
+use Rattle.code_places.proofs.Proceeding.{proceeds_same}
 use Rattle.ir_lower.proofs.simple.lower_compound.Goals as goal
 
 pub returns-clause-lowers : goal.returns-clause-lowers

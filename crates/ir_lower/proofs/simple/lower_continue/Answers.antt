@@ -1,5 +1,5 @@
 use Rattle.ir_lower.proofs.Stepping.{continue_at}
-use Rattle.ir_lower.proofs.Proceeding.{continue_proceeds}
+use Rattle.code_places.proofs.Proceeding.{continue_proceeds}
 use Rattle.ir_lower.proofs.simple.lower_continue.Goals as goal
 
 pub returns-clause-lowers : goal.returns-clause-lowers

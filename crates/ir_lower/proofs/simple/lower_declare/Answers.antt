@@ -1,6 +1,6 @@
 use Rattle.std.proofs.Common.{refl}
 use Rattle.ir_lower.proofs.Stepping.{declare_at}
-use Rattle.ir_lower.proofs.Proceeding.{proceeds_same}
+use Rattle.code_places.proofs.Proceeding.{proceeds_same}
 use Rattle.ir_lower.proofs.simple.lower_declare.Goals as goal
 
 pub returns-clause-lowers : goal.returns-clause-lowers

@@ -2,8 +2,8 @@ use Rattle.std.proofs.Common.{Some, None, ap}
 use Rattle.c_program.specs.Plain.{returned_of, right_side_of}
 use Rattle.c_program.specs.Tree.{Statement}
 use Rattle.ir_lower.proofs.Stepping.{lowers_is}
-use Rattle.ir_lower.proofs.Backing.{empty_return_at}
-use Rattle.ir_lower.proofs.Proceeding.{nothing_proceeds}
+use Rattle.code_calls.proofs.Backing.{empty_return_at}
+use Rattle.code_calls.proofs.Proceeding.{nothing_proceeds}
 use Rattle.ir_lower.proofs.simple.lower_returned.Goals as goal
 
 pub returns-in_ok-return_nothing-in-None-clause-lowers : goal.returns-in_ok-return_nothing-in-None-clause-lowers

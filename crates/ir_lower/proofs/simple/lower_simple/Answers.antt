@@ -2,7 +2,7 @@ use Rattle.std.proofs.Common.{sym, ap, ◌∙◌}
 use Rattle.c_program.specs.Plain.{expression_of, expressions_of, pieces_of, place_of, returned_of, right_side_of, statement_of}
 use Rattle.c_program.specs.Tree.{Statement}
 use Rattle.ir_lower.proofs.Stepping.{done_at, empty_at, lowers_is}
-use Rattle.ir_lower.proofs.Proceeding.{proceeds_refl}
+use Rattle.code_places.proofs.Proceeding.{proceeds_refl}
 use Rattle.ir_lower.proofs.simple.lower_simple.Goals as goal
 
 pub returns-in-Empty-clause-lowers : goal.returns-in-Empty-clause-lowers
@@ -16,14 +16,20 @@ returns-in_ok-lower_declare-in-Declare-clause-lowers c = λ P.
 
 pub returns-in_ok-lower_assign-in-Assign-clause-lowers : goal.returns-in_ok-lower_assign-in-Assign-clause-lowers
 returns-in_ok-lower_assign-in-Assign-clause-lowers c = λ P.
-    lowers_is P c.args.around (Statement.Assign c.in-Assign.field-0 (place_of c.in-Assign.place) (right_side_of c.in-Assign.right)) (statement_of c.args.statement.now) c.args.code.now
-    c.lower_assign.new.code (ap statement_of c.in-Assign.is) (c.in_ok-lower_assign-in-Assign.ensures.lowers c.in-Assign.field-0 P c.args.around)
+    lowers_is P c.args.around (Statement.Assign c.in-Assign.field-0 (place_of c.deref.result.now) (right_side_of c.in-Assign.right)) (statement_of c.args.statement.now) c.args.code.now
+    c.lower_assign.new.code
+    (ap statement_of c.in-Assign.is ∙ ap (λ z. Statement.Assign c.in-Assign.field-0 (place_of z) (right_side_of c.in-Assign.right)) (sym c.deref.ensures))
+    (c.in_ok-lower_assign-in-Assign.ensures.lowers c.in-Assign.field-0 P c.args.around)
 
 pub returns-in_ok-lower_compound-in-Update-clause-lowers : goal.returns-in_ok-lower_compound-in-Update-clause-lowers
 returns-in_ok-lower_compound-in-Update-clause-lowers c = λ P.
-    lowers_is P c.args.around (Statement.Update c.in-Update.field-0 (place_of c.in-Update.place) c.in-Update.operator c.in-Update.ty (expression_of c.in-Update.right))
+    lowers_is P c.args.around (Statement.Update c.in-Update.field-0 (place_of c.deref-in-Update.result.now) c.in-Update.operator c.in-Update.ty (expression_of c.deref-in-Update-2.result.now))
     (statement_of c.args.statement.now)
-    c.args.code.now c.lower_compound.new.code (ap statement_of c.in-Update.is) (c.in_ok-lower_compound-in-Update.ensures.lowers c.in-Update.field-0 P c.args.around)
+    c.args.code.now c.lower_compound.new.code
+    (ap statement_of c.in-Update.is
+    ∙ ap (λ z. Statement.Update c.in-Update.field-0 (place_of z) c.in-Update.operator c.in-Update.ty (expression_of c.in-Update.right.value)) (sym c.deref-in-Update.ensures)
+    ∙ ap (λ z. Statement.Update c.in-Update.field-0 (place_of c.deref-in-Update.result.now) c.in-Update.operator c.in-Update.ty (expression_of z)) (sym c.deref-in-Update-2.ensures))
+    (c.in_ok-lower_compound-in-Update.ensures.lowers c.in-Update.field-0 P c.args.around)
 
 pub returns-in_ok-lower_returned-in-Return-clause-lowers : goal.returns-in_ok-lower_returned-in-Return-clause-lowers
 returns-in_ok-lower_returned-in-Return-clause-lowers c = λ P.
@@ -32,10 +38,10 @@ returns-in_ok-lower_returned-in-Return-clause-lowers c = λ P.
 
 pub returns-in_ok-lower_print-in-Print-clause-lowers : goal.returns-in_ok-lower_print-in-Print-clause-lowers
 returns-in_ok-lower_print-in-Print-clause-lowers c = λ P.
-    lowers_is P c.args.around (Statement.Print c.in-Print.field-0 (pieces_of c.deref.result.now) (expressions_of c.deref-in-Print.result.now)) (statement_of c.args.statement.now) c.args.code.now
+    lowers_is P c.args.around (Statement.Print c.in-Print.field-0 (pieces_of c.deref-in-Print.result.now) (expressions_of c.deref-in-Print-2.result.now)) (statement_of c.args.statement.now) c.args.code.now
     c.lower_print.new.code
-    (ap statement_of c.in-Print.is ∙ ap (λ f. Statement.Print c.in-Print.field-0 (pieces_of f) (expressions_of c.in-Print.arguments.items)) (sym c.deref.ensures.value)
-    ∙ ap (λ a. Statement.Print c.in-Print.field-0 (pieces_of c.deref.result.now) (expressions_of a)) (sym c.deref-in-Print.ensures.value))
+    (ap statement_of c.in-Print.is ∙ ap (λ f. Statement.Print c.in-Print.field-0 (pieces_of f) (expressions_of c.in-Print.arguments.items)) (sym c.deref-in-Print.ensures.value)
+    ∙ ap (λ a. Statement.Print c.in-Print.field-0 (pieces_of c.deref-in-Print.result.now) (expressions_of a)) (sym c.deref-in-Print-2.ensures.value))
     (c.in_ok-lower_print-in-Print.ensures.lowers c.in-Print.field-0 P c.args.around)
 
 pub returns-in-Done-clause-lowers : goal.returns-in-Done-clause-lowers

@@ -4,22 +4,27 @@ use Rattle.std.proofs.lemmas.Result.{err_from_is_err_and}
 use Rattle.c_program.specs.Limits.{print_count}
 use Rattle.c_program.specs.Plain.{function_of, place_of, program_of, returned_of, right_side_of, condition_of, expressions_of, statement_of}
 use Rattle.c_program.specs.Tree.{RightSide, Statement}
-use Rattle.ir_lower.specs.Doing.{at_site, OpensTurn}
-use Rattle.ir_lower.specs.declared.lowering.Lowering.{Lowering}
+use Rattle.code_places.specs.Doing.{at_site}
+use Rattle.code_control.specs.Branching.{OpensTurn}
+use Rattle.code_places.specs.declared.lowering.Lowering.{Lowering}
 use Rattle.ir_lower.specs.Taken.{is_taken}
-use Rattle.ir_lower.proofs.Advancing.{None_, advances_both}
-use Rattle.ir_lower.proofs.Proceeding.{proceeds_both, proceeds_same, targets_after, back_after, choice_advance, choice_proceeds}
-use Rattle.ir_lower.proofs.Proceeding.{choice_targets, choice_back_first, choice_back_target, choice_apart, join_open, false_open, join_open_after}
-use Rattle.ir_lower.proofs.Proceeding.{while_proceeds, while_targets, while_head, while_leaving, do_proceeds, do_targets}
-use Rattle.ir_lower.proofs.Proceeding.{do_turning, do_leaving, do_apart, for_proceeds, for_targets, for_turning, for_head, for_leaving}
-use Rattle.ir_lower.proofs.Proceeding.{turn_back_target, do_back_target, for_back_target, taken_body, call_back_target}
-use Rattle.ir_lower.proofs.Proceeding.{done_open, done_back, calls_proceed, delivers_proceed, hands_proceed, closed_reached}
-use Rattle.ir_lower.proofs.Continuing.{call_lowers, call_assigned, call_returned}
+use Rattle.code_places.proofs.Advancing.{None_, advances_both}
+use Rattle.code_places.proofs.Proceeding.{proceeds_both, proceeds_same, targets_after, back_after}
+use Rattle.code_control.proofs.Proceeding.{choice_advance, choice_proceeds}
+use Rattle.code_control.proofs.Proceeding.{choice_targets, choice_back_first, choice_back_target, choice_apart, join_open, false_open, join_open_after}
+use Rattle.code_control.proofs.Proceeding.{while_proceeds, while_targets, while_head, while_leaving, do_proceeds, do_targets}
+use Rattle.code_control.proofs.Proceeding.{do_turning, do_leaving, do_apart, for_proceeds, for_targets, for_turning, for_head, for_leaving}
+use Rattle.code_control.proofs.Proceeding.{turn_back_target, do_back_target, for_back_target}
+use Rattle.ir_lower.proofs.Proceeding.{taken_body}
+use Rattle.code_calls.proofs.Proceeding.{call_back_target}
+use Rattle.code_calls.proofs.Proceeding.{done_open, done_back, calls_proceed, delivers_proceed, hands_proceed, closed_reached}
+use Rattle.code_calls.proofs.Continuing.{call_lowers, call_assigned, call_returned}
 use Rattle.ir_lower.proofs.Sizes.{nested_size, measure_falls}
-use Rattle.ir_lower.proofs.Filling.{skipped_for, block_for, choice_condition, one_for, other_for, while_condition, while_body, do_body, do_condition, for_first, for_condition, for_body, for_last}
-use Rattle.ir_lower.proofs.Filling.{behind_more, behind_first}
-use Rattle.ir_lower.proofs.Overfull.{call_too_deep, call_unknown, call_body, call_closing, call_for, assigned_for, returned_for, delivery_for, handing_for}
-use Rattle.ir_lower.proofs.Nesting.{both_true, skips, simple_lowers, block_lowers, choice_lowers, while_lowers, do_lowers, for_lowers, via_more, via_last}
+use Rattle.code_control.proofs.Filling.{skipped_for, block_for, choice_condition, one_for, other_for, while_condition, while_body, do_body, do_condition, for_first}
+use Rattle.code_control.proofs.Filling.{for_condition, for_body, for_last}
+use Rattle.code_control.proofs.Filling.{behind_more, behind_first}
+use Rattle.code_calls.proofs.Overfull.{call_too_deep, call_unknown, call_body, call_closing, call_for, assigned_for, returned_for, delivery_for, handing_for}
+use Rattle.code_control.proofs.Nesting.{both_true, skips, simple_lowers, block_lowers, choice_lowers, while_lowers, do_lowers, for_lowers, via_more, via_last}
 use Rattle.ir_lower.proofs.Whole.{get_map, get_none}
 use Rattle.ir_lower.proofs.statements.+statements.Goals as goal
 
@@ -556,10 +561,11 @@ lower_statement-returns-in_ok-lower_delivery-in-Call-right-clause-lowers t c =
     let s = statement_of c.loop-rest.rest.now in
     let es = expressions_of c.deref-in-Call-right.result.now in
     via_last (program_of c.args.program.now) c.args.around (statement_of c.args.statement.now) s c.args.code.now c.loop-rest.code c.lower_delivery.new.code c.loop-rest.invariant.via
-    (call_assigned (program_of c.args.program.now) c.args.around s x.field-0 (place_of x.place) y.function es c.loop-rest.code c.lower_call-in-Call-right.new.code c.lower_delivery.new.code
+    (call_assigned (program_of c.args.program.now) c.args.around s x.field-0 (place_of c.deref-in-Call-right-2.result.now) y.function es c.loop-rest.code c.lower_call-in-Call-right.new.code c.lower_delivery.new.code
     (sym c.is_reached.ensures ∙ c.if-not-is_reached.false)
-    (ap statement_of x.is ∙ ap (λ z. Statement.Assign x.field-0 (place_of x.place) (right_side_of z)) y.is
-    ∙ ap (λ a. Statement.Assign x.field-0 (place_of x.place) (RightSide.Call y.function (expressions_of a))) (sym c.deref-in-Call-right.ensures.value))
+    (ap statement_of x.is ∙ ap (λ z. Statement.Assign x.field-0 (place_of x.place.value) (right_side_of z)) y.is
+    ∙ ap (λ a. Statement.Assign x.field-0 (place_of x.place.value) (RightSide.Call y.function (expressions_of a))) (sym c.deref-in-Call-right.ensures.value)
+    ∙ ap (λ z. Statement.Assign x.field-0 (place_of z) (RightSide.Call y.function es)) (sym c.deref-in-Call-right-2.ensures))
     c.in_ok-lower_call-in-Call-right.ensures.calls c.in_ok-lower_delivery-in-Call-right.ensures.delivers)
 
 pub lower_statement-returns-in_ok-lower_handing-in-Call-value-clause-lowers : goal.lower_statement-returns-in_ok-lower_handing-in-Call-value-clause-lowers
@@ -710,10 +716,10 @@ pub lower_statement-returns-in_err-lower_call-in-Call-right-clause-full : goal.l
 lower_statement-returns-in_err-lower_call-in-Call-right-clause-full t c =
     let p = err_from_is_err_and c.from_residual-in_err-lower_call-in-Call-right.result c.from_residual-in_err-lower_call-in-Call-right.ensures.1 in
     rw (p.1, p.2) (c.loop-rest.invariant.behind.full _
-    (assigned_for (program_of c.args.program.now) c.args.depth (statement_of c.loop-rest.rest.now) c.in-Assign.field-0 (place_of c.in-Assign.place) c.in-Call-right.function
+    (assigned_for (program_of c.args.program.now) c.args.depth (statement_of c.loop-rest.rest.now) c.in-Assign.field-0 (place_of c.in-Assign.place.value) c.in-Call-right.function
     (expressions_of c.deref-in-Call-right.result.now) c.loop-rest.code _
-    (ap statement_of c.in-Assign.is ∙ ap (λ z. Statement.Assign c.in-Assign.field-0 (place_of c.in-Assign.place) (right_side_of z)) c.in-Call-right.is
-    ∙ ap (λ a. Statement.Assign c.in-Assign.field-0 (place_of c.in-Assign.place) (RightSide.Call c.in-Call-right.function (expressions_of a)))
+    (ap statement_of c.in-Assign.is ∙ ap (λ z. Statement.Assign c.in-Assign.field-0 (place_of c.in-Assign.place.value) (right_side_of z)) c.in-Call-right.is
+    ∙ ap (λ a. Statement.Assign c.in-Assign.field-0 (place_of c.in-Assign.place.value) (RightSide.Call c.in-Call-right.function (expressions_of a)))
     (sym c.deref-in-Call-right.ensures.value)) c.in_err-lower_call-in-Call-right.ensures.full))
 
 pub lower_statement-returns-in_err-lower_call-in-Call-value-clause-full : goal.lower_statement-returns-in_err-lower_call-in-Call-value-clause-full
@@ -735,7 +741,7 @@ pub lower_statement-returns-in_ok-lower_delivery-in-Call-right-clause-labels : g
 lower_statement-returns-in_ok-lower_delivery-in-Call-right-clause-labels t c =
     proceeds_both c.args.around c.args.code.now c.loop-rest.code c.lower_delivery.new.code c.loop-rest.invariant.proceeds
     (proceeds_both c.args.around c.loop-rest.code c.lower_call-in-Call-right.new.code c.lower_delivery.new.code (c.in_ok-lower_call-in-Call-right.ensures.labels c.args.around)
-    (delivers_proceed (place_of c.in-Assign.place) c.lower_call-in-Call-right.new.code c.lower_delivery.new.code c.in_ok-lower_delivery-in-Call-right.ensures.delivers c.args.around))
+    (delivers_proceed (place_of c.deref-in-Call-right-2.result.now) c.lower_call-in-Call-right.new.code c.lower_delivery.new.code c.in_ok-lower_delivery-in-Call-right.ensures.delivers c.args.around))
 
 pub lower_statement-returns-in_ok-lower_handing-in-Call-value-clause-labels : goal.lower_statement-returns-in_ok-lower_handing-in-Call-value-clause-labels
 lower_statement-returns-in_ok-lower_handing-in-Call-value-clause-labels t c =
@@ -757,11 +763,13 @@ pub lower_statement-returns-in_err-lower_delivery-in-Call-right-clause-full : go
 lower_statement-returns-in_err-lower_delivery-in-Call-right-clause-full t c =
     let p = err_from_is_err_and c.from_residual-in_err-lower_delivery-in-Call-right.result c.from_residual-in_err-lower_delivery-in-Call-right.ensures.1 in
     rw (p.1, p.2) (c.loop-rest.invariant.behind.full _
-    (delivery_for (program_of c.args.program.now) c.args.depth (statement_of c.loop-rest.rest.now) c.in-Assign.field-0 (place_of c.in-Assign.place) c.in-Call-right.function
+    (delivery_for (program_of c.args.program.now) c.args.depth (statement_of c.loop-rest.rest.now) c.in-Assign.field-0 (place_of c.deref-in-Call-right-2.result.now) c.in-Call-right.function
     (expressions_of c.deref-in-Call-right.result.now) c.loop-rest.code c.lower_call-in-Call-right.new.code _ (sym c.is_reached.ensures ∙ c.if-not-is_reached.false)
-    (ap statement_of c.in-Assign.is ∙ ap (λ z. Statement.Assign c.in-Assign.field-0 (place_of c.in-Assign.place) (right_side_of z)) c.in-Call-right.is
-    ∙ ap (λ a. Statement.Assign c.in-Assign.field-0 (place_of c.in-Assign.place) (RightSide.Call c.in-Call-right.function (expressions_of a)))
-    (sym c.deref-in-Call-right.ensures.value)) c.in_ok-lower_call-in-Call-right.ensures.calls c.in_err-lower_delivery-in-Call-right.ensures.full))
+    (ap statement_of c.in-Assign.is ∙ ap (λ z. Statement.Assign c.in-Assign.field-0 (place_of c.in-Assign.place.value) (right_side_of z)) c.in-Call-right.is
+    ∙ ap (λ a. Statement.Assign c.in-Assign.field-0 (place_of c.in-Assign.place.value) (RightSide.Call c.in-Call-right.function (expressions_of a)))
+    (sym c.deref-in-Call-right.ensures.value)
+    ∙ ap (λ z. Statement.Assign c.in-Assign.field-0 (place_of z) (RightSide.Call c.in-Call-right.function (expressions_of c.deref-in-Call-right.result.now)))
+    (sym c.deref-in-Call-right-2.ensures)) c.in_ok-lower_call-in-Call-right.ensures.calls c.in_err-lower_delivery-in-Call-right.ensures.full))
 
 pub lower_statement-returns-in_err-lower_handing-in-Call-value-clause-full : goal.lower_statement-returns-in_err-lower_handing-in-Call-value-clause-full
 lower_statement-returns-in_err-lower_handing-in-Call-value-clause-full t c =

@@ -1,6 +1,6 @@
 use Rattle.std.proofs.lemmas.Result.{err_from_is_err_and}
 use Rattle.c_program.specs.Plain.{program_of, statement_of}
-use Rattle.ir_lower.proofs.Overfull.{closing_for}
+use Rattle.code_calls.proofs.Overfull.{closing_for}
 use Rattle.ir_lower.proofs.statements.lower_body.Goals as goal
 
 pub returns-clause-lowers : goal.returns-clause-lowers

@@ -2,8 +2,8 @@ use Rattle.std.proofs.Common.{refl, sym, ap, ◌∙◌, subst, map, arith}
 use Rattle.std.proofs.lemmas.Result.{err_from_is_err_and}
 use Rattle.std.specs.Prelude.{slice_get}
 use Rattle.c_program.specs.Plain.{function_of, program_of}
-use Rattle.ir_lower.specs.Doing.{IsNew}
-use Rattle.ir_lower.specs.Values.{all_values}
+use Rattle.code_places.specs.Doing.{IsNew}
+use Rattle.thread_rooms.specs.Values.{all_values}
 use Rattle.ir_lower.proofs.Ample.{body_full, fault_program, counted_program, variables_few}
 use Rattle.ir_lower.proofs.Proceeding.{taken_body, taken_functions, start_back, ended_fit, ended_first}
 use Rattle.ir_lower.proofs.statements.lower_main.Goals as goal

@@ -1,7 +1,7 @@
 use Rattle.std.proofs.Common.{◌≡◌, ◌≤◌}
 use Rattle.c_program.proofs.tree.Statement.TheLaws.{the_size}
 use Rattle.c_program.specs.Plain.{statement_of}
-use Rattle.ir_lower.specs.Taken.{is_sequential}
+use Rattle.code_places.specs.Sequential.{is_sequential}
 use Rattle.ir_lower.proofs.taken.+is_sequential.Given as goal
 
 abbrev pub invariant-loop-rest : goal.invariant-loop-rest

@@ -1,17 +1,20 @@
-use Rattle.std.proofs.Common.{arith, rules}
+use Rattle.std.proofs.Common.{arith, rules, subst, sym}
+use Rattle.std.specs.List.{AllByRecursion}
+use Rattle.least_plan.specs.Planned.{IsNumbered}
 use Rattle.least_plan.proofs.StageLists.{next_stage, item_is, planned_code, none_yet}
 use Rattle.least_plan.proofs.code.plan.Goals as goal
 
 pub loop-stage-preserved : goal.loop-stage-preserved
-loop-stage-preserved c =
+loop-stage-preserved c = λ all.
     next_stage c.as_slice-stage-items.result.now c.loop-stage.stage-index c.loop-stage.registers _ c.in_ok-planned.planned.registers c.stage-item.result _ c.loop-stage.stages _
     (item_is c.as_slice-stage-items.result.now c.loop-stage.stage-index c.stage-item.result c.loop-stage-test.true c.stage-item.is)
-    c.loop-stage.invariant c.in_ok-planned.ensures c.greater-registers.ensures c.in_ok-push.ensures.ok
+    all (c.loop-stage.invariant all) c.in_ok-planned.ensures c.greater-registers.ensures c.in_ok-push.ensures.ok
 
 pub returns : goal.returns
-returns c =
-    planned_code c.args.code.now _ c.as_slice-stage-items.result.now c.loop-stage.stage-index c.loop-stage.invariant
+returns c = λ all.
+    planned_code c.args.code.now _ c.as_slice-stage-items.result.now c.loop-stage.stage-index
+    (c.loop-stage.invariant (subst (AllByRecursion IsNumbered) (sym c.as_slice-stage-items.ensures) all))
     (omega (arith, c.loop-stage-test.false)) c.as_slice-stage-items.ensures
 
 pub loop-stage-init : goal.loop-stage-init
-loop-stage-init c = none_yet c.as_slice-stage-items.result.now _ (search rules)
+loop-stage-init c = λ all. none_yet c.as_slice-stage-items.result.now _ (search rules)

@@ -1,6 +1,6 @@
 use Rattle.std.proofs.Common.{sym, subst, length}
-use Rattle.ir_lower.specs.declared.open_block.OpenBlock.{OpenBlock}
-use Rattle.ir_lower.specs.Closing.{IsFresh}
+use Rattle.straight_code.specs.declared.open_block.OpenBlock.{OpenBlock}
+use Rattle.straight_code.specs.Closing.{IsFresh}
 use Rattle.block_merge.proofs.Chains.{tidied_stages}
 use Rattle.block_merge.proofs.merger.Merger.finish.Goals as goal
 

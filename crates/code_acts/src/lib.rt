@@ -1,0 +1,4 @@
+//! The code of acts: pthread calls and printf.
+#![tactic(auto)]
+
+pub mod acts;

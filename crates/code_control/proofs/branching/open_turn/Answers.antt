@@ -1,0 +1,16 @@
+use Rattle.std.proofs.lemmas.Result.{err_from_is_err_and}
+use Rattle.c_program.specs.Plain.{condition_of}
+use Rattle.code_control.proofs.Filling.{turn_at}
+use Rattle.code_control.proofs.Binding.{body_open}
+use Rattle.code_control.proofs.branching.open_turn.Goals as goal
+
+pub bind-requires : goal.bind-requires
+bind-requires c =
+    body_open (condition_of c.args.condition.now) c.in_ok-labels.labels c.args.code.now c.open_loop.new.code c.lower_condition.new.code
+    c.in_ok-labels.ensures c.in_ok-lower_condition.ensures
+
+pub returns-in_err-lower_condition : goal.returns-in_err-lower_condition
+returns-in_err-lower_condition c =
+    let p = err_from_is_err_and c.from_residual-in_err-lower_condition.result c.from_residual-in_err-lower_condition.ensures.1 in
+    rw (p.1, p.2)
+    (turn_at (condition_of c.args.condition.now) c.in_ok-labels.labels c.args.code.now c.open_loop.new.code _ c.in_ok-labels.ensures c.in_err-lower_condition.ensures)

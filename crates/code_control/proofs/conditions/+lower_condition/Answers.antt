@@ -1,0 +1,84 @@
+use Rattle.std.proofs.Common.{sym, ap, ◌∙◌, subst}
+use Rattle.std.proofs.lemmas.Result.{err_from_is_err_and}
+use Rattle.c_program.specs.Plain.{condition_of, expression_of}
+use Rattle.c_program.specs.Tree.{Condition}
+use Rattle.c_program.specs.Weight.{condition_weight}
+use Rattle.c_program.specs.Resolved.{IsCondition}
+use Rattle.code_control.proofs.Deciding.{operand_decides, opposite_decides, both_decides, either_decides}
+use Rattle.code_control.proofs.Filling.{opposite_at, first_at, second_at}
+use Rattle.code_control.proofs.conditions.+lower_condition.Goals as goal
+
+pub returns-in_ok-lower_condition-in-Both-2 : goal.returns-in_ok-lower_condition-in-Both-2
+returns-in_ok-lower_condition-in-Both-2 t c =
+    both_decides (condition_of c.args.condition.now) (condition_of c.deref-in-Both.result.now) (condition_of c.deref-in-Both-2.result.now) c.in_ok-next-in-Both.next c.args.if_true c.args.if_false
+    c.args.code.now c.new_label.new.self c.lower_condition.new.code c.begin.new.self c.lower_condition-in-Both.new.code
+    (ap condition_of c.in-Both.is ∙ ap (λ z. Condition.Both (condition_of z) (condition_of c.in-Both.second.value)) (sym c.deref-in-Both.ensures)
+    ∙ ap (λ z. Condition.Both (condition_of c.deref-in-Both.result.now) (condition_of z)) (sym c.deref-in-Both-2.ensures))
+    c.in_ok-next-in-Both.ensures.label c.in_ok-next-in-Both.ensures.after c.in_ok-lower_condition-in-Both.ensures c.in_ok-begin-in-Both.ensures c.in_ok-lower_condition-in-Both-2.ensures
+
+pub returns-in_ok-lower_condition-in-Either-2 : goal.returns-in_ok-lower_condition-in-Either-2
+returns-in_ok-lower_condition-in-Either-2 t c =
+    either_decides (condition_of c.args.condition.now) (condition_of c.deref-in-Either.result.now) (condition_of c.deref-in-Either-2.result.now)
+    c.in_ok-next-in-Either.next c.args.if_true c.args.if_false
+    c.args.code.now c.new_label-in-Either.new.self c.lower_condition-in-Either.new.code c.begin-in-Either.new.self c.lower_condition-in-Either-2.new.code
+    (ap condition_of c.in-Either.is ∙ ap (λ z. Condition.Either (condition_of z) (condition_of c.in-Either.second.value)) (sym c.deref-in-Either.ensures)
+    ∙ ap (λ z. Condition.Either (condition_of c.deref-in-Either.result.now) (condition_of z)) (sym c.deref-in-Either-2.ensures))
+    c.in_ok-next-in-Either.ensures.label c.in_ok-next-in-Either.ensures.after c.in_ok-lower_condition-in-Either.ensures c.in_ok-begin-in-Either.ensures c.in_ok-lower_condition-in-Either-2.ensures
+
+pub returns-in_ok-lower_condition-in-Opposite : goal.returns-in_ok-lower_condition-in-Opposite
+returns-in_ok-lower_condition-in-Opposite t c =
+    opposite_decides (condition_of c.args.condition.now) (condition_of c.deref-in-Opposite.result.now) c.args.if_true c.args.if_false c.args.code.now c.lower_condition-in-Opposite.new.code
+    (ap condition_of c.in-Opposite.is ∙ ap (λ z. Condition.Opposite (condition_of z)) (sym c.deref-in-Opposite.ensures)) c.in_ok-lower_condition-in-Opposite.ensures
+
+pub returns-in_ok-lower_test-in-Operand : goal.returns-in_ok-lower_test-in-Operand
+returns-in_ok-lower_test-in-Operand t c =
+    operand_decides (condition_of c.args.condition.now) c.in-Operand.field-0 (expression_of c.deref.result.now) c.args.if_true c.args.if_false c.args.code.now c.lower_test.new.code
+    (ap condition_of c.in-Operand.is ∙ ap (λ z. Condition.Operand c.in-Operand.field-0 (expression_of z)) (sym c.deref.ensures)) c.in_ok-lower_test-in-Operand.ensures
+
+pub returns-in_err-lower_condition-in-Both : goal.returns-in_err-lower_condition-in-Both
+returns-in_err-lower_condition-in-Both t c =
+    let p = err_from_is_err_and c.from_residual-in_err-lower_condition-in-Both.result c.from_residual-in_err-lower_condition-in-Both.ensures.1 in
+    let is = ap condition_of c.in-Both.is ∙ ap (λ z. Condition.Both (condition_of z) (condition_of c.in-Both.second.value)) (sym c.deref-in-Both.ensures) in
+    rw (p.1, p.2)
+    (first_at (condition_of c.args.condition.now) (condition_of c.deref-in-Both.result.now) (condition_of c.in-Both.second.value) c.args.code.now c.new_label.new.self _
+    (ap condition_weight is) (λ S ok. subst (IsCondition S.program S.function) is ok) c.in_ok-next-in-Both.ensures.after c.in_err-lower_condition-in-Both.ensures)
+
+pub returns-in_err-lower_condition-in-Both-2 : goal.returns-in_err-lower_condition-in-Both-2
+returns-in_err-lower_condition-in-Both-2 t c =
+    let p = err_from_is_err_and c.from_residual-in_err-lower_condition-in-Both-2.result c.from_residual-in_err-lower_condition-in-Both-2.ensures.1 in
+    let is =
+    ap condition_of c.in-Both.is ∙ ap (λ z. Condition.Both (condition_of z) (condition_of c.in-Both.second.value)) (sym c.deref-in-Both.ensures)
+    ∙ ap (λ z. Condition.Both (condition_of c.deref-in-Both.result.now) (condition_of z)) (sym c.deref-in-Both-2.ensures) in
+    rw (p.1, p.2)
+    (second_at (condition_of c.args.condition.now) (condition_of c.deref-in-Both.result.now) (condition_of c.deref-in-Both-2.result.now) c.in_ok-next-in-Both.next c.in_ok-next-in-Both.next c.args.if_false
+    c.args.code.now c.new_label.new.self c.lower_condition.new.code c.begin.new.self _
+    (ap condition_weight is) (λ S ok. subst (IsCondition S.program S.function) is ok) c.in_ok-next-in-Both.ensures.after c.in_ok-lower_condition-in-Both.ensures
+    c.in_ok-begin-in-Both.ensures c.in_err-lower_condition-in-Both-2.ensures)
+
+pub returns-in_err-lower_condition-in-Either : goal.returns-in_err-lower_condition-in-Either
+returns-in_err-lower_condition-in-Either t c =
+    let p = err_from_is_err_and c.from_residual-in_err-lower_condition-in-Either.result c.from_residual-in_err-lower_condition-in-Either.ensures.1 in
+    let is = ap condition_of c.in-Either.is ∙ ap (λ z. Condition.Either (condition_of z) (condition_of c.in-Either.second.value)) (sym c.deref-in-Either.ensures) in
+    rw (p.1, p.2)
+    (first_at (condition_of c.args.condition.now) (condition_of c.deref-in-Either.result.now) (condition_of c.in-Either.second.value) c.args.code.now c.new_label-in-Either.new.self _
+    (ap condition_weight is) (λ S ok. subst (IsCondition S.program S.function) is ok) c.in_ok-next-in-Either.ensures.after c.in_err-lower_condition-in-Either.ensures)
+
+pub returns-in_err-lower_condition-in-Either-2 : goal.returns-in_err-lower_condition-in-Either-2
+returns-in_err-lower_condition-in-Either-2 t c =
+    let p = err_from_is_err_and c.from_residual-in_err-lower_condition-in-Either-2.result c.from_residual-in_err-lower_condition-in-Either-2.ensures.1 in
+    let is =
+    ap condition_of c.in-Either.is ∙ ap (λ z. Condition.Either (condition_of z) (condition_of c.in-Either.second.value)) (sym c.deref-in-Either.ensures)
+    ∙ ap (λ z. Condition.Either (condition_of c.deref-in-Either.result.now) (condition_of z)) (sym c.deref-in-Either-2.ensures) in
+    rw (p.1, p.2)
+    (second_at (condition_of c.args.condition.now) (condition_of c.deref-in-Either.result.now)
+    (condition_of c.deref-in-Either-2.result.now) c.in_ok-next-in-Either.next c.args.if_true c.in_ok-next-in-Either.next
+    c.args.code.now c.new_label-in-Either.new.self c.lower_condition-in-Either.new.code c.begin-in-Either.new.self _
+    (ap condition_weight is) (λ S ok. subst (IsCondition S.program S.function) is ok) c.in_ok-next-in-Either.ensures.after c.in_ok-lower_condition-in-Either.ensures
+    c.in_ok-begin-in-Either.ensures c.in_err-lower_condition-in-Either-2.ensures)
+
+pub returns-in_err-lower_condition-in-Opposite : goal.returns-in_err-lower_condition-in-Opposite
+returns-in_err-lower_condition-in-Opposite t c =
+    let p = err_from_is_err_and c.from_residual-in_err-lower_condition-in-Opposite.result c.from_residual-in_err-lower_condition-in-Opposite.ensures.1 in
+    rw (p.1, p.2)
+    (opposite_at (condition_of c.args.condition.now) (condition_of c.deref-in-Opposite.result.now) c.args.code.now _
+    (ap condition_of c.in-Opposite.is ∙ ap (λ z. Condition.Opposite (condition_of z)) (sym c.deref-in-Opposite.ensures)) c.in_err-lower_condition-in-Opposite.ensures)

@@ -1,0 +1,89 @@
+-- The parts of an if and of loops.
+use Rattle.std.specs.Prelude.{◌≡◌, ℕ, ◌<◌, ◌≤◌, true, false, length, ◌⊎◌}
+use Rattle.c_program.specs.Tree.{Condition}
+use Rattle.code_control.specs.declared.branching.ChoiceLabels.{ChoiceLabels}
+use Rattle.code_control.specs.declared.branching.LoopLabels.{LoopLabels}
+use Rattle.code_places.specs.declared.lowering.Lowering.{Lowering}
+use Rattle.code_places.specs.Labels.{IsOpen}
+use Rattle.code_places.specs.Control.{Begins, Binds, Leaps}
+use Rattle.code_control.specs.Deciding.{Decides}
+use Rattle.code_places.specs.Doing.{Relabels}
+
+-- a label that is new there, without a place yet
+pub record IsNewLabel (label : ℕ) (old new : Lowering) : Type 0 where
+  pub after : length old.stages.labels ≤ label
+  pub open_ : IsOpen label new.stages
+
+pub record AreTwo (first second : ℕ) (old new : Lowering) : Type 0 where
+  pub one : IsNewLabel first old new
+  pub other : IsNewLabel second old new
+  pub apart : first < second
+
+-- the labels of an if
+pub record AreChoice (l : ChoiceLabels) (old new : Lowering) : Type 0 where
+  pub if_true : IsNewLabel l.if_true old new
+  pub if_false : IsNewLabel l.if_false old new
+  pub join : IsNewLabel l.join old new
+  pub first : l.if_true < l.if_false
+  pub second : l.if_false < l.join
+
+-- those of a loop
+pub record AreLoop (l : LoopLabels) (old new : Lowering) : Type 0 where
+  pub head : IsNewLabel l.head old new
+  pub body : IsNewLabel l.body old new
+  pub turning : IsNewLabel l.turning old new
+  pub leaving : IsNewLabel l.leaving old new
+  pub first : l.head < l.body
+  pub second : l.body < l.turning
+  pub third : l.turning < l.leaving
+
+-- the parts of an if and of loops
+
+pub record OpensChoice (d : Condition) (l : ChoiceLabels) (old new : Lowering) : Type 0 where
+  pub labelled : Lowering
+  pub relabels : Relabels old labelled
+  pub labels : AreChoice l old labelled
+  pub decided : Lowering
+  pub decides : Decides d l.if_true l.if_false labelled decided
+  pub binds : Binds l.if_true decided new
+
+pub record TurnsChoice (l : ChoiceLabels) (old new : Lowering) : Type 0 where
+  pub mid : Lowering
+  pub leaps : Leaps l.join old mid
+  pub binds : Binds l.if_false mid new
+
+pub record OpensLoop (l : LoopLabels) (old new : Lowering) : Type 0 where
+  pub labelled : Lowering
+  pub relabels : Relabels old labelled
+  pub labels : AreLoop l old labelled
+  pub begins : Begins l.head labelled new
+
+pub record OpensTurn (d : Condition) (l : LoopLabels) (old new : Lowering) : Type 0 where
+  pub begun : Lowering
+  pub opens : OpensLoop l old begun
+  pub decided : Lowering
+  pub decides : Decides d l.body l.leaving begun decided
+  pub binds : Binds l.body decided new
+
+pub record ClosesTurn (l : LoopLabels) (old new : Lowering) : Type 0 where
+  pub mid : Lowering
+  pub leaps : Leaps l.head old mid
+  pub binds : Binds l.leaving mid new
+
+pub record AsksNot (old new : Lowering) : Type 0 where
+  pub off : old.reached ≡ false
+  pub same : new ≡ old
+
+pub record AsksThere (d : Condition) (l : LoopLabels) (old new : Lowering) : Type 0 where
+  pub on : old.reached ≡ true
+  pub decides : Decides d l.head l.leaving old new
+
+abbrev pub Asks : Condition → LoopLabels → Lowering → Lowering → Type 0
+Asks d l old new = AsksNot old new ⊎ AsksThere d l old new
+
+pub record ClosesDo (d : Condition) (l : LoopLabels) (old new : Lowering) : Type 0 where
+  pub turned : Lowering
+  pub turns : Binds l.turning old turned
+  pub asked : Lowering
+  pub asks : Asks d l turned asked
+  pub binds : Binds l.leaving asked new

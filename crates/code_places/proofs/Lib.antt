@@ -1,0 +1,13 @@
+pub mod Advancing
+pub mod Controlling
+pub mod Growing
+pub mod Labelling
+pub mod NewLabel
+pub mod Opening
+pub mod Proceeding
+pub mod Resuming
+pub mod Seating
+pub mod Shapes
+pub mod Staying
+pub mod Stepping
+pub mod Weighing

@@ -1,0 +1,9 @@
+pub mod Apart
+pub mod Control
+pub mod Doing
+pub mod Labels
+pub mod Needing
+pub mod Resuming
+pub mod Seats
+pub mod Sequential
+pub mod Weighing

@@ -1,4 +1,0 @@
-mod Marking
-mod Sums
-mod Stages
-pub mod Keeps

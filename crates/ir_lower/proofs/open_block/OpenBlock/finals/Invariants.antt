@@ -1,6 +1,0 @@
-use Rattle.std.proofs.Common.{◌≡◌, take}
-use Rattle.ir_lower.specs.Closing.{finals_of}
-use Rattle.ir_lower.proofs.open_block.OpenBlock.finals.Given as goal
-
-abbrev pub invariant-loop-variable : goal.invariant-loop-variable
-invariant-loop-variable l = l.finals ≡ finals_of l.self.current (take l.variable-index l.self.changed)

@@ -1,6 +1,0 @@
-use Rattle.std.proofs.Common.{◌≡◌, length}
-use Rattle.ir_lower.specs.Closing.{IsUnchanged}
-use Rattle.ir_lower.proofs.open_block.OpenBlock.new.Given as goal
-
-abbrev pub invariant-loop-done : goal.invariant-loop-done
-invariant-loop-done l = record { size : length l.current ≡ l.done; unchanged : IsUnchanged l.current }

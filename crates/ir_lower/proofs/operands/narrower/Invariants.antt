@@ -1,7 +1,0 @@
-use Rattle.std.proofs.Common.{◌≡◌, take}
-use Rattle.std.specs.List.{filter}
-use Rattle.ir_lower.specs.Needs.{is_narrower}
-use Rattle.ir_lower.proofs.operands.narrower.Given as goal
-
-abbrev pub invariant-loop-conversion : goal.invariant-loop-conversion
-invariant-loop-conversion l = l.kept ≡ filter (is_narrower l.ty) (take l.conversion-index l.conversions)

@@ -1,5 +1,0 @@
-use Rattle.std.proofs.Common.{length}
-use Rattle.ir_lower.proofs.printing.+lower_values.Given as goal
-
-abbrev pub decreases-lower_values : goal.decreases-lower_values
-decreases-lower_values l = length l.types.now

@@ -1,6 +1,0 @@
-use Rattle.std.proofs.Common.{◌≡◌}
-use Rattle.ir_lower.specs.Printing.{word_operands}
-use Rattle.ir_lower.proofs.printing.word_operands.Given as goal
-
-abbrev pub invariant-loop-position : goal.invariant-loop-position
-invariant-loop-position l = l.operands ≡ word_operands l.first l.position

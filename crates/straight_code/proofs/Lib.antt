@@ -1,0 +1,14 @@
+pub mod Arguments
+pub mod Cells
+pub mod Conversions
+pub mod Finals
+pub mod Operators
+pub mod Puts
+pub mod Room
+pub mod Running
+pub mod Steps
+pub mod Stores
+pub mod Typing
+pub mod Values
+pub mod Words
+pub mod Working

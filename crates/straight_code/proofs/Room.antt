@@ -1,0 +1,32 @@
+-- What code in the making needs, where it is too large.
+use Rattle.std.proofs.Common.{◌≡◌, ℕ, ◌+◌, ◌*◌, ◌≤◌, List, [], ◌∷◌, length, ap, ◌∙◌, arith, length-append}
+use Rattle.hls_ints.specs.Types.{IntegerType}
+use Rattle.c_program.specs.declared.tree.BinaryOperator.{BinaryOperator}
+use Rattle.c_program.specs.Tree.{Expression, Place}
+use Rattle.c_program.specs.Weight.{expression_weight, place_weight}
+use Rattle.block_ir.specs.declared.operand.Operand.{Operand}
+use Rattle.block_ir.specs.declared.block.Operation.TheVariants.{Binary}
+use Rattle.straight_code.specs.declared.fault.LoweringFault.{LoweringFault}
+use Rattle.straight_code.specs.declared.homes.Home.{Home}
+use Rattle.straight_code.specs.declared.places.Target.{Target}
+use Rattle.straight_code.specs.declared.open_block.OpenBlock.{OpenBlock}
+use Rattle.straight_code.specs.Evaluating.{load_block, with_more, Evaluates}
+use Rattle.straight_code.specs.Assigning.{Places}
+use Rattle.straight_code.specs.Room.{IsFull}
+use Rattle.straight_code.proofs.Typing.{load_count}
+use Rattle.straight_code.proofs.Working.{place_count}
+
+pub full_more : (fault : LoweringFault) (n m : ℕ) → n ≤ m → IsFull n fault → IsFull m fault
+full_more fault n m le full is = let h = full is in omega (arith, h)
+
+-- what an update needs for its store
+pub update_needs : (homes : List Home) (place : Place) (operator : BinaryOperator) (ty : IntegerType) (e : Expression) (old mid found read made : OpenBlock) (t : Target) (a b : Operand)
+    (fault : LoweringFault) → Evaluates homes e old mid b → Places homes place mid found t → read ≡ load_block t found → made ≡ with_more read (Binary operator ty a b ∷ []) →
+    IsFull (length made.operations + 1) fault → IsFull (length old.operations + old.steps + 4 * (place_weight place + expression_weight e + 2)) fault
+update_needs homes place operator ty e old mid found read made t a b fault first at is_read is_made full is =
+    let h = full is in
+    let n = first.computes.count in
+    let p = place_count homes place mid found t at in
+    let r = load_count t found read is_read in
+    let m = ap (λ (z : OpenBlock). length z.operations) is_made ∙ length-append read.operations (Binary operator ty a b ∷ []) in
+    omega (arith, h, n, p, r, m)

@@ -1,0 +1,5 @@
+pub mod Formats
+pub mod Housing
+pub mod Locals
+pub mod Reaching
+pub mod Values

@@ -1,0 +1,103 @@
+// How many printf calls statements have, and how many words they need.
+
+ghost use Rattle.std.specs.Prelude.{◌≡◌, ◌+◌, map, IfOk, IfErr};
+ghost use Rattle.c_program.specs.Plain.{function_of, returned_of, right_side_of, statement_of};
+ghost use Rattle.c_program.specs.Limits.{print_count};
+ghost use Rattle.straight_code.specs.Room.{IsFull};
+ghost use Rattle.thread_rooms.specs.Values as values;
+
+use c_program::tree::{Function, RightSide, Statement};
+use straight_code::fault::LoweringFault;
+
+pub fn sum_of(a: u32, b: u32) -> Result<u32, LoweringFault>
+    ensures sum { IfOk result (λ n. n ≡ a + b) }
+    ensures full { IfErr result (IsFull (a + b)) }
+{
+    a.checked_add(b).ok_or(LoweringFault::TooLarge)
+}
+
+/// How many printf calls a statement has in the text.
+pub fn print_count(statement: &Statement) -> Result<u32, LoweringFault>
+    ensures count { IfOk result (λ n. n ≡ print_count (statement_of statement.now)) }
+    ensures full { IfErr result (IsFull (print_count (statement_of statement.now))) }
+{
+    let mut before = 0u32;
+    let mut rest = statement;
+    while let Statement::Sequence(first, next) = rest {
+        before = sum_of(before, print_count(first)?)?;
+        rest = next;
+    }
+    let last = match rest {
+        Statement::Block(body) | Statement::While(_, body) | Statement::DoWhile(body, _) => {
+            print_count(body)?
+        }
+        Statement::If(_, consequent, alternative) => {
+            sum_of(print_count(consequent)?, print_count(alternative)?)?
+        }
+        Statement::For(first, _, last, body) => {
+            let turn = sum_of(print_count(last)?, print_count(body)?)?;
+            sum_of(print_count(first)?, turn)?
+        }
+        Statement::Print(_, _, _) => 1,
+        _ => 0,
+    };
+    sum_of(before, last)
+}
+
+fn right_values(right: &RightSide) -> usize
+    ensures { result ≡ values.right_values (right_side_of right.now) }
+{
+    match right {
+        RightSide::Value(_) => 0,
+        RightSide::Call(_, _) => 1,
+    }
+}
+
+fn returned_values(right: &Option<RightSide>) -> usize
+    ensures { result ≡ values.returned_values (returned_of right.now) }
+{
+    match right {
+        None => 0,
+        Some(right) => right_values(right),
+    }
+}
+
+/// The most values that a printf of the statement has, or 1 for a call.
+pub fn most_values(statement: &Statement) -> usize
+    ensures { result ≡ values.most_values (statement_of statement.now) }
+{
+    let mut most = 0;
+    let mut rest = statement;
+    while let Statement::Sequence(first, next) = rest {
+        most = most_values(first).max(most);
+        rest = next;
+    }
+    let last = match rest {
+        Statement::Block(body) | Statement::While(_, body) | Statement::DoWhile(body, _) => {
+            most_values(body)
+        }
+        Statement::If(_, consequent, alternative) => {
+            most_values(consequent).max(most_values(alternative))
+        }
+        Statement::For(first, _, last, body) => {
+            let head = most_values(first).max(most_values(last));
+            head.max(most_values(body))
+        }
+        Statement::Print(_, _, arguments) => arguments.len(),
+        Statement::Assign(_, _, right) => right_values(right),
+        Statement::Return(_, right) => returned_values(right),
+        Statement::Call(_, _, _) => 1,
+        _ => 0,
+    };
+    last.max(most)
+}
+
+/// The most that a function needs.
+pub fn all_values(functions: &[Function]) -> usize
+    ensures { result ≡ values.all_values (map function_of functions.now) }
+{
+    let [function, rest @ ..] = functions else {
+        return 0;
+    };
+    most_values(&function.body).max(all_values(rest))
+}
