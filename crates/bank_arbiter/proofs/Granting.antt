@@ -67,13 +67,13 @@ module _ (n : ℕ) (few : n ≤ 64) (m : Module) (is : IsArbiter n m) where
           (lit< tt),
           (
             (
-              4,
-              4,
-              from (wide n) (zeros n) 4 (has m (zeros n) _ listed.1.1.1.0) (omega arith),
+              2,
+              6,
+              from (wide n) (zeros n) 2 (has m (zeros n) _ listed.1.1.1.0) (omega arith),
               (
-                4,
+                6,
                 0,
-                from (wide n) (preference n) 4 (has m (preference n) _ listed.1.0) (omega arith),
+                from (wide n) (preference n) 6 (has m (preference n) _ listed.1.0) (omega arith),
                 refl,
                 refl,
               ),

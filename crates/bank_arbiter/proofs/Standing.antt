@@ -32,11 +32,11 @@ module _ (n : ℕ) (few : n ≤ 64) (m : Module) (is : IsArbiter n m) where
   formed = (
     input_formed m (grants n) 0 1 role.Clock 0 (omega arith) (omega arith) refl (omega arith),
     (
-      input_formed m (grants n) 1 4 role.Preference 0 (omega arith) (omega arith) refl (omega arith),
+      input_formed m (grants n) 1 6 role.Preference 0 (omega arith) (omega arith) refl (omega arith),
       (
         (λ k l. input_formed m (grants n) (asks n + k) 1 role.Ask k (omega arith) (omega arith) (later (asks n + k) (omega arith)) (omega arith)),
         (
-          inner_formed m (grants n) (zeros n) 4 role.Wire (Constant 0) 0
+          inner_formed m (grants n) (zeros n) 2 role.Wire (Constant 0) 0
               (omega arith) (omega arith) refl (omega arith) (omega arith) refl (tt, tt) tt,
           (
             inner_formed m (grants n) (wide n) 8 role.Wire (Pair (Fixed (zeros n)) (Fixed (preference n))) 0
@@ -104,8 +104,8 @@ module _ (n : ℕ) (few : n ≤ 64) (m : Module) (is : IsArbiter n m) where
 
   inputs_are : HasFrom m 0 (input_widths n)
   inputs_are =
-      one_more m 0 1 (4 ∷ replicate n 1) (has m 0 _ listed.0)
-      (one_more m 1 4 (replicate n 1) (has m 1 _ listed.1.0) (all_alike m 2 n 1 (λ k l. has m (asks n + k) _ (listed.1.1.0 k l))))
+      one_more m 0 1 (6 ∷ replicate n 1) (has m 0 _ listed.0)
+      (one_more m 1 6 (replicate n 1) (has m 1 _ listed.1.0) (all_alike m 2 n 1 (λ k l. has m (asks n + k) _ (listed.1.1.0 k l))))
 
   outputs_are : HasFrom m (grants n) (output_widths n)
   outputs_are = all_alike m (grants n) n 1 (λ k l. has m (grants n + k) _ (listed.1.1.1.1.1.1.1.1.1.1.1.1.1.1.1.1.0 k l))

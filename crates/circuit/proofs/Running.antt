@@ -106,6 +106,19 @@ module _ (threads cores : ℕ) (T : ℕ → ThreadMachine) (C : ℕ → CoreMach
           (all_written one.0 (module_at modules top one.0) refl))
           w.one
 
+      -- what the step prints is written
+      pub step_is_written : printer < cores → IsWritten modules top v (output threads cores T C c s printer)
+      step_is_written l = record {
+        each = λ path. all_written path (module_at modules top path) refl;
+        one =
+            let t : nat_lt printer cores ≡ true = grind (arith, nat_tests) in
+            inr (
+              p.core_at printer ∷ [],
+              ap (written_at modules top v (p.core_at printer ∷ [])) (net.cores_stand printer l).1 ∙ core_writes threads cores T C p modules top net h v c settled s shown printer l
+                  ∙ ap (λ b. if b then printed_by threads cores T C c s printer else []) (sym t),
+            );
+      }
+
     -- a cycle of the net is a step of the machine
     pub cycle_steps : (h g : Valuation) (c : Choice) (out : List ℕ) (s : NetState threads cores T C) → Cycle modules top h c g out → ShowsAll threads cores T C p modules top h s
         → ShowsAll threads cores T C p modules top g (stepped threads cores T C c s) × (out ≡ output threads cores T C c s printer)

@@ -12,7 +12,7 @@ use verilog_tree::name::Identifier;
 use verilog_tree::tree::BinaryOperator;
 
 /// What a signal is for.
-#[derive(Clone, Copy, Debug, PartialEq, Eq)]
+#[derive(Clone, Copy, PartialEq, Eq)]
 pub enum Role {
     /// The input `clk`.
     Clock,
@@ -78,7 +78,7 @@ impl Role {
 
 /// A signal that a row's signal of some number reads: that of the same number in a row that starts at a place, always
 /// the one at a place, or that of the number's group, where so many numbers make a group.
-#[derive(Clone, Copy, Debug, PartialEq, Eq)]
+#[derive(Clone, Copy, PartialEq, Eq)]
 pub enum Operand {
     Each { first: usize },
     Fixed { place: usize },
@@ -100,7 +100,7 @@ impl Operand {
 }
 
 /// What gives a row's signals their numbers.
-#[derive(Clone, Copy, Debug, PartialEq, Eq)]
+#[derive(Clone, Copy, PartialEq, Eq)]
 pub enum Form {
     Input,
     /// A register, with its initial constant.
@@ -187,7 +187,7 @@ impl Form {
 }
 
 /// One signal, or one for each number below a count, of `width` bits.
-#[derive(Clone, Copy, Debug, PartialEq, Eq)]
+#[derive(Clone, Copy, PartialEq, Eq)]
 pub enum Row {
     One {
         role: Role,

@@ -4,16 +4,16 @@ use Rattle.std.proofs.Common.{ap, sym, ◌∙◌, subst, ⊎_elim}
 use Rattle.std.proofs.lemmas.Option.{same_Some}
 use Rattle.netlist.specs.declared.netlist.Module.{Module}
 use Rattle.verilog_meaning.specs.Cycles.{Path}
-use Rattle.cycle_sim.specs.declared.settle.Step.{Step}
-use Rattle.cycle_sim.specs.declared.edge.Part.{Part}
-use Rattle.cycle_sim.specs.Running.{some_write, IsRight}
-use Rattle.cycle_sim.specs.Stands.{spot_of, place_of}
-use Rattle.cycle_sim.specs.Tree.{IsTree}
-use Rattle.cycle_sim.specs.Placed.{IsPlaced}
-use Rattle.cycle_sim.specs.Wires.{signals_of, AreWires}
+use Rattle.sim_values.specs.declared.settle.Step.{Step}
+use Rattle.sim_values.specs.declared.edge.Part.{Part}
+use Rattle.sim_layout.specs.Running.{some_write, IsRight}
+use Rattle.sim_values.specs.Stands.{spot_of, place_of}
+use Rattle.sim_values.specs.Tree.{IsTree}
+use Rattle.sim_layout.specs.Placed.{IsPlaced}
+use Rattle.sim_layout.specs.Wires.{signals_of, AreWires}
 use Rattle.cycle_sim.specs.LaidOut.{IsLaidOut}
 use Rattle.cycle_sim.specs.Opened.{writes_at, IsOne, IsWriter, AreTwo, LacksDone, IsTopNumber, IsRightNet, IsOpenable, Writes, HasPrinters}
-use Rattle.cycle_sim.proofs.Settles.{same_or}
+use Rattle.sim_values.proofs.Settles.{same_or}
 use Rattle.cycle_sim.proofs.Laid.{part_at}
 
 -- the tree, the places and the steps of a net
@@ -40,13 +40,13 @@ laid_out modules number is right kinds children tree parts numbers free words st
 pub right_net : (modules : List Module) → IsOpenable modules → IsRightNet modules
 right_net modules is t e = subst (IsRight modules) (same_Some is.top t (sym is.is_top ∙ e)) is.right
 
--- and a signal `done`
+-- and an output `done` of one bit
 pub has_done : (modules : List Module) (number : ℕ) → IsTopNumber modules number → IsOpenable modules → LacksDone (signals_of (slice_get modules number)) → ⊥
 has_done modules number top is lacks =
     let same = same_Some is.top top.top (sym is.is_top ∙ top.is_top) in
     let there = ap signals_of top.stands ∙ ap (λ (t : Module). t.signals) (sym same) in
     let done = is.done in
-    subst LacksDone there lacks done.0 done.1 done.2.listed done.2.named
+    subst LacksDone there lacks done.place done.signal done.is.listed (record { named = done.is.named; out = done.out; bit = done.bit })
 
 writer : (o : Option Module) → writes_at o ≡ true → (m : Module) × (o ≡ Some m) × (some_write m.actions ≡ true)
 writer None e = absurd cc

@@ -2,10 +2,10 @@
 use Rattle.std.specs.Prelude.{◌≡◌, ℕ, zero, suc, ◌+◌, List, [], ◌∷◌, ◌++◌, length, replicate, Some, slice_get, refl}
 use Rattle.std.proofs.Common.{ap, sym, ◌∙◌, subst, ⊎_elim, arith, length-append}
 use Rattle.verilog_meaning.specs.Threads.{all_enabled}
-use Rattle.cycle_sim.specs.declared.settle.Choice as code
-use Rattle.cycle_sim.specs.Running.{choice_of}
+use Rattle.sim_values.specs.declared.settle.Choice as code
+use Rattle.sim_layout.specs.Running.{choice_of}
 use Rattle.cycle_sim.specs.Lockstep.{AreRounds}
-use Rattle.cycle_sim.proofs.Trees.{get_front, get_back, front_or_back}
+use Rattle.sim_values.proofs.Trees.{get_front, get_back, front_or_back}
 
 pub choices_none : (threads prefs : ℕ) (choices : List code.Choice) → choices ≡ [] → AreRounds threads prefs 0 choices
 choices_none threads prefs choices e = subst (λ (cs : List code.Choice). AreRounds threads prefs 0 cs) (sym e) (record { long = refl; each = λ k c at. absurd cc })

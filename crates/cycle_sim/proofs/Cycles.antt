@@ -17,12 +17,12 @@ use Rattle.verilog_meaning.specs.Cycles.{Path, Valuation, Choice, number, module
 use Rattle.circuit.specs.Rows.{EachOf as EachOfRows}
 use Rattle.circuit.specs.Modules.{FitsAction, FitsEffect}
 use Rattle.circuit.proofs.States.{keeps_states}
-use Rattle.cycle_sim.specs.declared.value.Spot.{Spot}
-use Rattle.cycle_sim.specs.declared.edge.Part.{Part}
-use Rattle.cycle_sim.specs.Flat.{Flat, EachOf, reading, actions_of, part_written, all_written}
-use Rattle.cycle_sim.specs.Stands.{place_of, spot_of, kind_of, spot_at, word_of, valuation_of, IsPlan}
-use Rattle.cycle_sim.specs.Running.{Running, flat, state_of, some_write, IsPart, IsApart, Stands, IsSameState, settled_run, advanced, Fits, TellsDone}
-use Rattle.cycle_sim.proofs.Settles.{settled-length}
+use Rattle.sim_values.specs.declared.value.Spot.{Spot}
+use Rattle.sim_values.specs.declared.edge.Part.{Part}
+use Rattle.sim_values.specs.Flat.{Flat, EachOf, reading, actions_of, part_written, all_written}
+use Rattle.sim_values.specs.Stands.{place_of, spot_of, kind_of, spot_at, word_of, valuation_of, IsPlan}
+use Rattle.sim_layout.specs.Running.{Running, flat, state_of, some_write, IsPart, IsApart, Stands, IsSameState, settled_run, advanced, Fits, TellsDone}
+use Rattle.sim_values.proofs.Settles.{settled-length}
 use Rattle.cycle_sim.proofs.Lift.{flat_settled}
 use Rattle.cycle_sim.proofs.Edges as edges
 use Rattle.cycle_sim.proofs.Stores as stores
@@ -314,9 +314,11 @@ module _ (r : Running) (st : Stands r) (c : Choice) (fits : Fits r c) where
     is_top = st.is_top;
     number = slice_index (settled_run c r).numbers r.done;
     shows = record {
-      place = st.done.number;
-      signal = st.done.signal;
-      is = st.done.is;
+      place = st.done.has.place;
+      signal = st.done.has.signal;
+      is = st.done.has.is;
+      out = st.done.has.out;
+      bit = st.done.has.bit;
       through = through;
       settled = is_settled;
       number = ap (slice_index (settled_run c r).numbers) (sym st.done.stands);

@@ -8,10 +8,10 @@ use Rattle.netlist.specs.declared.netlist.Effect.TheVariants.{Set, Store, Write}
 use Rattle.netlist.specs.declared.netlist.Action.{Action}
 use Rattle.netlist.specs.declared.netlist.Module.{Module}
 use Rattle.verilog_meaning.specs.Readings.{is_on, set_by, register_after}
-use Rattle.cycle_sim.specs.declared.value.Spot.{Spot}
-use Rattle.cycle_sim.specs.declared.edge.Part.{Part}
-use Rattle.cycle_sim.specs.Flat.{Flat, EachOf, reading, set_number, act_number, acted_numbers, actions_of, all_numbers}
-use Rattle.cycle_sim.proofs.Settles.{same_or, eq_true, eq_false, if_true, if_false}
+use Rattle.sim_values.specs.declared.value.Spot.{Spot}
+use Rattle.sim_values.specs.declared.edge.Part.{Part}
+use Rattle.sim_values.specs.Flat.{Flat, EachOf, reading, set_number, act_number, acted_numbers, actions_of, all_numbers}
+use Rattle.sim_values.proofs.Settles.{same_or, eq_true, eq_false, if_true, if_false}
 
 module _ (spot : Spot) (f : Flat) where
   set_length : (next : List ℕ) (e : Effect) → length (set_number spot f next e) ≡ length next

@@ -7,8 +7,8 @@ use Rattle.std.proofs.lemmas.Slice.Eq.{bytes_eq-Decides}
 use Rattle.netlist.specs.declared.netlist.Signal.{Signal}
 use Rattle.netlist.specs.declared.netlist.Module.{Module}
 use Rattle.netlist.specs.Laid.{signal_names, memory_names, instance_names, declared_names}
-use Rattle.cycle_sim.specs.Wires.{signals_of}
-use Rattle.cycle_sim.specs.Rounds.{enable_width, enables, threads_of, AreNarrowSignals}
+use Rattle.sim_layout.specs.Wires.{signals_of}
+use Rattle.sim_layout.specs.Rounds.{enable_width, enables, threads_of, AreNarrowSignals}
 use Rattle.cycle_sim.specs.Opened.{IsRightNet, IsTopNumber}
 use Rattle.cycle_sim.specs.Right.{ThreadsOfSound}
 use Rattle.cycle_sim.proofs.Right.{named_at}

@@ -9,19 +9,19 @@ use Rattle.netlist.specs.declared.netlist.Instance.{Instance}
 use Rattle.netlist.specs.declared.netlist.Module.{Module}
 use Rattle.verilog_meaning.specs.Readings.{or_zero}
 use Rattle.verilog_meaning.specs.Cycles.{Path, module_at, instance_at, connected, IsAt, IsRegister}
-use Rattle.cycle_sim.specs.declared.value.Spot.{Spot}
-use Rattle.cycle_sim.specs.declared.settle.Feed.{Feed}
-use Rattle.cycle_sim.specs.declared.settle.Feed.TheVariants.{Copied, Computed}
-use Rattle.cycle_sim.specs.declared.settle.Step.{Step}
-use Rattle.cycle_sim.specs.declared.edge.Part.{Part}
-use Rattle.cycle_sim.specs.Order.{Takes}
-use Rattle.cycle_sim.specs.Stands.{children_of, kind_of, spot_of, place_of, spot_at, kind_at, word_of, step}
-use Rattle.cycle_sim.specs.Tree.{instances_of, place_in}
-use Rattle.cycle_sim.specs.Placed.{is_register}
-use Rattle.cycle_sim.specs.Wires.{signals_of, own_feed, own_steps, join_feed, join_steps, instance_steps, all_instances, all_steps}
-use Rattle.cycle_sim.specs.Given.{IsRoot}
-use Rattle.cycle_sim.specs.Running.{IsPart}
-use Rattle.cycle_sim.proofs.Trees.{opened, tree_stands, one_path}
+use Rattle.sim_values.specs.declared.value.Spot.{Spot}
+use Rattle.sim_values.specs.declared.settle.Feed.{Feed}
+use Rattle.sim_values.specs.declared.settle.Feed.TheVariants.{Copied, Computed}
+use Rattle.sim_values.specs.declared.settle.Step.{Step}
+use Rattle.sim_values.specs.declared.edge.Part.{Part}
+use Rattle.sim_values.specs.Order.{Takes}
+use Rattle.sim_values.specs.Stands.{children_of, kind_of, spot_of, place_of, spot_at, kind_at, word_of, step}
+use Rattle.sim_values.specs.Tree.{instances_of, place_in}
+use Rattle.sim_layout.specs.Placed.{is_register}
+use Rattle.sim_layout.specs.Wires.{signals_of, own_feed, own_steps, join_feed, join_steps, instance_steps, all_instances, all_steps}
+use Rattle.sim_layout.specs.Given.{IsRoot}
+use Rattle.sim_layout.specs.Running.{IsPart}
+use Rattle.sim_values.proofs.Trees.{opened, tree_stands, one_path}
 use Rattle.cycle_sim.proofs.Wiring.{takes_left, takes_right, takes_split, own_has, own_back, join_has, join_back, instances_have, instances_back, parts_have, parts_back}
 use Rattle.cycle_sim.specs.LaidOut.{IsLaidOut, GivesBy}
 

@@ -1,20 +1,10 @@
-pub mod Words
-pub mod Settles
 pub mod Lift
 pub mod Edges
 pub mod Stores
 pub mod Cycles
-pub mod Calls
-pub mod Orders
-pub mod Waiting
-pub mod Growing
-pub mod Trees
-pub mod Placing
 pub mod Wiring
-pub mod Givens
 pub mod Writers
 pub mod Laid
-pub mod Leading
 pub mod Pigeons
 pub mod Stuck
 pub mod Causes
@@ -28,6 +18,5 @@ pub mod Same
 pub mod Choices
 pub mod Turning
 pub mod Enables
-pub mod Something
 pub mod Elements
 pub mod Taking

@@ -16,13 +16,13 @@ use Rattle.circuit.specs.Modules.{Has as HasWidth, FitsValue}
 use Rattle.circuit.specs.Nets.{FitsSource, FitsNet, FitsChoice}
 use Rattle.circuit.proofs.Tables.{fits_among}
 use Rattle.circuit.proofs.Widths.{Fitting, value_below}
-use Rattle.cycle_sim.specs.declared.settle.Feed.TheVariants.{Copied, Computed}
-use Rattle.cycle_sim.specs.declared.settle.Step.{Step}
-use Rattle.cycle_sim.specs.declared.edge.Part.{Part}
-use Rattle.cycle_sim.specs.Flat.{Flat, EachOf, fed, source_number, signal_number, module_number, with_numbers, settled}
-use Rattle.cycle_sim.specs.Order.{source_reads, signal_reads, module_reads, reads, rank}
-use Rattle.cycle_sim.specs.Stands.{word_of, spot_at, kind_at, valuation_of, step, Has, IsFree, StandsFor, IsPlan}
-use Rattle.cycle_sim.proofs.Settles.{each_one, settled-known, settled-settles, rank_reads}
+use Rattle.sim_values.specs.declared.settle.Feed.TheVariants.{Copied, Computed}
+use Rattle.sim_values.specs.declared.settle.Step.{Step}
+use Rattle.sim_values.specs.declared.edge.Part.{Part}
+use Rattle.sim_values.specs.Flat.{Flat, EachOf, fed, source_number, signal_number, module_number, with_numbers, settled}
+use Rattle.sim_values.specs.Order.{source_reads, signal_reads, module_reads, reads, rank}
+use Rattle.sim_values.specs.Stands.{word_of, spot_at, kind_at, valuation_of, step, Has, IsFree, StandsFor, IsPlan}
+use Rattle.sim_values.proofs.Settles.{each_one, settled-known, settled-settles, rank_reads}
 
 each_get : {X : Type 0} (P : X → Type 0) (xs : List X) (j : ℕ) (x : X) → EachOf P xs → slice_get xs j ≡ Some x → P x
 each_get P [] j x e at = absurd cc

@@ -8,13 +8,13 @@ use Rattle.netlist.specs.declared.netlist.Module.{Module}
 use Rattle.verilog_meaning.specs.Cycles.{Path, instance_at, connected, IsAt}
 use Rattle.verilog_meaning.specs.Threads.{Place, Names, Depends, operands}
 use Rattle.verilog_meaning.specs.Threads.Depends.{directly, through}
-use Rattle.cycle_sim.specs.declared.settle.Feed.TheVariants.{Copied, Computed}
-use Rattle.cycle_sim.specs.declared.settle.Step.{Step}
-use Rattle.cycle_sim.specs.declared.edge.Part.{Part}
-use Rattle.cycle_sim.specs.Flat.{EachOf}
-use Rattle.cycle_sim.specs.Order.{source_reads, signal_reads, module_reads, reads, rank}
-use Rattle.cycle_sim.specs.Stands.{word_of, spot_at, kind_at, step, Has, IsFree, StandsFor, IsPlan}
-use Rattle.cycle_sim.proofs.Settles.{each_one, rank_reads}
+use Rattle.sim_values.specs.declared.settle.Feed.TheVariants.{Copied, Computed}
+use Rattle.sim_values.specs.declared.settle.Step.{Step}
+use Rattle.sim_values.specs.declared.edge.Part.{Part}
+use Rattle.sim_values.specs.Flat.{EachOf}
+use Rattle.sim_values.specs.Order.{source_reads, signal_reads, module_reads, reads, rank}
+use Rattle.sim_values.specs.Stands.{word_of, spot_at, kind_at, step, Has, IsFree, StandsFor, IsPlan}
+use Rattle.sim_values.proofs.Settles.{each_one, rank_reads}
 
 module _ (modules : List Module) (top : Module) (parts : List Part) (steps : List Step) (free : List Bool) (most n : ℕ) (plan : IsPlan modules top parts steps free most n) where
   abbrev level : Place → ℕ

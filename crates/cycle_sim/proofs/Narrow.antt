@@ -19,7 +19,7 @@ use Rattle.netlist.specs.Sound.{width_read, value_fits, source_fits}
 use Rattle.netlist.specs.Sound as sound
 use Rattle.verilog_meaning.specs.Readings.{width, signal_width}
 use Rattle.verilog_meaning.specs.Threads.{operands}
-use Rattle.cycle_sim.specs.Flat.{EachOf, IsWide, HasRoom, IsNarrowSource, IsNarrowArgument, IsNarrowEffect, IsNarrowAction}
+use Rattle.sim_values.specs.Flat.{EachOf, IsWide, HasRoom, IsNarrowSource, IsNarrowArgument, IsNarrowEffect, IsNarrowAction}
 use Rattle.cycle_sim.proofs.Fits.{some_at, left_true, right_true, at_most, below}
 
 same_operands : (a : Value) → laid.operands a ≡ operands a

@@ -9,18 +9,18 @@ use Rattle.netlist.specs.declared.netlist.Module.{Module}
 use Rattle.verilog_meaning.specs.Readings.{initial_reading, initial_signal, initial_word, initial_number, or_zero}
 use Rattle.verilog_meaning.specs.Cycles.{Path, IsAt, HasMemory, IsState, IsSameIn, initial_state, IsRegister}
 use Rattle.circuit.proofs.States.{keeps_states}
-use Rattle.cycle_sim.specs.declared.value.Spot.{Spot}
-use Rattle.cycle_sim.specs.declared.settle.Step.{Step}
-use Rattle.cycle_sim.specs.declared.edge.Part.{Part}
-use Rattle.cycle_sim.specs.Flat.{EachOf}
-use Rattle.cycle_sim.specs.Order.{IsMarked, Known, IsOrder}
-use Rattle.cycle_sim.specs.Stands.{place_of, word_of, step, Has, StandsFor, IsPlan}
-use Rattle.cycle_sim.specs.Placed.{is_register}
+use Rattle.sim_values.specs.declared.value.Spot.{Spot}
+use Rattle.sim_values.specs.declared.settle.Step.{Step}
+use Rattle.sim_values.specs.declared.edge.Part.{Part}
+use Rattle.sim_values.specs.Flat.{EachOf}
+use Rattle.sim_values.specs.Order.{IsMarked, Known, IsOrder}
+use Rattle.sim_values.specs.Stands.{place_of, word_of, step, Has, StandsFor, IsPlan}
+use Rattle.sim_layout.specs.Placed.{is_register}
 use Rattle.cycle_sim.specs.LaidOut.{IsLaidOut, GivesBy}
-use Rattle.cycle_sim.proofs.Orders.{known_by}
+use Rattle.sim_values.proofs.Orders.{known_by}
 use Rattle.cycle_sim.proofs.Laid.{place_same, found, spot_is, laid, has_step, gives_target, gives_here, register_free}
-use Rattle.cycle_sim.specs.Running.{Running, running, state_of, IsApart, IsDone}
-use Rattle.cycle_sim.specs.Rounds.{prefs_of, TakesTurns}
+use Rattle.sim_layout.specs.Running.{Running, running, state_of, IsApart, IsDone}
+use Rattle.sim_layout.specs.Rounds.{prefs_of, TakesTurns}
 use Rattle.cycle_sim.specs.Opened.{writes_at, IsOne, IsReady}
 use Rattle.cycle_sim.proofs.Loopless.{loopless}
 

@@ -2,8 +2,8 @@
 use Rattle.std.specs.Prelude.{◌≡◌, ℕ, zero, suc, ◌<◌, ◌≤◌, ◌⊎◌, nat_eq, if◌then◌else◌}
 use Rattle.std.proofs.Common.{sym, ◌∙◌, subst, inl, inr, ⊎_elim, arith}
 use Rattle.std.proofs.lemmas.Bool.Decides.{nat_tests}
-use Rattle.cycle_sim.proofs.Settles.{same_or, if_true, if_false}
-use Rattle.cycle_sim.proofs.Trees.{front_or_back}
+use Rattle.sim_values.proofs.Settles.{same_or, if_true, if_false}
+use Rattle.sim_values.proofs.Trees.{front_or_back}
 
 pub record AreTwice (f : ℕ → ℕ) (most : ℕ) : Type 0 where
   pub first : ℕ

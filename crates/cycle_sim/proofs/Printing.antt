@@ -13,7 +13,7 @@ use Rattle.netlist.specs.Sound.{IsSound, IsPrinting, IsTop, Places, is_write}
 use Rattle.netlist.specs.Sound as sound
 use Rattle.verilog_meaning.specs.Names.{module_named, top_of}
 use Rattle.verilog_meaning.specs.Cycles.{Path, module_at}
-use Rattle.cycle_sim.specs.Running.{some_write}
+use Rattle.sim_layout.specs.Running.{some_write}
 use Rattle.cycle_sim.specs.Opened.{HasPrinters}
 use Rattle.cycle_sim.proofs.Right.{held}
 

@@ -22,9 +22,9 @@ use Rattle.verilog_meaning.specs.Cycles.{Path, module_at, instance_at, connected
 use Rattle.circuit.specs.Rows.{EachOf}
 use Rattle.circuit.specs.Modules.{Has, FitsAction, FitsMemory}
 use Rattle.circuit.specs.Nets.{FitsSource, FitsNet, FitsStatements}
-use Rattle.cycle_sim.specs.Running.{IsRight}
+use Rattle.sim_layout.specs.Running.{IsRight}
 use Rattle.cycle_sim.specs.Opened.{IsRightNet}
-use Rattle.cycle_sim.proofs.Trees.{opened, get_front, get_back, front_or_back}
+use Rattle.sim_values.proofs.Trees.{opened, get_front, get_back, front_or_back}
 use Rattle.cycle_sim.proofs.Fits.{some_at, each_listed, has_it, wide_read, value_right, action_right, memory_right, below}
 use Rattle.cycle_sim.proofs.Narrow.{narrow_source, narrow_actions}
 

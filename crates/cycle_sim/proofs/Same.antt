@@ -204,6 +204,8 @@ module _ (modules : List Module) (top : Module) where
       place = shows.place;
       signal = shows.signal;
       is = shows.is;
+      out = shows.out;
+      bit = shows.bit;
       through = moved c shows.through shows.settled;
       settled = settled_moved c shows.through shows.settled;
       number = shows.number;

@@ -9,10 +9,10 @@ use Rattle.netlist.specs.declared.netlist.Effect.TheVariants.{Set, Store, Write}
 use Rattle.netlist.specs.declared.netlist.Action.{Action}
 use Rattle.netlist.specs.declared.netlist.Module.{Module}
 use Rattle.verilog_meaning.specs.Readings.{is_on, stored_by, word_after, memory_words}
-use Rattle.cycle_sim.specs.declared.value.Spot.{Spot}
-use Rattle.cycle_sim.specs.declared.edge.Part.{Part}
-use Rattle.cycle_sim.specs.Flat.{Flat, EachOf, reading, with_words, stored_word, act_word, acted_words, part_words, all_words}
-use Rattle.cycle_sim.proofs.Settles.{same_or, eq_true, eq_false, if_true, if_false}
+use Rattle.sim_values.specs.declared.value.Spot.{Spot}
+use Rattle.sim_values.specs.declared.edge.Part.{Part}
+use Rattle.sim_values.specs.Flat.{Flat, EachOf, reading, with_words, stored_word, act_word, acted_words, part_words, all_words}
+use Rattle.sim_values.proofs.Settles.{same_or, eq_true, eq_false, if_true, if_false}
 
 both_true : (p q : Bool) → p ≡ true → q ≡ true → (p && q) ≡ true
 both_true true q e g = g

@@ -13,22 +13,22 @@ use Rattle.verilog_meaning.specs.Threads.{Place, Names, Depends, IsOneOf, operan
 use Rattle.verilog_meaning.specs.Threads.Depends.{directly, through}
 use Rattle.circuit.specs.Modules.{Has}
 use Rattle.circuit.specs.Nets.{FitsSource}
-use Rattle.cycle_sim.specs.declared.settle.Feed.TheVariants.{Computed}
-use Rattle.cycle_sim.specs.declared.settle.Step.{Step}
-use Rattle.cycle_sim.specs.declared.edge.Part.{Part}
-use Rattle.cycle_sim.specs.declared.loops.Found.{Found}
-use Rattle.cycle_sim.specs.Flat.{EachOf, IsNarrowSource}
-use Rattle.cycle_sim.specs.Order.{source_reads, signal_reads, module_reads, reads, Takes, IsClear, IsStuck}
-use Rattle.cycle_sim.specs.Stands.{place_of, spot_at, kind_at, word_of}
-use Rattle.cycle_sim.specs.Placed.{is_register}
-use Rattle.cycle_sim.specs.Wires.{signals_of}
+use Rattle.sim_values.specs.declared.settle.Feed.TheVariants.{Computed}
+use Rattle.sim_values.specs.declared.settle.Step.{Step}
+use Rattle.sim_values.specs.declared.edge.Part.{Part}
+use Rattle.sim_layout.specs.declared.loops.Found.{Found}
+use Rattle.sim_values.specs.Flat.{EachOf, IsNarrowSource}
+use Rattle.sim_values.specs.Order.{source_reads, signal_reads, module_reads, reads, Takes, IsClear, IsStuck}
+use Rattle.sim_values.specs.Stands.{place_of, spot_at, kind_at, word_of}
+use Rattle.sim_layout.specs.Placed.{is_register}
+use Rattle.sim_layout.specs.Wires.{signals_of}
 use Rattle.cycle_sim.specs.LaidOut.{IsLaidOut}
-use Rattle.cycle_sim.specs.Leads.{Leads, AreInRoom, AreWithin, AreLoopless, IsFirstFound}
-use Rattle.cycle_sim.specs.Leads.Leads.{Directly, Through}
-use Rattle.cycle_sim.specs.Loops.{IsFirstLoop}
-use Rattle.cycle_sim.proofs.Leading.{one_clear, each_among}
+use Rattle.sim_layout.specs.Leads.{Leads, AreInRoom, AreWithin, AreLoopless, IsFirstFound}
+use Rattle.sim_layout.specs.Leads.Leads.{Directly, Through}
+use Rattle.sim_values.specs.Loops.{IsFirstLoop}
+use Rattle.sim_layout.proofs.Leading.{one_clear, each_among}
 use Rattle.cycle_sim.proofs.Pigeons.{twice}
-use Rattle.cycle_sim.proofs.Trees.{rising, front_or_back}
+use Rattle.sim_values.proofs.Trees.{rising, front_or_back}
 use Rattle.cycle_sim.proofs.Laid.{place_same, found, spot_is, laid, part_at, Gives, has_step, gives_target, gives_here, origin, one_signal, register_free, in_room}
 
 among_map : (base : ℕ) (xs : List ℕ) (y : ℕ) → IsOneOf y (map (λ x. base + x) xs) → (x : ℕ) × IsOneOf x xs × (y ≡ base + x)

@@ -12,7 +12,7 @@ use Rattle.verilog_meaning.specs.Names.{numbered, IsSignal}
 use Rattle.verilog_meaning.specs.Cycles.{Choice, pref_number}
 use Rattle.verilog_meaning.specs.Threads.{all_enabled, IsChoice}
 use Rattle.circuit.specs.Nets.{FitsChoice}
-use Rattle.cycle_sim.specs.Rounds.{threads_of, TakesTurns}
+use Rattle.sim_layout.specs.Rounds.{threads_of, TakesTurns}
 use Rattle.cycle_sim.specs.Right.{HasWidePrefs, OpenableOfSound}
 use Rattle.cycle_sim.proofs.Enables.{threads_of_sound}
 use Rattle.cycle_sim.proofs.Printing.{one_printer}
@@ -20,7 +20,7 @@ use Rattle.cycle_sim.proofs.Right.{right_of_sound}
 
 is_choice : (threads prefs preferred : ℕ) → preferred < 16 → IsChoice threads (all_enabled threads (replicate prefs preferred))
 is_choice threads prefs preferred l =
-    ((let p : 0 < 2 ^ threads = pow_pos threads in omega (arith, p)), All-replicate (λ p. p < 16) prefs preferred l)
+    ((let p : 0 < 2 ^ threads = pow_pos threads in omega (arith, p)), All-replicate (λ p. p < 64) prefs preferred (omega (arith, l)))
 
 -- an outermost module that takes all choices of its threads takes those
 pub turns_taken : (modules : List Module) (top : Module) (threads : ℕ) → threads_of modules ≡ threads → ((c : Choice) → IsChoice threads c → FitsChoice modules top c) → TakesTurns modules top

@@ -8,8 +8,8 @@ use Rattle.verilog_meaning.specs.Names.{top_of}
 use Rattle.verilog_meaning.specs.Cycles.{Choice, IsSameIn, ShowsDone, Cycle, Runs}
 use Rattle.verilog_meaning.specs.Threads.{all_enabled}
 use Rattle.circuit.specs.Nets.{FitsChoice}
-use Rattle.cycle_sim.specs.Running.{Running, Stands, state_of, Fits, IsSameNet, IsSameState, IsCycleOf, TellsDone}
-use Rattle.cycle_sim.specs.Rounds.{threads_of, round, rounds, Tells, IsGoing}
+use Rattle.sim_layout.specs.Running.{Running, Stands, state_of, Fits, IsSameNet, IsSameState, IsCycleOf, TellsDone}
+use Rattle.sim_layout.specs.Rounds.{threads_of, round, rounds, Tells, IsGoing}
 use Rattle.cycle_sim.specs.Lockstep.{TakesRounds, IsTurned, IsLockstep, IsCutOff}
 use Rattle.cycle_sim.proofs.Same.{same_refl, same_sym, shows_moved, runs_to_same, runs_on}
 

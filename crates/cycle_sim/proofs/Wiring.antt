@@ -6,14 +6,14 @@ use Rattle.netlist.specs.declared.netlist.Source.TheVariants.{Input, Register, A
 use Rattle.netlist.specs.declared.netlist.Signal.{Signal}
 use Rattle.netlist.specs.declared.netlist.Instance.{Instance}
 use Rattle.netlist.specs.declared.netlist.Module.{Module}
-use Rattle.cycle_sim.specs.declared.settle.Feed.{Feed}
-use Rattle.cycle_sim.specs.declared.settle.Step.{Step}
-use Rattle.cycle_sim.specs.declared.edge.Part.{Part}
-use Rattle.cycle_sim.specs.Order.{Takes}
-use Rattle.cycle_sim.specs.Stands.{step}
-use Rattle.cycle_sim.specs.Wires.{steps_to, own_feed, own_steps, join_feed, join_steps, instance_steps, all_instances, part_steps, all_steps}
-use Rattle.cycle_sim.proofs.Orders.{get_more}
-use Rattle.cycle_sim.proofs.Trees.{get_front, get_back, front_or_back}
+use Rattle.sim_values.specs.declared.settle.Feed.{Feed}
+use Rattle.sim_values.specs.declared.settle.Step.{Step}
+use Rattle.sim_values.specs.declared.edge.Part.{Part}
+use Rattle.sim_values.specs.Order.{Takes}
+use Rattle.sim_values.specs.Stands.{step}
+use Rattle.sim_layout.specs.Wires.{steps_to, own_feed, own_steps, join_feed, join_steps, instance_steps, all_instances, part_steps, all_steps}
+use Rattle.sim_values.proofs.Orders.{get_more}
+use Rattle.sim_values.proofs.Trees.{get_front, get_back, front_or_back}
 
 pub takes_left : (xs ys : List Step) (s : Step) → Takes xs s → Takes (xs ++ ys) s
 takes_left xs ys s t = (t.0, get_more xs ys t.0 s t.1)

@@ -7,7 +7,7 @@ use Rattle.std.proofs.lemmas.Option.{slice_get-get_or}
 use Rattle.verilog_meaning.specs.Names.{module_named}
 use Rattle.netlist.specs.declared.netlist.Module.{Module}
 use Rattle.cycle_sim.specs.Opened.{IsTopNumber}
-use Rattle.cycle_sim.proofs.Settles.{if_true}
+use Rattle.sim_values.proofs.Settles.{if_true}
 
 -- the first module of the name `top`
 pub top_here : (modules : List Module) (i : ℕ) (m : Module) → i < length modules → m ≡ get_or modules i m → bytes_eq (codes "top") m.name ≡ true

@@ -3,10 +3,10 @@ use Rattle.std.specs.Prelude.{◌≡◌, ℕ, List, [], ◌∷◌, Option, Some,
 use Rattle.netlist.specs.declared.netlist.Module.{Module}
 use Rattle.verilog_meaning.specs.Names.{top_of}
 use Rattle.verilog_meaning.specs.Cycles.{Valuation}
+use Rattle.verilog_meaning.specs.Follows.{HasWord}
 use Rattle.global_banks.specs.declared.locate.Location.{Location}
 use Rattle.global_banks.specs.Banks.{location}
-use Rattle.global_banks.specs.Elements.{IsElement}
-use Rattle.cycle_sim.specs.Running.{Running, state_of}
+use Rattle.sim_layout.specs.Running.{Running, state_of}
 
 -- the word at a place of the outermost module's banks
 abbrev pub global_word : Valuation → Location → ℕ
@@ -28,6 +28,5 @@ global_of r x j = global_in r.modules (state_of r) x j (top_of r.modules)
 pub record IsWord (r : Running) (x : List ℕ) (j word : ℕ) : Type 0 where
   pub top : Module
   pub is_top : top_of r.modules ≡ Some top
-  pub place : Location
-  pub is : IsElement r.modules top x j place
-  pub holds : global_word (state_of r) place ≡ word
+  pub width : ℕ
+  pub has : HasWord r.modules top (state_of r) x j width word

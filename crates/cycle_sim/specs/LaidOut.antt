@@ -5,16 +5,16 @@ use Rattle.netlist.specs.declared.netlist.Source.TheVariants.{Input, Register, A
 use Rattle.netlist.specs.declared.netlist.Module.{Module}
 use Rattle.verilog_meaning.specs.Names.{top_of}
 use Rattle.verilog_meaning.specs.Cycles.{Path, instance_at, connected}
-use Rattle.cycle_sim.specs.declared.settle.Feed.TheVariants.{Copied, Computed}
-use Rattle.cycle_sim.specs.declared.settle.Step.{Step}
-use Rattle.cycle_sim.specs.declared.edge.Part.{Part}
-use Rattle.cycle_sim.specs.declared.place.Placed.{Placed}
-use Rattle.cycle_sim.specs.Given.{IsInput}
-use Rattle.cycle_sim.specs.Stands.{spot_of, spot_at, kind_at, word_of, step}
-use Rattle.cycle_sim.specs.Running.{IsRight}
-use Rattle.cycle_sim.specs.Tree.{IsTree}
-use Rattle.cycle_sim.specs.Placed.{IsPlaced}
-use Rattle.cycle_sim.specs.Wires.{AreWires}
+use Rattle.sim_values.specs.declared.settle.Feed.TheVariants.{Copied, Computed}
+use Rattle.sim_values.specs.declared.settle.Step.{Step}
+use Rattle.sim_values.specs.declared.edge.Part.{Part}
+use Rattle.sim_layout.specs.declared.place.Placed.{Placed}
+use Rattle.sim_layout.specs.Given.{IsInput}
+use Rattle.sim_values.specs.Stands.{spot_of, spot_at, kind_at, word_of, step}
+use Rattle.sim_layout.specs.Running.{IsRight}
+use Rattle.sim_values.specs.Tree.{IsTree}
+use Rattle.sim_layout.specs.Placed.{IsPlaced}
+use Rattle.sim_layout.specs.Wires.{AreWires}
 
 pub record IsLaidOut (modules : List Module) (top : Module) (parts : List Part) (numbers : List ℕ) (free : List Bool) (words starts : List ℕ) (wires : List Step) (most : ℕ) : Type 0 where
   pub number : ℕ

@@ -4,9 +4,9 @@ use Rattle.netlist.specs.declared.netlist.Module.{Module}
 use Rattle.verilog_meaning.specs.Names.{top_of}
 use Rattle.verilog_meaning.specs.Threads.{all_enabled}
 use Rattle.circuit.specs.Nets.{FitsChoice}
-use Rattle.cycle_sim.specs.declared.settle.Choice as code
-use Rattle.cycle_sim.specs.Running.{Running, state_of, choice_of, IsSameNet}
-use Rattle.cycle_sim.specs.Rounds.{threads_of, Tells, IsRounds}
+use Rattle.sim_values.specs.declared.settle.Choice as code
+use Rattle.sim_layout.specs.Running.{Running, state_of, choice_of, IsSameNet}
+use Rattle.sim_layout.specs.Rounds.{threads_of, Tells, IsRounds}
 
 -- the numbers of each choice fit: `en` takes all its bits, and each pref has 4 bits or more
 pub record TakesRounds (r : Running) : Type 0 where

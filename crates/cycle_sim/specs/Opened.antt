@@ -2,15 +2,16 @@
 use Rattle.std.specs.Prelude.{◌≡◌, ℕ, Bool, true, false, List, [], Option, Some, None, slice_get, codes}
 use Rattle.netlist.specs.declared.netlist.Signal.{Signal}
 use Rattle.netlist.specs.declared.netlist.Module.{Module}
-use Rattle.verilog_meaning.specs.Names.{top_of, IsSignal}
+use Rattle.verilog_meaning.specs.Names.{top_of}
+use Rattle.verilog_meaning.specs.Ports.{HasDone}
 use Rattle.verilog_meaning.specs.Cycles.{Path, module_at, IsSameIn, initial_state}
 use Rattle.verilog_meaning.specs.Threads.{Place, Depends}
-use Rattle.cycle_sim.specs.declared.edge.Part.{Part}
+use Rattle.sim_values.specs.declared.edge.Part.{Part}
 use Rattle.cycle_sim.specs.declared.sim.OpenError.{OpenError}
 use Rattle.cycle_sim.specs.declared.sim.OpenError.TheVariants as errors
-use Rattle.cycle_sim.specs.Loops.{IsFirstLoop}
-use Rattle.cycle_sim.specs.Rounds.{prefs_of, TakesTurns}
-use Rattle.cycle_sim.specs.Running.{Running, state_of, IsRight, Stands, some_write}
+use Rattle.sim_values.specs.Loops.{IsFirstLoop}
+use Rattle.sim_layout.specs.Rounds.{prefs_of, TakesTurns}
+use Rattle.sim_layout.specs.Running.{Running, state_of, IsRight, Stands, some_write}
 
 abbrev pub writes_at : Option Module → Bool
 writes_at None = false
@@ -40,15 +41,20 @@ pub record IsTopNumber (modules : List Module) (number : ℕ) : Type 0 where
   pub is_top : top_of modules ≡ Some top
   pub stands : slice_get modules number ≡ Some top
 
--- the signal `done`
+-- an output `done` of one bit
+pub record IsDoneSignal (s : Signal) : Type 0 where
+  pub named : s.name ≡ codes "done"
+  pub out : s.is_output ≡ true
+  pub bit : s.width ≡ 1
+
 pub record IsDoneNumber (signals : List Signal) (number : ℕ) : Type 0 where
   pub signal : Signal
   pub listed : slice_get signals number ≡ Some signal
-  pub named : signal.name ≡ codes "done"
+  pub is : IsDoneSignal signal
 
--- no signal has the name `done`
+-- there is none
 abbrev pub LacksDone : List Signal → Type 0
-LacksDone signals = (x : ℕ) (s : Signal) → slice_get signals x ≡ Some s → s.name ≡ codes "done" → ⊥
+LacksDone signals = (x : ℕ) (s : Signal) → slice_get signals x ≡ Some s → IsDoneSignal s → ⊥
 
 -- the net with a module `top`, whose widths fit
 abbrev pub IsRightNet : List Module → Type 0
@@ -87,14 +93,14 @@ pub record HasPrinters (modules : List Module) : Type 0 where
   pub writes : Writes modules top path
   pub writes_too : Writes modules top other
 
--- what `open` takes: the net has a module `top` with a signal `done`, its widths fit, one instance at most has a $write, and the
+-- what `open` takes: the net has a module `top` with an output `done` of one bit, its widths fit, one instance at most has a $write, and the
 -- inputs of `top` take each choice in which all threads are enabled and the prefs have 4 bits
 pub record IsOpenable (modules : List Module) : Type 0 where
   pub top : Module
   pub is_top : top_of modules ≡ Some top
   pub right : IsRight modules top
   pub printer : HasPrinters modules → ⊥
-  pub done : (x : ℕ) × (s : Signal) × IsSignal top (codes "done") x s
+  pub done : HasDone top
   pub takes : TakesTurns modules top
 
 -- ---- why there is none

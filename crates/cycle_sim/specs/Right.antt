@@ -5,8 +5,9 @@ use Rattle.netlist.specs.declared.netlist.Signal.{Signal}
 use Rattle.netlist.specs.declared.netlist.Module.{Module}
 use Rattle.netlist.specs.declared.netlist.Netlist.{Netlist}
 use Rattle.netlist.specs.Sound.{IsSound}
+use Rattle.verilog_meaning.specs.Ports.{HasDone}
 use Rattle.verilog_meaning.specs.Names.{numbered, top_of, IsSignal}
-use Rattle.cycle_sim.specs.Rounds.{threads_of}
+use Rattle.sim_layout.specs.Rounds.{threads_of}
 use Rattle.cycle_sim.specs.Opened.{IsRightNet, IsOpenable, HasPrinters}
 
 -- in a sound netlist each width fits
@@ -25,7 +26,7 @@ ThreadsOfSound = (n : Netlist) → IsSound n → (top : Module) (x : ℕ) (s : S
 abbrev pub HasWidePrefs : Module → Type 0
 HasWidePrefs top = (x k : ℕ) (s : Signal) → IsSignal top (numbered (codes "pref") k) x s → s.source ≡ Input → 4 ≤ s.width
 
--- a sound netlist can be opened where its outermost module has a signal `done` and such inputs
+-- a sound netlist can be opened where its outermost module has an output `done` of one bit and such inputs
 abbrev pub OpenableOfSound : Type 0
 OpenableOfSound =
-    (n : Netlist) → IsSound n → (top : Module) → top_of n.modules ≡ Some top → ((x : ℕ) × (s : Signal) × IsSignal top (codes "done") x s) → HasWidePrefs top → IsOpenable n.modules
+    (n : Netlist) → IsSound n → (top : Module) → top_of n.modules ≡ Some top → HasDone top → HasWidePrefs top → IsOpenable n.modules

@@ -17,7 +17,7 @@ pub fn threads_of_sound()
     ensures { ThreadsOfSound }
 {}
 
-/// A sound netlist can be opened where its outermost module has a signal `done` and where its inputs `pref_k` have 4 bits or more.
+/// A sound netlist can be opened where its outermost module has an output `done` of one bit and where its inputs `pref_k` have 4 bits or more.
 pub fn openable_of_sound()
     ensures { OpenableOfSound }
 {}

@@ -3,9 +3,9 @@
 ghost use Rattle.std.specs.Prelude.{◌≡◌, ◌-◌, ◌^◌, ◌≤◌, false, None, MatchOption, IsTrue, codes};
 ghost use Rattle.std.specs.Str.{bytes_eq};
 ghost use Rattle.verilog_meaning.specs.Names.{top_of};
-ghost use Rattle.cycle_sim.specs.Opened.{IsTopNumber, IsDoneNumber, LacksDone};
-ghost use Rattle.cycle_sim.specs.Rounds as rounds;
-ghost use Rattle.cycle_sim.specs.Rounds.{enable_width, AreNarrowSignals};
+ghost use Rattle.cycle_sim.specs.Opened.{IsTopNumber, IsDoneNumber, IsDoneSignal, LacksDone};
+ghost use Rattle.sim_layout.specs.Rounds as rounds;
+ghost use Rattle.sim_layout.specs.Rounds.{enable_width, AreNarrowSignals};
 
 use global_banks::names::{behind, is_decimal};
 use netlist::netlist::{Module, Signal, Source};
@@ -30,13 +30,13 @@ pub fn top_number(modules: &[Module]) -> Option<usize>
 }
 
 fn is_done(signal: &Signal) -> bool
-    ensures named { IsTrue result → signal.now.name ≡ codes "done" }
-    ensures other { result ≡ false → signal.now.name ≡ codes "done" → ⊥ }
+    ensures named { IsTrue result → IsDoneSignal signal.now }
+    ensures other { result ≡ false → IsDoneSignal signal.now → ⊥ }
 {
-    signal.name.as_str() == "done"
+    signal.name.as_str() == "done" && signal.is_output && signal.width == 1
 }
 
-/// The number of the first signal `done`.
+/// The number of the first output `done` of one bit.
 fn first_done(signals: &[Signal]) -> Option<usize>
     ensures { MatchOption result (LacksDone signals.now) (IsDoneNumber signals.now) }
 {
@@ -48,7 +48,7 @@ fn first_done(signals: &[Signal]) -> Option<usize>
     None
 }
 
-/// The number of the signal `done`, where there is one.
+/// The number of the output `done`, where there is one of one bit.
 pub fn done_number(signals: &[Signal]) -> usize
     requires { LacksDone signals.now → ⊥ }
     ensures { IsDoneNumber signals.now result }

@@ -3,34 +3,34 @@
 ghost use Rattle.std.specs.Prelude.{◌≡◌, ◌++◌, ◌-◌, ◌^◌, ◌<◌, [], Some, option_copied, length, replicate, nat_eq, slice_index, slice_get, IfOk, IfErr, OnOk};
 ghost use Rattle.std.specs.Prelude.{ℕ, OnErr, IfNone, IfSome, is_ok, if◌then◌else◌};
 ghost use Rattle.cycle_sim.specs.declared.sim.OpenError.TheVariants as errors;
-ghost use Rattle.cycle_sim.specs.Order.{IsStuck};
-ghost use Rattle.cycle_sim.specs.Wires.{signals_of, AreWires};
+ghost use Rattle.sim_values.specs.Order.{IsStuck};
+ghost use Rattle.sim_layout.specs.Wires.{signals_of, AreWires};
 ghost use Rattle.cycle_sim.specs.LaidOut.{IsPlacedNet};
 ghost use Rattle.cycle_sim.specs.Opened.{IsOpened, IsOpenable, IsReady, IsTopNumber, IsCause};
 ghost use Rattle.verilog_meaning.specs.Cycles.{Choice as Choosing};
 ghost use Rattle.verilog_meaning.specs.Threads.{all_enabled};
-ghost use Rattle.cycle_sim.specs.Rounds.{threads_of, prefs_of};
+ghost use Rattle.sim_layout.specs.Rounds.{threads_of, prefs_of};
 ghost use Rattle.verilog_meaning.specs.Names.{top_of};
 ghost use Rattle.cycle_sim.specs.Globals.{element_at, global_of, global_word, IsWord};
 ghost use Rattle.cycle_sim.specs.Lockstep.{TakesRounds, AreRounds, IsLockstep, IsCutOff};
-ghost use Rattle.cycle_sim.specs.Flat.{Flat, AreNarrow, all_numbers, all_words, all_written};
-ghost use Rattle.cycle_sim.specs.Running.{Running, Stands, running, flat, state_of, choice_of, Fits, IsSettledRun, IsSameNet, IsSameState, IsCycleOf, Prints, TellsDone, advanced};
-ghost use Rattle.cycle_sim.specs.Print.{IsSomething};
+ghost use Rattle.sim_values.specs.Flat.{Flat, AreNarrow, all_numbers, all_words, all_written};
+ghost use Rattle.sim_layout.specs.Running.{Running, Stands, running, flat, state_of, choice_of, Fits, IsSettledRun, IsSameNet, IsSameState, IsCycleOf, Prints, TellsDone, advanced};
+ghost use Rattle.sim_layout.specs.Print.{IsSomething};
 
-use crate::edge::{Part, edge_numbers, edge_words, inner_spot, kind_at_root};
-use crate::given::roots;
-use crate::loops::first_loop;
 use crate::net::{done_number, enable_mask, pref_count, top_number};
-use crate::order::order;
-use crate::place::{Placed, place};
-use crate::print::put_written;
-use crate::settle::{Choice, Step, settle};
-use crate::tree::tree_of;
-use crate::value::{Now, item_at, number_at, word_at};
-use crate::wires::{base_at, further, module_signals, push_parts};
 use global_banks::locate::{Location, locate};
 use hls_io::Bytes;
 use netlist::netlist::Module;
+use sim_layout::given::roots;
+use sim_layout::loops::first_loop;
+use sim_layout::order::order;
+use sim_layout::place::{Placed, place};
+use sim_layout::print::put_written;
+use sim_layout::wires::{base_at, further, module_signals, push_parts};
+use sim_values::edge::{Part, edge_numbers, edge_words, inner_spot, kind_at_root};
+use sim_values::settle::{Choice, Step, settle};
+use sim_values::tree::tree_of;
+use sim_values::value::{Now, item_at, number_at, word_at};
 use sqlite_items::{Items, at};
 use std::alloc::{AllocError, Global};
 use std::marker::Model;
@@ -55,8 +55,8 @@ pub struct Sim<'a> {
 
 impl<'a> Model for Sim<'a> {
     ghost use Rattle.std.specs.Prelude.{◌≡◌, ◌-◌, ◌^◌, length};
-    ghost use Rattle.cycle_sim.specs.Running.{Running, Stands, running};
-    ghost use Rattle.cycle_sim.specs.Rounds.{threads_of};
+    ghost use Rattle.sim_layout.specs.Running.{Running, Stands, running};
+    ghost use Rattle.sim_layout.specs.Rounds.{threads_of};
 
     ghost Value = { Running };
 

@@ -1,3 +1,5 @@
 pub mod Places
 pub mod Named
+pub mod Digits
+pub mod Listed
 pub mod Elements

@@ -10,8 +10,8 @@ use Rattle.std.proofs.lemmas.Option.{same_Some, none-some, slice_get-map}
 use Rattle.std.proofs.lemmas.List.{take-append-drop}
 use Rattle.std.proofs.Math.Seq.{take-append_seam, drop-append_seam}
 use Rattle.netlist.specs.Laid.{AreApart}
+use Rattle.verilog_meaning.specs.Names.{with_digits}
 use Rattle.global_banks.specs.Banks.{behind, rest_of, is_rest}
-use Rattle.global_banks.specs.Elements.{bank_name}
 
 pub less_of : (a b : ℕ) → nat_lt a b ≡ true → a < b
 less_of a b e = grind (arith, nat_tests)
@@ -81,6 +81,10 @@ module _ {X : Type 0} (name : X → List ℕ) (key : List ℕ) (p : X → Bool) 
       apart (position_or_len p xs) k key here there
 
 -- ---- names
+
+-- a name that is a stem, the name of a global, `_` and digits
+abbrev pub bank_name : List ℕ → List ℕ → List ℕ → List ℕ
+bank_name stem x digits = with_digits (stem ++ x) digits
 
 behind_by : (b : Bool) (stem name r : List ℕ) → bytes_eq (take (length stem) name) stem ≡ b → (if b then Some (drop (length stem) name) else None) ≡ Some r → name ≡ stem ++ r
 behind_by true stem name r q e =

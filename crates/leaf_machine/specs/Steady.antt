@@ -32,10 +32,14 @@ module _ (t : ThreadMachine) (p : ThreadPlaces t) (cores : ℕ) (m : Module) whe
     -- a grant of a core that is asked changes the slot
     pub granted_moves : (r : Reading) (k : ℕ) → Obeys m r → r.signal p.enable ≡ 1 → k < cores → p.uses k ≡ true → Asks r k → r.signal (p.grant k) ≡ 1 → Stays r → ⊥
 
--- the module of main keeps to itself, stays where it has ended, and has an output of the name need
-pub record IsSteadyMain (cores : ℕ) (m : Module) (leaf : LeafPorts) : Type 0 where
+-- the module of a thread keeps to itself, and has an output of the name need
+pub record IsSteadyThread (cores : ℕ) (m : Module) (leaf : LeafPorts) : Type 0 where
   pub keeps : KeepsToItself (leaf_thread m leaf) (leaf_places m leaf) cores m
-  pub ended : (r : Reading) → Obeys m r → r.signal leaf.done ≡ 1 → Agree m r (next_reading m r)
   pub need : Signal
   pub is : IsSignal m (codes "need") leaf.need need
   pub out : need.is_output ≡ true
+
+-- the module of main is such a one, and stays where it has ended
+pub record IsSteadyMain (cores : ℕ) (m : Module) (leaf : LeafPorts) : Type 0 where
+  pub thread : IsSteadyThread cores m leaf
+  pub ended : (r : Reading) → Obeys m r → r.signal leaf.done ≡ 1 → Agree m r (next_reading m r)

@@ -100,9 +100,10 @@ if_false : (b : Bool) (x y : Option ℕ) → b ≡ false → (if b then x else y
 if_false true x y e = absurd cc
 if_false false x y e = refl
 
-by_name : (n : ℕ) (name : List ℕ) → is_clk name ≡ true → place_of n name ≡ Some 0
-by_name n name e = if_true (is_clk name) (Some 0) (if bytes_eq name (codes "en") then Some 1
-    else (if bytes_eq name (codes "need") then Some (n - 2) else (if bytes_eq name (codes "done") then Some (n - 1) else last_number name))) e
+by_name : (n inputs : ℕ) (name : List ℕ) → is_clk name ≡ true → place_of n inputs name ≡ Some 0
+by_name n inputs name e = if_true (is_clk name) (Some 0) (if bytes_eq name (codes "en") then Some 1
+    else (if bytes_eq name (codes "need") then Some (n - 2) else (if bytes_eq name (codes "done") then Some (n - 1)
+    else (if bytes_eq name (codes "beat") then Some (inputs + 2) else last_number name)))) e
 
 module _ (m : Module) (inputs first : ℕ) (grades : List ℕ) (are : AreGrades m inputs (length m.signals) grades) (acts : EachOf (ActsRight m) m.actions) (instances : m.instances ≡ [])
     (memories : AreRightMemories m) (placed : IsPlaced m inputs first) (begins : BeginsWithClock m) where
@@ -114,7 +115,7 @@ module _ (m : Module) (inputs first : ℕ) (grades : List ℕ) (are : AreGrades 
       by_test : (b : Bool) → is_clk s.name ≡ b → is_clk s.name ≡ false
       by_test false e = e
       by_test true e =
-          absurd (let told = (placed.each x s listed).named in let zero_is = by_name (length m.signals) s.name e in let same : 0 ≡ x = cc in ne (sym same))
+          absurd (let told = (placed.each x s listed).named in let zero_is = by_name (length m.signals) inputs s.name e in let same : 0 ≡ x = cc in ne (sym same))
 
   clock_is : (x : ℕ) (s : Signal) → slice_get m.signals x ≡ Some s → is_clk s.name ≡ nat_eq x 0
   clock_is zero s listed = let same : begins.signal ≡ s = (let e = begins.listed in cc) in subst (λ (z : Signal). is_clk z.name ≡ true) same begins.named
@@ -126,8 +127,8 @@ module _ (m : Module) (inputs first : ℕ) (grades : List ℕ) (are : AreGrades 
       let b = named_at m.signals j x f in
       let told = (placed.each i a.0 a.1).named in
       let other = (placed.each j b.0 b.1).named in
-      let one : place_of (length m.signals) x ≡ Some i = ap (place_of (length m.signals)) (sym a.2) ∙ told in
-      let two : place_of (length m.signals) x ≡ Some j = ap (place_of (length m.signals)) (sym b.2) ∙ other in
+      let one : place_of (length m.signals) inputs x ≡ Some i = ap (place_of (length m.signals) inputs) (sym a.2) ∙ told in
+      let two : place_of (length m.signals) inputs x ≡ Some j = ap (place_of (length m.signals) inputs) (sym b.2) ∙ other in
       cc
 
   names_differ : (i j : ℕ) (x : Name) → slice_get (signal_names m) i ≡ Some x → slice_get (memory_names m) j ≡ Some x → ⊥

@@ -36,7 +36,7 @@ module _ (m : Module) (inputs first x : ℕ) where
   IsKindAt out (Port i p) = ⊥
 
   pub record IsPlacedSignal (s : Signal) : Type 0 where
-    pub named : place_of (length m.signals) s.name ≡ Some x
+    pub named : place_of (length m.signals) inputs s.name ≡ Some x
     pub kind : IsKindAt s.is_output s.source
 
 -- THE SIGNALS OF A MODULE stand at the places of their kinds

@@ -14,10 +14,11 @@ number_behind state b = if b == 95 then Some 0 else digit_behind state b
 abbrev pub last_number : List ℕ → Option ℕ
 last_number name = fold number_behind None name
 
--- of a module with so many signals: the names without a number stand at places of their own
-abbrev pub place_of : ℕ → List ℕ → Option ℕ
-place_of n name =
+-- of a module with so many signals, of which so many are inputs: the names without a number stand at places of their own
+abbrev pub place_of : ℕ → ℕ → List ℕ → Option ℕ
+place_of n inputs name =
     if bytes_eq name (codes "clk") then Some 0
     else (if bytes_eq name (codes "en") then Some 1
     else (if bytes_eq name (codes "need") then Some (n - 2)
-    else (if bytes_eq name (codes "done") then Some (n - 1) else last_number name)))
+    else (if bytes_eq name (codes "done") then Some (n - 1)
+    else (if bytes_eq name (codes "beat") then Some (inputs + 2) else last_number name))))

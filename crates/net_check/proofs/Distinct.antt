@@ -9,7 +9,7 @@ use Rattle.verilog_tree.specs.Scope.{Name, Names, Scope, is_known}
 use Rattle.verilog_tree.specs.Rules as rule
 use Rattle.verilog_tree.specs.Facts as fact
 use Rattle.verilog_tree.specs.WellFormed.{are_new}
-use Rattle.net_check.proofs.Same.{same_bytes, turned}
+use Rattle.net_rules.proofs.Same.{same_bytes, turned}
 
 -- none of the names is known
 abbrev none_in : Names → Names → Bool

@@ -1,7 +1,3 @@
-pub mod Same
-pub mod Tables
-pub mod PortTables
-pub mod Cases
 pub mod Rules
 pub mod Firsts
 pub mod Found

@@ -7,10 +7,10 @@ ghost use Rattle.verilog_tree.specs.Rules as rule;
 ghost use Rattle.verilog_tree.specs.WellFormed.{are_new};
 ghost use Rattle.net_check.specs.Instances as known;
 
-use crate::expressions::has_width;
-use crate::interfaces::{Interfaces, Ports};
-use crate::kinds::{driven_width, is_clk, is_clock, width_of};
-use crate::names::{NameSet, Scope};
+use net_rules::expressions::has_width;
+use net_rules::interfaces::{Interfaces, Ports};
+use net_rules::kinds::{driven_width, is_clk, is_clock, width_of};
+use net_rules::names::{NameSet, Scope};
 use std::alloc::{AllocError, Global};
 use verilog_tree::name::Identifier;
 use verilog_tree::tree::{Connection, Direction, Instance, Port};

@@ -8,10 +8,10 @@ ghost use Rattle.net_check.specs.Instances.{driven_by};
 ghost use Rattle.net_check.specs.Known as known;
 
 use crate::connections::is_driving;
-use crate::interfaces::{Interfaces, Ports};
-use crate::kinds::{is_clk, port_kind, signal, width_of};
-use crate::names::{NameSet, PlaceSet, Scope};
-use crate::writes::{all_write_none, body_of, note_all_writes};
+use net_rules::interfaces::{Interfaces, Ports};
+use net_rules::kinds::{is_clk, port_kind, signal, width_of};
+use net_rules::names::{NameSet, PlaceSet, Scope};
+use net_rules::writes::{all_write_none, body_of, note_all_writes};
 use std::alloc::{AllocError, Global};
 use verilog_tree::kind::{Kind, SignalClass};
 use verilog_tree::name::Identifier;

@@ -6,9 +6,9 @@ ghost use Rattle.verilog_tree.specs.Facts as fact;
 ghost use Rattle.net_check.specs.Instances.{places_again};
 ghost use Rattle.net_check.specs.Known as known;
 
-use crate::interfaces::Interfaces;
-use crate::names::NameSet;
-use crate::writes::item_prints;
+use net_rules::interfaces::Interfaces;
+use net_rules::names::NameSet;
+use net_rules::writes::item_prints;
 use std::alloc::{AllocError, Global};
 use verilog_tree::name::Identifier;
 use verilog_tree::tree::{Instance, Item, Module};

@@ -12,14 +12,14 @@ ghost use Rattle.net_check.specs.Known as known;
 ghost use Rattle.net_check.specs.Search as search_for;
 
 use crate::connections::instance_right;
-use crate::expressions::assign_right;
 use crate::facts::ModuleFacts;
 use crate::fault::{ModulePart, NetPart};
-use crate::interfaces::{Interface, Interfaces, Ports};
-use crate::kinds::{is_clk, is_input, width_of};
-use crate::names::{NameSet, Scope};
 use crate::printing::{Printing, any_item_prints, any_prints_below, is_top, note_placed_in};
-use crate::statements::{constants_right, statements_right};
+use net_rules::expressions::assign_right;
+use net_rules::interfaces::{Interface, Interfaces, Ports};
+use net_rules::kinds::{is_clk, is_input, width_of};
+use net_rules::names::{NameSet, Scope};
+use net_rules::statements::{constants_right, statements_right};
 use std::alloc::{AllocError, Global};
 use verilog_tree::tree::{Expression, Instance, Item, Module, Net, Port};
 

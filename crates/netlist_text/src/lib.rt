@@ -13,8 +13,6 @@ mod items;
 mod modules;
 mod names;
 mod statements;
-#[cfg(test)]
-mod tests;
 
 use netlist::netlist::Netlist;
 use std::alloc::{AllocError, Global};

@@ -41,7 +41,7 @@ wide (suc zero) k p e way named = absurd (other_name p k 100 (ap (λ (q : Port).
 wide (suc (suc x)) k p e way named = absurd (none-some p e)
 
 has_top : HasTop net
-has_top = record { number = 0; top = top; listed = refl; named = refl; place = 1; done = done; done_listed = refl; done_named = refl; wide = wide }
+has_top = record { number = 0; top = top; listed = refl; named = refl; place = 1; done = done; done_listed = refl; done_named = refl; done_out = refl; done_bit = refl; wide = wide }
 
 not_sound : IsSound (netlist_of net) → ⊥
 unfolding netlist_of module_of

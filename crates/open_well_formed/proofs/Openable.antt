@@ -12,7 +12,7 @@ use Rattle.verilog_meaning.specs.Names.{top_of, IsSignal}
 use Rattle.fitting_net.specs.Fitting.{IsFitModule}
 use Rattle.fitting_net.proofs.Modules.{fits_of_well_formed}
 use Rattle.fitting_net.proofs.Prints.{modules_apart, stands_earlier, printing}
-use Rattle.cycle_sim.specs.Rounds.{enables, threads_of}
+use Rattle.sim_layout.specs.Rounds.{enables, threads_of}
 use Rattle.cycle_sim.proofs.Right.{named_at}
 use Rattle.cycle_sim.proofs.Enables.{enable_at}
 use Rattle.cycle_sim.proofs.Printing.{PrintsOnce, printer_of}

@@ -22,8 +22,8 @@ use Rattle.circuit.specs.Modules.{Has, FitsValue, FitsArgument, FitsEffect, Fits
 use Rattle.circuit.specs.Nets.{FitsSource, FitsNet, FitsStatements}
 use Rattle.circuit.proofs.Tables.{operand_of}
 use Rattle.fitting_net.specs.Fitting.{IsFitSource, IsFitModule}
-use Rattle.cycle_sim.specs.Flat.{EachOf, IsWide, HasRoom, IsNarrowSource, IsNarrowArgument, IsNarrowEffect, IsNarrowAction}
-use Rattle.cycle_sim.specs.Running.{IsRight}
+use Rattle.sim_values.specs.Flat.{EachOf, IsWide, HasRoom, IsNarrowSource, IsNarrowArgument, IsNarrowEffect, IsNarrowAction}
+use Rattle.sim_layout.specs.Running.{IsRight}
 use Rattle.cycle_sim.proofs.Right.{held, placed_at}
 
 each_from : (P : ℕ → Type 0) (xs : List ℕ) → ((x : ℕ) → IsOneOf x xs → P x) → EachOf P xs

@@ -19,7 +19,8 @@ use Rattle.netlist.specs.NetlistOf.{Name, module_of, netlist_of}
 use Rattle.netlist.specs.Laid.{AreApart, module_names}
 use Rattle.netlist_text.proofs.Places.{apart_rest, head_other, get_mapped, get_unmapped}
 use Rattle.netlist_text.proofs.Members.{In}
-use Rattle.verilog_meaning.specs.Names.{module_named, top_of, IsSignal}
+use Rattle.verilog_meaning.specs.Names.{module_named, top_of}
+use Rattle.verilog_meaning.specs.Ports.{HasDone}
 use Rattle.fitting_net.proofs.Signals.{kind_at, port_declared}
 use Rattle.fitting_net.proofs.Connected.{is_port_kind, port_of}
 use Rattle.fitting_net.proofs.Modules.{signals_are, signal_at, input_kind}
@@ -64,11 +65,17 @@ module _ (net : Net) (is : IsWellFormed net) (has : HasTop net) where
   is_top : top_of (netlist_of net).modules ≡ Some mine
   is_top = named_module (netlist_of net).modules (codes "top") has.number mine (modules_apart net is) top_there (name_is before has.top ∙ has.named)
 
-  done : (x : ℕ) × (s : Signal) × IsSignal mine (codes "done") x s
+  done : HasDone mine
   done =
       let d : n.Declaration = n.declaration (kind_at has.done.direction) has.done in
       let h = port_declared has.top has.place has.done has.done_listed in
-      (h.at, n.signal_of before has.top d, record { listed = signal_at before has.top h.at d h.found; named = has.done_named })
+      record {
+        place = h.at;
+        signal = n.signal_of before has.top d;
+        is = record { listed = signal_at before has.top h.at d h.found; named = has.done_named };
+        out = ap (λ (r : Direction). n.is_output_port (kind_at r)) has.done_out;
+        bit = has.done_bit;
+      }
 
   -- ---- its inputs
 

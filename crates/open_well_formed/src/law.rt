@@ -3,13 +3,13 @@
 ghost use Rattle.open_well_formed.specs.Example.{OpensOneBit};
 ghost use Rattle.open_well_formed.specs.Openable.{OpenableOfWellFormed, OpenableText};
 
-/// A simulator of the netlist of a well-formed text can be opened where its module `top` has a signal `done` and where the inputs
-/// `pref_k` of `top` have 4 bits or more.
+/// A simulator of the netlist of a well-formed text can be opened where its module `top` has an output `done` of one bit and
+/// where the inputs `pref_k` of `top` have 4 bits or more.
 pub fn openable_of_well_formed()
     ensures { OpenableOfWellFormed }
 {}
 
-/// The same, said of the text alone: it has a module `top` with a port `done`, whose input ports `pref_k` have 4 bits or more.
+/// The same, said of the text alone: it has a module `top` with an output port `done` of one bit, whose input ports `pref_k` have 4 bits or more.
 pub fn openable_text()
     ensures { OpenableText }
 {}

@@ -41,6 +41,7 @@ is_single role.Clock = true
 is_single role.Enable = true
 is_single role.Need = true
 is_single role.Done = true
+is_single role.Beat = true
 is_single _ = false
 
 -- the name of the signal at a place

@@ -2,7 +2,5 @@
 #![tactic(auto)]
 
 pub mod operators;
-#[cfg(test)]
-mod tests;
 pub mod wires;
 pub mod words;

@@ -29,7 +29,7 @@ pub enum Role {
     Need,
     /// The output `done`.
     Done,
-    /// The register of the beat.
+    /// The register `beat`.
     Beat,
     /// An input: whether a core grants.
     Grant,
@@ -81,7 +81,10 @@ impl Role {
     fn is_single(self) -> bool
         ensures { result ≡ is_single self }
     {
-        matches!(self, Role::Clock | Role::Enable | Role::Need | Role::Done)
+        matches!(
+            self,
+            Role::Clock | Role::Enable | Role::Need | Role::Done | Role::Beat
+        )
     }
 
     /// The name of the signal at a place.

@@ -268,34 +268,3 @@ fn signals(
     ];
     lay(alloc, &rows)
 }
-
-#[cfg(test)]
-mod tests {
-    use super::*;
-    use std::test::Fail;
-
-    #[test]
-    fn one_site(rt: HostRuntime) -> Result<(), Fail> {
-        let alloc = rt.alloc();
-        let mut parts = Items::new(alloc);
-        parts.push(Part::Signed)?;
-        parts.push(Part::Text(Items::from_slice(alloc, b"\t100%\n")?))?;
-        let mut sites = Items::new(alloc);
-        sites.push(parts)?;
-        let shape = Shape {
-            threads: 1,
-            values: 1,
-            sites,
-        };
-        let printer = module(alloc, &shape)?;
-        let action = printer.actions.get(0).ok_or("action")?;
-        match &action.effect {
-            Effect::Write { text, arguments } => {
-                assert_eq!(rt; text.as_str(), "%0d\\t100%%\\n");
-                assert_eq!(rt; arguments.len(), 1);
-            }
-            _ => assert!(rt; false),
-        }
-        Ok(())
-    }
-}

@@ -6,7 +6,7 @@ use Rattle.netlist.specs.declared.netlist.Module.{Module}
 use Rattle.verilog_meaning.specs.Cycles.{Valuation, Choice, IsState, IsSameIn, Runs, ShowsDone, initial_state}
 use Rattle.verilog_meaning.specs.Threads.{all_enabled, IsChoice}
 use Rattle.verilog_meaning.specs.Follows.{IsDetermined}
-use Rattle.cycle_sim.specs.Rounds.{round, rounds}
+use Rattle.sim_layout.specs.Rounds.{round, rounds}
 use Rattle.cycle_sim.proofs.Same.{shows_moved}
 use Rattle.top_wiring.specs.Leaves.{SettlesOnce}
 use Rattle.round_net.specs.Alike.{held, Writes, Ends, AreRunsOf, AreWritesOf, RunsAsTop, WritesAsTop, EndsAsTop}
@@ -62,7 +62,7 @@ writes_as_top layout modules n w prefs enough =
 -- ---- done under another choice
 
 is_choice : (threads prefs preferred : ℕ) → preferred < 16 → IsChoice threads (all_enabled threads (replicate prefs preferred))
-is_choice threads prefs preferred l = ((let p : 0 < 2 ^ threads = pow_pos threads in omega (arith, p)), All-replicate (λ p. p < 16) prefs preferred l)
+is_choice threads prefs preferred l = ((let p : 0 < 2 ^ threads = pow_pos threads in omega (arith, p)), All-replicate (λ p. p < 64) prefs preferred (omega (arith, l)))
 
 module _ (modules : List Module) (top : Module) (threads : ℕ) (settles : SettlesOnce modules top threads) (determined : IsDetermined modules top threads) where
   state_same : (h g : Valuation) → IsState modules top h → IsSameIn modules top [] h g → IsState modules top g
@@ -80,7 +80,7 @@ module _ (modules : List Module) (top : Module) (threads : ℕ) (settles : Settl
   shows_under h c d b is choice shows =
       let v = settles.exists h d is choice in
       let other : ShowsDone modules top h d ((v.0 []).signal shows.place) =
-      record { place = shows.place; signal = shows.signal; is = shows.is; through = v.0; settled = v.1; number = refl } in
+      record { place = shows.place; signal = shows.signal; is = shows.is; out = shows.out; bit = shows.bit; through = v.0; settled = v.1; number = refl } in
       subst (λ (z : ℕ). ShowsDone modules top h d z) (determined.done h d c ((v.0 []).signal shows.place) b other shows) other
 
   -- the same after a run

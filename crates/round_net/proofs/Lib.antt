@@ -8,3 +8,4 @@ pub mod Alike
 pub mod Found
 pub mod Counting
 pub mod Stepped
+pub mod Prefs

@@ -8,7 +8,7 @@ use Rattle.verilog_meaning.specs.Names.{top_of}
 use Rattle.verilog_meaning.specs.Cycles.{Valuation, Choice, Reaches, initial_state}
 use Rattle.verilog_meaning.specs.Threads.{all_enabled}
 use Rattle.verilog_meaning.specs.Follows.{IsDetermined}
-use Rattle.cycle_sim.specs.Rounds.{enable_width, enables, threads_of, prefs_in, prefs_of, rounds, Tells, IsGoing}
+use Rattle.sim_layout.specs.Rounds.{enable_width, enables, threads_of, prefs_in, prefs_of, rounds, Tells, IsGoing}
 use Rattle.round_robin.specs.Round.{turns, IsRound}
 use Rattle.top_wiring.specs.declared.layout.Layout.{Layout}
 use Rattle.top_wiring.specs.Leaves.{SettlesOnce}

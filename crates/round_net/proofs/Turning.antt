@@ -6,7 +6,7 @@ use Rattle.netlist.specs.declared.netlist.Netlist.{Netlist}
 use Rattle.std.specs.Prelude.{slice_get, codes}
 use Rattle.verilog_meaning.specs.Readings.{initial_reading, initial_signal}
 use Rattle.verilog_meaning.specs.Cycles.{Path, Valuation, Choice, IsSameIn, IsSettled, Cycle, Runs, Reaches, ShowsDone, next_state, initial_state}
-use Rattle.cycle_sim.specs.Rounds.{round, rounds}
+use Rattle.sim_layout.specs.Rounds.{round, rounds}
 use Rattle.cycle_sim.proofs.Same.{same_trans, runs_from_same}
 use Rattle.top_wiring.specs.declared.layout.Layout.{Layout}
 use Rattle.top_wiring.specs.Round.{inner}
@@ -15,7 +15,7 @@ use Rattle.top_wiring.specs.Wired.{IsWired}
 use Rattle.round_net.specs.Alike.{held}
 use Rattle.round_net.proofs.Paths.{module_inside}
 use Rattle.round_net.proofs.Insides.{register_at, same_each, same_inside, settled_inside, next_inside, wrote_inside}
-use Rattle.round_net.proofs.Wrapped.{last, laid_at, own_at, wrapped, done_stands, own_done, clock_is, counter_is, next_is, mask_is, done_is, counts, silent, is_fed}
+use Rattle.round_net.proofs.Wrapped.{last, laid_at, own_at, wrapped, done_stands, own_done, clock_is, preferred_is, next_is, mask_is, done_is, counts, silent, is_fed}
 
 -- ---- the choices from a cycle on
 
@@ -54,18 +54,20 @@ module _ (layout : Layout) (modules : List Module) (n : Netlist) (w : IsWired mo
   settles_in h v c k at settled =
       let is = wrapped layout modules n w in
       let clock = clock_is layout modules n w h v c settled in
-      let counter = counter_is layout modules n w h v c settled ∙ at in
+      let preferred = preferred_is layout modules n w h v c settled ∙ at in
       let mask = mask_is layout modules n w h v c settled in
-      settled_inside n.modules w.round w.top is h v c (turn k) (is_fed layout modules n w prefs enough v k clock counter mask) settled
+      settled_inside n.modules w.round w.top is h v c (turn k) (is_fed layout modules n w prefs enough v k clock preferred mask) settled
 
   pub shows_in : (h : Valuation) (c : Choice) (b k : ℕ) → Counts h k → ShowsDone n.modules w.round h c b → ShowsDone n.modules w.top (held h) (turn k) b
   shows_in h c b k at shows =
       let v = shows.through in
-      let place : shows.place ≡ 6 = own_done layout modules n w shows.place shows.signal (laid_at layout modules n w shows.place shows.signal shows.is.listed) shows.is.named in
+      let place : shows.place ≡ 8 = own_done layout modules n w shows.place shows.signal (laid_at layout modules n w shows.place shows.signal shows.is.listed) shows.is.named in
       record {
         place = last layout modules n w;
         signal = output (done_place modules layout);
         is = record { listed = done_stands layout modules n w; named = refl };
+        out = refl;
+        bit = refl;
         through = held v;
         settled = settles_in h v c k at shows.settled;
         number = sym (done_is layout modules n w h v c shows.settled) ∙ ap (v []).signal (sym place) ∙ shows.number;

@@ -1,12 +1,12 @@
 -- The module top_rr as a wrapper of top: its own numbers, and what it gives top.
-use Rattle.std.proofs.Common.{◌≡◌, ℕ, zero, suc, ◌+◌, ◌-◌, ◌%◌, ◌^◌, ◌<◌, ◌≤◌, Bool, true, false, if◌then◌else◌, List, [], ◌∷◌, ◌++◌, length, get_or, replicate, Some}
-use Rattle.std.proofs.Common.{refl, sym, ap, ◌∙◌, subst, arith, add-zero, zero-add}
+use Rattle.std.proofs.Common.{◌≡◌, ℕ, zero, suc, ◌+◌, ◌-◌, ◌*◌, ◌%◌, ◌^◌, ◌<◌, ◌≤◌, Bool, true, false, if◌then◌else◌, List, [], ◌∷◌, ◌++◌, length, get_or, replicate, Some}
+use Rattle.std.proofs.Common.{refl, sym, ap, ◌∙◌, subst, arith, add-zero, zero-add, zero-mul}
 use Rattle.std.specs.Prelude.{slice_get, codes}
 use Rattle.std.specs.Str.{bytes_eq}
 use Rattle.std.proofs.lemmas.Option.{same_Some, none-some}
 use Rattle.hls_ints.specs.Words.{word_sum}
 use Rattle.verilog_tree.specs.declared.tree.BinaryOperator.TheVariants.{Add}
-use Rattle.netlist.specs.declared.netlist.Value.TheVariants.{Copy, Constant, Binary}
+use Rattle.netlist.specs.declared.netlist.Value.TheVariants.{Copy, Constant, Binary, Concatenation}
 use Rattle.netlist.specs.declared.netlist.Source.TheVariants as source
 use Rattle.netlist.specs.declared.netlist.Signal.{Signal}
 use Rattle.netlist.specs.declared.netlist.Instance.{Instance}
@@ -15,7 +15,7 @@ use Rattle.netlist.specs.declared.netlist.Netlist.{Netlist}
 use Rattle.verilog_meaning.specs.Names.{numbered}
 use Rattle.verilog_meaning.specs.Readings.{signal_width, width, or_zero, written, register_after, action_bytes}
 use Rattle.verilog_meaning.specs.Cycles.{Valuation, Choice, IsRegister, instance_at, connected, pref_number, choice_number, number, IsAt, IsSettled, next_state}
-use Rattle.cycle_sim.specs.Rounds.{round}
+use Rattle.sim_layout.specs.Rounds.{round}
 use Rattle.top_wiring.specs.declared.layout.Layout.{Layout}
 use Rattle.top_wiring.specs.declared.wires.Wire.{Wire}
 use Rattle.top_wiring.specs.declared.wires.Wire.TheVariants as wires
@@ -107,15 +107,17 @@ module _ (layout : Layout) (modules : List Module) (n : Netlist) (w : IsWired mo
   top_done x s q (done e h) = let many = standing.length-signals modules layout w.top w.is_top in omega arith
 
   -- nor does another of top_rr
-  pub own_done : (x : ℕ) (s : Signal) → slice_get laid x ≡ Some s → s.name ≡ codes "done" → x ≡ 6
+  pub own_done : (x : ℕ) (s : Signal) → slice_get laid x ≡ Some s → s.name ≡ codes "done" → x ≡ 8
   own_done zero s e q = absurd (other_than_done _ s 99 refl (λ z. omega arith) (same_Some _ s e) q)
   own_done (suc zero) s e q = absurd (other_than_done _ s 99 refl (λ z. omega arith) (same_Some _ s e) q)
   own_done (suc (suc zero)) s e q = absurd (other_than_done _ s 119 refl (λ z. omega arith) (same_Some _ s e) q)
   own_done (suc (suc (suc zero))) s e q = absurd (other_than_done _ s 119 refl (λ z. omega arith) (same_Some _ s e) q)
   own_done (suc (suc (suc (suc zero)))) s e q = absurd (other_than_done _ s 119 refl (λ z. omega arith) (same_Some _ s e) q)
   own_done (suc (suc (suc (suc (suc zero))))) s e q = absurd (other_than_done _ s 119 refl (λ z. omega arith) (same_Some _ s e) q)
-  own_done (suc (suc (suc (suc (suc (suc zero)))))) s e q = refl
-  own_done (suc (suc (suc (suc (suc (suc (suc x))))))) s e q = absurd (none-some s e)
+  own_done (suc (suc (suc (suc (suc (suc zero)))))) s e q = absurd (other_than_done _ s 119 refl (λ z. omega arith) (same_Some _ s e) q)
+  own_done (suc (suc (suc (suc (suc (suc (suc zero))))))) s e q = absurd (other_than_done _ s 119 refl (λ z. omega arith) (same_Some _ s e) q)
+  own_done (suc (suc (suc (suc (suc (suc (suc (suc zero)))))))) s e q = refl
+  own_done (suc (suc (suc (suc (suc (suc (suc (suc (suc x))))))))) s e q = absurd (none-some s e)
 
   -- the counter is its one register
   pub own_register : (x : ℕ) (s : Signal) → slice_get laid x ≡ Some s → IsRegister s.source → x ≡ 1
@@ -126,9 +128,15 @@ module _ (layout : Layout) (modules : List Module) (n : Netlist) (w : IsWired mo
   own_register (suc (suc (suc (suc zero)))) s e is = absurd (subst (λ (z : Signal). IsRegister z.source) (sym (same_Some _ s e)) is)
   own_register (suc (suc (suc (suc (suc zero))))) s e is = absurd (subst (λ (z : Signal). IsRegister z.source) (sym (same_Some _ s e)) is)
   own_register (suc (suc (suc (suc (suc (suc zero)))))) s e is = absurd (subst (λ (z : Signal). IsRegister z.source) (sym (same_Some _ s e)) is)
-  own_register (suc (suc (suc (suc (suc (suc (suc x))))))) s e is = absurd (none-some s e)
+  own_register (suc (suc (suc (suc (suc (suc (suc zero))))))) s e is = absurd (subst (λ (z : Signal). IsRegister z.source) (sym (same_Some _ s e)) is)
+  own_register (suc (suc (suc (suc (suc (suc (suc (suc zero)))))))) s e is = absurd (subst (λ (z : Signal). IsRegister z.source) (sym (same_Some _ s e)) is)
+  own_register (suc (suc (suc (suc (suc (suc (suc (suc (suc x))))))))) s e is = absurd (none-some s e)
 
   -- ---- the numbers of top_rr in a settled valuation
+
+  -- a number behind zeros is itself
+  pub behind_zeros : (a b p : ℕ) → (0 * a + 0) * b + p ≡ p
+  behind_zeros a b p = ap (λ z. (z + 0) * b + p) (zero-mul a) ∙ ap (λ z. z + p) (zero-mul b) ∙ zero-add p
 
   pub four : width w.round 1 ≡ 4
   four = ap (λ (l : List Signal). signal_width (slice_get l 1)) w.is_round.signals
@@ -156,9 +164,20 @@ module _ (layout : Layout) (modules : List Module) (n : Netlist) (w : IsWired mo
     pub mask_is : (v []).signal 4 ≡ 2 ^ T - 1
     mask_is = own 4 (inner (codes "w") 4 T (source.Assigned (Constant (2 ^ T - 1)))) refl
 
+    zeros_are : (v []).signal 6 ≡ 0
+    zeros_are = own 6 (inner (codes "w") 6 2 (source.Assigned (Constant 0))) refl
+
+    -- the preferred thread is the counter
+    pub preferred_is : (v []).signal 7 ≡ (h []).signal 1
+    preferred_is =
+        own 7 (inner (codes "w") 7 6 (source.Assigned (Concatenation (6 ∷ 1 ∷ [])))) refl
+        ∙ ap (λ z. (0 * 2 ^ width w.round 6 + z) * 2 ^ width w.round 1 + (v []).signal 1) zeros_are
+        ∙ behind_zeros (2 ^ width w.round 6) (2 ^ width w.round 1) ((v []).signal 1)
+        ∙ counter_is
+
     -- done is what the instance shows
-    pub done_is : (v []).signal 6 ≡ (v (0 ∷ [])).signal last
-    done_is = own 6 (output 5) refl ∙ own 5 (inner (codes "w") 5 1 (source.Port 0 last)) refl
+    pub done_is : (v []).signal 8 ≡ (v (0 ∷ [])).signal last
+    done_is = own 8 (output 5) refl ∙ own 5 (inner (codes "w") 5 1 (source.Port 0 last)) refl
 
   -- ---- an edge
 
@@ -170,7 +189,7 @@ module _ (layout : Layout) (modules : List Module) (n : Netlist) (w : IsWired mo
 
   -- ---- what top gets
 
-  fed_by : (x y : ℕ) → slice_get (0 ∷ 4 ∷ [] ++ replicate K 1) x ≡ Some y → connected n.modules w.round (instance_at n.modules w.round [] 0) x ≡ y
+  fed_by : (x y : ℕ) → slice_get (0 ∷ 4 ∷ [] ++ replicate K 7) x ≡ Some y → connected n.modules w.round (instance_at n.modules w.round [] 0) x ≡ y
   fed_by x y e = ap (λ (ns : List Instance). connected n.modules w.round (slice_get ns 0) x) w.is_round.instances ∙ ap or_zero e
 
   wire_no_input : (v : Wire) → source_of v ≡ source.Input → ⊥
@@ -179,26 +198,26 @@ module _ (layout : Layout) (modules : List Module) (n : Netlist) (w : IsWired mo
   wire_no_input (wires.Port v j q) e = cc
 
   module _ (prefs : ℕ) (enough : K ≤ prefs) (v : Valuation) (k : ℕ)
-      (at_clock : (v []).signal 0 ≡ 0) (at_counter : (v []).signal 1 ≡ k % 16) (at_mask : (v []).signal 4 ≡ 2 ^ T - 1) where
+      (at_clock : (v []).signal 0 ≡ 0) (at_preferred : (v []).signal 7 ≡ k % 16) (at_mask : (v []).signal 4 ≡ 2 ^ T - 1) where
     abbrev turn : Choice
     turn = round T prefs k
 
     abbrev Gets : ℕ → Signal → Type 0
     Gets x s = (v []).signal (connected n.modules w.round (instance_at n.modules w.round [] 0) x) ≡ choice_number turn s.name
 
-    gets : (x y number : ℕ) (s t : Signal) → slice_get (0 ∷ 4 ∷ [] ++ replicate K 1) x ≡ Some y → (v []).signal y ≡ number → choice_number turn t.name ≡ number → s ≡ t → Gets x s
+    gets : (x y number : ℕ) (s t : Signal) → slice_get (0 ∷ 4 ∷ [] ++ replicate K 7) x ≡ Some y → (v []).signal y ≡ number → choice_number turn t.name ≡ number → s ≡ t → Gets x s
     gets x y number s t place is given same = ap (v []).signal (fed_by x y place) ∙ is ∙ sym given ∙ ap (λ (z : Signal). choice_number turn z.name) (sym same)
 
     by_kind : (x : ℕ) (s : Signal) → s.source ≡ source.Input → signals.SignalKind modules layout x s → Gets x s
     by_kind x s i (clock e q) =
-        gets x 0 0 s (input (codes "clk") 1) (ap (slice_get (0 ∷ 4 ∷ [] ++ replicate K 1)) e) at_clock (no_pref (replicate prefs (k % 16)) 0) q
-    by_kind x s i (mask e q) = gets x 4 (2 ^ T - 1) s (input (codes "en") T) (ap (slice_get (0 ∷ 4 ∷ [] ++ replicate K 1)) e) at_mask refl q
+        gets x 0 0 s (input (codes "clk") 1) (ap (slice_get (0 ∷ 4 ∷ [] ++ replicate K 7)) e) at_clock (no_pref (replicate prefs (k % 16)) 0) q
+    by_kind x s i (mask e q) = gets x 4 (2 ^ T - 1) s (input (codes "en") T) (ap (slice_get (0 ∷ 4 ∷ [] ++ replicate K 7)) e) at_mask refl q
     by_kind x s i (chosen j l e q) =
         let name = numbered (codes "pref") j in
         let few : j < prefs = omega (arith, l, enough) in
-        let place : slice_get (0 ∷ 4 ∷ [] ++ replicate K 1) x ≡ Some 1 =
-        ap (slice_get (0 ∷ 4 ∷ [] ++ replicate K 1)) e ∙ get_behind 2 (0 ∷ 4 ∷ []) (replicate K 1) j 1 refl (get_copies K j 1 l) in
-        gets x 1 (k % 16) s (input name 4) place at_counter (pref_is name (k % 16) prefs 0 j (ap (numbered (codes "pref")) (sym (zero-add j))) few) q
+        let place : slice_get (0 ∷ 4 ∷ [] ++ replicate K 7) x ≡ Some 7 =
+        ap (slice_get (0 ∷ 4 ∷ [] ++ replicate K 7)) e ∙ get_behind 2 (0 ∷ 4 ∷ []) (replicate K 7) j 7 refl (get_copies K j 7 l) in
+        gets x 7 (k % 16) s (input name 6) place at_preferred (pref_is name (k % 16) prefs 0 j (ap (numbered (codes "pref")) (sym (zero-add j))) few) q
     by_kind x s i (wire y v' f e q) = absurd (wire_no_input v' (ap (λ (z : Signal). z.source) (sym q) ∙ i))
     by_kind x s i (done e q) = let z : source.Assigned (Copy (done_place modules layout)) ≡ source.Input = ap (λ (z : Signal). z.source) (sym q) ∙ i in absurd cc
 

@@ -8,9 +8,9 @@ use Rattle.hls_ints.specs.Words.{word_sum}
 use Rattle.netlist.specs.declared.netlist.Signal.{Signal}
 use Rattle.netlist.specs.declared.netlist.Module.{Module}
 use Rattle.netlist.specs.declared.netlist.Netlist.{Netlist}
-use Rattle.verilog_meaning.specs.Readings.{Reading}
+use Rattle.verilog_meaning.specs.Readings.{Reading, width}
 use Rattle.verilog_meaning.specs.Cycles.{Path, Valuation, Choice, number, IsSameIn, IsSettled, IsWritten, Cycle, Runs, Reaches, ShowsDone, next_state, initial_state}
-use Rattle.cycle_sim.specs.Rounds.{round, rounds}
+use Rattle.sim_layout.specs.Rounds.{round, rounds}
 use Rattle.cycle_sim.proofs.Same.{same_trans, shows_moved, runs_from_same}
 use Rattle.top_wiring.specs.declared.layout.Layout.{Layout}
 use Rattle.top_wiring.specs.Round.{round_signals}
@@ -20,7 +20,7 @@ use Rattle.top_wiring.proofs.SignalKinds as signals
 use Rattle.round_net.specs.Alike.{held}
 use Rattle.round_net.proofs.Paths.{inside}
 use Rattle.round_net.proofs.Insides.{same_each, same_outside, SameOwn, IsOwn, settled_outside, next_inside, wrote_outside}
-use Rattle.round_net.proofs.Wrapped.{no_pref, last, laid_at, wrapped, done_stands, top_done, own_register, four, counts, silent, is_fed}
+use Rattle.round_net.proofs.Wrapped.{no_pref, last, laid_at, wrapped, done_stands, top_done, own_register, four, behind_zeros, counts, silent, is_fed}
 use Rattle.round_net.proofs.Turning.{rounds_from, Counts, from_first, starts, starts_in}
 
 -- ---- a reading round a state: the reading of the outermost module, and in its instances the state
@@ -57,7 +57,7 @@ module _ (layout : Layout) (modules : List Module) (n : Netlist) (w : IsWired mo
 
   -- the reading of top_rr in cycle k, where done has this number
   abbrev pub reading : ℕ → ℕ → Reading
-  reading k b = record { signal = slice_index (0 ∷ k % 16 ∷ 1 ∷ (k + 1) % 16 ∷ (2 ^ T - 1) ∷ b ∷ b ∷ []); word = λ j i. 0 }
+  reading k b = record { signal = slice_index (0 ∷ k % 16 ∷ 1 ∷ (k + 1) % 16 ∷ (2 ^ T - 1) ∷ b ∷ 0 ∷ k % 16 ∷ b ∷ []); word = λ j i. 0 }
 
   -- the state of top_rr in cycle k, round a state of top
   abbrev pub around : ℕ → Valuation → Valuation
@@ -87,6 +87,9 @@ module _ (layout : Layout) (modules : List Module) (n : Netlist) (w : IsWired mo
     counter_low : (k : ℕ) → k % 16 < 16
     counter_low k = omega arith
 
+    preferred_low : (k : ℕ) → k % 16 < 64
+    preferred_low k = omega arith
+
     right : (x : ℕ) (s : Signal) → slice_get (round_signals T shown) x ≡ Some s → Right x s
     right zero s e = subst (Right 0) (same_Some _ s e) (sym (no_pref c.prefs 0), lit< tt)
     right (suc zero) s e = subst (Right 1) (same_Some _ s e) (refl, counter_low k)
@@ -95,8 +98,11 @@ module _ (layout : Layout) (modules : List Module) (n : Netlist) (w : IsWired mo
         subst (Right 3) (same_Some _ s e) (sym sum_is ∙ ap (λ (z : ℕ). word_sum z (k % 16) 1) (sym (four layout modules n w)), counter_low (k + 1))
     right (suc (suc (suc (suc zero)))) s e = subst (Right 4) (same_Some _ s e) (refl, below_mask (2 ^ T) (pow_pos T))
     right (suc (suc (suc (suc (suc zero))))) s e = subst (Right 5) (same_Some _ s e) (refl, bit)
-    right (suc (suc (suc (suc (suc (suc zero)))))) s e = subst (Right 6) (same_Some _ s e) (refl, bit)
-    right (suc (suc (suc (suc (suc (suc (suc x))))))) s e = absurd (none-some s e)
+    right (suc (suc (suc (suc (suc (suc zero)))))) s e = subst (Right 6) (same_Some _ s e) (refl, lit< tt)
+    right (suc (suc (suc (suc (suc (suc (suc zero))))))) s e =
+        subst (Right 7) (same_Some _ s e) (sym (behind_zeros layout modules n w (2 ^ width w.round 6) (2 ^ width w.round 1) (k % 16)), preferred_low k)
+    right (suc (suc (suc (suc (suc (suc (suc (suc zero)))))))) s e = subst (Right 8) (same_Some _ s e) (refl, bit)
+    right (suc (suc (suc (suc (suc (suc (suc (suc (suc x))))))))) s e = absurd (none-some s e)
 
     words : (path : Path) (j i : ℕ) → (through path).word j i ≡ (around k g path).word j i
     words [] j i = refl
@@ -123,9 +129,11 @@ module _ (layout : Layout) (modules : List Module) (n : Netlist) (w : IsWired mo
       let kind = signals.signal_kind modules layout w.top w.is_top shows.place shows.signal shows.is.listed in
       let place : shows.place ≡ shown = top_done layout modules n w shows.place shows.signal shows.is.named kind in
       record {
-        place = 6;
+        place = 8;
         signal = output 5;
-        is = record { listed = ap (λ (l : List Signal). slice_get l 6) w.is_round.signals; named = refl };
+        is = record { listed = ap (λ (l : List Signal). slice_get l 8) w.is_round.signals; named = refl };
+        out = refl;
+        bit = refl;
         through = through k g v c shows.settled;
         settled = settles_out k g v c shows.settled;
         number = ap (v []).signal (sym place) ∙ shows.number;

@@ -5,7 +5,7 @@ use Rattle.netlist.specs.declared.netlist.Netlist.{Netlist}
 use Rattle.verilog_meaning.specs.Cycles.{Valuation, Choice, IsSameIn, Reaches, ShowsDone}
 use Rattle.verilog_meaning.specs.Threads.{all_enabled}
 use Rattle.verilog_meaning.specs.Follows.{IsDetermined}
-use Rattle.cycle_sim.specs.Rounds.{round, rounds}
+use Rattle.sim_layout.specs.Rounds.{round, rounds}
 use Rattle.top_wiring.specs.declared.layout.Layout.{Layout}
 use Rattle.top_wiring.specs.Ports.{threads, cores}
 use Rattle.top_wiring.specs.Leaves.{SettlesOnce}

@@ -1,3 +1,4 @@
 pub mod Alike
 pub mod Found
 pub mod Stepped
+pub mod Prefs

@@ -4,7 +4,7 @@ use Rattle.netlist.specs.declared.netlist.Module.{Module}
 use Rattle.netlist.specs.declared.netlist.Netlist.{Netlist}
 use Rattle.verilog_meaning.specs.Cycles.{Choice}
 use Rattle.verilog_meaning.specs.Follows.{IsDetermined}
-use Rattle.cycle_sim.specs.Rounds.{threads_of}
+use Rattle.sim_layout.specs.Rounds.{threads_of}
 use Rattle.round_robin.specs.Round.{IsRound}
 use Rattle.top_wiring.specs.declared.layout.Layout.{Layout}
 use Rattle.top_wiring.specs.Ports.{threads, cores}

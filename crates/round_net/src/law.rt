@@ -2,6 +2,7 @@
 
 ghost use Rattle.round_net.specs.Alike.{EndsAsTop, RunsAsTop, WritesAsTop};
 ghost use Rattle.round_net.specs.Found.{RoundIsFound};
+ghost use Rattle.round_net.specs.Prefs.{PrefsAreCounted};
 ghost use Rattle.round_net.specs.Stepped.{StepsAsRound};
 
 /// After n cycles of `top_rr` the `top` in it is where n cycles of `top` under the choices of the rounds lead, and each run
@@ -24,6 +25,11 @@ pub fn ends_as_top()
 /// `top_rr` is found by its name.
 pub fn round_is_found()
     ensures { RoundIsFound }
+{}
+
+/// The inputs of a net of threads that the simulator counts as prefs are `pref_0`, `pref_1` and so on, one for each arbiter.
+pub fn prefs_are_counted()
+    ensures { PrefsAreCounted }
 {}
 
 /// What `hls step` answers, which runs `top` under the choices of the rounds until it is done, `top_rr` does.

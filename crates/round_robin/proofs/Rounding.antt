@@ -7,8 +7,8 @@ use Rattle.verilog_meaning.specs.Names.{top_of}
 use Rattle.verilog_meaning.specs.Cycles.{Valuation, IsSameIn, Runs, Reaches, ShowsDone, initial_state}
 use Rattle.verilog_meaning.specs.Threads.{all_enabled}
 use Rattle.cycle_sim.specs.Opened.{IsOpened}
-use Rattle.cycle_sim.specs.Running.{Running, state_of, TellsDone}
-use Rattle.cycle_sim.specs.Rounds.{threads_of, prefs_of, rounds, Tells}
+use Rattle.sim_layout.specs.Running.{Running, state_of, TellsDone}
+use Rattle.sim_layout.specs.Rounds.{threads_of, prefs_of, rounds, Tells}
 use Rattle.cycle_sim.specs.Lockstep.{IsLockstep}
 use Rattle.cycle_sim.proofs.Same.{runs_from_same}
 use Rattle.cycle_sim.proofs.Turning.{here}

@@ -3,8 +3,8 @@ use Rattle.std.specs.Prelude.{◌≡◌, ℕ, ◌<◌, ◌≤◌, Bool, false, L
 use Rattle.netlist.specs.declared.netlist.Module.{Module}
 use Rattle.verilog_meaning.specs.Names.{top_of}
 use Rattle.verilog_meaning.specs.Cycles.{Valuation, Choice, IsSameIn, Reaches, initial_state}
-use Rattle.cycle_sim.specs.Running.{Running, state_of}
-use Rattle.cycle_sim.specs.Rounds.{prefs_of, rounds, Tells, IsGoing}
+use Rattle.sim_layout.specs.Running.{Running, state_of}
+use Rattle.sim_layout.specs.Rounds.{prefs_of, rounds, Tells, IsGoing}
 
 -- the choices of the first n cycles, with a pref for each input `pref_k` of top
 abbrev pub turns : List Module → ℕ → ℕ → List Choice

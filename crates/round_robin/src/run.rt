@@ -2,7 +2,7 @@
 
 ghost use Rattle.std.specs.Prelude.{IfOk, IfErr};
 ghost use Rattle.cycle_sim.specs.Opened.{IsOpenable, IsCause};
-ghost use Rattle.cycle_sim.specs.Rounds.{threads_of};
+ghost use Rattle.sim_layout.specs.Rounds.{threads_of};
 ghost use Rattle.round_robin.specs.Round.{IsBegun, IsRound};
 
 use cycle_sim::sim::{OpenError, Sim};

@@ -25,11 +25,11 @@ module _ (layout : Layout) (modules : List Module) (n : Netlist) (w : IsWired mo
   abbrev T : ℕ
   T = length layout.threads
 
-  either_low : (b : Bool) (p q : ℕ) → p < 16 → q < 16 → (if b then p else q) < 16
+  either_low : (b : Bool) (p q : ℕ) → p < 64 → q < 64 → (if b then p else q) < 64
   either_low true p q a c = a
   either_low false p q a c = c
 
-  pref_low : (name : List ℕ) (prefs : List ℕ) (k : ℕ) → All (λ p. p < 16) prefs → pref_number name prefs k < 16
+  pref_low : (name : List ℕ) (prefs : List ℕ) (k : ℕ) → All (λ p. p < 64) prefs → pref_number name prefs k < 64
   pref_low name [] k all = omega arith
   pref_low name (p ∷ prefs) k all =
       either_low (bytes_eq name (numbered (codes "pref") k)) p (pref_number name prefs (k + 1)) (all 0 p (omega arith))

@@ -25,6 +25,7 @@ use Rattle.top_wiring.proofs.SignalKinds.SignalKind.{clock, mask, chosen, wire, 
 use Rattle.top_wiring.proofs.Standing as standing
 use Rattle.top_wiring.proofs.Netting.{module_there, first_is}
 use Rattle.top_wiring.proofs.Choices.{choice_fits}
+use Rattle.top_wiring.proofs.Porting.{has_ports, prefs_are}
 
 -- ---- by names
 
@@ -99,11 +100,13 @@ module _ (layout : Layout) (modules : List Module) (n : Netlist) (w : IsWired mo
       let t = get_there layout.threads 0 (let z = small.some in omega arith) in
       let asks = ask_widths layout.cores in
       let place = done_place modules layout in
-      let from = first_port modules (thread_part asks 0 t.0) + (length asks + 1) in
+      let from = first_port modules (thread_part asks t.0) + (length asks + 1) in
       record {
         top_is = top_there;
         enable = record { listed = standing.mask_stands modules layout w.top w.is_top; named = refl };
         fits = choice_fits layout modules n w;
+        ports = has_ports layout modules w.top w.is_top;
+        prefs = prefs_are layout modules w.top w.is_top;
         slots = λ i l. ap (λ j. j ∷ []) (thread_named i l);
         runs = λ i number m e h. module_there layout modules n w i (thread i number) m (standing.thread_stands modules layout w.top w.is_top i number e) h;
         done_at = 2 + K + length (all_wires modules layout);
@@ -115,7 +118,7 @@ module _ (layout : Layout) (modules : List Module) (n : Netlist) (w : IsWired mo
           (λ number m e h.
               let same : t.0 ≡ number = same_Some t.0 number (sym t.1 ∙ e) in
               ap (λ z. source.Port 0 (z + (length asks + 1)))
-              (ap (λ z. first_port modules (thread_part asks 0 z)) same ∙ first_is layout modules n w (thread_part asks 0 number) m (thread_outputs asks 0) h refl)),
+              (ap (λ z. first_port modules (thread_part asks z)) same ∙ first_is layout modules n w (thread_part asks number) m (thread_outputs asks) h refl)),
         );
       }
 

@@ -245,10 +245,10 @@ module _ (modules : List Module) (layout : Layout) (top : Module) (is : IsTop mo
         let behind = ports.asked_before layout k + (at + j) in
         let place = slice_index S i + behind in
         let same : slice_index S i + (ports.asked_before layout k + at) + j ≡ place = omega arith in
-        let q = first_port modules (thread_part asks i t.0) + behind in
+        let q = first_port modules (thread_part asks t.0) + behind in
         let x = 1 + (T * at + (i * group.count + j)) in
-        let stands = standing.port_stands modules layout top is i behind group.width (thread_part asks i t.0) (standing.thread_part_at layout i t.0 t.1)
-        (get_front asks (replicate (if nat_eq i 0 then 2 else 1) 1) behind group.width (ask_width layout.cores k g j c group a h d)) in
+        let stands = standing.port_stands modules layout top is i behind group.width (thread_part asks t.0) (standing.thread_part_at layout i t.0 t.1)
+        (get_front asks (replicate 2 1) behind group.width (ask_width layout.cores k g j c group a h d)) in
         let s = stage_is place i group.width q stands in
         let u = of_thread_part i 3 5 7 l in
         record {
@@ -345,7 +345,7 @@ module _ (modules : List Module) (layout : Layout) (top : Module) (is : IsTop mo
     abbrev ArbiterJoins : ℕ → ℕ → Type 0
     ArbiterJoins = Joins (arbiter_inputs S T K k) 5 Never
 
-    arbiter_head : (x v : ℕ) → slice_get (1 ∷ 4 ∷ []) x ≡ Some v → ArbiterJoins x v
+    arbiter_head : (x v : ℕ) → slice_get (1 ∷ 6 ∷ []) x ≡ Some v → ArbiterJoins x v
     arbiter_head zero v h =
         let stands = standing.clock_stands modules layout top is in
         record {
@@ -364,7 +364,7 @@ module _ (modules : List Module) (layout : Layout) (top : Module) (is : IsTop mo
           connects = refl;
           signal = preference k;
           stands = stands;
-          wide = same_Some 4 v h;
+          wide = same_Some 6 v h;
           clock = refl;
           from = inl (let s : wire_stage (2 + k) ≡ 0 = ap signal_stage stands in omega arith);
         }
@@ -389,7 +389,7 @@ module _ (modules : List Module) (layout : Layout) (top : Module) (is : IsTop mo
         }
 
     pub arbiter_joins : (x v : ℕ) → slice_get (ports.arbiter_inputs layout) x ≡ Some v → Joins (arbiter_inputs S T K k) 5 Never x v
-    arbiter_joins x v h = elim (get_either (1 ∷ 4 ∷ []) (replicate T 1) x v h) [
+    arbiter_joins x v h = elim (get_either (1 ∷ 6 ∷ []) (replicate T 1) x v h) [
       | inl g ↦ arbiter_head x v g
       | inr g ↦
           let b = copies_back T g.at 1 v g.found in

@@ -10,6 +10,7 @@ pub mod Netting
 pub mod Running
 pub mod Choices
 pub mod Settling
+pub mod Porting
 pub mod Finding
 pub mod Naming
 pub mod Soundness

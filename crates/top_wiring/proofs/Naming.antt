@@ -152,7 +152,7 @@ module _ (layout : Layout) where
       signal_named i s (done e q) = record { kind = Done; number = 0; name = (refl, ap (λ (z : Signal). z.name) q); at = omega arith }
 
       abbrev Threads : ℕ → Module → Type 0
-      Threads = λ i m. HasInterface m (ports.thread_inputs layout) (thread_outputs (ask_widths layout.cores) i)
+      Threads = λ i m. HasInterface m (ports.thread_inputs layout) (thread_outputs (ask_widths layout.cores))
 
       abbrev Cores : ℕ → Core → Module → Type 0
       Cores = λ k c m. HasInterface m (ports.core_inputs layout c) (core_outputs (ports.threads layout) c)

@@ -115,12 +115,12 @@ module _ (layout : Layout) (modules : List Module) (n : Netlist) (w : IsWired mo
 
     ask_source : (i number x v : ℕ) (m : Module) → slice_get layout.threads i ≡ Some number → slice_get modules number ≡ Some m → slice_get (ask_widths layout.cores) x ≡ Some v
         → slice_get w.top.signals (slice_index S i + x)
-        ≡ Some (wire_signal (slice_index S i + x) (Port v i (first_of m (thread_outputs (ask_widths layout.cores) i) + x)))
+        ≡ Some (wire_signal (slice_index S i + x) (Port v i (first_of m (thread_outputs (ask_widths layout.cores)) + x)))
     ask_source i number x v m e h f =
         let asks = ask_widths layout.cores in
-        standing.port_stands modules layout w.top w.is_top i x v (thread_part asks i number) (standing.thread_part_at layout i number e)
-        (get_front asks (replicate (if nat_eq i 0 then 2 else 1) 1) x v f)
-        ∙ ap (λ z. Some (wire_signal (slice_index S i + x) (Port v i (z + x)))) (first_is (thread_part asks i number) m (thread_outputs asks i) h refl)
+        standing.port_stands modules layout w.top w.is_top i x v (thread_part asks number) (standing.thread_part_at layout i number e)
+        (get_front asks (replicate 2 1) x v f)
+        ∙ ap (λ z. Some (wire_signal (slice_index S i + x) (Port v i (z + x)))) (first_is (thread_part asks number) m (thread_outputs asks) h refl)
 
     -- ---- the wires
 
@@ -187,7 +187,7 @@ module _ (layout : Layout) (modules : List Module) (n : Netlist) (w : IsWired mo
         let m = keep.each.thread i t.0 t.1 in
         let x = keep.each.core k c e in
         let at = length (group_widths (take g c.groups)) in
-        let outputs = thread_outputs (ask_widths layout.cores) i in
+        let outputs = thread_outputs (ask_widths layout.cores) in
         let behind = asked_before layout k + (at + j) in
         let place = slice_index S i + behind in
         let same : slice_index S i + (asked_before layout k + at) + j ≡ place = omega arith in
@@ -260,7 +260,7 @@ module _ (layout : Layout) (modules : List Module) (n : Netlist) (w : IsWired mo
         )
 
     -- each instance is one of these
-    kind_is : (j : ℕ) (x : Instance) → Kind layout modules (λ i m. IsThreadAt layout (M i) (p.thread i) C i m) (λ k c m. IsCoreAt layout (C k) (p.core k) c m)
+    kind_is : (j : ℕ) (x : Instance) → Kind layout modules (λ i m. IsThreadAt layout (M i) (p.thread i) C m) (λ k c m. IsCoreAt layout (C k) (p.core k) c m)
         (λ k m. IsArbiterAt layout (p.arbiter k) m) j x → IsInstanceOf T K M C p n.modules w.top j
     kind_is j x (of_thread number m e i h q) = let l = slice_get_within layout.threads j number e in inl (j, l, sym (keep.thread_at j l))
     kind_is j x (of_core k c m e f i h q) = let l = slice_get_within layout.cores k c f in inr (inl (k, l, e ∙ sym (keep.core_at k l)))
@@ -283,6 +283,6 @@ module _ (layout : Layout) (modules : List Module) (n : Netlist) (w : IsWired mo
       preferred = λ k l. record { signal = preference k; stands = standing.preference_stands modules layout w.top w.is_top k l; input = refl; named = refl };
       prefers = prefers;
       silent = w.is_top.actions;
-      all = λ j x e. kind_is j x (kind_of layout modules (λ i m. IsThreadAt layout (M i) (p.thread i) C i m) (λ k c m. IsCoreAt layout (C k) (p.core k) c m)
+      all = λ j x e. kind_is j x (kind_of layout modules (λ i m. IsThreadAt layout (M i) (p.thread i) C m) (λ k c m. IsCoreAt layout (C k) (p.core k) c m)
           (λ k m. IsArbiterAt layout (p.arbiter k) m) keep.each w.top w.is_top j x e);
     }

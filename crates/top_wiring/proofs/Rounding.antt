@@ -8,7 +8,7 @@ use Rattle.std.proofs.lemmas.Nat.{pow_pos}
 use Rattle.std.proofs.lemmas.List.{length-replicate}
 use Rattle.std.proofs.lemmas.Option.{same_Some, none-some}
 use Rattle.verilog_tree.specs.Scope.{is_clk}
-use Rattle.netlist.specs.declared.netlist.Value.TheVariants.{Constant}
+use Rattle.netlist.specs.declared.netlist.Value.TheVariants.{Constant, Concatenation}
 use Rattle.netlist.specs.declared.netlist.Source.TheVariants as source
 use Rattle.netlist.specs.declared.netlist.Signal.{Signal}
 use Rattle.netlist.specs.declared.netlist.Memory.{Memory}
@@ -17,7 +17,8 @@ use Rattle.netlist.specs.declared.netlist.Module.{Module}
 use Rattle.netlist.specs.NetlistOf.{is_output_port}
 use Rattle.netlist.specs.Laid.{EachAt, AreApart, AreSignals, kind_of, is_input_port, is_inner, input_signals, output_signals, first_output}
 use Rattle.netlist.specs.Laid.{memory_names, instance_names, declared_names, IsDriven, IsLaidSignal, IsLaidAction, IsLaidInstance, IsLaidModule, source_at}
-use Rattle.netlist.specs.Sound.{width, width_read, has_width, width_of_register, IsSoundSignal, is_clk_at, input_fits, action_fits, IsSoundInstance, HasClock, IsSoundModule}
+use Rattle.netlist.specs.Sound.{width, width_read, has_width, width_of_register, source_fits}
+use Rattle.netlist.specs.Sound.{IsSoundSignal, is_clk_at, input_fits, action_fits, IsSoundInstance, HasClock, IsSoundModule}
 use Rattle.verilog_meaning.specs.Names.{numbered}
 use Rattle.circuit.specs.Rows.{spread}
 use Rattle.circuit.proofs.Growth.{length-spread}
@@ -78,17 +79,30 @@ numbers_apart (l ∷ ks) h (suc i) (suc j) k a b = ap suc (numbers_apart ks (and
 apart_by_keys : (names : List (List ℕ)) → all_differ (map key names) ≡ true → AreApart names
 apart_by_keys names h i j x a b = numbers_apart (map key names) h i j (key x) (get_mapped key names i x a) (get_mapped key names j x b)
 
--- the names of top_rr, where the four wires have these numbers
-abbrev names_by : List ℕ → List ℕ → List ℕ → List ℕ → List (List ℕ)
-names_by a b c d =
-    codes "clk" ∷ numbered (codes "counter") 1 ∷ (codes "w" ++ 95 ∷ a) ∷ (codes "w" ++ 95 ∷ b) ∷ (codes "w" ++ 95 ∷ c) ∷ (codes "w" ++ 95 ∷ d) ∷ codes "done" ∷ numbered (codes "dut") 0 ∷ []
+-- the names of top_rr, where its wires have these numbers
+abbrev wire_names : List (List ℕ) → List (List ℕ)
+wire_names numbers = map (λ a. codes "w" ++ 95 ∷ a) numbers
 
-names_differ : all_differ (map key (names_by (decimal 2) (decimal 3) (decimal 4) (decimal 5))) ≡ true
-names_differ =
-    ap (λ z. all_differ (map key (names_by z (decimal 3) (decimal 4) (decimal 5)))) (decimal_digit 2 (lit< tt))
-    ∙ ap (λ z. all_differ (map key (names_by (50 ∷ []) z (decimal 4) (decimal 5)))) (decimal_digit 3 (lit< tt))
-    ∙ ap (λ z. all_differ (map key (names_by (50 ∷ []) (51 ∷ []) z (decimal 5)))) (decimal_digit 4 (lit< tt))
-    ∙ ap (λ z. all_differ (map key (names_by (50 ∷ []) (51 ∷ []) (52 ∷ []) z))) (decimal_digit 5 (lit< tt))
+abbrev names_by : List (List ℕ) → List (List ℕ)
+names_by numbers = codes "clk" ∷ numbered (codes "counter") 1 ∷ wire_names numbers ++ codes "done" ∷ numbered (codes "dut") 0 ∷ []
+
+abbrev wire_numbers : List (List ℕ)
+wire_numbers = decimal 2 ∷ decimal 3 ∷ decimal 4 ∷ decimal 5 ∷ decimal 6 ∷ decimal 7 ∷ []
+
+abbrev digits : List (List ℕ)
+digits = (50 ∷ []) ∷ (51 ∷ []) ∷ (52 ∷ []) ∷ (53 ∷ []) ∷ (54 ∷ []) ∷ (55 ∷ []) ∷ []
+
+numbers_are : wire_numbers ≡ digits
+numbers_are =
+    ap (λ z. z ∷ decimal 3 ∷ decimal 4 ∷ decimal 5 ∷ decimal 6 ∷ decimal 7 ∷ []) (decimal_digit 2 (lit< tt))
+    ∙ ap (λ z. (50 ∷ []) ∷ z ∷ decimal 4 ∷ decimal 5 ∷ decimal 6 ∷ decimal 7 ∷ []) (decimal_digit 3 (lit< tt))
+    ∙ ap (λ z. (50 ∷ []) ∷ (51 ∷ []) ∷ z ∷ decimal 5 ∷ decimal 6 ∷ decimal 7 ∷ []) (decimal_digit 4 (lit< tt))
+    ∙ ap (λ z. (50 ∷ []) ∷ (51 ∷ []) ∷ (52 ∷ []) ∷ z ∷ decimal 6 ∷ decimal 7 ∷ []) (decimal_digit 5 (lit< tt))
+    ∙ ap (λ z. (50 ∷ []) ∷ (51 ∷ []) ∷ (52 ∷ []) ∷ (53 ∷ []) ∷ z ∷ decimal 7 ∷ []) (decimal_digit 6 (lit< tt))
+    ∙ ap (λ z. (50 ∷ []) ∷ (51 ∷ []) ∷ (52 ∷ []) ∷ (53 ∷ []) ∷ (54 ∷ []) ∷ z ∷ []) (decimal_digit 7 (lit< tt))
+
+names_differ : all_differ (map key (names_by wire_numbers)) ≡ true
+names_differ = ap (λ z. all_differ (map key (names_by z))) numbers_are
 
 module _ (layout : Layout) (modules : List Module) (sound : AreSound layout modules) (top : Module) (is : IsTop modules layout top) (r : Module)
     (round : IsRound (length layout.threads) (length modules) (length top.signals - 1) (length layout.cores) r) where
@@ -109,22 +123,22 @@ module _ (layout : Layout) (modules : List Module) (sound : AreSound layout modu
 
   -- ---- names
 
-  names_are : declared_names r ≡ names_by (decimal 2) (decimal 3) (decimal 4) (decimal 5)
+  names_are : declared_names r ≡ names_by wire_numbers
   names_are =
       ap (λ l. map (λ (s : Signal). s.name) l ++ memory_names r ++ instance_names r) round.signals
       ∙ ap (λ l. map (λ (s : Signal). s.name) (round_signals T shown) ++ map (λ (x : Memory). x.name) l ++ instance_names r) round.memories
       ∙ ap (λ l. map (λ (s : Signal). s.name) (round_signals T shown) ++ [] ++ map (λ (n : Instance). n.name) l) round.instances
 
   names : AreApart (declared_names r)
-  names = subst AreApart (sym names_are) (apart_by_keys (names_by (decimal 2) (decimal 3) (decimal 4) (decimal 5)) names_differ)
+  names = subst AreApart (sym names_are) (apart_by_keys (names_by wire_numbers) names_differ)
 
   -- ---- places
 
   stands : (x : ℕ) (s : Signal) → slice_get (round_signals T shown) x ≡ Some s → slice_get r.signals x ≡ Some s
   stands x s e = ap (λ l. slice_get l x) round.signals ∙ e
 
-  seven : length r.signals ≡ 7
-  seven = ap length round.signals
+  nine : length r.signals ≡ 9
+  nine = ap length round.signals
 
   dut_stands : slice_get r.instances 0 ≡ Some dut
   dut_stands = ap (λ l. slice_get l 0) round.instances
@@ -145,8 +159,8 @@ module _ (layout : Layout) (modules : List Module) (sound : AreSound layout modu
   shown_is : shown ≡ first_output top + 0
   shown_is = let e = one_output in omega arith
 
-  places_of : (xs : List ℕ) → EachFrom (λ k x. x < 7) 0 xs → AreSignals r xs
-  places_of xs h k x e = let l = each_at (λ k x. x < 7) xs h k x e in let z = seven in omega arith
+  places_of : (xs : List ℕ) → EachFrom (λ k x. x < 9) 0 xs → AreSignals r xs
+  places_of xs h k x e = let l = each_at (λ k x. x < 9) xs h k x e in let z = nine in omega arith
 
   no_places : (P : ℕ → ℕ → Type 0) → EachAt [] P
   no_places P k x e = absurd (none-some x e)
@@ -168,8 +182,14 @@ module _ (layout : Layout) (modules : List Module) (sound : AreSound layout modu
             (
               record { low = omega arith; high = omega arith; drives = driven },
               (
-                record { low = omega arith; high = omega arith; drives = (places_of (5 ∷ []) (lit< tt, tt), no_places _) },
-                tt,
+                record { low = omega arith; high = omega arith; drives = (no_places _, no_places _) },
+                (
+                  record { low = omega arith; high = omega arith; drives = (places_of (6 ∷ 1 ∷ []) (lit< tt, (lit< tt, tt)), no_places _) },
+                  (
+                    record { low = omega arith; high = omega arith; drives = (places_of (5 ∷ []) (lit< tt, tt), no_places _) },
+                    tt,
+                  ),
+                ),
               ),
             ),
           ),
@@ -179,15 +199,15 @@ module _ (layout : Layout) (modules : List Module) (sound : AreSound layout modu
   )
 
   input_inside : AreSignals r dut.inputs
-  input_inside k x e = elim (get_either (0 ∷ 4 ∷ []) (replicate K 1) k x e) [
-    | inl g ↦ let l = each_at (λ k x. x < 7) (0 ∷ 4 ∷ []) (lit< tt, (lit< tt, tt)) k x g in let z = seven in omega arith
-    | inr g ↦ let b = (copies_back K g.at 1 x g.found).1 in let z = seven in omega arith
+  input_inside k x e = elim (get_either (0 ∷ 4 ∷ []) (replicate K 7) k x e) [
+    | inl g ↦ let l = each_at (λ k x. x < 9) (0 ∷ 4 ∷ []) (lit< tt, (lit< tt, tt)) k x g in let z = nine in omega arith
+    | inr g ↦ let b = (copies_back K g.at 7 x g.found).1 in let z = nine in omega arith
   ]
 
-  dut_many : (k : ℕ) → length (0 ∷ 4 ∷ [] ++ replicate {A = ℕ} k 1) ≡ 2 + k
+  dut_many : (k : ℕ) → length (0 ∷ 4 ∷ [] ++ replicate {A = ℕ} k 7) ≡ 2 + k
   dut_many k =
-      let a = length-append {A = ℕ} (0 ∷ 4 ∷ []) (replicate k 1) in
-      let b : length (replicate {A = ℕ} k 1) ≡ k = length-replicate {A = ℕ} k 1 in
+      let a = length-append {A = ℕ} (0 ∷ 4 ∷ []) (replicate k 7) in
+      let b : length (replicate {A = ℕ} k 7) ≡ k = length-replicate {A = ℕ} k 7 in
       omega arith
 
   dut_laid : IsLaidInstance before r 0 dut
@@ -219,10 +239,12 @@ module _ (layout : Layout) (modules : List Module) (sound : AreSound layout modu
 
   -- ---- sound
 
+  width_is : (x v : ℕ) (s : Signal) → slice_get (round_signals T shown) x ≡ Some s → is_clk s.name ≡ false → s.width ≡ v → width r x ≡ v
+  width_is x v s e c q = ap (width_read r) (stands x s e) ∙ ap (λ b. if b then 0 else s.width) c ∙ q
+
   fits_width : (x v : ℕ) (s : Signal) → slice_get (round_signals T shown) x ≡ Some s → is_clk s.name ≡ false → s.width ≡ v → 0 < v → has_width r x v ≡ true
   fits_width x v s e c q l =
-      let w : width r x ≡ v = ap (width_read r) (stands x s e) ∙ ap (λ b. if b then 0 else s.width) c ∙ q in
-      ap (λ z. nat_lt 0 z && z == v) w ∙ both (nat_lt 0 v) (v == v) (grind (arith, nat_tests)) (grind (arith, nat_tests))
+      ap (λ z. nat_lt 0 z && z == v) (width_is x v s e c q) ∙ both (nat_lt 0 v) (v == v) (grind (arith, nat_tests)) (grind (arith, nat_tests))
     where
       both : (a b : Bool) → a ≡ true → b ≡ true → (a && b) ≡ true
       both a b p q = ap (λ z. z && b) p ∙ q
@@ -235,6 +257,15 @@ module _ (layout : Layout) (modules : List Module) (sound : AreSound layout modu
 
   next_fits : has_width r 3 4 ≡ true
   next_fits = fits_width 3 4 _ refl refl refl (lit< tt)
+
+  -- two zeros before the counter of 4 bits are 6 bits
+  joined_fits : source_fits r (source.Assigned (Concatenation (6 ∷ 1 ∷ []))) 6 ≡ true
+  joined_fits =
+      ap (λ z. (nat_lt 0 z && (nat_lt 0 (width r 1) && true)) && z + (width r 1 + 0) == 6) (width_is 6 2 (inner (codes "w") 6 2 (source.Assigned (Constant 0))) refl refl refl)
+      ∙ ap (λ z. (nat_lt 0 2 && (nat_lt 0 z && true)) && 2 + (z + 0) == 6) (width_is 1 4 (inner (codes "counter") 1 4 (source.Register 0)) refl refl refl)
+
+  wide_fits : has_width r 7 6 ≡ true
+  wide_fits = fits_width 7 6 (inner (codes "w") 7 6 (source.Assigned (Concatenation (6 ∷ 1 ∷ [])))) refl refl refl (lit< tt)
 
   mask_fits : nat_lt (2 ^ T - 1) (2 ^ T) ≡ true
   mask_fits = below (2 ^ T) (pow_pos T)
@@ -259,8 +290,14 @@ module _ (layout : Layout) (modules : List Module) (sound : AreSound layout modu
             (
               record { fits = refl; set = tt; clock = λ e. no_clk e },
               (
-                record { fits = fits_width 5 1 (inner (codes "w") 5 1 (source.Port 0 shown)) refl refl refl (lit< tt); set = tt; clock = λ e. no_clk e },
-                tt,
+                record { fits = refl; set = tt; clock = λ e. no_clk e },
+                (
+                  record { fits = joined_fits; set = tt; clock = λ e. no_clk e },
+                  (
+                    record { fits = fits_width 5 1 (inner (codes "w") 5 1 (source.Port 0 shown)) refl refl refl (lit< tt); set = tt; clock = λ e. no_clk e },
+                    tt,
+                  ),
+                ),
               ),
             ),
           ),
@@ -273,12 +310,12 @@ module _ (layout : Layout) (modules : List Module) (sound : AreSound layout modu
   clocked = (0, input (codes "clk") 1, stands 0 (input (codes "clk") 1) refl, refl)
 
   input_right : (k x : ℕ) (p : Signal) → slice_get dut.inputs k ≡ Some x → slice_get top.signals k ≡ Some p → input_fits r p x ≡ true
-  input_right k x p e g = elim (get_either (0 ∷ 4 ∷ []) (replicate K 1) k x e) [
+  input_right k x p e g = elim (get_either (0 ∷ 4 ∷ []) (replicate K 7) k x e) [
     | inl f ↦ by_head k x f g
     | inr f ↦
-        let b = copies_back K f.at 1 x f.found in
+        let b = copies_back K f.at 7 x f.found in
         let port : preference f.at ≡ p = same_Some (preference f.at) p (sym (standing.preference_stands modules layout top is f.at b.0) ∙ ap (slice_get top.signals) (sym f.is) ∙ g) in
-        subst (λ z. input_fits r z x ≡ true) port (subst (λ z. has_width r z 4 ≡ true) (sym b.1) counter_fits)
+        subst (λ z. input_fits r z x ≡ true) port (subst (λ z. has_width r z 6 ≡ true) (sym b.1) wide_fits)
   ]
     where
       by_head : (k x : ℕ) → slice_get (0 ∷ 4 ∷ []) k ≡ Some x → slice_get top.signals k ≡ Some p → input_fits r p x ≡ true

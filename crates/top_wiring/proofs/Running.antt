@@ -52,7 +52,7 @@ module _ (layout : Layout) (modules : List Module) (n : Netlist) (w : IsWired mo
 
   module _ (M : ℕ → ThreadMachine) (C : ℕ → CoreMachine) (p : NetPlaces T K M C) (keep : KeepPromises layout M C p modules) where
     abbrev Thread : ℕ → Module → Type 0
-    Thread = λ i m. IsThreadAt layout (M i) (p.thread i) C i m
+    Thread = λ i m. IsThreadAt layout (M i) (p.thread i) C m
 
     abbrev Cores : ℕ → Core → Module → Type 0
     Cores = λ k c m. IsCoreAt layout (C k) (p.core k) c m
@@ -85,19 +85,19 @@ module _ (layout : Layout) (modules : List Module) (n : Netlist) (w : IsWired mo
 
     -- the last output of thread 0
     done_wire : (number : ℕ) (m : Module) → slice_get layout.threads 0 ≡ Some number → slice_get modules number ≡ Some m → slice_get w.top.signals (done_place modules layout)
-        ≡ Some (wire_signal (done_place modules layout) (Port 1 0 (first_of m (thread_outputs (ask_widths layout.cores) 0) + (length (ask_widths layout.cores) + 1))))
+        ≡ Some (wire_signal (done_place modules layout) (Port 1 0 (first_of m (thread_outputs (ask_widths layout.cores)) + (length (ask_widths layout.cores) + 1))))
     done_wire number m e h =
         let asks = ask_widths layout.cores in
         standing.done_stands modules layout w.top w.is_top number e
         ∙ ap (λ z. Some (wire_signal (done_place modules layout) (Port 1 0 (z + (length asks + 1)))))
-        (first_is layout modules n w (thread_part asks 0 number) m (thread_outputs asks 0) h refl)
+        (first_is layout modules n w (thread_part asks number) m (thread_outputs asks) h refl)
 
     shows_end : 1 ≤ T → (h : Valuation) (c : Choice) (b : ℕ) (s : NetState T K M C) → ShowsAll T K M C p n.modules w.top h s → ShowsDone n.modules w.top h c b → b ≡ bit_of ((M 0).is_done (s.slots 0))
     shows_end some h c b s shown d =
         let v = d.through in
         let t = get_there layout.threads 0 (omega arith) in
         let m = keep.each.thread 0 t.0 t.1 in
-        let q = first_of m.0 (thread_outputs (ask_widths layout.cores) 0) + (length (ask_widths layout.cores) + 1) in
+        let q = first_of m.0 (thread_outputs (ask_widths layout.cores)) + (length (ask_widths layout.cores) + 1) in
         let place = done_place modules layout in
         let wire = wire_signal place (Port 1 0 q) in
         let out = is_done d.place d.signal d.is.named (signals.signal_kind modules layout w.top w.is_top d.place d.signal d.is.listed) in
@@ -109,7 +109,7 @@ module _ (layout : Layout) (modules : List Module) (n : Netlist) (w : IsWired mo
         let here : module_at n.modules w.top (0 ∷ []) ≡ Some m.0 = module_there layout modules n w 0 _ m.0 (standing.thread_stands modules layout w.top w.is_top 0 t.0 t.1) m.1 in
         let shows : (p.thread 0).shows (h (0 ∷ [])) (s.slots 0) = subst (λ j. (p.thread 0).shows (h (j ∷ [])) (s.slots 0)) (keep.thread_at 0 (omega arith)) (shown.slots 0 (omega arith)) in
         let now = m.2.is.keeps (h (0 ∷ [])) (v (0 ∷ [])) (s.slots 0) (holds n.modules w.top h v c d.settled (0 ∷ []) m.0 here) shows in
-        sym d.number ∙ copied ∙ driven ∙ m.2.done refl (v (0 ∷ [])) (s.slots 0) (obeys n.modules w.top h v c d.settled (0 ∷ []) m.0 here) now
+        sym d.number ∙ copied ∙ driven ∙ m.2.done (v (0 ∷ [])) (s.slots 0) (obeys n.modules w.top h v c d.settled (0 ∷ []) m.0 here) now
 
     is_machine : 1 ≤ T → IsMachine layout M C p n.modules w.top
     is_machine some =

@@ -91,7 +91,7 @@ module _ (layout : Layout) (modules : List Module) (n : Netlist) (w : IsWired mo
   either_below false s e l a c = a
 
   abbrev Threads : ℕ → Module → Type 0
-  Threads = λ i m. IsThreadLeaf layout (leaves.late i) i m
+  Threads = λ i m. IsThreadLeaf layout (leaves.late i) m
 
   abbrev Cores : ℕ → Core → Module → Type 0
   Cores = λ k c m. IsCoreLeaf layout (leaves.late (T + k)) c m
@@ -111,12 +111,12 @@ module _ (layout : Layout) (modules : List Module) (n : Netlist) (w : IsWired mo
       → kinds.Kind layout modules Threads Cores Arbiters j i → IsPortLow j (first_port modules p + x) v
   part_low j x v p i e g h (of_thread number m a q b leaf) =
       let asks = ask_widths layout.cores in
-      let own = thread_part asks j number in
+      let own = thread_part asks number in
       let same : p ≡ own = same_Some p own (sym e ∙ standing.thread_part_at layout j number a) in
-      let there : slice_get (thread_outputs asks j) x ≡ Some v = ap (λ (z : Part). slice_get z.outputs x) (sym same) ∙ g in
-      let first : first_port modules p ≡ first_of m (thread_outputs asks j) =
-      first_is layout modules n w p m (thread_outputs asks j) (ap (λ (z : Part). slice_get modules z.of) same ∙ b) (ap (λ (z : Part). z.outputs) same) in
-      let inside = slice_get_within (thread_outputs asks j) x v there in
+      let there : slice_get (thread_outputs asks) x ≡ Some v = ap (λ (z : Part). slice_get z.outputs x) (sym same) ∙ g in
+      let first : first_port modules p ≡ first_of m (thread_outputs asks) =
+      first_is layout modules n w p m (thread_outputs asks) (ap (λ (z : Part). slice_get modules z.of) same ∙ b) (ap (λ (z : Part). z.outputs) same) in
+      let inside = slice_get_within (thread_outputs asks) x v there in
       let l = slice_get_within layout.threads j number a in (
         m,
         module_there layout modules n w j i m h (ap (λ (z : Instance). slice_get modules z.of) q ∙ b),
@@ -194,7 +194,7 @@ module _ (layout : Layout) (modules : List Module) (n : Netlist) (w : IsWired mo
   done_staged some x e at =
       let t = get_there layout.threads 0 (omega arith) in
       let asks = ask_widths layout.cores in
-      let q = first_port modules (thread_part asks 0 t.0) + (length asks + 1) in
+      let q = first_port modules (thread_part asks t.0) + (length asks + 1) in
       let place = done_place modules layout in
       let stands = standing.done_stands modules layout w.top w.is_top t.0 t.1 in
       let inside = slice_get_within w.top.signals place (wire_signal place (Port 1 0 q)) stands in
@@ -240,7 +240,7 @@ module _ (layout : Layout) (modules : List Module) (n : Netlist) (w : IsWired mo
   late_is : (j x : ℕ) → leaves.late j x ≡ true → port_stage n.modules w.top stages j x ≡ late_stage j
   late_is j x e = ap (λ z. if z then late_stage j else early_stage j) e
 
-  thread_connects : (i number : ℕ) (m : Module) → slice_get layout.threads i ≡ Some number → IsThreadLeaf layout (leaves.late i) i m → (x v : ℕ)
+  thread_connects : (i number : ℕ) (m : Module) → slice_get layout.threads i ≡ Some number → IsThreadLeaf layout (leaves.late i) m → (x v : ℕ)
       → slice_get (ports.thread_inputs layout) x ≡ Some v → Connects i x v
   thread_connects i number m a leaf x v h =
       let l = slice_get_within layout.threads i number a in
@@ -313,7 +313,8 @@ module _ (layout : Layout) (modules : List Module) (n : Netlist) (w : IsWired mo
   by_connects j i m x s e at g input (of_thread number m' a q b leaf) =
       let same = same_module j i m m' e (ap (λ (z : Instance). slice_get modules z.of) q ∙ b) at in
       thread_connects j number m' a leaf x s.width
-      (input_width m' (ports.thread_inputs layout) (thread_outputs (ask_widths layout.cores) j) (leaves.late j) x s leaf.leaf leaf.ports (ap (λ (z : Module). slice_get z.signals x) same ∙ g) input)
+      (input_width m' (ports.thread_inputs layout) (thread_outputs (ask_widths layout.cores)) (leaves.late j) x s leaf.leaf leaf.ports
+      (ap (λ (z : Module). slice_get z.signals x) same ∙ g) input)
   by_connects j i m x s e at g input (of_core k c m' p a q b leaf) =
       let same = same_module j i m m' e (ap (λ (z : Instance). slice_get modules z.of) q ∙ b) at in
       subst (λ z. Connects z x s.width) (sym p)

@@ -80,7 +80,7 @@ module _ (layout : Layout) (modules : List Module) (sound : AreSound layout modu
   few_threads = sound.small.few_threads
 
   abbrev Threads : ℕ → Module → Type 0
-  Threads = λ i m. HasInterface m (ports.thread_inputs layout) (thread_outputs (ask_widths layout.cores) i)
+  Threads = λ i m. HasInterface m (ports.thread_inputs layout) (thread_outputs (ask_widths layout.cores))
 
   abbrev Cores : ℕ → Core → Module → Type 0
   Cores = λ k c m. HasInterface m (ports.core_inputs layout c) (core_outputs (ports.threads layout) c)
@@ -121,9 +121,9 @@ module _ (layout : Layout) (modules : List Module) (sound : AreSound layout modu
         of = m;
         there = ap (λ (z : Instance). slice_get modules z.of) q ∙ b;
         ins = ports.thread_inputs layout;
-        outs = thread_outputs (ask_widths layout.cores) j;
+        outs = thread_outputs (ask_widths layout.cores);
         interface = leaf;
-        part = thread_part (ask_widths layout.cores) j number;
+        part = thread_part (ask_widths layout.cores) number;
         listed = standing.thread_part_at layout j number a;
         part_of = ap (λ (z : Instance). z.of) (sym q);
         part_outs = refl;
@@ -190,7 +190,7 @@ module _ (layout : Layout) (modules : List Module) (sound : AreSound layout modu
     where
       arbiter_widths : length (ports.arbiter_inputs layout) ≡ 2 + T
       arbiter_widths =
-          let d = length-append {A = ℕ} (1 ∷ 4 ∷ []) (replicate T 1) in
+          let d = length-append {A = ℕ} (1 ∷ 6 ∷ []) (replicate T 1) in
           let e : length (replicate {A = ℕ} T 1) ≡ T = length-replicate {A = ℕ} T 1 in
           omega arith
 
@@ -305,7 +305,7 @@ module _ (layout : Layout) (modules : List Module) (sound : AreSound layout modu
   ins_pass : (p : Signal → Bool) (b : Bool) → ((name : List ℕ) (v : ℕ) → p (input name v) ≡ b) → (k : ℕ) (s : Signal) → slice_get ins k ≡ Some s → p s ≡ b
   ins_pass p b h k s e = elim (get_either heads (spread preference 0 K) k s e) [
     | inl g ↦ head_passes p b h k s g
-    | inr g ↦ let m = spread_back preference 0 K g.at s g.found in ap p m.1 ∙ h (preference (0 + g.at)).name 4
+    | inr g ↦ let m = spread_back preference 0 K g.at s g.found in ap p m.1 ∙ h (preference (0 + g.at)).name 6
   ]
 
   inners_pass : (p : Signal → Bool) (b : Bool) → ((place : ℕ) (v : Wire) → p (wire_signal place v) ≡ b) → (k : ℕ) (s : Signal) → slice_get inners k ≡ Some s → p s ≡ b

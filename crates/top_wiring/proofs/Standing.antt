@@ -52,23 +52,23 @@ module _ (layout : Layout) where
   abbrev K : ℕ
   K = length layout.cores
 
-  pub thread_part_at : (i number : ℕ) → slice_get layout.threads i ≡ Some number → slice_get (parts layout) i ≡ Some (thread_part asks i number)
+  pub thread_part_at : (i number : ℕ) → slice_get layout.threads i ≡ Some number → slice_get (parts layout) i ≡ Some (thread_part asks number)
   thread_part_at i number e =
-      get_front (each_from (thread_part asks) 0 layout.threads ++ map (core_part T) layout.cores) (spread (arbiter_part T layout.arbiter) 0 K) i (thread_part asks i number)
-      (get_front (each_from (thread_part asks) 0 layout.threads) (map (core_part T) layout.cores) i (thread_part asks i number)
-      (get_each (thread_part asks) 0 layout.threads i number e ∙ ap (λ j. Some (thread_part asks j number)) (zero-add i)))
+      get_front (map (thread_part asks) layout.threads ++ map (core_part T) layout.cores) (spread (arbiter_part T layout.arbiter) 0 K) i (thread_part asks number)
+      (get_front (map (thread_part asks) layout.threads) (map (core_part T) layout.cores) i (thread_part asks number)
+      (get_mapped (thread_part asks) layout.threads i number e))
 
   pub core_part_at : (k : ℕ) (c : Core) → slice_get layout.cores k ≡ Some c → slice_get (parts layout) (T + k) ≡ Some (core_part T c)
   core_part_at k c e =
-      get_front (each_from (thread_part asks) 0 layout.threads ++ map (core_part T) layout.cores) (spread (arbiter_part T layout.arbiter) 0 K) (T + k) (core_part T c)
-      (get_behind T (each_from (thread_part asks) 0 layout.threads) (map (core_part T) layout.cores) k (core_part T c)
-      (length-each_from (thread_part asks) 0 layout.threads) (get_mapped (core_part T) layout.cores k c e))
+      get_front (map (thread_part asks) layout.threads ++ map (core_part T) layout.cores) (spread (arbiter_part T layout.arbiter) 0 K) (T + k) (core_part T c)
+      (get_behind T (map (thread_part asks) layout.threads) (map (core_part T) layout.cores) k (core_part T c)
+      (length-map layout.threads (thread_part asks)) (get_mapped (core_part T) layout.cores k c e))
 
   pub arbiter_part_at : (k : ℕ) → k < K → slice_get (parts layout) (T + K + k) ≡ Some (arbiter_part T layout.arbiter k)
   arbiter_part_at k l =
-      get_behind (T + K) (each_from (thread_part asks) 0 layout.threads ++ map (core_part T) layout.cores) (spread (arbiter_part T layout.arbiter) 0 K) k (arbiter_part T layout.arbiter k)
-      (let a = length-append (each_from (thread_part asks) 0 layout.threads) (map (core_part T) layout.cores) in
-      let b = length-each_from (thread_part asks) 0 layout.threads in
+      get_behind (T + K) (map (thread_part asks) layout.threads ++ map (core_part T) layout.cores) (spread (arbiter_part T layout.arbiter) 0 K) k (arbiter_part T layout.arbiter k)
+      (let a = length-append (map (thread_part asks) layout.threads) (map (core_part T) layout.cores) in
+      let b = length-map layout.threads (thread_part asks) in
       let c : length (map (core_part T) layout.cores) ≡ K = length-map layout.cores (core_part T) in
       omega arith)
       (get_spread (arbiter_part T layout.arbiter) K k l)
@@ -194,9 +194,9 @@ module _ (modules : List Module) (layout : Layout) where
         let g = length-each_from f 0 layout.cores in
         let h = length-spread (arbiter_instance (starts modules layout) n c (parts layout) layout.arbiter) 0 c in
         let asks = ask_widths layout.cores in
-        let i = length-append (each_from (thread_part asks) 0 layout.threads ++ map (core_part n) layout.cores) (spread (arbiter_part n layout.arbiter) 0 c) in
-        let j = length-append (each_from (thread_part asks) 0 layout.threads) (map (core_part n) layout.cores) in
-        let k = length-each_from (thread_part asks) 0 layout.threads in
+        let i = length-append (map (thread_part asks) layout.threads ++ map (core_part n) layout.cores) (spread (arbiter_part n layout.arbiter) 0 c) in
+        let j = length-append (map (thread_part asks) layout.threads) (map (core_part n) layout.cores) in
+        let k = length-map layout.threads (thread_part asks) in
         let l = length-map layout.cores (core_part n) in
         let m = length-spread (arbiter_part n layout.arbiter) 0 c in
         omega arith
@@ -212,10 +212,10 @@ module _ (modules : List Module) (layout : Layout) where
 
     -- the last output of thread 0
     pub done_stands : (number : ℕ) → slice_get layout.threads 0 ≡ Some number → slice_get top.signals (done_place modules layout)
-        ≡ Some (wire_signal (done_place modules layout) (Port 1 0 (first_port modules (thread_part (ask_widths layout.cores) 0 number) + (length (ask_widths layout.cores) + 1))))
+        ≡ Some (wire_signal (done_place modules layout) (Port 1 0 (first_port modules (thread_part (ask_widths layout.cores) number) + (length (ask_widths layout.cores) + 1))))
     done_stands number e =
         let asks = ask_widths layout.cores in
-        let own = thread_part asks 0 number in
+        let own = thread_part asks number in
         let x = length asks + 1 in
         let here : slice_get own.outputs x ≡ Some 1 = get_behind (length asks) asks (replicate 2 1) 1 1 refl (get_copies 2 1 1 (omega arith)) in
         let part = thread_part_at layout 0 number e in

@@ -81,21 +81,12 @@ total-append : (xs ys : List Part) → total (xs ++ ys) ≡ total xs + total ys
 total-append [] ys = omega arith
 total-append (p ∷ xs) ys = let a = total-append xs ys in omega arith
 
-thread_few : (asks : List ℕ) (b : Bool) → length (asks ++ replicate (if b then 2 else 1) 1) ≤ length asks + 2
-thread_few asks true =
+threads_total : (asks : List ℕ) (ts : List ℕ) → total (map (thread_part asks) ts) ≤ length ts * (length asks + 2)
+threads_total asks [] = omega arith
+threads_total asks (t ∷ ts) =
     let a = length-append {A = ℕ} asks (replicate 2 1) in
-    let b : length (replicate {A = ℕ} 2 1) ≡ 2 = length-replicate {A = ℕ} 2 1 in
-    omega arith
-thread_few asks false =
-    let a = length-append {A = ℕ} asks (replicate 1 1) in
-    let b : length (replicate {A = ℕ} 1 1) ≡ 1 = length-replicate {A = ℕ} 1 1 in
-    omega arith
-
-threads_total : (asks : List ℕ) (i : ℕ) (ts : List ℕ) → total (each_from (thread_part asks) i ts) ≤ length ts * (length asks + 2)
-threads_total asks i [] = omega arith
-threads_total asks i (t ∷ ts) =
-    let a = thread_few asks (nat_eq i 0) in
-    let b = threads_total asks (i + 1) ts in
+    let d : length (replicate {A = ℕ} 2 1) ≡ 2 = length-replicate {A = ℕ} 2 1 in
+    let b = threads_total asks ts in
     let c = suc-mul (length ts) (length asks + 2) in
     omega arith
 
@@ -135,12 +126,12 @@ parts_total : (layout : Layout) → total (parts layout) ≤ length layout.threa
 parts_total layout =
     let n = length layout.threads in
     let asks = ask_widths layout.cores in
-    let x = each_from (thread_part asks) 0 layout.threads in
+    let x = map (thread_part asks) layout.threads in
     let y = map (core_part n) layout.cores in
     let z = spread (arbiter_part n layout.arbiter) 0 (length layout.cores) in
     let a = total-append (x ++ y) z in
     let b = total-append x y in
-    let c = threads_total asks 0 layout.threads in
+    let c = threads_total asks layout.threads in
     let d = cores_total n layout.cores in
     let e = arbiters_total n layout.arbiter 0 (length layout.cores) in
     omega arith

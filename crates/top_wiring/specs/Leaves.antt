@@ -19,12 +19,12 @@ module _ (layout : Layout) (late : ℕ → Bool) where
   abbrev pub AreEarly : Module → List ℕ → Type 0
   AreEarly m outputs = (x : ℕ) → x < length outputs → late (first_of m outputs + x) ≡ false
 
-  pub record IsThreadLeaf (i : ℕ) (m : Module) : Type 0 where
+  pub record IsThreadLeaf (m : Module) : Type 0 where
     pub leaf : IsLeaf m (length (thread_inputs layout)) late
-    pub ports : HasPorts m (thread_inputs layout) (thread_outputs (ask_widths layout.cores) i)
+    pub ports : HasPorts m (thread_inputs layout) (thread_outputs (ask_widths layout.cores))
     pub grants_late : (k : ℕ) → k < cores layout → late (2 + k) ≡ true
     pub told_late : (x : ℕ) → x < told layout → late (2 + cores layout + x) ≡ true
-    pub early : AreEarly m (thread_outputs (ask_widths layout.cores) i)
+    pub early : AreEarly m (thread_outputs (ask_widths layout.cores))
 
   pub record IsCoreLeaf (c : Core) (m : Module) : Type 0 where
     pub leaf : IsLeaf m (length (core_inputs layout c)) late
@@ -39,7 +39,7 @@ module _ (layout : Layout) (late : ℕ → Bool) where
 -- which signals of each instance are late, and what the modules are then
 pub record AreLeaves (layout : Layout) (modules : List Module) : Type 0 where
   pub late : ℕ → ℕ → Bool
-  pub each : EachModule layout modules (λ i m. IsThreadLeaf layout (late i) i m) (λ k c m. IsCoreLeaf layout (late (threads layout + k)) c m)
+  pub each : EachModule layout modules (λ i m. IsThreadLeaf layout (late i) m) (λ k c m. IsCoreLeaf layout (late (threads layout + k)) c m)
       (λ k m. IsArbiterLeaf layout (late (threads layout + cores layout + k)) m)
 
 -- the signals of the net can be put in stages, where the modules are such leaves

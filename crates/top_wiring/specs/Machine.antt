@@ -19,16 +19,16 @@ use Rattle.top_wiring.specs.Wired.{IsWired}
 
 module _ (layout : Layout) where
   -- the places of a thread's module
-  pub record IsThreadAt (t : ThreadMachine) (p : ThreadPlaces t) (C : ℕ → CoreMachine) (i : ℕ) (m : Module) : Type 0 where
+  pub record IsThreadAt (t : ThreadMachine) (p : ThreadPlaces t) (C : ℕ → CoreMachine) (m : Module) : Type 0 where
     pub is : IsThread t p (cores layout) (λ k. (C k).parts) (λ k. (C k).told) m
     pub uses : (k : ℕ) → k < cores layout → p.uses k ≡ true
     pub enable : p.enable ≡ 1
     pub grant : (k : ℕ) → k < cores layout → p.grant k ≡ 2 + k
     pub told : (k j : ℕ) → k < cores layout → j < (C k).told → p.told k j ≡ 2 + cores layout + (told_before layout k + j)
-    -- thread 0 shows whether it is done
-    pub done : i ≡ 0 → (r : Reading) (s : t.Slot) → Obeys m r → p.shows r s →
-        r.signal (first_of m (thread_outputs (ask_widths layout.cores) i) + (asked layout + 1)) ≡ bit_of (t.is_done s)
-    pub ask : (k j : ℕ) → k < cores layout → j < (C k).parts → p.ask k j ≡ first_of m (thread_outputs (ask_widths layout.cores) i) + (asked_before layout k + j)
+    -- it shows whether it is done
+    pub done : (r : Reading) (s : t.Slot) → Obeys m r → p.shows r s →
+        r.signal (first_of m (thread_outputs (ask_widths layout.cores)) + (asked layout + 1)) ≡ bit_of (t.is_done s)
+    pub ask : (k j : ℕ) → k < cores layout → j < (C k).parts → p.ask k j ≡ first_of m (thread_outputs (ask_widths layout.cores)) + (asked_before layout k + j)
 
   -- the places of a core's module
   pub record IsCoreAt (c : CoreMachine) (p : CorePlaces c) (core : Core) (m : Module) : Type 0 where
@@ -56,7 +56,7 @@ module _ (layout : Layout) where
       pub thread_at : (i : ℕ) → i < threads layout → p.thread_at i ≡ i
       pub core_at : (k : ℕ) → k < cores layout → p.core_at k ≡ threads layout + k
       pub arbiter_at : (k : ℕ) → k < cores layout → p.arbiter_at k ≡ threads layout + cores layout + k
-      pub each : EachModule layout modules (λ i m. IsThreadAt (T i) (p.thread i) C i m) (λ k core m. IsCoreAt (C k) (p.core k) core m) (λ k m. IsArbiterAt (p.arbiter k) m)
+      pub each : EachModule layout modules (λ i m. IsThreadAt (T i) (p.thread i) C m) (λ k core m. IsCoreAt (C k) (p.core k) core m) (λ k m. IsArbiterAt (p.arbiter k) m)
       pub alone : (number : ℕ) (m : Module) → slice_get modules number ≡ Some m → m.instances ≡ []
 
     -- the module top of a net is the machine of its threads and cores

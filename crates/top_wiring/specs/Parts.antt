@@ -1,5 +1,5 @@
 -- The instances of top: threads, cores, and an arbiter for each core; and their output ports.
-use Rattle.std.specs.Prelude.{ℕ, zero, suc, ◌+◌, nat_eq, if◌then◌else◌, replicate, List, [], ◌∷◌, ◌++◌, length, map, Option, Some, None}
+use Rattle.std.specs.Prelude.{ℕ, zero, suc, ◌+◌, replicate, List, [], ◌∷◌, ◌++◌, length, map, Option, Some, None}
 use Rattle.std.specs.List.{flat_map}
 use Rattle.circuit.specs.Rows.{spread}
 use Rattle.top_wiring.specs.declared.layout.Group.{Group}
@@ -32,16 +32,16 @@ ask_widths cores = flat_map (λ (c : Core). group_widths c.groups) cores
 abbrev pub told_widths : List Core → List ℕ
 told_widths cores = flat_map (λ (c : Core). c.told) cores
 
--- what thread i puts out: its requests, whether it needs a core, and of thread 0 whether it is done
-abbrev pub thread_outputs : List ℕ → ℕ → List ℕ
-thread_outputs asks i = asks ++ replicate (if nat_eq i 0 then 2 else 1) 1
+-- what a thread puts out: its requests, whether it needs a core, and whether it is done
+abbrev pub thread_outputs : List ℕ → List ℕ
+thread_outputs asks = asks ++ replicate 2 1
 
 -- what a core of n threads puts out: whether it may grant each, and each number that it tells, for each
 abbrev pub core_outputs : ℕ → Core → List ℕ
 core_outputs n c = replicate n 1 ++ flat_map (λ (w : ℕ). replicate n w) c.told
 
-abbrev pub thread_part : List ℕ → ℕ → ℕ → Part
-thread_part asks i number = record { of = number; outputs = thread_outputs asks i }
+abbrev pub thread_part : List ℕ → ℕ → Part
+thread_part asks number = record { of = number; outputs = thread_outputs asks }
 
 abbrev pub core_part : ℕ → Core → Part
 core_part n c = record { of = c.module; outputs = core_outputs n c }
@@ -51,7 +51,7 @@ arbiter_part n number k = record { of = number; outputs = replicate n 1 }
 
 abbrev pub parts : Layout → List Part
 parts layout =
-    each_from (thread_part (ask_widths layout.cores)) 0 layout.threads
+    map (thread_part (ask_widths layout.cores)) layout.threads
     ++ map (core_part (length layout.threads)) layout.cores
     ++ spread (arbiter_part (length layout.threads) layout.arbiter) 0 (length layout.cores)
 

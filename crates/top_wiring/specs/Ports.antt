@@ -38,7 +38,7 @@ module _ (layout : Layout) where
 
   -- the clock, the preferred thread, whether each thread asks
   abbrev pub arbiter_inputs : List ℕ
-  arbiter_inputs = 1 ∷ 4 ∷ [] ++ replicate threads 1
+  arbiter_inputs = 1 ∷ 6 ∷ [] ++ replicate threads 1
 
   abbrev pub arbiter_outputs : List ℕ
   arbiter_outputs = replicate threads 1

@@ -42,7 +42,7 @@ module _ (layout : Layout) (modules : List Module) where
     pub core_names : (k : ℕ) (c : Core) → slice_get layout.cores k ≡ Some c → slice_index c.name 0 ≡ 117
     pub cores_apart : (k l : ℕ) (c d : Core) → slice_get layout.cores k ≡ Some c → slice_get layout.cores l ≡ Some d → c.name ≡ d.name → k ≡ l
     -- ports
-    pub each : EachModule layout modules (λ i m. HasInterface m (thread_inputs layout) (thread_outputs (ask_widths layout.cores) i))
+    pub each : EachModule layout modules (λ i m. HasInterface m (thread_inputs layout) (thread_outputs (ask_widths layout.cores)))
         (λ k c m. HasInterface m (core_inputs layout c) (core_outputs (threads layout) c)) (λ k m. HasInterface m (arbiter_inputs layout) (arbiter_outputs layout))
     -- one module writes at most, and it has one instance
     pub one_writes : (k l : ℕ) → WritesIn k → WritesIn l → k ≡ l

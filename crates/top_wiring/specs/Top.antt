@@ -21,7 +21,7 @@ abbrev pub input : List ℕ → ℕ → Signal
 input name width = record { name = name; width = width; is_output = false; source = Input }
 
 abbrev pub preference : ℕ → Signal
-preference k = input (numbered (codes "pref") k) 4
+preference k = input (numbered (codes "pref") k) 6
 
 abbrev pub output : ℕ → Signal
 output place = record { name = codes "done"; width = 1; is_output = true; source = Assigned (Copy place) }

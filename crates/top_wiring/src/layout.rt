@@ -28,8 +28,8 @@ pub struct Core {
 ///
 /// The inputs of a thread's module are `clk`, whether it is enabled, for each core whether it grants, and for each core
 /// the numbers that it tells. Its outputs are for each core the numbers of its request, then whether it needs a core, and
-/// of thread 0 whether it is done. The inputs of the arbiter's module are `clk`, the preferred thread of 4 bits, and for
-/// each thread whether it asks; its outputs are for each thread whether it is granted.
+/// whether it is done. The inputs of the arbiter's module are `clk`, the preferred thread of 6 bits, and for each thread
+/// whether it asks; its outputs are for each thread whether it is granted.
 #[derive(Drop)]
 pub struct Layout {
     pub threads: Items<usize>,

@@ -9,8 +9,6 @@ mod parts;
 mod places;
 mod round;
 mod signals;
-#[cfg(test)]
-mod tests;
 mod wires;
 pub mod wiring;
 

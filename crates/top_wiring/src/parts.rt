@@ -1,8 +1,8 @@
 // The instances of `top`: their modules, and their output ports.
 
-ghost use Rattle.std.specs.Prelude.{◌≡◌, ◌++◌, nat_eq, if◌then◌else◌, replicate, IfOk, OnOk, map};
+ghost use Rattle.std.specs.Prelude.{◌≡◌, ◌++◌, replicate, IfOk, OnOk, map};
 ghost use Rattle.circuit.specs.Rows.{spread};
-ghost use Rattle.top_wiring.specs.Parts.{group_widths, ask_widths, thread_outputs, core_outputs, thread_part, core_part, arbiter_part, each_from, parts};
+ghost use Rattle.top_wiring.specs.Parts.{group_widths, ask_widths, thread_outputs, core_outputs, thread_part, core_part, arbiter_part, parts};
 
 use crate::layout::{Core, Group, Layout};
 use sqlite_items::Items;
@@ -51,12 +51,11 @@ fn ask_widths(alloc: Global, cores: &[Core]) -> Result<Items<u64>, AllocError>
     Ok(widths)
 }
 
-fn thread_outputs(alloc: Global, asks: &[u64], thread: usize) -> Result<Items<u64>, AllocError>
-    ensures { IfOk result (λ widths. widths ≡ thread_outputs asks.now thread) }
+fn thread_outputs(alloc: Global, asks: &[u64]) -> Result<Items<u64>, AllocError>
+    ensures { IfOk result (λ widths. widths ≡ thread_outputs asks.now) }
 {
     let mut widths = Items::from_slice(alloc, asks)?;
-    let more = if thread == 0 { 2 } else { 1 };
-    push_copies(alloc, &mut widths, 1, more)?;
+    push_copies(alloc, &mut widths, 1, 2)?;
     Ok(widths)
 }
 
@@ -77,10 +76,10 @@ fn push_threads(
     threads: &[usize],
     asks: &[u64],
 ) -> Result<(), AllocError>
-    ensures { OnOk result (parts.new ≡ parts.old ++ each_from (thread_part asks.now) 0 threads.now) }
+    ensures { OnOk result (parts.new ≡ parts.old ++ map (thread_part asks.now) threads.now) }
 {
-    for (thread, number) in threads.iter().enumerate() {
-        let outputs = thread_outputs(alloc, asks, thread)?;
+    for number in threads {
+        let outputs = thread_outputs(alloc, asks)?;
         parts.push(Part {
             of: *number,
             outputs,

@@ -1,11 +1,11 @@
 // The module `top_rr`.
 
-ghost use Rattle.std.specs.Prelude.{◌≡◌, ◌+◌, ◌-◌, ◌^◌, ◌≤◌, ◌++◌, true, length, IfOk};
+ghost use Rattle.std.specs.Prelude.{◌≡◌, ◌+◌, ◌-◌, ◌^◌, ◌≤◌, [], ◌∷◌, ◌++◌, true, length, IfOk};
 ghost use Rattle.verilog_tree.specs.Spelling.{is_name};
 ghost use Rattle.netlist.specs.declared.netlist.Source.TheVariants as S;
 ghost use Rattle.netlist.specs.declared.netlist.Value.TheVariants as V;
 ghost use Rattle.verilog_tree.specs.declared.tree.BinaryOperator.TheVariants as B;
-ghost use Rattle.top_wiring.specs.Round.{inner, round_signals, top_instance, count, IsRound};
+ghost use Rattle.top_wiring.specs.Round.{inner, counting, round_signals, top_instance, count, IsRound};
 
 use crate::signals::{input, named, numbered, output};
 use netlist::netlist::{Action, Effect, Instance, Module, Signal, Source, Value};
@@ -52,29 +52,50 @@ fn sum() -> Source
     })
 }
 
-/// `clk`, the counter, 1, their sum, the mask of all threads, what the instance shows, and `done`.
+/// The preferred thread: the counter, widened by two zeros.
+fn preferred(alloc: Global) -> Result<Source, AllocError>
+    ensures { IfOk result (λ source. source ≡ S.Assigned (V.Concatenation (6 ∷ 1 ∷ []))) }
+{
+    let parts = Items::from_slice(alloc, &[6, 1])?;
+    Ok(Source::Assigned(Value::Concatenation(parts)))
+}
+
+/// `clk`, the counter, 1, and their sum.
+fn counting(alloc: Global) -> Result<Items<Signal>, AllocError>
+    ensures { IfOk result (λ signals. signals ≡ counting) }
+{
+    let mut signals = Items::new(alloc);
+    let clock = input(named(alloc, "clk")?, 1);
+    signals.push(clock)?;
+    let counter = inner(alloc, "counter", 1, 4, Source::Register(0))?;
+    signals.push(counter)?;
+    let one = inner(alloc, "w", 2, 4, Source::Assigned(Value::Constant(1)))?;
+    signals.push(one)?;
+    let next = inner(alloc, "w", 3, 4, sum())?;
+    signals.push(next)?;
+    Ok(signals)
+}
+
+/// The signals of `top_rr`: behind those the mask of all threads, what the instance shows, two zeros, the preferred
+/// thread, and `done`.
 fn signals(alloc: Global, threads: usize, done: usize) -> Result<Items<Signal>, AllocError>
     requires { threads ≤ 64 }
     ensures { IfOk result (λ signals. signals ≡ round_signals threads done) }
 {
-    let clock = input(named(alloc, "clk")?, 1);
-    let counter = inner(alloc, "counter", 1, 4, Source::Register(0))?;
-    let one = inner(alloc, "w", 2, 4, Source::Assigned(Value::Constant(1)))?;
-    let next = inner(alloc, "w", 3, 4, sum())?;
+    let mut signals = counting(alloc)?;
     let all = Source::Assigned(Value::Constant(all_enabled(threads)));
     let mask = inner(alloc, "w", 4, threads as u64, all)?;
+    signals.push(mask)?;
     let port = Source::Port {
         instance: 0,
         port: done,
     };
     let shown = inner(alloc, "w", 5, 1, port)?;
-    let mut signals = Items::new(alloc);
-    signals.push(clock)?;
-    signals.push(counter)?;
-    signals.push(one)?;
-    signals.push(next)?;
-    signals.push(mask)?;
     signals.push(shown)?;
+    let zeros = inner(alloc, "w", 6, 2, Source::Assigned(Value::Constant(0)))?;
+    signals.push(zeros)?;
+    let wide = inner(alloc, "w", 7, 6, preferred(alloc)?)?;
+    signals.push(wide)?;
     signals.push(output(alloc, 5)?)?;
     Ok(signals)
 }
@@ -83,7 +104,7 @@ fn instance(alloc: Global, top: usize, cores: usize) -> Result<Instance, AllocEr
     ensures { IfOk result (λ it. it ≡ top_instance top cores) }
 {
     let mut inputs = Items::from_slice(alloc, &[0, 4])?;
-    inputs.append(Items::from_vec(vec![in alloc; 1; cores]?))?;
+    inputs.append(Items::from_vec(vec![in alloc; 7; cores]?))?;
     Ok(Instance {
         name: numbered(alloc, "dut", 0)?,
         of: top,

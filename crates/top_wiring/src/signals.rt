@@ -98,7 +98,7 @@ fn push_preferences(
 {
     for number in 0..count {
         let name = numbered(alloc, "pref", number)?;
-        signals.push(input(name, 4))?;
+        signals.push(input(name, 6))?;
     }
     Ok(())
 }

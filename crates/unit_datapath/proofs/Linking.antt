@@ -197,11 +197,11 @@ module _ (globals : List IntegerType) (code : ThreadCode) (registers : Registers
         IsKept m r registers (register_at p.registers j) (value_type globals code o) (value_now (planned_view b) (plan_view b p) q wire j)
     value_held j o u listed =
         let small = within_view b.operations j o listed in
-        let past : last_state (planned_view b) (plan_view b p) j < (plan_view b p).start n = right.registered j n below slow u in
-        let used : last_state (planned_view b) (plan_view b p) n ≤ (plan_view b p).until j = right.keeps.used j n below u in
+        let past : last_state (planned_view b) (plan_view b p) j < (plan_view b p).start n = right.block.registered j n below slow u in
+        let used : last_state (planned_view b) (plan_view b p) n ≤ (plan_view b p).until j = right.block.keeps.used j n below u in
         let before : last_state (planned_view b) (plan_view b p) j < q.state = omega arith in
         let alive : q.state ≤ (plan_view b p).until j = omega arith in
-        let has = right.keeps.has j small (omega arith) in
+        let has = right.block.keeps.has j small (omega arith) in
         let kept : IsKept m r registers (Some has.0) (value_type globals code o) (q.registers has.0) =
         sees.alive j has.0 (record { operation = o; listed = listed; register = has.1; past = before; used = alive })
         in
@@ -261,8 +261,8 @@ module _ (code : ThreadCode) (registers : Registers) (kind : UnitKind) (b : Bloc
       can : (globals : List IntegerType) (m : Module) (r : Reading) (q : Slot) → IsWorkRight globals code b p → IsMoment m r registers end.at end.states true q.state →
           end.states ≡ max 1 p.states → CanWork m r registers end (slice_index p.starts count) (further_of x) q.state
       can globals m r q ok moment states =
-          let small = ok.small in
-          let ends = ok.keeps.ends count (within_view b.operations count x listed) in
+          let small = ok.block.small in
+          let ends = ok.block.keeps.ends count (within_view b.operations count x listed) in
           let last = listed_last count x listed in
           record {
             moment = moment;
@@ -283,7 +283,7 @@ module _ (code : ThreadCode) (registers : Registers) (kind : UnitKind) (b : Bloc
           let view = listed_view b.operations k (Binary at.operator at.ty left right) at.listed in
           let slow : is_simple (operation_at (planned_view b) k).kind ≡ false = ap (λ (z : PlannedOperation). is_simple z.kind) view ∙ slow_kind kind at.operator at.ty
           (binary_total at.operator at.ty) at.of_kind in
-          let typed = ok.typed.operations k (Binary at.operator at.ty left right) at.listed in
+          let typed = ok.block.typed.operations k (Binary at.operator at.ty left right) at.listed in
           let held = operand_held globals code registers b p ok m r q wire sees k below slow at.from at.to in
           let uses_left : (j : ℕ) → UsesIn (operand_view left) j → Uses (operation_at (planned_view b) k) j = λ j u. subst (λ (z : PlannedOperation). Uses z j) (sym view)
           (inl u) in

@@ -14,21 +14,21 @@ use Rattle.block_ir.specs.declared.plan.StagePlan.{StagePlan}
 use Rattle.block_ir.specs.declared.plan.StagePlan.TheVariants as planned
 use Rattle.block_ir.specs.declared.plan.Planned.{Planned}
 use Rattle.planned_block.specs.Block.{operand_value}
-use Rattle.planned_block.specs.Plan.{further_states, last_state, KeepsOrders}
+use Rattle.planned_block.specs.Plan.{further_states, last_state}
 use Rattle.planned_block.specs.Slot.{Slot, operand_now}
 use Rattle.planned_view.specs.View.{operand_view, operation_view, planned_view, plan_view}
-use Rattle.right_plan.specs.Right.{WorksFromRegisters, AreUnitsApart}
+use Rattle.right_plan.specs.Right.{AreUnitsApart}
 use Rattle.netlist.specs.declared.netlist.Signal.{Signal}
 use Rattle.netlist.specs.declared.netlist.Module.{Module}
 use Rattle.verilog_meaning.specs.Readings.{Reading, width}
 use Rattle.circuit.specs.Modules.{Obeys}
 use Rattle.operator_wires.specs.Gives.{Grows}
 use Rattle.operator_wires.specs.Built.{Base, IsEarlier}
-use Rattle.thread_promise.specs.Types.{IsTypedBlock}
 use Rattle.block_datapath.specs.declared.registers.Registers.{Registers}
 use Rattle.block_datapath.specs.declared.states.Moment.{Moment}
 use Rattle.block_datapath.specs.Chains.{IsMoment}
 use Rattle.block_datapath.specs.Operations.{SeesSlot}
+use Rattle.block_datapath.specs.Accesses.{IsAskRight}
 use Rattle.block_datapath.specs.Leave.{HasStage, IsInStage}
 use Rattle.block_datapath.specs.Wired.{AreRegisters}
 use Rattle.unit_datapath.specs.declared.kinds.UnitKind.{UnitKind}
@@ -92,13 +92,10 @@ module _ (code : ThreadCode) (registers : Registers) (kind : UnitKind) where
 
 -- ---- a block
 
--- a block is right, and so is its plan
+-- a block is right, and operations that share a unit are apart
 pub record IsWorkRight (globals : List IntegerType) (code : ThreadCode) (b : Block) (p : BlockPlan) : Type 0 where
-  pub typed : IsTypedBlock globals code b
-  pub keeps : KeepsOrders (planned_view b) (plan_view b p)
-  pub registered : WorksFromRegisters (planned_view b) (plan_view b p)
+  pub block : IsAskRight globals code b p
   pub units : AreUnitsApart b p
-  pub small : p.states < 2 ^ 64
 
 -- operation k of a block is of the kind, and at work in a state of the slot
 pub record IsAtWork (kind : UnitKind) (b : Block) (p : BlockPlan) (q : Slot) (k : ℕ) (left right : Operand) : Type 0 where

@@ -1,5 +1,5 @@
 -- A right side has the same value in two readings that agree at its operands and at all words.
-use Rattle.std.proofs.Common.{◌≡◌, ℕ, ◌+◌, ◌*◌, ◌^◌, ◌<◌, ◌⊎◌, List, [], ◌∷◌, nat_lt, nat_eq, if◌then◌else◌, refl, ap, sym, ◌∙◌, inl, inr, slice_get}
+use Rattle.std.proofs.Common.{◌≡◌, ℕ, ◌+◌, ◌*◌, ◌^◌, List, [], ◌∷◌, nat_lt, nat_eq, if◌then◌else◌, refl, ap, ◌∙◌, inl, inr, slice_get}
 use Rattle.netlist.specs.declared.netlist.Value.{Value}
 use Rattle.netlist.specs.declared.netlist.Value.TheVariants.{Copy, Constant, BitwiseNot, Binary, SignedLess, ArithmeticShiftRight, Conditional, Division, SignedDivision, MemoryRead, Select}
 use Rattle.netlist.specs.declared.netlist.Value.TheVariants.{Concatenation, Replication}

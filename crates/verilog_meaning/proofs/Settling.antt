@@ -1,13 +1,12 @@
 -- A net whose signals have levels, each reading only lower ones, has exactly one settled valuation of each state and choice,
 -- where its widths fit.
-use Rattle.std.proofs.Common.{◌≡◌, ℕ, zero, suc, ◌+◌, ◌^◌, ◌<◌, ◌⊎◌, List, [], ◌∷◌, Option, Some, None, slice_get, refl, ap, sym, ◌∙◌, subst, inl, inr, arith}
+use Rattle.std.proofs.Common.{◌≡◌, ℕ, ◌<◌, List, [], ◌∷◌, Option, Some, None, slice_get, refl, ap, sym, ◌∙◌}
 use Rattle.netlist.specs.declared.netlist.Signal.{Signal}
 use Rattle.netlist.specs.declared.netlist.Source.{Source}
 use Rattle.netlist.specs.declared.netlist.Source.TheVariants.{Input, Register, Assigned, Port}
 use Rattle.netlist.specs.declared.netlist.Module.{Module}
-use Rattle.verilog_meaning.specs.Readings.{Reading}
 use Rattle.verilog_meaning.specs.Cycles.{Path, Valuation, Choice, module_at, instance_at, connected, number, IsAt, IsSettled}
-use Rattle.verilog_meaning.specs.Threads.{Place, Names, IsOneOf, operands}
+use Rattle.verilog_meaning.specs.Threads.{Place, Names, operands}
 use Rattle.verilog_meaning.proofs.Ranked.{IsCausal, solution, solution-holds, solution-unique}
 use Rattle.verilog_meaning.proofs.Operands.{Agree, same_value}
 

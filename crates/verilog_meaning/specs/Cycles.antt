@@ -1,5 +1,5 @@
 -- Settled valuations, cycles and runs of a netlist.
-use Rattle.std.specs.Prelude.{◌≡◌, ℕ, ◌+◌, ◌-◌, ◌^◌, ◌<◌, ◌⊎◌, List, [], ◌∷◌, ◌++◌, length, Option, Some, None, option_and_then, slice_get, codes, if◌then◌else◌}
+use Rattle.std.specs.Prelude.{◌≡◌, ℕ, ◌+◌, ◌^◌, ◌<◌, ◌⊎◌, List, [], ◌∷◌, ◌++◌, length, Option, Some, None, option_and_then, slice_get, codes, true, if◌then◌else◌}
 use Rattle.std.specs.Str.{bytes_eq}
 use Rattle.netlist.specs.declared.netlist.Signal.{Signal}
 use Rattle.netlist.specs.declared.netlist.Source.{Source}
@@ -88,6 +88,11 @@ module _ (modules : List Module) (top : Module) where
     pub registers : (path : Path) (m : Module) (x : ℕ) (s : Signal) → IsAt (path ++ outer) m x s → IsRegister s.source → (h (path ++ outer)).signal x ≡ (g (path ++ outer)).signal x
     pub words : (path : Path) (m : Module) (j k : ℕ) (s : Memory) → HasMemory (path ++ outer) m j s → k < length s.initial → (h (path ++ outer)).word j k ≡ (g (path ++ outer)).word j k
 
+  -- two states are the same in the instance at exactly this path
+  pub record IsSameAt (path : Path) (h g : Valuation) : Type 0 where
+    pub registers : (m : Module) (x : ℕ) (s : Signal) → IsAt path m x s → IsRegister s.source → (h path).signal x ≡ (g path).signal x
+    pub words : (m : Module) (j k : ℕ) (s : Memory) → HasMemory path m j s → k < length s.initial → (h path).word j k ≡ (g path).word j k
+
   -- ---- cycles
 
   abbrev pub next_at : Option Module → Reading → Reading
@@ -128,11 +133,13 @@ module _ (modules : List Module) (top : Module) where
   abbrev pub Reaches : List Choice → Valuation → List ℕ → Type 0
   Reaches choices h out = Runs initial_state choices h out
 
-  -- the output done has this number in h under c
+  -- the output done, of one bit, has this number in h under c
   pub record ShowsDone (h : Valuation) (c : Choice) (b : ℕ) : Type 0 where
     pub place : ℕ
     pub signal : Signal
     pub is : IsSignal top (codes "done") place signal
+    pub out : signal.is_output ≡ true
+    pub bit : signal.width ≡ 1
     pub through : Valuation
     pub settled : IsSettled h c through
     pub number : (through []).signal place ≡ b

@@ -1,5 +1,5 @@
 -- One module: the equations of its signals, what a clock edge leaves, and what it writes (IEEE 1364-2005, 5, 6.1, 9.2.2, 17.1).
-use Rattle.std.specs.Prelude.{ℕ, zero, suc, ◌+◌, ◌-◌, ◌*◌, ◌/◌, ◌%◌, ◌^◌, Bool, true, false, ◌&&◌, List, [], ◌∷◌, ◌++◌, length, Option, Some, None, slice_get, nat_eq, nat_lt, decimal, if◌then◌else◌}
+use Rattle.std.specs.Prelude.{ℕ, zero, suc, ◌+◌, ◌-◌, ◌*◌, ◌/◌, ◌%◌, ◌^◌, Bool, true, ◌&&◌, List, [], ◌∷◌, ◌++◌, length, Option, Some, None, slice_get, nat_eq, nat_lt, decimal, if◌then◌else◌}
 use Rattle.std.specs.Fmt.{signed_decimal}
 use Rattle.hls_ints.specs.Words.{signed_word, word_sum, word_difference, word_product, word_quotient, word_remainder, signed_quotient, signed_remainder, word_less, signed_less, word_equal}
 use Rattle.hls_ints.specs.Words.{word_complement, word_and, word_exclusive_or, word_inclusive_or, left_shift, right_shift, arithmetic_shift}

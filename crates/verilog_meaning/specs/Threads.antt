@@ -1,5 +1,5 @@
 -- Nets of threads: slots, closed and open cycles, journals of a run, verdicts.
-use Rattle.std.specs.Prelude.{◌≡◌, ◌≢◌, ℕ, zero, suc, ◌+◌, ◌-◌, ◌/◌, ◌%◌, ◌^◌, ◌<◌, ◌≤◌, ◌⊎◌, Bool, true, false, List, [], ◌∷◌, ◌++◌, All, Option, Some, None, slice_get, codes, if◌then◌else◌}
+use Rattle.std.specs.Prelude.{◌≡◌, ◌≢◌, ℕ, zero, suc, ◌+◌, ◌-◌, ◌/◌, ◌%◌, ◌^◌, ◌<◌, ◌≤◌, ◌⊎◌, Bool, true, false, List, [], ◌∷◌, ◌++◌, All, Some, codes, if◌then◌else◌}
 use Rattle.std.specs.Str.{bytes_eq}
 use Rattle.netlist.specs.declared.netlist.Signal.{Signal}
 use Rattle.netlist.specs.declared.netlist.Source.{Source}
@@ -10,7 +10,8 @@ use Rattle.netlist.specs.declared.netlist.Value.TheVariants.{Concatenation, Repl
 use Rattle.netlist.specs.declared.netlist.Instance.{Instance}
 use Rattle.netlist.specs.declared.netlist.Module.{Module}
 use Rattle.verilog_meaning.specs.Names.{numbered, IsSignal, IsInstance}
-use Rattle.verilog_meaning.specs.Cycles.{Path, Valuation, Choice, module_at, instance_at, connected, IsAt, IsSettled, IsState, IsSameIn, Cycle, Runs, ShowsDone}
+use Rattle.verilog_meaning.specs.Ports.{HasPorts}
+use Rattle.verilog_meaning.specs.Cycles.{Path, Valuation, Choice, module_at, instance_at, connected, IsAt, IsSettled, IsState, IsSameIn, IsSameAt, Cycle, ShowsDone}
 
 -- the number of the instance of a name
 abbrev pub instance_named : List Instance → List ℕ → ℕ
@@ -29,9 +30,9 @@ alone i = record { mask = 2 ^ i; prefs = [] }
 abbrev pub all_enabled : ℕ → List ℕ → Choice
 all_enabled threads prefs = record { mask = 2 ^ threads - 1; prefs = prefs }
 
--- a mask of a bit for each thread, and prefs of 4 bits
+-- a mask of a bit for each thread, and prefs of 6 bits
 abbrev pub IsChoice : ℕ → Choice → Type 0
-IsChoice threads c = (c.mask < 2 ^ threads) × All (λ p. p < 16) c.prefs
+IsChoice threads c = (c.mask < 2 ^ threads) × All (λ p. p < 64) c.prefs
 
 -- ---- what a signal's equation names
 
@@ -85,15 +86,15 @@ module _ (modules : List Module) (top : Module) where
     abbrev pub ChangesSlot : Valuation → Valuation → Type 0
     ChangesSlot h g = (i : ℕ) × (i < threads) × (IsSameSlot i h g → ⊥)
 
-    -- the output need of thread i has this number in h
-    pub record Needs (h : Valuation) (i b : ℕ) : Type 0 where
+    -- the output need of thread i has this number in h under c
+    pub record Needs (h : Valuation) (c : Choice) (i b : ℕ) : Type 0 where
       pub kind : Module
       pub stands : module_at modules top (slot i) ≡ Some kind
       pub place : ℕ
       pub signal : Signal
       pub is : IsSignal kind (codes "need") place signal
       pub through : Valuation
-      pub settled : IsSettled modules top h (alone i) through
+      pub settled : IsSettled modules top h c through
       pub number : (through (slot i)).signal place ≡ b
 
     -- a thread's instance, and its output need of one bit
@@ -113,18 +114,19 @@ module _ (modules : List Module) (top : Module) where
 
     -- a net of threads that keep to themselves in closed cycles
     pub record IsThreaded : Type 0 where
+      pub ports : HasPorts top threads
       pub has : (i : ℕ) → i < threads → HasThread i
       pub loopless : (p : Place) → Depends p p → ⊥
       pub stays : (h g : Valuation) (c : Choice) (out : List ℕ) (i : ℕ) → IsState modules top h → IsChoice threads c → i < threads → Cycle modules top h c g out → bit_of c.mask i ≡ 0
           → IsSameSlot i h g
-      pub needs : (h g : Valuation) (i a b : ℕ) → i < threads → IsSameSlot i h g → Needs h i a → Needs g i b → a ≡ b
+      pub needs : (h g : Valuation) (c d : Choice) (i a b : ℕ) → i < threads → IsSameSlot i h g → Needs h c i a → Needs g d i b → a ≡ b
       pub closed_moves : (h g : Valuation) (c : Choice) (out : List ℕ) (i : ℕ) → IsState modules top h → IsChoice threads c → i < threads → Cycle modules top h c g out → bit_of c.mask i ≡ 1
-          → Needs h i 0 → IsSameSlot i h g → ⊥
+          → Needs h c i 0 → IsSameSlot i h g → ⊥
       pub closed_alike : (h h' g g' : Valuation) (c c' : Choice) (out out' : List ℕ) (i : ℕ) → IsState modules top h → IsState modules top h' → i < threads → Cycle modules top h c g out
-          → Cycle modules top h' c' g' out' → bit_of c.mask i ≡ 1 → bit_of c'.mask i ≡ 1 → Needs h i 0 → IsSameSlot i h h' → IsSameSlot i g g'
-      pub closed_alone : (h g : Valuation) (out : List ℕ) (i : ℕ) → IsState modules top h → i < threads → Cycle modules top h (alone i) g out → Needs h i 0
-          → (out ≡ []) × ((path : Path) (j : ℕ) → (j ∷ [] ≢ slot i) → IsSameIn modules top (j ∷ []) h g)
-      pub open_moves : (h g : Valuation) (out : List ℕ) (i : ℕ) → IsState modules top h → i < threads → Cycle modules top h (alone i) g out → Needs h i 1 → IsSameSlot i h g → IsSame h g
+          → Cycle modules top h' c' g' out' → bit_of c.mask i ≡ 1 → bit_of c'.mask i ≡ 1 → Needs h c i 0 → IsSameSlot i h h' → IsSameSlot i g g'
+      pub closed_alone : (h g : Valuation) (out : List ℕ) (i : ℕ) → IsState modules top h → i < threads → Cycle modules top h (alone i) g out → Needs h (alone i) i 0
+          → (out ≡ []) × ((path : Path) → ((inner : Path) → path ≢ inner ++ slot i) → IsSameAt modules top path h g)
+      pub open_moves : (h g : Valuation) (out : List ℕ) (i : ℕ) → IsState modules top h → i < threads → Cycle modules top h (alone i) g out → Needs h (alone i) i 1 → IsSameSlot i h g → IsSame h g
       pub idle : (h g : Valuation) (c : Choice) (out : List ℕ) → IsState modules top h → c.mask ≡ 0 → Cycle modules top h c g out → IsSame h g
       pub done_alike : (h g : Valuation) (c d : Choice) (a b : ℕ) → IsSameSlot 0 h g → ShowsDone modules top h c a → ShowsDone modules top g d b → a ≡ b
       pub done_stays : (h g : Valuation) (c : Choice) (out : List ℕ) → IsState modules top h → ShowsDone modules top h c 1 → Cycle modules top h (alone 0) g out → IsSame h g
@@ -163,7 +165,7 @@ module _ (modules : List Module) (top : Module) where
     abbrev pub Moves : ℕ → ℕ → ℕ → Valuation → Valuation → Type 0
     Moves need i zero h g = IsSame h g
     Moves need i (suc n) h g =
-        (mid : Valuation) × (out : List ℕ) × Needs h i need × ShowsDone modules top h (all_enabled threads []) 0 × Cycle modules top h (alone i) mid out ×
+        (mid : Valuation) × (out : List ℕ) × Needs h (alone i) i need × ShowsDone modules top h (all_enabled threads []) 0 × Cycle modules top h (alone i) mid out ×
         (IsSameSlot i h mid → ⊥) × Moves need i n mid g
 
     abbrev pub open_cycles : Bool → ℕ
@@ -185,8 +187,13 @@ module _ (modules : List Module) (top : Module) where
 
     -- after its closed cycles an entry has 4,096 of them, or stands at an open state and opens it exactly where that moves
     pub record IsFullEntry (between : Valuation) (e : Entry) : Type 0 where
-      pub stops : (Needs between e.thread 0 × (e.closed ≡ 4096)) ⊎ Needs between e.thread 1
-      pub opens : (g : Valuation) (out : List ℕ) → Needs between e.thread 1 → Cycle modules top between (alone e.thread) g out → (IsSameSlot e.thread between g → ⊥) → e.opened ≡ true
+      pub stops : (Needs between (alone e.thread) e.thread 0 × (e.closed ≡ 4096)) ⊎ Needs between (alone e.thread) e.thread 1
+      pub opens : (g : Valuation) (out : List ℕ) → Needs between (alone e.thread) e.thread 1 → Cycle modules top between (alone e.thread) g out → (IsSameSlot e.thread between g → ⊥) → e.opened ≡ true
+
+    -- a journal whose entries are legal and full leads from h to g
+    abbrev pub IsJournal : Valuation → List Entry → Valuation → Type 0
+    IsJournal h [] g = IsSame h g
+    IsJournal h (e ∷ journal) g = (mid : Valuation) × (legal : IsLegalEntry h e mid) × IsFullEntry legal.between e × IsJournal mid journal g
 
     -- ---- verdicts
 

@@ -10,7 +10,7 @@ use std::marker::Model;
 ///
 /// A letter or `_`, then letters, digits and `_`, and no word of the grammar (IEEE 1364-2005, 3.7 simple
 /// identifiers). Contracts see its bytes.
-#[derive(Debug, Drop)]
+#[derive(Drop)]
 pub struct Identifier {
     text: String,
 }
@@ -85,7 +85,7 @@ impl Clone for Identifier {
 /// What stands between the quotes of a string: bytes 0x20 to 0x7E, where a backslash takes the next one with it.
 ///
 /// Contracts see its bytes.
-#[derive(Debug, Drop)]
+#[derive(Drop)]
 pub struct Quoted {
     inside: String,
 }

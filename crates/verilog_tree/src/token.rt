@@ -3,7 +3,7 @@
 use crate::name::{Identifier, Quoted};
 
 /// A word of the grammar, which is no name.
-#[derive(Clone, Copy, Debug, PartialEq, Eq)]
+#[derive(Clone, Copy, PartialEq, Eq)]
 pub enum Word {
     Module,
     EndModule,
@@ -21,7 +21,7 @@ pub enum Word {
 }
 
 /// Any other quoted mark of the grammar.
-#[derive(Clone, Copy, Debug, PartialEq, Eq)]
+#[derive(Clone, Copy, PartialEq, Eq)]
 pub enum Mark {
     OpenRound,
     CloseRound,
@@ -62,7 +62,7 @@ pub enum Mark {
 }
 
 /// A token of a Verilog text.
-#[derive(Debug, Drop)]
+#[derive(Drop)]
 pub enum Token {
     Word(Word),
     Mark(Mark),

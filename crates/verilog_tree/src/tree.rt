@@ -4,14 +4,14 @@ use crate::name::{Identifier, Quoted};
 use sqlite_items::Items;
 
 /// `width'd value`, or `width'sd value` (IEEE 1364-2005, 3.5.1).
-#[derive(Clone, Copy, Debug, PartialEq, Eq)]
+#[derive(Clone, Copy, PartialEq, Eq)]
 pub struct Constant {
     pub width: u64,
     pub value: u64,
 }
 
 /// An operator between two names that reads both as numbers from 0.
-#[derive(Clone, Copy, Debug, PartialEq, Eq)]
+#[derive(Clone, Copy, PartialEq, Eq)]
 pub enum BinaryOperator {
     Add,
     Subtract,
@@ -26,14 +26,14 @@ pub enum BinaryOperator {
 }
 
 /// The operator of a guarded division.
-#[derive(Clone, Copy, Debug, PartialEq, Eq)]
+#[derive(Clone, Copy, PartialEq, Eq)]
 pub enum DivisionOperator {
     Quotient,
     Remainder,
 }
 
 /// The right side of a continuous assignment (IEEE 1364-2005, 5.1).
-#[derive(Debug, Drop)]
+#[derive(Drop)]
 pub enum Expression {
     /// `of`
     Copy(Identifier),
@@ -109,14 +109,14 @@ pub enum Expression {
     },
 }
 
-#[derive(Clone, Copy, Debug, PartialEq, Eq)]
+#[derive(Clone, Copy, PartialEq, Eq)]
 pub enum Direction {
     Input,
     Output,
 }
 
 /// `input wire [high:0] name`; without `high` there is no range.
-#[derive(Debug, Drop)]
+#[derive(Drop)]
 pub struct Port {
     pub direction: Direction,
     pub high: Option<u64>,
@@ -124,7 +124,7 @@ pub struct Port {
 }
 
 /// `name = value;` for a register, or `name[word] = value;` for a word of a memory.
-#[derive(Debug, Drop)]
+#[derive(Drop)]
 pub struct InitialConstant {
     pub name: Identifier,
     pub word: Option<u64>,
@@ -132,14 +132,14 @@ pub struct InitialConstant {
 }
 
 /// A value of `$write`: `name`, or `$signed(name)`.
-#[derive(Debug, Drop)]
+#[derive(Drop)]
 pub enum WriteArgument {
     Unsigned(Identifier),
     Signed(Identifier),
 }
 
 /// A statement of an always block.
-#[derive(Debug, Drop)]
+#[derive(Drop)]
 pub enum Statement {
     /// `register <= source;`
     Set {
@@ -165,28 +165,28 @@ pub enum Statement {
 }
 
 /// `.port(signal)`
-#[derive(Debug, Drop)]
+#[derive(Drop)]
 pub struct Connection {
     pub port: Identifier,
     pub signal: Identifier,
 }
 
 /// `wire [high:0] name;`
-#[derive(Debug, Drop)]
+#[derive(Drop)]
 pub struct Wire {
     pub high: Option<u64>,
     pub name: Identifier,
 }
 
 /// `reg [high:0] name;`
-#[derive(Debug, Drop)]
+#[derive(Drop)]
 pub struct Register {
     pub high: Option<u64>,
     pub name: Identifier,
 }
 
 /// `reg [high:0] name [0:last];`
-#[derive(Debug, Drop)]
+#[derive(Drop)]
 pub struct Memory {
     pub high: u64,
     pub name: Identifier,
@@ -194,26 +194,26 @@ pub struct Memory {
 }
 
 /// `assign target = value;`
-#[derive(Debug, Drop)]
+#[derive(Drop)]
 pub struct Assign {
     pub target: Identifier,
     pub value: Expression,
 }
 
 /// `initial begin .. end`
-#[derive(Debug, Drop)]
+#[derive(Drop)]
 pub struct Initial {
     pub constants: Items<InitialConstant>,
 }
 
 /// `always @(posedge clk) begin .. end`
-#[derive(Debug, Drop)]
+#[derive(Drop)]
 pub struct Always {
     pub body: Items<Statement>,
 }
 
 /// `module_name name (.port(signal), .port(signal));`
-#[derive(Debug, Drop)]
+#[derive(Drop)]
 pub struct Instance {
     pub module_name: Identifier,
     pub name: Identifier,
@@ -221,7 +221,7 @@ pub struct Instance {
 }
 
 /// An item of a module.
-#[derive(Debug, Drop)]
+#[derive(Drop)]
 pub enum Item {
     Wire(Wire),
     Register(Register),
@@ -233,7 +233,7 @@ pub enum Item {
 }
 
 /// `module name (port, port); item item endmodule`
-#[derive(Debug, Drop)]
+#[derive(Drop)]
 pub struct Module {
     pub name: Identifier,
     pub ports: Items<Port>,
@@ -241,7 +241,7 @@ pub struct Module {
 }
 
 /// The modules of a text. A text reads as at most one net.
-#[derive(Debug, Drop)]
+#[derive(Drop)]
 pub struct Net {
     pub modules: Items<Module>,
 }

@@ -3,4 +3,3 @@ pub mod Words
 pub mod Declared
 pub mod Condition
 pub mod Below
-pub mod Example

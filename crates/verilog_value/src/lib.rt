@@ -4,7 +4,5 @@
 
 pub mod operators;
 mod place;
-#[cfg(test)]
-mod tests;
 pub mod valuation;
 pub mod value;

@@ -8,8 +8,6 @@ ghost use Rattle.verilog_tree.specs.Reads.{IsFull, Reads};
 
 mod expressions;
 mod items;
-#[cfg(test)]
-mod tests;
 mod text;
 
 use crate::text::Text;

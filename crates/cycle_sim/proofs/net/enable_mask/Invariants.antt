@@ -1,5 +1,5 @@
 use Rattle.std.proofs.Common.{◌≡◌, drop}
-use Rattle.cycle_sim.specs.Rounds.{enable_width}
+use Rattle.sim_layout.specs.Rounds.{enable_width}
 use Rattle.cycle_sim.proofs.net.enable_mask.Given as goal
 
 abbrev pub invariant-loop-signal : goal.invariant-loop-signal

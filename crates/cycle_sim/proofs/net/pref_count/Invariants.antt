@@ -1,5 +1,5 @@
 use Rattle.std.proofs.Common.{◌≡◌, ◌+◌, ◌≤◌, drop}
-use Rattle.cycle_sim.specs.Rounds.{pref_count}
+use Rattle.sim_layout.specs.Rounds.{pref_count}
 use Rattle.cycle_sim.proofs.net.pref_count.Given as goal
 
 abbrev pub invariant-loop-signal : goal.invariant-loop-signal

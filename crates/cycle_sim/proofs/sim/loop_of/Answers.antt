@@ -1,6 +1,6 @@
 use Rattle.std.proofs.Common.{◌≡◌, List, length, subst, arith}
-use Rattle.cycle_sim.specs.declared.edge.Part.{Part}
-use Rattle.cycle_sim.specs.Leads.{AreInRoom, AreLoopless, IsFirstFound}
+use Rattle.sim_values.specs.declared.edge.Part.{Part}
+use Rattle.sim_layout.specs.Leads.{AreInRoom, AreLoopless, IsFirstFound}
 use Rattle.cycle_sim.proofs.Stuck.{wires_in_room, no_loop, first_is}
 use Rattle.cycle_sim.proofs.sim.loop_of.Goals as goal
 

@@ -3,7 +3,7 @@ use Rattle.std.specs.Prelude.{None}
 use Rattle.std.specs.Option.{option_copied}
 use Rattle.verilog_tree.specs.Facts as fact
 use Rattle.verilog_tree.specs.WellFormed as well
-use Rattle.net_check.specs.Interfaces.{seen_as}
+use Rattle.net_rules.specs.Interfaces.{seen_as}
 use Rattle.net_check.proofs.Distinct.{no_outputs}
 use Rattle.net_check.proofs.facts.drive_by_instance.Goals as goal
 

@@ -1,8 +1,8 @@
 use Rattle.std.proofs.Common.{◌≡◌, ℕ, List, ◌++◌, length, take, drop, ap, sym, ◌∙◌, subst, arith}
-use Rattle.cycle_sim.specs.Flat.{all_numbers, all_words}
-use Rattle.cycle_sim.specs.Running.{Running, running, Stands, flat, advanced}
+use Rattle.sim_values.specs.Flat.{all_numbers, all_words}
+use Rattle.sim_layout.specs.Running.{Running, running, Stands, flat, advanced}
 use Rattle.cycle_sim.proofs.Cycles.{advanced_stands}
-use Rattle.cycle_sim.proofs.Calls.{whole_back}
+use Rattle.sim_layout.proofs.Calls.{whole_back}
 use Rattle.cycle_sim.proofs.sim.Sim.advance.Goals as goal
 
 pub invariant_of-self : goal.invariant_of-self

@@ -1,5 +1,5 @@
 use Rattle.std.proofs.Common.{◌≡◌, sym, subst}
-use Rattle.cycle_sim.specs.Running.{running}
+use Rattle.sim_layout.specs.Running.{running}
 use Rattle.cycle_sim.specs.Lockstep.{TakesRounds}
 use Rattle.cycle_sim.proofs.Turning.{takes_rounds}
 use Rattle.cycle_sim.proofs.sim.Sim.all_enabled.Goals as goal

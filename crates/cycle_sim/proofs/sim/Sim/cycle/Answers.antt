@@ -1,10 +1,10 @@
 use Rattle.std.proofs.Common.{◌≡◌, ◌++◌, sym, subst}
 use Rattle.verilog_meaning.specs.Cycles.{Choice, Cycle}
-use Rattle.cycle_sim.specs.Flat.{all_written}
-use Rattle.cycle_sim.specs.Running.{Running, flat, state_of, choice_of, settled_run, advanced, Prints, IsSameState}
-use Rattle.cycle_sim.specs.Print.{IsSomething}
+use Rattle.sim_values.specs.Flat.{all_written}
+use Rattle.sim_layout.specs.Running.{Running, flat, state_of, choice_of, settled_run, advanced, Prints, IsSameState}
+use Rattle.sim_layout.specs.Print.{IsSomething}
 use Rattle.cycle_sim.proofs.Cycles.{run_cycle, settled_same}
-use Rattle.cycle_sim.proofs.Calls.{on_err, if_ok}
+use Rattle.sim_layout.proofs.Calls.{on_err, if_ok}
 use Rattle.cycle_sim.proofs.sim.Sim.cycle.Goals as goal
 
 pub returns-in_err-write-clause-state : goal.returns-in_err-write-clause-state

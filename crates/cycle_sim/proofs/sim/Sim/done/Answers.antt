@@ -1,4 +1,4 @@
-use Rattle.cycle_sim.specs.Running.{choice_of}
+use Rattle.sim_layout.specs.Running.{choice_of}
 use Rattle.cycle_sim.proofs.Turning.{net_refl, fits_all}
 use Rattle.cycle_sim.proofs.sim.Sim.done.Goals as goal
 

@@ -1,9 +1,9 @@
 use Rattle.std.proofs.Common.{true, false, List, slice_get, ap, sym, ◌∙◌, arith}
 use Rattle.std.specs.Prelude.{◌%◌}
-use Rattle.cycle_sim.specs.declared.settle.Choice.{Choice}
-use Rattle.cycle_sim.specs.Running.{choice_of}
+use Rattle.sim_values.specs.declared.settle.Choice.{Choice}
+use Rattle.sim_layout.specs.Running.{choice_of}
 use Rattle.cycle_sim.specs.Lockstep.{IsCutOff}
-use Rattle.cycle_sim.proofs.Calls.{on_err}
+use Rattle.sim_layout.proofs.Calls.{on_err}
 use Rattle.cycle_sim.proofs.Turning.{fits_all, told, turned_on, ended_done, cut_off}
 use Rattle.cycle_sim.proofs.sim.Sim.lockstep.Goals as goal
 

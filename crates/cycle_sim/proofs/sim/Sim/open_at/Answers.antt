@@ -2,15 +2,15 @@ use Rattle.std.proofs.Common.{◌≡◌, List, Some, ◌+◌, slice_get, ap, ◌
 use Rattle.std.specs.Prelude.{◌-◌, ◌^◌}
 use Rattle.std.proofs.lemmas.Option.{same_Some}
 use Rattle.netlist.specs.declared.netlist.Signal.{Signal}
-use Rattle.cycle_sim.specs.declared.settle.Step.{Step}
-use Rattle.cycle_sim.specs.declared.edge.Part.{Part}
-use Rattle.cycle_sim.specs.Order.{IsOrder}
-use Rattle.cycle_sim.specs.Stands.{spot_of}
-use Rattle.cycle_sim.specs.Wires.{signals_of, AreWires}
+use Rattle.sim_values.specs.declared.settle.Step.{Step}
+use Rattle.sim_values.specs.declared.edge.Part.{Part}
+use Rattle.sim_values.specs.Order.{IsOrder}
+use Rattle.sim_values.specs.Stands.{spot_of}
+use Rattle.sim_layout.specs.Wires.{signals_of, AreWires}
 use Rattle.cycle_sim.specs.LaidOut.{IsLaidOut}
 use Rattle.cycle_sim.specs.Opened.{LacksDone}
-use Rattle.cycle_sim.specs.Running.{IsDone}
-use Rattle.cycle_sim.specs.Rounds.{enable_width, pref_count, prefs_in, TakesTurns, AreNarrowSignals}
+use Rattle.sim_layout.specs.Running.{IsDone}
+use Rattle.sim_layout.specs.Rounds.{enable_width, pref_count, prefs_in, TakesTurns, AreNarrowSignals}
 use Rattle.cycle_sim.proofs.Causes.{right_net, has_done, laid_out, one_of}
 use Rattle.cycle_sim.proofs.Opening.{opened_stands}
 use Rattle.cycle_sim.proofs.Enables.{narrow_top, threads_top}
@@ -41,12 +41,16 @@ built-requires-clause-ready c =
     let number = c.done_number.result in
     let done_is : IsDone t placed.parts.items c.in_ok-done.done =
     record {
-      number = number;
-      signal = found.signal;
-      is = record {
-        listed = sym (ap (λ o. slice_get (signals_of o) number) c.requires.top.stands) ∙ subst
-            (λ (ss : List Signal). slice_get ss number ≡ Some found.signal) c.module_signals-signals.ensures found.listed;
-        named = found.named;
+      has = record {
+        place = number;
+        signal = found.signal;
+        is = record {
+          listed = sym (ap (λ o. slice_get (signals_of o) number) c.requires.top.stands) ∙ subst
+              (λ (ss : List Signal). slice_get ss number ≡ Some found.signal) c.module_signals-signals.ensures found.listed;
+          named = found.is.named;
+        };
+        out = found.is.out;
+        bit = found.is.bit;
       };
       stands = c.in_ok-done.ensures ∙ ap (λ b. b + number) base_is;
     } in

@@ -1,4 +1,4 @@
-use Rattle.cycle_sim.specs.Rounds.{threads_of}
+use Rattle.sim_layout.specs.Rounds.{threads_of}
 use Rattle.cycle_sim.specs.Lockstep.{AreRounds}
 use Rattle.cycle_sim.proofs.sim.Sim.rounds.Given as goal
 

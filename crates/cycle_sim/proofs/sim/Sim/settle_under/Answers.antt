@@ -1,10 +1,10 @@
 use Rattle.std.proofs.Common.{◌≡◌, ℕ, List, ◌++◌, length, take, drop, ap, sym, ◌∙◌, subst, arith}
 use Rattle.verilog_meaning.specs.Cycles.{Choice}
-use Rattle.cycle_sim.specs.Flat.{settled}
-use Rattle.cycle_sim.specs.Running.{Running, running, Stands, Fits, flat, choice_of, settled_run}
+use Rattle.sim_values.specs.Flat.{settled}
+use Rattle.sim_layout.specs.Running.{Running, running, Stands, Fits, flat, choice_of, settled_run}
 use Rattle.cycle_sim.proofs.Cycles.{settled_stands}
-use Rattle.cycle_sim.proofs.Settles.{settled-length}
-use Rattle.cycle_sim.proofs.Calls.{whole_back}
+use Rattle.sim_values.proofs.Settles.{settled-length}
+use Rattle.sim_layout.proofs.Calls.{whole_back}
 use Rattle.cycle_sim.proofs.sim.Sim.settle_under.Goals as goal
 
 pub invariant_of-self : goal.invariant_of-self

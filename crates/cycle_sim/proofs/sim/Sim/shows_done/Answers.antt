@@ -1,5 +1,5 @@
 use Rattle.std.proofs.Common.{slice_index, nat_eq, sym, ap, ◌∙◌, subst}
-use Rattle.cycle_sim.specs.Running.{Running, choice_of, IsSameState}
+use Rattle.sim_layout.specs.Running.{Running, choice_of, IsSameState}
 use Rattle.cycle_sim.proofs.Cycles.{done_told, settled_same}
 use Rattle.cycle_sim.proofs.sim.Sim.shows_done.Goals as goal
 

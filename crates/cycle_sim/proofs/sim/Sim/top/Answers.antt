@@ -1,8 +1,8 @@
 use Rattle.std.proofs.Common.{◌≡◌, List, [], slice_get, refl, sym, ap, subst, ◌∙◌}
 use Rattle.verilog_meaning.specs.Names.{top_of}
-use Rattle.cycle_sim.specs.declared.edge.Part.{Part}
-use Rattle.cycle_sim.specs.Stands.{kind_of}
-use Rattle.cycle_sim.specs.Running.{Running, Stands, running}
+use Rattle.sim_values.specs.declared.edge.Part.{Part}
+use Rattle.sim_values.specs.Stands.{kind_of}
+use Rattle.sim_layout.specs.Running.{Running, Stands, running}
 use Rattle.cycle_sim.proofs.sim.Sim.top.Goals as goal
 
 pub returns-clause-top : goal.returns-clause-top

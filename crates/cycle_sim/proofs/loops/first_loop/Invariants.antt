@@ -1,5 +1,0 @@
-use Rattle.cycle_sim.specs.Leads.{AreLoopless}
-use Rattle.cycle_sim.proofs.loops.first_loop.Given as goal
-
-abbrev pub invariant-loop-number : goal.invariant-loop-number
-invariant-loop-number l = AreLoopless l.modules l.wires l.parts l.number

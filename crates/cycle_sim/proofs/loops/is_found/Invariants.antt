@@ -1,5 +1,0 @@
-use Rattle.cycle_sim.specs.Leads.{AreApart}
-use Rattle.cycle_sim.proofs.loops.is_found.Given as goal
-
-abbrev pub invariant-loop-number : goal.invariant-loop-number
-invariant-loop-number l = AreApart l.modules l.wires l.place l.apart l.number

@@ -1,6 +1,0 @@
-use Rattle.std.proofs.Common.{◌≡◌, ◌++◌, drop}
-use Rattle.cycle_sim.specs.Tree.{kinds_of}
-use Rattle.cycle_sim.proofs.tree.push_kinds.Given as goal
-
-abbrev pub invariant-loop-instance : goal.invariant-loop-instance
-invariant-loop-instance l = l.initial.kinds.items ++ kinds_of l.instances ≡ l.kinds.items ++ kinds_of (drop l.instance-index l.instances)

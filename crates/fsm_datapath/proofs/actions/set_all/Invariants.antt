@@ -1,6 +1,0 @@
-use Rattle.std.proofs.Common.{◌≡◌, ◌++◌, take}
-use Rattle.fsm_datapath.specs.Actions.{sets_from}
-use Rattle.fsm_datapath.proofs.actions.set_all.Given as goal
-
-abbrev pub invariant-loop-number : goal.invariant-loop-number
-invariant-loop-number l = l.actions ≡ l.fn.actions ++ sets_from l.condition l.nexts 0 (take l.number l.registers)

@@ -1,7 +1,0 @@
-use Rattle.std.proofs.Common.{◌≡◌, map, take}
-use Rattle.hls_ints.specs.Types.{width_of}
-use Rattle.fsm_datapath.specs.Early.{spread_out}
-use Rattle.fsm_datapath.proofs.early.word_widths.Given as goal
-
-abbrev pub invariant-loop-number : goal.invariant-loop-number
-invariant-loop-number l = l.widths ≡ spread_out (take l.number l.spreads) (map width_of l.globals)

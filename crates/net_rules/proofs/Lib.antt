@@ -1,0 +1,4 @@
+pub mod Same
+pub mod Tables
+pub mod PortTables
+pub mod Cases

@@ -1,0 +1,96 @@
+// The string of a `$write`.
+
+ghost use Rattle.std.specs.Prelude.{◌≡◌, ◌≤◌};
+ghost use Rattle.verilog_tree.specs.Rules as rule;
+ghost use Rattle.net_rules.specs.Format.{formatting};
+
+/// Where a string stands: between characters and values, behind `%`, behind `%0`, behind `\`, right behind a value,
+/// or at what it may not have.
+#[derive(Clone, Copy, PartialEq, Eq)]
+pub enum Formatting {
+    Between,
+    Percent,
+    Zero,
+    Backslash,
+    Value,
+    Wrong,
+}
+
+fn next_plain(byte: u8) -> Formatting
+    ensures { formatting result ≡ rule.next_plain byte }
+{
+    match byte {
+        b'%' => Formatting::Percent,
+        b'\\' => Formatting::Backslash,
+        _ => Formatting::Between,
+    }
+}
+
+fn after_percent(byte: u8) -> Formatting
+    ensures { formatting result ≡ rule.next rule.Percent byte }
+{
+    match byte {
+        b'%' => Formatting::Between,
+        b'0' => Formatting::Zero,
+        _ => Formatting::Wrong,
+    }
+}
+
+fn after_zero(byte: u8) -> Formatting
+    ensures { formatting result ≡ rule.next rule.Zero byte }
+{
+    match byte {
+        b'd' => Formatting::Value,
+        _ => Formatting::Wrong,
+    }
+}
+
+fn after_backslash(byte: u8) -> Formatting
+    ensures { formatting result ≡ rule.next rule.Backslash byte }
+{
+    match byte {
+        b'n' | b't' | b'\\' | b'"' => Formatting::Between,
+        _ => Formatting::Wrong,
+    }
+}
+
+/// Where the string stands after the byte.
+fn next(at: Formatting, byte: u8) -> Formatting
+    ensures { formatting result ≡ rule.next (formatting at) byte }
+{
+    match at {
+        Formatting::Between | Formatting::Value => next_plain(byte),
+        Formatting::Percent => after_percent(byte),
+        Formatting::Zero => after_zero(byte),
+        Formatting::Backslash => after_backslash(byte),
+        Formatting::Wrong => Formatting::Wrong,
+    }
+}
+
+/// The number of values that end here.
+fn count_at(at: Formatting) -> usize
+    ensures count { result ≡ rule.count_at (formatting at) }
+    ensures most { result ≤ 1 }
+{
+    match at {
+        Formatting::Value => 1,
+        _ => 0,
+    }
+}
+
+/// The number of `%0d` in a string; None where it has another `%` than that and `%%`, or a backslash with another
+/// byte than `n`, `t`, `\` and `"`.
+pub fn values_in(text: &[u8]) -> Option<usize>
+    ensures { result ≡ rule.values_in rule.Between text.now }
+{
+    let mut at = Formatting::Between;
+    let mut values = 0;
+    for byte in text {
+        at = next(at, *byte);
+        values += count_at(at);
+    }
+    match at {
+        Formatting::Between | Formatting::Value => Some(values),
+        _ => None,
+    }
+}

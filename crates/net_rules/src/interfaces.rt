@@ -1,0 +1,140 @@
+// What instances see of the modules that stand earlier.
+
+ghost use Rattle.std.specs.Prelude.{◌≡◌, ◌∷◌, ◌++◌, [], None, OnOk, IfOk, map};
+ghost use Rattle.std.specs.Option.{option_copied};
+ghost use Rattle.verilog_tree.specs.Facts.{interface_named};
+ghost use Rattle.verilog_tree.specs.Rules.{port_named};
+ghost use Rattle.net_rules.specs.Tables as table;
+
+use indexmap::IndexMap;
+use std::alloc::{AllocError, Global};
+use std::marker::Model;
+use verilog_tree::name::Identifier;
+use verilog_tree::tree::Port;
+
+/// The ports of a module, found by their names.
+#[derive(Drop)]
+pub struct Ports<'t> {
+    list: &'t [Port],
+    named: IndexMap<&'t [u8], &'t Port>,
+}
+
+impl<'t> Model for Ports<'t> {
+    ghost use Rattle.std.specs.Prelude.{◌≡◌, List, map};
+    ghost use Rattle.verilog_tree.specs.declared.tree.Port.{Port};
+    ghost use Rattle.net_rules.specs.Tables.{plain_port, table_of};
+
+    ghost Value = { List Port };
+
+    ghost view = { λ p. p.list.now };
+
+    ghost invariant = { λ p. map plain_port p.named.entries ≡ table_of p.list.now };
+}
+
+/// Whether the table has the name.
+fn is_named(named: &IndexMap<&[u8], &Port>, name: &Identifier) -> bool
+    ensures { result ≡ table.is_named (map table.plain_port named.now.entries) name.now }
+{
+    named.get(&name.as_str().as_bytes()).is_some()
+}
+
+/// Adds a port, unless its name is there.
+fn add_port<'t>(named: &mut IndexMap<&'t [u8], &'t Port>, port: &'t Port) -> Result<(), AllocError>
+    ensures { OnOk result (map table.plain_port named.new.entries ≡ table.with_port (map table.plain_port named.old.entries) port.now) }
+{
+    if is_named(named, &port.name) {
+        return Ok(());
+    }
+    named.insert(port.name.as_str().as_bytes(), port)?;
+    Ok(())
+}
+
+fn add_ports<'t>(
+    named: &mut IndexMap<&'t [u8], &'t Port>,
+    ports: &'t [Port],
+) -> Result<(), AllocError>
+    ensures { OnOk result (map table.plain_port named.new.entries ≡ table.with_ports (map table.plain_port named.old.entries) ports.now) }
+{
+    for port in ports {
+        add_port(named, port)?;
+    }
+    Ok(())
+}
+
+impl<'t> Ports<'t> {
+    /// The table of these ports.
+    pub fn new(alloc: Global, list: &'t [Port]) -> Result<Ports<'t>, AllocError>
+        ensures { IfOk result (λ p. p ≡ list.now) }
+    {
+        let mut named = IndexMap::new(alloc);
+        add_ports(&mut named, list)?;
+        Ok(Ports { list, named })
+    }
+
+    /// The ports, in order.
+    pub fn as_slice(&self) -> &'t [Port]
+        ensures { result.now ≡ self.now }
+    {
+        self.list
+    }
+
+    /// The first port of this name.
+    pub fn get(&self, name: &[u8]) -> Option<&'t Port>
+        ensures { option_copied result ≡ port_named self.now name.now }
+    {
+        self.named.get(&name).copied()
+    }
+}
+
+/// What an instance sees of its module.
+#[derive(Drop)]
+pub struct Interface<'t> {
+    pub ports: Ports<'t>,
+    /// Whether a `$write` stands in it or below it.
+    pub prints: bool,
+}
+
+/// The modules that stand earlier, found by their names.
+#[derive(Drop)]
+pub struct Interfaces<'t> {
+    named: IndexMap<&'t [u8], Interface<'t>>,
+}
+
+impl<'t> Model for Interfaces<'t> {
+    ghost use Rattle.std.specs.Prelude.{List, map};
+    ghost use Rattle.verilog_tree.specs.Facts.{Interface};
+    ghost use Rattle.net_rules.specs.Interfaces.{seen_at};
+
+    ghost Value = { List Interface };
+
+    ghost view = { λ s. map seen_at s.named.entries };
+}
+
+impl<'t> Interfaces<'t> {
+    ghost use Rattle.net_rules.specs.Interfaces.{seen_as, seen};
+
+    /// No module stands earlier.
+    pub fn new(alloc: Global) -> Interfaces<'t>
+        ensures { result ≡ [] }
+    {
+        Interfaces {
+            named: IndexMap::new(alloc),
+        }
+    }
+
+    /// The module of this name.
+    pub fn get<'a>(&'a self, name: &'a Identifier) -> Option<&'a Interface<'t>>
+        ensures { seen_as name.now (option_copied result) ≡ interface_named self.now name.now }
+    {
+        self.named.get(&name.as_str().as_bytes())
+    }
+
+    /// Adds a module of a new name.
+    pub fn add(&mut self, name: &'t Identifier, interface: Interface<'t>) -> Result<(), AllocError>
+        requires { interface_named self.old name.now ≡ None }
+        ensures { OnOk result (self.new ≡ self.old ++ seen name.now interface.entry ∷ []) }
+    {
+        self.named.insert(name.as_str().as_bytes(), interface)?;
+        Ok(())
+    }
+}

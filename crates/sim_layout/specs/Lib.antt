@@ -1,0 +1,9 @@
+pub mod Print
+pub mod Running
+pub mod Rounds
+pub mod Placed
+pub mod Wires
+pub mod Given
+pub mod Leads
+pub mod Waits
+pub mod Growing

@@ -1,0 +1,96 @@
+// What gives the inputs of the outermost module their numbers: the clock is 0, `en` is the mask of the choice, and
+// `pref_k` is its preferred thread of arbiter k.
+
+ghost use Rattle.std.specs.Prelude.{◌≡◌, IfOk, OnOk};
+ghost use Rattle.std.specs.Str.{bytes_eq};
+ghost use Rattle.sim_layout.specs.Given.{IsInput, IsPrefOf, IsGivenOne, IsGivenFor, AreRooted, AreRoots};
+
+use crate::wires::further;
+use netlist::netlist::{Signal, Source};
+use sim_values::settle::{Feed, Step};
+use std::alloc::{AllocError, Global};
+use verilog_tree::name::Identifier;
+
+fn is_named(name: &Identifier, text: &str) -> bool
+    ensures { result ≡ bytes_eq name.now text.now }
+{
+    name.as_str() == text
+}
+
+/// The number of the arbiter whose preferred thread an input of this name is, among so many.
+fn pref_of(alloc: Global, name: &Identifier, prefs: usize) -> Result<Option<usize>, AllocError>
+    ensures { IfOk result (λ found. IsPrefOf name.now prefs found) }
+{
+    let stem = Identifier::from_text(alloc, "pref")?;
+    for number in 0..prefs {
+        let other = stem.with_number(alloc, number as u64)?;
+        if is_named(name, other.as_str()) {
+            return Ok(Some(number));
+        }
+    }
+    Ok(None)
+}
+
+/// What gives an input of this name its number.
+#[tactic(auto, using(crate::proofs::Givens::input_en, crate::proofs::Givens::input_pref, crate::proofs::Givens::input_zero))]
+fn given(alloc: Global, name: &Identifier, prefs: usize) -> Result<Feed, AllocError>
+    ensures { IfOk result (IsInput prefs name.now) }
+{
+    if is_named(name, "en") {
+        return Ok(Feed::Enables);
+    }
+    match pref_of(alloc, name, prefs)? {
+        Some(number) => Ok(Feed::Preferred(number)),
+        None => Ok(Feed::Zero),
+    }
+}
+
+fn push_given(
+    alloc: Global,
+    wires: &mut Vec<Step>,
+    place: usize,
+    name: &Identifier,
+    prefs: usize,
+) -> Result<(), AllocError>
+    ensures { OnOk result (IsGivenOne place prefs name.now wires.old.items wires.new.items) }
+{
+    let feed = given(alloc, name, prefs)?;
+    wires.push(Step {
+        target: place,
+        feed,
+    })?;
+    Ok(())
+}
+
+fn push_root(
+    alloc: Global,
+    wires: &mut Vec<Step>,
+    place: usize,
+    signal: &Signal,
+    prefs: usize,
+) -> Result<(), AllocError>
+    ensures { OnOk result (IsGivenFor place prefs signal.now.name signal.now.source wires.old.items wires.new.items) }
+{
+    match &signal.source {
+        Source::Input => push_given(alloc, wires, place, &signal.name, prefs),
+        Source::Register(_) | Source::Assigned(_) | Source::Port { .. } => Ok(()),
+    }
+}
+
+/// The steps for the inputs of the outermost module, whose words stand from a place on.
+pub fn roots(
+    alloc: Global,
+    base: usize,
+    signals: &[Signal],
+    prefs: usize,
+) -> Result<Vec<Step>, AllocError>
+    ensures rooted { IfOk result (λ wires. AreRooted wires.items base prefs signals.now) }
+    ensures only { IfOk result (λ wires. AreRoots base prefs signals.now wires.items) }
+{
+    let mut wires = Vec::new(alloc);
+    for signal in 0..signals.len() {
+        let place = further(base, signal)?;
+        push_root(alloc, &mut wires, place, &signals[signal], prefs)?;
+    }
+    Ok(wires)
+}

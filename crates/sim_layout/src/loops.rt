@@ -1,0 +1,211 @@
+// The first signal that depends on itself.
+
+ghost use Rattle.std.specs.Prelude.{◌≡◌, ℕ, ◌+◌, ◌<◌, true, false, length, IfOk, IsTrue, MatchOption, OnOk};
+ghost use Rattle.sim_values.specs.Flat.{EachOf};
+ghost use Rattle.sim_values.specs.Order.{reads, IsMarked, IsClear, SomeOf};
+ghost use Rattle.sim_layout.specs.Leads.{Leads, AreInRoom, IsSearch, IsClosed, AreClosed, AreApart, AreWithin, LoopsNowhere, IsLoopIn, AreLoopless, IsFirstFound};
+
+use crate::order::is_ready;
+use crate::wires::module_signals;
+use netlist::netlist::Module;
+use sim_values::edge::Part;
+use sim_values::settle::Step;
+use std::alloc::{AllocError, Global};
+
+/// A signal by the number of its module and its own.
+#[derive(Clone, Copy, Debug, PartialEq, Eq)]
+pub struct Found {
+    pub module: usize,
+    pub signal: usize,
+}
+
+/// Finds that the target of a step leads to the place, where it reads what does. `apart` marks all that is not found.
+fn look(
+    modules: &[Module],
+    wires: &[Step],
+    words: usize,
+    place: usize,
+    number: usize,
+    apart: &mut [bool],
+) -> bool
+    requires number { number < length wires.now }
+    requires room { AreInRoom modules.now wires.now words }
+    requires long { length apart.old ≡ words }
+    requires search { IsSearch modules.now wires.now place apart.old }
+    ensures search { IsSearch modules.now wires.now place apart.new }
+    ensures same { result ≡ false → apart.new ≡ apart.old }
+    ensures closed { result ≡ false → IsClosed modules.now wires.now apart.new number }
+{
+    let wire = wires[number];
+    if wire.target >= apart.len() {
+        return false;
+    }
+    if !apart[wire.target] {
+        return false;
+    }
+    if is_ready(apart, modules, wire.feed) {
+        return false;
+    }
+    apart[wire.target] = false;
+    true
+}
+
+/// Looks at all steps. Whether one was found.
+#[tactic(auto, using(crate::proofs::Leading::closed_more))]
+fn look_through(
+    modules: &[Module],
+    wires: &[Step],
+    words: usize,
+    place: usize,
+    apart: &mut [bool],
+) -> bool
+    requires room { AreInRoom modules.now wires.now words }
+    requires long { length apart.old ≡ words }
+    requires search { IsSearch modules.now wires.now place apart.old }
+    ensures search { IsSearch modules.now wires.now place apart.new }
+    ensures closed { result ≡ false → AreClosed modules.now wires.now apart.new (length wires.now) }
+{
+    let mut found = false;
+    for number in 0..wires.len() {
+        if look(modules, wires, words, place, number, apart) {
+            found = true;
+        }
+    }
+    found
+}
+
+/// Finds all that leads to the place.
+fn search(
+    modules: &[Module],
+    wires: &[Step],
+    words: usize,
+    place: usize,
+    apart: &mut [bool],
+) -> Result<(), AllocError>
+    requires room { AreInRoom modules.now wires.now words }
+    requires long { length apart.old ≡ words }
+    requires search { IsSearch modules.now wires.now place apart.old }
+    ensures search { OnOk result (IsSearch modules.now wires.now place apart.new) }
+    ensures closed { OnOk result (AreClosed modules.now wires.now apart.new (length wires.now)) }
+{
+    // Each turn but the last finds a place, of which there are no more than fit in memory.
+    for _turn in 0..usize::MAX {
+        if !look_through(modules, wires, words, place, apart) {
+            return Ok(());
+        }
+    }
+    Err(AllocError)
+}
+
+/// Whether a step is one to the place that reads what is found.
+fn is_back(modules: &[Module], place: usize, apart: &[bool], wire: Step) -> bool
+    ensures target { IsTrue result → wire.target ≡ place }
+    ensures found { result ≡ true → SomeOf (IsClear apart.now) (reads modules.now wire.feed) }
+    ensures away { result ≡ false → wire.target ≡ place → EachOf (IsMarked apart.now) (reads modules.now wire.feed) }
+{
+    if wire.target != place {
+        return false;
+    }
+    !is_ready(apart, modules, wire.feed)
+}
+
+/// Whether a step to the place reads what is found.
+fn is_found(modules: &[Module], wires: &[Step], words: usize, place: usize, apart: &[bool]) -> bool
+    requires room { AreInRoom modules.now wires.now words }
+    requires long { length apart.now ≡ words }
+    requires search { IsSearch modules.now wires.now place apart.now }
+    ensures found { result ≡ true → Leads modules.now wires.now place place }
+    ensures away { result ≡ false → AreApart modules.now wires.now place apart.now (length wires.now) }
+{
+    for number in 0..wires.len() {
+        if is_back(modules, place, apart, wires[number]) {
+            return true;
+        }
+    }
+    false
+}
+
+/// Whether the place leads to itself, where it alone is found.
+#[tactic(auto, using(crate::proofs::Leading::no_loop_there))]
+fn leads_back(
+    modules: &[Module],
+    wires: &[Step],
+    words: usize,
+    place: usize,
+    apart: &mut [bool],
+) -> Result<bool, AllocError>
+    requires room { AreInRoom modules.now wires.now words }
+    requires long { length apart.old ≡ words }
+    requires search { IsSearch modules.now wires.now place apart.old }
+    ensures found { IfOk result (λ b. b ≡ true → Leads modules.now wires.now place place) }
+    ensures lacks { IfOk result (λ b. b ≡ false → Leads modules.now wires.now place place → ⊥) }
+{
+    search(modules, wires, words, place, apart)?;
+    Ok(is_found(modules, wires, words, place, apart))
+}
+
+/// Whether the word at a place, among so many, depends on itself.
+#[tactic(auto, using(crate::proofs::Leading::search_none))]
+fn is_loop(
+    alloc: Global,
+    modules: &[Module],
+    wires: &[Step],
+    words: usize,
+    place: usize,
+) -> Result<bool, AllocError>
+    requires room { AreInRoom modules.now wires.now words }
+    requires place { place < words }
+    ensures found { IfOk result (λ b. b ≡ true → Leads modules.now wires.now place place) }
+    ensures lacks { IfOk result (λ b. b ≡ false → Leads modules.now wires.now place place → ⊥) }
+{
+    let mut apart = vec![in alloc; true; words]?;
+    apart[place] = false;
+    leads_back(modules, wires, words, place, apart.as_mut_slice())
+}
+
+/// The first of so many words from a place on that depends on itself.
+#[tactic(auto, using(crate::proofs::Leading::nowhere_more))]
+fn first_from(
+    alloc: Global,
+    modules: &[Module],
+    wires: &[Step],
+    words: usize,
+    base: usize,
+    signals: usize,
+) -> Result<Option<usize>, AllocError>
+    requires room { AreInRoom modules.now wires.now words }
+    requires within { (x : ℕ) → x < signals → base + x < words }
+    ensures { IfOk result (λ o. MatchOption o (LoopsNowhere modules.now wires.now base signals) (IsLoopIn modules.now wires.now base signals)) }
+{
+    for signal in 0..signals {
+        if is_loop(alloc, modules, wires, words, base + signal)? {
+            return Ok(Some(signal));
+        }
+    }
+    Ok(None)
+}
+
+/// The first signal that depends on itself, in the order of the parts.
+pub fn first_loop(
+    alloc: Global,
+    modules: &[Module],
+    parts: &[Part],
+    wires: &[Step],
+    words: usize,
+) -> Result<Option<Found>, AllocError>
+    requires room { AreInRoom modules.now wires.now words }
+    requires within { AreWithin modules.now parts.now words }
+    ensures { IfOk result (λ o. MatchOption o (AreLoopless modules.now wires.now parts.now (length parts.now)) (IsFirstFound modules.now wires.now parts.now)) }
+{
+    for number in 0..parts.len() {
+        let part = parts[number];
+        let signals = module_signals(modules, part.module).len();
+        if let Some(signal) = first_from(alloc, modules, wires, words, part.spot.base, signals)? {
+            return Ok(Some(Found {
+                module: part.module,
+                signal,
+            }));
+        }
+    }
+    Ok(None)
+}

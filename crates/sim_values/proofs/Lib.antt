@@ -1,0 +1,4 @@
+pub mod Words
+pub mod Settles
+pub mod Orders
+pub mod Trees

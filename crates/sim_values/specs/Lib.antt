@@ -1,0 +1,5 @@
+pub mod Flat
+pub mod Order
+pub mod Stands
+pub mod Tree
+pub mod Loops

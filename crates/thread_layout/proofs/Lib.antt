@@ -1,0 +1,16 @@
+mod Edges
+mod Insides
+pub mod Meeting
+pub mod Moving
+pub mod Needed
+pub mod Opened
+pub mod Placed
+pub mod Quiet
+pub mod Raising
+pub mod Remembering
+pub mod Requested
+pub mod Resting
+mod Rewording
+pub mod Shown
+pub mod Sight
+mod Spreading

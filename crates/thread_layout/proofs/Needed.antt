@@ -1,0 +1,398 @@
+-- Whether a core is needed: it is where a word is taken and where the thread waits, and not in a state that asks nothing and takes no word.
+use Rattle.std.proofs.Common.{◌≡◌, ◌≢◌, ℕ, zero, suc, ◌+◌, ◌<◌, ◌≤◌, nat_eq, Bool, true, false, ◌&&◌, ◌||◌, List, [], ◌∷◌, ◌++◌, length, slice_get, slice_index, Option, Some}
+use Rattle.std.proofs.Common.{None, ℤ, refl, sym, ap, subst, ◌∙◌, arith, ⊎_elim, length-append}
+use Rattle.std.proofs.lemmas.Bool.{cases_lt}
+use Rattle.std.proofs.lemmas.Bool.Decides.{nat_tests}
+use Rattle.std.proofs.lemmas.Option.{slice_get_within}
+use Rattle.interleaving.proofs.Update.{same_or_not}
+use Rattle.hls_ints.specs.Residues.{bit_of}
+use Rattle.c_program.specs.declared.tree.BinaryOperator.{BinaryOperator}
+use Rattle.c_program.specs.declared.tree.BinaryOperator.TheVariants as operators
+use Rattle.block_ir.specs.declared.block.Operation.{Operation}
+use Rattle.block_ir.specs.declared.block.Operation.TheVariants.{Unary, Binary, ReadGlobal, WriteGlobal, ReadArray, WriteArray}
+use Rattle.block_ir.specs.declared.block.Block.{Block}
+use Rattle.block_ir.specs.declared.code.Act.TheVariants.{Return}
+use Rattle.block_ir.specs.declared.code.Stage.{Stage}
+use Rattle.block_ir.specs.declared.code.Stage.TheVariants as stage
+use Rattle.block_ir.specs.declared.code.ThreadCode.{ThreadCode}
+use Rattle.block_ir.specs.declared.plan.BlockPlan.{BlockPlan}
+use Rattle.block_ir.specs.declared.plan.StagePlan.TheVariants as planned
+use Rattle.block_ir.specs.declared.plan.Planned.{Planned}
+use Rattle.planned_block.specs.Block.{Operation as PlannedOperation, BankRead, operation_at, size}
+use Rattle.planned_block.specs.Plan.{last_state, further_states}
+use Rattle.planned_block.specs.Slot.{Slot}
+use Rattle.planned_block.specs.Advance.{any_below}
+use Rattle.planned_block.specs.Closed.{IsClosed}
+use Rattle.planned_view.specs.View.{operation_view, binary_kind, planned_view, plan_view}
+use Rattle.netlist.specs.declared.netlist.Module.{Module}
+use Rattle.verilog_meaning.specs.Readings.{Reading, width}
+use Rattle.circuit.specs.Modules.{Obeys}
+use Rattle.thread_promise.specs.Globals.{bank_total}
+use Rattle.thread_promise.specs.Promise.{IsInside}
+use Rattle.block_datapath.proofs.Walking.{listed_view}
+use Rattle.block_datapath.proofs.Wanting.{view_count}
+use Rattle.thread_slots.specs.declared.shape.Printer.{Printer}
+use Rattle.thread_slots.specs.declared.shape.Shape.{Shape}
+use Rattle.thread_slots.specs.Bits.{HasBit, HaveBits}
+use Rattle.thread_requests.specs.Early.{printer_request}
+use Rattle.thread_layout.specs.Modules.{IsModule}
+use Rattle.thread_requests.specs.Needing.{takes_word, takes_at, needs_in, IsInPlan, IsNeedOfFirst}
+use Rattle.thread_slots.specs.Idle.{has_printer, is_idle}
+use Rattle.thread_layout.specs.Thread.{places_of, ports_of, IsServed}
+use Rattle.thread_slots.proofs.Gating.{index_last}
+use Rattle.thread_slots.proofs.Linking.{has_stage}
+use Rattle.thread_requests.proofs.Needs.{idle_needs}
+use Rattle.thread_layout.proofs.Opened.{front_index, wired, earlier_wide, wants_count, want_wide, print_wide, bit_told}
+use Rattle.thread_layout.proofs.Placed.{from_early, wide_bit, got_any}
+use Rattle.thread_layout.proofs.Raising.{from_asks, from_needs}
+use Rattle.thread_layout.proofs.Sight.{knows, in_stage}
+
+-- ---- bits
+
+or_true : (t : Bool) → (t || true) ≡ true
+or_true true = refl
+or_true false = refl
+
+or_none : (t u : Bool) → t ≡ false → u ≡ false → (t || u) ≡ false
+or_none true u e f = absurd cc
+or_none false true e f = absurd cc
+or_none false false e f = refl
+
+same_number : (x n : ℕ) → x ≡ n → nat_eq x n ≡ true
+same_number x n e = grind (arith, nat_tests)
+
+other_number : (x n : ℕ) → x ≢ n → nat_eq x n ≡ false
+other_number x n e = grind (arith, nat_tests)
+
+number_is : (x n : ℕ) → nat_eq x n ≡ true → x ≡ n
+number_is x n e = grind (arith, nat_tests)
+
+bit_true : (b : Bool) → bit_of b ≡ 1 → b ≡ true
+bit_true true e = refl
+bit_true false e = absurd cc
+
+bit_false : (b : Bool) → bit_of b ≡ 0 → b ≡ false
+bit_false true e = absurd cc
+bit_false false e = refl
+
+both_yes : (t u : Bool) → t ≡ true → u ≡ true → (t && u) ≡ true
+both_yes true true e f = refl
+both_yes true false e f = absurd cc
+both_yes false u e f = absurd cc
+
+and_no : (t u : Bool) → t ≡ false → (t && u) ≡ false
+and_no true u e = absurd cc
+and_no false u e = refl
+
+both_split : (t u : Bool) → (t && u) ≡ true → (t ≡ true) × (u ≡ true)
+both_split true true e = (refl, refl)
+both_split true false e = absurd cc
+both_split false u e = absurd cc
+
+-- one of the first n holds, and none does
+pub some_below : (f : ℕ → Bool) (n k : ℕ) → k < n → f k ≡ true → any_below f n ≡ true
+some_below f zero k less e = absurd (omega arith)
+some_below f (suc n) k less e =
+    ⊎_elim (λ (same : k ≡ n). ap (λ b. any_below f n || b) (ap f (sym same) ∙ e) ∙ or_true (any_below f n))
+    (λ (ne : k ≢ n). ap (λ b. b || f n) (some_below f n k (omega arith) e)) (same_or_not k n)
+
+pub none_below : (f : ℕ → Bool) (n : ℕ) → ((k : ℕ) → k < n → f k ≡ false) → any_below f n ≡ false
+none_below f zero none = refl
+none_below f (suc n) none = or_none (any_below f n) (f n) (none_below f n (λ k less. none k (omega arith))) (none n (omega arith))
+
+-- ---- reads of globals
+
+reads : (o : Operation) → takes_word (Some o) ≡ true → (x : ℕ) × ((operation_view o).kind ≡ BankRead x)
+reads (Unary operator ty a) e = absurd cc
+reads (Binary operator ty a b) e = absurd cc
+reads (ReadGlobal x n i) e = (x, refl)
+reads (WriteGlobal x n i a) e = absurd cc
+reads (ReadArray x n i) e = absurd cc
+reads (WriteArray x n i a) e = absurd cc
+
+no_read : (o : BinaryOperator) (f : ℤ → ℤ → ℤ) (x : ℕ) → binary_kind o f ≡ BankRead x → ⊥
+no_read operators.Multiply f x e = absurd cc
+no_read operators.Divide f x e = absurd cc
+no_read operators.Remainder f x e = absurd cc
+no_read _ f x e = absurd cc
+
+and_false : (h : Bool) → (h && false) ≡ false
+and_false true = refl
+and_false false = refl
+
+or_second : (t u : Bool) → (t || u) ≡ false → u ≡ false
+or_second true u e = absurd cc
+or_second false u e = e
+
+or_first : (t u : Bool) → (t || u) ≡ false → t ≡ false
+or_first true u e = absurd cc
+or_first false u e = refl
+
+not_some : (f : ℕ → Bool) (n : ℕ) → any_below f n ≡ false → (k : ℕ) → k < n → f k ≡ false
+not_some f zero e k less = absurd (omega arith)
+not_some f (suc n) e k less =
+    ⊎_elim (λ (same : k ≡ n). ap f same ∙ or_second (any_below f n) (f n) e)
+    (λ (ne : k ≢ n). not_some f n (or_first (any_below f n) (f n) e) k (omega arith)) (same_or_not k n)
+
+some_operation : (o : Option Operation) → takes_word o ≡ true → (p : Operation) × (o ≡ Some p)
+some_operation None e = absurd cc
+some_operation (Some o) e = (o, refl)
+
+module _ (shape : Shape) (code : ThreadCode) (plan : Planned) (printer : Printer) (m : Module) (t : IsModule shape code plan m) (served : IsServed shape code plan printer) where
+  abbrev banks : ℕ
+  banks = bank_total shape.spreads
+
+  abbrev asked : List ℕ
+  asked = t.laid.early.asked
+
+  whole : asked ≡ t.inside.early.requests.banks.wants ++ t.inside.early.requests.wants ∷ []
+  whole =
+      t.laid.early.asked_is
+      ∙ ap (λ (p : Option Printer). t.inside.early.requests.banks.wants ++ printer_request p t.inside.early.requests.wants) served.printer_is
+
+  asked_count : length asked ≡ suc banks
+  asked_count =
+      ap length whole ∙ length-append t.inside.early.requests.banks.wants (t.inside.early.requests.wants ∷ [])
+      ∙ ap (λ k. k + 1) (wants_count shape code plan printer m t served) ∙ (let next : banks + 1 ≡ suc banks = omega arith in next)
+
+  -- bank n, and the printer
+  pub asked_bank : (n : ℕ) → n < banks → slice_index asked n ≡ slice_index t.inside.early.requests.banks.wants n
+  asked_bank n less =
+      ap (λ l. slice_index l n) whole
+      ∙ front_index t.inside.early.requests.banks.wants (t.inside.early.requests.wants ∷ []) n (subst (λ k. n < k) (sym (wants_count shape code plan printer m t served)) less)
+
+  pub asked_printer : slice_index asked banks ≡ t.inside.early.requests.wants
+  asked_printer =
+      ap (λ l. slice_index l banks) whole
+      ∙ ap (slice_index (t.inside.early.requests.banks.wants ++ t.inside.early.requests.wants ∷ [])) (sym (wants_count shape code plan printer m t served))
+      ∙ index_last t.inside.early.requests.banks.wants t.inside.early.requests.wants
+
+  asked_wide : (n : ℕ) → n < suc banks → width m (slice_index asked n) ≡ 1
+  asked_wide n less =
+      ⊎_elim (λ (h : n < banks). ap (width m) (asked_bank n h) ∙ want_wide shape code plan printer m t served n h)
+      (λ (h : banks ≤ n).
+      let same : n ≡ banks = omega arith in
+      ap (λ k. width m (slice_index asked k)) same ∙ ap (width m) asked_printer ∙ print_wide shape code plan printer m t served) (cases_lt n banks)
+
+  pub need_wide : width m t.inside.early.need ≡ 1
+  need_wide =
+      earlier_wide m t.laid.with_early _ t.inside.early.need 1 (from_early shape code plan printer m t served) (wired shape code plan printer m t served).early.need
+
+  module _ (r : Reading) (o : Obeys m r) where
+    abbrev now : ℕ
+    now = r.signal t.inside.slot.stage.register
+
+    -- what is asked, whatever it is
+    abbrev pub asked_now : ℕ → Bool
+    asked_now n = nat_eq (r.signal (slice_index asked n)) 1
+
+    asked_bits : HaveBits m r asked (length asked) asked_now
+    asked_bits n less =
+        let wide = asked_wide n (subst (λ k. n < k) asked_count less) in
+        let bit = wide_bit m r (slice_index asked n) o wide in
+        record { wide = wide; shows = bit_told (r.signal (slice_index asked n)) bit.0 bit.1 }
+
+    end_bit : HasBit m r t.inside.early.done (nat_eq now (length code.stages))
+    end_bit = record {
+      wide = t.laid.early.asks.done_wide m (from_asks shape code plan printer m t served);
+      shows = t.laid.early.asks.done_is m r (from_asks shape code plan printer m t served) o (knows shape code plan printer m t served r o);
+    }
+
+    -- NEED, of what is known of the stages
+    pub need_bit : (u : Bool) → IsNeedOfFirst t.inside.slot (has_printer shape.printer) code plan (length code.stages) m r u
+        → HasBit m r t.inside.early.need ((nat_eq now (length code.stages) || u) || any_below (λ k. true && asked_now k) (length asked))
+    need_bit u place =
+        t.laid.early.needs.shows m r (nat_eq now (length code.stages) || u) asked_now (from_early shape code plan printer m t served) o
+        (t.laid.early.holds.shows m r (nat_eq now (length code.stages)) u (from_needs shape code plan printer m t served) o end_bit place) asked_bits
+
+    abbrev at_stages : ℕ → Bool
+    at_stages state = any_below (λ l. nat_eq now l && needs_in (has_printer shape.printer) (slice_get code.stages l) (slice_get plan.stages l) state) (length code.stages)
+
+    -- the place of a reading, whose state is s wherever its stage is a block
+    abbrev Placed : ℕ → Type 0
+    Placed s = (l : ℕ) (b : Block) (p : BlockPlan) → slice_get code.stages l ≡ Some (stage.Run b) → slice_get plan.stages l ≡ Some (planned.Run p) → now ≡ l →
+        IsInPlan t.inside.slot b p m r s
+
+    at_place : (s : ℕ) → Placed s → HasBit m r t.inside.early.need ((nat_eq now (length code.stages) || at_stages s) || any_below (λ k. true && asked_now k) (length asked))
+    at_place s inside =
+        need_bit (at_stages s)
+        (record {
+          has = λ l less. has_stage code t.inside.slot l m r (knows shape code plan printer m t served r o) (omega arith);
+          state = s;
+          inside = inside;
+          is = refl;
+        })
+
+    held_bit : (c : Bool) × (r.signal t.laid.early.held ≡ bit_of c)
+    held_bit =
+        wide_bit m r t.laid.early.held o
+        (t.laid.early.holds.wide m (from_needs shape code plan printer m t served) (t.laid.early.asks.done_wide m (from_asks shape code plan printer m t served)))
+
+    -- where no core is needed none is asked
+    pub unneeded_asks : r.signal t.inside.early.need ≡ 0 → (n : ℕ) → n < suc banks → asked_now n ≡ false
+    unneeded_asks none n less =
+        let need =
+        t.laid.early.needs.shows m r held_bit.0 asked_now (from_early shape code plan printer m t served) o
+        (record {
+          wide = t.laid.early.holds.wide m (from_needs shape code plan printer m t served) (t.laid.early.asks.done_wide m (from_asks shape code plan printer m t served));
+          shows = held_bit.1;
+        }) asked_bits in
+        let off : (held_bit.0 || any_below (λ k. true && asked_now k) (length asked)) ≡ false = bit_false _ (sym need.shows ∙ none) in
+        not_some (λ k. true && asked_now k) (length asked) (or_second held_bit.0 _ off) n (subst (λ k. n < k) (sym asked_count) less)
+
+    -- and one is needed nowhere else
+    unneeded : (s l : ℕ) → Placed s → now ≡ l → l < length code.stages → needs_in (has_printer shape.printer) (slice_get code.stages l) (slice_get plan.stages l) s ≡ false
+        → ((n : ℕ) → n < suc banks → asked_now n ≡ false) → r.signal t.inside.early.need ≡ 0
+    unneeded s l placed here below none quiet =
+        let at : at_stages s ≡ false =
+        none_below (λ k. nat_eq now k && needs_in (has_printer shape.printer) (slice_get code.stages k) (slice_get plan.stages k) s) (length code.stages)
+        (λ k less. ⊎_elim
+        (λ (same : k ≡ l).
+        ap (λ z. nat_eq now z && needs_in (has_printer shape.printer) (slice_get code.stages z) (slice_get plan.stages z) s) same
+        ∙ ap (λ z. nat_eq now l && z) none ∙ and_false (nat_eq now l))
+        (λ (ne : k ≢ l). and_no (nat_eq now k) _ (other_number now k (λ is. ne (sym is ∙ here)))) (same_or_not k l)) in
+        let end : nat_eq now (length code.stages) ≡ false =
+        other_number now (length code.stages) (λ is. absurd (let same : l ≡ length code.stages = sym here ∙ is in omega arith)) in
+        let ask : any_below (λ k. true && asked_now k) (length asked) ≡ false =
+        none_below (λ k. true && asked_now k) (length asked) (λ k less. quiet k (subst (λ z. k < z) asked_count less)) in
+        (at_place s placed).shows
+        ∙ ap bit_of (or_none (nat_eq now (length code.stages) || at_stages s) (any_below (λ k. true && asked_now k) (length asked))
+        (or_none (nat_eq now (length code.stages)) (at_stages s) end at) ask)
+
+    -- AT A RETURN no core is needed
+    pub return_needs : (next : ℕ) → slice_get code.stages now ≡ Some (stage.Act Return next) → ((n : ℕ) → n < suc banks → asked_now n ≡ false) → r.signal t.inside.early.need ≡ 0
+    return_needs next listed quiet =
+        unneeded 0 now
+        (λ l b p e f is.
+        absurd (let own : slice_get code.stages now ≡ Some (stage.Run b) = ap (slice_get code.stages) is ∙ e in cc))
+        refl (slice_get_within code.stages now (stage.Act Return next) listed)
+        (ap (λ k. needs_in (has_printer shape.printer) k (slice_get plan.stages now) 0) listed) quiet
+
+    -- WHERE THE THREAD WAITS FOREVER a core is needed
+    pub idle_needs_so : (s : Stage) → slice_get code.stages now ≡ Some s → is_idle (has_printer shape.printer) s (slice_get plan.stages now) ≡ true →
+        r.signal t.inside.early.need ≡ 1
+    idle_needs_so s listed idle =
+        let less = slice_get_within code.stages now s listed in
+        let here : at_stages 0 ≡ true =
+        some_below (λ l. nat_eq now l && needs_in (has_printer shape.printer) (slice_get code.stages l) (slice_get plan.stages l) 0) (length code.stages) now less
+        (both_yes (nat_eq now now) (needs_in (has_printer shape.printer) (slice_get code.stages now) (slice_get plan.stages now) 0) (same_number now now refl)
+        (ap (λ k. needs_in (has_printer shape.printer) k (slice_get plan.stages now) 0) listed
+        ∙ idle_needs (has_printer shape.printer) s (slice_get plan.stages now) 0 idle)) in
+        (at_place 0 (λ l b p e f is. absurd (runs_idle l b p e f is))).shows
+        ∙ ap (λ k. bit_of ((nat_eq now (length code.stages) || k) || any_below (λ k. true && asked_now k) (length asked))) here
+        ∙ ap (λ k. bit_of (k || any_below (λ k. true && asked_now k) (length asked))) (or_true (nat_eq now (length code.stages)))
+      where
+        runs_idle : (l : ℕ) (b : Block) (p : BlockPlan) → slice_get code.stages l ≡ Some (stage.Run b) → slice_get plan.stages l ≡ Some (planned.Run p) → now ≡ l → ⊥
+        runs_idle l b p e f is =
+            let run : s ≡ stage.Run b = (let own : slice_get code.stages now ≡ Some (stage.Run b) = ap (slice_get code.stages) is ∙ e in cc) in
+            let planned_so : slice_get plan.stages now ≡ Some (planned.Run p) = ap (slice_get plan.stages) is ∙ f in
+            let clash : false ≡ true =
+            ap (λ k. is_idle (has_printer shape.printer) (stage.Run b) k) (sym planned_so)
+            ∙ ap (λ (k : Stage). is_idle (has_printer shape.printer) k (slice_get plan.stages now)) (sym run) ∙ idle in
+            absurd cc
+
+    -- AT THE END a core is needed
+    pub end_needs : now ≡ length code.stages → r.signal t.inside.early.need ≡ 1
+    end_needs end =
+        (at_place 0
+        (λ l b p e f is. absurd (let less = slice_get_within code.stages l (stage.Run b) e in let same : length code.stages ≡ l = sym end ∙ is in omega arith))).shows
+        ∙ ap (λ k. bit_of ((k || at_stages 0) || any_below (λ k. true && asked_now k) (length asked))) (same_number now (length code.stages) end)
+
+    -- within a block
+    module _ (q : Slot) (b : Block) (p : BlockPlan)
+        (inside : IsInside shape.globals shape.spreads code plan m (places_of banks code plan) (ports_of banks printer m) r q b p) where
+      here_now : now ≡ q.stage
+      here_now = (in_stage shape code plan printer m t served r o q b p inside.runs inside.state inside.shown).stage
+
+      read_at : (k : ℕ) → takes_word (slice_get b.operations k) ≡ true → (op : Operation) × (slice_get b.operations k ≡ Some op) × (k < size (planned_view b))
+          × (x : ℕ) × ((operation_at (planned_view b) k).kind ≡ BankRead x)
+      read_at k e =
+          let op = some_operation (slice_get b.operations k) e in
+          let is = reads op.0 (ap takes_word (sym op.1) ∙ e) in (
+            op.0,
+            op.1,
+            subst (λ n. k < n) (sym (view_count b.operations)) (slice_get_within b.operations k op.0 op.1),
+            is.0,
+            ap (λ (z : PlannedOperation). z.kind) (listed_view b.operations k op.0 op.1) ∙ is.1,
+          )
+
+      -- its last state is the one behind that in which it starts
+      last_of_read : (k x : ℕ) → (operation_at (planned_view b) k).kind ≡ BankRead x → last_state (planned_view b) (plan_view b p) k ≡ suc (slice_index p.starts k)
+      last_of_read k x kind =
+          ap (λ z. slice_index p.starts k + further_states z) kind ∙ (let next : slice_index p.starts k + 1 ≡ suc (slice_index p.starts k) = omega arith in next)
+
+      in_plan : IsInPlan t.inside.slot b p m r q.state
+      in_plan =
+          let own = in_stage shape code plan printer m t served r o q b p inside.runs inside.state inside.shown in
+          record {
+            wide = own.wide;
+            is = own.state;
+            below = own.below;
+            room = own.room;
+            small = t.laid.slot.states_fit q.stage p inside.runs.planned_so;
+            taken = λ k e.
+                let read = read_at k e in
+                subst (λ n. n < p.states) (last_of_read k read.3 read.4) (inside.runs.keeps.ends k read.2);
+          }
+
+      placed_here : Placed q.state
+      placed_here l d u e f is =
+          let same : l ≡ q.stage = sym is ∙ here_now in
+          let one : d ≡ b = (let mine = inside.runs.listed in let its : slice_get code.stages q.stage ≡ Some (stage.Run d) = ap (slice_get code.stages) (sym same) ∙ e in cc) in
+          let two : u ≡ p = (let mine = inside.runs.planned_so in let its : slice_get plan.stages q.stage ≡ Some (planned.Run u) = ap (slice_get plan.stages) (sym same) ∙ f in
+          cc) in
+          subst (λ (z : Block). IsInPlan t.inside.slot z u m r q.state) (sym one) (subst (λ (z : BlockPlan). IsInPlan t.inside.slot b z m r q.state) (sym two) in_plan)
+
+      below_end : q.stage < length code.stages
+      below_end = slice_get_within code.stages q.stage (stage.Run b) inside.runs.listed
+
+      -- what the stages need is what the block needs
+      stage_need : needs_in (has_printer shape.printer) (slice_get code.stages q.stage) (slice_get plan.stages q.stage) q.state ≡ any_below (takes_at b p q.state)
+          (length b.operations)
+      stage_need =
+          ap (λ k. needs_in (has_printer shape.printer) k (slice_get plan.stages q.stage) q.state) inside.runs.listed
+          ∙ ap (λ k. needs_in (has_printer shape.printer) (Some (stage.Run b)) k q.state) inside.runs.planned_so
+
+      -- WHERE A READ TAKES ITS WORD a core is needed
+      pub taken_needs : (k x : ℕ) → k < size (planned_view b) → last_state (planned_view b) (plan_view b p) k ≡ q.state → (operation_at (planned_view b) k).kind ≡ BankRead x
+          → r.signal t.inside.early.need ≡ 1
+      taken_needs k x below last kind =
+          let less : k < length b.operations = subst (λ n. k < n) (view_count b.operations) below in
+          let op = got_any b.operations k less in
+          let takes : takes_word (slice_get b.operations k) ≡ true =
+          ap takes_word op.1 ∙ read_takes op.0 x (ap (λ (z : PlannedOperation). z.kind) (sym (listed_view b.operations k op.0 op.1)) ∙ kind) in
+          let hit : takes_at b p q.state k ≡ true =
+          both_yes (takes_word (slice_get b.operations k)) (nat_eq q.state (suc (slice_index p.starts k))) takes
+          (same_number q.state (suc (slice_index p.starts k)) (sym last ∙ last_of_read k x kind)) in
+          let at : at_stages q.state ≡ true =
+          some_below (λ l. nat_eq now l && needs_in (has_printer shape.printer) (slice_get code.stages l) (slice_get plan.stages l) q.state) (length code.stages) q.stage below_end
+          (both_yes (nat_eq now q.stage) (needs_in (has_printer shape.printer) (slice_get code.stages q.stage) (slice_get plan.stages q.stage) q.state)
+          (same_number now q.stage here_now) (stage_need ∙ some_below (takes_at b p q.state) (length b.operations) k less hit)) in
+          (at_place q.state placed_here).shows
+          ∙ ap (λ z. bit_of ((nat_eq now (length code.stages) || z) || any_below (λ k. true && asked_now k) (length asked))) at
+          ∙ ap (λ z. bit_of (z || any_below (λ k. true && asked_now k) (length asked))) (or_true (nat_eq now (length code.stages)))
+        where
+          read_takes : (o : Operation) (x : ℕ) → (operation_view o).kind ≡ BankRead x → takes_word (Some o) ≡ true
+          read_takes (Unary operator ty a) x e = absurd cc
+          read_takes (Binary operator ty a b) x e = absurd (no_read operator _ x e)
+          read_takes (ReadGlobal y n i) x e = refl
+          read_takes (WriteGlobal y n i a) x e = absurd cc
+          read_takes (ReadArray y n i) x e = absurd cc
+          read_takes (WriteArray y n i a) x e = absurd cc
+
+      -- IN A CLOSED STATE no core is needed
+      pub closed_needs : IsClosed (planned_view b) (plan_view b p) q → ((n : ℕ) → n < suc banks → asked_now n ≡ false) → r.signal t.inside.early.need ≡ 0
+      closed_needs closed quiet =
+          let none : any_below (takes_at b p q.state) (length b.operations) ≡ false =
+          none_below (takes_at b p q.state) (length b.operations)
+          (λ k less. no_take k (takes_at b p q.state k) refl) in
+          unneeded q.state q.stage placed_here here_now below_end (stage_need ∙ none) quiet
+        where
+          no_take : (k : ℕ) (c : Bool) → takes_at b p q.state k ≡ c → takes_at b p q.state k ≡ false
+          no_take k false e = e
+          no_take k true e =
+              absurd
+              (let two = both_split (takes_word (slice_get b.operations k)) (nat_eq q.state (suc (slice_index p.starts k))) e in
+              let read = read_at k two.0 in
+              let last : last_state (planned_view b) (plan_view b p) k ≡ q.state = last_of_read k read.3 read.4 ∙ sym (number_is q.state (suc (slice_index p.starts k)) two.1) in
+              closed.takes_none k read.3 read.2 last read.4)

@@ -1,0 +1,187 @@
+-- Which cores are open to be asked, in a reading of a thread's module.
+use Rattle.std.proofs.Common.{◌≡◌, ℕ, zero, suc, ◌+◌, ◌-◌, ◌<◌, ◌≤◌, Bool, true, false, not, ◌&&◌, nat_eq, nat_lt, if◌then◌else◌, List, [], ◌∷◌, ◌++◌, length, map, slice_get}
+use Rattle.std.proofs.Common.{slice_index, Option, Some, refl, sym, ap, subst, ◌∙◌, arith, ⊎_elim}
+use Rattle.std.proofs.lemmas.Bool.{cases_lt}
+use Rattle.std.proofs.lemmas.Bool.Decides.{nat_tests}
+use Rattle.std.proofs.lemmas.List.{length-map}
+use Rattle.std.proofs.lemmas.Option.{slice_get_within, get_or_from_slice_get}
+use Rattle.hls_ints.specs.Residues.{bit_of}
+use Rattle.bank_partition.specs.declared.banks.Spread.{Spread}
+use Rattle.thread_promise.specs.Globals.{bank_total}
+use Rattle.block_ir.specs.declared.code.ThreadCode.{ThreadCode}
+use Rattle.block_ir.specs.declared.plan.Planned.{Planned}
+use Rattle.netlist.specs.declared.netlist.Signal.{Signal}
+use Rattle.netlist.specs.declared.netlist.Source.TheVariants.{Register}
+use Rattle.netlist.specs.declared.netlist.Module.{Module}
+use Rattle.verilog_meaning.specs.Readings.{Reading, width, signal_width}
+use Rattle.circuit.specs.Modules.{Obeys}
+use Rattle.operator_wires.specs.Gives.{Grows}
+use Rattle.operator_wires.specs.Built.{Base, IsEarlier}
+use Rattle.operator_wires.proofs.Giving.{grows_then, listed}
+use Rattle.block_datapath.specs.declared.registers.Held.{Held}
+use Rattle.block_datapath.specs.Requests.{AreAsMany}
+use Rattle.thread_slots.specs.declared.shape.Printer.{Printer}
+use Rattle.thread_slots.specs.declared.shape.Shape.{Shape}
+use Rattle.thread_slots.specs.Bits.{HasBit, HaveBits}
+use Rattle.thread_requests.specs.Early.{held_width, spread_out, printer_request}
+use Rattle.thread_layout.specs.Modules.{marks_of, IsModule, IsWiredInside}
+use Rattle.thread_layout.specs.Thread.{input_count, IsServed}
+use Rattle.thread_slots.proofs.Gating.{index_last, index_there}
+use Rattle.thread_layout.proofs.Placed.{from_early, wide_bit, words_count, mark_held, stands_wide}
+use Rattle.thread_layout.proofs.Spreading.{spread_there, spread_count}
+
+-- ---- lists
+
+pub front_index : (xs ys : List ℕ) (n : ℕ) → n < length xs → slice_index (xs ++ ys) n ≡ slice_index xs n
+front_index [] ys n less = absurd (omega arith)
+front_index (x ∷ xs) ys zero less = refl
+front_index (x ∷ xs) ys (suc n) less = front_index xs ys n (omega arith)
+
+pub is_less : (n k : ℕ) → n < k → nat_lt n k ≡ true
+is_less n k less = grind (arith, nat_tests)
+
+pub is_not_less : (n : ℕ) → nat_lt n n ≡ false
+is_not_less n = grind (arith, nat_tests)
+
+-- a bit is told by whether it is 1
+pub bit_told : (n : ℕ) (b : Bool) → n ≡ bit_of b → n ≡ bit_of (nat_eq n 1)
+bit_told n true e = e ∙ ap (λ k. bit_of (nat_eq k 1)) (sym e)
+bit_told n false e = e ∙ ap (λ k. bit_of (nat_eq k 1)) (sym e)
+
+pub earlier_wide : (m : Module) (a : List Signal) (base : Base) (y w : ℕ) → Grows a m.signals → IsEarlier a base y w → width m y ≡ w
+earlier_wide m a base y w g t = ap signal_width (listed a m.signals y t.signal g t.listed) ∙ t.wide
+
+module _ (shape : Shape) (code : ThreadCode) (plan : Planned) (printer : Printer) (m : Module) (t : IsModule shape code plan m) (served : IsServed shape code plan printer) where
+  abbrev banks : ℕ
+  banks = bank_total shape.spreads
+
+  -- whether a bank is open, and last the printer
+  abbrev pub raised_by : (ℕ → Bool) → (ℕ → Bool) → Bool → ℕ → Bool
+  raised_by wants marked prints n = if nat_lt n banks then wants n && not (marked n) else prints
+
+  pub wired : IsWiredInside code plan shape printer t.laid.with_inputs t.laid.with_slot t.laid.with_early t.laid.with_heard t.with_inside t.inside
+  wired = t.laid.wired printer served.printer_is served.site_low served.site_high served.spreads refl
+
+  pub wants_count : length t.inside.early.requests.banks.wants ≡ banks
+  wants_count = wired.early.linked.banks.wants.count ∙ bits_count
+    where
+      bits_count : length wired.bits ≡ banks
+      bits_count =
+          sym wired.early.linked.banks.wants.count
+          ∙ (t.laid.early.asks.many.banks (length (map held_width t.inside.slot.words)) t.laid.early.begins.many).wants
+          ∙ length-map t.inside.slot.words held_width ∙ words_count shape code plan printer m t served
+
+  -- the links begin with one for each bank
+  pub start_many : AreAsMany banks t.laid.early.start.banks
+  start_many =
+      subst (λ k. AreAsMany k t.laid.early.start.banks) (length-map t.inside.slot.words held_width ∙ words_count shape code plan printer m t served) t.laid.early.begins.many
+
+  pub start_less : (n : ℕ) → n < banks → n < length (map held_width t.inside.slot.words)
+  start_less n less = subst (λ k. n < k) (sym (length-map t.inside.slot.words held_width ∙ words_count shape code plan printer m t served)) less
+
+  -- bits of banks, and of the printer
+  pub want_wide : (n : ℕ) → n < banks → width m (slice_index t.inside.early.requests.banks.wants n) ≡ 1
+  want_wide n less =
+      let there = index_there t.inside.early.requests.banks.wants n (subst (λ k. n < k) (sym wants_count) less) in
+      let h = index_held wired.bits n (subst (λ k. n < k) (sym (sym wired.early.linked.banks.wants.count ∙ wants_count)) less) in
+      let stands = wired.early.linked.banks.wants.each n (slice_index t.inside.early.requests.banks.wants n) h.0 h.1 there in
+      earlier_wide m t.laid.with_early _ (slice_index t.inside.early.requests.banks.wants n) h.0.width (from_early shape code plan printer m t served) stands
+      ∙ wired.early.linked.widths.bits n h.0 h.1
+    where
+      index_held : (xs : List Held) (i : ℕ) → i < length xs → (x : Held) × (slice_get xs i ≡ Some x)
+      index_held [] i h = absurd (omega arith)
+      index_held (x ∷ xs) zero h = (x, refl)
+      index_held (x ∷ xs) (suc i) h = index_held xs i (omega arith)
+
+  pub print_wide : width m t.inside.early.requests.wants ≡ 1
+  print_wide = earlier_wide m t.laid.with_early _ t.inside.early.requests.wants 1 (from_early shape code plan printer m t served) wired.early.linked.wants
+
+  -- the bit of a bank is that of its global
+  pub mark_of_bank : (x k : ℕ) (s : Spread) → slice_get shape.spreads x ≡ Some s → k < s.count
+      → slice_index (spread_out t.inside.slot.spreads (marks_of t.inside)) (s.first + k) ≡ input_count banks + 3 + length code.variables + plan.registers + x
+  mark_of_bank x k s there less =
+      let inside : x < length shape.globals = subst (λ n. x < n) served.spreads.count (slice_get_within shape.spreads x s there) in
+      let v = mark_held shape code plan printer m t served x inside in
+      let mark : slice_get (marks_of t.inside) x ≡ Some v.held.register = mapped t.inside.granted x v.held v.listed in
+      let own : slice_get (spread_out shape.spreads (marks_of t.inside)) (s.first + k) ≡ Some v.held.register =
+      ap (λ n. slice_get (spread_out shape.spreads (marks_of t.inside)) (n + k)) (served.spreads.firsts x s there)
+      ∙ spread_there shape.spreads (marks_of t.inside) x k v.held.register s there mark less in
+      get_or_from_slice_get (spread_out t.inside.slot.spreads (marks_of t.inside)) (s.first + k) v.held.register 0
+      (ap (λ (z : List Spread). slice_get (spread_out z (marks_of t.inside)) (s.first + k)) t.laid.slot.spreads_are ∙ own)
+      ∙ v.at
+    where
+      mapped : (hs : List Held) (i : ℕ) (h : Held) → slice_get hs i ≡ Some h → slice_get (map (λ (q : Held). q.register) hs) i ≡ Some h.register
+      mapped [] i h e = absurd cc
+      mapped (q ∷ hs) zero h e = let same : q ≡ h = cc in ap (λ (z : Held). Some z.register) same
+      mapped (q ∷ hs) (suc i) h e = mapped hs i h e
+
+  marks_count : length (spread_out t.inside.slot.spreads (marks_of t.inside)) ≡ banks
+  marks_count =
+      spread_count t.inside.slot.spreads (marks_of t.inside)
+      (length-map t.inside.granted (λ (q : Held). q.register) ∙ t.laid.granted.count ∙ sym served.spreads.count ∙ ap length (sym t.laid.slot.spreads_are))
+      ∙ ap bank_total t.laid.slot.spreads_are
+
+  -- what marks show, whatever it is
+  abbrev pub marked_now : Reading → ℕ → Bool
+  marked_now r n = nat_eq (r.signal (slice_index (spread_out t.inside.slot.spreads (marks_of t.inside)) n)) 1
+
+  pub mark_bit : (r : Reading) (n : ℕ) → Obeys m r → n < banks → HasBit m r (slice_index (spread_out t.inside.slot.spreads (marks_of t.inside)) n) (marked_now r n)
+  mark_bit r n o less =
+      let own = served.spreads.all n less in
+      let k : ℕ = n - own.1.first in
+      let le = own.3 in
+      let lt = own.4 in
+      let at : own.1.first + k ≡ n = omega arith in
+      let below : k < own.1.count = omega arith in
+      let inside : own.0 < length shape.globals = subst (λ i. own.0 < i) served.spreads.count (slice_get_within shape.spreads own.0 own.1 own.2) in
+      let v = mark_held shape code plan printer m t served own.0 inside in
+      let place : slice_index (spread_out t.inside.slot.spreads (marks_of t.inside)) n ≡ input_count banks + 3 + length code.variables + plan.registers + own.0 =
+      ap (slice_index (spread_out t.inside.slot.spreads (marks_of t.inside))) (sym at) ∙ mark_of_bank own.0 k own.1 own.2 below in
+      let wide : width m (slice_index (spread_out t.inside.slot.spreads (marks_of t.inside)) n) ≡ 1 =
+      ap (width m) place ∙ stands_wide m (input_count banks + 3 + length code.variables + plan.registers + own.0) 1 (Register 0) v.stands in
+      let bit = wide_bit m r (slice_index (spread_out t.inside.slot.spreads (marks_of t.inside)) n) o wide in
+      record { wide = wide; shows = bit_told (r.signal (slice_index (spread_out t.inside.slot.spreads (marks_of t.inside)) n)) bit.0 bit.1 }
+
+  module _ (r : Reading) (o : Obeys m r) (wants marked : ℕ → Bool) (prints : Bool)
+      (wanted : (n : ℕ) → n < banks → HasBit m r (slice_index t.inside.early.requests.banks.wants n) (wants n))
+      (marks : (n : ℕ) → n < banks → HasBit m r (slice_index (spread_out t.inside.slot.spreads (marks_of t.inside)) n) (marked n))
+      (printing : HasBit m r t.inside.early.requests.wants prints) where
+    from_open : Grows t.laid.early.with_open m.signals
+    from_open = grows_then t.laid.early.with_open t.laid.with_early m.signals t.laid.early.needs.grows (from_early shape code plan printer m t served)
+
+    from_free : Grows t.laid.early.with_free m.signals
+    from_free = grows_then t.laid.early.with_free t.laid.early.with_open m.signals t.laid.early.opens.grows from_open
+
+    bank_open : (n : ℕ) → n < banks → HasBit m r (slice_index t.laid.early.bank_opens n) (wants n && not (marked n))
+    bank_open n less =
+        let free =
+        t.laid.early.frees.shows m r n (not (marked n)) from_free o (subst (λ k. n < k) (sym marks_count) less) (record { bit = marked n; has = marks n less; is = refl }) in
+        t.laid.early.opens.shows m r n (wants n && not (marked n)) from_open o (subst (λ k. n < k) (sym wants_count) less)
+        (record { one = wants n; two = not (marked n); has_one = wanted n less; has_two = free; is = refl })
+
+    -- WHAT IS OPEN
+    pub open_bits : HaveBits m r t.inside.early.opens (suc banks) (raised_by wants marked prints)
+    open_bits n less = ⊎_elim bank last (cases_lt n banks)
+      where
+        own_count : length t.laid.early.bank_opens ≡ banks
+        own_count = t.laid.early.opens.count ∙ wants_count
+
+        whole : t.inside.early.opens ≡ t.laid.early.bank_opens ++ t.inside.early.requests.wants ∷ []
+        whole = t.laid.early.open_is ∙ ap (λ (p : Option Printer). t.laid.early.bank_opens ++ printer_request p t.inside.early.requests.wants) served.printer_is
+
+        bank : n < banks → HasBit m r (slice_index t.inside.early.opens n) (raised_by wants marked prints n)
+        bank inside =
+            let at : slice_index t.inside.early.opens n ≡ slice_index t.laid.early.bank_opens n =
+            ap (λ l. slice_index l n) whole ∙ front_index t.laid.early.bank_opens (t.inside.early.requests.wants ∷ []) n (subst (λ k. n < k) (sym own_count) inside) in
+            let value : (wants n && not (marked n)) ≡ raised_by wants marked prints n = ap (λ c. if c then wants n && not (marked n) else prints) (sym (is_less n banks inside)) in
+            subst (λ p. HasBit m r p (raised_by wants marked prints n)) (sym at) (subst (λ b. HasBit m r (slice_index t.laid.early.bank_opens n) b) value (bank_open n inside))
+
+        last : banks ≤ n → HasBit m r (slice_index t.inside.early.opens n) (raised_by wants marked prints n)
+        last past =
+            let same : n ≡ banks = omega arith in
+            let at : slice_index t.inside.early.opens n ≡ t.inside.early.requests.wants =
+            ap (λ l. slice_index l n) whole ∙ ap (slice_index (t.laid.early.bank_opens ++ t.inside.early.requests.wants ∷ [])) (same ∙ sym own_count)
+            ∙ index_last t.laid.early.bank_opens t.inside.early.requests.wants in
+            let value : prints ≡ raised_by wants marked prints n =
+            ap (λ c. if c then wants n && not (marked n) else prints) (sym (ap (λ k. nat_lt k banks) same ∙ is_not_less banks)) in
+            subst (λ p. HasBit m r p (raised_by wants marked prints n)) (sym at) (subst (λ b. HasBit m r t.inside.early.requests.wants b) value printing)

@@ -1,0 +1,394 @@
+-- Where the parts of a module stand, and what a reading shows there.
+use Rattle.std.proofs.Common.{◌≡◌, ℕ, zero, suc, ◌+◌, ◌*◌, ◌<◌, ◌^◌, Bool, true, false, if◌then◌else◌, List, [], ◌∷◌, length, map, slice_get, Option, Some, None, pos, refl, sym}
+use Rattle.std.proofs.Common.{ap, subst, ◌∙◌, arith, length-append}
+use Rattle.std.specs.Prelude.{option_map, replicate, slice_index}
+use Rattle.std.proofs.lemmas.List.{length-map}
+use Rattle.std.proofs.lemmas.Option.{slice_get_within, slice_get-map}
+use Rattle.hls_ints.specs.Residues.{bit_of}
+use Rattle.hls_ints.specs.Types.{Width, bits_8, bits_16, bits_32, bits_64, IntegerType, HasType, width_of}
+use Rattle.bank_partition.specs.declared.banks.Spread.{Spread}
+use Rattle.thread_promise.specs.Globals.{bank_total}
+use Rattle.block_ir.specs.declared.code.ThreadCode.{ThreadCode}
+use Rattle.block_ir.specs.declared.plan.Planned.{Planned}
+use Rattle.netlist.specs.declared.netlist.Value.TheVariants.{Copy}
+use Rattle.netlist.specs.declared.netlist.Source.{Source}
+use Rattle.netlist.specs.declared.netlist.Source.TheVariants.{Input, Register}
+use Rattle.netlist.specs.declared.netlist.Signal.{Signal}
+use Rattle.netlist.specs.declared.netlist.Module.{Module}
+use Rattle.verilog_meaning.specs.Readings.{Reading, width, signal_width, initial_reading, initial_signal, initial_number}
+use Rattle.verilog_meaning.specs.Cycles.{IsRegister}
+use Rattle.circuit.specs.Modules.{Obeys, Agree}
+use Rattle.circuit.proofs.Growth.{got}
+use Rattle.operator_wires.specs.Gives.{Grows}
+use Rattle.operator_wires.proofs.Giving.{grows_then}
+use Rattle.block_datapath.specs.declared.registers.Held.{Held}
+use Rattle.thread_slots.specs.declared.shape.Printer.{Printer}
+use Rattle.thread_slots.specs.declared.shape.Shape.{Shape}
+use Rattle.thread_slots.specs.Slots.{StandsAt}
+use Rattle.thread_requests.specs.Outputs.{CopiesAt, HasBankOutputs}
+use Rattle.thread_slots.specs.Wired.{field_width}
+use Rattle.thread_layout.specs.Modules.{IsModule}
+use Rattle.thread_slots.specs.Inputs.{core_count}
+use Rattle.thread_slots.specs.Hearing.{IsHeard}
+use Rattle.thread_requests.specs.Early.{held_width, printer_request, spread_out}
+use Rattle.thread_layout.specs.Thread.{input_count, first_output, IsServed}
+use Rattle.thread_requests.proofs.OutputPorts.{bank_outputs_later}
+use Rattle.thread_slots.proofs.Laying.{stands_later}
+use Rattle.thread_layout.proofs.Spreading.{spread_there, spread_count}
+
+-- ---- a signal that stands at a place
+
+module _ (m : Module) where
+  pub stands_wide : (place w : ℕ) (d : Source) → StandsAt m.signals place w d → width m place ≡ w
+  stands_wide place w d t = ap signal_width t.listed ∙ t.wide
+
+  pub stands_fits : (r : Reading) (place w : ℕ) (d : Source) → Obeys m r → StandsAt m.signals place w d → r.signal place < 2 ^ w
+  stands_fits r place w d o t = subst (λ (n : ℕ). r.signal place < 2 ^ n) t.wide (o.within place t.signal t.listed)
+
+  pub stands_agrees : (h g : Reading) (place w n : ℕ) → Agree m h g → StandsAt m.signals place w (Register n) → h.signal place ≡ g.signal place
+  stands_agrees h g place w n a t = a.registers place t.signal t.listed (subst (λ (d : Source). IsRegister d) (sym t.drives) tt)
+
+  pub stands_copies : (r : Reading) (place w of : ℕ) → Obeys m r → CopiesAt m.signals place w of → r.signal place ≡ r.signal of
+  stands_copies r place w of o t = o.equations place t.signal (Copy of) t.listed t.drives
+
+  pub stands_begins : (place w n : ℕ) → StandsAt m.signals place w (Register n) → (initial_reading (Some m)).signal place ≡ n
+  stands_begins place w n t = ap initial_signal t.listed ∙ ap initial_number t.drives
+
+small : (n : ℕ) → n < 2 ^ 1 → (b : Bool) × (n ≡ bit_of b)
+small zero h = (false, refl)
+small (suc zero) h = (true, refl)
+small (suc (suc n)) h = absurd (omega arith)
+
+by_signal : (m : Module) (r : Reading) (x : ℕ) (s : Option Signal) → Obeys m r → slice_get m.signals x ≡ s → signal_width s ≡ 1 → (b : Bool) × (r.signal x ≡ bit_of b)
+by_signal m r x None o e w = absurd (omega arith)
+by_signal m r x (Some s) o e w = small (r.signal x) (subst (λ (n : ℕ). r.signal x < 2 ^ n) w (o.within x s e))
+
+-- a signal of one bit is a bit
+pub wide_bit : (m : Module) (r : Reading) (x : ℕ) → Obeys m r → width m x ≡ 1 → (b : Bool) × (r.signal x ≡ bit_of b)
+wide_bit m r x o w = by_signal m r x (slice_get m.signals x) o refl w
+
+pub zero_typed : (w : Width) (s : Bool) → HasType (record { width = w; signed = s }) (pos 0)
+zero_typed bits_8 true = refl
+zero_typed bits_8 false = refl
+zero_typed bits_16 true = refl
+zero_typed bits_16 false = refl
+zero_typed bits_32 true = refl
+zero_typed bits_32 false = refl
+zero_typed bits_64 true = refl
+zero_typed bits_64 false = refl
+
+pub got_any : {X : Type 0} (xs : List X) (i : ℕ) → i < length xs → (x : X) × (slice_get xs i ≡ Some x)
+got_any [] i h = absurd (omega arith)
+got_any (x ∷ xs) zero h = (x, refl)
+got_any (x ∷ xs) (suc i) h = got_any xs i (omega arith)
+
+-- ---- the module of a thread
+
+module _ (shape : Shape) (code : ThreadCode) (plan : Planned) (printer : Printer) (m : Module) (t : IsModule shape code plan m) (served : IsServed shape code plan printer) where
+  abbrev pub banks : ℕ
+  banks = bank_total shape.spreads
+
+  -- the registers stand behind so many inputs
+  abbrev pub behind : ℕ
+  behind = input_count banks
+
+  pub from_banks : Grows t.closed.outputs.with_banks m.signals
+  from_banks = t.closed.outputs.rest.grows
+
+  pub from_control : Grows t.closed.with_control m.signals
+  from_control = grows_then t.closed.with_control t.closed.outputs.with_banks m.signals t.closed.outputs.banks.grows from_banks
+
+  pub from_inside : Grows t.with_inside m.signals
+  from_inside = grows_then t.with_inside t.closed.with_control m.signals t.closed.controls.grows from_control
+
+  pub from_start : Grows t.laid.with_start m.signals
+  from_start = grows_then t.laid.with_start t.with_inside m.signals t.laid.walks.grows from_inside
+
+  pub from_heard : Grows t.laid.with_heard m.signals
+  from_heard = grows_then t.laid.with_heard t.laid.with_units m.signals t.laid.units.grows
+      (grows_then t.laid.with_units t.laid.with_start m.signals t.laid.begins.grows from_start)
+
+  pub from_early : Grows t.laid.with_early m.signals
+  from_early = grows_then t.laid.with_early t.laid.with_heard m.signals t.laid.hears.grows from_heard
+
+  pub from_slot : Grows t.laid.with_slot m.signals
+  from_slot = grows_then t.laid.with_slot t.laid.with_early m.signals t.laid.early.grows from_early
+
+  pub from_registers : Grows t.laid.with_registers m.signals
+  from_registers = grows_then t.laid.with_registers t.laid.with_slot m.signals t.laid.granted.grows from_slot
+
+  pub from_inputs : Grows t.laid.with_inputs m.signals
+  from_inputs = grows_then t.laid.with_inputs t.laid.with_registers m.signals t.laid.slot.grows from_registers
+
+  pub from_ports : Grows t.laid.with_ports m.signals
+  from_ports = grows_then t.laid.with_ports t.laid.with_inputs m.signals t.laid.words.grows from_inputs
+
+  pub bank_count : length (spread_out shape.spreads (map width_of shape.globals)) ≡ banks
+  bank_count = spread_count shape.spreads (map width_of shape.globals) (length-map shape.globals width_of ∙ sym served.spreads.count)
+
+  pub told_count : length t.laid.told ≡ banks
+  told_count = t.laid.words.count ∙ bank_count
+
+  pub words_count : length t.inside.slot.words ≡ banks
+  words_count = t.laid.hears.count ∙ told_count
+
+  pub cores : core_count shape.printer (length (spread_out shape.spreads (map width_of shape.globals))) ≡ suc banks
+  cores = ap (λ (p : Option Printer). core_count p (length (spread_out shape.spreads (map width_of shape.globals)))) served.printer_is ∙ ap suc bank_count
+
+  ports_long : length t.laid.with_ports ≡ 3 + banks
+  ports_long =
+      let long : length t.laid.with_ports ≡ 2 + core_count shape.printer (length (spread_out shape.spreads (map width_of shape.globals))) = t.laid.inputs.long in
+      let count = cores in
+      omega arith
+
+  pub inputs_long : length t.laid.with_inputs ≡ behind
+  inputs_long = let one = t.laid.words.long in let two = ports_long in let three = bank_count in omega arith
+
+  -- as many requests as cores
+  pub opens_count : length t.inside.early.opens ≡ suc banks
+  opens_count =
+      let wanted : length t.inside.early.requests.banks.wants ≡ banks =
+      (t.laid.early.asks.many.banks (length (map held_width t.inside.slot.words)) t.laid.early.begins.many).wants ∙ length-map t.inside.slot.words held_width ∙ words_count in
+      let one : length (printer_request shape.printer t.inside.early.requests.wants) ≡ 1 =
+      ap (λ (p : Option Printer). length (printer_request p t.inside.early.requests.wants)) served.printer_is in
+      let own : length t.laid.early.bank_opens ≡ banks = t.laid.early.opens.count ∙ wanted in
+      ap length t.laid.early.open_is ∙ length-append t.laid.early.bank_opens (printer_request shape.printer t.inside.early.requests.wants)
+      ∙ (let sum : length t.laid.early.bank_opens + length (printer_request shape.printer t.inside.early.requests.wants) ≡ suc banks = omega arith in sum)
+
+  -- inputs
+  pub enable_at : t.inside.inputs.enable ≡ 1
+  enable_at = t.laid.inputs.enable
+
+  pub enable_stands : StandsAt m.signals 1 1 Input
+  enable_stands = stands_later t.laid.with_ports m.signals 1 1 Input from_ports t.laid.inputs.enable_stands
+
+  pub grant_at : (k : ℕ) → k < suc banks → slice_index t.inside.inputs.grants k ≡ 2 + k
+  grant_at k less = t.laid.inputs.grants k (subst (λ n. k < n) (sym cores) less)
+
+  pub grant_stands : (k : ℕ) → k < suc banks → StandsAt m.signals (2 + k) 1 Input
+  grant_stands k less = stands_later t.laid.with_ports m.signals (2 + k) 1 Input from_ports (t.laid.inputs.grants_stand k (subst (λ n. k < n) (sym cores) less))
+
+  -- the word of bank k of a global: where it is told, and what is heard of it
+  pub record HasWord (n w : ℕ) : Type 0 where
+    pub held : Held
+    pub listed : slice_get t.inside.slot.words n ≡ Some held
+    pub wide : held.width ≡ w
+    pub told : Held
+    pub own : told.width ≡ w
+    pub heard : IsHeard t.laid.with_heard t.inside.early.need told held
+    pub at : told.register ≡ 3 + banks + n
+    pub stands : StandsAt m.signals (3 + banks + n) w Input
+
+  pub word_held : (x k : ℕ) (s : Spread) (ty : IntegerType) → slice_get shape.spreads x ≡ Some s → slice_get shape.globals x ≡ Some ty → k < s.count →
+      HasWord (s.first + k) (width_of ty)
+  word_held x k s ty listed declared less =
+      let wide : slice_get (map width_of shape.globals) x ≡ Some (width_of ty) = slice_get-map width_of shape.globals x ∙ ap (option_map width_of) declared in
+      let there : slice_get (spread_out shape.spreads (map width_of shape.globals)) (s.first + k) ≡ Some (width_of ty) =
+      ap (λ (n : ℕ). slice_get (spread_out shape.spreads (map width_of shape.globals)) (n + k)) (served.spreads.firsts x s listed)
+      ∙ spread_there shape.spreads (map width_of shape.globals) x k (width_of ty) s listed wide less in
+      let f = t.laid.words.each (s.first + k) (width_of ty) (slice_get_within (spread_out shape.spreads (map width_of shape.globals)) (s.first + k) (width_of ty) there) there in
+      let place : length t.laid.with_ports + (s.first + k) ≡ 3 + banks + (s.first + k) = (let e = ports_long in omega arith) in
+      let g = t.laid.hears.each (s.first + k) f.0 (slice_get_within t.laid.told (s.first + k) f.0 f.1) f.1 in
+      record {
+        held = g.0;
+        listed = g.1;
+        wide = g.2.says ∙ f.2;
+        told = f.0;
+        own = f.2;
+        heard = g.2;
+        at = f.3 ∙ place;
+        stands =
+            subst (λ (n : ℕ). StandsAt m.signals n (width_of ty) Input) place
+            (stands_later t.laid.with_inputs m.signals (length t.laid.with_ports + (s.first + k)) (width_of ty) Input from_inputs f.4);
+      }
+
+  -- the stage, the state and the beat
+  pub stage_at : t.inside.slot.stage.register ≡ behind
+  stage_at = t.laid.slot.stage.register ∙ inputs_long
+
+  pub stage_stands : StandsAt m.signals behind t.inside.slot.stage.width (Register 0)
+  stage_stands =
+      subst (λ (n : ℕ). StandsAt m.signals behind t.inside.slot.stage.width (Register n)) (ap (λ (b : Bool). if b then 0 else length code.stages) served.main)
+      (stands_later t.laid.with_registers m.signals behind t.inside.slot.stage.width (Register (if shape.is_main then 0 else length code.stages)) from_registers
+      (subst (λ (x : ℕ). StandsAt t.laid.with_registers x t.inside.slot.stage.width (Register (if shape.is_main then 0 else length code.stages))) inputs_long
+      t.laid.slot.stage.stands))
+
+  pub state_at : t.inside.slot.state.register ≡ behind + 1
+  state_at = t.laid.slot.state.register ∙ ap (λ (n : ℕ). n + 1) inputs_long
+
+  pub state_stands : StandsAt m.signals (behind + 1) t.inside.slot.state.width (Register 0)
+  state_stands =
+      stands_later t.laid.with_registers m.signals (behind + 1) t.inside.slot.state.width (Register 0) from_registers
+      (subst (λ (x : ℕ). StandsAt t.laid.with_registers x t.inside.slot.state.width (Register 0)) (ap (λ (n : ℕ). n + 1) inputs_long) t.laid.slot.state.stands)
+
+  pub beat_at : t.inside.slot.beat ≡ behind + 2
+  beat_at = t.laid.slot.beat ∙ ap (λ (n : ℕ). n + 2) inputs_long
+
+  pub beat_stands : StandsAt m.signals (behind + 2) 1 (Register 0)
+  beat_stands =
+      stands_later t.laid.with_registers m.signals (behind + 2) 1 (Register 0) from_registers
+      (subst (λ (x : ℕ). StandsAt t.laid.with_registers x 1 (Register 0)) (ap (λ (n : ℕ). n + 2) inputs_long) t.laid.slot.beat_stands)
+
+  -- variables and registers for values
+  pub record HasVariable (x : ℕ) (ty : IntegerType) : Type 0 where
+    pub held : Held
+    pub listed : slice_get t.inside.slot.variables x ≡ Some held
+    pub wide : held.width ≡ width_of ty
+    pub at : held.register ≡ behind + 3 + x
+    pub stands : StandsAt m.signals (behind + 3 + x) (width_of ty) (Register 0)
+
+  pub variable_held : (x : ℕ) (ty : IntegerType) → slice_get code.variables x ≡ Some ty → HasVariable x ty
+  variable_held x ty declared =
+      let less = slice_get_within code.variables x ty declared in
+      let wide : slice_get (map width_of code.variables) x ≡ Some (width_of ty) = slice_get-map width_of code.variables x ∙ ap (option_map width_of) declared in
+      let f = t.laid.slot.variables x (width_of ty) less wide in
+      let place : length t.laid.with_inputs + 3 + x ≡ behind + 3 + x = ap (λ (n : ℕ). n + 3 + x) inputs_long in
+      record {
+        held = f.0;
+        listed = f.1;
+        wide = f.2;
+        at = f.3 ∙ place;
+        stands =
+            subst (λ (n : ℕ). StandsAt m.signals n (width_of ty) (Register 0)) place
+            (stands_later t.laid.with_registers m.signals (length t.laid.with_inputs + 3 + x) (width_of ty) (Register 0) from_registers f.4);
+      }
+
+  pub record HasKept (x : ℕ) : Type 0 where
+    pub held : Held
+    pub listed : slice_get t.inside.slot.kept x ≡ Some held
+    pub planned : slice_get t.laid.kept_widths x ≡ Some held.width
+    pub at : held.register ≡ behind + 3 + length code.variables + x
+    pub stands : StandsAt m.signals (behind + 3 + length code.variables + x) held.width (Register 0)
+
+  pub kept_held : (x : ℕ) → x < length t.laid.kept_widths → HasKept x
+  kept_held x less =
+      let w = got t.laid.kept_widths x 0 less in
+      let f = t.laid.slot.kept x _ less w in
+      let place : length t.laid.with_inputs + 3 + length code.variables + x ≡ behind + 3 + length code.variables + x = ap
+      (λ (n : ℕ). n + 3 + length code.variables + x) inputs_long in
+      record {
+        held = f.0;
+        listed = f.1;
+        planned = w ∙ ap Some (sym f.2);
+        at = f.3 ∙ place;
+        stands =
+            subst (λ (n : ℕ). StandsAt m.signals n f.0.width (Register 0)) place
+            (subst (λ (n : ℕ). StandsAt m.signals (length t.laid.with_inputs + 3 + length code.variables + x) n (Register 0)) (sym f.2)
+            (stands_later t.laid.with_registers m.signals (length t.laid.with_inputs + 3 + length code.variables + x) _ (Register 0) from_registers f.4));
+      }
+
+  pub kept_within : (x : ℕ) → x < plan.registers → x < length t.laid.kept_widths
+  kept_within x less = subst (λ (n : ℕ). x < n) (sym t.laid.kept.count) less
+
+  -- the bit of each global
+  pub registers_long : length t.laid.with_registers ≡ behind + 3 + length code.variables + plan.registers
+  registers_long =
+      let one = t.laid.registers_long in let two = inputs_long in let three = t.laid.kept.count in omega arith
+
+  pub record HasMark (x : ℕ) : Type 0 where
+    pub held : Held
+    pub listed : slice_get t.inside.granted x ≡ Some held
+    pub wide : held.width ≡ 1
+    pub at : held.register ≡ behind + 3 + length code.variables + plan.registers + x
+    pub stands : StandsAt m.signals (behind + 3 + length code.variables + plan.registers + x) 1 (Register 0)
+
+  pub mark_held : (x : ℕ) → x < length shape.globals → HasMark x
+  mark_held x less =
+      let f = t.laid.granted.each x 1 less (replicate_there (length shape.globals) x less) in
+      let place : length t.laid.with_registers + x ≡ behind + 3 + length code.variables + plan.registers + x = ap (λ (n : ℕ). n + x) registers_long in
+      record {
+        held = f.0;
+        listed = f.1;
+        wide = f.2;
+        at = f.3 ∙ place;
+        stands =
+            subst (λ (n : ℕ). StandsAt m.signals n 1 (Register 0)) place
+            (stands_later t.laid.with_slot m.signals (length t.laid.with_registers + x) 1 (Register 0) from_slot f.4);
+      }
+    where
+      replicate_there : (n x : ℕ) → x < n → slice_get {X = ℕ} (replicate n 1) x ≡ Some 1
+      replicate_there zero x less = absurd (omega arith)
+      replicate_there (suc n) zero less = refl
+      replicate_there (suc n) (suc x) less = replicate_there n x (omega arith)
+
+  -- the same, for the statements of an edge
+  pub variables_at : (i : ℕ) (h : Held) → slice_get t.inside.slot.variables i ≡ Some h → h.register ≡ behind + 3 + i
+  variables_at i h listed =
+      let less : i < length code.variables = subst (λ (n : ℕ). i < n) t.laid.slot.variables_count (slice_get_within t.inside.slot.variables i h listed) in
+      let found = got_any code.variables i less in
+      let v = variable_held i found.0 found.1 in
+      let same : v.held ≡ h = (let e = v.listed in cc) in
+      ap (λ (k : Held). k.register) (sym same) ∙ v.at
+
+  pub kept_at : (i : ℕ) (h : Held) → slice_get t.inside.slot.kept i ≡ Some h → h.register ≡ behind + 3 + length t.inside.slot.variables + i
+  kept_at i h listed =
+      let less : i < length t.laid.kept_widths = subst (λ (n : ℕ). i < n) t.laid.slot.kept_count (slice_get_within t.inside.slot.kept i h listed) in
+      let v = kept_held i less in
+      let same : v.held ≡ h = (let e = v.listed in cc) in
+      let count = t.laid.slot.variables_count in
+      ap (λ (k : Held). k.register) (sym same) ∙ v.at ∙ ap (λ (n : ℕ). behind + 3 + n + i) (sym count)
+
+  pub granted_at : (i : ℕ) (h : Held) → slice_get t.inside.granted i ≡ Some h → h.register ≡ behind + 3 + length t.inside.slot.variables + length t.inside.slot.kept + i
+  granted_at i h listed =
+      let less : i < length shape.globals = subst (λ (n : ℕ). i < n) t.laid.granted.count (slice_get_within t.inside.granted i h listed) in
+      let v = mark_held i less in
+      let same : v.held ≡ h = (let e = v.listed in cc) in
+      let variables = t.laid.slot.variables_count in
+      let kept : length t.inside.slot.kept ≡ plan.registers = t.laid.slot.kept_count ∙ t.laid.kept.count in
+      ap (λ (k : Held). k.register) (sym same) ∙ v.at ∙ ap (λ (n : ℕ). behind + 3 + n + plan.registers + i) (sym variables)
+      ∙ ap (λ (n : ℕ). behind + 3 + length t.inside.slot.variables + n + i) (sym kept)
+
+  -- outputs
+  pub fields_count : length t.inside.early.requests.fields ≡ printer.values + 1
+  fields_count = t.laid.early.asks.many.fields ∙ t.laid.early.begins.fields_count ∙ t.laid.early.widths printer served.printer_is
+
+  pub before_outputs : length t.closed.with_control ≡ first_output banks printer m
+  before_outputs =
+      let long = t.closed.outputs.rest.long printer served.printer_is in
+      let more = t.closed.outputs.banks.long in
+      let words = words_count in
+      let count = fields_count in
+      omega arith
+
+  pub before_printer : length t.closed.outputs.with_banks ≡ first_output banks printer m + 4 * banks
+  before_printer =
+      let more = t.closed.outputs.banks.long in
+      let words = words_count in
+      let before = before_outputs in
+      omega arith
+
+  -- the ports of bank k of a global
+  pub bank_outputs : (x k : ℕ) (s : Spread) (ty : IntegerType) → slice_get shape.spreads x ≡ Some s → slice_get shape.globals x ≡ Some ty → k < s.count
+      → HasBankOutputs m.signals (first_output banks printer m) t.edge.asks t.inside.early.requests.banks (s.first + k) (width_of ty)
+  bank_outputs x k s ty listed declared less =
+      let w = word_held x k s ty listed declared less in
+      let own = t.closed.outputs.banks.each (s.first + k) w.held (slice_get_within t.inside.slot.words (s.first + k) w.held w.listed) w.listed in
+      let later = bank_outputs_later t.closed.outputs.with_banks m.signals (length t.closed.with_control) t.edge.asks t.inside.early.requests.banks
+      (s.first + k) w.held.width from_banks own in
+      subst (λ (n : ℕ). HasBankOutputs m.signals n t.edge.asks t.inside.early.requests.banks (s.first + k) (width_of ty)) before_outputs
+      (subst (λ (n : ℕ). HasBankOutputs m.signals (length t.closed.with_control) t.edge.asks t.inside.early.requests.banks (s.first + k) n) w.wide later)
+
+  abbrev pub printer_asks : ℕ
+  printer_asks = slice_index t.edge.asks (length t.inside.slot.words)
+
+  pub ask_stands : CopiesAt m.signals (first_output banks printer m + 4 * banks) 1 printer_asks
+  ask_stands = subst (λ (n : ℕ). CopiesAt m.signals n 1 printer_asks) before_printer (t.closed.outputs.rest.ask printer served.printer_is)
+
+  pub field_stands : (k x : ℕ) → slice_get t.inside.early.requests.fields k ≡ Some x
+      → CopiesAt m.signals (first_output banks printer m + 4 * banks + 1 + k) (field_width printer.site_width k) x
+  field_stands k x listed =
+      subst (λ (n : ℕ). CopiesAt m.signals (n + 1 + k) (field_width printer.site_width k) x) before_printer (t.closed.outputs.rest.each printer k x served.printer_is listed)
+
+  pub done_stands : CopiesAt m.signals (first_output banks printer m + (4 * banks + 3 + printer.values)) 1 t.inside.early.done
+  done_stands =
+      let before = before_printer in
+      let count = fields_count in
+      let at : length t.closed.outputs.with_banks + 2 + length t.inside.early.requests.fields ≡ first_output banks printer m + (4 * banks + 3 + printer.values) = omega arith in
+      subst (λ (n : ℕ). CopiesAt m.signals n 1 t.inside.early.done) at (t.closed.outputs.rest.done_at printer served.printer_is)
+
+  pub need_stands : CopiesAt m.signals (first_output banks printer m + (4 * banks + 2 + printer.values)) 1 t.inside.early.need
+  need_stands =
+      let before = before_printer in
+      let count = fields_count in
+      let at : length t.closed.outputs.with_banks + 1 + length t.inside.early.requests.fields ≡ first_output banks printer m + (4 * banks + 2 + printer.values) = omega arith in
+      subst (λ (n : ℕ). CopiesAt m.signals n 1 t.inside.early.need) at (t.closed.outputs.rest.need printer served.printer_is)

@@ -1,0 +1,4 @@
+pub mod Leaf
+pub mod Memories
+pub mod Modules
+pub mod Thread

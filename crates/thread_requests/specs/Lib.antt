@@ -1,0 +1,5 @@
+pub mod Asking
+pub mod Early
+pub mod Fields
+pub mod Needing
+pub mod Outputs

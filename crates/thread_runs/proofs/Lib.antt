@@ -1,0 +1,5 @@
+mod Cells
+mod Leaving
+mod Printing
+pub mod Promising
+mod Unasked

@@ -1,0 +1,8 @@
+// The law of what a thread's module runs. A function here takes and answers nothing: its contract is the law.
+
+ghost use Rattle.thread_runs.specs.Runs.{LaidOutRuns};
+
+/// A module that is laid out by a shape, a code and a plan runs the code by the plan.
+pub fn laid_out_runs()
+    ensures { LaidOutRuns }
+{}

@@ -1,0 +1,56 @@
+use Rattle.std.proofs.Common.{ℕ, List, sym, ap, subst, ◌∙◌}
+use Rattle.hls_ints.specs.Types.{IntegerType}
+use Rattle.block_ir.specs.declared.block.Operation.TheVariants.{WriteArray}
+use Rattle.operator_wires.proofs.Giving.{grows_then}
+use Rattle.block_datapath.specs.Seen.{ShowsOperand}
+use Rattle.block_datapath.proofs.Chaining.{on_ok}
+use Rattle.thread_slots.specs.Cells.{PutsWord, PutsOne}
+use Rattle.thread_slots.proofs.Putting.{puts_write, puts_missing}
+use Rattle.std.specs.Prelude.{slice_get}
+use Rattle.thread_slots.proofs.Between.{operands_wired}
+use Rattle.thread_slots.proofs.Storing.{stores_kept, written_wired}
+use Rattle.thread_slots.proofs.stores.write_array.Goals as goal
+
+pub returns-in-Some-clause-wired : goal.returns-in-Some-clause-wired
+returns-in-Some-clause-wired c =
+    written_wired c.put.result c.args.wires.now.signals c.operand_word.new.wires.signals c.operand_word-2.new.wires.signals c.put.new.wires.signals c.args.code.now
+    c.args.registers.now
+    c.args.values.now c.as_slice-types.result.now c.args.array c.in-Some.own _ _ c.in_ok-index.index c.in_ok-value.value c.args.moment c.args.stores.now c.put.new.stores
+    c.as_slice-types.ensures
+    (ap (λ l. slice_get l c.args.array) (sym c.as_slice.ensures) ∙ sym c.array_at.ensures ∙ c.in-Some.is) c.in_ok-index.ensures.wired c.in_ok-value.ensures.wired
+    c.put.ensures.wired
+
+pub returns-in-None-clause-wired : goal.returns-in-None-clause-wired
+returns-in-None-clause-wired c = λ base slots values bit few.
+    stores_kept base c.args.wires.now.signals c.operand_word-2.new.wires.signals c.args.stores.now
+    (operands_wired base c.args.wires.now.signals c.operand_word.new.wires.signals c.operand_word-2.new.wires.signals c.args.code.now c.args.registers.now c.args.values.now
+    c.as_slice-types.result.now _ _ _ _ c.as_slice-types.ensures slots values (c.in_ok-index.ensures.wired base) (c.in_ok-value.ensures.wired base))
+
+pub returns-in-Some-clause-puts : goal.returns-in-Some-clause-puts
+returns-in-Some-clause-puts c =
+    on_ok c.put.result
+    (PutsWord c.operand_word-2.new.wires.signals c.put.new.wires.signals c.args.registers.now c.args.moment c.args.stores.now c.put.new.stores c.args.array c.in-Some.own
+    c.in_ok-index.index
+    c.in_ok-value.value)
+    ((n : ℕ) → PutsOne c.args.wires.now.signals c.put.new.wires.signals c.args.registers.now c.args.moment c.args.stores.now c.put.new.stores c.args.code.now c.args.values.now
+    (WriteArray c.args.array n c.args.index.now c.args.value.now))
+    (λ t n.
+    puts_write c.args.wires.now.signals c.operand_word.new.wires.signals c.operand_word-2.new.wires.signals c.put.new.wires.signals c.args.registers.now c.args.moment
+    c.args.stores.now
+    c.put.new.stores c.args.code.now c.args.values.now c.args.array c.in-Some.own c.args.index.now c.args.value.now c.in_ok-index.index c.in_ok-value.value
+    (ap (λ l. slice_get l c.args.array) (sym c.as_slice.ensures) ∙ sym c.array_at.ensures ∙ c.in-Some.is)
+    (subst (λ (ts : List IntegerType). ShowsOperand c.args.wires.now.signals c.operand_word.new.wires.signals c.args.registers.now ts c.args.values.now c.args.moment.state
+    c.args.index.now
+    c.in_ok-index.index) c.as_slice-types.ensures c.in_ok-index.ensures.shows)
+    (subst (λ (ts : List IntegerType). ShowsOperand c.operand_word.new.wires.signals c.operand_word-2.new.wires.signals c.args.registers.now ts c.args.values.now
+    c.args.moment.state c.args.value.now
+    c.in_ok-value.value) c.as_slice-types.ensures c.in_ok-value.ensures.shows) t n)
+    c.put.ensures.puts
+
+pub returns-in-None-clause-puts : goal.returns-in-None-clause-puts
+returns-in-None-clause-puts c = λ n.
+    puts_missing c.args.wires.now.signals c.operand_word-2.new.wires.signals c.args.registers.now c.args.moment c.args.stores.now c.args.code.now c.args.values.now c.args.array n
+    c.args.index.now
+    c.args.value.now
+    (grows_then c.args.wires.now.signals c.operand_word.new.wires.signals c.operand_word-2.new.wires.signals c.in_ok-index.ensures.shows.grows c.in_ok-value.ensures.shows.grows)
+    (ap (λ l. slice_get l c.args.array) (sym c.as_slice.ensures) ∙ sym c.array_at.ensures ∙ c.in-None.is)

@@ -1,0 +1,10 @@
+pub mod Bits
+pub mod Cells
+pub mod Hearing
+pub mod Idle
+pub mod Inputs
+pub mod Links
+pub mod Requests
+pub mod Slots
+pub mod Stores
+pub mod Wired

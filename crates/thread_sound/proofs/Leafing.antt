@@ -1,0 +1,320 @@
+-- A checked module is a leaf.
+use Rattle.std.proofs.Common.{◌≡◌, ℕ, suc, ◌+◌, ◌-◌, ◌*◌, ◌<◌, ◌≤◌, Bool, true, false, nat_eq, nat_le, nat_lt, if◌then◌else◌, List, [], ◌∷◌, ◌++◌, length, slice_get, slice_index}
+use Rattle.std.proofs.Common.{Some, min, refl, sym, ap, subst, ◌∙◌, arith, ⊎_elim, ◌≢◌}
+use Rattle.std.proofs.lemmas.Bool.{cases_lt}
+use Rattle.std.proofs.lemmas.Bool.Decides.{nat_tests}
+use Rattle.std.proofs.lemmas.Option.{get_or_from_slice_get, slice_get_within}
+use Rattle.interleaving.proofs.Update.{same_or_not}
+use Rattle.netlist.specs.declared.netlist.Source.{Source}
+use Rattle.netlist.specs.declared.netlist.Source.TheVariants.{Input, Register, Assigned, Port}
+use Rattle.netlist.specs.declared.netlist.Signal.{Signal}
+use Rattle.netlist.specs.declared.netlist.Effect.{Effect}
+use Rattle.netlist.specs.declared.netlist.Effect.TheVariants as effect
+use Rattle.netlist.specs.declared.netlist.Action.{Action}
+use Rattle.netlist.specs.declared.netlist.Module.{Module}
+use Rattle.netlist.specs.Sound.{is_write}
+use Rattle.verilog_meaning.specs.Readings.{Reading, is_on, effect_bytes, action_bytes}
+use Rattle.circuit.specs.Rows.{EachOf}
+use Rattle.circuit.specs.Modules.{HasInput, FitsAction, FitsMemory, Reads, IsSoundSource, IsSound, IsLeaf}
+use Rattle.circuit.proofs.Tables.{fits_among}
+use Rattle.leaf_machine.specs.Settled.{IsUnclocked}
+use Rattle.leaf_machine.specs.Leaves.{Heard, Clock, Enable, Grant, Told, IsHeard, HasHeard, IsClockless, IsEarly, AnswersAreLate, IsSlotBit}
+use Rattle.module_sound.specs.Grades.{IsOperand, IsGradedSource, AreGrades, ActsRight, IsPort, IsSlotPort}
+use Rattle.block_ir.specs.declared.code.ThreadCode.{ThreadCode}
+use Rattle.block_ir.specs.declared.plan.Planned.{Planned}
+use Rattle.thread_slots.specs.declared.shape.Printer.{Printer}
+use Rattle.thread_slots.specs.declared.shape.Shape.{Shape}
+use Rattle.thread_layout.specs.Modules.{IsModule}
+use Rattle.thread_promise.specs.Globals.{bank_total}
+use Rattle.thread_layout.specs.Thread.{input_count, first_output, IsServed}
+use Rattle.thread_layout.specs.Leaf.{input_at, leaf_of}
+use Rattle.thread_sound.specs.Leaf.{parts_of, told_of, IsChecked, IsLeafOf}
+use Rattle.module_sound.proofs.Sounding.{placed_is_sound}
+use Rattle.operator_wires.proofs.Giving.{listed}
+use Rattle.thread_layout.proofs.Opened.{wired}
+use Rattle.thread_layout.proofs.Placed.{from_inputs, inputs_long, got_any}
+
+-- ---- lists
+
+each_map : {X : Type 0} (P Q : X → Type 0) (xs : List X) → ((x : X) → P x → Q x) → EachOf P xs → EachOf Q xs
+each_map P Q [] h e = tt
+each_map P Q (x ∷ xs) h e = (h x e.0, each_map P Q xs h e.1)
+
+either_same : (t : Bool) (x : List ℕ) → (if t then x else x) ≡ x
+either_same true x = refl
+either_same false x = refl
+
+quiet_effect : (m : Module) (r : Reading) (e : Effect) → is_write e ≡ false → effect_bytes m r e ≡ []
+quiet_effect m r (effect.Set x y) is = refl
+quiet_effect m r (effect.Store j x y) is = refl
+quiet_effect m r (effect.Write text arguments) is = absurd cc
+
+writes_nothing : (m : Module) (r : Reading) (acts : List Action) → EachOf (ActsRight m) acts → action_bytes m r acts ≡ []
+writes_nothing m r [] e = refl
+writes_nothing m r (a ∷ acts) e =
+    ap (λ l. (if is_on r a.conditions then l else []) ++ action_bytes m r acts) (quiet_effect m r a.effect e.0.sets.silent)
+    ∙ ap (λ l. l ++ action_bytes m r acts) (either_same (is_on r a.conditions) [])
+    ∙ writes_nothing m r acts e.1
+
+le_more : (n a b : ℕ) → a ≤ b → nat_le n a ≡ true → nat_le n b ≡ true
+le_more n a b le e = grind arith
+
+-- ---- a graded module
+
+module _ (m : Module) (inputs : ℕ) (grades : List ℕ) (are : AreGrades m inputs (length m.signals) grades) (acts : EachOf (ActsRight m) m.actions) (alone : m.instances ≡ [])
+    (first : (x : ℕ) → x < inputs → HasInput m x) (begun : EachOf FitsMemory m.memories) where
+  -- a signal of at least this grade
+  abbrev grade_of : ℕ → ℕ
+  grade_of x = slice_index grades x
+
+  abbrev late_from : ℕ → ℕ → Bool
+  late_from n x = nat_le n (grade_of x)
+
+  acts_fit : EachOf (FitsAction m) m.actions
+  acts_fit = each_map (ActsRight m) (FitsAction m) m.actions (λ a t. (t.bits, t.sets.fits)) acts
+
+  -- each signal is sound, whatever is late, where what is late stays so
+  sound : (late : ℕ → Bool) → ((x y g h : ℕ) → 0 < y → slice_get grades x ≡ Some g → slice_get grades y ≡ Some h → h ≤ g → late y ≡ true → late x ≡ true) → (x : ℕ) (s : Signal)
+      → slice_get m.signals x ≡ Some s → IsSound m inputs late x s
+  sound late stays x s listed =
+      let f = are.each x s (slice_get_within m.signals x s listed) listed in
+      by_source s.source f.0 f.1 f.2.source
+    where
+      by_source : (source : Source) (g : ℕ) → slice_get grades x ≡ Some g → IsGradedSource m grades x inputs s.width g source → IsSoundSource m inputs late x s.width source
+      by_source Input g e t = t.0
+      by_source (Register n) g e t = t
+      by_source (Assigned v) g e t =
+          fits_among (IsOperand m grades x g) (Reads m late x) (λ j. slice_get m.memories j) s.width v
+          (λ y u among o. record { has = o.has; before = o.before; in_time = λ l. stays x y g o.own o.after e o.listed o.most l }) t
+      by_source (Port i p) g e t = t
+
+  leaf_by : (late : ℕ → Bool) → ((x y g h : ℕ) → 0 < y → slice_get grades x ≡ Some g → slice_get grades y ≡ Some h → h ≤ g → late y ≡ true → late x ≡ true) → IsLeaf m inputs late
+  leaf_by late stays = record { alone = alone; first = first; sound = sound late stays; acts = acts_fit; begins = begun }
+
+  index_is : (x g : ℕ) → slice_get grades x ≡ Some g → grade_of x ≡ g
+  index_is x g e = get_or_from_slice_get grades x g 0 e
+
+  pub graded_leaf : (n : ℕ) → IsLeaf m inputs (late_from n)
+  graded_leaf n =
+      leaf_by (late_from n)
+      (λ x y g h after e f le late.
+      ap (nat_le n) (index_is x g e) ∙ le_more n h g le (ap (nat_le n) (sym (index_is y h f)) ∙ late))
+
+  pub clockless : IsClockless m inputs
+  clockless = record {
+    signals = leaf_by (λ x. nat_eq x 0) (λ x y g h after e f le late. absurd (let zero_is : y ≡ 0 = is_zero y late in omega arith));
+    acts = each_map (ActsRight m) IsUnclocked m.actions (λ a t. (t.unclocked, t.sets.unclocked)) acts;
+  }
+    where
+      is_zero : (y : ℕ) → nat_eq y 0 ≡ true → y ≡ 0
+      is_zero y e = grind arith
+
+  -- an input's grade
+  input_grade : (x : ℕ) → x < inputs → grade_of x ≡ min x 2
+  input_grade x less =
+      let i = first x less in
+      let f = are.each x i.signal (slice_get_within m.signals x i.signal i.listed) i.listed in
+      index_is x f.0 f.1 ∙ (subst (λ (s : Source). IsGradedSource m grades x inputs i.signal.width f.0 s) i.is f.2.source).1
+
+  pub late_input : (n x : ℕ) → x < inputs → nat_le n (min x 2) ≡ true → late_from n x ≡ true
+  late_input n x less e = ap (nat_le n) (input_grade x less) ∙ e
+
+  pub early_port : (most place : ℕ) (t : IsPort m grades most place) → IsEarly m (late_from (suc most)) place t.wide
+  early_port most place t = record {
+    has = t.has;
+    after = t.after;
+    early = ap (nat_le (suc most)) (index_is place t.own t.listed) ∙ not_less (suc most) t.own (let below = t.below in omega arith);
+  }
+    where
+      not_less : (a b : ℕ) → b < a → nat_le a b ≡ false
+      not_less a b less = grind arith
+
+  pub early_slot : (place : ℕ) → IsSlotPort m grades place → late_from 2 place ≡ false
+  early_slot place t = ap (nat_le 2) (index_is place 0 t.listed)
+
+  pub slot_port : (place : ℕ) → IsSlotPort m grades place → IsEarly m (late_from 1) place 1
+  slot_port place t = record { has = t.has; after = t.after; early = ap (nat_le 1) (index_is place 0 t.listed) }
+
+-- ---- the module of a thread
+
+is_number : (x n : ℕ) → nat_eq x n ≡ true → x ≡ n
+is_number x n e = grind arith
+
+is_other : (x n : ℕ) → nat_eq x n ≡ false → x ≢ n
+is_other x n e = grind arith
+
+other_is : (x n : ℕ) → x ≢ n → nat_eq x n ≡ false
+other_is x n e = grind arith
+
+is_below : (x y : ℕ) → nat_lt x y ≡ true → x < y
+is_below x y e = grind (arith, nat_tests)
+
+is_above : (x y : ℕ) → nat_lt x y ≡ false → y ≤ x
+is_above x y e = grind (arith, nat_tests)
+
+below_is : (x y : ℕ) → x < y → nat_lt x y ≡ true
+below_is x y less = grind (arith, nat_tests)
+
+above_is : (x y : ℕ) → y ≤ x → nat_lt x y ≡ false
+above_is x y le = grind (arith, nat_tests)
+
+two_least : (x : ℕ) → 2 ≤ x → min x 2 ≡ 2
+two_least x le = omega arith
+
+-- a part of an ask has its place among those of all cores
+part_place : (banks values k j : ℕ) (c : Bool) → nat_lt k banks ≡ c → k < suc banks → j < (if c then 4 else 2 + values) → 4 * k + j < 4 * banks + 2 + values
+part_place banks values k j true e core part = let less = is_below k banks e in omega arith
+part_place banks values k j false e core part = let le = is_above k banks e in let same : k
+    ≡ banks = omega arith in subst (λ n. 4 * n + j < 4 * banks + 2 + values) (sym same) (omega arith)
+
+told_core : (banks k j : ℕ) (c : Bool) → nat_lt k banks ≡ c → j < (if c then 1 else 0) → (k < banks) × (j ≡ 0)
+told_core banks k j true e part = (is_below k banks e, omega arith)
+told_core banks k j false e part = absurd (omega arith)
+
+module _ (banks : ℕ) (printer : Printer) (m : Module) where
+  abbrev inputs : ℕ
+  inputs = input_count banks
+
+  abbrev parts : ℕ → ℕ
+  parts = parts_of banks printer.values
+
+  abbrev told : ℕ → ℕ
+  told = told_of banks
+
+  abbrev Heard_at : ℕ → Heard → Type 0
+  Heard_at x h = IsHeard m inputs (leaf_of banks printer m) (suc banks) parts told x h
+
+  -- an input is what its place says
+  heard_ported : (x : ℕ) → x < inputs → Heard_at x (input_at banks x)
+  heard_ported x less = first (nat_eq x 0) refl
+    where
+      third : (c : Bool) → nat_lt x (3 + banks) ≡ c → x ≢ 0 → x ≢ 1 → Heard_at x (if c then Grant (x - 2) else Told (x - (3 + banks)) 0)
+      third true e zero_not one_not =
+          let below = is_below x (3 + banks) e in
+          let core : x - 2 < suc banks = omega arith in
+          (core, below_is (x - 2) (suc banks) core, (let z : x ≡ 2 + (x - 2) = omega arith in z))
+      third false e zero_not one_not =
+          let past = is_above x (3 + banks) e in
+          let core : x - (3 + banks) < suc banks = omega arith in
+          let bank : x - (3 + banks) < banks = omega arith in
+          let one : 1 ≡ told (x - (3 + banks)) = ap (λ (t : Bool). if t then 1 else 0) (sym (below_is (x - (3 + banks)) banks bank)) in
+          (core, below_is (x - (3 + banks)) (suc banks) core, subst (λ n. 0 < n) one (omega arith), (let z : x ≡ 3 + banks + (x - (3 + banks)) = omega arith in z))
+
+      second : (c : Bool) → nat_eq x 1 ≡ c → x ≢ 0 → Heard_at x (if c then Enable else (if nat_lt x (3 + banks) then Grant (x - 2) else Told (x - (3 + banks)) 0))
+      second true e zero_not = is_number x 1 e
+      second false e zero_not = third (nat_lt x (3 + banks)) refl zero_not (is_other x 1 e)
+
+      first : (c : Bool) → nat_eq x 0 ≡ c
+          → Heard_at x (if c then Clock else (if nat_eq x 1 then Enable else (if nat_lt x (3 + banks) then Grant (x - 2) else Told (x - (3 + banks)) 0)))
+      first true e = is_number x 0 e
+      first false e = second (nat_eq x 1) refl (is_other x 0 e)
+
+  past_enable : (x : ℕ) → 2 ≤ x → input_at banks x ≡ (if nat_lt x (3 + banks) then Grant (x - 2) else Told (x - (3 + banks)) 0)
+  past_enable x le =
+      ap (λ (c : Bool). if c then Clock else (if nat_eq x 1 then Enable else (if nat_lt x (3 + banks) then Grant (x - 2) else Told (x - (3 + banks)) 0)))
+      (other_is x 0 (λ e. absurd (omega arith)))
+      ∙ ap (λ (c : Bool). if c then Enable else (if nat_lt x (3 + banks) then Grant (x - 2) else Told (x - (3 + banks)) 0)) (other_is x 1 (λ e. absurd (omega arith)))
+
+  grant_heard : (k : ℕ) → k < suc banks → HasHeard m inputs (leaf_of banks printer m) (suc banks) parts told (2 + k) (Grant k)
+  grant_heard k less = record {
+    input = omega arith;
+    is =
+        past_enable (2 + k) (omega arith)
+        ∙ ap (λ (c : Bool). if c then Grant (2 + k - 2) else Told (2 + k - (3 + banks)) 0) (below_is (2 + k) (3 + banks) (omega arith))
+        ∙ ap Grant (let z : 2 + k - 2 ≡ k = omega arith in z);
+  }
+
+  told_heard : (k j : ℕ) → j < told k → HasHeard m inputs (leaf_of banks printer m) (suc banks) parts told (3 + banks + k) (Told k j)
+  told_heard k j part =
+      let core = told_core banks k j (nat_lt k banks) refl part in
+      let bank = core.0 in
+      record {
+        input = omega arith;
+        is =
+            past_enable (3 + banks + k) (omega arith)
+            ∙ ap (λ (c : Bool). if c then Grant (3 + banks + k - 2) else Told (3 + banks + k - (3 + banks)) 0) (above_is (3 + banks + k) (3 + banks) (omega arith))
+            ∙ ap (λ n. Told n 0) (let z : 3 + banks + k - (3 + banks) ≡ k = omega arith in z) ∙ ap (Told k) (sym core.1);
+      }
+
+module _ (shape : Shape) (code : ThreadCode) (plan : Planned) (printer : Printer) (m : Module) (t : IsModule shape code plan m) (served : IsServed shape code plan printer)
+    (checked : IsChecked (bank_total shape.spreads) printer m) where
+  abbrev all_banks : ℕ
+  all_banks = bank_total shape.spreads
+
+  abbrev count : ℕ
+  count = input_count all_banks
+
+  abbrev first : ℕ
+  first = first_output all_banks printer m
+
+  firsts : (x : ℕ) → x < count → HasInput m x
+  firsts x less =
+      let found = got_any t.laid.with_inputs x (subst (λ n. x < n) (sym (inputs_long shape code plan printer m t served)) less) in
+      let own = (wired shape code plan printer m t served).inputs x found.0 (omega arith) found.1 in
+      record { signal = found.0; listed = listed t.laid.with_inputs m.signals x found.0 (from_inputs shape code plan printer m t served) found.1; is = own.drives }
+
+  abbrev late : ℕ → ℕ → Bool
+  late = late_from m count checked.grades checked.are checked.ports.acts t.alone firsts checked.begun
+
+  late_at : (n x : ℕ) → 2 ≤ x → x < count → nat_le n 2 ≡ true → late n x ≡ true
+  late_at n x le less e =
+      late_input m count checked.grades checked.are checked.ports.acts t.alone firsts checked.begun n x less (ap (nat_le n) (two_least x le) ∙ e)
+
+  answers : (n : ℕ) → nat_le n 2 ≡ true → AnswersAreLate m count (leaf_of all_banks printer m) (suc all_banks) (parts_of all_banks printer.values) (told_of all_banks) (late n)
+  answers n e = record {
+    leaf = graded_leaf m count checked.grades checked.are checked.ports.acts t.alone firsts checked.begun n;
+    grants = λ k less uses. late_at n (2 + k) (omega arith) (omega arith) e;
+    tells = λ k j less uses part.
+        let bank = (told_core all_banks k j (nat_lt k all_banks) refl part).0 in
+        late_at n (3 + all_banks + k) (omega arith) (omega arith) e;
+  }
+
+  slot_bit : (place : ℕ) → IsSlotPort m checked.grades place → IsSlotBit m count (leaf_of all_banks printer m) (suc all_banks) (parts_of all_banks printer.values)
+      (told_of all_banks) place
+  slot_bit place s = record {
+    late = late 1;
+    answered = answers 1 refl;
+    enable = late_input m count checked.grades checked.are checked.ports.acts t.alone firsts checked.begun 1 1 (omega arith) refl;
+    bit = slot_port m count checked.grades checked.are checked.ports.acts t.alone firsts checked.begun place s;
+  }
+
+  early_output : (x : ℕ) → x < 4 * all_banks + printer.values + 4 → late 2 (first + x) ≡ false
+  early_output x less =
+      ⊎_elim
+      (λ (low : x < 4 * all_banks + 2 + printer.values).
+      (early_port m count checked.grades checked.are checked.ports.acts t.alone firsts checked.begun 1 (first + x) (checked.ports.asks x low)).early)
+      (λ (high : 4 * all_banks + 2 + printer.values ≤ x).
+      ⊎_elim
+      (λ (same : x ≡ 4 * all_banks + 2 + printer.values).
+      ap (λ n. late 2 (first + n)) same
+      ∙ early_slot m count checked.grades checked.are checked.ports.acts t.alone firsts checked.begun (first + (4 * all_banks + 2 + printer.values)) checked.ports.need)
+      (λ (ne : x ≢ 4 * all_banks + 2 + printer.values).
+      let last : x ≡ 4 * all_banks + 3 + printer.values = omega arith in
+      ap (λ n. late 2 (first + n)) last
+      ∙ early_slot m count checked.grades checked.are checked.ports.acts t.alone firsts checked.begun (first + (4 * all_banks + 3 + printer.values)) checked.ports.done)
+      (same_or_not x (4 * all_banks + 2 + printer.values)))
+      (cases_lt x (4 * all_banks + 2 + printer.values))
+
+  pub leaf_is : IsLeafOf all_banks printer m
+  leaf_is = record {
+    thread = record {
+      ported = record {
+        all = heard_ported all_banks printer m;
+        enable = record { input = omega arith; is = refl };
+        grants = λ k less uses. grant_heard all_banks printer m k less;
+        tells = λ k j less uses part. told_heard all_banks printer m k j part;
+      };
+      clockless = clockless m count checked.grades checked.are checked.ports.acts t.alone firsts checked.begun;
+      late = late 2;
+      answered = answers 2 refl;
+      asks = λ k j less uses part.
+          let port = checked.ports.asks (4 * k + j) (part_place all_banks printer.values k j (nat_lt k all_banks) refl less part) in
+          (port.wide, early_port m count checked.grades checked.are checked.ports.acts t.alone firsts checked.begun 1 (first + (4 * k + j)) port);
+      need = slot_bit (first + (4 * all_banks + 2 + printer.values)) checked.ports.need;
+      silent = λ r. writes_nothing m r m.actions checked.ports.acts;
+    };
+    done = slot_bit (first + (4 * all_banks + 3 + printer.values)) checked.ports.done;
+    alone = placed_is_sound m count first checked.grades checked.are checked.ports.acts t.alone checked.memories checked.ports.placed checked.ports.begins;
+    acts = checked.ports.acts;
+    early = early_output;
+  }

@@ -1,0 +1,6 @@
+pub mod Forming
+mod Grading
+pub mod Leafing
+mod Remembering
+mod Setting
+pub mod Shaping

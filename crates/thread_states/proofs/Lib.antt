@@ -1,0 +1,9 @@
+mod Acting
+mod Between
+pub mod Blocks
+mod Closing
+mod Linking
+mod Steering
+pub mod Stepping
+pub mod Storing
+mod Taken

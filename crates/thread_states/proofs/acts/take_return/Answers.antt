@@ -1,0 +1,19 @@
+use Rattle.thread_slots.specs.Links.{LeadsTo}
+use Rattle.thread_states.specs.Stages.{TakesReturn}
+use Rattle.thread_states.proofs.Acting.{return_made}
+use Rattle.thread_slots.proofs.Taken.{on_two}
+use Rattle.thread_states.proofs.Taken.{Leads, return_linked}
+use Rattle.thread_states.proofs.acts.take_return.Goals as goal
+
+pub returns : goal.returns
+returns c =
+    on_two c.lead.result (LeadsTo c.stage_number.new.wires.signals c.lead.new.wires.signals c.args.chains.now c.lead.new.self c.in_ok-at.at c.in_ok-target.target)
+    (Leads c.stage_number.new.wires.signals c.lead.new.wires.signals c.args.registers.now c.args.chains.now c.lead.new.self c.in_ok-at.at c.in_ok-target.target)
+    (TakesReturn c.args.code.now c.args.registers.now c.args.stage c.args.wires.now.signals c.lead.new.wires.signals c.args.chains.now c.lead.new.self)
+    (λ t u.
+    return_made c.args.wires.now.signals c.at_stage.new.wires.signals c.stage_number.new.wires.signals c.lead.new.wires.signals c.args.code.now c.args.registers.now c.args.stage
+    c.in_ok-at.at
+    c.len.result c.in_ok-target.target c.args.chains.now c.lead.new.self c.len.ensures c.in_ok-at.ensures.shows c.in_ok-target.ensures.shows t
+    (return_linked c.args.wires.now.signals c.at_stage.new.wires.signals c.stage_number.new.wires.signals c.lead.new.wires.signals c.args.code.now c.args.registers.now c.args.stage
+    c.in_ok-at.at c.in_ok-target.target c.args.chains.now c.lead.new.self c.in_ok-at.ensures.wired c.in_ok-target.ensures.wired u))
+    c.lead.ensures.leads c.lead.ensures.wired

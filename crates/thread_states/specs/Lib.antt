@@ -1,0 +1,6 @@
+pub mod Actions
+pub mod Cells
+pub mod Control
+pub mod Stages
+pub mod Stores
+pub mod Wired

@@ -1,0 +1,182 @@
+-- What the wires of a stage show: nothing in a reading of another stage, and in one of this stage what the state leaves.
+use Rattle.std.specs.Prelude.{◌≡◌, ◌≢◌, ℕ, suc, ◌<◌, ◌≤◌, ◌%◌, ◌^◌, nat_eq, false, if◌then◌else◌, min, List, length, Option, Some, slice_get, ℤ}
+use Rattle.interleaving.specs.Memory.{Location}
+use Rattle.hls_ints.specs.Residues.{residue_of, bit_of}
+use Rattle.hls_ints.specs.Types.{IntegerType, HasType, width_of}
+use Rattle.block_ir.specs.declared.block.Operation.{Operation}
+use Rattle.block_ir.specs.declared.block.Block.{Block}
+use Rattle.block_ir.specs.declared.code.ActOperand.{ActOperand}
+use Rattle.block_ir.specs.declared.code.Act.TheVariants.{Print, Return}
+use Rattle.block_ir.specs.declared.code.Stage.{Stage}
+use Rattle.block_ir.specs.declared.code.Stage.TheVariants as stage
+use Rattle.block_ir.specs.declared.code.ThreadCode.{ThreadCode}
+use Rattle.block_ir.specs.declared.plan.BlockPlan.{BlockPlan}
+use Rattle.block_ir.specs.declared.plan.StagePlan.{StagePlan}
+use Rattle.block_ir.specs.declared.plan.StagePlan.TheVariants as planned
+use Rattle.block_ir.specs.declared.plan.Planned.{Planned}
+use Rattle.planned_block.specs.Block.{finished, leads_to}
+use Rattle.planned_block.specs.Slot.{Slot, operand_now, RegistersAfter}
+use Rattle.planned_view.specs.View.{planned_view, plan_view}
+use Rattle.netlist.specs.declared.netlist.Signal.{Signal}
+use Rattle.netlist.specs.declared.netlist.Module.{Module}
+use Rattle.verilog_meaning.specs.Readings.{Reading, width}
+use Rattle.circuit.specs.Modules.{Obeys}
+use Rattle.operator_wires.specs.Gives.{Grows}
+use Rattle.thread_promise.specs.Types.{value_type}
+use Rattle.thread_promise.specs.Slots.{IsAlive}
+use Rattle.block_datapath.specs.declared.registers.Held.{Held}
+use Rattle.block_datapath.specs.declared.registers.Registers.{Registers}
+use Rattle.block_datapath.specs.Operations.{SeesSlot, IsRight, IsFed}
+use Rattle.block_datapath.specs.Chains.{next_number, TellsStage}
+use Rattle.block_datapath.specs.Leave.{HasStage, IsInStage}
+use Rattle.thread_slots.specs.declared.shape.Printer.{Printer}
+use Rattle.thread_slots.specs.declared.chains.Chains.{Chains}
+use Rattle.operator_wires.specs.Built.{Base, IsEarlier}
+use Rattle.thread_slots.specs.Idle.{has_printer, is_idle}
+use Rattle.thread_slots.specs.Links.{AreBits, IsStill, ShowSame, AreAsMany}
+use Rattle.thread_slots.specs.Wired.{AreLinked, KeepsLinks, FitStates}
+use Rattle.thread_states.specs.Wired.{StepIsWired}
+use Rattle.thread_slots.specs.Slots.{KnowsStage}
+
+-- ---- one stage
+
+-- stage l adds to the chains: in a reading of another stage they show what they showed
+pub record StepsOver (registers : Registers) (l : ℕ) (old new : List Signal) (before after : Chains) : Type 0 where
+  pub grows : Grows old new
+  pub many : AreAsMany before after
+  pub bits : AreBits old before → AreBits new after
+  pub rests : (m : Module) (r : Reading) → Grows new m.signals → Obeys m r → AreBits old before → HasStage registers l m r → r.signal registers.stage.register ≢ l →
+      ShowSame r before after
+
+-- a stage in which the thread waits forever
+pub record Idles (registers : Registers) (l : ℕ) (old new : List Signal) (before after : Chains) : Type 0 where
+  pub step : StepsOver registers l old new before after
+  pub waits : (m : Module) (r : Reading) → Grows new m.signals → Obeys m r → AreBits old before → HasStage registers l m r → r.signal registers.stage.register ≡ l →
+      r.signal before.waits ≡ 0 →
+      r.signal after.waits ≡ 1
+  pub wired : (base : Base) (code : ThreadCode) → AreLinked base old code registers before → l ≤ length code.stages
+      → KeepsLinks base old new code registers after
+
+-- the last stage, past all others, and the bit that tells it
+pub record EndsAt (code : ThreadCode) (registers : Registers) (old new : List Signal) (before after : Chains) (at : ℕ) : Type 0 where
+  pub idles : Idles registers (length code.stages) old new before after
+  pub told : TellsStage old new registers (length code.stages) at
+  pub wired : (base : Base) → AreLinked base old code registers before → IsEarlier new base at 1
+
+module _ (code : ThreadCode) (registers : Registers) where
+  -- an act: it takes one state, which leads to a stage, and changes no variable
+  pub record LeavesAct (target : ℕ) (r : Reading) (start c : Chains) : Type 0 where
+    pub is_last : r.signal c.is_last ≡ 1
+    pub stage : r.signal c.stage ≡ target
+    pub variables : (x : ℕ) → next_number r c.variables x ≡ next_number r start.variables x
+    pub waits : r.signal c.waits ≡ 0
+
+  pub record TakesReturn (l : ℕ) (old new : List Signal) (before after : Chains) : Type 0 where
+    pub step : StepsOver registers l old new before after
+    pub returns : AreBits old before → (m : Module) (r : Reading) → Grows new m.signals → Obeys m r → KnowsStage code registers m r → IsStill r registers before →
+        l ≤ length code.stages
+        → r.signal registers.stage.register ≡ l → LeavesAct (length code.stages) r before after
+    pub wired : (base : Base) → AreLinked base old code registers before → l ≤ length code.stages → KeepsLinks base old new code registers after
+
+  -- where there is a printer, a printf leads on
+  pub record TakesPrint (printer : Option Printer) (l next : ℕ) (old new : List Signal) (before after : Chains) : Type 0 where
+    pub step : StepsOver registers l old new before after
+    pub prints : AreBits old before → (known : Printer) → printer ≡ Some known → (m : Module) (r : Reading) → Grows new m.signals → Obeys m r → KnowsStage code registers m r
+        → IsStill r registers before → l ≤ length code.stages → r.signal registers.stage.register ≡ l → LeavesAct (min next (length code.stages)) r before after
+    pub wired : (plan : Option StagePlan) → l ≤ length code.stages → StepIsWired code registers plan old new before after
+
+module _ (globals : List IntegerType) (code : ThreadCode) (registers : Registers) where
+  -- registers have room for the values that a plan keeps there
+  abbrev pub HasWidths : Block → BlockPlan → Type 0
+  HasWidths b p =
+      (k x : ℕ) (o : Operation) → slice_get b.operations k ≡ Some o → (plan_view b p).register k ≡ Some x →
+      (h : Held) × (slice_get registers.kept x ≡ Some h) × (width_of (value_type globals code o) ≤ h.width)
+
+  -- a state of a block at stage l: what follows it if it is left
+  pub record LeavesState (l : ℕ) (b : Block) (p : BlockPlan) (r : Reading) (q : Slot) (wire : ℕ → ℤ) (c : Chains) : Type 0 where
+    pub is_last : r.signal c.is_last ≡ bit_of (nat_eq (suc q.state) p.states)
+    pub stage : r.signal c.stage ≡ (if nat_eq (suc q.state) p.states then leads_to (operand_now (planned_view b) (plan_view b p) q wire) (planned_view b).next else l)
+    pub variables : (x : ℕ) (ty : IntegerType) → slice_get code.variables x ≡ Some ty → next_number r c.variables x
+        ≡ residue_of (width_of ty) (if nat_eq (suc q.state) p.states then finished (operand_now (planned_view b) (plan_view b p) q wire)
+        (planned_view b).finals q.variables x else q.variables x)
+    pub typed : (x : ℕ) (ty : IntegerType) → slice_get code.variables x ≡ Some ty →
+        HasType ty (if nat_eq (suc q.state) p.states then finished (operand_now (planned_view b) (plan_view b p) q wire) (planned_view b).finals q.variables x else q.variables x)
+    pub kept : (registers_after : ℕ → ℤ) → RegistersAfter (planned_view b) (plan_view b p) q wire registers_after → (next : Slot) → next.state ≡ suc q.state → (k x : ℕ)
+        (t : IsAlive b p next k x) →
+        (next_number r c.kept x % 2 ^ width_of (value_type globals code t.operation) ≡ residue_of (width_of (value_type globals code t.operation)) (registers_after x))
+        × HasType (value_type globals code t.operation) (registers_after x)
+    pub waits : r.signal c.waits ≡ 0
+
+  -- what a block at stage l does, in a reading of one of its states
+  abbrev pub Runs : ℕ → List Signal → Chains → Chains → Block → BlockPlan → Type 0
+  Runs l new start c b p =
+      (bank : Location → ℕ) (m : Module) (r : Reading) (q : Slot) (wire : ℕ → ℤ) → Grows new m.signals → Obeys m r → IsStill r registers start → IsRight globals code registers b p
+      → IsInStage globals code registers l b p m r q → SeesSlot globals code registers b p m r q → IsFed globals code registers b p bank m r q wire
+      → HasWidths b p → KnowsStage code registers m r → LeavesState l b p r q wire c
+
+  -- a block at stage l
+  pub record RunsBlock (l : ℕ) (b : Block) (p : BlockPlan) (old new : List Signal) (before after : Chains) : Type 0 where
+    pub step : StepsOver registers l old new before after
+    pub runs : AreBits old before → length before.variables ≡ length code.variables → length before.kept ≡ length registers.kept → Runs l new before after b p
+    pub goes : (r : Reading) → IsStill r registers before → r.signal after.waits ≡ 0
+    pub wired : l ≤ length code.stages → StepIsWired code registers (Some (planned.Run p)) old new before after
+
+  -- what stage l does, in a reading of it: from links that are still to those behind it
+  pub record DoesStage (printer : Option Printer) (l : ℕ) (s : Stage) (plan : Option StagePlan) (new : List Signal) (start c : Chains) : Type 0 where
+    pub runs : (b : Block) (p : BlockPlan) → s ≡ stage.Run b → plan ≡ Some (planned.Run p) → Runs l new start c b p
+    pub prints : (known : Printer) (site next : ℕ) (values : List ActOperand) → s ≡ stage.Act (Print site values) next → printer ≡ Some known → (m : Module) (r : Reading) →
+        Grows new m.signals → Obeys m r → KnowsStage code registers m r → IsStill r registers start → r.signal registers.stage.register ≡ l →
+        LeavesAct code registers (min next (length code.stages)) r start c
+    pub returns : (next : ℕ) → s ≡ stage.Act Return next → (m : Module) (r : Reading) → Grows new m.signals → Obeys m r → KnowsStage code registers m r →
+        IsStill r registers start →
+        r.signal registers.stage.register ≡ l → LeavesAct code registers (length code.stages) r start c
+    -- whoever is not idle does not wait
+    pub goes : is_idle (has_printer printer) s plan ≡ false → (m : Module) (r : Reading) → Grows new m.signals → Obeys m r → KnowsStage code registers m r →
+        IsStill r registers start → r.signal registers.stage.register ≡ l → r.signal c.waits ≡ 0
+
+  -- A STAGE
+  pub record TakesStage (printer : Option Printer) (l : ℕ) (s : Stage) (plan : Option StagePlan) (old new : List Signal) (before after : Chains) : Type 0 where
+    pub step : StepsOver registers l old new before after
+    pub does : AreBits old before → length before.variables ≡ length code.variables → length before.kept ≡ length registers.kept → l ≤ length code.stages
+        → DoesStage printer l s plan new before after
+    pub wired : l ≤ length code.stages → StepIsWired code registers plan old new before after
+
+  -- an act is taken, whatever its plan
+  abbrev pub TakesAct : Option Printer → ℕ → Stage → List Signal → List Signal → Chains → Chains → Type 0
+  TakesAct printer l s old new before after = (plan : Option StagePlan) → TakesStage printer l s plan old new before after
+
+  -- THE FIRST n STAGES
+  pub record WalksFirst (printer : Option Printer) (plan : Planned) (old new : List Signal) (start c : Chains) (n : ℕ) : Type 0 where
+    pub grows : Grows old new
+    pub many : AreAsMany start c
+    pub bits : AreBits old start → AreBits new c
+    pub still : (m : Module) (r : Reading) → Grows new m.signals → Obeys m r → AreBits old start → KnowsStage code registers m r →
+        ((k : ℕ) → k < n → r.signal registers.stage.register ≢ k)
+        → ShowSame r start c
+    pub does : AreBits old start → length start.variables ≡ length code.variables → length start.kept ≡ length registers.kept → (k : ℕ) (s : Stage) → k < n →
+        slice_get code.stages k ≡ Some s →
+        DoesStage printer k s (slice_get plan.stages k) new start c
+    pub wired : (base : Base) → FitStates registers plan →
+        AreLinked base old code registers start
+        → n ≤ length code.stages → KeepsLinks base old new code registers c
+
+  -- ALL STAGES, and the end: nothing is done there, and the bit `done` tells it
+  pub record WalksAll (printer : Option Printer) (plan : Planned) (old new : List Signal) (start c : Chains) (done : ℕ) : Type 0 where
+    pub grows : Grows old new
+    pub many : AreAsMany start c
+    pub bits : AreBits old start → AreBits new c
+    pub does : AreBits old start → length start.variables ≡ length code.variables → length start.kept ≡ length registers.kept → (k : ℕ) (s : Stage) →
+        slice_get code.stages k ≡ Some s →
+        DoesStage printer k s (slice_get plan.stages k) new start c
+    -- at the end the thread waits
+    pub ends : (m : Module) (r : Reading) → Grows new m.signals → Obeys m r → AreBits old start → KnowsStage code registers m r → IsStill r registers start →
+        r.signal registers.stage.register ≡ length code.stages → r.signal c.waits ≡ 1
+    -- and at no number past it
+    pub past : (m : Module) (r : Reading) → Grows new m.signals → Obeys m r → AreBits old start → KnowsStage code registers m r → IsStill r registers start →
+        ((k : ℕ) → k ≤ length code.stages → r.signal registers.stage.register ≢ k) → r.signal c.waits ≡ 0
+    pub done_wide : (m : Module) → Grows new m.signals → width m done ≡ 1
+    pub done_is : (m : Module) (r : Reading) → Grows new m.signals → Obeys m r → KnowsStage code registers m r →
+        r.signal done ≡ bit_of (nat_eq (r.signal registers.stage.register) (length code.stages))
+    pub wired : (base : Base) → FitStates registers plan →
+        AreLinked base old code registers start
+        → KeepsLinks base old new code registers c × IsEarlier new base done 1

@@ -1,0 +1,27 @@
+-- Stages keep stores right.
+use Rattle.std.specs.Prelude.{◌≡◌, ℕ, ◌≤◌, ◌^◌, List, length, Option, Some}
+use Rattle.block_ir.specs.declared.code.ThreadCode.{ThreadCode}
+use Rattle.block_ir.specs.declared.plan.BlockPlan.{BlockPlan}
+use Rattle.block_ir.specs.declared.plan.StagePlan.{StagePlan}
+use Rattle.block_ir.specs.declared.plan.StagePlan.TheVariants as planned
+use Rattle.block_ir.specs.declared.plan.Planned.{Planned}
+use Rattle.netlist.specs.declared.netlist.Signal.{Signal}
+use Rattle.operator_wires.specs.Built.{Base}
+use Rattle.block_datapath.specs.declared.registers.Registers.{Registers}
+use Rattle.thread_slots.specs.declared.shape.Printer.{Printer}
+use Rattle.thread_slots.specs.declared.chains.Chains.{Chains}
+use Rattle.thread_slots.specs.declared.stores.Store.{Store}
+use Rattle.thread_slots.specs.Wired.{AreLinked, FitStates}
+use Rattle.thread_slots.specs.Stores.{AreRightStores}
+
+-- A STAGE, by its plan, keeps stores right
+abbrev pub StageKeepsStores : ThreadCode → Registers → ℕ → Option StagePlan → List Signal → List Signal → Chains → List Store → List Store → Type 0
+StageKeepsStores code registers l plan old new chains before after =
+    (base : Base) → ((p : BlockPlan) → plan ≡ Some (planned.Run p) → p.states ≤ 2 ^ registers.state.width) → AreLinked base old code registers chains
+    → l ≤ length code.stages → AreRightStores base old before → AreRightStores base new after
+
+-- so do the first n stages
+abbrev pub StagesKeepStores : ThreadCode → Registers → Option Printer → Planned → ℕ → List Signal → List Signal → Chains → List Store → List Store → Type 0
+StagesKeepStores code registers printer plan n old new chains before after =
+    (base : Base) → FitStates registers plan → AreLinked base old code registers chains
+    → n ≤ length code.stages → AreRightStores base old before → AreRightStores base new after
