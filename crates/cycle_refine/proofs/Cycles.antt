@@ -38,7 +38,7 @@ module _ (P : Program) (spreads : List Spread) (banks : List Bank) (code : Threa
   Shows h s = ShowsAll 1 (suc (length banks)) (threads_of P spreads banks m leaf shape) (cores_of P spreads banks m leaf shape)
       (places_of P spreads banks code plan m inputs leaf shape modules top whole.at) modules top h s
 
-  prints_alone : PrintsAlone 1 (suc (length banks)) (threads_of P spreads banks m leaf shape) (cores_of P spreads banks m leaf shape) (length banks)
+  pub prints_alone : PrintsAlone 1 (suc (length banks)) (threads_of P spreads banks m leaf shape) (cores_of P spreads banks m leaf shape) (length banks)
   prints_alone k l other s i a = banks_silent banks shape k l other s i a
 
   pub initial_shows : Shows (initial_state modules top) (start 1 (suc (length banks)) (threads_of P spreads banks m leaf shape) (cores_of P spreads banks m leaf shape))

@@ -37,10 +37,10 @@ module _ (P : Program) (spreads : List Spread) (banks : List Bank) (code : Threa
 
   -- a settled valuation has the bit of done that the slot tells
   pub done_is : (h v : Valuation) (c : Choice) → IsSettled modules top h c v → (s : Reading) → Agree m s (h (whole.at.thread ∷ []))
-      → (v []).signal whole.done.place ≡ bit_of ((leaf_thread m leaf).is_done s)
+      → (v []).signal whole.done.shows.place ≡ bit_of ((leaf_thread m leaf).is_done s)
   done_is h v c settled s agrees =
       let path = whole.at.thread ∷ [] in
-      carried h v c settled whole.done.place whole.done.signal whole.done.is.listed whole.at.thread leaf.done whole.done.drives
+      carried h v c settled whole.done.shows.place whole.done.shows.signal whole.done.shows.is.listed whole.at.thread leaf.done whole.done.drives
       ∙ slot_bit_is m inputs leaf (suc (length banks)) (parts banks shape) (told banks shape) whole.built.module_.thread leaf.done whole.built.module_.done (v path) s
       (obeys modules top h v c settled path m whole.runs) (agree_on m s (h path) (v path) agrees (holds modules top h v c settled path m whole.runs))
 

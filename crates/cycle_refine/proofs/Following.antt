@@ -5,11 +5,12 @@ use Rattle.std.specs.Prelude.{◌↔◌}
 use Rattle.std.specs.List.{All}
 use Rattle.std.proofs.lemmas.Option.{slice_get_within, get_or_from_slice_get}
 use Rattle.std.proofs.lemmas.List.Elements.{All-nil, All-take, All-get_or}
-use Rattle.hls_ints.specs.Residues.{bit_of}
-use Rattle.c_program.specs.Tree.{Program}
+use Rattle.hls_ints.specs.Residues.{bit_of, residue_of}
+use Rattle.c_program.specs.Tree.{GlobalVariable, Program}
 use Rattle.c_program.specs.Weight.{bound}
 use Rattle.bank_partition.specs.declared.banks.Spread.{Spread}
 use Rattle.bank_cores.specs.declared.bank.Shape.{Shape as Bank}
+use Rattle.bank_cores.specs.Bank.{memory_of}
 use Rattle.thread_semantics.specs.State.{State}
 use Rattle.thread_semantics.specs.Step.{Steps, after}
 use Rattle.race_model.proofs.Agreement.{same_meaning}
@@ -17,12 +18,14 @@ use Rattle.race_model.proofs.Orderly.{orderly}
 use Rattle.bank_partition.proofs.Counting as counting
 use Rattle.block_ir.specs.declared.code.ThreadCode.{ThreadCode}
 use Rattle.block_ir.specs.declared.plan.Planned.{Planned}
+use Rattle.netlist.specs.declared.netlist.Memory.{Memory}
 use Rattle.netlist.specs.declared.netlist.Module.{Module}
 use Rattle.verilog_meaning.specs.Readings.{Reading}
 use Rattle.verilog_meaning.specs.Cycles.{Valuation, Choice, IsState, Reaches, ShowsDone, initial_state}
 use Rattle.verilog_meaning.specs.Threads.{IsChoice, Counted, all_enabled}
 use Rattle.verilog_meaning.specs.Follows.{Lively}
 use Rattle.verilog_meaning.specs.Follows as net
+use Rattle.verilog_meaning.proofs.Banks.{banks_below}
 use Rattle.circuit.specs.Wiring.{start}
 use Rattle.circuit.proofs.Staged.{staged_settles}
 use Rattle.leaf_machine.specs.Leaves.{LeafPorts, leaf_thread}
@@ -32,12 +35,13 @@ use Rattle.program_machine.specs.Built.{core_machine, words_of_core}
 use Rattle.program_machine.specs.Following as machine
 use Rattle.program_machine.specs.Following.{threads_of, cores_of, Machine, machine_after, printed_after, IsStill, enabled_count, MachineFollows}
 use Rattle.program_machine.proofs.Whole.{element_within}
-use Rattle.program_machine.proofs.Partitioned.{some_banks, bank_below, core_of, type_here}
+use Rattle.program_machine.proofs.Partitioned.{some_banks, count_low, bank_below, core_of, type_here}
 use Rattle.cycle_refine.specs.Whole.{core_places, IsWhole, NetFollows}
 use Rattle.cycle_refine.proofs.Determined.{done_is, shown_is, determined}
 use Rattle.cycle_refine.proofs.Cycles.{Shows, initial_shows, run_shows, initial_is_state, run_state}
 use Rattle.cycle_refine.proofs.Slots.{changes, rests}
 use Rattle.cycle_refine.proofs.Counting.{counted}
+use Rattle.cycle_refine.proofs.Existing.{runs_exist}
 
 bit_set : (b : Bool) → 1 ≡ bit_of b → b ≡ true
 bit_set true e = refl
@@ -66,24 +70,32 @@ module _ (P : Program) (spreads : List Spread) (banks : List Bank) (code : Threa
             (shown_is P spreads banks code plan m inputs leaf shape modules top whole h (all_enabled 1 []) 1 shows (s.slots 0) before),
         λ done.
             let c = all_enabled 1 [] in
-            let choice : IsChoice 1 c = ((let l : 1 < 2 = omega arith in l), All-nil (λ p. p < 16)) in
+            let choice : IsChoice 1 c = ((let l : 1 < 2 = omega arith in l), All-nil (λ p. p < 64)) in
             let v = staged_settles modules top whole.stages whole.staged h c state (whole.fits c choice) in
             record {
-              place = whole.done.place;
-              signal = whole.done.signal;
-              is = whole.done.is;
+              place = whole.done.shows.place;
+              signal = whole.done.shows.signal;
+              is = whole.done.shows.is;
+              out = whole.done.shows.out;
+              bit = whole.done.shows.bit;
               through = v.0;
               settled = v.1;
               number = done_is P spreads banks code plan m inputs leaf shape modules top whole h v.0 c v.1 (s.slots 0) before ∙ ap bit_of done;
             },
       )
 
+  -- the banks of a global are those of the numbers below their count
+  has_banks : (x : ℕ) (g : GlobalVariable) (t : Spread) → slice_get P.globals x ≡ Some g → slice_get spreads x ≡ Some t → net.HasBanks modules top g.name t.count
+  has_banks x g t declared listed =
+      let low = count_low P spreads banks whole.built.banked x t listed in
+      banks_below modules top g.name t.count (omega (arith, low)) (λ k l. (whole.banked.stands x k g t declared listed l).0)
+      (λ digits minimal b. whole.banked.only x g t declared listed digits minimal b)
+
   -- an element that the machine has is a word of its bank
   has_word : (h : Valuation) (s : Machine P spreads banks m leaf shape) → Shows P spreads banks code plan m inputs leaf shape modules top whole h s →
-      (state : State) (steps : List ℕ) →
-      after P steps ≡ Steps state → ((x j : ℕ) → machine.HasElement P spreads banks m leaf shape s state.globals x j) → (x : List ℕ) (j word : ℕ) → HasBits P state x j word →
-      net.HasWord modules top h x j word
-  has_word h s shown state steps led has x j word bits =
+      (state : State) (steps : List ℕ) → after P steps ≡ Steps state → ((x j : ℕ) → machine.HasElement P spreads banks m leaf shape s state.globals x j) →
+      (x : List ℕ) (j width word : ℕ) → HasBits P state x j width word → net.HasWord modules top h x j width word
+  has_word h s shown state steps led has x j width word bits =
       let banked = whole.built.banked in
       let resolved = whole.built.resolved in
       let reached = ((same_meaning P resolved).reached steps state).1 led in
@@ -96,6 +108,7 @@ module _ (P : Program) (spreads : List Spread) (banks : List Bank) (code : Threa
       let at = t.first + j % t.count in
       let bank = whole.banked.stands bits.number (j % t.count) bits.global t bits.declared there.stands below in
       let place : bank.0.place ≡ whole.at.core at = bank.1 in
+      let memory : bank.0.memory ≡ memory_of core.bank = bank.3 core.bank core.found in
       let shows = shown.states at (let l = bank_below P spreads banks banked bits.number (j % t.count) t there.stands below in omega (arith, l)) in
       let small : j / t.count < length core.bank.initial = (let w = counting.has_word t.count t.length j some there.inside in let long = core.long in omega (arith, w, long)) in
       let word_is : (h (bank.0.place ∷ [])).word bank.0.number (j / t.count) ≡ word =
@@ -103,14 +116,16 @@ module _ (P : Program) (spreads : List Spread) (banks : List Bank) (code : Threa
       ∙ ap (λ i. (h (whole.at.core at ∷ [])).word i (j / t.count)) bank.2
       ∙ core_words banks shape at core.bank (h (whole.at.core at ∷ [])) (s.states at) core.found shows (j / t.count) small
       ∙ has bits.number j t bits.global.ty bits.value there.stands (type_here P spreads banks banked bits.number bits.global bits.declared) bits.has
-      ∙ sym bits.bits in
-      subst (λ (name : List ℕ). net.HasWord modules top h name j word) bits.named (record {
-        banks = t.count;
-        are = λ k. (
-          λ b. whole.banked.only bits.number k bits.global t bits.declared there.stands b,
-          λ l. (whole.banked.stands bits.number k bits.global t bits.declared there.stands l).0,
-        );
-        bank = bank.0;
+      ∙ ap (λ w. residue_of w bits.value) (sym bits.wide) ∙ sym bits.bits in
+      subst (λ (name : List ℕ). net.HasWord modules top h name j width word) bits.named (record {
+        element = record {
+          banks = t.count;
+          has = has_banks bits.number bits.global t bits.declared there.stands;
+          some = some;
+          bank = bank.0;
+          inside = subst (λ (z : Memory). j / t.count < length z.initial) (sym memory) small;
+        };
+        wide = ap (λ (z : Memory). z.width) memory ∙ core.width ∙ sym bits.wide;
         holds = word_is;
       })
 
@@ -149,8 +164,8 @@ module _ (P : Program) (spreads : List Spread) (banks : List Bank) (code : Threa
             after = q.after_;
             printed = (run_shows P spreads banks code plan m inputs leaf shape modules top whole (take n choices) h out reaches).1 ∙ q.printed;
             done = (λ shows. q.done.0 (both.0 shows), λ ended. both.1 (q.done.1 ended));
-            globals = λ ended x j word bits. has_word h (machine_after P spreads banks m leaf shape (take n choices)) shown q.state
-                (take (follows.steps n) follows.interleaving) q.after_ (q.globals ended) x j word bits;
+            globals = λ ended x j width word bits. has_word h (machine_after P spreads banks m leaf shape (take n choices)) shown q.state
+                (take (follows.steps n) follows.interleaving) q.after_ (q.globals ended) x j width word bits;
             progress = in_last q.progress
                 (λ moves. (lively moves.0, λ k count. subst (λ z. z / bound P ≤ length (take (follows.steps n) follows.interleaving) + 1) (sym (count_is k count)) moves.1));
           }
@@ -177,6 +192,7 @@ masks choices all n c e =
 pub net_follows : MachineFollows → NetFollows
 net_follows law P spreads banks code plan m inputs leaf shape modules top whole = (
   determined P spreads banks code plan m inputs leaf shape modules top whole,
+  λ choices all. runs_exist P spreads banks code plan m inputs leaf shape modules top whole choices all,
   λ good choices all.
       net_follows_it P spreads banks code plan m inputs leaf shape modules top whole choices all
       (law P spreads banks code plan m inputs leaf shape whole.built good choices (masks choices all)),

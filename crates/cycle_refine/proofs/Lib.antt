@@ -4,4 +4,5 @@ pub mod Determined
 pub mod Cycles
 pub mod Slots
 pub mod Counting
+pub mod Existing
 pub mod Following

@@ -10,15 +10,16 @@ use Rattle.thread_semantics.specs.State.{State}
 use Rattle.thread_semantics.specs.Step.{Steps, after, IsDeadlocked}
 use Rattle.verilog_meaning.specs.Follows as net
 
--- in the state element j of the integer global of this name has these bits
-pub record HasBits (P : Program) (s : State) (name : List ℕ) (j word : ℕ) : Type 0 where
+-- in the state element j of the integer global of this name, of a type of this width, has these bits
+pub record HasBits (P : Program) (s : State) (name : List ℕ) (j width word : ℕ) : Type 0 where
   pub number : ℕ
   pub global : GlobalVariable
   pub declared : slice_get P.globals number ≡ Some global
   pub named : global.name ≡ name
   pub value : ℤ
   pub has : element s.globals number j ≡ Some value
-  pub bits : word ≡ residue_of (width_of global.ty) value
+  pub wide : width ≡ width_of global.ty
+  pub bits : word ≡ residue_of width value
 
 abbrev pub seen_of : Program → net.Program State
 seen_of P = record {

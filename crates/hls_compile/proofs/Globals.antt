@@ -25,7 +25,7 @@ use Rattle.bank_partition.proofs.Counting.{count_is}
 use Rattle.bank_cores.specs.declared.bank.Shape.{Shape as Bank}
 use Rattle.bank_cores.specs.Bank.{IsShape}
 use Rattle.thread_promise.specs.Globals.{IsSmallPower, bank_total}
-use Rattle.fsm_datapath.specs.Thread.{AreRightSpreads}
+use Rattle.thread_layout.specs.Thread.{AreRightSpreads}
 use Rattle.program_machine.specs.Built.{globals_of, ArePartitioned}
 use Rattle.program_machine.proofs.Banks.{totals, below_all, same_global, spread_long}
 use Rattle.whole_net.specs.Table.{IsBankModule, AreBankModules}

@@ -20,13 +20,13 @@ use Rattle.bank_partition.specs.Shapes.{spreads_from}
 use Rattle.bank_partition.specs.Partition.{shapes, IsPartition, HasElements, AreBanks, AreHeld}
 use Rattle.bank_cores.specs.declared.bank.Shape.{Shape as Bank}
 use Rattle.code_following.specs.Following.{IsLowered, print_formats}
-use Rattle.ir_lower.specs.Typed.{IsTypedCode}
+use Rattle.code_following.specs.Typed.{IsTypedCode}
 use Rattle.thread_promise.specs.Globals.{bank_total}
 use Rattle.program_machine.specs.Built.{IsSingle, IsCode, ArePartitioned, part_of}
 use Rattle.program_machine.proofs.Partitioned.{total}
 use Rattle.planned_code.proofs.Whole.{plan_is_code}
-use Rattle.fsm_datapath.specs.Thread.{input_count, IsServed}
-use Rattle.fsm_datapath.specs.Leaf.{leaf_of}
+use Rattle.thread_layout.specs.Thread.{input_count, IsServed}
+use Rattle.thread_layout.specs.Leaf.{leaf_of}
 use Rattle.whole_net.specs.Table.{IsArbiterModule, AreBankModules}
 use Rattle.whole_net.specs.Layouts.{layout_of}
 use Rattle.whole_net.specs.Whole.{OfParts, IsWritten}

@@ -24,8 +24,10 @@ use Rattle.module_sound.specs.Grades.{ActsRight}
 use Rattle.print_core.specs.declared.printer.Shape.{Shape}
 use Rattle.thread_promise.specs.Globals.{bank_total}
 use Rattle.thread_promise.specs.Promise.{BankPorts, RunsCode}
-use Rattle.fsm_datapath.specs.Leaf.{leaf_of, parts_of, told_of, IsLeafOf}
-use Rattle.fsm_datapath.specs.Thread.{input_count, first_output, places_of, ports_of, HasBankPorts, HasShape}
+use Rattle.thread_layout.specs.Leaf.{leaf_of}
+use Rattle.thread_sound.specs.Leaf.{parts_of, told_of, IsLeafOf}
+use Rattle.thread_layout.specs.Thread.{input_count, first_output, places_of, ports_of}
+use Rattle.thread_sound.specs.Shape.{HasBankPorts, HasShape}
 use Rattle.program_machine.specs.Built.{globals_of, parts, told, ArePartitioned, IsThreadModule}
 use Rattle.program_machine.proofs.Cores.{core_parts, core_told, print_parts, print_told}
 use Rattle.program_machine.proofs.Partitioned.{there, total, bank_is, type_here}

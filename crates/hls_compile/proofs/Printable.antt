@@ -7,8 +7,8 @@ use Rattle.c_program.specs.Tree.{Piece, Program}
 use Rattle.c_program.specs.Limits.{print_sites}
 use Rattle.c_program.specs.Resolved.{is_text_byte, IsPiece, IsResolved}
 use Rattle.code_following.specs.Following.{conversions_of, print_formats}
-use Rattle.ir_lower.specs.Mains.{IsPrinted}
-use Rattle.ir_lower.proofs.Formats.{program_prints, formats_listed}
+use Rattle.thread_rooms.specs.Formats.{IsPrinted}
+use Rattle.thread_rooms.proofs.Formats.{program_prints, formats_listed}
 use Rattle.circuit.specs.Rows.{EachOf}
 use Rattle.print_core.specs.Format.{is_printable, all_printable, values_of, IsPart, IsSite}
 use Rattle.print_core.specs.Printer.{IsShape}

@@ -21,11 +21,11 @@ use Rattle.planned_view.specs.View.{register_at}
 use Rattle.code_following.specs.Following.{print_formats}
 use Rattle.right_plan.specs.Right.{IsRight, IsRightPlan}
 use Rattle.right_plan.proofs.Stages.{right_plans_are_there}
-use Rattle.ir_lower.specs.Typed.{types_of, IsTypedValue, IsTypedCode}
+use Rattle.code_following.specs.Typed.{types_of, IsTypedValue, IsTypedCode}
 use Rattle.bank_partition.specs.declared.banks.Spread.{Spread}
 use Rattle.program_machine.specs.Built.{globals_of}
-use Rattle.fsm_datapath.specs.Stages.{IsTypedActOperand}
-use Rattle.fsm_datapath.specs.Thread.{IsPrintable, AreRightSpreads, IsServed}
+use Rattle.thread_requests.specs.Fields.{IsTypedActOperand}
+use Rattle.thread_layout.specs.Thread.{IsPrintable, AreRightSpreads, IsServed}
 use Rattle.planned_code.proofs.Chains.{typed_at}
 use Rattle.hls_compile.specs.Parts.{main_shape, main_printer}
 use Rattle.hls_compile.proofs.Arrays.{IsFit}

@@ -13,11 +13,12 @@ use Rattle.block_ir.specs.declared.code.ThreadCode.{ThreadCode}
 use Rattle.block_ir.specs.declared.plan.Planned.{Planned}
 use Rattle.right_plan.specs.Right.{IsRightPlan}
 use Rattle.least_plan.specs.Planned.{IsPlanned}
-use Rattle.fsm_datapath.specs.Thread.{RunsServedCode, HasShapeOfServedCode}
-use Rattle.fsm_datapath.specs.Leaf.{IsLeafOfServedCode}
-use Rattle.fsm_datapath.specs.Steady.{IsSteadyServedCode}
-use Rattle.fsm_datapath.specs.declared.shape.Printer.{Printer}
-use Rattle.fsm_datapath.specs.declared.shape.Shape.{Shape as ThreadShape}
+use Rattle.thread_runs.specs.Runs.{RunsServedCode}
+use Rattle.thread_sound.specs.Shape.{HasShapeOfServedCode}
+use Rattle.thread_sound.specs.Leaf.{IsLeafOfServedCode}
+use Rattle.thread_steady.specs.Steady.{IsSteadyServedCode}
+use Rattle.thread_slots.specs.declared.shape.Printer.{Printer}
+use Rattle.thread_slots.specs.declared.shape.Shape.{Shape as ThreadShape}
 use Rattle.program_machine.specs.Built.{globals_of, IsPrinterOf}
 use Rattle.whole_net.specs.Table.{IsPrinterModule}
 

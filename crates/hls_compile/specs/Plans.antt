@@ -4,14 +4,14 @@ use Rattle.c_program.specs.Tree.{Program}
 use Rattle.block_ir.specs.declared.code.ThreadCode.{ThreadCode}
 use Rattle.block_ir.specs.declared.plan.Planned.{Planned}
 use Rattle.code_following.specs.Following.{IsLowered}
-use Rattle.ir_lower.specs.Typed.{IsTypedCode}
+use Rattle.code_following.specs.Typed.{IsTypedCode}
 use Rattle.bank_partition.specs.declared.banks.Spread.{Spread}
 use Rattle.bank_partition.specs.Shapes.{spreads_from}
 use Rattle.netlist.specs.declared.netlist.Module.{Module}
 use Rattle.netlist.specs.declared.netlist.Netlist.{Netlist}
 use Rattle.verilog_meaning.specs.Names.{module_named}
 use Rattle.least_plan.specs.Planned.{IsPlanned}
-use Rattle.fsm_datapath.specs.Thread.{IsServed}
+use Rattle.thread_layout.specs.Thread.{IsServed}
 use Rattle.hls_compile.specs.declared.plans.PlannedFunction.{PlannedFunction}
 use Rattle.hls_compile.specs.Parts.{main_printer, main_shape, IsMadeOf}
 

@@ -5,7 +5,7 @@ ghost use Rattle.c_program.specs.Counting.{capped};
 ghost use Rattle.c_program.specs.Plain.{program_of};
 ghost use Rattle.c_program.specs.Weight.{weight};
 ghost use Rattle.code_following.specs.Following.{IsLowered};
-ghost use Rattle.ir_lower.specs.Typed.{IsTypedCode};
+ghost use Rattle.code_following.specs.Typed.{IsTypedCode};
 ghost use Rattle.block_merge.specs.Maximal.{IsMaximal};
 
 use block_ir::code::ThreadCode;

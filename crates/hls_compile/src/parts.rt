@@ -21,13 +21,13 @@ use block_ir::code::ThreadCode;
 use block_ir::plan::Planned;
 use c_program::tree::Program;
 use fsm_datapath::module::module;
-use fsm_datapath::shape as thread;
 use hls_ints::CType;
 use least_plan::law::planned_is_right;
 use netlist::netlist::Module;
 use print_core::printer;
 use sqlite_items::Items;
 use std::alloc::{AllocError, Global};
+use thread_slots::shape as thread;
 use verilog_tree::name::Identifier;
 use whole_net::ADDRESS_WIDTH;
 

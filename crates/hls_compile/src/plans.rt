@@ -1,7 +1,7 @@
 // The thread functions of a program with the plans of their codes.
 
 ghost use Rattle.std.specs.Prelude.{◌≡◌, IfOk, codes, string_bytes};
-ghost use Rattle.least_plan.specs.Planned.{IsPlanned};
+ghost use Rattle.least_plan.specs.Planned.{IsNumberedCode, IsPlanned};
 
 use block_ir::code::ThreadCode;
 use block_ir::plan::Planned;
@@ -27,6 +27,7 @@ pub fn planned_main<R: Threads + Sync>(
     code: ThreadCode,
     jobs: u32,
 ) -> Result<PlannedFunction, AllocError>
+    requires numbered { IsNumberedCode code }
     ensures named { IfOk result (λ f. string_bytes f.name ≡ codes "main") }
     ensures code { IfOk result (λ f. f.code ≡ code) }
     ensures planned { IfOk result (λ f. IsPlanned f.code f.plan) }

@@ -5,8 +5,6 @@ pub mod arithmetic;
 pub mod fault;
 pub mod operators;
 pub mod residues;
-#[cfg(test)]
-mod tests;
 pub mod types;
 pub mod words;
 

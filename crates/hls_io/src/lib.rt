@@ -5,8 +5,6 @@ mod bytes;
 mod memory;
 mod standard;
 mod sure;
-#[cfg(test)]
-mod tests;
 mod traits;
 mod whole;
 

@@ -11,7 +11,7 @@ use Rattle.verilog_meaning.specs.Threads.{Depends}
 use Rattle.cycle_sim.specs.declared.sim.OpenError.{OpenError}
 use Rattle.cycle_sim.specs.declared.sim.OpenError.TheVariants as errors
 use Rattle.cycle_sim.specs.Opened.{IsOpenable, IsCause}
-use Rattle.cycle_sim.specs.Rounds.{threads_of}
+use Rattle.sim_layout.specs.Rounds.{threads_of}
 use Rattle.cycle_sim.proofs.Enables.{threads_of_sound}
 use Rattle.cycle_sim.proofs.Printing.{one_printer}
 use Rattle.cycle_sim.proofs.Right.{right_of_sound}

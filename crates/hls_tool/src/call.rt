@@ -1,8 +1,9 @@
 ghost use Rattle.std.specs.Prelude.{◌≡◌, ◌⊎◌, None, Some, map, string_bytes};
 ghost use Rattle.hls_io.specs.Causes.{Rose};
 ghost use Rattle.hls_words.specs.Line.{task_of};
+ghost use Rattle.hls_words.specs.declared.task.Task.TheVariants.{Walk};
 ghost use Rattle.c_profile.specs.Profile.{IsRefused};
-ghost use Rattle.hls_tool.specs.Call.{Answered, AnswersWalk, AsksToWalk, IsWriteFault, TellsEnd, TellsRefusal};
+ghost use Rattle.hls_tool.specs.Call.{Answered, AsksFor, Completes, IsDoneFor, IsWriteFault, TellsEnd, TellsRefusal};
 ghost use Rattle.turns.specs.Turns.{threads_of};
 ghost use Rattle.c_interpreter.specs.Walk.{IsWalk};
 ghost use Rattle.hls_tool.specs.Delivery.{passage};
@@ -32,10 +33,10 @@ pub fn hls<R: Threads + Sync, S: Source, O: Sink, E: Sink>(
     ensures unbuilt { (c : _) → result.status ≡ Status.NotBuilt c → LeavesOut (task_of (map string_bytes words.now)) × IsUnbuiltBy (S.left source.old) c }
     ensures cycles { (n : _) → result.status ≡ Status.Cycles n → HasRunOut (task_of (map string_bytes words.now)) (S.left source.old) n }
     ensures walked { (end : _) → result.status ≡ Status.Walked end → IsWalkEnd (task_of (map string_bytes words.now)) (S.left source.old) end }
-    ensures completes { (turns : _) (P : _) → AsksToWalk (task_of (map string_bytes words.now)) (S.left source.old) turns P
+    ensures completes { (task : _) (P : _) → AsksFor task (task_of (map string_bytes words.now)) (S.left source.old) P → IsDoneFor task P
         → (Rose (S.faults source.old) (S.faults source.new) → ⊥) → (Rose (O.faults out.old) (O.faults out.new) → ⊥)
-        → (Rose (E.faults err.old) (E.faults err.new) → ⊥) → AnswersWalk result.status }
-    ensures tells_end { (turns : _) (P : _) (end : _) (output : _) → AsksToWalk (task_of (map string_bytes words.now)) (S.left source.old) turns P
+        → (Rose (E.faults err.old) (E.faults err.new) → ⊥) → Completes task result.status }
+    ensures tells_end { (turns : _) (P : _) (end : _) (output : _) → AsksFor (Walk turns) (task_of (map string_bytes words.now)) (S.left source.old) P
         → IsWalk P (threads_of turns) end output → TellsEnd end result.status }
     ensures answered { Answered (task_of (map string_bytes words.now)) (S.left source.old)
         (Rose (S.faults source.old) (S.faults source.new))

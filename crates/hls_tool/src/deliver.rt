@@ -32,7 +32,7 @@ impl Line {
 
 /// Writes to out, then to err, and says how the call ends.
 fn send<O: Sink, E: Sink>(owed: Status, due: &[u8], line: &[u8], out: &mut O, err: &mut E) -> Status
-    requires { MayBeOwed owed }
+    requires { MayBeOwed owed due.now }
     ensures ends { Ends owed due.now line.now
         (passage (O.held out.old) (O.held out.new) (O.faults out.old) (O.faults out.new))
         (passage (E.held err.old) (E.held err.new) (E.faults err.old) (E.faults err.new)) result }
@@ -60,7 +60,7 @@ fn send<O: Sink, E: Sink>(owed: Status, due: &[u8], line: &[u8], out: &mut O, er
 }
 
 pub fn deliver<O: Sink, E: Sink>(answer: Answer, out: &mut O, err: &mut E) -> Outcome
-    requires { MayBeOwed answer.status }
+    requires { MayBeOwed answer.status (due_of answer).out }
     ensures ends { Ends answer.status (due_of answer).out (due_of answer).err
         (passage (O.held out.old) (O.held out.new) (O.faults out.old) (O.faults out.new))
         (passage (E.held err.old) (E.held err.new) (E.faults err.old) (E.faults err.new)) result.status }

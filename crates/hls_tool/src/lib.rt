@@ -10,6 +10,3 @@ mod status;
 
 pub use call::hls;
 pub use status::{Outcome, Status, WalkEnd};
-
-#[cfg(test)]
-mod tests;

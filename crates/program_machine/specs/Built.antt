@@ -40,8 +40,6 @@ use Rattle.print_core.specs.Machine.{printer_machine}
 -- main alone
 pub record IsSingle (P : Program) : Type 0 where
   pub threads : P.threads ≡ []
-  pub mutexes : P.mutexes ≡ []
-  pub barriers : P.barriers ≡ []
 
 -- ---- code
 

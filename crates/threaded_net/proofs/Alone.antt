@@ -1,16 +1,16 @@
 -- Cycles of one thread alone, cycles of none, and the end.
-use Rattle.std.proofs.Common.{◌≡◌, ◌≢◌, ◌⊎◌, ℕ, ◌^◌, ◌<◌, Bool, true, false, List, [], ◌∷◌, None, refl, sym, ap, ◌∙◌, subst, ⊎_elim, arith}
+use Rattle.std.proofs.Common.{◌≡◌, ◌≢◌, ◌⊎◌, ℕ, ◌^◌, ◌<◌, Bool, true, false, List, [], ◌∷◌, ◌++◌, None, refl, sym, ap, ◌∙◌, subst, ⊎_elim, arith}
 use Rattle.std.proofs.lemmas.Bool.Decides.{nat_tests}
 use Rattle.hls_ints.specs.Residues as bits
 use Rattle.netlist.specs.declared.netlist.Module.{Module}
 use Rattle.verilog_meaning.specs.Readings.{next_reading}
-use Rattle.verilog_meaning.specs.Cycles.{Path, Valuation, Choice, IsSettled, IsSameIn, Cycle, ShowsDone}
+use Rattle.verilog_meaning.specs.Cycles.{Path, Valuation, Choice, IsSettled, IsSameAt, Cycle, ShowsDone}
 use Rattle.verilog_meaning.specs.Threads.{bit_of, alone, IsSame, IsSameSlot, Needs, slot}
 use Rattle.circuit.specs.Modules.{Agree}
 use Rattle.circuit.specs.Machines.{CoreMachine, ThreadMachine}
 use Rattle.circuit.specs.Wiring.{NetPlaces}
 use Rattle.threaded_net.specs.Steady.{IsSteady}
-use Rattle.threaded_net.proofs.Same.{same_in}
+use Rattle.threaded_net.proofs.Same.{same_at}
 use Rattle.threaded_net.proofs.Winning.{Rests, granted, who_wins, Wins}
 use Rattle.threaded_net.proofs.Resting.{one_module, off_rests, stays_by, instance_rests, all_stays, all_silent}
 use Rattle.threaded_net.proofs.Bits.{not_set, none_set}
@@ -71,14 +71,14 @@ module _ (threads cores : ℕ) (T : ℕ → ThreadMachine) (C : ℕ → CoreMach
           none_by h v (alone i) settled (λ k w b wins. wins.moves (rests_same h v (alone i) settled w i wins.below l (only_it k w wins) rests))
 
       -- nor where it needs none
-      none_if_closed : Needs modules top threads h i 0 → (k : ℕ) (b : k < cores) → granted threads cores T C p modules top steady h v (alone i) settled k b ≡ None
+      none_if_closed : Needs modules top threads h (alone i) i 0 → (k : ℕ) (b : k < cores) → granted threads cores T C p modules top steady h v (alone i) settled k b ≡ None
       none_if_closed needs =
           none_by h v (alone i) settled
           (λ k w b wins.
-          let there = subst (λ x. Needs modules top threads h x 0) (sym (only_it k w wins)) needs in
+          let there = subst (λ x. Needs modules top threads h (alone i) x 0) (sym (only_it k w wins)) needs in
           wins.asks ((steady.keep w wins.below).closed_quiet (v (p.thread_at w ∷ []))
           (own_obeys threads cores T C p modules top steady w wins.below h v (alone i) settled)
-          (need_low threads cores T C p modules top steady w wins.below h v (alone i) settled there) k b wins.uses))
+          (need_low threads cores T C p modules top steady w wins.below h v (alone i) (alone i) settled there) k b wins.uses))
 
     -- where its slot stays nothing changes, and nothing is written
     pub alone_stays : (h g : Valuation) (out : List ℕ) → Cycle modules top h (alone i) g out → IsSameSlot modules top threads i h g →
@@ -92,16 +92,16 @@ module _ (threads cores : ℕ) (T : ℕ → ThreadMachine) (C : ℕ → CoreMach
         )
 
     -- a closed cycle changes its slot alone, and writes nothing
-    pub closed_keeps : (h g : Valuation) (out : List ℕ) → Cycle modules top h (alone i) g out → Needs modules top threads h i 0 →
-        (out ≡ []) × ((path : Path) (j : ℕ) → (j ∷ [] ≢ slot modules top threads i) → IsSameIn modules top (j ∷ []) h g)
+    pub closed_keeps : (h g : Valuation) (out : List ℕ) → Cycle modules top h (alone i) g out → Needs modules top threads h (alone i) i 0 →
+        (out ≡ []) × ((path : Path) → ((inner : Path) → path ≢ inner ++ slot modules top threads i) → IsSameAt modules top path h g)
     closed_keeps h g out cycle needs =
         let v = cycle.through in let settled = cycle.settled in
         let none = none_if_closed h v settled needs in (
           all_silent threads cores T C p modules top steady h v (alone i) settled none out cycle.written,
-          λ path j other. same_in modules top steady.shallow h g j (λ m at.
+          λ path other. same_at modules top steady.shallow h g steady.outside path (λ j is m at.
               stays_by threads cores T C p modules top steady h v (alone i) settled g cycle.next j m at
               (instance_rests threads cores T C p modules top steady h v (alone i) settled none j m at
-              (λ w b e. others_rest h v settled w b (λ (is : i ≡ w). other (ap (λ x. x ∷ []) (e ∙ ap p.thread_at (sym is)) ∙ sym (steady.slots i l)))))),
+              (λ w b e. others_rest h v settled w b (λ (own : i ≡ w). other [] (is ∙ ap (λ x. x ∷ []) (e ∙ ap p.thread_at (sym own)) ∙ sym (steady.slots i l)))))),
         )
 
   -- ---- cycles of none

@@ -50,4 +50,4 @@ none_set j = ap (λ q. q % 2) (div-eq_of_lt (some j))
 
 -- the choice of thread i alone is one
 pub alone_is_choice : (threads i : ℕ) → i < threads → IsChoice threads (alone i)
-alone_is_choice threads i l = (above i threads l, All-nil (λ p. p < 16))
+alone_is_choice threads i l = (above i threads l, All-nil (λ p. p < 64))

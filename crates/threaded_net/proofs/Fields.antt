@@ -54,8 +54,8 @@ module _ (threads cores : ℕ) (T : ℕ → ThreadMachine) (C : ℕ → CoreMach
           let t = steady.net.threads_stand i l in
           t.2.needs (v path) q own_obeys (t.2.keeps (h path) (v path) q own_holds shown)
 
-    need_is : (h : Valuation) (b : ℕ) → Needs modules top threads h i b → (q : (T i).Slot) → (p.thread i).shows (h path) q → b ≡ bits.bit_of ((T i).needs q)
-    need_is h b needs q shown =
+    need_is : (h : Valuation) (c : Choice) (b : ℕ) → Needs modules top threads h c i b → (q : (T i).Slot) → (p.thread i).shows (h path) q → b ≡ bits.bit_of ((T i).needs q)
+    need_is h c b needs q shown =
         let here : module_at modules top path ≡ Some needs.kind = ap (module_at modules top) (sym (steady.slots i l)) ∙ needs.stands in
         let one : own ≡ needs.kind = one_module threads cores T C p modules top steady (p.thread_at i) (p.thread_at i) own needs.kind (steady.net.threads_stand i l).1 refl here in
         let signal = steady.need i l needs.place needs.signal
@@ -63,19 +63,20 @@ module _ (threads cores : ℕ) (T : ℕ → ThreadMachine) (C : ℕ → CoreMach
         sym needs.number
         ∙ ap (λ x. (needs.through x).signal needs.place) (steady.slots i l)
         ∙ ap (λ x. (needs.through path).signal x) signal
-        ∙ need_told h needs.through (alone i) needs.settled q shown
+        ∙ need_told h needs.through c needs.settled q shown
 
-    -- where it needs no core, it needs none under any choice
-    pub need_low : (h v : Valuation) (c : Choice) → IsSettled modules top h c v → Needs modules top threads h i 0 → (v path).signal (p.thread i).need ≡ 0
-    need_low h v c settled needs =
+    -- where it needs no core under one choice, it needs none under any
+    pub need_low : (h v : Valuation) (c d : Choice) → IsSettled modules top h c v → Needs modules top threads h d i 0 → (v path).signal (p.thread i).need ≡ 0
+    need_low h v c d settled needs =
         let q = (steady.keep i l).shown (h path) in
-        need_told h v c settled q.0 q.1 ∙ sym (need_is h 0 needs q.0 q.1)
+        need_told h v c settled q.0 q.1 ∙ sym (need_is h d 0 needs q.0 q.1)
 
-    pub needs_alike : (h g : Valuation) (a b : ℕ) → IsSameSlot modules top threads i h g → Needs modules top threads h i a → Needs modules top threads g i b → a ≡ b
-    needs_alike h g a b same left right =
+    pub needs_alike : (h g : Valuation) (c d : Choice) (a b : ℕ) → IsSameSlot modules top threads i h g →
+        Needs modules top threads h c i a → Needs modules top threads g d i b → a ≡ b
+    needs_alike h g c d a b same left right =
         let q = (steady.keep i l).shown (h path) in
         let there = (steady.net.threads_stand i l).2.keeps (h path) (g path) q.0 (slot_agrees h g same) q.1 in
-        need_is h a left q.0 q.1 ∙ sym (need_is g b right q.0 there)
+        need_is h c a left q.0 q.1 ∙ sym (need_is g d b right q.0 there)
 
     -- ---- cycles
 
@@ -89,19 +90,19 @@ module _ (threads cores : ℕ) (T : ℕ → ThreadMachine) (C : ℕ → CoreMach
     slot_rests h g c out cycle same =
         rests_by threads cores T C p modules top steady h cycle.through c cycle.settled g cycle.next (p.thread_at i) own (steady.net.threads_stand i l).1 (slot_agrees h g same)
 
-    pub closed_changes : (h g : Valuation) (c : Choice) (out : List ℕ) → Cycle modules top h c g out → bit_of c.mask i ≡ 1 → Needs modules top threads h i 0 →
+    pub closed_changes : (h g : Valuation) (c : Choice) (out : List ℕ) → Cycle modules top h c g out → bit_of c.mask i ≡ 1 → Needs modules top threads h c i 0 →
         IsSameSlot modules top threads i h g → ⊥
     closed_changes h g c out cycle on needs same =
-        (steady.keep i l).closed_moves (cycle.through path) (own_obeys h cycle.through c cycle.settled) (need_low h cycle.through c cycle.settled needs)
+        (steady.keep i l).closed_moves (cycle.through path) (own_obeys h cycle.through c cycle.settled) (need_low h cycle.through c c cycle.settled needs)
         (own_enable h cycle.through c cycle.settled on) (slot_rests h g c out cycle same)
 
     pub closed_same : (h k g f : Valuation) (c d : Choice) (out more : List ℕ) → Cycle modules top h c g out → Cycle modules top k d f more → bit_of c.mask i ≡ 1 →
-        bit_of d.mask i ≡ 1 → Needs modules top threads h i 0 → IsSameSlot modules top threads i h k → IsSameSlot modules top threads i g f
+        bit_of d.mask i ≡ 1 → Needs modules top threads h c i 0 → IsSameSlot modules top threads i h k → IsSameSlot modules top threads i g f
     closed_same h k g f c d out more a b on too needs same =
         let r = a.through path in let q = b.through path in
         let both = agree_on own r (h path) q (agree_back own (h path) r (own_holds h a.through c a.settled))
         (agree_on own (h path) (k path) q (slot_agrees h k same) (own_holds k b.through d b.settled)) in
-        let next = (steady.keep i l).closed_alike r q (own_obeys h a.through c a.settled) (own_obeys k b.through d b.settled) both (need_low h a.through c a.settled needs)
+        let next = (steady.keep i l).closed_alike r q (own_obeys h a.through c a.settled) (own_obeys k b.through d b.settled) both (need_low h a.through c c a.settled needs)
         (own_enable h a.through c a.settled on) (own_enable k b.through d b.settled too) in
         let at = (steady.net.threads_stand i l).1 in
         let left = edge_is threads cores T C p modules top steady h a.through c a.settled g a.next (p.thread_at i) own at in

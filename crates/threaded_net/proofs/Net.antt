@@ -53,6 +53,7 @@ module _ (P : Program) (spreads : List Spread) (banks : List Bank) (code : Threa
   is_steady = record {
     net = steady.whole.net;
     some = omega arith;
+    ports = steady.ports;
     loopless = steady.loopless;
     shallow = no_deeper modules top steady.whole.stages steady.whole.staged;
     settles = λ h c state choice. staged_settles modules top steady.whole.stages steady.whole.staged h c state (steady.whole.fits c choice);

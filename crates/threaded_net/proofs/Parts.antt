@@ -16,6 +16,7 @@ use Rattle.verilog_meaning.specs.Names.{IsSignal}
 use Rattle.verilog_meaning.specs.Cycles.{module_at}
 use Rattle.verilog_meaning.specs.Threads.{HasThread}
 use Rattle.top_wiring.specs.declared.layout.Layout.{Layout}
+use Rattle.top_wiring.specs.Found.{IsFound}
 use Rattle.top_wiring.specs.Parts.{parts}
 use Rattle.top_wiring.specs.Top.{starts, thread_instance, arbiter_instance}
 use Rattle.top_wiring.proofs.Netting as netting
@@ -71,16 +72,18 @@ module _ (P : Program) (spreads : List Spread) (banks : List Bank) (code : Threa
 
   -- one signal has the name
   need_only : (x : ℕ) (s : Signal) → IsSignal m (codes "need") x s → x ≡ leaf.need
-  need_only x s is = (main.stands.laid []).names x leaf.need (codes "need") (needs x s is) (needs leaf.need steady.need steady.is)
+  need_only x s is = (main.stands.laid []).names x leaf.need (codes "need") (needs x s is) (needs leaf.need steady.thread.need steady.thread.is)
     where
       needs : (y : ℕ) (t : Signal) → IsSignal m (codes "need") y t → slice_get (declared_names m) y ≡ Some (codes "need")
       needs y t named =
           in_front (signal_names m ++ memory_names m) (instance_names m) y (codes "need")
           (in_front (signal_names m) (memory_names m) y (codes "need") (named_at m.signals y t named.listed ∙ ap Some named.named))
 
+  found : IsFound layout modules n top
+  found = whole_net.found P spreads banks code plan m inputs leaf shape arbiter printer ms n net text built few prints main grants are printing written
+
   has : HasThread n.modules top 1 0
   has =
-      let found = whole_net.found P spreads banks code plan m inputs leaf shape arbiter printer ms n net text built few prints main grants are printing written in
       let wide = built.module_.thread.need.bit.has in
       record {
         place = 0;
@@ -89,10 +92,10 @@ module _ (P : Program) (spreads : List Spread) (banks : List Bank) (code : Threa
         kind = m;
         stands = ap (module_at n.modules top) (found.slots 0 (omega arith)) ∙ found.runs 0 0 m refl refl;
         need_place = leaf.need;
-        need = steady.need;
-        has_need = steady.is;
-        one_bit = ap (λ (z : Signal). z.width) (same_Some steady.need wide.signal (sym steady.is.listed ∙ wide.listed)) ∙ wide.wide;
-        out = steady.out;
+        need = steady.thread.need;
+        has_need = steady.thread.is;
+        one_bit = ap (λ (z : Signal). z.width) (same_Some steady.thread.need wide.signal (sym steady.thread.is.listed ∙ wide.listed)) ∙ wide.wide;
+        out = steady.thread.out;
       }
 
   -- the arbiters
@@ -109,13 +112,14 @@ module _ (P : Program) (spreads : List Spread) (banks : List Bank) (code : Threa
       whole_net.is_whole P spreads banks code plan m inputs leaf shape arbiter printer ms n net text built few prints main grants are printing written is_thread is_done in
       record {
         whole = whole;
-        keeps = steady.keeps;
+        keeps = steady.thread.keeps;
         ended = steady.ended;
         arbiters = λ k l.
             let t = whole.net.arbiters_stand k l in
             subst HoldsNothing (same_Some arbiter t.0 (sym (arbiter_there k l) ∙ t.1)) (arbiter_holds 1 arbiter grants.table);
         outside = top_holds modules layout top written.wired.is_top;
         loopless = whole_net.loopless P spreads banks code plan m inputs leaf shape arbiter printer ms n net text built few prints main grants are printing written;
+        ports = found.ports;
         has = has;
         need = need_only;
       }

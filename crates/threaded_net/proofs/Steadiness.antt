@@ -6,10 +6,11 @@ use Rattle.threaded_net.proofs.Stuck.{all_stuck}
 
 pub steady_is_threaded : SteadyIsThreaded
 steady_is_threaded threads cores T C p modules top steady = record {
+  ports = steady.ports;
   has = steady.has;
   loopless = steady.loopless;
   stays = λ h g c out i state choice l cycle off. slot_stays threads cores T C p modules top steady i l h g c out cycle off;
-  needs = λ h g i a b l same left right. needs_alike threads cores T C p modules top steady i l h g a b same left right;
+  needs = λ h g c d i a b l same left right. needs_alike threads cores T C p modules top steady i l h g c d a b same left right;
   closed_moves = λ h g c out i state choice l cycle on needs same. closed_changes threads cores T C p modules top steady i l h g c out cycle on needs same;
   closed_alike = λ h k g f c d out more i state states l a b on too needs same. closed_same threads cores T C p modules top steady i l h k g f c d out more a b on too needs same;
   closed_alone = λ h g out i state l cycle needs. closed_keeps threads cores T C p modules top steady i l h g out cycle needs;

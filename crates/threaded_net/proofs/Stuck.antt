@@ -1,7 +1,6 @@
 -- Where no cycle of one thread changes anything, no cycle does.
-use Rattle.std.proofs.Common.{◌≡◌, ◌⊎◌, ℕ, zero, suc, ◌+◌, ◌<◌, ◌≤◌, Bool, true, false, if◌then◌else◌}
-use Rattle.std.proofs.Common.{List, [], ◌∷◌, Option, Some, None, refl, sym, ap, ◌∙◌, inl, inr, ⊎_elim, arith}
-use Rattle.std.proofs.lemmas.Bool.Decides.{nat_tests}
+use Rattle.std.proofs.Common.{◌≡◌, ℕ, ◌<◌, Bool, true, false}
+use Rattle.std.proofs.Common.{List, [], ◌∷◌, None, refl, sym, ap, ◌∙◌, inl, inr, ⊎_elim}
 use Rattle.hls_ints.specs.Residues as bits
 use Rattle.netlist.specs.declared.netlist.Source.TheVariants.{Assigned, Port}
 use Rattle.netlist.specs.declared.netlist.Value.TheVariants.{Constant}
@@ -10,9 +9,10 @@ use Rattle.verilog_meaning.specs.Readings.{next_reading}
 use Rattle.verilog_meaning.specs.Cycles.{Valuation, Choice, IsSettled, IsState, Cycle, next_state}
 use Rattle.verilog_meaning.specs.Threads.{bit_of, alone, IsSame, IsStuck}
 use Rattle.circuit.specs.Modules.{Agree}
-use Rattle.circuit.specs.Arbitration.{first_from, at_or_after, or_else, granted_to, is_granted}
+use Rattle.circuit.specs.Arbitration.{is_granted}
 use Rattle.circuit.specs.Machines.{CoreMachine, ThreadMachine, Hears}
 use Rattle.circuit.specs.Wiring.{NetPlaces, IsAskedBy}
+use Rattle.circuit.proofs.Arbitration.{none_may}
 use Rattle.cycle_refine.proofs.Agreeing.{agree_back, agree_on}
 use Rattle.threaded_net.specs.Steady.{IsSteady}
 use Rattle.threaded_net.proofs.Feeding.{fed, thread_granted, thread_told}
@@ -23,27 +23,6 @@ use Rattle.threaded_net.proofs.Bits.{set_here, alone_is_choice}
 use Rattle.threaded_net.proofs.Fields.{own_obeys, own_holds, own_enable, slot_of, slot_rests}
 use Rattle.threaded_net.proofs.Alone.{none_by, none_if_rests}
 use Rattle.threaded_net.proofs.Written.{has_written}
-
--- ---- where nobody is granted, nobody may be
-
-behind : (b : Bool) (k : ℕ) (o : Option ℕ) → (if b then Some k else o) ≡ None → (b ≡ false) × (o ≡ None)
-behind true k o e = absurd cc
-behind false k o e = (refl, e)
-
-none_asks : (f : ℕ → Bool) (k n : ℕ) → first_from f k n ≡ None → (j : ℕ) → k ≤ j → j < k + n → f j ≡ false
-none_asks f k zero e j a b = absurd (omega arith)
-none_asks f k (suc n) e j a b =
-    let both = behind (f k) k (first_from f (k + 1) n) e in
-    let d : (k ≡ j) ⊎ (k + 1 ≤ j) = grind (arith, nat_tests) in
-    ⊎_elim (λ (s : k ≡ j). ap f (sym s) ∙ both.0) (λ (l : k + 1 ≤ j). none_asks f (k + 1) n both.1 j l (omega arith)) d
-
-second : (a b : Option ℕ) → or_else a b ≡ None → b ≡ None
-second None b e = e
-second (Some k) b e = absurd (let s : Some k ≡ None = e in cc)
-
-none_may : (n preferred : ℕ) (f : ℕ → Bool) → granted_to n preferred f ≡ None → (j : ℕ) → j < n → f j ≡ false
-none_may n preferred f e j l =
-    none_asks f 0 n (second (first_from (at_or_after preferred f) 0 n) (first_from f 0 n) e) j (omega arith) (omega arith)
 
 not_both : (b : Bool) → b ≡ true → b ≡ false → ⊥
 not_both b e f = absurd (let t : true ≡ false = sym e ∙ f in cc)

@@ -5,6 +5,7 @@ use Rattle.hls_ints.specs.Residues.{bit_of}
 use Rattle.netlist.specs.declared.netlist.Signal.{Signal}
 use Rattle.netlist.specs.declared.netlist.Module.{Module}
 use Rattle.verilog_meaning.specs.Names.{IsSignal}
+use Rattle.verilog_meaning.specs.Ports.{HasPorts}
 use Rattle.verilog_meaning.specs.Readings.{Reading}
 use Rattle.verilog_meaning.specs.Cycles.{Path, Valuation, Choice, module_at, IsRegister, IsSettled, IsState}
 use Rattle.verilog_meaning.specs.Threads.{Place, Depends, HasThread, IsChoice, IsThreaded, slot}
@@ -35,6 +36,7 @@ module _ (threads cores : ℕ) (T : ℕ → ThreadMachine) (C : ℕ → CoreMach
   pub record IsSteady : Type 0 where
     pub net : IsNet threads cores T C p modules top
     pub some : 0 < threads
+    pub ports : HasPorts top threads
     pub loopless : (q : Place) → Depends modules top q q → ⊥
     pub shallow : (i j : ℕ) (rest : Path) (m : Module) → module_at modules top (i ∷ j ∷ rest) ≡ Some m → ⊥
     pub settles : (h : Valuation) (c : Choice) → IsState modules top h → IsChoice threads c → (v : Valuation) × IsSettled modules top h c v

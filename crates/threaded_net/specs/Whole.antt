@@ -8,6 +8,7 @@ use Rattle.block_ir.specs.declared.plan.Planned.{Planned}
 use Rattle.netlist.specs.declared.netlist.Signal.{Signal}
 use Rattle.netlist.specs.declared.netlist.Module.{Module}
 use Rattle.verilog_meaning.specs.Names.{IsSignal}
+use Rattle.verilog_meaning.specs.Ports.{HasPorts}
 use Rattle.verilog_meaning.specs.Readings.{Reading, next_reading}
 use Rattle.verilog_meaning.specs.Threads.{Place, Depends, HasThread, IsThreaded}
 use Rattle.circuit.specs.Modules.{Obeys, Agree}
@@ -27,6 +28,7 @@ module _ (P : Program) (spreads : List Spread) (banks : List Bank) (code : Threa
     pub arbiters : (k : ℕ) (l : k < suc (length banks)) → HoldsNothing (whole.net.arbiters_stand k l).0
     pub outside : HoldsNothing top
     pub loopless : (q : Place) → Depends modules top q q → ⊥
+    pub ports : HasPorts top 1
     pub has : HasThread modules top 1 0
     pub need : (x : ℕ) (s : Signal) → IsSignal m (codes "need") x s → x ≡ leaf.need
 

@@ -3,7 +3,9 @@ use Rattle.std.proofs.Common.{◌≡◌, ℕ, zero, suc, ◌+◌, ◌/◌, ◌%�
 use Rattle.std.specs.Prelude.{◌==◌, nat_lt}
 use Rattle.std.proofs.lemmas.Bool.Decides.{nat_tests, eqb_tells}
 use Rattle.std.specs.Fmt.{digit_glyph, digits_onto, digits, decimal}
-use Rattle.verilog_meaning.specs.Names.{numbered}
+use Rattle.std.specs.Str.Parse.{AllDigits}
+use Rattle.std.proofs.lemmas.Str.Parse.{digit_from_value}
+use Rattle.verilog_meaning.specs.Names.{IsMinimal, numbered, with_digits}
 
 -- no byte is an underscore
 abbrev pub HasNone : List ℕ → Type 0
@@ -93,3 +95,12 @@ pub numbered_tells : (xs ys : List ℕ) (n j : ℕ) → j < 10 → numbered xs n
 numbered_tells xs ys n j l e =
     let both = split xs ys (decimal n) (decimal j) (decimal_none n) (decimal_none j) e in
     (both.0, digit_tells n j l both.1)
+
+-- decimals are no underscores
+all_none : (ds : List ℕ) → AllDigits 10 ds → HasNone ds
+all_none [] d = tt
+all_none (c ∷ cs) d = let k = digit_from_value c d.0 in ((λ e. omega (arith, k, e)), all_none cs d.1)
+
+-- a name that ends in _ and the digits of a number tells both
+pub digits_tell : (xs ys ds : List ℕ) (j : ℕ) → IsMinimal ds → with_digits xs ds ≡ numbered ys j → (xs ≡ ys) × (ds ≡ decimal j)
+digits_tell xs ys ds j is e = split xs ys ds (decimal j) (all_none ds is.0.1) (decimal_none j) e

@@ -50,7 +50,7 @@ module _ (P : Program) (spreads : List Spread) (banks : List Bank) (code : Threa
   B = length banks
 
   abbrev outs : List ℕ
-  outs = thread_outputs (ask_widths (layout_of banks).cores) 0
+  outs = thread_outputs (ask_widths (layout_of banks).cores)
 
   abbrev first : ℕ
   first = first_of m outs
@@ -162,7 +162,7 @@ module _ (P : Program) (spreads : List Spread) (banks : List Bank) (code : Threa
       subst (λ z. late (first + z) ≡ false) e (early_behind (x - 4 * B) (omega (arith, many, l))))
       (cases_lt x (4 * B))
 
-  pub thread_leaf : leaves.IsThreadLeaf (layout_of banks) late 0 m
+  pub thread_leaf : leaves.IsThreadLeaf (layout_of banks) late m
   thread_leaf = record {
     leaf = main_leaf;
     ports = subst (λ (os : List ℕ). HasPorts m (thread_inputs (layout_of banks)) os) (sym (outputs_are banks))
@@ -209,14 +209,14 @@ module _ (P : Program) (spreads : List Spread) (banks : List Bank) (code : Threa
         absurd (let e : k ≡ B = omega arith in let none = ap (told banks shape) e ∙ print_told banks shape in omega (arith, lt, none)))
         (cases_lt k B)
 
-    pub thread_at : IsThreadAt (layout_of banks) (leaf_thread m leaf) (leaf_places m leaf) (core_machine banks shape) 0 m
+    pub thread_at : IsThreadAt (layout_of banks) (leaf_thread m leaf) (leaf_places m leaf) (core_machine banks shape) m
     thread_at = record {
       is = subst (λ n. IsThread (leaf_thread m leaf) (leaf_places m leaf) n (parts banks shape) (told banks shape) m) (sym (cores_are banks)) promise;
       uses = λ k l. uses k (let c = cores_are banks in omega (arith, c, l));
       enable = main.enable;
       grant = λ k l. main.grant k (let c = cores_are banks in let w = wide in omega (arith, c, w, l));
       told = λ k j l lt. told_at k j (let c = cores_are banks in omega (arith, c, l)) lt;
-      done = λ e r s obeys shown.
+      done = λ r s obeys shown.
           subst (λ z. r.signal z ≡ bit_of ((leaf_thread m leaf).is_done s)) done_at
           (is_done m inputs leaf (suc B) (parts banks shape) (told banks shape) thread.thread thread.done r s obeys shown);
       ask = λ k j l lt. ask_at k j (let c = cores_are banks in omega (arith, c, l)) lt;

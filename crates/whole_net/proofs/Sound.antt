@@ -18,11 +18,11 @@ use Rattle.circuit.specs.Rows.{EachOf, spread}
 use Rattle.circuit.specs.Interfaces.{HasInterface}
 use Rattle.top_wiring.specs.declared.layout.Core.{Core}
 use Rattle.top_wiring.specs.declared.parts.Part.{Part}
-use Rattle.top_wiring.specs.Parts.{ask_widths, thread_outputs, core_outputs, thread_part, core_part, arbiter_part, parts, each_from}
+use Rattle.top_wiring.specs.Parts.{ask_widths, thread_outputs, core_outputs, thread_part, core_part, arbiter_part, parts}
 use Rattle.top_wiring.specs.Ports.{threads, thread_inputs, core_inputs, arbiter_inputs, arbiter_outputs}
 use Rattle.top_wiring.specs.Top.{HasFewTold, HasFewGroups, IsSmall}
 use Rattle.top_wiring.specs.Sound.{WritesIn, IsOf, AreSound}
-use Rattle.top_wiring.proofs.Lists.{IsBehind, get_either, each_back, spread_back}
+use Rattle.top_wiring.proofs.Lists.{IsBehind, get_either, spread_back}
 use Rattle.top_wiring.proofs.Standing.{core_part_at}
 use Rattle.bank_cores.specs.declared.bank.Shape.{Shape as Bank}
 use Rattle.bank_cores.specs.Bank.{bank_name}
@@ -33,7 +33,7 @@ use Rattle.program_machine.specs.Built.{ArePartitioned}
 use Rattle.program_machine.proofs.Partitioned.{count_low, bank_is}
 use Rattle.whole_net.specs.Layouts.{printing_core, bank_cores, layout_of}
 use Rattle.whole_net.specs.Table.{IsArbiterModule, IsBankModule, AreBankModules, IsPrinterModule}
-use Rattle.whole_net.proofs.Decimals.{HasNone, none_inside, numbered_tells}
+use Rattle.whole_net.proofs.Decimals.{numbered_tells}
 use Rattle.whole_net.proofs.Each.{as_many, module_bank, core_printer, CoreKind, OfBank, OfPrinter, which_core, each_of_all, each_module}
 use Rattle.whole_net.proofs.Widths.{widths, outputs_are, inputs_are, cores_are, asked_count, told_count}
 use Rattle.whole_net.proofs.Bank.{bank_interface, bank_silent}
@@ -159,31 +159,12 @@ core_name banks k c e = go (which_core 2 banks (printing_core (2 + length banks)
     go (OfBank b listed is) = subst (λ (z : Core). slice_index z.name 0 ≡ 117) (sym is) refl
     go (OfPrinter last is) = subst (λ (z : Core). slice_index z.name 0 ≡ 117) (sym is) refl
 
--- the printer's instance has no number
-pub printer_unnumbered : (x d : List ℕ) → codes "u_printer" ≡ (codes "u_" ++ x) ++ 95 ∷ d → ⊥
-printer_unnumbered x d e =
-    none_inside (codes "printer") x d plain (let whole : 117 ∷ 95 ∷ codes "printer" ≡ 117 ∷ 95 ∷ (x ++ 95 ∷ d) = e in let q : codes "printer" ≡ x ++ 95 ∷ d = cc in q)
-  where
-    plain : HasNone (codes "printer")
-    plain = (
-      (λ q. omega (arith, q)),
-      (
-        (λ q. omega (arith, q)),
-        (
-          (λ q. omega (arith, q)),
-          (
-            (λ q. omega (arith, q)),
-            (
-              (λ q. omega (arith, q)),
-              (
-                (λ q. omega (arith, q)),
-                ((λ q. omega (arith, q)), tt),
-              ),
-            ),
-          ),
-        ),
-      ),
-    )
+-- the printer's instance has no bank's name
+other_second : (a b : ℕ) → a ≡ 112 → b ≡ 95 → a ≡ b → ⊥
+other_second a b p q r = omega (arith, p, q, r)
+
+pub printer_apart : (x d : List ℕ) → codes "uprinter_0" ≡ (codes "u_" ++ x) ++ 95 ∷ d → ⊥
+printer_apart x d e = other_second (get_or (codes "uprinter_0") 1 0) (get_or ((codes "u_" ++ x) ++ 95 ∷ d) 1 0) refl refl (ap (λ (z : List ℕ). get_or z 1 0) e)
 
 -- part i of module 2 and so many is the printer
 only_zero : (i x : ℕ) → slice_get (0 ∷ []) i ≡ Some x → x ≡ 0
@@ -202,20 +183,20 @@ module _ (banks : List Bank) where
   printer_part : (i : ℕ) (p : Part) → slice_get (parts (layout_of banks)) i ≡ Some p → p.of ≡ 2 + length banks → i ≡ 1 + length banks
   printer_part i p h two =
       ⊎_elim
-      (λ (g : slice_get (each_from (thread_part asks) 0 (0 ∷ []) ++ map (core_part 1) (layout_of banks).cores) i ≡ Some p).
+      (λ (g : slice_get (map (thread_part asks) (0 ∷ []) ++ map (core_part 1) (layout_of banks).cores) i ≡ Some p).
       ⊎_elim
-      (λ (f : slice_get (each_from (thread_part asks) 0 (0 ∷ [])) i ≡ Some p).
-      let b = each_back (thread_part asks) 0 (0 ∷ []) i p f in
+      (λ (f : slice_get (map (thread_part asks) (0 ∷ [])) i ≡ Some p).
+      let b = map_back (thread_part asks) (0 ∷ []) i p f in
       absurd (let none = only_zero i b.0 b.1 in let of : p.of ≡ b.0 = ap (λ (z : Part). z.of) b.2 in omega (arith, none, of, two)))
-      (λ (f : IsBehind (length (each_from (thread_part asks) 0 (0 ∷ []))) (map (core_part 1) (layout_of banks).cores) i p).
+      (λ (f : IsBehind (length (map (thread_part asks) (0 ∷ []))) (map (core_part 1) (layout_of banks).cores) i p).
       let c = map_back (core_part 1) (layout_of banks).cores f.at p f.found in
       of_core i f.at p.of c.0 f.is (ap (λ (z : Part). z.of) c.2) two (which_core 2 banks (printing_core (2 + length banks)) f.at c.0 c.1))
-      (get_either (each_from (thread_part asks) 0 (0 ∷ [])) (map (core_part 1) (layout_of banks).cores) i p g))
-      (λ (g : IsBehind (length (each_from (thread_part asks) 0 (0 ∷ []) ++ map (core_part 1) (layout_of banks).cores))
+      (get_either (map (thread_part asks) (0 ∷ [])) (map (core_part 1) (layout_of banks).cores) i p g))
+      (λ (g : IsBehind (length (map (thread_part asks) (0 ∷ []) ++ map (core_part 1) (layout_of banks).cores))
       (spread (arbiter_part 1 1) 0 (length (layout_of banks).cores)) i p).
       let b = spread_back (arbiter_part 1 1) 0 (length (layout_of banks).cores) g.at p g.found in
       absurd (let of : p.of ≡ 1 = ap (λ (z : Part). z.of) b.1 in omega (arith, of, two)))
-      (get_either (each_from (thread_part asks) 0 (0 ∷ []) ++ map (core_part 1) (layout_of banks).cores) (spread (arbiter_part 1 1) 0 (length (layout_of banks).cores)) i p h)
+      (get_either (map (thread_part asks) (0 ∷ []) ++ map (core_part 1) (layout_of banks).cores) (spread (arbiter_part 1 1) 0 (length (layout_of banks).cores)) i p h)
 
 module _ (P : Program) (resolved : IsResolved P) (spreads : List Spread) (banks : List Bank) (banked : ArePartitioned P spreads banks) (few : length banks < 2 ^ 15)
     (m arbiter printer : Module) (ms : List Module) (inputs : ℕ) (leaf : LeafPorts) (sites : Shape) where
@@ -289,8 +270,8 @@ module _ (P : Program) (resolved : IsResolved P) (spreads : List Spread) (banks 
         go : CoreKind 2 banks (printing_core (2 + length banks)) k c → CoreKind 2 banks (printing_core (2 + length banks)) l d → k ≡ l
         go (OfBank b at is) (OfBank g to same) = core_tells P resolved spreads banks banked k l b g at to (sym (ap (λ (z : Core). z.name) is) ∙ q ∙ ap (λ (z : Core). z.name) same)
         go (OfBank b at is) (OfPrinter last same) =
-            absurd (printer_unnumbered b.name (decimal b.number) (sym (ap (λ (z : Core). z.name) same) ∙ sym q ∙ ap (λ (z : Core). z.name) is))
-        go (OfPrinter last is) (OfBank g to same) = absurd (printer_unnumbered g.name (decimal g.number) (sym (ap (λ (z : Core). z.name) is) ∙ q ∙ ap (λ (z : Core). z.name) same))
+            absurd (printer_apart b.name (decimal b.number) (sym (ap (λ (z : Core). z.name) same) ∙ sym q ∙ ap (λ (z : Core). z.name) is))
+        go (OfPrinter last is) (OfBank g to same) = absurd (printer_apart g.name (decimal g.number) (sym (ap (λ (z : Core). z.name) is) ∙ q ∙ ap (λ (z : Core). z.name) same))
         go (OfPrinter last is) (OfPrinter end same) = last ∙ sym end
 
     -- only the printer writes
@@ -327,7 +308,7 @@ module _ (P : Program) (resolved : IsResolved P) (spreads : List Spread) (banks 
         let two = sym (writer_is k w) in
         printer_part banks i a.part a.listed (a.is ∙ two) ∙ sym (printer_part banks j b.part b.listed (b.is ∙ two))
 
-    main_interface : HasInterface m (thread_inputs (layout_of banks)) (thread_outputs (ask_widths (layout_of banks).cores) 0)
+    main_interface : HasInterface m (thread_inputs (layout_of banks)) (thread_outputs (ask_widths (layout_of banks).cores))
     main_interface =
         subst (λ (os : List ℕ). HasInterface m (thread_inputs (layout_of banks)) os) (sym (outputs_are banks))
         (subst (λ (is : List ℕ). HasInterface m is (main_outputs (widths banks) 4)) (sym (inputs_are banks)) main.stands.interface)
@@ -342,7 +323,7 @@ module _ (P : Program) (resolved : IsResolved P) (spreads : List Spread) (banks 
       no_top = not_top;
       core_names = core_name banks;
       cores_apart = cores_apart;
-      each = each_module banks (λ i x. HasInterface x (thread_inputs (layout_of banks)) (thread_outputs (ask_widths (layout_of banks).cores) i))
+      each = each_module banks (λ i x. HasInterface x (thread_inputs (layout_of banks)) (thread_outputs (ask_widths (layout_of banks).cores)))
           (λ k c x. HasInterface x (core_inputs (layout_of banks) c) (core_outputs (threads (layout_of banks)) c))
           (λ k x. HasInterface x (arbiter_inputs (layout_of banks)) (arbiter_outputs (layout_of banks))) m arbiter printer ms are main_interface
           (λ k d x e is. bank_interface banks (2 + k) d x is) interface (λ k. grants.stands.interface);

@@ -20,11 +20,12 @@ use Rattle.netlist.specs.declared.netlist.Module.{Module}
 use Rattle.netlist.specs.declared.netlist.Netlist.{Netlist}
 use Rattle.netlist.specs.NetlistOf.{netlist_of}
 use Rattle.netlist.specs.Sound.{IsSound}
-use Rattle.verilog_meaning.specs.Names.{numbered, top_of}
+use Rattle.verilog_meaning.specs.Names.{IsMinimal, numbered, with_digits, top_of}
+use Rattle.verilog_meaning.specs.Ports.{HasDone, TakesInput}
 use Rattle.verilog_meaning.specs.Cycles.{Path}
 use Rattle.verilog_meaning.specs.Threads.{Place, Depends}
 use Rattle.verilog_meaning.specs.Threads.Depends.{directly, through}
-use Rattle.verilog_meaning.specs.Follows.{Bank as BankInstance, IsDetermined, FollowsAlways}
+use Rattle.verilog_meaning.specs.Follows.{BankOf, Bank as BankInstance, IsDetermined, FollowsAlways}
 use Rattle.verilog_meaning.proofs.Settling.{IsLevelled}
 use Rattle.circuit.proofs.Staged.{net_level, net_levelled}
 use Rattle.circuit.specs.Nets.{FitsChoice}
@@ -53,19 +54,19 @@ use Rattle.program_machine.specs.Built.{core_machine, IsBuilt, IsPrinterOf}
 use Rattle.program_machine.specs.Following.{threads_of, cores_of}
 use Rattle.program_machine.proofs.Partitioned.{core_of, bank_is}
 use Rattle.good_verilog.specs.Program.{seen_of}
-use Rattle.good_verilog.specs.GoodVerilog.{HasEnable, IsGoodVerilog}
-use Rattle.cycle_refine.specs.Whole.{core_places, Instances, places_of, HasDone, HasBanks, IsWhole, NetFollows}
+use Rattle.good_verilog.specs.GoodVerilog.{IsGoodVerilog}
+use Rattle.cycle_refine.specs.Whole.{core_places, Instances, places_of, TellsDone, AreBanked, IsWhole, RunsExist, NetFollows}
 use Rattle.whole_net.specs.Layouts.{printing_core, bank_core, layout_of}
 use Rattle.whole_net.specs.Table.{IsArbiterModule, IsBankModule, AreBankModules, IsPrinterModule}
 use Rattle.whole_net.specs.Whole.{IsWritten, IsNetOf, IsNetOfParts, NetIsGood}
-use Rattle.whole_net.proofs.Decimals.{numbered_tells}
+use Rattle.whole_net.proofs.Decimals.{digits_tell}
 use Rattle.whole_net.proofs.Each.{bank_module, core_bank, CoreKind, OfBank, OfPrinter, which_core, behind_two, in_front, each_module}
 use Rattle.whole_net.proofs.Widths.{widths, cores_are}
 use Rattle.whole_net.proofs.Main as mains
 use Rattle.whole_net.proofs.Arbiter.{arbiter_at, arbiter_leaf}
 use Rattle.whole_net.proofs.Bank.{bank_at, bank_leaf}
 use Rattle.whole_net.proofs.Printer.{printer_at, printer_leaf, printer_interface}
-use Rattle.whole_net.proofs.Sound.{is_small, small_number, same_name, printer_unnumbered, are_sound}
+use Rattle.whole_net.proofs.Sound.{is_small, same_name, printer_apart, are_sound}
 
 -- where each signal's equation names signals of lower levels alone, none depends on itself
 module _ (modules : List Module) (top : Module) (level : Path → ℕ → ℕ) (levelled : IsLevelled modules top level) where
@@ -153,7 +154,7 @@ module _ (P : Program) (spreads : List Spread) (banks : List Bank) (code : Threa
   pub are_leaves : AreLeaves layout modules
   are_leaves = record {
     late = late;
-    each = each_module banks (λ i x. leaves.IsThreadLeaf layout (late i) i x) (λ k c x. leaves.IsCoreLeaf layout (late (1 + k)) c x)
+    each = each_module banks (λ i x. leaves.IsThreadLeaf layout (late i) x) (λ k c x. leaves.IsCoreLeaf layout (late (1 + k)) c x)
         (λ k x. leaves.IsArbiterLeaf layout (late (1 + length layout.cores + k)) x) m arbiter printer ms are
         (mains.thread_leaf P spreads banks code plan shape prints.wide m inputs leaf built.module_ main)
         (λ k d x e is.
@@ -233,37 +234,36 @@ module _ (P : Program) (spreads : List Spread) (banks : List Bank) (code : Threa
   any : EachModule layout modules (λ i y. Unit {0}) (λ i c y. Unit {0}) (λ i y. Unit {0})
   any = each_module banks (λ i y. Unit {0}) (λ i c y. Unit {0}) (λ i y. Unit {0}) m arbiter printer ms are tt (λ k d x e is. tt) tt (λ k. tt)
 
-  pub has_banks : HasBanks P spreads banks code plan m inputs leaf shape n.modules top at
-  has_banks = record {
+  pub are_banked : AreBanked P spreads banks code plan m inputs leaf shape n.modules top at
+  are_banked = record {
     stands = λ x k g s declared listed below.
         let core = core_of P spreads banks built.banked x k s g listed declared below in
-        (the_bank (s.first + k) core.bank core.found g.name k core.named core.number, refl, refl);
-    only = λ x k g s declared listed b. only x k g s declared listed b;
+        (the_bank (s.first + k) core.bank core.found g.name k core.named core.number, refl, refl, λ c e. ap bank.memory_of (same_Some core.bank c (sym core.found ∙ e)));
+    only = only;
   }
     where
-      only : (x k : ℕ) (g : GlobalVariable) (s : Spread) → slice_get P.globals x ≡ Some g → slice_get spreads x ≡ Some s → BankInstance n.modules top g.name k → k < s.count
-      only x k g s declared listed b =
+      only : (x : ℕ) (g : GlobalVariable) (s : Spread) → slice_get P.globals x ≡ Some g → slice_get spreads x ≡ Some s → (digits : List ℕ) → IsMinimal digits →
+          BankOf n.modules top g.name digits → (k : ℕ) × (k < s.count) × (digits ≡ decimal k)
+      only x g s declared listed digits minimal b =
           by_kind (kind_of layout modules (λ i y. Unit {0}) (λ i c y. Unit {0}) (λ i y. Unit {0}) any top written.wired.is_top b.place b.instance b.is.listed)
         where
-          named : numbered (codes "u_" ++ g.name) k ≡ b.instance.name
+          named : with_digits (codes "u_" ++ g.name) digits ≡ b.instance.name
           named = sym b.is.named
 
-          of_bank : (i : ℕ) (c : Core) → b.instance.name ≡ c.name → CoreKind 2 banks (printing_core number) i c → k < s.count
-          of_bank i c name (OfPrinter last is) =
-              absurd (printer_unnumbered g.name (decimal k) (sym (ap (λ (z : Core). z.name) is) ∙ sym name ∙ sym named))
+          of_bank : (i : ℕ) (c : Core) → b.instance.name ≡ c.name → CoreKind 2 banks (printing_core number) i c → (k : ℕ) × (k < s.count) × (digits ≡ decimal k)
+          of_bank i c name (OfPrinter last is) = absurd (printer_apart g.name digits (sym (ap (λ (z : Core). z.name) is) ∙ sym name ∙ sym named))
           of_bank i c name (OfBank d at is) =
               let own = bank_is P spreads banks built.banked i d at in
-              let both = numbered_tells (codes "u_" ++ g.name) (codes "u_" ++ d.name) k d.number (small_number P built.resolved spreads banks built.banked i d at)
-              (named ∙ name ∙ ap (λ (z : Core). z.name) is) in
+              let both = digits_tell (codes "u_" ++ g.name) (codes "u_" ++ d.name) digits d.number minimal (named ∙ name ∙ ap (λ (z : Core). z.name) is) in
               let q : 117 ∷ 95 ∷ g.name ≡ 117 ∷ 95 ∷ d.name = both.0 in
               let same : g.name ≡ d.name = cc in
               let one : x ≡ own.x = same_name P built.resolved x own.x g own.global declared own.declared (same ∙ own.named) in
               let spread_is : Some s ≡ Some own.spread = sym listed ∙ ap (slice_get spreads) one ∙ own.listed in
               let counts = ap (λ (z : Spread). z.count) (same_Some s own.spread spread_is) in
-              let below = own.below in let number_ = own.number in let tells = both.1 in
-              omega (arith, counts, below, number_, tells)
+              let below = own.below in
+              (own.k, omega (arith, counts, below), both.1 ∙ ap decimal own.number)
 
-          by_kind : Kind layout modules (λ i y. Unit {0}) (λ i c y. Unit {0}) (λ i y. Unit {0}) b.place b.instance → k < s.count
+          by_kind : Kind layout modules (λ i y. Unit {0}) (λ i c y. Unit {0}) (λ i y. Unit {0}) b.place b.instance → (k : ℕ) × (k < s.count) × (digits ≡ decimal k)
           by_kind (of_thread i t h is p q) =
               absurd (let u : 117 ≡ get_or b.instance.name 0 0 = ap (λ z. get_or z 0 0) named in
               let v : get_or b.instance.name 0 0 ≡ 116 = ap (λ (y : Instance). get_or y.name 0 0) is in omega (arith, u, v))
@@ -272,13 +272,16 @@ module _ (P : Program) (spreads : List Spread) (banks : List Bank) (code : Threa
               absurd (let u : 117 ≡ get_or b.instance.name 0 0 = ap (λ z. get_or z 0 0) named in
               let v : get_or b.instance.name 0 0 ≡ 97 = ap (λ (y : Instance). get_or y.name 0 0) is in omega (arith, u, v))
 
+  abbrev has_done : HasDone top
+  has_done = record { place = found.done_at; signal = output (done_place modules layout); is = found.done; out = refl; bit = refl }
+
   module _ (is_thread : LeafIsThread) (is_done : LeafIsDone) where
     keep : KeepPromises layout (threads_of P spreads banks m leaf shape) (cores_of P spreads banks m leaf shape) (places (length layout.cores)) modules
     keep = record {
       thread_at = λ i l. omega arith;
       core_at = λ k l. refl;
       arbiter_at = λ k l. refl;
-      each = each_module banks (λ i x. IsThreadAt layout (threads_of P spreads banks m leaf shape i) (leaf_places m leaf) (cores_of P spreads banks m leaf shape) i x)
+      each = each_module banks (λ i x. IsThreadAt layout (threads_of P spreads banks m leaf shape i) (leaf_places m leaf) (cores_of P spreads banks m leaf shape) x)
           (λ k c x. IsCoreAt layout (cores_of P spreads banks m leaf shape k) (core_places banks shape k) c x)
           (λ k x. IsArbiterAt layout (arbiters.places 1) x) m arbiter printer ms are
           (mains.thread_at P spreads banks code plan shape prints.wide m inputs leaf built.module_ main is_thread is_done)
@@ -294,11 +297,9 @@ module _ (P : Program) (spreads : List Spread) (banks : List Bank) (code : Threa
         subst (λ k. IsNet 1 k (threads_of P spreads banks m leaf shape) (cores_of P spreads banks m leaf shape) (places k) n.modules top) (cores_are banks)
         (netting.is_net layout modules n written.wired (threads_of P spreads banks m leaf shape) (cores_of P spreads banks m leaf shape) (places (length layout.cores)) keep)
 
-    pub has_done : HasDone P spreads banks code plan m inputs leaf shape n.modules top at
-    has_done = record {
-      place = found.done_at;
-      signal = output (done_place modules layout);
-      is = found.done;
+    pub tells_done : TellsDone P spreads banks code plan m inputs leaf shape n.modules top at
+    tells_done = record {
+      shows = has_done;
       only = found.done_alone;
       drives = inr (
         done_place modules layout,
@@ -318,8 +319,8 @@ module _ (P : Program) (spreads : List Spread) (banks : List Bank) (code : Threa
           net = is_net;
           runs = found.runs 0 0 m refl refl;
           named = found.slots 0 (omega arith);
-          done = has_done;
-          banked = has_banks;
+          done = tells_done;
+          banked = are_banked;
           stages = staged.0;
           staged = staged.1;
           fits = found.fits;
@@ -333,7 +334,7 @@ module _ (P : Program) (spreads : List Spread) (banks : List Bank) (code : Threa
   netlist_is : netlist_of net ≡ n
   netlist_is = written.netlist net_sound.laid
 
-  enables : HasEnable top (thread_count P)
+  enables : TakesInput top (codes "en") (thread_count P)
   enables = record { place = 1; signal = input (codes "en") 1; is = found.enable; input = refl; wide = sym one_thread }
 
   pub top_is : top_of n.modules ≡ Some top
@@ -352,7 +353,7 @@ module _ (P : Program) (spreads : List Spread) (banks : List Bank) (code : Threa
     sound = net_sound;
     top = top;
     is_top = top_is;
-    done = (found.done_at, output (done_place modules layout), found.done);
+    done = has_done;
     loopless = loopless;
     takes = λ t e c choice. subst (λ z. FitsChoice n.modules z c) (same_Some top t (sym top_is ∙ e)) (found.fits c choice);
   }
@@ -369,9 +370,11 @@ module _ (P : Program) (spreads : List Spread) (banks : List Bank) (code : Threa
           top = top;
           is_top = ap (λ (z : Netlist). top_of z.modules) netlist_is ∙ top_is;
           enables = enables;
+          shows = has_done;
           determined = subst (λ (z : Netlist). IsDetermined z.modules top (thread_count P)) (sym netlist_is) (subst (IsDetermined n.modules top) (sym one_thread) law.0);
+          runs = subst (λ (z : Netlist). RunsExist z.modules top (thread_count P)) (sym netlist_is) (subst (RunsExist n.modules top) (sym one_thread) law.1);
           follows = λ good. subst (λ (z : Netlist). FollowsAlways z.modules top (thread_count P) (seen_of P)) (sym netlist_is)
-              (subst (λ t. FollowsAlways n.modules top t (seen_of P)) (sym one_thread) (law.1 good));
+              (subst (λ t. FollowsAlways n.modules top t (seen_of P)) (sym one_thread) (law.2 good));
         }
 
 pub net_is_good : NetFollows → LeafIsThread → LeafIsDone → NetIsGood

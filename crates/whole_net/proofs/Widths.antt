@@ -19,7 +19,7 @@ asks_are : (n p : ℕ) (banks : List Bank) → ask_widths (bank_cores n banks ++
 asks_are n p [] = refl
 asks_are n p (b ∷ banks) = ap (λ (rest : List ℕ). 1 ∷ 1 ∷ 64 ∷ b.width ∷ rest) (asks_are (suc n) p banks)
 
-pub outputs_are : (banks : List Bank) → thread_outputs (ask_widths (layout_of banks).cores) 0 ≡ main_outputs (widths banks) 4
+pub outputs_are : (banks : List Bank) → thread_outputs (ask_widths (layout_of banks).cores) ≡ main_outputs (widths banks) 4
 outputs_are banks = asks_are 2 (2 + length banks) banks
 
 told_are : (n p : ℕ) (banks : List Bank) → told_widths (bank_cores n banks ++ printing_core p ∷ []) ≡ widths banks

@@ -15,7 +15,7 @@ printing_groups = group 1 1 ∷ group 1 16 ∷ group 4 64 ∷ []
 
 -- the printer, as a module of this number
 abbrev pub printing_core : ℕ → Core
-printing_core number = record { «module» = number; name = codes "u_printer"; groups = printing_groups; told = [] }
+printing_core number = record { «module» = number; name = codes "uprinter_0"; groups = printing_groups; told = [] }
 
 -- whether a thread asks, whether it writes, the address, and a value
 abbrev pub bank_groups : ℕ → List Group

@@ -1,5 +1,5 @@
 -- The text of a program of one thread is good Verilog of it.
-use Rattle.std.specs.Prelude.{◌≡◌, ℕ, ◌<◌, ◌^◌, List, [], ◌∷◌, ◌++◌, length, map, Some, codes}
+use Rattle.std.specs.Prelude.{◌≡◌, ℕ, ◌<◌, ◌^◌, List, [], ◌∷◌, ◌++◌, length, map, Some}
 use Rattle.c_program.specs.Tree.{Program}
 use Rattle.bank_partition.specs.declared.banks.Spread.{Spread}
 use Rattle.bank_cores.specs.declared.bank.Shape.{Shape as Bank}
@@ -8,13 +8,13 @@ use Rattle.block_ir.specs.declared.plan.Planned.{Planned}
 use Rattle.verilog_tree.specs.declared.tree.Net.{Net}
 use Rattle.verilog_tree.specs.Reads.{IsFull, Reads}
 use Rattle.verilog_tree.specs.WellFormed.{IsWellFormed}
-use Rattle.netlist.specs.declared.netlist.Signal.{Signal}
 use Rattle.netlist.specs.declared.netlist.Module.{Module}
 use Rattle.netlist.specs.declared.netlist.Netlist.{Netlist}
 use Rattle.netlist.specs.NetlistOf.{netlist_of}
 use Rattle.netlist.specs.Laid.{IsLaid}
 use Rattle.netlist.specs.Sound.{IsSound}
-use Rattle.verilog_meaning.specs.Names.{top_of, IsSignal}
+use Rattle.verilog_meaning.specs.Names.{top_of}
+use Rattle.verilog_meaning.specs.Ports.{HasDone}
 use Rattle.verilog_meaning.specs.Cycles.{Choice}
 use Rattle.verilog_meaning.specs.Threads.{IsChoice, Place, Depends}
 use Rattle.circuit.specs.Nets.{FitsChoice}
@@ -53,7 +53,7 @@ OfParts Holds banks m arbiter modules printer =
 abbrev pub IsGoodOfParts : List Bank → Module → Module → List Module → Module → List ℕ → Type 0
 IsGoodOfParts banks m arbiter modules printer text = OfParts (λ P. IsGoodVerilog P text) banks m arbiter modules printer
 
--- the netlist that a text reads as: it is sound, its `top` shows `done`, no signal depends on itself, and it takes the choices of
+-- the netlist that a text reads as: it is sound, its `top` has the output `done`, no signal depends on itself, and it takes the choices of
 -- so many threads
 pub record IsNetOf (threads : ℕ) (n : Netlist) (text : List ℕ) : Type 0 where
   pub net : Net
@@ -62,7 +62,7 @@ pub record IsNetOf (threads : ℕ) (n : Netlist) (text : List ℕ) : Type 0 wher
   pub sound : IsSound n
   pub top : Module
   pub is_top : top_of n.modules ≡ Some top
-  pub done : (x : ℕ) × (s : Signal) × IsSignal top (codes "done") x s
+  pub done : HasDone top
   pub loopless : (p : Place) → Depends n.modules top p p → ⊥
   pub takes : (top : Module) → top_of n.modules ≡ Some top → (c : Choice) → IsChoice threads c → FitsChoice n.modules top c
 

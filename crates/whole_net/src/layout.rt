@@ -43,7 +43,7 @@ fn printing_core(alloc: Global, number: usize) -> Result<Core, AllocError>
 {
     Ok(Core {
         module: number,
-        name: Identifier::from_text(alloc, "u_printer")?,
+        name: Identifier::from_text(alloc, "uprinter_0")?,
         groups: printing_groups(alloc)?,
         told: Items::new(alloc),
     })

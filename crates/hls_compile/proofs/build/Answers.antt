@@ -1,8 +1,9 @@
-use Rattle.std.proofs.Common.{subst, sym}
+use Rattle.std.proofs.Common.{rules, subst, sym}
 use Rattle.c_program.specs.Plain.{program_of}
 use Rattle.code_following.specs.Following.{IsLowered}
-use Rattle.ir_lower.specs.Typed.{IsTypedCode}
+use Rattle.code_following.specs.Typed.{IsTypedCode}
 use Rattle.hls_compile.proofs.Good.{one_thread}
+use Rattle.hls_compile.proofs.Planned.{is_numbered}
 use Rattle.hls_compile.proofs.build.Goals as goal
 
 pub returns-clause-one : goal.returns-clause-one
@@ -20,3 +21,6 @@ returns-clause-plans g c = (
     runs = c.in_ok-written.ensures.runs;
   },
 )
+
+pub planned_main-requires : goal.planned_main-requires
+planned_main-requires g c = (search rules, is_numbered (program_of c.args.program.now) c.in_ok-code.code c.in_ok-code.ensures.typed)

@@ -1,7 +1,8 @@
 use Rattle.std.proofs.Common.{subst}
-use Rattle.fsm_datapath.specs.Thread.{RunsServedCode, HasShapeOfServedCode}
-use Rattle.fsm_datapath.specs.Leaf.{IsLeafOfServedCode}
-use Rattle.fsm_datapath.specs.Steady.{IsSteadyServedCode}
+use Rattle.thread_runs.specs.Runs.{RunsServedCode}
+use Rattle.thread_sound.specs.Shape.{HasShapeOfServedCode}
+use Rattle.thread_sound.specs.Leaf.{IsLeafOfServedCode}
+use Rattle.thread_steady.specs.Steady.{IsSteadyServedCode}
 use Rattle.hls_compile.proofs.parts.main_module.Goals as goal
 
 pub returns : goal.returns

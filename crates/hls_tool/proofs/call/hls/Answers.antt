@@ -1,6 +1,8 @@
 use Rattle.hls_tool.specs.Inside.{due_of}
 use Rattle.hls_tool.proofs.RefusedLemmas.{tells_refusal}
-use Rattle.hls_tool.proofs.WalkLemmas.{completes_walk, tells_end}
+use Rattle.hls_tool.proofs.CompleteLemmas.{completes}
+use Rattle.hls_tool.proofs.DeliveryLemmas.{may_be_owed}
+use Rattle.hls_tool.proofs.WalkLemmas.{tells_end}
 use Rattle.hls_tool.proofs.call.hls.Goals as goal
 
 pub returns-clause-answered : goal.returns-clause-answered
@@ -15,7 +17,10 @@ pub returns-clause-refuses : goal.returns-clause-refuses
 returns-clause-refuses g c = λ text r left refused. tells_refusal _ _ _ _ _ _ text r (returns-clause-answered g c) left refused
 
 pub returns-clause-completes : goal.returns-clause-completes
-returns-clause-completes g c = λ turns P asked calm out err. completes_walk _ _ _ _ _ _ turns P (returns-clause-answered g c) asked calm out err
+returns-clause-completes g c = λ task P asked is calm out err. completes _ _ _ _ _ _ task P (returns-clause-answered g c) asked is calm out err
 
 pub returns-clause-tells_end : goal.returns-clause-tells_end
 returns-clause-tells_end g c = λ turns P end output asked walk. tells_end _ _ _ _ _ _ turns P (returns-clause-answered g c) asked end output walk
+
+pub deliver-requires : goal.deliver-requires
+deliver-requires g c = may_be_owed _ _ _ (due_of c.answer-answer.result) _ c.answer-answer.ensures.owes
