@@ -1,5 +1,5 @@
-//! Tests of the layers below the compiler: the lexer, the parser, the lowering and the module of a thread. They stand in a
-//! crate of their own, since a crate with tests is proved twice.
+//! Tests of the layers of the front end and below: the lexer, the parser, weights and bounds, races, the lowering and the module of a
+//! thread. They stand in a crate of their own, since a crate with tests is proved twice.
 #![tactic(auto)]
 
 #[cfg(test)]
@@ -9,4 +9,10 @@ mod lowering;
 #[cfg(test)]
 mod parsing;
 #[cfg(test)]
+mod races;
+#[cfg(test)]
 mod thread_module;
+#[cfg(test)]
+mod trees;
+#[cfg(test)]
+mod weights;

@@ -1,105 +1,63 @@
 // Small programs and their code.
+use crate::trees::{
+    INT, assign, assign_number, before, call, define, number, on_heap, program, return_zero,
+    with_x, x,
+};
 use block_ir::block::Next;
 use block_ir::code::{Act, Stage, ThreadCode};
 use c_program::tree::{
-    BinaryOperator, Condition, Expression, Function, LocalVariable, Piece, Place, Program,
-    ReturnType, RightSide, Statement, Storage,
+    BinaryOperator, Condition, Expression, Function, Piece, Program, RightSide, Statement,
 };
 use hls_ints::CType;
-use ir_lower::fault::LowerError;
 use ir_lower::statements::lower;
 use ir_lower::taken::is_sequential_program;
 use std::alloc::{AllocError, Global};
 use std::test::Fail;
 
-const INT: CType = CType::INT;
-
-fn x() -> Expression {
-    Expression::Variable(Storage::Automatic, 0, INT)
-}
-
-fn number(v: i128) -> Expression {
-    Expression::Constant(INT, v)
-}
-
-fn assign(right: Expression) -> Statement {
-    let place = Place::Scalar(Storage::Automatic, 0, INT);
-    Statement::Assign(0, place, RightSide::Value(right))
-}
-
-fn binary(
-    alloc: Global,
-    operator: BinaryOperator,
-    left: Expression,
-    right: Expression,
-) -> Result<Expression, AllocError> {
-    let left = Box::new(alloc, left)?;
-    let right = Box::new(alloc, right)?;
-    Ok(Expression::Binary(operator, INT, left, right))
-}
-
-fn print(alloc: Global) -> Result<Statement, AllocError> {
+/// `printf("%d", value);`
+fn print(alloc: Global, value: Expression) -> Result<Box<Statement>, AllocError> {
     let mut format = Vec::new(alloc);
     format.push(Piece::Conversion(INT))?;
     let mut arguments = Vec::new(alloc);
-    arguments.push(x())?;
-    Ok(Statement::Print(0, format, arguments))
-}
-
-fn before(alloc: Global, first: Statement, rest: Statement) -> Result<Statement, AllocError> {
-    let first = Box::new(alloc, first)?;
-    let rest = Box::new(alloc, rest)?;
-    Ok(Statement::Sequence(first, rest))
+    arguments.push(value)?;
+    on_heap(alloc, Statement::Print(0, format, arguments))
 }
 
 /// A program whose main has that body and an int x.
-fn main_with(alloc: Global, body: Statement) -> Result<Program, AllocError> {
-    let local = LocalVariable { ty: INT, length: 1 };
+fn main_with(alloc: Global, body: Box<Statement>) -> Result<Program, AllocError> {
     let mut functions = Vec::new(alloc);
-    functions.push(Function {
-        name: String::from_str(alloc, "main")?,
-        returns: ReturnType::Integer(INT),
-        parameters: 0,
-        locals: [local].to_vec(alloc)?,
-        body,
-        end: 0,
-    })?;
-    Ok(Program {
-        functions,
-        main: 0,
-        globals: Vec::new(alloc),
-        threads: Vec::new(alloc),
-        mutexes: Vec::new(alloc),
-        barriers: Vec::new(alloc),
-    })
+    define(alloc, &mut functions, "main", 0, body)?;
+    Ok(program(alloc, functions, 0))
 }
 
 /// `int x = 6; x = x * 7; printf("%d", x); return 0;`
 fn straight(alloc: Global) -> Result<Program, AllocError> {
-    let product = binary(alloc, BinaryOperator::Multiply, x(), number(7))?;
-    let end = Statement::Return(0, Some(RightSide::Value(number(0))));
-    let shown = before(alloc, print(alloc)?, end)?;
-    let rest = before(alloc, assign(product), shown)?;
-    let body = before(alloc, assign(number(6)), rest)?;
+    let body = before(alloc, print(alloc, x())?, return_zero(alloc)?)?;
+    let product = with_x(alloc, BinaryOperator::Multiply, 7)?;
+    let body = before(alloc, assign(alloc, RightSide::Value(product))?, body)?;
+    let body = before(alloc, assign_number(alloc, 6)?, body)?;
     main_with(alloc, body)
+}
+
+/// `if (x < 3) continue; printf("%d", x);`
+fn counted(alloc: Global) -> Result<Box<Statement>, AllocError> {
+    let small = with_x(alloc, BinaryOperator::Less, 3)?;
+    let skip = on_heap(alloc, Statement::Continue)?;
+    let none = on_heap(alloc, Statement::Done)?;
+    let choice = Statement::If(Condition::Operand(0, small), skip, none);
+    let choice = on_heap(alloc, choice)?;
+    before(alloc, choice, print(alloc, x())?)
 }
 
 /// `for (x = 1; x < 4; x = x + 1) { if (x < 3) continue; printf("%d", x); }`
 fn counting(alloc: Global) -> Result<Program, AllocError> {
-    let below = binary(alloc, BinaryOperator::Less, x(), number(4))?;
-    let more = binary(alloc, BinaryOperator::Add, x(), number(1))?;
-    let small = binary(alloc, BinaryOperator::Less, x(), number(3))?;
-    let skip = Box::new(alloc, Statement::Continue)?;
-    let none = Box::new(alloc, Statement::Done)?;
-    let choice = Statement::If(Condition::Operand(0, small), skip, none);
-    let body = before(alloc, choice, print(alloc)?)?;
-    let all = Statement::For(
-        Box::new(alloc, assign(number(1)))?,
-        Condition::Operand(0, below),
-        Box::new(alloc, assign(more))?,
-        Box::new(alloc, body)?,
-    );
-    main_with(alloc, all)
+    let more = with_x(alloc, BinaryOperator::Add, 1)?;
+    let last = assign(alloc, RightSide::Value(more))?;
+    let body = counted(alloc)?;
+    let first = assign_number(alloc, 1)?;
+    let below = with_x(alloc, BinaryOperator::Less, 4)?;
+    let all = Statement::For(first, Condition::Operand(0, below), last, body);
+    main_with(alloc, on_heap(alloc, all)?)
 }
 
 /// Where a stage leads, the second label of a branch too, and its steps.
@@ -145,11 +103,8 @@ fn lowers_straight_code(rt: HostRuntime) -> Result<(), Fail> {
 /// The value of a printf takes its conversion's type before it is put into a variable of 64 bits (C99 7.19.6.1).
 #[test]
 fn converts_a_printf_value(rt: HostRuntime) -> Result<(), Fail> {
-    let mut format = Vec::new(rt.alloc());
-    format.push(Piece::Conversion(INT))?;
-    let mut arguments = Vec::new(rt.alloc());
-    arguments.push(Expression::Constant(CType::UNSIGNED_LONG, 4294967301))?;
-    let program = main_with(rt.alloc(), Statement::Print(0, format, arguments))?;
+    let large = Expression::Constant(CType::UNSIGNED_LONG, 4294967301);
+    let program = main_with(rt.alloc(), print(rt.alloc(), large)?)?;
     let code = lower(rt.alloc(), &program)?;
     let Some(Stage::Run(block)) = code.stages.get(0) else {
         return Err("no block")?;
@@ -196,9 +151,9 @@ fn discard_all(program: Program) {
 /// A long body is one block and a return, and no stack is exhausted.
 #[test]
 fn lowers_a_long_body(rt: HostRuntime) -> Result<(), Fail> {
-    let mut body = Statement::Done;
+    let mut body = on_heap(rt.alloc(), Statement::Done)?;
     for _ in 0..8000 {
-        body = before(rt.alloc(), assign(number(6)), body)?;
+        body = before(rt.alloc(), assign_number(rt.alloc(), 6)?, body)?;
     }
     let program = main_with(rt.alloc(), body)?;
     let code = lower(rt.alloc(), &program)?;
@@ -228,25 +183,16 @@ fn lowers_a_loop(rt: HostRuntime) -> Result<(), Fail> {
     Ok(())
 }
 
-/// `int f(int a) { return a * 7; }`, and `x = f(6); return 0;` in main.
+/// `int f(int x) { return x * 7; }`, and `x = f(6); return 0;` in main.
 fn calling(alloc: Global) -> Result<Program, AllocError> {
-    let product = binary(alloc, BinaryOperator::Multiply, x(), number(7))?;
-    let local = LocalVariable { ty: INT, length: 1 };
-    let mut arguments = Vec::new(alloc);
-    arguments.push(number(6))?;
-    let place = Place::Scalar(Storage::Automatic, 0, INT);
-    let call = Statement::Assign(0, place, RightSide::Call(1, arguments));
-    let end = Statement::Return(0, Some(RightSide::Value(number(0))));
-    let mut program = main_with(alloc, before(alloc, call, end)?)?;
-    program.functions.push(Function {
-        name: String::from_str(alloc, "f")?,
-        returns: ReturnType::Integer(INT),
-        parameters: 1,
-        locals: [local].to_vec(alloc)?,
-        body: Statement::Return(0, Some(RightSide::Value(product))),
-        end: 0,
-    })?;
-    Ok(program)
+    let mut functions = Vec::new(alloc);
+    let called = call(alloc, 1, number(6))?;
+    let body = before(alloc, assign(alloc, called)?, return_zero(alloc)?)?;
+    define(alloc, &mut functions, "main", 0, body)?;
+    let product = with_x(alloc, BinaryOperator::Multiply, 7)?;
+    let end = Statement::Return(0, Some(RightSide::Value(product)));
+    define(alloc, &mut functions, "f", 1, on_heap(alloc, end)?)?;
+    Ok(program(alloc, functions, 0))
 }
 
 /// The step that passes the argument and the return are one block; the next stores the value.
@@ -270,8 +216,8 @@ fn lowers_a_call(rt: HostRuntime) -> Result<(), Fail> {
 /// A function that calls itself has no code.
 #[test]
 fn refuses_a_recursion(rt: HostRuntime) -> Result<(), Fail> {
-    let call = Statement::Call(0, 0, Vec::new(rt.alloc()));
-    let program = main_with(rt.alloc(), call)?;
+    let again = Statement::Call(0, 0, Vec::new(rt.alloc()));
+    let program = main_with(rt.alloc(), on_heap(rt.alloc(), again)?)?;
     assert!(rt; lower(rt.alloc(), &program).is_err());
     Ok(())
 }

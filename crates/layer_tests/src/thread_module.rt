@@ -5,54 +5,13 @@ use block_ir::operand::{Operand, Source};
 use block_ir::plan::{BlockPlan, Planned, StagePlan};
 use c_program::tree::BinaryOperator;
 use fsm_datapath::module::module;
-use fsm_datapath::shape::{Printer, Shape};
 use hls_ints::CType;
 use netlist::netlist::Module;
 use sqlite_items::Items;
 use std::alloc::{AllocError, Global};
 use std::test::Fail;
+use thread_slots::shape::{Printer, Shape};
 use verilog_tree::name::Identifier;
-
-/// `x = x * 7; printf("%d", x);`, then a return.
-fn code(alloc: Global) -> Result<ThreadCode, AllocError> {
-    let mut operations = Items::new(alloc);
-    operations.push(Operation::Binary {
-        operator: BinaryOperator::Multiply,
-        ty: CType::INT,
-        left: operand(alloc, Source::Variable(0, CType::INT)),
-        right: operand(alloc, Source::Constant(CType::INT, 7)),
-    })?;
-    let mut finals = Items::new(alloc);
-    finals.push(Final {
-        variable: 0,
-        value: operand(alloc, Source::Value(0, CType::INT)),
-    })?;
-    let block = Block {
-        operations,
-        finals,
-        next: Next::Jump(1),
-        steps: 1,
-    };
-    let print = Act::Print {
-        site: 3,
-        values: Items::from_slice(alloc, &[ActOperand::Variable(0, CType::INT)])?,
-    };
-    let mut stages = Items::new(alloc);
-    stages.push(Stage::Run(block))?;
-    stages.push(Stage::Act {
-        act: print,
-        next: 2,
-    })?;
-    stages.push(Stage::Act {
-        act: Act::Return,
-        next: 0,
-    })?;
-    Ok(ThreadCode {
-        variables: Items::from_slice(alloc, &[CType::INT])?,
-        arrays: Items::new(alloc),
-        stages,
-    })
-}
 
 fn operand(alloc: Global, source: Source) -> Operand {
     Operand {
@@ -61,16 +20,85 @@ fn operand(alloc: Global, source: Source) -> Operand {
     }
 }
 
-/// The product in two states.
-fn planned(alloc: Global) -> Result<Planned, AllocError> {
-    let block = BlockPlan {
-        starts: Items::from_slice(alloc, &[0])?,
-        states: 2,
-        units: Items::from_slice(alloc, &[0])?,
-        registers: Items::from_slice(alloc, &[None])?,
-    };
+fn product(alloc: Global) -> Result<Items<Operation>, AllocError> {
+    let mut operations = Items::new(alloc);
+    operations.push(Operation::Binary {
+        operator: BinaryOperator::Multiply,
+        ty: CType::INT,
+        left: operand(alloc, Source::Variable(0, CType::INT)),
+        right: operand(alloc, Source::Constant(CType::INT, 7)),
+    })?;
+    Ok(operations)
+}
+
+fn finals(alloc: Global) -> Result<Items<Final>, AllocError> {
+    let mut finals = Items::new(alloc);
+    finals.push(Final {
+        variable: 0,
+        value: operand(alloc, Source::Value(0, CType::INT)),
+    })?;
+    Ok(finals)
+}
+
+/// `x = x * 7;`
+fn block(alloc: Global) -> Result<Block, AllocError> {
+    let operations = product(alloc)?;
+    let finals = finals(alloc)?;
+    Ok(Block {
+        operations,
+        finals,
+        next: Next::Jump(1),
+        steps: 1,
+    })
+}
+
+/// `printf("%d", x);`
+fn add_print(alloc: Global, stages: &mut Items<Stage>) -> Result<(), AllocError> {
+    let values = Items::from_slice(alloc, &[ActOperand::Variable(0, CType::INT)])?;
+    stages.push(Stage::Act {
+        act: Act::Print { site: 3, values },
+        next: 2,
+    })
+}
+
+fn stages(alloc: Global) -> Result<Items<Stage>, AllocError> {
     let mut stages = Items::new(alloc);
-    stages.push(StagePlan::Run(block))?;
+    stages.push(Stage::Run(block(alloc)?))?;
+    add_print(alloc, &mut stages)?;
+    stages.push(Stage::Act {
+        act: Act::Return,
+        next: 0,
+    })?;
+    Ok(stages)
+}
+
+/// `x = x * 7; printf("%d", x);`, then a return.
+fn code(alloc: Global) -> Result<ThreadCode, AllocError> {
+    let stages = stages(alloc)?;
+    let variables = Items::from_slice(alloc, &[CType::INT])?;
+    Ok(ThreadCode {
+        variables,
+        arrays: Items::new(alloc),
+        stages,
+    })
+}
+
+/// The product in two states.
+fn product_plan(alloc: Global) -> Result<BlockPlan, AllocError> {
+    let starts = Items::from_slice(alloc, &[0])?;
+    let units = Items::from_slice(alloc, &[0])?;
+    let registers = Items::from_slice(alloc, &[None])?;
+    Ok(BlockPlan {
+        starts,
+        states: 2,
+        units,
+        registers,
+    })
+}
+
+fn planned(alloc: Global) -> Result<Planned, AllocError> {
+    let mut stages = Items::new(alloc);
+    stages.push(StagePlan::Run(product_plan(alloc)?))?;
     stages.push(StagePlan::Act)?;
     stages.push(StagePlan::Act)?;
     Ok(Planned {
@@ -79,18 +107,22 @@ fn planned(alloc: Global) -> Result<Planned, AllocError> {
     })
 }
 
-fn built(alloc: Global) -> Result<Module, AllocError> {
+fn shape(alloc: Global) -> Result<Shape, AllocError> {
     let printer = Printer {
         site_width: 4,
         values: 2,
     };
-    let shape = Shape {
+    Ok(Shape {
         name: Identifier::from_text(alloc, "fn_main")?,
         is_main: true,
         globals: Items::new(alloc),
         spreads: Items::new(alloc),
         printer: Some(printer),
-    };
+    })
+}
+
+fn built(alloc: Global) -> Result<Module, AllocError> {
+    let shape = shape(alloc)?;
     let code = code(alloc)?;
     let planned = planned(alloc)?;
     module(alloc, &shape, &code, &planned)
@@ -108,7 +140,7 @@ fn ports_and_registers(rt: HostRuntime) -> Result<(), Fail> {
         let register = signals.get(place).ok_or("register")?;
         assert_eq!(rt; register.width, width);
     }
-    for (place, name) in [(1, "en"), (5, "beat_5")] {
+    for (place, name) in [(1, "en"), (5, "beat")] {
         let signal = signals.get(place).ok_or("signal")?;
         assert_eq!(rt; signal.name.as_str(), name);
     }

@@ -1,11 +1,19 @@
-//! Tests of the layers of the planner: the table of a block, its units and registers, and the plan of a code. They stand in a
-//! crate of their own, since a crate with tests is proved twice.
+//! Tests of the layers of the planner: starts, packed rows, the table of a block, its units and registers, the plan of a code, plans
+//! side by side, and the banks of globals. They stand in a crate of their own, since a crate with tests is proved twice.
 #![tactic(auto)]
 
 #[cfg(test)]
+mod banks;
+#[cfg(test)]
 mod bindings;
 #[cfg(test)]
+mod packings;
+#[cfg(test)]
 mod plans;
+#[cfg(test)]
+mod schedules;
+#[cfg(test)]
+mod side_by_side;
 #[cfg(test)]
 mod small;
 #[cfg(test)]

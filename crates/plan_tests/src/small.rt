@@ -26,58 +26,85 @@ fn operand(alloc: Global, source: Source) -> Operand {
     }
 }
 
-pub fn binary(alloc: Global, operator: BinaryOperator, left: Source, right: Source) -> Operation {
-    Operation::Binary {
+pub fn add_binary(
+    alloc: Global,
+    operations: &mut Items<Operation>,
+    operator: BinaryOperator,
+    left: Source,
+    right: Source,
+) -> Result<(), AllocError> {
+    operations.push(Operation::Binary {
         operator,
         ty: CType::INT,
         left: operand(alloc, left),
         right: operand(alloc, right),
-    }
+    })
 }
 
-/// A read of a scalar global.
-pub fn read_global(alloc: Global, global: u32) -> Operation {
-    Operation::ReadGlobal {
+/// Adds a read of a scalar global.
+pub fn add_global_read(
+    alloc: Global,
+    operations: &mut Items<Operation>,
+    global: u32,
+) -> Result<(), AllocError> {
+    operations.push(Operation::ReadGlobal {
         global,
         length: 1,
         index: operand(alloc, constant(0)),
-    }
+    })
 }
 
-/// A write of a scalar global.
-pub fn write_global(alloc: Global, global: u32, source: Source) -> Operation {
-    Operation::WriteGlobal {
+/// Adds a write of a scalar global.
+pub fn add_global_write(
+    alloc: Global,
+    operations: &mut Items<Operation>,
+    global: u32,
+    source: Source,
+) -> Result<(), AllocError> {
+    operations.push(Operation::WriteGlobal {
         global,
         length: 1,
         index: operand(alloc, constant(0)),
         value: operand(alloc, source),
-    }
+    })
 }
 
-pub fn read_array(alloc: Global, array: u32) -> Operation {
-    Operation::ReadArray {
+pub fn add_array_read(
+    alloc: Global,
+    operations: &mut Items<Operation>,
+    array: u32,
+) -> Result<(), AllocError> {
+    operations.push(Operation::ReadArray {
         array,
         length: 4,
         index: operand(alloc, constant(0)),
-    }
+    })
 }
 
-pub fn write_array(alloc: Global, array: u32) -> Operation {
-    Operation::WriteArray {
+pub fn add_array_write(
+    alloc: Global,
+    operations: &mut Items<Operation>,
+    array: u32,
+) -> Result<(), AllocError> {
+    operations.push(Operation::WriteArray {
         array,
         length: 4,
         index: operand(alloc, constant(0)),
         value: operand(alloc, constant(1)),
-    }
+    })
+}
+
+fn add_final(alloc: Global, finals: &mut Items<Final>, last: u32) -> Result<(), AllocError> {
+    finals.push(Final {
+        variable: 0,
+        value: operand(alloc, value(last)),
+    })
 }
 
 /// The operations, after which variable 0 has the value of one of them.
 pub fn block(alloc: Global, operations: Items<Operation>, last: u32) -> Result<Block, AllocError> {
     let mut finals = Items::new(alloc);
-    finals.push(Final {
-        variable: 0,
-        value: operand(alloc, value(last)),
-    })?;
+    add_final(alloc, &mut finals, last)?;
     Ok(Block {
         operations,
         finals,
@@ -89,23 +116,29 @@ pub fn block(alloc: Global, operations: Items<Operation>, last: u32) -> Result<B
 /// `x = (a * b + c * d) * e;`
 pub fn products(alloc: Global) -> Result<Block, AllocError> {
     let mut operations = Items::new(alloc);
-    operations.push(binary(alloc, BinaryOperator::Multiply, local(), local()))?;
-    operations.push(binary(alloc, BinaryOperator::Multiply, local(), local()))?;
-    operations.push(binary(alloc, BinaryOperator::Add, value(0), value(1)))?;
-    operations.push(binary(alloc, BinaryOperator::Multiply, value(2), local()))?;
+    let all = &mut operations;
+    add_binary(alloc, all, BinaryOperator::Multiply, local(), local())?;
+    add_binary(alloc, all, BinaryOperator::Multiply, local(), local())?;
+    add_binary(alloc, all, BinaryOperator::Add, value(0), value(1))?;
+    add_binary(alloc, all, BinaryOperator::Multiply, value(2), local())?;
     block(alloc, operations, 3)
+}
+
+fn add_return(stages: &mut Items<Stage>) -> Result<(), AllocError> {
+    stages.push(Stage::Act {
+        act: Act::Return,
+        next: 0,
+    })
 }
 
 /// The block, and the return of main behind it.
 pub fn code(alloc: Global, block: Block) -> Result<ThreadCode, AllocError> {
     let mut stages = Items::new(alloc);
     stages.push(Stage::Run(block))?;
-    stages.push(Stage::Act {
-        act: Act::Return,
-        next: 0,
-    })?;
+    add_return(&mut stages)?;
+    let variables = Items::from_slice(alloc, &[CType::INT])?;
     Ok(ThreadCode {
-        variables: Items::from_slice(alloc, &[CType::INT])?,
+        variables,
         arrays: Items::new(alloc),
         stages,
     })

@@ -1,5 +1,7 @@
 // Constraints of small blocks.
-use crate::small::{binary, local, read_array, read_global, value, write_array, write_global};
+use crate::small::{
+    add_array_read, add_array_write, add_binary, add_global_read, add_global_write, local, value,
+};
 use block_ir::block::Operation;
 use c_program::tree::BinaryOperator;
 use op_graph::node::nodes;
@@ -28,9 +30,10 @@ fn reduced(alloc: Global, operations: &Items<Operation>) -> Result<Vec<Constrain
 fn sums(rt: HostRuntime) -> Result<(), Fail> {
     let alloc = rt.alloc();
     let mut operations = Items::new(alloc);
-    operations.push(binary(alloc, BinaryOperator::Add, local(), local()))?;
-    operations.push(binary(alloc, BinaryOperator::Add, value(0), local()))?;
-    operations.push(binary(alloc, BinaryOperator::Add, value(1), local()))?;
+    let all = &mut operations;
+    add_binary(alloc, all, BinaryOperator::Add, local(), local())?;
+    add_binary(alloc, all, BinaryOperator::Add, value(0), local())?;
+    add_binary(alloc, all, BinaryOperator::Add, value(1), local())?;
     let list = table(alloc, &operations)?;
     let rows = [
         row(0, 1, 0),
@@ -49,8 +52,9 @@ fn sums(rt: HostRuntime) -> Result<(), Fail> {
 fn products(rt: HostRuntime) -> Result<(), Fail> {
     let alloc = rt.alloc();
     let mut operations = Items::new(alloc);
-    operations.push(binary(alloc, BinaryOperator::Multiply, local(), local()))?;
-    operations.push(binary(alloc, BinaryOperator::Divide, value(0), local()))?;
+    let all = &mut operations;
+    add_binary(alloc, all, BinaryOperator::Multiply, local(), local())?;
+    add_binary(alloc, all, BinaryOperator::Divide, value(0), local())?;
     let list = table(alloc, &operations)?;
     let rows = [row(0, 1, 2), row(0, 2, 2), row(1, 2, 8)];
     assert_eq!(rt; list.as_slice(), rows.as_slice());
@@ -63,10 +67,11 @@ fn products(rt: HostRuntime) -> Result<(), Fail> {
 fn accesses(rt: HostRuntime) -> Result<(), Fail> {
     let alloc = rt.alloc();
     let mut operations = Items::new(alloc);
-    operations.push(read_array(alloc, 0))?;
-    operations.push(read_array(alloc, 0))?;
-    operations.push(write_array(alloc, 0))?;
-    operations.push(read_array(alloc, 0))?;
+    let all = &mut operations;
+    add_array_read(alloc, all, 0)?;
+    add_array_read(alloc, all, 0)?;
+    add_array_write(alloc, all, 0)?;
+    add_array_read(alloc, all, 0)?;
     let list = table(alloc, &operations)?;
     let rows = [
         row(0, 2, 1),
@@ -98,10 +103,11 @@ fn accesses(rt: HostRuntime) -> Result<(), Fail> {
 fn globals(rt: HostRuntime) -> Result<(), Fail> {
     let alloc = rt.alloc();
     let mut operations = Items::new(alloc);
-    operations.push(read_global(alloc, 0))?;
-    operations.push(write_global(alloc, 0, local()))?;
-    operations.push(read_global(alloc, 0))?;
-    operations.push(read_global(alloc, 1))?;
+    let all = &mut operations;
+    add_global_read(alloc, all, 0)?;
+    add_global_write(alloc, all, 0, local())?;
+    add_global_read(alloc, all, 0)?;
+    add_global_read(alloc, all, 1)?;
     let list = table(alloc, &operations)?;
     let rows = [
         row(0, 1, 2),

@@ -1,2 +1,3 @@
 mod Texts
 pub mod Opens
+pub mod Shift

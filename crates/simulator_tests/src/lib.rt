@@ -1,8 +1,10 @@
-//! Tests of the simulator on two nets that are written out by hand. They stand in a crate of their own, since a crate with tests
-//! is proved twice.
+//! Tests of the simulator: a value by the standard, and two nets that are written out by hand. They stand in a crate of their own,
+//! since a crate with tests is proved twice.
 #![tactic(auto)]
 
 #[cfg(test)]
 mod nets;
 #[cfg(test)]
 mod tests;
+#[cfg(test)]
+mod values;

@@ -1,0 +1,12 @@
+//! Tests of the base layers: integers, bytes in and out, the words of the command line, lists of turns. They stand in a crate of
+//! their own, since a crate with tests is proved twice.
+#![tactic(auto)]
+
+#[cfg(test)]
+mod command_words;
+#[cfg(test)]
+mod integers;
+#[cfg(test)]
+mod streams;
+#[cfg(test)]
+mod turn_lists;

@@ -1,0 +1,162 @@
+use hls_io::{
+    Bytes, MemSink, MemSource, ReadAllError, Sink, Source, StdSink, StdSource, SureSink,
+    SureSource, WriteFault, put_dec, read_all, write_all,
+};
+use std::alloc::Global;
+use std::io;
+use std::io::{Error, ErrorKind, Read, Write};
+use std::process::Abort;
+use std::test::Fail;
+
+const TEXT: &[u8] = b"int main(void){return 0;}";
+
+fn expect_whole<S: Source>(rt: &impl Abort, alloc: Global, mut source: S, name: &str)
+where
+    S: Drop,
+{
+    let whole = read_all(alloc, &mut source, TEXT.len()).expect(rt, name);
+    assert_eq!(rt; whole.as_slice(), TEXT, "of {name}");
+    let rest = read_all(alloc, &mut source, 0).expect(rt, name);
+    assert!(rt; rest.is_empty(), "of {name}");
+}
+
+#[test]
+fn reads_to_the_end(rt: HostRuntime) {
+    let alloc = rt.alloc();
+    for chunk in [1, 4, 25, 26] {
+        expect_whole(
+            &rt,
+            alloc,
+            MemSource::new(TEXT, chunk, &[]),
+            "a source in memory",
+        );
+        expect_whole(&rt, alloc, SureSource::new(TEXT, chunk), "a sure source");
+    }
+    expect_whole(&rt, alloc, StdSource::new(TEXT), "a reader of std");
+}
+
+#[test]
+fn holds_to_the_most_bytes(rt: HostRuntime) {
+    let alloc = rt.alloc();
+    for (max, fits) in [(0, false), (24, false), (25, true), (65_536, true)] {
+        let mut source = MemSource::new(TEXT, 7, &[]);
+        let read = read_all(alloc, &mut source, max);
+        assert_eq!(rt; read.is_ok(), fits, "at {max}");
+        assert!(rt;
+            fits || matches!(read, Err(ReadAllError::TooLong)),
+            "at {max}"
+        );
+    }
+}
+
+#[test]
+fn fails_in_the_middle_of_a_read(rt: HostRuntime) -> Result<(), Fail> {
+    let alloc = rt.alloc();
+    let mut source = MemSource::new(TEXT, 4, &[2]);
+    let read = read_all(alloc, &mut source, 100);
+    assert!(rt; matches!(read, Err(ReadAllError::ReadFault)));
+    let rest = read_all(alloc, &mut source, 100)?;
+    assert_eq!(rt; rest.as_slice(), b"main(void){return 0;}".as_slice());
+    Ok(())
+}
+
+#[test]
+fn fails_in_the_middle_of_a_write(rt: HostRuntime) -> Result<(), Fail> {
+    let alloc = rt.alloc();
+    let mut sink = MemSink::new(alloc, 100, 4, &[3])?;
+    assert_eq!(rt; write_all(&mut sink, TEXT), Err(WriteFault { written: 8 }));
+    assert_eq!(rt; sink.held(), b"int main".as_slice());
+    assert_eq!(rt; write_all(&mut sink, b"(void)"), Ok(()));
+    assert_eq!(rt; sink.held(), b"int main(void)".as_slice());
+    let mut small = MemSink::new(alloc, 10, 25, &[])?;
+    assert_eq!(rt;
+        write_all(&mut small, TEXT),
+        Err(WriteFault { written: 10 })
+    );
+    assert_eq!(rt; write_all(&mut SureSink::new(), TEXT), Ok(()));
+    Ok(())
+}
+
+#[derive(Drop)]
+struct Stuttering<'a> {
+    left: &'a [u8],
+    calls: u32,
+    broken_from: u32,
+}
+
+impl Read for Stuttering<'_> {
+    fn read(&mut self, buf: &mut [u8]) -> io::Result<usize> {
+        self.calls = self.calls.saturating_add(1);
+        if self.calls >= self.broken_from {
+            return Err(Error::from(ErrorKind::BrokenPipe));
+        }
+        if self.calls % 2 == 0 {
+            return Err(Error::from(ErrorKind::Interrupted));
+        }
+        let count = self.left.len().min(buf.len()).min(3);
+        let (front, rest) = self.left.split_at(count);
+        buf[..count].copy_from_slice(front);
+        self.left = rest;
+        Ok(count)
+    }
+}
+
+#[derive(Drop)]
+struct Grudging {
+    calls: u32,
+}
+
+impl Write for Grudging {
+    fn write(&mut self, piece: &[u8]) -> io::Result<usize> {
+        self.calls = self.calls.saturating_add(1);
+        match self.calls {
+            1 | 3 => Ok(piece.len().min(5)),
+            2 => Err(Error::from(ErrorKind::Interrupted)),
+            _ => Ok(0),
+        }
+    }
+
+    fn flush(&mut self) -> io::Result<()> {
+        Ok(())
+    }
+}
+
+#[test]
+fn stands_over_streams_of_std(rt: HostRuntime) -> Result<(), Fail> {
+    let alloc = rt.alloc();
+    for (broken_from, fails) in [(9, true), (100, false)] {
+        let mut source = StdSource::new(Stuttering {
+            left: TEXT,
+            calls: 0,
+            broken_from,
+        });
+        let read = read_all(alloc, &mut source, 100);
+        assert_eq!(rt; matches!(read, Err(ReadAllError::ReadFault)), fails);
+        assert_eq!(rt; read.is_ok_and(|bytes| bytes.as_slice() == TEXT), !fails);
+    }
+    let mut sink = StdSink::new(Grudging { calls: 0 });
+    assert_eq!(rt; write_all(&mut sink, TEXT), Err(WriteFault { written: 10 }));
+    let mut vec_sink = StdSink::new(Vec::<u8>::new(alloc));
+    assert_eq!(rt; write_all(&mut vec_sink, TEXT), Ok(()));
+    let mut out = StdSink::new(rt.stdout());
+    assert_eq!(rt; write_all(&mut out, b"one line\n"), Ok(()));
+    Ok(())
+}
+
+#[test]
+fn prints_minimal_decimals(rt: HostRuntime) -> Result<(), Fail> {
+    let alloc = rt.alloc();
+    let mut bytes = Bytes::from_slice(alloc, b"hls:")?;
+    for n in [0, 7, -1, 10, -100, 4_294_967_295, i128::MAX, i128::MIN] {
+        bytes.push(b' ')?;
+        put_dec(&mut bytes, n)?;
+    }
+    let want = b"hls: 0 7 -1 10 -100 4294967295 170141183460469231731687303715884105727 \
+        -170141183460469231731687303715884105728";
+    assert_eq!(rt; bytes.as_slice(), want.as_slice());
+    bytes.truncate(5);
+    bytes.put(b"usage")?;
+    assert_eq!(rt; bytes.as_slice(), b"hls: usage".as_slice());
+    assert_eq!(rt; bytes.len(), 10);
+    Ok(())
+}

@@ -1,0 +1,38 @@
+// Calls of the tool.
+
+use hls_io::{MemSink, MemSource, Sink, Source};
+use hls_tool::{Outcome, Status, hls};
+use std::alloc::{AllocError, Global};
+use std::thread::Threads;
+
+/// The most bytes that a sink for a text takes.
+pub const ROOM: usize = 100_000;
+
+pub fn call<R: Threads + Sync, S: Source, O: Sink, E: Sink>(
+    rt: &R,
+    alloc: Global,
+    words: &[&str],
+    source: &mut S,
+    out: &mut O,
+    err: &mut E,
+) -> Result<Outcome, AllocError> {
+    let words: Vec<String> = words
+        .iter()
+        .map(|word| word.to_string(alloc))
+        .try_collect(alloc)?;
+    Ok(hls(rt, alloc, words.as_slice(), source, out, err))
+}
+
+/// What a call on the text answers, and the bytes that it writes to each sink.
+pub fn told<'a, R: Threads + Sync>(
+    rt: &R,
+    alloc: Global,
+    text: &'a str,
+    words: &[&str],
+) -> Result<(Status, MemSink<'a>, MemSink<'a>), AllocError> {
+    let mut source = MemSource::new(text.as_bytes(), 4096, &[]);
+    let mut out = MemSink::new(alloc, ROOM, 4096, &[])?;
+    let mut err = MemSink::new(alloc, 1000, 4096, &[])?;
+    let outcome = call(rt, alloc, words, &mut source, &mut out, &mut err)?;
+    Ok((outcome.status, out, err))
+}
