@@ -1,7 +1,7 @@
 -- The laws.
 use Rattle.c_token.specs.Spelling.{Bytes}
 use Rattle.c_tree.specs.declared.declaration.TranslationUnit.{TranslationUnit}
-use Rattle.c_profile.specs.Profile.{IsTreeOf}
+use Rattle.c_accepted.specs.Profile.{IsTreeOf}
 use Rattle.resolved_program.proofs.SpelledLaw.{spelled_law}
 use Rattle.accepted_program.specs.Laws.{TreeHasValidLeaves, TreeIsNumbered, AcceptedIsResolved}
 use Rattle.accepted_program.proofs.Texts.{tokens_of}

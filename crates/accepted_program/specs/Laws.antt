@@ -5,7 +5,7 @@ use Rattle.c_tree.specs.declared.declaration.TranslationUnit.{TranslationUnit}
 use Rattle.c_program.specs.Tree.{Program}
 use Rattle.c_program.specs.Resolved.{IsResolved}
 use Rattle.c_resolution.specs.Resolving.{Spells}
-use Rattle.c_profile.specs.Profile.{IsTreeOf, IsAccepted}
+use Rattle.c_accepted.specs.Profile.{IsTreeOf, IsAccepted}
 use Rattle.resolved_program.specs.Leaves.{HasValidLeaves}
 use Rattle.resolved_program.specs.Laws.{IsNumbered}
 

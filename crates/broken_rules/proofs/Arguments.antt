@@ -134,7 +134,7 @@ module _ (L : Ledger) (s : Scope) (w : Where) (events : Events L s w) where
   layer_place (Argument-F.Address q at) = refl
   layer_place (Argument-F.Pointer q) = refl
 
-  argument_place : (x : ArgumentTree) → option_map (λ (r : PlaceTree × ℕ). r.0) (a.place_in_argument x) ≡ p.place_in w x
+  pub argument_place : (x : ArgumentTree) → option_map (λ (r : PlaceTree × ℕ). r.0) (a.place_in_argument x) ≡ p.place_in w x
   argument_place x = layer_place (out-Argument x)
 
   thread_by : (x : ArgumentTree) (o : Option (PlaceTree × ℕ)) → Good L (a.thread_from s x o) (p.thread_by w x (option_map (λ (r : PlaceTree × ℕ). r.0) o))

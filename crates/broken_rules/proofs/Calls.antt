@@ -30,8 +30,8 @@ use Rattle.c_calls.specs.Calls as k
 use Rattle.broken_rules.specs.Sight.{Where}
 use Rattle.broken_rules.specs.Parts as p
 use Rattle.broken_rules.specs.Parts.{Part, Parts, all_of, of_each}
-use Rattle.broken_rules.proofs.Ledgers.{Ledger, Entered, Good, good_pure, good_then, good_before, good_as, append_nothing, nothing_new}
-use Rattle.broken_rules.proofs.Events.{Events}
+use Rattle.broken_rules.proofs.Ledgers.{Ledger, Entered, Good, good_pure, good_then, good_before, good_none, append_nothing, nothing_new}
+use Rattle.broken_rules.proofs.Events.{Events, Creates}
 use Rattle.broken_rules.proofs.Unrolled.{expression_is, call_is, form_of}
 use Rattle.broken_rules.proofs.Values.{good_argument, good_arguments, good_value}
 use Rattle.broken_rules.proofs.Arguments.{value_argument, value_arguments, null_argument, pointer_argument, address_argument, thread_argument, routine_argument}
@@ -63,32 +63,25 @@ module _ (L : Ledger) (s : Scope) (w : Where) (events : Events L s w) where
   last : (ps : Parts) → {A : Type 0} {v : Finds A} → Good L v ps → Good L v (ps ++ [])
   last ps {A} {v} h = subst (λ qs. Good L v qs) (sym (append_nothing ps)) h
 
-  -- ---- pthread_create
+  -- ---- pthread_create, where creates are no entry
 
-  none_left : (t r : Name) (x : L.Entry) → Entered L (Part.Creation w t r ∷ []) x → ⊥
-  none_left t r x (inl h) = events.no_creation t r x h
-  none_left t r x (inr h) = h
+  no_creation : ((thread name : Name) (x : L.Entry) → L.At (Part.Creation w thread name) x → ⊥) → (t r : Option Name) → (x : L.Entry) → Entered L (p.creation_by w t r) x → ⊥
+  no_creation none (Some t) (Some r) x (inl h) = none t r x h
+  no_creation none (Some t) (Some r) x (inr h) = h
+  no_creation none (Some t) None x h = h
+  no_creation none None r x h = h
 
-  -- parts that are no entry
-  good_none : {A : Type 0} {v : Finds A} (ps : Parts) → ((x : L.Entry) → Entered L ps x → ⊥) → Good L v [] → Good L v ps
-  good_none ps none h = good_as L (record { to = λ x k. absurd k; back = none }) h
-
-  no_creation : (t r : Option Name) → (x : L.Entry) → Entered L (p.creation_by w t r) x → ⊥
-  no_creation (Some t) (Some r) x h = none_left t r x h
-  no_creation (Some t) None x h = h
-  no_creation None r x h = h
-
-  created : (at : ℕ) (t : ObjectPlace) (v : Expression) (r : Option (ℕ × ℕ)) → Good L (k.created at t v r) []
+  created : ((thread routine at : ℕ) → Good L (creates thread routine at) []) → (at : ℕ) (t : ObjectPlace) (v : Expression) (r : Option (ℕ × ℕ)) → Good L (k.created at t v r) []
   unfolding k.created
-  created at t v None = good_pure L Statement.Empty
-  created at t v (Some r) =
-      good_before L (creates (object_of t) r.0 r.1) (λ _. pure (Statement.Thread at (ThreadCall.Create t r.0 v))) [] (events.creation (object_of t) r.0 r.1)
+  created quiet at t v None = good_pure L Statement.Empty
+  created quiet at t v (Some r) =
+      good_before L (creates (object_of t) r.0 r.1) (λ _. pure (Statement.Thread at (ThreadCall.Create t r.0 v))) [] (quiet (object_of t) r.0 r.1)
       (λ _. good_pure L (Statement.Thread at (ThreadCall.Create t r.0 v)))
 
-  create : (at : ℕ) (thread attributes routine value : ArgumentTree) →
-      Good L (k.create s at thread attributes routine value) (p.create_parts w (thread ∷ attributes ∷ routine ∷ value ∷ []))
+  pub no_creates : ((thread routine at : ℕ) → Good L (creates thread routine at) []) → ((thread name : Name) (x : L.Entry) → L.At (Part.Creation w thread name) x → ⊥) →
+      Creates L s w
   unfolding k.create
-  create at thread attributes routine value =
+  no_creates quiet none at thread attributes routine value =
       let t = a.address_argument s Thread thread in
       let n = a.null_argument s attributes in
       let r = a.routine_argument s routine in
@@ -101,18 +94,7 @@ module _ (L : Ledger) (s : Scope) (w : Where) (events : Events L s w) where
       (λ o. good_then L n (λ _. r >>= (λ f. v >>= (λ x. k.created at o x f))) ns (rs ++ (vs ++ cs)) (null_argument L s w events attributes)
       (λ _. good_then L r (λ f. v >>= (λ x. k.created at o x f)) rs (vs ++ cs) (routine_argument L s w events routine)
       (λ f. good_then L v (λ x. k.created at o x f) vs cs (pointer_argument L s w events value)
-      (λ x. good_none cs (no_creation (p.named_object w (out-Argument thread)) (p.name_alone w routine)) (created at o x f)))))
-
-  create_call : (at : ℕ) (list : List ArgumentTree) →
-      Good L (k.create_call s at list) (if takes library.Create (length list) then p.create_parts w list else p.arguments_parts w list)
-  unfolding k.create_call
-  create_call at [] = looked_call []
-  create_call at (x ∷ []) = looked_call (x ∷ [])
-  create_call at (x ∷ y ∷ []) = looked_call (x ∷ y ∷ [])
-  create_call at (x ∷ y ∷ z ∷ []) = looked_call (x ∷ y ∷ z ∷ [])
-  create_call at (x ∷ y ∷ z ∷ v ∷ []) = create at x y z v
-  create_call at (x ∷ y ∷ z ∷ v ∷ u ∷ more) =
-      others (nat_eq 4 (length (x ∷ y ∷ z ∷ v ∷ u ∷ more))) (p.create_parts w (x ∷ y ∷ z ∷ v ∷ u ∷ more)) (x ∷ y ∷ z ∷ v ∷ u ∷ more) (not_four (length more))
+      (λ x. good_none L cs (no_creation none (p.named_object w (out-Argument thread)) (p.name_alone w routine)) (created quiet at o x f)))))
 
   -- ---- the other calls
 
@@ -214,31 +196,6 @@ module _ (L : Ledger) (s : Scope) (w : Where) (events : Events L s w) where
       good_before L (finds rule.Format name.offset) (λ _. pure Statement.Empty) (Part.Print name [] ∷ []) (events.no_print name) (λ _. good_pure L Statement.Empty)
   print_call at name (first ∷ values) = print_arguments at name first values
 
-  -- ---- functions of the library
-
-  library_statement : (f : LibraryFunction) (at : ℕ) (name : Name) (list : List ArgumentTree) →
-      Good L (k.library_statement s f at name.offset list)
-      (p.print_by w f name list ++ (if takes f (length list) then p.library_parts w f list else p.arguments_parts w list))
-  unfolding k.library_statement
-  library_statement library.Print at name list = print_call at name list
-  library_statement library.Create at name list = create_call at list
-  library_statement library.Join at name list = join_call at list
-  library_statement library.Exit at name list = exit_call at list
-  library_statement library.MutexInit at name list = mutex_init_call at list
-  library_statement library.BarrierInit at name list = barrier_init_call at list
-  library_statement library.MutexDestroy at name list = object_call library.MutexDestroy at list
-  library_statement library.MutexLock at name list = object_call library.MutexLock at list
-  library_statement library.MutexUnlock at name list = object_call library.MutexUnlock at list
-  library_statement library.BarrierDestroy at name list = object_call library.BarrierDestroy at list
-  library_statement library.BarrierWait at name list = object_call library.BarrierWait at list
-
-  library_call : (f : LibraryFunction) (at : ℕ) (name : Name) (list : List ArgumentTree) → look_up s name.bytes ≡ known.Library f →
-      Good L (k.library_call s f at name.offset list) (Part.Call w name ∷ p.called_by w (Some f) name list)
-  unfolding k.library_call
-  library_call f at name list is =
-      good_then L (c.library_name s f (length list) name.offset) (λ _. k.library_statement s f at name.offset list) (Part.Call w name ∷ []) (p.called_by w (Some f) name list)
-      (events.library name f (length list) is) (λ _. library_statement f at name list)
-
   -- ---- functions of the text
 
   pub function_call : (number : ℕ) (is_value : Bool) (name : Name) (list : List ArgumentTree) → look_up s name.bytes ≡ known.Declared (meaning.Function number) →
@@ -306,24 +263,6 @@ module _ (L : Ledger) (s : Scope) (w : Where) (events : Events L s w) where
   own_name at name list (Some (meaning.Object o)) is = other_name at name list (known.Declared (meaning.Object o)) is refl (no_library (meaning.Object o))
   own_name at name list (Some meaning.Unusable) is = other_name at name list (known.Declared meaning.Unusable) is refl (no_library meaning.Unusable)
 
-  library_name : (at : ℕ) (name : Name) (list : List ArgumentTree) (f : LibraryFunction) → look_up s name.bytes ≡ known.Library f →
-      Good L (k.call_of s (known.Library f) at name.offset list) (Part.Call w name ∷ p.called_by w (Some f) name list)
-  unfolding k.call_of
-  library_name at name list f is = library_call f at name list is
-
-  by_name : (at : ℕ) (name : Name) (list : List ArgumentTree) (o : Option LibraryFunction) → function_named name.bytes ≡ o →
-      Good L (k.call_of s (look_up s name.bytes) at name.offset list) (Part.Call w name ∷ p.called_by w o name list)
-  by_name at name list (Some f) is =
-      let e = look_library name.bytes f is in
-      subst (λ x. Good L (k.call_of s x at name.offset list) (Part.Call w name ∷ p.called_by w (Some f) name list)) (sym e) (library_name at name list f e)
-  by_name at name list None is =
-      let e = look_own name.bytes is in
-      subst (λ x. CallOf at name list x) (sym e) (own_name at name list (declared s name.bytes) e)
-
-  pub call : (at : ℕ) (x : CallTree) → Good L (k.call s at x) (p.call_parts w x)
-  unfolding k.call
-  call at x = by_name at (out-Call x).name (out-Call x).arguments (function_named (out-Call x).name.bytes) refl
-
   -- ---- right sides
 
   pub right_call : (number : ℕ) (x : CallTree) → look_up s (out-Call x).name.bytes ≡ known.Declared (meaning.Function number) →
@@ -365,3 +304,58 @@ module _ (L : Ledger) (s : Scope) (w : Where) (events : Events L s w) where
   pub right_side : (v : ExpressionTree) → Good L (k.right_side s v) (p.expression_parts w v)
   unfolding k.right_side
   right_side v = right_by v (out-Form (out-Expression v).form) (ap (λ (q : p.Parted). q.parts) (expression_is w v))
+
+-- ---- calls of the library, and any call
+
+module _ (L : Ledger) (s : Scope) (w : Where) (events : Events L s w) (creates_are : Creates L s w) where
+  create_call : (at : ℕ) (list : List ArgumentTree) →
+      Good L (k.create_call s at list) (if takes library.Create (length list) then p.create_parts w list else p.arguments_parts w list)
+  unfolding k.create_call
+  create_call at [] = looked_call L s w events []
+  create_call at (x ∷ []) = looked_call L s w events (x ∷ [])
+  create_call at (x ∷ y ∷ []) = looked_call L s w events (x ∷ y ∷ [])
+  create_call at (x ∷ y ∷ z ∷ []) = looked_call L s w events (x ∷ y ∷ z ∷ [])
+  create_call at (x ∷ y ∷ z ∷ v ∷ []) = creates_are at x y z v
+  create_call at (x ∷ y ∷ z ∷ v ∷ u ∷ more) =
+      others L s w events (nat_eq 4 (length (x ∷ y ∷ z ∷ v ∷ u ∷ more))) (p.create_parts w (x ∷ y ∷ z ∷ v ∷ u ∷ more)) (x ∷ y ∷ z ∷ v ∷ u ∷ more) (not_four (length more))
+
+  library_statement : (f : LibraryFunction) (at : ℕ) (name : Name) (list : List ArgumentTree) →
+      Good L (k.library_statement s f at name.offset list)
+      (p.print_by w f name list ++ (if takes f (length list) then p.library_parts w f list else p.arguments_parts w list))
+  unfolding k.library_statement
+  library_statement library.Print at name list = print_call L s w events at name list
+  library_statement library.Create at name list = create_call at list
+  library_statement library.Join at name list = join_call L s w events at list
+  library_statement library.Exit at name list = exit_call L s w events at list
+  library_statement library.MutexInit at name list = mutex_init_call L s w events at list
+  library_statement library.BarrierInit at name list = barrier_init_call L s w events at list
+  library_statement library.MutexDestroy at name list = object_call L s w events library.MutexDestroy at list
+  library_statement library.MutexLock at name list = object_call L s w events library.MutexLock at list
+  library_statement library.MutexUnlock at name list = object_call L s w events library.MutexUnlock at list
+  library_statement library.BarrierDestroy at name list = object_call L s w events library.BarrierDestroy at list
+  library_statement library.BarrierWait at name list = object_call L s w events library.BarrierWait at list
+
+  library_call : (f : LibraryFunction) (at : ℕ) (name : Name) (list : List ArgumentTree) → look_up s name.bytes ≡ known.Library f →
+      Good L (k.library_call s f at name.offset list) (Part.Call w name ∷ p.called_by w (Some f) name list)
+  unfolding k.library_call
+  library_call f at name list is =
+      good_then L (c.library_name s f (length list) name.offset) (λ _. k.library_statement s f at name.offset list) (Part.Call w name ∷ []) (p.called_by w (Some f) name list)
+      (events.library name f (length list) is) (λ _. library_statement f at name list)
+
+  library_name : (at : ℕ) (name : Name) (list : List ArgumentTree) (f : LibraryFunction) → look_up s name.bytes ≡ known.Library f →
+      Good L (k.call_of s (known.Library f) at name.offset list) (Part.Call w name ∷ p.called_by w (Some f) name list)
+  unfolding k.call_of
+  library_name at name list f is = library_call f at name list is
+
+  by_name : (at : ℕ) (name : Name) (list : List ArgumentTree) (o : Option LibraryFunction) → function_named name.bytes ≡ o →
+      Good L (k.call_of s (look_up s name.bytes) at name.offset list) (Part.Call w name ∷ p.called_by w o name list)
+  by_name at name list (Some f) is =
+      let e = look_library L s w events name.bytes f is in
+      subst (λ x. Good L (k.call_of s x at name.offset list) (Part.Call w name ∷ p.called_by w (Some f) name list)) (sym e) (library_name at name list f e)
+  by_name at name list None is =
+      let e = look_own L s w events name.bytes is in
+      subst (λ x. Good L (k.call_of s x at name.offset list) (Part.Call w name ∷ p.arguments_parts w list)) (sym e) (own_name L s w events at name list (declared s name.bytes) e)
+
+  pub call : (at : ℕ) (x : CallTree) → Good L (k.call s at x) (p.call_parts w x)
+  unfolding k.call
+  call at x = by_name at (out-Call x).name (out-Call x).arguments (function_named (out-Call x).name.bytes) refl

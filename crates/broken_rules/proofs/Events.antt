@@ -18,7 +18,7 @@ use Rattle.c_rules.specs.declared.names.Header.{Header}
 use Rattle.c_rules.specs.declared.names.Scope.{Scope}
 use Rattle.c_rules.specs.Constants.{constancy}
 use Rattle.c_rules.specs.Names.{look_up, is_argument}
-use Rattle.c_rules.specs.Walks.{finds, finds_if, finds_any, creates}
+use Rattle.c_rules.specs.Walks.{finds, finds_if, finds_any}
 use Rattle.c_expressions.specs.Callees as c
 use Rattle.c_expressions.specs.Expressions as e
 use Rattle.c_expressions.specs.Targets as t
@@ -32,7 +32,7 @@ use Rattle.c_tree.specs.declared.expression.Specifiers.{Specifiers}
 use Rattle.c_resolution.specs.Locals.{length_from, positive, refused_local}
 use Rattle.c_resolution.specs.Globals.{initial_from}
 use Rattle.broken_rules.specs.Sight.{Where}
-use Rattle.broken_rules.specs.Parts.{Part}
+use Rattle.broken_rules.specs.Parts.{Part, create_parts}
 use Rattle.broken_rules.proofs.Ledgers.{Ledger, Good}
 
 -- the rules that are no part's by itself: wrong kind, argument count, out of place
@@ -77,8 +77,6 @@ pub record Events (L : Ledger) (s : Scope) (w : Where) : Type 0 where
       Good L (c.function_name s number count is_value name.offset) (Part.Call w name ∷ [])
   pub no_function : (name : Name) → k.number_of (look_up s name.bytes) ≡ None → ((f : LibraryFunction) → look_up s name.bytes ≡ known.Library f → ⊥) →
       Good L (finds_if (a.is_unknown (look_up s name.bytes)) rule.Unknown name.offset) (Part.Call w name ∷ [])
-  pub creation : (thread routine at : ℕ) → Good L (creates thread routine at) []
-  pub no_creation : (thread name : Name) (x : L.Entry) → L.At (Part.Creation w thread name) x → ⊥
   pub print : (name : Name) (first : ArgumentTree) (values : List ArgumentTree) →
       Good L (finds_if (not (k.takes (k.format first) (length values))) rule.Format (a.argument_offset first)) (Part.Print name (first ∷ values) ∷ [])
   pub no_print : (name : Name) → Good L (finds rule.Format name.offset) (Part.Print name [] ∷ [])
@@ -91,3 +89,9 @@ pub record Events (L : Ledger) (s : Scope) (w : Where) : Type 0 where
   pub initial : (ty : IntegerType) (x : ExpressionTree) → Good L (initial_from ty (constancy x) (out-Expression x).offset) (Part.Initial x ∷ [])
   pub listed : (size x : ExpressionTree) (n index : ℕ) → n ≡ length_given (constancy size) →
       Good L (finds_if (nat_le n index) rule.Constant (out-Expression x).offset) (Part.Listed size index x ∷ [])
+
+-- calls of pthread_create with their four arguments
+abbrev pub Creates : Ledger → Scope → Where → Type 0
+Creates L s w =
+    (at : ℕ) (thread attributes routine value : ArgumentTree) →
+    Good L (k.create s at thread attributes routine value) (create_parts w (thread ∷ attributes ∷ routine ∷ value ∷ []))

@@ -33,7 +33,7 @@ calls_from leads (s ∷ sites) a f alone h =
     let b = leads s.callee s.caller in
     call_from b s.offset a f alone (first_of_two a (fault_if b rule.Recursive s.offset) f (calls_from leads sites (with_call leads a s) f alone h))
 
-calls_keep : (leads : ℕ → ℕ → Bool) (sites : List CallSite) (a : Option Fault) (x : Fault) → IsReached x a → IsReached x (fold (with_call leads) a sites)
+pub calls_keep : (leads : ℕ → ℕ → Bool) (sites : List CallSite) (a : Option Fault) (x : Fault) → IsReached x a → IsReached x (fold (with_call leads) a sites)
 calls_keep leads [] a x h = h
 calls_keep leads (s ∷ sites) a x h = calls_keep leads sites (with_call leads a s) x (reached_first x a (fault_if (leads s.callee s.caller) rule.Recursive s.offset) h)
 

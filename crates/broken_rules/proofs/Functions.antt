@@ -1,6 +1,7 @@
 -- What functions write.
 use Rattle.std.proofs.Common.{◌≡◌, refl, sym, subst, ap, ◌∙◌, ℕ, suc, Bool, true, false, List, [], ◌∷◌, ◌++◌, Option, Some, None, length}
 use Rattle.std.specs.Prelude.{if◌then◌else◌, not, is_some}
+use Rattle.std.specs.List.{flat_map}
 use Rattle.c_tree.specs.declared.expression.Name.{Name}
 use Rattle.c_tree.specs.declared.statement.Block.{Block}
 use Rattle.c_tree.specs.declared.declaration.Function.{Function}
@@ -35,7 +36,7 @@ use Rattle.broken_rules.proofs.Ledgers.{Ledger, Good, Writes, given, left, turn,
 use Rattle.broken_rules.proofs.Events.{Events}
 use Rattle.broken_rules.proofs.Locals.{new_local, refused_usual}
 use Rattle.broken_rules.proofs.Statements.{block}
-use Rattle.broken_rules.proofs.Globals.{Files, Filed, file_then, file_going, objects}
+use Rattle.broken_rules.proofs.Globals.{Files, Filed, file_then, file_going, going_tables, then_tables, objects}
 use Rattle.broken_rules.proofs.Walks.{Scoping, open_behind, Right, Goes_right, IsUsual, IsParameter, within, right_pure, right_then, right_before}
 use Rattle.broken_rules.proofs.Walks.{right_finding, right_finding_is, right_scoping, right_as, behind_both}
 
@@ -135,6 +136,40 @@ keeps_function : (h : Header) (name : Name) (second : Bool) → Keeps (y.declare
 unfolding y.declare_function
 keeps_function h name second x = known_keeps h name second x (is_some (function_named name.bytes))
 
+-- ---- a function declares no thread object
+
+abbrev KeepsThreads : {A : Type 0} → Declares A → Type 0
+KeepsThreads walk = (x : File) → (left (walk x)).tables.threads ≡ x.tables.threads
+
+threads_going : {A : Type 0} (walk : Goes A) → KeepsThreads (going walk)
+threads_going walk x = ap (λ (z : Tables). z.threads) (going_tables walk x)
+
+threads_then : {A B : Type 0} (q : Declares A) (r : A → Declares B) → KeepsThreads q → ((a : A) → KeepsThreads (r a)) → KeepsThreads (q >>= r)
+threads_then q r h k x = ap (λ (z : Tables). z.threads) (then_tables q r x) ∙ k (given (q x)) (left (q x)) ∙ h x
+
+threads_definition : (f : Function) (returns : ReturnType) (body : Block) → KeepsThreads (y.definition f returns body)
+unfolding y.definition
+threads_definition f returns body x =
+    let enter = y.entered (place_in_tree (length x.tables.functions)) in
+    let last = λ (b : Statement) (u : Unit {0}). y.finished f returns body (length x.scope.locals) b in
+    threads_then (going (scoping enter)) (λ _. going (items body) >>= (λ b. going (scoping y.left) >>= last b)) (threads_going (scoping enter))
+    (λ _. threads_then (going (items body)) (λ b. going (scoping y.left) >>= last b) (threads_going (items body))
+    (λ b. threads_then (going (scoping y.left)) (last b) (threads_going (scoping y.left)) (λ _ z. refl))) x
+
+threads_body : (f : Function) (returns : ReturnType) (o : Option Block) → KeepsThreads (y.body_of f returns o)
+threads_body f returns None x = refl
+threads_body f returns (Some body) x = threads_definition f returns body x
+
+function_threads : (f : Function) → KeepsThreads (y.function f)
+unfolding y.function y.function_by
+function_threads f x =
+    let h = y.header x.scope f in
+    let head = y.head f h (length x.tables.functions) in
+    let last = λ (u : Unit {0}). going (scoping y.without_locals) >> going (scoping closed) in
+    threads_then (going head) (λ _. y.body_of f (y.return_type h) f.body >>= last) (threads_going head)
+    (λ _. threads_then (y.body_of f (y.return_type h) f.body) last (threads_body f (y.return_type h) f.body)
+    (λ u. threads_then (going (scoping y.without_locals)) (λ _. going (scoping closed)) (threads_going (scoping y.without_locals)) (λ _. threads_going (scoping closed)))) x
+
 -- ---- parameters
 
 written_is : (list : List Parameter) → (if y.is_no_parameter list then [] else list) ≡ p.parameters_in list
@@ -188,7 +223,7 @@ module _ (L : Ledger) (S : Scoping L) where
       let v = behind (p.named_parameter q (Some name)) w in
       right_then L S (y.parameter_meaning q routine name.offset) (λ m. l.declare name m) (IsParameter q.is_pointer) (λ _. Unit {0}) (p.local_of q name.offset)
       (Part.Declares w name (Declared.OfParameter q) ∷ []) w w v (meaning_is q routine name.offset w)
-      (λ m is x agrees. S.declares x w name (Declared.OfParameter q) m agrees (S.parameter q m is))
+      (λ m is x agrees. S.declares x w name (Declared.OfParameter q) m agrees (S.parameter w name q m is))
   named_is q routine has_body None w =
       right_as L S (y.named_parameter q routine has_body None) (λ _. Unit {0}) (λ _. Unit {0}) (p.local_of q q.specifiers.offset) w w (behind [] w) (λ _ u. u)
       (λ s agrees. S.no_names s w agrees)
@@ -399,20 +434,31 @@ module _ (L : Ledger) (S : Scoping L) where
 
   -- ---- a whole text
 
-  declaration_is : (d : ExternalDeclaration) (w : Where) (n : ℕ) (rest : List ExternalDeclaration) → S.At w n (d ∷ rest) → (x : File) → S.Agrees x.scope w →
+  -- what the tables hold behind a declaration
+  pub declaration_holds : (d : ExternalDeclaration) (w : Where) (n : ℕ) (rest : List ExternalDeclaration) → S.At w n (d ∷ rest) → (later : Names) (x : File) →
+      S.Held x.tables w (p.names_of d ++ later) → S.Agrees x.scope w → length x.tables.functions ≡ n → S.Held (left (t.declaration d x)).tables (behind (p.names_of d) w) later
+  declaration_holds (external.Function f) w n rest here later x held agrees count =
+      S.held_function x.tables (left (y.function f x)).tables w f later (function_threads f x) held
+  declaration_holds (external.Objects o) w n rest here later x held agrees count = (objects L S o w n later x held agrees count).1
+
+  pub declaration_is : (d : ExternalDeclaration) (w : Where) (n : ℕ) (rest : List ExternalDeclaration) → S.At w n (d ∷ rest) → (later : Names) (x : File) →
+      S.Held x.tables w (p.names_of d ++ later) → S.Agrees x.scope w →
       length x.tables.functions ≡ n → Filed L S.Agrees x (t.declaration d x) (p.external_parts w n d) (behind (p.names_of d) w) (p.number_behind d n)
-  declaration_is (external.Function f) w n rest here x agrees count = function_is f w n rest here x agrees count
-  declaration_is (external.Objects o) w n rest here x agrees count = (objects L S o w n x agrees count).0
+  declaration_is (external.Function f) w n rest here later x held agrees count = function_is f w n rest here x agrees count
+  declaration_is (external.Objects o) w n rest here later x held agrees count = (objects L S o w n later x held agrees count).0
 
   -- what is written behind the last declaration
-  pub text_is : (list : List ExternalDeclaration) (u : Unit {0}) (w : Where) (n : ℕ) → S.At w n list → (x : File) → S.Agrees x.scope w → length x.tables.functions ≡ n →
+  pub text_is : (list : List ExternalDeclaration) (u : Unit {0}) (w : Where) (n : ℕ) → S.At w n list → (x : File) → S.Held x.tables w (flat_map p.names_of list) →
+      S.Agrees x.scope w → length x.tables.functions ≡ n →
       Writes L x.found (left (through (λ _ d. t.declaration d) u list x)).found (p.declarations_parts w n list)
-  text_is [] u w n here x agrees count = nothing_new L x.found
-  text_is (d ∷ list) u w n here x agrees count =
+  text_is [] u w n here x held agrees count = nothing_new L x.found
+  text_is (d ∷ list) u w n here x held agrees count =
       let o = t.declaration d x in
-      let first = declaration_is d w n list here x agrees count in
+      let later = flat_map p.names_of list in
+      let first = declaration_is d w n list here later x held agrees count in
+      let more = declaration_holds d w n list here later x held agrees count in
       let ps = p.external_parts w n d in
       let qs = p.declarations_parts (behind (p.names_of d) w) (p.number_behind d n) list in
       subst (λ (z : Outcome File (Unit {0})). Writes L x.found (left z).found (ps ++ qs)) (sym (after_one (λ _ d. t.declaration d) u d list x))
       (writes_both L ps qs first.writes
-      (text_is list (given o) (behind (p.names_of d) w) (p.number_behind d n) (S.next w n d list here) (left o) first.agrees first.counts))
+      (text_is list (given o) (behind (p.names_of d) w) (p.number_behind d n) (S.next w n d list here) (left o) more first.agrees first.counts))

@@ -63,6 +63,11 @@ pub record Ledger : Type 1 where
   pub Judged : Entry → Type 0
   -- the entries that a part is
   pub At : Part → Entry → Type 0
+  -- what is written in the order of the parts, which a part that is no entry does not change
+  pub Order : Findings → Findings → Parts → Type 0
+  pub order_none : (a : Findings) → Order a a []
+  pub order_both : (a b c : Findings) (ps qs : Parts) → Order a b ps → Order b c qs → Order a c (ps ++ qs)
+  pub order_with : (a b : Findings) (part : Part) (ps : Parts) → ((x : Entry) → At part x → ⊥) → Order a b ps → Order a b (part ∷ ps)
 
 module _ (L : Ledger) where
   abbrev pub Entered : Parts → L.Entry → Type 0
@@ -74,9 +79,10 @@ module _ (L : Ledger) where
     pub from : (x : L.Entry) → L.Seen b x → L.Seen a x ⊎ (L.Judged x → Entered parts x)
     pub keeps : (x : L.Entry) → L.Reached a x → L.Reached b x
     pub finds : (x : L.Entry) → Entered parts x → L.Reached b x
+    pub order : L.Order a b parts
 
   pub nothing_new : (a : Findings) → Writes a a []
-  nothing_new a = record { from = λ x e. inl e; keeps = λ x h. h; finds = λ x h. absurd h }
+  nothing_new a = record { from = λ x e. inl e; keeps = λ x h. h; finds = λ x h. absurd h; order = L.order_none a }
 
   -- the same parts, in another order or with others that are no entry
   pub record AreSame (ps qs : Parts) : Type 0 where
@@ -87,11 +93,12 @@ module _ (L : Ledger) where
   or_else g (inl e) = inl e
   or_else g (inr h) = inr (λ j. g (h j))
 
-  pub writes_as : {a b : Findings} {ps qs : Parts} → AreSame ps qs → Writes a b ps → Writes a b qs
-  writes_as same h = record {
+  pub writes_as : {a b : Findings} {ps qs : Parts} → AreSame ps qs → (L.Order a b ps → L.Order a b qs) → Writes a b ps → Writes a b qs
+  writes_as same order h = record {
     from = λ x e. or_else (same.to x) (h.from x e);
     keeps = h.keeps;
     finds = λ x k. h.finds x (same.back x k);
+    order = order h.order;
   }
 
   both_from : {a b : Findings} (ps qs : Parts) (x : L.Entry) → ((x : L.Entry) → L.Seen b x → L.Seen a x ⊎ (L.Judged x → Entered ps x)) →
@@ -104,10 +111,11 @@ module _ (L : Ledger) where
   either_found x h k (inr q) = k.finds x q
 
   pub writes_both : {a b c : Findings} (ps qs : Parts) → Writes a b ps → Writes b c qs → Writes a c (ps ++ qs)
-  writes_both ps qs h k = record {
+  writes_both {a} {b} {c} ps qs h k = record {
     from = λ x e. both_from ps qs x h.from (k.from x e);
     keeps = λ x r. k.keeps x (h.keeps x r);
     finds = λ x p. either_found x h k (any_split (λ part. L.At part x) ps qs p);
+    order = L.order_both a b c ps qs h.order k.order;
   }
 
   -- ---- walks that find broken rules
@@ -115,8 +123,8 @@ module _ (L : Ledger) where
   pub record Good {A : Type 0} (w : Finds A) (parts : Parts) : Type 0 where
     pub writes : (found : Findings) → Writes found (left (w found)) parts
 
-  pub good_as : {A : Type 0} {w : Finds A} {ps qs : Parts} → AreSame ps qs → Good w ps → Good w qs
-  good_as same h = record { writes = λ found. writes_as same (h.writes found) }
+  pub good_as : {A : Type 0} {w : Finds A} {ps qs : Parts} → AreSame ps qs → ((a b : Findings) → L.Order a b ps → L.Order a b qs) → Good w ps → Good w qs
+  good_as {w = w} same order h = record { writes = λ found. writes_as same (order found (left (w found))) (h.writes found) }
 
   pub good_pure : {A : Type 0} (a : A) → Good (pure a) []
   good_pure a = record { writes = λ found. nothing_new found }
@@ -174,10 +182,10 @@ module _ (L : Ledger) where
   skipped part ps x none (inr h) = h
 
   pub writes_with : {a b : Findings} (part : Part) → ((x : L.Entry) → L.At part x → ⊥) → Writes a b [] → Writes a b (part ∷ [])
-  writes_with part none h = writes_as (record { to = λ x k. absurd k; back = λ x k. skipped part [] x (none x) k }) h
+  writes_with {a} {b} part none h = writes_as (record { to = λ x k. absurd k; back = λ x k. skipped part [] x (none x) k }) (L.order_with a b part [] none) h
 
   pub good_with : {A : Type 0} {w : Finds A} (part : Part) (ps : Parts) → ((x : L.Entry) → L.At part x → ⊥) → Good w ps → Good w (part ∷ ps)
-  good_with part ps none h = good_as (record { to = λ x k. inr k; back = λ x k. skipped part ps x (none x) k }) h
+  good_with part ps none h = good_as (record { to = λ x k. inr k; back = λ x k. skipped part ps x (none x) k }) (λ a b. L.order_with a b part ps none) h
 
   no_last : (part : Part) (ps : Parts) (x : L.Entry) → (L.At part x → ⊥) → Entered ps x ⊎ Entered (part ∷ []) x → Entered ps x
   no_last part ps x none (inl h) = h
@@ -187,11 +195,19 @@ module _ (L : Ledger) where
   good_behind part ps none h = good_as (record {
     to = λ x k. any_left (λ q. L.At q x) ps (part ∷ []) k;
     back = λ x k. no_last part ps x (none x) (any_split (λ q. L.At q x) ps (part ∷ []) k);
-  }) h
+  }) (λ a b o. L.order_both a b b ps (part ∷ []) o (L.order_with b b part [] none (L.order_none b))) h
+
+  order_nothing : (ps : Parts) → ((x : L.Entry) → Entered ps x → ⊥) → (a b : Findings) → L.Order a b [] → L.Order a b ps
+  order_nothing [] none a b o = o
+  order_nothing (part ∷ ps) none a b o = L.order_with a b part ps (λ x h. none x (inl h)) (order_nothing ps (λ x h. none x (inr h)) a b o)
+
+  -- parts that are no entry
+  pub good_none : {A : Type 0} {w : Finds A} (ps : Parts) → ((x : L.Entry) → Entered ps x → ⊥) → Good w [] → Good w ps
+  good_none ps none h = good_as (record { to = λ x k. absurd k; back = none }) (order_nothing ps none) h
 
   -- a walk that finds nothing, where the parts are no entry
   pub good_quiet : {A : Type 0} (a : A) (ps : Parts) → ((x : L.Entry) → Entered ps x → ⊥) → Good (pure a) ps
-  good_quiet a ps none = good_as (record { to = λ x h. absurd h; back = none }) (good_pure a)
+  good_quiet a ps none = good_none ps none (good_pure a)
 
   -- ---- parts that may be missing
 

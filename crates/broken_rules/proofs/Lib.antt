@@ -26,3 +26,8 @@ pub mod Twice
 pub mod Numbers
 pub mod TwiceScope
 pub mod TwiceText
+pub mod Quiets
+pub mod Sites
+pub mod SiteScope
+pub mod Defined
+pub mod Recursion

@@ -112,7 +112,7 @@ module _ (L : Ledger) (S : Scoping L) where
       (Part.Declares w d.name (Declared.OfVariable words d) ∷ last) w w v (local words d.name.offset size w)
       (λ m usual. right_then L S (l.declare d.name m) (λ _. finding (λ s. l.declared_step d m d.initializer s)) (λ _. Unit {0}) (λ _. Unit {0})
       (Part.Declares w d.name (Declared.OfVariable words d) ∷ []) last w v v
-      (λ x agrees. S.declares x w d.name (Declared.OfVariable words d) m agrees (S.variable words d m usual))
+      (λ x agrees. S.declares x w d.name (Declared.OfVariable words d) m agrees (S.variable w words d m usual))
       (λ _ _. right_finding L S (λ s. l.declared_step d m d.initializer s) last v (λ s agrees. declared_step L s v (S.events s v agrees) d m d.initializer))))
 
   one_more : (words : Specifiers) (d : Declarator) (done : List Statement) (w : Where) →

@@ -1,6 +1,6 @@
 -- Unknown names in a whole text.
 use Rattle.std.proofs.Common.{◌≡◌, refl, sym, subst, ap, ◌∙◌, ℕ, Bool, true, false, List, [], ◌∷◌, ◌++◌, length, Option, Some, None, append-nil}
-use Rattle.std.specs.Prelude.{pos, ◌||◌, is_some, not, if◌then◌else◌, slice_get}
+use Rattle.std.specs.Prelude.{pos, ◌||◌, ◌&&◌, is_some, not, if◌then◌else◌, slice_get}
 use Rattle.hls_ints.specs.Types.{IntegerType, wrapped}
 use Rattle.c_token.specs.declared.constant.Constant.{Constant}
 use Rattle.c_token.specs.declared.constant.Constant.TheVariants as constant
@@ -23,7 +23,7 @@ use Rattle.c_rules.specs.Findings.{nothing}
 use Rattle.c_rules.specs.Levels.{named_in}
 use Rattle.c_rules.specs.Library.{function_named}
 use Rattle.c_rules.specs.Names.{look_up, is_taken, declaring}
-use Rattle.c_rules.specs.Specifiers.{spelled_by}
+use Rattle.c_rules.specs.Specifiers.{base_of, spelled_by}
 use Rattle.c_rules.specs.Walks.{Outcome, Finds, pure, finds, finds_if, ◌>>◌}
 use Rattle.c_expressions.specs.Expressions as e
 use Rattle.c_calls.specs.Arguments as a
@@ -39,7 +39,13 @@ use Rattle.broken_rules.specs.Sight.{Declared, Where, behind, with_names}
 use Rattle.broken_rules.specs.Parts.{Part, parts, function_names, at_first}
 use Rattle.broken_rules.proofs.Ledgers.{Ledger, Good, Writes, left, good_pure, good_then, good_before, nothing_new, writes_with}
 use Rattle.broken_rules.proofs.Events.{Events, IsOther}
-use Rattle.broken_rules.proofs.Walks.{Scoping, Right, IsUsual, IsParameter, IsGlobal, IsOpen}
+use Rattle.broken_rules.proofs.Walks.{Scoping, Right, IsUsual, IsParameter, IsGlobal, IsOpen, is_thread_base, is_thread, is_thread_object}
+use Rattle.broken_rules.proofs.Calls.{no_creates}
+use Rattle.c_resolution.specs.Files.{Tables}
+use Rattle.c_rules.specs.declared.specifiers.Spelled.{Spelled}
+use Rattle.c_rules.specs.declared.specifiers.BaseType.{BaseType}
+use Rattle.c_rules.specs.declared.specifiers.BaseType.TheVariants as base
+use Rattle.c_tree.specs.declared.declaration.GlobalDeclarator.{GlobalDeclarator}
 use Rattle.broken_rules.proofs.Functions.{text_is}
 use Rattle.broken_rules.proofs.Sights.{Agrees, MeansIn, Scopes, Level, header_in, opened_agrees, closed_agrees, new_scopes, old_scopes, scopes_more}
 use Rattle.broken_rules.proofs.Names as q
@@ -117,8 +123,6 @@ module _ (D : List (List ℕ × ℕ)) where
     library = λ name function count is. m.library_call D s w name function count agrees is;
     function = λ name number count is_value is. m.function_is D s w name number count is_value agrees is;
     no_function = λ name none own. m.no_function_by D s w name agrees (look_up s name.bytes) refl none;
-    creation = q.creation_quiet D;
-    no_creation = λ thread name x k. k;
     print = λ name first values. q.quiet D (Part.Print name (first ∷ values)) (λ x k. k)
         (q.other_if D (not (k.takes (k.format first) (length values))) rule.Format (a.argument_offset first) (λ j. j));
     no_print = λ name. q.quiet D (Part.Print name []) (λ x k. k) (q.other D rule.Format name.offset (λ j. j));
@@ -135,13 +139,28 @@ module _ (D : List (List ℕ × ℕ)) where
   IsMeant (Declared.OfFunction f) o = ⊥
   IsMeant (Declared.OfParameter p) o = IsParameter p.is_pointer o
   IsMeant (Declared.OfVariable words d) o = IsUsual o
-  IsMeant (Declared.OfObject words pointer d) o = IsGlobal o
+  IsMeant (Declared.OfObject words pointer d) o = IsGlobal o × (is_thread_object o ≡ is_thread words pointer)
 
   meant_in : (headers : List Header) (d : Declared) (o : Meaning) → IsMeant d o → MeansIn D headers d o
   meant_in headers (Declared.OfFunction f) o h = absurd h
   meant_in headers (Declared.OfParameter p) o h = h
   meant_in headers (Declared.OfVariable words d) o h = h
   meant_in headers (Declared.OfObject words pointer d) o h = h
+
+  global_by : (t : Tables) (words : Spelled) (size : Option ℕ) (b : Bool) (kind : BaseType) →
+      let m = if b then meaning.Unusable else g.meaning_by t words size kind in
+      IsGlobal m × (is_thread_object m ≡ (not b && is_thread_base kind))
+  global_by t words size true kind = (tt, refl)
+  global_by t words size false (base.Integer ty) = (tt, refl)
+  global_by t words size false base.Thread = (tt, refl)
+  global_by t words size false base.Mutex = (tt, refl)
+  global_by t words size false base.Barrier = (tt, refl)
+  global_by t words size false base.Void = (tt, refl)
+  global_by t words size false base.Unlisted = (tt, refl)
+
+  pub global_is : (t : Tables) (words : Specifiers) (pointer : Bool) (d : GlobalDeclarator) (size : Option ℕ) →
+      IsMeant (Declared.OfObject words pointer d) (g.global_meaning t (spelled_by words) pointer size)
+  global_is t words pointer d size = global_by t (spelled_by words) size pointer (base_of words.words)
 
   in_scope_same : {A : Type 0} (scope : Scope) (found : Findings) (o : Outcome Findings A) → Writes L found (left o) [] →
       Writes L found (left (in_scope scope o)).found [] × ((left (in_scope scope o)).scope ≡ scope)
@@ -278,8 +297,9 @@ module _ (D : List (List ℕ × ℕ)) where
   unfoldable pub scoping_named : Scoping L
   scoping_named = record {
     Agrees = Agrees D;
-    Means = IsMeant;
+    Means = λ w name. IsMeant;
     events = events;
+    creates = λ s w agrees. no_creates L s w (events s w agrees) (q.creation_quiet D) (λ thread name x k. k);
     opened = opened_agrees D;
     is_open = λ s w h. opening s.headers s w w.scopes refl h.scopes;
     closed = closed_agrees D;
@@ -287,9 +307,13 @@ module _ (D : List (List ℕ × ℕ)) where
     loops = λ s w n h. record { defined = h.defined; scopes = h.scopes };
     local = λ s w l h. record { defined = h.defined; scopes = h.scopes };
     declares = declares;
-    variable = λ words d o h. h;
-    parameter = λ p o h. h;
-    object = λ words pointer d o h. h;
+    variable = λ w words d o h. h;
+    parameter = λ w name p o h. h;
+    Held = λ t w names. Unit {0};
+    object = λ t w words pointer d size later h. global_is t words pointer d size;
+    held_object = λ t u w words pointer d later added h. tt;
+    held_function = λ t u w f later same h. tt;
+    held_none = λ t w later h. tt;
     At = λ w n list. Unit {0};
     next = λ w n d more h. tt;
     IsHeader = λ f h. h ≡ header_in D f;
@@ -307,5 +331,5 @@ pub text_names : (tree : TranslationUnit) → Writes (name_ledger (t.definitions
 unfolding resolving.behind t.declarations scoping_named
 text_names tree =
     let D = t.definitions tree.declarations in
-    text_is (name_ledger D) (scoping_named D) tree.declarations tt at_first 0 tt (before tree.declarations)
+    text_is (name_ledger D) (scoping_named D) tree.declarations tt at_first 0 tt (before tree.declarations) tt
     (record { defined = refl; scopes = (record { same = λ key own. tt }, refl) }) refl

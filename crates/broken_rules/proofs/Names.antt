@@ -63,6 +63,10 @@ module _ (D : List (List ℕ × ℕ)) where
     Reached = λ found x. IsReached x found.fault;
     Judged = λ x. IsJudged x.rule;
     At = BreaksAt;
+    Order = λ a b ps. Unit {0};
+    order_none = λ a. tt;
+    order_both = λ a b c ps qs h k. tt;
+    order_with = λ a b part ps none h. tt;
   }
 
   -- ---- single faults
@@ -81,6 +85,7 @@ module _ (D : List (List ℕ × ℕ)) where
       from = λ f e. unjudged_from found.fault (fault_at r at) f out (first_from found.fault (fault_at r at) f e);
       keeps = λ x h. reached_first x found.fault (Some (fault_at r at)) h;
       finds = λ x h. absurd h;
+      order = tt;
     };
   }
 
@@ -104,6 +109,7 @@ module _ (D : List (List ℕ × ℕ)) where
       from = λ f e. part_from found.fault part (fault_at r at) f is (first_from found.fault (fault_at r at) f e);
       keeps = λ x h. reached_first x found.fault (Some (fault_at r at)) h;
       finds = λ x h. part_found found.fault part (fault_at r at) x only h;
+      order = tt;
     };
   }
 
@@ -129,7 +135,7 @@ module _ (D : List (List ℕ × ℕ)) where
 
   call_quiet : (caller : Option ℕ) (callee at : ℕ) → Plain (calls caller callee at) []
   call_quiet (Some caller) callee at = record {
-    writes = λ found. record { from = λ f e. inl e; keeps = λ x h. h; finds = λ x h. absurd h };
+    writes = λ found. record { from = λ f e. inl e; keeps = λ x h. h; finds = λ x h. absurd h; order = tt };
   }
   call_quiet None callee at = record { writes = λ found. nothing_new name_ledger found }
 
@@ -269,7 +275,7 @@ module _ (D : List (List ℕ × ℕ)) where
 
   pub creation_quiet : (thread routine at : ℕ) → Plain (creates thread routine at) []
   creation_quiet thread routine at = record {
-    writes = λ found. record { from = λ f e. inl e; keeps = λ x h. h; finds = λ x h. absurd h };
+    writes = λ found. record { from = λ f e. inl e; keeps = λ x h. h; finds = λ x h. absurd h; order = tt };
   }
 
   -- ---- functions

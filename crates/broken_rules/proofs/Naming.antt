@@ -93,9 +93,9 @@ module _ (D : List (List ℕ × ℕ)) where
   function_by s w name number own (Declared.OfFunction f) some means = record { f = f; means = record { declared = some; own = own }; header = means }
   function_by s w name number own (Declared.OfParameter p) some means = absurd (no_parameter p.is_pointer number means)
   function_by s w name number own (Declared.OfVariable words d) some means = absurd means
-  function_by s w name number own (Declared.OfObject words pointer d) some means = absurd means
+  function_by s w name number own (Declared.OfObject words pointer d) some means = absurd means.0
 
-  named_function : (s : Scope) (w : Where) (name : Name) (number : ℕ) → Agrees D s w → look_up s name.bytes ≡ known.Declared (meaning.Function number) → IsFunctionName s w
+  pub named_function : (s : Scope) (w : Where) (name : Name) (number : ℕ) → Agrees D s w → look_up s name.bytes ≡ known.Declared (meaning.Function number) → IsFunctionName s w
       name number
   named_function s w name number agrees is =
       let d = declared_by s w name (meaning.Function number) is (sees D s w name.bytes agrees) in
@@ -121,7 +121,7 @@ module _ (D : List (List ℕ × ℕ)) where
   by_meaning s meaning.Unusable f h out = h
 
   -- a name that stands for no function is that of no function without a definition
-  no_function_meant : (s : Scope) (w : Where) (name : Name) → Sees D s w name.bytes → ((n : ℕ) → look_up s name.bytes ≡ known.Declared (meaning.Function n) → ⊥) →
+  pub no_function_meant : (s : Scope) (w : Where) (name : Name) → Sees D s w name.bytes → ((n : ℕ) → look_up s name.bytes ≡ known.Declared (meaning.Function n) → ⊥) →
       (f : Function) → StandsFor w name (Declared.OfFunction f) → ⊥
   no_function_meant s w name (Sees.OfLibrary g named looks) out f u = none-some g (sym u.own ∙ named)
   no_function_meant s w name (Sees.Nothing own none looks) out f u = none-some (Declared.OfFunction f) (sym none ∙ u.declared)

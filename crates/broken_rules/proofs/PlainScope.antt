@@ -32,6 +32,7 @@ use Rattle.broken_rules.proofs.Orders.{IsReached}
 use Rattle.broken_rules.proofs.Ledgers.{Entered, Good, Writes, left, good_pure, good_then, good_before, nothing_new, writes_with}
 use Rattle.broken_rules.proofs.Events.{Events, IsOther}
 use Rattle.broken_rules.proofs.Walks.{Scoping, IsOpen, open_behind}
+use Rattle.broken_rules.proofs.Calls.{no_creates}
 use Rattle.broken_rules.proofs.Functions.{text_is}
 use Rattle.broken_rules.proofs.Firsts.{IsAlone, found_in_parts, first_is_reached}
 use Rattle.broken_rules.proofs.Plain as q
@@ -81,8 +82,6 @@ events s w = record {
   library = λ name function count is. q.quiet (Part.Call w name) (λ x k. k) (q.library_name s function count name.offset);
   function = λ name number count is_value is. q.quiet (Part.Call w name) (λ x k. k) (q.function_name s number count is_value name.offset);
   no_function = λ name none own. q.quiet (Part.Call w name) (λ x k. k) (q.other_if (a.is_unknown (look_up s name.bytes)) rule.Unknown name.offset (λ j. j));
-  creation = q.creation_quiet;
-  no_creation = λ thread name x k. k;
   print = q.print_is;
   no_print = q.no_print_is;
   length = λ v. q.length_by_is v _ refl;
@@ -146,8 +145,9 @@ function_declared x h name second = function_by x h name second (is_some (functi
 scoping_free : Scoping plain_ledger
 scoping_free = record {
   Agrees = Free;
-  Means = λ d m. Unit {0};
+  Means = λ w name d m. Unit {0};
   events = λ s w h. events s w;
+  creates = λ s w h. no_creates plain_ledger s w (events s w) q.creation_quiet (λ thread name x k. k);
   opened = λ s w h. record { scope = []; outer = w.scopes; are = refl };
   is_open = λ s w h. h;
   closed = λ s scope w opening h. opening;
@@ -159,9 +159,13 @@ scoping_free = record {
     agrees = open_behind ((name.bytes, d) ∷ []) w;
     value = tt;
   };
-  variable = λ words d m h. tt;
-  parameter = λ p m h. tt;
-  object = λ words pointer d m h. tt;
+  variable = λ w words d m h. tt;
+  parameter = λ w name p m h. tt;
+  Held = λ t w names. Unit {0};
+  object = λ t w words pointer d size later h. tt;
+  held_object = λ t u w words pointer d later added h. tt;
+  held_function = λ t u w f later same h. tt;
+  held_none = λ t w later h. tt;
   At = λ w n list. Unit {0};
   next = λ w n d more h. tt;
   IsHeader = λ f h. Unit {0};
@@ -181,7 +185,7 @@ scoping_free = record {
 
 text_writes : (tree : TranslationUnit) → Writes plain_ledger nothing (resolving.behind tree.declarations).found (parts tree)
 unfolding resolving.behind t.declarations scoping_free
-text_writes tree = text_is plain_ledger scoping_free tree.declarations tt at_first 0 tt (before tree.declarations) (record { scope = []; outer = []; are = refl }) refl
+text_writes tree = text_is plain_ledger scoping_free tree.declarations tt at_first 0 tt (before tree.declarations) tt (record { scope = []; outer = []; are = refl }) refl
 
 new_from : (parts : Parts) (f : Fault) → q.IsJudged f.rule → (nothing.fault ≡ Some f) ⊎ (q.IsJudged f.rule → Entered plain_ledger parts f) → Entered plain_ledger parts f
 new_from parts f judged (inl e) = absurd (none-some f e)

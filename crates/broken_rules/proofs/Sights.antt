@@ -19,7 +19,7 @@ use Rattle.c_rules.specs.Names.{or_else, declared, declared_outside, look_up, kn
 use Rattle.c_resolution.specs.Resolving.{scope_with}
 use Rattle.c_resolution.specs.Functions as y
 use Rattle.broken_rules.specs.Sight.{Declared, Names, Where, declaration_in, with_names, inside}
-use Rattle.broken_rules.proofs.Walks.{IsUsual, IsParameter, IsGlobal, IsOpen, within}
+use Rattle.broken_rules.proofs.Walks.{IsUsual, IsParameter, IsGlobal, IsOpen, is_thread, is_thread_object, within}
 
 no_truth : false ≡ true → ⊥
 no_truth h = cc
@@ -69,7 +69,7 @@ module _ (D : List (List ℕ × ℕ)) where
   MeansIn headers (Declared.OfFunction f) meaning.Unusable = ⊥
   MeansIn headers (Declared.OfParameter q) m = IsParameter q.is_pointer m
   MeansIn headers (Declared.OfVariable words d) m = IsUsual m
-  MeansIn headers (Declared.OfObject words pointer d) m = IsGlobal m
+  MeansIn headers (Declared.OfObject words pointer d) m = IsGlobal m × (is_thread_object m ≡ is_thread words pointer)
 
   abbrev pub Same : List Header → Option Declared → Option Meaning → Type 0
   Same headers None None = Unit {0}

@@ -28,7 +28,7 @@ use Rattle.broken_rules.specs.Sight.{Where}
 use Rattle.broken_rules.specs.Parts as p
 use Rattle.broken_rules.specs.Parts.{Part, Parts, if_any}
 use Rattle.broken_rules.proofs.Ledgers.{Ledger, Good, good_pure, good_then, good_before, nothing_new}
-use Rattle.broken_rules.proofs.Events.{Events}
+use Rattle.broken_rules.proofs.Events.{Events, Creates}
 use Rattle.broken_rules.proofs.Values.{good_index, good_value}
 use Rattle.broken_rules.proofs.Arguments.{pointer_value}
 use Rattle.broken_rules.proofs.Calls.{call, right_side}
@@ -77,15 +77,6 @@ module _ (L : Ledger) (s : Scope) (w : Where) (events : Events L s w) where
   assign at q assignment.Set v = assigned at q v
   assign at q (assignment.Compound o) v = compound at q o v
 
-  simple_form : (at : ℕ) (f : SimpleForm) → Good L (y.simple_form s at f) (p.simple_form_parts w f)
-  simple_form at (form.Assign q o v) = assign at q o v
-  simple_form at (form.Step q way) = step at q way
-  simple_form at (form.Call x) = call L s w events (place_in_tree at) x
-
-  pub simple : (x : SimpleStatement) → Good L (y.simple s x) (p.simple_parts w x)
-  unfolding y.simple
-  simple x = simple_form x.offset x.form
-
   right_of : (x : Returned) → Good L (y.right_of s x) (p.returned_parts w x)
   right_of returned_as.Nothing = good_pure L None
   right_of (returned_as.Value v) = good_before L (k.right_side s v) (λ r. pure (Some r)) (p.expression_parts w v) (right_side L s w events v) (λ r. good_pure L (Some r))
@@ -103,3 +94,13 @@ module _ (L : Ledger) (s : Scope) (w : Where) (events : Events L s w) where
   pub jump : (at : ℕ) → Good L (y.check_jump s at) []
   unfolding y.check_jump
   jump at = other_if (nat_eq s.loops 0) rule.Place at (events.other rule.Place at tt)
+
+module _ (L : Ledger) (s : Scope) (w : Where) (events : Events L s w) (creates_are : Creates L s w) where
+  simple_form : (at : ℕ) (f : SimpleForm) → Good L (y.simple_form s at f) (p.simple_form_parts w f)
+  simple_form at (form.Assign q o v) = assign L s w events at q o v
+  simple_form at (form.Step q way) = step L s w events at q way
+  simple_form at (form.Call x) = call L s w events creates_are (place_in_tree at) x
+
+  pub simple : (x : SimpleStatement) → Good L (y.simple s x) (p.simple_parts w x)
+  unfolding y.simple
+  simple x = simple_form x.offset x.form

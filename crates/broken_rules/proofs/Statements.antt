@@ -40,7 +40,7 @@ module _ (L : Ledger) (S : Scoping L) where
   condition_is v w = right_finding L S (λ s. condition s v) (p.expression_parts w v) w (λ s agrees. good_condition L s w (S.events s w agrees) v)
 
   simple_is : (x : SimpleStatement) (w : Where) → Goes_right L S w (finding (λ s. simple s x)) (λ _. Unit {0}) (p.simple_parts w x) w
-  simple_is x w = right_finding L S (λ s. simple s x) (p.simple_parts w x) w (λ s agrees. k.simple L s w (S.events s w agrees) x)
+  simple_is x w = right_finding L S (λ s. simple s x) (p.simple_parts w x) w (λ s agrees. k.simple L s w (S.events s w agrees) (S.creates s w agrees) x)
 
   done : {A : Type 0} (a : A) (w : Where) → Goes_right L S w (pure a) (λ _. Unit {0}) [] w
   done a w = right_pure L S (λ _. Unit {0}) a w tt

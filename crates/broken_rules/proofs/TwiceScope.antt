@@ -110,8 +110,6 @@ events s w = record {
   library = λ name function count is. q.quiet (Part.Call w name) (λ x k. k) (q.library_name s function count name.offset);
   function = λ name number count is_value is. q.quiet (Part.Call w name) (λ x k. k) (q.function_name s number count is_value name.offset);
   no_function = λ name none own. q.quiet (Part.Call w name) (λ x k. k) (q.other_if (a.is_unknown (look_up s name.bytes)) rule.Unknown name.offset (λ j. j));
-  creation = q.creation_quiet;
-  no_creation = λ thread name x k. k;
   print = λ name first values. q.quiet (Part.Print name (first ∷ values)) (λ x k. k)
       (q.other_if (not (k.takes (k.format first) (length values))) rule.Format (a.argument_offset first) (λ j. j));
   no_print = λ name. q.quiet (Part.Print name []) (λ x k. k) (q.other rule.Format name.offset (λ j. j));
@@ -178,7 +176,7 @@ module _ (D : List (List ℕ × ℕ)) where
   same_some headers None (Some o) h m is = absurd h
   same_some headers (Some e) None h m is = absurd h
 
-  same_none : (headers : List Header) (x : Option Declared) (z : Option Meaning) → Same D headers x z → z ≡ None → x ≡ None
+  pub same_none : (headers : List Header) (x : Option Declared) (z : Option Meaning) → Same D headers x z → z ≡ None → x ≡ None
   same_none headers None z h is = refl
   same_none headers (Some e) None h is = absurd h
   same_none headers (Some e) (Some o) h is = absurd (none-some o (sym is))
@@ -188,7 +186,7 @@ module _ (D : List (List ℕ × ℕ)) where
   inner_by headers inner outer [] name own h = absurd h
   inner_by headers inner outer (scope ∷ scopes) name own h = h.0.same name own
 
-  inner_same : (s : Scope) (w : Where) (name : List ℕ) → function_named name ≡ None → Agrees D s w → Same D s.headers (named_in (innermost w.scopes) name) (named_in s.inner name)
+  pub inner_same : (s : Scope) (w : Where) (name : List ℕ) → function_named name ≡ None → Agrees D s w → Same D s.headers (named_in (innermost w.scopes) name) (named_in s.inner name)
   inner_same s w name own h = inner_by s.headers s.inner s.outer w.scopes name own h.scopes
 
   -- ---- names but functions
@@ -296,7 +294,7 @@ module _ (D : List (List ℕ × ℕ)) where
       again w f h second (slice_get s.headers number) (header_in D g) means (again_twice w f second (Declared.OfFunction g) first refl by own)
   again_is s w f h second number (Declared.OfParameter p) first means by own = absurd (m.no_parameter p.is_pointer number means)
   again_is s w f h second number (Declared.OfVariable words d) first means by own = absurd means
-  again_is s w f h second number (Declared.OfObject words pointer d) first means by own = absurd means
+  again_is s w f h second number (Declared.OfObject words pointer d) first means by own = absurd means.0
 
   other_twice : (s : Scope) (w : Where) (f : Function) (o : Meaning) (e : Declared) → IsDeclared w f.name e → MeansIn D s.headers e o → ((n : ℕ) → o ≡ meaning.Function n → ⊥) →
       IsTwice w f.name (Declared.OfFunction f)

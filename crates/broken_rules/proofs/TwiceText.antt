@@ -19,6 +19,7 @@ use Rattle.broken_rules.specs.Sight.{Declared, Where, behind, with_names}
 use Rattle.broken_rules.specs.Parts.{Part, parts, function_names, at_first}
 use Rattle.broken_rules.proofs.Ledgers.{Writes}
 use Rattle.broken_rules.proofs.Walks.{Scoping}
+use Rattle.broken_rules.proofs.Calls.{no_creates}
 use Rattle.broken_rules.proofs.Functions.{text_is}
 use Rattle.broken_rules.proofs.Sights.{Agrees, header_in}
 use Rattle.broken_rules.specs.Breaks.{innermost}
@@ -258,8 +259,9 @@ module _ (tree : TranslationUnit) (few : IsOfFew tree) where
       let N = n.scoping_named D in
       record {
         Agrees = Agrees D;
-        Means = IsMeant D;
+        Means = λ w name. IsMeant D;
         events = λ s w agrees. h.events s w;
+        creates = λ s w agrees. no_creates twice_ledger s w (h.events s w) q.creation_quiet (λ thread name x k. k);
         opened = N.opened;
         is_open = N.is_open;
         closed = N.closed;
@@ -269,7 +271,11 @@ module _ (tree : TranslationUnit) (few : IsOfFew tree) where
         declares = λ x w name d o agrees means. record { writes = h.declares D x w name d o agrees means; agrees = (N.declares x w name d o agrees means).agrees; value = tt };
         variable = N.variable;
         parameter = N.parameter;
+        Held = N.Held;
         object = N.object;
+        held_object = N.held_object;
+        held_function = N.held_function;
+        held_none = N.held_none;
         At = At;
         next = next;
         IsHeader = N.IsHeader;
@@ -288,7 +294,7 @@ module _ (tree : TranslationUnit) (few : IsOfFew tree) where
   text_twice : Writes twice_ledger nothing (resolving.behind tree.declarations).found (parts tree)
   unfolding resolving.behind t.declarations scoping_twice
   text_twice =
-      text_is twice_ledger scoping_twice tree.declarations tt at_first 0 (record { before = []; text = refl; scope = refl; count = refl }) (before tree.declarations)
+      text_is twice_ledger scoping_twice tree.declarations tt at_first 0 (record { before = []; text = refl; scope = refl; count = refl }) (before tree.declarations) tt
       (record { defined = refl; scopes = (record { same = λ key own. tt }, refl) }) refl
 
   -- ---- the rule

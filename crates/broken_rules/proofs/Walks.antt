@@ -1,5 +1,6 @@
 -- Walks that change the names in scope: what they write, and what is in sight behind them.
-use Rattle.std.proofs.Common.{◌≡◌, refl, sym, subst, ap, ℕ, Bool, true, false, List, [], ◌∷◌, ◌++◌, Option, Some, append_assoc}
+use Rattle.std.proofs.Common.{◌≡◌, refl, sym, subst, ap, ℕ, Bool, true, false, List, [], ◌∷◌, ◌++◌, Option, Some, None, append_assoc}
+use Rattle.std.specs.Prelude.{not, ◌&&◌}
 use Rattle.std.specs.List.{AllByRecursion}
 use Rattle.c_tree.specs.declared.expression.Name.{Name}
 use Rattle.c_tree.specs.declared.expression.Specifiers.{Specifiers}
@@ -16,15 +17,22 @@ use Rattle.c_rules.specs.declared.names.Header.{Header}
 use Rattle.c_rules.specs.declared.names.Gives.{Gives}
 use Rattle.c_rules.specs.declared.names.Scope.{Scope}
 use Rattle.c_rules.specs.declared.findings.Findings.{Findings}
-use Rattle.c_rules.specs.Names.{opened, closed}
+use Rattle.c_program.specs.declared.tree.ThreadObject.{ThreadObject}
+use Rattle.c_rules.specs.declared.specifiers.BaseType.{BaseType}
+use Rattle.c_rules.specs.declared.specifiers.BaseType.TheVariants as base
+use Rattle.c_rules.specs.declared.names.ObjectKind.TheVariants.{Thread}
+use Rattle.c_rules.specs.Names.{opened, closed, same_kind}
+use Rattle.c_rules.specs.Specifiers.{base_of, spelled_by}
 use Rattle.c_rules.specs.Walks.{Outcome, Finds, pure, through, place_in_tree, ◌>>=◌}
 use Rattle.c_resolution.specs.States.{State, Goes, in_scope, finding, scoping}
 use Rattle.c_resolution.specs.Locals.{declare, with_local}
+use Rattle.c_resolution.specs.Files.{Tables}
+use Rattle.c_resolution.specs.Globals.{global_meaning}
 use Rattle.c_resolution.specs.Functions as y
 use Rattle.broken_rules.specs.Sight.{Declared, Names, Where, behind, inside, with_names}
-use Rattle.broken_rules.specs.Parts.{Part, Parts, names_of, number_behind, function_names}
+use Rattle.broken_rules.specs.Parts.{Part, Parts, names_of, number_behind, function_names, object_names}
 use Rattle.broken_rules.proofs.Ledgers.{Ledger, Good, Writes, given, left, turn, after_one, nothing_new, writes_both, append_nothing}
-use Rattle.broken_rules.proofs.Events.{Events}
+use Rattle.broken_rules.proofs.Events.{Events, Creates}
 
 -- the place with a scope of its own
 abbrev pub within : Names → Where → Where
@@ -71,12 +79,32 @@ IsGlobal (meaning.Object o) = Unit {0}
 IsGlobal meaning.Unusable = Unit {0}
 IsGlobal other = ⊥
 
+-- ---- thread objects
+
+abbrev pub is_thread_base : BaseType → Bool
+is_thread_base base.Thread = true
+is_thread_base other = false
+
+-- whether words declare a thread object at file scope
+abbrev pub is_thread : Specifiers → Bool → Bool
+is_thread words pointer = not pointer && is_thread_base (base_of words.words)
+
+abbrev pub is_thread_object : Meaning → Bool
+is_thread_object (meaning.Object o) = same_kind Thread o.kind
+is_thread_object other = false
+
+-- a table of thread objects with one more that no create names, if so
+abbrev pub Adds : Bool → List ThreadObject → List ThreadObject → Type 0
+Adds true old new = (n : ℕ) × (new ≡ old ++ (record { length = n; routine = None }) ∷ [])
+Adds false old new = new ≡ old
+
 -- how scopes agree with the declarations in sight
 pub record Scoping (L : Ledger) : Type 1 where
   pub Agrees : Scope → Where → Type 0
-  -- what a name that is declared so stands for
-  pub Means : Declared → Meaning → Type 0
+  -- what a name that is declared so there stands for
+  pub Means : Where → Name → Declared → Meaning → Type 0
   pub events : (s : Scope) (w : Where) → Agrees s w → Events L s w
+  pub creates : (s : Scope) (w : Where) → Agrees s w → Creates L s w
   pub opened : (s : Scope) (w : Where) → Agrees s w → Agrees (opened s) (inside w)
   -- some scope is open wherever a part stands
   pub is_open : (s : Scope) (w : Where) → Agrees s w → IsOpen w
@@ -84,11 +112,19 @@ pub record Scoping (L : Ledger) : Type 1 where
   pub no_names : (s : Scope) (w : Where) → Agrees s w → Agrees s (behind [] w)
   pub loops : (s : Scope) (w : Where) (n : ℕ) → Agrees s w → Agrees (record s { loops = n }) w
   pub local : (s : Scope) (w : Where) (l : LocalVariable) → Agrees s w → Agrees (with_local l s) w
-  pub declares : (x : State) (w : Where) (name : Name) (d : Declared) (m : Meaning) → Agrees x.scope w → Means d m →
+  pub declares : (x : State) (w : Where) (name : Name) (d : Declared) (m : Meaning) → Agrees x.scope w → Means w name d m →
       Right L Agrees x (declare name m x) (λ _. Unit {0}) (Part.Declares w name d ∷ []) (behind ((name.bytes, d) ∷ []) w)
-  pub variable : (words : Specifiers) (d : Declarator) (m : Meaning) → IsUsual m → Means (Declared.OfVariable words d) m
-  pub parameter : (p : Parameter) (m : Meaning) → IsParameter p.is_pointer m → Means (Declared.OfParameter p) m
-  pub object : (words : Specifiers) (pointer : Bool) (d : GlobalDeclarator) (m : Meaning) → IsGlobal m → Means (Declared.OfObject words pointer d) m
+  pub variable : (w : Where) (words : Specifiers) (d : Declarator) (m : Meaning) → IsUsual m → Means w d.name (Declared.OfVariable words d) m
+  pub parameter : (w : Where) (name : Name) (p : Parameter) (m : Meaning) → IsParameter p.is_pointer m → Means w name (Declared.OfParameter p) m
+  -- ---- objects: what the program's tables hold where these names are declared next at file scope
+  pub Held : Tables → Where → Names → Type 0
+  pub object : (t : Tables) (w : Where) (words : Specifiers) (pointer : Bool) (d : GlobalDeclarator) (size : Option ℕ) (later : Names) →
+      Held t w (object_names words pointer d ++ later) → Means w d.name (Declared.OfObject words pointer d) (global_meaning t (spelled_by words) pointer size)
+  pub held_object : (t u : Tables) (w : Where) (words : Specifiers) (pointer : Bool) (d : GlobalDeclarator) (later : Names) → Adds (is_thread words pointer) t.threads u.threads →
+      Held t w (object_names words pointer d ++ later) → Held u (behind (object_names words pointer d) w) later
+  pub held_function : (t u : Tables) (w : Where) (f : Function) (later : Names) → u.threads ≡ t.threads → Held t w (function_names f ++ later) → Held u (behind (function_names
+      f) w) later
+  pub held_none : (t : Tables) (w : Where) (later : Names) → Held t w later → Held t (behind [] w) later
   -- ---- functions: a declaration at file scope stands with so many definitions before it, and with others behind it
   pub At : Where → ℕ → List ExternalDeclaration → Type 0
   pub next : (w : Where) (n : ℕ) (d : ExternalDeclaration) (more : List ExternalDeclaration) → At w n (d ∷ more) → At (behind (names_of d) w) (number_behind d n) more

@@ -17,6 +17,13 @@ pub fn declarations_are_judged()
     ensures complete { BrokenAreFaultsOfFew rule.Twice }
 {}
 
+/// Where a text defines fewer than 2 ^ 32 functions, a first fault in a call that lies on a cycle of calls is one that breaks the
+/// rule on recursion, and for each such call there is a first fault that is none behind it.
+pub fn calls_are_judged()
+    ensures sound { FaultsAreBrokenOfFew rule.Recursive }
+    ensures complete { BrokenAreFaultsOfFew rule.Recursive }
+{}
+
 /// A first fault in a constant is a constant, a length or an initial value that breaks the rule on constants, and for each
 /// such part there is a first fault that is none behind it.
 pub fn constants_are_judged()

@@ -75,7 +75,7 @@ object_at at o (Some length) None = do
 
 -- what stands for an object that breaks a rule
 abbrev pub no_object : ObjectPlace
-no_object = ObjectPlace.Single 0
+no_object = ObjectPlace.Single 0xffff_ffff
 
 unfoldable pub misused_object : Known → ℕ → ℕ → Finds ObjectPlace
 misused_object known name_at at = do

@@ -71,7 +71,7 @@ fn refused_object(
     ensures { Walks object_place_of (spec.refused_object scope.now argument.now found.old) result found.new }
 {
     refuse(alloc, scope, found, argument)?;
-    Ok(resolved::ObjectPlace::Single(0))
+    Ok(resolved::ObjectPlace::Single(u32::MAX))
 }
 
 #[tactic(auto, unfolding(crate::specs::Arguments::refused_routine))]
@@ -251,7 +251,7 @@ fn misused_object(
 {
     found.add_if(is_unknown(known), Rule::Unknown, name_offset);
     found.add_if(is_usable(known), Rule::Kind, offset);
-    resolved::ObjectPlace::Single(0)
+    resolved::ObjectPlace::Single(u32::MAX)
 }
 
 /// What a name stands for, as an object of the kind.

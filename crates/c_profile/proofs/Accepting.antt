@@ -5,7 +5,7 @@ use Rattle.c_token.specs.Spelling.{Bytes}
 use Rattle.c_tree.specs.declared.declaration.TranslationUnit.{TranslationUnit}
 use Rattle.c_program.specs.Tree.{Program}
 use Rattle.c_resolution.specs.Resolving.{Spells}
-use Rattle.c_profile.specs.Profile.{IsTreeOf, IsWithin, IsAccepted}
+use Rattle.c_accepted.specs.Profile.{IsTreeOf, IsWithin, IsAccepted}
 
 pub accepted : (text : Bytes) (tree : TranslationUnit) (spelled P : Program) (w : ℕ) → IsTreeOf text tree → Spells tree spelled → P ≡ spelled → IsWithin P w → IsAccepted text P w
 accepted text tree spelled P w is spells same within = record {

@@ -29,8 +29,8 @@ use Rattle.c_rules.specs.Faults.{first}
 use Rattle.c_resolution.specs.CallRules.{IsCallFault, call_of, with_call}
 use Rattle.c_resolution.specs.Texts.{main_number}
 use Rattle.c_resolution.specs.Resolving.{IsFirstFault, Spells, behind, routines_given, program_at}
-use Rattle.c_profile.specs.declared.refusal.Refusal.TheVariants as refusal
-use Rattle.c_profile.specs.Profile.{most_bytes, IsTreeOf}
+use Rattle.c_accepted.specs.declared.refusal.Refusal.TheVariants as refusal
+use Rattle.c_accepted.specs.Profile.{most_bytes, IsTreeOf}
 use Rattle.c_profile.specs.Laws.{HasAnswer}
 
 -- ---- a text splits, or has a fault

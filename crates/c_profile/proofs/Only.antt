@@ -4,11 +4,11 @@ use Rattle.std.specs.Prelude.{Result, Ok, Err, IfOk, IfErr}
 use Rattle.c_token.specs.Spelling.{Bytes}
 use Rattle.c_program.specs.Tree.{Program}
 use Rattle.c_program.specs.Plain.{program_of}
-use Rattle.c_profile.specs.declared.refusal.Refusal.{Refusal}
+use Rattle.c_accepted.specs.declared.refusal.Refusal.{Refusal}
 use Rattle.c_profile.specs.declared.text.Accepted.{Accepted}
 use Rattle.c_profile.specs.declared.text.ProfileError.{ProfileError}
 use Rattle.c_profile.specs.declared.text.ProfileError.TheVariants as error
-use Rattle.c_profile.specs.Profile.{IsAccepted, IsRefused}
+use Rattle.c_accepted.specs.Profile.{IsAccepted, IsRefused}
 use Rattle.c_profile.specs.Answers.{AcceptsOnly, RefusesOnly}
 use Rattle.c_profile.proofs.Stages.{accepted_once, refused_once, never_both}
 

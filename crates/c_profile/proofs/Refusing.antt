@@ -9,10 +9,10 @@ use Rattle.c_rules.specs.declared.fault.ResolveError.{ResolveError}
 use Rattle.c_rules.specs.declared.fault.ResolveError.TheVariants as stop
 use Rattle.c_resolution.specs.Resolving.{IsFirstFault, LacksMain, Spells}
 use Rattle.c_profile.specs.declared.text.ProfileError.TheVariants as error
-use Rattle.c_profile.specs.declared.refusal.Refusal.{Refusal}
-use Rattle.c_profile.specs.declared.refusal.Refusal.TheVariants as refusal
+use Rattle.c_accepted.specs.declared.refusal.Refusal.{Refusal}
+use Rattle.c_accepted.specs.declared.refusal.Refusal.TheVariants as refusal
 use Rattle.c_profile.specs.Stops.{answer_to}
-use Rattle.c_profile.specs.Profile.{IsTreeOf, IsPassed, IsRefused}
+use Rattle.c_accepted.specs.Profile.{IsTreeOf, IsPassed, IsRefused}
 
 pub refused_by_limit : (text : Bytes) (tree : TranslationUnit) (P : Program) (r : Refusal) → IsTreeOf text tree → Spells tree P → IsPassed P r → IsRefused text r
 refused_by_limit text tree P (refusal.Limit passed) is spelled p = (tree, is, (P, spelled, p))

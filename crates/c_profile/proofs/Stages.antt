@@ -28,9 +28,9 @@ use Rattle.c_resolution.specs.Files.{File}
 use Rattle.c_resolution.specs.Texts.{main_number}
 use Rattle.c_resolution.proofs.Once.{first_fault_once}
 use Rattle.c_resolution.specs.Resolving.{IsFirstFault, Spells, behind, routines_given, program_at}
-use Rattle.c_profile.specs.declared.refusal.Refusal.{Refusal}
-use Rattle.c_profile.specs.declared.refusal.Refusal.TheVariants as refusal
-use Rattle.c_profile.specs.Profile.{most_bytes, IsTreeOf, IsAccepted, IsRefused, IsPassedAt, limit_of_text}
+use Rattle.c_accepted.specs.declared.refusal.Refusal.{Refusal}
+use Rattle.c_accepted.specs.declared.refusal.Refusal.TheVariants as refusal
+use Rattle.c_accepted.specs.Profile.{most_bytes, IsTreeOf, IsAccepted, IsRefused, IsPassedAt, limit_of_text}
 
 -- ---- the answer by what each stage finds
 

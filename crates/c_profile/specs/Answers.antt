@@ -2,7 +2,7 @@
 use Rattle.std.specs.Prelude.{◌≡◌, ℕ, Result, Ok, Err}
 use Rattle.c_program.specs.Tree.{Program}
 use Rattle.c_program.specs.Plain.{program_of}
-use Rattle.c_profile.specs.declared.refusal.Refusal.{Refusal}
+use Rattle.c_accepted.specs.declared.refusal.Refusal.{Refusal}
 use Rattle.c_profile.specs.declared.text.Accepted.{Accepted}
 use Rattle.c_profile.specs.declared.text.ProfileError.{ProfileError}
 use Rattle.c_profile.specs.declared.text.ProfileError.TheVariants.{Refused, Memory}

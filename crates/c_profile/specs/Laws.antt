@@ -2,8 +2,8 @@
 use Rattle.std.specs.Prelude.{◌≡◌, ◌⊎◌, ℕ}
 use Rattle.c_token.specs.Spelling.{Bytes}
 use Rattle.c_program.specs.Tree.{Program}
-use Rattle.c_profile.specs.declared.refusal.Refusal.{Refusal}
-use Rattle.c_profile.specs.Profile.{IsAccepted, IsRefused}
+use Rattle.c_accepted.specs.declared.refusal.Refusal.{Refusal}
+use Rattle.c_accepted.specs.Profile.{IsAccepted, IsRefused}
 
 -- a text is accepted as one program, with one weight
 abbrev pub AcceptedOnce : Type 0

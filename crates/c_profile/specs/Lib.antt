@@ -1,4 +1,3 @@
-pub mod Profile
 pub mod Stops
 pub mod Answers
 pub mod Laws

@@ -1,7 +1,7 @@
 -- The answer for a tree that has no program.
 use Rattle.c_rules.specs.declared.fault.ResolveError.{ResolveError}
 use Rattle.c_rules.specs.declared.fault.ResolveError.TheVariants as stop
-use Rattle.c_profile.specs.declared.refusal.Refusal.TheVariants as refusal
+use Rattle.c_accepted.specs.declared.refusal.Refusal.TheVariants as refusal
 use Rattle.c_profile.specs.declared.text.ProfileError.{ProfileError}
 use Rattle.c_profile.specs.declared.text.ProfileError.TheVariants as error
 

@@ -2,8 +2,7 @@
 #![tactic(auto)]
 
 pub mod law;
-mod refusal;
 mod text;
 
-pub use refusal::Refusal;
+pub use c_accepted::Refusal;
 pub use text::{Accepted, ProfileError, accept};

@@ -9,12 +9,12 @@ ghost use Rattle.grammar.specs.Sentences.{SentenceWithin};
 ghost use Rattle.c_tree.specs.Declarations.{unit};
 ghost use Rattle.c_profile.specs.Answers.{AcceptsOnly, RefusesOnly};
 ghost use Rattle.c_profile.specs.Stops.{answer_to};
-ghost use Rattle.c_profile.specs.Profile.{IsAccepted, IsPassed, IsRefused, IsTreeOf, IsWithin, limit_of_text};
+ghost use Rattle.c_accepted.specs.Profile.{IsAccepted, IsPassed, IsRefused, IsTreeOf, IsWithin, limit_of_text};
 ghost use Rattle.c_profile.specs.declared.text.ProfileError.TheVariants as error;
-ghost use Rattle.c_profile.specs.declared.refusal.Refusal as refusal;
-ghost use Rattle.c_profile.specs.declared.refusal.Refusal.TheVariants as refusals;
+ghost use Rattle.c_accepted.specs.declared.refusal.Refusal as refusal;
+ghost use Rattle.c_accepted.specs.declared.refusal.Refusal.TheVariants as refusals;
 
-use crate::refusal::Refusal;
+use c_accepted::Refusal;
 use c_lexer::{LexFault, TextLimit};
 use c_limits::{Limit, Passed, first_passed};
 use c_parser::ParseError;

@@ -18,8 +18,8 @@ use Rattle.c_limits.specs.declared.limit.Limit.{Limit}
 use Rattle.c_limits.specs.declared.limit.Limit.TheVariants.{Tokens, NameLength, Nesting}
 use Rattle.c_limits.specs.declared.limit.Passed.{Passed}
 use Rattle.c_resolution.specs.Resolving.{IsFirstFault, Spells, LacksMain}
-use Rattle.c_profile.specs.declared.refusal.Refusal.{Refusal}
-use Rattle.c_profile.specs.declared.refusal.Refusal.TheVariants as refusal
+use Rattle.c_accepted.specs.declared.refusal.Refusal.{Refusal}
+use Rattle.c_accepted.specs.declared.refusal.Refusal.TheVariants as refusal
 
 abbrev pub most_bytes : ℕ
 most_bytes = 65536

@@ -1,7 +1,7 @@
 // Why a text is not of the profile.
 
 use c_limits::Passed;
-use c_types::Rule;
+use c_rules::fault::Rule;
 
 /// The first reason, in the order of the profile, why a text is not of it. Offsets are in bytes from the text's begin.
 #[derive(Clone, Copy, Debug, PartialEq, Eq)]

@@ -1,0 +1,11 @@
+pub mod Headers
+pub mod Uses
+pub mod Naming
+pub mod UseScope
+pub mod Judged
+pub mod Numbering
+pub mod Creations
+pub mod CreateScope
+pub mod Givings
+pub mod Seconds
+pub mod Whole
