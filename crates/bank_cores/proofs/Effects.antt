@@ -1,5 +1,5 @@
 -- What a granted request does to a word and to a kept word.
-use Rattle.std.proofs.Common.{◌≡◌, ℕ, zero, suc, ◌<◌, ◌≤◌, ◌⊎◌, List, [], ◌∷◌, length, replicate, slice_get, Bool, true}
+use Rattle.std.proofs.Common.{◌≡◌, ℕ, zero, suc, ◌<◌, ◌≤◌, ◌⊎◌, List, [], ◌∷◌, length, slice_get, Bool, true}
 use Rattle.std.proofs.Common.{false, nat_eq, nat_lt, if◌then◌else◌, refl, sym, ap, ◌∙◌, ⊎_elim, arith, get_or-set_other}
 use Rattle.std.specs.Prelude.{not, ◌&&◌, slice_index}
 use Rattle.std.proofs.lemmas.Bool.Decides.{nat_tests}
@@ -16,11 +16,6 @@ pub first_word : (xs : List ℕ) (k : ℕ) → or_zero (slice_get xs k) ≡ slic
 first_word [] k = refl
 first_word (x ∷ xs) zero = refl
 first_word (x ∷ xs) (suc k) = first_word xs k
-
-pub zero_at : (n i : ℕ) → 0 ≡ slice_index (replicate n 0) i
-zero_at zero i = refl
-zero_at (suc n) zero = refl
-zero_at (suc n) (suc i) = zero_at n i
 
 past : (xs : List ℕ) (k : ℕ) → length xs ≤ k → 0 ≡ slice_index xs k
 past [] k l = refl

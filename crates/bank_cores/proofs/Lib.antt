@@ -1,4 +1,3 @@
-pub mod Edges
 pub mod Effects
 pub mod Banking
 pub mod Naming

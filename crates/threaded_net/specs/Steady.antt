@@ -10,7 +10,8 @@ use Rattle.verilog_meaning.specs.Readings.{Reading}
 use Rattle.verilog_meaning.specs.Cycles.{Path, Valuation, Choice, module_at, IsRegister, IsSettled, IsState}
 use Rattle.verilog_meaning.specs.Threads.{Place, Depends, HasThread, IsChoice, IsThreaded, slot}
 use Rattle.circuit.specs.Modules.{Obeys}
-use Rattle.circuit.specs.Machines.{CoreMachine, CorePlaces, ThreadMachine}
+use Rattle.circuit.specs.Machines.{CoreMachine, ThreadMachine}
+use Rattle.core_turns.specs.Turns.{WaitsForAsks}
 use Rattle.circuit.specs.Wiring.{NetPlaces, IsNet, PrintsAlone}
 use Rattle.leaf_machine.specs.Steady.{KeepsToItself, Stays}
 
@@ -18,12 +19,6 @@ use Rattle.leaf_machine.specs.Steady.{KeepsToItself, Stays}
 pub record HoldsNothing (m : Module) : Type 0 where
   pub registers : (x : ℕ) (s : Signal) → slice_get m.signals x ≡ Some s → IsRegister s.source → ⊥
   pub memories : m.memories ≡ []
-
--- of a core: each reading shows a state, and it offers nothing to whom the first part of an ask is 0
-pub record WaitsForAsks (c : CoreMachine) (p : CorePlaces c) : Type 0 where
-  pub shown : (r : Reading) → (s : c.State) × p.shows r s
-  pub some : 0 < c.parts
-  pub asked : (s : c.State) (i : ℕ) (f : ℕ → ℕ) → f 0 ≡ 0 → c.eligible s i (c.ask_of f) ≡ false
 
 module _ (threads cores : ℕ) (T : ℕ → ThreadMachine) (C : ℕ → CoreMachine) (p : NetPlaces threads cores T C) (modules : List Module) (top : Module) where
   -- the output done shows whether the slot of thread 0 is done; and then it stays

@@ -1,5 +1,6 @@
 -- What an edge leaves behind registers that each take a wire's number, and other statements.
-use Rattle.std.proofs.Common.{◌≡◌, ℕ, zero, suc, ◌+◌, ◌<◌, List, [], ◌∷◌, ◌++◌, slice_get, Some, Bool, true, false, nat_eq, nat_lt, if◌then◌else◌, bit_and, refl, sym, ap, ◌∙◌, subst, arith, zero-add}
+use Rattle.std.proofs.Common.{◌≡◌, ℕ, zero, suc, ◌+◌, ◌<◌, List, [], ◌∷◌, ◌++◌, slice_get, Some, Bool, true, false, nat_eq, nat_lt, if◌then◌else◌, bit_and}
+use Rattle.std.proofs.Common.{refl, sym, ap, ◌∙◌, subst, arith, add-zero, zero-add}
 use Rattle.std.specs.Prelude.{not, ◌&&◌}
 use Rattle.std.proofs.lemmas.Bool.Decides.{nat_tests}
 use Rattle.hls_ints.specs.Residues.{bit_of}
@@ -49,6 +50,13 @@ module _ (r : Reading) (register next : ℕ) where
   pub sets_print : (m : Module) (i c : ℕ) (rest : List Action) → action_bytes m r (spread (set_at register next) i c ++ rest) ≡ action_bytes m r rest
   sets_print m i zero rest = refl
   sets_print m i (suc c) rest = sets_print m (i + 1) c rest
+
+-- one register that takes a wire's number
+pub one_after : (r : Reading) (x y old : ℕ) → register_after r (sets x y 1) x old ≡ r.signal y
+one_after r x y old =
+    let z : x + 0 ≡ x = add-zero x in
+    let t : nat_eq (x + 0) x ≡ true = grind (arith, nat_tests) in
+    ap (λ b. if b then r.signal (y + 0) else old) t ∙ ap r.signal (add-zero y)
 
 -- ---- wires that are bits
 

@@ -1,0 +1,5 @@
+use Rattle.barrier_cores.proofs.Waiting as waiting
+use Rattle.barrier_cores.proofs.law.barriers_wait.Goals as goal
+
+pub returns : goal.returns
+returns c = waiting.barriers_wait

@@ -1,0 +1,3 @@
+pub mod Waiting
+pub mod Printing
+pub mod Telling

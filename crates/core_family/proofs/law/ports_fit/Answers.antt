@@ -1,0 +1,5 @@
+use Rattle.core_family.proofs.Printing.{each_fits}
+use Rattle.core_family.proofs.law.ports_fit.Goals as goal
+
+pub returns : goal.returns
+returns c = each_fits

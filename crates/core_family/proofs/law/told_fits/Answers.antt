@@ -1,0 +1,5 @@
+use Rattle.core_family.proofs.Telling.{each_keeps_fitting}
+use Rattle.core_family.proofs.law.told_fits.Goals as goal
+
+pub returns : goal.returns
+returns c = each_keeps_fitting

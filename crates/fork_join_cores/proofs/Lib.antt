@@ -1,0 +1,7 @@
+pub mod Effects
+pub mod Forking
+pub mod Holding
+pub mod Keeping
+pub mod Naming
+pub mod Standing
+pub mod Scenes

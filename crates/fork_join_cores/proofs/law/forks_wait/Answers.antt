@@ -1,0 +1,5 @@
+use Rattle.fork_join_cores.proofs.Holding as holding
+use Rattle.fork_join_cores.proofs.law.forks_wait.Goals as goal
+
+pub returns : goal.returns
+returns c = holding.forks_wait

@@ -1,0 +1,101 @@
+-- Locks and their words; what may be granted, and what a grant does.
+use Rattle.std.proofs.Common.{◌≡◌, ℕ, zero, suc, Bool, true, false, nat_eq, nat_lt, if◌then◌else◌, refl, sym, ap, ◌∙◌, arith}
+use Rattle.std.specs.Prelude.{not, ◌&&◌}
+use Rattle.std.proofs.lemmas.Bool.Decides.{nat_tests}
+use Rattle.hls_ints.specs.Residues.{bit_of}
+use Rattle.core_states.specs.Machines.{Lock, Unset, Free, Owned, is_owned, lock_eligible, lock_after}
+use Rattle.mutex_cores.specs.declared.mutex.Shape.{Shape}
+use Rattle.mutex_cores.specs.Mutex.{owner, first_word}
+use Rattle.mutex_cores.specs.Machine.{Ask, first_lock, mutex_machine, word_of_lock}
+use Rattle.mutex_cores.specs.Laws.{IsBlocked, Silent, Taken, LockBlocked, LockIsGranted, MutexWaits}
+
+-- ---- words
+
+abbrev pub lock_of_word : ℕ → Lock
+lock_of_word zero = Unset
+lock_of_word (suc zero) = Free
+lock_of_word (suc (suc i)) = Owned i
+
+pub word_is : (x : ℕ) → x ≡ word_of_lock (lock_of_word x)
+word_is zero = refl
+word_is (suc zero) = refl
+word_is (suc (suc i)) = omega arith
+
+pub is_taken : (s : Lock) → nat_lt 1 (word_of_lock s) ≡ is_owned s
+is_taken Unset = refl
+is_taken Free = refl
+is_taken (Owned i) = grind (arith, nat_tests)
+
+pub word_if : (b : Bool) (x y : Lock) → word_of_lock (if b then x else y) ≡ (if b then word_of_lock x else word_of_lock y)
+word_if true x y = refl
+word_if false x y = refl
+
+pub first_is : (b : Bool) → first_word b ≡ word_of_lock (first_lock b)
+first_is true = refl
+first_is false = refl
+
+-- ---- tests
+
+pub offered : (b c : Bool) → (if b then 0 else bit_of c) ≡ bit_of (c && not b)
+offered true true = refl
+offered true false = refl
+offered false true = refl
+offered false false = refl
+
+no_both : (a b : Bool) → a ≡ false → (a && b) ≡ false
+no_both true b e = absurd cc
+no_both false b e = refl
+
+not_second : (a b : Bool) → b ≡ false → (a && b) ≡ false
+not_second true b e = e
+not_second false b e = refl
+
+-- ---- what blocks
+
+same_number : (x y : ℕ) → nat_eq x y ≡ true → x ≡ y
+same_number x y e = grind (arith, nat_tests)
+
+blocked_by : (s : Lock) (a : Ask) (b c : Bool) → a.asks ≡ b → nat_eq a.operation 1 ≡ c → (b && not (c && is_owned s)) ≡ false → IsBlocked s a
+blocked_by s a false c p q e = Silent p
+blocked_by s a true false p q e = absurd cc
+blocked_by Unset a true true p q e = absurd cc
+blocked_by Free a true true p q e = absurd cc
+blocked_by (Owned j) a true true p q e = Taken (same_number a.operation 1 q) j refl
+
+blocks : (shape : Shape) (s : Lock) (i : ℕ) (a : Ask) → IsBlocked s a → (mutex_machine shape).eligible s i a ≡ false
+blocks shape s i a (Silent e) = no_both a.asks (lock_eligible s a.operation) e
+blocks shape s i a (Taken e j o) =
+    not_second a.asks (lock_eligible s a.operation)
+    (ap (λ x. not (nat_eq x 1 && is_owned s)) e ∙ ap (λ (l : Lock). not (nat_eq 1 1 && is_owned l)) o)
+
+pub lock_blocked : LockBlocked
+lock_blocked shape s i a = record {
+  why = λ e. blocked_by s a a.asks (nat_eq a.operation 1) refl refl e;
+  so = blocks shape s i a;
+}
+
+-- ---- what a grant does
+
+free_for : (a : Bool) (s : Lock) (operation : ℕ) → (a && lock_eligible s operation) ≡ true → operation ≡ 1 → is_owned s ≡ false
+free_for false s operation e o = absurd cc
+free_for true Unset operation e o = refl
+free_for true Free operation e o = refl
+free_for true (Owned j) operation e o = absurd (let x : not (nat_eq 1 1 && true) ≡ true = ap (λ k. not (nat_eq k 1 && true)) (sym o) ∙ e in cc)
+
+pub lock_is_granted : LockIsGranted
+lock_is_granted shape s i a e = record {
+  unowned = free_for a.asks s a.operation e;
+  locked = λ o. ap (lock_after s i) o;
+  begun = λ o. ap (lock_after s i) o;
+  unlocked = λ o. ap (lock_after s i) o;
+  destroyed = λ o. ap (lock_after s i) o;
+  held = λ o j b q. not_second b.asks (lock_eligible (lock_after s i a.operation) b.operation)
+      (ap (λ x. not (nat_eq b.operation 1 && is_owned (lock_after s i x))) o ∙ ap (λ x. not (nat_eq x 1 && true)) q);
+}
+
+pub locks_wait : MutexWaits
+locks_wait shape = record {
+  shown = λ r. (lock_of_word (r.signal (owner shape.threads)), word_is (r.signal (owner shape.threads)));
+  some = omega arith;
+  asked = λ s i f e. no_both (nat_lt 0 (f 0)) (lock_eligible s (f 1)) (ap (nat_lt 0) e);
+}

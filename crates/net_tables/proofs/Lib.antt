@@ -1,0 +1,12 @@
+pub mod Lists
+pub mod Widths
+pub mod Small
+pub mod Fitting
+pub mod Decimals
+pub mod Naming
+pub mod Writing
+pub mod Late
+pub mod Threads
+pub mod Sound
+pub mod Keeping
+pub mod Netting

@@ -1,0 +1,4 @@
+pub mod Tables
+pub mod Laws
+pub mod Whole
+pub mod Nets
