@@ -16,12 +16,12 @@ use Rattle.sim_values.specs.declared.settle.Step.{Step}
 use Rattle.sim_values.specs.declared.edge.Part.{Part}
 use Rattle.sim_values.specs.Order.{Takes}
 use Rattle.sim_values.specs.Stands.{children_of, kind_of, spot_of, place_of, spot_at, kind_at, word_of, step}
-use Rattle.sim_values.specs.Tree.{instances_of, place_in}
+use Rattle.sim_values.specs.Tree.{instances_of, place_in, IsInstance}
 use Rattle.sim_layout.specs.Placed.{is_register}
 use Rattle.sim_layout.specs.Wires.{signals_of, own_feed, own_steps, join_feed, join_steps, instance_steps, all_instances, all_steps}
 use Rattle.sim_layout.specs.Given.{IsRoot}
 use Rattle.sim_layout.specs.Running.{IsPart}
-use Rattle.sim_values.proofs.Trees.{opened, tree_stands, one_path}
+use Rattle.sim_values.proofs.Trees.{opened, tree_stands, instance_of, one_path as one_path_of}
 use Rattle.cycle_sim.proofs.Wiring.{takes_left, takes_right, takes_split, own_has, own_back, join_has, join_back, instances_have, instances_back, parts_have, parts_back}
 use Rattle.cycle_sim.specs.LaidOut.{IsLaidOut, GivesBy}
 
@@ -46,6 +46,10 @@ module _ {modules : List Module} {t : Module} {parts : List Part} {numbers : Lis
   place_same (i ∷ outer) =
       ap (λ n. n + i) (child_by (place_of parts outer) (slice_get parts (place_of parts outer)) refl)
       ∙ ap (λ q. slice_index l.children q + i) (place_same outer)
+
+  -- one path for each place
+  pub one_path : (p q : Path) → IsInstance modules t p → IsInstance modules t q → place_of parts p ≡ place_of parts q → p ≡ q
+  one_path p q at there e = one_path_of modules l.number l.kinds l.children t l.tree l.top_at p q at there (sym (place_same p) ∙ e ∙ place_same q)
 
   pub record Found (path : Path) (m : Module) : Type 0 where
     pub part : Part
@@ -319,7 +323,8 @@ module _ {modules : List Module} {t : Module} {parts : List Part} {numbers : Lis
       l.placed.signals (place_of parts path) (place_of parts other) f.part g.part m k x y f.is g.is (slice_get_within m.signals x s at.listed)
       (slice_get_within k.signals y u there.listed) words_are in
       let paths : path ≡ other =
-      one_path modules l.number l.kinds l.children t l.tree l.top_at path other m k at.stands there.stands (sym (place_same path) ∙ places ∙ place_same other) in
+      one_path path other (instance_of modules l.number l.kinds l.children t l.tree l.top_at path m at.stands)
+      (instance_of modules l.number l.kinds l.children t l.tree l.top_at other k there.stands) places in
       let kinds : m ≡ k = (let z : Some m ≡ Some k = sym at.stands ∙ ap (module_at modules t) paths ∙ there.stands in cc) in
       let spots : (spot_at parts path).base ≡ (spot_at parts other).base = ap (λ (z : Path). (spot_at parts z).base) paths in
       let indices : x ≡ y = omega (arith, e, spots) in

@@ -20,3 +20,4 @@ pub mod Turning
 pub mod Enables
 pub mod Elements
 pub mod Taking
+pub mod Putting

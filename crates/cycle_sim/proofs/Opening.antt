@@ -18,7 +18,7 @@ use Rattle.sim_values.specs.Stands.{place_of, word_of, step, Has, StandsFor, IsP
 use Rattle.sim_layout.specs.Placed.{is_register}
 use Rattle.cycle_sim.specs.LaidOut.{IsLaidOut, GivesBy}
 use Rattle.sim_values.proofs.Orders.{known_by}
-use Rattle.cycle_sim.proofs.Laid.{place_same, found, spot_is, laid, has_step, gives_target, gives_here, register_free}
+use Rattle.cycle_sim.proofs.Laid.{place_same, one_path, found, spot_is, laid, has_step, gives_target, gives_here, register_free}
 use Rattle.sim_layout.specs.Running.{Running, running, state_of, IsApart, IsDone}
 use Rattle.sim_layout.specs.Rounds.{prefs_of, TakesTurns}
 use Rattle.cycle_sim.specs.Opened.{writes_at, IsOne, IsReady}
@@ -77,6 +77,7 @@ module _ {modules : List Module} {t : Module} {parts : List Part} {numbers : Lis
     reached = λ q p m is.
         let r = l.tree.grown.reached t l.top_at q p.module (l.placed.each q p is.listed).0 in
         (r.path, place_same l r.path ∙ r.is, r.kind_is ∙ is.kind);
+    paths = one_path l;
     signals = l.placed.signals;
     room = l.placed.room;
     words = l.placed.words_apart;

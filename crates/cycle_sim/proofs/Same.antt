@@ -22,7 +22,7 @@ use Rattle.verilog_meaning.specs.Cycles.{IsSettled, IsSameIn, next_at, next_stat
 
 -- ---- one module: the same signals, and other words
 
-abbrev with_words : Reading → (ℕ → ℕ → ℕ) → Reading
+abbrev pub with_words : Reading → (ℕ → ℕ → ℕ) → Reading
 with_words r words = record { signal = r.signal; word = words }
 
 module _ (m : Module) (r : Reading) (words : ℕ → ℕ → ℕ) where
@@ -136,7 +136,7 @@ module _ (modules : List Module) (top : Module) where
 
     module _ (c : Choice) (through : Valuation) (settled : IsSettled modules top g c through) where
       -- the numbers that are settled, with the words of h
-      abbrev moved : Valuation
+      abbrev pub moved : Valuation
       moved path = with_words (through path) (h path).word
 
       words_are : (path : Path) (m : Module) → module_at modules top path ≡ Some m → AreSame m (through path) (h path).word
@@ -153,7 +153,7 @@ module _ (modules : List Module) (top : Module) where
       number_moved path m x s at (source.Assigned right) e = value_same m (through path) (h path).word (words_are path m at.stands) right
       number_moved path m x s at (source.Port i port) e = refl
 
-      settled_moved : IsSettled modules top h c moved
+      pub settled_moved : IsSettled modules top h c moved
       settled_moved = record {
         signals = λ path m x s at. settled.signals path m x s at ∙ number_moved path m x s at s.source refl;
         within = settled.within;

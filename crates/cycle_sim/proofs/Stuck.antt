@@ -28,7 +28,7 @@ use Rattle.sim_layout.specs.Leads.Leads.{Directly, Through}
 use Rattle.sim_values.specs.Loops.{IsFirstLoop}
 use Rattle.sim_layout.proofs.Leading.{one_clear, each_among}
 use Rattle.cycle_sim.proofs.Pigeons.{twice}
-use Rattle.sim_values.proofs.Trees.{rising, front_or_back}
+use Rattle.sim_values.proofs.Trees.{rising, instance_of, front_or_back}
 use Rattle.cycle_sim.proofs.Laid.{place_same, found, spot_is, laid, part_at, Gives, has_step, gives_target, gives_here, origin, one_signal, register_free, in_room}
 
 among_map : (base : ℕ) (xs : List ℕ) (y : ℕ) → IsOneOf y (map (λ x. base + x) xs) → (x : ℕ) × IsOneOf x xs × (y ≡ base + x)
@@ -339,7 +339,9 @@ module _ {modules : List Module} {t : Module} {parts : List Part} {numbers : Lis
             let there = first_signal d in
             ⊎_elim
             (λ before.
-            let less = rising modules l.number l.kinds l.children t l.tree l.top_at q.0 r.0 there.kind m.0 there.is.stands r.2 before in
+            let less = rising modules l.number l.kinds l.children t l.tree l.top_at q.0 r.0
+            (instance_of modules l.number l.kinds l.children t l.tree l.top_at q.0 there.kind there.is.stands)
+            (instance_of modules l.number l.kinds l.children t l.tree l.top_at r.0 m.0 r.2) before in
             let a = place_same l q.0 in
             let b = place_same l r.0 in
             let c = r.1 in

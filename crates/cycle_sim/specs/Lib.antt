@@ -3,3 +3,4 @@ pub mod Opened
 pub mod Right
 pub mod LaidOut
 pub mod Globals
+pub mod Putting

@@ -1,6 +1,6 @@
 // The simulator.
 
-ghost use Rattle.std.specs.Prelude.{◌≡◌, ◌++◌, ◌-◌, ◌^◌, ◌<◌, [], Some, option_copied, length, replicate, nat_eq, slice_index, slice_get, IfOk, IfErr, OnOk};
+ghost use Rattle.std.specs.Prelude.{◌≡◌, ◌++◌, ◌-◌, ◌^◌, ◌<◌, ◌+◌, List, [], Some, option_copied, length, replicate, nat_eq, slice_index, slice_get, IfOk, IfErr, OnOk};
 ghost use Rattle.std.specs.Prelude.{ℕ, OnErr, IfNone, IfSome, is_ok, if◌then◌else◌};
 ghost use Rattle.cycle_sim.specs.declared.sim.OpenError.TheVariants as errors;
 ghost use Rattle.sim_values.specs.Order.{IsStuck};
@@ -16,6 +16,7 @@ ghost use Rattle.cycle_sim.specs.Lockstep.{TakesRounds, AreRounds, IsLockstep, I
 ghost use Rattle.sim_values.specs.Flat.{Flat, AreNarrow, all_numbers, all_words, all_written};
 ghost use Rattle.sim_layout.specs.Running.{Running, Stands, running, flat, state_of, choice_of, Fits, IsSettledRun, IsSameNet, IsSameState, IsCycleOf, Prints, TellsDone, advanced};
 ghost use Rattle.sim_layout.specs.Print.{IsSomething};
+ghost use Rattle.cycle_sim.specs.Putting.{FitsAt, with_number, FitsWordAt, with_word};
 
 use crate::net::{done_number, enable_mask, pref_count, top_number};
 use global_banks::locate::{Location, locate};
@@ -27,8 +28,8 @@ use sim_layout::order::order;
 use sim_layout::place::{Placed, place};
 use sim_layout::print::put_written;
 use sim_layout::wires::{base_at, further, module_signals, push_parts};
-use sim_values::edge::{Part, edge_numbers, edge_words, inner_spot, kind_at_root};
-use sim_values::settle::{Choice, Step, settle};
+use sim_values::edge::{Part, edge_numbers, edge_words, inner_spot, kind_at_root, set_word_at};
+use sim_values::settle::{Choice, Step, set_item, settle};
 use sim_values::tree::tree_of;
 use sim_values::value::{Now, item_at, number_at, word_at};
 use sqlite_items::{Items, at};
@@ -92,7 +93,7 @@ fn pass_edge(
 
 impl<'a> Sim<'a> {
     /// Gives each signal its number under a choice. The state stays.
-    fn settle_under(&mut self, choice: &Choice)
+    pub fn settle_under(&mut self, choice: &Choice)
         requires { Fits self.old (choice_of choice.now) }
         ensures { IsSettledRun (choice_of choice.now) self.old self.new }
     {
@@ -295,6 +296,84 @@ impl<'a> Sim<'a> {
             self.cycle(choice, out)?;
         }
         Ok(cycles)
+    }
+
+    /// A simulator of the same net in the same state.
+    pub fn copy(&self) -> Result<Sim<'a>, AllocError>
+        ensures { IfOk result (λ s. s ≡ self.now) }
+    {
+        Ok(Sim {
+            modules: self.modules,
+            parts: self.parts.as_slice().to_vec(self.alloc)?,
+            steps: self.steps.as_slice().to_vec(self.alloc)?,
+            numbers: self.numbers.as_slice().to_vec(self.alloc)?,
+            next: self.next.as_slice().to_vec(self.alloc)?,
+            words: self.words.as_slice().to_vec(self.alloc)?,
+            starts: self.starts.as_slice().to_vec(self.alloc)?,
+            prefs: self.prefs,
+            done: self.done,
+            mask: self.mask,
+            alloc: self.alloc,
+        })
+    }
+
+    /// The instances, each before those in it.
+    pub fn parts(&self) -> &[Part]
+        ensures parts { result.now ≡ self.now.parts }
+        ensures stands { Stands self.now }
+        ensures room { length self.now.numbers < 2 ^ 64 }
+    {
+        let _ = self.numbers.len();
+        self.parts.as_slice()
+    }
+
+    /// The net.
+    pub fn modules(&self) -> &'a [Module]
+        ensures { result.now ≡ self.now.modules }
+    {
+        self.modules
+    }
+
+    /// The number that stands at a place.
+    pub fn number(&self, place: usize) -> u64
+        ensures { result ≡ slice_index self.now.numbers place }
+    {
+        item_at(self.numbers.as_slice(), place)
+    }
+
+    /// A word of a memory, which is the one of number `memory` from the place `first` of all memories on.
+    pub fn word_of(&self, first: usize, memory: usize, word: u64) -> u64
+        ensures { result ≡ slice_index self.now.words (slice_index self.now.starts (first + memory) + word) }
+    {
+        let start = number_at(self.starts.as_slice(), first, memory);
+        word_at(self.words.as_slice(), start, word)
+    }
+
+    /// Puts a number at a place.
+    pub fn put_number(&mut self, place: usize, number: u64)
+        requires { FitsAt self.old place number }
+        ensures { self.new ≡ with_number self.old place number }
+    {
+        set_item(self.numbers.as_mut_slice(), place, number);
+    }
+
+    /// Puts a number into a word of a memory, which is the one of number `memory` from the place `first` of all memories on.
+    pub fn put_word(&mut self, first: usize, memory: usize, word: u64, number: u64)
+        requires { FitsWordAt self.old (slice_index self.old.starts (first + memory) + word) number }
+        ensures { self.new ≡ with_word self.old (slice_index self.old.starts (first + memory) + word) number }
+    {
+        let start = number_at(self.starts.as_slice(), first, memory);
+        set_word_at(self.words.as_mut_slice(), start, word, number);
+    }
+
+    /// One cycle, of which what it writes is dropped. It takes no memory.
+    pub fn pass(&mut self, choice: &Choice)
+        requires { Fits self.old (choice_of choice.now) }
+        ensures net { IsSameNet self.old self.new }
+        ensures cycle { (out : List ℕ) × IsCycleOf (choice_of choice.now) self.old self.new [] out }
+    {
+        self.settle_under(choice);
+        self.advance();
     }
 
     fn is_done(&self) -> bool

@@ -17,6 +17,7 @@ use Rattle.sim_values.specs.declared.settle.Choice as code
 use Rattle.sim_values.specs.declared.edge.Part.{Part}
 use Rattle.sim_values.specs.Flat.{Flat, AreNarrow, ArePrintable, settled, all_numbers, all_words}
 use Rattle.sim_values.specs.Stands.{place_of, word_of, valuation_of, IsPlan}
+use Rattle.sim_values.specs.Tree.{IsInstance}
 use Rattle.sim_layout.specs.Rounds.{TakesTurns}
 
 pub record Running : Type 0 where
@@ -61,7 +62,7 @@ pub record IsRight (modules : List Module) (top : Module) : Type 0 where
   pub acts : (k : ℕ) (m : Module) → slice_get modules k ≡ Some m → EachOfRows (FitsAction m) m.actions
   pub named : AreNamed modules top
 
--- ---- no two signals and no two memory words of the instances have one place, and one instance at most writes
+-- ---- no two instances, signals or memory words have one place, and one instance at most writes
 
 abbrev pub some_write : List Action → Bool
 some_write [] = false
@@ -75,6 +76,7 @@ pub record IsPart (modules : List Module) (parts : List Part) (q : ℕ) (p : Par
 pub record IsApart (modules : List Module) (top : Module) (parts : List Part) (starts : List ℕ) (n size : ℕ) : Type 0 where
   pub stands : (path : Path) (m : Module) → module_at modules top path ≡ Some m → (p : Part) × (slice_get parts (place_of parts path) ≡ Some p)
   pub reached : (q : ℕ) (p : Part) (m : Module) → IsPart modules parts q p m → (path : Path) × (place_of parts path ≡ q) × (module_at modules top path ≡ Some m)
+  pub paths : (path other : Path) → IsInstance modules top path → IsInstance modules top other → place_of parts path ≡ place_of parts other → path ≡ other
   pub signals : (q o : ℕ) (p other : Part) (m k : Module) (x y : ℕ) → IsPart modules parts q p m → IsPart modules parts o other k → x < length m.signals → y < length k.signals
       → p.spot.base + x ≡ other.spot.base + y → q ≡ o
   pub room : (q : ℕ) (p : Part) (m : Module) (x : ℕ) → IsPart modules parts q p m → x < length m.signals → p.spot.base + x < n

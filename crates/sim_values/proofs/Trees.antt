@@ -6,7 +6,7 @@ use Rattle.netlist.specs.declared.netlist.Instance.{Instance}
 use Rattle.netlist.specs.declared.netlist.Module.{Module}
 use Rattle.verilog_meaning.specs.Cycles.{Path, module_at}
 use Rattle.sim_values.specs.Loops.{Before}
-use Rattle.sim_values.specs.Tree.{instances_of, kinds_of, place_in, IsInner, IsReached, IsGrown, IsTree}
+use Rattle.sim_values.specs.Tree.{instances_of, kinds_of, place_in, IsInstance, IsInner, IsReached, IsGrown, IsTree}
 use Rattle.sim_values.proofs.Orders.{get_more}
 
 pub get_front : {X : Type 0} (xs ys : List X) (q : ℕ) → q < length xs → slice_get (xs ++ ys) q ≡ slice_get xs q
@@ -216,36 +216,43 @@ pub record IsChild (modules : List Module) (children : List ℕ) (kinds : List �
   pub within : place_in children outer < length children
 
 module _ (modules : List Module) (top : ℕ) (kinds children : List ℕ) (t : Module) (tree : IsTree modules top kinds children) (is : slice_get modules top ≡ Some t) where
-  child_of : (i : ℕ) (outer : Path) (m : Module) → module_at modules t (i ∷ outer) ≡ Some m → IsChild modules children kinds i outer × ((k : Module) × (module_at modules t outer ≡ Some k))
-  child_of i outer m at =
+  -- an instance stands in one that has a module
+  pub instance_of : (path : Path) (m : Module) → module_at modules t path ≡ Some m → IsInstance modules t path
+  instance_of [] m at = tt
+  instance_of (i ∷ outer) m at =
       let o = opened (λ (k : Module). option_and_then (λ (x : Instance). slice_get modules x.of) (slice_get k.instances i)) (module_at modules t outer) m at in
       let p = opened (λ (x : Instance). slice_get modules x.of) (slice_get (o.0).instances i) m o.2 in
-      let parent = tree_stands modules top kinds children t tree is outer o.0 o.1 in
-      let inside : slice_get (instances_of (slice_get modules parent.0)) i ≡ Some p.0 = ap (λ (k : Option Module). slice_get (instances_of k) i) parent.2 ∙ p.1 in
+      (o.0, o.1, slice_get_within (o.0).instances i p.0 p.1)
+
+  child_of : (i : ℕ) (outer : Path) → IsInstance modules t (i ∷ outer) → IsChild modules children kinds i outer × IsInstance modules t outer
+  child_of i outer at =
+      let parent = tree_stands modules top kinds children t tree is outer at.0 at.1 in
+      let same : length (instances_of (slice_get modules parent.0)) ≡ length (at.0).instances = ap (λ (k : Option Module). length (instances_of k)) parent.2 in
       let within = slice_get_within kinds (place_in children outer) parent.0 parent.1 in
       let whole = tree.whole in
-      (record { kind = parent.0; parent = parent.1; inside = slice_get_within (instances_of (slice_get modules parent.0)) i p.0 inside; within = omega (arith, whole, within) }, (o.0, o.1))
+      let l = at.2 in
+      (record { kind = parent.0; parent = parent.1; inside = omega (arith, same, l); within = omega (arith, whole, within) }, instance_of outer at.0 at.1)
 
-  pub rising : (p q : Path) (m k : Module) → module_at modules t p ≡ Some m → module_at modules t q ≡ Some k → Before p q → place_in children p < place_in children q
-  rising [] [] m k at there b = absurd b
-  rising [] (j ∷ q) m k at there b =
-      let c = child_of j q k there in
+  pub rising : (p q : Path) → IsInstance modules t p → IsInstance modules t q → Before p q → place_in children p < place_in children q
+  rising [] [] at there b = absurd b
+  rising [] (j ∷ q) at there b =
+      let c = child_of j q there in
       let l = tree.grown.behind (place_in children q) c.0.within in omega (arith, l)
-  rising (i ∷ p) [] m k at there b = absurd b
-  rising (i ∷ p) (j ∷ q) m k at there (inl b) =
-      let c = child_of i p m at in
-      let d = child_of j q k there in
-      let less = rising p q c.1.0 d.1.0 c.1.1 d.1.1 b in
+  rising (i ∷ p) [] at there b = absurd b
+  rising (i ∷ p) (j ∷ q) at there (inl b) =
+      let c = child_of i p at in
+      let d = child_of j q there in
+      let less = rising p q c.1 d.1 b in
       let l = tree.grown.apart (place_in children p) (place_in children q) c.0.kind less d.0.within c.0.parent in
       let inside = c.0.inside in omega (arith, l, inside)
-  rising (i ∷ p) (j ∷ q) m k at there (inr b) =
+  rising (i ∷ p) (j ∷ q) at there (inr b) =
       let same : place_in children p ≡ place_in children q = ap (place_in children) b.0 in
       let index : slice_index children (place_in children p) ≡ slice_index children (place_in children q) = ap (slice_index children) same in
       let l = b.1 in omega (arith, index, l)
 
   -- one path for each place
-  pub one_path : (p q : Path) (m k : Module) → module_at modules t p ≡ Some m → module_at modules t q ≡ Some k → place_in children p ≡ place_in children q → p ≡ q
-  one_path p q m k at there e = ⊎_elim
-      (λ (b : Before p q). let l = rising p q m k at there b in absurd (omega (arith, e, l)))
-      (λ rest. ⊎_elim (λ (same : p ≡ q). same) (λ (b : Before q p). let l = rising q p k m there at b in absurd (omega (arith, e, l))) rest)
+  pub one_path : (p q : Path) → IsInstance modules t p → IsInstance modules t q → place_in children p ≡ place_in children q → p ≡ q
+  one_path p q at there e = ⊎_elim
+      (λ (b : Before p q). let l = rising p q at there b in absurd (omega (arith, e, l)))
+      (λ rest. ⊎_elim (λ (same : p ≡ q). same) (λ (b : Before q p). let l = rising q p there at b in absurd (omega (arith, e, l))) rest)
       (in_order p q)

@@ -17,6 +17,11 @@ abbrev pub place_in : List ℕ → Path → ℕ
 place_in children [] = 0
 place_in children (i ∷ outer) = slice_index children (place_in children outer) + i
 
+-- there is an instance of this path: the one round it has one of its number
+abbrev pub IsInstance : List Module → Module → Path → Type 0
+IsInstance modules top [] = Unit {0}
+IsInstance modules top (i ∷ outer) = (m : Module) × (module_at modules top outer ≡ Some m) × (i < length m.instances)
+
 -- all instances round that at a path have a place for their first instance
 abbrev pub IsInner : List ℕ → Path → Type 0
 IsInner children [] = Unit {0}

@@ -84,7 +84,8 @@ fn set_number_at(numbers: &mut [u64], base: usize, signal: usize, number: u64)
     }
 }
 
-fn set_word_at(words: &mut [u64], start: u64, number: u64, word: u64)
+/// Changes the word of a number in a memory that starts at a place, where there is one.
+pub fn set_word_at(words: &mut [u64], start: u64, number: u64, word: u64)
     ensures { words.new ≡ slice_set words.old (start + number) word }
 {
     if let Some(place) = start.checked_add(number) {

@@ -1,0 +1,5 @@
+use Rattle.journal_text.proofs.Parting.{IsSoFar}
+use Rattle.journal_text.proofs.text.parted.Given as goal
+
+abbrev pub invariant-loop-turn : goal.invariant-loop-turn
+invariant-loop-turn l = IsSoFar l.text l.reading l.rest

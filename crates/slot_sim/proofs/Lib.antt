@@ -1,0 +1,15 @@
+pub mod Sames
+pub mod Bits
+pub mod Trials
+pub mod Going
+pub mod Telling
+pub mod Steps
+pub mod Rooms
+pub mod Collecting
+pub mod Takes
+pub mod Taken
+pub mod Slotted
+pub mod Placing
+pub mod Comparing
+pub mod Keeping
+pub mod Moving

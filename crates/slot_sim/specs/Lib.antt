@@ -1,0 +1,6 @@
+pub mod Threaded
+pub mod Slots
+pub mod Same
+pub mod Members
+pub mod Taking
+pub mod Laws
