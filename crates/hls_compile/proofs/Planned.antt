@@ -6,7 +6,7 @@ use Rattle.std.specs.List.{AllByRecursion}
 use Rattle.std.specs.Str.{bytes_eq}
 use Rattle.c_program.specs.Tree.{Program}
 use Rattle.c_program.specs.Weight.{thread_count}
-use Rattle.c_profile.specs.Profile.{IsAccepted}
+use Rattle.c_accepted.specs.Profile.{IsAccepted}
 use Rattle.good_verilog.specs.GoodVerilog.{IsGoodVerilog}
 use Rattle.netlist.specs.declared.netlist.Netlist.{Netlist}
 use Rattle.whole_net.specs.Whole.{IsNetOf}

@@ -9,7 +9,7 @@ use Rattle.verilog_meaning.specs.Names.{top_of}
 use Rattle.verilog_meaning.specs.Threads.{IsThreaded}
 use Rattle.good_verilog.specs.GoodVerilog.{IsGoodVerilog}
 use Rattle.whole_net.specs.Whole.{IsNetOf}
-use Rattle.c_profile.specs.Profile.{IsAccepted}
+use Rattle.c_accepted.specs.Profile.{IsAccepted}
 use Rattle.hls_compile.specs.declared.unbuilt.Construct.{Construct}
 use Rattle.hls_compile.specs.declared.unbuilt.Construct.TheVariants as construct
 

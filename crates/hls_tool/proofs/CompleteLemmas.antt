@@ -4,9 +4,9 @@ use Rattle.hls_words.specs.declared.task.Task.{Task}
 use Rattle.hls_words.specs.declared.task.Task.TheVariants.{Build, Step, Walk}
 use Rattle.turns.specs.declared.Turn.{Turn}
 use Rattle.c_program.specs.Tree.{Program}
-use Rattle.c_profile.specs.declared.refusal.Refusal.{Refusal}
-use Rattle.c_profile.specs.declared.refusal.Refusal.TheVariants as refusal
-use Rattle.c_profile.specs.Profile.{IsAccepted, IsRefused}
+use Rattle.c_accepted.specs.declared.refusal.Refusal.{Refusal}
+use Rattle.c_accepted.specs.declared.refusal.Refusal.TheVariants as refusal
+use Rattle.c_accepted.specs.Profile.{IsAccepted, IsRefused}
 use Rattle.c_profile.proofs.Stages.{accepted_once, never_both}
 use Rattle.hls_compile.specs.declared.unbuilt.Construct.{Construct}
 use Rattle.hls_compile.specs.declared.unbuilt.Construct.TheVariants as construct

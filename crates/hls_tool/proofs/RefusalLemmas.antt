@@ -2,9 +2,9 @@ use Rattle.std.proofs.Common.{◌≡◌, ℕ, ◌<◌, List, length, Option, Som
 use Rattle.std.specs.Prelude.{IsSome}
 use Rattle.hls_words.specs.declared.task.Task.{Task}
 use Rattle.hls_words.specs.declared.task.Task.TheVariants.{Build, Step}
-use Rattle.c_profile.specs.declared.refusal.Refusal.{Refusal}
-use Rattle.c_profile.specs.declared.refusal.Refusal.TheVariants as refusal
-use Rattle.c_profile.specs.Profile.{most_bytes, IsRefused}
+use Rattle.c_accepted.specs.declared.refusal.Refusal.{Refusal}
+use Rattle.c_accepted.specs.declared.refusal.Refusal.TheVariants as refusal
+use Rattle.c_accepted.specs.Profile.{most_bytes, IsRefused}
 use Rattle.hls_compile.specs.Compiled.{IsUnbuilt}
 use Rattle.hls_compile.specs.declared.unbuilt.Construct.{Construct}
 use Rattle.hls_compile.specs.declared.CompileError.{CompileError}

@@ -9,9 +9,9 @@ use Rattle.c_program.specs.Weight.{thread_count}
 use Rattle.c_interpreter.specs.declared.walk.WalkEnd.{WalkEnd as Ends}
 use Rattle.c_interpreter.specs.declared.walk.WalkEnd.TheVariants as ends
 use Rattle.c_interpreter.specs.Walk.{IsWalk}
-use Rattle.c_profile.specs.declared.refusal.Refusal.{Refusal}
-use Rattle.c_profile.specs.declared.refusal.Refusal.TheVariants as refusal
-use Rattle.c_profile.specs.Profile.{most_bytes, IsAccepted, IsRefused}
+use Rattle.c_accepted.specs.declared.refusal.Refusal.{Refusal}
+use Rattle.c_accepted.specs.declared.refusal.Refusal.TheVariants as refusal
+use Rattle.c_accepted.specs.Profile.{most_bytes, IsAccepted, IsRefused}
 use Rattle.netlist.specs.declared.netlist.Netlist.{Netlist}
 use Rattle.hls_compile.specs.declared.unbuilt.Construct.{Construct}
 use Rattle.hls_compile.specs.Compiled.{IsCompiled, IsUnbuilt}

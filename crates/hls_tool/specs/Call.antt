@@ -4,9 +4,9 @@ use Rattle.hls_words.specs.declared.task.Task.{Task}
 use Rattle.hls_words.specs.declared.task.Task.TheVariants.{Build, Step, Walk}
 use Rattle.c_program.specs.Tree.{Program}
 use Rattle.c_interpreter.specs.declared.walk.WalkEnd.{WalkEnd as Ends}
-use Rattle.c_profile.specs.Profile.{IsAccepted}
+use Rattle.c_accepted.specs.Profile.{IsAccepted}
 use Rattle.hls_compile.specs.Compiled.{IsAlone}
-use Rattle.c_profile.specs.declared.refusal.Refusal.{Refusal}
+use Rattle.c_accepted.specs.declared.refusal.Refusal.{Refusal}
 use Rattle.hls_tool.specs.declared.status.Outcome.{Outcome}
 use Rattle.hls_tool.specs.declared.status.Status.{Status}
 use Rattle.hls_tool.specs.declared.status.Status.TheVariants as status

@@ -5,8 +5,8 @@ use Rattle.c_rules.specs.declared.fault.Rule.TheVariants as rule
 use Rattle.c_rules.specs.Faults.{number}
 use Rattle.c_limits.specs.declared.limit.Passed.{Passed}
 use Rattle.c_limits.specs.Counts.{name_of, most}
-use Rattle.c_profile.specs.declared.refusal.Refusal.{Refusal}
-use Rattle.c_profile.specs.declared.refusal.Refusal.TheVariants as refusal
+use Rattle.c_accepted.specs.declared.refusal.Refusal.{Refusal}
+use Rattle.c_accepted.specs.declared.refusal.Refusal.TheVariants as refusal
 use Rattle.hls_compile.specs.declared.unbuilt.Construct.{Construct}
 use Rattle.hls_compile.specs.declared.unbuilt.Construct.TheVariants as construct
 use Rattle.hls_ints.specs.declared.fault.ArithmeticFault.{ArithmeticFault}

@@ -2,7 +2,7 @@ ghost use Rattle.std.specs.Prelude.{◌≡◌, ◌⊎◌, None, Some, map, strin
 ghost use Rattle.hls_io.specs.Causes.{Rose};
 ghost use Rattle.hls_words.specs.Line.{task_of};
 ghost use Rattle.hls_words.specs.declared.task.Task.TheVariants.{Walk};
-ghost use Rattle.c_profile.specs.Profile.{IsRefused};
+ghost use Rattle.c_accepted.specs.Profile.{IsRefused};
 ghost use Rattle.hls_tool.specs.Call.{Answered, AsksFor, Completes, IsDoneFor, IsWriteFault, TellsEnd, TellsRefusal};
 ghost use Rattle.turns.specs.Turns.{threads_of};
 ghost use Rattle.c_interpreter.specs.Walk.{IsWalk};

@@ -4,7 +4,7 @@ ghost use Rattle.hls_io.specs.Causes.{Rose};
 ghost use Rattle.hls_words.specs.Line.{task_of};
 ghost use Rattle.c_program.specs.Plain.{program_of};
 ghost use Rattle.c_program.specs.Weight.{thread_count};
-ghost use Rattle.c_profile.specs.Profile.{IsAccepted};
+ghost use Rattle.c_accepted.specs.Profile.{IsAccepted};
 ghost use Rattle.hls_tool.specs.Answers.{Gave, IsBuilt, IsPlain, IsStepped, IsWalked, Owes, run_status, status_of};
 ghost use Rattle.hls_tool.specs.Inside.{AnswersStop, StopsBy, due_of, line_bytes, stop_of};
 ghost use Rattle.hls_tool.specs.declared.commands.Stop.TheVariants.{Memory};

@@ -1,9 +1,9 @@
 ghost use Rattle.std.specs.Prelude.{◌≡◌, ◌≤◌};
 ghost use Rattle.hls_tool.specs.Inside.{due_of, out_bytes, line_bytes};
-ghost use Rattle.hls_tool.specs.Delivery.{Ends, MayBeOwed, passage};
+ghost use Rattle.hls_tool.specs.Delivery.{Ends, MayBeOwed, TellsMemory, passage};
 
 use crate::answer::{Answer, Line, Out};
-use crate::lines::WRITE_FAULT;
+use crate::lines::{MEMORY, WRITE_FAULT};
 use crate::{Outcome, Status};
 use hls_io::{Bytes, Sink, write_all};
 
@@ -73,5 +73,16 @@ pub fn deliver<O: Sink, E: Sink>(answer: Answer, out: &mut O, err: &mut E) -> Ou
     Outcome {
         status,
         text: answer.text,
+    }
+}
+
+/// Says that memory is wanting where the top call could not be reached: its line goes to err, as much of it as err takes.
+pub fn tell_memory<E: Sink>(err: &mut E) -> Status
+    ensures memory { result ≡ Status.Memory }
+    ensures tells { TellsMemory (passage (E.held err.old) (E.held err.new) (E.faults err.old) (E.faults err.new)) }
+{
+    match write_all(err, MEMORY) {
+        Ok(()) => Status::Memory,
+        Err(_) => Status::Memory,
     }
 }

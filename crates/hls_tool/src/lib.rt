@@ -9,4 +9,5 @@ mod lines;
 mod status;
 
 pub use call::hls;
+pub use deliver::tell_memory;
 pub use status::{Outcome, Status, WalkEnd};

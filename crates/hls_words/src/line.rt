@@ -2,7 +2,8 @@ ghost use Rattle.std.specs.Prelude.{◌≡◌, Option, Some, None, false, map, s
 ghost use Rattle.clap.specs.Words.{app_of, rule_of, rows_of, one_of, first_of, found_of, kind_of, subcommand_rows_of, with_rule, with_subcommand};
 ghost use Rattle.clap.specs.declared.builder.command.Command.TheViews.{out-Command as fields_of};
 ghost use Rattle.clap.specs.declared.error.kind.ErrorKind.TheVariants.{OutOfMemory};
-ghost use Rattle.hls_words.specs.Line.{build_in, build_line, command_line, in_range, number_in, number_of, number_rule, task_in, required, step_in, step_line, task_of, text_rule, turns_in, walk_in, walk_line};
+ghost use Rattle.hls_words.specs.Line.{build_in, build_line, command_line, in_range, number_in, number_of, number_rule, required};
+ghost use Rattle.hls_words.specs.Line.{step_in, step_line, task_in, task_of, text_rule, turns_in, walk_in, walk_line};
 
 use crate::{Task, WordsError};
 use clap::error::ErrorKind;

@@ -155,25 +155,33 @@ const ROWS: [(&[u8], &str); 51] = [
     ),
 ];
 
+fn is_shown(alloc: Global, text: &[u8], expected: &str) -> Result<bool, AllocError> {
+    let out = shown(alloc, text)?;
+    Ok(out.as_str() == expected)
+}
+
 #[test]
 fn table(rt: HostRuntime) -> Result<(), Fail> {
     for (text, expected) in &ROWS {
-        let out = shown(rt.alloc(), text)?;
-        assert_eq!(rt; out.as_str(), *expected);
+        assert!(rt; is_shown(rt.alloc(), text, expected)?, "{expected}");
     }
     Ok(())
 }
 
+/// The limit of tokens at its edge.
 #[test]
-fn edges(rt: HostRuntime) -> Result<(), Fail> {
-    let alloc = rt.alloc();
-    let marks = vec![in alloc; b';'; 16_385]?;
-    let fitting = lex(alloc, &marks[..16_384])?;
-    assert_eq!(rt; fitting.len(), 16_385);
-    assert_eq!(rt; shown(alloc, &marks)?.as_str(), "Tokens 16385 at 16384");
-    let name = vec![in alloc; b'a'; 64]?;
-    let fitting = lex(alloc, &name[..63])?;
-    assert_eq!(rt; fitting.len(), 2);
-    assert_eq!(rt; shown(alloc, &name)?.as_str(), "NameLength 64 at 0");
+fn most_tokens(rt: HostRuntime) -> Result<(), Fail> {
+    let marks = vec![in rt.alloc(); b';'; 16_385]?;
+    assert!(rt; lex(rt.alloc(), &marks[..16_384])?.len() == 16_385);
+    assert!(rt; is_shown(rt.alloc(), &marks, "Tokens 16385 at 16384")?);
+    Ok(())
+}
+
+/// The limit of a name's length at its edge.
+#[test]
+fn longest_name(rt: HostRuntime) -> Result<(), Fail> {
+    let name = vec![in rt.alloc(); b'a'; 64]?;
+    assert!(rt; lex(rt.alloc(), &name[..63])?.len() == 2);
+    assert!(rt; is_shown(rt.alloc(), &name, "NameLength 64 at 0")?);
     Ok(())
 }

@@ -9,6 +9,7 @@ use c_program::tree::{
     BinaryOperator, Condition, Expression, Function, Piece, Program, RightSide, Statement,
 };
 use hls_ints::CType;
+use ir_lower::fault::LowerError;
 use ir_lower::statements::lower;
 use ir_lower::taken::is_sequential_program;
 use std::alloc::{AllocError, Global};
@@ -78,43 +79,71 @@ fn shape(stage: &Stage) -> (usize, usize, u32) {
     }
 }
 
-fn shapes(alloc: Global, code: &ThreadCode) -> Result<Vec<(usize, usize, u32)>, AllocError> {
-    let mut shapes = Vec::new(alloc);
-    for stage in code.stages.as_slice() {
-        shapes.push(shape(stage))?;
+fn has_shapes(code: &ThreadCode, wanted: &[(usize, usize, u32)]) -> bool {
+    let stages = code.stages.as_slice();
+    for (stage, wanted) in stages.iter().zip(wanted) {
+        if shape(stage) != *wanted {
+            return false;
+        }
     }
-    Ok(shapes)
+    stages.len() == wanted.len()
+}
+
+/// Whether the program is lowered to stages of these shapes.
+fn is_lowered(
+    alloc: Global,
+    program: &Program,
+    wanted: &[(usize, usize, u32)],
+) -> Result<bool, LowerError> {
+    let code = lower(alloc, program)?;
+    Ok(is_sequential_program(program) && has_shapes(&code, wanted))
+}
+
+/// Whether the code of the program has these variables.
+fn has_variables(alloc: Global, program: &Program, wanted: &[CType]) -> Result<bool, LowerError> {
+    let code = lower(alloc, program)?;
+    Ok(code.variables.as_slice() == wanted)
 }
 
 /// Both assignments and the values of the printf are one block.
 #[test]
 fn lowers_straight_code(rt: HostRuntime) -> Result<(), Fail> {
     let program = straight(rt.alloc())?;
-    assert!(rt; is_sequential_program(&program));
-    let code = lower(rt.alloc(), &program)?;
-    let found = shapes(rt.alloc(), &code)?;
-    assert_eq!(rt;
-        found.as_slice(),
-        [(1, 1, 3), (2, 2, 0), (0, 0, 0)].as_slice()
-    );
+    let wanted = [(1, 1, 3), (2, 2, 0), (0, 0, 0)];
+    assert!(rt; is_lowered(rt.alloc(), &program, &wanted)?);
     Ok(())
+}
+
+/// Whether the first word that the code's first block leaves is converted to these types.
+fn converts_to(code: &ThreadCode, types: &[CType]) -> bool {
+    match code.stages.get(0) {
+        Some(Stage::Run(block)) => match block.finals.get(0) {
+            Some(word) => word.value.conversions.as_slice() == types,
+            None => false,
+        },
+        _ => false,
+    }
+}
+
+/// Whether the code of the program is so.
+fn converts(alloc: Global, program: &Program, types: &[CType]) -> Result<bool, LowerError> {
+    let code = lower(alloc, program)?;
+    Ok(converts_to(&code, types))
+}
+
+/// `printf("%d", 4294967301);`
+fn printing(alloc: Global) -> Result<Program, AllocError> {
+    let large = Expression::Constant(CType::UNSIGNED_LONG, 4294967301);
+    let body = print(alloc, large)?;
+    main_with(alloc, body)
 }
 
 /// The value of a printf takes its conversion's type before it is put into a variable of 64 bits (C99 7.19.6.1).
 #[test]
 fn converts_a_printf_value(rt: HostRuntime) -> Result<(), Fail> {
-    let large = Expression::Constant(CType::UNSIGNED_LONG, 4294967301);
-    let program = main_with(rt.alloc(), print(rt.alloc(), large)?)?;
-    let code = lower(rt.alloc(), &program)?;
-    let Some(Stage::Run(block)) = code.stages.get(0) else {
-        return Err("no block")?;
-    };
-    let word = block.finals.get(0).ok_or("no word")?;
-    assert_eq!(rt;
-        word.value.conversions.as_slice(),
-        [INT, CType::LONG].as_slice()
-    );
-    assert_eq!(rt; code.variables.as_slice(), [INT, CType::LONG].as_slice());
+    let program = printing(rt.alloc())?;
+    assert!(rt; converts(rt.alloc(), &program, &[INT, CType::LONG])?);
+    assert!(rt; has_variables(rt.alloc(), &program, &[INT, CType::LONG])?);
     Ok(())
 }
 
@@ -148,38 +177,40 @@ fn discard_all(program: Program) {
     }
 }
 
+/// `x = 6;` so many times.
+fn long(alloc: Global, count: u32) -> Result<Program, AllocError> {
+    let mut body = on_heap(alloc, Statement::Done)?;
+    for _ in 0..count {
+        body = before(alloc, assign_number(alloc, 6)?, body)?;
+    }
+    main_with(alloc, body)
+}
+
 /// A long body is one block and a return, and no stack is exhausted.
 #[test]
 fn lowers_a_long_body(rt: HostRuntime) -> Result<(), Fail> {
-    let mut body = on_heap(rt.alloc(), Statement::Done)?;
-    for _ in 0..8000 {
-        body = before(rt.alloc(), assign_number(rt.alloc(), 6)?, body)?;
-    }
-    let program = main_with(rt.alloc(), body)?;
-    let code = lower(rt.alloc(), &program)?;
-    let found = shapes(rt.alloc(), &code)?;
-    assert_eq!(rt; found.as_slice(), [(1, 1, 8000), (0, 0, 0)].as_slice());
+    let program = long(rt.alloc(), 8000)?;
+    let wanted = [(1, 1, 8000), (0, 0, 0)];
+    assert!(rt; is_lowered(rt.alloc(), &program, &wanted)?);
     discard_all(program);
     Ok(())
 }
 
 /// The blocks of the first assignment, of the head, of the if, of the printf with its act, and of the last part.
+const LOOP: [(usize, usize, u32); 7] = [
+    (1, 1, 1),
+    (2, 6, 1),
+    (5, 3, 1),
+    (4, 4, 1),
+    (5, 5, 0),
+    (1, 1, 1),
+    (0, 0, 0),
+];
+
 #[test]
 fn lowers_a_loop(rt: HostRuntime) -> Result<(), Fail> {
     let program = counting(rt.alloc())?;
-    assert!(rt; is_sequential_program(&program));
-    let code = lower(rt.alloc(), &program)?;
-    let found = shapes(rt.alloc(), &code)?;
-    let wanted = [
-        (1, 1, 1),
-        (2, 6, 1),
-        (5, 3, 1),
-        (4, 4, 1),
-        (5, 5, 0),
-        (1, 1, 1),
-        (0, 0, 0),
-    ];
-    assert_eq!(rt; found.as_slice(), wanted.as_slice());
+    assert!(rt; is_lowered(rt.alloc(), &program, &LOOP)?);
     Ok(())
 }
 
@@ -199,25 +230,21 @@ fn calling(alloc: Global) -> Result<Program, AllocError> {
 #[test]
 fn lowers_a_call(rt: HostRuntime) -> Result<(), Fail> {
     let program = calling(rt.alloc())?;
-    assert!(rt; is_sequential_program(&program));
-    let code = lower(rt.alloc(), &program)?;
-    let found = shapes(rt.alloc(), &code)?;
-    assert_eq!(rt;
-        found.as_slice(),
-        [(1, 1, 2), (2, 2, 1), (0, 0, 0)].as_slice()
-    );
-    assert_eq!(rt;
-        code.variables.as_slice(),
-        [INT, INT, CType::LONG].as_slice()
-    );
+    let wanted = [(1, 1, 2), (2, 2, 1), (0, 0, 0)];
+    assert!(rt; is_lowered(rt.alloc(), &program, &wanted)?);
+    assert!(rt; has_variables(rt.alloc(), &program, &[INT, INT, CType::LONG])?);
     Ok(())
+}
+
+fn recursion(alloc: Global) -> Result<Program, AllocError> {
+    let again = on_heap(alloc, Statement::Call(0, 0, Vec::new(alloc)))?;
+    main_with(alloc, again)
 }
 
 /// A function that calls itself has no code.
 #[test]
 fn refuses_a_recursion(rt: HostRuntime) -> Result<(), Fail> {
-    let again = Statement::Call(0, 0, Vec::new(rt.alloc()));
-    let program = main_with(rt.alloc(), on_heap(rt.alloc(), again)?)?;
+    let program = recursion(rt.alloc())?;
     assert!(rt; lower(rt.alloc(), &program).is_err());
     Ok(())
 }

@@ -1,14 +1,20 @@
 // The faults at the edges of texts, and the deepest text that is taken.
 
-use c_lexer::lex;
+use c_lexer::{LexFault, lex};
 use c_parser::{ParseError, parse};
-use c_tree::TranslationUnit;
 use std::alloc::{AllocError, Global};
 use std::test::Fail;
 
-fn parsed(alloc: Global, text: &[u8]) -> Result<Result<TranslationUnit, ParseError>, Fail> {
-    let tokens = lex(alloc, text).ok().ok_or("no tokens")?;
-    Ok(parse(alloc, tokens.as_slice()))
+fn fault(alloc: Global, text: &[u8]) -> Result<Option<ParseError>, LexFault> {
+    let tokens = lex(alloc, text)?;
+    Ok(parse(alloc, tokens.as_slice()).err())
+}
+
+/// How many declarations the tree of a text has.
+fn declarations(alloc: Global, text: &[u8]) -> Result<usize, Fail> {
+    let tokens = lex(alloc, text)?;
+    let tree = parse(alloc, tokens.as_slice())?;
+    Ok(tree.declarations.len())
 }
 
 /// `int main(void){return 0;}` with so many parentheses round the 0.
@@ -28,8 +34,8 @@ fn nested(alloc: Global, depth: usize) -> Result<String, AllocError> {
 #[test]
 fn ends_too_early(rt: HostRuntime) -> Result<(), Fail> {
     for (text, token, offset) in [("", 0, 0), ("int main(void){", 6, 15)] {
-        let fault = parsed(rt.alloc(), text.as_bytes())?.err();
-        assert_eq!(rt; fault, Some(ParseError::Syntax { token, offset }));
+        let found = fault(rt.alloc(), text.as_bytes())?;
+        assert!(rt; found == Some(ParseError::Syntax { token, offset }));
     }
     Ok(())
 }
@@ -37,15 +43,18 @@ fn ends_too_early(rt: HostRuntime) -> Result<(), Fail> {
 #[test]
 fn deepest_text(rt: HostRuntime) -> Result<(), Fail> {
     let taken = nested(rt.alloc(), 63)?;
-    let tree = parsed(rt.alloc(), taken.as_bytes())?.ok().ok_or("no tree")?;
-    assert_eq!(rt; tree.declarations.len(), 1);
+    assert!(rt; declarations(rt.alloc(), taken.as_bytes())? == 1);
+    Ok(())
+}
+
+#[test]
+fn too_deep_a_text(rt: HostRuntime) -> Result<(), Fail> {
     let refused = nested(rt.alloc(), 64)?;
-    let fault = parsed(rt.alloc(), refused.as_bytes())?.err();
     let nesting = ParseError::Nesting {
         token: 70,
         count: 65,
         offset: 85,
     };
-    assert_eq!(rt; fault, Some(nesting));
+    assert!(rt; fault(rt.alloc(), refused.as_bytes())? == Some(nesting));
     Ok(())
 }

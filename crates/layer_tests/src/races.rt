@@ -25,27 +25,50 @@ fn after<'p>(
     Ok(state)
 }
 
-fn read(global: u32, index: u64) -> Access {
-    Access {
-        location: Location { global, index },
-        written: false,
-    }
-}
+const FIRST: Location = Location {
+    global: 0,
+    index: 0,
+};
 
-fn write(global: u32, index: u64) -> Access {
-    Access {
-        location: Location { global, index },
-        written: true,
-    }
-}
+const THIRD: Location = Location {
+    global: 0,
+    index: 2,
+};
 
-fn race(first: usize, second: usize, global: u32, index: u64) -> Option<Race> {
-    Some(Race {
-        first,
-        second,
-        location: Location { global, index },
-    })
-}
+const FOURTH: Location = Location {
+    global: 0,
+    index: 3,
+};
+
+const OTHER: Location = Location {
+    global: 1,
+    index: 0,
+};
+
+const READ_FIRST: Access = Access {
+    location: FIRST,
+    written: false,
+};
+
+const WRITE_FIRST: Access = Access {
+    location: FIRST,
+    written: true,
+};
+
+const READ_THIRD: Access = Access {
+    location: THIRD,
+    written: false,
+};
+
+const WRITE_THIRD: Access = Access {
+    location: THIRD,
+    written: true,
+};
+
+const READ_OTHER: Access = Access {
+    location: OTHER,
+    written: false,
+};
 
 /// Two threads add to one global, without a mutex.
 const ADDING: &str =
@@ -63,98 +86,153 @@ const CROSSING: &str =
     "pthread_t t[2]; int g[4]; int h; void *w(void *arg){h = g[3] + g[1]; return NULL;} int main(void){pthread_create(&t[0], NULL, w, NULL); \
     pthread_create(&t[1], NULL, w, NULL); g[3] = 5; return 0;}";
 
+/// A text, its turns, and the first race of the next steps.
+const RACES: [(&str, &[(u32, u32)], Option<Race>); 7] = [
+    (ADDING, &[], None),
+    (ADDING, &[(0, 11), (1, 3)], None),
+    (
+        ADDING,
+        &[(0, 11), (1, 3), (2, 3)],
+        Some(Race {
+            first: 1,
+            second: 2,
+            location: FIRST,
+        }),
+    ),
+    // a thread that waits at the barrier races with none, though its next statement writes what main's does
+    (WAITING, &[(0, 4), (1, 2)], None),
+    (
+        WAITING,
+        &[(0, 4), (1, 2), (0, 3)],
+        Some(Race {
+            first: 0,
+            second: 1,
+            location: FIRST,
+        }),
+    ),
+    // main writes g[3], which both threads read; after it the threads write h
+    (
+        CROSSING,
+        &[(0, 4)],
+        Some(Race {
+            first: 0,
+            second: 1,
+            location: FOURTH,
+        }),
+    ),
+    (
+        CROSSING,
+        &[(0, 5)],
+        Some(Race {
+            first: 1,
+            second: 2,
+            location: OTHER,
+        }),
+    ),
+];
+
+fn first_race(
+    alloc: Global,
+    program: &Program,
+    turns: &[(u32, u32)],
+) -> Result<Option<Race>, AllocError> {
+    let state = after(alloc, program, turns)?;
+    races(alloc, program, &state)
+}
+
+fn has_race(
+    alloc: Global,
+    text: &str,
+    turns: &[(u32, u32)],
+    race: &Option<Race>,
+) -> Result<bool, Fail> {
+    let accepted = accept(alloc, text.as_bytes())?;
+    let found = first_race(alloc, &accepted.program, turns)?;
+    Ok(found == *race)
+}
+
 #[test]
 fn tells_the_first_race(rt: HostRuntime) -> Result<(), Fail> {
-    let alloc = rt.alloc();
-    for (text, turns, expected) in [
-        (ADDING, &[][..], None),
-        (ADDING, &[(0u32, 11u32), (1, 3)][..], None),
-        (ADDING, &[(0, 11), (1, 3), (2, 3)][..], race(1, 2, 0, 0)),
-        // a thread that waits at the barrier races with none, though its next statement writes what main's does
-        (WAITING, &[(0, 4), (1, 2)][..], None),
-        (WAITING, &[(0, 4), (1, 2), (0, 3)][..], race(0, 1, 0, 0)),
-        // main writes g[3], which both threads read; after it the threads write h
-        (CROSSING, &[(0, 4)][..], race(0, 1, 0, 3)),
-        (CROSSING, &[(0, 5)][..], race(1, 2, 1, 0)),
-    ] {
-        let Ok(accepted) = accept(alloc, text.as_bytes()) else {
-            assert!(rt; false, "refused: {text}");
-            return Ok(());
-        };
-        let state = after(alloc, &accepted.program, turns)?;
-        let found = races(alloc, &accepted.program, &state)?;
-        assert_eq!(rt; found, expected, "at {text}");
+    for (text, turns, race) in &RACES {
+        assert!(rt; has_race(rt.alloc(), text, turns, race)?, "at {text}");
     }
     Ok(())
 }
 
+/// A text, its turns, a thread, and what its next step touches.
+const TOUCHES: [(&str, &[(u32, u32)], usize, &[Access]); 10] = [
+    (ADDING, &[(0, 11), (1, 3)], 1, &[READ_FIRST, WRITE_FIRST]),
+    // the right side, then the index, which reads k and an element itself
+    (
+        "int g[4]; int k; int main(void){k = 2; g[g[k]] = g[k] + 1; return 0;}",
+        &[(0, 1)],
+        0,
+        &[READ_OTHER, READ_THIRD, READ_OTHER, READ_THIRD, WRITE_FIRST],
+    ),
+    // the right side, the index, the old value
+    (
+        "int g[4]; int k; int main(void){k = 2; g[k] += k; return 0;}",
+        &[(0, 1)],
+        0,
+        &[READ_OTHER, READ_OTHER, READ_THIRD, WRITE_THIRD],
+    ),
+    ("int x; int main(void){return x;}", &[], 0, &[READ_FIRST]),
+    // the arguments of printf, and then its act
+    (
+        "int x; int main(void){printf(\"%d\\n\", x); return 0;}",
+        &[],
+        0,
+        &[READ_FIRST],
+    ),
+    (
+        "int x; int main(void){printf(\"%d\\n\", x); return 0;}",
+        &[(0, 1)],
+        0,
+        &[],
+    ),
+    // an undefined step: a divisor of 0, and a return of main while a thread lives
+    ("int x; int main(void){x = 1 / x; return 0;}", &[], 0, &[]),
+    (
+        "pthread_t t; int x; void *w(void *arg){return NULL;} int main(void){pthread_create(&t, NULL, w, NULL); return x;}",
+        &[(0, 2)],
+        0,
+        &[],
+    ),
+    // a waiter at a barrier, and no thread at all
+    (WAITING, &[(0, 4), (1, 2)], 1, &[]),
+    (WAITING, &[], 7, &[]),
+];
+
+fn step_touches(
+    alloc: Global,
+    program: &Program,
+    turns: &[(u32, u32)],
+    thread: usize,
+    accesses: &[Access],
+) -> Result<bool, AllocError> {
+    let state = after(alloc, program, turns)?;
+    let touched = footprint(alloc, program, &state, thread)?;
+    Ok(touched.as_slice() == accesses)
+}
+
+fn touches(
+    alloc: Global,
+    text: &str,
+    turns: &[(u32, u32)],
+    thread: usize,
+    accesses: &[Access],
+) -> Result<bool, Fail> {
+    let accepted = accept(alloc, text.as_bytes())?;
+    Ok(step_touches(alloc, &accepted.program, turns, thread, accesses)?)
+}
+
 #[test]
 fn tells_what_a_step_touches(rt: HostRuntime) -> Result<(), Fail> {
-    let alloc = rt.alloc();
-    for (text, turns, thread, expected) in [
-        (
-            ADDING,
-            &[(0u32, 11u32), (1, 3)][..],
-            1usize,
-            &[read(0, 0), write(0, 0)][..],
-        ),
-        // the right side, then the index, which reads k and an element itself
-        (
-            "int g[4]; int k; int main(void){k = 2; g[g[k]] = g[k] + 1; return 0;}",
-            &[(0, 1)][..],
-            0,
-            &[read(1, 0), read(0, 2), read(1, 0), read(0, 2), write(0, 0)][..],
-        ),
-        // the right side, the index, the old value
-        (
-            "int g[4]; int k; int main(void){k = 2; g[k] += k; return 0;}",
-            &[(0, 1)][..],
-            0,
-            &[read(1, 0), read(1, 0), read(0, 2), write(0, 2)][..],
-        ),
-        (
-            "int x; int main(void){return x;}",
-            &[][..],
-            0,
-            &[read(0, 0)][..],
-        ),
-        // the arguments of printf, and then its act
-        (
-            "int x; int main(void){printf(\"%d\\n\", x); return 0;}",
-            &[][..],
-            0,
-            &[read(0, 0)][..],
-        ),
-        (
-            "int x; int main(void){printf(\"%d\\n\", x); return 0;}",
-            &[(0, 1)][..],
-            0,
-            &[][..],
-        ),
-        // an undefined step: a divisor of 0, and a return of main while a thread lives
-        (
-            "int x; int main(void){x = 1 / x; return 0;}",
-            &[][..],
-            0,
-            &[][..],
-        ),
-        (
-            "pthread_t t; int x; void *w(void *arg){return NULL;} int main(void){pthread_create(&t, NULL, w, NULL); return x;}",
-            &[(0, 2)][..],
-            0,
-            &[][..],
-        ),
-        // a waiter at a barrier, and no thread at all
-        (WAITING, &[(0, 4), (1, 2)][..], 1, &[][..]),
-        (WAITING, &[][..], 7, &[][..]),
-    ] {
-        let Ok(accepted) = accept(alloc, text.as_bytes()) else {
-            assert!(rt; false, "refused: {text}");
-            return Ok(());
-        };
-        let state = after(alloc, &accepted.program, turns)?;
-        let touched = footprint(alloc, &accepted.program, &state, thread)?;
-        assert_eq!(rt; touched.as_slice(), expected, "at {text}");
+    for (text, turns, thread, accesses) in &TOUCHES {
+        assert!(rt;
+            touches(rt.alloc(), text, turns, *thread, accesses)?,
+            "at {text}"
+        );
     }
     Ok(())
 }

@@ -31,43 +31,62 @@ fn sample(alloc: Global) -> Result<Program, AllocError> {
     Ok(sample)
 }
 
+fn has_amounts(
+    alloc: Global,
+    program: &Program,
+    of: Amount,
+    wanted: &[u32],
+) -> Result<bool, AllocError> {
+    let amounts = inlined_amounts(alloc, program, of)?;
+    Ok(amounts.as_slice() == wanted)
+}
+
+fn has_routines(alloc: Global, program: &Program, wanted: &[usize]) -> Result<bool, AllocError> {
+    let functions = thread_functions(alloc, program)?;
+    Ok(functions.as_slice() == wanted)
+}
+
 /// f weighs 1, and 1 each for its return and its operator; main 1, and 1 each for the declarator and the argument, and
 /// what f weighs.
 #[test]
 fn counts_a_call(rt: HostRuntime) -> Result<(), Fail> {
     let program = sample(rt.alloc())?;
-    let weights = inlined_amounts(rt.alloc(), &program, Amount::Weight)?;
-    assert_eq!(rt; weights.as_slice(), [3, 6].as_slice());
-    let elements = inlined_amounts(rt.alloc(), &program, Amount::LocalElements)?;
-    assert_eq!(rt; elements.as_slice(), [1, 2].as_slice());
-    let functions = thread_functions(rt.alloc(), &program)?;
-    assert_eq!(rt; functions.as_slice(), [1, 0].as_slice());
-    assert_eq!(rt; weight(rt.alloc(), &program)?, 9);
-    assert_eq!(rt; thread_count(&program), 4);
+    assert!(rt; has_amounts(rt.alloc(), &program, Amount::Weight, &[3, 6])?);
+    assert!(rt; has_amounts(rt.alloc(), &program, Amount::LocalElements, &[1, 2])?);
+    assert!(rt; has_routines(rt.alloc(), &program, &[1, 0])?);
+    assert!(rt; weight(rt.alloc(), &program)? == 9);
+    assert!(rt; thread_count(&program) == 4);
+    Ok(())
+}
+
+#[test]
+fn has_the_type_of_an_operator(rt: HostRuntime) -> Result<(), Fail> {
     let below = with_x(rt.alloc(), BinaryOperator::Less, 1)?;
     assert!(rt; expression_type(&below) == INT);
     Ok(())
 }
 
-/// 64 times the weight and 1: the weights are 6 and 9.
+/// A text, and 64 times its weight and 1: the weights are 6 and 9.
+const BOUNDS: [(&str, u32); 2] = [
+    (
+        "int main(void){int x = 6; x = x * 7; printf(\"%d\\n\", x); return 0;}",
+        448,
+    ),
+    (
+        "int main(void){int i; for (i = 1; i < 4; i++) printf(\"%d\\n\", i); return 0;}",
+        640,
+    ),
+];
+
+fn bound_of(alloc: Global, text: &str) -> Result<u32, Fail> {
+    let accepted = accept(alloc, text.as_bytes())?;
+    Ok(bound(alloc, &accepted.program)?)
+}
+
 #[test]
 fn bounds_the_cycles_of_a_program(rt: HostRuntime) -> Result<(), Fail> {
-    let alloc = rt.alloc();
-    for (text, expected) in [
-        (
-            "int main(void){int x = 6; x = x * 7; printf(\"%d\\n\", x); return 0;}",
-            448,
-        ),
-        (
-            "int main(void){int i; for (i = 1; i < 4; i++) printf(\"%d\\n\", i); return 0;}",
-            640,
-        ),
-    ] {
-        let Ok(accepted) = accept(alloc, text.as_bytes()) else {
-            assert!(rt; false, "refused: {text}");
-            return Ok(());
-        };
-        assert_eq!(rt; bound(alloc, &accepted.program)?, expected, "at {text}");
+    for (text, expected) in &BOUNDS {
+        assert!(rt; bound_of(rt.alloc(), text)? == *expected, "at {text}");
     }
     Ok(())
 }

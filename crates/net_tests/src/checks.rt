@@ -1,242 +1,190 @@
 // The check of a net that counts up to 2, and of the same with one rule broken.
 
-use crate::small::{counter, net, one};
+use crate::small::{Name, counting, identifier};
 use net_check::check::check_net;
 use net_check::fault::{ModulePart, NetFault, NetPart};
 use netlist_text::text_of;
 use sqlite_items::Items;
 use std::alloc::{AllocError, Global};
 use std::test::Fail;
-use verilog_tree::name::{Identifier, Quoted};
+use verilog_tree::name::Quoted;
 use verilog_tree::tree::{
-    Always, Assign, Connection, Constant, Direction, Expression, Initial, InitialConstant,
-    Instance, Item, Module, Net, Port, Statement, Wire,
+    Always, Assign, Direction, Expression, Item, Module, Net, Port, Statement, Wire,
 };
 
-fn clk(alloc: Global) -> Result<Identifier, AllocError> {
-    Identifier::from_text(alloc, "clk")
+/// The counter, with three ports and eight items, alone or with the module that has its instance.
+fn laid(alloc: Global, has_top: bool) -> Result<Net, AllocError> {
+    let netlist = counting(alloc, has_top)?;
+    text_of(alloc, &netlist)
 }
 
-fn done(alloc: Global) -> Result<Identifier, AllocError> {
-    Identifier::from_text(alloc, "done")
+fn in_module(number: usize, part: ModulePart) -> Result<(), NetFault> {
+    Err(NetFault::BadNet(NetPart::Module { number, part }))
 }
 
-/// A name that the counter does not declare.
-fn other(alloc: Global) -> Result<Identifier, AllocError> {
-    Identifier::from_text(alloc, "other_4")
-}
-
+/// A net is well formed, but not with two modules of one name, and not without a module.
 #[test]
-fn a_net_is_well_formed(rt: HostRuntime) -> Result<(), Fail> {
-    let netlist = net(rt.alloc())?;
-    let net = text_of(rt.alloc(), &netlist)?;
-    assert_eq!(rt; check_net(rt.alloc(), &net), Ok(()));
+fn nets(rt: HostRuntime) -> Result<(), Fail> {
+    let alloc = rt.alloc();
+    let mut net = laid(alloc, true)?;
+    assert!(rt; check_net(alloc, &net).is_ok());
+    net.modules.append(laid(alloc, false)?.modules)?;
+    assert!(rt; check_net(alloc, &net) == in_module(2, ModulePart::Head));
+    net.modules = Items::new(alloc);
+    assert!(rt; check_net(alloc, &net) == Err(NetFault::BadNet(NetPart::Modules)));
     Ok(())
 }
 
-#[test]
-fn a_net_has_a_module(rt: HostRuntime) -> Result<(), Fail> {
-    let net = Net {
-        modules: Items::new(rt.alloc()),
-    };
-    assert_eq!(rt;
-        check_net(rt.alloc(), &net),
-        Err(NetFault::BadNet(NetPart::Modules))
-    );
-    Ok(())
+/// What is done to the counter.
+enum Change {
+    /// The item at this place of the counter stands behind its items.
+    Again(usize),
+    /// So does the instance of the counter.
+    Instance,
+    /// A wire that nothing drives.
+    Wire,
+    /// An assignment of `done` to a name that no signal has.
+    Copy,
+    /// A concatenation without parts.
+    Nothing,
+    /// A `$write`.
+    Write,
+    /// No port.
+    Portless,
+    /// A port behind the others.
+    Port(Direction, Option<u64>, Name),
+    /// An output of one bit in place of all ports.
+    Alone(Name),
 }
 
-/// The counter, with three ports and eight items.
-fn laid(alloc: Global) -> Result<Module, Fail> {
-    let netlist = counter(alloc)?;
-    let mut net = text_of(alloc, &netlist)?;
-    let counter = net.modules.pop().ok_or("no module")?;
-    Ok(counter)
-}
-
-/// What the check says of a module alone.
-fn checked(alloc: Global, module: Module) -> Result<Result<(), NetFault>, AllocError> {
-    let net = Net {
-        modules: one(alloc, module)?,
-    };
-    Ok(check_net(alloc, &net))
-}
-
-fn in_first(part: ModulePart) -> Result<(), NetFault> {
-    Err(NetFault::BadNet(NetPart::Module { number: 0, part }))
-}
-
-fn declare(items: &mut Items<Item>, name: Identifier) -> Result<(), AllocError> {
-    items.push(Item::Wire(Wire { high: None, name }))
-}
-
-fn assign(
-    items: &mut Items<Item>,
-    target: Identifier,
-    value: Expression,
+fn add_item(
+    alloc: Global,
+    module: &mut Module,
+    of_top: bool,
+    place: usize,
 ) -> Result<(), AllocError> {
-    items.push(Item::Assign(Assign { target, value }))
+    let mut net = laid(alloc, of_top)?;
+    if let Some(mut last) = net.modules.pop() {
+        if place < last.items.len() {
+            module.items.push(last.items.remove(place))?;
+        }
+    }
+    Ok(())
 }
 
-/// The target becomes a copy of `done`.
-fn copy(alloc: Global, items: &mut Items<Item>, target: Identifier) -> Result<(), AllocError> {
-    let of = done(alloc)?;
-    assign(items, target, Expression::Copy(of))
+fn add_wire(alloc: Global, module: &mut Module) -> Result<(), AllocError> {
+    let name = identifier(alloc, &Name::Other)?;
+    module.items.push(Item::Wire(Wire { high: None, name }))
 }
 
-fn give(alloc: Global, items: &mut Items<Item>) -> Result<(), AllocError> {
-    let constant = InitialConstant {
-        name: Identifier::from_text(alloc, "q_0")?,
-        word: None,
-        value: Constant { width: 2, value: 0 },
-    };
-    let constants = one(alloc, constant)?;
-    items.push(Item::Initial(Initial { constants }))
+fn add_assign(alloc: Global, module: &mut Module, value: Expression) -> Result<(), AllocError> {
+    let target = identifier(alloc, &Name::Other)?;
+    module.items.push(Item::Assign(Assign { target, value }))
 }
 
-fn run(alloc: Global, items: &mut Items<Item>, statement: Statement) -> Result<(), AllocError> {
-    let body = one(alloc, statement)?;
-    items.push(Item::Always(Always { body }))
-}
-
-fn set(alloc: Global) -> Result<Statement, AllocError> {
-    let register = Identifier::from_text(alloc, "q_0")?;
-    let source = Identifier::from_text(alloc, "n_1")?;
-    Ok(Statement::Set { register, source })
-}
-
-fn print(alloc: Global) -> Result<Statement, AllocError> {
+fn add_write(alloc: Global, module: &mut Module) -> Result<(), AllocError> {
     let text = Quoted::from_text(alloc, "%%\\n")?;
-    Ok(Statement::Write {
+    let mut body = Items::new(alloc);
+    body.push(Statement::Write {
         text,
         arguments: Items::new(alloc),
-    })
+    })?;
+    module.items.push(Item::Always(Always { body }))
 }
 
-fn connections(alloc: Global) -> Result<Items<Connection>, AllocError> {
-    let port = clk(alloc)?;
-    let signal = clk(alloc)?;
-    let mut connections = one(alloc, Connection { port, signal })?;
-    let port = done(alloc)?;
-    let signal = other(alloc)?;
-    connections.push(Connection { port, signal })?;
-    Ok(connections)
-}
-
-/// An instance of the counter itself.
-fn place(alloc: Global, items: &mut Items<Item>) -> Result<(), AllocError> {
-    let module_name = Identifier::from_text(alloc, "counter")?;
-    let name = Identifier::from_text(alloc, "u")?;
-    let connections = connections(alloc)?;
-    items.push(Item::Instance(Instance {
-        module_name,
-        name,
-        connections,
-    }))
-}
-
-// A ninth item: declared twice, driven twice, given twice, written by two blocks.
-#[test]
-fn items_stand_once(rt: HostRuntime) -> Result<(), Fail> {
-    let alloc = rt.alloc();
-    let ninth = in_first(ModulePart::Item(8));
-    let mut counter = laid(alloc)?;
-    declare(&mut counter.items, Identifier::from_text(alloc, "c_2")?)?;
-    assert_eq!(rt; checked(alloc, counter)?, ninth);
-    let mut counter = laid(alloc)?;
-    copy(alloc, &mut counter.items, done(alloc)?)?;
-    assert_eq!(rt; checked(alloc, counter)?, ninth);
-    let mut counter = laid(alloc)?;
-    give(alloc, &mut counter.items)?;
-    assert_eq!(rt; checked(alloc, counter)?, ninth);
-    let mut counter = laid(alloc)?;
-    run(alloc, &mut counter.items, set(alloc)?)?;
-    assert_eq!(rt; checked(alloc, counter)?, ninth);
-    Ok(())
-}
-
-// A ninth item: without a driver, of two widths, without parts, an instance of the module itself.
-#[test]
-fn items_break_rules(rt: HostRuntime) -> Result<(), Fail> {
-    let alloc = rt.alloc();
-    let ninth = in_first(ModulePart::Item(8));
-    let mut counter = laid(alloc)?;
-    declare(&mut counter.items, other(alloc)?)?;
-    assert_eq!(rt; checked(alloc, counter)?, ninth);
-    let mut counter = laid(alloc)?;
-    copy(alloc, &mut counter.items, other(alloc)?)?;
-    assert_eq!(rt; checked(alloc, counter)?, ninth);
-    let mut counter = laid(alloc)?;
-    let nothing = Expression::Concatenation(Items::new(alloc));
-    assign(&mut counter.items, other(alloc)?, nothing)?;
-    assert_eq!(rt; checked(alloc, counter)?, ninth);
-    let mut counter = laid(alloc)?;
-    place(alloc, &mut counter.items)?;
-    assert_eq!(rt; checked(alloc, counter)?, ninth);
-    Ok(())
-}
-
-fn port(direction: Direction, high: Option<u64>, name: Identifier) -> Port {
-    Port {
-        direction,
-        high,
-        name,
+fn apply(alloc: Global, module: &mut Module, by: &Change) -> Result<(), AllocError> {
+    match by {
+        Change::Again(place) => add_item(alloc, module, false, *place),
+        Change::Instance => add_item(alloc, module, true, 0),
+        Change::Wire => add_wire(alloc, module),
+        Change::Copy => add_assign(
+            alloc,
+            module,
+            Expression::Copy(identifier(alloc, &Name::Done)?),
+        ),
+        Change::Nothing => add_assign(alloc, module, Expression::Concatenation(Items::new(alloc))),
+        Change::Write => add_write(alloc, module),
+        Change::Portless => {
+            module.ports = Items::new(alloc);
+            Ok(())
+        }
+        Change::Port(direction, high, of) => {
+            let name = identifier(alloc, of)?;
+            module.ports.push(Port {
+                direction: *direction,
+                high: *high,
+                name,
+            })
+        }
+        Change::Alone(of) => {
+            let name = identifier(alloc, of)?;
+            module.ports = Items::new(alloc);
+            module.ports.push(Port {
+                direction: Direction::Output,
+                high: None,
+                name,
+            })
+        }
     }
 }
 
-// A fourth port: declared twice, wider than 64 bits, an output without a driver. And `clk` that is an output.
-#[test]
-fn ports_break_rules(rt: HostRuntime) -> Result<(), Fail> {
-    let alloc = rt.alloc();
-    let fourth = in_first(ModulePart::Port(3));
-    let mut counter = laid(alloc)?;
-    counter
-        .ports
-        .push(port(Direction::Input, None, clk(alloc)?))?;
-    assert_eq!(rt; checked(alloc, counter)?, fourth);
-    let mut counter = laid(alloc)?;
-    counter
-        .ports
-        .push(port(Direction::Input, Some(64), other(alloc)?))?;
-    assert_eq!(rt; checked(alloc, counter)?, fourth);
-    let mut counter = laid(alloc)?;
-    counter
-        .ports
-        .push(port(Direction::Output, None, other(alloc)?))?;
-    assert_eq!(rt; checked(alloc, counter)?, fourth);
-    let mut counter = laid(alloc)?;
-    counter.ports = one(alloc, port(Direction::Output, None, clk(alloc)?))?;
-    assert_eq!(rt; checked(alloc, counter)?, in_first(ModulePart::Port(0)));
-    Ok(())
+/// What the check says of the counter after a change.
+fn changed(alloc: Global, by: &Change) -> Result<Result<(), NetFault>, AllocError> {
+    let mut net = laid(alloc, false)?;
+    if let Some(mut counter) = net.modules.pop() {
+        apply(alloc, &mut counter, by)?;
+        net.modules.push(counter)?;
+    }
+    Ok(check_net(alloc, &net))
 }
 
-// Without ports, without `clk`, a `$write` in a module that is not `top` and has no instance.
-#[test]
-fn heads_break_rules(rt: HostRuntime) -> Result<(), Fail> {
-    let alloc = rt.alloc();
-    let head = in_first(ModulePart::Head);
-    let mut counter = laid(alloc)?;
-    counter.ports = Items::new(alloc);
-    assert_eq!(rt; checked(alloc, counter)?, head);
-    let mut counter = laid(alloc)?;
-    counter.ports = one(alloc, port(Direction::Output, None, done(alloc)?))?;
-    assert_eq!(rt; checked(alloc, counter)?, head);
-    let mut counter = laid(alloc)?;
-    run(alloc, &mut counter.items, print(alloc)?)?;
-    assert_eq!(rt; checked(alloc, counter)?, head);
-    Ok(())
-}
+const NINTH: ModulePart = ModulePart::Item(8);
+
+const FOURTH: ModulePart = ModulePart::Port(3);
+
+const CHANGES: [(&str, Change, ModulePart); 15] = [
+    ("declared twice", Change::Again(2), NINTH),
+    ("driven twice", Change::Again(5), NINTH),
+    ("given twice", Change::Again(6), NINTH),
+    ("written by two blocks", Change::Again(7), NINTH),
+    ("without a driver", Change::Wire, NINTH),
+    ("of two widths", Change::Copy, NINTH),
+    ("without parts", Change::Nothing, NINTH),
+    ("an instance of the module itself", Change::Instance, NINTH),
+    (
+        "a port declared twice",
+        Change::Port(Direction::Input, None, Name::Clk),
+        FOURTH,
+    ),
+    (
+        "a port wider than 64 bits",
+        Change::Port(Direction::Input, Some(64), Name::Other),
+        FOURTH,
+    ),
+    (
+        "an output without a driver",
+        Change::Port(Direction::Output, None, Name::Other),
+        FOURTH,
+    ),
+    (
+        "clk that is an output",
+        Change::Alone(Name::Clk),
+        ModulePart::Port(0),
+    ),
+    ("without ports", Change::Portless, ModulePart::Head),
+    ("without clk", Change::Alone(Name::Done), ModulePart::Head),
+    (
+        "a $write in a module that is not top and has no instance",
+        Change::Write,
+        ModulePart::Head,
+    ),
+];
 
 #[test]
-fn names_of_modules_differ(rt: HostRuntime) -> Result<(), Fail> {
-    let alloc = rt.alloc();
-    let netlist = net(alloc)?;
-    let mut net = text_of(alloc, &netlist)?;
-    net.modules.push(laid(alloc)?)?;
-    let third = NetPart::Module {
-        number: 2,
-        part: ModulePart::Head,
-    };
-    assert_eq!(rt; check_net(alloc, &net), Err(NetFault::BadNet(third)));
+fn broken_rules(rt: HostRuntime) -> Result<(), Fail> {
+    for (rule, by, part) in &CHANGES {
+        let found = changed(rt.alloc(), by)?;
+        assert!(rt; found == in_module(0, *part), "{rule}");
+    }
     Ok(())
 }

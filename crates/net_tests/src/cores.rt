@@ -1,9 +1,10 @@
 // Modules of small cores.
 
+use crate::small::name_at;
 use bank_arbiter::arbiter;
 use bank_cores::bank;
 use bank_cores::name::GlobalName;
-use netlist::netlist::Effect;
+use netlist::netlist::{Action, Effect};
 use print_core::format::Part;
 use print_core::printer;
 use sqlite_items::Items;
@@ -12,13 +13,11 @@ use std::test::Fail;
 #[test]
 fn arbiter_of_two_threads(rt: HostRuntime) -> Result<(), Fail> {
     let arbiter = arbiter::module(rt.alloc(), 2)?;
-    assert_eq!(rt; arbiter.name.as_str(), "arbiter");
-    let clock = arbiter.signals.get(0).ok_or("clk")?;
-    assert_eq!(rt; clock.name.as_str(), "clk");
-    let last_ask = arbiter.signals.get(3).ok_or("ask")?;
-    assert_eq!(rt; last_ask.name.as_str(), "ask_3");
-    let last_grant = arbiter.signals.as_slice().last().ok_or("grant")?;
-    assert!(rt; last_grant.is_output);
+    assert!(rt; arbiter.name.as_str() == "arbiter");
+    let signals = arbiter.signals.as_slice();
+    assert!(rt; name_at(signals, 0) == "clk");
+    assert!(rt; name_at(signals, 3) == "ask_3");
+    assert!(rt; matches!(signals.last(), Some(grant) if grant.is_output));
     Ok(())
 }
 
@@ -35,13 +34,17 @@ fn bank_of_two_words(rt: HostRuntime) -> Result<(), Fail> {
         initial: Items::from_slice(alloc, &[0, 7])?,
     };
     let bank = bank::module(alloc, &shape)?;
-    assert_eq!(rt; bank.name.as_str(), "bank_x_1");
-    let memory = bank.memories.get(0).ok_or("memory")?;
-    assert_eq!(rt; memory.name.as_str(), "bank_x_1");
-    assert_eq!(rt; memory.initial.as_slice(), [0, 7].as_slice());
-    let last = bank.signals.as_slice().last().ok_or("told")?;
-    assert_eq!(rt; last.name.as_str(), "told_33");
-    assert_eq!(rt; bank.actions.len(), 3);
+    assert!(rt; bank.name.as_str() == "bank_x_1");
+    match bank.memories.get(0) {
+        Some(memory) => {
+            assert!(rt; memory.name.as_str() == "bank_x_1");
+            assert!(rt; memory.initial.as_slice() == [0, 7].as_slice());
+        }
+        None => assert!(rt; false),
+    }
+    let signals = bank.signals.as_slice();
+    assert!(rt; name_at(signals, signals.len().saturating_sub(1)) == "told_33");
+    assert!(rt; bank.actions.len() == 3);
     Ok(())
 }
 
@@ -59,11 +62,15 @@ fn printer_of_one_site(rt: HostRuntime) -> Result<(), Fail> {
         sites,
     };
     let printer = printer::module(alloc, &shape)?;
-    let action = printer.actions.get(0).ok_or("action")?;
-    match &action.effect {
-        Effect::Write { text, arguments } => {
-            assert_eq!(rt; text.as_str(), "%0d\\t100%%\\n");
-            assert_eq!(rt; arguments.len(), 1);
+    match printer.actions.get(0) {
+        Some(
+            Action {
+                conditions: _,
+                effect: Effect::Write { text, arguments },
+            },
+        ) => {
+            assert!(rt; text.as_str() == "%0d\\t100%%\\n");
+            assert!(rt; arguments.len() == 1);
         }
         _ => assert!(rt; false),
     }

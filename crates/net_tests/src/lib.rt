@@ -3,6 +3,8 @@
 #![tactic(auto)]
 
 #[cfg(test)]
+mod act_cores;
+#[cfg(test)]
 mod checks;
 #[cfg(test)]
 mod cores;

@@ -1,9 +1,8 @@
-//! Tests of the layers of the planner: starts, packed rows, the table of a block, its units and registers, the plan of a code, plans
-//! side by side, and the banks of globals. They stand in a crate of their own, since a crate with tests is proved twice.
+//! Tests of the layers of the planner and of what is laid out by its plans: starts, packed rows, the table of a block, its units and
+//! registers, the plan of a code, plans side by side, and the module of a thread. They stand in a crate of their own, since a crate
+//! with tests is proved twice.
 #![tactic(auto)]
 
-#[cfg(test)]
-mod banks;
 #[cfg(test)]
 mod bindings;
 #[cfg(test)]
@@ -18,3 +17,5 @@ mod side_by_side;
 mod small;
 #[cfg(test)]
 mod table;
+#[cfg(test)]
+mod thread_module;

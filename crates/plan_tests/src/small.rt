@@ -15,7 +15,7 @@ pub fn value(number: u32) -> Source {
     Source::Value(number, CType::INT)
 }
 
-fn constant(number: i128) -> Source {
+pub fn constant(number: i128) -> Source {
     Source::Constant(CType::INT, number)
 }
 
@@ -124,7 +124,7 @@ pub fn products(alloc: Global) -> Result<Block, AllocError> {
     block(alloc, operations, 3)
 }
 
-fn add_return(stages: &mut Items<Stage>) -> Result<(), AllocError> {
+pub fn add_return(stages: &mut Items<Stage>) -> Result<(), AllocError> {
     stages.push(Stage::Act {
         act: Act::Return,
         next: 0,
@@ -136,6 +136,11 @@ pub fn code(alloc: Global, block: Block) -> Result<ThreadCode, AllocError> {
     let mut stages = Items::new(alloc);
     stages.push(Stage::Run(block))?;
     add_return(&mut stages)?;
+    with_stages(alloc, stages)
+}
+
+/// A code of one variable.
+pub fn with_stages(alloc: Global, stages: Items<Stage>) -> Result<ThreadCode, AllocError> {
     let variables = Items::from_slice(alloc, &[CType::INT])?;
     Ok(ThreadCode {
         variables,

@@ -31,7 +31,20 @@ looped_wide zero k p e way named = absurd (other_name p texts.done k e (λ z. om
 looped_wide (suc x) k p e way named = absurd (none-some p e)
 
 looped_has : HasTop texts.looped
-looped_has = record { number = 0; top = texts.looped_top; listed = refl; named = refl; place = 0; done = texts.done; done_listed = refl; done_named = refl; done_out = refl; done_bit = refl; wide = looped_wide }
+looped_has =
+    record {
+      number = 0;
+      top = texts.looped_top;
+      listed = refl;
+      named = refl;
+      place = 0;
+      done = texts.done;
+      done_listed = refl;
+      done_named = refl;
+      done_out = refl;
+      done_bit = refl;
+      wide = looped_wide;
+    }
 
 looped_told : (netlist_of texts.looped).modules ≡ nets.looped
 unfolding netlist_of module_of
@@ -51,7 +64,19 @@ counter_wide (suc (suc (suc (suc x)))) k p e way named = absurd (none-some p e)
 
 counter_has : HasTop texts.counter
 counter_has =
-    record { number = 1; top = texts.counter_top; listed = refl; named = refl; place = 3; done = texts.done; done_listed = refl; done_named = refl; done_out = refl; done_bit = refl; wide = counter_wide }
+    record {
+      number = 1;
+      top = texts.counter_top;
+      listed = refl;
+      named = refl;
+      place = 3;
+      done = texts.done;
+      done_listed = refl;
+      done_named = refl;
+      done_out = refl;
+      done_bit = refl;
+      wide = counter_wide;
+    }
 
 -- the actions of a statement of a module with these signals and memories, under no condition
 abbrev acts : List Name → List Name → Statement → List Action

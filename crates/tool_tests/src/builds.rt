@@ -1,60 +1,116 @@
 // What is built.
 
-use crate::call::told;
+use crate::call::{Row, each, told};
 use crate::programs::{COUNTING, FILLED, MAIN};
 use hls_tool::Status;
+use std::alloc::{AllocError, Global};
 use std::test::Fail;
+use std::thread::Threads;
+
+const BUILT: [Row; 6] = [
+    (
+        MAIN,
+        &["hls", "build"],
+        0,
+        "module ",
+        "hls: built, 1 threads, weight 2, ",
+    ),
+    (
+        "int main(void){int x = 6; x = x * 7; printf(\"%d\\n\", x); return 0;}",
+        &["hls", "build"],
+        0,
+        "module ",
+        "hls: built, 1 threads, weight 6, ",
+    ),
+    (
+        "int main(void){int i; for (i = 1; i < 4; i++) printf(\"%d\\n\", i); return 0;}",
+        &["hls", "build"],
+        0,
+        "module ",
+        "hls: built, 1 threads, weight 9, ",
+    ),
+    (
+        "int main(void){int x = 1 << 31; return 0;}",
+        &["hls", "build"],
+        0,
+        "module ",
+        "hls: built, 1 threads, weight ",
+    ),
+    (
+        "int a[512], b[512], c[512], d[512]; int main(void){a[d[0]] = b[c[1]]; return 0;}",
+        &["hls", "build"],
+        0,
+        "module ",
+        "hls: built, 1 threads, weight ",
+    ),
+    (
+        "int main(void){return (((((((((((((((((((((((((((((((((((((((((((((((((((((((((((((((0)))))))))))))))))))))))))))))))))))))))))))))))))))))))))))))));}",
+        &["hls", "build"],
+        0,
+        "module ",
+        "hls: built, 1 threads, weight 2, ",
+    ),
+];
 
 #[test]
 fn builds(rt: HostRuntime) -> Result<(), Fail> {
-    let alloc = rt.alloc();
-    for (text, front) in [
-        (MAIN, "hls: built, 1 threads, weight 2, "),
-        (
-            "int main(void){int x = 6; x = x * 7; printf(\"%d\\n\", x); return 0;}",
-            "hls: built, 1 threads, weight 6, ",
-        ),
-        (
-            "int main(void){int i; for (i = 1; i < 4; i++) printf(\"%d\\n\", i); return 0;}",
-            "hls: built, 1 threads, weight 9, ",
-        ),
-        (
-            "int main(void){int x = 1 << 31; return 0;}",
-            "hls: built, 1 threads, weight ",
-        ),
-        (
-            "int a[512], b[512], c[512], d[512]; int main(void){a[d[0]] = b[c[1]]; return 0;}",
-            "hls: built, 1 threads, weight ",
-        ),
-        (
-            "int main(void){return (((((((((((((((((((((((((((((((((((((((((((((((((((((((((((((((0)))))))))))))))))))))))))))))))))))))))))))))))))))))))))))))));}",
-            "hls: built, 1 threads, weight 2, ",
-        ),
-    ] {
-        let (_, out, err) = told(&rt, alloc, text, &["hls", "build"])?;
-        assert!(rt; err.held().starts_with(front.as_bytes()), "at {text}");
-        assert!(rt; out.held().starts_with(b"module "), "at {text}");
-    }
+    each(&rt, rt.alloc(), &BUILT)?;
     Ok(())
+}
+
+/// Whether a build by so many jobs writes this net.
+fn is_built<R: Threads + Sync>(
+    rt: &R,
+    alloc: Global,
+    text: &str,
+    jobs: &str,
+    net: &[u8],
+) -> Result<bool, AllocError> {
+    let words = ["hls", "build", "--jobs", jobs];
+    let (status, out, _) = told(rt, alloc, text, &words)?;
+    Ok(status == Status::Ok && out.held() == net)
 }
 
 #[test]
 fn builds_the_same_by_every_number_of_jobs(rt: HostRuntime) -> Result<(), Fail> {
-    let alloc = rt.alloc();
     for text in [MAIN, COUNTING, FILLED] {
-        let (_, plain, _) = told(&rt, alloc, text, &["hls", "build"])?;
+        let (_, plain, _) = told(&rt, rt.alloc(), text, &["hls", "build"])?;
         for jobs in ["1", "2", "16"] {
-            let words = ["hls", "build", "--jobs", jobs];
-            let (status, out, _) = told(&rt, alloc, text, &words)?;
-            assert_eq!(rt; status, Status::Ok, "at {jobs}");
-            assert_eq!(rt; out.held(), plain.held(), "at {jobs}");
+            assert!(rt;
+                is_built(&rt, rt.alloc(), text, jobs, plain.held())?,
+                "at {jobs}"
+            );
         }
     }
-    for jobs in ["0", "17", "two"] {
-        let words = ["hls", "build", "--jobs", jobs];
-        let (status, out, _) = told(&rt, alloc, MAIN, &words)?;
-        assert_eq!(rt; status.number(), 2, "at {jobs}");
-        assert!(rt; out.held().is_empty(), "at {jobs}");
-    }
+    Ok(())
+}
+
+const NO_JOBS: [Row; 3] = [
+    (
+        MAIN,
+        &["hls", "build", "--jobs", "0"],
+        2,
+        "",
+        "hls: usage\n",
+    ),
+    (
+        MAIN,
+        &["hls", "build", "--jobs", "17"],
+        2,
+        "",
+        "hls: usage\n",
+    ),
+    (
+        MAIN,
+        &["hls", "build", "--jobs", "two"],
+        2,
+        "",
+        "hls: usage\n",
+    ),
+];
+
+#[test]
+fn refuses_other_numbers_of_jobs(rt: HostRuntime) -> Result<(), Fail> {
+    each(&rt, rt.alloc(), &NO_JOBS)?;
     Ok(())
 }

@@ -3,6 +3,7 @@
 use hls_io::{MemSink, MemSource, Sink, Source};
 use hls_tool::{Outcome, Status, hls};
 use std::alloc::{AllocError, Global};
+use std::process::Abort;
 use std::thread::Threads;
 
 /// The most bytes that a sink for a text takes.
@@ -35,4 +36,37 @@ pub fn told<'a, R: Threads + Sync>(
     let mut err = MemSink::new(alloc, 1000, 4096, &[])?;
     let outcome = call(rt, alloc, words, &mut source, &mut out, &mut err)?;
     Ok((outcome.status, out, err))
+}
+
+/// A text, the words behind it, the number of the status, and what is written to out and to err: the whole where it is
+/// empty or ends a line, else how it begins.
+pub type Row = (
+    &'static str,
+    &'static [&'static str],
+    u8,
+    &'static str,
+    &'static str,
+);
+
+fn is_as(held: &[u8], expected: &str) -> bool {
+    if expected.is_empty() || expected.ends_with('\n') {
+        held == expected.as_bytes()
+    } else {
+        held.starts_with(expected.as_bytes())
+    }
+}
+
+/// Asserts each row.
+pub fn each<R: Threads + Sync + Abort>(
+    rt: &R,
+    alloc: Global,
+    rows: &[Row],
+) -> Result<(), AllocError> {
+    for (text, words, number, printed, line) in rows {
+        let (status, out, err) = told(rt, alloc, text, words)?;
+        assert!(rt; is_as(err.held(), line), "at {text}");
+        assert!(rt; is_as(out.held(), printed), "at {text}");
+        assert!(rt; status.number() == *number, "at {text}");
+    }
+    Ok(())
 }

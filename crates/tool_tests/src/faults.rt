@@ -4,95 +4,81 @@ use crate::call::{ROOM, call};
 use crate::programs::MAIN;
 use c_profile::Refusal;
 use hls_compile::Construct;
-use hls_io::{MemSink, MemSource, SureSource};
+use hls_io::{MemSink, MemSource, SureSink, SureSource};
 use hls_tool::Status;
 use std::test::Fail;
 
 #[test]
-fn answers_each_fault(rt: HostRuntime) -> Result<(), Fail> {
+fn answers_a_fault_of_the_source_or_of_the_words(rt: HostRuntime) -> Result<(), Fail> {
     let alloc = rt.alloc();
     let mut source = MemSource::new(MAIN.as_bytes(), 4, &[2]);
-    let mut out = MemSink::new(alloc, ROOM, 16, &[3])?;
+    let mut out = SureSink::new();
     let mut err = MemSink::new(alloc, 1000, 16, &[])?;
-    let faulty = call(
-        &rt,
-        alloc,
-        &["hls", "build"],
-        &mut source,
-        &mut out,
-        &mut err,
-    )?;
-    assert_eq!(rt; faulty.status, Status::ReadFault);
-    assert_eq!(rt; err.held(), b"hls: read fault\n".as_slice());
-    let usage = call(
-        &rt,
-        alloc,
-        &["hls", "step"],
-        &mut source,
-        &mut out,
-        &mut err,
-    )?;
-    assert_eq!(rt; usage.status, Status::Usage);
-    assert_eq!(rt; err.held(), b"hls: read fault\nhls: usage\n".as_slice());
-    let mut source = MemSource::new(MAIN.as_bytes(), 4, &[]);
-    let short = call(
-        &rt,
-        alloc,
-        &["hls", "build"],
-        &mut source,
-        &mut out,
-        &mut err,
-    )?;
-    assert_eq!(rt; short.status, Status::WriteFault { out: 32, err: 17 });
-    assert_eq!(rt; out.held().len(), 32);
-    assert!(rt; short.text.as_slice().starts_with(out.held()));
+    let words = ["hls", "build"];
+    let status = call(&rt, alloc, &words, &mut source, &mut out, &mut err)?.status;
+    assert!(rt; status == Status::ReadFault);
+    assert!(rt; err.held() == b"hls: read fault\n".as_slice());
+    let words = ["hls", "step"];
+    let status = call(&rt, alloc, &words, &mut source, &mut out, &mut err)?.status;
+    assert!(rt; status == Status::Usage);
+    assert!(rt; err.held() == b"hls: read fault\nhls: usage\n".as_slice());
     Ok(())
 }
+
+#[test]
+fn writes_a_front_of_the_text(rt: HostRuntime) -> Result<(), Fail> {
+    let alloc = rt.alloc();
+    let mut source = MemSource::new(MAIN.as_bytes(), 4, &[]);
+    let mut out = MemSink::new(alloc, ROOM, 16, &[3])?;
+    let words = ["hls", "build"];
+    let outcome = call(
+        &rt,
+        alloc,
+        &words,
+        &mut source,
+        &mut out,
+        &mut SureSink::new(),
+    )?;
+    assert!(rt; outcome.status == Status::WriteFault { out: 32, err: 17 });
+    assert!(rt; out.held().len() == 32);
+    assert!(rt; outcome.text.as_slice().starts_with(out.held()));
+    Ok(())
+}
+
+/// The calls of out and of err that fail, and how the call ends.
+const TAKEN: [(&[u64], &[u64], Status); 2] = [
+    (&[3], &[], Status::WriteFault { out: 32, err: 17 }),
+    (&[1], &[1], Status::WriteFault { out: 0, err: 0 }),
+];
 
 #[test]
 fn counts_what_each_sink_took(rt: HostRuntime) -> Result<(), Fail> {
     let alloc = rt.alloc();
-    for (out_fails, err_fails, status) in [
-        (
-            &[3u64][..],
-            &[][..],
-            Status::WriteFault { out: 32, err: 17 },
-        ),
-        (
-            &[1u64][..],
-            &[1u64][..],
-            Status::WriteFault { out: 0, err: 0 },
-        ),
-    ] {
+    for (out_fails, err_fails, status) in &TAKEN {
         let mut source = SureSource::new(MAIN.as_bytes(), 4096);
         let mut out = MemSink::new(alloc, ROOM, 16, out_fails)?;
         let mut err = MemSink::new(alloc, 1000, 64, err_fails)?;
-        let outcome = call(
-            &rt,
-            alloc,
-            &["hls", "build"],
-            &mut source,
-            &mut out,
-            &mut err,
-        )?;
-        assert_eq!(rt; outcome.status, status);
+        let words = ["hls", "build"];
+        let told = call(&rt, alloc, &words, &mut source, &mut out, &mut err)?.status;
+        assert!(rt; told == *status);
     }
     Ok(())
 }
 
+const NUMBERS: [(Status, u8); 8] = [
+    (Status::Ok, 0),
+    (Status::Refused(Refusal::NoMain), 1),
+    (Status::NotBuilt(Construct::Threads), 1),
+    (Status::Usage, 2),
+    (Status::ReadFault, 3),
+    (Status::WriteFault { out: 0, err: 0 }, 4),
+    (Status::Memory, 5),
+    (Status::Cycles { cycles: 0 }, 9),
+];
+
 #[test]
-fn has_a_number_for_each_status(rt: HostRuntime) -> Result<(), Fail> {
-    for (status, number) in [
-        (Status::Ok, 0),
-        (Status::Refused(Refusal::NoMain), 1),
-        (Status::NotBuilt(Construct::Threads), 1),
-        (Status::Usage, 2),
-        (Status::ReadFault, 3),
-        (Status::WriteFault { out: 0, err: 0 }, 4),
-        (Status::Memory, 5),
-        (Status::Cycles { cycles: 0 }, 9),
-    ] {
-        assert_eq!(rt; status.number(), number);
+fn has_a_number_for_each_status(rt: HostRuntime) {
+    for (status, number) in &NUMBERS {
+        assert!(rt; status.number() == *number);
     }
-    Ok(())
 }

@@ -1,6 +1,6 @@
 // What steps of the hardware print.
 
-use crate::call::told;
+use crate::call::{Row, each};
 use crate::programs::{COUNTING, FILLED};
 use std::test::Fail;
 
@@ -35,34 +35,95 @@ const INTEGERS: &str =
     if (a < one) printf(\"1\\n\"); else printf(\"0\\n\"); long long l = 9223372036854775807; unsigned long long v = 18446744073709551615ULL; \
     printf(\"%lld %llu\\n\", l, v); return 0;}";
 
+const STEPS: [Row; 12] = [
+    (
+        FIRST,
+        &["hls", "step", "--cycles", "3136"],
+        0,
+        "42\n",
+        "hls: done, ",
+    ),
+    (
+        FIRST,
+        &["hls", "step", "--cycles", "0"],
+        9,
+        "",
+        "hls: not done, 0 cycles\n",
+    ),
+    (
+        COUNTING,
+        &["hls", "step", "--cycles", "11520"],
+        0,
+        "1\n2\n3\n",
+        "hls: done, ",
+    ),
+    (
+        COUNTING,
+        &["hls", "step", "--cycles", "0"],
+        9,
+        "",
+        "hls: not done, 0 cycles\n",
+    ),
+    (
+        SQUARES,
+        &["hls", "step", "--cycles", "9000"],
+        0,
+        "13\n",
+        "hls: done, ",
+    ),
+    (
+        CALLED,
+        &["hls", "step", "--cycles", "99999"],
+        0,
+        "764\n0\n",
+        "hls: done, ",
+    ),
+    (
+        INTEGERS,
+        &["hls", "step", "--cycles", "99999"],
+        0,
+        "4294967295\n-3 -1\n-56\n4464 44\n-4\n0\n9223372036854775807 18446744073709551615\n",
+        "hls: done, ",
+    ),
+    (
+        SHORT_CIRCUIT,
+        &["hls", "step", "--cycles", "99999"],
+        0,
+        "4\n",
+        "hls: done, ",
+    ),
+    (
+        FILLED,
+        &["hls", "step", "--cycles", "99999"],
+        0,
+        "25 676 729\n",
+        "hls: done, ",
+    ),
+    (
+        SWAPPED,
+        &["hls", "step", "--cycles", "99999"],
+        0,
+        "-56 200 7 3\n",
+        "hls: done, ",
+    ),
+    (
+        REGISTERED,
+        &["hls", "step", "--cycles", "99999"],
+        0,
+        "7\n",
+        "hls: done, ",
+    ),
+    (
+        "int x;",
+        &["hls", "step", "--cycles", "9"],
+        1,
+        "",
+        "hls: refused E14: no main\n",
+    ),
+];
+
 #[test]
 fn steps(rt: HostRuntime) -> Result<(), Fail> {
-    let alloc = rt.alloc();
-    for (text, cycles, number, printed, front) in [
-        (FIRST, "3136", 0u8, "42\n", "hls: done, "),
-        (FIRST, "0", 9, "", "hls: not done, 0 cycles\n"),
-        (COUNTING, "11520", 0, "1\n2\n3\n", "hls: done, "),
-        (COUNTING, "0", 9, "", "hls: not done, 0 cycles\n"),
-        (SQUARES, "9000", 0, "13\n", "hls: done, "),
-        (CALLED, "99999", 0, "764\n0\n", "hls: done, "),
-        (
-            INTEGERS,
-            "99999",
-            0,
-            "4294967295\n-3 -1\n-56\n4464 44\n-4\n0\n9223372036854775807 18446744073709551615\n",
-            "hls: done, ",
-        ),
-        (SHORT_CIRCUIT, "99999", 0, "4\n", "hls: done, "),
-        (FILLED, "99999", 0, "25 676 729\n", "hls: done, "),
-        (SWAPPED, "99999", 0, "-56 200 7 3\n", "hls: done, "),
-        (REGISTERED, "99999", 0, "7\n", "hls: done, "),
-        ("int x;", "9", 1, "", "hls: refused E14: no main\n"),
-    ] {
-        let words = ["hls", "step", "--cycles", cycles];
-        let (status, out, err) = told(&rt, alloc, text, &words)?;
-        assert!(rt; err.held().starts_with(front.as_bytes()), "at {text}");
-        assert_eq!(rt; out.held(), printed.as_bytes(), "at {text}");
-        assert_eq!(rt; status.number(), number, "at {text}");
-    }
+    each(&rt, rt.alloc(), &STEPS)?;
     Ok(())
 }

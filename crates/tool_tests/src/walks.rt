@@ -1,6 +1,6 @@
 // What walks along lists of turns print.
 
-use crate::call::told;
+use crate::call::{Row, each};
 use crate::programs::{COUNTING, MAIN};
 use std::test::Fail;
 
@@ -30,133 +30,152 @@ const NESTING: &str =
     pthread_join(b, NULL); x = x * 2; return NULL;} int main(void){pthread_create(&a, NULL, f, NULL); pthread_join(a, NULL); printf(\"%d\\n\", x); \
     return 0;}";
 
+const WALKS: [Row; 20] = [
+    (
+        MAIN,
+        &["hls", "walk", "--threads", "0"],
+        0,
+        "",
+        "hls: ended, 1 steps\n",
+    ),
+    (
+        "int main(void){int x = 1 << 31; return 0;}",
+        &["hls", "walk", "--threads", "0"],
+        10,
+        "",
+        "hls: undefined at step 0, byte 19: shift\n",
+    ),
+    (
+        "int g[4]; int main(void){int i = 4; if (i < 4 && g[i]) i = 9; printf(\"%d\\n\", i); return 0;}",
+        &["hls", "walk", "--threads", "0*9"],
+        0,
+        "4\n",
+        "hls: ended, 5 steps\n",
+    ),
+    (
+        COUNTING,
+        &["hls", "walk", "--threads", "0*1000000"],
+        0,
+        "1\n2\n3\n",
+        "hls: ended, 16 steps\n",
+    ),
+    (
+        COUNTING,
+        &["hls", "walk", "--threads", "0*15"],
+        10,
+        "1\n2\n3\n",
+        "hls: listed, 15 steps\n",
+    ),
+    (
+        WAITING,
+        &["hls", "walk", "--threads", "0*4,1*2,0*2"],
+        10,
+        "",
+        "hls: blocked at step 7, thread 0: join\n",
+    ),
+    (
+        WAITING,
+        &["hls", "walk", "--threads", "1"],
+        10,
+        "",
+        "hls: blocked at step 0, thread 1: not running\n",
+    ),
+    (
+        WAITING,
+        &["hls", "walk", "--threads", "3"],
+        10,
+        "",
+        "hls: blocked at step 0, thread 3: not running\n",
+    ),
+    (
+        "pthread_t t; void *w(void *arg){return NULL;} int main(void){pthread_create(&t, NULL, w, NULL); return 0;}",
+        &["hls", "walk", "--threads", "0*3"],
+        10,
+        "",
+        "hls: undefined at step 2, byte 96: live thread\n",
+    ),
+    (
+        "int x; pthread_barrier_t b; int main(void){pthread_barrier_init(&b, NULL, 0); return 0;}",
+        &["hls", "walk", "--threads", "0*2"],
+        10,
+        "",
+        "hls: undefined at step 1, byte 43: barrier\n",
+    ),
+    (
+        "int main(void){int a = 0; printf(\"%d\\n\", 1 / a); return 0;}",
+        &["hls", "walk", "--threads", "0*9"],
+        10,
+        "",
+        "hls: undefined at step 1, byte 26: divisor\n",
+    ),
+    (
+        ADDING,
+        &["hls", "walk", "--threads", "0*15,1*6,2*6,3*6,0*17"],
+        0,
+        "3\n",
+        "hls: ended, 50 steps\n",
+    ),
+    (
+        SUMMING,
+        &["hls", "walk", "--threads", "0*13,1*704,2*704,0*13"],
+        0,
+        "200\n",
+        "hls: ended, 1434 steps\n",
+    ),
+    (
+        "int x; int main(void){int x = 1; {int x = 2; x++;} return x;}",
+        &["hls", "walk", "--threads", "0*9"],
+        0,
+        "",
+        "hls: ended, 4 steps\n",
+    ),
+    (
+        "int main(void){int a = -8; printf(\"%d\\n\", a >> 1); return 0;}",
+        &["hls", "walk", "--threads", "0*9"],
+        0,
+        "-4\n",
+        "hls: ended, 4 steps\n",
+    ),
+    (
+        "int main(void){int i; for (i = 0; i < 2; i++) do { break; } while (i); printf(\"%d\\n\", i); return 0;}",
+        &["hls", "walk", "--threads", "0*99"],
+        0,
+        "2\n",
+        "hls: ended, 10 steps\n",
+    ),
+    (
+        NESTING,
+        &["hls", "walk", "--threads", "0*3,1*4,2*2,1*3,0*4"],
+        0,
+        "12\n",
+        "hls: ended, 16 steps\n",
+    ),
+    (
+        "pthread_t t; void *w(void *p){pthread_join(t, NULL); return NULL;} int main(void){pthread_create(&t, NULL, w, NULL); pthread_join(t, NULL); \
+            return 0;}",
+        &["hls", "walk", "--threads", "0*2,1*2"],
+        10,
+        "",
+        "hls: undefined at step 3, byte 30: thread id\n",
+    ),
+    (
+        RACING,
+        &["hls", "walk", "--threads", "0*11,1*3,2*3"],
+        10,
+        "",
+        "hls: listed, 17 steps\n",
+    ),
+    (
+        "int x;",
+        &["hls", "walk", "--threads", "0"],
+        1,
+        "",
+        "hls: refused E14: no main\n",
+    ),
+];
+
 #[test]
 fn walks(rt: HostRuntime) -> Result<(), Fail> {
-    let alloc = rt.alloc();
-    for (text, list, number, printed, line) in [
-        (MAIN, "0", 0u8, "", "hls: ended, 1 steps\n"),
-        (
-            "int main(void){int x = 1 << 31; return 0;}",
-            "0",
-            10,
-            "",
-            "hls: undefined at step 0, byte 19: shift\n",
-        ),
-        (
-            "int g[4]; int main(void){int i = 4; if (i < 4 && g[i]) i = 9; printf(\"%d\\n\", i); return 0;}",
-            "0*9",
-            0,
-            "4\n",
-            "hls: ended, 5 steps\n",
-        ),
-        (
-            COUNTING,
-            "0*1000000",
-            0,
-            "1\n2\n3\n",
-            "hls: ended, 16 steps\n",
-        ),
-        (COUNTING, "0*15", 10, "1\n2\n3\n", "hls: listed, 15 steps\n"),
-        (
-            WAITING,
-            "0*4,1*2,0*2",
-            10,
-            "",
-            "hls: blocked at step 7, thread 0: join\n",
-        ),
-        (
-            WAITING,
-            "1",
-            10,
-            "",
-            "hls: blocked at step 0, thread 1: not running\n",
-        ),
-        (
-            WAITING,
-            "3",
-            10,
-            "",
-            "hls: blocked at step 0, thread 3: not running\n",
-        ),
-        (
-            "pthread_t t; void *w(void *arg){return NULL;} int main(void){pthread_create(&t, NULL, w, NULL); return 0;}",
-            "0*3",
-            10,
-            "",
-            "hls: undefined at step 2, byte 96: live thread\n",
-        ),
-        (
-            "int x; pthread_barrier_t b; int main(void){pthread_barrier_init(&b, NULL, 0); return 0;}",
-            "0*2",
-            10,
-            "",
-            "hls: undefined at step 1, byte 43: barrier\n",
-        ),
-        (
-            "int main(void){int a = 0; printf(\"%d\\n\", 1 / a); return 0;}",
-            "0*9",
-            10,
-            "",
-            "hls: undefined at step 1, byte 26: divisor\n",
-        ),
-        (
-            ADDING,
-            "0*15,1*6,2*6,3*6,0*17",
-            0,
-            "3\n",
-            "hls: ended, 50 steps\n",
-        ),
-        (
-            SUMMING,
-            "0*13,1*704,2*704,0*13",
-            0,
-            "200\n",
-            "hls: ended, 1434 steps\n",
-        ),
-        (
-            "int x; int main(void){int x = 1; {int x = 2; x++;} return x;}",
-            "0*9",
-            0,
-            "",
-            "hls: ended, 4 steps\n",
-        ),
-        (
-            "int main(void){int a = -8; printf(\"%d\\n\", a >> 1); return 0;}",
-            "0*9",
-            0,
-            "-4\n",
-            "hls: ended, 4 steps\n",
-        ),
-        (
-            "int main(void){int i; for (i = 0; i < 2; i++) do { break; } while (i); printf(\"%d\\n\", i); return 0;}",
-            "0*99",
-            0,
-            "2\n",
-            "hls: ended, 10 steps\n",
-        ),
-        (
-            NESTING,
-            "0*3,1*4,2*2,1*3,0*4",
-            0,
-            "12\n",
-            "hls: ended, 16 steps\n",
-        ),
-        (
-            "pthread_t t; void *w(void *p){pthread_join(t, NULL); return NULL;} int main(void){pthread_create(&t, NULL, w, NULL); pthread_join(t, NULL); \
-            return 0;}",
-            "0*2,1*2",
-            10,
-            "",
-            "hls: undefined at step 3, byte 30: thread id\n",
-        ),
-        (RACING, "0*11,1*3,2*3", 10, "", "hls: listed, 17 steps\n"),
-        ("int x;", "0", 1, "", "hls: refused E14: no main\n"),
-    ] {
-        let words = ["hls", "walk", "--threads", list];
-        let (status, out, err) = told(&rt, alloc, text, &words)?;
-        assert_eq!(rt; err.held(), line.as_bytes(), "at {text}");
-        assert_eq!(rt; out.held(), printed.as_bytes(), "at {text}");
-        assert_eq!(rt; status.number(), number, "at {text}");
-    }
+    each(&rt, rt.alloc(), &WALKS)?;
     Ok(())
 }

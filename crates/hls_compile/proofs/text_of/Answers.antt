@@ -57,8 +57,8 @@ returns-clause-threaded c =
     let written =
     subst (λ (bs : List Shape). IsWrittenOf bs c.in_ok-made.made c.in_ok-arbiter.arbiter c.in_ok-modules.modules c.in_ok-printer.printer
     c.in_ok-written.written.net c.in_ok-written.written.text) c.as_slice-4.ensures.value c.in_ok-written.ensures.written in
-    threaded_parts (program_of c.args.program.now) c.args.main.now.code c.args.main.now.plan c.in_ok-banks.banks c.in_ok-cores.cores.items c.in_ok-made.made c.in_ok-arbiter.arbiter c.in_ok-printer.printer
-    c.in_ok-modules.modules c.requires.resolved c.requires.single
+    threaded_parts (program_of c.args.program.now) c.args.main.now.code c.args.main.now.plan c.in_ok-banks.banks c.in_ok-cores.cores.items
+    c.in_ok-made.made c.in_ok-arbiter.arbiter c.in_ok-printer.printer c.in_ok-modules.modules c.requires.resolved c.requires.single
     (record { is = c.in_ok-banks.ensures.partition; are = c.in_ok-banks.ensures.banks; elements = c.in_ok-banks.ensures.elements; held = c.in_ok-banks.ensures.held })
     (cores_are c.in_ok-banks.banks c.as_slice.result.now c.in_ok-cores.cores.items c.as_slice.ensures.value c.in_ok-cores.ensures)
     (subst (λ (ss : List Spread). IsMadeOf (program_of c.args.program.now) ss c.args.main.now.code c.args.main.now.plan c.in_ok-made.made) c.as_slice-3.ensures.value c.in_ok-made.ensures)

@@ -20,4 +20,5 @@ returns-in-Ok c =
     let modules = c.args.built.now.net.modules in
     let r = c.in-Ok.ran in
     let there = subst (λ m. IsRound m (threads_of m) c.args.cycles r.cycles r.is_done r.printed) c.as_slice.ensures c.in-Ok.ensures.ok in
-    subst (λ t. IsRound modules t c.args.cycles r.cycles r.is_done r.printed) (threads_are c.requires.0 (program_of c.args.built.now.program) c.args.built.now.weight c.args.built.now.net c.args.built.now.text c.requires.1) there
+    subst (λ t. IsRound modules t c.args.cycles r.cycles r.is_done r.printed)
+    (threads_are c.requires.0 (program_of c.args.built.now.program) c.args.built.now.weight c.args.built.now.net c.args.built.now.text c.requires.1) there

@@ -1,7 +1,7 @@
 // The module of a small thread.
-use block_ir::block::{Block, Final, Next, Operation};
+use crate::small::{add_binary, add_return, block, constant, local, with_stages};
+use block_ir::block::Block;
 use block_ir::code::{Act, ActOperand, Stage, ThreadCode};
-use block_ir::operand::{Operand, Source};
 use block_ir::plan::{BlockPlan, Planned, StagePlan};
 use c_program::tree::BinaryOperator;
 use fsm_datapath::module::module;
@@ -13,43 +13,18 @@ use std::test::Fail;
 use thread_slots::shape::{Printer, Shape};
 use verilog_tree::name::Identifier;
 
-fn operand(alloc: Global, source: Source) -> Operand {
-    Operand {
-        source,
-        conversions: Items::new(alloc),
-    }
-}
-
-fn product(alloc: Global) -> Result<Items<Operation>, AllocError> {
-    let mut operations = Items::new(alloc);
-    operations.push(Operation::Binary {
-        operator: BinaryOperator::Multiply,
-        ty: CType::INT,
-        left: operand(alloc, Source::Variable(0, CType::INT)),
-        right: operand(alloc, Source::Constant(CType::INT, 7)),
-    })?;
-    Ok(operations)
-}
-
-fn finals(alloc: Global) -> Result<Items<Final>, AllocError> {
-    let mut finals = Items::new(alloc);
-    finals.push(Final {
-        variable: 0,
-        value: operand(alloc, Source::Value(0, CType::INT)),
-    })?;
-    Ok(finals)
-}
-
 /// `x = x * 7;`
-fn block(alloc: Global) -> Result<Block, AllocError> {
-    let operations = product(alloc)?;
-    let finals = finals(alloc)?;
-    Ok(Block {
-        operations,
-        finals,
-        next: Next::Jump(1),
-        steps: 1,
-    })
+fn product(alloc: Global) -> Result<Block, AllocError> {
+    let mut operations = Items::new(alloc);
+    let seven = constant(7);
+    add_binary(
+        alloc,
+        &mut operations,
+        BinaryOperator::Multiply,
+        local(),
+        seven,
+    )?;
+    block(alloc, operations, 0)
 }
 
 /// `printf("%d", x);`
@@ -61,26 +36,13 @@ fn add_print(alloc: Global, stages: &mut Items<Stage>) -> Result<(), AllocError>
     })
 }
 
-fn stages(alloc: Global) -> Result<Items<Stage>, AllocError> {
-    let mut stages = Items::new(alloc);
-    stages.push(Stage::Run(block(alloc)?))?;
-    add_print(alloc, &mut stages)?;
-    stages.push(Stage::Act {
-        act: Act::Return,
-        next: 0,
-    })?;
-    Ok(stages)
-}
-
 /// `x = x * 7; printf("%d", x);`, then a return.
 fn code(alloc: Global) -> Result<ThreadCode, AllocError> {
-    let stages = stages(alloc)?;
-    let variables = Items::from_slice(alloc, &[CType::INT])?;
-    Ok(ThreadCode {
-        variables,
-        arrays: Items::new(alloc),
-        stages,
-    })
+    let mut stages = Items::new(alloc);
+    stages.push(Stage::Run(product(alloc)?))?;
+    add_print(alloc, &mut stages)?;
+    add_return(&mut stages)?;
+    with_stages(alloc, stages)
 }
 
 /// The product in two states.
@@ -133,20 +95,20 @@ fn built(alloc: Global) -> Result<Module, AllocError> {
 #[test]
 fn ports_and_registers(rt: HostRuntime) -> Result<(), Fail> {
     let built = built(rt.alloc())?;
-    assert_eq!(rt; built.name.as_str(), "fn_main");
+    assert!(rt; built.name.as_str() == "fn_main");
     let signals = built.signals.as_slice();
-    assert_eq!(rt; signals.iter().filter(|s| s.is_output).count(), 6);
+    assert!(rt; signals.iter().filter(|s| s.is_output).count() == 6);
     for (place, width) in [(3, 2), (4, 1), (6, 32)] {
-        let register = signals.get(place).ok_or("register")?;
-        assert_eq!(rt; register.width, width);
+        assert!(rt; matches!(signals.get(place), Some(register) if register.width == width));
     }
-    for (place, name) in [(1, "en"), (5, "beat")] {
-        let signal = signals.get(place).ok_or("signal")?;
-        assert_eq!(rt; signal.name.as_str(), name);
+    for (place, name) in [
+        (1, "en"),
+        (5, "beat"),
+        (signals.len().saturating_sub(1), "done"),
+    ] {
+        assert!(rt; matches!(signals.get(place), Some(signal) if signal.name.as_str() == name));
     }
-    let done = signals.last().ok_or("done")?;
-    assert_eq!(rt; done.name.as_str(), "done");
-    assert_eq!(rt; built.actions.len(), 4);
-    assert_eq!(rt; built.instances.len(), 0);
+    assert!(rt; built.actions.len() == 4);
+    assert!(rt; built.instances.len() == 0);
     Ok(())
 }
