@@ -23,7 +23,7 @@ use Rattle.top_wiring.specs.Wired.{IsWired}
 use Rattle.top_wiring.specs.Found.{IsFound}
 use Rattle.top_wiring.proofs.Netting as netting
 use Rattle.top_wiring.proofs.Standing as standing
-use Rattle.top_wiring.proofs.Lists.{get_there}
+use Rattle.lists.proofs.Places.{get_there}
 use Rattle.top_wiring.proofs.InstanceKinds.{core_at, Kind, kind_of}
 use Rattle.top_wiring.proofs.InstanceKinds.Kind.{of_thread, of_core, of_arbiter}
 use Rattle.top_wiring.proofs.Settling.{nets_have_stages}

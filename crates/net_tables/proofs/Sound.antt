@@ -9,7 +9,7 @@ use Rattle.circuit.specs.Interfaces.{HasInterface, IsTableModule}
 use Rattle.top_wiring.specs.Parts.{ask_widths, thread_outputs, core_outputs}
 use Rattle.top_wiring.specs.Ports.{threads, thread_inputs, core_inputs, arbiter_inputs, arbiter_outputs}
 use Rattle.top_wiring.specs.Sound.{AreSound}
-use Rattle.top_wiring.proofs.Lists.{get_there}
+use Rattle.lists.proofs.Places.{get_there}
 use Rattle.bank_cores.specs.Bank.{bank_name}
 use Rattle.mutex_cores.specs.Mutex.{mutex_name}
 use Rattle.core_ports.specs.Ports as port

@@ -17,7 +17,8 @@ use Rattle.top_wiring.specs.Leaves.{IsThreadLeaf}
 use Rattle.top_wiring.specs.Machine.{IsThreadAt}
 use Rattle.top_wiring.specs.Parts.{ask_widths, told_widths, thread_outputs}
 use Rattle.top_wiring.specs.Ports.{thread_inputs}
-use Rattle.top_wiring.proofs.Lists.{get_there, flat_map_back}
+use Rattle.lists.proofs.Places.{get_there}
+use Rattle.top_wiring.proofs.Lists.{flat_map_back}
 use Rattle.core_ports.specs.Ports as port
 use Rattle.core_family.specs.Family.{CoreShape, machine_of, machine_at, port_of}
 use Rattle.core_family.proofs.Printing.{each_fits}

@@ -1,0 +1,13 @@
+pub mod ActByAct
+pub mod Common
+pub mod Locking
+pub mod Creating
+pub mod Anywhere
+pub mod Barring
+pub mod Meeting
+pub mod Mutexes
+pub mod Barriers
+pub mod Joining
+pub mod Finishing
+pub mod Printing
+pub mod Requests

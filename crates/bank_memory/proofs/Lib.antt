@@ -1,0 +1,11 @@
+pub mod Typed
+pub mod Holding
+pub mod Accessing
+pub mod Finding
+pub mod Working
+pub mod Changing
+pub mod Moving
+pub mod Owning
+pub mod Banks
+pub mod Partitioned
+pub mod Net

@@ -1,0 +1,9 @@
+//! How many hardware threads name each global of a program.
+#![tactic(auto)]
+
+ghost use Rattle.global_naming.specs.Naming.{NoMoreThanThreads};
+
+/// No more hardware threads name a global than there are.
+pub fn no_more_than_threads()
+    ensures { NoMoreThanThreads }
+{}

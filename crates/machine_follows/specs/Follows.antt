@@ -1,0 +1,95 @@
+-- The machine of a program of T threads, their modules, the banks of the globals and the cores of acts, follows the program: under every list of
+-- choices one interleaving has printed what the machine has printed, is ended where the machine is done, has taken steps by a count of cycles, and
+-- once it is ended has the globals that the banks have.
+use Rattle.std.specs.Prelude.{◌≡◌, ◌↔◌, ◌⊎◌, ℕ, suc, ◌+◌, ◌-◌, ◌/◌, ◌%◌, ◌^◌, ◌<◌, ◌≤◌, true, List, [], ◌∷◌, length, take, Some, slice_get, slice_index, ℤ}
+use Rattle.hls_ints.specs.Residues.{residue_of}
+use Rattle.hls_ints.specs.Types.{IntegerType, width_of}
+use Rattle.c_program.specs.Tree.{Program}
+use Rattle.c_program.specs.Weight.{bound}
+use Rattle.thread_semantics.specs.Memory.{element}
+use Rattle.thread_semantics.specs.State.{State}
+use Rattle.thread_semantics.specs.Step.{Steps, after, IsDeadlocked}
+use Rattle.thread_semantics.specs.Races.{IsGood}
+use Rattle.bank_partition.specs.declared.banks.Spread.{Spread}
+use Rattle.verilog_meaning.specs.Readings.{Reading, next_reading}
+use Rattle.verilog_meaning.specs.Cycles.{Choice}
+use Rattle.circuit.specs.Modules.{Obeys, Agree}
+use Rattle.circuit.specs.Machines.{ThreadMachine}
+use Rattle.circuit.specs.Wiring.{stepped, run, outputs, start}
+use Rattle.leaf_machine.specs.Leaves.{leaf_thread}
+use Rattle.block_ir.specs.Asked.{printer_core}
+use Rattle.bank_memory.specs.Partition.{globals_of}
+use Rattle.net_cycle.specs.Built.{Parts, Machine, numbers_of, core_machine, core_count, IsBuilt}
+use Rattle.net_cycle.specs.Stage.{held}
+
+module _ (K : Parts) where
+  abbrev pub machine_of_thread : ℕ → ThreadMachine
+  machine_of_thread i = leaf_thread (K.modules i) (K.leaves i)
+
+  -- an edge that leaves the beat of a thread's module leaves all its registers and memory words
+  abbrev pub TurnsBeats : Type 0
+  TurnsBeats =
+      (i : ℕ) (r : Reading) → i < K.threads → Obeys (K.modules i) r → (next_reading (K.modules i) r).signal (K.places i).beat ≡ r.signal (K.places i).beat →
+      Agree (K.modules i) r (next_reading (K.modules i) r)
+
+  -- ---- runs
+
+  abbrev pub first_machine : Machine K
+  first_machine = start K.threads (core_count K) machine_of_thread (core_machine K)
+
+  abbrev pub next_machine : Machine K → Choice → Machine K
+  next_machine h c = stepped K.threads (core_count K) machine_of_thread (core_machine K) c h
+
+  abbrev pub machine_after : List Choice → Machine K
+  machine_after choices = run K.threads (core_count K) machine_of_thread (core_machine K) first_machine choices
+
+  abbrev pub printed_after : List Choice → List ℕ
+  printed_after choices = outputs K.threads (core_count K) machine_of_thread (core_machine K) (printer_core (numbers_of K)) first_machine choices
+
+  -- ---- counted choices
+
+  -- the choice enables all threads
+  abbrev pub IsFull : Choice → Type 0
+  IsFull c = c.mask ≡ 2 ^ K.threads - 1
+
+  -- it changes a register or a memory word of a thread's module
+  abbrev pub Changes : Machine K → Choice → Type 0
+  Changes h c = (i : ℕ) × (i < K.threads) × (Agree (K.modules i) (h.slots i) ((next_machine h c).slots i) → ⊥)
+
+  -- so many of these choices enable all threads, or change one
+  pub data Counted : Machine K → List Choice → ℕ → Type 0 where
+    none : {h : Machine K} → Counted h [] 0
+    counts : {h : Machine K} {c : Choice} {choices : List Choice} {n : ℕ} → IsFull c ⊎ Changes h c → Counted (next_machine h c) choices n → Counted h (c ∷ choices) (suc n)
+    passes : {h : Machine K} {c : Choice} {choices : List Choice} {n : ℕ} → (IsFull c → ⊥) → (Changes h c → ⊥) → Counted (next_machine h c) choices n →
+        Counted h (c ∷ choices) n
+
+module _ (P : Program) (K : Parts) where
+  -- element j of the global x is a word of its bank
+  abbrev pub HasElement : Machine K → List (List ℤ) → ℕ → ℕ → Type 0
+  HasElement h values x j =
+      (s : Spread) (ty : IntegerType) (v : ℤ) → slice_get K.spreads x ≡ Some s → slice_get (globals_of P) x ≡ Some ty → element values x j ≡ Some v →
+      slice_index (held P K h (s.first + j % s.count)).words (j / s.count) ≡ residue_of (width_of ty) v
+
+  -- after these choices the machine, with out printed, is where these steps lead
+  pub record Matches (h : Machine K) (out steps : List ℕ) (choices : List Choice) : Type 0 where
+    pub state : State
+    pub after_ : after P steps ≡ Steps state
+    pub printed : out ≡ state.output
+    pub done : ((machine_of_thread K 0).is_done (h.slots 0) ≡ true) ↔ (state.ended ≡ true)
+    pub globals : state.ended ≡ true → (x j : ℕ) → HasElement h state.globals x j
+    pub progress : (state.ended ≡ true)
+        ⊎ (IsDeadlocked P state
+        ⊎ (((c : Choice) → IsFull K c → Changes K h c) × ((n : ℕ) → Counted K (first_machine K) choices n → n / bound P ≤ length steps + K.threads)))
+
+  -- one interleaving, of which each moment of the run has a beginning that matches it
+  pub record Follows (choices : List Choice) : Type 0 where
+    pub interleaving : List ℕ
+    pub steps : ℕ → ℕ
+    pub rises : (n : ℕ) → steps n ≤ steps (suc n)
+    pub rests : (n : ℕ) (c : Choice) → slice_get choices n ≡ Some c → (Changes K (machine_after K (take n choices)) c → ⊥) → steps (suc n) ≡ steps n
+    pub matches : (n : ℕ) → n ≤ length choices →
+        Matches (machine_after K (take n choices)) (printed_after K (take n choices)) (take (steps n) interleaving) (take n choices)
+
+-- THE MACHINE FOLLOWS: what is built of a good program follows it, whatever the choices
+abbrev pub MachineFollows : Type 0
+MachineFollows = (P : Program) (K : Parts) → IsBuilt P K → TurnsBeats K → IsGood P → (choices : List Choice) → Follows P K choices

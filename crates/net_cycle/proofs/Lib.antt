@@ -1,0 +1,15 @@
+pub mod Cores
+pub mod Banks
+pub mod Steps
+pub mod Going
+pub mod Next
+pub mod Winning
+pub mod Handing
+pub mod Printing
+pub mod Granting
+pub mod Turning
+pub mod Waking
+pub mod Cycling
+pub mod Fitting
+pub mod Clocking
+pub mod Starting

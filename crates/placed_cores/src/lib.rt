@@ -1,0 +1,11 @@
+//! The cores of a program's hardware as a table of modules has them, each with the place of its module and its number.
+#![tactic(auto)]
+
+pub mod layout;
+
+ghost use Rattle.placed_cores.specs.Placing.{CoresArePlaced};
+
+/// In a table of these cores and their modules each core has its module, and each module stands once, for some core.
+pub fn cores_are_placed()
+    ensures { CoresArePlaced }
+{}

@@ -1,0 +1,12 @@
+pub mod Agreeing
+pub mod Feeding
+pub mod Same
+pub mod Winning
+pub mod Resting
+pub mod Bits
+pub mod Fields
+pub mod Alone
+pub mod Written
+pub mod Stuck
+pub mod Steadiness
+pub mod Stateless

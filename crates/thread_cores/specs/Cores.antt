@@ -1,0 +1,91 @@
+-- The cores as the theory of planned hardware has them, by the machine's numbers: when one may grant what an act asks, what a grant does, and
+-- what a thread is told.
+use Rattle.std.specs.Prelude.{ℕ, Bool, true, false, nat_eq, nat_lt, if◌then◌else◌, List, [], ◌∷◌, ◌++◌, decimal, Option, Some, None, slice_get, slice_index}
+use Rattle.std.specs.Fmt.{signed_decimal}
+use Rattle.hls_ints.specs.Words.{signed_word}
+use Rattle.c_program.specs.Tree.{Piece}
+use Rattle.block_ir.specs.Asked.{Asked, Numbers, barrier_core, ids_core, first_word, second_word}
+use Rattle.core_states.specs.Machines.{Lock, lock_eligible, lock_after, Gate, gate_eligible, gate_after, IdTable, ids_eligible, ids_after}
+
+-- of a bank nothing is said: what banks have is the memory and the words of slots
+pub data Core : Type 0 where
+  OfBank : Core
+  OfMutex : (lock : Lock) → Core
+  OfBarrier : (gate : Gate) → Core
+  OfIds : (ids : IdTable) → Core
+  OfPrinter : (bytes : List ℕ) → Core
+
+-- ---- what is granted, and what a grant does
+
+-- what a format prints of words of 64 bits: the number that a word spells in two's complement where the conversion is
+-- signed, and the word itself where it is not
+abbrev pub printed_words : List Piece → List ℕ → List ℕ
+printed_words [] ws = []
+printed_words (Piece.Text bytes ∷ pieces) ws = bytes ++ printed_words pieces ws
+printed_words (Piece.Conversion ty ∷ pieces) [] = printed_words pieces []
+printed_words (Piece.Conversion ty ∷ pieces) (w ∷ ws) = (if ty.signed then signed_decimal (signed_word 64 w) else decimal w) ++ printed_words pieces ws
+
+-- where there is such a format
+abbrev pub text_at : Option (List Piece) → List ℕ → List ℕ
+text_at None ws = []
+text_at (Some format) ws = printed_words format ws
+
+-- whether the core may grant thread i what it asks
+abbrev pub may_grant : Core → ℕ → Asked → Bool
+may_grant OfBank i a = false
+may_grant (OfMutex l) i a = lock_eligible l a.number
+may_grant (OfBarrier g) i a = gate_eligible g i a.number
+may_grant (OfIds t) i a = ids_eligible t a.number (first_word a.values)
+may_grant (OfPrinter bytes) i a = true
+
+-- threads is how many there are, formats those of the text by number
+module _ (threads : ℕ) (formats : List (List Piece)) where
+  -- the core after a grant to thread i
+  abbrev pub granted : Core → ℕ → Asked → Core
+  granted OfBank i a = OfBank
+  granted (OfMutex l) i a = OfMutex (lock_after l i a.number)
+  granted (OfBarrier g) i a = OfBarrier (gate_after threads g i a.number (first_word a.values))
+  granted (OfIds t) i a = OfIds (ids_after t i a.number (first_word a.values) (second_word a.values))
+  granted (OfPrinter bytes) i a = OfPrinter (bytes ++ text_at (slice_get formats a.number) a.values)
+
+  -- and all cores after it: core k has changed
+  abbrev pub core_after : ℕ → ℕ → Asked → (ℕ → Core) → ℕ → Core
+  core_after k i a c j = if nat_eq j k then granted (c j) i a else c j
+
+-- ---- what a thread is told
+
+-- a core that is no barrier's has none that wait, and one that is not that of the ids has none that run
+abbrev pub no_gate : Gate
+no_gate = record { count = 0; waiting = [] }
+
+abbrev pub no_ids : IdTable
+no_ids = record { statuses = []; arguments = [] }
+
+abbrev pub gate_in : Core → Gate
+gate_in (OfBarrier g) = g
+gate_in _ = no_gate
+
+abbrev pub ids_in : Core → IdTable
+ids_in (OfIds t) = t
+ids_in _ = no_ids
+
+abbrev pub status_in : Core → ℕ → ℕ
+status_in k i = slice_index (ids_in k).statuses i
+
+abbrev pub argument_in : Core → ℕ → ℕ
+argument_in k i = slice_index (ids_in k).arguments i
+
+abbrev pub waits_in : Core → ℕ → Bool
+waits_in k i = nat_lt 0 (slice_index (gate_in k).waiting i)
+
+module _ (N : Numbers) (c : ℕ → Core) where
+  -- the status of thread i, 0 unused, 1 running, 2 finished; and its argument, a word of 64 bits
+  abbrev pub status_at : ℕ → ℕ
+  status_at i = status_in (c (ids_core N)) i
+
+  abbrev pub argument_at : ℕ → ℕ
+  argument_at i = argument_in (c (ids_core N)) i
+
+  -- whether barrier n says that thread i waits
+  abbrev pub waits_bit : ℕ → ℕ → Bool
+  waits_bit n i = waits_in (c (barrier_core N n)) i

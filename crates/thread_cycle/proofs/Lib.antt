@@ -1,0 +1,5 @@
+pub mod Standing
+pub mod Moving
+pub mod Asking
+pub mod Staying
+pub mod Stepping
