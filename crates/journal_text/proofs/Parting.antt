@@ -27,7 +27,8 @@ spelled_more old new line e good is added same counted lines before =
           (subst (λ (es : List Entry). AreSpelled (lines ++ line ∷ []) es) (sym added) now);
     }
 
-pub misspelt_here : (old new : Reading) (line : List ℕ) → old.bad ≡ None → ((e : Entry) → Spells line e → ⊥) → new.entries.items ≡ old.entries.items → new.bad ≡ Some old.lines → new.lines ≡ old.lines + 1
+pub misspelt_here : (old new : Reading) (line : List ℕ) → old.bad ≡ None → ((e : Entry) → Spells line e → ⊥) → new.entries.items ≡ old.entries.items → new.bad ≡
+    Some old.lines → new.lines ≡ old.lines + 1
     → ReadsOn old line new
 misspelt_here old new line good none kept bad counted lines before =
     let spelled : AreSpelled lines old.entries.items = subst (AreRead lines old.entries.items) good before.read in

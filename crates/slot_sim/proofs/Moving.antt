@@ -67,7 +67,8 @@ module _ (r : Running) (st : Stands r) (threads i : ℕ) (threaded : IsThreadedI
     next = state_of (advanced (settled_run (alone i) r));
     out = cycle.0;
     cycle = cycle.1;
-    changes = t.closed_moves (state_of r) (state_of (advanced (settled_run (alone i) r))) (alone i) cycle.0 i (is_state r st tells.top tells.is_top) (alone_is_choice threads i l) l cycle.1 (set_here i)
+    changes = t.closed_moves (state_of r) (state_of (advanced (settled_run (alone i) r))) (alone i) cycle.0 i (is_state r st tells.top tells.is_top)
+        (alone_is_choice threads i l) l cycle.1 (set_here i)
         (subst (λ n. Needs r.modules tells.top threads (state_of r) (alone i) i n) closed needs);
   }
 
@@ -116,7 +117,8 @@ module _ (r s t n : Running) (st : Stands r) (threads i : ℕ) (net : IsSameNet 
   pub moves_on : (IsSameSlotOf threads i s n → ⊥) → Moving threads i r
   moves_on differs = told (λ is.
       let back : IsSameSlot r.modules st.top threads i (state_of s) (state_of n) =
-      in_trans r.modules st.top (slot r.modules st.top threads i) (state_of s) (state_of r) (state_of n) (in_sym r.modules st.top (slot r.modules st.top threads i) (state_of r) (state_of s) first_same) is in
+      in_trans r.modules st.top (slot r.modules st.top threads i) (state_of s) (state_of r) (state_of n) (in_sym r.modules st.top (slot r.modules st.top threads i)
+      (state_of r) (state_of s) first_same) is in
       differs (record {
         top = st.top;
         is_top = ap top_of net.modules ∙ st.is_top;

@@ -99,7 +99,8 @@ module _ (r o : Running) (st : Stands r) (net : IsSameNet r o) (outer : Path) (p
         let small : i' < memory_words (slice_get m'.memories j') = subst (λ (n : ℕ). i' < n) (sym (ap memory_words at')) less' in
         elsewhere k q at (st.apart.words (place_of r.parts path) q is.0 p' m m' j j' i i' is.1 is' less small e).0
 
-  register_kept : (path : Path) → ((inner : Path) → path ≢ inner ++ outer) → (m : Module) (x : ℕ) (s : Signal) → IsAt r.modules st.top path m x s → (state_of r path).signal x ≡ (state_of new path).signal x
+  register_kept : (path : Path) → ((inner : Path) → path ≢ inner ++ outer) → (m : Module) (x : ℕ) (s : Signal) → IsAt r.modules st.top path m x s →
+      (state_of r path).signal x ≡ (state_of new path).signal x
   register_kept path other m x s at =
       let is = part_is r st path m at.stands in
       let p = is.0 in

@@ -63,7 +63,8 @@ memories_stay xs ys starts first (m ∷ memories) z l e =
     memories_stay xs (taken xs ys p n) starts (first + 1) memories z (subst (λ k. z < k) (sym (taken_long xs ys p n)) l) (stays xs ys p n z l e)
 
 memories_inside : (xs ys starts : List ℕ) (first : ℕ) (memories : List Memory) (j k : ℕ) (s : Memory) → slice_get memories j ≡ Some s → k < length s.initial
-    → slice_index starts (first + j) + k < length ys → slice_index (taken_memories xs ys starts first memories) (slice_index starts (first + j) + k) ≡ slice_index xs (slice_index starts (first + j) + k)
+    → slice_index starts (first + j) + k < length ys → slice_index (taken_memories xs ys starts first memories) (slice_index starts (first + j) + k) ≡ slice_index xs
+    (slice_index starts (first + j) + k)
 memories_inside xs ys starts first [] j k s at less l = absurd cc
 memories_inside xs ys starts first (m ∷ memories) zero k s at less l =
     let same : m ≡ s = cc in

@@ -34,7 +34,8 @@ number_fits r o place net st top e path m x s at i is =
 
 pub word_fits : (r o : Running) (place : ℕ) → IsSameNet r o → Stands o → FitsWordAt r place (slice_index o.words place)
 word_fits r o place net st top e path m j k s at l is =
-    let parts_are : place_of_word o path j k ≡ slice_index r.starts ((spot_at o.parts path).memories + j) + k = ap (λ (ss : List ℕ). slice_index ss ((spot_at o.parts path).memories + j) + k) net.starts in
+    let parts_are : place_of_word o path j k ≡ slice_index r.starts ((spot_at o.parts path).memories + j) + k = ap (λ (ss : List ℕ). slice_index ss
+    ((spot_at o.parts path).memories + j) + k) net.starts in
     let there : place_of_word o path j k ≡ place = parts_are ∙ ap (λ (ps : List Part). slice_index r.starts ((spot_at ps path).memories + j) + k) net.parts ∙ is in
     subst (λ (p : ℕ). slice_index o.words p < 2 ^ s.width) there (st.state.words path m j k s (memory_there r o net st top e path m j s at) l)
 

@@ -34,8 +34,10 @@ pub fn same_registers(left: &Sim, right: &Sim, base: usize, signals: &[Signal]) 
 }
 
 fn differs(left: &Sim, right: &Sim, first: usize, memory: usize, word: u64) -> bool
-    ensures apart { result ≡ true → nat_eq (slice_index left.now.words (slice_index left.now.starts (first + memory) + word)) (slice_index right.now.words (slice_index right.now.starts (first + memory) + word)) ≡ false }
-    ensures alike { result ≡ false → nat_eq (slice_index left.now.words (slice_index left.now.starts (first + memory) + word)) (slice_index right.now.words (slice_index right.now.starts (first + memory) + word)) ≡ true }
+    ensures apart { result ≡ true → nat_eq (slice_index left.now.words (slice_index left.now.starts (first + memory) + word))
+        (slice_index right.now.words (slice_index right.now.starts (first + memory) + word)) ≡ false }
+    ensures alike { result ≡ false → nat_eq (slice_index left.now.words (slice_index left.now.starts (first + memory) + word))
+        (slice_index right.now.words (slice_index right.now.starts (first + memory) + word)) ≡ true }
 {
     left.word_of(first, memory, word) != right.word_of(first, memory, word)
 }

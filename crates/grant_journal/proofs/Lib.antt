@@ -1,0 +1,5 @@
+pub mod Framed
+pub mod Keeping
+pub mod Commits
+pub mod Offering
+pub mod Turning

@@ -1,0 +1,3 @@
+pub mod Entries
+pub mod Redoing
+pub mod Replaying

@@ -1,0 +1,5 @@
+//! A journal done again.
+#![tactic(auto)]
+
+pub mod replay;
+pub mod steps;

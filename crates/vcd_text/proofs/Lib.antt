@@ -1,0 +1,5 @@
+pub mod Bytes
+pub mod Ids
+pub mod Injective
+pub mod Lines
+pub mod Recovering

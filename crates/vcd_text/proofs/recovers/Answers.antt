@@ -1,0 +1,5 @@
+use Rattle.vcd_text.proofs.Recovering as recovering
+use Rattle.vcd_text.proofs.recovers.Goals as goal
+
+pub returns : goal.returns
+returns c = recovering.recovers
