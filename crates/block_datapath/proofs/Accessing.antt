@@ -3,6 +3,8 @@ use Rattle.std.proofs.Common.{◌≡◌, ◌≢◌, ℕ, ◌+◌, ◌/◌, ◌%�
 use Rattle.std.proofs.Common.{if◌then◌else◌, List, [], ◌∷◌, ◌++◌, length, slice_get, slice_index, Option, Some, None, ℤ, pos}
 use Rattle.std.proofs.Common.{refl, sym, ap, subst, ◌∙◌, arith, ⊎_elim, inl, inr, max, length-append, add-one}
 use Rattle.std.proofs.lemmas.Nat.{pow_pos}
+use Rattle.std.proofs.lemmas.Bool.{eqb-true, and_parts}
+use Rattle.std.proofs.lemmas.Option.{slice_get_within}
 use Rattle.interleaving.proofs.Update.{same_or_not}
 use Rattle.hls_ints.specs.Residues.{residue_of, bit_of}
 use Rattle.hls_ints.specs.Types.{IntegerType, width_of, long_int, wrapped}
@@ -55,7 +57,6 @@ use Rattle.block_datapath.specs.Accesses.{IsAskRight, AsksBlock, IsAskingBlock}
 use Rattle.right_plan.proofs.Waiting.{request_is_slow}
 use Rattle.block_datapath.proofs.Walking.{listed_view, within_view, uses_source, got_before, got_last}
 use Rattle.block_datapath.proofs.Wiring.{one_more, registers_after, values_after, sources_after, word_stands_after}
-use Rattle.block_datapath.proofs.Chaining.{within_list}
 use Rattle.block_datapath.proofs.Requesting.{same_asked, not_yet, bank_chains_after}
 
 -- ---- values in registers
@@ -129,17 +130,6 @@ zeros_more a b c values g t u base low =
 
 -- ---- conditions
 
-left_of : (t u : Bool) → (t && u) ≡ true → t ≡ true
-left_of true u e = refl
-left_of false u e = absurd cc
-
-right_of : (t u : Bool) → (t && u) ≡ true → u ≡ true
-right_of true u e = e
-right_of false u e = absurd cc
-
-same_number : (x n : ℕ) → nat_eq x n ≡ true → x ≡ n
-same_number x n e = grind arith
-
 passed : {A : Type 0} (t x c : Bool) (by old : A) → (t && x) ≡ false → old ≡ (if t && (x && c) then by else old)
 passed true true c by old e = absurd cc
 passed true false c by old e = refl
@@ -192,7 +182,7 @@ module _ (registers : Registers) (types : List IntegerType) (values : List Given
       by m r at now variables given shown j many grown o is low fits as_many less seen true e =
           let access : BankAccess = record { state = state; writes = flag; address = address; value = value.place } in
           let on : r.signal state ≡ 1 = t.shows m r at now (to_b m grown) o is low ∙ ap bit_of e in
-          let see = seen (left_of at (nat_eq now moment.state) e) (same_number now moment.state (right_of at (nat_eq now moment.state) e)) in
+          let see = seen (and_parts at (nat_eq now moment.state) e).0 (eqb-true now moment.state (and_parts at (nat_eq now moment.state) e).1) in
           let first = u.shows m r variables given (to_c m grown) o see.0 in
           let long = v.shows m r (operand_type index) (seen_value variables given index) (to_d m grown) o first in
           let i = index_number variables given index in
@@ -423,7 +413,7 @@ module _ (globals : List IntegerType) (spreads : List Spread) (code : ThreadCode
       value_kept : (j : ℕ) (o : Operation) → Uses (operation_at (planned_view b) n) j → slice_get b.operations j ≡ Some o →
           IsValue m r registers values (slice_index p.starts n) j (value_type globals code o) (value_now (planned_view b) (plan_view b p) q wire j)
       value_kept j o u listed =
-          let found = are.each j o (within_list b.operations j o listed) listed in
+          let found = are.each j o (slice_get_within b.operations j o listed) listed in
           let given : Given = found.0 in
           let is : IsRegistered globals code p j o given = found.2 in
           let small = within_view b.operations j o listed in

@@ -3,6 +3,7 @@ use Rattle.std.proofs.Common.{◌≡◌, ◌≢◌, ℕ, zero, suc, ◌+◌, ◌
 use Rattle.std.proofs.Common.{None, refl, sym, ap, subst, ◌∙◌, arith, ⊎_elim, add-one}
 use Rattle.std.specs.Prelude.{Result, Ok, Err, IfOk, OnOk}
 use Rattle.std.proofs.Math.Nat.{mod-eq_of_lt}
+use Rattle.std.proofs.lemmas.Bool.{eqb-true}
 use Rattle.interleaving.proofs.Update.{same_or_not}
 use Rattle.netlist.specs.declared.netlist.Signal.{Signal}
 use Rattle.verilog_meaning.specs.Readings.{width}
@@ -35,10 +36,6 @@ and_bits false false = refl
 pub set_bit : (t : Bool) → not (nat_eq (bit_of t) 0) ≡ t
 set_bit true = refl
 set_bit false = refl
-
-and_false : (t : Bool) → (t && false) ≡ false
-and_false true = refl
-and_false false = refl
 
 only_where : (t u v : Bool) → (t ≡ true → u ≡ v) → (t && u) ≡ (t && v)
 only_where true u v h = h refl
@@ -114,11 +111,6 @@ pub on_ok : {A E : Type 0} (x : Result A E) (P Q : Type 0) → (P → Q) → OnO
 on_ok (Ok a) P Q h p = h p
 on_ok (Err e) P Q h p = tt
 
-pub within_list : {X : Type 0} (xs : List X) (k : ℕ) (x : X) → slice_get xs k ≡ Some x → k < length xs
-within_list [] k x e = absurd cc
-within_list (y ∷ xs) zero x e = omega arith
-within_list (y ∷ xs) (suc k) x e = let h = within_list xs k x e in omega arith
-
 not_within : {X : Type 0} (xs : List X) (k : ℕ) → slice_get xs k ≡ None → k < length xs → ⊥
 not_within [] k e h = absurd (omega arith)
 not_within (y ∷ xs) zero e h = absurd cc
@@ -154,9 +146,6 @@ choose c b i d S K O e f h = ap (λ k. if c && k then S else O) e ∙ chosen c b
 
 eq_turned : (x n : ℕ) → nat_eq n x ≡ nat_eq x n
 eq_turned x n = ⊎_elim (λ e. same_is n x (sym e) ∙ sym (same_is x n e)) (λ ne. other_is n x (λ e. ne (sym e)) ∙ sym (other_is x n ne)) (same_or_not x n)
-
-is_same : (x n : ℕ) → nat_eq x n ≡ true → x ≡ n
-is_same x n e = grind arith
 
 pub keep_none : (a : List Signal) (registers : Registers) (at states : ℕ) (before : List ℕ) (g : Given) → g.register ≡ None → KeepsOne a a registers at states before before g
 keep_none a registers at states before g e = record {
@@ -201,7 +190,7 @@ keep_linked a b c d registers moment states before after g number condition sour
       ∙ choose (nat_eq x number) (k && nat_eq s g.last) (is_set r condition) (is_register g.register x) (r.signal source)
       (kept_number r (held_width (slice_get registers.kept x)) (Some g)) (next_number r before x) bit named
       (λ h bits.
-      let w : held_width (slice_get registers.kept x) ≡ held.width = ap (λ n. held_width (slice_get registers.kept n)) (is_same x number h) ∙ ap held_width listed in
+      let w : held_width (slice_get registers.kept x) ≡ held.width = ap (λ n. held_width (slice_get registers.kept n)) (eqb-true x number h) ∙ ap held_width listed in
       u.shows m r later o (can.wide bits) ∙ ap (λ n. resized_word false g.word.width n (r.signal g.word.place)) (sym w));
   rests = λ m r x grows o wide off less.
       let later = grows_then c d m.signals v.grows grows in

@@ -1,6 +1,9 @@
 -- The end of a block as the planned block has it.
 use Rattle.std.proofs.Common.{◌≡◌, ◌≢◌, ℕ, zero, suc, ◌-◌, ◌^◌, ◌<◌, ◌≤◌, Bool, true, false, ◌&&◌, nat_eq, if◌then◌else◌}
 use Rattle.std.proofs.Common.{List, [], ◌∷◌, length, slice_get, Some, ℤ, pos, negsuc, refl, sym, ap, subst, ◌∙◌, arith, inl, inr, ⊎_elim, max, min}
+use Rattle.std.proofs.lemmas.Option.{slice_get_within}
+use Rattle.std.proofs.lemmas.Bool.{eqb-true}
+use mathlib.Core.Bool.{and-true, and-false}
 use Rattle.interleaving.specs.Memory.{Location}
 use Rattle.interleaving.proofs.Update.{same_or_not}
 use Rattle.netlist.specs.declared.netlist.Signal.{Signal}
@@ -39,7 +42,6 @@ use Rattle.block_datapath.specs.Chains.{next_number, TellsStage, IsMoment, Tells
 use Rattle.block_datapath.specs.Ending.{IsFinal, ShowsFinals, next_stage, SeesTest, ShowsNext, finishes_in, finish_number, SetsFirst}
 use Rattle.block_datapath.specs.Leave.{HasStage, IsInStage, RestsSo, FinishesBlock}
 use Rattle.block_datapath.proofs.Walking.{value_here, uses_source, first_grown, first_from}
-use Rattle.block_datapath.proofs.Chaining.{within_list}
 
 -- ---- lists of finals
 
@@ -58,14 +60,6 @@ last_of-shift : (test : ℕ → Bool) (number : ℕ → ℕ) (old n : ℕ)
     → last_of test number old (suc n) ≡ last_of (λ k. test (suc k)) (λ k. number (suc k)) (if test 0 then number 0 else old) n
 last_of-shift test number old zero = refl
 last_of-shift test number old (suc n) = ap (λ z. if test (suc n) then number (suc n) else z) (last_of-shift test number old n)
-
-and_true : (t : Bool) → (t && true) ≡ t
-and_true true = refl
-and_true false = refl
-
-and_false : (t : Bool) → (t && false) ≡ false
-and_false true = refl
-and_false false = refl
 
 -- the finish of each final is of its variable, and of x it shows the value
 abbrev Finishes : Reading → ℕ → ℕ → (PlannedOperand → ℤ) → List Final → List Finish → Type 0
@@ -90,7 +84,7 @@ one_final : (r : Reading) (x w old : ℕ) (value : PlannedOperand → ℤ) (f : 
     → (f.variable ≡ x → r.signal o.word.place ≡ residue_of w (value (operand_view f.value)))
     → (if nat_eq x o.variable && true then r.signal o.word.place else old) ≡ residue_of w (if nat_eq x f.variable then value (operand_view f.value) else after x)
 one_final r x w old value f o after e variable shows =
-    ap (λ (t : Bool). if t then r.signal o.word.place else old) (and_true (nat_eq x o.variable) ∙ ap (nat_eq x) variable)
+    ap (λ (t : Bool). if t then r.signal o.word.place else old) (and-true (nat_eq x o.variable) ∙ ap (nat_eq x) variable)
     ∙ ⊎_elim here there (same_or_not x f.variable)
   where
     here : x ≡ f.variable → (if nat_eq x f.variable then r.signal o.word.place else old) ≡ residue_of w (if nat_eq x f.variable then value (operand_view f.value) else after x)
@@ -190,9 +184,6 @@ last_is s states below =
     ∙ ⊎_elim (λ e. same_is s (states - 1) e ∙ sym (same_is (suc s) states (omega arith))) (λ ne. other_is s (states - 1) ne ∙ sym (other_is (suc s) states (λ e. ne (omega arith))))
     (same_or_not s (states - 1))
 
-is_same : (x n : ℕ) → nat_eq x n ≡ true → x ≡ n
-is_same x n e = grind arith
-
 module _ (globals : List IntegerType) (code : ThreadCode) (registers : Registers) (l : ℕ) (b : Block) (p : BlockPlan) (s0 s1 s2 s3 s4 s5 s6 : List Signal) (before after : List ℕ)
     (values : List Given) (finishes : List Finish) (end : Moment) (last target : ℕ) (state : end.state ≡ max 1 p.states - 1) (states : end.states ≡ max 1 p.states)
     (tells_stage : TellsStage s0 s1 registers l end.at) (first : ShowsFirst globals code registers b p s1 s2 (length b.operations) values)
@@ -235,7 +226,7 @@ module _ (globals : List IntegerType) (code : ThreadCode) (registers : Registers
         variables = λ x less.
             sets.shows m r false x g o never less
             ∙ last_of-none (λ k. finishes_in (slice_get finishes k) x && false) (λ k. finish_number r (slice_get finishes k)) (next_number r before x) (length finishes)
-            (λ k. and_false (finishes_in (slice_get finishes k) x));
+            (λ k. and-false (finishes_in (slice_get finishes k) x));
       }
 
   module _ (bank : Location → ℕ) (m : Module) (r : Reading) (q : Slot) (wire : ℕ → ℤ) (right : IsRight globals code registers b p) (g : Grows s6 m.signals) (o : Obeys m r)
@@ -278,7 +269,7 @@ module _ (globals : List IntegerType) (code : ThreadCode) (registers : Registers
       finish_at : (at_end : suc q.state ≡ p.states) (x : ℕ) (ty : IntegerType) → slice_get code.variables x ≡ Some ty
           → Finishes r x (width_of ty) (operand_now (planned_view b) (plan_view b p) q wire) b.finals finishes
       finish_at at_end x ty declared k f listed =
-          let t = finals.each k f (within_list b.finals k f listed) listed in
+          let t = finals.each k f (slice_get_within b.finals k f listed) listed in
           let is : IsFinal registers code values end.state s3 f t.0 = t.2 in
           (t.0, t.1, is.variable, λ same. (finish_word at_end x ty k f t.0 declared listed is same).shows)
 
@@ -287,8 +278,8 @@ module _ (globals : List IntegerType) (code : ThreadCode) (registers : Registers
       typed_by true x ty e declared typed =
           finals_typed ty x (operand_now (planned_view b) (plan_view b p) q wire) b.finals q.variables
           (λ k f listed same.
-          let t = finals.each k f (within_list b.finals k f listed) listed in
-          (finish_word (is_same (suc q.state) p.states e) x ty k f t.0 declared listed t.2 same).typed) typed
+          let t = finals.each k f (slice_get_within b.finals k f listed) listed in
+          (finish_word (eqb-true (suc q.state) p.states e) x ty k f t.0 declared listed t.2 same).typed) typed
       typed_by false x ty e declared typed = typed
 
       variables_by : (t : Bool) (x : ℕ) (ty : IntegerType) → nat_eq (suc q.state) p.states ≡ t → slice_get code.variables x ≡ Some ty
@@ -298,10 +289,10 @@ module _ (globals : List IntegerType) (code : ThreadCode) (registers : Registers
       variables_by true x ty e declared rest =
           ap (last_of (λ k. finishes_in (slice_get finishes k) x && true) (λ k. finish_number r (slice_get finishes k)) (next_number r before x)) finals.count
           ∙ finals_last r x (width_of ty) (operand_now (planned_view b) (plan_view b p) q wire) b.finals finishes (next_number r before x) q.variables
-          (finish_at (is_same (suc q.state) p.states e) x ty declared) rest
+          (finish_at (eqb-true (suc q.state) p.states e) x ty declared) rest
       variables_by false x ty e declared rest =
           last_of-none (λ k. finishes_in (slice_get finishes k) x && false) (λ k. finish_number r (slice_get finishes k)) (next_number r before x) (length finishes)
-          (λ k. and_false (finishes_in (slice_get finishes k) x))
+          (λ k. and-false (finishes_in (slice_get finishes k) x))
           ∙ rest
 
       variables_at : (x : ℕ) (ty : IntegerType) → slice_get code.variables x ≡ Some ty → x < length before → next_number r before x ≡ residue_of (width_of ty) (q.variables x)

@@ -2,6 +2,8 @@
 use Rattle.std.proofs.Common.{◌≡◌, ◌≢◌, ℕ, zero, suc, ◌%◌, ◌^◌, ◌<◌, ◌≤◌, Bool, true, false, ◌&&◌, nat_eq, nat_lt, if◌then◌else◌}
 use Rattle.std.proofs.Common.{List, [], ◌∷◌, length, slice_get, Option, Some, None, ℤ, refl, sym, ap, subst, ◌∙◌, arith, ◌⊎◌, inl, inr, ⊎_elim, max}
 use Rattle.std.proofs.Math.Nat.{mod-eq_of_lt}
+use Rattle.std.proofs.lemmas.Option.{slice_get_within}
+use Rattle.std.proofs.lemmas.Bool.{eqb-true, and_from, and_parts}
 use Rattle.interleaving.specs.Memory.{Location}
 use Rattle.interleaving.proofs.Update.{same_or_not}
 use Rattle.netlist.specs.declared.netlist.Signal.{Signal}
@@ -35,7 +37,6 @@ use Rattle.block_datapath.specs.Operations.{SeesSlot, IsFed, IsRight, IsShown, S
 use Rattle.block_datapath.specs.Chains.{next_number, IsMoment, held_width, keeps_in, kept_number, CanKeep, KeepsFirst}
 use Rattle.block_datapath.specs.Leave.{HasRoom, KeepsBlock, HasStage, IsInStage, FinishesBlock, LeavesBlock}
 use Rattle.block_datapath.proofs.Walking.{within_view, first_grown}
-use Rattle.block_datapath.proofs.Chaining.{within_list}
 
 -- ---- the last that passes
 
@@ -57,25 +58,9 @@ last_of-one test number old (suc n) k lt hit one =
     let other : n ≢ k = λ s. let clash : true ≡ false = sym hit ∙ ap test (sym s) ∙ e in absurd cc in
     last_of-one test number old n k (omega arith) hit (λ j less. one j (omega arith)))
 
-is_same : (x n : ℕ) → nat_eq x n ≡ true → x ≡ n
-is_same x n e = grind arith
-
 named : (o : Option ℕ) (x : ℕ) → is_register o x ≡ true → o ≡ Some x
 named None x e = absurd cc
-named (Some y) x e = ap Some (is_same y x e)
-
-left_true : (t u : Bool) → (t && u) ≡ true → t ≡ true
-left_true true u e = refl
-left_true false u e = absurd cc
-
-right_true : (t u : Bool) → (t && u) ≡ true → u ≡ true
-right_true true u e = e
-right_true false u e = absurd cc
-
-and_two : (t u : Bool) → t ≡ true → u ≡ true → (t && u) ≡ true
-and_two true true e f = refl
-and_two true false e f = absurd cc
-and_two false u e f = absurd cc
+named (Some y) x e = ap Some (eqb-true y x e)
 
 -- zeros above
 widened : (t : Bool) (from to n : ℕ) → from ≤ to → nat_lt to from ≡ t → resized_word false from to n ≡ n
@@ -107,7 +92,7 @@ module _ (globals : List IntegerType) (code : ThreadCode) (registers : Registers
 
       operation_of : (j : ℕ) (v : Given) → slice_get values j ≡ Some v → Of j v
       operation_of j v listed =
-          let below : j < length b.operations = subst (λ (n : ℕ). j < n) first.count (within_list values j v listed) in
+          let below : j < length b.operations = subst (λ (n : ℕ). j < n) first.count (slice_get_within values j v listed) in
           let found = got_one b.operations j below in
           let t = first.each j found.0 below found.1 in
           let same : t.0 ≡ v = (let h = t.1 in cc) in
@@ -126,7 +111,7 @@ module _ (globals : List IntegerType) (code : ThreadCode) (registers : Registers
           record {
             below = omega arith;
             wide = λ e.
-                let here : last_state (planned_view b) (plan_view b p) j ≡ q.state = sym (is_same q.state v.last e ∙ last) in
+                let here : last_state (planned_view b) (plan_view b p) j ≡ q.state = sym (eqb-true q.state v.last e ∙ last) in
                 (t.shown.shows bank m r q wire right earlier o sees wired here).wide ∙ sym t.shown.says;
           }
 
@@ -143,11 +128,11 @@ module _ (globals : List IntegerType) (code : ThreadCode) (registers : Registers
       gets x j None e hit = absurd cc
       gets x j (Some v) e hit =
           let t = operation_of j v e in
-          let ends = left_true (nat_eq q.state v.last) (is_register v.register x) hit in
-          let name = right_true (nat_eq q.state v.last) (is_register v.register x) hit in
+          let ends = (and_parts (nat_eq q.state v.last) (is_register v.register x) hit).0 in
+          let name = (and_parts (nat_eq q.state v.last) (is_register v.register x) hit).1 in
           record {
             small = within_view b.operations j t.operation t.listed;
-            ends = sym (is_same q.state v.last ends ∙ t.shown.last right);
+            ends = sym (eqb-true q.state v.last ends ∙ t.shown.last right);
             register = sym t.shown.register ∙ named v.register x name;
           }
 
@@ -162,7 +147,7 @@ module _ (globals : List IntegerType) (code : ThreadCode) (registers : Registers
         chain =
             let place = room.room k x t.operation t.listed t.register in
             let count = room.count in
-            let inside = within_list registers.kept x place.0 place.1 in
+            let inside = slice_get_within registers.kept x place.0 place.1 in
             kept.shows m r true q.state x g o moment can (omega arith) count
 
         -- no other value gets the register
@@ -183,15 +168,15 @@ module _ (globals : List IntegerType) (code : ThreadCode) (registers : Registers
             × HasType (value_type globals code t.operation) (registers_after x)
         now e =
             let place = room.room k x t.operation t.listed t.register in
-            let found = first.each k t.operation (within_list b.operations k t.operation t.listed) t.listed in
+            let found = first.each k t.operation (slice_get_within b.operations k t.operation t.listed) t.listed in
             let v : Given = found.0 in
             let is : IsShown globals code registers b p s1 k t.operation v = found.2 in
             let ty = value_type globals code t.operation in
             let word = is.shows bank m r q wire right earlier o sees wired e in
             let ends : nat_eq q.state v.last ≡ true = same_is q.state v.last (sym (is.last right ∙ e)) in
             let name : is_register v.register x ≡ true = ap (λ (z : Option ℕ). is_register z x) (is.register ∙ t.register) ∙ same_is x x refl in
-            let hit : test x k ≡ true = ap (λ (z : Option Given). keeps_in z true q.state x) found.1 ∙ and_two (nat_eq q.state v.last) (is_register v.register x) ends name in
-            let below : k < length values = subst (λ (n : ℕ). k < n) (sym first.count) (within_list b.operations k t.operation t.listed) in
+            let hit : test x k ≡ true = ap (λ (z : Option Given). keeps_in z true q.state x) found.1 ∙ and_from (nat_eq q.state v.last) (is_register v.register x) ends name in
+            let below : k < length values = subst (λ (n : ℕ). k < n) (sym first.count) (slice_get_within b.operations k t.operation t.listed) in
             let one : (j : ℕ) → j < length values → test x j ≡ true → j ≡ k = λ j less h. ⊎_elim (λ s. s) (λ z. absurd z) (alone j (gets x j (slice_get values j) refl h)) in
             let w = held_width (slice_get registers.kept x) in
             let wide : w ≡ place.0.width = ap held_width place.1 in

@@ -2,6 +2,7 @@
 use Rattle.std.proofs.Common.{◌≡◌, ℕ, zero, suc, ◌<◌, ◌≤◌, ◌^◌, ◌⊎◌, inl, inr, ⊎_elim, true, false, List, [], ◌∷◌}
 use Rattle.std.proofs.Common.{◌++◌, length, slice_get, slice_set, Some, None, max, refl, sym, ap, subst, ◌∙◌, arith}
 use Rattle.std.specs.Prelude.{Result, IfOk}
+use Rattle.lists.proofs.Places.{get_there}
 use Rattle.netlist.specs.declared.netlist.Signal.{Signal}
 use Rattle.hls_ints.specs.Types.{IntegerType, width_of}
 use Rattle.block_ir.specs.declared.code.ThreadCode.{ThreadCode}
@@ -44,11 +45,6 @@ set_at (u ∷ a) (suc j) v zero y e = inr e
 set_at (u ∷ a) (suc j) v (suc x) y e =
     ⊎_elim (λ (l : (x ≡ j) × (v ≡ y)). inl (ap suc l.0, l.1)) (λ (r : slice_get a x ≡ Some y). inr r) (set_at a j v x y e)
 
-there : {X : Type 0} (xs : List X) (k : ℕ) → k < length xs → (x : X) × (slice_get xs k ≡ Some x)
-there [] k l = absurd (omega arith)
-there (x ∷ xs) zero l = (x, refl)
-there (x ∷ xs) (suc k) l = there xs k (omega arith)
-
 -- ---- chains
 
 pub chains_after : (a b : List Signal) (base : Base) (registers : List Held) (nexts : List ℕ) → Grows a b → AreChains a base registers nexts → AreChains b base registers nexts
@@ -64,7 +60,7 @@ pub link_set : (a b : List Signal) (number width condition source old next : ℕ
     → ChoiceAdds a b width condition source old next → after ≡ slice_set before number next → IsLinked a b number width condition source before after
 link_set a b number width condition source old next before after listed within t is base registers chains wide e f =
     let count = chains.count in
-    let h = there registers number (omega arith) in
+    let h = get_there registers number (omega arith) in
     let w : h.0.width ≡ width = wide h.0 h.1 in
     let last : IsEarlier a base old width = subst (λ n. IsEarlier a base old n) w (chains.each number old h.0 h.1 listed) in
     let made = t base e f last in

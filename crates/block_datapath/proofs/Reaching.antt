@@ -2,7 +2,7 @@
 use Rattle.std.proofs.Common.{◌≡◌, ◌≢◌, ℕ, zero, suc, ◌+◌, ◌%◌, ◌<◌, ◌≤◌, nat_eq, Bool, true, false, ◌&&◌}
 use Rattle.std.proofs.Common.{if◌then◌else◌, List, length, slice_get, slice_index, Option, Some, None, ℤ}
 use Rattle.std.proofs.Common.{refl, sym, ap, subst, ◌∙◌, arith, ◌⊎◌, ⊎_elim}
-use Rattle.std.proofs.lemmas.Bool.{cases_lt}
+use Rattle.std.proofs.lemmas.Bool.{cases_lt, and_parts, eqb-true}
 use Rattle.hls_ints.specs.Types.{IntegerType}
 use Rattle.bank_partition.specs.declared.banks.Spread.{Spread}
 use Rattle.block_ir.specs.declared.operand.Operand.{Operand}
@@ -43,14 +43,6 @@ last_miss test value old (suc n) none = by (test n) refl (last_miss test value o
     by true q rest = absurd (none n (omega arith) q)
     by false q rest = ap (λ (c : Bool). if c then value n else last_of test value old n) q ∙ rest
 
-both_true : (t u : Bool) → (t && u) ≡ true → (t ≡ true) × (u ≡ true)
-both_true true true e = (refl, refl)
-both_true true false e = absurd cc
-both_true false u e = absurd cc
-
-is_number : (x n : ℕ) → nat_eq x n ≡ true → x ≡ n
-is_number x n e = grind arith
-
 -- banks of different globals are different ones
 abbrev pub AreApart : List Spread → Type 0
 AreApart spreads =
@@ -86,7 +78,7 @@ module _ (globals : List IntegerType) (spreads : List Spread) (code : ThreadCode
   spread_named : (s : Option Spread) (i : Operand) (j : ℕ) → is_bank s (index_number q.variables given i) j ≡ true →
       (t : Spread) × (s ≡ Some t) × (j ≡ t.first + index_number q.variables given i % t.count)
   spread_named None i j e = absurd cc
-  spread_named (Some t) i j e = (t, refl, is_number j (t.first + index_number q.variables given i % t.count) e)
+  spread_named (Some t) i j e = (t, refl, eqb-true j (t.first + index_number q.variables given i % t.count) e)
 
   of_operation : (j k : ℕ) (o : Operation) → slice_get b.operations k ≡ Some o → q.state ≡ slice_index p.starts k → reaches_bank q.variables given globals spreads o j ≡ true →
       Reaches j k
@@ -123,8 +115,8 @@ module _ (globals : List IntegerType) (spreads : List Spread) (code : ThreadCode
 
   pub reaching : (j k : ℕ) → reaches_now globals spreads code registers l b p q wire j k ≡ true → Reaches j k
   reaching j k e =
-      let two = both_true (nat_eq q.state (slice_index p.starts k)) (reaches_in q.variables given globals spreads (slice_get b.operations k) j) e in
-      by (slice_get b.operations k) refl (is_number q.state (slice_index p.starts k) two.0) two.1
+      let two = and_parts (nat_eq q.state (slice_index p.starts k)) (reaches_in q.variables given globals spreads (slice_get b.operations k) j) e in
+      by (slice_get b.operations k) refl (eqb-true q.state (slice_index p.starts k) two.0) two.1
     where
       by : (o : Option Operation) → slice_get b.operations k ≡ o → q.state ≡ slice_index p.starts k → reaches_in q.variables given globals spreads o j ≡ true → Reaches j k
       by None listed at h = absurd cc

@@ -1,6 +1,8 @@
 -- Operations that ask in a state of a block, and the banks that they ask.
 use Rattle.std.proofs.Common.{◌≡◌, ℕ, zero, suc, ◌+◌, ◌/◌, ◌%◌, ◌<◌, ◌≤◌, ◌^◌, nat_eq, Bool, true, false, ◌&&◌, List, [], ◌∷◌, length, slice_get, slice_index, Option, Some, ℤ, pos}
 use Rattle.std.proofs.Common.{refl, sym, ap, subst, ◌∙◌, arith}
+use Rattle.std.proofs.lemmas.Bool.{and_parts, and_from, eqb-true}
+use Rattle.lists.proofs.Places.{get_there}
 use Rattle.interleaving.specs.Memory.{Location}
 use Rattle.hls_ints.specs.Residues.{residue_of, bit_of}
 use Rattle.hls_ints.specs.Types.{IntegerType, HasType, width_of}
@@ -29,27 +31,9 @@ use Rattle.block_datapath.specs.Accesses.{is_bank, address_in, reaches_bank, ask
 use Rattle.block_datapath.proofs.Banking.{bank_read, bank_written, address_read, address_written}
 use Rattle.block_datapath.proofs.Walking.{listed_view}
 
-some_at : {X : Type 0} (xs : List X) (i : ℕ) → i < length xs → (x : X) × (slice_get xs i ≡ Some x)
-some_at [] i h = absurd (omega arith)
-some_at (x ∷ xs) zero h = (x, refl)
-some_at (x ∷ xs) (suc i) h = some_at xs i (omega arith)
-
 pub view_count : (os : List Operation) → length (operations_view os) ≡ length os
 view_count [] = refl
 view_count (o ∷ os) = ap suc (view_count os)
-
-both_true : (t u : Bool) → (t && u) ≡ true → (t ≡ true) × (u ≡ true)
-both_true true true e = (refl, refl)
-both_true true false e = absurd cc
-both_true false u e = absurd cc
-
-both_from : (t u : Bool) → t ≡ true → u ≡ true → (t && u) ≡ true
-both_from true true p q = refl
-both_from true false p q = absurd cc
-both_from false u p q = absurd cc
-
-is_number : (x n : ℕ) → nat_eq x n ≡ true → x ≡ n
-is_number x n e = grind arith
 
 binary_asks_not : (o : BinaryOperator) (f : ℤ → ℤ → ℤ) → is_request (binary_kind o f) ≡ false
 binary_asks_not operator.Multiply f = refl
@@ -89,7 +73,7 @@ module _ (globals : List IntegerType) (spreads : List Spread) (code : ThreadCode
   reach_so : (k : ℕ) (o : Operation) (j : ℕ) → slice_get b.operations k ≡ Some o → slice_index p.starts k ≡ q.state → reaches_bank q.variables given globals spreads o j ≡ true
       → reaches_now globals spreads code registers l b p q wire j k ≡ true
   reach_so k o j listed at e =
-      both_from (nat_eq q.state (slice_index p.starts k)) (reaches_in q.variables given globals spreads (slice_get b.operations k) j)
+      and_from (nat_eq q.state (slice_index p.starts k)) (reaches_in q.variables given globals spreads (slice_get b.operations k) j)
       (same_is q.state (slice_index p.starts k) (sym at))
       (ap (λ (s : Option Operation). reaches_in q.variables given globals spreads s j) listed ∙ e)
 
@@ -179,7 +163,7 @@ module _ (globals : List IntegerType) (spreads : List Spread) (code : ThreadCode
     -- WHO ASKS
     pub asker_of : (k : ℕ) → k < size (planned_view b) → asks (planned_view b) (plan_view b p) q k ≡ true → Asker k
     asker_of k below e =
-        let two = both_true (is_request (operation_at (planned_view b) k).kind) (nat_eq ((plan_view b p).start k) q.state) e in
-        let o = some_at b.operations k (subst (λ n. k < n) (view_count b.operations) below) in
+        let two = and_parts (is_request (operation_at (planned_view b) k).kind) (nat_eq ((plan_view b p).start k) q.state) e in
+        let o = get_there b.operations k (subst (λ n. k < n) (view_count b.operations) below) in
         let view : operation_at (planned_view b) k ≡ operation_view o.0 = listed_view b.operations k o.0 o.1 in
-        of_operation k o.0 o.1 (ap (λ (z : PlannedOperation). is_request z.kind) (sym view) ∙ two.0) (is_number ((plan_view b p).start k) q.state two.1)
+        of_operation k o.0 o.1 (ap (λ (z : PlannedOperation). is_request z.kind) (sym view) ∙ two.0) (eqb-true ((plan_view b p).start k) q.state two.1)

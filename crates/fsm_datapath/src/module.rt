@@ -2,8 +2,8 @@
 
 ghost use Rattle.std.specs.Prelude.{IfOk};
 ghost use Rattle.thread_runs.specs.Runs.{RunsServedCode};
-ghost use Rattle.thread_sound.specs.Shape.{HasShapeOfServedCode};
 ghost use Rattle.thread_sound.specs.Leaf.{IsLeafOfServedCode};
+ghost use Rattle.thread_sound.specs.Routine.{IsRoutineOfServedCode};
 ghost use Rattle.thread_steady.specs.Steady.{IsSteadyServedCode};
 
 use block_ir::code::ThreadCode;
@@ -21,8 +21,8 @@ pub fn module(
     planned: &Planned,
 ) -> Result<Module, AllocError>
     ensures runs { IfOk result (RunsServedCode shape.now code.now planned.now) }
-    ensures shape { IfOk result (HasShapeOfServedCode shape.now code.now planned.now) }
     ensures leaf { IfOk result (IsLeafOfServedCode shape.now code.now planned.now) }
+    ensures routine { IfOk result (IsRoutineOfServedCode shape.now code.now planned.now) }
     ensures steady { IfOk result (IsSteadyServedCode shape.now code.now planned.now) }
 {
     assembled(alloc, shape, code, planned)

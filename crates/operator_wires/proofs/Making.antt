@@ -8,6 +8,7 @@ use Rattle.verilog_tree.specs.declared.tree.BinaryOperator.{BinaryOperator as Ga
 use Rattle.netlist.specs.declared.netlist.Signal.{Signal}
 use Rattle.netlist.specs.declared.netlist.Module.{Module}
 use Rattle.verilog_meaning.specs.Readings.{Reading, width, binary}
+pub use Rattle.std.proofs.lemmas.Result.{IfOk-weaker as of_ok}
 use Rattle.hls_ints.specs.Residues.{residue_of}
 use Rattle.hls_ints.specs.Types.{IntegerType, width_of, wrapped}
 use Rattle.hls_ints.specs.Words.{word_difference, word_complement, word_equal}
@@ -21,11 +22,6 @@ use Rattle.operator_wires.specs.Words.{IsWord, Makes, Holds, TestsZero, Becomes,
 use Rattle.operator_wires.specs.Numbers.{less_number}
 use Rattle.operator_wires.proofs.Giving.{grows_refl, grows_then}
 use Rattle.operator_wires.proofs.Resizing.{gives_after}
-
--- a weaker fact of an answer
-pub of_ok : {A E : Type 0} (x : Result A E) (P Q : A → Type 0) → ((a : A) → P a → Q a) → IfOk x P → IfOk x Q
-of_ok (Ok a) P Q h p = h a p
-of_ok (Err e) P Q h p = tt
 
 -- a word at a place
 pub makes_at : (a b : List Signal) (w place : ℕ) (signed : Bool) (f : Module → Reading → ℕ) (out : Word) → Gives a b place w f → out.place ≡ place → out.width ≡ w → out.signed ≡ signed

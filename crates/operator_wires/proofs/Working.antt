@@ -1,6 +1,7 @@
 -- Words of operators behind others.
 use Rattle.std.proofs.Common.{◌≡◌, ℕ, ◌≤◌, true, false, List, refl, sym, subst, ◌∙◌, arith}
 use Rattle.std.specs.Prelude.{Result, Ok, Err, IfOk}
+use Rattle.std.proofs.lemmas.Result.{IfOk-weaker}
 use Rattle.c_program.specs.declared.tree.UnaryOperator.{UnaryOperator}
 use Rattle.c_program.specs.declared.tree.UnaryOperator.TheVariants.{Plus}
 use Rattle.c_program.specs.declared.tree.BinaryOperator.{BinaryOperator}
@@ -20,11 +21,6 @@ use Rattle.operator_wires.specs.Added.{IsAdded, ConstantAdds, NotAdds, BinaryAdd
 use Rattle.operator_wires.specs.Added.{GateAdds, UnaryAdds, OwnAdds, RightAdds}
 use Rattle.operator_wires.proofs.Building.{stands_after, room_of, wires_then, adds_after}
 use Rattle.operator_wires.proofs.Wording.{some, own, stands_as_after, word_like, word_none, word_after}
-
--- a weaker fact of an answer
-of_ok : {A E : Type 0} (x : Result A E) (P Q : A → Type 0) → ((a : A) → P a → Q a) → IfOk x P → IfOk x Q
-of_ok (Ok a) P Q h p = h a p
-of_ok (Err e) P Q h p = tt
 
 -- ---- wires of operators
 
@@ -59,7 +55,7 @@ two_right a base ty left right v is also h =
 pub division_adds : {E : Type 0} (x : Result ℕ E) (a b : List Signal) (operator : DivisionOperator) (left right : Word) → IfOk x (IsAdded a b left.width (Division operator left.place right.place))
     → IfOk x (QuotientOf a b left right)
 division_adds x a b operator left right t =
-    of_ok x (IsAdded a b left.width (Division operator left.place right.place)) (QuotientOf a b left right)
+    IfOk-weaker x (IsAdded a b left.width (Division operator left.place right.place)) (QuotientOf a b left right)
     (λ place u base ty is also.
     u base (two_right a base ty left right (Division operator left.place right.place) is also
     (λ e f. record { room = room_of a base left.place left.width e; low = e.low; high = e.high; fits = (e, f); selects = tt }))) t
@@ -67,7 +63,7 @@ division_adds x a b operator left right t =
 pub signed_division_adds : {E : Type 0} (x : Result ℕ E) (a b : List Signal) (operator : DivisionOperator) (left right : Word)
     → IfOk x (IsAdded a b left.width (SignedDivision operator left.place right.place)) → IfOk x (QuotientOf a b left right)
 signed_division_adds x a b operator left right t =
-    of_ok x (IsAdded a b left.width (SignedDivision operator left.place right.place)) (QuotientOf a b left right)
+    IfOk-weaker x (IsAdded a b left.width (SignedDivision operator left.place right.place)) (QuotientOf a b left right)
     (λ place u base ty is also.
     u base (two_right a base ty left right (SignedDivision operator left.place right.place) is also
     (λ e f. record { room = room_of a base left.place left.width e; low = e.low; high = e.high; fits = (e, f); selects = tt }))) t
@@ -85,11 +81,11 @@ sign_shifted_adds a b left right out place t at wide sign base ty k is also =
 
 pub shifted_adds : {E : Type 0} (x : Result Word E) (a b : List Signal) (left right : Word) → IfOk x (GateAdds a b gate.ShiftRight left right) → IfOk x (LikeLeft a b left right)
 shifted_adds x a b left right t =
-    of_ok x (GateAdds a b gate.ShiftRight left right) (LikeLeft a b left right) (λ out u base ty k is also. u base ty is (is.stands, (width_of k, also.stands))) t
+    IfOk-weaker x (GateAdds a b gate.ShiftRight left right) (LikeLeft a b left right) (λ out u base ty k is also. u base ty is (is.stands, (width_of k, also.stands))) t
 
 pub signed_less_adds : {E : Type 0} (x : Result ℕ E) (a b : List Signal) (left right : Word) → IfOk x (IsAdded a b 1 (SignedLess left.place right.place)) → IfOk x (BitOfTwo a b left right)
 signed_less_adds x a b left right t =
-    of_ok x (IsAdded a b 1 (SignedLess left.place right.place)) (BitOfTwo a b left right)
+    IfOk-weaker x (IsAdded a b 1 (SignedLess left.place right.place)) (BitOfTwo a b left right)
     (λ place u base ty is also.
     u base (record {
       room = room_of a base left.place (width_of ty) is.stands;
@@ -101,7 +97,7 @@ signed_less_adds x a b left right t =
 
 pub less_adds : {E : Type 0} (x : Result ℕ E) (a b : List Signal) (left right : Word) → IfOk x (BinaryAdds a b gate.Less 1 left.place right.place) → IfOk x (BitOfTwo a b left right)
 less_adds x a b left right t =
-    of_ok x (BinaryAdds a b gate.Less 1 left.place right.place) (BitOfTwo a b left right) (λ place u base ty is also. u base (refl, (width_of ty, is.stands, also.stands))) t
+    IfOk-weaker x (BinaryAdds a b gate.Less 1 left.place right.place) (BitOfTwo a b left right) (λ place u base ty is also. u base (refl, (width_of ty, is.stands, also.stands))) t
 
 -- a bit of two words, and then what it tells
 pub truth_after : (a b c : List Signal) (left right out : Word) (bit : ℕ) → BitOfTwo a b left right bit → TruthOf b c bit out → TruthOfTwo a c left right out
@@ -132,7 +128,7 @@ plus_kept a word operator e = subst (λ (o : UnaryOperator). UnaryAdds a a o wor
 pub unary_adds : {E : Type 0} (x : Result Word E) (a b c : List Signal) (operator : UnaryOperator) (ty : IntegerType) (word middle : Word) → IsConverted a b word ty middle
     → IfOk x (UnaryAdds b c operator middle) → IfOk x (IsConverted a c word (unary_result operator ty))
 unary_adds x a b c operator ty word middle t u =
-    of_ok x (UnaryAdds b c operator middle) (IsConverted a c word (unary_result operator ty))
+    IfOk-weaker x (UnaryAdds b c operator middle) (IsConverted a c word (unary_result operator ty))
     (λ out made base from is.
     let first = t base from is in
     word_after base a b c (unary_result operator ty) out first.wires (made base ty first.word)) u
@@ -140,7 +136,7 @@ unary_adds x a b c operator ty word middle t u =
 own_arm : {E : Type 0} (x : Result Word E) (a b : List Signal) (left right : Word) (operator known : BinaryOperator) (P : Word → Type 0) → operator ≡ known
     → ((out : Word) → P out → OwnAdds a b known left right out) → IfOk x P → IfOk x (OwnAdds a b operator left right)
 own_arm x a b left right operator known P e h t =
-    subst (λ (o : BinaryOperator). IfOk x (OwnAdds a b o left right)) (sym e) (of_ok x P (OwnAdds a b known left right) h t)
+    subst (λ (o : BinaryOperator). IfOk x (OwnAdds a b o left right)) (sym e) (IfOk-weaker x P (OwnAdds a b known left right) h t)
 
 pub gate_arm : {E : Type 0} (x : Result Word E) (a b : List Signal) (left right : Word) (operator known : BinaryOperator) (g : Gate) → operator ≡ known
     → IfOk x (GateAdds a b g left right) → ((s : IntegerType) → binary_result known s ≡ s) → is_shift known ≡ false
@@ -160,7 +156,7 @@ shift_arm x a b left right operator known e t same =
 
 pub shift_left : {E : Type 0} (x : Result Word E) (a b : List Signal) (left right : Word) → IfOk x (GateAdds a b gate.ShiftLeft left right) → IfOk x (LikeLeft a b left right)
 shift_left x a b left right t =
-    of_ok x (GateAdds a b gate.ShiftLeft left right) (LikeLeft a b left right) (λ out u base ty k is also. u base ty is (is.stands, (width_of k, also.stands))) t
+    IfOk-weaker x (GateAdds a b gate.ShiftLeft left right) (LikeLeft a b left right) (λ out u base ty k is also. u base ty is (is.stands, (width_of k, also.stands))) t
 
 pub division_arm : {E : Type 0} (x : Result Word E) (a b : List Signal) (left right : Word) (operator known : BinaryOperator) → operator ≡ known → IfOk x (LikeTwo a b left right)
     → ((s : IntegerType) → binary_result known s ≡ s) → is_shift known ≡ false → IfOk x (OwnAdds a b operator left right)
@@ -192,13 +188,13 @@ right_kept a operator ty right shift base t is = record { kind = t; is_right = �
 pub right_converted : {E : Type 0} (x : Result Word E) (a b : List Signal) (operator : BinaryOperator) (ty : IntegerType) (right : Word) → IfOk x (IsConverted a b right ty)
     → IfOk x (RightAdds a b operator ty right)
 right_converted x a b operator ty right t =
-    of_ok x (IsConverted a b right ty) (RightAdds a b operator ty right) (λ out u base from is. record { kind = ty; is_right = λ none. refl; adds = u base from is }) t
+    IfOk-weaker x (IsConverted a b right ty) (RightAdds a b operator ty right) (λ out u base from is. record { kind = ty; is_right = λ none. refl; adds = u base from is }) t
 
 pub binary_adds : {E : Type 0} (x : Result Word E) (a b c d : List Signal) (operator : BinaryOperator) (ty : IntegerType) (left right first second : Word) → IsConverted a b left ty first
     → RightAdds b c operator ty right second → IfOk x (OwnAdds c d operator first second)
     → IfOk x (IsOfTwo a d left right (binary_result operator ty))
 binary_adds x a b c d operator ty left right first second t u v =
-    of_ok x (OwnAdds c d operator first second)
+    IfOk-weaker x (OwnAdds c d operator first second)
     (IsOfTwo a d left right (binary_result operator ty))
     (λ out made base s k is also.
     let one = t base s is in

@@ -96,7 +96,7 @@ product_is bits_64 a b = product_at w64 a b
 zero_minus : (a : ℤ) → pos 0 -ℤ a ≡ neg_ℤ a
 zero_minus a = omega (arith, ints)
 
-residue_of-zero : (w : ℕ) → residue_of w (pos 0) ≡ 0
+pub residue_of-zero : (w : ℕ) → residue_of w (pos 0) ≡ 0
 residue_of-zero w = let z = pow_pos w in residue_of-word w 0 ∙ mod-eq_of_lt z
 
 pub negation_is : (W : Width) (a : ℤ) → word_difference (bits W) 0 (residue_of (bits W) a) ≡ residue_of (bits W) (neg_ℤ a)

@@ -4,7 +4,7 @@ use Rattle.std.proofs.Math.Nat.{mod-eq_of_lt, div-eq_of_lt, mul-add-mod_self_lef
 use Rattle.std.proofs.lemmas.Nat.{pow_pos, pow-add}
 use Rattle.hls_ints.specs.Residues.{residue_of}
 use Rattle.hls_ints.specs.Types.{Width, HasType, bits}
-use Rattle.hls_ints.proofs.Ranges.{bits-at_least}
+use Rattle.hls_ints.proofs.Conversions.{at_least_1, double}
 use Rattle.verilog_meaning.specs.Readings.{repeated}
 use Rattle.operator_words.specs.Shown.{LowBitsShow, ZerosShow, SignShows}
 use Rattle.operator_words.proofs.Typed.{signed_type, unsigned_type}
@@ -77,10 +77,6 @@ with_zeros_are W to (pos n) h t =
     mod-eq_of_lt below ∙ sym (mod-eq_of_lt more)
 with_zeros_are W to (negsuc n) h t = absurd cc
 
-pub half : (w : ℕ) → 1 ≤ w → 2 ^ w ≡ 2 ^ (w - 1) + 2 ^ (w - 1)
-half zero h = absurd (omega arith)
-half (suc w) h = let e : suc w - 1 ≡ w = omega arith in rw e (two-pow-succ w)
-
 one_half : (h y : ℕ) → y < h → (h + y) / h ≡ 1
 one_half h y below =
     let some : 0 < h = omega arith in
@@ -91,7 +87,7 @@ one_half h y below =
 with_sign_pos : (w to n : ℕ) → 1 ≤ w → w ≤ to → n < 2 ^ (w - 1) →
     repeated (to - w) 1 (((n % 2 ^ w) / 2 ^ (w - 1)) % 2 ^ 1) * 2 ^ w + n % 2 ^ w ≡ n % 2 ^ to
 with_sign_pos w to n one h below =
-    let two = half w one in
+    let two = double w one in
     let wider = pow_le {i = w} {j = to} h in
     let small : n % 2 ^ w ≡ n = mod-eq_of_lt (omega arith) in
     let same : n % 2 ^ to ≡ n = mod-eq_of_lt (omega arith) in
@@ -101,7 +97,7 @@ with_sign_pos w to n one h below =
 with_sign_neg : (w to n : ℕ) → 1 ≤ w → w ≤ to → n < 2 ^ (w - 1) →
     repeated (to - w) 1 (((2 ^ w - 1 - n % 2 ^ w) / 2 ^ (w - 1)) % 2 ^ 1) * 2 ^ w + (2 ^ w - 1 - n % 2 ^ w) ≡ 2 ^ to - 1 - n % 2 ^ to
 with_sign_neg w to n one h below =
-    let two = half w one in
+    let two = double w one in
     let wider = pow_le {i = w} {j = to} h in
     let small : n % 2 ^ w ≡ n = mod-eq_of_lt (omega arith) in
     let same : n % 2 ^ to ≡ n = mod-eq_of_lt (omega arith) in
@@ -110,9 +106,6 @@ with_sign_neg w to n one h below =
     let ones = repeated-one (to - w) in
     let whole : 2 ^ to ≡ (repeated (to - w) 1 1 + 1) * 2 ^ w = factor w to h ∙ mul_comm (2 ^ w) (2 ^ (to - w)) ∙ ap (λ x. x * 2 ^ w) (sym ones) in
     rw (small, same, sign) (omega arith)
-
-at_least_1 : (W : Width) → 1 ≤ bits W
-at_least_1 W = let least = bits-at_least W in omega arith
 
 pub with_sign_are : (W : Width) (to : ℕ) (v : ℤ) → bits W ≤ to → HasType (signed_type W) v →
     repeated (to - bits W) 1 ((residue_of (bits W) v / 2 ^ (bits W - 1)) % 2 ^ 1) * 2 ^ bits W + residue_of (bits W) v ≡ residue_of to v

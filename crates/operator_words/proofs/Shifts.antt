@@ -8,11 +8,10 @@ use Rattle.hls_ints.specs.Types.{Width, IntegerType, HasType, bits, width_of, wr
 use Rattle.hls_ints.specs.Operators.{is_count}
 use Rattle.hls_ints.specs.Words.{word, left_shift, right_shift, arithmetic_shift}
 use Rattle.hls_ints.proofs.Ranges.{bits-at_least, bits-at_most}
-use Rattle.hls_ints.proofs.Conversions.{residue_of-below, residue_of-wrapped}
+use Rattle.hls_ints.proofs.Conversions.{residue_of-below, residue_of-wrapped, at_least_1, double}
 use Rattle.block_ir.specs.Arithmetic.{sign_fill, shifted_left, shifted_right}
-use Rattle.operator_words.proofs.Residues.{word-residue_of, residue_of-word, product_is}
-use Rattle.operator_words.proofs.Typed.{signed_type, unsigned_type, signed_word-residue_of, unsigned-residue_of, residue_of-zero}
-use Rattle.operator_words.proofs.Resized.{half}
+use Rattle.operator_words.proofs.Residues.{word-residue_of, residue_of-word, residue_of-zero, product_is}
+use Rattle.operator_words.proofs.Typed.{signed_type, unsigned_type, signed_word-residue_of, unsigned-residue_of}
 
 -- ---- counts
 
@@ -23,13 +22,10 @@ wide_enough bits_16 = lit< tt
 wide_enough bits_32 = lit< tt
 wide_enough bits_64 = lit< tt
 
-at_least_1 : (V : Width) → 1 ≤ bits V
-at_least_1 V = let least = bits-at_least V in omega arith
-
 count_at : (signed : Bool) (V : Width) (w : ℕ) (b : ℤ) → w ≤ 64 → HasType (record { width = V; signed = signed }) b → nat_lt (residue_of (bits V) b) w ≡ is_count w b
 unfolding residue_of
 count_at true V w (pos n) h t =
-    let two = half (bits V) (at_least_1 V) in
+    let two = double (bits V) (at_least_1 V) in
     let below : n < 2 ^ (bits V - 1) = grind arith in
     let same : n % 2 ^ bits V ≡ n = mod-eq_of_lt (omega arith) in
     ap (λ x. nat_lt x w) same
@@ -38,7 +34,7 @@ count_at false V w (pos n) h t =
     let same : n % 2 ^ bits V ≡ n = mod-eq_of_lt below in
     ap (λ x. nat_lt x w) same
 count_at true V w (negsuc n) h t =
-    let two = half (bits V) (at_least_1 V) in
+    let two = double (bits V) (at_least_1 V) in
     let wide = wide_enough V in
     let below : n < 2 ^ (bits V - 1) = grind arith in
     let same : n % 2 ^ bits V ≡ n = mod-eq_of_lt (omega arith) in
@@ -53,7 +49,7 @@ small_at : (V : Width) (w : ℕ) (b : ℤ) → w ≤ 64 → is_count w b ≡ tru
 unfolding residue_of
 small_at V w (pos n) h t =
     let wide = wide_enough V in
-    let two = half (bits V) (at_least_1 V) in
+    let two = double (bits V) (at_least_1 V) in
     let below : n < w = grind arith in
     mod-eq_of_lt (omega arith)
 small_at V w (negsuc n) h t = absurd cc
@@ -140,11 +136,11 @@ right_shift_is W count a b h t =
 -- a shift by all bits leaves the sign
 quotient_by_all : (W : Width) (a : ℤ) → HasType (signed_type W) a → floor_quotient a (2 ^ bits W) ≡ sign_fill a
 quotient_by_all W (pos n) h =
-    let two = half (bits W) (at_least_1 W) in
+    let two = double (bits W) (at_least_1 W) in
     let below : n < 2 ^ (bits W - 1) = grind arith in
     ap pos (div-eq_of_lt (omega arith)) ∙ sym (no_sign n)
 quotient_by_all W (negsuc n) h =
-    let two = half (bits W) (at_least_1 W) in
+    let two = double (bits W) (at_least_1 W) in
     let below : n < 2 ^ (bits W - 1) = grind arith in
     ap negsuc (div-eq_of_lt (omega arith))
 

@@ -9,6 +9,7 @@ use Rattle.hls_ints.specs.Operators.{is_zero}
 use Rattle.hls_ints.specs.Words.{word, signed_word, guarded, word_quotient, word_remainder, signed_quotient, signed_remainder, word_less, signed_less, word_equal, word_complement}
 use Rattle.hls_ints.proofs.Conversions.{residue_of-below, wrapped-same, residue_of-wrapped}
 use Rattle.operator_words.proofs.Residues.{word-residue_of, residue_of-word}
+pub use Rattle.operator_words.proofs.Residues.{residue_of-zero}
 
 abbrev pub signed_type : Width → IntegerType
 signed_type W = record { width = W; signed = true }
@@ -92,9 +93,6 @@ word_equal_is ty a b h k =
     ∙ ap bit_of (equal_by (nat_eq (residue_of w a) (residue_of w b)) (int_le a b && int_le b a) (residue_of w a) (residue_of w b)
     (λ e. let P : ℤ → Type 0 = λ x. (int_le a x && int_le x a) ≡ true in subst P (same_word ty a b h k e) (int_le_refl a))
     (λ e. ap (residue_of w) (int_le_antisym a b e)) refl)
-
-pub residue_of-zero : (w : ℕ) → residue_of w (pos 0) ≡ 0
-residue_of-zero w = let z = pow_pos w in residue_of-word w 0 ∙ mod-eq_of_lt z
 
 zero_below : (n : ℕ) → 0 < n → IsTrue (nat_lt 0 n)
 zero_below n h = grind arith

@@ -22,12 +22,15 @@ use Rattle.unit_datapath.specs.Units.{CanHaveUnits, IsInCode, LaysAll as LaysUni
 use Rattle.block_ir.specs.declared.code.ThreadCode.{ThreadCode}
 use Rattle.block_ir.specs.declared.plan.Planned.{Planned}
 use Rattle.netlist.specs.declared.netlist.Signal.{Signal}
-use Rattle.thread_slots.specs.declared.shape.Printer.{Printer}
 use Rattle.thread_slots.specs.declared.shape.Shape.{Shape}
 use Rattle.thread_slots.specs.declared.chains.Chains.{Chains}
+use Rattle.thread_requests.specs.declared.early.Early.{Early}
 use Rattle.thread_layout.specs.declared.layout.Inside.{Inside}
+use Rattle.thread_layout.specs.declared.layout.Ground.{Ground}
+use Rattle.thread_layout.specs.declared.layout.Walked.{Walked}
+use Rattle.thread_layout.specs.Parts.{inside_of, LaysGround, LaysHeard, LaysWalk}
 use Rattle.thread_states.specs.Stages.{WalksAll}
-use Rattle.thread_slots.specs.Slots.{StandsAt, StandFrom, IsHeldAt, LaysAll, LaysSlot, AreKeptWidths}
+use Rattle.thread_slots.specs.Slots.{StandsAt, StandFrom, IsHeldAt, LaysAll, LaysSlot}
 use Rattle.thread_slots.specs.Bits.{AreBitsOf}
 use Rattle.thread_requests.specs.Early.{held_width, spread_out, AreEarly, LaysEarly, LaysEarlyWired}
 use Rattle.thread_layout.specs.Memories.{early_base, heard_base}
@@ -36,9 +39,7 @@ use Rattle.thread_slots.specs.declared.stores.Store.{Store}
 use Rattle.thread_slots.specs.Stores.{AreRightStores}
 use Rattle.thread_states.specs.Stores.{StagesKeepStores}
 use Rattle.thread_slots.specs.Wired.{Behind, AreFit, IsInnerInput, IsSlotRegister, AreSlots, AreLinked, KeepsLinks, FitStates}
-use Rattle.thread_slots.specs.Links.{Begins}
-use Rattle.thread_slots.specs.Inputs.{core_count, LaysInputs}
-use Rattle.thread_states.specs.Cells.{StoresFirst}
+use Rattle.thread_slots.specs.Inputs.{core_count}
 use Rattle.thread_slots.specs.Hearing.{HearsWords, AddsHeard}
 use Rattle.thread_layout.specs.Modules.{marks_of, worded, IsWiredInside, LaysInside}
 use Rattle.thread_slots.proofs.Linked.{slots_later}
@@ -207,8 +208,8 @@ no_stores base signals k s listed = absurd cc
 -- a: nothing, b: the ports, c: the words of banks, d: the slot, e: what is granted, f: what is asked, u: what is heard, v: units, g: the first links, h: all stages
 pub inside_wired : (shape : Shape) (code : ThreadCode) (plan : Planned) (b c d e f u v g h : List Signal) (first : ℕ) (kept ones : List ℕ) (start : Chains) (past : ℕ)
     (inside : Inside)
-    (told : Registers) (known : Printer)
-    → shape.printer ≡ Some known → 1 ≤ known.site_width → known.site_width ≤ 64 → AreRightSpreads shape.globals shape.spreads
+    (told : Registers)
+    → 1 ≤ shape.printer.site_width → shape.printer.site_width ≤ 64 → AreRightSpreads shape.globals shape.spreads
     → length b ≡ 3 + length (spread_out shape.spreads (map width_of shape.globals)) → Behind IsInnerInput [] b
     → LaysAll Input b c (spread_out shape.spreads (map width_of shape.globals)) (length (spread_out shape.spreads (map width_of shape.globals))) told.words
     → Behind IsInnerInput b c → Behind IsInnerInput [] c → LaysSlot code plan first kept told.words shape.spreads c d told → Behind (IsSlotRegister (length c)) c d
@@ -218,9 +219,9 @@ pub inside_wired : (shape : Shape) (code : ThreadCode) (plan : Planned) (b c d e
     → length inside.slot.words ≡ length told.words → AddsHeard f u inside.early.need told.words inside.slot.words
     → told.units ≡ [] → LaysUnits code told plan u v inside.slot.units
     → ((base : Base) (code : ThreadCode) → AreSlots base v code inside.slot → CanRead base code inside.slot → KeepsLinks base v g code inside.slot start)
-    → WalksAll shape.globals code inside.slot shape.printer plan g h start inside.chains past → (none : List Store) → none ≡ []
-    → StagesKeepStores code inside.slot shape.printer plan (length code.stages) g h start none inside.stores → IsWiredInside code plan shape known c e f u h inside
-inside_wired shape code plan b c d e f u v g h first kept ones start past inside told known same low high right b_long inputs_b words words_behind inputs slot slot_behind
+    → WalksAll shape.globals code inside.slot plan g h start inside.chains past → (none : List Store) → none ≡ []
+    → StagesKeepStores code inside.slot plan (length code.stages) g h start none inside.stores → IsWiredInside code plan shape c e f u h inside
+inside_wired shape code plan b c d e f u v g h first kept ones start past inside told low high right b_long inputs_b words words_behind inputs slot slot_behind
     ones_are granted
     granted_behind
     registers fit early reworded heard_count hears unshared units begins walks none empty stores =
@@ -264,7 +265,7 @@ inside_wired shape code plan b c d e f u v g h first kept ones start past inside
     ∙ sym count in
     let n = length (map held_width told.words) in
     let asked =
-    early.wired known same low high (early_base (length told.words) code) (map held_of (replicate n 1)) (map held_of (replicate n 64))
+    early.wired low high (early_base (length told.words) code) (map held_of (replicate n 1)) (map held_of (replicate n 64))
     (map held_of (map held_width told.words))
     slot.state_room early_slots marks_stand marks_count
     (subst (λ (z : List ℕ). HaveBankWidths shape.globals told.spreads (map held_of (replicate n 1)) (map held_of (replicate n 64)) (map held_of z)) (sym widths)
@@ -330,7 +331,7 @@ inside_wired shape code plan b c d e f u v g h first kept ones start past inside
       spreads = sym inside_spreads;
       early =
           subst
-          (λ k. AreEarly (early_base k code) e f inside.early code told known.site_width shape.globals (map held_of (replicate n 1)) (map held_of (replicate n 64))
+          (λ k. AreEarly (early_base k code) e f inside.early code told shape.printer.site_width shape.globals (map held_of (replicate n 1)) (map held_of (replicate n 64))
           (map held_of (map held_width told.words))) made asked;
       heard = subst (λ k. AreWires (heard_base k code) f u) made heard.wires;
       wires = subst (λ k. AreWires (early_base k code) u h) made (wires_then (early_base (length told.words) code) u v h unit_wires
@@ -359,7 +360,7 @@ inside_wired shape code plan b c d e f u v g h first kept ones start past inside
         ap held_width (sym one) ∙ f.2 ∙ replicated n 1 x w.0 (ap (λ l. slice_get l x) (sym are) ∙ w.1)
 
 -- what is heard is as wide as the words
-heard_widths : (words outs : List Held) (f u : List Signal) (need : ℕ) → HearsWords f u need words (length words) outs → map held_width outs ≡ map held_width words
+pub heard_widths : (words outs : List Held) (f u : List Signal) (need : ℕ) → HearsWords f u need words (length words) outs → map held_width outs ≡ map held_width words
 heard_widths words outs f u need t =
     list_same (map held_width outs) (map held_width words) (length-map outs held_width ∙ t.count ∙ sym (length-map words held_width))
     (λ k w there.
@@ -370,97 +371,71 @@ heard_widths words outs f u need t =
     let g = t.each k own.0 less own.1 in
     slice_get-map held_width outs k ∙ ap (option_map held_width) g.1 ∙ ap Some (g.2.says ∙ same))
 
-pub inside_laid : (shape : Shape) (code : ThreadCode) (plan : Planned) (a b c d e f u v g h : List Signal) (globals : List IntegerType) (widths kept given_kept : List ℕ)
-    (spreads : List Spread)
-    (words : List Held) (n count : ℕ) (start : Chains) (past : ℕ) (inside : Inside) (told : Registers) (asked_words : List Held) (none : List Store) → globals ≡ shape.globals
-    → widths ≡ spread_out shape.spreads (map width_of shape.globals) → n ≡ length widths → count ≡ length shape.globals → given_kept ≡ kept → spreads ≡ shape.spreads
-    → LaysInputs shape.printer n a b inside.inputs → (length a ≡ 0 → Behind IsInnerInput a b) → LaysAll Input b c widths (length widths) words →
-    (AreFit widths → Behind IsInnerInput b c)
-    → AreKeptWidths globals code plan (length code.stages) kept → AreFit kept
-    → LaysSlot code plan (if shape.is_main then 0 else length code.stages) given_kept words spreads c d told → (AreFit given_kept → Behind (IsSlotRegister (length c)) c d)
-    → length d ≡ length c + 3 + length code.variables + length given_kept → LaysAll (Register 0) d e (replicate count 1) count inside.granted → ((inputs : ℕ) → Behind (IsSlotRegister inputs) d e) →
-    LaysEarlyWired shape.globals code told (marks_of inside) shape.printer plan e f inside.early → inside.slot ≡ worded told inside.slot.words inside.slot.units →
-    asked_words ≡ told.words
-    → HearsWords f u inside.early.need asked_words (length asked_words) inside.slot.words → AddsHeard f u inside.early.need asked_words inside.slot.words
-    → told.units ≡ [] → LaysUnits code told plan u v inside.slot.units → Begins v g inside.slot start
-    → ((base : Base) (code : ThreadCode) → AreSlots base v code inside.slot → CanRead base code inside.slot → KeepsLinks base v g code inside.slot start)
-    → WalksAll globals code inside.slot shape.printer plan g h start inside.chains past → none ≡ []
-    → StoresFirst globals code inside.slot plan g h none inside.stores (length code.stages)
-    → StagesKeepStores code inside.slot shape.printer plan (length code.stages) g h start none inside.stores → LaysInside shape code plan a h inside
-inside_laid shape code plan a b c d e f u v g h globals widths kept given_kept spreads words n count start past inside told asked_words none globals_are widths_are n_is count_is
-    kept_is spreads_are
-    inputs
-    inputs_behind laid_words words_behind kept_widths kept_fit slot slot_behind long_slot granted granted_behind early reworded asked_are given_hears given_hears_wired unshared
-    units begins begins_wired walks empty puts stores =
-    let banks : n ≡ length (spread_out shape.spreads (map width_of shape.globals)) = n_is ∙ ap length widths_are in
-    let inputs' : LaysInputs shape.printer (length (spread_out shape.spreads (map width_of shape.globals))) a b inside.inputs =
-    subst (λ k. LaysInputs shape.printer k a b inside.inputs) banks inputs in
-    let words' : LaysAll Input b c (spread_out shape.spreads (map width_of shape.globals)) (length (spread_out shape.spreads (map width_of shape.globals))) told.words =
-    subst (λ (z : List ℕ). LaysAll Input b c z (length z) told.words) widths_are (subst (λ (z : List Held). LaysAll Input b c widths (length widths) z)
-    (sym slot.words_are) laid_words) in
-    let slot' : LaysSlot code plan (if shape.is_main then 0 else length code.stages) given_kept told.words shape.spreads c d told =
-    subst (λ (z : List Spread). LaysSlot code plan (if shape.is_main then 0 else length code.stages) given_kept told.words z c d told) spreads_are
-    (subst (λ (z : List Held). LaysSlot code plan (if shape.is_main then 0 else length code.stages) given_kept z spreads c d told) (sym slot.words_are) slot) in
-    let late_slot : LaysSlot code plan (if shape.is_main then 0 else length code.stages) given_kept inside.slot.words shape.spreads c d inside.slot =
-    subst (λ (z : Registers). LaysSlot code plan (if shape.is_main then 0 else length code.stages) given_kept inside.slot.words shape.spreads c d z) (sym reworded)
-    (slot_reworded code plan (if shape.is_main then 0 else length code.stages) given_kept told.words inside.slot.words inside.slot.units shape.spreads c d told slot') in
-    let hears : HearsWords f u inside.early.need told.words (length told.words) inside.slot.words =
-    subst (λ (z : List Held). HearsWords f u inside.early.need z (length z) inside.slot.words) asked_are given_hears in
-    let hears_wired : AddsHeard f u inside.early.need told.words inside.slot.words =
-    subst (λ (z : List Held). AddsHeard f u inside.early.need z inside.slot.words) asked_are given_hears_wired in
-    let late_early : LaysEarly shape.globals code inside.slot (marks_of inside) shape.printer plan e f inside.early =
-    subst (λ (z : Registers). LaysEarly shape.globals code z (marks_of inside) shape.printer plan e f inside.early) (sym reworded)
-    (early_reworded shape.globals code told inside.slot.words inside.slot.units shape.printer (marks_of inside) plan e f inside.early
-    (heard_widths told.words inside.slot.words f u inside.early.need hears)
-    early.lays) in
-    let granted' : LaysAll (Register 0) d e (replicate (length shape.globals) 1) (length shape.globals) inside.granted =
-    subst (λ k. LaysAll (Register 0) d e (replicate k 1) k inside.granted) count_is granted in
-    let walks' : WalksAll shape.globals code inside.slot shape.printer plan g h start inside.chains past =
-    subst (λ (z : List IntegerType). WalksAll z code inside.slot shape.printer plan g h start inside.chains past) globals_are walks in
+pub inside_laid : (shape : Shape) (code : ThreadCode) (plan : Planned) (a e f v h : List Signal) (ground : Ground) (slot : Registers) (early : Early) (walked : Walked)
+    → LaysGround shape code plan a e ground → LaysEarlyWired shape.globals code ground.slot (map (λ (q : Held). q.register) ground.granted) shape.printer plan e f early
+    → LaysHeard code plan early.need f v ground.slot slot → LaysWalk shape.globals code slot plan v h walked
+    → LaysInside shape code plan a h (inside_of (record ground { slot = slot }) early walked)
+inside_laid shape code plan a e f v h ground slot early walked t asked heard walks =
+    let told = ground.slot in
+    let first : ℕ = if shape.is_main then 0 else length code.stages in
+    let words_are : told.words ≡ t.words = t.slot.slot.words_are in
+    let words' : LaysAll Input t.with_ports t.with_inputs (spread_out shape.spreads (map width_of shape.globals)) (length (spread_out shape.spreads (map width_of shape.globals)))
+    told.words = subst
+    (λ (z : List Held). LaysAll Input t.with_ports t.with_inputs (spread_out shape.spreads (map width_of shape.globals))
+    (length (spread_out shape.spreads (map width_of shape.globals))) z)
+    (sym words_are) t.told in
+    let slot' : LaysSlot code plan first t.slot.kept_widths told.words shape.spreads t.with_inputs t.with_registers told =
+    subst (λ (z : List Held). LaysSlot code plan first t.slot.kept_widths z shape.spreads t.with_inputs t.with_registers told) (sym words_are) t.slot.slot in
+    let late_slot : LaysSlot code plan first t.slot.kept_widths slot.words shape.spreads t.with_inputs t.with_registers slot =
+    subst (λ (z : Registers). LaysSlot code plan first t.slot.kept_widths slot.words shape.spreads t.with_inputs t.with_registers z) (sym heard.same)
+    (slot_reworded code plan first t.slot.kept_widths told.words slot.words slot.units shape.spreads t.with_inputs t.with_registers told slot') in
+    let late_early : LaysEarly shape.globals code slot (map (λ (q : Held). q.register) ground.granted) shape.printer plan e f early =
+    subst (λ (z : Registers). LaysEarly shape.globals code z (map (λ (q : Held). q.register) ground.granted) shape.printer plan e f early) (sym heard.same)
+    (early_reworded shape.globals code told slot.words slot.units shape.printer (map (λ (q : Held). q.register) ground.granted) plan e f early
+    (heard_widths told.words slot.words f heard.with_heard early.need heard.hears)
+    asked.lays) in
     let fit : AreFit (spread_out shape.spreads (map width_of shape.globals)) = spread_fits shape.spreads shape.globals in
-    let ones_granted : LaysAll (Register 0) d e (replicate (length shape.globals) 1) (length (replicate (length shape.globals) 1)) inside.granted =
-    subst (λ k. LaysAll (Register 0) d e (replicate (length shape.globals) 1) k inside.granted) (sym (length-replicate (length shape.globals) 1)) granted' in
-    let slot_stands = slot_behind (subst AreFit (sym kept_is) kept_fit) in
-    let words_stand = words_behind (subst AreFit (sym widths_are) fit) in
+    let ones_granted : LaysAll (Register 0) t.with_registers e (replicate (length shape.globals) 1) (length (replicate (length shape.globals) 1)) ground.granted =
+    subst (λ k. LaysAll (Register 0) t.with_registers e (replicate (length shape.globals) 1) k ground.granted) (sym (length-replicate (length shape.globals) 1)) t.granted in
+    let words_stand = t.told_behind fit in
     record {
-      with_ports = b;
-      with_inputs = c;
-      with_registers = d;
+      with_ports = t.with_ports;
+      with_inputs = t.with_inputs;
+      with_registers = t.with_registers;
       with_slot = e;
       with_early = f;
-      with_heard = u;
+      with_heard = heard.with_heard;
       with_units = v;
-      with_start = g;
-      kept_widths = kept;
+      with_start = walks.with_start;
+      kept_widths = t.slot.kept_widths;
       told = told.words;
       asking = told;
-      start = start;
-      past = past;
-      inputs = inputs';
+      start = walks.start;
+      past = walks.past;
+      inputs = t.inputs;
       words = words';
-      kept = subst (λ (z : List IntegerType). AreKeptWidths z code plan (length code.stages) kept) globals_are kept_widths;
-      slot = subst (λ (z : List ℕ). LaysSlot code plan (if shape.is_main then 0 else length code.stages) z inside.slot.words shape.spreads c d inside.slot) kept_is late_slot;
-      registers_long = long_slot ∙ ap (λ (z : List ℕ). length c + 3 + length code.variables + length z) kept_is;
-      granted = granted';
+      kept = t.slot.kept;
+      slot = late_slot;
+      registers_long = t.slot.long;
+      granted = t.granted;
       early = late_early;
-      hears = hears;
-      units = units;
-      begins = begins;
-      walks = walks';
-      stores =
-          subst (λ (z : List IntegerType). StoresFirst z code inside.slot plan g h [] inside.stores (length code.stages)) globals_are
-          (subst (λ (l : List Store). StoresFirst globals code inside.slot plan g h l inside.stores (length code.stages)) empty puts);
-      wired = λ known same low high right nothing.
-          let ports = subst (λ (z : List Signal). Behind IsInnerInput z b) nothing (inputs_behind (ap length nothing)) in
-          let counted : length b ≡ 2 + suc (length (spread_out shape.spreads (map width_of shape.globals))) =
-          inputs'.long ∙ ap (λ (z : List Signal). length z + 2 + core_count shape.printer (length (spread_out shape.spreads (map width_of shape.globals)))) nothing
-          ∙ ap (λ (p : Option Printer). 2 + core_count p (length (spread_out shape.spreads (map width_of shape.globals)))) same in
-          let long = one_to_three (length b) (length (spread_out shape.spreads (map width_of shape.globals))) counted in
-          inside_wired shape code plan b c d e f u v g h (if shape.is_main then 0 else length code.stages) given_kept
-          (replicate (length shape.globals) 1) start past inside told known same low high right
-          long ports words' words_stand (behind_then IsInnerInput [] b c laid_words.grows ports words_stand) slot' slot_stands refl ones_granted (granted_behind (length c))
-          (behind_then (IsSlotRegister (length c)) c d e granted.grows slot_stands (granted_behind (length c))) fit early reworded hears.count hears_wired unshared units begins_wired walks' none empty
-          stores;
+      hears = heard.hears;
+      units = heard.units;
+      begins = walks.begins;
+      walks = walks.walks;
+      stores = walks.stores;
+      wired = λ low high right nothing.
+          let ports = subst (λ (z : List Signal). Behind IsInnerInput z t.with_ports) nothing (t.inputs_behind (ap length nothing)) in
+          let counted : length t.with_ports ≡ 2 + suc (length (spread_out shape.spreads (map width_of shape.globals))) =
+          t.inputs.long ∙ ap (λ (z : List Signal). length z + 2 + core_count (length (spread_out shape.spreads (map width_of shape.globals)))) nothing in
+          let long = one_to_three (length t.with_ports) (length (spread_out shape.spreads (map width_of shape.globals))) counted in
+          inside_wired shape code plan t.with_ports t.with_inputs t.with_registers e f heard.with_heard v walks.with_start h first t.slot.kept_widths
+          (replicate (length shape.globals) 1) walks.start walks.past (inside_of (record ground { slot = slot }) early walked) told low high right
+          long ports words' words_stand (behind_then IsInnerInput [] t.with_ports t.with_inputs t.told.grows ports words_stand) slot' t.slot.behind refl ones_granted
+          (t.granted_behind (length t.with_inputs))
+          (behind_then (IsSlotRegister (length t.with_inputs)) t.with_inputs t.with_registers e t.granted.grows t.slot.behind (t.granted_behind (length t.with_inputs))) fit asked
+          heard.same heard.hears.count heard.wired t.slot.units heard.units walks.begins_wired walks.walks [] refl
+          walks.keeps;
     }
   where
     one_to_three : (n k : ℕ) → n ≡ 2 + suc k → n ≡ 3 + k

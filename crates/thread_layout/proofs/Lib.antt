@@ -11,6 +11,8 @@ pub mod Remembering
 pub mod Requested
 pub mod Resting
 mod Rewording
+pub mod Rowing
 pub mod Shown
 pub mod Sight
-mod Spreading
+mod Slotting
+pub mod Spreading

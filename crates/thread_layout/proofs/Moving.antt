@@ -27,7 +27,6 @@ use Rattle.block_datapath.specs.Operations.{seen_value}
 use Rattle.block_datapath.specs.Accesses.{is_bank, reaches_in}
 use Rattle.block_datapath.proofs.Reaching.{some_banks, reaching, only_one}
 use Rattle.block_datapath.proofs.Wanting.{view_count, Asker, asker_of}
-use Rattle.thread_slots.specs.declared.shape.Printer.{Printer}
 use Rattle.thread_slots.specs.declared.shape.Shape.{Shape}
 use Rattle.thread_slots.specs.Bits.{HasBit, HaveBits, is_in}
 use Rattle.thread_requests.specs.Early.{spread_out}
@@ -130,12 +129,12 @@ same_reach variables given globals spreads (Some (WriteGlobal x k i a)) n j e f 
 same_reach variables given globals spreads (Some (ReadArray x k i)) n j e f = absurd cc
 same_reach variables given globals spreads (Some (WriteArray x k i a)) n j e f = absurd cc
 
-module _ (shape : Shape) (code : ThreadCode) (plan : Planned) (printer : Printer) (m : Module) (t : IsModule shape code plan m) (served : IsServed shape code plan printer) where
+module _ (shape : Shape) (code : ThreadCode) (plan : Planned) (m : Module) (t : IsModule shape code plan m) (served : IsServed shape code plan) where
   abbrev banks : ℕ
   banks = bank_total shape.spreads
 
   module _ (r : Reading) (q : Slot) (b : Block) (p : BlockPlan) (o : Obeys m r)
-      (inside : IsInside shape.globals shape.spreads code plan m (places_of banks code plan) (ports_of banks printer m) r q b p)
+      (inside : IsInside shape.globals shape.spreads code plan m (places_of banks code plan) (ports_of shape m) r q b p)
       (indices : (k x n : ℕ) (i : Operand) → slice_get b.operations k ≡ Some (ReadGlobal x n i) → slice_index p.starts k ≡ q.state → (ty : IntegerType)
       × HasType ty (seen_value q.variables (value_now (planned_view b) (plan_view b p) q (wires_now shape.spreads b p q)) i))
       (targets : (k x n : ℕ) (i a : Operand) → slice_get b.operations k ≡ Some (WriteGlobal x n i a) → slice_index p.starts k ≡ q.state → (ty : IntegerType)
@@ -162,17 +161,17 @@ module _ (shape : Shape) (code : ThreadCode) (plan : Planned) (printer : Printer
         let at : bank k ≡ a.spread.first + a.number % a.spread.count = own_bank k below e ∙ a.bank in
         omega arith
 
-    reached_own : (k : ℕ) → k < size (planned_view b) → asking k ≡ true → reached shape code plan printer m t served r q b p o inside (bank k) k ≡ true
-    reached_own k below e = ap (λ n. reached shape code plan printer m t served r q b p o inside n k) (own_bank k below e) ∙ (who k below e).reached
+    reached_own : (k : ℕ) → k < size (planned_view b) → asking k ≡ true → reached shape code plan m t served r q b p o inside (bank k) k ≡ true
+    reached_own k below e = ap (λ n. reached shape code plan m t served r q b p o inside n k) (own_bank k below e) ∙ (who k below e).reached
 
-    is_wanted : (k : ℕ) → k < size (planned_view b) → asking k ≡ true → wanted shape code plan printer m t served r q b p o inside (bank k) ≡ true
+    is_wanted : (k : ℕ) → k < size (planned_view b) → asking k ≡ true → wanted shape code plan m t served r q b p o inside (bank k) ≡ true
     is_wanted k below e =
-        any_is (reached shape code plan printer m t served r q b p o inside (bank k)) (length b.operations) k (subst (λ n. k < n) (view_count b.operations) below)
+        any_is (reached shape code plan m t served r q b p o inside (bank k)) (length b.operations) k (subst (λ n. k < n) (view_count b.operations) below)
         (reached_own k below e)
 
-    pub asker : (n : ℕ) → n < banks → wanted shape code plan printer m t served r q b p o inside n ≡ true → (k : ℕ) × (k < size (planned_view b)) × (asking k ≡ true) × (bank k ≡ n)
+    pub asker : (n : ℕ) → n < banks → wanted shape code plan m t served r q b p o inside n ≡ true → (k : ℕ) × (k < size (planned_view b)) × (asking k ≡ true) × (bank k ≡ n)
     asker n less e =
-        let k = any_found (reached shape code plan printer m t served r q b p o inside n) (length b.operations) e in
+        let k = any_found (reached shape code plan m t served r q b p o inside n) (length b.operations) e in
         let reach = reaching shape.globals shape.spreads code t.inside.slot q.stage b p q (wires_now shape.spreads b p q) n k.0 k.2 in
         let asked : asking k.0 ≡ true =
         both_from (is_request (operation_at (planned_view b) k.0).kind) (nat_eq ((plan_view b p).start k.0) q.state)
@@ -189,7 +188,7 @@ module _ (shape : Shape) (code : ThreadCode) (plan : Planned) (printer : Printer
               (bank k.0) n two.1 one.1,
         )
 
-    marks : (k : ℕ) → k < size (planned_view b) → asking k ≡ true → marked_now shape code plan printer m t served r (bank k) ≡ q.granted k
+    marks : (k : ℕ) → k < size (planned_view b) → asking k ≡ true → marked_now shape code plan m t served r (bank k) ≡ q.granted k
     marks k below e =
         let a = who k below e in
         let less : a.number % a.spread.count < a.spread.count = some_banks a.number a.spread.count (served.spreads.powers a.global a.spread a.listed) in
@@ -197,19 +196,19 @@ module _ (shape : Shape) (code : ThreadCode) (plan : Planned) (printer : Printer
         let starts = both_true (is_request (operation_at (planned_view b) k).kind) (nat_eq ((plan_view b p).start k) q.state) e in
         told_bit (r.signal (slice_index (spread_out t.inside.slot.spreads (marks_of t.inside)) (bank k))) (q.granted k)
         (ap (λ n. r.signal (slice_index (spread_out t.inside.slot.spreads (marks_of t.inside)) n)) at
-        ∙ ap r.signal (mark_of_bank shape code plan printer m t served a.global (a.number % a.spread.count) a.spread a.listed less)
+        ∙ ap r.signal (mark_of_bank shape code plan m t served a.global (a.number % a.spread.count) a.spread a.listed less)
         ∙ inside.shown.granted k a.global a.writes below a.target (is_number ((plan_view b p).start k) q.state starts.1))
 
     -- ---- control
 
     abbrev raised : ℕ → Bool
-    raised = raised_by shape code plan printer m t served (wanted shape code plan printer m t served r q b p o inside) (marked_now shape code plan printer m t served r) false
+    raised = raised_by shape code plan m t served (wanted shape code plan m t served r q b p o inside) (marked_now shape code plan m t served r) false
 
     abbrev grants : ℕ → Bool
     grants n = nat_eq (r.signal (2 + n)) 1
 
     abbrev opened : ℕ → Bool
-    opened n = wanted shape code plan printer m t served r q b p o inside n && not (marked_now shape code plan printer m t served r n)
+    opened n = wanted shape code plan m t served r q b p o inside n && not (marked_now shape code plan m t served r n)
 
     up : (n : ℕ) → n < banks → raised n ≡ opened n
     up n less = ap (λ c. if c then opened n else false) (is_less n banks less)
@@ -220,33 +219,33 @@ module _ (shape : Shape) (code : ThreadCode) (plan : Planned) (printer : Printer
     -- what is open, in a reading in which the printer is not wanted
     all_open : HasBit m r t.inside.early.requests.wants false → HaveBits m r t.inside.early.opens (length t.inside.early.opens) raised
     all_open printing n less =
-        open_bits shape code plan printer m t served r o (wanted shape code plan printer m t served r q b p o inside) (marked_now shape code plan printer m t served r) false
-        (λ k below. wanted_bit shape code plan printer m t served r q b p o inside k below) (λ k below. mark_bit shape code plan printer m t served r k o below) printing n
-        (subst (λ k. n < k) (opens_count shape code plan printer m t served) less)
+        open_bits shape code plan m t served r o (wanted shape code plan m t served r q b p o inside) (marked_now shape code plan m t served r) false
+        (λ k below. wanted_bit shape code plan m t served r q b p o inside k below) (λ k below. mark_bit shape code plan m t served r k o below) printing n
+        (subst (λ k. n < k) (opens_count shape code plan m t served) less)
 
     -- bank n is asked as it is open
     pub block_asks : HasBit m r t.inside.early.requests.wants false → (e : Bool) → HasBit m r t.inside.inputs.enable e → (n : ℕ) → n < banks →
         r.signal (slice_index t.edge.asks n) ≡ bit_of (opened n && e)
     block_asks printing e on n less =
-        (t.closed.controls.asks m r raised e (from_control shape code plan printer m t served) o (all_open printing) on n
-        (subst (λ k. n < k) (sym (opens_count shape code plan printer m t served)) (omega arith))).shows
+        (t.closed.controls.asks m r raised e (from_control shape code plan m t served) o (all_open printing) on n
+        (subst (λ k. n < k) (sym (opens_count shape code plan m t served)) (omega arith))).shows
         ∙ ap (λ z. bit_of (z && e)) (up n less)
 
     -- the bank of an operation that asks and has not been granted is open
     pub own_open : (k : ℕ) → k < size (planned_view b) → asking k ≡ true → q.granted k ≡ false → opened (bank k) ≡ true
     own_open k below e not_so =
-        both_from (wanted shape code plan printer m t served r q b p o inside (bank k)) (not (marked_now shape code plan printer m t served r (bank k))) (is_wanted k below e)
+        both_from (wanted shape code plan m t served r q b p o inside (bank k)) (not (marked_now shape code plan m t served r (bank k))) (is_wanted k below e)
         (ap not (marks k below e ∙ not_so))
 
     -- and a bank that is open is that of one
     pub open_asker : (n : ℕ) → n < banks → opened n ≡ true → (k : ℕ) × (k < size (planned_view b)) × (asking k ≡ true) × (q.granted k ≡ false) × (bank k ≡ n)
     open_asker n less e =
-        let two = both_true (wanted shape code plan printer m t served r q b p o inside n) (not (marked_now shape code plan printer m t served r n)) e in
+        let two = both_true (wanted shape code plan m t served r q b p o inside n) (not (marked_now shape code plan m t served r n)) e in
         let k = asker n less two.0 in (
           k.0,
           k.1,
           k.2,
-          sym (marks k.0 k.1 k.2) ∙ ap (marked_now shape code plan printer m t served r) k.3 ∙ not_true (marked_now shape code plan printer m t served r n) two.1,
+          sym (marks k.0 k.1 k.2) ∙ ap (marked_now shape code plan m t served r) k.3 ∙ not_true (marked_now shape code plan m t served r n) two.1,
           k.3,
         )
 
@@ -302,7 +301,7 @@ module _ (shape : Shape) (code : ThreadCode) (plan : Planned) (printer : Printer
         shut true is = absurd (let k = open_asker n less is in none k.0 k.1 k.2 k.3 k.4)
         shut false is = is
 
-    module _ (grant : ℕ → Bool) (hears : HearsBanks shape.globals shape.spreads code plan m (places_of banks code plan) (ports_of banks printer m) r q b p grant) where
+    module _ (grant : ℕ → Bool) (hears : HearsBanks shape.globals shape.spreads code plan m (places_of banks code plan) (ports_of shape m) r q b p grant) where
       heard_so : (k : ℕ) → k < size (planned_view b) → asking k ≡ true → q.granted k ≡ false → nat_eq (r.signal (2 + bank k)) 1 ≡ grant k
       heard_so k below e not_so =
           let a = who k below e in
@@ -316,45 +315,45 @@ module _ (shape : Shape) (code : ThreadCode) (plan : Planned) (printer : Printer
       module _ (printing : HasBit m r t.inside.early.requests.wants false) (waits : r.signal t.inside.chains.waits ≡ 0) (on : r.signal 1 ≡ 1) where
         steers : Steers m r t.inside.inputs t.inside.chains t.inside.early.opens raised grants false true
         steers =
-            steered shape code plan printer m t served r o raised grants false true
+            steered shape code plan m t served r o raised grants false true
             (all_open printing)
-            (λ k less. let h = heard shape code plan printer m t served r o k less in bit_told (r.signal (2 + k)) h.0 h.1) waits on
+            (λ k less. let h = heard shape code plan m t served r o k less in bit_told (r.signal (2 + k)) h.0 h.1) waits on
 
         lacks : any_below (unmet raised grants true) (length t.inside.early.opens) ≡ any_below (unmet opened grants true) banks
         lacks =
-            ap (any_below (unmet raised grants true)) (opens_count shape code plan printer m t served)
+            ap (any_below (unmet raised grants true)) (opens_count shape code plan m t served)
             ∙ ap (λ z. any_below (unmet raised grants true) banks || (z && not ((z && true) && grants banks))) down
             ∙ or_false (any_below (unmet raised grants true) banks)
             ∙ any_alike (unmet raised grants true) (unmet opened grants true) banks (λ k less. ap (λ z. z && not ((z && true) && grants k)) (up k less))
 
         wins : any_below (got raised grants true) (length t.inside.early.opens) ≡ any_below (got opened grants true) banks
         wins =
-            ap (any_below (got raised grants true)) (opens_count shape code plan printer m t served)
+            ap (any_below (got raised grants true)) (opens_count shape code plan m t served)
             ∙ ap (λ z. any_below (got raised grants true) banks || ((z && true) && grants banks)) down
             ∙ or_false (any_below (got raised grants true) banks)
             ∙ any_alike (got raised grants true) (got opened grants true) banks (λ k less. ap (λ z. (z && true) && grants k) (up k less))
 
         ready_so : is_ready (planned_view b) (plan_view b p) q grant ≡ not (any_below (unmet opened grants true) banks)
         ready_so =
-            ready (size (planned_view b)) banks asking q.granted grant (wanted shape code plan printer m t served r q b p o inside)
-            (marked_now shape code plan printer m t served r) grants bank within
+            ready (size (planned_view b)) banks asking q.granted grant (wanted shape code plan m t served r q b p o inside)
+            (marked_now shape code plan m t served r) grants bank within
             is_wanted asker marks heard_so
 
         answered_so : is_answered (planned_view b) (plan_view b p) q grant ≡ any_below (got opened grants true) banks
         answered_so =
-            moving (size (planned_view b)) banks asking q.granted grant (wanted shape code plan printer m t served r q b p o inside)
-            (marked_now shape code plan printer m t served r) grants bank within
+            moving (size (planned_view b)) banks asking q.granted grant (wanted shape code plan m t served r q b p o inside)
+            (marked_now shape code plan m t served r) grants bank within
             is_wanted asker marks heard_so
 
         -- THE STATE IS LEFT as it is ready
         pub block_leave : r.signal t.edge.leave ≡ bit_of (is_ready (planned_view b) (plan_view b p) q grant)
         block_leave =
-            (t.closed.controls.leave m r raised grants false true (from_control shape code plan printer m t served) o steers).shows ∙ ap (λ z. bit_of (not z)) lacks ∙ ap bit_of
+            (t.closed.controls.leave m r raised grants false true (from_control shape code plan m t served) o steers).shows ∙ ap (λ z. bit_of (not z)) lacks ∙ ap bit_of
             (sym ready_so)
 
         pub block_moved : r.signal t.edge.moved ≡ bit_of (is_ready (planned_view b) (plan_view b p) q grant || is_answered (planned_view b) (plan_view b p) q grant)
         block_moved =
-            (t.closed.controls.moved m r raised grants false true (from_control shape code plan printer m t served) o steers).shows
+            (t.closed.controls.moved m r raised grants false true (from_control shape code plan m t served) o steers).shows
             ∙ ap (λ z. bit_of (not z || any_below (got raised grants true) (length t.inside.early.opens))) lacks
             ∙ ap (λ z. bit_of (not (any_below (unmet opened grants true) banks) || z)) wins
             ∙ ap (λ z. bit_of (z || any_below (got opened grants true) banks)) (sym ready_so)
@@ -365,7 +364,7 @@ module _ (shape : Shape) (code : ThreadCode) (plan : Planned) (printer : Printer
         left_so = ap not lacks ∙ sym ready_so
 
         one_only : (k : ℕ) (below : k < size (planned_view b)) (e : asking k ≡ true) (n : ℕ) → n < banks → is_in (who k below e).spread n ≡ true
-            → wanted shape code plan printer m t served r q b p o inside n ≡ true → n ≡ bank k
+            → wanted shape code plan m t served r q b p o inside n ≡ true → n ≡ bank k
         one_only k below e n less counted wants =
             let a = who k below e in
             let j = asker n less wants in
@@ -385,7 +384,7 @@ module _ (shape : Shape) (code : ThreadCode) (plan : Planned) (printer : Printer
             let a = who k below e in
             let listed : slice_get t.inside.slot.spreads a.global ≡ Some a.spread = ap (λ l. slice_get l a.global) t.laid.slot.spreads_are ∙ a.listed in
             let less : a.number % a.spread.count < a.spread.count = some_banks a.number a.spread.count (served.spreads.powers a.global a.spread a.listed) in
-            ap (any_below (λ n. counts_of (slice_get t.inside.slot.spreads a.global) n && got raised grants true n)) (opens_count shape code plan printer m t served)
+            ap (any_below (λ n. counts_of (slice_get t.inside.slot.spreads a.global) n && got raised grants true n)) (opens_count shape code plan m t served)
             ∙ ap
             (λ z. any_below (λ n. counts_of (slice_get t.inside.slot.spreads a.global) n && got raised grants true n) banks
             || (counts_of (slice_get t.inside.slot.spreads a.global) banks && ((z && true) && grants banks))) down
@@ -394,8 +393,8 @@ module _ (shape : Shape) (code : ThreadCode) (plan : Planned) (printer : Printer
             ∙ or_false (any_below (λ n. counts_of (slice_get t.inside.slot.spreads a.global) n && got raised grants true n) banks)
             ∙ any_alike (λ n. counts_of (slice_get t.inside.slot.spreads a.global) n && got raised grants true n) (λ n. is_in a.spread n && got opened grants true n) banks
             (λ n under. ap (λ z. counts_of z n && got raised grants true n) listed ∙ ap (λ z. is_in a.spread n && ((z && true) && grants n)) (up n under))
-            ∙ only_own (size (planned_view b)) banks asking q.granted grant (wanted shape code plan printer m t served r q b p o inside)
-            (marked_now shape code plan printer m t served r) grants bank
+            ∙ only_own (size (planned_view b)) banks asking q.granted grant (wanted shape code plan m t served r q b p o inside)
+            (marked_now shape code plan m t served r) grants bank
             within is_wanted asker marks heard_so (is_in a.spread) k below e
             (ap (is_in a.spread) (own_bank k below e ∙ a.bank) ∙ in_range a.spread (a.number % a.spread.count) less) (one_only k below e)
 
@@ -403,13 +402,13 @@ module _ (shape : Shape) (code : ThreadCode) (plan : Planned) (printer : Printer
             → r.signal (slice_index t.edge.granted (who k below e).global) ≡ bit_of (q.granted k || answered (planned_view b) (plan_view b p) q grant k)
         own_mark k below e stay =
             let a = who k below e in
-            let less = global_within shape code plan printer m t served q b p inside.runs k a.global a.writes below a.target in
+            let less = global_within shape code plan m t served q b p inside.runs k a.global a.writes below a.target in
             let bit : HasBit m r (slice_index (marks_of t.inside) a.global) (q.granted k) = record {
-              wide = mark_wide shape code plan printer m t served a.global less;
-              shows = ap r.signal (mark_at shape code plan printer m t served a.global less) ∙ inside.shown.granted k a.global a.writes below a.target (at_start k e);
+              wide = mark_wide shape code plan m t served a.global less;
+              shows = ap r.signal (mark_at shape code plan m t served a.global less) ∙ inside.shown.granted k a.global a.writes below a.target (at_start k e);
             } in
-            (t.closed.controls.granted m r raised grants false true a.global (q.granted k) (from_control shape code plan printer m t served) o steers
-            (subst (λ n. a.global < n) (sym (marks_counted shape code plan printer m t served)) less) bit).shows
+            (t.closed.controls.granted m r raised grants false true a.global (q.granted k) (from_control shape code plan m t served) o steers
+            (subst (λ n. a.global < n) (sym (marks_counted shape code plan m t served)) less) bit).shows
             ∙ ap (λ z. bit_of ((q.granted k || z) && not (is_left raised grants true false (length t.inside.early.opens)))) (own_wins k below e)
             ∙ ap (λ z. bit_of ((q.granted k || answered (planned_view b) (plan_view b p) q grant k) && not z)) (left_so ∙ stay)
             ∙ ap bit_of (and_true (q.granted k || answered (planned_view b) (plan_view b p) q grant k))

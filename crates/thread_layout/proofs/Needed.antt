@@ -31,13 +31,11 @@ use Rattle.thread_promise.specs.Globals.{bank_total}
 use Rattle.thread_promise.specs.Promise.{IsInside}
 use Rattle.block_datapath.proofs.Walking.{listed_view}
 use Rattle.block_datapath.proofs.Wanting.{view_count}
-use Rattle.thread_slots.specs.declared.shape.Printer.{Printer}
 use Rattle.thread_slots.specs.declared.shape.Shape.{Shape}
 use Rattle.thread_slots.specs.Bits.{HasBit, HaveBits}
-use Rattle.thread_requests.specs.Early.{printer_request}
 use Rattle.thread_layout.specs.Modules.{IsModule}
 use Rattle.thread_requests.specs.Needing.{takes_word, takes_at, needs_in, IsInPlan, IsNeedOfFirst}
-use Rattle.thread_slots.specs.Idle.{has_printer, is_idle}
+use Rattle.thread_slots.specs.Idle.{is_idle}
 use Rattle.thread_layout.specs.Thread.{places_of, ports_of, IsServed}
 use Rattle.thread_slots.proofs.Gating.{index_last}
 use Rattle.thread_slots.proofs.Linking.{has_stage}
@@ -138,7 +136,7 @@ some_operation : (o : Option Operation) → takes_word o ≡ true → (p : Opera
 some_operation None e = absurd cc
 some_operation (Some o) e = (o, refl)
 
-module _ (shape : Shape) (code : ThreadCode) (plan : Planned) (printer : Printer) (m : Module) (t : IsModule shape code plan m) (served : IsServed shape code plan printer) where
+module _ (shape : Shape) (code : ThreadCode) (plan : Planned) (m : Module) (t : IsModule shape code plan m) (served : IsServed shape code plan) where
   abbrev banks : ℕ
   banks = bank_total shape.spreads
 
@@ -146,37 +144,35 @@ module _ (shape : Shape) (code : ThreadCode) (plan : Planned) (printer : Printer
   asked = t.laid.early.asked
 
   whole : asked ≡ t.inside.early.requests.banks.wants ++ t.inside.early.requests.wants ∷ []
-  whole =
-      t.laid.early.asked_is
-      ∙ ap (λ (p : Option Printer). t.inside.early.requests.banks.wants ++ printer_request p t.inside.early.requests.wants) served.printer_is
+  whole = t.laid.early.asked_is
 
   asked_count : length asked ≡ suc banks
   asked_count =
       ap length whole ∙ length-append t.inside.early.requests.banks.wants (t.inside.early.requests.wants ∷ [])
-      ∙ ap (λ k. k + 1) (wants_count shape code plan printer m t served) ∙ (let next : banks + 1 ≡ suc banks = omega arith in next)
+      ∙ ap (λ k. k + 1) (wants_count shape code plan m t served) ∙ (let next : banks + 1 ≡ suc banks = omega arith in next)
 
   -- bank n, and the printer
   pub asked_bank : (n : ℕ) → n < banks → slice_index asked n ≡ slice_index t.inside.early.requests.banks.wants n
   asked_bank n less =
       ap (λ l. slice_index l n) whole
-      ∙ front_index t.inside.early.requests.banks.wants (t.inside.early.requests.wants ∷ []) n (subst (λ k. n < k) (sym (wants_count shape code plan printer m t served)) less)
+      ∙ front_index t.inside.early.requests.banks.wants (t.inside.early.requests.wants ∷ []) n (subst (λ k. n < k) (sym (wants_count shape code plan m t served)) less)
 
   pub asked_printer : slice_index asked banks ≡ t.inside.early.requests.wants
   asked_printer =
       ap (λ l. slice_index l banks) whole
-      ∙ ap (slice_index (t.inside.early.requests.banks.wants ++ t.inside.early.requests.wants ∷ [])) (sym (wants_count shape code plan printer m t served))
+      ∙ ap (slice_index (t.inside.early.requests.banks.wants ++ t.inside.early.requests.wants ∷ [])) (sym (wants_count shape code plan m t served))
       ∙ index_last t.inside.early.requests.banks.wants t.inside.early.requests.wants
 
   asked_wide : (n : ℕ) → n < suc banks → width m (slice_index asked n) ≡ 1
   asked_wide n less =
-      ⊎_elim (λ (h : n < banks). ap (width m) (asked_bank n h) ∙ want_wide shape code plan printer m t served n h)
+      ⊎_elim (λ (h : n < banks). ap (width m) (asked_bank n h) ∙ want_wide shape code plan m t served n h)
       (λ (h : banks ≤ n).
       let same : n ≡ banks = omega arith in
-      ap (λ k. width m (slice_index asked k)) same ∙ ap (width m) asked_printer ∙ print_wide shape code plan printer m t served) (cases_lt n banks)
+      ap (λ k. width m (slice_index asked k)) same ∙ ap (width m) asked_printer ∙ print_wide shape code plan m t served) (cases_lt n banks)
 
   pub need_wide : width m t.inside.early.need ≡ 1
   need_wide =
-      earlier_wide m t.laid.with_early _ t.inside.early.need 1 (from_early shape code plan printer m t served) (wired shape code plan printer m t served).early.need
+      earlier_wide m t.laid.with_early _ t.inside.early.need 1 (from_early shape code plan m t served) (wired shape code plan m t served).early.need
 
   module _ (r : Reading) (o : Obeys m r) where
     abbrev now : ℕ
@@ -194,19 +190,19 @@ module _ (shape : Shape) (code : ThreadCode) (plan : Planned) (printer : Printer
 
     end_bit : HasBit m r t.inside.early.done (nat_eq now (length code.stages))
     end_bit = record {
-      wide = t.laid.early.asks.done_wide m (from_asks shape code plan printer m t served);
-      shows = t.laid.early.asks.done_is m r (from_asks shape code plan printer m t served) o (knows shape code plan printer m t served r o);
+      wide = t.laid.early.asks.done_wide m (from_asks shape code plan m t served);
+      shows = t.laid.early.asks.done_is m r (from_asks shape code plan m t served) o (knows shape code plan m t served r o);
     }
 
     -- NEED, of what is known of the stages
-    pub need_bit : (u : Bool) → IsNeedOfFirst t.inside.slot (has_printer shape.printer) code plan (length code.stages) m r u
+    pub need_bit : (u : Bool) → IsNeedOfFirst t.inside.slot code plan (length code.stages) m r u
         → HasBit m r t.inside.early.need ((nat_eq now (length code.stages) || u) || any_below (λ k. true && asked_now k) (length asked))
     need_bit u place =
-        t.laid.early.needs.shows m r (nat_eq now (length code.stages) || u) asked_now (from_early shape code plan printer m t served) o
-        (t.laid.early.holds.shows m r (nat_eq now (length code.stages)) u (from_needs shape code plan printer m t served) o end_bit place) asked_bits
+        t.laid.early.needs.shows m r (nat_eq now (length code.stages) || u) asked_now (from_early shape code plan m t served) o
+        (t.laid.early.holds.shows m r (nat_eq now (length code.stages)) u (from_needs shape code plan m t served) o end_bit place) asked_bits
 
     abbrev at_stages : ℕ → Bool
-    at_stages state = any_below (λ l. nat_eq now l && needs_in (has_printer shape.printer) (slice_get code.stages l) (slice_get plan.stages l) state) (length code.stages)
+    at_stages state = any_below (λ l. nat_eq now l && needs_in (slice_get code.stages l) (slice_get plan.stages l) state) (length code.stages)
 
     -- the place of a reading, whose state is s wherever its stage is a block
     abbrev Placed : ℕ → Type 0
@@ -217,7 +213,7 @@ module _ (shape : Shape) (code : ThreadCode) (plan : Planned) (printer : Printer
     at_place s inside =
         need_bit (at_stages s)
         (record {
-          has = λ l less. has_stage code t.inside.slot l m r (knows shape code plan printer m t served r o) (omega arith);
+          has = λ l less. has_stage code t.inside.slot l m r (knows shape code plan m t served r o) (omega arith);
           state = s;
           inside = inside;
           is = refl;
@@ -226,29 +222,29 @@ module _ (shape : Shape) (code : ThreadCode) (plan : Planned) (printer : Printer
     held_bit : (c : Bool) × (r.signal t.laid.early.held ≡ bit_of c)
     held_bit =
         wide_bit m r t.laid.early.held o
-        (t.laid.early.holds.wide m (from_needs shape code plan printer m t served) (t.laid.early.asks.done_wide m (from_asks shape code plan printer m t served)))
+        (t.laid.early.holds.wide m (from_needs shape code plan m t served) (t.laid.early.asks.done_wide m (from_asks shape code plan m t served)))
 
     -- where no core is needed none is asked
     pub unneeded_asks : r.signal t.inside.early.need ≡ 0 → (n : ℕ) → n < suc banks → asked_now n ≡ false
     unneeded_asks none n less =
         let need =
-        t.laid.early.needs.shows m r held_bit.0 asked_now (from_early shape code plan printer m t served) o
+        t.laid.early.needs.shows m r held_bit.0 asked_now (from_early shape code plan m t served) o
         (record {
-          wide = t.laid.early.holds.wide m (from_needs shape code plan printer m t served) (t.laid.early.asks.done_wide m (from_asks shape code plan printer m t served));
+          wide = t.laid.early.holds.wide m (from_needs shape code plan m t served) (t.laid.early.asks.done_wide m (from_asks shape code plan m t served));
           shows = held_bit.1;
         }) asked_bits in
         let off : (held_bit.0 || any_below (λ k. true && asked_now k) (length asked)) ≡ false = bit_false _ (sym need.shows ∙ none) in
         not_some (λ k. true && asked_now k) (length asked) (or_second held_bit.0 _ off) n (subst (λ k. n < k) (sym asked_count) less)
 
     -- and one is needed nowhere else
-    unneeded : (s l : ℕ) → Placed s → now ≡ l → l < length code.stages → needs_in (has_printer shape.printer) (slice_get code.stages l) (slice_get plan.stages l) s ≡ false
+    unneeded : (s l : ℕ) → Placed s → now ≡ l → l < length code.stages → needs_in (slice_get code.stages l) (slice_get plan.stages l) s ≡ false
         → ((n : ℕ) → n < suc banks → asked_now n ≡ false) → r.signal t.inside.early.need ≡ 0
     unneeded s l placed here below none quiet =
         let at : at_stages s ≡ false =
-        none_below (λ k. nat_eq now k && needs_in (has_printer shape.printer) (slice_get code.stages k) (slice_get plan.stages k) s) (length code.stages)
+        none_below (λ k. nat_eq now k && needs_in (slice_get code.stages k) (slice_get plan.stages k) s) (length code.stages)
         (λ k less. ⊎_elim
         (λ (same : k ≡ l).
-        ap (λ z. nat_eq now z && needs_in (has_printer shape.printer) (slice_get code.stages z) (slice_get plan.stages z) s) same
+        ap (λ z. nat_eq now z && needs_in (slice_get code.stages z) (slice_get plan.stages z) s) same
         ∙ ap (λ z. nat_eq now l && z) none ∙ and_false (nat_eq now l))
         (λ (ne : k ≢ l). and_no (nat_eq now k) _ (other_number now k (λ is. ne (sym is ∙ here)))) (same_or_not k l)) in
         let end : nat_eq now (length code.stages) ≡ false =
@@ -266,18 +262,18 @@ module _ (shape : Shape) (code : ThreadCode) (plan : Planned) (printer : Printer
         (λ l b p e f is.
         absurd (let own : slice_get code.stages now ≡ Some (stage.Run b) = ap (slice_get code.stages) is ∙ e in cc))
         refl (slice_get_within code.stages now (stage.Act Return next) listed)
-        (ap (λ k. needs_in (has_printer shape.printer) k (slice_get plan.stages now) 0) listed) quiet
+        (ap (λ k. needs_in k (slice_get plan.stages now) 0) listed) quiet
 
     -- WHERE THE THREAD WAITS FOREVER a core is needed
-    pub idle_needs_so : (s : Stage) → slice_get code.stages now ≡ Some s → is_idle (has_printer shape.printer) s (slice_get plan.stages now) ≡ true →
+    pub idle_needs_so : (s : Stage) → slice_get code.stages now ≡ Some s → is_idle s (slice_get plan.stages now) ≡ true →
         r.signal t.inside.early.need ≡ 1
     idle_needs_so s listed idle =
         let less = slice_get_within code.stages now s listed in
         let here : at_stages 0 ≡ true =
-        some_below (λ l. nat_eq now l && needs_in (has_printer shape.printer) (slice_get code.stages l) (slice_get plan.stages l) 0) (length code.stages) now less
-        (both_yes (nat_eq now now) (needs_in (has_printer shape.printer) (slice_get code.stages now) (slice_get plan.stages now) 0) (same_number now now refl)
-        (ap (λ k. needs_in (has_printer shape.printer) k (slice_get plan.stages now) 0) listed
-        ∙ idle_needs (has_printer shape.printer) s (slice_get plan.stages now) 0 idle)) in
+        some_below (λ l. nat_eq now l && needs_in (slice_get code.stages l) (slice_get plan.stages l) 0) (length code.stages) now less
+        (both_yes (nat_eq now now) (needs_in (slice_get code.stages now) (slice_get plan.stages now) 0) (same_number now now refl)
+        (ap (λ k. needs_in k (slice_get plan.stages now) 0) listed
+        ∙ idle_needs s (slice_get plan.stages now) 0 idle)) in
         (at_place 0 (λ l b p e f is. absurd (runs_idle l b p e f is))).shows
         ∙ ap (λ k. bit_of ((nat_eq now (length code.stages) || k) || any_below (λ k. true && asked_now k) (length asked))) here
         ∙ ap (λ k. bit_of (k || any_below (λ k. true && asked_now k) (length asked))) (or_true (nat_eq now (length code.stages)))
@@ -287,8 +283,8 @@ module _ (shape : Shape) (code : ThreadCode) (plan : Planned) (printer : Printer
             let run : s ≡ stage.Run b = (let own : slice_get code.stages now ≡ Some (stage.Run b) = ap (slice_get code.stages) is ∙ e in cc) in
             let planned_so : slice_get plan.stages now ≡ Some (planned.Run p) = ap (slice_get plan.stages) is ∙ f in
             let clash : false ≡ true =
-            ap (λ k. is_idle (has_printer shape.printer) (stage.Run b) k) (sym planned_so)
-            ∙ ap (λ (k : Stage). is_idle (has_printer shape.printer) k (slice_get plan.stages now)) (sym run) ∙ idle in
+            ap (λ k. is_idle (stage.Run b) k) (sym planned_so)
+            ∙ ap (λ (k : Stage). is_idle k (slice_get plan.stages now)) (sym run) ∙ idle in
             absurd cc
 
     -- AT THE END a core is needed
@@ -300,9 +296,9 @@ module _ (shape : Shape) (code : ThreadCode) (plan : Planned) (printer : Printer
 
     -- within a block
     module _ (q : Slot) (b : Block) (p : BlockPlan)
-        (inside : IsInside shape.globals shape.spreads code plan m (places_of banks code plan) (ports_of banks printer m) r q b p) where
+        (inside : IsInside shape.globals shape.spreads code plan m (places_of banks code plan) (ports_of shape m) r q b p) where
       here_now : now ≡ q.stage
-      here_now = (in_stage shape code plan printer m t served r o q b p inside.runs inside.state inside.shown).stage
+      here_now = (in_stage shape code plan m t served r o q b p inside.runs inside.state inside.shown).stage
 
       read_at : (k : ℕ) → takes_word (slice_get b.operations k) ≡ true → (op : Operation) × (slice_get b.operations k ≡ Some op) × (k < size (planned_view b))
           × (x : ℕ) × ((operation_at (planned_view b) k).kind ≡ BankRead x)
@@ -323,7 +319,7 @@ module _ (shape : Shape) (code : ThreadCode) (plan : Planned) (printer : Printer
 
       in_plan : IsInPlan t.inside.slot b p m r q.state
       in_plan =
-          let own = in_stage shape code plan printer m t served r o q b p inside.runs inside.state inside.shown in
+          let own = in_stage shape code plan m t served r o q b p inside.runs inside.state inside.shown in
           record {
             wide = own.wide;
             is = own.state;
@@ -347,11 +343,11 @@ module _ (shape : Shape) (code : ThreadCode) (plan : Planned) (printer : Printer
       below_end = slice_get_within code.stages q.stage (stage.Run b) inside.runs.listed
 
       -- what the stages need is what the block needs
-      stage_need : needs_in (has_printer shape.printer) (slice_get code.stages q.stage) (slice_get plan.stages q.stage) q.state ≡ any_below (takes_at b p q.state)
+      stage_need : needs_in (slice_get code.stages q.stage) (slice_get plan.stages q.stage) q.state ≡ any_below (takes_at b p q.state)
           (length b.operations)
       stage_need =
-          ap (λ k. needs_in (has_printer shape.printer) k (slice_get plan.stages q.stage) q.state) inside.runs.listed
-          ∙ ap (λ k. needs_in (has_printer shape.printer) (Some (stage.Run b)) k q.state) inside.runs.planned_so
+          ap (λ k. needs_in k (slice_get plan.stages q.stage) q.state) inside.runs.listed
+          ∙ ap (λ k. needs_in (Some (stage.Run b)) k q.state) inside.runs.planned_so
 
       -- WHERE A READ TAKES ITS WORD a core is needed
       pub taken_needs : (k x : ℕ) → k < size (planned_view b) → last_state (planned_view b) (plan_view b p) k ≡ q.state → (operation_at (planned_view b) k).kind ≡ BankRead x
@@ -365,8 +361,8 @@ module _ (shape : Shape) (code : ThreadCode) (plan : Planned) (printer : Printer
           both_yes (takes_word (slice_get b.operations k)) (nat_eq q.state (suc (slice_index p.starts k))) takes
           (same_number q.state (suc (slice_index p.starts k)) (sym last ∙ last_of_read k x kind)) in
           let at : at_stages q.state ≡ true =
-          some_below (λ l. nat_eq now l && needs_in (has_printer shape.printer) (slice_get code.stages l) (slice_get plan.stages l) q.state) (length code.stages) q.stage below_end
-          (both_yes (nat_eq now q.stage) (needs_in (has_printer shape.printer) (slice_get code.stages q.stage) (slice_get plan.stages q.stage) q.state)
+          some_below (λ l. nat_eq now l && needs_in (slice_get code.stages l) (slice_get plan.stages l) q.state) (length code.stages) q.stage below_end
+          (both_yes (nat_eq now q.stage) (needs_in (slice_get code.stages q.stage) (slice_get plan.stages q.stage) q.state)
           (same_number now q.stage here_now) (stage_need ∙ some_below (takes_at b p q.state) (length b.operations) k less hit)) in
           (at_place q.state placed_here).shows
           ∙ ap (λ z. bit_of ((nat_eq now (length code.stages) || z) || any_below (λ k. true && asked_now k) (length asked))) at

@@ -1,6 +1,6 @@
 -- Which cores are open to be asked, in a reading of a thread's module.
 use Rattle.std.proofs.Common.{◌≡◌, ℕ, zero, suc, ◌+◌, ◌-◌, ◌<◌, ◌≤◌, Bool, true, false, not, ◌&&◌, nat_eq, nat_lt, if◌then◌else◌, List, [], ◌∷◌, ◌++◌, length, map, slice_get}
-use Rattle.std.proofs.Common.{slice_index, Option, Some, refl, sym, ap, subst, ◌∙◌, arith, ⊎_elim}
+use Rattle.std.proofs.Common.{slice_index, Some, refl, sym, ap, subst, ◌∙◌, arith, ⊎_elim}
 use Rattle.std.proofs.lemmas.Bool.{cases_lt}
 use Rattle.std.proofs.lemmas.Bool.Decides.{nat_tests}
 use Rattle.std.proofs.lemmas.List.{length-map}
@@ -20,10 +20,9 @@ use Rattle.operator_wires.specs.Built.{Base, IsEarlier}
 use Rattle.operator_wires.proofs.Giving.{grows_then, listed}
 use Rattle.block_datapath.specs.declared.registers.Held.{Held}
 use Rattle.block_datapath.specs.Requests.{AreAsMany}
-use Rattle.thread_slots.specs.declared.shape.Printer.{Printer}
 use Rattle.thread_slots.specs.declared.shape.Shape.{Shape}
 use Rattle.thread_slots.specs.Bits.{HasBit, HaveBits}
-use Rattle.thread_requests.specs.Early.{held_width, spread_out, printer_request}
+use Rattle.thread_requests.specs.Early.{held_width, spread_out}
 use Rattle.thread_layout.specs.Modules.{marks_of, IsModule, IsWiredInside}
 use Rattle.thread_layout.specs.Thread.{input_count, IsServed}
 use Rattle.thread_slots.proofs.Gating.{index_last, index_there}
@@ -51,7 +50,7 @@ bit_told n false e = e ∙ ap (λ k. bit_of (nat_eq k 1)) (sym e)
 pub earlier_wide : (m : Module) (a : List Signal) (base : Base) (y w : ℕ) → Grows a m.signals → IsEarlier a base y w → width m y ≡ w
 earlier_wide m a base y w g t = ap signal_width (listed a m.signals y t.signal g t.listed) ∙ t.wide
 
-module _ (shape : Shape) (code : ThreadCode) (plan : Planned) (printer : Printer) (m : Module) (t : IsModule shape code plan m) (served : IsServed shape code plan printer) where
+module _ (shape : Shape) (code : ThreadCode) (plan : Planned) (m : Module) (t : IsModule shape code plan m) (served : IsServed shape code plan) where
   abbrev banks : ℕ
   banks = bank_total shape.spreads
 
@@ -59,8 +58,8 @@ module _ (shape : Shape) (code : ThreadCode) (plan : Planned) (printer : Printer
   abbrev pub raised_by : (ℕ → Bool) → (ℕ → Bool) → Bool → ℕ → Bool
   raised_by wants marked prints n = if nat_lt n banks then wants n && not (marked n) else prints
 
-  pub wired : IsWiredInside code plan shape printer t.laid.with_inputs t.laid.with_slot t.laid.with_early t.laid.with_heard t.with_inside t.inside
-  wired = t.laid.wired printer served.printer_is served.site_low served.site_high served.spreads refl
+  pub wired : IsWiredInside code plan shape t.laid.with_inputs t.laid.with_slot t.laid.with_early t.laid.with_heard t.with_inside t.inside
+  wired = t.laid.wired served.site_low served.site_high served.spreads refl
 
   pub wants_count : length t.inside.early.requests.banks.wants ≡ banks
   wants_count = wired.early.linked.banks.wants.count ∙ bits_count
@@ -69,15 +68,15 @@ module _ (shape : Shape) (code : ThreadCode) (plan : Planned) (printer : Printer
       bits_count =
           sym wired.early.linked.banks.wants.count
           ∙ (t.laid.early.asks.many.banks (length (map held_width t.inside.slot.words)) t.laid.early.begins.many).wants
-          ∙ length-map t.inside.slot.words held_width ∙ words_count shape code plan printer m t served
+          ∙ length-map t.inside.slot.words held_width ∙ words_count shape code plan m t served
 
   -- the links begin with one for each bank
   pub start_many : AreAsMany banks t.laid.early.start.banks
   start_many =
-      subst (λ k. AreAsMany k t.laid.early.start.banks) (length-map t.inside.slot.words held_width ∙ words_count shape code plan printer m t served) t.laid.early.begins.many
+      subst (λ k. AreAsMany k t.laid.early.start.banks) (length-map t.inside.slot.words held_width ∙ words_count shape code plan m t served) t.laid.early.begins.many
 
   pub start_less : (n : ℕ) → n < banks → n < length (map held_width t.inside.slot.words)
-  start_less n less = subst (λ k. n < k) (sym (length-map t.inside.slot.words held_width ∙ words_count shape code plan printer m t served)) less
+  start_less n less = subst (λ k. n < k) (sym (length-map t.inside.slot.words held_width ∙ words_count shape code plan m t served)) less
 
   -- bits of banks, and of the printer
   pub want_wide : (n : ℕ) → n < banks → width m (slice_index t.inside.early.requests.banks.wants n) ≡ 1
@@ -85,7 +84,7 @@ module _ (shape : Shape) (code : ThreadCode) (plan : Planned) (printer : Printer
       let there = index_there t.inside.early.requests.banks.wants n (subst (λ k. n < k) (sym wants_count) less) in
       let h = index_held wired.bits n (subst (λ k. n < k) (sym (sym wired.early.linked.banks.wants.count ∙ wants_count)) less) in
       let stands = wired.early.linked.banks.wants.each n (slice_index t.inside.early.requests.banks.wants n) h.0 h.1 there in
-      earlier_wide m t.laid.with_early _ (slice_index t.inside.early.requests.banks.wants n) h.0.width (from_early shape code plan printer m t served) stands
+      earlier_wide m t.laid.with_early _ (slice_index t.inside.early.requests.banks.wants n) h.0.width (from_early shape code plan m t served) stands
       ∙ wired.early.linked.widths.bits n h.0 h.1
     where
       index_held : (xs : List Held) (i : ℕ) → i < length xs → (x : Held) × (slice_get xs i ≡ Some x)
@@ -94,14 +93,14 @@ module _ (shape : Shape) (code : ThreadCode) (plan : Planned) (printer : Printer
       index_held (x ∷ xs) (suc i) h = index_held xs i (omega arith)
 
   pub print_wide : width m t.inside.early.requests.wants ≡ 1
-  print_wide = earlier_wide m t.laid.with_early _ t.inside.early.requests.wants 1 (from_early shape code plan printer m t served) wired.early.linked.wants
+  print_wide = earlier_wide m t.laid.with_early _ t.inside.early.requests.wants 1 (from_early shape code plan m t served) wired.early.linked.wants
 
   -- the bit of a bank is that of its global
   pub mark_of_bank : (x k : ℕ) (s : Spread) → slice_get shape.spreads x ≡ Some s → k < s.count
       → slice_index (spread_out t.inside.slot.spreads (marks_of t.inside)) (s.first + k) ≡ input_count banks + 3 + length code.variables + plan.registers + x
   mark_of_bank x k s there less =
       let inside : x < length shape.globals = subst (λ n. x < n) served.spreads.count (slice_get_within shape.spreads x s there) in
-      let v = mark_held shape code plan printer m t served x inside in
+      let v = mark_held shape code plan m t served x inside in
       let mark : slice_get (marks_of t.inside) x ≡ Some v.held.register = mapped t.inside.granted x v.held v.listed in
       let own : slice_get (spread_out shape.spreads (marks_of t.inside)) (s.first + k) ≡ Some v.held.register =
       ap (λ n. slice_get (spread_out shape.spreads (marks_of t.inside)) (n + k)) (served.spreads.firsts x s there)
@@ -134,7 +133,7 @@ module _ (shape : Shape) (code : ThreadCode) (plan : Planned) (printer : Printer
       let at : own.1.first + k ≡ n = omega arith in
       let below : k < own.1.count = omega arith in
       let inside : own.0 < length shape.globals = subst (λ i. own.0 < i) served.spreads.count (slice_get_within shape.spreads own.0 own.1 own.2) in
-      let v = mark_held shape code plan printer m t served own.0 inside in
+      let v = mark_held shape code plan m t served own.0 inside in
       let place : slice_index (spread_out t.inside.slot.spreads (marks_of t.inside)) n ≡ input_count banks + 3 + length code.variables + plan.registers + own.0 =
       ap (slice_index (spread_out t.inside.slot.spreads (marks_of t.inside))) (sym at) ∙ mark_of_bank own.0 k own.1 own.2 below in
       let wide : width m (slice_index (spread_out t.inside.slot.spreads (marks_of t.inside)) n) ≡ 1 =
@@ -147,7 +146,7 @@ module _ (shape : Shape) (code : ThreadCode) (plan : Planned) (printer : Printer
       (marks : (n : ℕ) → n < banks → HasBit m r (slice_index (spread_out t.inside.slot.spreads (marks_of t.inside)) n) (marked n))
       (printing : HasBit m r t.inside.early.requests.wants prints) where
     from_open : Grows t.laid.early.with_open m.signals
-    from_open = grows_then t.laid.early.with_open t.laid.with_early m.signals t.laid.early.needs.grows (from_early shape code plan printer m t served)
+    from_open = grows_then t.laid.early.with_open t.laid.with_early m.signals t.laid.early.needs.grows (from_early shape code plan m t served)
 
     from_free : Grows t.laid.early.with_free m.signals
     from_free = grows_then t.laid.early.with_free t.laid.early.with_open m.signals t.laid.early.opens.grows from_open
@@ -167,7 +166,7 @@ module _ (shape : Shape) (code : ThreadCode) (plan : Planned) (printer : Printer
         own_count = t.laid.early.opens.count ∙ wants_count
 
         whole : t.inside.early.opens ≡ t.laid.early.bank_opens ++ t.inside.early.requests.wants ∷ []
-        whole = t.laid.early.open_is ∙ ap (λ (p : Option Printer). t.laid.early.bank_opens ++ printer_request p t.inside.early.requests.wants) served.printer_is
+        whole = t.laid.early.open_is
 
         bank : n < banks → HasBit m r (slice_index t.inside.early.opens n) (raised_by wants marked prints n)
         bank inside =

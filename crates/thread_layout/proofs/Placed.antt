@@ -1,6 +1,7 @@
 -- Where the parts of a module stand, and what a reading shows there.
-use Rattle.std.proofs.Common.{◌≡◌, ℕ, zero, suc, ◌+◌, ◌*◌, ◌<◌, ◌^◌, Bool, true, false, if◌then◌else◌, List, [], ◌∷◌, length, map, slice_get, Option, Some, None, pos, refl, sym}
-use Rattle.std.proofs.Common.{ap, subst, ◌∙◌, arith, length-append}
+use Rattle.std.proofs.Common.{◌≡◌, ℕ, zero, suc, ◌+◌, ◌<◌, ◌^◌, Bool, true, false, if◌then◌else◌, List, [], ◌∷◌, length, map, slice_get, Option, Some, None, pos, refl, sym}
+use Rattle.std.proofs.Common.{ap, subst, ◌∙◌, arith, length-append, ◌++◌, ◌≤◌, take, ⊎_elim}
+use Rattle.std.proofs.lemmas.Bool.{cases_lt}
 use Rattle.std.specs.Prelude.{option_map, replicate, slice_index}
 use Rattle.std.proofs.lemmas.List.{length-map}
 use Rattle.std.proofs.lemmas.Option.{slice_get_within, slice_get-map}
@@ -12,7 +13,7 @@ use Rattle.block_ir.specs.declared.code.ThreadCode.{ThreadCode}
 use Rattle.block_ir.specs.declared.plan.Planned.{Planned}
 use Rattle.netlist.specs.declared.netlist.Value.TheVariants.{Copy}
 use Rattle.netlist.specs.declared.netlist.Source.{Source}
-use Rattle.netlist.specs.declared.netlist.Source.TheVariants.{Input, Register}
+use Rattle.netlist.specs.declared.netlist.Source.TheVariants.{Input, Register, Assigned}
 use Rattle.netlist.specs.declared.netlist.Signal.{Signal}
 use Rattle.netlist.specs.declared.netlist.Module.{Module}
 use Rattle.verilog_meaning.specs.Readings.{Reading, width, signal_width, initial_reading, initial_signal, initial_number}
@@ -22,18 +23,21 @@ use Rattle.circuit.proofs.Growth.{got}
 use Rattle.operator_wires.specs.Gives.{Grows}
 use Rattle.operator_wires.proofs.Giving.{grows_then}
 use Rattle.block_datapath.specs.declared.registers.Held.{Held}
-use Rattle.thread_slots.specs.declared.shape.Printer.{Printer}
 use Rattle.thread_slots.specs.declared.shape.Shape.{Shape}
 use Rattle.thread_slots.specs.Slots.{StandsAt}
-use Rattle.thread_requests.specs.Outputs.{CopiesAt, HasBankOutputs}
+use Rattle.block_datapath.specs.declared.requests.BankRequests.{BankRequests}
+use Rattle.thread_requests.specs.declared.outputs.Row.{Row}
+use Rattle.thread_requests.specs.Outputs.{CopiesAt, joined, request_row, field_row, rows_at, fields_from, rows_of}
 use Rattle.thread_slots.specs.Wired.{field_width}
 use Rattle.thread_layout.specs.Modules.{IsModule}
 use Rattle.thread_slots.specs.Inputs.{core_count}
 use Rattle.thread_slots.specs.Hearing.{IsHeard}
-use Rattle.thread_requests.specs.Early.{held_width, printer_request, spread_out}
-use Rattle.thread_layout.specs.Thread.{input_count, first_output, IsServed}
-use Rattle.thread_requests.proofs.OutputPorts.{bank_outputs_later}
+use Rattle.thread_requests.specs.Early.{held_width, spread_out}
+use Rattle.core_ports.specs.Ports.{asks_of, thread_outputs}
+use Rattle.thread_layout.specs.Thread.{input_count, bank_port, printer_port, core_ports, first_output, port_at, need_at, done_at, IsServed}
 use Rattle.thread_slots.proofs.Laying.{stands_later}
+use Rattle.thread_layout.proofs.Insides.{heard_widths, widths_same}
+use Rattle.thread_layout.proofs.Rowing.{HaveWidths, own_asks, joined_there, place_of_rows, all_count, rows_widths, bank_there, last_there, field_there}
 use Rattle.thread_layout.proofs.Spreading.{spread_there, spread_count}
 
 -- ---- a signal that stands at a place
@@ -82,9 +86,16 @@ got_any [] i h = absurd (omega arith)
 got_any (x ∷ xs) zero h = (x, refl)
 got_any (x ∷ xs) (suc i) h = got_any xs i (omega arith)
 
+-- the ports of bank k, whose words have this width, at these places
+pub record HasBankOutputs (signals : List Signal) (at : ℕ → ℕ) (asks : List ℕ) (banks : BankRequests) (k w : ℕ) : Type 0 where
+  pub at_ask : CopiesAt signals (at 0) 1 (slice_index asks k)
+  pub at_writes : CopiesAt signals (at 1) 1 (slice_index banks.writes k)
+  pub at_address : CopiesAt signals (at 2) 64 (slice_index banks.addresses k)
+  pub at_value : CopiesAt signals (at 3) w (slice_index banks.values k)
+
 -- ---- the module of a thread
 
-module _ (shape : Shape) (code : ThreadCode) (plan : Planned) (printer : Printer) (m : Module) (t : IsModule shape code plan m) (served : IsServed shape code plan printer) where
+module _ (shape : Shape) (code : ThreadCode) (plan : Planned) (m : Module) (t : IsModule shape code plan m) (served : IsServed shape code plan) where
   abbrev pub banks : ℕ
   banks = bank_total shape.spreads
 
@@ -92,11 +103,8 @@ module _ (shape : Shape) (code : ThreadCode) (plan : Planned) (printer : Printer
   abbrev pub behind : ℕ
   behind = input_count banks
 
-  pub from_banks : Grows t.closed.outputs.with_banks m.signals
-  from_banks = t.closed.outputs.rest.grows
-
   pub from_control : Grows t.closed.with_control m.signals
-  from_control = grows_then t.closed.with_control t.closed.outputs.with_banks m.signals t.closed.outputs.banks.grows from_banks
+  from_control = grows_then t.closed.with_control t.closed.outputs.with_rows m.signals t.closed.outputs.rows.grows t.closed.outputs.grows
 
   pub from_inside : Grows t.with_inside m.signals
   from_inside = grows_then t.with_inside t.closed.with_control m.signals t.closed.controls.grows from_control
@@ -132,12 +140,12 @@ module _ (shape : Shape) (code : ThreadCode) (plan : Planned) (printer : Printer
   pub words_count : length t.inside.slot.words ≡ banks
   words_count = t.laid.hears.count ∙ told_count
 
-  pub cores : core_count shape.printer (length (spread_out shape.spreads (map width_of shape.globals))) ≡ suc banks
-  cores = ap (λ (p : Option Printer). core_count p (length (spread_out shape.spreads (map width_of shape.globals)))) served.printer_is ∙ ap suc bank_count
+  pub cores : core_count (length (spread_out shape.spreads (map width_of shape.globals))) ≡ suc banks
+  cores = ap suc bank_count
 
-  ports_long : length t.laid.with_ports ≡ 3 + banks
+  pub ports_long : length t.laid.with_ports ≡ 3 + banks
   ports_long =
-      let long : length t.laid.with_ports ≡ 2 + core_count shape.printer (length (spread_out shape.spreads (map width_of shape.globals))) = t.laid.inputs.long in
+      let long : length t.laid.with_ports ≡ 2 + core_count (length (spread_out shape.spreads (map width_of shape.globals))) = t.laid.inputs.long in
       let count = cores in
       omega arith
 
@@ -149,11 +157,9 @@ module _ (shape : Shape) (code : ThreadCode) (plan : Planned) (printer : Printer
   opens_count =
       let wanted : length t.inside.early.requests.banks.wants ≡ banks =
       (t.laid.early.asks.many.banks (length (map held_width t.inside.slot.words)) t.laid.early.begins.many).wants ∙ length-map t.inside.slot.words held_width ∙ words_count in
-      let one : length (printer_request shape.printer t.inside.early.requests.wants) ≡ 1 =
-      ap (λ (p : Option Printer). length (printer_request p t.inside.early.requests.wants)) served.printer_is in
       let own : length t.laid.early.bank_opens ≡ banks = t.laid.early.opens.count ∙ wanted in
-      ap length t.laid.early.open_is ∙ length-append t.laid.early.bank_opens (printer_request shape.printer t.inside.early.requests.wants)
-      ∙ (let sum : length t.laid.early.bank_opens + length (printer_request shape.printer t.inside.early.requests.wants) ≡ suc banks = omega arith in sum)
+      ap length t.laid.early.open_is ∙ length-append t.laid.early.bank_opens (t.inside.early.requests.wants ∷ [])
+      ∙ (let sum : length t.laid.early.bank_opens + 1 ≡ suc banks = omega arith in sum)
 
   -- inputs
   pub enable_at : t.inside.inputs.enable ≡ 1
@@ -339,56 +345,126 @@ module _ (shape : Shape) (code : ThreadCode) (plan : Planned) (printer : Printer
       ∙ ap (λ (n : ℕ). behind + 3 + length t.inside.slot.variables + n + i) (sym kept)
 
   -- outputs
-  pub fields_count : length t.inside.early.requests.fields ≡ printer.values + 1
-  fields_count = t.laid.early.asks.many.fields ∙ t.laid.early.begins.fields_count ∙ t.laid.early.widths printer served.printer_is
+  pub fields_count : length t.inside.early.requests.fields ≡ shape.printer.values + 1
+  fields_count = t.laid.early.asks.many.fields ∙ t.laid.early.begins.fields_count ∙ t.laid.early.widths
 
-  pub before_outputs : length t.closed.with_control ≡ first_output banks printer m
-  before_outputs =
-      let long = t.closed.outputs.rest.long printer served.printer_is in
-      let more = t.closed.outputs.banks.long in
-      let words = words_count in
-      let count = fields_count in
+  -- what cores are asked
+  abbrev pub rows : List (List Row)
+  rows = rows_of shape.printer.site_width t.inside.slot.words t.edge.asks t.inside.early.requests
+
+  words_wide : map held_width t.inside.slot.words ≡ spread_out shape.spreads (map width_of shape.globals)
+  words_wide =
+      heard_widths t.laid.told t.inside.slot.words t.laid.with_early t.laid.with_heard t.inside.early.need t.laid.hears
+      ∙ widths_same t.laid.with_ports t.laid.with_inputs (spread_out shape.spreads (map width_of shape.globals)) t.laid.told t.laid.words
+
+  pub widths_are : HaveWidths rows (core_ports shape)
+  widths_are =
+      rows_widths t.edge.asks t.inside.early.requests.banks shape.printer t.inside.early.requests.fields (slice_index t.edge.asks (length t.inside.slot.words)) 0 t.inside.slot.words
+      fields_count
+      ∙ ap (λ l. map own_asks (map bank_port l ++ printer_port shape.printer ∷ [])) words_wide
+
+  pub ports_count : length (core_ports shape) ≡ suc banks
+  ports_count =
+      length-append (map bank_port (spread_out shape.spreads (map width_of shape.globals))) (printer_port shape.printer ∷ [])
+      ∙ ap (λ n. n + 1) (length-map (spread_out shape.spreads (map width_of shape.globals)) bank_port ∙ bank_count)
+      ∙ (let next : banks + 1 ≡ suc banks = omega arith in next)
+
+  pub all_long : length m.signals ≡ length t.closed.with_control + length (thread_outputs (core_ports shape))
+  all_long =
+      let long = t.closed.outputs.long in
+      let own = t.closed.outputs.rows.long in
+      let count = all_count rows (core_ports shape) widths_are in
+      let more : length (thread_outputs (core_ports shape)) ≡ length (asks_of (core_ports shape)) + 2 = length-append (asks_of (core_ports shape)) (1 ∷ 1 ∷ []) in
       omega arith
 
-  pub before_printer : length t.closed.outputs.with_banks ≡ first_output banks printer m + 4 * banks
-  before_printer =
-      let more = t.closed.outputs.banks.long in
-      let words = words_count in
+  pub before_outputs : length t.closed.with_control ≡ first_output shape m
+  before_outputs = let long = all_long in omega arith
+
+  pub before_need : length t.closed.outputs.with_rows ≡ need_at shape m
+  before_need =
+      let own = t.closed.outputs.rows.long in
+      let count = all_count rows (core_ports shape) widths_are in
       let before = before_outputs in
       omega arith
 
-  -- the ports of bank k of a global
+  -- each row is copied
+  pub row_copies : (x : ℕ) (row : Row) → slice_get (joined rows) x ≡ Some row → CopiesAt m.signals (first_output shape m + x) row.width row.source
+  row_copies x row there =
+      subst (λ (n : ℕ). CopiesAt m.signals (n + x) row.width row.source) before_outputs
+      (stands_later t.closed.outputs.with_rows m.signals (length t.closed.with_control + x) row.width (Assigned (Copy row.source)) t.closed.outputs.grows
+      (t.closed.outputs.rows.each x row (slice_get_within (joined rows) x row there) there))
+
+  -- row j of core k where it is asked number j
+  pub port_copies : (k j : ℕ) (own : List Row) (row : Row) → slice_get rows k ≡ Some own → slice_get own j ≡ Some row → CopiesAt m.signals (port_at shape m k j) row.width row.source
+  port_copies k j own row listed there =
+      subst (λ (n : ℕ). CopiesAt m.signals (first_output shape m + (n + j)) row.width row.source) (sym (place_of_rows rows (core_ports shape) widths_are k))
+      (row_copies (length (joined (take k rows)) + j) row (joined_there rows k j own row listed there))
+
+  pub bank_listed : (n : ℕ) (h : Held) → slice_get t.inside.slot.words n ≡ Some h → slice_get rows n ≡ Some (rows_at t.edge.asks t.inside.early.requests.banks n h.width)
+  bank_listed n h listed =
+      bank_there t.edge.asks t.inside.early.requests.banks 0 t.inside.slot.words _ n h listed
+      ∙ ap (λ k. Some (rows_at t.edge.asks t.inside.early.requests.banks k h.width)) (let z : 0 + n ≡ n = omega arith in z)
+
+  bank_row : (n j : ℕ) (h : Held) (row : Row) → slice_get t.inside.slot.words n ≡ Some h
+      → slice_get (rows_at t.edge.asks t.inside.early.requests.banks n h.width) j ≡ Some row → CopiesAt m.signals (port_at shape m n j) row.width row.source
+  bank_row n j h row listed there = port_copies n j (rows_at t.edge.asks t.inside.early.requests.banks n h.width) row (bank_listed n h listed) there
+
+  -- the ports of bank n
+  pub bank_asked : (n : ℕ) (h : Held) → slice_get t.inside.slot.words n ≡ Some h
+      → HasBankOutputs m.signals (port_at shape m n) t.edge.asks t.inside.early.requests.banks n h.width
+  bank_asked n h listed = record {
+    at_ask = bank_row n 0 h (request_row (slice_index t.edge.asks n)) listed refl;
+    at_writes = bank_row n 1 h (field_row 1 (slice_index t.inside.early.requests.banks.writes n)) listed refl;
+    at_address = bank_row n 2 h (field_row 64 (slice_index t.inside.early.requests.banks.addresses n)) listed refl;
+    at_value = bank_row n 3 h (field_row h.width (slice_index t.inside.early.requests.banks.values n)) listed refl;
+  }
+
+  -- of bank k of a global
   pub bank_outputs : (x k : ℕ) (s : Spread) (ty : IntegerType) → slice_get shape.spreads x ≡ Some s → slice_get shape.globals x ≡ Some ty → k < s.count
-      → HasBankOutputs m.signals (first_output banks printer m) t.edge.asks t.inside.early.requests.banks (s.first + k) (width_of ty)
+      → HasBankOutputs m.signals (port_at shape m (s.first + k)) t.edge.asks t.inside.early.requests.banks (s.first + k) (width_of ty)
   bank_outputs x k s ty listed declared less =
       let w = word_held x k s ty listed declared less in
-      let own = t.closed.outputs.banks.each (s.first + k) w.held (slice_get_within t.inside.slot.words (s.first + k) w.held w.listed) w.listed in
-      let later = bank_outputs_later t.closed.outputs.with_banks m.signals (length t.closed.with_control) t.edge.asks t.inside.early.requests.banks
-      (s.first + k) w.held.width from_banks own in
-      subst (λ (n : ℕ). HasBankOutputs m.signals n t.edge.asks t.inside.early.requests.banks (s.first + k) (width_of ty)) before_outputs
-      (subst (λ (n : ℕ). HasBankOutputs m.signals (length t.closed.with_control) t.edge.asks t.inside.early.requests.banks (s.first + k) n) w.wide later)
+      subst (λ (n : ℕ). HasBankOutputs m.signals (port_at shape m (s.first + k)) t.edge.asks t.inside.early.requests.banks (s.first + k) n) w.wide
+      (bank_asked (s.first + k) w.held w.listed)
 
-  abbrev pub printer_asks : ℕ
-  printer_asks = slice_index t.edge.asks (length t.inside.slot.words)
+  abbrev pub printer_rows : List Row
+  printer_rows = request_row (slice_index t.edge.asks (length t.inside.slot.words)) ∷ fields_from shape.printer.site_width 0 t.inside.early.requests.fields
 
-  pub ask_stands : CopiesAt m.signals (first_output banks printer m + 4 * banks) 1 printer_asks
-  ask_stands = subst (λ (n : ℕ). CopiesAt m.signals n 1 printer_asks) before_printer (t.closed.outputs.rest.ask printer served.printer_is)
+  pub printer_listed : slice_get rows banks ≡ Some printer_rows
+  printer_listed = ap (slice_get rows) (sym words_count) ∙ last_there t.edge.asks t.inside.early.requests.banks 0 t.inside.slot.words printer_rows
 
+  -- whether core k is asked
+  pub ask_stands : (k : ℕ) → k < suc banks → CopiesAt m.signals (port_at shape m k 0) 1 (slice_index t.edge.asks k)
+  ask_stands k less = ⊎_elim bank last (cases_lt k banks)
+    where
+      bank : k < banks → CopiesAt m.signals (port_at shape m k 0) 1 (slice_index t.edge.asks k)
+      bank inside =
+          let h = got_any t.inside.slot.words k (subst (λ n. k < n) (sym words_count) inside) in
+          (bank_asked k h.0 h.1).at_ask
+
+      last : banks ≤ k → CopiesAt m.signals (port_at shape m k 0) 1 (slice_index t.edge.asks k)
+      last past =
+          let same : banks ≡ k = omega arith in
+          subst (λ n. CopiesAt m.signals (port_at shape m n 0) 1 (slice_index t.edge.asks n)) same
+          (subst (λ n. CopiesAt m.signals (port_at shape m banks 0) 1 (slice_index t.edge.asks n)) words_count
+          (port_copies banks 0 printer_rows (request_row (slice_index t.edge.asks (length t.inside.slot.words))) printer_listed refl))
+
+  pub ask_copied : (r : Reading) (k : ℕ) → Obeys m r → k < suc banks → r.signal (port_at shape m k 0) ≡ r.signal (slice_index t.edge.asks k)
+  ask_copied r k o less = stands_copies m r (port_at shape m k 0) 1 (slice_index t.edge.asks k) o (ask_stands k less)
+
+  -- what the printer is asked for
   pub field_stands : (k x : ℕ) → slice_get t.inside.early.requests.fields k ≡ Some x
-      → CopiesAt m.signals (first_output banks printer m + 4 * banks + 1 + k) (field_width printer.site_width k) x
+      → CopiesAt m.signals (port_at shape m banks (suc k)) (field_width shape.printer.site_width k) x
   field_stands k x listed =
-      subst (λ (n : ℕ). CopiesAt m.signals (n + 1 + k) (field_width printer.site_width k) x) before_printer (t.closed.outputs.rest.each printer k x served.printer_is listed)
+      let there : slice_get (fields_from shape.printer.site_width 0 t.inside.early.requests.fields) k ≡ Some (field_row (field_width shape.printer.site_width k) x) =
+      field_there shape.printer.site_width 0 t.inside.early.requests.fields k x listed
+      ∙ ap (λ n. Some (field_row (field_width shape.printer.site_width n) x)) (let z : 0 + k ≡ k = omega arith in z) in
+      port_copies banks (suc k) printer_rows (field_row (field_width shape.printer.site_width k) x) printer_listed there
 
-  pub done_stands : CopiesAt m.signals (first_output banks printer m + (4 * banks + 3 + printer.values)) 1 t.inside.early.done
+  pub need_stands : CopiesAt m.signals (need_at shape m) 1 t.inside.early.need
+  need_stands = subst (λ (n : ℕ). CopiesAt m.signals n 1 t.inside.early.need) before_need t.closed.outputs.need
+
+  pub done_stands : CopiesAt m.signals (done_at shape m) 1 t.inside.early.done
   done_stands =
-      let before = before_printer in
-      let count = fields_count in
-      let at : length t.closed.outputs.with_banks + 2 + length t.inside.early.requests.fields ≡ first_output banks printer m + (4 * banks + 3 + printer.values) = omega arith in
-      subst (λ (n : ℕ). CopiesAt m.signals n 1 t.inside.early.done) at (t.closed.outputs.rest.done_at printer served.printer_is)
-
-  pub need_stands : CopiesAt m.signals (first_output banks printer m + (4 * banks + 2 + printer.values)) 1 t.inside.early.need
-  need_stands =
-      let before = before_printer in
-      let count = fields_count in
-      let at : length t.closed.outputs.with_banks + 1 + length t.inside.early.requests.fields ≡ first_output banks printer m + (4 * banks + 2 + printer.values) = omega arith in
-      subst (λ (n : ℕ). CopiesAt m.signals n 1 t.inside.early.need) at (t.closed.outputs.rest.need printer served.printer_is)
+      let at : length t.closed.outputs.with_rows + 1 ≡ done_at shape m = (let before = before_need in omega arith) in
+      subst (λ (n : ℕ). CopiesAt m.signals n 1 t.inside.early.done) at t.closed.outputs.done_at

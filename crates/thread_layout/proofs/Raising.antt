@@ -23,7 +23,6 @@ use Rattle.thread_promise.specs.Promise.{IsInside}
 use Rattle.block_datapath.specs.Requests.{Asked, asked_at, nothing_asked}
 use Rattle.block_datapath.specs.Accesses.{AreFitSpreads, FitsSpread, reaches_now, asked_now, reaches_in, asked_in}
 use Rattle.block_datapath.proofs.Reaching.{asked_one, asked_nobody}
-use Rattle.thread_slots.specs.declared.shape.Printer.{Printer}
 use Rattle.thread_slots.specs.declared.shape.Shape.{Shape}
 use Rattle.thread_slots.specs.Bits.{HasBit}
 use Rattle.thread_layout.specs.Modules.{IsModule}
@@ -49,7 +48,7 @@ reach_wants variables given globals spreads (Some (WriteGlobal x k i a)) n e = r
 reach_wants variables given globals spreads (Some (ReadArray x k i)) n e = absurd cc
 reach_wants variables given globals spreads (Some (WriteArray x k i a)) n e = absurd cc
 
-module _ (shape : Shape) (code : ThreadCode) (plan : Planned) (printer : Printer) (m : Module) (t : IsModule shape code plan m) (served : IsServed shape code plan printer) where
+module _ (shape : Shape) (code : ThreadCode) (plan : Planned) (m : Module) (t : IsModule shape code plan m) (served : IsServed shape code plan) where
   abbrev banks : ℕ
   banks = bank_total shape.spreads
 
@@ -64,13 +63,13 @@ module _ (shape : Shape) (code : ThreadCode) (plan : Planned) (printer : Printer
   from_needs =
       grows_then t.laid.early.with_needs t.laid.early.with_free m.signals t.laid.early.frees.grows
       (grows_then t.laid.early.with_free t.laid.early.with_open m.signals t.laid.early.opens.grows
-      (grows_then t.laid.early.with_open t.laid.with_early m.signals t.laid.early.needs.grows (from_early shape code plan printer m t served)))
+      (grows_then t.laid.early.with_open t.laid.with_early m.signals t.laid.early.needs.grows (from_early shape code plan m t served)))
 
   pub from_asks : Grows t.laid.early.with_asks m.signals
   from_asks = grows_then t.laid.early.with_asks t.laid.early.with_needs m.signals t.laid.early.holds.grows from_needs
 
   module _ (r : Reading) (q : Slot) (b : Block) (p : BlockPlan) (o : Obeys m r)
-      (inside : IsInside shape.globals shape.spreads code plan m (places_of banks code plan) (ports_of banks printer m) r q b p) where
+      (inside : IsInside shape.globals shape.spreads code plan m (places_of banks code plan) (ports_of shape m) r q b p) where
     abbrev wire : ℕ → ℤ
     wire = wires_now shape.spreads b p q
 
@@ -87,15 +86,15 @@ module _ (shape : Shape) (code : ThreadCode) (plan : Planned) (printer : Printer
     nothing : (n : ℕ) → n < banks → asked_at r t.laid.early.start.banks n ≡ nothing_asked
     nothing n less =
         t.laid.early.begins.nothing m r n
-        (grows_then t.laid.early.with_start t.laid.early.with_asks m.signals t.laid.early.asks.grows from_asks) o (start_less shape code plan printer m t served n less)
+        (grows_then t.laid.early.with_start t.laid.early.with_asks m.signals t.laid.early.asks.grows from_asks) o (start_less shape code plan m t served n less)
 
     pub asked_so : (n : ℕ) → n < banks → asked_at r t.inside.early.requests.banks n ≡ last_of (reached n) asked nothing_asked (length b.operations)
     asked_so n less =
-        (asks_so shape code plan printer m t served q.stage (stage.Run b) inside.runs.listed).blocks b p refl inside.runs.planned_so m r q wire n banks
-        (asks_right shape code plan printer m t served r o q b p inside.runs inside.state inside.shown) from_asks o (knows shape code plan printer m t served r o)
-        (in_stage shape code plan printer m t served r o q b p inside.runs inside.state inside.shown)
-        (sees_slot shape code plan printer m t served r o q b p inside.runs inside.state inside.shown)
-        fit_spreads (start_many shape code plan printer m t served) less
+        (asks_so shape code plan m t served q.stage (stage.Run b) inside.runs.listed).blocks b p refl inside.runs.planned_so m r q wire n banks
+        (asks_right shape code plan m t served r o q b p inside.runs inside.state inside.shown) from_asks o (knows shape code plan m t served r o)
+        (in_stage shape code plan m t served r o q b p inside.runs inside.state inside.shown)
+        (sees_slot shape code plan m t served r o q b p inside.runs inside.state inside.shown)
+        fit_spreads (start_many shape code plan m t served) less
         ∙ ap (λ (old : Asked). last_of (reached n) asked old (length b.operations)) (nothing n less)
 
     -- what the one operation asks that reaches a bank
@@ -112,7 +111,7 @@ module _ (shape : Shape) (code : ThreadCode) (plan : Planned) (printer : Printer
 
     -- THE BIT OF A BANK tells whether it is wanted
     pub wanted_bit : (n : ℕ) → n < banks → HasBit m r (slice_index t.inside.early.requests.banks.wants n) (wanted n)
-    wanted_bit n less = record { wide = want_wide shape code plan printer m t served n less; shows = by (wanted n) refl }
+    wanted_bit n less = record { wide = want_wide shape code plan m t served n less; shows = by (wanted n) refl }
       where
         by : (w : Bool) → wanted n ≡ w → r.signal (slice_index t.inside.early.requests.banks.wants n) ≡ bit_of (wanted n)
         by true e =

@@ -1,6 +1,5 @@
 -- What a state of a block asks banks, at the ports.
-use Rattle.std.proofs.Common.{◌≡◌, ℕ, ◌+◌, ◌-◌, ◌*◌, ◌%◌, ◌<◌, Bool, true, false, not, ◌&&◌, length, slice_get, slice_index, Option, Some, refl, sym, ap, subst, ◌∙◌, arith}
-use Rattle.std.proofs.lemmas.Option.{slice_get_within}
+use Rattle.std.proofs.Common.{◌≡◌, ℕ, suc, ◌%◌, ◌<◌, Bool, true, false, not, ◌&&◌, slice_get, slice_index, Option, Some, refl, sym, ap, subst, ◌∙◌, arith}
 use Rattle.hls_ints.specs.Residues.{residue_of}
 use Rattle.hls_ints.specs.Types.{IntegerType, HasType, width_of}
 use Rattle.bank_partition.specs.declared.banks.Spread.{Spread}
@@ -25,14 +24,12 @@ use Rattle.block_datapath.specs.Accesses.{IsAskRight, asked_now}
 use Rattle.block_datapath.proofs.Indexing.{index_typed, target_typed}
 use Rattle.block_datapath.proofs.Reaching.{some_banks}
 use Rattle.block_datapath.proofs.Wanting.{view_count, Asker}
-use Rattle.thread_slots.specs.declared.shape.Printer.{Printer}
 use Rattle.thread_slots.specs.declared.shape.Shape.{Shape}
 use Rattle.thread_slots.specs.Bits.{HasBit}
 use Rattle.thread_layout.specs.Modules.{IsModule}
-use Rattle.thread_requests.specs.Outputs.{HasBankOutputs}
-use Rattle.thread_layout.specs.Thread.{places_of, first_output, ports_of, IsServed}
+use Rattle.thread_layout.specs.Thread.{places_of, port_at, ports_of, IsServed}
 use Rattle.thread_layout.proofs.Moving.{who, bank, own_bank, within, own_asked, none_asked}
-use Rattle.thread_layout.proofs.Placed.{stands_copies, bank_outputs, got_any}
+use Rattle.thread_layout.proofs.Placed.{HasBankOutputs, stands_copies, bank_outputs, ask_copied}
 use Rattle.thread_layout.proofs.Quiet.{quiet_bit}
 use Rattle.thread_layout.proofs.Raising.{asked_by}
 use Rattle.thread_layout.proofs.Sight.{enabled, enable_bit, asks_right, sees_slot}
@@ -51,20 +48,17 @@ not_true : (t : Bool) → not t ≡ true → t ≡ false
 not_true true e = absurd cc
 not_true false e = refl
 
-module _ (shape : Shape) (code : ThreadCode) (plan : Planned) (printer : Printer) (m : Module) (t : IsModule shape code plan m) (served : IsServed shape code plan printer) where
+module _ (shape : Shape) (code : ThreadCode) (plan : Planned) (m : Module) (t : IsModule shape code plan m) (served : IsServed shape code plan) where
   abbrev banks : ℕ
   banks = bank_total shape.spreads
 
-  abbrev first : ℕ
-  first = first_output banks printer m
-
   module _ (r : Reading) (q : Slot) (b : Block) (p : BlockPlan) (o : Obeys m r)
-      (inside : IsInside shape.globals shape.spreads code plan m (places_of banks code plan) (ports_of banks printer m) r q b p) where
+      (inside : IsInside shape.globals shape.spreads code plan m (places_of banks code plan) (ports_of shape m) r q b p) where
     right : IsAskRight shape.globals code b p
-    right = asks_right shape code plan printer m t served r o q b p inside.runs inside.state inside.shown
+    right = asks_right shape code plan m t served r o q b p inside.runs inside.state inside.shown
 
     sees : SeesSlot shape.globals code t.inside.slot b p m r q
-    sees = sees_slot shape code plan printer m t served r o q b p inside.runs inside.state inside.shown
+    sees = sees_slot shape code plan m t served r o q b p inside.runs inside.state inside.shown
 
     -- what accesses of this state use has a type
     pub indices : (k x n : ℕ) (i : Operand) → slice_get b.operations k ≡ Some (ReadGlobal x n i) → slice_index p.starts k ≡ q.state → (ty : IntegerType)
@@ -77,10 +71,10 @@ module _ (shape : Shape) (code : ThreadCode) (plan : Planned) (printer : Printer
 
     -- a block does not ask the printer
     pub printing : HasBit m r t.inside.early.requests.wants false
-    printing = quiet_bit shape code plan printer m t served r q o inside.shown.shown (ap is_print inside.runs.listed)
+    printing = quiet_bit shape code plan m t served r q o inside.shown.shown (ap is_print inside.runs.listed)
 
     abbrev asker : (k : ℕ) → k < size (planned_view b) → asks (planned_view b) (plan_view b p) q k ≡ true → Asker shape.globals shape.spreads code t.inside.slot q.stage b p q k
-    asker = who shape code plan printer m t served r q b p o inside indices targets
+    asker = who shape code plan m t served r q b p o inside indices targets
 
     -- the ports of the bank of an access
     module _ (k : ℕ) (below : k < size (planned_view b)) (e : asks (planned_view b) (plan_view b p) q k ≡ true) (ty : IntegerType)
@@ -91,45 +85,42 @@ module _ (shape : Shape) (code : ThreadCode) (plan : Planned) (printer : Printer
       abbrev n : ℕ
       n = bank_now shape.spreads b p q k own.global
 
-      at_bank : bank shape code plan printer m t served r q b p o inside indices targets k ≡ n
-      at_bank = own_bank shape code plan printer m t served r q b p o inside indices targets k below e
+      at_bank : bank shape code plan m t served r q b p o inside indices targets k ≡ n
+      at_bank = own_bank shape code plan m t served r q b p o inside indices targets k below e
 
       less : n < banks
-      less = subst (λ z. z < banks) at_bank (within shape code plan printer m t served r q b p o inside indices targets k below e)
+      less = subst (λ z. z < banks) at_bank (within shape code plan m t served r q b p o inside indices targets k below e)
 
-      out : HasBankOutputs m.signals first t.edge.asks t.inside.early.requests.banks n (width_of ty)
+      out : HasBankOutputs m.signals (port_at shape m n) t.edge.asks t.inside.early.requests.banks n (width_of ty)
       out =
-          subst (λ z. HasBankOutputs m.signals first t.edge.asks t.inside.early.requests.banks z (width_of ty)) (sym own.bank)
-          (bank_outputs shape code plan printer m t served own.global (own.number % own.spread.count) own.spread ty own.listed declared
+          subst (λ z. HasBankOutputs m.signals (port_at shape m z) t.edge.asks t.inside.early.requests.banks z (width_of ty)) (sym own.bank)
+          (bank_outputs shape code plan m t served own.global (own.number % own.spread.count) own.spread ty own.listed declared
           (some_banks own.number own.spread.count (served.spreads.powers own.global own.spread own.listed)))
 
       asked_is : asked_at r t.inside.early.requests.banks n ≡ asked_now shape.globals shape.spreads code t.inside.slot q.stage b p q (wires_now shape.spreads b p q) k
-      asked_is = asked_by shape code plan printer m t served r q b p o inside n k less (subst (λ z. k < z) (view_count b.operations) below) own.reached
+      asked_is = asked_by shape code plan m t served r q b p o inside n k less (subst (λ z. k < z) (view_count b.operations) below) own.reached
 
       asked_own : q.granted k ≡ false
-          → AsksBank r 1 ((ports_of banks printer m).bank n) own.spread (place_now shape.spreads b p q k own.global).index own.writes
+          → AsksBank r 1 ((ports_of shape m).bank n) own.spread (place_now shape.spreads b p q k own.global).index own.writes
           (residue_of (width_of ty) (written_now shape.spreads b p q k))
       asked_own not_so =
-          let one : first + 4 * n + 1 ≡ first + (4 * n + 1) = omega arith in
-          let two : first + 4 * n + 2 ≡ first + (4 * n + 2) = omega arith in
-          let three : first + 4 * n + 3 ≡ first + (4 * n + 3) = omega arith in
-          let on = enabled shape code plan printer m t served r o in
-          let address : r.signal (first + (4 * n + 2)) ≡ (asked_now shape.globals shape.spreads code t.inside.slot q.stage b p q (wires_now shape.spreads b p q) k).address =
-          ap r.signal (sym two) ∙ stands_copies m r (first + 4 * n + 2) 64 (slice_index t.inside.early.requests.banks.addresses n) o out.at_address ∙ ap
+          let on = enabled shape code plan m t served r o in
+          let address : r.signal (port_at shape m n 2) ≡ (asked_now shape.globals shape.spreads code t.inside.slot q.stage b p q (wires_now shape.spreads b p q) k).address =
+          stands_copies m r (port_at shape m n 2) 64 (slice_index t.inside.early.requests.banks.addresses n) o out.at_address ∙ ap
           (λ (z : Asked). z.address) asked_is in
           record {
             ask =
-                stands_copies m r (first + 4 * n) 1 (slice_index t.edge.asks n) o out.at_ask
+                stands_copies m r (port_at shape m n 0) 1 (slice_index t.edge.asks n) o out.at_ask
                 ∙ ap (λ z. r.signal (slice_index t.edge.asks z)) (sym at_bank)
-                ∙ own_asked shape code plan printer m t served r q b p o inside indices targets printing on.0
-                (enable_bit shape code plan printer m t served r o on.0 on.1) k below e not_so
+                ∙ own_asked shape code plan m t served r q b p o inside indices targets printing on.0
+                (enable_bit shape code plan m t served r o on.0 on.1) k below e not_so
                 ∙ sym on.1;
             operation =
-                ap r.signal (sym one) ∙ stands_copies m r (first + 4 * n + 1) 1 (slice_index t.inside.early.requests.banks.writes n) o out.at_writes
+                stands_copies m r (port_at shape m n 1) 1 (slice_index t.inside.early.requests.banks.writes n) o out.at_writes
                 ∙ ap (λ (z : Asked). z.writes) asked_is ∙ own.operation;
             address = subst (λ z. IsAddress own.spread (place_now shape.spreads b p q k own.global).index z) (sym address) own.address;
             value = λ w.
-                ap r.signal (sym three) ∙ stands_copies m r (first + 4 * n + 3) (width_of ty) (slice_index t.inside.early.requests.banks.values n) o out.at_value
+                stands_copies m r (port_at shape m n 3) (width_of ty) (slice_index t.inside.early.requests.banks.values n) o out.at_value
                 ∙ ap (λ (z : Asked). z.value) asked_is ∙ own.number_written w
                 ∙ ap (λ (z : Option IntegerType). residue_of (width_of (or_int z)) (written_now shape.spreads b p q k)) declared;
           }
@@ -137,7 +128,7 @@ module _ (shape : Shape) (code : ThreadCode) (plan : Planned) (printer : Printer
     -- WHAT AN ACCESS ASKS that is still to be granted
     pub asks_so : (k x : ℕ) (writes : Bool) (s : Spread) (ty : IntegerType) → IsOpen shape.spreads b p q k x writes → slice_get shape.spreads x ≡ Some s →
         slice_get shape.globals x ≡ Some ty
-        → AsksBank r 1 ((ports_of banks printer m).bank (bank_now shape.spreads b p q k x)) s (place_now shape.spreads b p q k x).index writes
+        → AsksBank r 1 ((ports_of shape m).bank (bank_now shape.spreads b p q k x)) s (place_now shape.spreads b p q k x).index writes
         (residue_of (width_of ty) (written_now shape.spreads b p q k))
     asks_so k x writes s ty opened listed declared =
         let two = both_true (asks (planned_view b) (plan_view b p) q k) (not (q.granted k)) opened.requested in
@@ -147,31 +138,21 @@ module _ (shape : Shape) (code : ThreadCode) (plan : Planned) (printer : Printer
         let kind : a.writes ≡ writes = (let mine = a.target in let its = opened.target in cc) in
         let spread : a.spread ≡ s = (let mine = a.listed in let there : slice_get shape.spreads a.global ≡ Some s = ap (slice_get shape.spreads) global ∙ listed in cc) in
         let number : ℕ = residue_of (width_of ty) (written_now shape.spreads b p q k) in
-        subst (λ (z : Spread). AsksBank r 1 ((ports_of banks printer m).bank (bank_now shape.spreads b p q k x)) z (place_now shape.spreads b p q k x).index writes number) spread
-        (subst (λ (w : Bool). AsksBank r 1 ((ports_of banks printer m).bank (bank_now shape.spreads b p q k x)) a.spread (place_now shape.spreads b p q k x).index w number) kind
-        (subst (λ (y : ℕ). AsksBank r 1 ((ports_of banks printer m).bank (bank_now shape.spreads b p q k y)) a.spread (place_now shape.spreads b p q k y).index a.writes number)
+        subst (λ (z : Spread). AsksBank r 1 ((ports_of shape m).bank (bank_now shape.spreads b p q k x)) z (place_now shape.spreads b p q k x).index writes number) spread
+        (subst (λ (w : Bool). AsksBank r 1 ((ports_of shape m).bank (bank_now shape.spreads b p q k x)) a.spread (place_now shape.spreads b p q k x).index w number) kind
+        (subst (λ (y : ℕ). AsksBank r 1 ((ports_of shape m).bank (bank_now shape.spreads b p q k y)) a.spread (place_now shape.spreads b p q k y).index a.writes number)
         global
         (asked_own k opened.below two.0 ty (ap (slice_get shape.globals) global ∙ declared) not_so)))
 
     -- a bank that no access asks
     pub asks_none_so : (n : ℕ) → n < banks → ((k x : ℕ) (writes : Bool) → IsOpen shape.spreads b p q k x writes → bank_now shape.spreads b p q k x ≡ n → ⊥)
-        → r.signal (first + 4 * n) ≡ 0
+        → r.signal (port_at shape m n 0) ≡ 0
     asks_none_so n less none =
-        let one = served.spreads.all n less in
-        let k : ℕ = n - one.1.first in
-        let le = one.3 in
-        let lt = one.4 in
-        let at : one.1.first + k ≡ n = omega arith in
-        let some : k < one.1.count = omega arith in
-        let global : one.0 < length shape.globals = subst (λ i. one.0 < i) served.spreads.count (slice_get_within shape.spreads one.0 one.1 one.2) in
-        let ty = got_any shape.globals one.0 global in
-        let out = bank_outputs shape code plan printer m t served one.0 k one.1 ty.0 one.2 ty.1 some in
-        let on = enabled shape code plan printer m t served r o in
-        ap (λ i. r.signal (first + 4 * i)) (sym at) ∙ stands_copies m r (first + 4 * (one.1.first + k)) 1 (slice_index t.edge.asks (one.1.first + k)) o out.at_ask
-        ∙ ap (λ i. r.signal (slice_index t.edge.asks i)) at
-        ∙ none_asked shape code plan printer m t served r q b p o inside indices targets printing on.0 (enable_bit shape code plan printer m t served r o on.0 on.1) n less
+        let on = enabled shape code plan m t served r o in
+        ask_copied shape code plan m t served r n o (let inside : n < suc banks = omega arith in inside)
+        ∙ none_asked shape code plan m t served r q b p o inside indices targets printing on.0 (enable_bit shape code plan m t served r o on.0 on.1) n less
         (λ j below e not_so is.
         let a = asker j below e in
         none j a.global a.writes
         (record { below = below; requested = both_from (asks (planned_view b) (plan_view b p) q j) (not (q.granted j)) e (ap not not_so); target = a.target })
-        (sym (own_bank shape code plan printer m t served r q b p o inside indices targets j below e) ∙ is))
+        (sym (own_bank shape code plan m t served r q b p o inside indices targets j below e) ∙ is))

@@ -12,7 +12,6 @@ use Rattle.verilog_meaning.specs.Readings.{Reading, width, next_reading}
 use Rattle.circuit.specs.Modules.{Obeys, Agree}
 use Rattle.planned_block.specs.Advance.{any_below}
 use Rattle.thread_promise.specs.Globals.{bank_total}
-use Rattle.thread_slots.specs.declared.shape.Printer.{Printer}
 use Rattle.thread_slots.specs.declared.shape.Shape.{Shape}
 use Rattle.thread_slots.specs.Bits.{HaveBits}
 use Rattle.thread_states.specs.Control.{got, is_left, counts_of, Steers}
@@ -44,18 +43,18 @@ mapped_index [] i h e = absurd cc
 mapped_index (q ∷ hs) zero h e = let same : q ≡ h = cc in ap (λ (z : Held). z.register) same
 mapped_index (q ∷ hs) (suc i) h e = mapped_index hs i h e
 
-module _ (shape : Shape) (code : ThreadCode) (plan : Planned) (printer : Printer) (m : Module) (t : IsModule shape code plan m) (served : IsServed shape code plan printer) where
+module _ (shape : Shape) (code : ThreadCode) (plan : Planned) (m : Module) (t : IsModule shape code plan m) (served : IsServed shape code plan) where
   abbrev banks : ℕ
   banks = bank_total shape.spreads
 
   -- where the bit of global x stands, among those of all
   pub mark_at : (x : ℕ) → x < length shape.globals → slice_index (marks_of t.inside) x ≡ input_count banks + 3 + length code.variables + plan.registers + x
-  mark_at x less = let v = mark_held shape code plan printer m t served x less in mapped_index t.inside.granted x v.held v.listed ∙ v.at
+  mark_at x less = let v = mark_held shape code plan m t served x less in mapped_index t.inside.granted x v.held v.listed ∙ v.at
 
   pub mark_wide : (x : ℕ) → x < length shape.globals → width m (slice_index (marks_of t.inside) x) ≡ 1
   mark_wide x less =
       ap (width m) (mark_at x less)
-      ∙ stands_wide m (input_count banks + 3 + length code.variables + plan.registers + x) 1 (Register 0) (mark_held shape code plan printer m t served x less).stands
+      ∙ stands_wide m (input_count banks + 3 + length code.variables + plan.registers + x) 1 (Register 0) (mark_held shape code plan m t served x less).stands
 
   pub marks_counted : length (marks_of t.inside) ≡ length shape.globals
   marks_counted = length-map t.inside.granted (λ (h : Held). h.register) ∙ t.laid.granted.count
@@ -70,34 +69,34 @@ module _ (shape : Shape) (code : ThreadCode) (plan : Planned) (printer : Printer
     pub opens_now : HaveBits m r t.inside.early.opens (length t.inside.early.opens) raised_now
     opens_now n less =
         let there = index_there t.inside.early.opens n less in
-        let stands = (wired shape code plan printer m t served).early.opens n (slice_index t.inside.early.opens n) there in
-        let wide = earlier_wide m t.laid.with_early _ (slice_index t.inside.early.opens n) 1 (from_early shape code plan printer m t served) stands in
+        let stands = (wired shape code plan m t served).early.opens n (slice_index t.inside.early.opens n) there in
+        let wide = earlier_wide m t.laid.with_early _ (slice_index t.inside.early.opens n) 1 (from_early shape code plan m t served) stands in
         let bit = wide_bit m r (slice_index t.inside.early.opens n) o wide in
         record { wide = wide; shows = bit_told (r.signal (slice_index t.inside.early.opens n)) bit.0 bit.1 }
 
     -- whatever it asks and hears
     pub steers_now : (enabled : Bool) → r.signal 1 ≡ bit_of enabled
-        → Steers m r t.inside.inputs t.inside.chains t.inside.early.opens raised_now grants_now (waiting shape code plan printer m t served r o).0 enabled
+        → Steers m r t.inside.inputs t.inside.chains t.inside.early.opens raised_now grants_now (waiting shape code plan m t served r o).0 enabled
     steers_now enabled on =
-        steered shape code plan printer m t served r o raised_now grants_now (waiting shape code plan printer m t served r o).0 enabled opens_now
-        (λ k less. let g = heard shape code plan printer m t served r o k less in bit_told (r.signal (2 + k)) g.0 g.1) (waiting shape code plan printer m t served r o).1 on
+        steered shape code plan m t served r o raised_now grants_now (waiting shape code plan m t served r o).0 enabled opens_now
+        (λ k less. let g = heard shape code plan m t served r o k less in bit_told (r.signal (2 + k)) g.0 g.1) (waiting shape code plan m t served r o).1 on
 
     -- not enabled it leaves no state, and nothing moves
     pub leave_off : r.signal 1 ≡ 0 → r.signal t.edge.leave ≡ 0
     leave_off off =
-        (t.closed.controls.leave m r raised_now grants_now (waiting shape code plan printer m t served r o).0 false (from_control shape code plan printer m t served) o
+        (t.closed.controls.leave m r raised_now grants_now (waiting shape code plan m t served r o).0 false (from_control shape code plan m t served) o
         (steers_now false off)).shows
 
     pub moved_off : r.signal 1 ≡ 0 → r.signal t.edge.moved ≡ 0
     moved_off off =
-        (t.closed.controls.moved m r raised_now grants_now (waiting shape code plan printer m t served r o).0 false (from_control shape code plan printer m t served) o
+        (t.closed.controls.moved m r raised_now grants_now (waiting shape code plan m t served r o).0 false (from_control shape code plan m t served) o
         (steers_now false off)).shows
         ∙ ap bit_of (none_got raised_now grants_now (length t.inside.early.opens))
 
     pub agrees_off : r.signal t.edge.leave ≡ 0 → r.signal t.edge.moved ≡ 0 → Agree m r (next_reading m r)
     agrees_off off still = record {
-      registers = λ x s listed is. sym (stays shape code plan printer m t served r o x off still);
-      words = λ j k s listed less. sym (words_stay shape code plan printer m t served r o j k off);
+      registers = λ x s listed is. sym (stays shape code plan m t served r o x off still);
+      words = λ j k s listed less. sym (words_stay shape code plan m t served r o j k off);
     }
 
     pub rests_so : r.signal 1 ≡ 0 → Agree m r (next_reading m r)
@@ -106,20 +105,20 @@ module _ (shape : Shape) (code : ThreadCode) (plan : Planned) (printer : Printer
     -- ---- a state that is left
 
     abbrev is_left_now : Bool → Bool
-    is_left_now enabled = is_left raised_now grants_now enabled (waiting shape code plan printer m t served r o).0 (length t.inside.early.opens)
+    is_left_now enabled = is_left raised_now grants_now enabled (waiting shape code plan m t served r o).0 (length t.inside.early.opens)
 
     left_now : (enabled : Bool) → r.signal 1 ≡ bit_of enabled → r.signal t.edge.leave ≡ 1 → is_left_now enabled ≡ true
     left_now enabled on left =
         one_is (is_left_now enabled)
         (sym
-        (t.closed.controls.leave m r raised_now grants_now (waiting shape code plan printer m t served r o).0 enabled (from_control shape code plan printer m t served) o
+        (t.closed.controls.leave m r raised_now grants_now (waiting shape code plan m t served r o).0 enabled (from_control shape code plan m t served) o
         (steers_now enabled on)).shows
         ∙ left)
 
     -- whoever leaves moves
     pub left_moves : (enabled : Bool) → r.signal 1 ≡ bit_of enabled → r.signal t.edge.leave ≡ 1 → r.signal t.edge.moved ≡ 1
     left_moves enabled on left =
-        (t.closed.controls.moved m r raised_now grants_now (waiting shape code plan printer m t served r o).0 enabled (from_control shape code plan printer m t served) o
+        (t.closed.controls.moved m r raised_now grants_now (waiting shape code plan m t served r o).0 enabled (from_control shape code plan m t served) o
         (steers_now enabled on)).shows
         ∙ ap (λ l. bit_of (l || any_below (got raised_now grants_now enabled) (length t.inside.early.opens))) (left_now enabled on left)
 
@@ -128,7 +127,7 @@ module _ (shape : Shape) (code : ThreadCode) (plan : Planned) (printer : Printer
     marks_left enabled x on left less =
         let wide = mark_wide x less in
         let bit = wide_bit m r (slice_index (marks_of t.inside) x) o wide in
-        (t.closed.controls.granted m r raised_now grants_now (waiting shape code plan printer m t served r o).0 enabled x bit.0 (from_control shape code plan printer m t served) o
+        (t.closed.controls.granted m r raised_now grants_now (waiting shape code plan m t served r o).0 enabled x bit.0 (from_control shape code plan m t served) o
         (steers_now enabled on) (subst (λ n. x < n) (sym marks_counted) less) (record { wide = wide; shows = bit.1 })).shows
         ∙ ap
         (λ l. bit_of ((bit.0 || any_below (λ k. counts_of (slice_get t.inside.slot.spreads x) k && got raised_now grants_now enabled k) (length t.inside.early.opens)) && not l))

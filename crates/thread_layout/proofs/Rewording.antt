@@ -1,5 +1,5 @@
 -- What is asked does not hang on where words are told, nor on units: of registers with other words and units it is the same.
-use Rattle.std.proofs.Common.{◌≡◌, ℕ, Bool, List, length, map, Option, Some, slice_get, ℤ, refl, sym, subst}
+use Rattle.std.proofs.Common.{◌≡◌, ℕ, List, length, map, Option, Some, slice_get, ℤ, refl, sym, subst}
 use Rattle.hls_ints.specs.Types.{IntegerType}
 use Rattle.bank_partition.specs.declared.banks.Spread.{Spread}
 use Rattle.block_ir.specs.declared.block.Block.{Block}
@@ -29,7 +29,6 @@ use Rattle.thread_requests.specs.Early.{held_width, LaysEarly}
 use Rattle.thread_slots.specs.Requests.{BeginsAsking}
 use Rattle.thread_layout.specs.Modules.{worded}
 use Rattle.thread_requests.specs.Needing.{NeedsMore, FitStages, IsNeedOfFirst}
-use Rattle.thread_slots.specs.Idle.{has_printer}
 use Rattle.thread_slots.specs.Slots.{LaysSlot, KnowsStage}
 use Rattle.thread_requests.specs.Fields.{SeesVariables}
 use Rattle.thread_slots.specs.Wired.{AreSlots}
@@ -121,11 +120,11 @@ module _ (code : ThreadCode) (registers : Registers) (words : List Held) (units 
 
 -- ---- where a core is needed
 
-needs_reworded : (code : ThreadCode) (registers : Registers) (words : List Held) (units : List UnitResults) (prints : Bool) (plan : Planned) (a b : List Signal) (before after : ℕ)
-    → NeedsMore registers (FitStages registers code plan) (IsNeedOfFirst registers prints code plan (length code.stages)) a b before after
+needs_reworded : (code : ThreadCode) (registers : Registers) (words : List Held) (units : List UnitResults) (plan : Planned) (a b : List Signal) (before after : ℕ)
+    → NeedsMore registers (FitStages registers code plan) (IsNeedOfFirst registers code plan (length code.stages)) a b before after
     → NeedsMore (worded registers words units) (FitStages (worded registers words units) code plan)
-    (IsNeedOfFirst (worded registers words units) prints code plan (length code.stages)) a b before after
-needs_reworded code registers words units prints plan a b before after t = record {
+    (IsNeedOfFirst (worded registers words units) code plan (length code.stages)) a b before after
+needs_reworded code registers words units plan a b before after t = record {
   grows = t.grows;
   wide = t.wide;
   shows = λ m r v u g o has where_it_is.
@@ -143,13 +142,13 @@ needs_reworded code registers words units prints plan a b before after t = recor
 
 -- ---- what is asked
 
-module _ (globals : List IntegerType) (code : ThreadCode) (registers : Registers) (words : List Held) (units : List UnitResults) (printer : Option Printer) where
+module _ (globals : List IntegerType) (code : ThreadCode) (registers : Registers) (words : List Held) (units : List UnitResults) (printer : Printer) where
   asks_at_reworded : (spreads : List Spread) (l : ℕ) (s : Stage) (plan : Option StagePlan) (new : List Signal) (start c : Requests)
       → AsksAt globals spreads code registers printer l s plan new start c → AsksAt globals spreads code (worded registers words units) printer l s plan new start c
   asks_at_reworded spreads l s plan new start c t = record {
-    prints = λ known site next values e p m r variables g o knows here none seen.
+    prints = λ site next values e m r variables g o knows here none seen.
         let made =
-        t.prints known site next values e p m r variables g o (knows_back code registers words units m r knows) here none
+        t.prints site next values e m r variables g o (knows_back code registers words units m r knows) here none
         (sees_back code registers words units m r variables seen) in
         record { wants = made.wants; site_is = made.site_is; values_are = made.values_are };
     quiet = λ no m r g o knows here none. t.quiet no m r g o (knows_back code registers words units m r knows) here none;
@@ -187,7 +186,7 @@ module _ (globals : List IntegerType) (code : ThreadCode) (registers : Registers
           done_wide = asks.done_wide;
           done_is = λ m r g o knows. asks.done_is m r g o (knows_back code registers words units m r knows);
         };
-        holds = needs_reworded code registers words units (has_printer printer) plan t.with_asks t.with_needs early.done t.held t.holds;
+        holds = needs_reworded code registers words units plan t.with_asks t.with_needs early.done t.held t.holds;
         frees = t.frees;
         opens = t.opens;
         open_is = t.open_is;

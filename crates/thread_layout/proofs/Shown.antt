@@ -27,7 +27,6 @@ use Rattle.thread_promise.specs.Types.{value_type}
 use Rattle.thread_promise.specs.Slots.{ShowsData, ShowsInBlock}
 use Rattle.thread_promise.specs.Promise.{first_slot, RunsAt}
 use Rattle.block_datapath.proofs.Walking.{listed_view}
-use Rattle.thread_slots.specs.declared.shape.Printer.{Printer}
 use Rattle.thread_slots.specs.declared.shape.Shape.{Shape}
 use Rattle.thread_layout.specs.Memories.{memory_for}
 use Rattle.thread_layout.specs.Modules.{IsModule}
@@ -70,7 +69,7 @@ global_of spreads b accesses k x w below target =
     let view : operation_at (planned_view b) k ≡ operation_view o.0 = listed_view b.operations k o.0 o.1 in
     target_spread spreads o.0 x w (accesses k o.0 o.1) (ap (λ (z : PlannedOperation). target_of z.kind) (sym view) ∙ target)
 
-module _ (shape : Shape) (code : ThreadCode) (plan : Planned) (printer : Printer) (m : Module) (t : IsModule shape code plan m) (served : IsServed shape code plan printer) where
+module _ (shape : Shape) (code : ThreadCode) (plan : Planned) (m : Module) (t : IsModule shape code plan m) (served : IsServed shape code plan) where
   abbrev banks : ℕ
   banks = bank_total shape.spreads
 
@@ -82,35 +81,35 @@ module _ (shape : Shape) (code : ThreadCode) (plan : Planned) (printer : Printer
 
   pub starts_so : Shows (initial_reading (Some m)) first_slot
   starts_so = record {
-    stage = stands_begins m behind t.inside.slot.stage.width 0 (stage_stands shape code plan printer m t served);
-    state = stands_begins m (behind + 1) t.inside.slot.state.width 0 (state_stands shape code plan printer m t served);
-    beat = stands_begins m (behind + 2) 1 0 (beat_stands shape code plan printer m t served);
+    stage = stands_begins m behind t.inside.slot.stage.width 0 (stage_stands shape code plan m t served);
+    state = stands_begins m (behind + 1) t.inside.slot.state.width 0 (state_stands shape code plan m t served);
+    beat = stands_begins m (behind + 2) 1 0 (beat_stands shape code plan m t served);
     variables = λ x ty declared.
-        stands_begins m (behind + 3 + x) (width_of ty) 0 (variable_held shape code plan printer m t served x ty declared).stands ∙ sym (residue_of-zero (width_of ty));
+        stands_begins m (behind + 3 + x) (width_of ty) 0 (variable_held shape code plan m t served x ty declared).stands ∙ sym (residue_of-zero (width_of ty));
     typed = λ x ty declared. zero_typed ty.width ty.signed;
     words = λ a i array listed less.
-        ap (λ (o : Option Words). initial_word o i) (memory_of shape code plan printer m t served a array listed) ∙ zero_word array.length i ∙ sym
+        ap (λ (o : Option Words). initial_word o i) (memory_of shape code plan m t served a array listed) ∙ zero_word array.length i ∙ sym
         (residue_of-zero (width_of array.ty));
     typed_words = λ a i array listed less. zero_typed array.ty.width array.ty.signed;
     outside = λ a array listed. refl;
-    none_granted = λ none x less. stands_begins m (behind + 3 + length code.variables + plan.registers + x) 1 0 (mark_held shape code plan printer m t served x less).stands;
+    none_granted = λ none x less. stands_begins m (behind + 3 + length code.variables + plan.registers + x) 1 0 (mark_held shape code plan m t served x less).stands;
   }
 
   pub keeps_so : (h g : Reading) (q : Slot) → Agree m h g → Shows h q → Shows g q
   keeps_so h g q agree shows = record {
-    stage = sym (stands_agrees m h g behind t.inside.slot.stage.width 0 agree (stage_stands shape code plan printer m t served)) ∙ shows.stage;
-    state = sym (stands_agrees m h g (behind + 1) t.inside.slot.state.width 0 agree (state_stands shape code plan printer m t served)) ∙ shows.state;
-    beat = sym (stands_agrees m h g (behind + 2) 1 0 agree (beat_stands shape code plan printer m t served)) ∙ shows.beat;
+    stage = sym (stands_agrees m h g behind t.inside.slot.stage.width 0 agree (stage_stands shape code plan m t served)) ∙ shows.stage;
+    state = sym (stands_agrees m h g (behind + 1) t.inside.slot.state.width 0 agree (state_stands shape code plan m t served)) ∙ shows.state;
+    beat = sym (stands_agrees m h g (behind + 2) 1 0 agree (beat_stands shape code plan m t served)) ∙ shows.beat;
     variables = λ x ty declared.
-        sym (stands_agrees m h g (behind + 3 + x) (width_of ty) 0 agree (variable_held shape code plan printer m t served x ty declared).stands) ∙ shows.variables x ty declared;
+        sym (stands_agrees m h g (behind + 3 + x) (width_of ty) 0 agree (variable_held shape code plan m t served x ty declared).stands) ∙ shows.variables x ty declared;
     typed = shows.typed;
     words = λ a i array listed less.
         let long : length (memory_for (0 + a) array).initial ≡ array.length = length-replicate array.length 0 in
-        sym (agree.words a i (memory_for (0 + a) array) (memory_of shape code plan printer m t served a array listed) (omega arith)) ∙ shows.words a i array listed less;
+        sym (agree.words a i (memory_for (0 + a) array) (memory_of shape code plan m t served a array listed) (omega arith)) ∙ shows.words a i array listed less;
     typed_words = shows.typed_words;
     outside = shows.outside;
     none_granted = λ none x less.
-        sym (stands_agrees m h g (behind + 3 + length code.variables + plan.registers + x) 1 0 agree (mark_held shape code plan printer m t served x less).stands) ∙
+        sym (stands_agrees m h g (behind + 3 + length code.variables + plan.registers + x) 1 0 agree (mark_held shape code plan m t served x less).stands) ∙
         shows.none_granted none x less;
   }
 
@@ -126,13 +125,13 @@ module _ (shape : Shape) (code : ThreadCode) (plan : Planned) (printer : Printer
     shown = keeps_so h g q agree shows.shown;
     alive = λ k n alive.
         let within = served.registers q.stage k n b p alive.operation runs.listed runs.planned_so alive.listed alive.register in
-        let v = kept_held shape code plan printer m t served n (kept_within shape code plan printer m t served n within) in
+        let v = kept_held shape code plan m t served n (kept_within shape code plan m t served n within) in
         ap (λ x. x % 2 ^ width_of (value_type shape.globals code alive.operation))
         (sym (stands_agrees m h g (behind + 3 + length code.variables + n) v.held.width 0 agree v.stands))
         ∙ shows.alive k n alive;
     typed_alive = shows.typed_alive;
     granted = λ k x w below target at.
         let less = global_within q b p runs k x w below target in
-        sym (stands_agrees m h g (behind + 3 + length code.variables + plan.registers + x) 1 0 agree (mark_held shape code plan printer m t served x less).stands)
+        sym (stands_agrees m h g (behind + 3 + length code.variables + plan.registers + x) 1 0 agree (mark_held shape code plan m t served x less).stands)
         ∙ shows.granted k x w below target at;
   }

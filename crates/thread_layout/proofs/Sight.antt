@@ -1,5 +1,5 @@
 -- What a reading of a thread's module shows of the slot, and when it leaves the state.
-use Rattle.std.proofs.Common.{◌≡◌, ◌≢◌, ℕ, suc, ◌+◌, ◌%◌, ◌<◌, ◌≤◌, ◌^◌, nat_eq, Bool, not, if◌then◌else◌, List, [], length, map, slice_get, slice_index, Option, Some, ℤ, pos}
+use Rattle.std.proofs.Common.{◌≡◌, ◌≢◌, ℕ, suc, ◌+◌, ◌%◌, ◌<◌, ◌≤◌, ◌^◌, nat_eq, Bool, not, if◌then◌else◌, List, [], length, map, slice_get, slice_index, Some, ℤ, pos}
 use Rattle.std.proofs.Common.{refl, sym, ap, subst, ◌∙◌, arith}
 use Rattle.std.proofs.lemmas.Option.{slice_get_within}
 use Rattle.hls_ints.specs.Residues.{residue_of, bit_of}
@@ -35,7 +35,6 @@ use Rattle.block_datapath.proofs.Reaching.{some_banks}
 use Rattle.block_datapath.specs.Chains.{next_number}
 use Rattle.block_datapath.specs.Leave.{IsInStage}
 use Rattle.block_datapath.specs.Units.{HasUnits}
-use Rattle.thread_slots.specs.declared.shape.Printer.{Printer}
 use Rattle.thread_slots.specs.declared.shape.Shape.{Shape}
 use Rattle.thread_slots.specs.Links.{AreBits, IsStill}
 use Rattle.thread_requests.specs.Fields.{SeesVariables}
@@ -60,7 +59,7 @@ use Rattle.thread_layout.proofs.Placed.{grant_stands, stage_at, stage_stands, st
 use Rattle.thread_layout.proofs.Placed.{kept_at, granted_at, mark_held, word_held, opens_count}
 use Rattle.operator_words.proofs.Typed.{residue_of-zero}
 
-module _ (shape : Shape) (code : ThreadCode) (plan : Planned) (printer : Printer) (m : Module) (t : IsModule shape code plan m) (served : IsServed shape code plan printer) where
+module _ (shape : Shape) (code : ThreadCode) (plan : Planned) (m : Module) (t : IsModule shape code plan m) (served : IsServed shape code plan) where
   pub chains_bits : AreBits t.with_inside t.inside.chains
   chains_bits = t.laid.walks.bits t.laid.begins.bits
 
@@ -71,22 +70,16 @@ module _ (shape : Shape) (code : ThreadCode) (plan : Planned) (printer : Printer
   behind = input_count banks
 
   pub does : (l : ℕ) (s : Stage) → slice_get code.stages l ≡ Some s
-      → DoesStage shape.globals code t.inside.slot (Some printer) l s (slice_get plan.stages l) t.with_inside t.laid.start t.inside.chains
-  does l s listed =
-      subst (λ (z : Option Printer). DoesStage shape.globals code t.inside.slot z l s (slice_get plan.stages l) t.with_inside t.laid.start t.inside.chains) served.printer_is
-      (t.laid.walks.does t.laid.begins.bits (t.laid.begins.variables ∙ t.laid.slot.variables_count) t.laid.begins.kept l s listed)
+      → DoesStage shape.globals code t.inside.slot l s (slice_get plan.stages l) t.with_inside t.laid.start t.inside.chains
+  does = t.laid.walks.does t.laid.begins.bits (t.laid.begins.variables ∙ t.laid.slot.variables_count) t.laid.begins.kept
 
   -- what stage l asks
   pub asks_so : (l : ℕ) (s : Stage) → slice_get code.stages l ≡ Some s
-      → AsksAt shape.globals shape.spreads code t.inside.slot (Some printer) l s (slice_get plan.stages l) t.laid.early.with_asks t.laid.early.start t.inside.early.requests
+      → AsksAt shape.globals shape.spreads code t.inside.slot shape.printer l s (slice_get plan.stages l) t.laid.early.with_asks t.laid.early.start t.inside.early.requests
   asks_so l s listed =
       subst
-      (λ (z : Option Printer). AsksAt shape.globals shape.spreads code t.inside.slot z l s (slice_get plan.stages l) t.laid.early.with_asks t.laid.early.start
-      t.inside.early.requests)
-      served.printer_is
-      (subst
       (λ (z : List Spread). AsksAt shape.globals z code t.inside.slot shape.printer l s (slice_get plan.stages l) t.laid.early.with_asks t.laid.early.start t.inside.early.requests)
-      t.laid.slot.spreads_are (t.laid.early.asks.does t.laid.early.begins.bits l s listed))
+      t.laid.slot.spreads_are (t.laid.early.asks.does t.laid.early.begins.bits l s listed)
 
   pub variables_count : length t.inside.chains.variables ≡ length t.inside.slot.variables
   variables_count = t.laid.walks.many.variables ∙ t.laid.begins.variables
@@ -108,28 +101,28 @@ module _ (shape : Shape) (code : ThreadCode) (plan : Planned) (printer : Printer
 
   module _ (r : Reading) (o : Obeys m r) where
     pub still : IsStill r t.inside.slot t.laid.start
-    still = t.laid.begins.still m r (from_start shape code plan printer m t served) o
+    still = t.laid.begins.still m r (from_start shape code plan m t served) o
 
     pub knows : KnowsStage code t.inside.slot m r
     knows = record {
-      wide = ap (width m) (stage_at shape code plan printer m t served) ∙ stands_wide m behind t.inside.slot.stage.width (Register 0)
-          (stage_stands shape code plan printer m t served);
+      wide = ap (width m) (stage_at shape code plan m t served) ∙ stands_wide m behind t.inside.slot.stage.width (Register 0)
+          (stage_stands shape code plan m t served);
       room = t.laid.slot.stage_room;
       fits =
-          subst (λ (x : ℕ). r.signal x < 2 ^ t.inside.slot.stage.width) (sym (stage_at shape code plan printer m t served))
-          (stands_fits m r behind t.inside.slot.stage.width (Register 0) o (stage_stands shape code plan printer m t served));
+          subst (λ (x : ℕ). r.signal x < 2 ^ t.inside.slot.stage.width) (sym (stage_at shape code plan m t served))
+          (stands_fits m r behind t.inside.slot.stage.width (Register 0) o (stage_stands shape code plan m t served));
     }
 
     pub stage_shown : (q : Slot) → ShowsData shape.globals code (places_of banks code plan) r q → r.signal t.inside.slot.stage.register ≡ q.stage
-    stage_shown q shows = ap r.signal (stage_at shape code plan printer m t served) ∙ shows.stage
+    stage_shown q shows = ap r.signal (stage_at shape code plan m t served) ∙ shows.stage
 
     pub state_wide : width m t.inside.slot.state.register ≡ t.inside.slot.state.width
-    state_wide = ap (width m) (state_at shape code plan printer m t served) ∙ stands_wide m (behind + 1) t.inside.slot.state.width (Register 0)
-        (state_stands shape code plan printer m t served)
+    state_wide = ap (width m) (state_at shape code plan m t served) ∙ stands_wide m (behind + 1) t.inside.slot.state.width (Register 0)
+        (state_stands shape code plan m t served)
 
     pub sees_variables : (q : Slot) → ShowsData shape.globals code (places_of banks code plan) r q → SeesVariables code t.inside.slot m r q.variables
     sees_variables q shows x ty declared =
-        let v = variable_held shape code plan printer m t served x ty declared in
+        let v = variable_held shape code plan m t served x ty declared in
         record {
           declared = declared;
           held = v.held;
@@ -142,22 +135,22 @@ module _ (shape : Shape) (code : ThreadCode) (plan : Planned) (printer : Printer
     -- ---- bits
 
     pub enabled : (b : Bool) × (r.signal 1 ≡ bit_of b)
-    enabled = wide_bit m r 1 o (stands_wide m 1 1 Input (enable_stands shape code plan printer m t served))
+    enabled = wide_bit m r 1 o (stands_wide m 1 1 Input (enable_stands shape code plan m t served))
 
     pub heard : (k : ℕ) → k < suc banks → (b : Bool) × (r.signal (2 + k) ≡ bit_of b)
-    heard k less = wide_bit m r (2 + k) o (stands_wide m (2 + k) 1 Input (grant_stands shape code plan printer m t served k less))
+    heard k less = wide_bit m r (2 + k) o (stands_wide m (2 + k) 1 Input (grant_stands shape code plan m t served k less))
 
     waits_wide : width m t.inside.chains.waits ≡ 1
-    waits_wide = chains_bits.waits m (from_inside shape code plan printer m t served)
+    waits_wide = chains_bits.waits m (from_inside shape code plan m t served)
 
     pub waiting : (b : Bool) × (r.signal t.inside.chains.waits ≡ bit_of b)
     waiting = wide_bit m r t.inside.chains.waits o waits_wide
 
     enable_wide : width m t.inside.inputs.enable ≡ 1
-    enable_wide = ap (width m) (enable_at shape code plan printer m t served) ∙ stands_wide m 1 1 Input (enable_stands shape code plan printer m t served)
+    enable_wide = ap (width m) (enable_at shape code plan m t served) ∙ stands_wide m 1 1 Input (enable_stands shape code plan m t served)
 
     pub enable_bit : (e : Bool) → r.signal 1 ≡ bit_of e → HasBit m r t.inside.inputs.enable e
-    enable_bit e on = record { wide = enable_wide; shows = ap r.signal (enable_at shape code plan printer m t served) ∙ on }
+    enable_bit e on = record { wide = enable_wide; shows = ap r.signal (enable_at shape code plan m t served) ∙ on }
 
     -- what control reads
     pub steered : (raised grants : ℕ → Bool) (waits enabled : Bool) → HaveBits m r t.inside.early.opens (length t.inside.early.opens) raised
@@ -166,10 +159,10 @@ module _ (shape : Shape) (code : ThreadCode) (plan : Planned) (printer : Printer
     steered raised grants waits enabled opened granted waiting on = record {
       has_opens = opened;
       has_grants = λ k less.
-          let inside : k < suc banks = subst (λ n. k < n) (opens_count shape code plan printer m t served) less in
-          let at = grant_at shape code plan printer m t served k inside in
+          let inside : k < suc banks = subst (λ n. k < n) (opens_count shape code plan m t served) less in
+          let at = grant_at shape code plan m t served k inside in
           record {
-            wide = ap (width m) at ∙ stands_wide m (2 + k) 1 Input (grant_stands shape code plan printer m t served k inside);
+            wide = ap (width m) at ∙ stands_wide m (2 + k) 1 Input (grant_stands shape code plan m t served k inside);
             shows = ap r.signal at ∙ granted k inside;
           };
       has_waits = record { wide = waits_wide; shows = waiting };
@@ -192,21 +185,21 @@ module _ (shape : Shape) (code : ThreadCode) (plan : Planned) (printer : Printer
     pub next_beat : (b : Bool) → r.signal t.edge.moved ≡ 1 → r.signal (behind + 2) ≡ bit_of b → (next_reading m r).signal (behind + 2) ≡ bit_of (not b)
     next_beat b moved is =
         edge_is (behind + 2) (r.signal (behind + 2))
-        ∙ beat_next r t.inside.slot t.inside.chains t.inside.granted t.inside.stores t.edge behind (stage_at shape code plan printer m t served)
-        (state_at shape code plan printer m t served)
-        (beat_at shape code plan printer m t served) (variables_at shape code plan printer m t served) (kept_at shape code plan printer m t served)
-        (granted_at shape code plan printer m t served) (r.signal (behind + 2)) moved
-        ∙ (t.closed.controls.beat m r b (from_control shape code plan printer m t served) o
+        ∙ beat_next r t.inside.slot t.inside.chains t.inside.granted t.inside.stores t.edge behind (stage_at shape code plan m t served)
+        (state_at shape code plan m t served)
+        (beat_at shape code plan m t served) (variables_at shape code plan m t served) (kept_at shape code plan m t served)
+        (granted_at shape code plan m t served) (r.signal (behind + 2)) moved
+        ∙ (t.closed.controls.beat m r b (from_control shape code plan m t served) o
         (record {
-          wide = ap (width m) (beat_at shape code plan printer m t served) ∙ stands_wide m (behind + 2) 1 (Register 0) (beat_stands shape code plan printer m t served);
-          shows = ap r.signal (beat_at shape code plan printer m t served) ∙ is;
+          wide = ap (width m) (beat_at shape code plan m t served) ∙ stands_wide m (behind + 2) 1 (Register 0) (beat_stands shape code plan m t served);
+          shows = ap r.signal (beat_at shape code plan m t served) ∙ is;
         })).shows
 
     -- the bit of global x
     pub next_mark : (x : ℕ) → r.signal t.edge.moved ≡ 1 → x < length shape.globals
         → (next_reading m r).signal (behind + 3 + length code.variables + plan.registers + x) ≡ r.signal (slice_index t.edge.granted x)
     next_mark x moved less =
-        let v = mark_held shape code plan printer m t served x less in
+        let v = mark_held shape code plan m t served x less in
         let marks : length t.edge.granted ≡ length shape.globals =
         t.closed.controls.granted_count ∙ length-map t.inside.granted (λ (h : Held). h.register) ∙ t.laid.granted.count in
         let there = index_there t.edge.granted x (subst (λ n. x < n) (sym marks) less) in
@@ -217,10 +210,10 @@ module _ (shape : Shape) (code : ThreadCode) (plan : Planned) (printer : Printer
         ap (λ (k : ℕ). register_after r m.actions k (r.signal k)) at
         ∙ edge_is (behind + 3 + length t.inside.slot.variables + length t.inside.slot.kept + x)
         (r.signal (behind + 3 + length t.inside.slot.variables + length t.inside.slot.kept + x))
-        ∙ granted_next r t.inside.slot t.inside.chains t.inside.granted t.inside.stores t.edge behind (stage_at shape code plan printer m t served)
-        (state_at shape code plan printer m t served) (beat_at shape code plan printer m t served) (variables_at shape code plan printer m t served)
-        (kept_at shape code plan printer m t served)
-        (granted_at shape code plan printer m t served) x _ _ v.held moved v.listed there
+        ∙ granted_next r t.inside.slot t.inside.chains t.inside.granted t.inside.stores t.edge behind (stage_at shape code plan m t served)
+        (state_at shape code plan m t served) (beat_at shape code plan m t served) (variables_at shape code plan m t served)
+        (kept_at shape code plan m t served)
+        (granted_at shape code plan m t served) x _ _ v.held moved v.listed there
 
     pub next_words : (j k : ℕ) → (next_reading m r).word j k ≡ word_after r (map (store_action t.edge.leave) t.inside.stores) j k (r.word j k)
     next_words j k =
@@ -235,45 +228,45 @@ module _ (shape : Shape) (code : ThreadCode) (plan : Planned) (printer : Printer
       pub next_stage : (next_reading m r).signal behind ≡ r.signal t.inside.chains.stage
       next_stage =
           edge_is behind (r.signal behind)
-          ∙ stage_next r t.inside.slot t.inside.chains t.inside.granted t.inside.stores t.edge behind (stage_at shape code plan printer m t served)
-          (state_at shape code plan printer m t served)
-          (beat_at shape code plan printer m t served) (variables_at shape code plan printer m t served) (kept_at shape code plan printer m t served)
-          (granted_at shape code plan printer m t served) on (r.signal behind)
+          ∙ stage_next r t.inside.slot t.inside.chains t.inside.granted t.inside.stores t.edge behind (stage_at shape code plan m t served)
+          (state_at shape code plan m t served)
+          (beat_at shape code plan m t served) (variables_at shape code plan m t served) (kept_at shape code plan m t served)
+          (granted_at shape code plan m t served) on (r.signal behind)
 
       pub next_state : (last : Bool) → r.signal t.inside.chains.is_last ≡ bit_of last
           → (next_reading m r).signal (behind + 1) ≡ (if last then 0 else (r.signal (behind + 1) + 1) % 2 ^ t.inside.slot.state.width)
       next_state last is =
           edge_is (behind + 1) (r.signal (behind + 1))
-          ∙ state_next r t.inside.slot t.inside.chains t.inside.granted t.inside.stores t.edge behind (stage_at shape code plan printer m t served)
-          (state_at shape code plan printer m t served)
-          (beat_at shape code plan printer m t served) (variables_at shape code plan printer m t served) (kept_at shape code plan printer m t served)
-          (granted_at shape code plan printer m t served) on (r.signal (behind + 1))
-          ∙ t.closed.controls.follows.shows m r last (from_control shape code plan printer m t served) o state_wide is
-          ∙ ap (λ (x : ℕ). if last then 0 else (r.signal x + 1) % 2 ^ t.inside.slot.state.width) (state_at shape code plan printer m t served)
+          ∙ state_next r t.inside.slot t.inside.chains t.inside.granted t.inside.stores t.edge behind (stage_at shape code plan m t served)
+          (state_at shape code plan m t served)
+          (beat_at shape code plan m t served) (variables_at shape code plan m t served) (kept_at shape code plan m t served)
+          (granted_at shape code plan m t served) on (r.signal (behind + 1))
+          ∙ t.closed.controls.follows.shows m r last (from_control shape code plan m t served) o state_wide is
+          ∙ ap (λ (x : ℕ). if last then 0 else (r.signal x + 1) % 2 ^ t.inside.slot.state.width) (state_at shape code plan m t served)
 
       pub next_variable : (x : ℕ) (ty : IntegerType) → slice_get code.variables x ≡ Some ty → (next_reading m r).signal (behind + 3 + x) ≡ next_number r t.inside.chains.variables x
       next_variable x ty declared =
-          let v = variable_held shape code plan printer m t served x ty declared in
+          let v = variable_held shape code plan m t served x ty declared in
           let less : x < length t.inside.chains.variables = subst (λ (n : ℕ). x < n) (sym variables_count) (slice_get_within t.inside.slot.variables x v.held v.listed) in
           edge_is (behind + 3 + x) (r.signal (behind + 3 + x))
-          ∙ variable_next r t.inside.slot t.inside.chains t.inside.granted t.inside.stores t.edge behind (stage_at shape code plan printer m t served)
-          (state_at shape code plan printer m t served)
-          (beat_at shape code plan printer m t served) (variables_at shape code plan printer m t served) (kept_at shape code plan printer m t served)
-          (granted_at shape code plan printer m t served) on x _ (r.signal (behind + 3 + x)) v.held v.listed
+          ∙ variable_next r t.inside.slot t.inside.chains t.inside.granted t.inside.stores t.edge behind (stage_at shape code plan m t served)
+          (state_at shape code plan m t served)
+          (beat_at shape code plan m t served) (variables_at shape code plan m t served) (kept_at shape code plan m t served)
+          (granted_at shape code plan m t served) on x _ (r.signal (behind + 3 + x)) v.held v.listed
           (got t.inside.chains.variables x 0 less)
 
       pub next_kept : (x : ℕ) → x < plan.registers → (next_reading m r).signal (behind + 3 + length code.variables + x) ≡ next_number r t.inside.chains.kept x
       next_kept x within =
-          let v = kept_held shape code plan printer m t served x (kept_within shape code plan printer m t served x within) in
+          let v = kept_held shape code plan m t served x (kept_within shape code plan m t served x within) in
           let less : x < length t.inside.chains.kept = subst (λ (n : ℕ). x < n) (sym kept_count) (slice_get_within t.inside.slot.kept x v.held v.listed) in
           let at : behind + 3 + length code.variables + x ≡ behind + 3 + length t.inside.slot.variables + x = ap (λ (n : ℕ). behind + 3 + n + x)
           (sym t.laid.slot.variables_count) in
           ap (λ (k : ℕ). register_after r m.actions k (r.signal k)) at
           ∙ edge_is (behind + 3 + length t.inside.slot.variables + x) (r.signal (behind + 3 + length t.inside.slot.variables + x))
-          ∙ kept_next r t.inside.slot t.inside.chains t.inside.granted t.inside.stores t.edge behind (stage_at shape code plan printer m t served)
-          (state_at shape code plan printer m t served)
-          (beat_at shape code plan printer m t served) (variables_at shape code plan printer m t served) (kept_at shape code plan printer m t served)
-          (granted_at shape code plan printer m t served) on x _ _ v.held v.listed
+          ∙ kept_next r t.inside.slot t.inside.chains t.inside.granted t.inside.stores t.edge behind (stage_at shape code plan m t served)
+          (state_at shape code plan m t served)
+          (beat_at shape code plan m t served) (variables_at shape code plan m t served) (kept_at shape code plan m t served)
+          (granted_at shape code plan m t served) on x _ _ v.held v.listed
           (got t.inside.chains.kept x 0 less)
 
     -- ---- within a block
@@ -295,9 +288,9 @@ module _ (shape : Shape) (code : ThreadCode) (plan : Planned) (printer : Printer
           × (width m h.register ≡ h.width) × (r.signal h.register < 2 ^ h.width)
       kept_of k x op listed register =
           let within = served.registers q.stage k x b p op runs.listed runs.planned_so listed register in
-          let v = kept_held shape code plan printer m t served x (kept_within shape code plan printer m t served x within) in
+          let v = kept_held shape code plan m t served x (kept_within shape code plan m t served x within) in
           let inside = slice_get_within code.stages q.stage (stage.Run b) runs.listed in
-          let room = t.laid.kept.room q.stage b p k x op inside runs.listed runs.planned_so listed register (kept_within shape code plan printer m t served x within) in
+          let room = t.laid.kept.room q.stage b p k x op inside runs.listed runs.planned_so listed register (kept_within shape code plan m t served x within) in
           let same : room.0 ≡ v.held.width = (let e = room.1 in let f = v.planned in cc) in (
             v.held,
             v.listed,
@@ -342,7 +335,7 @@ module _ (shape : Shape) (code : ThreadCode) (plan : Planned) (printer : Printer
             has = record { wide = knows.wide; room = (let h : q.stage < 2 ^ t.inside.slot.stage.width = omega arith in h); fits = knows.fits };
             stage = stage_shown q shows.shown;
             wide = state_wide;
-            state = ap r.signal (state_at shape code plan printer m t served) ∙ shows.shown.state;
+            state = ap r.signal (state_at shape code plan m t served) ∙ shows.shown.state;
             below = below;
             room = t.laid.slot.state_room q.stage p runs.planned_so;
           }
@@ -354,8 +347,8 @@ module _ (shape : Shape) (code : ThreadCode) (plan : Planned) (printer : Printer
       -- shared units show what their operations give
       pub shared_so : (wire : ℕ → ℤ) → HasUnits t.inside.slot.units b p m r q wire
       shared_so wire =
-          (t.laid.wired printer served.printer_is served.site_low served.site_high served.spreads refl).shares shape.globals m r q b p wire
-          (from_inside shape code plan printer m t served) o
+          (t.laid.wired served.site_low served.site_high served.spreads refl).shares shape.globals m r q b p wire
+          (from_inside shape code plan m t served) o
           (record {
             listed = runs.listed;
             planned_so = runs.planned_so;
@@ -374,7 +367,7 @@ module _ (shape : Shape) (code : ThreadCode) (plan : Planned) (printer : Printer
 
       -- where a core is needed what is heard is what the slot has of the words of banks
       pub told_so : r.signal t.inside.early.need ≡ 1 → (grant : ℕ → Bool) →
-          HearsBanks shape.globals shape.spreads code plan m (places_of banks code plan) (ports_of banks printer m) r q b p grant
+          HearsBanks shape.globals shape.spreads code plan m (places_of banks code plan) (ports_of shape m) r q b p grant
           → HasTold shape.globals t.inside.slot m r (λ l. q.words (bank_of shape.spreads l))
       told_so needed grant hears = record {
         fits = fits_told;
@@ -383,15 +376,15 @@ module _ (shape : Shape) (code : ThreadCode) (plan : Planned) (printer : Printer
             let power = served.spreads.powers x s there in
             let k = residue_of 64 v % s.count in
             let less : k < s.count = some_banks (residue_of 64 v) s.count power in
-            let w = word_held shape code plan printer m t served x k s ty there declared less in
+            let w = word_held shape code plan m t served x k s ty there declared less in
             let bank : bank_of shape.spreads (element x (pos (global_read s.length v))) ≡ s.first + k = bank_read shape.spreads x s there power s.length v in
             record {
               held = w.held;
               listed = w.listed;
               says = w.wide;
-              wide = w.heard.wide m (from_heard shape code plan printer m t served) ∙ w.own;
+              wide = w.heard.wide m (from_heard shape code plan m t served) ∙ w.own;
               shows =
-                  w.heard.shows m r (from_heard shape code plan printer m t served) o ∙ ap (λ n. if nat_eq n 0 then 0 else r.signal w.told.register) needed
+                  w.heard.shows m r (from_heard shape code plan m t served) o ∙ ap (λ n. if nat_eq n 0 then 0 else r.signal w.told.register) needed
                   ∙ ap r.signal w.at ∙ hears.words x k s ty there declared less ∙ ap (λ n. residue_of (width_of ty) (q.words n)) (sym bank);
               typed = subst (λ n. HasType ty (q.words n)) (sym bank) (hears.typed x k s ty there declared less);
             };
@@ -405,14 +398,14 @@ module _ (shape : Shape) (code : ThreadCode) (plan : Planned) (printer : Printer
             let there : slice_get shape.spreads x ≡ Some s = ap (λ l. slice_get l x) (sym t.laid.slot.spreads_are) ∙ listed in
             let k = residue_of 64 v % s.count in
             let less : k < s.count = some_banks (residue_of 64 v) s.count (served.spreads.powers x s there) in
-            let w = word_held shape code plan printer m t served x k s ty there declared less in
+            let w = word_held shape code plan m t served x k s ty there declared less in
             record {
               held = w.held;
               listed = w.listed;
               says = w.wide;
-              wide = w.heard.wide m (from_heard shape code plan printer m t served) ∙ w.own;
+              wide = w.heard.wide m (from_heard shape code plan m t served) ∙ w.own;
               shows =
-                  w.heard.shows m r (from_heard shape code plan printer m t served) o ∙ ap (λ n. if nat_eq n 0 then 0 else r.signal w.told.register) none
+                  w.heard.shows m r (from_heard shape code plan m t served) o ∙ ap (λ n. if nat_eq n 0 then 0 else r.signal w.told.register) none
                   ∙ sym (residue_of-zero (width_of ty));
               typed = zero_typed ty.width ty.signed;
             };

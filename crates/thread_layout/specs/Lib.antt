@@ -1,4 +1,5 @@
 pub mod Leaf
 pub mod Memories
 pub mod Modules
+pub mod Parts
 pub mod Thread

@@ -1,5 +1,5 @@
 -- A thread's module as its parts: ports, registers, what is asked, the wires of its stages, when a state is left, and what an edge does.
-use Rattle.std.specs.Prelude.{◌≡◌, ℕ, ◌+◌, ◌^◌, ◌≤◌, if◌then◌else◌, List, [], length, map, replicate, Some, ℤ}
+use Rattle.std.specs.Prelude.{◌≡◌, ℕ, ◌+◌, ◌^◌, ◌≤◌, if◌then◌else◌, List, [], length, map, replicate, ℤ}
 use Rattle.hls_ints.specs.Types.{IntegerType, width_of}
 use Rattle.block_ir.specs.declared.block.Block.{Block}
 use Rattle.block_ir.specs.declared.code.ThreadCode.{ThreadCode}
@@ -18,7 +18,6 @@ use Rattle.block_datapath.specs.declared.registers.UnitResults.{UnitResults}
 use Rattle.block_datapath.specs.declared.registers.Registers.{Registers}
 use Rattle.block_datapath.specs.Units.{HasUnits}
 use Rattle.unit_datapath.specs.Units.{IsInCode, LaysAll as LaysUnits}
-use Rattle.thread_slots.specs.declared.shape.Printer.{Printer}
 use Rattle.thread_slots.specs.declared.shape.Shape.{Shape}
 use Rattle.thread_slots.specs.declared.chains.Chains.{Chains}
 use Rattle.thread_states.specs.declared.control.Edge.{Edge}
@@ -30,7 +29,7 @@ use Rattle.thread_slots.specs.Inputs.{LaysInputs}
 use Rattle.thread_states.specs.Control.{Controls}
 use Rattle.thread_requests.specs.Early.{LaysEarly, AreEarly, spread_out}
 use Rattle.thread_slots.specs.Hearing.{HearsWords}
-use Rattle.thread_requests.specs.Outputs.{LaysAllOutputs}
+use Rattle.thread_requests.specs.Outputs.{LaysOutputs}
 use Rattle.thread_states.specs.Actions.{actions_of}
 use Rattle.thread_layout.specs.Memories.{memories_from, early_base, heard_base, control_base}
 use Rattle.thread_slots.specs.Stores.{AreRightStores}
@@ -54,7 +53,7 @@ ShareUnits code registers plan signals =
 
 -- the inside stands in order: inputs, registers, wires of what is asked, which read registers alone, wires of what is heard, which read the words of
 -- banks, wires of units, which read registers, and wires of the stages, which read registers, what is heard, and units
-pub record IsWiredInside (code : ThreadCode) (plan : Planned) (shape : Shape) (printer : Printer) (with_inputs with_slot with_early with_heard new : List Signal)
+pub record IsWiredInside (code : ThreadCode) (plan : Planned) (shape : Shape) (with_inputs with_slot with_early with_heard new : List Signal)
     (inside : Inside) : Type 0 where
   pub inputs : Behind IsInnerInput [] with_inputs
   pub registers : Behind (IsSlotRegister (length with_inputs)) with_inputs with_slot
@@ -63,7 +62,7 @@ pub record IsWiredInside (code : ThreadCode) (plan : Planned) (shape : Shape) (p
   pub own : List Held
   pub asking : Registers
   pub spreads : asking.spreads ≡ inside.slot.spreads
-  pub early : AreEarly (early_base (length inside.slot.words) code) with_slot with_early inside.early code asking printer.site_width shape.globals bits wide own
+  pub early : AreEarly (early_base (length inside.slot.words) code) with_slot with_early inside.early code asking shape.printer.site_width shape.globals bits wide own
   pub heard : AreWires (heard_base (length inside.slot.words) code) with_early with_heard
   pub wires : AreWires (early_base (length inside.slot.words) code) with_heard new
   pub linked : AreLinked (early_base (length inside.slot.words) code) new code inside.slot inside.chains
@@ -85,7 +84,7 @@ pub record LaysInside (shape : Shape) (code : ThreadCode) (plan : Planned) (old 
   pub asking : Registers
   pub start : Chains
   pub past : ℕ
-  pub inputs : LaysInputs shape.printer (length (spread_out shape.spreads (map width_of shape.globals))) old with_ports inside.inputs
+  pub inputs : LaysInputs (length (spread_out shape.spreads (map width_of shape.globals))) old with_ports inside.inputs
   pub words : LaysAll Input with_ports with_inputs (spread_out shape.spreads (map width_of shape.globals))
       (length (spread_out shape.spreads (map width_of shape.globals))) told
   pub kept : AreKeptWidths shape.globals code plan (length code.stages) kept_widths
@@ -96,16 +95,16 @@ pub record LaysInside (shape : Shape) (code : ThreadCode) (plan : Planned) (old 
   pub hears : HearsWords with_early with_heard inside.early.need told (length told) inside.slot.words
   pub units : LaysUnits code asking plan with_heard with_units inside.slot.units
   pub begins : Begins with_units with_start inside.slot start
-  pub walks : WalksAll shape.globals code inside.slot shape.printer plan with_start new start inside.chains past
+  pub walks : WalksAll shape.globals code inside.slot plan with_start new start inside.chains past
   pub stores : StoresFirst shape.globals code inside.slot plan with_start new [] inside.stores (length code.stages)
-  pub wired : (known : Printer) → shape.printer ≡ Some known → 1 ≤ known.site_width → known.site_width ≤ 64 → AreRightSpreads shape.globals shape.spreads → old ≡ []
-      → IsWiredInside code plan shape known with_inputs with_slot with_early with_heard new inside
+  pub wired : 1 ≤ shape.printer.site_width → shape.printer.site_width ≤ 64 → AreRightSpreads shape.globals shape.spreads → old ≡ []
+      → IsWiredInside code plan shape with_inputs with_slot with_early with_heard new inside
 
 -- then when a state is left, and the outputs
 pub record Closes (shape : Shape) (inside : Inside) (old new : List Signal) (edge : Edge) : Type 0 where
   pub with_control : List Signal
   pub controls : Controls old with_control inside.slot inside.inputs inside.chains inside.early.opens (marks_of inside) edge
-  pub outputs : LaysAllOutputs shape.printer with_control new inside.slot.words edge.asks inside.early.requests inside.early.need inside.early.done
+  pub outputs : LaysOutputs shape.printer.site_width with_control new inside.slot.words edge.asks inside.early.requests inside.early.need inside.early.done
   pub wired : IsSteered control_base old inside.slot inside.inputs inside.chains inside.early.opens (marks_of inside)
       → WiresControl control_base old with_control inside.slot inside.inputs inside.early.opens (marks_of inside) edge
   pub named : Behind (IsNamedOutput (length new)) with_control new

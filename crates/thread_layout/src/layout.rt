@@ -1,22 +1,22 @@
 // The module of a thread, put together of its parts.
 
-ghost use Rattle.std.specs.Prelude.{◌≡◌, ◌≤◌, ◌^◌, ℕ, map, length, replicate, IfOk};
+ghost use Rattle.std.specs.Prelude.{◌≡◌, ◌≤◌, ◌^◌, ℕ, [], map, length, replicate, IfOk, OnOk};
 ghost use Rattle.netlist.specs.declared.netlist.Source.TheVariants as source;
+ghost use Rattle.block_ir.specs.declared.plan.Planned.{Planned as PlannedCode};
 ghost use Rattle.block_datapath.specs.declared.registers.Held.{Held as HeldOf};
 ghost use Rattle.thread_requests.specs.Early.{LaysEarlyWired};
 ghost use Rattle.thread_slots.specs.Slots.{LaysAll};
 ghost use Rattle.thread_slots.specs.Wired.{Behind, IsSlotRegister};
 ghost use Rattle.thread_layout.specs.Memories.{memory_for, memories_from};
-ghost use Rattle.thread_states.specs.Stages.{WalksAll};
-ghost use Rattle.thread_states.specs.Cells.{StoresFirst};
-ghost use Rattle.thread_states.specs.Stores.{StagesKeepStores};
+ghost use Rattle.thread_states.specs.Actions.{actions_of};
 ghost use Rattle.thread_layout.specs.Modules.{LaysInside, Closes, IsModule};
+ghost use Rattle.thread_layout.specs.Parts.{LaysGround, LaysSlotOf, LaysHeard, LaysWalk, inside_of};
 
 use block_datapath::registers::{Held, Registers};
 use block_ir::code::{Array, ThreadCode};
 use block_ir::plan::Planned;
 use hls_ints::CType;
-use netlist::netlist::{Memory, Module};
+use netlist::netlist::{Action, Memory, Module};
 use operator_wires::wires::{Role, Wires};
 use sqlite_items::Items;
 use std::alloc::{AllocError, Global};
@@ -25,7 +25,7 @@ use thread_requests::outputs::lay_outputs;
 use thread_slots::chains::{Chains, places};
 use thread_slots::hearing::hear;
 use thread_slots::inputs::{Inputs, lay_inputs, lay_words};
-use thread_slots::shape::{Printer, Shape};
+use thread_slots::shape::Shape;
 use thread_slots::slots::{kept_widths, lay_all, lay_registers};
 use thread_slots::stores::Store;
 use thread_states::actions::actions;
@@ -45,10 +45,22 @@ pub fn assembled(
 {
     let mut wires = Wires::new(alloc);
     let inside = lay_inside(&mut wires, shape, code, planned)?;
-    let edge = close(&mut wires, shape, &inside)?;
-    let stores = inside.stores.as_slice();
-    let granted = inside.granted.as_slice();
-    let actions = actions(alloc, &inside.slot, &inside.chains, granted, stores, &edge)?;
+    closed(alloc, wires, shape, code, &inside)
+}
+
+/// The module whose inside is laid: with outputs, and what an edge does.
+fn closed(
+    alloc: Global,
+    wires: Wires,
+    shape: &Shape,
+    code: &ThreadCode,
+    inside: &Inside,
+) -> Result<Module, AllocError>
+    ensures { IfOk result (λ m. (planned : PlannedCode) → LaysInside shape.now code.now planned [] wires.signals inside.now → IsModule shape.now code.now planned m) }
+{
+    let mut wires = wires;
+    let edge = close(&mut wires, shape, inside)?;
+    let actions = edge_actions(alloc, inside, &edge)?;
     let memories = memories(alloc, code.arrays.as_slice())?;
     let name = shape.name.clone()?;
     Ok(Module {
@@ -58,6 +70,15 @@ pub fn assembled(
         actions,
         instances: Items::new(alloc),
     })
+}
+
+/// What an edge does in the module with this inside.
+fn edge_actions(alloc: Global, inside: &Inside, edge: &Edge) -> Result<Items<Action>, AllocError>
+    ensures { IfOk result (λ actions. actions ≡ actions_of inside.now.slot inside.now.chains inside.now.granted inside.now.stores edge.now) }
+{
+    let stores = inside.stores.as_slice();
+    let granted = inside.granted.as_slice();
+    actions(alloc, &inside.slot, &inside.chains, granted, stores, edge)
 }
 
 /// The inside of a module, between its inputs and what an edge does.
@@ -73,6 +94,22 @@ pub struct Inside {
     pub stores: Items<Store>,
 }
 
+/// Inputs and registers.
+#[derive(Drop)]
+pub struct Ground {
+    pub inputs: Inputs,
+    pub slot: Registers,
+    /// Of each global whether its access has been granted in this state.
+    pub granted: Items<Held>,
+}
+
+/// What all stages lead to.
+#[derive(Drop)]
+pub struct Walked {
+    pub chains: Chains,
+    pub stores: Items<Store>,
+}
+
 fn lay_inside(
     wires: &mut Wires,
     shape: &Shape,
@@ -81,42 +118,81 @@ fn lay_inside(
 ) -> Result<Inside, AllocError>
     ensures { IfOk result (LaysInside shape.now code.now planned.now wires.old.signals wires.new.signals) }
 {
-    let alloc = wires.alloc;
+    let mut ground = lay_ground(wires, shape, code, planned)?;
+    let early = lay_asked(wires, shape, code, planned, &ground)?;
+    lay_heard(wires, &mut ground.slot, code, planned, early.need)?;
     let globals = shape.globals.as_slice();
-    let spreads = shape.spreads.as_slice();
-    let widths = word_widths(alloc, spreads, globals)?;
-    let inputs = lay_inputs(wires, widths.len(), shape.printer)?;
+    let walked = walk(wires, &ground.slot, code, globals, planned)?;
+    Ok(put_together(ground, early, walked))
+}
+
+fn put_together(ground: Ground, early: Early, walked: Walked) -> Inside
+    ensures { result ≡ inside_of ground early walked }
+{
+    Inside {
+        inputs: ground.inputs,
+        slot: ground.slot,
+        granted: ground.granted,
+        early,
+        chains: walked.chains,
+        stores: walked.stores,
+    }
+}
+
+/// Inputs and registers. What banks tell is not heard yet, and there are no units.
+fn lay_ground(
+    wires: &mut Wires,
+    shape: &Shape,
+    code: &ThreadCode,
+    planned: &Planned,
+) -> Result<Ground, AllocError>
+    ensures { IfOk result (LaysGround shape.now code.now planned.now wires.old.signals wires.new.signals) }
+{
+    let globals = shape.globals.as_slice();
+    let widths = word_widths(wires.alloc, shape.spreads.as_slice(), globals)?;
+    let inputs = lay_inputs(wires, widths.len())?;
     let words = lay_words(wires, widths.as_slice())?;
-    let kept = kept_widths(alloc, code, planned, globals)?;
-    let own = Items::from_slice(alloc, spreads)?;
-    let main = shape.is_main;
-    let mut slot = lay_registers(wires, code, planned, main, kept.as_slice(), words, own)?;
+    let slot = lay_slot(wires, shape, code, planned, words)?;
     let granted = lay_granted(wires, globals.len())?;
-    let early = lay_asked(wires, shape, code, planned, &slot, granted.as_slice())?;
-    let heard = hear(wires, early.need, slot.words.as_slice())?;
-    let units = lay_units(wires, &slot, code, planned)?;
-    slot.words = heard;
-    slot.units = units;
-    let mut chains = Chains::begin(wires, &slot)?;
-    let mut stores = Items::new(alloc);
-    walk(
-        wires,
-        &slot,
-        &mut chains,
-        &mut stores,
-        code,
-        globals,
-        shape.printer,
-        planned,
-    )?;
-    Ok(Inside {
+    Ok(Ground {
         inputs,
         slot,
         granted,
-        early,
-        chains,
-        stores,
     })
+}
+
+/// The registers of the slot, which read these words.
+fn lay_slot(
+    wires: &mut Wires,
+    shape: &Shape,
+    code: &ThreadCode,
+    planned: &Planned,
+    words: Items<Held>,
+) -> Result<Registers, AllocError>
+    ensures { IfOk result (LaysSlotOf shape.now code.now planned.now words wires.old.signals wires.new.signals) }
+{
+    let globals = shape.globals.as_slice();
+    let kept = kept_widths(wires.alloc, code, planned, globals)?;
+    let own = Items::from_slice(wires.alloc, shape.spreads.as_slice())?;
+    let main = shape.is_main;
+    lay_registers(wires, code, planned, main, kept.as_slice(), words, own)
+}
+
+/// What is heard of banks where a core is needed takes the place of the inputs on which they tell it; and the units.
+fn lay_heard(
+    wires: &mut Wires,
+    slot: &mut Registers,
+    code: &ThreadCode,
+    planned: &Planned,
+    need: usize,
+) -> Result<(), AllocError>
+    ensures { OnOk result (LaysHeard code.now planned.now need wires.old.signals wires.new.signals slot.old slot.new) }
+{
+    let heard = hear(wires, need, slot.words.as_slice())?;
+    let units = lay_units(wires, slot, code, planned)?;
+    slot.words = heard;
+    slot.units = units;
+    Ok(())
 }
 
 /// A register of one bit for each global.
@@ -139,17 +215,16 @@ fn lay_asked(
     shape: &Shape,
     code: &ThreadCode,
     planned: &Planned,
-    slot: &Registers,
-    granted: &[Held],
+    ground: &Ground,
 ) -> Result<Early, AllocError>
-    ensures { IfOk result
-        (LaysEarlyWired shape.now.globals code.now slot.now (map (λ (h : HeldOf). h.register) granted.now) shape.now.printer planned.now wires.old.signals wires.new.signals) }
+    ensures { IfOk result (LaysEarlyWired shape.now.globals code.now ground.now.slot (map (λ (h : HeldOf). h.register) ground.now.granted)
+        shape.now.printer planned.now wires.old.signals wires.new.signals) }
 {
-    let marks = places(wires.alloc, granted)?;
+    let marks = places(wires.alloc, ground.granted.as_slice())?;
     let globals = shape.globals.as_slice();
     lay_early(
         wires,
-        slot,
+        &ground.slot,
         marks.as_slice(),
         code,
         globals,
@@ -158,27 +233,29 @@ fn lay_asked(
     )
 }
 
-/// The wires of all stages and of the end.
+/// The wires of all stages and of the end, where nothing is stored before.
 fn walk(
     wires: &mut Wires,
     registers: &Registers,
-    chains: &mut Chains,
-    stores: &mut Items<Store>,
     code: &ThreadCode,
     globals: &[CType],
-    printer: Option<Printer>,
     planned: &Planned,
-) -> Result<usize, AllocError>
-    ensures walks { IfOk result (WalksAll globals.now code.now registers.now printer planned.now wires.old.signals wires.new.signals chains.old chains.new) }
-    ensures puts { IfOk result (λ done. StoresFirst globals.now code.now registers.now planned.now wires.old.signals wires.new.signals stores.old stores.new
-        (length code.now.stages)) }
-    ensures stores { IfOk result (λ done. StagesKeepStores code.now registers.now printer planned.now
-        (length code.now.stages) wires.old.signals wires.new.signals chains.old stores.old stores.new) }
+) -> Result<Walked, AllocError>
+    ensures { IfOk result (LaysWalk globals.now code.now registers.now planned.now wires.old.signals wires.new.signals) }
 {
+    let mut chains = Chains::begin(wires, registers)?;
+    let mut stores = Items::new(wires.alloc);
     take_stages(
-        wires, registers, chains, stores, code, globals, printer, planned,
+        wires,
+        registers,
+        &mut chains,
+        &mut stores,
+        code,
+        globals,
+        planned,
     )?;
-    take_end(wires, registers, chains, code)
+    take_end(wires, registers, &mut chains, code)?;
+    Ok(Walked { chains, stores })
 }
 
 /// When a state is left, and the output ports.

@@ -2,3 +2,6 @@ pub mod Types
 pub mod Globals
 pub mod Slots
 pub mod Promise
+pub mod Moves
+pub mod Serving
+pub mod Main

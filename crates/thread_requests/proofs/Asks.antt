@@ -175,13 +175,12 @@ module _ (globals : List IntegerType) (spreads : List Spread) (code : ThreadCode
   module _ (l site : ℕ) (values : List ActOperand) (next : ℕ) (plan : Option StagePlan) (a b c d : List Signal) (printer : Printer) (at : ℕ) (x y z : Requests)
       (told : TellsStage a b registers l at) (told_wired : Told a b registers l at) (wanted : AsksPrinter b c x y at) (bits_wired : BitsAreLinked b c x y at)
       (same : z ≡ record y { fields = z.fields }) (asked : AsksFields code registers printer at site values c d y.fields z.fields) where
-    print_does : AreAskBits a x → l ≤ length code.stages → AsksAt globals spreads code registers (Some printer) l (stage.Act (Print site values) next) plan d x z
+    print_does : AreAskBits a x → l ≤ length code.stages → AsksAt globals spreads code registers printer l (stage.Act (Print site values) next) plan d x z
     print_does bits le = record {
-      prints = λ known site' next' values' e p m r variables g o knows here none seen.
+      prints = λ site' next' values' e m r variables g o knows here none seen.
           let gc = grows_then c d m.signals asked.grows g in
           let gb = grows_then b c m.signals wanted.grows gc in
           let on = stage_on registers l at a b m r told gb o (has_stage code registers l m r knows le) here in
-          let one : printer ≡ known = cc in
           let two : site ≡ site' = cc in
           let three : values ≡ values' = cc in
           let first : length y.fields ≡ length x.fields = ap (λ (k : Requests). length k.fields) wanted.same in
@@ -190,8 +189,7 @@ module _ (globals : List IntegerType) (spreads : List Spread) (code : ThreadCode
                 ap (λ (k : Requests). r.signal k.wants) same
                 ∙ wanted.bit.shows m r false true gc o ((ask_bits_later a b x told.grows bits).wants m gb) none on;
             site_is = λ some.
-                asked.site_is m r g o on (subst (λ (n : ℕ). 0 < n) (sym first) some) ∙ ap (λ (k : Printer). resized_word false 32 k.site_width site) one
-                ∙ ap (resized_word false 32 known.site_width) two;
+                asked.site_is m r g o on (subst (λ (n : ℕ). 0 < n) (sym first) some) ∙ ap (resized_word false 32 printer.site_width) two;
             values_are = λ j v listed typed less.
                 asked.values_are m r variables j v g o on seen (ap (λ (l : List ActOperand). slice_get l j) three ∙ listed) typed (subst (λ (n : ℕ). suc j < n) (sym first) less);
           };
@@ -201,26 +199,23 @@ module _ (globals : List IntegerType) (spreads : List Spread) (code : ThreadCode
           ap (λ (k : Requests). asked_at r k.banks j) same ∙ ap (λ (k : Requests). asked_at r k.banks j) wanted.same;
     }
 
-    print_wired : l ≤ length code.stages → AskIsWired code registers globals spreads (Some printer) a d x z
-    print_wired le base site_width bits wide own known links =
-        let one : printer.site_width ≡ site_width = known printer refl in
+    print_wired : l ≤ length code.stages → AskIsWired code registers globals spreads printer a d x z
+    print_wired le base bits wide own links =
         let p = told_wired base links.slots.stage (stage_below base a code registers l links.slots le) in
-        let in_b = ask_links_after base site_width bits wide own a b x p.wires.grows links in
+        let in_b = ask_links_after base printer.site_width bits wide own a b x p.wires.grows links in
         let q = bits_wired base in_b.wants p.stands in
-        let in_c = ask_links_after base site_width bits wide own b c x q.wires.grows in_b in
+        let in_c = ask_links_after base printer.site_width bits wide own b c x q.wires.grows in_b in
         let fields_y : LinkFields base c printer.site_width y.fields =
-        subst (λ (k : Requests). LinkFields base c printer.site_width k.fields) (sym wanted.same) (subst (λ (n : ℕ). LinkFields base c n x.fields) (sym one) in_c.fields) in
-        let low = links.site_low in
-        let high = links.site_high in
-        let k = asked.wired base in_c.slots (stands_after b c base at 1 q.wires.grows p.stands) (omega (arith, one, low)) (omega (arith, one, high)) fields_y in
-        let in_d = ask_links_after base site_width bits wide own c d x k.wires.grows in_c in
+        subst (λ (k : Requests). LinkFields base c printer.site_width k.fields) (sym wanted.same) in_c.fields in
+        let k = asked.wired base in_c.slots (stands_after b c base at 1 q.wires.grows p.stands) links.site_low links.site_high fields_y in
+        let in_d = ask_links_after base printer.site_width bits wide own c d x k.wires.grows in_c in
         record {
           wires = wires_then base a b d p.wires (wires_then base b c d q.wires k.wires);
           linked = record {
             slots = in_d.slots;
-            site_low = low;
-            site_high = high;
-            fields = subst (λ (n : ℕ). LinkFields base d n z.fields) one k.linked;
+            site_low = links.site_low;
+            site_high = links.site_high;
+            fields = k.linked;
             wants = subst (λ (r : Requests). IsEarlier d base r.wants 1) (sym same) (stands_after c d base y.wants 1 k.wires.grows q.wants);
             banks = subst (λ (r : Requests). AreBankChains d base bits wide own r.banks) (sym same)
                 (subst (λ (r : Requests). AreBankChains d base bits wide own r.banks) (sym wanted.same) in_d.banks);
@@ -228,7 +223,7 @@ module _ (globals : List IntegerType) (spreads : List Spread) (code : ThreadCode
           };
         }
 
-    pub print_stage : AsksStage globals spreads code registers (Some printer) l (stage.Act (Print site values) next) plan a d x z
+    pub print_stage : AsksStage globals spreads code registers printer l (stage.Act (Print site values) next) plan a d x z
     print_stage = record {
       step =
           ask_steps registers l at a b d x z told
@@ -237,10 +232,10 @@ module _ (globals : List IntegerType) (spreads : List Spread) (code : ThreadCode
       wired = λ le fits. print_wired le;
     }
 
-  module _ (printer : Option Printer) (l : ℕ) where
+  module _ (printer : Printer) (l : ℕ) where
     -- a stage that asks nothing
     pub nothing_stage : (s : Stage) (plan : Option StagePlan) (a : List Signal) (x z : Requests) → z ≡ x
-        → ((known : Printer) (site next : ℕ) (values : List ActOperand) → s ≡ stage.Act (Print site values) next → printer ≡ Some known → ⊥)
+        → ((site next : ℕ) (values : List ActOperand) → s ≡ stage.Act (Print site values) next → ⊥)
         → ((b : Block) (p : BlockPlan) → s ≡ stage.Run b → plan ≡ Some (planned.Run p) → ⊥) → AsksStage globals spreads code registers printer l s plan a a x z
     nothing_stage s plan a x z same no_print no_block = subst (λ (c : Requests). AsksStage globals spreads code registers printer l s plan a a x c) (sym same) (record {
       step = record {
@@ -250,12 +245,12 @@ module _ (globals : List IntegerType) (spreads : List Spread) (code : ThreadCode
         rests = λ m r g o e has ne. ask_refl r x;
       };
       does = λ bits le. record {
-        prints = λ known site next values e p. absurd (no_print known site next values e p);
+        prints = λ site next values e. absurd (no_print site next values e);
         quiet = λ no m r g o knows here none. none;
         blocks = λ b p e f. absurd (no_block b p e f);
         silent = λ no m r j many g o knows here as_many less. refl;
       };
-      wired = λ le fits base site_width bits wide own known links. record { wires = wires_none base a; linked = links };
+      wired = λ le fits base bits wide own links. record { wires = wires_none base a; linked = links };
     })
 
     -- what a block asks of banks
@@ -285,7 +280,7 @@ module _ (globals : List IntegerType) (spreads : List Spread) (code : ThreadCode
         };
       };
       does = λ bits le. record {
-        prints = λ known site next values e. absurd cc;
+        prints = λ site next values e. absurd cc;
         quiet = λ no m r g o knows here none. ap (λ (k : Requests). r.signal k.wants) same ∙ none;
         blocks = λ d u e f m r q wire j many right g o knows inside sees fit as_many less.
             let one : d ≡ b = cc in
@@ -293,17 +288,17 @@ module _ (globals : List IntegerType) (spreads : List Spread) (code : ThreadCode
             by d u one two m r q wire j many right g o inside sees fit as_many less;
         silent = λ no. absurd cc;
       };
-      wired = λ le fits base site_width bits wide own known links.
+      wired = λ le fits base bits wide own links.
           let made = wired base bits wide own (registers_of base a code registers links.slots) links.banks links.widths (stage_below base a code registers l links.slots le)
           (fits p refl) in
-          let later = ask_links_after base site_width bits wide own a c x made.wires.grows links in
+          let later = ask_links_after base printer.site_width bits wide own a c x made.wires.grows links in
           record {
             wires = made.wires;
             linked = record {
               slots = later.slots;
               site_low = links.site_low;
               site_high = links.site_high;
-              fields = subst (λ (k : Requests). LinkFields base c site_width k.fields) (sym same) later.fields;
+              fields = subst (λ (k : Requests). LinkFields base c printer.site_width k.fields) (sym same) later.fields;
               wants = subst (λ (k : Requests). IsEarlier c base k.wants 1) (sym same) later.wants;
               banks = made.chains;
               widths = links.widths;
@@ -319,15 +314,15 @@ module _ (globals : List IntegerType) (spreads : List Spread) (code : ThreadCode
 
   -- ---- one more stage
 
-  module _ (printer : Option Printer) where
+  module _ (printer : Printer) where
     -- from links before it that ask the same
     asks_started : (l : ℕ) (s : Stage) (plan : Option StagePlan) (new : List Signal) (start middle c : Requests) → AskAsMany start middle
         → ((m : Module) (r : Reading) → Grows new m.signals → Obeys m r → KnowsStage code registers m r → r.signal registers.stage.register ≡ l → AskSame r start middle)
         → AsksAt globals spreads code registers printer l s plan new middle c → AsksAt globals spreads code registers printer l s plan new start c
     asks_started l s plan new start middle c many same t = record {
-      prints = λ known site next values e p m r vs g o knows here none seen.
+      prints = λ site next values e m r vs g o knows here none seen.
           let shown = same m r g o knows here in
-          let made = t.prints known site next values e p m r vs g o knows here (shown.wants false none) seen in
+          let made = t.prints site next values e m r vs g o knows here (shown.wants false none) seen in
           record {
             wants = made.wants;
             site_is = λ some. made.site_is (subst (λ (n : ℕ). 0 < n) (sym many.fields) some);
@@ -347,9 +342,9 @@ module _ (globals : List IntegerType) (spreads : List Spread) (code : ThreadCode
         → AreAskBits old middle → AsksOver registers n old new middle c → AsksAt globals spreads code registers printer l s plan old start middle
         → AsksAt globals spreads code registers printer l s plan new start c
     asks_lifted l n s plan old new start middle c ne le many bits step t = record {
-      prints = λ known site next values e p m r vs g o knows here none seen.
+      prints = λ site next values e m r vs g o knows here none seen.
           let shown = same m r g o knows here in
-          let made = t.prints known site next values e p m r vs (back m g) o knows here none seen in
+          let made = t.prints site next values e m r vs (back m g) o knows here none seen in
           record {
             wants = shown.wants true made.wants;
             site_is = λ some. shown.fields 0 ∙ made.site_is some;
@@ -377,7 +372,7 @@ module _ (globals : List IntegerType) (spreads : List Spread) (code : ThreadCode
         bits = λ e. e;
         still = λ m r g o e knows none. ask_refl r start;
         does = λ e k s lt. absurd (omega arith);
-        wired = λ le fits base site_width bits wide own known links. record { wires = wires_none base a; linked = links };
+        wired = λ le fits base bits wide own links. record { wires = wires_none base a; linked = links };
       }
 
       pub asks_more : (b c : List Signal) (middle after : Requests) (n : ℕ) (s : Stage) → AsksFirst globals spreads code registers printer plan a b start middle n
@@ -401,9 +396,9 @@ module _ (globals : List IntegerType) (spreads : List Spread) (code : ThreadCode
             (λ (ne : k ≢ n).
             asks_lifted k n x (slice_get plan.stages k) b c start middle after ne inside t.many (t.bits e) u.step (t.does e k x (let less : k < n = omega arith in less) there))
             (same_or_not k n);
-        wired = λ le fits base site_width bits wide own known links.
-            let before = t.wired inside fits base site_width bits wide own known links in
-            let last = u.wired inside (fits n) base site_width bits wide own known before.linked in
+        wired = λ le fits base bits wide own links.
+            let before = t.wired inside fits base bits wide own links in
+            let last = u.wired inside (fits n) base bits wide own before.linked in
             record { wires = wires_then base a b c before.wires last.wires; linked = last.linked };
       }
         where
@@ -431,13 +426,13 @@ module _ (globals : List IntegerType) (spreads : List Spread) (code : ThreadCode
               told.shows m r g o knows.wide (let room = knows.room in omega (arith, room, is_number)) knows.fits
               ∙ ap (λ (n : ℕ). bit_of (nat_eq (r.signal registers.stage.register) n)) is_number;
         };
-        wired = λ fits base site_width bits wide own known links.
-            let before = t.wired (omega arith) fits base site_width bits wide own known links in
+        wired = λ fits base bits wide own links.
+            let before = t.wired (omega arith) fits base bits wide own links in
             let room = before.linked.slots.room in
             let p = told_wired base before.linked.slots.stage (omega (arith, room, is_number)) in (
               record {
                 wires = wires_then base a b c before.wires p.wires;
-                linked = ask_links_after base site_width bits wide own b c after p.wires.grows before.linked;
+                linked = ask_links_after base printer.site_width bits wide own b c after p.wires.grows before.linked;
               },
               p.stands,
             );
@@ -449,7 +444,7 @@ module _ (globals : List IntegerType) (spreads : List Spread) (code : ThreadCode
           lifted_over : (l : ℕ) (s : Stage) (p : Option StagePlan) → AsksAt globals spreads code registers printer l s p b start after
               → AsksAt globals spreads code registers printer l s p c start after
           lifted_over l s p made = record {
-            prints = λ known site next values e f m r vs g. made.prints known site next values e f m r vs (back m g);
+            prints = λ site next values e m r vs g. made.prints site next values e m r vs (back m g);
             quiet = λ no m r g. made.quiet no m r (back m g);
             blocks = λ u v e f m r q wire j k right g. made.blocks u v e f m r q wire j k right (back m g);
             silent = λ no m r j k g. made.silent no m r j k (back m g);

@@ -60,11 +60,11 @@ and_sure false = refl
 is_number : (x n : ℕ) → nat_eq x n ≡ true → x ≡ n
 is_number x n e = grind (arith, nat_tests)
 
-pub idle_needs : (prints : Bool) (s : Stage) (plan : Option StagePlan) (state : ℕ) → is_idle prints s plan ≡ true → needs_in prints (Some s) plan state ≡ true
-idle_needs prints (stage.Run b) (Some (planned.Run p)) state e = absurd cc
-idle_needs prints (stage.Run b) (Some planned.Act) state e = refl
-idle_needs prints (stage.Run b) None state e = refl
-idle_needs prints (stage.Act a next) plan state e = e
+pub idle_needs : (s : Stage) (plan : Option StagePlan) (state : ℕ) → is_idle s plan ≡ true → needs_in (Some s) plan state ≡ true
+idle_needs (stage.Run b) (Some (planned.Run p)) state e = absurd cc
+idle_needs (stage.Run b) (Some planned.Act) state e = refl
+idle_needs (stage.Run b) None state e = refl
+idle_needs (stage.Act a next) plan state e = e
 
 -- ---- one place more
 
@@ -232,10 +232,10 @@ module _ (registers : Registers) where
         ))
 
     -- at a stage
-    pub needs_block : (prints : Bool) (l : ℕ) (s0 s1 s2 : List Signal) (x y : ℕ) → TellsStage s0 s1 registers l at → Told s0 s1 registers l at
+    pub needs_block : (l : ℕ) (s0 s1 s2 : List Signal) (x y : ℕ) → TellsStage s0 s1 registers l at → Told s0 s1 registers l at
         → NeedsMore registers (HasStates registers at p.states) (AreTaken registers at b p (length b.operations)) s1 s2 x y
-        → NeedsMore registers (FitsStage registers l (Some (planned.Run p))) (IsNeedOf registers prints l (Some (stage.Run b)) (Some (planned.Run p))) s0 s2 x y
-    needs_block prints l s0 s1 s2 x y told told_wired t = record {
+        → NeedsMore registers (FitsStage registers l (Some (planned.Run p))) (IsNeedOf registers l (Some (stage.Run b)) (Some (planned.Run p))) s0 s2 x y
+    needs_block l s0 s1 s2 x y told told_wired t = record {
       grows = grows_then s0 s1 s2 told.grows t.grows;
       wide = t.wide;
       shows = λ m r v u g o has place.
@@ -259,45 +259,45 @@ module _ (registers : Registers) where
 
   -- ---- stages
 
-  pub needs_idle : (prints : Bool) (l : ℕ) (s : Stage) (plan : Option StagePlan) (a b : List Signal) (x y : ℕ) → is_idle prints s plan ≡ true
+  pub needs_idle : (l : ℕ) (s : Stage) (plan : Option StagePlan) (a b : List Signal) (x y : ℕ) → is_idle s plan ≡ true
       → NeedsMore registers (IsNumbered registers l) (IsThere registers l) a b x y →
-      NeedsMore registers (FitsStage registers l plan) (IsNeedOf registers prints l (Some s) plan) a b x y
-  needs_idle prints l s plan a b x y idle t =
-      needs_as (IsNumbered registers l) (FitsStage registers l plan) (IsThere registers l) (IsNeedOf registers prints l (Some s) plan) a b x y t
+      NeedsMore registers (FitsStage registers l plan) (IsNeedOf registers l (Some s) plan) a b x y
+  needs_idle l s plan a b x y idle t =
+      needs_as (IsNumbered registers l) (FitsStage registers l plan) (IsThere registers l) (IsNeedOf registers l (Some s) plan) a b x y t
       (λ base room. record { stage = room.stage })
       (λ m r u place. record {
         has = place.has;
         is =
             place.is
-            ∙ ap (λ k. nat_eq (r.signal registers.stage.register) l && k) (idle_needs prints s plan place.state idle)
+            ∙ ap (λ k. nat_eq (r.signal registers.stage.register) l && k) (idle_needs s plan place.state idle)
             ∙ and_sure (nat_eq (r.signal registers.stage.register) l);
       })
 
-  pub needs_going : (prints : Bool) (l : ℕ) (a' : Act) (next : ℕ) (plan : Option StagePlan) (a : List Signal) (x : ℕ) → goes_on prints a' ≡ true
-      → NeedsMore registers (FitsStage registers l plan) (IsNeedOf registers prints l (Some (stage.Act a' next)) plan) a a x x
-  needs_going prints l a' next plan a x goes =
-      needs_none (FitsStage registers l plan) (IsNeedOf registers prints l (Some (stage.Act a' next)) plan) a x
+  pub needs_going : (l : ℕ) (a' : Act) (next : ℕ) (plan : Option StagePlan) (a : List Signal) (x : ℕ) → goes_on a' ≡ true
+      → NeedsMore registers (FitsStage registers l plan) (IsNeedOf registers l (Some (stage.Act a' next)) plan) a a x x
+  needs_going l a' next plan a x goes =
+      needs_none (FitsStage registers l plan) (IsNeedOf registers l (Some (stage.Act a' next)) plan) a x
       (λ m r u place.
       place.is ∙ ap (λ k. nat_eq (r.signal registers.stage.register) l && not k) goes ∙ and_nothing (nat_eq (r.signal registers.stage.register) l))
 
-  module _ (prints : Bool) (code : ThreadCode) (plan : Planned) where
-    pub stages_none : (a : List Signal) (x : ℕ) → NeedsMore registers (FitStages registers code plan) (IsNeedOfFirst registers prints code plan 0) a a x x
-    stages_none a x = needs_none (FitStages registers code plan) (IsNeedOfFirst registers prints code plan 0) a x (λ m r u place. place.is)
+  module _ (code : ThreadCode) (plan : Planned) where
+    pub stages_none : (a : List Signal) (x : ℕ) → NeedsMore registers (FitStages registers code plan) (IsNeedOfFirst registers code plan 0) a a x x
+    stages_none a x = needs_none (FitStages registers code plan) (IsNeedOfFirst registers code plan 0) a x (λ m r u place. place.is)
 
     pub stages_more : (n : ℕ) (s : Stage) (s0 s1 s2 : List Signal) (x y z : ℕ) → slice_get code.stages n ≡ Some s
-        → NeedsMore registers (FitStages registers code plan) (IsNeedOfFirst registers prints code plan n) s0 s1 x y
-        → NeedsMore registers (FitsStage registers n (slice_get plan.stages n)) (IsNeedOf registers prints n (Some s) (slice_get plan.stages n)) s1 s2 y z
-        → NeedsMore registers (FitStages registers code plan) (IsNeedOfFirst registers prints code plan (n + 1)) s0 s2 x z
+        → NeedsMore registers (FitStages registers code plan) (IsNeedOfFirst registers code plan n) s0 s1 x y
+        → NeedsMore registers (FitsStage registers n (slice_get plan.stages n)) (IsNeedOf registers n (Some s) (slice_get plan.stages n)) s1 s2 y z
+        → NeedsMore registers (FitStages registers code plan) (IsNeedOfFirst registers code plan (n + 1)) s0 s2 x z
     stages_more n s s0 s1 s2 x y z listed t u =
-        needs_then (FitStages registers code plan) (FitsStage registers n (slice_get plan.stages n)) (FitStages registers code plan) (IsNeedOfFirst registers prints code plan n)
-        (IsNeedOf registers prints n (Some s) (slice_get plan.stages n)) (IsNeedOfFirst registers prints code plan (n + 1)) s0 s1 s2 x y z t u (λ base room. room)
+        needs_then (FitStages registers code plan) (FitsStage registers n (slice_get plan.stages n)) (FitStages registers code plan) (IsNeedOfFirst registers code plan n)
+        (IsNeedOf registers n (Some s) (slice_get plan.stages n)) (IsNeedOfFirst registers code plan (n + 1)) s0 s1 s2 x y z t u (λ base room. room)
         (λ base more room. record {
           stage = (let less = slice_get_within code.stages n s listed in let most = room.stages in omega arith);
           states = room.states n;
         })
         (λ m r v place. (
-          any_below (λ l. nat_eq (r.signal registers.stage.register) l && needs_in prints (slice_get code.stages l) (slice_get plan.stages l) place.state) n,
-          nat_eq (r.signal registers.stage.register) n && needs_in prints (Some s) (slice_get plan.stages n) place.state,
+          any_below (λ l. nat_eq (r.signal registers.stage.register) l && needs_in (slice_get code.stages l) (slice_get plan.stages l) place.state) n,
+          nat_eq (r.signal registers.stage.register) n && needs_in (Some s) (slice_get plan.stages n) place.state,
           record { has = λ l less. place.has l (omega arith); state = place.state; inside = place.inside; is = refl },
           record {
             has = place.has n (omega arith);
@@ -306,9 +306,9 @@ module _ (registers : Registers) where
             is = refl;
           },
           place.is
-              ∙ ap (any_below (λ l. nat_eq (r.signal registers.stage.register) l && needs_in prints (slice_get code.stages l) (slice_get plan.stages l) place.state))
+              ∙ ap (any_below (λ l. nat_eq (r.signal registers.stage.register) l && needs_in (slice_get code.stages l) (slice_get plan.stages l) place.state))
               (let next : n + 1 ≡ suc n = omega arith in next)
               ∙ ap
-              (λ k. any_below (λ l. nat_eq (r.signal registers.stage.register) l && needs_in prints (slice_get code.stages l) (slice_get plan.stages l) place.state) n
-              || (nat_eq (r.signal registers.stage.register) n && needs_in prints k (slice_get plan.stages n) place.state)) listed,
+              (λ k. any_below (λ l. nat_eq (r.signal registers.stage.register) l && needs_in (slice_get code.stages l) (slice_get plan.stages l) place.state) n
+              || (nat_eq (r.signal registers.stage.register) n && needs_in k (slice_get plan.stages n) place.state)) listed,
         ))

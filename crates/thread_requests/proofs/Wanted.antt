@@ -1,5 +1,5 @@
 -- What is asked in a state: the parts of it, one after the other.
-use Rattle.std.proofs.Common.{◌≡◌, ℕ, zero, suc, ◌<◌, true, List, [], ◌∷◌, ◌++◌, length, map, Option, Some, None, refl, sym, ap, subst, ◌∙◌, arith}
+use Rattle.std.proofs.Common.{◌≡◌, ℕ, zero, suc, ◌<◌, true, List, [], ◌∷◌, ◌++◌, length, map, Some, refl, sym, ap, subst, ◌∙◌, arith}
 use Rattle.std.specs.Prelude.{replicate, slice_get}
 use Rattle.std.proofs.lemmas.Option.{slice_get_within}
 use Rattle.hls_ints.specs.Types.{IntegerType}
@@ -21,9 +21,8 @@ use Rattle.thread_requests.specs.Outputs.{HasFieldWidths}
 use Rattle.thread_slots.specs.Wired.{field_width}
 use Rattle.thread_requests.specs.Asking.{AsksAllWired}
 use Rattle.thread_requests.specs.Needing.{NeedsMore, FitStages, IsNeedOfFirst}
-use Rattle.thread_slots.specs.Idle.{has_printer}
 use Rattle.thread_slots.specs.Bits.{NotOf, BothOf, MakesBits, MakesAny, AreBitsOf, AddsNots, AddsBoths, AddsAny}
-use Rattle.thread_requests.specs.Early.{held_width, spread_out, printer_request, LaysEarlyWired}
+use Rattle.thread_requests.specs.Early.{held_width, spread_out, LaysEarlyWired}
 use Rattle.thread_slots.specs.Requests.{BeginsAsking, BeginsLinked}
 use Rattle.thread_slots.proofs.Gating.{of_bits_later}
 use Rattle.thread_requests.proofs.Asks.{ask_links_after}
@@ -45,29 +44,28 @@ wants_stand base a bits wide own banks t ones k y there =
     subst (λ w. IsEarlier a base y w) (ones k h.0 h.1) (t.wants.each k y h.0 h.1 there)
 
 -- the printer's request behind those of banks
-opens_stand : (base : Base) (a : List Signal) (printer : Option Printer) (banks all : List ℕ) (wants : ℕ) → all ≡ banks ++ printer_request printer wants → AreBitsOf base a banks
-    → IsEarlier a base wants 1 → AreBitsOf base a all
-opens_stand base a printer banks all wants same t u k y there = by printer banks k (ap (λ l. slice_get l k) (sym same) ∙ there) t
+opens_stand : (base : Base) (a : List Signal) (banks all : List ℕ) (wants : ℕ) → all ≡ banks ++ wants ∷ [] → AreBitsOf base a banks → IsEarlier a base wants 1
+    → AreBitsOf base a all
+opens_stand base a banks all wants same t u k y there = by banks k (ap (λ l. slice_get l k) (sym same) ∙ there) t
   where
-    by : (printer : Option Printer) (banks : List ℕ) (k : ℕ) → slice_get (banks ++ printer_request printer wants) k ≡ Some y → AreBitsOf base a banks → IsEarlier a base y 1
-    by None [] k e t = absurd cc
-    by (Some p) [] zero e t = let one : wants ≡ y = cc in subst (λ z. IsEarlier a base z 1) one u
-    by (Some p) [] (suc k) e t = absurd cc
-    by printer (x ∷ banks) zero e t = t zero y e
-    by printer (x ∷ banks) (suc k) e t = by printer banks k e (λ j z there. t (suc j) z there)
+    by : (banks : List ℕ) (k : ℕ) → slice_get (banks ++ wants ∷ []) k ≡ Some y → AreBitsOf base a banks → IsEarlier a base y 1
+    by [] zero e t = let one : wants ≡ y = cc in subst (λ z. IsEarlier a base z 1) one u
+    by [] (suc k) e t = absurd cc
+    by (x ∷ banks) zero e t = t zero y e
+    by (x ∷ banks) (suc k) e t = by banks k e (λ j z there. t (suc j) z there)
 
 -- s1: nobody is asked, s2: all stages ask, s3: where a core is needed besides, s4: what is not granted, s5: what is open, s6: what is needed
-pub early_made : (globals : List IntegerType) (code : ThreadCode) (registers : Registers) (granted : List ℕ) (printer : Option Printer) (plan : Planned)
+pub early_made : (globals : List IntegerType) (code : ThreadCode) (registers : Registers) (granted : List ℕ) (printer : Printer) (plan : Planned)
     (s0 s1 s2 s3 s4 s5 s6 : List Signal)
     (early : Early) (fields free bank_opens asked : List ℕ) (held : ℕ) (start : Requests) → HasFieldWidths printer fields
-    → ((known : Printer) (k w : ℕ) → printer ≡ Some known → slice_get fields k ≡ Some w → w ≡ field_width known.site_width k)
+    → ((k w : ℕ) → slice_get fields k ≡ Some w → w ≡ field_width printer.site_width k)
     → BeginsAsking s0 s1 fields (map held_width registers.words) start → BeginsLinked s0 s1 fields (map held_width registers.words) start
     → AsksAllWired globals registers.spreads code registers printer plan s1 s2 start early.requests early.done
-    → NeedsMore registers (FitStages registers code plan) (IsNeedOfFirst registers (has_printer printer) code plan (length code.stages)) s2 s3 early.done held
+    → NeedsMore registers (FitStages registers code plan) (IsNeedOfFirst registers code plan (length code.stages)) s2 s3 early.done held
     → MakesBits s3 s4 (length (spread_out registers.spreads granted)) free (NotOf (spread_out registers.spreads granted)) →
     AddsNots s3 s4 (spread_out registers.spreads granted) free
     → MakesBits s4 s5 (length early.requests.banks.wants) bank_opens (BothOf early.requests.banks.wants free) → AddsBoths s4 s5 early.requests.banks.wants free bank_opens
-    → early.opens ≡ bank_opens ++ printer_request printer early.requests.wants → asked ≡ early.requests.banks.wants ++ printer_request printer early.requests.wants
+    → early.opens ≡ bank_opens ++ early.requests.wants ∷ [] → asked ≡ early.requests.banks.wants ++ early.requests.wants ∷ []
     → MakesAny s5 s6 held asked (λ k. true) (length asked) early.need → AddsAny s5 s6 held asked early.need
     → LaysEarlyWired globals code registers granted printer plan s0 s6 early
 early_made globals code registers granted printer plan s0 s1 s2 s3 s4 s5 s6 early fields free bank_opens asked held start widths each begins begins_linked asks holds frees
@@ -98,11 +96,11 @@ early_made globals code registers granted printer plan s0 s1 s2 s3 s4 s5 s6 earl
         asked_is = asked_is;
         needs = needs;
       };
-      wired = λ known same low high base bits wide own fits slots marks_stand marks_count have one two three fit.
+      wired = λ low high base bits wide own fits slots marks_stand marks_count have one two three fit.
           let t0 =
-          begins_linked base code registers known.site_width globals registers.spreads bits wide own slots low high
-          (λ k w listed. each known k w same listed) fit one two three have in
-          let t1 = asks.wired fits base known.site_width bits wide own (same_width known same) t0.linked in
+          begins_linked base code registers printer.site_width globals registers.spreads bits wide own slots low high
+          each fit one two three have in
+          let t1 = asks.wired fits base bits wide own t0.linked in
           let links = t1.0.linked in
           let w2 = wires_then base s0 s1 s2 t0.wires t1.0.wires in
           let t2 = holds.wired base links.slots.stage links.slots.state (record { stages = links.slots.room; states = fits }) t1.1 in
@@ -118,24 +116,21 @@ early_made globals code registers granted printer plan s0 s1 s2 s3 s4 s5 s6 earl
           let w5 = wires_then base s0 s4 s5 w4 t4.wires in
           let to_5 = grows_then s2 s4 s5 to_4 t4.wires.grows in
           let asked_stand =
-          opens_stand base s5 printer early.requests.banks.wants asked early.requests.wants asked_is (of_bits_later base s2 s5 early.requests.banks.wants to_5 wants_2)
+          opens_stand base s5 early.requests.banks.wants asked early.requests.wants asked_is (of_bits_later base s2 s5 early.requests.banks.wants to_5 wants_2)
           (stands_after s2 s5 base early.requests.wants 1 to_5 links.wants) in
           let t5 = needs_linked base asked_stand (stands_after s3 s5 base held 1 (grows_then s3 s4 s5 t3.wires.grows t4.wires.grows) t2.stands) in
           let to_6 = grows_then s2 s5 s6 to_5 t5.wires.grows in
           record {
             wires = wires_then base s0 s5 s6 w5 t5.wires;
-            linked = ask_links_after globals registers.spreads code registers base known.site_width bits wide own s2 s6 early.requests to_6 links;
+            linked = ask_links_after globals registers.spreads code registers base printer.site_width bits wide own s2 s6 early.requests to_6 links;
             opens =
-                opens_stand base s6 printer bank_opens early.opens early.requests.wants open_is (of_bits_later base s5 s6 bank_opens t5.wires.grows t4.stand)
+                opens_stand base s6 bank_opens early.opens early.requests.wants open_is (of_bits_later base s5 s6 bank_opens t5.wires.grows t4.stand)
                 (stands_after s2 s6 base early.requests.wants 1 to_6 links.wants);
             need = t5.stands;
             done = stands_after s2 s6 base early.done 1 to_6 t1.1;
           };
     }
   where
-    same_width : (known : Printer) → printer ≡ Some known → (other : Printer) → printer ≡ Some other → other.site_width ≡ known.site_width
-    same_width known same other is = let p : known ≡ other = cc in ap (λ (z : Printer). z.site_width) (sym p)
-
     counted : (words : List Held) → length {A = ℕ} (replicate (length (map held_width words)) 1) ≡ length words
     counted [] = refl
     counted (h ∷ words) = ap suc (counted words)

@@ -78,28 +78,28 @@ pub record AsksOver (registers : Registers) (l : ℕ) (old new : List Signal) (b
 -- ---- how they are put together
 
 -- links are added, by a thread with such a printer
-abbrev pub AskIsWired : ThreadCode → Registers → List IntegerType → List Spread → Option Printer → List Signal → List Signal → Requests → Requests → Type 0
+abbrev pub AskIsWired : ThreadCode → Registers → List IntegerType → List Spread → Printer → List Signal → List Signal → Requests → Requests → Type 0
 AskIsWired code registers globals spreads printer old new before after =
-    (base : Base) (site_width : ℕ) (bits wide own : List Held) → ((known : Printer) → printer ≡ Some known → known.site_width ≡ site_width)
-    → AreAskLinks base code registers site_width globals spreads bits wide own old before → KeepsAskLinks base code registers site_width globals spreads bits wide own old new after
+    (base : Base) (bits wide own : List Held) → AreAskLinks base code registers printer.site_width globals spreads bits wide own old before
+    → KeepsAskLinks base code registers printer.site_width globals spreads bits wide own old new after
 
 -- ---- stages
 
-module _ (globals : List IntegerType) (spreads : List Spread) (code : ThreadCode) (registers : Registers) (printer : Option Printer) where
+module _ (globals : List IntegerType) (spreads : List Spread) (code : ThreadCode) (registers : Registers) (printer : Printer) where
   -- a printf asks for its site and its values
-  pub record AsksPrint (known : Printer) (site : ℕ) (values : List ActOperand) (r : Reading) (variables : ℕ → ℤ) (start c : Requests) : Type 0 where
+  pub record AsksPrint (site : ℕ) (values : List ActOperand) (r : Reading) (variables : ℕ → ℤ) (start c : Requests) : Type 0 where
     pub wants : r.signal c.wants ≡ 1
-    pub site_is : 0 < length start.fields → next_number r c.fields 0 ≡ resized_word false 32 known.site_width site
+    pub site_is : 0 < length start.fields → next_number r c.fields 0 ≡ resized_word false 32 printer.site_width site
     pub values_are : (j : ℕ) (v : ActOperand) → slice_get values j ≡ Some v → IsTypedActOperand code v → suc j < length start.fields →
         next_number r c.fields (suc j) ≡ residue_of 64 (operand_of_act variables v)
 
   -- what stage l asks, in a reading of it: from links before it to those behind it
   pub record AsksAt (l : ℕ) (s : Stage) (plan : Option StagePlan) (new : List Signal) (start c : Requests) : Type 0 where
-    pub prints : (known : Printer) (site next : ℕ) (values : List ActOperand) → s ≡ stage.Act (Print site values) next → printer ≡ Some known →
+    pub prints : (site next : ℕ) (values : List ActOperand) → s ≡ stage.Act (Print site values) next →
         (m : Module) (r : Reading) (variables : ℕ → ℤ) →
         Grows new m.signals → Obeys m r → KnowsStage code registers m r → r.signal registers.stage.register ≡ l → r.signal start.wants ≡ 0 →
         SeesVariables code registers m r variables →
-        AsksPrint known site values r variables start c
+        AsksPrint site values r variables start c
     pub quiet : is_print (Some s) ≡ false → (m : Module) (r : Reading) → Grows new m.signals → Obeys m r → KnowsStage code registers m r → r.signal registers.stage.register ≡ l →
         r.signal start.wants ≡ 0 → r.signal c.wants ≡ 0
     pub blocks : (b : Block) (p : BlockPlan) → s ≡ stage.Run b → plan ≡ Some (planned.Run p) → (m : Module) (r : Reading) (q : Slot) (wire : ℕ → ℤ) (j many : ℕ) →
@@ -148,6 +148,6 @@ module _ (globals : List IntegerType) (spreads : List Spread) (code : ThreadCode
   -- and it stands
   pub record AsksAllWired (plan : Planned) (old new : List Signal) (start c : Requests) (done : ℕ) : Type 0 where
     pub asks : AsksAll plan old new start c done
-    pub wired : FitStates registers plan → (base : Base) (site_width : ℕ) (bits wide own : List Held) → ((known : Printer) → printer ≡ Some known → known.site_width ≡ site_width)
-        → AreAskLinks base code registers site_width globals spreads bits wide own old start →
-        KeepsAskLinks base code registers site_width globals spreads bits wide own old new c × IsEarlier new base done 1
+    pub wired : FitStates registers plan → (base : Base) (bits wide own : List Held)
+        → AreAskLinks base code registers printer.site_width globals spreads bits wide own old start →
+        KeepsAskLinks base code registers printer.site_width globals spreads bits wide own old new c × IsEarlier new base done 1

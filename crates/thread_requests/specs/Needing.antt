@@ -41,12 +41,12 @@ abbrev pub takes_at : Block → BlockPlan → ℕ → ℕ → Bool
 takes_at b p state k = takes_word (slice_get b.operations k) && nat_eq state (suc (slice_index p.starts k))
 
 -- in a state of a stage a core is needed
-abbrev pub needs_in : Bool → Option Stage → Option StagePlan → ℕ → Bool
-needs_in prints None plan state = false
-needs_in prints (Some (stage.Run b)) (Some (planned.Run p)) state = any_below (takes_at b p state) (length b.operations)
-needs_in prints (Some (stage.Run b)) (Some planned.Act) state = true
-needs_in prints (Some (stage.Run b)) None state = true
-needs_in prints (Some (stage.Act a next)) plan state = not (goes_on prints a)
+abbrev pub needs_in : Option Stage → Option StagePlan → ℕ → Bool
+needs_in None plan state = false
+needs_in (Some (stage.Run b)) (Some (planned.Run p)) state = any_below (takes_at b p state) (length b.operations)
+needs_in (Some (stage.Run b)) (Some planned.Act) state = true
+needs_in (Some (stage.Run b)) None state = true
+needs_in (Some (stage.Act a next)) plan state = not (goes_on a)
 
 -- ---- one more place where it is needed
 
@@ -109,19 +109,19 @@ module _ (registers : Registers) where
     pub is : u ≡ (here && any_below (takes_at b p state) n)
 
   -- at stage l
-  pub record IsNeedOf (prints : Bool) (l : ℕ) (s : Option Stage) (plan : Option StagePlan) (m : Module) (r : Reading) (u : Bool) : Type 0 where
+  pub record IsNeedOf (l : ℕ) (s : Option Stage) (plan : Option StagePlan) (m : Module) (r : Reading) (u : Bool) : Type 0 where
     pub has : HasStage registers l m r
     pub state : ℕ
     pub inside : (b : Block) (p : BlockPlan) → s ≡ Some (stage.Run b) → plan ≡ Some (planned.Run p) → r.signal registers.stage.register ≡ l → IsInPlan b p m r state
-    pub is : u ≡ (nat_eq (r.signal registers.stage.register) l && needs_in prints s plan state)
+    pub is : u ≡ (nat_eq (r.signal registers.stage.register) l && needs_in s plan state)
 
   -- and at the first n stages
-  pub record IsNeedOfFirst (prints : Bool) (code : ThreadCode) (plan : Planned) (n : ℕ) (m : Module) (r : Reading) (u : Bool) : Type 0 where
+  pub record IsNeedOfFirst (code : ThreadCode) (plan : Planned) (n : ℕ) (m : Module) (r : Reading) (u : Bool) : Type 0 where
     pub has : (l : ℕ) → l < n → HasStage registers l m r
     pub state : ℕ
     pub inside : (l : ℕ) (b : Block) (p : BlockPlan) → slice_get code.stages l ≡ Some (stage.Run b) → slice_get plan.stages l ≡ Some (planned.Run p) →
         r.signal registers.stage.register ≡ l → IsInPlan b p m r state
-    pub is : u ≡ any_below (λ l. nat_eq (r.signal registers.stage.register) l && needs_in prints (slice_get code.stages l) (slice_get plan.stages l) state) n
+    pub is : u ≡ any_below (λ l. nat_eq (r.signal registers.stage.register) l && needs_in (slice_get code.stages l) (slice_get plan.stages l) state) n
 
   -- ---- room
 

@@ -34,7 +34,7 @@ pub fn ask_stages(
     code: &ThreadCode,
     globals: &[CType],
     spreads: &[Spread],
-    printer: Option<Printer>,
+    printer: Printer,
     planned: &Planned,
 ) -> Result<usize, AllocError>
     ensures { IfOk result (AsksAllWired globals.now spreads.now code.now registers.now printer planned.now wires.old.signals wires.new.signals requests.old requests.new) }
@@ -52,7 +52,7 @@ fn ask_each(
     code: &ThreadCode,
     globals: &[CType],
     spreads: &[Spread],
-    printer: Option<Printer>,
+    printer: Printer,
     planned: &Planned,
 ) -> Result<(), AllocError>
     ensures { OnOk result (AsksFirst globals.now spreads.now code.now registers.now printer planned.now wires.old.signals wires.new.signals requests.old requests.new
@@ -73,7 +73,7 @@ fn ask_stage(
     code: &ThreadCode,
     globals: &[CType],
     spreads: &[Spread],
-    printer: Option<Printer>,
+    printer: Printer,
     planned: &Planned,
     number: usize,
     stage: &Stage,
@@ -105,7 +105,7 @@ fn ask_run(
     block: &Block,
     plan: &StagePlan,
 ) -> Result<(), AllocError>
-    ensures { OnOk result ((printer : Option PrinterOf) → AsksStage globals.now spreads.now code.now registers.now printer number (taken.Run block.now)
+    ensures { OnOk result ((printer : PrinterOf) → AsksStage globals.now spreads.now code.now registers.now printer number (taken.Run block.now)
         (Some plan.now) wires.old.signals
         wires.new.signals requests.old requests.new) }
 {
@@ -128,7 +128,7 @@ fn ask_operations(
     block: &Block,
     plan: &BlockPlan,
 ) -> Result<(), AllocError>
-    ensures { OnOk result ((printer : Option PrinterOf) → AsksStage globals.now spreads.now code.now registers.now printer number (taken.Run block.now)
+    ensures { OnOk result ((printer : PrinterOf) → AsksStage globals.now spreads.now code.now registers.now printer number (taken.Run block.now)
         (Some (stage_plan.Run plan.now))
         wires.old.signals wires.new.signals requests.old requests.new) }
 {
@@ -145,13 +145,13 @@ fn ask_operations(
     )
 }
 
-/// A printf asks the printer, where there is one; another act asks nothing.
+/// A printf asks the printer; another act asks nothing.
 fn ask_act(
     wires: &mut Wires,
     registers: &Registers,
     requests: &mut Requests,
     code: &ThreadCode,
-    printer: Option<Printer>,
+    printer: Printer,
     number: usize,
     act: &Act,
 ) -> Result<(), AllocError>
@@ -170,30 +170,8 @@ fn ask_act(
     }
 }
 
-fn ask_print(
-    wires: &mut Wires,
-    registers: &Registers,
-    requests: &mut Requests,
-    code: &ThreadCode,
-    printer: Option<Printer>,
-    number: usize,
-    site: u32,
-    values: &[ActOperand],
-) -> Result<(), AllocError>
-    ensures { OnOk result ((globals : List IntegerType) (spreads : List SpreadOf) (next : ℕ) (plan : Option PlanOfStage) →
-        AsksStage globals spreads code.now registers.now printer number
-        (taken.Act (act_taken.Print site values.now) next) plan wires.old.signals wires.new.signals requests.old requests.new) }
-{
-    match printer {
-        Some(printer) => ask_printer(
-            wires, registers, requests, code, printer, number, site, values,
-        ),
-        None => Ok(()),
-    }
-}
-
 /// The printer is asked to print a site with its values.
-fn ask_printer(
+fn ask_print(
     wires: &mut Wires,
     registers: &Registers,
     requests: &mut Requests,
@@ -204,7 +182,7 @@ fn ask_printer(
     values: &[ActOperand],
 ) -> Result<(), AllocError>
     ensures { OnOk result ((globals : List IntegerType) (spreads : List SpreadOf) (next : ℕ) (plan : Option PlanOfStage) →
-        AsksStage globals spreads code.now registers.now (Some printer)
+        AsksStage globals spreads code.now registers.now printer
         number (taken.Act (act_taken.Print site values.now) next) plan wires.old.signals wires.new.signals requests.old requests.new) }
 {
     let at = at_stage(wires, registers, number as u64)?;

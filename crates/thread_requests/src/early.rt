@@ -1,11 +1,12 @@
 // What a thread asks of cores in a state: wires that read registers alone.
 
-ghost use Rattle.std.specs.Prelude.{◌≡◌, ◌++◌, map, option_map, slice_get, IfOk, OnOk};
+ghost use Rattle.std.specs.Prelude.{◌≡◌, ◌∷◌, [], ◌++◌, true, length, map, option_map, slice_get, IfOk};
 ghost use Rattle.hls_ints.specs.Types.{width_of};
-ghost use Rattle.thread_requests.specs.Early.{LaysEarlyWired, copies_of, held_width, printer_request, spread_out};
+ghost use Rattle.thread_slots.specs.Bits.{MakesAny, AddsAny};
+ghost use Rattle.thread_requests.specs.Early.{BeginsRequests, OpensBanks, LaysEarlyWired, copies_of, held_width, spread_out};
 
 use crate::asking::ask_stages;
-use crate::needing::{has_printer, need_stages};
+use crate::needing::need_stages;
 use crate::outputs::field_widths;
 use bank_partition::banks::Spread;
 use block_datapath::registers::{Held, Registers};
@@ -23,7 +24,7 @@ use thread_slots::shape::Printer;
 #[derive(Drop)]
 pub struct Early {
     pub requests: Requests,
-    /// Of each bank, and last of the printer, where there is one, whether it is to be asked: it has not granted yet.
+    /// Of each bank, and last of the printer, whether it is to be asked: it has not granted yet.
     pub opens: Items<usize>,
     /// Whether a core is needed: one is asked, or tells a word that is taken, or the thread waits.
     pub need: usize,
@@ -38,16 +39,13 @@ pub fn lay_early(
     granted: &[usize],
     code: &ThreadCode,
     globals: &[CType],
-    printer: Option<Printer>,
+    printer: Printer,
     planned: &Planned,
 ) -> Result<Early, AllocError>
     ensures { IfOk result (LaysEarlyWired globals.now code.now registers.now granted.now printer planned.now wires.old.signals wires.new.signals) }
 {
-    let alloc = wires.alloc;
     let spreads = registers.spreads.as_slice();
-    let fields = field_widths(alloc, printer)?;
-    let words = held_widths(alloc, registers.words.as_slice())?;
-    let mut requests = Requests::begin(wires, fields.as_slice(), words.as_slice())?;
+    let mut requests = begin_requests(wires, registers, printer)?;
     let done = ask_stages(
         wires,
         registers,
@@ -58,16 +56,11 @@ pub fn lay_early(
         printer,
         planned,
     )?;
-    let prints = has_printer(printer);
-    let held = need_stages(wires, registers, code, prints, planned, done)?;
-    let marks = marks(alloc, spreads, granted)?;
-    let free = not_each(wires, marks.as_slice())?;
+    let held = need_stages(wires, registers, code, planned, done)?;
     let wants = requests.banks.wants.as_slice();
-    let mut opens = both_each(wires, wants, free.as_slice())?;
-    let mut asked = Items::from_slice(alloc, wants)?;
-    add_printer(&mut asked, printer, requests.wants)?;
-    let need = any_of(wires, held, asked.as_slice())?;
-    add_printer(&mut opens, printer, requests.wants)?;
+    let mut opens = open_banks(wires, spreads, granted, wants)?;
+    let need = any_needed(wires, held, wants, requests.wants)?;
+    opens.push(requests.wants)?;
     Ok(Early {
         requests,
         opens,
@@ -76,18 +69,46 @@ pub fn lay_early(
     })
 }
 
-/// The printer's request behind those of banks, where there is a printer.
-fn add_printer(
-    opens: &mut Items<usize>,
-    printer: Option<Printer>,
-    wants: usize,
-) -> Result<(), AllocError>
-    ensures { OnOk result (opens.new ≡ opens.old ++ printer_request printer wants) }
+/// Nobody is asked.
+fn begin_requests(
+    wires: &mut Wires,
+    registers: &Registers,
+    printer: Printer,
+) -> Result<Requests, AllocError>
+    ensures { IfOk result (BeginsRequests printer registers.now.words wires.old.signals wires.new.signals) }
 {
-    match printer {
-        Some(_) => opens.push(wants),
-        None => Ok(()),
-    }
+    let fields = field_widths(wires.alloc, printer)?;
+    let words = held_widths(wires.alloc, registers.words.as_slice())?;
+    Requests::begin(wires, fields.as_slice(), words.as_slice())
+}
+
+/// For each bank whether it is to be asked: it is wanted, and its global's access has not been granted.
+fn open_banks(
+    wires: &mut Wires,
+    spreads: &[Spread],
+    granted: &[usize],
+    wants: &[usize],
+) -> Result<Items<usize>, AllocError>
+    ensures { IfOk result (OpensBanks spreads.now granted.now wants.now wires.old.signals wires.new.signals) }
+{
+    let marks = marks(wires.alloc, spreads, granted)?;
+    let free = not_each(wires, marks.as_slice())?;
+    both_each(wires, wants, free.as_slice())
+}
+
+/// Whether a first bit is set, or a bank or the printer is wanted.
+fn any_needed(
+    wires: &mut Wires,
+    first: usize,
+    wants: &[usize],
+    prints: usize,
+) -> Result<usize, AllocError>
+    ensures shows { IfOk result (MakesAny wires.old.signals wires.new.signals first (wants.now ++ prints ∷ []) (λ k. true) (length (wants.now ++ prints ∷ []))) }
+    ensures wired { IfOk result (AddsAny wires.old.signals wires.new.signals first (wants.now ++ prints ∷ [])) }
+{
+    let mut asked = Items::from_slice(wires.alloc, wants)?;
+    asked.push(prints)?;
+    any_of(wires, first, asked.as_slice())
 }
 
 fn held_widths(alloc: Global, words: &[Held]) -> Result<Items<u64>, AllocError>

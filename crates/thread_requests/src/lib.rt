@@ -8,7 +8,7 @@
 //   values. So, by induction over the stages, all links show what the stage of the reading asks (`AsksAll`);
 // - needing: where a core is needed though none may be asked (`NeedsMore`);
 // - early: which cores are open (`LaysEarly`);
-// - outputs: the ports, each a copy (`LaysAllOutputs`).
+// - outputs: the ports, each a copy (`LaysOutputs`).
 
 mod asking;
 pub mod early;

@@ -5,7 +5,7 @@ ghost use Rattle.block_ir.specs.declared.code.Stage.TheVariants as taken;
 ghost use Rattle.block_ir.specs.declared.plan.StagePlan.TheVariants as stage_plan;
 ghost use Rattle.block_ir.specs.declared.plan.StagePlan.{StagePlan as PlanOfStage};
 ghost use Rattle.thread_requests.specs.Needing.{NeedsMore, HasStates, IsBehind, AreTaken, IsNeedOf, IsNeedOfFirst, FitsStage, FitStages, takes_word, IsThere, IsNumbered, IsTaken};
-ghost use Rattle.thread_slots.specs.Idle.{goes_on as goes_on_from, has_printer as is_given};
+ghost use Rattle.thread_slots.specs.Idle.{goes_on as goes_on_from};
 
 use block_datapath::operations::start_of;
 use block_datapath::registers::Registers;
@@ -15,23 +15,21 @@ use block_ir::code::{Act, Stage, ThreadCode};
 use block_ir::plan::{BlockPlan, Planned, StagePlan};
 use operator_wires::wires::Wires;
 use std::alloc::AllocError;
-use thread_slots::shape::Printer;
 
 /// A bit that is set where another one is, where a read takes its word, and where the thread waits forever.
 pub fn need_stages(
     wires: &mut Wires,
     registers: &Registers,
     code: &ThreadCode,
-    prints: bool,
     planned: &Planned,
     first: usize,
 ) -> Result<usize, AllocError>
     ensures { IfOk result (NeedsMore registers.now (FitStages registers.now code.now planned.now)
-        (IsNeedOfFirst registers.now prints code.now planned.now (length code.now.stages)) wires.old.signals wires.new.signals first) }
+        (IsNeedOfFirst registers.now code.now planned.now (length code.now.stages)) wires.old.signals wires.new.signals first) }
 {
     let mut need = first;
     for (number, stage) in code.stages.as_slice().iter().enumerate() {
-        let next = need_stage(wires, registers, prints, planned, number, stage, need)?;
+        let next = need_stage(wires, registers, planned, number, stage, need)?;
         need = next;
     }
     Ok(need)
@@ -40,21 +38,20 @@ pub fn need_stages(
 fn need_stage(
     wires: &mut Wires,
     registers: &Registers,
-    prints: bool,
     planned: &Planned,
     number: usize,
     stage: &Stage,
     need: usize,
 ) -> Result<usize, AllocError>
     ensures { IfOk result (NeedsMore registers.now (FitsStage registers.now number (slice_get planned.now.stages number))
-        (IsNeedOf registers.now prints number (Some stage.now) (slice_get planned.now.stages number)) wires.old.signals wires.new.signals need) }
+        (IsNeedOf registers.now number (Some stage.now) (slice_get planned.now.stages number)) wires.old.signals wires.new.signals need) }
 {
     match stage {
         Stage::Run(block) => match planned.stages.get(number) {
-            Some(plan) => need_run(wires, registers, prints, number, block, plan, need),
+            Some(plan) => need_run(wires, registers, number, block, plan, need),
             None => need_at(wires, registers, number, need),
         },
-        Stage::Act { act, .. } => need_act(wires, registers, prints, number, act, need),
+        Stage::Act { act, .. } => need_act(wires, registers, number, act, need),
     }
 }
 
@@ -62,17 +59,16 @@ fn need_stage(
 fn need_run(
     wires: &mut Wires,
     registers: &Registers,
-    prints: bool,
     number: usize,
     block: &Block,
     plan: &StagePlan,
     need: usize,
 ) -> Result<usize, AllocError>
     ensures { IfOk result (NeedsMore registers.now (FitsStage registers.now number (Some plan.now))
-        (IsNeedOf registers.now prints number (Some (taken.Run block.now)) (Some plan.now)) wires.old.signals wires.new.signals need) }
+        (IsNeedOf registers.now number (Some (taken.Run block.now)) (Some plan.now)) wires.old.signals wires.new.signals need) }
 {
     match plan {
-        StagePlan::Run(plan) => need_block(wires, registers, prints, number, block, plan, need),
+        StagePlan::Run(plan) => need_block(wires, registers, number, block, plan, need),
         StagePlan::Act => need_at(wires, registers, number, need),
     }
 }
@@ -81,27 +77,25 @@ fn need_run(
 fn need_act(
     wires: &mut Wires,
     registers: &Registers,
-    prints: bool,
     number: usize,
     act: &Act,
     need: usize,
 ) -> Result<usize, AllocError>
     ensures { IfOk result (λ after. (next : ℕ) (plan : Option PlanOfStage) → NeedsMore registers.now (FitsStage registers.now number plan)
-        (IsNeedOf registers.now prints number (Some (taken.Act act.now next)) plan) wires.old.signals wires.new.signals need after) }
+        (IsNeedOf registers.now number (Some (taken.Act act.now next)) plan) wires.old.signals wires.new.signals need after) }
 {
-    if goes_on(prints, act) {
+    if goes_on(act) {
         Ok(need)
     } else {
         need_at(wires, registers, number, need)
     }
 }
 
-fn goes_on(prints: bool, act: &Act) -> bool
-    ensures { result ≡ goes_on_from prints act.now }
+fn goes_on(act: &Act) -> bool
+    ensures { result ≡ goes_on_from act.now }
 {
     match act {
-        Act::Print { .. } => prints,
-        Act::Return => true,
+        Act::Print { .. } | Act::Return => true,
         _ => false,
     }
 }
@@ -122,14 +116,13 @@ fn need_at(
 fn need_block(
     wires: &mut Wires,
     registers: &Registers,
-    prints: bool,
     number: usize,
     block: &Block,
     plan: &BlockPlan,
     need: usize,
 ) -> Result<usize, AllocError>
     ensures { IfOk result (NeedsMore registers.now (FitsStage registers.now number (Some (stage_plan.Run plan.now)))
-        (IsNeedOf registers.now prints number (Some (taken.Run block.now)) (Some (stage_plan.Run plan.now))) wires.old.signals wires.new.signals need) }
+        (IsNeedOf registers.now number (Some (taken.Run block.now)) (Some (stage_plan.Run plan.now))) wires.old.signals wires.new.signals need) }
 {
     let at = at_stage(wires, registers, number as u64)?;
     need_reads(wires, registers, block, plan, at, need)
@@ -203,11 +196,4 @@ fn following(state: u64) -> u64
     ensures { state + 1 < 2 ^ 64 → result ≡ state + 1 }
 {
     state.saturating_add(1)
-}
-
-/// Whether there is a printer.
-pub fn has_printer(printer: Option<Printer>) -> bool
-    ensures { result ≡ is_given printer }
-{
-    matches!(printer, Some(_))
 }

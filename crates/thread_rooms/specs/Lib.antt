@@ -3,3 +3,4 @@ pub mod Housing
 pub mod Locals
 pub mod Reaching
 pub mod Values
+pub mod Names

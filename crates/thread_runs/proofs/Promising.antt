@@ -55,7 +55,7 @@ or_true : (t : Bool) → (t || true) ≡ true
 or_true true = refl
 or_true false = refl
 
-module _ (shape : Shape) (code : ThreadCode) (plan : Planned) (printer : Printer) (m : Module) (t : IsModule shape code plan m) (served : IsServed shape code plan printer) where
+module _ (shape : Shape) (code : ThreadCode) (plan : Planned) (m : Module) (t : IsModule shape code plan m) (served : IsServed shape code plan) where
   abbrev banks : ℕ
   banks = bank_total shape.spreads
 
@@ -72,10 +72,10 @@ module _ (shape : Shape) (code : ThreadCode) (plan : Planned) (printer : Printer
   kept_still : (r : Reading) (k : ℕ) → Obeys m r → r.signal t.edge.leave ≡ 0 → k < behind + 3 + length code.variables + plan.registers → k ≢ behind + 2
       → (next_reading m r).signal k ≡ r.signal k
   kept_still r k o off less other =
-      stays_but shape code plan printer m t served r o k off (λ e. other (sym e ∙ beat_at shape code plan printer m t served))
+      stays_but shape code plan m t served r o k off (λ e. other (sym e ∙ beat_at shape code plan m t served))
       (λ i h listed e.
       absurd
-      (let at = granted_at shape code plan printer m t served i h listed in
+      (let at = granted_at shape code plan m t served i h listed in
       let variables = t.laid.slot.variables_count in
       let kept : length t.inside.slot.kept ≡ plan.registers = t.laid.slot.kept_count ∙ t.laid.kept.count in
       omega arith))
@@ -83,8 +83,8 @@ module _ (shape : Shape) (code : ThreadCode) (plan : Planned) (printer : Printer
   -- ---- blocks
 
   module _ (memory : Memory ℤ) (grant : ℕ → Bool) (r : Reading) (q : Slot) (b : Block) (p : BlockPlan) (o : Obeys m r)
-      (inside : IsInside shape.globals shape.spreads code plan m (places_of banks code plan) (ports_of banks printer m) r q b p)
-      (hears : HearsBanks shape.globals shape.spreads code plan m (places_of banks code plan) (ports_of banks printer m) r q b p grant) (on : r.signal 1 ≡ 1) where
+      (inside : IsInside shape.globals shape.spreads code plan m (places_of banks code plan) (ports_of shape m) r q b p)
+      (hears : HearsBanks shape.globals shape.spreads code plan m (places_of banks code plan) (ports_of shape m) r q b p grant) (on : r.signal 1 ≡ 1) where
     abbrev bank : Location → ℕ
     bank = bank_of shape.spreads
 
@@ -107,8 +107,8 @@ module _ (shape : Shape) (code : ThreadCode) (plan : Planned) (printer : Printer
       q.words,
       record {
         wired = wires_wired bank (planned_view b) (plan_view b p) inside.runs.keeps q;
-        told = told_so shape code plan printer m t served r o q b p inside.runs inside.state inside.shown e grant hears;
-        units = shared_so shape code plan printer m t served r o q b p inside.runs inside.state inside.shown wire;
+        told = told_so shape code plan m t served r o q b p inside.runs inside.state inside.shown e grant hears;
+        units = shared_so shape code plan m t served r o q b p inside.runs inside.state inside.shown wire;
       },
     )
     needed false e = (
@@ -116,8 +116,8 @@ module _ (shape : Shape) (code : ThreadCode) (plan : Planned) (printer : Printer
       record {
         wired = λ k below last. wires_wired bank (planned_view b) (plan_view b p) inside.runs.keeps q k below last ∙ unheard k below last
             (operation_at (planned_view b) k).kind refl;
-        told = told_nothing shape code plan printer m t served r o q b p inside.runs inside.state inside.shown e;
-        units = shared_so shape code plan printer m t served r o q b p inside.runs inside.state inside.shown wire;
+        told = told_nothing shape code plan m t served r o q b p inside.runs inside.state inside.shown e;
+        units = shared_so shape code plan m t served r o q b p inside.runs inside.state inside.shown wire;
       },
     )
       where
@@ -137,13 +137,13 @@ module _ (shape : Shape) (code : ThreadCode) (plan : Planned) (printer : Printer
             by_kind (Multiply f) e' = refl
             by_kind (Divide f) e' = refl
             by_kind (BankRead x) e' =
-                absurd (let clash : 0 ≡ 1 = sym e ∙ taken_needs shape code plan printer m t served r o q b p inside k x below last e' in cc)
+                absurd (let clash : 0 ≡ 1 = sym e ∙ taken_needs shape code plan m t served r o q b p inside k x below last e' in cc)
             by_kind (BankWrite x) e' = refl
             by_kind (ArrayRead x) e' = refl
             by_kind (ArrayWrite x) e' = refl
 
     need_now : (c : Bool) × (r.signal t.inside.early.need ≡ bit_of c)
-    need_now = wide_bit m r t.inside.early.need o (need_wide shape code plan printer m t served)
+    need_now = wide_bit m r t.inside.early.need o (need_wide shape code plan m t served)
 
     fed : (heard : ℕ → ℤ) × IsFed shape.globals code t.inside.slot b p bank m r (with_words q heard) wire
     fed = needed need_now.0 need_now.1
@@ -154,12 +154,12 @@ module _ (shape : Shape) (code : ThreadCode) (plan : Planned) (printer : Printer
 
     heard_stage : IsInStage shape.globals code t.inside.slot q.stage b p m r heard_slot
     heard_stage =
-        let own = in_stage shape code plan printer m t served r o q b p inside.runs inside.state inside.shown in
+        let own = in_stage shape code plan m t served r o q b p inside.runs inside.state inside.shown in
         record { has = own.has; stage = own.stage; wide = own.wide; state = own.state; below = own.below; room = own.room }
 
     heard_sees : SeesSlot shape.globals code t.inside.slot b p m r heard_slot
     heard_sees =
-        let own = sees_slot shape code plan printer m t served r o q b p inside.runs inside.state inside.shown in
+        let own = sees_slot shape code plan m t served r o q b p inside.runs inside.state inside.shown in
         record {
           variables = own.variables;
           arrays = own.arrays;
@@ -169,10 +169,10 @@ module _ (shape : Shape) (code : ThreadCode) (plan : Planned) (printer : Printer
     made : LeavesState shape.globals code t.inside.slot q.stage b p r q wire t.inside.chains
     made =
         let left =
-        (does shape code plan printer m t served q.stage (stage.Run b) inside.runs.listed).runs b p refl inside.runs.planned_so bank m r heard_slot wire
-        (from_inside shape code plan printer m t served) o (still shape code plan printer m t served r o)
-        (is_right shape code plan printer m t served r o q b p inside.runs inside.state inside.shown) heard_stage heard_sees
-        fed.1 (has_widths shape code plan printer m t served r o q b p inside.runs inside.state inside.shown) (knows shape code plan printer m t served r o) in
+        (does shape code plan m t served q.stage (stage.Run b) inside.runs.listed).runs b p refl inside.runs.planned_so bank m r heard_slot wire
+        (from_inside shape code plan m t served) o (still shape code plan m t served r o)
+        (is_right shape code plan m t served r o q b p inside.runs inside.state inside.shown) heard_stage heard_sees
+        fed.1 (has_widths shape code plan m t served r o q b p inside.runs inside.state inside.shown) (knows shape code plan m t served r o) in
         record {
           is_last = left.is_last;
           stage = left.stage;
@@ -184,13 +184,13 @@ module _ (shape : Shape) (code : ThreadCode) (plan : Planned) (printer : Printer
 
     leave_is : r.signal t.edge.leave ≡ bit_of (is_ready (planned_view b) (plan_view b p) q grant)
     leave_is =
-        block_leave shape code plan printer m t served r q b p o inside (indices shape code plan printer m t served r q b p o inside)
-        (targets shape code plan printer m t served r q b p o inside) grant hears (printing shape code plan printer m t served r q b p o inside) made.waits on
+        block_leave shape code plan m t served r q b p o inside (indices shape code plan m t served r q b p o inside)
+        (targets shape code plan m t served r q b p o inside) grant hears (printing shape code plan m t served r q b p o inside) made.waits on
 
     moved_is : r.signal t.edge.moved ≡ bit_of (is_ready (planned_view b) (plan_view b p) q grant || is_answered (planned_view b) (plan_view b p) q grant)
     moved_is =
-        block_moved shape code plan printer m t served r q b p o inside (indices shape code plan printer m t served r q b p o inside)
-        (targets shape code plan printer m t served r q b p o inside) grant hears (printing shape code plan printer m t served r q b p o inside) made.waits on
+        block_moved shape code plan m t served r q b p o inside (indices shape code plan m t served r q b p o inside)
+        (targets shape code plan m t served r q b p o inside) grant hears (printing shape code plan m t served r q b p o inside) made.waits on
 
     -- ---- the state is left
 
@@ -199,14 +199,14 @@ module _ (shape : Shape) (code : ThreadCode) (plan : Planned) (printer : Printer
       leave = leave_is ∙ ap bit_of ready
 
       -- the arrays are those that the state leaves
-      held : (s : Slot) → ((l : Location) → s.arrays l ≡ arrays_next (planned_view b) (plan_view b p) q wire l) → HoldsArrays shape code plan printer m t served r s
+      held : (s : Slot) → ((l : Location) → s.arrays l ≡ arrays_next (planned_view b) (plan_view b p) q wire l) → HoldsArrays shape code plan m t served r s
       held s same =
           let listed = inside.runs.listed in
           let put =
-          (stored shape code plan printer m t served).runs q.stage b p (slice_get_within code.stages q.stage (stage.Run b) listed)
+          (stored shape code plan m t served).runs q.stage b p (slice_get_within code.stages q.stage (stage.Run b) listed)
           (let z : length code.stages ≤ length code.stages = omega arith in z) listed inside.runs.planned_so bank m r heard_slot wire
-          (from_inside shape code plan printer m t served) o
-          (is_right shape code plan printer m t served r o q b p inside.runs inside.state inside.shown) (knows shape code plan printer m t served r o) heard_stage heard_sees
+          (from_inside shape code plan m t served) o
+          (is_right shape code plan m t served r o q b p inside.runs inside.state inside.shown) (knows shape code plan m t served r o) heard_stage heard_sees
           fed.1 in
           let shows = inside.shown.shown in
           let is : (a i : ℕ) → s.arrays (element_at a i) ≡ cells b p q wire (length b.operations) a i (q.arrays (element_at a i)) = λ a i. same
@@ -215,7 +215,7 @@ module _ (shape : Shape) (code : ThreadCode) (plan : Planned) (printer : Printer
             words = λ a i array there less.
                 let one = put.words t.edge.leave a i (r.word a i) array (q.arrays (element_at a i)) leave there less (shows.words a i array there less)
                 (shows.typed_words a i array there less) in (
-                  ap (λ (l : List Store). word_after r (map (store_action t.edge.leave) l) a i (r.word a i)) (all_stored shape code plan printer m t served) ∙ one.0
+                  ap (λ (l : List Store). word_after r (map (store_action t.edge.leave) l) a i (r.word a i)) (all_stored shape code plan m t served) ∙ one.0
                       ∙ ap (residue_of (width_of array.ty)) (sym (is a i)),
                   subst (HasType array.ty) (sym (is a i)) one.1,
                 );
@@ -231,7 +231,7 @@ module _ (shape : Shape) (code : ThreadCode) (plan : Planned) (printer : Printer
           else gone_on (planned_view b) (plan_view b p) q wire words (registers_next bank (planned_view b) (plan_view b p) q))
       by_end true e = (
         λ less. absurd (let same = is_same (suc q.state) p.states e in omega arith),
-        shows_next shape code plan printer m t served r q (left_for_next bank (planned_view b) (plan_view b p) q words) true o inside.shown.shown on leave
+        shows_next shape code plan m t served r q (left_for_next bank (planned_view b) (plan_view b p) q words) true o inside.shown.shown on leave
             (made.is_last ∙ ap bit_of e)
             (made.stage ∙ ap (λ c. if c then leads_to value (planned_view b).next else q.stage) e) refl refl
             (λ x ty declared.
@@ -242,12 +242,12 @@ module _ (shape : Shape) (code : ThreadCode) (plan : Planned) (printer : Printer
       by_end false e =
           let below = inside.state in
           let ne : suc q.state ≢ p.states = λ same. let clash : true ≡ false = sym (same_is (suc q.state) p.states same) ∙ e in absurd cc in
-          let room = (in_stage shape code plan printer m t served r o q b p inside.runs inside.state inside.shown).room in
+          let room = (in_stage shape code plan m t served r o q b p inside.runs inside.state inside.shown).room in
           let fits : q.state + 1 < 2 ^ t.inside.slot.state.width = omega arith in
           let one : q.state + 1 ≡ suc q.state = omega arith in
           let next : Slot = gone_on (planned_view b) (plan_view b p) q wire words (registers_next bank (planned_view b) (plan_view b p) q) in
           let shown : Shows (next_reading m r) next =
-          shows_next shape code plan printer m t served r q next false o inside.shown.shown on leave (made.is_last ∙ ap bit_of e)
+          shows_next shape code plan m t served r q next false o inside.shown.shown on leave (made.is_last ∙ ap bit_of e)
           (made.stage ∙ ap (λ c. if c then leads_to value (planned_view b).next else q.stage) e) (mod-eq_of_lt fits ∙ one) refl
           (λ x ty declared.
           made.variables x ty declared ∙ ap (λ c. residue_of (width_of ty) (if c then finished value (planned_view b).finals q.variables x else q.variables x)) e)
@@ -259,14 +259,14 @@ module _ (shape : Shape) (code : ThreadCode) (plan : Planned) (printer : Printer
               alive = λ k n alive.
                   let kept = made.kept (registers_next bank (planned_view b) (plan_view b p) q)
                   (registers_right bank (planned_view b) (plan_view b p) inside.runs.keeps q) next refl k n alive in
-                  let v = kept_of shape code plan printer m t served r o q b p inside.runs inside.state inside.shown k n alive.operation alive.listed alive.register in
-                  ap (λ x. x % 2 ^ width_of (value_type shape.globals code alive.operation)) (next_kept shape code plan printer m t served r o leave n v.3) ∙ kept.0;
+                  let v = kept_of shape code plan m t served r o q b p inside.runs inside.state inside.shown k n alive.operation alive.listed alive.register in
+                  ap (λ x. x % 2 ^ width_of (value_type shape.globals code alive.operation)) (next_kept shape code plan m t served r o leave n v.3) ∙ kept.0;
               typed_alive = λ k n alive.
                   (made.kept (registers_next bank (planned_view b) (plan_view b p) q) (registers_right bank (planned_view b) (plan_view b p) inside.runs.keeps q) next refl k n
                   alive).1;
               -- no grant is remembered
               granted = λ k x w under target at.
-                  shown.none_granted (λ n. refl) x (global_within shape code plan printer m t served q b p inside.runs k x w under target);
+                  shown.none_granted (λ n. refl) x (global_within shape code plan m t served q b p inside.runs k x w under target);
             },
             shown,
           )
@@ -283,7 +283,7 @@ module _ (shape : Shape) (code : ThreadCode) (plan : Planned) (printer : Printer
       -- no request is granted
       rested : is_answered (planned_view b) (plan_view b p) q grant ≡ false → ShowsBlock b p (next_reading m r) q
       rested none =
-          keeps_in_so shape code plan printer m t served r (next_reading m r) q b p (agrees_off shape code plan printer m t served r o off (moves_as ∙ ap bit_of none)) inside.runs
+          keeps_in_so shape code plan m t served r (next_reading m r) q b p (agrees_off shape code plan m t served r o off (moves_as ∙ ap bit_of none)) inside.runs
           inside.shown
 
       -- some are, and are remembered
@@ -295,12 +295,12 @@ module _ (shape : Shape) (code : ThreadCode) (plan : Planned) (printer : Printer
             shown = record {
               stage = kept_still r behind o off (omega arith) (λ e. absurd (omega arith)) ∙ shows.stage;
               state = kept_still r (behind + 1) o off (omega arith) (λ e. absurd (omega arith)) ∙ shows.state;
-              beat = next_beat shape code plan printer m t served r o q.beat moved shows.beat;
+              beat = next_beat shape code plan m t served r o q.beat moved shows.beat;
               variables = λ x ty declared.
                   let less = slice_get_within code.variables x ty declared in
                   kept_still r (behind + 3 + x) o off (omega arith) (λ e. absurd (omega arith)) ∙ shows.variables x ty declared;
               typed = shows.typed;
-              words = λ a i array listed less. words_stay shape code plan printer m t served r o a i off ∙ shows.words a i array listed less;
+              words = λ a i array listed less. words_stay shape code plan m t served r o a i off ∙ shows.words a i array listed less;
               typed_words = shows.typed_words;
               outside = shows.outside;
               none_granted = λ none x less.
@@ -308,7 +308,7 @@ module _ (shape : Shape) (code : ThreadCode) (plan : Planned) (printer : Printer
                   absurd (let clash : true ≡ false = sym (ap (λ z. q.granted k.0 || z) k.2 ∙ or_true (q.granted k.0)) ∙ none k.0 in cc);
             };
             alive = λ k n alive.
-                let v = kept_of shape code plan printer m t served r o q b p inside.runs inside.state inside.shown k n alive.operation alive.listed alive.register in
+                let v = kept_of shape code plan m t served r o q b p inside.runs inside.state inside.shown k n alive.operation alive.listed alive.register in
                 let less : n < plan.registers = v.3 in
                 let own : IsAlive b p q k n = record { operation = alive.operation; listed = alive.listed; register = alive.register; past = alive.past; used = alive.used } in
                 ap (λ x. x % 2 ^ width_of (value_type shape.globals code alive.operation)) (kept_still r (behind + 3 + length code.variables + n) o off (omega arith)
@@ -318,9 +318,9 @@ module _ (shape : Shape) (code : ThreadCode) (plan : Planned) (printer : Printer
                 inside.shown.typed_alive k n
                 (record { operation = alive.operation; listed = alive.listed; register = alive.register; past = alive.past; used = alive.used });
             granted = λ k x w under target at.
-                next_mark shape code plan printer m t served r o x moved (global_within shape code plan printer m t served q b p inside.runs k x w under target)
-                ∙ block_mark shape code plan printer m t served r q b p o inside (indices shape code plan printer m t served r q b p o inside)
-                (targets shape code plan printer m t served r q b p o inside) grant hears (printing shape code plan printer m t served r q b p o inside) made.waits on k x w under
+                next_mark shape code plan m t served r o x moved (global_within shape code plan m t served q b p inside.runs k x w under target)
+                ∙ block_mark shape code plan m t served r q b p o inside (indices shape code plan m t served r q b p o inside)
+                (targets shape code plan m t served r q b p o inside) grant hears (printing shape code plan m t served r q b p o inside) made.waits on k x w under
                 target at stay;
           }
 
@@ -338,19 +338,19 @@ module _ (shape : Shape) (code : ThreadCode) (plan : Planned) (printer : Printer
     moves_so = by_ready (is_ready (planned_view b) (plan_view b p) q grant) (is_answered (planned_view b) (plan_view b p) q grant) refl refl
 
   -- THE PROMISE
-  pub runs_code : RunsCode shape.globals shape.spreads code plan m (places_of banks code plan) (ports_of banks printer m)
+  pub runs_code : RunsCode shape.globals shape.spreads code plan m (places_of banks code plan) (ports_of shape m)
   runs_code = record {
-    starts = starts_so shape code plan printer m t served;
-    keeps = keeps_so shape code plan printer m t served;
-    keeps_in_block = keeps_in_so shape code plan printer m t served;
-    rests = rests_so shape code plan printer m t served;
-    asks = asks_so shape code plan printer m t served;
-    asks_none = λ r q b p n o inside. asks_none_so shape code plan printer m t served r q b p o inside n;
-    asks_outside = asks_outside_so shape code plan printer m t served;
+    starts = starts_so shape code plan m t served;
+    keeps = keeps_so shape code plan m t served;
+    keeps_in_block = keeps_in_so shape code plan m t served;
+    rests = rests_so shape code plan m t served;
+    asks = asks_so shape code plan m t served;
+    asks_none = λ r q b p n o inside. asks_none_so shape code plan m t served r q b p o inside n;
+    asks_outside = asks_outside_so shape code plan m t served;
     moves = moves_so;
-    prints = prints_so shape code plan printer m t served;
-    quiet = quiet_so shape code plan printer m t served;
-    returns = returns_so shape code plan printer m t served;
-    ends = ends_so shape code plan printer m t served;
-    done = done_so shape code plan printer m t served;
+    prints = prints_so shape code plan m t served;
+    quiet = quiet_so shape code plan m t served;
+    returns = returns_so shape code plan m t served;
+    ends = ends_so shape code plan m t served;
+    done = done_so shape code plan m t served;
   }

@@ -130,6 +130,7 @@ square = record {
   returns = Integer int_type;
   parameters = 1;
   locals = scalar int_type ∷ [];
+  local_names = (97 ∷ []) ∷ [];
   body = list_of (Statement.Return 0 (Some (RightSide.Value (Expression.Binary Multiply int_type (local 0) (local 0)))) ∷ []);
   end = 0;
 }

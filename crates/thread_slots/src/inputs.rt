@@ -1,14 +1,13 @@
 // The input ports.
 
-ghost use Rattle.std.specs.Prelude.{◌≡◌, ◌++◌, false, length, replicate, IfOk, OnOk};
+ghost use Rattle.std.specs.Prelude.{◌≡◌, ◌∷◌, [], ◌++◌, false, length, replicate, IfOk};
 ghost use Rattle.netlist.specs.declared.netlist.Source.TheVariants.{Input};
 ghost use Rattle.operator_wires.specs.Built.{is_single};
-ghost use Rattle.thread_slots.specs.Inputs.{LaysInputs, printer_bits};
+ghost use Rattle.thread_slots.specs.Inputs.{LaysInputs};
 ghost use Rattle.thread_slots.specs.Slots.{LaysAll};
 ghost use Rattle.thread_slots.specs.Wired.{AreFit, Behind, IsInnerInput};
 
 use crate::chains::places;
-use crate::shape::Printer;
 use block_datapath::registers::Held;
 use operator_wires::wires::{Role, Wires};
 use sqlite_items::Items;
@@ -18,46 +17,29 @@ use std::alloc::{AllocError, Global};
 #[derive(Drop)]
 pub struct Inputs {
     pub enable: usize,
-    /// Whether each bank grants, and last the printer, where there is one.
+    /// Whether each bank grants, and last the printer.
     pub grants: Items<usize>,
 }
 
 /// The clock, the enable, and the grants of so many banks and of the printer.
-pub fn lay_inputs(
-    wires: &mut Wires,
-    banks: usize,
-    printer: Option<Printer>,
-) -> Result<Inputs, AllocError>
-    ensures lays { IfOk result (LaysInputs printer banks wires.old.signals wires.new.signals) }
+pub fn lay_inputs(wires: &mut Wires, banks: usize) -> Result<Inputs, AllocError>
+    ensures lays { IfOk result (LaysInputs banks wires.old.signals wires.new.signals) }
     ensures wired { IfOk result (λ inputs. length wires.old.signals ≡ 0 → Behind IsInnerInput wires.old.signals wires.new.signals) }
 {
     wires.input(Role::Clock, 1)?;
     let enable = wires.input(Role::Enable, 1)?;
-    let ones = grant_widths(wires.alloc, banks, printer)?;
+    let ones = grant_widths(wires.alloc, banks)?;
     let held = lay_many(wires, Role::Grant, ones.as_slice())?;
     let grants = places(wires.alloc, held.as_slice())?;
     Ok(Inputs { enable, grants })
 }
 
-fn grant_widths(
-    alloc: Global,
-    banks: usize,
-    printer: Option<Printer>,
-) -> Result<Items<u64>, AllocError>
-    ensures { IfOk result (λ widths. widths ≡ replicate banks 1 ++ printer_bits printer) }
+fn grant_widths(alloc: Global, banks: usize) -> Result<Items<u64>, AllocError>
+    ensures { IfOk result (λ widths. widths ≡ replicate banks 1 ++ 1 ∷ []) }
 {
     let mut widths = Items::from_vec(vec![in alloc; 1; banks]?);
-    add_printer(&mut widths, printer)?;
+    widths.push(1)?;
     Ok(widths)
-}
-
-fn add_printer(widths: &mut Items<u64>, printer: Option<Printer>) -> Result<(), AllocError>
-    ensures { OnOk result (widths.new ≡ widths.old ++ printer_bits printer) }
-{
-    match printer {
-        Some(_) => widths.push(1),
-        None => Ok(()),
-    }
 }
 
 /// The word that each bank tells, of these widths.

@@ -25,5 +25,6 @@ pub struct Shape {
     pub globals: Items<CType>,
     /// Where the banks of each global stand among all banks.
     pub spreads: Items<Spread>,
-    pub printer: Option<Printer>,
+    /// The core that writes what the thread prints.
+    pub printer: Printer,
 }

@@ -1,6 +1,6 @@
 -- The module of a thread is checked by how it is made: its signals are graded, and stand at the places of their kinds.
 use Rattle.std.proofs.Common.{◌≡◌, ℕ, zero, suc, ◌+◌, ◌-◌, ◌*◌, ◌/◌, ◌%◌, ◌<◌, ◌≤◌, ◌^◌, min, Bool, true, false, List, [], ◌∷◌, ◌++◌, length, map, Some, refl, sym, ap, subst}
-use Rattle.std.proofs.Common.{◌∙◌, arith, ⊎_elim, append_assoc}
+use Rattle.std.proofs.Common.{◌∙◌, arith, ⊎_elim, append_assoc, length-append}
 use Rattle.std.specs.Prelude.{slice_get, slice_index}
 use Rattle.std.proofs.lemmas.Option.{slice_get_within, get_or_from_slice_get}
 use Rattle.std.proofs.lemmas.Bool.{cases_lt}
@@ -39,12 +39,14 @@ use Rattle.thread_slots.specs.declared.shape.Shape.{Shape}
 use Rattle.thread_slots.specs.Bits.{AreBitsOf}
 use Rattle.thread_slots.specs.Slots.{StandsAt}
 use Rattle.thread_requests.specs.Early.{held_width}
-use Rattle.thread_requests.specs.Outputs.{CopiesAt, HasBankOutputs}
+use Rattle.core_ports.specs.Ports.{asks_of, thread_outputs}
+use Rattle.thread_requests.specs.declared.outputs.Row.{Row}
+use Rattle.thread_requests.specs.Outputs.{CopiesAt, rows_at, fields_from}
 use Rattle.thread_slots.specs.Wired.{field_width, IsSpelled, IsInnerInput, IsSlotRegister}
 use Rattle.thread_states.specs.Actions.{set_action, sets_from}
 use Rattle.thread_slots.specs.Cells.{store_action}
 use Rattle.thread_layout.specs.Modules.{marks_of, IsWiredInside, IsModule}
-use Rattle.thread_layout.specs.Thread.{input_count, first_output, IsServed}
+use Rattle.thread_layout.specs.Thread.{input_count, core_ports, first_output, port_at, need_at, done_at, IsServed}
 use Rattle.thread_layout.specs.Memories.{memories_from, early_base, heard_base, control_base}
 use Rattle.thread_states.specs.Wired.{IsSteered, WiresControl}
 use Rattle.thread_sound.specs.Leaf.{IsChecked}
@@ -55,9 +57,9 @@ use Rattle.thread_layout.proofs.Opened.{wired}
 use Rattle.thread_layout.proofs.Resting.{mark_at}
 use Rattle.thread_layout.proofs.Placed.{from_inside, from_control, from_heard, from_early, from_slot, from_inputs, from_ports, inputs_long, registers_long, cores, words_count}
 use Rattle.thread_layout.proofs.Placed.{opens_count, got_any, enable_at, enable_stands, grant_at, grant_stands, stage_at, stage_stands, state_at, state_stands, beat_at}
-use Rattle.thread_layout.proofs.Placed.{beat_stands, variable_held, kept_held, mark_held, variables_at, kept_at, granted_at, fields_count, before_outputs, bank_outputs}
-use Rattle.thread_layout.proofs.Placed.{ask_stands, field_stands, need_stands, done_stands}
-use Rattle.thread_sound.proofs.Shaping.{shape_is}
+use Rattle.thread_layout.proofs.Placed.{beat_stands, variable_held, kept_held, mark_held, variables_at, kept_at, granted_at, before_outputs, bank_outputs}
+use Rattle.thread_layout.proofs.Placed.{HasBankOutputs, ask_stands, field_stands, need_stands, done_stands, all_long, ports_count, rows, widths_are, bank_listed, printer_rows, printer_listed}
+use Rattle.thread_layout.proofs.Rowing.{HaveWidths, row_width, own_asks, row_found, place_of_rows, all_count}
 use Rattle.thread_sound.proofs.Grading.{none_read, level, input_level, slot_level, stage_level, asks_level, control_level, asked_level, told_level, most_level, grades}
 use Rattle.thread_sound.proofs.Grading.{grade_listed, earlier_operand, wire_graded, wire_ranges}
 use Rattle.thread_sound.proofs.Remembering.{right_memories, begun}
@@ -74,9 +76,9 @@ register_has m h place w n at wide s = subst (λ z. HasRegister m z h.width) (sy
 mapped_from : (hs : List Held) (k x : ℕ) → slice_get (map (λ (h : Held). h.register) hs) k ≡ Some x → k < length hs
 mapped_from hs k x e = let less = slice_get_within (map (λ (h : Held). h.register) hs) k x e in let count = length-map hs (λ (h : Held). h.register) in omega arith
 
-module _ (shape : Shape) (code : ThreadCode) (plan : Planned) (printer : Printer) (m : Module) (t : IsModule shape code plan m) (served : IsServed shape code plan printer) where
-  inner : IsWiredInside code plan shape printer t.laid.with_inputs t.laid.with_slot t.laid.with_early t.laid.with_heard t.with_inside t.inside
-  inner = wired shape code plan printer m t served
+module _ (shape : Shape) (code : ThreadCode) (plan : Planned) (m : Module) (t : IsModule shape code plan m) (served : IsServed shape code plan) where
+  inner : IsWiredInside code plan shape t.laid.with_inputs t.laid.with_slot t.laid.with_early t.laid.with_heard t.with_inside t.inside
+  inner = wired shape code plan m t served
 
   abbrev banks : ℕ
   banks = bank_total shape.spreads
@@ -85,19 +87,19 @@ module _ (shape : Shape) (code : ThreadCode) (plan : Planned) (printer : Printer
   behind = input_count banks
 
   abbrev inside_to : Grows t.with_inside m.signals
-  inside_to = from_inside shape code plan printer m t served
+  inside_to = from_inside shape code plan m t served
 
   abbrev control_to : Grows t.closed.with_control m.signals
-  control_to = from_control shape code plan printer m t served
+  control_to = from_control shape code plan m t served
 
   abbrev early_to : Grows t.laid.with_early m.signals
-  early_to = from_early shape code plan printer m t served
+  early_to = from_early shape code plan m t served
 
   abbrev heard_to : Grows t.laid.with_heard m.signals
-  heard_to = from_heard shape code plan printer m t served
+  heard_to = from_heard shape code plan m t served
 
   abbrev slot_to : Grows t.laid.with_slot m.signals
-  slot_to = from_slot shape code plan printer m t served
+  slot_to = from_slot shape code plan m t served
 
   -- what wires stand on
   abbrev before : Base
@@ -130,13 +132,13 @@ module _ (shape : Shape) (code : ThreadCode) (plan : Planned) (printer : Printer
 
   -- how many outputs ask
   abbrev asked : ℕ
-  asked = 4 * banks + 2 + printer.values
+  asked = length (asks_of (core_ports shape))
 
   counted : length t.inside.slot.words ≡ banks
-  counted = words_count shape code plan printer m t served
+  counted = words_count shape code plan m t served
 
   slot_count : length t.laid.with_slot ≡ behind + 3 + length code.variables + plan.registers + length shape.globals
-  slot_count = let more = t.laid.granted.long in let rest = registers_long shape code plan printer m t served in omega arith
+  slot_count = let more = t.laid.granted.long in let rest = registers_long shape code plan m t served in omega arith
 
   slot_before : length t.laid.with_slot ≤ l
   slot_before = longer t.laid.with_slot t.laid.with_early inner.early.wires.grows
@@ -150,15 +152,13 @@ module _ (shape : Shape) (code : ThreadCode) (plan : Planned) (printer : Printer
   inputs_before : behind ≤ l
   inputs_before = let one = slot_count in let two = slot_before in omega arith
 
-  outputs_at : e ≡ first_output banks printer m
-  outputs_at = before_outputs shape code plan printer m t served
+  outputs_at : e ≡ first_output shape m
+  outputs_at = before_outputs shape code plan m t served
 
-  whole : n ≡ e + (4 * banks + printer.values + 4)
+  whole : n ≡ e + (asked + 2)
   whole =
-      let long = t.closed.outputs.rest.long printer served.printer_is in
-      let more = t.closed.outputs.banks.long in
-      let words = counted in
-      let fields = fields_count shape code plan printer m t served in
+      let long = all_long shape code plan m t served in
+      let more : length (thread_outputs (core_ports shape)) ≡ asked + 2 = length-append (asks_of (core_ports shape)) (1 ∷ 1 ∷ []) in
       omega arith
 
   few : n ≤ 2 ^ 64
@@ -196,19 +196,19 @@ module _ (shape : Shape) (code : ThreadCode) (plan : Planned) (printer : Printer
       let less = slice_get_within t.inside.inputs.grants k x there in
       let count : length t.inside.inputs.grants ≡ suc banks = grants_count in
       let under : k < suc banks = omega arith in
-      let at : 2 + k ≡ x = sym (grant_at shape code plan printer m t served k under) ∙ get_or_from_slice_get t.inside.inputs.grants k x 0 there in
+      let at : 2 + k ≡ x = sym (grant_at shape code plan m t served k under) ∙ get_or_from_slice_get t.inside.inputs.grants k x 0 there in
       subst (λ z. IsEarlier t.with_inside control_base z 1) at
-      (at_inside (2 + k) 1 Input (grant_stands shape code plan printer m t served k under) (omega arith) (let one = inputs_inside in omega arith) (omega arith) (omega arith))
+      (at_inside (2 + k) 1 Input (grant_stands shape code plan m t served k under) (omega arith) (let one = inputs_inside in omega arith) (omega arith) (omega arith))
     where
       grants_count : length t.inside.inputs.grants ≡ suc banks
-      grants_count = t.laid.inputs.count ∙ cores shape code plan printer m t served
+      grants_count = t.laid.inputs.count ∙ cores shape code plan m t served
 
   marks_stand : AreBitsOf control_base t.with_inside (marks_of t.inside)
   marks_stand k x there =
       let less : k < length shape.globals = (let own = mapped_from t.inside.granted k x there in let count = t.laid.granted.count in omega arith) in
-      let v = mark_held shape code plan printer m t served k less in
+      let v = mark_held shape code plan m t served k less in
       let at : behind + 3 + length code.variables + plan.registers + k ≡ x =
-      sym (mark_at shape code plan printer m t served k less) ∙ get_or_from_slice_get (marks_of t.inside) k x 0 there in
+      sym (mark_at shape code plan m t served k less) ∙ get_or_from_slice_get (marks_of t.inside) k x 0 there in
       subst (λ z. IsEarlier t.with_inside control_base z 1) at
       (at_inside (behind + 3 + length code.variables + plan.registers + k) 1 (Register 0) v.stands (omega arith)
       (let one = slot_count in let two = slot_before in let three = early_before in omega arith) (omega arith) (omega arith))
@@ -218,10 +218,10 @@ module _ (shape : Shape) (code : ThreadCode) (plan : Planned) (printer : Printer
     state = from_stages t.inside.slot.state.register t.inside.slot.state.width inner.linked.slots.state;
     beat = from_stages t.inside.slot.beat 1 inner.linked.slots.beat;
     enable =
-        subst (λ x. IsEarlier t.with_inside control_base x 1) (sym (enable_at shape code plan printer m t served))
-        (at_inside 1 1 Input (enable_stands shape code plan printer m t served) (omega arith) (let one = inputs_inside in omega arith) (omega arith) (omega arith));
+        subst (λ x. IsEarlier t.with_inside control_base x 1) (sym (enable_at shape code plan m t served))
+        (at_inside 1 1 Input (enable_stands shape code plan m t served) (omega arith) (let one = inputs_inside in omega arith) (omega arith) (omega arith));
     grants = grants_stand;
-    count = t.laid.inputs.count ∙ cores shape code plan printer m t served ∙ sym (opens_count shape code plan printer m t served);
+    count = t.laid.inputs.count ∙ cores shape code plan m t served ∙ sym (opens_count shape code plan m t served);
     is_last = from_stages t.inside.chains.is_last 1 inner.linked.is_last;
     waits = from_stages t.inside.chains.waits 1 inner.linked.waits;
     opens = λ k x there. from_early_wire x 1 (inner.early.opens k x there);
@@ -235,14 +235,14 @@ module _ (shape : Shape) (code : ThreadCode) (plan : Planned) (printer : Printer
   control_grows = controls.wires.grows
 
   asks_end : length controls.with_asks ≡ a
-  asks_end = controls.first.long ∙ ap (λ z. d + z) (opens_count shape code plan printer m t served)
+  asks_end = controls.first.long ∙ ap (λ z. d + z) (opens_count shape code plan m t served)
 
   asks_before : a ≤ e
   asks_before = let one = longer controls.with_asks t.closed.with_control controls.later in let two = asks_end in omega arith
 
   -- whether core k is asked
   asks_at : (k : ℕ) → k < suc banks → slice_index t.edge.asks k ≡ d + k
-  asks_at k less = controls.first.places k (subst (λ z. k < z) (sym (opens_count shape code plan printer m t served)) less)
+  asks_at k less = controls.first.places k (subst (λ z. k < z) (sym (opens_count shape code plan m t served)) less)
 
   -- ---- grades
 
@@ -283,7 +283,7 @@ module _ (shape : Shape) (code : ThreadCode) (plan : Planned) (printer : Printer
   input_is : (x : ℕ) (s : Signal) → x < behind → slice_get m.signals x ≡ Some s → IsInnerInput x s
   input_is x s less there =
       inner.inputs x s (omega arith)
-      (sym (front t.laid.with_inputs m.signals x (from_inputs shape code plan printer m t served) (subst (λ z. x < z) (sym (inputs_long shape code plan printer m t served)) less))
+      (sym (front t.laid.with_inputs m.signals x (from_inputs shape code plan m t served) (subst (λ z. x < z) (sym (inputs_long shape code plan m t served)) less))
       ∙ there)
 
   input_graded : (x : ℕ) (s : Signal) → x < behind → slice_get m.signals x ≡ Some s → Graded x (grade x) s
@@ -318,7 +318,7 @@ module _ (shape : Shape) (code : ThreadCode) (plan : Planned) (printer : Printer
   asks_copy : (x k : ℕ) → k < suc banks → e ≤ x → x < e + asked → CopiesAt m.signals x 1 (slice_index t.edge.asks k) → IsCopy x
   asks_copy x k less le under stands =
       let at = asks_at k less in
-      let count : length t.edge.asks ≡ suc banks = controls.first.count ∙ opens_count shape code plan printer m t served in
+      let count : length t.edge.asks ≡ suc banks = controls.first.count ∙ opens_count shape code plan m t served in
       let there = index_there t.edge.asks k (subst (λ z. k < z) (sym count) less) in
       let here = controls.asks k (slice_index t.edge.asks k) there in
       let one_is = grade_asks (slice_index t.edge.asks k) (omega arith) (omega arith) in
@@ -356,36 +356,28 @@ module _ (shape : Shape) (code : ThreadCode) (plan : Planned) (printer : Printer
       (t.laid.early.asks.many.banks (length (map held_width t.inside.slot.words)) t.laid.early.begins.many)
 
   -- number j of the ports of bank k, whose words have this width
-  bank_part : (x k j w : ℕ) → k < banks → HasBankOutputs m.signals (first_output banks printer m) t.edge.asks t.inside.early.requests.banks k w → HasWidthAt inner.own k w → j < 4
-      → x ≡ e + (4 * k + j) → IsCopy x
-  bank_part x k zero w less out own four at =
-      let first = outputs_at in
-      let place : first_output banks printer m + 4 * k ≡ x = omega arith in
-      asks_copy x k (omega arith) (omega arith) (omega arith) (subst (λ z. CopiesAt m.signals z 1 (slice_index t.edge.asks k)) place out.at_ask)
-  bank_part x k (suc zero) w less out own four at =
-      let first = outputs_at in
-      let place : first_output banks printer m + 4 * k + 1 ≡ x = omega arith in
-      slot_copy x (slice_index t.inside.early.requests.banks.writes k) 1 (omega arith)
-      (subst (λ z. CopiesAt m.signals z 1 (slice_index t.inside.early.requests.banks.writes k)) place out.at_writes)
+  bank_part : (x k j w : ℕ) → k < banks → HasBankOutputs m.signals (port_at shape m k) t.edge.asks t.inside.early.requests.banks k w → HasWidthAt inner.own k w → j < 4
+      → x ≡ port_at shape m k j → e ≤ x → x < e + asked → IsCopy x
+  bank_part x k zero w less out own four at le under =
+      asks_copy x k (omega arith) le under (subst (λ z. CopiesAt m.signals z 1 (slice_index t.edge.asks k)) (sym at) out.at_ask)
+  bank_part x k (suc zero) w less out own four at le under =
+      slot_copy x (slice_index t.inside.early.requests.banks.writes k) 1 le
+      (subst (λ z. CopiesAt m.signals z 1 (slice_index t.inside.early.requests.banks.writes k)) (sym at) out.at_writes)
       (chain_at inner.bits t.inside.early.requests.banks.writes k 1 inner.early.linked.banks.writes (subst (λ z. k < z) (sym chain_counts.writes) less)
       (inner.early.linked.widths.bits k))
-  bank_part x k (suc (suc zero)) w less out own four at =
-      let first = outputs_at in
-      let place : first_output banks printer m + 4 * k + 2 ≡ x = omega arith in
-      slot_copy x (slice_index t.inside.early.requests.banks.addresses k) 64 (omega arith)
-      (subst (λ z. CopiesAt m.signals z 64 (slice_index t.inside.early.requests.banks.addresses k)) place out.at_address)
+  bank_part x k (suc (suc zero)) w less out own four at le under =
+      slot_copy x (slice_index t.inside.early.requests.banks.addresses k) 64 le
+      (subst (λ z. CopiesAt m.signals z 64 (slice_index t.inside.early.requests.banks.addresses k)) (sym at) out.at_address)
       (chain_at inner.wide t.inside.early.requests.banks.addresses k 64 inner.early.linked.banks.addresses (subst (λ z. k < z) (sym chain_counts.addresses) less)
       (inner.early.linked.widths.wide k))
-  bank_part x k (suc (suc (suc zero))) w less out own four at =
-      let first = outputs_at in
-      let place : first_output banks printer m + 4 * k + 3 ≡ x = omega arith in
-      slot_copy x (slice_index t.inside.early.requests.banks.values k) w (omega arith)
-      (subst (λ z. CopiesAt m.signals z w (slice_index t.inside.early.requests.banks.values k)) place out.at_value)
+  bank_part x k (suc (suc (suc zero))) w less out own four at le under =
+      slot_copy x (slice_index t.inside.early.requests.banks.values k) w le
+      (subst (λ z. CopiesAt m.signals z w (slice_index t.inside.early.requests.banks.values k)) (sym at) out.at_value)
       (chain_at inner.own t.inside.early.requests.banks.values k w inner.early.linked.banks.values (subst (λ z. k < z) (sym chain_counts.values) less) own)
-  bank_part x k (suc (suc (suc (suc j)))) w less out own four at = absurd (omega arith)
+  bank_part x k (suc (suc (suc (suc j)))) w less out own four at le under = absurd (omega arith)
 
-  bank_copy : (x k j : ℕ) → k < banks → j < 4 → x ≡ e + (4 * k + j) → IsCopy x
-  bank_copy x k j less four at =
+  bank_copy : (x k j : ℕ) → k < banks → j < 4 → x ≡ port_at shape m k j → e ≤ x → x < e + asked → IsCopy x
+  bank_copy x k j less four at low under =
       let one = served.spreads.all k less in
       let i : ℕ = k - one.1.first in
       let le = one.3 in
@@ -396,57 +388,84 @@ module _ (shape : Shape) (code : ThreadCode) (plan : Planned) (printer : Printer
       let ty = got_any shape.globals one.0 global in
       let spread_is : slice_get inner.asking.spreads one.0 ≡ Some one.1 = ap (λ z. slice_get z one.0) (inner.spreads ∙ t.laid.slot.spreads_are) ∙ one.2 in
       bank_part x k j (width_of ty.0) less
-      (subst (λ z. HasBankOutputs m.signals (first_output banks printer m) t.edge.asks t.inside.early.requests.banks z (width_of ty.0)) number
-      (bank_outputs shape code plan printer m t served one.0 i one.1 ty.0 one.2 ty.1 some))
+      (subst (λ z. HasBankOutputs m.signals (port_at shape m z) t.edge.asks t.inside.early.requests.banks z (width_of ty.0)) number
+      (bank_outputs shape code plan m t served one.0 i one.1 ty.0 one.2 ty.1 some))
       (subst (λ z. HasWidthAt inner.own z (width_of ty.0)) number
-      (λ h there. inner.early.linked.widths.own one.0 i one.1 spread_is some h there ∙ ap (λ z. width_of (or_int z)) ty.1)) four at
+      (λ h there. inner.early.linked.widths.own one.0 i one.1 spread_is some h there ∙ ap (λ z. width_of (or_int z)) ty.1)) four at low under
 
-  printer_copy : (x : ℕ) → x ≡ e + 4 * banks → IsCopy x
-  printer_copy x at =
-      let first = outputs_at in
-      let place : first_output banks printer m + 4 * banks ≡ x = omega arith in
-      asks_copy x banks (omega arith) (omega arith) (omega arith)
-      (subst (λ z. CopiesAt m.signals x 1 (slice_index t.edge.asks z)) counted
-      (subst (λ z. CopiesAt m.signals z 1 (slice_index t.edge.asks (length t.inside.slot.words))) place (ask_stands shape code plan printer m t served)))
-
-  field_copy : (x k : ℕ) → k < printer.values + 1 → x ≡ e + (4 * banks + 1 + k) → IsCopy x
-  field_copy x k less at =
-      let first = outputs_at in
-      let place : first_output banks printer m + 4 * banks + 1 + k ≡ x = omega arith in
-      let found = got_any t.inside.early.requests.fields k (subst (λ z. k < z) (sym (fields_count shape code plan printer m t served)) less) in
-      slot_copy x found.0 (field_width printer.site_width k) (omega arith)
-      (subst (λ z. CopiesAt m.signals z (field_width printer.site_width k) found.0) place (field_stands shape code plan printer m t served k found.0 found.1))
+  -- number j of the ports of the printer
+  printer_copy : (x j : ℕ) → j < suc (length t.inside.early.requests.fields) → x ≡ port_at shape m banks j → e ≤ x → x < e + asked → IsCopy x
+  printer_copy x zero less at le under =
+      asks_copy x banks (omega arith) le under (subst (λ z. CopiesAt m.signals z 1 (slice_index t.edge.asks banks)) (sym at) (ask_stands shape code plan m t served banks (omega arith)))
+  printer_copy x (suc k) less at le under =
+      let found = got_any t.inside.early.requests.fields k (omega arith) in
+      slot_copy x found.0 (field_width shape.printer.site_width k) le
+      (subst (λ z. CopiesAt m.signals z (field_width shape.printer.site_width k) found.0) (sym at) (field_stands shape code plan m t served k found.0 found.1))
       (inner.early.linked.fields k found.0 found.1)
 
-  need_copy : (x : ℕ) → x ≡ e + (4 * banks + 2 + printer.values) → IsCopy x
+  fields_long : (site_width from : ℕ) (fields : List ℕ) → length (fields_from site_width from fields) ≡ length fields
+  fields_long site_width from [] = refl
+  fields_long site_width from (x ∷ fields) = ap suc (fields_long site_width (suc from) fields)
+
+  abbrev own_rows : List (List Row)
+  own_rows = rows shape code plan m t served
+
+  own_widths : HaveWidths own_rows (core_ports shape)
+  own_widths = widths_are shape code plan m t served
+
+  -- each row
+  row_copy : (x : ℕ) → e ≤ x → x < e + asked → IsCopy x
+  row_copy x le under =
+      let first = outputs_at in
+      let count = all_count own_rows (core_ports shape) own_widths in
+      let found = row_found own_rows (x - e) (omega arith) in
+      let part = slice_get_within found.own found.part found.row found.there in
+      let core : found.core < suc banks =
+      (let one = slice_get_within own_rows found.core found.own found.listed in
+      let two : length own_rows ≡ length (core_ports shape) =
+      sym (length-map own_rows (map row_width)) ∙ ap length own_widths ∙ length-map (core_ports shape) own_asks in
+      let three = ports_count shape code plan m t served in
+      omega arith) in
+      let at : x ≡ port_at shape m found.core found.part =
+      (let place = found.place in let one = place_of_rows own_rows (core_ports shape) own_widths found.core in omega arith) in
+      ⊎_elim
+      (λ (bank : found.core < banks).
+      let h = got_any t.inside.slot.words found.core (let words = counted in omega arith) in
+      let its = bank_listed shape code plan m t served found.core h.0 h.1 in
+      let same : found.own ≡ rows_at t.edge.asks t.inside.early.requests.banks found.core h.0.width = (let mine = found.listed in cc) in
+      let four : length found.own ≡ 4 = ap length same in
+      bank_copy x found.core found.part bank (omega arith) at le under)
+      (λ (past : banks ≤ found.core).
+      let last : found.core ≡ banks = omega arith in
+      let its = printer_listed shape code plan m t served in
+      let mine : slice_get own_rows banks ≡ Some found.own = ap (slice_get own_rows) (sym last) ∙ found.listed in
+      let same : found.own ≡ printer_rows shape code plan m t served = cc in
+      let long : length found.own ≡ suc (length t.inside.early.requests.fields) =
+      ap length same ∙ ap suc (fields_long shape.printer.site_width 0 t.inside.early.requests.fields) in
+      printer_copy x found.part (omega arith) (at ∙ ap (λ k. port_at shape m k found.part) last) le under)
+      (cases_lt found.core banks)
+
+  need_copy : (x : ℕ) → x ≡ need_at shape m → IsCopy x
   need_copy x at =
       let first = outputs_at in
-      let place : first_output banks printer m + (4 * banks + 2 + printer.values) ≡ x = omega arith in
-      slot_copy x t.inside.early.need 1 (omega arith) (subst (λ z. CopiesAt m.signals z 1 t.inside.early.need) place (need_stands shape code plan printer m t served))
+      slot_copy x t.inside.early.need 1 (omega arith) (subst (λ z. CopiesAt m.signals z 1 t.inside.early.need) (sym at) (need_stands shape code plan m t served))
       inner.early.need
 
-  done_copy : (x : ℕ) → x ≡ e + (4 * banks + 3 + printer.values) → IsCopy x
+  done_copy : (x : ℕ) → x ≡ done_at shape m → IsCopy x
   done_copy x at =
       let first = outputs_at in
-      let place : first_output banks printer m + (4 * banks + 3 + printer.values) ≡ x = omega arith in
-      slot_copy x t.inside.early.done 1 (omega arith) (subst (λ z. CopiesAt m.signals z 1 t.inside.early.done) place (done_stands shape code plan printer m t served))
+      slot_copy x t.inside.early.done 1 (omega arith) (subst (λ z. CopiesAt m.signals z 1 t.inside.early.done) (sym at) (done_stands shape code plan m t served))
       inner.early.done
 
   -- each output is one
   output_copy : (x : ℕ) → e ≤ x → x < n → IsCopy x
   output_copy x le less =
       let sum = whole in
-      ⊎_elim (λ (p : x < e + 4 * banks). bank_copy x ((x - e) / 4) ((x - e) % 4) (omega arith) (omega arith) (omega arith))
-      (λ (p : e + 4 * banks ≤ x).
-      ⊎_elim (λ (q : x < e + (4 * banks + 1)). printer_copy x (omega arith))
-      (λ (q : e + (4 * banks + 1) ≤ x).
-      ⊎_elim (λ (r : x < e + asked). field_copy x (x - (e + (4 * banks + 1))) (omega arith) (omega arith))
-      (λ (r : e + asked ≤ x).
-      ⊎_elim (λ (u : x < e + (4 * banks + 3 + printer.values)). need_copy x (omega arith)) (λ (u : e + (4 * banks + 3 + printer.values) ≤ x). done_copy x (omega arith))
-      (cases_lt x (e + (4 * banks + 3 + printer.values))))
-      (cases_lt x (e + asked)))
-      (cases_lt x (e + (4 * banks + 1))))
-      (cases_lt x (e + 4 * banks))
+      let first = outputs_at in
+      ⊎_elim (λ (p : x < e + asked). row_copy x le p)
+      (λ (p : e + asked ≤ x).
+      ⊎_elim (λ (q : x < e + (asked + 1)). need_copy x (omega arith)) (λ (q : e + (asked + 1) ≤ x). done_copy x (omega arith)) (cases_lt x (e + (asked + 1))))
+      (cases_lt x (e + asked))
 
   output_graded : (x : ℕ) (s : Signal) → slice_get m.signals x ≡ Some s → e ≤ x → Graded x (grade x) s
   output_graded x s there le =
@@ -468,7 +487,7 @@ module _ (shape : Shape) (code : ThreadCode) (plan : Planned) (printer : Printer
   asks_graded x s there le less =
       let k : ℕ = x - d in
       let at : d + k ≡ x = omega arith in
-      let count = opens_count shape code plan printer m t served in
+      let count = opens_count shape code plan m t served in
       let under : k < length t.inside.early.opens = omega arith in
       let found = got_any t.inside.early.opens k under in
       let stands =
@@ -476,7 +495,7 @@ module _ (shape : Shape) (code : ThreadCode) (plan : Planned) (printer : Printer
       (grows_then controls.with_asks t.closed.with_control m.signals controls.later control_to) (controls.first.each k found.0 under found.1) in
       let same : stands.signal ≡ s = (let p : slice_get m.signals x ≡ Some stands.signal = ap (slice_get m.signals) (sym at) ∙ stands.listed in cc) in
       let opened = slot_operand x found.0 1 1 (inner.early.opens k found.0 found.1) (let one = early_before in omega arith) in
-      let enable_is : grade t.inside.inputs.enable ≡ 1 = ap grade (enable_at shape code plan printer m t served) ∙ grade_input 1 (omega arith) in
+      let enable_is : grade t.inside.inputs.enable ≡ 1 = ap grade (enable_at shape code plan m t served) ∙ grade_input 1 (omega arith) in
       let enable_inside : t.inside.inputs.enable < d = within t.with_inside control_base t.inside.inputs.enable 1 steering.enable in
       let enable = earlier_operand m grade t.with_inside inside_to control_base x t.inside.inputs.enable 1 1 (omega arith) steering.enable (omega arith) (omega arith) in
       subst (λ (z : Signal). Graded x 1 z) same
@@ -523,8 +542,8 @@ module _ (shape : Shape) (code : ThreadCode) (plan : Planned) (printer : Printer
 
   register_is : (x : ℕ) (s : Signal) → slice_get m.signals x ≡ Some s → behind ≤ x → x < length t.laid.with_slot → IsSlotRegister behind x s
   register_is x s there le less =
-      subst (λ (k : ℕ). IsSlotRegister k x s) (inputs_long shape code plan printer m t served)
-      (inner.registers x s (let one = inputs_long shape code plan printer m t served in omega arith) (sym (front t.laid.with_slot m.signals x slot_to less) ∙ there))
+      subst (λ (k : ℕ). IsSlotRegister k x s) (inputs_long shape code plan m t served)
+      (inner.registers x s (let one = inputs_long shape code plan m t served in omega arith) (sym (front t.laid.with_slot m.signals x slot_to less) ∙ there))
 
   register_graded : (x g : ℕ) (s : Signal) → IsSlotRegister behind x s → Graded x g s
   register_graded x g s r = record {
@@ -597,17 +616,17 @@ module _ (shape : Shape) (code : ThreadCode) (plan : Planned) (printer : Printer
   firsts_right : EachOf (ActsRight m) firsts
   firsts_right = (
     set_ok t.inside.slot.stage.register t.inside.chains.stage t.inside.slot.stage.width
-        (register_has m t.inside.slot.stage behind t.inside.slot.stage.width 0 (stage_at shape code plan printer m t served) refl (stage_stands shape code plan printer m t served))
+        (register_has m t.inside.slot.stage behind t.inside.slot.stage.width 0 (stage_at shape code plan m t served) refl (stage_stands shape code plan m t served))
         (inside_later t.inside.chains.stage t.inside.slot.stage.width inner.linked.stage),
     (
       set_ok t.inside.slot.state.register t.edge.state t.inside.slot.state.width
-          (register_has m t.inside.slot.state (behind + 1) t.inside.slot.state.width 0 (state_at shape code plan printer m t served) refl
-          (state_stands shape code plan printer m t served))
+          (register_has m t.inside.slot.state (behind + 1) t.inside.slot.state.width 0 (state_at shape code plan m t served) refl
+          (state_stands shape code plan m t served))
           controls.state,
       (
         set_right m t.closed.with_control control_to t.edge.moved controls.moved t.inside.slot.beat t.edge.beat 1
-            (subst (λ x. HasRegister m x 1) (sym (beat_at shape code plan printer m t served))
-            (stands_register m (behind + 2) 1 0 (beat_stands shape code plan printer m t served))) controls.beat,
+            (subst (λ x. HasRegister m x 1) (sym (beat_at shape code plan m t served))
+            (stands_register m (behind + 2) 1 0 (beat_stands shape code plan m t served))) controls.beat,
         tt,
       ),
     ),
@@ -617,21 +636,21 @@ module _ (shape : Shape) (code : ThreadCode) (plan : Planned) (printer : Printer
   variable_has i h there =
       let less : i < length code.variables = subst (λ z. i < z) t.laid.slot.variables_count (slice_get_within t.inside.slot.variables i h there) in
       let ty = got_any code.variables i less in
-      let v = variable_held shape code plan printer m t served i ty.0 ty.1 in
+      let v = variable_held shape code plan m t served i ty.0 ty.1 in
       let same : v.held ≡ h = (let p = v.listed in cc) in
       subst (λ (z : Held). HasRegister m z.register z.width) same (register_has m v.held (behind + 3 + i) (width_of ty.0) 0 v.at v.wide v.stands)
 
   kept_has : (i : ℕ) (h : Held) → slice_get t.inside.slot.kept i ≡ Some h → HasRegister m h.register h.width
   kept_has i h there =
       let less : i < length t.laid.kept_widths = subst (λ z. i < z) t.laid.slot.kept_count (slice_get_within t.inside.slot.kept i h there) in
-      let v = kept_held shape code plan printer m t served i less in
+      let v = kept_held shape code plan m t served i less in
       let same : v.held ≡ h = (let p = v.listed in cc) in
       subst (λ (z : Held). HasRegister m z.register z.width) same (register_has m v.held (behind + 3 + length code.variables + i) v.held.width 0 v.at refl v.stands)
 
   mark_has : (i : ℕ) (h : Held) → slice_get t.inside.granted i ≡ Some h → HasRegister m h.register h.width × (h.width ≡ 1)
   mark_has i h there =
       let less : i < length shape.globals = subst (λ z. i < z) t.laid.granted.count (slice_get_within t.inside.granted i h there) in
-      let v = mark_held shape code plan printer m t served i less in
+      let v = mark_held shape code plan m t served i less in
       let same : v.held ≡ h = (let p = v.listed in cc) in
       subst (λ (z : Held). HasRegister m z.register z.width × (z.width ≡ 1)) same
       (register_has m v.held (behind + 3 + length code.variables + plan.registers + i) 1 0 v.at v.wide v.stands, v.wide)
@@ -695,7 +714,7 @@ module _ (shape : Shape) (code : ThreadCode) (plan : Planned) (printer : Printer
   variable_set i less =
       let found = got_any t.inside.slot.variables i less in
       let f = sets_at t.edge.leave t.inside.chains.variables 0 t.inside.slot.variables (kept_sets ++ (mark_sets ++ store_sets)) i found.0 variable_nexts found.1 in
-      set_by (3 + i) (behind + 3 + i) t.edge.leave f.0 found.0.register (variables_at shape code plan printer m t served i found.0 found.1)
+      set_by (3 + i) (behind + 3 + i) t.edge.leave f.0 found.0.register (variables_at shape code plan m t served i found.0 found.1)
       (past_three (variable_sets ++ (kept_sets ++ (mark_sets ++ store_sets))) i ∙ f.1)
 
   kept_set : (i : ℕ) → i < length t.inside.slot.kept → SetsAt m (3 + (length t.inside.slot.variables + i)) (behind + 3 + length t.inside.slot.variables + i)
@@ -703,7 +722,7 @@ module _ (shape : Shape) (code : ThreadCode) (plan : Planned) (printer : Printer
       let found = got_any t.inside.slot.kept i less in
       let f = sets_at t.edge.leave t.inside.chains.kept 0 t.inside.slot.kept (mark_sets ++ store_sets) i found.0 kept_nexts found.1 in
       set_by (3 + (length t.inside.slot.variables + i)) (behind + 3 + length t.inside.slot.variables + i) t.edge.leave f.0 found.0.register
-      (kept_at shape code plan printer m t served i found.0 found.1)
+      (kept_at shape code plan m t served i found.0 found.1)
       (past_three (variable_sets ++ (kept_sets ++ (mark_sets ++ store_sets))) (length t.inside.slot.variables + i)
       ∙ sets_past t.edge.leave t.inside.chains.variables 0 t.inside.slot.variables (kept_sets ++ (mark_sets ++ store_sets)) i variable_nexts ∙ f.1)
 
@@ -714,7 +733,7 @@ module _ (shape : Shape) (code : ThreadCode) (plan : Planned) (printer : Printer
       let f = sets_at t.edge.moved t.edge.granted 0 t.inside.granted store_sets i found.0 mark_nexts found.1 in
       set_by (3 + (length t.inside.slot.variables + (length t.inside.slot.kept + i))) (behind + 3 + length t.inside.slot.variables + length t.inside.slot.kept + i) t.edge.moved f.0
       found.0.register
-      (granted_at shape code plan printer m t served i found.0 found.1)
+      (granted_at shape code plan m t served i found.0 found.1)
       (past_three (variable_sets ++ (kept_sets ++ (mark_sets ++ store_sets))) (length t.inside.slot.variables + (length t.inside.slot.kept + i))
       ∙ sets_past t.edge.leave t.inside.chains.variables 0 t.inside.slot.variables (kept_sets ++ (mark_sets ++ store_sets)) (length t.inside.slot.kept + i) variable_nexts
       ∙ sets_past t.edge.leave t.inside.chains.kept 0 t.inside.slot.kept (mark_sets ++ store_sets) i kept_nexts ∙ f.1)
@@ -731,16 +750,16 @@ module _ (shape : Shape) (code : ThreadCode) (plan : Planned) (printer : Printer
       ⊎_elim
       (λ (p : x < behind + 1).
       set_at 0 behind x le (omega arith) (omega arith) (set_by 0 behind t.edge.leave t.inside.chains.stage t.inside.slot.stage.register
-      (stage_at shape code plan printer m t served) refl))
+      (stage_at shape code plan m t served) refl))
       (λ (p : behind + 1 ≤ x).
       ⊎_elim
       (λ (q : x < behind + 2).
       set_at 1 (behind + 1) x le (omega arith) (omega arith) (set_by 1 (behind + 1) t.edge.leave t.edge.state t.inside.slot.state.register
-      (state_at shape code plan printer m t served) refl))
+      (state_at shape code plan m t served) refl))
       (λ (q : behind + 2 ≤ x).
       ⊎_elim
       (λ (r : x < behind + 3).
-      set_at 2 (behind + 2) x le (omega arith) (omega arith) (set_by 2 (behind + 2) t.edge.moved t.edge.beat t.inside.slot.beat (beat_at shape code plan printer m t served) refl))
+      set_at 2 (behind + 2) x le (omega arith) (omega arith) (set_by 2 (behind + 2) t.edge.moved t.edge.beat t.inside.slot.beat (beat_at shape code plan m t served) refl))
       (λ (r : behind + 3 ≤ x).
       ⊎_elim
       (λ (u : x < behind + 3 + length t.inside.slot.variables).
@@ -765,11 +784,11 @@ module _ (shape : Shape) (code : ThreadCode) (plan : Planned) (printer : Printer
   -- ---- places and names
 
   abbrev Kind : ℕ → Bool → Source → Type 0
-  Kind x out source = IsKindAt m behind (first_output banks printer m) x out source
+  Kind x out source = IsKindAt m behind (first_output shape m) x out source
 
   -- it is spelled as a signal, too
   abbrev IsPut : ℕ → Signal → Type 0
-  IsPut x s = IsPlacedSignal m behind (first_output banks printer m) x s × IsSpelled x s
+  IsPut x s = IsPlacedSignal m behind (first_output shape m) x s × IsSpelled x s
 
   placed_by : (x : ℕ) (s : Signal) (out : Bool) (source : Source) → place_of n behind s.name ≡ Some x → IsSpelled x s → s.is_output ≡ out → s.source ≡ source → Kind x out source
       → IsPut x s
@@ -794,10 +813,10 @@ module _ (shape : Shape) (code : ThreadCode) (plan : Planned) (printer : Printer
       let three = asks_before in
       let out = outputs_at in
       placed_by x s false (Register r.initial) (r.named n (small x s there)) r.spelled r.inner r.drives
-      (le, (let z : x < first_output banks printer m = omega arith in z), refl, sets x le less)
+      (le, (let z : x < first_output shape m = omega arith in z), refl, sets x le less)
 
   wire_placed : (b : List Signal) (base : Base) (x : ℕ) (s : Signal) → Grows b m.signals → IsWire b base x s → slice_get m.signals x ≡ Some s → behind ≤ x →
-      x < first_output banks printer m
+      x < first_output shape m
       → IsPut x s
   wire_placed b base x s g w there le less =
       placed_by x s false (Assigned w.right) (ap (place_of n behind) w.named ∙ name_tells Wire n behind x refl (small x s there)) (Wire, w.named) w.inner w.drives
@@ -833,7 +852,7 @@ module _ (shape : Shape) (code : ThreadCode) (plan : Planned) (printer : Printer
       (λ p q. wire_placed t.closed.with_control control_base x s control_to (control_wire x s there (omega arith) q) there (omega arith) (omega arith))
       (λ p. output_placed x s there p)
 
-  is_placed : IsPlaced m behind (first_output banks printer m)
+  is_placed : IsPlaced m behind (first_output shape m)
   is_placed = record {
     within = (let sum = whole in let at = outputs_at in omega arith);
     order = (let one = inputs_inside in let two = asks_before in let at = outputs_at in omega arith);
@@ -845,28 +864,31 @@ module _ (shape : Shape) (code : ThreadCode) (plan : Planned) (printer : Printer
       let clock = t.laid.inputs.clock in
       record {
         signal = clock.signal;
-        listed = listed t.laid.with_ports m.signals 0 clock.signal (from_ports shape code plan printer m t served) clock.listed;
+        listed = listed t.laid.with_ports m.signals 0 clock.signal (from_ports shape code plan m t served) clock.listed;
         named = ap is_clk (t.laid.inputs.clock_named clock.signal clock.listed);
         input = clock.drives;
         wide = clock.wide;
       }
 
-  asked_port : (j : ℕ) → j < asked → IsPort m (grades m grade) 1 (first_output banks printer m + j)
+  asked_port : (j : ℕ) → j < asked → IsPort m (grades m grade) 1 (first_output shape m + j)
   asked_port j less =
       let sum = whole in
       let at = outputs_at in
       let one = inputs_inside in
       let two = asks_before in
-      let found = got_any m.signals (first_output banks printer m + j) (omega arith) in
-      let here : grade (first_output banks printer m + j) ≡ 1 = grade_asked (first_output banks printer m + j) (omega arith) (omega arith) in
+      let found = got_any m.signals (first_output shape m + j) (omega arith) in
+      let here : grade (first_output shape m + j) ≡ 1 = grade_asked (first_output shape m + j) (omega arith) (omega arith) in
       record {
         wide = found.0.width;
         has = record { signal = found.0; listed = found.1; wide = refl };
         after = omega arith;
-        own = grade (first_output banks printer m + j);
-        listed = grade_listed m grade (first_output banks printer m + j) (omega arith);
+        own = grade (first_output shape m + j);
+        listed = grade_listed m grade (first_output shape m + j) (omega arith);
         below = (let z = here in omega arith);
       }
+
+  bit_has : (place of : ℕ) → CopiesAt m.signals place 1 of → Has m place 1
+  bit_has place of s = record { signal = s.signal; listed = s.listed; wide = s.wide }
 
   told_port : (place : ℕ) → Has m place 1 → e + asked ≤ place → IsSlotPort m (grades m grade) place
   told_port place has le =
@@ -880,7 +902,7 @@ module _ (shape : Shape) (code : ThreadCode) (plan : Planned) (printer : Printer
   memories_are : AreRightMemories m
   memories_are = right_memories m code.arrays t.memories t.few_memories (λ a array at. (served.arrays a array at).0) (λ x s there. (placed x s there).1)
 
-  pub checked_is : IsChecked banks printer m
+  pub checked_is : IsChecked shape m
   checked_is = record {
     memories = memories_are;
     begun = subst (λ (z : List Memory). EachOf FitsMemory z) (sym t.memories) (begun 0 code.arrays);
@@ -891,7 +913,7 @@ module _ (shape : Shape) (code : ThreadCode) (plan : Planned) (printer : Printer
       placed = is_placed;
       begins = begins;
       asks = asked_port;
-      need = told_port (first_output banks printer m + (4 * banks + 2 + printer.values)) (shape_is shape code plan printer m t served).need (let at = outputs_at in omega arith);
-      done = told_port (first_output banks printer m + (4 * banks + 3 + printer.values)) (shape_is shape code plan printer m t served).done (let at = outputs_at in omega arith);
+      need = told_port (need_at shape m) (bit_has (need_at shape m) _ (need_stands shape code plan m t served)) (let at = outputs_at in omega arith);
+      done = told_port (done_at shape m) (bit_has (done_at shape m) _ (done_stands shape code plan m t served)) (let at = outputs_at in omega arith);
     };
   }

@@ -1,6 +1,6 @@
 -- A checked module is a leaf.
-use Rattle.std.proofs.Common.{◌≡◌, ℕ, suc, ◌+◌, ◌-◌, ◌*◌, ◌<◌, ◌≤◌, Bool, true, false, nat_eq, nat_le, nat_lt, if◌then◌else◌, List, [], ◌∷◌, ◌++◌, length, slice_get, slice_index}
-use Rattle.std.proofs.Common.{Some, min, refl, sym, ap, subst, ◌∙◌, arith, ⊎_elim, ◌≢◌}
+use Rattle.std.proofs.Common.{◌≡◌, ℕ, zero, suc, ◌+◌, ◌-◌, ◌*◌, ◌<◌, ◌≤◌, Bool, true, false, nat_eq, nat_le, nat_lt, if◌then◌else◌, List, [], ◌∷◌, ◌++◌, length, map, take, slice_get, slice_index}
+use Rattle.std.proofs.Common.{Some, min, refl, sym, ap, subst, ◌∙◌, arith, ⊎_elim, ◌≢◌, length-append}
 use Rattle.std.proofs.lemmas.Bool.{cases_lt}
 use Rattle.std.proofs.lemmas.Bool.Decides.{nat_tests}
 use Rattle.std.proofs.lemmas.Option.{get_or_from_slice_get, slice_get_within}
@@ -17,7 +17,10 @@ use Rattle.verilog_meaning.specs.Readings.{Reading, is_on, effect_bytes, action_
 use Rattle.circuit.specs.Rows.{EachOf}
 use Rattle.circuit.specs.Modules.{HasInput, FitsAction, FitsMemory, Reads, IsSoundSource, IsSound, IsLeaf}
 use Rattle.circuit.proofs.Tables.{fits_among}
+use Rattle.hls_ints.specs.Types.{width_of}
 use Rattle.leaf_machine.specs.Settled.{IsUnclocked}
+use Rattle.core_ports.specs.Ports.{CorePort, asks_of, ask_place, thread_outputs}
+use Rattle.thread_requests.specs.Early.{spread_out}
 use Rattle.leaf_machine.specs.Leaves.{Heard, Clock, Enable, Grant, Told, IsHeard, HasHeard, IsClockless, IsEarly, AnswersAreLate, IsSlotBit}
 use Rattle.module_sound.specs.Grades.{IsOperand, IsGradedSource, AreGrades, ActsRight, IsPort, IsSlotPort}
 use Rattle.block_ir.specs.declared.code.ThreadCode.{ThreadCode}
@@ -26,13 +29,13 @@ use Rattle.thread_slots.specs.declared.shape.Printer.{Printer}
 use Rattle.thread_slots.specs.declared.shape.Shape.{Shape}
 use Rattle.thread_layout.specs.Modules.{IsModule}
 use Rattle.thread_promise.specs.Globals.{bank_total}
-use Rattle.thread_layout.specs.Thread.{input_count, first_output, IsServed}
+use Rattle.thread_layout.specs.Thread.{input_count, bank_port, printer_port, core_ports, first_output, port_at, need_at, done_at, IsServed}
 use Rattle.thread_layout.specs.Leaf.{input_at, leaf_of}
-use Rattle.thread_sound.specs.Leaf.{parts_of, told_of, IsChecked, IsLeafOf}
+use Rattle.thread_sound.specs.Leaf.{parts_of, tells_of, IsChecked, IsLeafOf}
 use Rattle.module_sound.proofs.Sounding.{placed_is_sound}
 use Rattle.operator_wires.proofs.Giving.{listed}
 use Rattle.thread_layout.proofs.Opened.{wired}
-use Rattle.thread_layout.proofs.Placed.{from_inputs, inputs_long, got_any}
+use Rattle.thread_layout.proofs.Placed.{from_inputs, inputs_long, bank_count, got_any}
 
 -- ---- lists
 
@@ -162,27 +165,45 @@ two_least : (x : ℕ) → 2 ≤ x → min x 2 ≡ 2
 two_least x le = omega arith
 
 -- a part of an ask has its place among those of all cores
-part_place : (banks values k j : ℕ) (c : Bool) → nat_lt k banks ≡ c → k < suc banks → j < (if c then 4 else 2 + values) → 4 * k + j < 4 * banks + 2 + values
-part_place banks values k j true e core part = let less = is_below k banks e in omega arith
-part_place banks values k j false e core part = let le = is_above k banks e in let same : k
-    ≡ banks = omega arith in subst (λ n. 4 * n + j < 4 * banks + 2 + values) (sym same) (omega arith)
+part_place : (ports : List CorePort) (k j : ℕ) → j < parts_of ports k → ask_place ports k + j < length (asks_of ports)
+part_place [] k j part = absurd (omega arith)
+part_place (p ∷ ports) zero j part =
+    let all : length (asks_of (p ∷ ports)) ≡ length p.asks + length (asks_of ports) = length-append p.asks (asks_of ports) in
+    let none : ask_place (p ∷ ports) zero ≡ 0 = refl in
+    omega arith
+part_place (p ∷ ports) (suc k) j part =
+    let rest = part_place ports k j part in
+    let all : length (asks_of (p ∷ ports)) ≡ length p.asks + length (asks_of ports) = length-append p.asks (asks_of ports) in
+    let next : ask_place (p ∷ ports) (suc k) ≡ length p.asks + ask_place ports k = length-append p.asks (asks_of (take k ports)) in
+    omega arith
 
-told_core : (banks k j : ℕ) (c : Bool) → nat_lt k banks ≡ c → j < (if c then 1 else 0) → (k < banks) × (j ≡ 0)
-told_core banks k j true e part = (is_below k banks e, omega arith)
-told_core banks k j false e part = absurd (omega arith)
+-- banks tell one number, and the printer none
+told_core : (printer : Printer) (words : List ℕ) (k j : ℕ) → j < tells_of (map bank_port words ++ printer_port printer ∷ []) k → (k < length words) × (j ≡ 0)
+told_core printer [] zero j part = absurd (omega arith)
+told_core printer [] (suc k) j part = absurd (omega arith)
+told_core printer (w ∷ words) zero j part = (omega arith, omega arith)
+told_core printer (w ∷ words) (suc k) j part = let rest = told_core printer words k j part in (let less = rest.0 in omega arith, rest.1)
 
-module _ (banks : ℕ) (printer : Printer) (m : Module) where
+told_one : (printer : Printer) (words : List ℕ) (k : ℕ) → k < length words → tells_of (map bank_port words ++ printer_port printer ∷ []) k ≡ 1
+told_one printer [] k less = absurd (omega arith)
+told_one printer (w ∷ words) zero less = refl
+told_one printer (w ∷ words) (suc k) less = told_one printer words k (omega arith)
+
+module _ (shape : Shape) (m : Module) (counted : length (spread_out shape.spreads (map width_of shape.globals)) ≡ bank_total shape.spreads) where
+  abbrev banks : ℕ
+  banks = bank_total shape.spreads
+
   abbrev inputs : ℕ
   inputs = input_count banks
 
   abbrev parts : ℕ → ℕ
-  parts = parts_of banks printer.values
+  parts = parts_of (core_ports shape)
 
   abbrev told : ℕ → ℕ
-  told = told_of banks
+  told = tells_of (core_ports shape)
 
   abbrev Heard_at : ℕ → Heard → Type 0
-  Heard_at x h = IsHeard m inputs (leaf_of banks printer m) (suc banks) parts told x h
+  Heard_at x h = IsHeard m inputs (leaf_of shape m) (suc banks) parts told x h
 
   -- an input is what its place says
   heard_ported : (x : ℕ) → x < inputs → Heard_at x (input_at banks x)
@@ -197,7 +218,8 @@ module _ (banks : ℕ) (printer : Printer) (m : Module) where
           let past = is_above x (3 + banks) e in
           let core : x - (3 + banks) < suc banks = omega arith in
           let bank : x - (3 + banks) < banks = omega arith in
-          let one : 1 ≡ told (x - (3 + banks)) = ap (λ (t : Bool). if t then 1 else 0) (sym (below_is (x - (3 + banks)) banks bank)) in
+          let one : 1 ≡ told (x - (3 + banks)) =
+          sym (told_one shape.printer (spread_out shape.spreads (map width_of shape.globals)) (x - (3 + banks)) (omega arith)) in
           (core, below_is (x - (3 + banks)) (suc banks) core, subst (λ n. 0 < n) one (omega arith), (let z : x ≡ 3 + banks + (x - (3 + banks)) = omega arith in z))
 
       second : (c : Bool) → nat_eq x 1 ≡ c → x ≢ 0 → Heard_at x (if c then Enable else (if nat_lt x (3 + banks) then Grant (x - 2) else Told (x - (3 + banks)) 0))
@@ -215,7 +237,7 @@ module _ (banks : ℕ) (printer : Printer) (m : Module) where
       (other_is x 0 (λ e. absurd (omega arith)))
       ∙ ap (λ (c : Bool). if c then Enable else (if nat_lt x (3 + banks) then Grant (x - 2) else Told (x - (3 + banks)) 0)) (other_is x 1 (λ e. absurd (omega arith)))
 
-  grant_heard : (k : ℕ) → k < suc banks → HasHeard m inputs (leaf_of banks printer m) (suc banks) parts told (2 + k) (Grant k)
+  grant_heard : (k : ℕ) → k < suc banks → HasHeard m inputs (leaf_of shape m) (suc banks) parts told (2 + k) (Grant k)
   grant_heard k less = record {
     input = omega arith;
     is =
@@ -224,9 +246,9 @@ module _ (banks : ℕ) (printer : Printer) (m : Module) where
         ∙ ap Grant (let z : 2 + k - 2 ≡ k = omega arith in z);
   }
 
-  told_heard : (k j : ℕ) → j < told k → HasHeard m inputs (leaf_of banks printer m) (suc banks) parts told (3 + banks + k) (Told k j)
+  told_heard : (k j : ℕ) → j < told k → HasHeard m inputs (leaf_of shape m) (suc banks) parts told (3 + banks + k) (Told k j)
   told_heard k j part =
-      let core = told_core banks k j (nat_lt k banks) refl part in
+      let core = told_core shape.printer (spread_out shape.spreads (map width_of shape.globals)) k j part in
       let bank = core.0 in
       record {
         input = omega arith;
@@ -236,8 +258,8 @@ module _ (banks : ℕ) (printer : Printer) (m : Module) where
             ∙ ap (λ n. Told n 0) (let z : 3 + banks + k - (3 + banks) ≡ k = omega arith in z) ∙ ap (Told k) (sym core.1);
       }
 
-module _ (shape : Shape) (code : ThreadCode) (plan : Planned) (printer : Printer) (m : Module) (t : IsModule shape code plan m) (served : IsServed shape code plan printer)
-    (checked : IsChecked (bank_total shape.spreads) printer m) where
+module _ (shape : Shape) (code : ThreadCode) (plan : Planned) (m : Module) (t : IsModule shape code plan m) (served : IsServed shape code plan)
+    (checked : IsChecked shape m) where
   abbrev all_banks : ℕ
   all_banks = bank_total shape.spreads
 
@@ -245,13 +267,16 @@ module _ (shape : Shape) (code : ThreadCode) (plan : Planned) (printer : Printer
   count = input_count all_banks
 
   abbrev first : ℕ
-  first = first_output all_banks printer m
+  first = first_output shape m
+
+  words_counted : length (spread_out shape.spreads (map width_of shape.globals)) ≡ all_banks
+  words_counted = bank_count shape code plan m t served
 
   firsts : (x : ℕ) → x < count → HasInput m x
   firsts x less =
-      let found = got_any t.laid.with_inputs x (subst (λ n. x < n) (sym (inputs_long shape code plan printer m t served)) less) in
-      let own = (wired shape code plan printer m t served).inputs x found.0 (omega arith) found.1 in
-      record { signal = found.0; listed = listed t.laid.with_inputs m.signals x found.0 (from_inputs shape code plan printer m t served) found.1; is = own.drives }
+      let found = got_any t.laid.with_inputs x (subst (λ n. x < n) (sym (inputs_long shape code plan m t served)) less) in
+      let own = (wired shape code plan m t served).inputs x found.0 (omega arith) found.1 in
+      record { signal = found.0; listed = listed t.laid.with_inputs m.signals x found.0 (from_inputs shape code plan m t served) found.1; is = own.drives }
 
   abbrev late : ℕ → ℕ → Bool
   late = late_from m count checked.grades checked.are checked.ports.acts t.alone firsts checked.begun
@@ -260,17 +285,18 @@ module _ (shape : Shape) (code : ThreadCode) (plan : Planned) (printer : Printer
   late_at n x le less e =
       late_input m count checked.grades checked.are checked.ports.acts t.alone firsts checked.begun n x less (ap (nat_le n) (two_least x le) ∙ e)
 
-  answers : (n : ℕ) → nat_le n 2 ≡ true → AnswersAreLate m count (leaf_of all_banks printer m) (suc all_banks) (parts_of all_banks printer.values) (told_of all_banks) (late n)
+  answers : (n : ℕ) → nat_le n 2 ≡ true → AnswersAreLate m count (leaf_of shape m) (suc all_banks) (parts_of (core_ports shape)) (tells_of (core_ports shape)) (late n)
   answers n e = record {
     leaf = graded_leaf m count checked.grades checked.are checked.ports.acts t.alone firsts checked.begun n;
     grants = λ k less uses. late_at n (2 + k) (omega arith) (omega arith) e;
     tells = λ k j less uses part.
-        let bank = (told_core all_banks k j (nat_lt k all_banks) refl part).0 in
+        let bank = (told_core shape.printer (spread_out shape.spreads (map width_of shape.globals)) k j part).0 in
+        let counted = words_counted in
         late_at n (3 + all_banks + k) (omega arith) (omega arith) e;
   }
 
-  slot_bit : (place : ℕ) → IsSlotPort m checked.grades place → IsSlotBit m count (leaf_of all_banks printer m) (suc all_banks) (parts_of all_banks printer.values)
-      (told_of all_banks) place
+  slot_bit : (place : ℕ) → IsSlotPort m checked.grades place → IsSlotBit m count (leaf_of shape m) (suc all_banks) (parts_of (core_ports shape))
+      (tells_of (core_ports shape)) place
   slot_bit place s = record {
     late = late 1;
     answered = answers 1 refl;
@@ -278,42 +304,46 @@ module _ (shape : Shape) (code : ThreadCode) (plan : Planned) (printer : Printer
     bit = slot_port m count checked.grades checked.are checked.ports.acts t.alone firsts checked.begun place s;
   }
 
-  early_output : (x : ℕ) → x < 4 * all_banks + printer.values + 4 → late 2 (first + x) ≡ false
-  early_output x less =
-      ⊎_elim
-      (λ (low : x < 4 * all_banks + 2 + printer.values).
-      (early_port m count checked.grades checked.are checked.ports.acts t.alone firsts checked.begun 1 (first + x) (checked.ports.asks x low)).early)
-      (λ (high : 4 * all_banks + 2 + printer.values ≤ x).
-      ⊎_elim
-      (λ (same : x ≡ 4 * all_banks + 2 + printer.values).
-      ap (λ n. late 2 (first + n)) same
-      ∙ early_slot m count checked.grades checked.are checked.ports.acts t.alone firsts checked.begun (first + (4 * all_banks + 2 + printer.values)) checked.ports.need)
-      (λ (ne : x ≢ 4 * all_banks + 2 + printer.values).
-      let last : x ≡ 4 * all_banks + 3 + printer.values = omega arith in
-      ap (λ n. late 2 (first + n)) last
-      ∙ early_slot m count checked.grades checked.are checked.ports.acts t.alone firsts checked.begun (first + (4 * all_banks + 3 + printer.values)) checked.ports.done)
-      (same_or_not x (4 * all_banks + 2 + printer.values)))
-      (cases_lt x (4 * all_banks + 2 + printer.values))
+  abbrev asked : ℕ
+  asked = length (asks_of (core_ports shape))
 
-  pub leaf_is : IsLeafOf all_banks printer m
+  early_output : (x : ℕ) → x < length (thread_outputs (core_ports shape)) → late 2 (first + x) ≡ false
+  early_output x less =
+      let long : length (thread_outputs (core_ports shape)) ≡ asked + 2 = length-append (asks_of (core_ports shape)) (1 ∷ 1 ∷ []) in
+      ⊎_elim
+      (λ (low : x < asked).
+      (early_port m count checked.grades checked.are checked.ports.acts t.alone firsts checked.begun 1 (first + x) (checked.ports.asks x low)).early)
+      (λ (high : asked ≤ x).
+      ⊎_elim
+      (λ (same : x ≡ asked).
+      ap (λ n. late 2 (first + n)) same
+      ∙ early_slot m count checked.grades checked.are checked.ports.acts t.alone firsts checked.begun (need_at shape m) checked.ports.need)
+      (λ (ne : x ≢ asked).
+      let last : x ≡ asked + 1 = omega arith in
+      ap (λ n. late 2 (first + n)) last
+      ∙ early_slot m count checked.grades checked.are checked.ports.acts t.alone firsts checked.begun (done_at shape m) checked.ports.done)
+      (same_or_not x asked))
+      (cases_lt x asked)
+
+  pub leaf_is : IsLeafOf shape m
   leaf_is = record {
     thread = record {
       ported = record {
-        all = heard_ported all_banks printer m;
+        all = heard_ported shape m words_counted;
         enable = record { input = omega arith; is = refl };
-        grants = λ k less uses. grant_heard all_banks printer m k less;
-        tells = λ k j less uses part. told_heard all_banks printer m k j part;
+        grants = λ k less uses. grant_heard shape m words_counted k less;
+        tells = λ k j less uses part. told_heard shape m words_counted k j part;
       };
       clockless = clockless m count checked.grades checked.are checked.ports.acts t.alone firsts checked.begun;
       late = late 2;
       answered = answers 2 refl;
       asks = λ k j less uses part.
-          let port = checked.ports.asks (4 * k + j) (part_place all_banks printer.values k j (nat_lt k all_banks) refl less part) in
-          (port.wide, early_port m count checked.grades checked.are checked.ports.acts t.alone firsts checked.begun 1 (first + (4 * k + j)) port);
-      need = slot_bit (first + (4 * all_banks + 2 + printer.values)) checked.ports.need;
+          let port = checked.ports.asks (ask_place (core_ports shape) k + j) (part_place (core_ports shape) k j part) in
+          (port.wide, early_port m count checked.grades checked.are checked.ports.acts t.alone firsts checked.begun 1 (port_at shape m k j) port);
+      need = slot_bit (need_at shape m) checked.ports.need;
       silent = λ r. writes_nothing m r m.actions checked.ports.acts;
     };
-    done = slot_bit (first + (4 * all_banks + 3 + printer.values)) checked.ports.done;
+    done = slot_bit (done_at shape m) checked.ports.done;
     alone = placed_is_sound m count first checked.grades checked.are checked.ports.acts t.alone checked.memories checked.ports.placed checked.ports.begins;
     acts = checked.ports.acts;
     early = early_output;

@@ -3,4 +3,4 @@ mod Grading
 pub mod Leafing
 mod Remembering
 mod Setting
-pub mod Shaping
+pub mod Standing

@@ -1,60 +1,64 @@
--- The module of main, which prints, as a leaf of a net: its ports, and the order of its signals.
-use Rattle.std.specs.Prelude.{◌≡◌, ℕ, suc, ◌+◌, ◌*◌, ◌<◌, false, nat_lt, if◌then◌else◌, List, length}
+-- The module of a thread as a leaf of a net: its ports, and the order of its signals.
+use Rattle.std.specs.Prelude.{◌≡◌, ℕ, zero, suc, ◌+◌, ◌<◌, false, List, [], ◌∷◌, length}
 use Rattle.block_ir.specs.declared.code.ThreadCode.{ThreadCode}
 use Rattle.block_ir.specs.declared.plan.Planned.{Planned}
 use Rattle.netlist.specs.declared.netlist.Module.{Module}
 use Rattle.circuit.specs.Rows.{EachOf}
 use Rattle.circuit.specs.Modules.{FitsMemory}
 use Rattle.leaf_machine.specs.Leaves.{IsThreadLeaf, IsSlotBit}
+use Rattle.core_ports.specs.Ports.{CorePort, asks_of, thread_outputs}
 use Rattle.module_sound.specs.Grades.{AreGrades, ActsRight, IsPort, IsSlotPort}
 use Rattle.module_sound.specs.Kinds.{IsPlaced}
 use Rattle.module_sound.specs.Sounds.{AreRightMemories, BeginsWithClock, IsSoundAlone}
 use Rattle.thread_promise.specs.Globals.{bank_total}
-use Rattle.thread_slots.specs.declared.shape.Printer.{Printer}
 use Rattle.thread_slots.specs.declared.shape.Shape.{Shape}
 use Rattle.thread_layout.specs.Modules.{IsModule}
-use Rattle.thread_layout.specs.Thread.{input_count, first_output, IsServed}
+use Rattle.thread_layout.specs.Thread.{input_count, core_ports, first_output, need_at, done_at, IsServed}
 use Rattle.thread_layout.specs.Leaf.{leaf_of}
 
--- how many numbers core k is asked with, and how many it tells: the banks come first, and then the printer
-abbrev pub parts_of : ℕ → ℕ → ℕ → ℕ
-parts_of banks values k = if nat_lt k banks then 4 else 2 + values
+-- how many numbers core k is asked with, and how many it tells
+abbrev pub parts_of : List CorePort → ℕ → ℕ
+parts_of [] k = 0
+parts_of (p ∷ ports) zero = length p.asks
+parts_of (p ∷ ports) (suc k) = parts_of ports k
 
-abbrev pub told_of : ℕ → ℕ → ℕ
-told_of banks k = if nat_lt k banks then 1 else 0
+abbrev pub tells_of : List CorePort → ℕ → ℕ
+tells_of [] k = 0
+tells_of (p ∷ ports) zero = length p.told
+tells_of (p ∷ ports) (suc k) = tells_of ports k
 
--- the statements fit, signals stand at the places of their kinds, no answer of the printer reaches what it is asked, and the
--- slot alone tells the rest
-pub record HasPorts (banks : ℕ) (printer : Printer) (m : Module) (grades : List ℕ) : Type 0 where
+-- the statements fit, signals stand at the places of their kinds, no answer reaches what cores are asked, and the slot alone tells the rest
+pub record HasPorts (shape : Shape) (m : Module) (grades : List ℕ) : Type 0 where
   pub acts : EachOf (ActsRight m) m.actions
-  pub placed : IsPlaced m (input_count banks) (first_output banks printer m)
+  pub placed : IsPlaced m (input_count (bank_total shape.spreads)) (first_output shape m)
   pub begins : BeginsWithClock m
-  pub asks : (j : ℕ) → j < 4 * banks + 2 + printer.values → IsPort m grades 1 (first_output banks printer m + j)
-  pub need : IsSlotPort m grades (leaf_of banks printer m).need
-  pub done : IsSlotPort m grades (leaf_of banks printer m).done
+  pub asks : (j : ℕ) → j < length (asks_of (core_ports shape)) → IsPort m grades 1 (first_output shape m + j)
+  pub need : IsSlotPort m grades (need_at shape m)
+  pub done : IsSlotPort m grades (done_at shape m)
 
 -- each signal reads earlier ones, and the memories are right
-pub record IsChecked (banks : ℕ) (printer : Printer) (m : Module) : Type 0 where
+pub record IsChecked (shape : Shape) (m : Module) : Type 0 where
   pub memories : AreRightMemories m
   pub begun : EachOf FitsMemory m.memories
   pub grades : List ℕ
-  pub are : AreGrades m (input_count banks) (length m.signals) grades
-  pub ports : HasPorts banks printer m grades
+  pub are : AreGrades m (input_count (bank_total shape.spreads)) (length m.signals) grades
+  pub ports : HasPorts shape m grades
 
--- a thread's module, of so many banks, which tell words, and the printer, which tells nothing
-pub record IsLeafOf (banks : ℕ) (printer : Printer) (m : Module) : Type 0 where
-  pub thread : IsThreadLeaf m (input_count banks) (leaf_of banks printer m) (suc banks) (parts_of banks printer.values) (told_of banks)
-  pub done : IsSlotBit m (input_count banks) (leaf_of banks printer m) (suc banks) (parts_of banks printer.values) (told_of banks) (leaf_of banks printer m).done
+-- a thread's module, of the banks, which tell words, and the printer, which tells nothing
+pub record IsLeafOf (shape : Shape) (m : Module) : Type 0 where
+  pub thread : IsThreadLeaf m (input_count (bank_total shape.spreads)) (leaf_of shape m) (suc (bank_total shape.spreads)) (parts_of (core_ports shape)) (tells_of (core_ports shape))
+  pub done : IsSlotBit m (input_count (bank_total shape.spreads)) (leaf_of shape m) (suc (bank_total shape.spreads)) (parts_of (core_ports shape)) (tells_of (core_ports shape))
+      (done_at shape m)
   -- a text can tell it, and is well formed
-  pub alone : IsSoundAlone m (input_count banks) (first_output banks printer m)
+  pub alone : IsSoundAlone m (input_count (bank_total shape.spreads)) (first_output shape m)
   -- each statement sets a register to a number of its width
   pub acts : EachOf (ActsRight m) m.actions
   -- no output hangs on an answer
-  pub early : (x : ℕ) → x < 4 * banks + printer.values + 4 → thread.late (first_output banks printer m + x) ≡ false
+  pub early : (x : ℕ) → x < length (thread_outputs (core_ports shape)) → thread.late (first_output shape m + x) ≡ false
 
 -- THE MODULE IS A LEAF
 abbrev pub IsLeafOfServedCode : Shape → ThreadCode → Planned → Module → Type 0
-IsLeafOfServedCode shape code plan m = (printer : Printer) → IsServed shape code plan printer → IsLeafOf (bank_total shape.spreads) printer m
+IsLeafOfServedCode shape code plan m = IsServed shape code plan → IsLeafOf shape m
 
 -- each module that is laid out is one
 abbrev pub LaidOutIsLeaf : Type 0

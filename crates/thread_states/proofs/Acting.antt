@@ -6,7 +6,6 @@ use Rattle.operator_wires.specs.Gives.{Gives}
 use Rattle.operator_wires.proofs.Giving.{grows_then}
 use Rattle.block_datapath.specs.declared.registers.Registers.{Registers}
 use Rattle.block_datapath.specs.Chains.{next_number, TellsStage}
-use Rattle.thread_slots.specs.declared.shape.Printer.{Printer}
 use Rattle.thread_slots.specs.declared.chains.Chains.{Chains}
 use Rattle.operator_wires.specs.Built.{Base}
 use Rattle.block_ir.specs.declared.plan.StagePlan.{StagePlan}
@@ -71,16 +70,16 @@ return_made a b c d code registers l at to target before after same told u t wir
       };
 }
 
-pub print_made : (a b c d : List Signal) (code : ThreadCode) (registers : Registers) (printer : Printer) (l at next target : ℕ) (before after : Chains) →
+pub print_made : (a b c d : List Signal) (code : ThreadCode) (registers : Registers) (l at next target : ℕ) (before after : Chains) →
     TellsStage a b registers l at
     → Gives b c target registers.stage.width (λ m r. min next (length code.stages)) → LeadsTo c d before after at target
-    → ((plan : Option StagePlan) → l ≤ length code.stages → StepIsWired code registers plan a d before after) → TakesPrint code registers (Some printer) l next a d before after
-print_made a b c d code registers printer l at next target before after told u t wired = record {
+    → ((plan : Option StagePlan) → l ≤ length code.stages → StepIsWired code registers plan a d before after) → TakesPrint code registers l next a d before after
+print_made a b c d code registers l at next target before after told u t wired = record {
   wired = wired;
   step =
       off_steps registers l at a b d before after told
       (off_then at b c d before before after (off_grown at b c before u.grows) (lead_off c d before after at target t));
-  prints = λ e known same m r g o knows still le here.
+  prints = λ e m r g o knows still le here.
       let gc = grows_then c d m.signals t.grows g in
       let gb = grows_then b c m.signals u.grows gc in
       let on = stage_on registers l at a b m r told gb o (has_stage code registers l m r knows le) here in
@@ -91,13 +90,4 @@ print_made a b c d code registers printer l at next target before after told u t
         variables = λ x. ap (λ (z : Chains). next_number r z.variables x) t.same;
         waits = ap (λ (z : Chains). r.signal z.waits) t.same ∙ still.waits;
       };
-}
-
--- without a printer a printf waits forever
-pub print_idle : (a b : List Signal) (code : ThreadCode) (registers : Registers) (printer : Option Printer) (l next : ℕ) (before after : Chains)
-    → printer ≡ None → Idles registers l a b before after → TakesPrint code registers printer l next a b before after
-print_idle a b code registers printer l next before after none t = record {
-  step = t.step;
-  prints = λ bits known same. absurd cc;
-  wired = λ plan le base fits linked. t.wired base code linked le;
 }

@@ -27,14 +27,13 @@ use Rattle.block_datapath.specs.declared.registers.Registers.{Registers}
 use Rattle.block_datapath.specs.declared.leaving_block.Left.{Left}
 use Rattle.block_datapath.specs.Chains.{next_number}
 use Rattle.block_datapath.specs.Leave.{HasRoom, LeavesBlock}
-use Rattle.thread_slots.specs.declared.shape.Printer.{Printer}
 use Rattle.thread_slots.specs.declared.chains.Chains.{Chains}
 use Rattle.operator_wires.proofs.Building.{wires_none, wires_then}
 use Rattle.thread_slots.specs.Links.{AreBits, LeadsTo, ShowSame}
 use Rattle.thread_states.specs.Wired.{StepIsWired}
 use Rattle.thread_slots.specs.Slots.{KnowsStage}
 use Rattle.thread_states.specs.Stages.{StepsOver, Idles, EndsAt, LeavesAct, TakesReturn, TakesPrint, Runs, RunsBlock, DoesStage, TakesStage, WalksFirst, WalksAll}
-use Rattle.thread_slots.specs.Idle.{goes_on, has_printer, is_idle}
+use Rattle.thread_slots.specs.Idle.{is_idle}
 use Rattle.thread_slots.proofs.Idling.{act_stays}
 use Rattle.thread_states.proofs.Linking.{lead_off, bits_later, same_refl, same_then, still_later, many_refl, many_then}
 use Rattle.thread_slots.proofs.Linking.{same_everywhere, has_stage}
@@ -124,19 +123,14 @@ module _ (globals : List IntegerType) (code : ThreadCode) (registers : Registers
 
 -- ---- stages of each kind
 
-planned_of : (prints : Bool) (b : Block) (plan : Option StagePlan) → is_idle prints (stage.Run b) plan ≡ false → (p : BlockPlan) × (plan ≡ Some (planned.Run p))
-planned_of prints b (Some (planned.Run p)) e = (p, refl)
-planned_of prints b (Some planned.Act) e = absurd cc
-planned_of prints b None e = absurd cc
+planned_of : (b : Block) (plan : Option StagePlan) → is_idle (stage.Run b) plan ≡ false → (p : BlockPlan) × (plan ≡ Some (planned.Run p))
+planned_of b (Some (planned.Run p)) e = (p, refl)
+planned_of b (Some planned.Act) e = absurd cc
+planned_of b None e = absurd cc
 
-printer_of : (printer : Option Printer) (site : ℕ) (values : List ActOperand) → not (goes_on (has_printer printer) (Print site values)) ≡ false →
-    (known : Printer) × (printer ≡ Some known)
-printer_of None site values e = absurd cc
-printer_of (Some known) site values e = (known, refl)
-
-module _ (globals : List IntegerType) (code : ThreadCode) (registers : Registers) (printer : Option Printer) (l : ℕ) (old new : List Signal) (before after : Chains) where
+module _ (globals : List IntegerType) (code : ThreadCode) (registers : Registers) (l : ℕ) (old new : List Signal) (before after : Chains) where
   pub run_taken : (b : Block) (p : BlockPlan) (plan : StagePlan) → plan ≡ planned.Run p → RunsBlock globals code registers l b p old new before after
-      → TakesStage globals code registers printer l (stage.Run b) (Some plan) old new before after
+      → TakesStage globals code registers l (stage.Run b) (Some plan) old new before after
   run_taken b p plan same t = record {
     step = t.step;
     does = λ bits variables kept le. record {
@@ -145,7 +139,7 @@ module _ (globals : List IntegerType) (code : ThreadCode) (registers : Registers
           let two : p ≡ u = cc in
           subst (λ (z : Block). Runs globals code registers l new before after z u) one (subst (λ (z : BlockPlan). Runs globals code registers l new before after b z) two
           (t.runs bits variables kept));
-      prints = λ known site next values e. absurd cc;
+      prints = λ site next values e. absurd cc;
       returns = λ next e. absurd cc;
       goes = λ no m r g o knows still here. t.goes r still;
     };
@@ -154,39 +148,39 @@ module _ (globals : List IntegerType) (code : ThreadCode) (registers : Registers
 
   -- a block without a plan of a block
   pub idle_taken : (b : Block) (plan : Option StagePlan) → ((p : BlockPlan) → plan ≡ Some (planned.Run p) → ⊥) → Idles registers l old new before after
-      → TakesStage globals code registers printer l (stage.Run b) plan old new before after
+      → TakesStage globals code registers l (stage.Run b) plan old new before after
   idle_taken b plan none t = record {
     step = t.step;
     does = λ bits variables kept le. record {
       runs = λ c u e f. absurd (none u f);
-      prints = λ known site next values e. absurd cc;
+      prints = λ site next values e. absurd cc;
       returns = λ next e. absurd cc;
-      goes = λ no. absurd (none (planned_of (has_printer printer) b plan no).0 (planned_of (has_printer printer) b plan no).1);
+      goes = λ no. absurd (none (planned_of b plan no).0 (planned_of b plan no).1);
     };
     wired = λ le base fits linked. t.wired base code linked le;
   }
 
   -- an act that is neither a printf nor a return
   pub other_taken : (a : Act) (next : ℕ) (plan : Option StagePlan) → ((site : ℕ) (values : List ActOperand) → a ≡ Print site values → ⊥) → (a ≡ Return → ⊥)
-      → Idles registers l old new before after → TakesStage globals code registers printer l (stage.Act a next) plan old new before after
+      → Idles registers l old new before after → TakesStage globals code registers l (stage.Act a next) plan old new before after
   other_taken a next plan no_print no_return t = record {
     step = t.step;
     does = λ bits variables kept le. record {
       runs = λ c u e. absurd cc;
-      prints = λ known site to values e. absurd (no_print site values cc);
+      prints = λ site to values e. absurd (no_print site values cc);
       returns = λ to e. absurd (no_return cc);
-      goes = λ no. absurd (let clash : true ≡ false = ap not (sym (act_stays (has_printer printer) a no_print no_return)) ∙ no in cc);
+      goes = λ no. absurd (let clash : true ≡ false = ap not (sym (act_stays a no_print no_return)) ∙ no in cc);
     };
     wired = λ le base fits linked. t.wired base code linked le;
   }
 
   pub return_taken : (a : Act) (next : ℕ) (plan : Option StagePlan) → a ≡ Return → TakesReturn code registers l old new before after
-      → TakesStage globals code registers printer l (stage.Act a next) plan old new before after
+      → TakesStage globals code registers l (stage.Act a next) plan old new before after
   return_taken a next plan same t = record {
     step = t.step;
     does = λ bits variables kept le. record {
       runs = λ c u e. absurd cc;
-      prints = λ known site to values e. absurd cc;
+      prints = λ site to values e. absurd cc;
       returns = λ to e m r g o knows still here. t.returns bits m r g o knows still le here;
       goes = λ no m r g o knows still here. (t.returns bits m r g o knows still le here).waits;
     };
@@ -194,36 +188,34 @@ module _ (globals : List IntegerType) (code : ThreadCode) (registers : Registers
   }
 
   pub print_taken : (a : Act) (next : ℕ) (plan : Option StagePlan) (site : ℕ) (values : List ActOperand) → a ≡ Print site values →
-      TakesPrint code registers printer l next old new before after
-      → TakesStage globals code registers printer l (stage.Act a next) plan old new before after
+      TakesPrint code registers l next old new before after
+      → TakesStage globals code registers l (stage.Act a next) plan old new before after
   print_taken a next plan site values same t = record {
     step = t.step;
     does = λ bits variables kept le. record {
       runs = λ c u e. absurd cc;
-      prints = λ known other to list_of e p m r g o knows still here.
+      prints = λ other to list_of e m r g o knows still here.
           let two : next ≡ to = cc in
-          subst (λ (z : ℕ). LeavesAct code registers (min z (length code.stages)) r before after) two (t.prints bits known p m r g o knows still le here);
+          subst (λ (z : ℕ). LeavesAct code registers (min z (length code.stages)) r before after) two (t.prints bits m r g o knows still le here);
       returns = λ to e. absurd cc;
-      goes = λ no m r g o knows still here.
-          let known = printer_of printer site values (ap not (ap (goes_on (has_printer printer)) (sym same)) ∙ no) in
-          (t.prints bits known.0 known.1 m r g o knows still le here).waits;
+      goes = λ no m r g o knows still here. (t.prints bits m r g o knows still le here).waits;
     };
     wired = λ le base fits linked. t.wired plan le base fits linked;
   }
 
 -- ---- one more stage
 
-module _ (globals : List IntegerType) (code : ThreadCode) (registers : Registers) (printer : Option Printer) where
+module _ (globals : List IntegerType) (code : ThreadCode) (registers : Registers) where
   -- from links before it that show the same
   started : (l : ℕ) (s : Stage) (plan : Option StagePlan) (new : List Signal) (start middle c : Chains)
       → ((m : Module) (r : Reading) → Grows new m.signals → Obeys m r → KnowsStage code registers m r → r.signal registers.stage.register ≡ l → ShowSame r start middle)
-      → DoesStage globals code registers printer l s plan new middle c → DoesStage globals code registers printer l s plan new start c
+      → DoesStage globals code registers l s plan new middle c → DoesStage globals code registers l s plan new start c
   started l s plan new start middle c same t = record {
     runs = λ b p e f bank m r q wire g o still right inside sees wired widths knows.
         t.runs b p e f bank m r q wire g o (still_later r registers start middle (same m r g o knows inside.stage) still) right inside sees wired widths knows;
-    prints = λ known site next values e p m r g o knows still here.
+    prints = λ site next values e m r g o knows still here.
         let shown = same m r g o knows here in
-        act_started l r start middle c shown _ (t.prints known site next values e p m r g o knows (still_later r registers start middle shown still) here);
+        act_started l r start middle c shown _ (t.prints site next values e m r g o knows (still_later r registers start middle shown still) here);
     returns = λ next e m r g o knows still here.
         let shown = same m r g o knows here in
         act_started l r start middle c shown _ (t.returns next e m r g o knows (still_later r registers start middle shown still) here);
@@ -241,7 +233,7 @@ module _ (globals : List IntegerType) (code : ThreadCode) (registers : Registers
 
   -- with links of another stage behind it
   lifted : (l n : ℕ) (s : Stage) (plan : Option StagePlan) (old new : List Signal) (start middle c : Chains) → l ≢ n → n ≤ length code.stages → AreBits old middle
-      → StepsOver registers n old new middle c → DoesStage globals code registers printer l s plan old start middle → DoesStage globals code registers printer l s plan new start c
+      → StepsOver registers n old new middle c → DoesStage globals code registers l s plan old start middle → DoesStage globals code registers l s plan new start c
   lifted l n s plan old new start middle c ne le bits step t = record {
     runs = λ b p e f bank m r q wire g o still right inside sees wired widths knows.
         let shown = same m r g o knows inside.stage in
@@ -256,8 +248,8 @@ module _ (globals : List IntegerType) (code : ThreadCode) (registers : Registers
           typed = made.typed;
           waits = shown.waits false made.waits;
         };
-    prints = λ known site next values e p m r g o knows still here. act_lifted m r (same m r g o knows here) _
-        (t.prints known site next values e p m r (back m g) o knows still here);
+    prints = λ site next values e m r g o knows still here. act_lifted m r (same m r g o knows here) _
+        (t.prints site next values e m r (back m g) o knows still here);
     returns = λ next e m r g o knows still here. act_lifted m r (same m r g o knows here) _ (t.returns next e m r (back m g) o knows still here);
     goes = λ no m r g o knows still here. (same m r g o knows here).waits false (t.goes no m r (back m g) o knows still here);
   }
@@ -277,7 +269,7 @@ module _ (globals : List IntegerType) (code : ThreadCode) (registers : Registers
       }
 
   module _ (plan : Planned) (a : List Signal) (start : Chains) where
-    pub walks_none : WalksFirst globals code registers printer plan a a start start 0
+    pub walks_none : WalksFirst globals code registers plan a a start start 0
     walks_none = record {
       grows = grows_refl a;
       many = many_refl start;
@@ -287,9 +279,9 @@ module _ (globals : List IntegerType) (code : ThreadCode) (registers : Registers
       wired = λ base fits linked le. record { wires = wires_none base a; linked = linked };
     }
 
-    pub walks_more : (b c : List Signal) (middle after : Chains) (n : ℕ) (s : Stage) → WalksFirst globals code registers printer plan a b start middle n →
+    pub walks_more : (b c : List Signal) (middle after : Chains) (n : ℕ) (s : Stage) → WalksFirst globals code registers plan a b start middle n →
         slice_get code.stages n ≡ Some s
-        → TakesStage globals code registers printer n s (slice_get plan.stages n) b c middle after → WalksFirst globals code registers printer plan a c start after (n + 1)
+        → TakesStage globals code registers n s (slice_get plan.stages n) b c middle after → WalksFirst globals code registers plan a c start after (n + 1)
     walks_more b c middle after n s t listed u = record {
       grows = grows_then a b c t.grows u.step.grows;
       many = many_then start middle after t.many u.step.many;
@@ -301,8 +293,8 @@ module _ (globals : List IntegerType) (code : ThreadCode) (registers : Registers
           (λ (same : k ≡ n).
           let one : s ≡ x = (let h = ap (slice_get code.stages) same in cc) in
           let made = u.does (t.bits e) (t.many.variables ∙ variables) (t.many.kept ∙ kept) inside in
-          subst (λ (z : ℕ). DoesStage globals code registers printer z x (slice_get plan.stages z) c start after) (sym same)
-          (subst (λ (z : Stage). DoesStage globals code registers printer n z (slice_get plan.stages n) c start after) one
+          subst (λ (z : ℕ). DoesStage globals code registers z x (slice_get plan.stages z) c start after) (sym same)
+          (subst (λ (z : Stage). DoesStage globals code registers n z (slice_get plan.stages n) c start after) one
           (started n s (slice_get plan.stages n) c start middle after
           (λ m r g o knows here. t.still m r (back m g) o e knows (λ k less. λ is. absurd (let z : k ≡ n = sym is ∙ here in omega arith))) made)))
           (λ (ne : k ≢ n).
@@ -321,8 +313,8 @@ module _ (globals : List IntegerType) (code : ThreadCode) (registers : Registers
         inside : n ≤ length code.stages
         inside = let less = slice_get_within code.stages n s listed in omega arith
 
-    pub walked : (b c : List Signal) (middle after : Chains) (done : ℕ) → WalksFirst globals code registers printer plan a b start middle (length code.stages)
-        → EndsAt code registers b c middle after done → WalksAll globals code registers printer plan a c start after done
+    pub walked : (b c : List Signal) (middle after : Chains) (done : ℕ) → WalksFirst globals code registers plan a b start middle (length code.stages)
+        → EndsAt code registers b c middle after done → WalksAll globals code registers plan a c start after done
     walked b c middle after done t u = record {
       grows = grows_then a b c t.grows u.idles.step.grows;
       many = many_then start middle after t.many u.idles.step.many;

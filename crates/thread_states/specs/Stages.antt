@@ -29,10 +29,9 @@ use Rattle.block_datapath.specs.declared.registers.Registers.{Registers}
 use Rattle.block_datapath.specs.Operations.{SeesSlot, IsRight, IsFed}
 use Rattle.block_datapath.specs.Chains.{next_number, TellsStage}
 use Rattle.block_datapath.specs.Leave.{HasStage, IsInStage}
-use Rattle.thread_slots.specs.declared.shape.Printer.{Printer}
 use Rattle.thread_slots.specs.declared.chains.Chains.{Chains}
 use Rattle.operator_wires.specs.Built.{Base, IsEarlier}
-use Rattle.thread_slots.specs.Idle.{has_printer, is_idle}
+use Rattle.thread_slots.specs.Idle.{is_idle}
 use Rattle.thread_slots.specs.Links.{AreBits, IsStill, ShowSame, AreAsMany}
 use Rattle.thread_slots.specs.Wired.{AreLinked, KeepsLinks, FitStates}
 use Rattle.thread_states.specs.Wired.{StepIsWired}
@@ -78,10 +77,10 @@ module _ (code : ThreadCode) (registers : Registers) where
         → r.signal registers.stage.register ≡ l → LeavesAct (length code.stages) r before after
     pub wired : (base : Base) → AreLinked base old code registers before → l ≤ length code.stages → KeepsLinks base old new code registers after
 
-  -- where there is a printer, a printf leads on
-  pub record TakesPrint (printer : Option Printer) (l next : ℕ) (old new : List Signal) (before after : Chains) : Type 0 where
+  -- a printf leads on
+  pub record TakesPrint (l next : ℕ) (old new : List Signal) (before after : Chains) : Type 0 where
     pub step : StepsOver registers l old new before after
-    pub prints : AreBits old before → (known : Printer) → printer ≡ Some known → (m : Module) (r : Reading) → Grows new m.signals → Obeys m r → KnowsStage code registers m r
+    pub prints : AreBits old before → (m : Module) (r : Reading) → Grows new m.signals → Obeys m r → KnowsStage code registers m r
         → IsStill r registers before → l ≤ length code.stages → r.signal registers.stage.register ≡ l → LeavesAct (min next (length code.stages)) r before after
     pub wired : (plan : Option StagePlan) → l ≤ length code.stages → StepIsWired code registers plan old new before after
 
@@ -122,31 +121,31 @@ module _ (globals : List IntegerType) (code : ThreadCode) (registers : Registers
     pub wired : l ≤ length code.stages → StepIsWired code registers (Some (planned.Run p)) old new before after
 
   -- what stage l does, in a reading of it: from links that are still to those behind it
-  pub record DoesStage (printer : Option Printer) (l : ℕ) (s : Stage) (plan : Option StagePlan) (new : List Signal) (start c : Chains) : Type 0 where
+  pub record DoesStage (l : ℕ) (s : Stage) (plan : Option StagePlan) (new : List Signal) (start c : Chains) : Type 0 where
     pub runs : (b : Block) (p : BlockPlan) → s ≡ stage.Run b → plan ≡ Some (planned.Run p) → Runs l new start c b p
-    pub prints : (known : Printer) (site next : ℕ) (values : List ActOperand) → s ≡ stage.Act (Print site values) next → printer ≡ Some known → (m : Module) (r : Reading) →
+    pub prints : (site next : ℕ) (values : List ActOperand) → s ≡ stage.Act (Print site values) next → (m : Module) (r : Reading) →
         Grows new m.signals → Obeys m r → KnowsStage code registers m r → IsStill r registers start → r.signal registers.stage.register ≡ l →
         LeavesAct code registers (min next (length code.stages)) r start c
     pub returns : (next : ℕ) → s ≡ stage.Act Return next → (m : Module) (r : Reading) → Grows new m.signals → Obeys m r → KnowsStage code registers m r →
         IsStill r registers start →
         r.signal registers.stage.register ≡ l → LeavesAct code registers (length code.stages) r start c
     -- whoever is not idle does not wait
-    pub goes : is_idle (has_printer printer) s plan ≡ false → (m : Module) (r : Reading) → Grows new m.signals → Obeys m r → KnowsStage code registers m r →
+    pub goes : is_idle s plan ≡ false → (m : Module) (r : Reading) → Grows new m.signals → Obeys m r → KnowsStage code registers m r →
         IsStill r registers start → r.signal registers.stage.register ≡ l → r.signal c.waits ≡ 0
 
   -- A STAGE
-  pub record TakesStage (printer : Option Printer) (l : ℕ) (s : Stage) (plan : Option StagePlan) (old new : List Signal) (before after : Chains) : Type 0 where
+  pub record TakesStage (l : ℕ) (s : Stage) (plan : Option StagePlan) (old new : List Signal) (before after : Chains) : Type 0 where
     pub step : StepsOver registers l old new before after
     pub does : AreBits old before → length before.variables ≡ length code.variables → length before.kept ≡ length registers.kept → l ≤ length code.stages
-        → DoesStage printer l s plan new before after
+        → DoesStage l s plan new before after
     pub wired : l ≤ length code.stages → StepIsWired code registers plan old new before after
 
   -- an act is taken, whatever its plan
-  abbrev pub TakesAct : Option Printer → ℕ → Stage → List Signal → List Signal → Chains → Chains → Type 0
-  TakesAct printer l s old new before after = (plan : Option StagePlan) → TakesStage printer l s plan old new before after
+  abbrev pub TakesAct : ℕ → Stage → List Signal → List Signal → Chains → Chains → Type 0
+  TakesAct l s old new before after = (plan : Option StagePlan) → TakesStage l s plan old new before after
 
   -- THE FIRST n STAGES
-  pub record WalksFirst (printer : Option Printer) (plan : Planned) (old new : List Signal) (start c : Chains) (n : ℕ) : Type 0 where
+  pub record WalksFirst (plan : Planned) (old new : List Signal) (start c : Chains) (n : ℕ) : Type 0 where
     pub grows : Grows old new
     pub many : AreAsMany start c
     pub bits : AreBits old start → AreBits new c
@@ -155,19 +154,19 @@ module _ (globals : List IntegerType) (code : ThreadCode) (registers : Registers
         → ShowSame r start c
     pub does : AreBits old start → length start.variables ≡ length code.variables → length start.kept ≡ length registers.kept → (k : ℕ) (s : Stage) → k < n →
         slice_get code.stages k ≡ Some s →
-        DoesStage printer k s (slice_get plan.stages k) new start c
+        DoesStage k s (slice_get plan.stages k) new start c
     pub wired : (base : Base) → FitStates registers plan →
         AreLinked base old code registers start
         → n ≤ length code.stages → KeepsLinks base old new code registers c
 
   -- ALL STAGES, and the end: nothing is done there, and the bit `done` tells it
-  pub record WalksAll (printer : Option Printer) (plan : Planned) (old new : List Signal) (start c : Chains) (done : ℕ) : Type 0 where
+  pub record WalksAll (plan : Planned) (old new : List Signal) (start c : Chains) (done : ℕ) : Type 0 where
     pub grows : Grows old new
     pub many : AreAsMany start c
     pub bits : AreBits old start → AreBits new c
     pub does : AreBits old start → length start.variables ≡ length code.variables → length start.kept ≡ length registers.kept → (k : ℕ) (s : Stage) →
         slice_get code.stages k ≡ Some s →
-        DoesStage printer k s (slice_get plan.stages k) new start c
+        DoesStage k s (slice_get plan.stages k) new start c
     -- at the end the thread waits
     pub ends : (m : Module) (r : Reading) → Grows new m.signals → Obeys m r → AreBits old start → KnowsStage code registers m r → IsStill r registers start →
         r.signal registers.stage.register ≡ length code.stages → r.signal c.waits ≡ 1

@@ -8,7 +8,6 @@ use Rattle.block_ir.specs.declared.plan.Planned.{Planned}
 use Rattle.netlist.specs.declared.netlist.Signal.{Signal}
 use Rattle.operator_wires.specs.Built.{Base}
 use Rattle.block_datapath.specs.declared.registers.Registers.{Registers}
-use Rattle.thread_slots.specs.declared.shape.Printer.{Printer}
 use Rattle.thread_slots.specs.declared.chains.Chains.{Chains}
 use Rattle.thread_slots.specs.declared.stores.Store.{Store}
 use Rattle.thread_slots.specs.Wired.{AreLinked, FitStates}
@@ -21,7 +20,7 @@ StageKeepsStores code registers l plan old new chains before after =
     → l ≤ length code.stages → AreRightStores base old before → AreRightStores base new after
 
 -- so do the first n stages
-abbrev pub StagesKeepStores : ThreadCode → Registers → Option Printer → Planned → ℕ → List Signal → List Signal → Chains → List Store → List Store → Type 0
-StagesKeepStores code registers printer plan n old new chains before after =
+abbrev pub StagesKeepStores : ThreadCode → Registers → Planned → ℕ → List Signal → List Signal → Chains → List Store → List Store → Type 0
+StagesKeepStores code registers plan n old new chains before after =
     (base : Base) → FitStates registers plan → AreLinked base old code registers chains
     → n ≤ length code.stages → AreRightStores base old before → AreRightStores base new after

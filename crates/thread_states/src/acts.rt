@@ -1,6 +1,6 @@
 // The wires of acts.
 
-ghost use Rattle.std.specs.Prelude.{List, Some, OnOk};
+ghost use Rattle.std.specs.Prelude.{List, OnOk};
 ghost use Rattle.hls_ints.specs.Types.{IntegerType};
 ghost use Rattle.block_ir.specs.declared.code.Stage.TheVariants as taken;
 ghost use Rattle.thread_states.specs.Stages.{Idles, TakesReturn, TakesPrint, TakesAct};
@@ -12,7 +12,6 @@ use block_ir::code::{Act, ThreadCode};
 use operator_wires::wires::Wires;
 use std::alloc::AllocError;
 use thread_slots::chains::Chains;
-use thread_slots::shape::Printer;
 
 /// The wires of an act at a stage, which takes one state.
 pub fn take_act(
@@ -20,16 +19,15 @@ pub fn take_act(
     registers: &Registers,
     chains: &mut Chains,
     code: &ThreadCode,
-    printer: Option<Printer>,
     stage: usize,
     act: &Act,
     next: usize,
 ) -> Result<(), AllocError>
-    ensures { OnOk result ((globals : List IntegerType) → TakesAct globals code.now registers.now printer stage
+    ensures { OnOk result ((globals : List IntegerType) → TakesAct globals code.now registers.now stage
         (taken.Act act.now next) wires.old.signals wires.new.signals chains.old chains.new) }
 {
     match act {
-        Act::Print { .. } => take_print(wires, registers, chains, code, printer, stage, next),
+        Act::Print { .. } => take_print(wires, registers, chains, code, stage, next),
         Act::Return => take_return(wires, registers, chains, code, stage),
         _ => idle(wires, registers, chains, stage),
     }
@@ -63,34 +61,16 @@ fn take_return(
     chains.lead(wires, registers, at, target)
 }
 
-/// A printf leads on, where there is a printer.
+/// A printf leads on.
 fn take_print(
     wires: &mut Wires,
     registers: &Registers,
     chains: &mut Chains,
     code: &ThreadCode,
-    printer: Option<Printer>,
     stage: usize,
     next: usize,
 ) -> Result<(), AllocError>
-    ensures { OnOk result (TakesPrint code.now registers.now printer stage next wires.old.signals wires.new.signals chains.old chains.new) }
-{
-    match printer {
-        Some(printer) => print(wires, registers, chains, code, printer, stage, next),
-        None => idle(wires, registers, chains, stage),
-    }
-}
-
-fn print(
-    wires: &mut Wires,
-    registers: &Registers,
-    chains: &mut Chains,
-    code: &ThreadCode,
-    printer: Printer,
-    stage: usize,
-    next: usize,
-) -> Result<(), AllocError>
-    ensures { OnOk result (TakesPrint code.now registers.now (Some printer) stage next wires.old.signals wires.new.signals chains.old chains.new) }
+    ensures { OnOk result (TakesPrint code.now registers.now stage next wires.old.signals wires.new.signals chains.old chains.new) }
 {
     let at = at_stage(wires, registers, stage as u64)?;
     let target = stage_number(wires, registers, code, next)?;

@@ -2,7 +2,6 @@
 
 ghost use Rattle.std.specs.Prelude.{length, slice_get, Option, Some, IfOk, OnOk};
 ghost use Rattle.block_ir.specs.declared.code.Stage.TheVariants as taken;
-ghost use Rattle.thread_slots.specs.declared.shape.Printer.{Printer};
 ghost use Rattle.block_ir.specs.declared.plan.StagePlan.TheVariants as stage_plan;
 ghost use Rattle.thread_states.specs.Cells.{StoresBlock, StoresStage, StoresFirst};
 ghost use Rattle.thread_states.specs.Stores.{StageKeepsStores, StagesKeepStores};
@@ -20,7 +19,6 @@ use operator_wires::wires::Wires;
 use sqlite_items::Items;
 use std::alloc::AllocError;
 use thread_slots::chains::Chains;
-use thread_slots::shape::Printer;
 use thread_slots::stores::{Store, store_all};
 
 /// The wires of all stages.
@@ -31,18 +29,17 @@ pub fn take_stages(
     stores: &mut Items<Store>,
     code: &ThreadCode,
     globals: &[CType],
-    printer: Option<Printer>,
     planned: &Planned,
 ) -> Result<(), AllocError>
-    ensures walks { OnOk result (WalksFirst globals.now code.now registers.now printer planned.now wires.old.signals wires.new.signals chains.old chains.new
+    ensures walks { OnOk result (WalksFirst globals.now code.now registers.now planned.now wires.old.signals wires.new.signals chains.old chains.new
         (length code.now.stages)) }
     ensures puts { OnOk result (StoresFirst globals.now code.now registers.now planned.now wires.old.signals wires.new.signals stores.old stores.new (length code.now.stages)) }
-    ensures stores { OnOk result (StagesKeepStores code.now registers.now printer planned.now
+    ensures stores { OnOk result (StagesKeepStores code.now registers.now planned.now
         (length code.now.stages) wires.old.signals wires.new.signals chains.old stores.old stores.new) }
 {
     for (number, stage) in code.stages.as_slice().iter().enumerate() {
         take_stage(
-            wires, registers, chains, stores, code, globals, printer, planned, number, stage,
+            wires, registers, chains, stores, code, globals, planned, number, stage,
         )?;
     }
     Ok(())
@@ -70,12 +67,11 @@ fn take_stage(
     stores: &mut Items<Store>,
     code: &ThreadCode,
     globals: &[CType],
-    printer: Option<Printer>,
     planned: &Planned,
     number: usize,
     stage: &Stage,
 ) -> Result<(), AllocError>
-    ensures takes { OnOk result (TakesStage globals.now code.now registers.now printer number stage.now
+    ensures takes { OnOk result (TakesStage globals.now code.now registers.now number stage.now
         (slice_get planned.now.stages number) wires.old.signals wires.new.signals chains.old chains.new) }
     ensures puts { OnOk result (StoresStage globals.now code.now registers.now number stage.now
         (slice_get planned.now.stages number) wires.old.signals wires.new.signals stores.old stores.new) }
@@ -89,9 +85,7 @@ fn take_stage(
             ),
             None => idle(wires, registers, chains, number),
         },
-        Stage::Act { act, next } => take_act(
-            wires, registers, chains, code, printer, number, act, *next,
-        ),
+        Stage::Act { act, next } => take_act(wires, registers, chains, code, number, act, *next),
     }
 }
 
@@ -107,9 +101,8 @@ fn take_block(
     block: &Block,
     plan: &StagePlan,
 ) -> Result<(), AllocError>
-    ensures takes { OnOk result ((printer : Option Printer) → TakesStage globals.now code.now registers.now printer number (taken.Run block.now)
-        (Some plan.now) wires.old.signals wires.new.signals
-        chains.old chains.new) }
+    ensures takes { OnOk result (TakesStage globals.now code.now registers.now number (taken.Run block.now)
+        (Some plan.now) wires.old.signals wires.new.signals chains.old chains.new) }
     ensures puts { OnOk result (StoresStage globals.now code.now registers.now number (taken.Run block.now)
         (Some plan.now) wires.old.signals wires.new.signals stores.old stores.new) }
     ensures stores { OnOk result (StageKeepsStores code.now registers.now number (Some plan.now) wires.old.signals wires.new.signals chains.old stores.old stores.new) }

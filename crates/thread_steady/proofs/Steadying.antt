@@ -42,15 +42,15 @@ use Rattle.thread_states.specs.Control.{got, unmet, is_left}
 use Rattle.thread_layout.specs.Leaf.{leaf_of}
 use Rattle.thread_layout.specs.Memories.{early_base}
 use Rattle.thread_layout.specs.Modules.{IsModule, IsWiredInside}
-use Rattle.thread_slots.specs.Idle.{has_printer, is_idle}
+use Rattle.thread_slots.specs.Idle.{is_idle}
 use Rattle.thread_steady.specs.Steady.{NeedsNoMore, IsSteadyServed}
-use Rattle.thread_layout.specs.Thread.{input_count, first_output, places_of, ports_of, IsServed}
+use Rattle.thread_layout.specs.Thread.{input_count, port_at, need_at, done_at, places_of, ports_of, IsServed}
 use Rattle.thread_steady.proofs.Alike.{ActsAlike, wires_alike, wire_alike, next_alike, set_acts, sets_alike, stores_alike}
 use Rattle.thread_layout.proofs.Moving.{asker}
 use Rattle.thread_layout.proofs.Needed.{asked_now, asked_bank, asked_printer, unneeded_asks, idle_needs_so, end_needs, return_needs, closed_needs, some_below, none_below}
 use Rattle.thread_layout.proofs.Opened.{marked_now, mark_bit, open_bits, want_wide, print_wide, wired, start_many, start_less, bit_told}
 use Rattle.thread_layout.proofs.Placed.{wide_bit, stands_wide, got_any, stands_copies, stands_agrees, from_control, from_inside, from_heard, from_early, from_slot, opens_count}
-use Rattle.thread_layout.proofs.Placed.{words_count, bank_outputs, ask_stands, need_stands, done_stands, fields_count, before_printer, beat_at, beat_stands, inputs_long}
+use Rattle.thread_layout.proofs.Placed.{words_count, ask_copied, need_stands, done_stands, before_need, beat_at, beat_stands, inputs_long}
 use Rattle.thread_layout.proofs.Quiet.{bank_bit, quiet_bit}
 use Rattle.thread_layout.proofs.Raising.{from_asks, wanted, wanted_bit}
 use Rattle.thread_layout.proofs.Requested.{indices, targets, printing}
@@ -88,60 +88,38 @@ or_true : (t : Bool) → (t || true) ≡ true
 or_true true = refl
 or_true false = refl
 
+neither_left : (t u : Bool) → (t || u) ≡ false → t ≡ false
+neither_left false u e = refl
+neither_left true u e = e
+
 agree_refl : (m : Module) (r : Reading) → Agree m r r
 agree_refl m r = record { registers = λ x s e i. refl; words = λ j k s e b. refl }
 
-module _ (shape : Shape) (code : ThreadCode) (plan : Planned) (printer : Printer) (m : Module) (t : IsModule shape code plan m) (served : IsServed shape code plan printer) where
+module _ (shape : Shape) (code : ThreadCode) (plan : Planned) (m : Module) (t : IsModule shape code plan m) (served : IsServed shape code plan) where
   abbrev banks : ℕ
   banks = bank_total shape.spreads
 
   abbrev behind : ℕ
   behind = input_count banks
 
-  abbrev first : ℕ
-  first = first_output banks printer m
-
   abbrev firsts : List Action
   firsts =
       set_action t.edge.leave t.inside.slot.stage.register t.inside.chains.stage ∷ set_action t.edge.leave t.inside.slot.state.register t.edge.state
       ∷ set_action t.edge.moved t.inside.slot.beat t.edge.beat ∷ []
 
-  inner : IsWiredInside code plan shape printer t.laid.with_inputs t.laid.with_slot t.laid.with_early t.laid.with_heard t.with_inside t.inside
-  inner = wired shape code plan printer m t served
+  inner : IsWiredInside code plan shape t.laid.with_inputs t.laid.with_slot t.laid.with_early t.laid.with_heard t.with_inside t.inside
+  inner = wired shape code plan m t served
 
   -- ---- outputs
 
-  ask_copied : (r : Reading) (k : ℕ) → Obeys m r → k < suc banks → r.signal (first + (4 * k + 0)) ≡ r.signal (slice_index t.edge.asks k)
-  ask_copied r k o less =
-      let plain : first + (4 * k + 0) ≡ first + 4 * k = omega arith in
-      ap r.signal plain ∙ ⊎_elim bank last (cases_lt k banks)
-    where
-      bank : k < banks → r.signal (first + 4 * k) ≡ r.signal (slice_index t.edge.asks k)
-      bank inside =
-          let own = served.spreads.all k inside in
-          let i : ℕ = k - own.1.first in
-          let le = own.3 in
-          let lt = own.4 in
-          let at : own.1.first + i ≡ k = omega arith in
-          let below : i < own.1.count = omega arith in
-          let global : own.0 < length shape.globals = subst (λ z. own.0 < z) served.spreads.count (slice_get_within shape.spreads own.0 own.1 own.2) in
-          let ty = got_any shape.globals own.0 global in
-          let out = bank_outputs shape code plan printer m t served own.0 i own.1 ty.0 own.2 ty.1 below in
-          ap (λ z. r.signal (first + 4 * z)) (sym at) ∙ stands_copies m r (first + 4 * (own.1.first + i)) 1 (slice_index t.edge.asks (own.1.first + i)) o out.at_ask
-          ∙ ap (λ z. r.signal (slice_index t.edge.asks z)) at
+  ask_shown : (r : Reading) (k : ℕ) → Obeys m r → k < suc banks → r.signal (port_at shape m k 0) ≡ r.signal (slice_index t.edge.asks k)
+  ask_shown = ask_copied shape code plan m t served
 
-      last : banks ≤ k → r.signal (first + 4 * k) ≡ r.signal (slice_index t.edge.asks k)
-      last past =
-          let same : k ≡ banks = omega arith in
-          ap (λ z. r.signal (first + 4 * z)) same
-          ∙ stands_copies m r (first + 4 * banks) 1 (slice_index t.edge.asks (length t.inside.slot.words)) o (ask_stands shape code plan printer m t served)
-          ∙ ap (λ z. r.signal (slice_index t.edge.asks z)) (words_count shape code plan printer m t served ∙ sym same)
+  need_copied : (r : Reading) → Obeys m r → r.signal (need_at shape m) ≡ r.signal t.inside.early.need
+  need_copied r o = stands_copies m r (need_at shape m) 1 t.inside.early.need o (need_stands shape code plan m t served)
 
-  need_copied : (r : Reading) → Obeys m r → r.signal (first + (4 * banks + 2 + printer.values)) ≡ r.signal t.inside.early.need
-  need_copied r o = stands_copies m r (first + (4 * banks + 2 + printer.values)) 1 t.inside.early.need o (need_stands shape code plan printer m t served)
-
-  done_copied : (r : Reading) → Obeys m r → r.signal (first + (4 * banks + 3 + printer.values)) ≡ r.signal t.inside.early.done
-  done_copied r o = stands_copies m r (first + (4 * banks + 3 + printer.values)) 1 t.inside.early.done o (done_stands shape code plan printer m t served)
+  done_copied : (r : Reading) → Obeys m r → r.signal (done_at shape m) ≡ r.signal t.inside.early.done
+  done_copied r o = stands_copies m r (done_at shape m) 1 t.inside.early.done o (done_stands shape code plan m t served)
 
   -- ---- one reading
 
@@ -150,65 +128,65 @@ module _ (shape : Shape) (code : ThreadCode) (plan : Planned) (printer : Printer
     now = r.signal t.inside.slot.stage.register
 
     abbrev raised : ℕ → Bool
-    raised = raised_now shape code plan printer m t served r o
+    raised = raised_now shape code plan m t served r o
 
     abbrev grants : ℕ → Bool
-    grants = grants_now shape code plan printer m t served r o
+    grants = grants_now shape code plan m t served r o
 
     abbrev waits : Bool
-    waits = (waiting shape code plan printer m t served r o).0
+    waits = (waiting shape code plan m t served r o).0
 
     -- what is asked, by cores
     asks_bit : (e : Bool) → r.signal 1 ≡ bit_of e → (k : ℕ) → k < suc banks → r.signal (slice_index t.edge.asks k) ≡ bit_of (raised k && e)
     asks_bit e on k less =
-        (t.closed.controls.asks m r raised e (from_control shape code plan printer m t served) o (opens_now shape code plan printer m t served r o)
-        (enable_bit shape code plan printer m t served r o e on) k (subst (λ n. k < n) (sym (opens_count shape code plan printer m t served)) less)).shows
+        (t.closed.controls.asks m r raised e (from_control shape code plan m t served) o (opens_now shape code plan m t served r o)
+        (enable_bit shape code plan m t served r o e on) k (subst (λ n. k < n) (sym (opens_count shape code plan m t served)) less)).shows
 
     abbrev Quiet : Type 0
-    Quiet = (n : ℕ) → n < suc banks → asked_now shape code plan printer m t served r o n ≡ false
+    Quiet = (n : ℕ) → n < suc banks → asked_now shape code plan m t served r o n ≡ false
 
     -- where none is wanted none is open
     raised_none : Quiet → (n : ℕ) → n < suc banks → raised n ≡ false
     raised_none quiet n less =
         let wants : (k : ℕ) → k < banks → HasBit m r (slice_index t.inside.early.requests.banks.wants k) false =
         λ k below.
-        let wide = want_wide shape code plan printer m t served k below in
+        let wide = want_wide shape code plan m t served k below in
         let bit = wide_bit m r (slice_index t.inside.early.requests.banks.wants k) o wide in
         record {
           wide = wide;
           shows =
               bit_told (r.signal (slice_index t.inside.early.requests.banks.wants k)) bit.0 bit.1
-              ∙ ap (λ z. bit_of (nat_eq (r.signal z) 1)) (sym (asked_bank shape code plan printer m t served k below)) ∙ ap bit_of (quiet k (omega arith));
+              ∙ ap (λ z. bit_of (nat_eq (r.signal z) 1)) (sym (asked_bank shape code plan m t served k below)) ∙ ap bit_of (quiet k (omega arith));
         } in
-        let printer_wide = print_wide shape code plan printer m t served in
+        let printer_wide = print_wide shape code plan m t served in
         let printer_bit = wide_bit m r t.inside.early.requests.wants o printer_wide in
         let prints : HasBit m r t.inside.early.requests.wants false = record {
           wide = printer_wide;
           shows =
               bit_told (r.signal t.inside.early.requests.wants) printer_bit.0 printer_bit.1
-              ∙ ap (λ z. bit_of (nat_eq (r.signal z) 1)) (sym (asked_printer shape code plan printer m t served)) ∙ ap bit_of (quiet banks (omega arith));
+              ∙ ap (λ z. bit_of (nat_eq (r.signal z) 1)) (sym (asked_printer shape code plan m t served)) ∙ ap bit_of (quiet banks (omega arith));
         } in
         let opened =
-        open_bits shape code plan printer m t served r o (λ k. false) (marked_now shape code plan printer m t served r) false wants
-        (λ k below. mark_bit shape code plan printer m t served r k o below) prints n less in
+        open_bits shape code plan m t served r o (λ k. false) (marked_now shape code plan m t served r) false wants
+        (λ k below. mark_bit shape code plan m t served r k o below) prints n less in
         ap (λ z. nat_eq z 1) (opened.shows ∙ ap bit_of (shut (nat_lt n banks)))
       where
-        shut : (c : Bool) → (if c then false && not (marked_now shape code plan printer m t served r n) else false) ≡ false
+        shut : (c : Bool) → (if c then false && not (marked_now shape code plan m t served r n) else false) ≡ false
         shut true = refl
         shut false = refl
 
     -- the state is left
     left_is : (e : Bool) → r.signal 1 ≡ bit_of e → r.signal t.edge.leave ≡ bit_of (is_left raised grants e waits (length t.inside.early.opens))
     left_is e on =
-        (t.closed.controls.leave m r raised grants waits e (from_control shape code plan printer m t served) o (steers_now shape code plan printer m t served r o e on)).shows
+        (t.closed.controls.leave m r raised grants waits e (from_control shape code plan m t served) o (steers_now shape code plan m t served r o e on)).shows
 
     moved_is : (e : Bool) → r.signal 1 ≡ bit_of e
         → r.signal t.edge.moved ≡ bit_of (is_left raised grants e waits (length t.inside.early.opens) || any_below (got raised grants e) (length t.inside.early.opens))
     moved_is e on =
-        (t.closed.controls.moved m r raised grants waits e (from_control shape code plan printer m t served) o (steers_now shape code plan printer m t served r o e on)).shows
+        (t.closed.controls.moved m r raised grants waits e (from_control shape code plan m t served) o (steers_now shape code plan m t served r o e on)).shows
 
     within_opens : (k : ℕ) → k < length t.inside.early.opens → k < suc banks
-    within_opens k less = subst (λ n. k < n) (opens_count shape code plan printer m t served) less
+    within_opens k less = subst (λ n. k < n) (opens_count shape code plan m t served) less
 
     none_unmet : Quiet → (e : Bool) → any_below (unmet raised grants e) (length t.inside.early.opens) ≡ false
     none_unmet quiet e =
@@ -229,35 +207,55 @@ module _ (shape : Shape) (code : ThreadCode) (plan : Planned) (printer : Printer
     -- whatever moves turns the beat
     moves_on : r.signal t.edge.moved ≡ 1 → Agree m r (next_reading m r) → ⊥
     moves_on moved stays =
-        let place = stands_agrees m r (next_reading m r) (behind + 2) 1 0 stays (beat_stands shape code plan printer m t served) in
+        let place = stands_agrees m r (next_reading m r) (behind + 2) 1 0 stays (beat_stands shape code plan m t served) in
         let bit = beat_bit in
-        turned bit.0 (sym bit.1 ∙ place ∙ next_beat shape code plan printer m t served r o bit.0 moved bit.1)
+        turned bit.0 (sym bit.1 ∙ place ∙ next_beat shape code plan m t served r o bit.0 moved bit.1)
       where
         beat_bit : (b : Bool) × (r.signal (behind + 2) ≡ bit_of b)
-        beat_bit = wide_bit m r (behind + 2) o (stands_wide m (behind + 2) 1 (Register 0) (beat_stands shape code plan printer m t served))
+        beat_bit = wide_bit m r (behind + 2) o (stands_wide m (behind + 2) 1 (Register 0) (beat_stands shape code plan m t served))
+
+    -- and what leaves the beat as it was moves nothing
+    beat_left : (next_reading m r).signal (behind + 2) ≡ r.signal (behind + 2) → Agree m r (next_reading m r)
+    beat_left same = by (leaves_now || hears_now) refl
+      where
+        on : (e : Bool) × (r.signal 1 ≡ bit_of e)
+        on = enabled shape code plan m t served r o
+
+        leaves_now : Bool
+        leaves_now = is_left raised grants on.0 waits (length t.inside.early.opens)
+
+        hears_now : Bool
+        hears_now = any_below (got raised grants on.0) (length t.inside.early.opens)
+
+        by : (c : Bool) → (leaves_now || hears_now) ≡ c → Agree m r (next_reading m r)
+        by false e =
+            agrees_off shape code plan m t served r o (left_is on.0 on.1 ∙ ap bit_of (neither_left leaves_now hears_now e)) (moved_is on.0 on.1 ∙ ap bit_of e)
+        by true e =
+            let bit = wide_bit m r (behind + 2) o (stands_wide m (behind + 2) 1 (Register 0) (beat_stands shape code plan m t served)) in
+            absurd (turned bit.0 (sym bit.1 ∙ sym same ∙ next_beat shape code plan m t served r o bit.0 (moved_is on.0 on.1 ∙ ap bit_of e) bit.1))
 
     -- ---- where no core is needed
 
     module _ (none : r.signal t.inside.early.need ≡ 0) where
       quiet_here : Quiet
-      quiet_here = unneeded_asks shape code plan printer m t served r o none
+      quiet_here = unneeded_asks shape code plan m t served r o none
 
       -- the thread does not wait
       waits_not : r.signal t.inside.chains.waits ≡ 0
       waits_not = by (slice_get code.stages now) refl
         where
-          by_idle : (s : Stage) → slice_get code.stages now ≡ Some s → (c : Bool) → is_idle (has_printer shape.printer) s (slice_get plan.stages now) ≡ c →
+          by_idle : (s : Stage) → slice_get code.stages now ≡ Some s → (c : Bool) → is_idle s (slice_get plan.stages now) ≡ c →
               r.signal t.inside.chains.waits ≡ 0
-          by_idle s listed true e = absurd (let clash : 0 ≡ 1 = sym none ∙ idle_needs_so shape code plan printer m t served r o s listed e in cc)
+          by_idle s listed true e = absurd (let clash : 0 ≡ 1 = sym none ∙ idle_needs_so shape code plan m t served r o s listed e in cc)
           by_idle s listed false e =
               (t.laid.walks.does t.laid.begins.bits (t.laid.begins.variables ∙ t.laid.slot.variables_count) t.laid.begins.kept now s listed).goes e m r
-              (from_inside shape code plan printer m t served) o (knows shape code plan printer m t served r o) (still shape code plan printer m t served r o) refl
+              (from_inside shape code plan m t served) o (knows shape code plan m t served r o) (still shape code plan m t served r o) refl
 
           by : (s : Option Stage) → slice_get code.stages now ≡ s → r.signal t.inside.chains.waits ≡ 0
-          by (Some s) listed = by_idle s listed (is_idle (has_printer shape.printer) s (slice_get plan.stages now)) refl
+          by (Some s) listed = by_idle s listed (is_idle s (slice_get plan.stages now)) refl
           by None listed =
-              t.laid.walks.past m r (from_inside shape code plan printer m t served) o t.laid.begins.bits (knows shape code plan printer m t served r o)
-              (still shape code plan printer m t served r o)
+              t.laid.walks.past m r (from_inside shape code plan m t served) o t.laid.begins.bits (knows shape code plan m t served r o)
+              (still shape code plan m t served r o)
               (λ k le is.
               ⊎_elim
               (λ (less : k < length code.stages).
@@ -265,11 +263,11 @@ module _ (shape : Shape) (code : ThreadCode) (plan : Planned) (printer : Printer
               absurd (let there : slice_get code.stages k ≡ None = ap (slice_get code.stages) (sym is) ∙ listed in let own = found.1 in cc))
               (λ (ge : length code.stages ≤ k).
               let end : now ≡ length code.stages = omega arith in
-              absurd (let clash : 0 ≡ 1 = sym none ∙ end_needs shape code plan printer m t served r o end in cc))
+              absurd (let clash : 0 ≡ 1 = sym none ∙ end_needs shape code plan m t served r o end in cc))
               (cases_lt k (length code.stages)))
 
       waits_false : waits ≡ false
-      waits_false = is_false waits (sym (waiting shape code plan printer m t served r o).1 ∙ waits_not)
+      waits_false = is_false waits (sym (waiting shape code plan m t served r o).1 ∙ waits_not)
 
       leaves : r.signal 1 ≡ 1 → r.signal t.edge.leave ≡ 1
       leaves on = left_is true on ∙ ap bit_of (left_quiet quiet_here true ∙ ap not waits_false)
@@ -286,40 +284,40 @@ module _ (shape : Shape) (code : ThreadCode) (plan : Planned) (printer : Printer
       past_all k less is = absurd (let same : length code.stages ≡ k = sym end ∙ is in omega arith)
 
       start_grows : Grows t.laid.early.with_start m.signals
-      start_grows = grows_then t.laid.early.with_start t.laid.early.with_asks m.signals t.laid.early.asks.grows (from_asks shape code plan printer m t served)
+      start_grows = grows_then t.laid.early.with_start t.laid.early.with_asks m.signals t.laid.early.asks.grows (from_asks shape code plan m t served)
 
       asks_still : AskSame r t.laid.early.start t.inside.early.requests
       asks_still =
-          t.laid.early.asks.beyond m r (from_asks shape code plan printer m t served) o t.laid.early.begins.bits (knows shape code plan printer m t served r o) past_all
+          t.laid.early.asks.beyond m r (from_asks shape code plan m t served) o t.laid.early.begins.bits (knows shape code plan m t served r o) past_all
 
       quiet_end : Quiet
       quiet_end n less =
           ⊎_elim
           (λ (h : n < banks).
-          ap (λ z. nat_eq (r.signal z) 1) (asked_bank shape code plan printer m t served n h)
+          ap (λ z. nat_eq (r.signal z) 1) (asked_bank shape code plan m t served n h)
           ∙ ap (λ z. nat_eq z 1)
           (ap (λ (a : Asked). a.wants)
-          (asks_still.banks n banks (start_many shape code plan printer m t served) h
-          ∙ t.laid.early.begins.nothing m r n start_grows o (start_less shape code plan printer m t served n h))))
+          (asks_still.banks n banks (start_many shape code plan m t served) h
+          ∙ t.laid.early.begins.nothing m r n start_grows o (start_less shape code plan m t served n h))))
           (λ (h : banks ≤ n).
           let same : n ≡ banks = omega arith in
-          ap (asked_now shape code plan printer m t served r o) same
-          ∙ ap (λ z. nat_eq (r.signal z) 1) (asked_printer shape code plan printer m t served)
+          ap (asked_now shape code plan m t served r o) same
+          ∙ ap (λ z. nat_eq (r.signal z) 1) (asked_printer shape code plan m t served)
           ∙ ap (λ z. nat_eq z 1) (asks_still.wants false (t.laid.early.begins.silent m r start_grows o)))
           (cases_lt n banks)
 
       waits_end : waits ≡ true
       waits_end =
           is_true waits
-          (sym (waiting shape code plan printer m t served r o).1
-          ∙ t.laid.walks.ends m r (from_inside shape code plan printer m t served) o t.laid.begins.bits (knows shape code plan printer m t served r o)
-          (still shape code plan printer m t served r o) end)
+          (sym (waiting shape code plan m t served r o).1
+          ∙ t.laid.walks.ends m r (from_inside shape code plan m t served) o t.laid.begins.bits (knows shape code plan m t served r o)
+          (still shape code plan m t served r o) end)
 
       stays_end : Agree m r (next_reading m r)
       stays_end =
-          let e = enabled shape code plan printer m t served r o in
+          let e = enabled shape code plan m t served r o in
           let left : is_left raised grants e.0 waits (length t.inside.early.opens) ≡ false = left_quiet quiet_end e.0 ∙ ap (λ z. e.0 && not z) waits_end ∙ and_false e.0 in
-          agrees_off shape code plan printer m t served r o (left_is e.0 e.1 ∙ ap bit_of left)
+          agrees_off shape code plan m t served r o (left_is e.0 e.1 ∙ ap bit_of left)
           (moved_is e.0 e.1
           ∙ ap (λ z. bit_of (z || any_below (got raised grants e.0) (length t.inside.early.opens))) left
           ∙ ap bit_of (none_got quiet_end e.0))
@@ -330,17 +328,17 @@ module _ (shape : Shape) (code : ThreadCode) (plan : Planned) (printer : Printer
     slot_alike : (x : ℕ) → behind ≤ x → x < length t.laid.with_slot → r.signal x ≡ q.signal x
     slot_alike x le less =
         let s = got_any t.laid.with_slot x less in
-        let is = inner.registers x s.0 (let long = inputs_long shape code plan printer m t served in omega arith) s.1 in
-        agree.registers x s.0 (listed t.laid.with_slot m.signals x s.0 (from_slot shape code plan printer m t served) s.1)
+        let is = inner.registers x s.0 (let long = inputs_long shape code plan m t served in omega arith) s.1 in
+        agree.registers x s.0 (listed t.laid.with_slot m.signals x s.0 (from_slot shape code plan m t served) s.1)
         (subst (λ (d : Source). IsRegister d) (sym is.drives) tt)
 
     base_first : (early_base (length t.inside.slot.words) code).first ≡ behind
-    base_first = let count = words_count shape code plan printer m t served in omega arith
+    base_first = let count = words_count shape code plan m t served in omega arith
 
     early_alike : (x : ℕ) → behind ≤ x → x < length t.laid.with_early → r.signal x ≡ q.signal x
     early_alike x le less =
         wires_alike m r q one two agree (early_base (length t.inside.slot.words) code) t.laid.with_slot t.laid.with_early inner.early.wires
-        (from_early shape code plan printer m t served) (λ y after below. slot_alike y (let f = base_first in omega arith) below) x (let f = base_first in omega arith) less
+        (from_early shape code plan m t served) (λ y after below. slot_alike y (let f = base_first in omega arith) below) x (let f = base_first in omega arith) less
 
     need_alike : r.signal t.inside.early.need ≡ q.signal t.inside.early.need
     need_alike =
@@ -355,14 +353,14 @@ module _ (shape : Shape) (code : ThreadCode) (plan : Planned) (printer : Printer
       heard_alike x le less =
           ⊎_elim (λ (h : x < length t.laid.with_early). early_alike x le h)
           (λ (h : length t.laid.with_early ≤ x).
-          t.laid.hears.silent m r x (from_heard shape code plan printer m t served) one h less none
-          ∙ sym (t.laid.hears.silent m q x (from_heard shape code plan printer m t served) two h less none_too))
+          t.laid.hears.silent m r x (from_heard shape code plan m t served) one h less none
+          ∙ sym (t.laid.hears.silent m q x (from_heard shape code plan m t served) two h less none_too))
           (cases_lt x (length t.laid.with_early))
 
       inside_alike : (y w : ℕ) → IsEarlier t.with_inside (early_base (length t.inside.slot.words) code) y w → r.signal y ≡ q.signal y
       inside_alike =
           wire_alike m r q one two agree (early_base (length t.inside.slot.words) code) t.laid.with_heard t.with_inside inner.wires
-          (from_inside shape code plan printer m t served) (λ x after below. heard_alike x (let f = base_first in omega arith) below)
+          (from_inside shape code plan m t served) (λ x after below. heard_alike x (let f = base_first in omega arith) below)
 
       module _ (on : r.signal 1 ≡ 1) (on_too : q.signal 1 ≡ 1) where
         leave_alike : r.signal t.edge.leave ≡ q.signal t.edge.leave
@@ -374,22 +372,22 @@ module _ (shape : Shape) (code : ThreadCode) (plan : Planned) (printer : Printer
         state_alike : r.signal t.edge.state ≡ q.signal t.edge.state
         state_alike =
             let last = inside_alike t.inside.chains.is_last 1 inner.linked.is_last in
-            let bit = wide_bit m r t.inside.chains.is_last one ((chains_bits shape code plan printer m t served).is_last m (from_inside shape code plan printer m t served)) in
+            let bit = wide_bit m r t.inside.chains.is_last one ((chains_bits shape code plan m t served).is_last m (from_inside shape code plan m t served)) in
             let state = inside_alike t.inside.slot.state.register t.inside.slot.state.width inner.linked.slots.state in
-            t.closed.controls.follows.shows m r bit.0 (from_control shape code plan printer m t served) one (state_wide shape code plan printer m t served r one) bit.1
+            t.closed.controls.follows.shows m r bit.0 (from_control shape code plan m t served) one (state_wide shape code plan m t served r one) bit.1
             ∙ ap (λ z. if bit.0 then 0 else (z + 1) % 2 ^ t.inside.slot.state.width) state
             ∙ sym
-            (t.closed.controls.follows.shows m q bit.0 (from_control shape code plan printer m t served) two (state_wide shape code plan printer m t served q two)
+            (t.closed.controls.follows.shows m q bit.0 (from_control shape code plan m t served) two (state_wide shape code plan m t served q two)
             (sym last ∙ bit.1))
 
         beat_alike : r.signal t.edge.beat ≡ q.signal t.edge.beat
         beat_alike =
             let place = inside_alike t.inside.slot.beat 1 inner.linked.slots.beat in
             let wide : width m t.inside.slot.beat ≡ 1 =
-            ap (width m) (beat_at shape code plan printer m t served) ∙ stands_wide m (behind + 2) 1 (Register 0) (beat_stands shape code plan printer m t served) in
+            ap (width m) (beat_at shape code plan m t served) ∙ stands_wide m (behind + 2) 1 (Register 0) (beat_stands shape code plan m t served) in
             let bit = wide_bit m r t.inside.slot.beat one wide in
-            (t.closed.controls.beat m r bit.0 (from_control shape code plan printer m t served) one (record { wide = wide; shows = bit.1 })).shows
-            ∙ sym (t.closed.controls.beat m q bit.0 (from_control shape code plan printer m t served) two (record { wide = wide; shows = sym place ∙ bit.1 })).shows
+            (t.closed.controls.beat m r bit.0 (from_control shape code plan m t served) one (record { wide = wide; shows = bit.1 })).shows
+            ∙ sym (t.closed.controls.beat m q bit.0 (from_control shape code plan m t served) two (record { wide = wide; shows = sym place ∙ bit.1 })).shows
 
         marks_alike : (i y : ℕ) (h : Held) → slice_get t.edge.granted (0 + i) ≡ Some y → slice_get t.inside.granted i ≡ Some h → r.signal y ≡ q.signal y
         marks_alike i y h there held =
@@ -397,8 +395,8 @@ module _ (shape : Shape) (code : ThreadCode) (plan : Planned) (printer : Printer
             let at : slice_index t.edge.granted i ≡ y = get_or_from_slice_get t.edge.granted i y 0 (ap (slice_get t.edge.granted) (sym plain) ∙ there) in
             let less : i < length shape.globals = subst (λ z. i < z) t.laid.granted.count (slice_get_within t.inside.granted i h held) in
             ap r.signal (sym at)
-            ∙ marks_left shape code plan printer m t served r one true i on (leaves r one none on) less
-            ∙ sym (marks_left shape code plan printer m t served q two true i on_too (leaves q two none_too on_too) less)
+            ∙ marks_left shape code plan m t served r one true i on (leaves r one none on) less
+            ∙ sym (marks_left shape code plan m t served q two true i on_too (leaves q two none_too on_too) less)
             ∙ ap q.signal at
 
         acts_alike : EachOf (ActsAlike r q) m.actions
@@ -437,53 +435,52 @@ module _ (shape : Shape) (code : ThreadCode) (plan : Planned) (printer : Printer
 
   -- ---- THE MODULE KEEPS TO ITSELF
 
-  keeps : KeepsToItself (leaf_thread m (leaf_of banks printer m)) (leaf_places m (leaf_of banks printer m)) (suc banks) m
+  keeps : KeepsToItself (leaf_thread m (leaf_of shape m)) (leaf_places m (leaf_of shape m)) (suc banks) m
   keeps = record {
     shown = λ r. (r, agree_refl m r);
-    rests = λ r o off. rests_so shape code plan printer m t served r o off;
-    quiet = λ r o off k less uses. ask_copied r k o less ∙ asks_bit r o false off k less ∙ ap bit_of (and_false (raised_now shape code plan printer m t served r o k));
+    rests = λ r o off. rests_so shape code plan m t served r o off;
+    quiet = λ r o off k less uses. ask_shown r k o less ∙ asks_bit r o false off k less ∙ ap bit_of (and_false (raised_now shape code plan m t served r o k));
     closed_quiet = λ r o none k less uses.
-        let e = enabled shape code plan printer m t served r o in
-        ask_copied r k o less ∙ asks_bit r o e.0 e.1 k less
+        let e = enabled shape code plan m t served r o in
+        ask_shown r k o less ∙ asks_bit r o e.0 e.1 k less
         ∙ ap (λ z. bit_of (z && e.0)) (raised_none r o (quiet_here r o (sym (need_copied r o) ∙ none)) k less);
     closed_moves = λ r o none on. moves_on r o (moves r o (sym (need_copied r o) ∙ none) on);
     closed_alike = λ r q o o' agree none on on'. all_alike r q o o' agree (sym (need_copied r o) ∙ none) on on';
     granted_moves = λ r k o on less uses asks granted.
-        let asked : raised_now shape code plan printer m t served r o k ≡ true =
-        first_and (raised_now shape code plan printer m t served r o k) true
-        (some_bit (raised_now shape code plan printer m t served r o k && true) (λ z. asks (ask_copied r k o less ∙ asks_bit r o true on k less ∙ z))) in
-        let hears : grants_now shape code plan printer m t served r o k ≡ true = ap (λ z. nat_eq z 1) granted in
-        let hit : any_below (got (raised_now shape code plan printer m t served r o) (grants_now shape code plan printer m t served r o) true)
+        let asked : raised_now shape code plan m t served r o k ≡ true =
+        first_and (raised_now shape code plan m t served r o k) true
+        (some_bit (raised_now shape code plan m t served r o k && true) (λ z. asks (ask_shown r k o less ∙ asks_bit r o true on k less ∙ z))) in
+        let hears : grants_now shape code plan m t served r o k ≡ true = ap (λ z. nat_eq z 1) granted in
+        let hit : any_below (got (raised_now shape code plan m t served r o) (grants_now shape code plan m t served r o) true)
         (length t.inside.early.opens) ≡ true =
-        some_below (got (raised_now shape code plan printer m t served r o) (grants_now shape code plan printer m t served r o) true) (length t.inside.early.opens) k
-        (subst (λ n. k < n) (sym (opens_count shape code plan printer m t served)) less)
-        (ap (λ z. (z && true) && grants_now shape code plan printer m t served r o k) asked ∙ hears) in
+        some_below (got (raised_now shape code plan m t served r o) (grants_now shape code plan m t served r o) true) (length t.inside.early.opens) k
+        (subst (λ n. k < n) (sym (opens_count shape code plan m t served)) less)
+        (ap (λ z. (z && true) && grants_now shape code plan m t served r o k) asked ∙ hears) in
         moves_on r o
         (moved_is r o true on
         ∙ ap
         (λ z. bit_of
-        (is_left (raised_now shape code plan printer m t served r o) (grants_now shape code plan printer m t served r o) true
-        (waiting shape code plan printer m t served r o).0 (length t.inside.early.opens) || z)) hit
+        (is_left (raised_now shape code plan m t served r o) (grants_now shape code plan m t served r o) true
+        (waiting shape code plan m t served r o).0 (length t.inside.early.opens) || z)) hit
         ∙ ap bit_of (or_true _));
   }
 
-  ended : (r : Reading) → Obeys m r → r.signal (first + (4 * banks + 3 + printer.values)) ≡ 1 → Agree m r (next_reading m r)
+  ended : (r : Reading) → Obeys m r → r.signal (done_at shape m) ≡ 1 → Agree m r (next_reading m r)
   ended r o done =
       stays_end r o
       (number_is (r.signal t.inside.slot.stage.register) (length code.stages)
       (is_true (nat_eq (r.signal t.inside.slot.stage.register) (length code.stages))
       (sym
-      (t.laid.early.asks.done_is m r (from_asks shape code plan printer m t served) o (knows shape code plan printer m t served r o))
+      (t.laid.early.asks.done_is m r (from_asks shape code plan m t served) o (knows shape code plan m t served r o))
       ∙ sym (done_copied r o) ∙ done)))
     where
       number_is : (x n : ℕ) → nat_eq x n ≡ true → x ≡ n
       number_is x n e = grind (arith, nat_tests)
 
-  steady_main : IsSteadyMain (suc banks) m (leaf_of banks printer m)
+  steady_main : IsSteadyMain (suc banks) m (leaf_of shape m)
   steady_main =
-      let put = t.closed.outputs.rest.need_put printer served.printer_is in
-      let at : length t.closed.outputs.with_banks + 1 + length t.inside.early.requests.fields ≡ first + (4 * banks + 2 + printer.values) =
-      (let before = before_printer shape code plan printer m t served in let count = fields_count shape code plan printer m t served in omega arith) in
+      let put = t.closed.outputs.need_put in
+      let at = before_need shape code plan m t served in
       record {
         thread = record {
           keeps = keeps;
@@ -496,16 +493,16 @@ module _ (shape : Shape) (code : ThreadCode) (plan : Planned) (printer : Printer
 
   -- ---- AND NEEDS NO MORE
 
-  little : NeedsNoMore shape code plan printer m
+  little : NeedsNoMore shape code plan m
   little = record {
-    closed = λ r q b p o inside closed. need_copied r o ∙ closed_needs shape code plan printer m t served r o q b p inside closed (quiet_closed r q b p o inside closed);
+    closed = λ r q b p o inside closed. need_copied r o ∙ closed_needs shape code plan m t served r o q b p inside closed (quiet_closed r q b p o inside closed);
     returns = λ r q next o shows listed.
-        let here = stage_shown shape code plan printer m t served r o q shows in
+        let here = stage_shown shape code plan m t served r o q shows in
         need_copied r o
-        ∙ return_needs shape code plan printer m t served r o next (ap (slice_get code.stages) here ∙ listed)
+        ∙ return_needs shape code plan m t served r o next (ap (slice_get code.stages) here ∙ listed)
         (quiet_of r o
-        (λ n less. (bank_bit shape code plan printer m t served r q o shows (ap is_run listed) n less).shows)
-        (quiet_bit shape code plan printer m t served r q o shows (ap is_print listed)).shows);
+        (λ n less. (bank_bit shape code plan m t served r q o shows (ap is_run listed) n less).shows)
+        (quiet_bit shape code plan m t served r q o shows (ap is_print listed)).shows);
   }
     where
       quiet_of : (r : Reading) (o : Obeys m r) → ((n : ℕ) → n < banks → r.signal (slice_index t.inside.early.requests.banks.wants n) ≡ 0) →
@@ -513,32 +510,32 @@ module _ (shape : Shape) (code : ThreadCode) (plan : Planned) (printer : Printer
           → Quiet r o
       quiet_of r o bank_is printer_is n less =
           ⊎_elim
-          (λ (h : n < banks). ap (λ z. nat_eq (r.signal z) 1) (asked_bank shape code plan printer m t served n h) ∙ ap (λ z. nat_eq z 1) (bank_is n h))
+          (λ (h : n < banks). ap (λ z. nat_eq (r.signal z) 1) (asked_bank shape code plan m t served n h) ∙ ap (λ z. nat_eq z 1) (bank_is n h))
           (λ (h : banks ≤ n).
           let same : n ≡ banks = omega arith in
-          ap (asked_now shape code plan printer m t served r o) same
-          ∙ ap (λ z. nat_eq (r.signal z) 1) (asked_printer shape code plan printer m t served) ∙ ap (λ z. nat_eq z 1) printer_is)
+          ap (asked_now shape code plan m t served r o) same
+          ∙ ap (λ z. nat_eq (r.signal z) 1) (asked_printer shape code plan m t served) ∙ ap (λ z. nat_eq z 1) printer_is)
           (cases_lt n banks)
 
       quiet_closed : (r : Reading) (q : Slot) (b : Block) (p : BlockPlan) (o : Obeys m r)
-          (inside : IsInside shape.globals shape.spreads code plan m (places_of banks code plan) (ports_of banks printer m) r q b p) →
+          (inside : IsInside shape.globals shape.spreads code plan m (places_of banks code plan) (ports_of shape m) r q b p) →
           IsClosed (planned_view b) (plan_view b p) q → Quiet r o
       quiet_closed r q b p o inside closed =
           quiet_of r o
           (λ n less.
-          (wanted_bit shape code plan printer m t served r q b p o inside n less).shows
-          ∙ ap bit_of (unwanted n less (wanted shape code plan printer m t served r q b p o inside n) refl))
-          (printing shape code plan printer m t served r q b p o inside).shows
+          (wanted_bit shape code plan m t served r q b p o inside n less).shows
+          ∙ ap bit_of (unwanted n less (wanted shape code plan m t served r q b p o inside n) refl))
+          (printing shape code plan m t served r q b p o inside).shows
         where
-          unwanted : (n : ℕ) → n < banks → (c : Bool) → wanted shape code plan printer m t served r q b p o inside n ≡ c →
-              wanted shape code plan printer m t served r q b p o inside n ≡ false
+          unwanted : (n : ℕ) → n < banks → (c : Bool) → wanted shape code plan m t served r q b p o inside n ≡ c →
+              wanted shape code plan m t served r q b p o inside n ≡ false
           unwanted n less false e = e
           unwanted n less true e =
               absurd
-              (let k = asker shape code plan printer m t served r q b p o inside (indices shape code plan printer m t served r q b p o inside)
-              (targets shape code plan printer m t served r q b p o inside) n less e in
+              (let k = asker shape code plan m t served r q b p o inside (indices shape code plan m t served r q b p o inside)
+              (targets shape code plan m t served r q b p o inside) n less e in
               let clash : true ≡ false = sym k.2 ∙ closed.asks_none k.0 k.1 in
               cc)
 
-  pub steady_is : IsSteadyServed shape code plan printer m
-  steady_is = record { steady = steady_main; little = little }
+  pub steady_is : IsSteadyServed shape code plan m
+  steady_is = record { steady = steady_main; little = little; beat = beat_left }

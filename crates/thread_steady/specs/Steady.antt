@@ -11,33 +11,40 @@ use Rattle.planned_block.specs.Slot.{Slot}
 use Rattle.planned_block.specs.Closed.{IsClosed}
 use Rattle.planned_view.specs.View.{planned_view, plan_view}
 use Rattle.netlist.specs.declared.netlist.Module.{Module}
-use Rattle.verilog_meaning.specs.Readings.{Reading}
-use Rattle.circuit.specs.Modules.{Obeys}
+use Rattle.verilog_meaning.specs.Readings.{Reading, next_reading}
+use Rattle.circuit.specs.Modules.{Obeys, Agree}
 use Rattle.leaf_machine.specs.Steady.{IsSteadyMain}
 use Rattle.thread_promise.specs.Globals.{bank_total}
 use Rattle.thread_promise.specs.Slots.{ShowsData}
 use Rattle.thread_promise.specs.Promise.{IsInside}
-use Rattle.thread_slots.specs.declared.shape.Printer.{Printer}
 use Rattle.thread_slots.specs.declared.shape.Shape.{Shape}
 use Rattle.thread_layout.specs.Leaf.{leaf_of}
 use Rattle.thread_layout.specs.Modules.{IsModule}
 use Rattle.thread_layout.specs.Thread.{places_of, ports_of, IsServed}
 
 -- in a state of a block in which no access starts and no word is taken, and at a return, no core is needed
-pub record NeedsNoMore (shape : Shape) (code : ThreadCode) (plan : Planned) (printer : Printer) (m : Module) : Type 0 where
+pub record NeedsNoMore (shape : Shape) (code : ThreadCode) (plan : Planned) (m : Module) : Type 0 where
   pub closed : (r : Reading) (q : Slot) (b : Block) (p : BlockPlan) → Obeys m r →
-      IsInside shape.globals shape.spreads code plan m (places_of (bank_total shape.spreads) code plan) (ports_of (bank_total shape.spreads) printer m) r q b p →
-      IsClosed (planned_view b) (plan_view b p) q → r.signal (ports_of (bank_total shape.spreads) printer m).need ≡ 0
+      IsInside shape.globals shape.spreads code plan m (places_of (bank_total shape.spreads) code plan) (ports_of shape m) r q b p →
+      IsClosed (planned_view b) (plan_view b p) q → r.signal (ports_of shape m).need ≡ 0
   pub returns : (r : Reading) (q : Slot) (next : ℕ) → Obeys m r → ShowsData shape.globals code (places_of (bank_total shape.spreads) code plan) r q →
-      slice_get code.stages q.stage ≡ Some (stage.Act Return next) → r.signal (ports_of (bank_total shape.spreads) printer m).need ≡ 0
+      slice_get code.stages q.stage ≡ Some (stage.Act Return next) → r.signal (ports_of shape m).need ≡ 0
 
-pub record IsSteadyServed (shape : Shape) (code : ThreadCode) (plan : Planned) (printer : Printer) (m : Module) : Type 0 where
-  pub steady : IsSteadyMain (suc (bank_total shape.spreads)) m (leaf_of (bank_total shape.spreads) printer m)
-  pub little : NeedsNoMore shape code plan printer m
+-- an edge that leaves the beat leaves each register and each word of a memory
+abbrev pub TurnsBeat : Shape → ThreadCode → Planned → Module → Type 0
+TurnsBeat shape code plan m =
+    (r : Reading) → Obeys m r →
+    (next_reading m r).signal (places_of (bank_total shape.spreads) code plan).beat ≡ r.signal (places_of (bank_total shape.spreads) code plan).beat →
+    Agree m r (next_reading m r)
+
+pub record IsSteadyServed (shape : Shape) (code : ThreadCode) (plan : Planned) (m : Module) : Type 0 where
+  pub steady : IsSteadyMain (suc (bank_total shape.spreads)) m (leaf_of shape m)
+  pub little : NeedsNoMore shape code plan m
+  pub beat : TurnsBeat shape code plan m
 
 -- THE MODULE IS STEADY
 abbrev pub IsSteadyServedCode : Shape → ThreadCode → Planned → Module → Type 0
-IsSteadyServedCode shape code plan m = (printer : Printer) → IsServed shape code plan printer → IsSteadyServed shape code plan printer m
+IsSteadyServedCode shape code plan m = IsServed shape code plan → IsSteadyServed shape code plan m
 
 -- each module that is laid out is
 abbrev pub LaidOutIsSteady : Type 0

@@ -1,6 +1,8 @@
 -- How many lists of results there are, and how long they are.
 use Rattle.std.proofs.Common.{◌≡◌, ℕ, zero, suc, ◌+◌, ◌<◌, ◌≤◌, ◌⊎◌, nat_eq, Bool, true, false, not, ◌&&◌, if◌then◌else◌, List, [], ◌∷◌, ◌++◌, length, Some, slice_get, slice_index}
 use Rattle.std.proofs.Common.{refl, sym, ap, subst, ◌∙◌, arith, inl, inr, ⊎_elim}
+use Rattle.std.proofs.lemmas.Bool.{not-true, and_from, and_parts, eq-eqb}
+use Rattle.lists.proofs.Places.{get_back}
 use Rattle.hls_ints.specs.Types.{IntegerType, Width, bits, bits_8, bits_16, bits_32, bits_64, width_of, int_type, unsigned_int, long_int, unsigned_long}
 use Rattle.c_program.specs.declared.tree.BinaryOperator.{BinaryOperator}
 use Rattle.c_program.specs.declared.tree.BinaryOperator.TheVariants as operator
@@ -17,7 +19,7 @@ use Rattle.unit_datapath.specs.declared.units.UnitCounts.{UnitCounts}
 use Rattle.unit_datapath.specs.Kinds.{is_of}
 use Rattle.unit_datapath.specs.Counts.{IsCountOf}
 use Rattle.unit_datapath.specs.Units.{HasUnit, IsOperatorCount, AreCounted, AreCountsOf, AreOnce, IsLaid}
-use Rattle.unit_datapath.proofs.Kinding.{left_of, right_of, both, type_same, opposite, number_same}
+use Rattle.unit_datapath.proofs.Kinding.{type_same}
 use Rattle.unit_datapath.proofs.Resulting.{index_there}
 use Rattle.unit_datapath.proofs.Laying.{split_get, only_get}
 use Rattle.unit_datapath.proofs.Valuing.{type_is, operator_is}
@@ -25,11 +27,6 @@ use Rattle.unit_datapath.proofs.Valuing.{type_is, operator_is}
 -- a list is as long as the numbers of the units ask for
 abbrev pub IsLongEnough : ThreadCode → Planned → UnitResults → Type 0
 IsLongEnough code plan u = (0 < length u.places) × IsCountOf (HasUnit code plan u.operator u.ty) (length u.places)
-
-pub got_behind : {A : Type 0} (xs ys : List A) (y : ℕ) (u : A) → slice_get ys y ≡ Some u → slice_get (xs ++ ys) (length xs + y) ≡ Some u
-got_behind [] ys y u e = subst (λ (k : ℕ). slice_get ys k ≡ Some u) (let same : y ≡ 0 + y = omega arith in same) e
-got_behind (x ∷ xs) ys y u e =
-    subst (λ (k : ℕ). slice_get (x ∷ (xs ++ ys)) k ≡ Some u) (let same : suc (length xs + y) ≡ length (x ∷ xs) + y = omega arith in same) (got_behind xs ys y u e)
 
 -- ---- lists that are there once
 
@@ -153,10 +150,10 @@ module _ (code : ThreadCode) (plan : Planned) (kind : UnitKind) where
           (one.0, one.1, got_before (first ++ second) third one.0 one.1 (got_before first second one.0 one.1 one.2), one.3)
       found operator.Divide n of_kind has =
           let one = u.all n of_kind has in
-          (length first + one.0, one.1, got_before (first ++ second) third (length first + one.0) one.1 (got_behind first second one.0 one.1 one.2), one.3)
+          (length first + one.0, one.1, got_before (first ++ second) third (length first + one.0) one.1 (get_back first second one.0 one.1 one.2), one.3)
       found operator.Remainder n of_kind has =
           let one = v.all n of_kind has in
-          (length (first ++ second) + one.0, one.1, got_behind (first ++ second) third one.0 one.1 one.2, one.3)
+          (length (first ++ second) + one.0, one.1, get_back (first ++ second) third one.0 one.1 one.2, one.3)
       found operator.Add n of_kind has = absurd cc
       found operator.Subtract n of_kind has = absurd cc
       found operator.ShiftLeft n of_kind has = absurd cc
@@ -209,10 +206,10 @@ same_kinds k l d e = ap (λ (b : Bool). record { divides = b; ty = k.ty }) d ∙
 kind_same : (k l : UnitKind) (o : BinaryOperator) → k.ty ≡ l.ty → is_of k o k.ty ≡ true → is_of l o l.ty ≡ true → k ≡ l
 kind_same k l operator.Multiply e p q =
     same_kinds k l
-    (opposite k.divides (left_of (not k.divides) (same_type k.ty (unit_type operator.Multiply k.ty)) p)
-    ∙ sym (opposite l.divides (left_of (not l.divides) (same_type l.ty (unit_type operator.Multiply l.ty)) q))) e
-kind_same k l operator.Divide e p q = same_kinds k l (left_of k.divides (same_type k.ty k.ty) p ∙ sym (left_of l.divides (same_type l.ty l.ty) q)) e
-kind_same k l operator.Remainder e p q = same_kinds k l (left_of k.divides (same_type k.ty k.ty) p ∙ sym (left_of l.divides (same_type l.ty l.ty) q)) e
+    (not-true k.divides (and_parts (not k.divides) (same_type k.ty (unit_type operator.Multiply k.ty)) p).0
+    ∙ sym (not-true l.divides (and_parts (not l.divides) (same_type l.ty (unit_type operator.Multiply l.ty)) q).0)) e
+kind_same k l operator.Divide e p q = same_kinds k l ((and_parts k.divides (same_type k.ty k.ty) p).0 ∙ sym (and_parts l.divides (same_type l.ty l.ty) q).0) e
+kind_same k l operator.Remainder e p q = same_kinds k l ((and_parts k.divides (same_type k.ty k.ty) p).0 ∙ sym (and_parts l.divides (same_type l.ty l.ty) q).0) e
 kind_same k l operator.Add e p q = absurd cc
 kind_same k l operator.Subtract e p q = absurd cc
 kind_same k l operator.ShiftLeft e p q = absurd cc
@@ -240,10 +237,10 @@ not_among [] k e h = h
 not_among (y ∷ ys) k e h =
     ⊎_elim
     (λ (s : k ≡ y).
-    let same : nat_eq (number k) (number y) ≡ true = ap (λ (z : UnitKind). nat_eq (number k) (number z)) (sym s) ∙ number_same (number k) in
-    let other : nat_eq (number k) (number y) ≡ false = opposite (nat_eq (number k) (number y)) (left_of (not (nat_eq (number k) (number y))) (all_differ ys k) e) in
+    let same : nat_eq (number k) (number y) ≡ true = ap (λ (z : UnitKind). nat_eq (number k) (number z)) (sym s) ∙ eq-eqb (number k) (number k) refl in
+    let other : nat_eq (number k) (number y) ≡ false = not-true (nat_eq (number k) (number y)) (and_parts (not (nat_eq (number k) (number y))) (all_differ ys k) e).0 in
     (let g : ⊥ = cc in g))
-    (λ (r : IsAmong ys k). not_among ys k (right_of (not (nat_eq (number k) (number y))) (all_differ ys k) e) r)
+    (λ (r : IsAmong ys k). not_among ys k (and_parts (not (nat_eq (number k) (number y))) (all_differ ys k) e).1 r)
     h
 
 -- results are those of one of these kinds
@@ -287,7 +284,7 @@ module _ (code : ThreadCode) (plan : Planned) where
         ⊎_elim
         (λ (same : k ≡ kind).
         let own = u.all o n (subst (λ (z : UnitKind). is_of z o z.ty ≡ true) same of_kind) (subst (λ (z : UnitKind). HasUnit code plan o z.ty n) same has) in
-        (length xs + own.0, own.1, got_behind xs ys own.0 own.1 own.2, own.3, (u.of_kind own.0 own.1 own.2).0 ∙ ap (λ (z : UnitKind). z.ty) (sym same)))
+        (length xs + own.0, own.1, get_back xs ys own.0 own.1 own.2, own.3, (u.of_kind own.0 own.1 own.2).0 ∙ ap (λ (z : UnitKind). z.ty) (sym same)))
         (λ (rest : IsAmong kinds k).
         let own = t.all k o n rest of_kind has in
         (own.0, own.1, got_before xs ys own.0 own.1 own.2, own.3, own.4))
@@ -316,7 +313,7 @@ module _ (code : ThreadCode) (plan : Planned) where
 
   is_for_own : (o : BinaryOperator) (ty : IntegerType) (u : UnitResults) → u.operator ≡ o → u.ty ≡ unit_type o ty → same_operator o o ≡ true → is_for o ty u ≡ true
   is_for_own o ty u e f s =
-      both (same_operator u.operator o) (same_type u.ty (unit_type o ty)) (subst (λ (z : BinaryOperator). same_operator z o ≡ true) (sym e) s)
+      and_from (same_operator u.operator o) (same_type u.ty (unit_type o ty)) (subst (λ (z : BinaryOperator). same_operator z o ≡ true) (sym e) s)
       (subst (λ (z : IntegerType). same_type z (unit_type o ty) ≡ true) (sym f) (type_same (unit_type o ty)))
 
   -- an operation whose kind is among these finds its result
@@ -328,8 +325,8 @@ module _ (code : ThreadCode) (plan : Planned) where
       let own = t.all kind o n among of_kind (subst (λ (z : IntegerType). HasUnit code plan o z n) (sym same) has) in
       place_there results o ty n own.0 own.1 own.2 (is_for_own o ty own.1 own.3 (own.4 ∙ same) s)
       (λ y w f made.
-      let one : w.operator ≡ o = operator_is w.operator o (left_of (same_operator w.operator o) (same_type w.ty (unit_type o ty)) made) in
-      let two : w.ty ≡ unit_type o ty = type_is w.ty (unit_type o ty) (right_of (same_operator w.operator o) (same_type w.ty (unit_type o ty)) made) in
+      let one : w.operator ≡ o = operator_is w.operator o (and_parts (same_operator w.operator o) (same_type w.ty (unit_type o ty)) made).0 in
+      let two : w.ty ≡ unit_type o ty = type_is w.ty (unit_type o ty) (and_parts (same_operator w.operator o) (same_type w.ty (unit_type o ty)) made).1 in
       (t.each y w f).1.above n
       (subst (λ (z : BinaryOperator). HasUnit code plan z w.ty n) (sym one) (subst (λ (z : IntegerType). HasUnit code plan o z n) (sym two) has)))
 

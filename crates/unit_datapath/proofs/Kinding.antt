@@ -2,6 +2,7 @@
 use Rattle.std.proofs.Common.{◌≡◌, ℕ, zero, suc, nat_eq, Bool, true, false, not, ◌&&◌, if◌then◌else◌, List, [], ◌∷◌, Some, refl, sym, ap, ◌∙◌, arith, slice_get}
 use Rattle.std.specs.Prelude.{slice_index_or, ℤ}
 use Rattle.std.specs.Bool.{beq}
+use Rattle.std.proofs.lemmas.Bool.{eqb-true, not-true, and_from, and_parts, eq-eqb}
 use Rattle.hls_ints.specs.Types.{IntegerType, width_of}
 use Rattle.c_program.specs.declared.tree.BinaryOperator.{BinaryOperator}
 use Rattle.c_program.specs.declared.tree.BinaryOperator.TheVariants as operator
@@ -18,14 +19,6 @@ use Rattle.unit_datapath.specs.Kinds.{is_of, is_work}
 
 -- ---- bits
 
-pub left_of : (t u : Bool) → (t && u) ≡ true → t ≡ true
-left_of true u e = refl
-left_of false u e = absurd cc
-
-pub right_of : (t u : Bool) → (t && u) ≡ true → u ≡ true
-right_of true u e = e
-right_of false u e = absurd cc
-
 same_bit : (t u : Bool) → beq t u ≡ true → t ≡ u
 same_bit true true e = refl
 same_bit true false e = absurd cc
@@ -36,31 +29,16 @@ bit_same : (t : Bool) → beq t t ≡ true
 bit_same true = refl
 bit_same false = refl
 
-same_number : (x n : ℕ) → nat_eq x n ≡ true → x ≡ n
-same_number x n e = grind arith
-
-pub number_same : (n : ℕ) → nat_eq n n ≡ true
-number_same n = grind arith
-
-pub opposite : (t : Bool) → not t ≡ true → t ≡ false
-opposite true e = absurd cc
-opposite false e = refl
-
-pub both : (t u : Bool) → t ≡ true → u ≡ true → (t && u) ≡ true
-both true true e f = refl
-both true false e f = absurd cc
-both false u e f = absurd cc
-
 -- ---- kinds
 
 pub same_width : (s t : IntegerType) → same_type s t ≡ true → width_of s ≡ width_of t
-same_width s t e = same_number (width_of s) (width_of t) (left_of (nat_eq (width_of s) (width_of t)) (beq s.signed t.signed) e)
+same_width s t e = eqb-true (width_of s) (width_of t) (and_parts (nat_eq (width_of s) (width_of t)) (beq s.signed t.signed) e).0
 
 pub same_sign : (s t : IntegerType) → same_type s t ≡ true → s.signed ≡ t.signed
-same_sign s t e = same_bit s.signed t.signed (right_of (nat_eq (width_of s) (width_of t)) (beq s.signed t.signed) e)
+same_sign s t e = same_bit s.signed t.signed (and_parts (nat_eq (width_of s) (width_of t)) (beq s.signed t.signed) e).1
 
 pub type_same : (ty : IntegerType) → same_type ty ty ≡ true
-type_same ty = both (nat_eq (width_of ty) (width_of ty)) (beq ty.signed ty.signed) (number_same (width_of ty)) (bit_same ty.signed)
+type_same ty = and_from (nat_eq (width_of ty) (width_of ty)) (beq ty.signed ty.signed) (eq-eqb (width_of ty) (width_of ty) refl) (bit_same ty.signed)
 
 -- the kind of the operations of a kind of units
 abbrev node_kind : UnitKind → Kind
@@ -71,23 +49,23 @@ node_shared kind true e =
     ap (λ (z : Bool). same_kind (if z then Divide (width_of kind.ty) kind.ty.signed else Multiply (width_of kind.ty))
     (if z then Divide (width_of kind.ty) kind.ty.signed else Multiply
     (width_of kind.ty))) e
-    ∙ both (nat_eq (width_of kind.ty) (width_of kind.ty)) (beq kind.ty.signed kind.ty.signed) (number_same (width_of kind.ty)) (bit_same kind.ty.signed)
+    ∙ and_from (nat_eq (width_of kind.ty) (width_of kind.ty)) (beq kind.ty.signed kind.ty.signed) (eq-eqb (width_of kind.ty) (width_of kind.ty) refl) (bit_same kind.ty.signed)
 node_shared kind false e =
     ap (λ (z : Bool). same_kind (if z then Divide (width_of kind.ty) kind.ty.signed else Multiply (width_of kind.ty))
     (if z then Divide (width_of kind.ty) kind.ty.signed else Multiply
     (width_of kind.ty))) e
-    ∙ number_same (width_of kind.ty)
+    ∙ eq-eqb (width_of kind.ty) (width_of kind.ty) refl
 
 product_kind : (kind : UnitKind) (ty : IntegerType) → is_of kind operator.Multiply ty ≡ true → Multiply (width_of ty) ≡ node_kind kind
 product_kind kind ty e =
-    let no : kind.divides ≡ false = opposite kind.divides (left_of (not kind.divides) (same_type kind.ty (unit_type operator.Multiply ty)) e) in
-    let wide = same_width kind.ty (unit_type operator.Multiply ty) (right_of (not kind.divides) (same_type kind.ty (unit_type operator.Multiply ty)) e) in
+    let no : kind.divides ≡ false = not-true kind.divides (and_parts (not kind.divides) (same_type kind.ty (unit_type operator.Multiply ty)) e).0 in
+    let wide = same_width kind.ty (unit_type operator.Multiply ty) (and_parts (not kind.divides) (same_type kind.ty (unit_type operator.Multiply ty)) e).1 in
     ap Multiply (sym wide) ∙ sym (ap (λ (z : Bool). if z then Divide (width_of kind.ty) kind.ty.signed else Multiply (width_of kind.ty)) no)
 
 quotient_kind : (kind : UnitKind) (ty : IntegerType) → (kind.divides && same_type kind.ty ty) ≡ true → Divide (width_of ty) ty.signed ≡ node_kind kind
 quotient_kind kind ty e =
-    let yes : kind.divides ≡ true = left_of kind.divides (same_type kind.ty ty) e in
-    let same : same_type kind.ty ty ≡ true = right_of kind.divides (same_type kind.ty ty) e in
+    let yes : kind.divides ≡ true = (and_parts kind.divides (same_type kind.ty ty) e).0 in
+    let same : same_type kind.ty ty ≡ true = (and_parts kind.divides (same_type kind.ty ty) e).1 in
     ap (λ (w : ℕ). Divide w ty.signed) (sym (same_width kind.ty ty same)) ∙ ap (Divide (width_of kind.ty)) (sym (same_sign kind.ty ty same))
     ∙ sym (ap (λ (z : Bool). if z then Divide (width_of kind.ty) kind.ty.signed else Multiply (width_of kind.ty)) yes)
 

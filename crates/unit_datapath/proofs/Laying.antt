@@ -3,6 +3,7 @@ use Rattle.std.proofs.Common.{◌≡◌, ℕ, zero, suc, ◌<◌, ◌≤◌, ◌
 use Rattle.std.proofs.Common.{refl, sym, ap, subst, ◌∙◌, arith, inl, inr, ⊎_elim}
 use Rattle.std.proofs.lemmas.Option.{slice_get_within}
 use Rattle.std.proofs.lemmas.List.{append-nil}
+use Rattle.std.proofs.lemmas.Bool.{and_parts}
 use Rattle.hls_ints.specs.Types.{IntegerType, width_of, wrapped}
 use Rattle.c_program.specs.declared.tree.BinaryOperator.{BinaryOperator}
 use Rattle.block_ir.specs.Arithmetic.{binary_total}
@@ -36,7 +37,6 @@ use Rattle.unit_datapath.specs.Links.{IsAtWork, LinksStages}
 use Rattle.unit_datapath.specs.Results.{HasWidth, AddsPlaces, ShowsResults}
 use Rattle.unit_datapath.specs.Units.{CanHaveUnits, UnitsStand, IsInCode, LaysInputs, ShowsUnits, LaysUnits, IsLaid}
 use Rattle.unit_datapath.proofs.Inputting.{inputs_after}
-use Rattle.unit_datapath.proofs.Kinding.{left_of, right_of}
 use Rattle.unit_datapath.proofs.Resulting.{index_there}
 use Rattle.unit_datapath.proofs.Valuing.{type_is, operator_is, made_of_kind, unit_value, kind_result}
 
@@ -100,9 +100,9 @@ module _ (code : ThreadCode) (registers : Registers) (plan : Planned) where
         u.ty ≡ kind.ty → ShowsResults d e c operator kind.ty n u.places → ShowsUnits code registers plan e u
     entry_shown d e operator n u more few of_kind same_o same_t results globals m r q block p wire k place own ty left right g o at there from to made got =
         let one : same_operator operator own ≡ true =
-        subst (λ (z : BinaryOperator). same_operator z own ≡ true) same_o (left_of (same_operator u.operator own) (same_type u.ty (unit_type own ty)) made) in
+        subst (λ (z : BinaryOperator). same_operator z own ≡ true) same_o (and_parts (same_operator u.operator own) (same_type u.ty (unit_type own ty)) made).0 in
         let two : same_type kind.ty (unit_type own ty) ≡ true =
-        subst (λ (z : IntegerType). same_type z (unit_type own ty) ≡ true) same_t (right_of (same_operator u.operator own) (same_type u.ty (unit_type own ty)) made) in
+        subst (λ (z : IntegerType). same_type z (unit_type own ty) ≡ true) same_t (and_parts (same_operator u.operator own) (same_type u.ty (unit_type own ty)) made).1 in
         let is_own : operator ≡ own = operator_is operator own one in
         let is_type : kind.ty ≡ unit_type own ty = type_is kind.ty (unit_type own ty) two in
         let self : same_operator own own ≡ true = subst (λ (z : BinaryOperator). same_operator z own ≡ true) is_own one in

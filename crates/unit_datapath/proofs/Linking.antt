@@ -3,6 +3,7 @@ use Rattle.std.proofs.Common.{◌≡◌, ◌≢◌, ℕ, ◌+◌, ◌^◌, ◌<�
 use Rattle.std.proofs.Common.{refl, sym, ap, subst, ◌∙◌, arith, ⊎_elim, inl, inr, if◌then◌else◌}
 use Rattle.std.proofs.lemmas.Nat.{pow_pos}
 use Rattle.std.proofs.lemmas.Option.{slice_get_within}
+use Rattle.std.proofs.lemmas.Bool.{or_parts}
 use Rattle.interleaving.proofs.Update.{same_or_not}
 use Rattle.hls_ints.specs.Residues.{bit_of}
 use Rattle.hls_ints.specs.Types.{IntegerType, width_of}
@@ -465,14 +466,10 @@ module _ (code : ThreadCode) (registers : Registers) (kind : UnitKind) where
 pub work_none : (kind : UnitKind) (b : Block) → HasWork kind b 0 false
 work_none kind b e k o less there = absurd (omega arith)
 
-neither : (t u : Bool) → (t || u) ≡ false → (t ≡ false) × (u ≡ false)
-neither true u e = absurd cc
-neither false u e = (refl, e)
-
 pub work_more : (kind : UnitKind) (b : Block) (n : ℕ) (o : Operation) (before : Bool) → HasWork kind b n before → slice_get b.operations n ≡ Some o →
     HasWork kind b (n + 1) (before || is_work kind o)
 work_more kind b n o before t listed e k x less there =
-    let none = neither before (is_work kind o) e in
+    let none = or_parts before (is_work kind o) e in
     ⊎_elim
     (λ (same : k ≡ n).
     let is : o ≡ x = (let at = ap (slice_get b.operations) same in cc) in

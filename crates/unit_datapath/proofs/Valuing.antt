@@ -1,6 +1,7 @@
 -- What units of an operator and a type show is what an operation of their kind gives.
 use Rattle.std.proofs.Common.{◌≡◌, ℕ, Bool, true, not, ℤ, refl, sym, ap, subst, ◌∙◌}
 use Rattle.std.specs.Prelude.{◌*ℤ◌}
+use Rattle.std.proofs.lemmas.Bool.{and_from, and_parts}
 use Rattle.hls_ints.specs.Residues.{residue_of}
 use Rattle.hls_ints.specs.Types.{IntegerType, Width, bits, bits_8, bits_16, bits_32, bits_64, width_at, width_of, wrapped}
 use Rattle.hls_ints.specs.Words.{word_product}
@@ -16,7 +17,7 @@ use Rattle.operator_wires.specs.Words.{IsWord}
 use Rattle.block_datapath.specs.Units.{unit_type, same_operator, same_type, word_at}
 use Rattle.unit_datapath.specs.declared.kinds.UnitKind.{UnitKind}
 use Rattle.unit_datapath.specs.Kinds.{is_of}
-use Rattle.unit_datapath.proofs.Kinding.{left_of, both, same_width, same_sign}
+use Rattle.unit_datapath.proofs.Kinding.{same_width, same_sign}
 
 -- ---- types and operators that are the same
 
@@ -102,10 +103,10 @@ operator_is operator.InclusiveOr b e = absurd cc
 -- the operations that units of an operator of a kind make are of the kind
 pub made_of_kind : (kind : UnitKind) (o : BinaryOperator) (ty : IntegerType) → same_operator o o ≡ true → is_of kind o kind.ty ≡ true → same_type kind.ty (unit_type o ty) ≡ true →
     is_of kind o ty ≡ true
-made_of_kind kind operator.Multiply ty s k e = both (not kind.divides) (same_type kind.ty (unit_type operator.Multiply ty))
-    (left_of (not kind.divides) (same_type kind.ty (unit_type operator.Multiply kind.ty)) k) e
-made_of_kind kind operator.Divide ty s k e = both kind.divides (same_type kind.ty ty) (left_of kind.divides (same_type kind.ty kind.ty) k) e
-made_of_kind kind operator.Remainder ty s k e = both kind.divides (same_type kind.ty ty) (left_of kind.divides (same_type kind.ty kind.ty) k) e
+made_of_kind kind operator.Multiply ty s k e = and_from (not kind.divides) (same_type kind.ty (unit_type operator.Multiply ty))
+    (and_parts (not kind.divides) (same_type kind.ty (unit_type operator.Multiply kind.ty)) k).0 e
+made_of_kind kind operator.Divide ty s k e = and_from kind.divides (same_type kind.ty ty) (and_parts kind.divides (same_type kind.ty kind.ty) k).0 e
+made_of_kind kind operator.Remainder ty s k e = and_from kind.divides (same_type kind.ty ty) (and_parts kind.divides (same_type kind.ty kind.ty) k).0 e
 made_of_kind kind operator.Add ty s k e = absurd cc
 made_of_kind kind operator.Subtract ty s k e = absurd cc
 made_of_kind kind operator.ShiftLeft ty s k e = absurd cc

@@ -2,9 +2,9 @@ use Rattle.operator_wires.proofs.Making.{of_ok}
 use Rattle.thread_layout.specs.Modules.{IsModule}
 use Rattle.thread_runs.specs.Runs.{RunsServedCode}
 use Rattle.thread_runs.proofs.Promising.{runs_code}
-use Rattle.thread_sound.specs.Shape.{HasShapeOfServedCode}
+use Rattle.thread_sound.specs.Routine.{IsRoutineOfServedCode}
 use Rattle.thread_sound.specs.Leaf.{IsLeafOfServedCode}
-use Rattle.thread_sound.proofs.Shaping.{shape_is}
+use Rattle.thread_sound.proofs.Standing.{routine_is}
 use Rattle.thread_sound.proofs.Forming.{checked_is}
 use Rattle.thread_sound.proofs.Leafing.{leaf_is}
 use Rattle.thread_steady.specs.Steady.{IsSteadyServedCode}
@@ -14,20 +14,21 @@ use Rattle.fsm_datapath.proofs.module.module.Goals as goal
 pub returns-clause-runs : goal.returns-clause-runs
 returns-clause-runs c =
     of_ok c.assembled.result (IsModule c.args.shape.now c.args.code.now c.args.planned.now) (RunsServedCode c.args.shape.now c.args.code.now c.args.planned.now)
-    (λ m t printer served. runs_code c.args.shape.now c.args.code.now c.args.planned.now printer m t served) c.assembled.ensures
+    (λ m t served. runs_code c.args.shape.now c.args.code.now c.args.planned.now m t served) c.assembled.ensures
 
 pub returns-clause-leaf : goal.returns-clause-leaf
 returns-clause-leaf c =
     of_ok c.assembled.result (IsModule c.args.shape.now c.args.code.now c.args.planned.now) (IsLeafOfServedCode c.args.shape.now c.args.code.now c.args.planned.now)
-    (λ m t printer served. leaf_is c.args.shape.now c.args.code.now c.args.planned.now printer m t served
-    (checked_is c.args.shape.now c.args.code.now c.args.planned.now printer m t served)) c.assembled.ensures
+    (λ m t served. leaf_is c.args.shape.now c.args.code.now c.args.planned.now m t served
+    (checked_is c.args.shape.now c.args.code.now c.args.planned.now m t served)) c.assembled.ensures
 
-pub returns-clause-shape : goal.returns-clause-shape
-returns-clause-shape c =
-    of_ok c.assembled.result (IsModule c.args.shape.now c.args.code.now c.args.planned.now) (HasShapeOfServedCode c.args.shape.now c.args.code.now c.args.planned.now)
-    (λ m t printer served. shape_is c.args.shape.now c.args.code.now c.args.planned.now printer m t served) c.assembled.ensures
+pub returns-clause-routine : goal.returns-clause-routine
+returns-clause-routine c =
+    of_ok c.assembled.result (IsModule c.args.shape.now c.args.code.now c.args.planned.now) (IsRoutineOfServedCode c.args.shape.now c.args.code.now c.args.planned.now)
+    (λ m t plain served. routine_is c.args.shape.now c.args.code.now c.args.planned.now m t served plain
+    (leaf_is c.args.shape.now c.args.code.now c.args.planned.now m t served (checked_is c.args.shape.now c.args.code.now c.args.planned.now m t served))) c.assembled.ensures
 
 pub returns-clause-steady : goal.returns-clause-steady
 returns-clause-steady c =
     of_ok c.assembled.result (IsModule c.args.shape.now c.args.code.now c.args.planned.now) (IsSteadyServedCode c.args.shape.now c.args.code.now c.args.planned.now)
-    (λ m t printer served. steady_is c.args.shape.now c.args.code.now c.args.planned.now printer m t served) c.assembled.ensures
+    (λ m t served. steady_is c.args.shape.now c.args.code.now c.args.planned.now m t served) c.assembled.ensures

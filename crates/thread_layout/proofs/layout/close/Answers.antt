@@ -1,7 +1,7 @@
 use Rattle.std.proofs.Common.{◌≡◌, List, ℕ, map, ap, subst, ◌∙◌}
 use Rattle.block_datapath.specs.declared.registers.Held.{Held}
 use Rattle.thread_states.specs.Control.{Controls}
-use Rattle.thread_requests.specs.Outputs.{LaysAllOutputs}
+use Rattle.thread_requests.specs.Outputs.{LaysOutputs}
 use Rattle.thread_states.specs.Wired.{IsSteered, WiresControl}
 use Rattle.thread_layout.specs.Memories.{control_base}
 use Rattle.thread_layout.specs.Modules.{marks_of}
@@ -22,9 +22,9 @@ returns c =
           subst (λ (z : List ℕ). Controls old mid inside.slot inside.inputs inside.chains inside.early.opens z edge) marks
           (subst (λ (z : List ℕ). Controls old mid inside.slot inside.inputs inside.chains z c.as_slice-2.result.now edge) opens c.in_ok-edge.ensures.controls);
       outputs =
-          subst (λ (z : List Held). LaysAllOutputs c.args.shape.now.printer mid new z edge.asks inside.early.requests inside.early.need inside.early.done)
+          subst (λ (z : List Held). LaysOutputs c.args.shape.now.printer.site_width mid new z edge.asks inside.early.requests inside.early.need inside.early.done)
           c.as_slice-3.ensures
-          (subst (λ (z : List ℕ). LaysAllOutputs c.args.shape.now.printer mid new c.as_slice-3.result.now z inside.early.requests inside.early.need
+          (subst (λ (z : List ℕ). LaysOutputs c.args.shape.now.printer.site_width mid new c.as_slice-3.result.now z inside.early.requests inside.early.need
           inside.early.done)
           c.as_slice-4.ensures c.in_ok-lay_outputs.ensures.lays);
       wired =

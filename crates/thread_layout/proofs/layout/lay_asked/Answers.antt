@@ -1,4 +1,4 @@
-use Rattle.std.proofs.Common.{◌≡◌, List, ℕ, map, subst, ◌∙◌}
+use Rattle.std.proofs.Common.{◌≡◌, List, ℕ, map, ap, subst, ◌∙◌}
 use Rattle.hls_ints.specs.Types.{IntegerType}
 use Rattle.block_datapath.specs.declared.registers.Held.{Held}
 use Rattle.operator_wires.proofs.Making.{of_ok}
@@ -7,16 +7,18 @@ use Rattle.thread_layout.proofs.layout.lay_asked.Goals as goal
 
 pub returns : goal.returns
 returns c =
-    let marks : c.as_slice.result.now ≡ map (λ (h : Held). h.register) c.args.granted.now = c.as_slice.ensures ∙ c.in_ok-marks.ensures in
+    let own = map (λ (h : Held). h.register) c.args.ground.now.granted in
+    let marks : c.as_slice-2.result.now ≡ map (λ (h : Held). h.register) c.args.ground.now.granted =
+    c.as_slice-2.ensures ∙ c.in_ok-marks.ensures ∙ ap (map (λ (h : Held). h.register)) c.as_slice.ensures in
     of_ok c.lay_early.result
-    (LaysEarlyWired c.as_slice-globals.result.now c.args.code.now c.args.slot.now c.as_slice.result.now c.args.shape.now.printer c.args.planned.now c.args.wires.now.signals
+    (LaysEarlyWired c.as_slice-globals.result.now c.args.code.now c.args.ground.now.slot c.as_slice-2.result.now c.args.shape.now.printer c.args.planned.now c.args.wires.now.signals
     c.lay_early.new.wires.signals)
-    (LaysEarlyWired c.args.shape.now.globals c.args.code.now c.args.slot.now (map (λ (h : Held). h.register) c.args.granted.now) c.args.shape.now.printer c.args.planned.now
+    (LaysEarlyWired c.args.shape.now.globals c.args.code.now c.args.ground.now.slot own c.args.shape.now.printer c.args.planned.now
     c.args.wires.now.signals c.lay_early.new.wires.signals)
     (λ early t.
     subst
-    (λ (z : List ℕ). LaysEarlyWired c.args.shape.now.globals c.args.code.now c.args.slot.now z c.args.shape.now.printer c.args.planned.now c.args.wires.now.signals
+    (λ (z : List ℕ). LaysEarlyWired c.args.shape.now.globals c.args.code.now c.args.ground.now.slot z c.args.shape.now.printer c.args.planned.now c.args.wires.now.signals
     c.lay_early.new.wires.signals early) marks
     (subst
-    (λ (z : List IntegerType). LaysEarlyWired z c.args.code.now c.args.slot.now c.as_slice.result.now c.args.shape.now.printer c.args.planned.now c.args.wires.now.signals
+    (λ (z : List IntegerType). LaysEarlyWired z c.args.code.now c.args.ground.now.slot c.as_slice-2.result.now c.args.shape.now.printer c.args.planned.now c.args.wires.now.signals
     c.lay_early.new.wires.signals early) c.as_slice-globals.ensures t)) c.lay_early.ensures

@@ -1,43 +1,37 @@
-use Rattle.std.proofs.Common.{length}
+use Rattle.std.proofs.Common.{List, length, subst}
+use Rattle.thread_slots.specs.declared.stores.Store.{Store}
 use Rattle.thread_states.specs.Cells.{StoresFirst}
 use Rattle.thread_states.specs.Stores.{StagesKeepStores}
 use Rattle.thread_states.proofs.Blocks.{stages_later}
 use Rattle.thread_states.proofs.Storing.{walk_ended}
-use Rattle.operator_wires.proofs.Making.{of_ok}
-use Rattle.thread_states.specs.Stages.{EndsAt, WalksAll}
 use Rattle.thread_states.proofs.Stepping.{walked}
 use Rattle.thread_layout.proofs.layout.walk.Goals as goal
 
-pub returns-clause-walks : goal.returns-clause-walks
-returns-clause-walks c =
-    of_ok c.take_end.result
-    (EndsAt c.args.code.now c.args.registers.now c.take_stages.new.wires.signals c.take_end.new.wires.signals c.take_stages.new.chains c.take_end.new.chains)
-    (WalksAll c.args.globals.now c.args.code.now c.args.registers.now c.args.printer c.args.planned.now c.args.wires.now.signals c.take_end.new.wires.signals c.args.chains.now
-    c.take_end.new.chains)
-    (λ done t.
-    walked c.args.globals.now c.args.code.now c.args.registers.now c.args.printer c.args.planned.now c.args.wires.now.signals c.args.chains.now c.take_stages.new.wires.signals
-    c.take_end.new.wires.signals c.take_stages.new.chains c.take_end.new.chains done c.in_ok-take_stages.ensures.walks t)
-    c.take_end.ensures
-
-pub returns-clause-stores : goal.returns-clause-stores
-returns-clause-stores c =
-    of_ok c.take_end.result
-    (EndsAt c.args.code.now c.args.registers.now c.take_stages.new.wires.signals c.take_end.new.wires.signals c.take_stages.new.chains c.take_end.new.chains)
-    (λ done. StagesKeepStores c.args.code.now c.args.registers.now c.args.printer c.args.planned.now
-    (length c.args.code.now.stages) c.args.wires.now.signals c.take_end.new.wires.signals
-    c.args.chains.now c.args.stores.now c.take_stages.new.stores)
-    (λ done t.
-    walk_ended c.args.code.now c.args.registers.now c.args.printer c.args.planned.now (length c.args.code.now.stages) c.args.wires.now.signals c.take_stages.new.wires.signals
-    c.take_end.new.wires.signals c.args.chains.now c.args.stores.now c.take_stages.new.stores t.idles.step.grows c.in_ok-take_stages.ensures.stores)
-    c.take_end.ensures
-
-pub returns-clause-puts : goal.returns-clause-puts
-returns-clause-puts c =
-    of_ok c.take_end.result
-    (EndsAt c.args.code.now c.args.registers.now c.take_stages.new.wires.signals c.take_end.new.wires.signals c.take_stages.new.chains c.take_end.new.chains)
-    (λ done. StoresFirst c.args.globals.now c.args.code.now c.args.registers.now c.args.planned.now c.args.wires.now.signals c.take_end.new.wires.signals c.args.stores.now
-    c.take_stages.new.stores (length c.args.code.now.stages))
-    (λ done t.
-    stages_later c.args.globals.now c.args.code.now c.args.registers.now c.args.planned.now c.args.wires.now.signals c.take_stages.new.wires.signals c.take_end.new.wires.signals
-    c.args.stores.now c.take_stages.new.stores (length c.args.code.now.stages) c.in_ok-take_stages.ensures.puts t.idles.step.grows)
-    c.take_end.ensures
+pub returns : goal.returns
+returns c =
+    let globals = c.args.globals.now in
+    let code = c.args.code.now in
+    let registers = c.args.registers.now in
+    let plan = c.args.planned.now in
+    let s1 = c.begin.new.wires.signals in
+    let s2 = c.take_stages.new.wires.signals in
+    let s3 = c.take_end.new.wires.signals in
+    let start = c.in_ok-chains.chains in
+    let stages = c.in_ok-take_stages.ensures in
+    let done = c.in_ok-take_end.field-0 in
+    let last = c.in_ok-take_end.ensures in
+    let stores = c.take_stages.new.stores in
+    record {
+      with_start = s1;
+      start = start;
+      past = done;
+      begins = c.in_ok-chains.ensures.begins;
+      begins_wired = c.in_ok-chains.ensures.wired;
+      walks = walked globals code registers plan s1 start s2 s3 c.take_stages.new.chains c.take_end.new.chains done stages.walks last;
+      stores =
+          subst (λ (l : List Store). StoresFirst globals code registers plan s1 s3 l stores (length code.stages)) c.new-stores.ensures
+          (stages_later globals code registers plan s1 s2 s3 c.new-stores.result stores (length code.stages) stages.puts last.idles.step.grows);
+      keeps =
+          subst (λ (l : List Store). StagesKeepStores code registers plan (length code.stages) s1 s3 start l stores) c.new-stores.ensures
+          (walk_ended code registers plan (length code.stages) s1 s2 s3 start c.new-stores.result stores last.idles.step.grows stages.stores);
+    }

@@ -32,4 +32,4 @@ pub returns-in_default : goal.returns-in_default
 returns-in_default c = λ globals spreads next plan.
     nothing_stage globals spreads c.args.code.now c.args.registers.now c.args.printer c.args.number
     (stage.Act c.args.act.now next) plan c.args.wires.now.signals c.args.requests.now c.args.requests.now refl
-    (λ known site to values e p. absurd (c.in_default.not-Print site values cc)) (λ b p e. absurd cc)
+    (λ site to values e. absurd (c.in_default.not-Print site values cc)) (λ b p e. absurd cc)

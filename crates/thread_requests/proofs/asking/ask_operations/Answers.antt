@@ -1,4 +1,4 @@
-use Rattle.std.proofs.Common.{Option, Some, refl}
+use Rattle.std.proofs.Common.{Some, refl}
 use Rattle.block_ir.specs.declared.code.Stage.TheVariants as stage
 use Rattle.block_ir.specs.declared.plan.StagePlan.TheVariants as planned
 use Rattle.block_datapath.specs.Accesses.{AsksBlock, IsAskingBlock}
@@ -19,7 +19,7 @@ returns c =
     (IsAskingBlock c.args.globals.now c.args.spreads.now c.args.code.now c.args.registers.now c.args.number c.args.block.now c.args.plan.now c.args.wires.now.signals
     c.ask_block.new.wires.signals
     c.args.requests.now.banks c.ask_block.new.chains)
-    ((printer : Option Printer) → AsksStage c.args.globals.now c.args.spreads.now c.args.code.now c.args.registers.now printer c.args.number (stage.Run c.args.block.now)
+    ((printer : Printer) → AsksStage c.args.globals.now c.args.spreads.now c.args.code.now c.args.registers.now printer c.args.number (stage.Run c.args.block.now)
     (Some (planned.Run c.args.plan.now)) c.args.wires.now.signals c.ask_block.new.wires.signals c.args.requests.now after)
     (λ t u printer.
     block_stage c.args.globals.now c.args.spreads.now c.args.code.now c.args.registers.now printer c.args.number c.args.block.now c.args.plan.now c.args.wires.now.signals

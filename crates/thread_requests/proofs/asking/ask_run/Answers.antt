@@ -1,4 +1,4 @@
-use Rattle.std.proofs.Common.{Option, Some, refl, sym, subst}
+use Rattle.std.proofs.Common.{Some, refl, sym, subst}
 use Rattle.std.specs.Prelude.{OnOk}
 use Rattle.block_ir.specs.declared.code.Stage.TheVariants as stage
 use Rattle.block_ir.specs.declared.plan.StagePlan.{StagePlan}
@@ -10,7 +10,7 @@ use Rattle.thread_requests.proofs.asking.ask_run.Goals as goal
 pub returns-in-Run : goal.returns-in-Run
 returns-in-Run c =
     subst (λ (p : StagePlan). OnOk c.ask_operations.result
-    ((printer : Option Printer) → AsksStage c.args.globals.now c.args.spreads.now c.args.code.now c.args.registers.now printer
+    ((printer : Printer) → AsksStage c.args.globals.now c.args.spreads.now c.args.code.now c.args.registers.now printer
     c.args.number (stage.Run c.args.block.now) (Some p) c.args.wires.now.signals c.ask_operations.new.wires.signals c.args.requests.now c.ask_operations.new.requests))
     (sym c.in-Run.is)
     c.ask_operations.ensures
@@ -19,4 +19,4 @@ pub returns-in-Act : goal.returns-in-Act
 returns-in-Act c = λ printer.
     nothing_stage c.args.globals.now c.args.spreads.now c.args.code.now c.args.registers.now printer c.args.number (stage.Run c.args.block.now)
     (Some c.args.plan.now) c.args.wires.now.signals
-    c.args.requests.now c.args.requests.now refl (λ known site next values e p. absurd cc) (λ b p e f. absurd (let act = c.in-Act.is in cc))
+    c.args.requests.now c.args.requests.now refl (λ site next values e. absurd cc) (λ b p e f. absurd (let act = c.in-Act.is in cc))

@@ -15,7 +15,7 @@ pub returns-in-Some : goal.returns-in-Some
 returns-in-Some c =
     let planned : Some c.in-Some.plan.now ≡ slice_get c.args.planned.now.stages c.args.number = (let some = c.in-Some.ensures.value in cc) in
     on_ok c.ask_run.result
-    ((printer : Option Printer) → AsksStage c.args.globals.now c.args.spreads.now c.args.code.now c.args.registers.now printer c.args.number (stage.Run c.in-Run.block)
+    ((printer : Printer) → AsksStage c.args.globals.now c.args.spreads.now c.args.code.now c.args.registers.now printer c.args.number (stage.Run c.in-Run.block)
     (Some c.in-Some.plan.now)
     c.args.wires.now.signals c.ask_run.new.wires.signals c.args.requests.now c.ask_run.new.requests)
     (AsksStage c.args.globals.now c.args.spreads.now c.args.code.now c.args.registers.now c.args.printer c.args.number c.args.stage.now
@@ -35,7 +35,7 @@ returns-in-None c =
     (slice_get c.args.planned.now.stages c.args.number)
     c.args.wires.now.signals c.args.wires.now.signals c.args.requests.now c.args.requests.now) (sym c.in-Run.is)
     (nothing_stage c.args.globals.now c.args.spreads.now c.args.code.now c.args.registers.now c.args.printer c.args.number (stage.Run c.in-Run.block)
-    (slice_get c.args.planned.now.stages c.args.number) c.args.wires.now.signals c.args.requests.now c.args.requests.now refl (λ known site next values e p. absurd cc)
+    (slice_get c.args.planned.now.stages c.args.number) c.args.wires.now.signals c.args.requests.now c.args.requests.now refl (λ site next values e. absurd cc)
     (λ b p e f. absurd (let none = c.in-None.ensures.value in cc)))
 
 pub returns-in-Act : goal.returns-in-Act

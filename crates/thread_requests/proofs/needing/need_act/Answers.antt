@@ -8,7 +8,7 @@ use Rattle.thread_requests.proofs.needing.need_act.Goals as goal
 
 pub returns-then-goes_on : goal.returns-then-goes_on
 returns-then-goes_on c = λ next plan.
-    needs_going c.args.registers.now c.args.prints c.args.number c.args.act.now next plan c.args.wires.now.signals c.args.need (sym c.goes_on.ensures ∙ c.if-goes_on.true)
+    needs_going c.args.registers.now c.args.number c.args.act.now next plan c.args.wires.now.signals c.args.need (sym c.goes_on.ensures ∙ c.if-goes_on.true)
 
 pub returns-else-goes_on : goal.returns-else-goes_on
 returns-else-goes_on c =
@@ -16,7 +16,7 @@ returns-else-goes_on c =
     (NeedsMore c.args.registers.now (IsNumbered c.args.registers.now c.args.number) (IsThere c.args.registers.now c.args.number) c.args.wires.now.signals
     c.need_at.new.wires.signals c.args.need)
     (λ after. (next : ℕ) (plan : Option StagePlan) → NeedsMore c.args.registers.now (FitsStage c.args.registers.now c.args.number plan)
-    (IsNeedOf c.args.registers.now c.args.prints c.args.number (Some (stage.Act c.args.act.now next)) plan) c.args.wires.now.signals c.need_at.new.wires.signals c.args.need after)
+    (IsNeedOf c.args.registers.now c.args.number (Some (stage.Act c.args.act.now next)) plan) c.args.wires.now.signals c.need_at.new.wires.signals c.args.need after)
     (λ out t next plan.
-    needs_idle c.args.registers.now c.args.prints c.args.number (stage.Act c.args.act.now next) plan c.args.wires.now.signals c.need_at.new.wires.signals c.args.need out
+    needs_idle c.args.registers.now c.args.number (stage.Act c.args.act.now next) plan c.args.wires.now.signals c.need_at.new.wires.signals c.args.need out
     (ap not (sym c.goes_on.ensures ∙ c.if-goes_on.false)) t) c.need_at.ensures

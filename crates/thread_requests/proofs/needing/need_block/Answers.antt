@@ -14,7 +14,7 @@ returns c =
     (NeedsMore c.args.registers.now (HasStates c.args.registers.now c.in_ok-at.at c.args.plan.now.states)
     (AreTaken c.args.registers.now c.in_ok-at.at c.args.block.now c.args.plan.now (length c.args.block.now.operations)) b e c.args.need)
     (NeedsMore c.args.registers.now (FitsStage c.args.registers.now c.args.number (Some (planned.Run c.args.plan.now)))
-    (IsNeedOf c.args.registers.now c.args.prints c.args.number (Some (stage.Run c.args.block.now)) (Some (planned.Run c.args.plan.now))) c.args.wires.now.signals e c.args.need)
+    (IsNeedOf c.args.registers.now c.args.number (Some (stage.Run c.args.block.now)) (Some (planned.Run c.args.plan.now))) c.args.wires.now.signals e c.args.need)
     (λ out t.
-    needs_block c.args.registers.now c.in_ok-at.at c.args.block.now c.args.plan.now c.args.prints c.args.number c.args.wires.now.signals b e c.args.need out
+    needs_block c.args.registers.now c.in_ok-at.at c.args.block.now c.args.plan.now c.args.number c.args.wires.now.signals b e c.args.need out
     c.in_ok-at.ensures.shows c.in_ok-at.ensures.wired t) c.need_reads.ensures

@@ -11,20 +11,20 @@ use Rattle.thread_requests.proofs.needing.need_run.Goals as goal
 pub returns-in-Run : goal.returns-in-Run
 returns-in-Run c =
     subst (λ (p : StagePlan). IfOk c.need_block.result (NeedsMore c.args.registers.now (FitsStage c.args.registers.now c.args.number (Some p))
-    (IsNeedOf c.args.registers.now c.args.prints c.args.number (Some (stage.Run c.args.block.now)) (Some p)) c.args.wires.now.signals c.need_block.new.wires.signals c.args.need))
+    (IsNeedOf c.args.registers.now c.args.number (Some (stage.Run c.args.block.now)) (Some p)) c.args.wires.now.signals c.need_block.new.wires.signals c.args.need))
     (sym c.in-Run.is) c.need_block.ensures
 
 pub returns-in-Act : goal.returns-in-Act
 returns-in-Act c =
     subst (λ (p : StagePlan). IfOk c.need_at.result (NeedsMore c.args.registers.now (FitsStage c.args.registers.now c.args.number (Some p))
-    (IsNeedOf c.args.registers.now c.args.prints c.args.number (Some (stage.Run c.args.block.now)) (Some p)) c.args.wires.now.signals c.need_at.new.wires.signals c.args.need))
+    (IsNeedOf c.args.registers.now c.args.number (Some (stage.Run c.args.block.now)) (Some p)) c.args.wires.now.signals c.need_at.new.wires.signals c.args.need))
     (sym c.in-Act.is)
     (of_ok c.need_at.result
     (NeedsMore c.args.registers.now (IsNumbered c.args.registers.now c.args.number) (IsThere c.args.registers.now c.args.number) c.args.wires.now.signals
     c.need_at.new.wires.signals c.args.need)
     (NeedsMore c.args.registers.now (FitsStage c.args.registers.now c.args.number (Some planned.Act))
-    (IsNeedOf c.args.registers.now c.args.prints c.args.number (Some (stage.Run c.args.block.now)) (Some planned.Act)) c.args.wires.now.signals c.need_at.new.wires.signals
+    (IsNeedOf c.args.registers.now c.args.number (Some (stage.Run c.args.block.now)) (Some planned.Act)) c.args.wires.now.signals c.need_at.new.wires.signals
     c.args.need)
     (λ out t.
-    needs_idle c.args.registers.now c.args.prints c.args.number (stage.Run c.args.block.now) (Some planned.Act) c.args.wires.now.signals c.need_at.new.wires.signals c.args.need out
+    needs_idle c.args.registers.now c.args.number (stage.Run c.args.block.now) (Some planned.Act) c.args.wires.now.signals c.need_at.new.wires.signals c.args.need out
     refl t) c.need_at.ensures)

@@ -13,17 +13,17 @@ returns-in-Some c =
     let planned : Some c.in-Some.plan.now ≡ slice_get c.args.planned.now.stages c.args.number = (let some = c.in-Some.ensures.value in cc) in
     of_ok c.need_run.result
     (NeedsMore c.args.registers.now (FitsStage c.args.registers.now c.args.number (Some c.in-Some.plan.now))
-    (IsNeedOf c.args.registers.now c.args.prints c.args.number (Some (stage.Run c.in-Run.block)) (Some c.in-Some.plan.now)) c.args.wires.now.signals
+    (IsNeedOf c.args.registers.now c.args.number (Some (stage.Run c.in-Run.block)) (Some c.in-Some.plan.now)) c.args.wires.now.signals
     c.need_run.new.wires.signals c.args.need)
     (NeedsMore c.args.registers.now (FitsStage c.args.registers.now c.args.number (slice_get c.args.planned.now.stages c.args.number))
-    (IsNeedOf c.args.registers.now c.args.prints c.args.number (Some c.args.stage.now) (slice_get c.args.planned.now.stages c.args.number)) c.args.wires.now.signals
+    (IsNeedOf c.args.registers.now c.args.number (Some c.args.stage.now) (slice_get c.args.planned.now.stages c.args.number)) c.args.wires.now.signals
     c.need_run.new.wires.signals c.args.need)
     (λ out t.
     subst (λ (s : Stage). NeedsMore c.args.registers.now (FitsStage c.args.registers.now c.args.number (slice_get c.args.planned.now.stages c.args.number))
-    (IsNeedOf c.args.registers.now c.args.prints c.args.number (Some s) (slice_get c.args.planned.now.stages c.args.number)) c.args.wires.now.signals
+    (IsNeedOf c.args.registers.now c.args.number (Some s) (slice_get c.args.planned.now.stages c.args.number)) c.args.wires.now.signals
     c.need_run.new.wires.signals c.args.need out) (sym c.in-Run.is)
     (subst (λ (p : Option StagePlan). NeedsMore c.args.registers.now (FitsStage c.args.registers.now c.args.number p)
-    (IsNeedOf c.args.registers.now c.args.prints c.args.number (Some (stage.Run c.in-Run.block)) p) c.args.wires.now.signals c.need_run.new.wires.signals c.args.need out) planned
+    (IsNeedOf c.args.registers.now c.args.number (Some (stage.Run c.in-Run.block)) p) c.args.wires.now.signals c.need_run.new.wires.signals c.args.need out) planned
     t))
     c.need_run.ensures
 
@@ -34,27 +34,27 @@ returns-in-None c =
     (NeedsMore c.args.registers.now (IsNumbered c.args.registers.now c.args.number) (IsThere c.args.registers.now c.args.number) c.args.wires.now.signals
     c.need_at.new.wires.signals c.args.need)
     (NeedsMore c.args.registers.now (FitsStage c.args.registers.now c.args.number (slice_get c.args.planned.now.stages c.args.number))
-    (IsNeedOf c.args.registers.now c.args.prints c.args.number (Some c.args.stage.now) (slice_get c.args.planned.now.stages c.args.number)) c.args.wires.now.signals
+    (IsNeedOf c.args.registers.now c.args.number (Some c.args.stage.now) (slice_get c.args.planned.now.stages c.args.number)) c.args.wires.now.signals
     c.need_at.new.wires.signals c.args.need)
     (λ out t.
     subst (λ (s : Stage). NeedsMore c.args.registers.now (FitsStage c.args.registers.now c.args.number (slice_get c.args.planned.now.stages c.args.number))
-    (IsNeedOf c.args.registers.now c.args.prints c.args.number (Some s) (slice_get c.args.planned.now.stages c.args.number)) c.args.wires.now.signals
+    (IsNeedOf c.args.registers.now c.args.number (Some s) (slice_get c.args.planned.now.stages c.args.number)) c.args.wires.now.signals
     c.need_at.new.wires.signals c.args.need out) (sym c.in-Run.is)
     (subst (λ (p : Option StagePlan). NeedsMore c.args.registers.now (FitsStage c.args.registers.now c.args.number p)
-    (IsNeedOf c.args.registers.now c.args.prints c.args.number (Some (stage.Run c.in-Run.block)) p) c.args.wires.now.signals c.need_at.new.wires.signals c.args.need out) planned
-    (needs_idle c.args.registers.now c.args.prints c.args.number (stage.Run c.in-Run.block) None c.args.wires.now.signals c.need_at.new.wires.signals c.args.need out refl t)))
+    (IsNeedOf c.args.registers.now c.args.number (Some (stage.Run c.in-Run.block)) p) c.args.wires.now.signals c.need_at.new.wires.signals c.args.need out) planned
+    (needs_idle c.args.registers.now c.args.number (stage.Run c.in-Run.block) None c.args.wires.now.signals c.need_at.new.wires.signals c.args.need out refl t)))
     c.need_at.ensures
 
 pub returns-in-Act : goal.returns-in-Act
 returns-in-Act c =
     of_ok c.need_act.result
     (λ after. (next : ℕ) (plan : Option StagePlan) → NeedsMore c.args.registers.now (FitsStage c.args.registers.now c.args.number plan)
-    (IsNeedOf c.args.registers.now c.args.prints c.args.number (Some (stage.Act c.in-Act.act next)) plan) c.args.wires.now.signals c.need_act.new.wires.signals c.args.need after)
+    (IsNeedOf c.args.registers.now c.args.number (Some (stage.Act c.in-Act.act next)) plan) c.args.wires.now.signals c.need_act.new.wires.signals c.args.need after)
     (NeedsMore c.args.registers.now (FitsStage c.args.registers.now c.args.number (slice_get c.args.planned.now.stages c.args.number))
-    (IsNeedOf c.args.registers.now c.args.prints c.args.number (Some c.args.stage.now) (slice_get c.args.planned.now.stages c.args.number)) c.args.wires.now.signals
+    (IsNeedOf c.args.registers.now c.args.number (Some c.args.stage.now) (slice_get c.args.planned.now.stages c.args.number)) c.args.wires.now.signals
     c.need_act.new.wires.signals c.args.need)
     (λ out t.
     subst (λ (s : Stage). NeedsMore c.args.registers.now (FitsStage c.args.registers.now c.args.number (slice_get c.args.planned.now.stages c.args.number))
-    (IsNeedOf c.args.registers.now c.args.prints c.args.number (Some s) (slice_get c.args.planned.now.stages c.args.number)) c.args.wires.now.signals
+    (IsNeedOf c.args.registers.now c.args.number (Some s) (slice_get c.args.planned.now.stages c.args.number)) c.args.wires.now.signals
     c.need_act.new.wires.signals c.args.need out) (sym c.in-Act.is) (t c.in-Act.next (slice_get c.args.planned.now.stages c.args.number)))
     c.need_act.ensures

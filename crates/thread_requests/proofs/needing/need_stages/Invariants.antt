@@ -3,4 +3,4 @@ use Rattle.thread_requests.proofs.needing.need_stages.Given as goal
 
 abbrev pub invariant-loop-number : goal.invariant-loop-number
 invariant-loop-number l =
-    NeedsMore l.registers (FitStages l.registers l.code l.planned) (IsNeedOfFirst l.registers l.prints l.code l.planned l.number) l.fn.wires.signals l.wires.signals l.first l.need
+    NeedsMore l.registers (FitStages l.registers l.code l.planned) (IsNeedOfFirst l.registers l.code l.planned l.number) l.fn.wires.signals l.wires.signals l.first l.need

@@ -16,12 +16,12 @@ use Rattle.thread_states.proofs.stages.take_stage.Goals as goal
 pub returns-in-None-clause-takes : goal.returns-in-None-clause-takes
 returns-in-None-clause-takes c =
     on_ok c.idle.result (Idles c.args.registers.now c.args.number c.args.wires.now.signals c.idle.new.wires.signals c.args.chains.now c.idle.new.chains)
-    (TakesStage c.args.globals.now c.args.code.now c.args.registers.now c.args.printer c.args.number c.args.stage.now (slice_get c.args.planned.now.stages c.args.number)
+    (TakesStage c.args.globals.now c.args.code.now c.args.registers.now c.args.number c.args.stage.now (slice_get c.args.planned.now.stages c.args.number)
     c.args.wires.now.signals c.idle.new.wires.signals c.args.chains.now c.idle.new.chains)
     (λ t.
-    subst (λ (s : Stage). TakesStage c.args.globals.now c.args.code.now c.args.registers.now c.args.printer c.args.number s (slice_get c.args.planned.now.stages c.args.number)
+    subst (λ (s : Stage). TakesStage c.args.globals.now c.args.code.now c.args.registers.now c.args.number s (slice_get c.args.planned.now.stages c.args.number)
     c.args.wires.now.signals c.idle.new.wires.signals c.args.chains.now c.idle.new.chains) (sym c.in-Run.is)
-    (idle_taken c.args.globals.now c.args.code.now c.args.registers.now c.args.printer c.args.number c.args.wires.now.signals c.idle.new.wires.signals c.args.chains.now
+    (idle_taken c.args.globals.now c.args.code.now c.args.registers.now c.args.number c.args.wires.now.signals c.idle.new.wires.signals c.args.chains.now
     c.idle.new.chains
     c.in-Run.block (slice_get c.args.planned.now.stages c.args.number) (λ p e. absurd (let none = c.in-None.ensures.value in cc)) t))
     c.idle.ensures
@@ -41,7 +41,7 @@ returns-in-None-clause-stores c =
 pub returns-in-Act-clause-stores : goal.returns-in-Act-clause-stores
 returns-in-Act-clause-stores c =
     on_ok c.take_act.result
-    ((globals : List IntegerType) → TakesAct globals c.args.code.now c.args.registers.now c.args.printer c.args.number
+    ((globals : List IntegerType) → TakesAct globals c.args.code.now c.args.registers.now c.args.number
     (taken.Act c.in-Act.act c.in-Act.next) c.args.wires.now.signals
     c.take_act.new.wires.signals c.args.chains.now c.take_act.new.chains)
     (StageKeepsStores c.args.code.now c.args.registers.now c.args.number (slice_get c.args.planned.now.stages c.args.number) c.args.wires.now.signals c.take_act.new.wires.signals
@@ -67,7 +67,7 @@ returns-in-None-clause-puts c =
 pub returns-in-Act-clause-puts : goal.returns-in-Act-clause-puts
 returns-in-Act-clause-puts c =
     on_ok c.take_act.result
-    ((globals : List IntegerType) → TakesAct globals c.args.code.now c.args.registers.now c.args.printer c.args.number
+    ((globals : List IntegerType) → TakesAct globals c.args.code.now c.args.registers.now c.args.number
     (taken.Act c.in-Act.act c.in-Act.next) c.args.wires.now.signals
     c.take_act.new.wires.signals c.args.chains.now c.take_act.new.chains)
     (StoresStage c.args.globals.now c.args.code.now c.args.registers.now c.args.number c.args.stage.now (slice_get c.args.planned.now.stages c.args.number) c.args.wires.now.signals

@@ -1,0 +1,179 @@
+-- Rows of cores, one core's behind another's, and the widths that they have.
+use Rattle.std.proofs.Common.{◌≡◌, ℕ, zero, suc, ◌+◌, ◌-◌, ◌<◌, ◌≤◌, List, [], ◌∷◌, ◌++◌, length, map, take, slice_get, Some, refl, sym, ap, ◌∙◌, arith, ⊎_elim}
+use Rattle.std.proofs.Common.{length-append}
+use Rattle.std.specs.Prelude.{replicate}
+use Rattle.std.proofs.lemmas.Bool.{cases_lt}
+use Rattle.std.proofs.lemmas.List.{length-map, map-append}
+use Rattle.core_ports.specs.Ports.{CorePort, asks_of, ask_place}
+use Rattle.block_datapath.specs.declared.registers.Held.{Held}
+use Rattle.block_datapath.specs.declared.requests.BankRequests.{BankRequests}
+use Rattle.thread_slots.specs.declared.shape.Printer.{Printer}
+use Rattle.thread_slots.specs.Wired.{field_width}
+use Rattle.thread_slots.proofs.Linked.{later_field}
+use Rattle.thread_requests.specs.declared.outputs.Row.{Row}
+use Rattle.thread_requests.specs.Early.{held_width}
+use Rattle.thread_requests.specs.Outputs.{joined, request_row, field_row, rows_at, rows_from, fields_from}
+use Rattle.thread_layout.specs.Thread.{bank_port, printer_port}
+
+-- ---- lists
+
+pub in_front : {X : Type 0} (xs ys : List X) (j : ℕ) (x : X) → slice_get xs j ≡ Some x → slice_get (xs ++ ys) j ≡ Some x
+in_front [] ys j x e = absurd cc
+in_front (y ∷ xs) ys zero x e = e
+in_front (y ∷ xs) ys (suc j) x e = in_front xs ys j x e
+
+pub further : {X : Type 0} (xs ys : List X) (j : ℕ) → slice_get (xs ++ ys) (length xs + j) ≡ slice_get ys j
+further [] ys j = ap (slice_get ys) (let z : 0 + j ≡ j = omega arith in z)
+further (x ∷ xs) ys j = ap (slice_get (x ∷ (xs ++ ys))) (let z : suc (length xs) + j ≡ suc (length xs + j) = omega arith in z) ∙ further xs ys j
+
+some_there : {X : Type 0} (xs : List X) (i : ℕ) → i < length xs → (x : X) × (slice_get xs i ≡ Some x)
+some_there [] i h = absurd (omega arith)
+some_there (x ∷ xs) zero h = (x, refl)
+some_there (x ∷ xs) (suc i) h = some_there xs i (omega arith)
+
+-- ---- rows
+
+-- row j of core k
+pub joined_there : (rows : List (List Row)) (k j : ℕ) (own : List Row) (row : Row) → slice_get rows k ≡ Some own → slice_get own j ≡ Some row
+    → slice_get (joined rows) (length (joined (take k rows)) + j) ≡ Some row
+joined_there [] k j own row e f = absurd cc
+joined_there (o ∷ rows) zero j own row e f =
+    let same : own ≡ o = cc in
+    let there : slice_get o j ≡ Some row = ap (λ z. slice_get z j) (sym same) ∙ f in
+    ap (slice_get (o ++ joined rows)) (let z : 0 + j ≡ j = omega arith in z) ∙ in_front o (joined rows) j row there
+joined_there (o ∷ rows) (suc k) j own row e f =
+    let long = length-append o (joined (take k rows)) in
+    let at : length (o ++ joined (take k rows)) + j ≡ length o + (length (joined (take k rows)) + j) = omega arith in
+    ap (slice_get (o ++ joined rows)) at ∙ further o (joined rows) (length (joined (take k rows)) + j) ∙ joined_there rows k j own row e f
+
+-- each row is one of some core
+pub record IsRowAt (rows : List (List Row)) (x : ℕ) : Type 0 where
+  pub core : ℕ
+  pub part : ℕ
+  pub own : List Row
+  pub row : Row
+  pub listed : slice_get rows core ≡ Some own
+  pub there : slice_get own part ≡ Some row
+  pub place : x ≡ length (joined (take core rows)) + part
+
+found_here : (o : List Row) (rows : List (List Row)) (x : ℕ) → x < length o → IsRowAt (o ∷ rows) x
+found_here o rows x h =
+    let found = some_there o x h in
+    record { core = 0; part = x; own = o; row = found.0; listed = refl; there = found.1; place = (let z : x ≡ 0 + x = omega arith in z) }
+
+found_later : (o : List Row) (rows : List (List Row)) (x : ℕ) → length o ≤ x → IsRowAt rows (x - length o) → IsRowAt (o ∷ rows) x
+found_later o rows x h rest =
+    let before : length (joined (take (suc rest.core) (o ∷ rows))) ≡ length o + length (joined (take rest.core rows)) = length-append o (joined (take rest.core rows)) in
+    let place = rest.place in
+    record {
+      core = suc rest.core;
+      part = rest.part;
+      own = rest.own;
+      row = rest.row;
+      listed = rest.listed;
+      there = rest.there;
+      place = (let z : x ≡ length (joined (take (suc rest.core) (o ∷ rows))) + rest.part = omega arith in z);
+    }
+
+pub row_found : (rows : List (List Row)) (x : ℕ) → x < length (joined rows) → IsRowAt rows x
+row_found [] x less = absurd (omega arith)
+row_found (o ∷ rows) x less =
+    let long : length (joined (o ∷ rows)) ≡ length o + length (joined rows) = length-append o (joined rows) in
+    ⊎_elim (found_here o rows x) (λ (h : length o ≤ x). found_later o rows x h (row_found rows (x - length o) (omega arith))) (cases_lt x (length o))
+
+-- ---- widths
+
+abbrev pub row_width : Row → ℕ
+row_width row = row.width
+
+abbrev pub own_asks : CorePort → List ℕ
+own_asks p = p.asks
+
+-- the rows of each core have the widths of its port
+abbrev pub HaveWidths : List (List Row) → List CorePort → Type 0
+HaveWidths rows ports = map (map row_width) rows ≡ map own_asks ports
+
+pub place_of_rows : (rows : List (List Row)) (ports : List CorePort) → HaveWidths rows ports → (k : ℕ) → ask_place ports k ≡ length (joined (take k rows))
+place_of_rows [] [] e zero = refl
+place_of_rows [] [] e (suc k) = refl
+place_of_rows [] (p ∷ ports) e k = absurd cc
+place_of_rows (o ∷ rows) [] e k = absurd cc
+place_of_rows (o ∷ rows) (p ∷ ports) e zero = refl
+place_of_rows (o ∷ rows) (p ∷ ports) e (suc k) =
+    let head : map row_width o ≡ own_asks p = cc in
+    let tail : map (map row_width) rows ≡ map own_asks ports = cc in
+    let one : length p.asks ≡ length o = ap length (sym head) ∙ length-map o row_width in
+    let rest = place_of_rows rows ports tail k in
+    let left : ask_place (p ∷ ports) (suc k) ≡ length p.asks + ask_place ports k = length-append p.asks (asks_of (take k ports)) in
+    let right : length (joined (take (suc k) (o ∷ rows))) ≡ length o + length (joined (take k rows)) = length-append o (joined (take k rows)) in
+    omega arith
+
+pub all_widths : (rows : List (List Row)) (ports : List CorePort) → HaveWidths rows ports → asks_of ports ≡ map row_width (joined rows)
+all_widths [] [] e = refl
+all_widths [] (p ∷ ports) e = absurd cc
+all_widths (o ∷ rows) [] e = absurd cc
+all_widths (o ∷ rows) (p ∷ ports) e =
+    let head : map row_width o ≡ own_asks p = cc in
+    let tail : map (map row_width) rows ≡ map own_asks ports = cc in
+    ap (λ l. l ++ asks_of ports) (sym head) ∙ ap (λ l. map row_width o ++ l) (all_widths rows ports tail) ∙ sym (map-append row_width o (joined rows))
+
+pub all_count : (rows : List (List Row)) (ports : List CorePort) → HaveWidths rows ports → length (asks_of ports) ≡ length (joined rows)
+all_count rows ports e = ap length (all_widths rows ports e) ∙ length-map (joined rows) row_width
+
+-- row j of core k has width j of its port
+pub row_there : (rows : List (List Row)) (ports : List CorePort) → HaveWidths rows ports → (k j : ℕ) (p : CorePort) → slice_get ports k ≡ Some p → j < length p.asks
+    → (own : List Row) × (row : Row) × (slice_get rows k ≡ Some own) × (slice_get own j ≡ Some row)
+row_there [] [] e k j p listed less = absurd cc
+row_there [] (q ∷ ports) e k j p listed less = absurd cc
+row_there (o ∷ rows) [] e k j p listed less = absurd cc
+row_there (o ∷ rows) (q ∷ ports) e zero j p listed less =
+    let same : q ≡ p = cc in
+    let head : map row_width o ≡ own_asks q = cc in
+    let one : length p.asks ≡ length o = ap (λ (z : CorePort). length z.asks) (sym same) ∙ ap length (sym head) ∙ length-map o row_width in
+    let found = some_there o j (omega arith) in
+    (o, found.0, refl, found.1)
+row_there (o ∷ rows) (q ∷ ports) e (suc k) j p listed less =
+    let tail : map (map row_width) rows ≡ map own_asks ports = cc in
+    row_there rows ports tail k j p listed less
+
+-- ---- the rows of banks and of the printer
+
+fields_widths : (site_width n : ℕ) (fields : List ℕ) → map row_width (fields_from site_width (suc n) fields) ≡ replicate (length fields) 64
+fields_widths site_width n [] = refl
+fields_widths site_width n (x ∷ fields) =
+    ap (λ w. w ∷ map row_width (fields_from site_width (suc (suc n)) fields)) (later_field site_width n) ∙ ap (λ l. 64 ∷ l) (fields_widths site_width (suc n) fields)
+
+printer_widths : (printer : Printer) (fields : List ℕ) (ask : ℕ) → length fields ≡ printer.values + 1
+    → map row_width (request_row ask ∷ fields_from printer.site_width 0 fields) ≡ (printer_port printer).asks
+printer_widths printer [] ask e = absurd (omega arith)
+printer_widths printer (x ∷ fields) ask e =
+    let count : length fields ≡ printer.values = omega arith in
+    ap (λ l. 1 ∷ printer.site_width ∷ l) (fields_widths printer.site_width 0 fields ∙ ap (λ n. replicate n 64) count)
+
+pub rows_widths : (asks : List ℕ) (banks : BankRequests) (printer : Printer) (fields : List ℕ) (ask n : ℕ) (words : List Held) → length fields ≡ printer.values + 1
+    → HaveWidths (rows_from asks banks n words ++ (request_row ask ∷ fields_from printer.site_width 0 fields) ∷ []) (map bank_port (map held_width words) ++ printer_port printer ∷ [])
+rows_widths asks banks printer fields ask n [] e = ap (λ l. l ∷ []) (printer_widths printer fields ask e)
+rows_widths asks banks printer fields ask n (h ∷ words) e =
+    ap (λ l. (1 ∷ 1 ∷ 64 ∷ h.width ∷ []) ∷ l) (rows_widths asks banks printer fields ask (suc n) words e)
+
+pub bank_there : (asks : List ℕ) (banks : BankRequests) (from : ℕ) (words : List Held) (last : List (List Row)) (n : ℕ) (h : Held) → slice_get words n ≡ Some h
+    → slice_get (rows_from asks banks from words ++ last) n ≡ Some (rows_at asks banks (from + n) h.width)
+bank_there asks banks from [] last n h e = absurd cc
+bank_there asks banks from (g ∷ words) last zero h e =
+    let same : g ≡ h = cc in
+    ap (λ (z : Held). Some (rows_at asks banks from z.width)) same ∙ ap (λ k. Some (rows_at asks banks k h.width)) (let at : from ≡ from + 0 = omega arith in at)
+bank_there asks banks from (g ∷ words) last (suc n) h e =
+    bank_there asks banks (suc from) words last n h e ∙ ap (λ k. Some (rows_at asks banks k h.width)) (let at : suc from + n ≡ from + suc n = omega arith in at)
+
+pub last_there : (asks : List ℕ) (banks : BankRequests) (from : ℕ) (words : List Held) (own : List Row) → slice_get (rows_from asks banks from words ++ own ∷ []) (length words) ≡ Some own
+last_there asks banks from [] own = refl
+last_there asks banks from (g ∷ words) own = last_there asks banks (suc from) words own
+
+pub field_there : (site_width from : ℕ) (fields : List ℕ) (k x : ℕ) → slice_get fields k ≡ Some x
+    → slice_get (fields_from site_width from fields) k ≡ Some (field_row (field_width site_width (from + k)) x)
+field_there site_width from [] k x e = absurd cc
+field_there site_width from (y ∷ fields) zero x e =
+    let same : y ≡ x = cc in
+    ap (λ z. Some (field_row (field_width site_width from) z)) same ∙ ap (λ k. Some (field_row (field_width site_width k) x)) (let at : from ≡ from + 0 = omega arith in at)
+field_there site_width from (y ∷ fields) (suc k) x e =
+    field_there site_width (suc from) fields k x e ∙ ap (λ n. Some (field_row (field_width site_width n) x)) (let at : suc from + k ≡ from + suc k = omega arith in at)

@@ -1,0 +1,12 @@
+use Rattle.std.proofs.Common.{◌≡◌, [], ◌∷◌, ◌++◌, ap, ◌∙◌, append_assoc}
+use Rattle.block_datapath.proofs.Chaining.{on_ok}
+use Rattle.thread_requests.specs.Outputs.{request_row, fields_from}
+use Rattle.thread_requests.proofs.outputs.add_request.Goals as goal
+
+pub returns : goal.returns
+returns c =
+    on_ok c.add_fields.result (c.add_fields.new.rows ≡ c.add.new.rows ++ fields_from c.args.site_width 0 c.args.fields.now)
+    (c.add_fields.new.rows ≡ c.args.rows.now ++ request_row c.args.ask ∷ fields_from c.args.site_width 0 c.args.fields.now)
+    (λ e. e ∙ ap (λ l. l ++ fields_from c.args.site_width 0 c.args.fields.now) c.in_ok-add.ensures
+    ∙ append_assoc c.args.rows.now (request_row c.args.ask ∷ []) (fields_from c.args.site_width 0 c.args.fields.now))
+    c.add_fields.ensures
