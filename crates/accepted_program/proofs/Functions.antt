@@ -19,7 +19,7 @@ use Rattle.accepted_program.proofs.Files.{Does, small_more, does_then, does_goin
 finished_does : (m k n : ℕ) (f : FunctionTree) (returns : ReturnType) (body : Block) (count : ℕ) (b : Statement) → m + 1 ≤ n → k ≤ n → Does m k n k (y.finished f returns body count b)
 finished_does m k n f returns body count b le le' x h =
     record {
-      tables = with_function_tabled m n (y.defined f returns body count b x.scope.locals) x.tables le (omega (arith, le', h.locals)) h.tables;
+      tables = with_function_tabled m n (y.defined f returns body count b x.scope.locals x.scope.local_names) x.tables le (omega (arith, le', h.locals)) h.tables;
       locals = h.locals;
     }
 

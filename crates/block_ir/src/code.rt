@@ -66,12 +66,15 @@ pub struct Array {
     pub length: u64,
 }
 
-/// The code of a thread's outermost function, all calls inlined. It begins with the first stage; a thread begins with the
-/// argument of its create, if any, in variable 0.
+/// The code of a thread function, all calls inlined. It begins with the first stage.
 #[derive(Drop)]
 pub struct ThreadCode {
+    /// The variable that has the argument of the create at the start; main has none.
+    pub argument: Option<u32>,
     /// The types of the scalar variables.
     pub variables: Items<CType>,
+    /// For each variable the name of the C local that it is; empty where it is none.
+    pub names: Items<String>,
     pub arrays: Items<Array>,
     pub stages: Items<Stage>,
 }

@@ -3,7 +3,6 @@ use Rattle.std.proofs.Common.{◌≡◌, ◌≢◌, ℕ, suc, ◌+◌, ◌*◌, 
 use Rattle.std.proofs.Common.{Option, Some, None, refl, sym, ap, ◌∙◌, subst, ⊎_elim, inl, inr, arith, length-append, append_assoc, take, get_or}
 use Rattle.std.specs.Prelude.{◌⊎◌, nat_eq, true, false, if◌then◌else◌, Bool, slice_get, slice_set}
 use Rattle.std.proofs.lemmas.Bool.Decides.{eqb_tells}
-use Rattle.hls_ints.specs.Types.{IntegerType}
 use Rattle.c_program.specs.Tree.{Program}
 use Rattle.c_program.specs.Weight.{weight}
 use Rattle.block_ir.specs.declared.operand.Operand.{Operand}
@@ -11,16 +10,16 @@ use Rattle.block_ir.specs.declared.block.Final.{Final}
 use Rattle.block_ir.specs.declared.block.Next.{Next}
 use Rattle.block_ir.specs.declared.block.Next.TheVariants.{Jump, Branch}
 use Rattle.block_ir.specs.declared.block.Block.{Block}
-use Rattle.block_ir.specs.declared.code.Array.{Array}
 use Rattle.block_ir.specs.declared.code.Stage.{Stage}
 use Rattle.block_ir.specs.declared.code.Stage.TheVariants.{Run}
+use Rattle.block_ir.specs.declared.code.ThreadCode.{ThreadCode}
 use Rattle.block_ir.specs.Run.{finished}
 use Rattle.straight_code.specs.Evaluating.{current_value}
 use Rattle.straight_code.specs.Closing.{IsUnchanged}
 use Rattle.code_following.specs.Typed.{Types, types_of, IsTypedBlock, IsTypedStage, IsTypedCode}
 use Rattle.block_merge.specs.Joined.{joined, moved_next, moved_operation, left_in, there, AreLeft, AreWithin, HasLeft}
 use Rattle.block_merge.specs.Maximal.{one_way, next_ways, ways, IsTooLarge, IsMaximalAt, AreCounted, Follows}
-use Rattle.block_merge.specs.Kept.{code_of, Keeps}
+use Rattle.block_merge.specs.Kept.{with_stages, Keeps}
 use Rattle.block_merge.specs.Steps.{dead, IsLast}
 use Rattle.block_merge.proofs.Lists.{take_more, take_whole, get_left, get_right, get_there, get_within, set_element, set_same, set_other, set_length}
 use Rattle.block_merge.proofs.Ways.{one_here, one_elsewhere, ways_set, one_of, two_of}
@@ -79,27 +78,30 @@ left_all start now finals k le held fs h = subst (λ gs. HasLeft now (fs ++ gs))
 -- ---- kept
 
 pub keeps_same : (most size : ℕ) (stages : List Stage) → Keeps most size stages stages
-keeps_same most size stages P variables arrays le long typed = (typed, λ low. low)
+keeps_same most size stages P g code le long typed = (typed, λ low. low)
 
 pub keeps_both : (most size : ℕ) (a b c : List Stage) → Keeps most size a b → Keeps most size b c → Keeps most size a c
-keeps_both most size a b c h k P variables arrays le long typed =
-    let x = h P variables arrays le long typed in
-    let y = k P variables arrays le long x.0 in
+keeps_both most size a b c h k P g code le long typed =
+    let x = h P g code le long typed in
+    let y = k P g code le long x.0 in
     (y.0, λ low. y.1 (x.1 low))
 
 -- a code with another stage at l
-typed_set : (P : Program) (variables : List IntegerType) (arrays : List Array) (old : List Stage) (l : ℕ) (s : Stage) →
-    IsTypedStage (types_of P (code_of variables arrays old)) P (length old) (4 * weight P) s →
-    IsTypedCode P (code_of variables arrays old) → IsTypedCode P (code_of variables arrays (slice_set old l s))
-typed_set P variables arrays old l s h typed =
+typed_set : (P : Program) (g : ℕ) (code : ThreadCode) (old : List Stage) (l : ℕ) (s : Stage) →
+    IsTypedStage (types_of P (with_stages code old)) P (length old) (4 * weight P) s →
+    IsTypedCode P g (with_stages code old) → IsTypedCode P g (with_stages code (slice_set old l s))
+typed_set P g code old l s h typed =
     let size = set_length old l s in
     record {
       some = (let z = typed.some in omega (arith, z, size));
       stages = λ k t e.
-          subst (λ n. IsTypedStage (types_of P (code_of variables arrays old)) P n (4 * weight P) t) (sym size)
-          (⊎_elim (λ p. subst (IsTypedStage (types_of P (code_of variables arrays old)) P (length old) (4 * weight P)) (sym p.1) h) (λ p. typed.stages k t p.1)
+          subst (λ n. IsTypedStage (types_of P (with_stages code old)) P n (4 * weight P) t) (sym size)
+          (⊎_elim (λ p. subst (IsTypedStage (types_of P (with_stages code old)) P (length old) (4 * weight P)) (sym p.1) h) (λ p. typed.stages k t p.1)
           (set_element old l k s t e));
       arrays = typed.arrays;
+      argument = typed.argument;
+      names = typed.names;
+      named = typed.named;
     }
 
 dead_typed : (T : Types) (n most : ℕ) → 0 < n → IsTypedBlock T n most (record { operations = []; finals = []; next = Jump 0; steps = 1 })
@@ -220,20 +222,20 @@ module _ (most size : ℕ) (old : List Stage) (counts : List ℕ) (l m : ℕ) (c
   -- ---- kept
 
   pub both_keep : length current ≡ size → HasLeft current b.finals → Keeps most size old both
-  both_keep same left P variables arrays le long typed =
-      let T = types_of P (code_of variables arrays old) in
+  both_keep same left P g code le long typed =
+      let T = types_of P (with_stages code old) in
       let first : IsTypedBlock T (length old) (4 * weight P) b = typed.stages l (Run b) f.at in
       let next : IsTypedBlock T (length old) (4 * weight P) d = typed.stages m (Run d) f.there in
       let are : AreLeft current b.finals = left (subst (λ n. AreWithin n b.finals) (long ∙ sym same) (finals_within T b.operations b.finals first.finals)) in
       let size_ : length b.operations + length d.operations ≤ 4 * weight P = (let s = f.size in omega (arith, s, le)) in
       let o = once in (
-        typed_set P variables arrays (slice_set old m dead) l (Run (joined current b d))
+        typed_set P g code (slice_set old m dead) l (Run (joined current b d))
             (subst (λ n. IsTypedBlock T n (4 * weight P) (joined current b d)) (sym (set_length old m dead))
             (joined_typed T (length old) (4 * weight P) b d current are f.few size_ first next))
-            (typed_set P variables arrays old m dead (dead_typed T (length old) (4 * weight P) typed.some) typed),
-        λ low n vs cells. follows_joined P old l m b d current dead f.at f.leads f.there f.apart (omega (arith, o)) are
+            (typed_set P g code old m dead (dead_typed T (length old) (4 * weight P) typed.some) typed),
+        λ low n vs cells arguments has. follows_joined P old l m b d current dead f.at f.leads f.there f.apart (omega (arith, o)) are
             (finals_below T b.operations b.finals first.finals) f.few n 0 vs cells _
-            (λ e. f.later (sym e)) (low (double n) vs cells),
+            (λ e. f.later (sym e)) (low (double n) vs cells arguments has),
       )
 
 -- ---- other finals that leave the same
@@ -303,12 +305,12 @@ module _ (most size : ℕ) (old : List Stage) (l : ℕ) (current : List (Option 
       ((k : ℕ) (f : Final) → slice_get finals k ≡ Some f → slice_get current f.variable ≡ Some (Some f.value)) →
       ((variables : ℕ → ℤ) (values : List ℤ) (x : ℕ) → finished variables values finals variables x ≡ current_value (slice_get current x) variables values x) →
       Keeps most size old tidied
-  tidied_keep same has from leave P variables arrays le long typed =
-      let T = types_of P (code_of variables arrays old) in
+  tidied_keep same has from leave P g code le long typed =
+      let T = types_of P (with_stages code old) in
       let block : IsTypedBlock T (length old) (4 * weight P) b = typed.stages l (Run b) at in
       let left : AreLeft current b.finals = has (subst (λ n. AreWithin n b.finals) (long ∙ sym same) (finals_within T b.operations b.finals block.finals)) in (
-        typed_set P variables arrays old l (Run (tidy b finals)) (tidy_typed left from leave T (length old) (4 * weight P) block) typed,
-        λ low n vs cells. follows_tidied P old l b finals at (alike left from leave) n 0 vs cells _ (low n vs cells),
+        typed_set P g code old l (Run (tidy b finals)) (tidy_typed left from leave T (length old) (4 * weight P) block) typed,
+        λ low n vs cells arguments has. follows_tidied P old l b finals at (alike left from leave) n 0 vs cells _ (low n vs cells arguments has),
       )
 
 -- ---- where no block follows

@@ -252,18 +252,24 @@ fn merged(
 ///
 /// The only error is want of memory.
 pub fn merge(alloc: Global, code: ThreadCode, most: usize) -> Result<ThreadCode, AllocError>
-    ensures typed { IfOk result (λ c. (P : GhostProgram) → most ≤ 4 * weight P → IsTypedCode P code → IsTypedCode P c) }
-    ensures lowered { IfOk result (λ c. (P : GhostProgram) → most ≤ 4 * weight P → IsTypedCode P code → IsLowered P code → IsLowered P c) }
+    ensures typed { IfOk result (λ c. (P : GhostProgram) (f : ℕ) → most ≤ 4 * weight P → IsTypedCode P f code → IsTypedCode P f c) }
+    ensures lowered { IfOk result (λ c. (P : GhostProgram) (f : ℕ) → most ≤ 4 * weight P → IsTypedCode P f code → IsLowered P f code → IsLowered P f c) }
     ensures maximal { IfOk result (IsMaximal most) }
+    ensures argument { IfOk result (λ c. c.argument ≡ code.argument) }
+    ensures names { IfOk result (λ c. c.names ≡ code.names) }
 {
     let ThreadCode {
+        argument,
         variables,
+        names,
         arrays,
         stages,
     } = code;
     let stages = merged(alloc, stages, variables.len(), most)?;
     Ok(ThreadCode {
+        argument,
         variables,
+        names,
         arrays,
         stages,
     })

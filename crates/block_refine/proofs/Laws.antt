@@ -11,6 +11,7 @@ use Rattle.race_model.specs.Source.{local_of, running, c_source}
 use Rattle.race_model.proofs.Moves.{started_is}
 use Rattle.race_model.proofs.Sound.{reachable_sound}
 use Rattle.planned_hardware.proofs.Budget.{followers_are_lowered}
+use Rattle.code_following.specs.Following.{HasArguments}
 use Rattle.block_refine.specs.Threads.{blocks_of, plans_of, AtAct, IsTyped, CodeFollows, BlocksAreSteps}
 use Rattle.block_refine.proofs.Stages.{Followed, follows}
 
@@ -30,10 +31,11 @@ starts_running P = λ d. record {
 }
 
 pub code_follows : CodeFollows
-code_follows P code plan R lowered planned variables arrays n =
+code_follows P code plan R lowered none planned variables arrays n =
     subst (λ x. Followed P code plan 0 n x 0 variables arrays) (sym (starts_running P))
     (follows P R code plan planned 0 n 0 variables (λ x j. arrays (record { object = x; index = j })) (first_frames P)
-    (started_is P R R.main.code P.main [] R.main.found) (lowered n variables (λ x j. arrays (record { object = x; index = j }))))
+    (started_is P R R.main.code P.main [] R.main.found)
+    (lowered n variables (λ x j. arrays (record { object = x; index = j })) [] (subst (λ o. HasArguments o variables []) (sym none) tt)))
 
 pub blocks_are_steps : BlocksAreSteps
 blocks_are_steps P code plan chain R ordered chains =

@@ -4,3 +4,6 @@ pub mod Laws
 pub mod Acts
 pub mod Words
 pub mod Plans
+pub mod RoutineStages
+pub mod RoutineLaws
+pub mod RoutineActs

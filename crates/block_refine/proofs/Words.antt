@@ -11,7 +11,7 @@ use Rattle.hls_ints.proofs.Ranges.{bits-at_most}
 use Rattle.hls_ints.proofs.Conversions.{wrapped-range, wrapped-same, residue_of-wrapped, residue_of-below}
 use Rattle.c_program.specs.Tree.{Piece}
 use Rattle.thread_semantics.specs.Step.{printed}
-use Rattle.code_following.specs.Following.{act_value}
+use Rattle.block_ir.specs.Asked.{act_value}
 use Rattle.block_refine.specs.Acts.{printed_words, WordsPrint, WordsBeyond}
 
 -- the text of a word

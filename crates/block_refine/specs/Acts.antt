@@ -19,7 +19,8 @@ use Rattle.interleaving.specs.Source.{View, Undefined, view_at}
 use Rattle.interleaving.specs.Interleaving.{Reachable}
 use Rattle.race_model.specs.Source.{local_of, running, c_source}
 use Rattle.race_model.specs.Orderly.{is_over}
-use Rattle.code_following.specs.Following.{SameAct, AreValues, act_value, print_formats, conversions_of, converted_values}
+use Rattle.block_ir.specs.Asked.{act_value}
+use Rattle.code_following.specs.Following.{SameAct, AreValues, print_formats, conversions_of, converted_values}
 use Rattle.block_refine.specs.Threads.{Starts}
 
 -- the next step of thread i, if it lives, is not undefined

@@ -84,7 +84,7 @@ Starts P code plan x f l variables arrays = FollowsOn (c_source P) (IsTyped P) (
 -- LOWERED CODE FOLLOWS: main stands at the first stage, with whatever in its variables and arrays, and its code does its steps
 abbrev pub CodeFollows : Type 0
 CodeFollows =
-    (P : Program) (code : ThreadCode) (plan : Planned) → IsResolved P → IsLowered P code → ArePlanned code plan →
+    (P : Program) (code : ThreadCode) (plan : Planned) → IsResolved P → IsLowered P P.main code → code.argument ≡ None → ArePlanned code plan →
     (variables : ℕ → ℤ) (arrays : Memory ℤ) → Starts P code plan (local_of (start P) 0) 0 0 variables arrays
 
 -- BLOCKS ARE STEPS: so in every reachable state the run of a block is so many steps of its thread, with 64 times (the weight

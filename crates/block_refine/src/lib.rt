@@ -1,6 +1,8 @@
 //! Lowered code as planned blocks: their runs are steps of its thread, and so are its acts.
 #![tactic(auto)]
 
+pub mod routines;
+
 ghost use Rattle.block_refine.specs.Threads.{CodeFollows, BlocksAreSteps};
 ghost use Rattle.block_refine.specs.Acts.{ActsAreSteps, PrintsAreSteps, WordsPrint, WordsBeyond, ReturnsAreSteps};
 ghost use Rattle.block_refine.specs.Plans.{PlansAreKept, ActsHaveNoStates};

@@ -336,7 +336,7 @@ module _ (L : Ledger) (S : Scoping L) where
       record {
         writes = nothing_new L x.found;
         agrees = agrees;
-        counts = length-more x.tables.functions (y.defined f returns body c b x.scope.locals) ∙ ap suc count;
+        counts = length-more x.tables.functions (y.defined f returns body c b x.scope.locals x.scope.local_names) ∙ ap suc count;
       },
       tt,
     )

@@ -62,7 +62,8 @@ definitions_both (x ∷ xs) ys =
 
 module _ (L : Ledger) (S : Scoping L) where
   -- so many functions are there behind the last declaration
-  counts : (list : List ExternalDeclaration) (unit : Unit {0}) (w : Where) (n : ℕ) → S.At w n list → (x : File) → S.Held x.tables w (flat_map names_of list) → S.Agrees x.scope w → length x.tables.functions ≡ n →
+  counts : (list : List ExternalDeclaration) (unit : Unit {0}) (w : Where) (n : ℕ) → S.At w n list → (x : File) → S.Held x.tables w
+      (flat_map names_of list) → S.Agrees x.scope w → length x.tables.functions ≡ n →
       length (left (through (λ _ d. t.declaration d) unit list x)).tables.functions ≡ n + length (definitions list)
   counts [] unit w n here x held agrees count = omega (arith, count)
   counts (d ∷ list) unit w n here x held agrees count =

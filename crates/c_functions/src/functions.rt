@@ -3,11 +3,13 @@
 ghost use Rattle.std.specs.Prelude.{◌≡◌, map, IfOk, OnOk, string_bytes};
 ghost use Rattle.std.specs.List.{list_all, zip};
 ghost use Rattle.c_program.specs.Plain.{boxed_statement_of, function_of};
+ghost use Rattle.c_rules.specs.Levels.{pointed};
 ghost use Rattle.c_rules.specs.Walks.{Outcome, Walks};
 ghost use Rattle.c_resolution.specs.States.{state};
 ghost use Rattle.c_resolution.specs.Files.{file, with_function};
 ghost use Rattle.c_globals.specs.Tabled.{tables_of};
 ghost use Rattle.c_resolution.specs.Functions as spec;
+ghost use Rattle.c_resolution.specs.Globals as globals;
 
 use c_globals::globals::text;
 use c_globals::tables::Tables;
@@ -358,12 +360,24 @@ fn leave_function(scope: &mut Scope<'_>)
     scope.function = None;
 }
 
+/// Names as text.
+fn texts(alloc: Global, names: &[&[u8]]) -> Result<Vec<String>, AllocError>
+    ensures { IfOk result (λ texts. map string_bytes texts.items ≡ map globals.text (map pointed names.now)) }
+{
+    let mut texts = Vec::new(alloc);
+    for name in names {
+        texts.push(text(alloc, name)?)?;
+    }
+    Ok(texts)
+}
+
 /// A function of the program with a body that travels in a box.
 fn defined(
     name: String,
     returns: resolved::ReturnType,
     parameters: u32,
     locals: Vec<resolved::LocalVariable>,
+    local_names: Vec<String>,
     body: Box<resolved::Statement>,
     end: u32,
 ) -> resolved::Function
@@ -372,6 +386,7 @@ fn defined(
       returns = returns;
       parameters = parameters;
       locals = locals.items;
+      local_names = map string_bytes local_names.items;
       body = boxed_statement_of body;
       end = end;
     } }
@@ -381,6 +396,7 @@ fn defined(
         returns,
         parameters,
         locals,
+        local_names,
         body: Box::into_inner(body),
         end,
     }
@@ -398,15 +414,18 @@ fn add_definition(
     body: Box<resolved::Statement>,
 ) -> Result<(), AllocError>
     ensures { OnOk result (tables_of tables.new
-        ≡ with_function (spec.defined function.now returns block.now count (boxed_statement_of body) scope.now.locals) (tables_of tables.old)) }
+        ≡ with_function (spec.defined function.now returns block.now count (boxed_statement_of body) scope.now.locals scope.now.local_names)
+        (tables_of tables.old)) }
 {
-    let name = text(alloc, &function.name)?;
+    let name = text(alloc, function.name.bytes.as_slice())?;
     let locals = scope.locals.as_slice().to_vec(alloc)?;
+    let local_names = texts(alloc, scope.local_names.as_slice())?;
     let added = defined(
         name,
         returns,
         place(count),
         locals,
+        local_names,
         body,
         place(block.close),
     );
@@ -458,6 +477,7 @@ fn forget_locals(alloc: Global, scope: &mut Scope<'_>)
     ensures { scope.new ≡ spec.without_locals scope.old }
 {
     scope.locals = Items::new(alloc);
+    scope.local_names.clear();
 }
 
 /// The name of a function, and its parameters in a scope of their own.

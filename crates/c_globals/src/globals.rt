@@ -22,11 +22,11 @@ use hls_ints::{CType, wrap};
 use std::alloc::{AllocError, Global};
 
 /// A name as text.
-pub fn text(alloc: Global, name: &Name) -> Result<String, AllocError>
-    ensures { IfOk result (λ t. string_bytes t ≡ spec.text name.now.bytes) }
+pub fn text(alloc: Global, name: &[u8]) -> Result<String, AllocError>
+    ensures { IfOk result (λ t. string_bytes t ≡ spec.text name.now) }
 {
     let mut text = String::new(alloc);
-    for byte in name.bytes.as_slice() {
+    for byte in name {
         text.push(char::from(*byte))?;
     }
     Ok(text)
@@ -213,7 +213,7 @@ fn add_global(
     ensures { OnOk result (tables_of tables.new ≡ spec.with_variable name.now variable initial.items (tables_of tables.old)) }
 {
     let global = resolved::GlobalVariable {
-        name: text(alloc, name)?,
+        name: text(alloc, name.bytes.as_slice())?,
         ty: variable.ty.c_type(),
         length: variable.length.unwrap_or(1),
         initial,

@@ -5,7 +5,7 @@ use Rattle.std.specs.Prelude.{cond, ◌==◌, ◌&&◌, nat_lt, nat_eq, is_some,
 use Rattle.std.specs.List.{starts_with}
 use Rattle.std.proofs.Math.Seq.{take-append_seam, drop-append_seam}
 use Rattle.std.proofs.lemmas.List.{take-append-drop}
-use Rattle.std.proofs.lemmas.Bool.{lt-ltb, ltb-true}
+use Rattle.std.proofs.lemmas.Bool.{lt-ltb, ltb-true, and_parts}
 use Rattle.c_token.specs.Spelling.{Bytes, punctuator_spelling}
 use Rattle.c_token.specs.Constants.{character_of}
 use Rattle.c_lexer.specs.declared.lexeme.Class.{Class}
@@ -17,7 +17,7 @@ use Rattle.c_lexer.specs.Finding.{run_len, text_len, block_len, header_len, begi
 use Rattle.c_lexer.proofs.Runs.{run_found, run_cut, run_within, run_some}
 use Rattle.c_token.specs.declared.punctuator.Punctuator.{Punctuator}
 use Rattle.c_token.specs.Spelling.{punctuator_at}
-use Rattle.c_lexer.proofs.Parts.{both_true, prefix, first_byte, text_found, text_cut, character_length, punctuator_there, punctuator_some}
+use Rattle.c_lexer.proofs.Parts.{prefix, first_byte, text_found, text_cut, character_length, punctuator_there, punctuator_some}
 use Rattle.c_lexer.proofs.Classes.{Tells, class_tells, some_byte}
 
 -- ---- a lexeme is found
@@ -221,7 +221,7 @@ header_at : (close : ℕ) (y : Bytes) (m : ℕ) (x : Bool) → (nat_lt 0 (run_le
     → cond x (just (run_len (r.Header close) y + 1)) None ≡ just m
     → (0 < run_len (r.Header close) y) × (rest : Bytes) × (drop (run_len (r.Header close) y) y ≡ close ∷ rest) × (m ≡ run_len (r.Header close) y + 1)
 header_at close y m true e h =
-    let parts = both_true (nat_lt 0 (run_len (r.Header close) y)) (begins_with close (drop (run_len (r.Header close) y) y)) e in
+    let parts = and_parts (nat_lt 0 (run_len (r.Header close) y)) (begins_with close (drop (run_len (r.Header close) y) y)) e in
     (ltb-true 0 (run_len (r.Header close) y) parts.0, drop 1 (drop (run_len (r.Header close) y) y), first_byte close (drop (run_len (r.Header close) y) y) parts.1, sym (same_number _ m h))
 header_at close y m false e h = cc
 

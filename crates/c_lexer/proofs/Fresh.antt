@@ -2,6 +2,7 @@
 use Rattle.std.proofs.Common.{◌≡◌, ℕ, Option, Some, None, Bool, true, false, refl, ap, ◌∙◌}
 use Rattle.std.specs.Prelude.{cond, ◌||◌, option_map, codes}
 use Rattle.std.specs.Str.{bytes_eq}
+use Rattle.std.proofs.lemmas.Bool.{or_parts}
 use Rattle.c_token.specs.declared.token.Kind.{Kind}
 use Rattle.c_token.specs.declared.constant.Constant.{Constant}
 use Rattle.c_token.specs.Spelling.{Bytes}
@@ -40,13 +41,9 @@ word_at hash s w e true y h = nothing_fresh (Directive hash awaits.Header) s w e
 word_at hash s w e false true h = nothing_fresh (Directive hash awaits.Name) s w e h
 word_at hash s w e false false h = cc
 
-not_either : (x y : Bool) → (x || y) ≡ false → y ≡ false
-not_either true y h = cc
-not_either false y h = h
-
 name_at : (hash : ℕ) (s : State) (w : Bytes) (e : Effect) (x : Bool) → (is_reserved w || is_defined s w) ≡ x → definition_name hash x ≡ some e → IsFresh e w s
 name_at hash s w e true t h = cc
-name_at hash s w e false t h = λ is. not_either (is_reserved w) (is_defined s w) t
+name_at hash s w e false t h = λ is. (or_parts (is_reserved w) (is_defined s w) t).1
 
 directive_fresh : (a : Awaits) (hash : ℕ) (s : State) (k : Class) (w : Bytes) (e : Effect) → in_directive a hash s k w ≡ some e → IsFresh e w s
 directive_fresh awaits.Word hash s c.Word w e h = word_at hash s w e (bytes_eq w (codes "include")) (bytes_eq w (codes "define")) h

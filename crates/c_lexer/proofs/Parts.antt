@@ -2,7 +2,7 @@
 use Rattle.std.proofs.Common.{◌≡◌, ℕ, ◌+◌, ◌≤◌, List, [], ◌∷◌, ◌++◌, length, drop, get_or, Option, Some, None, Bool, true, false, refl, sym, ap, ◌∙◌, subst, arith, lit≤}
 use Rattle.std.specs.Prelude.{cond, ◌==◌, ◌&&◌, not, nat_eq, is_some}
 use Rattle.std.specs.List.{find, starts_with}
-use Rattle.std.proofs.lemmas.Bool.{eqb-true}
+use Rattle.std.proofs.lemmas.Bool.{eqb-true, and_parts, not-true, and_from}
 use Rattle.std.proofs.lemmas.Bool.Decides.{Decides-eqb}
 use Rattle.std.proofs.lemmas.Slice.Eq.{starts_is}
 use Rattle.c_token.specs.declared.punctuator.Punctuator.{Punctuator}
@@ -28,36 +28,22 @@ text_step : (n : ℕ) (m : Option ℕ) (x : Bool) → x ≡ true → m ≡ Some 
 text_step n m true e h = h
 text_step n m false e h = cc
 
-pub both_true : (x y : Bool) → (x && y) ≡ true → (x ≡ true) × (y ≡ true)
-both_true true true h = (refl, refl)
-both_true true false h = cc
-both_true false y h = cc
-
-is_not : (x : Bool) → not x ≡ true → x ≡ false
-is_not true h = cc
-is_not false h = refl
-
 pub text_found : (n : ℕ) (escaped : Bool) (inside rest : Bytes) → is_text_body escaped inside ≡ true → text_len n escaped (inside ++ (34 ∷ rest)) ≡ Some (n + length inside + 1)
 unfolding is_text_body text_len
 text_found n true [] rest h = cc
 text_found n false [] rest h = ap Some (omega arith)
 text_found n true (b ∷ inside) rest h =
-    let parts = both_true (is_printable b) (is_text_body false inside) h in
+    let parts = and_parts (is_printable b) (is_text_body false inside) h in
     text_step _ _ (is_printable b) parts.0 (text_found (n + 1) false inside rest parts.1 ∙ ap Some (omega arith))
 text_found n false (b ∷ inside) rest h =
-    let parts = both_true (not (b == 34)) (is_printable b && is_text_body (b == 92) inside) h in
-    let more = both_true (is_printable b) (is_text_body (b == 92) inside) parts.1 in
-    ap (λ x. cond x (Some (n + 1)) (cond (is_printable b) (text_len (n + 1) (b == 92) (inside ++ (34 ∷ rest))) None)) (is_not (b == 34) parts.0)
+    let parts = and_parts (not (b == 34)) (is_printable b && is_text_body (b == 92) inside) h in
+    let more = and_parts (is_printable b) (is_text_body (b == 92) inside) parts.1 in
+    ap (λ x. cond x (Some (n + 1)) (cond (is_printable b) (text_len (n + 1) (b == 92) (inside ++ (34 ∷ rest))) None)) (not-true (b == 34) parts.0)
     ∙ text_step _ _ (is_printable b) more.0 (text_found (n + 1) (b == 92) inside rest more.1 ∙ ap Some (omega arith))
 
 -- a string literal that begins behind its first quote
 abbrev pub IsText : Bool → Bytes → ℕ → ℕ → Type 0
 IsText escaped z m n = (inside : Bytes) × (rest : Bytes) × (z ≡ inside ++ (34 ∷ rest)) × (is_text_body escaped inside ≡ true) × (n ≡ m + length inside + 1)
-
-both : (x y : Bool) → x ≡ true → y ≡ true → (x && y) ≡ true
-both true true h k = refl
-both true false h k = cc
-both false y h k = cc
 
 one_more : (escaped next : Bool) (b : ℕ) (z : Bytes) (m n : ℕ) → ((inside : Bytes) → is_text_body next inside ≡ true → is_text_body escaped (b ∷ inside) ≡ true)
     → IsText next z (m + 1) n → IsText escaped (b ∷ z) m n
@@ -65,11 +51,11 @@ one_more escaped next b z m n goes more = (b ∷ more.0, more.1, ap (λ y. b ∷
 
 escaped_byte : (b : ℕ) → is_printable b ≡ true → (inside : Bytes) → is_text_body false inside ≡ true → is_text_body true (b ∷ inside) ≡ true
 unfolding is_text_body
-escaped_byte b e inside h = both (is_printable b) (is_text_body false inside) e h
+escaped_byte b e inside h = and_from (is_printable b) (is_text_body false inside) e h
 
 plain_byte : (b : ℕ) → (b == 34) ≡ false → is_printable b ≡ true → (inside : Bytes) → is_text_body (b == 92) inside ≡ true → is_text_body false (b ∷ inside) ≡ true
 unfolding is_text_body
-plain_byte b q e inside h = both (not (b == 34)) (is_printable b && is_text_body (b == 92) inside) (ap not q) (both (is_printable b) (is_text_body (b == 92) inside) e h)
+plain_byte b q e inside h = and_from (not (b == 34)) (is_printable b && is_text_body (b == 92) inside) (ap not q) (and_from (is_printable b) (is_text_body (b == 92) inside) e h)
 
 no_byte : is_text_body false [] ≡ true
 unfolding is_text_body
@@ -102,16 +88,16 @@ text_cut (b ∷ z) false m n h = quote_at b z m n (text_cut z (b == 92) (m + 1) 
 
 is_three : (w : Bytes) → is_plain_character w ≡ true → length w ≡ character_span w
 is_three w h =
-    let three = both_true (length w == 3) (is_between_quotes w && is_character_byte (get_or w 1 0)) h in
-    let byte = both_true (is_between_quotes w) (is_character_byte (get_or w 1 0)) three.1 in
-    let marks = both_true (is_printable (get_or w 1 0)) (not (get_or w 1 0 == 39) && not (get_or w 1 0 == 92)) byte.1 in
-    let last = both_true (not (get_or w 1 0 == 39)) (not (get_or w 1 0 == 92)) marks.1 in
-    eqb-true (length w) 3 three.0 ∙ sym (ap (λ x. cond x 4 3) (is_not (get_or w 1 0 == 92) last.1))
+    let three = and_parts (length w == 3) (is_between_quotes w && is_character_byte (get_or w 1 0)) h in
+    let byte = and_parts (is_between_quotes w) (is_character_byte (get_or w 1 0)) three.1 in
+    let marks = and_parts (is_printable (get_or w 1 0)) (not (get_or w 1 0 == 39) && not (get_or w 1 0 == 92)) byte.1 in
+    let last = and_parts (not (get_or w 1 0 == 39)) (not (get_or w 1 0 == 92)) marks.1 in
+    eqb-true (length w) 3 three.0 ∙ sym (ap (λ x. cond x 4 3) (not-true (get_or w 1 0 == 92) last.1))
 
 is_four : (w : Bytes) → is_escaped_character w ≡ true → length w ≡ character_span w
 is_four w h =
-    let four = both_true (length w == 4) (is_between_quotes w && get_or w 1 0 == 92) h in
-    let mark = both_true (is_between_quotes w) (get_or w 1 0 == 92) four.1 in
+    let four = and_parts (length w == 4) (is_between_quotes w && get_or w 1 0 == 92) h in
+    let mark = and_parts (is_between_quotes w) (get_or w 1 0 == 92) four.1 in
     eqb-true (length w) 4 four.0 ∙ sym (ap (λ x. cond x 4 3) mark.1)
 
 character_at : (w : Bytes) (x y : Bool) (a b : Option Constant) → is_plain_character w ≡ x → is_escaped_character w ≡ y

@@ -32,6 +32,7 @@ main_of body = record {
   returns = Integer int_type;
   parameters = 0;
   locals = scalar int_type ∷ [];
+  local_names = (120 ∷ []) ∷ [];
   body = list_of body;
   end = 0;
 }
@@ -81,6 +82,7 @@ routine_of body = record {
   returns = Pointer;
   parameters = 1;
   locals = scalar long_int ∷ scalar int_type ∷ [];
+  local_names = (97 ∷ []) ∷ (120 ∷ []) ∷ [];
   body = list_of body;
   end = 0;
 }

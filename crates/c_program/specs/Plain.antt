@@ -110,6 +110,7 @@ function_of f = record {
   returns = f.returns;
   parameters = f.parameters;
   locals = f.locals.items;
+  local_names = map string_bytes f.local_names.items;
   body = statement_of f.body;
   end = f.end;
 }

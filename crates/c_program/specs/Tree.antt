@@ -97,6 +97,8 @@ pub record Function : Type 0 where
   pub returns : ReturnType
   pub parameters : ℕ
   pub locals : List LocalVariable
+  -- the names of the locals; no step reads them
+  pub local_names : List (List ℕ)
   pub body : Statement
   -- the offset of the closing brace
   pub end : ℕ

@@ -1,7 +1,7 @@
 -- The weight of a program, which bounds the cycles between two of its steps, and its number of hardware threads.
-use Rattle.std.specs.Prelude.{ℕ, zero, suc, ◌+◌, ◌*◌, Bool, nat_eq, List, ◌∷◌, length, filter, sum_by, Option, Some, None}
+use Rattle.std.specs.Prelude.{ℕ, zero, suc, ◌+◌, ◌*◌, Bool, nat_eq, List, ◌∷◌, length, filter, replicate, sum_by, Option, Some, None}
 use Rattle.std.specs.Prelude.{slice_get}
-use Rattle.std.specs.List.{range_with_len, list_any}
+use Rattle.std.specs.List.{flat_map, range_with_len, list_any}
 use Rattle.std.specs.Option.{option_eq}
 use Rattle.c_program.specs.declared.tree.ThreadObject.{ThreadObject}
 use Rattle.c_program.specs.Tree.{Expression, Place, Condition, RightSide, ObjectPlace, ThreadCall, Statement, Function, Program}
@@ -123,3 +123,7 @@ bound P = 64 * (weight P + 1)
 -- main, and the elements of the pthread_t objects
 abbrev pub thread_count : Program → ℕ
 thread_count P = 1 + sum_by (λ (object : ThreadObject). object.length) P.threads
+
+-- for each hardware thread the function that it runs: main, and for each element of a pthread_t object its routine, if it has one
+abbrev pub hardware_routines : Program → List (Option ℕ)
+hardware_routines P = Some P.main ∷ flat_map (λ (object : ThreadObject). replicate object.length object.routine) P.threads

@@ -3,6 +3,7 @@
 #![tactic(auto)]
 
 mod boxed;
+pub mod laws;
 pub mod threads;
 pub mod tree;
 pub mod types;

@@ -171,6 +171,8 @@ pub struct Function {
     pub returns: ReturnType,
     pub parameters: u32,
     pub locals: Vec<LocalVariable>,
+    /// The names of the locals, in the same order.
+    pub local_names: Vec<String>,
     pub body: Statement,
     /// The offset of the closing brace.
     pub end: u32,

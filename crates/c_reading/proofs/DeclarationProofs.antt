@@ -1,6 +1,7 @@
 -- The readings of declarations at file scope and of a whole text read the grammar's rules.
 use Rattle.std.proofs.Common.{◌≡◌, ℕ, suc, ◌+◌, ◌<◌, ◌≤◌, List, [], ◌∷◌, Some, None, Bool, true, false, refl, arith}
 use Rattle.std.specs.Prelude.{◌||◌, ◌&&◌}
+use Rattle.std.proofs.lemmas.Bool.{or_left, or_right}
 use Rattle.c_token.specs.declared.keyword.Keyword.TheVariants as k
 use Rattle.c_token.specs.declared.punctuator.Punctuator.TheVariants as p
 use Rattle.c_token.specs.declared.token.Kind.TheVariants as kind
@@ -25,7 +26,7 @@ use Rattle.c_tree.specs.Declarations as c
 use Rattle.c_reading.specs.Tokens as r
 use Rattle.c_reading.specs.Expressions as e
 use Rattle.c_reading.specs.Declarations as q
-use Rattle.grammar.proofs.Lists.{or_cases, or_left, or_right}
+use Rattle.grammar.proofs.Lists.{or_cases}
 use Rattle.grammar.proofs.Good.{Reads}
 use Rattle.grammar.proofs.Parts.{nowhere, reads_by, resize, some_then, in_turn, both, ends}
 use Rattle.grammar.proofs.Choice.{StartsBy, DepartsBy, one_starts, begins_starts, begins_departs, optional_departs, either_in, may}

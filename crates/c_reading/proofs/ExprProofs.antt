@@ -2,6 +2,7 @@
 use Rattle.std.proofs.Common.{◌≡◌, ℕ, zero, suc, ◌+◌, ◌<◌, ◌≤◌, List, [], ◌∷◌, ◌++◌, Option, Some, None, Bool, true, false, refl, sym, ap, ◌∙◌}
 use Rattle.std.proofs.Common.{subst, inl, inr, ⊎_elim, append_assoc, arith}
 use Rattle.std.specs.Prelude.{◌||◌, ◌&&◌, reverse}
+use Rattle.std.proofs.lemmas.Bool.{or_left, or_right, false_from_ne_true}
 use Rattle.c_token.specs.declared.keyword.Keyword.TheVariants as k
 use Rattle.c_token.specs.declared.punctuator.Punctuator.TheVariants as p
 use Rattle.c_token.specs.declared.constant.Constant.TheVariants.{TooLarge}
@@ -30,7 +31,7 @@ use Rattle.c_tree.specs.Trees as tree
 use Rattle.c_tree.specs.Expressions as g
 use Rattle.c_reading.specs.Tokens as r
 use Rattle.c_reading.specs.Expressions as e
-use Rattle.grammar.proofs.Lists.{or_cases, or_left, or_right, not_true}
+use Rattle.grammar.proofs.Lists.{or_cases}
 use Rattle.grammar.proofs.Good.{Reads, ◌∘>◌, less}
 use Rattle.grammar.proofs.Parts.{gives, nowhere, reads_nothing, reads_by, resize, same_rule, one_then, some_then, in_turn, both, ends}
 use Rattle.grammar.proofs.Choice.{StartsPlain, StartsBy, DepartsBy, departs_not, either_in, ahead_in, ahead_two, partly, starts_both, departs_both}
@@ -363,7 +364,7 @@ module _ {D : ℕ → Type 0} (n m : ℕ) (le : n ≤ suc m) (more : m ≤ n) (w
   one_apart f Q set exactly apart fs depth at j w v h =
       let token : w ≡ (h.4.0, at) ∷ h.2 = h.3 ∙ ap (λ l. l ++ h.2) h.4.1 in
       let here : set h.4.0 ≡ true = sym (exactly h.4.0) ∙ ap gives h.4.2 in
-      subst (DepartsBy (is open_round ∷ fs) j) (sym token) (first_departs (is open_round) fs j (h.4.0, at) h.2 (not_true (is open_round h.4.0) (λ a. apart h.4.0 here a)))
+      subst (DepartsBy (is open_round ∷ fs) j) (sym token) (first_departs (is open_round) fs j (h.4.0, at) h.2 (false_from_ne_true (is open_round h.4.0) (λ a. apart h.4.0 here a)))
 
   -- what begins with a parenthesis and then an expression
   group_departs : (f : Token → Bool) (fs : List (Token → Bool)) → ((x : Token) → r.begins_cast x ≡ true → f x ≡ true → ⊥) → (depth at : ℕ) → D depth → (w : List (Placed Token)) (v : Expression)

@@ -1,6 +1,7 @@
 -- How operands and expressions begin: they are never empty, an opening parenthesis stands one level deeper, and what
 -- spells an operand spells an expression.
 use Rattle.std.proofs.Common.{◌≡◌, ℕ, zero, suc, ◌+◌, List, [], ◌∷◌, ◌++◌, true, false, refl, sym, ap, ◌∙◌, subst, inl, inr, ⊎_elim}
+use Rattle.std.proofs.lemmas.Bool.{false_from_ne_true}
 use Rattle.c_token.specs.declared.punctuator.Punctuator.TheVariants as p
 use Rattle.c_token.specs.declared.constant.Constant.TheVariants.{TooLarge}
 use Rattle.c_token.specs.declared.token.Kind.TheVariants as kind
@@ -14,7 +15,7 @@ use Rattle.c_tree.specs.declared.expression.Expression.{Expression}
 use Rattle.c_tree.specs.Tokens.{is, sign_at, name_at, constant_at, constant_of, unary_at, unary_of, is_unary}
 use Rattle.c_tree.specs.Trees as tree
 use Rattle.c_tree.specs.Expressions as g
-use Rattle.grammar.proofs.Lists.{append_nil, not_true}
+use Rattle.grammar.proofs.Lists.{append_nil}
 use Rattle.grammar.proofs.Parts.{gives}
 use Rattle.grammar.proofs.Nested.{OpensBy, one_opens, group_opens, both_opens, either_opens, depth_opens}
 use Rattle.c_reading.proofs.TokenProofs.{token, sign_apart, sign_exactly, name_apart, constant_apart, some_exactly, placed_exactly}
@@ -68,13 +69,13 @@ round_here : (x : Token) → gives (sign_at open_round x) ≡ true → is open_r
 round_here x h = sym (sign_exactly open_round x) ∙ h
 
 name_closes : (x : Token) → gives (name_at x) ≡ true → is open_round x ≡ false
-name_closes x h = not_true (is open_round x) (λ a. name_apart (is open_round) (λ b at. refl) x (sym (some_exactly (name_at x)) ∙ h) a)
+name_closes x h = false_from_ne_true (is open_round x) (λ a. name_apart (is open_round) (λ b at. refl) x (sym (some_exactly (name_at x)) ∙ h) a)
 
 constant_closes : (x : Token) → gives (constant_at x) ≡ true → is open_round x ≡ false
-constant_closes x h = not_true (is open_round x) (λ a. constant_apart (is open_round) (λ c at. refl) x (sym (placed_exactly x.offset (constant_of x.kind)) ∙ h) a)
+constant_closes x h = false_from_ne_true (is open_round x) (λ a. constant_apart (is open_round) (λ c at. refl) x (sym (placed_exactly x.offset (constant_of x.kind)) ∙ h) a)
 
 unary_closes : (x : Token) → gives (unary_at x) ≡ true → is open_round x ≡ false
-unary_closes x h = not_true (is open_round x) (λ a. sign_apart open_round is_unary (λ at. refl) x a (sym (placed_exactly x.offset (unary_of x)) ∙ h))
+unary_closes x h = false_from_ne_true (is open_round x) (λ a. sign_apart open_round is_unary (λ at. refl) x a (sym (placed_exactly x.offset (unary_of x)) ∙ h))
 
 operand_opens : OpensBy All (is open_round) (λ depth. g.operand (g.cast depth) (g.expr depth))
 operand_opens =

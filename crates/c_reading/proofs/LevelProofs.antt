@@ -1,6 +1,6 @@
 -- The readings of binary operators read the levels of the grammar.
 use Rattle.std.proofs.Common.{◌≡◌, ℕ, zero, suc, ◌<◌, ◌≤◌, Option, Some, None, Bool, true, false, refl, ap, le-leb, arith}
-use Rattle.std.proofs.lemmas.Bool.{eqb-true, leb-true}
+use Rattle.std.proofs.lemmas.Bool.{eqb-true, leb-true, or_left, or_right}
 use Rattle.std.specs.Prelude.{if◌then◌else◌, ◌||◌, ◌==◌, nat_le}
 use Rattle.c_token.specs.declared.punctuator.Punctuator.{Punctuator}
 use Rattle.c_token.specs.declared.punctuator.Punctuator.TheVariants as p
@@ -17,7 +17,7 @@ use Rattle.c_tree.specs.Trees as tree
 use Rattle.c_tree.specs.Expressions as g
 use Rattle.c_reading.specs.Tokens as r
 use Rattle.c_reading.specs.Expressions as e
-use Rattle.grammar.proofs.Lists.{or_cases, or_left, or_right}
+use Rattle.grammar.proofs.Lists.{or_cases}
 use Rattle.grammar.proofs.Good.{Reads}
 use Rattle.grammar.proofs.Parts.{widen, one_then, some_then, ends}
 use Rattle.grammar.proofs.Loops.{collected}

@@ -2,6 +2,7 @@
 use Rattle.std.proofs.Common.{◌≡◌, ℕ, suc, ◌+◌, ◌<◌, ◌≤◌, List, [], ◌∷◌, ◌++◌, Option, None, Bool, true, false, refl, sym, subst}
 use Rattle.std.proofs.Common.{inl, inr, ⊎_elim, arith}
 use Rattle.std.specs.Prelude.{◌||◌, ◌&&◌}
+use Rattle.std.proofs.lemmas.Bool.{or_left, or_right, both_ways}
 use Rattle.c_token.specs.declared.keyword.Keyword.TheVariants as k
 use Rattle.c_token.specs.declared.punctuator.Punctuator.TheVariants as p
 use Rattle.c_token.specs.declared.token.Kind.TheVariants as kind
@@ -30,7 +31,7 @@ use Rattle.c_tree.specs.Statements as h
 use Rattle.c_reading.specs.Tokens as r
 use Rattle.c_reading.specs.Expressions as e
 use Rattle.c_reading.specs.Statements as s
-use Rattle.grammar.proofs.Lists.{or_cases, or_left, or_right, false_true}
+use Rattle.grammar.proofs.Lists.{or_cases}
 use Rattle.grammar.proofs.Good.{Reads, ◌∘>◌, Avoids}
 use Rattle.grammar.proofs.Parts.{nowhere, reads_nothing, resize, same_rule, one_then, in_turn, both, ends}
 use Rattle.grammar.proofs.Choice.{Level, DepartsBy, departs_not, either_in, ahead_in, starts_both, departs_both}
@@ -308,8 +309,8 @@ module _ (n : ℕ) where
         none_ahead [] av = refl
         none_ahead (z ∷ rest) av = out_at (is open_round z) refl where
           out_at : (b : Bool) → is open_round z ≡ b → (b && d.sees_all (is (Word k.Void) ∷ is (Mark p.Star) ∷ []) rest) ≡ false
-          out_at true e = absurd (false_true (after_maybe z) (or_left (r.begins_cast z) (after_expr z)
-              (or_right (is_unary z) _ (or_right (is_name z) _ (or_right (is_constant z) (is open_round z) e)))) av)
+          out_at true e = absurd (both_ways (after_maybe z) av (or_left (r.begins_cast z) (after_expr z)
+              (or_right (is_unary z) _ (or_right (is_name z) _ (or_right (is_constant z) (is open_round z) e)))))
           out_at false e = refl
 
   maybe_level : (depth at : ℕ) (w : List (Placed Token)) (v : Returned) → Maybe depth at w v → Level ahead (at + 1) w

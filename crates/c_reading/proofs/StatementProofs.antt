@@ -1,6 +1,7 @@
 -- The readings of statements read the grammar's rules.
 use Rattle.std.proofs.Common.{◌≡◌, ℕ, zero, suc, ◌+◌, ◌<◌, ◌≤◌, List, [], ◌∷◌, ◌++◌, Option, Some, None, Bool, true, false, refl, sym, ap, ◌∙◌, subst, inl, inr, ⊎_elim, arith}
 use Rattle.std.specs.Prelude.{Ok, Err, if◌then◌else◌, ◌||◌, ◌&&◌, not}
+use Rattle.std.proofs.lemmas.Bool.{or_left, false_from_ne_true}
 use Rattle.c_token.specs.declared.keyword.Keyword.{Keyword}
 use Rattle.c_token.specs.declared.keyword.Keyword.TheVariants as k
 use Rattle.c_token.specs.declared.punctuator.Punctuator.TheVariants as p
@@ -28,7 +29,7 @@ use Rattle.c_tree.specs.Statements as h
 use Rattle.c_tree.specs.Statements.{closed, closed_step}
 use Rattle.c_reading.specs.Tokens as r
 use Rattle.c_reading.specs.Statements as s
-use Rattle.grammar.proofs.Lists.{or_cases, or_left, not_true}
+use Rattle.grammar.proofs.Lists.{or_cases}
 use Rattle.grammar.proofs.Good.{Reads, ◌∘>◌}
 use Rattle.grammar.proofs.Parts.{gives, nowhere, reads_nothing, widen, under, same_reader, no_longer, reads_regrouped, some_then, in_turn, both, ends, then_ok, when_ok}
 use Rattle.grammar.proofs.Both.{both_in}
@@ -152,14 +153,14 @@ curly_begins z h = or_left (r.begins_compound z) (r.begins_plain z) (or_left (is
 -- ---- at which level statements begin
 
 not_curly : (q : Sign) → ((at : ℕ) → is open_curly (token (sign_kind q) at) ≡ false) → (z : Token) → gives (sign_at q z) ≡ true → is open_curly z ≡ false
-not_curly q out z h = not_true (is open_curly z) (λ a. sign_apart q (is open_curly) out z (sym (sign_exactly q z) ∙ h) a)
+not_curly q out z h = false_from_ne_true (is open_curly z) (λ a. sign_apart q (is open_curly) out z (sym (sign_exactly q z) ∙ h) a)
 
 name_curly : (z : Token) → gives (name_at z) ≡ true → is open_curly z ≡ false
-name_curly z h = not_true (is open_curly z) (λ a. name_apart (is open_curly) (λ b at. refl) z (sym (some_exactly (name_at z)) ∙ h) a)
+name_curly z h = false_from_ne_true (is open_curly z) (λ a. name_apart (is open_curly) (λ b at. refl) z (sym (some_exactly (name_at z)) ∙ h) a)
 
 direction_curly : (z : Token) → gives (direction_at z) ≡ true → is open_curly z ≡ false
 unfolding same_punctuator
-direction_curly z h = not_true (is open_curly z) (λ a. direction_apart (is open_curly) (λ at. refl) (λ at. refl) z (sym (placed_exactly z.offset (direction_of z)) ∙ h) a)
+direction_curly z h = false_from_ne_true (is open_curly z) (λ a. direction_apart (is open_curly) (λ at. refl) (λ at. refl) z (sym (placed_exactly z.offset (direction_of z)) ∙ h) a)
 
 append_empty : {T : Type 0} (x y : List T) → [] ≡ x ++ y → x ≡ []
 append_empty [] y e = refl

@@ -200,21 +200,22 @@ abbrev pub with_gives : Gives → Scope → Scope
 with_gives g s = record s { gives = g }
 
 abbrev pub without_locals : Scope → Scope
-without_locals s = record s { locals = [] }
+without_locals s = record s { locals = []; local_names = [] }
 
 -- the definition, whose parameters are the first of its locals
-abbrev pub defined : FunctionTree → ReturnType → Block → ℕ → Statement → List LocalVariable → Function
-defined f returns body count b locals = record {
+abbrev pub defined : FunctionTree → ReturnType → Block → ℕ → Statement → List LocalVariable → List (List ℕ) → Function
+defined f returns body count b locals names = record {
   name = text f.name.bytes;
   returns = returns;
   parameters = place_in_tree count;
   locals = locals;
+  local_names = map text names;
   body = b;
   end = place_in_tree (out-Block body).close;
 }
 
 abbrev pub finished : FunctionTree → ReturnType → Block → ℕ → Statement → Declares (Unit {0})
-finished f returns body count b x = tabling (with_function (defined f returns body count b x.scope.locals)) x
+finished f returns body count b x = tabling (with_function (defined f returns body count b x.scope.locals x.scope.local_names)) x
 
 unfoldable pub definition : FunctionTree → ReturnType → Block → Declares (Unit {0})
 definition f returns body x = (do

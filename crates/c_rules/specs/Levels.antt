@@ -3,6 +3,10 @@ use Rattle.std.specs.Prelude.{ℕ, Bool, List, [], ◌∷◌, Option, Some, None
 use Rattle.std.specs.Str.{bytes_eq}
 use denote.Bor.{Bor}
 
+-- what a reference to a name refers to
+abbrev pub pointed : Bor (List ℕ) → List ℕ
+pointed r = r.now
+
 module _ {A : Type 0} where
   -- an entry of a table whose keys refer to their names
   abbrev pub plain : Bor (List ℕ) × A → List ℕ × A

@@ -1,5 +1,7 @@
 -- What names stand for, by scope (C99 6.2.1).
 use Rattle.std.specs.Prelude.{ℕ, ◌-◌, length, remove, slice_get, fold, Bool, true, false, not, ◌&&◌, ◌||◌, is_some, List, [], ◌∷◌, ◌++◌, Option, Some, None}
+use Rattle.c_program.specs.declared.tree.Storage.{Storage}
+use Rattle.c_program.specs.declared.tree.Storage.TheVariants.{Automatic, Static}
 use Rattle.c_rules.specs.declared.names.ObjectKind.{ObjectKind}
 use Rattle.c_rules.specs.declared.names.ObjectKind.TheVariants.{Thread, Mutex, Barrier}
 use Rattle.c_rules.specs.declared.names.Meaning.{Meaning}
@@ -71,12 +73,28 @@ empty_scope = record {
   function = None;
   gives = gives.Unlisted;
   locals = [];
+  local_names = [];
   loops = 0;
 }
 
+abbrev pub is_automatic : Storage → Bool
+is_automatic Automatic = true
+is_automatic Static = false
+
+-- the parameter of a start routine is a local too
+abbrev pub is_local : Meaning → Bool
+is_local (meaning.Variable v) = is_automatic v.storage
+is_local meaning.Argument = true
+is_local other = false
+
+-- the names of locals, with that of one more
+abbrev pub with_name : Bool → List ℕ → List (List ℕ) → List (List ℕ)
+with_name true name names = names ++ name ∷ []
+with_name false name names = names
+
 -- a name in the innermost scope
 unfoldable pub declaring : List ℕ → Meaning → Scope → Scope
-declaring name meaning s = record s { inner = inserted s.inner name meaning }
+declaring name meaning s = record s { inner = inserted s.inner name meaning; local_names = with_name (is_local meaning) name s.local_names }
 
 -- a block in the innermost scope
 unfoldable pub opened : Scope → Scope

@@ -1,6 +1,6 @@
 // The names of one scope (C99 6.2.1), and those of the functions that a text defines.
 
-ghost use Rattle.std.specs.Prelude.{◌≡◌, [], OnOk};
+ghost use Rattle.std.specs.Prelude.{◌≡◌, [], ◌∷◌, ◌++◌, map, OnOk};
 ghost use Rattle.c_rules.specs.Levels as spec;
 
 use crate::names::Meaning;
@@ -98,5 +98,53 @@ impl<'t> Definitions<'t> {
             return Ok(());
         }
         self.insert(name, number)
+    }
+}
+
+/// The names of the locals that a function declares, in the order of their declarations.
+#[derive(Drop)]
+pub struct LocalNames<'t> {
+    names: Vec<&'t [u8]>,
+}
+
+impl<'t> Model for LocalNames<'t> {
+    ghost use Rattle.std.specs.Prelude.{ℕ, List, map};
+    ghost use Rattle.c_rules.specs.Levels.{pointed};
+
+    ghost Value = { List (List ℕ) };
+
+    ghost view = { λ n. map pointed n.names.items };
+}
+
+impl<'t> LocalNames<'t> {
+    /// No local is declared.
+    pub fn new(alloc: Global) -> LocalNames<'t>
+        ensures { result ≡ [] }
+    {
+        LocalNames {
+            names: Vec::new(alloc),
+        }
+    }
+
+    /// A further local has the name.
+    pub fn push(&mut self, name: &'t [u8]) -> Result<(), AllocError>
+        ensures { OnOk result (self.new ≡ self.old ++ name.now ∷ []) }
+    {
+        self.names.push(name)?;
+        Ok(())
+    }
+
+    /// No local is declared any more.
+    pub fn clear(&mut self)
+        ensures { self.new ≡ [] }
+    {
+        self.names.clear()
+    }
+
+    /// The names.
+    pub fn as_slice(&self) -> &[&'t [u8]]
+        ensures { map spec.pointed result.now ≡ self.now }
+    {
+        self.names.as_slice()
     }
 }

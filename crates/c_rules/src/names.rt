@@ -4,7 +4,7 @@ ghost use Rattle.std.specs.Prelude.{◌≡◌, ◌||◌, is_some, OnOk};
 ghost use Rattle.c_rules.specs.Levels.{named_in};
 ghost use Rattle.c_rules.specs.Names as spec;
 
-use crate::level::{Definitions, Level};
+use crate::level::{Definitions, Level, LocalNames};
 use crate::library::LibraryFunction;
 use crate::specifiers::{BaseType, BasicType};
 use c_program::tree::{LocalVariable, Storage};
@@ -63,6 +63,22 @@ pub enum Meaning {
     Function(usize),
     /// An object whose declaration breaks a rule.
     Unusable,
+}
+
+impl Meaning {
+    /// Whether it is a local.
+    fn is_local(self) -> bool
+        ensures { result ≡ spec.is_local self }
+    {
+        matches!(
+            self,
+            Meaning::Argument
+                | Meaning::Variable(Variable {
+                    storage: Storage::Automatic,
+                    ..
+                })
+        )
+    }
 }
 
 /// What a name stands for at a place of the text.
@@ -194,6 +210,8 @@ pub struct Scope<'t> {
     pub function: Option<u32>,
     pub gives: Gives,
     pub locals: Items<LocalVariable>,
+    /// The names of those that have one.
+    pub local_names: LocalNames<'t>,
     /// How many loops of the function the place stands in.
     pub loops: usize,
 }
@@ -211,6 +229,7 @@ impl<'t> Scope<'t> {
             function: None,
             gives: Gives::Unlisted,
             locals: Items::new(alloc),
+            local_names: LocalNames::new(alloc),
             loops: 0,
         }
     }
@@ -260,6 +279,9 @@ impl<'t> Scope<'t> {
     pub fn declare(&mut self, name: &'t [u8], meaning: Meaning) -> Result<(), AllocError>
         ensures { OnOk result (self.new ≡ spec.declaring name.now meaning self.old) }
     {
+        if meaning.is_local() {
+            self.local_names.push(name)?;
+        }
         self.inner.insert(name, meaning)
     }
 

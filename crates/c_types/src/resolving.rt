@@ -17,7 +17,7 @@ use c_globals::tables::Tables;
 use c_program::tree::Program;
 use c_rules::fault::{ResolveError, first};
 use c_rules::findings::Findings;
-use c_rules::level::{Definitions, Level};
+use c_rules::level::{Definitions, Level, LocalNames};
 use c_rules::names::{Gives, Scope};
 use c_tree::{ExternalDeclaration, TranslationUnit};
 use sqlite_items::Items;
@@ -43,6 +43,7 @@ fn file_scope<'t>(alloc: Global, definitions: Definitions<'t>) -> Scope<'t>
         function: None,
         gives: Gives::Unlisted,
         locals: Items::new(alloc),
+        local_names: LocalNames::new(alloc),
         loops: 0,
     }
 }

@@ -1,8 +1,9 @@
 -- Code that does what a thread does, stage after stage.
-use Rattle.std.specs.Prelude.{◌≡◌, ℕ, zero, suc, List, [], ◌∷◌, ◌++◌, ℤ, Option, Some, None, slice_get}
+use Rattle.std.specs.Prelude.{◌≡◌, ℕ, zero, suc, List, [], ◌∷◌, ◌++◌, ℤ, pos, negsuc, Option, Some, None, slice_get, unsigned_abs}
 use Rattle.std.specs.List.{flat_map}
 use Rattle.hls_ints.specs.Types.{IntegerType, long_int, wrapped}
 use Rattle.c_program.specs.Tree.{Piece, Statement, Function, Program}
+use Rattle.c_program.specs.Weight.{hardware_routines}
 use Rattle.thread_semantics.specs.Memory.{Location, element}
 use Rattle.thread_semantics.specs.State.{Frame, started}
 use Rattle.thread_semantics.specs.Work.{Act}
@@ -13,10 +14,10 @@ use Rattle.block_ir.specs.declared.block.Block.{Block}
 use Rattle.block_ir.specs.declared.code.Act.{Act as CodeAct}
 use Rattle.block_ir.specs.declared.code.Act.TheVariants as code
 use Rattle.block_ir.specs.declared.code.ActOperand.{ActOperand}
-use Rattle.block_ir.specs.declared.code.ActOperand.TheVariants.{Constant, Variable}
 use Rattle.block_ir.specs.declared.code.Stage.{Stage}
 use Rattle.block_ir.specs.declared.code.Stage.TheVariants as stage
 use Rattle.block_ir.specs.declared.code.ThreadCode.{ThreadCode}
+use Rattle.block_ir.specs.Asked.{act_value}
 use Rattle.block_ir.specs.Run as run
 use Rattle.block_ir.specs.Run.{Cells, Access, block_run, variables_after, stage_after}
 
@@ -79,10 +80,6 @@ formats_of statement = []
 abbrev pub print_formats : Program → List (List Piece)
 print_formats P = flat_map (λ (f : Function). formats_of f.body) P.functions
 
-abbrev pub act_value : (ℕ → ℤ) → ActOperand → ℤ
-act_value variables (Constant ty v) = v
-act_value variables (Variable x ty) = variables x
-
 -- the operands are these values, as words of 64 bits
 abbrev pub AreValues : (ℕ → ℤ) → List ActOperand → List ℤ → Type 0
 AreValues variables [] [] = Unit {0}
@@ -90,20 +87,31 @@ AreValues variables [] (v ∷ vs) = ⊥
 AreValues variables (o ∷ os) [] = ⊥
 AreValues variables (o ∷ os) (v ∷ vs) = (wrapped long_int (act_value variables o) ≡ wrapped long_int v) × AreValues variables os vs
 
+-- the first operand is the number of an object
+abbrev pub NamesObject : List ℤ → Type 0
+NamesObject [] = ⊥
+NamesObject (pos n ∷ vs) = Unit {0}
+NamesObject (negsuc n ∷ vs) = ⊥
+
+-- the thread of that number runs the routine
+abbrev pub RunsRoutine : Program → List ℤ → ℕ → Type 0
+RunsRoutine P [] routine = ⊥
+RunsRoutine P (n ∷ vs) routine = slice_get (hardware_routines P) (unsigned_abs n) ≡ Some (Some routine)
+
 -- an act of the code is that of the program with these operands. A printf has the number of its format, and its values,
--- each converted to its conversion's type
+-- each converted to its conversion's type; a create starts what the thread that it names runs
 abbrev pub SameAct : Program → (ℕ → ℤ) → CodeAct → Act → List ℤ → Type 0
 SameAct P variables (code.Print site values) (c.Print format) vs =
     (slice_get (print_formats P) site ≡ Some format) × AreValues variables values (converted_values (conversions_of format) vs)
-SameAct P variables (code.Create thread argument) (c.Create routine) vs = AreValues variables (thread ∷ argument ∷ []) vs
-SameAct P variables (code.Join thread) c.Join vs = AreValues variables (thread ∷ []) vs
-SameAct P variables (code.MutexInit mutex) c.MutexInit vs = AreValues variables (mutex ∷ []) vs
-SameAct P variables (code.MutexDestroy mutex) c.MutexDestroy vs = AreValues variables (mutex ∷ []) vs
-SameAct P variables (code.MutexLock mutex) c.MutexLock vs = AreValues variables (mutex ∷ []) vs
-SameAct P variables (code.MutexUnlock mutex) c.MutexUnlock vs = AreValues variables (mutex ∷ []) vs
-SameAct P variables (code.BarrierInit barrier count) c.BarrierInit vs = AreValues variables (barrier ∷ count ∷ []) vs
-SameAct P variables (code.BarrierDestroy barrier) c.BarrierDestroy vs = AreValues variables (barrier ∷ []) vs
-SameAct P variables (code.BarrierWait barrier) c.BarrierWait vs = AreValues variables (barrier ∷ []) vs
+SameAct P variables (code.Create thread argument) (c.Create routine) vs = AreValues variables (thread ∷ argument ∷ []) vs × NamesObject vs × RunsRoutine P vs routine
+SameAct P variables (code.Join thread) c.Join vs = AreValues variables (thread ∷ []) vs × NamesObject vs
+SameAct P variables (code.MutexInit mutex) c.MutexInit vs = AreValues variables (mutex ∷ []) vs × NamesObject vs
+SameAct P variables (code.MutexDestroy mutex) c.MutexDestroy vs = AreValues variables (mutex ∷ []) vs × NamesObject vs
+SameAct P variables (code.MutexLock mutex) c.MutexLock vs = AreValues variables (mutex ∷ []) vs × NamesObject vs
+SameAct P variables (code.MutexUnlock mutex) c.MutexUnlock vs = AreValues variables (mutex ∷ []) vs × NamesObject vs
+SameAct P variables (code.BarrierInit barrier count) c.BarrierInit vs = AreValues variables (barrier ∷ count ∷ []) vs × NamesObject vs
+SameAct P variables (code.BarrierDestroy barrier) c.BarrierDestroy vs = AreValues variables (barrier ∷ []) vs × NamesObject vs
+SameAct P variables (code.BarrierWait barrier) c.BarrierWait vs = AreValues variables (barrier ∷ []) vs × NamesObject vs
 SameAct P variables a b vs = ⊥
 
 -- the step is that act, and Next holds of the calls with which the thread goes on once it is done; or it is undefined
@@ -156,8 +164,15 @@ abbrev pub Follows : Program → List Stage → ℕ → AtStage
 Follows P stages zero l variables arrays frames = Unit {0}
 Follows P stages (suc n) l variables arrays frames = DoesStage P (Follows P stages n) (slice_get stages l) variables arrays frames
 
--- LOWERED: the code of main does the steps of thread 0 for ever, whatever its variables and arrays hold at the start
-abbrev pub IsLowered : Program → ThreadCode → Type 0
-IsLowered P code =
-    (n : ℕ) (variables : ℕ → ℤ) (arrays : Cells) →
-    Follows P code.stages n 0 variables arrays (started (slice_get P.functions P.main) P.main [])
+-- a thread that begins with these arguments has them in its variable
+abbrev pub HasArguments : Option ℕ → (ℕ → ℤ) → List ℤ → Type 0
+HasArguments None variables [] = Unit {0}
+HasArguments (Some x) variables (v ∷ []) = variables x ≡ wrapped long_int v
+HasArguments argument variables vs = ⊥
+
+-- LOWERED: the code does the steps of a thread that begins with the function f, for ever, whatever else its variables and
+-- arrays hold at the start
+abbrev pub IsLowered : Program → ℕ → ThreadCode → Type 0
+IsLowered P f code =
+    (n : ℕ) (variables : ℕ → ℤ) (arrays : Cells) (arguments : List ℤ) → HasArguments code.argument variables arguments →
+    Follows P code.stages n 0 variables arrays (started (slice_get P.functions f) f arguments)

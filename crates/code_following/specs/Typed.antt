@@ -1,10 +1,11 @@
 -- Typed code: operands have the types that they say, the operations of a block use earlier ones, and there are not many of them.
-use Rattle.std.specs.Prelude.{◌≡◌, ℕ, ◌*◌, ◌^◌, ◌<◌, ◌≤◌, List, [], ◌∷◌, ◌++◌, length, map, Option, Some, None, slice_get}
+use Rattle.std.specs.Prelude.{◌≡◌, ◌≢◌, ℕ, ◌*◌, ◌^◌, ◌<◌, ◌≤◌, List, [], ◌∷◌, ◌++◌, length, map, Option, Some, None, slice_get, string_bytes}
 use Rattle.std.specs.List.{AllByRecursion}
-use Rattle.hls_ints.specs.Types.{IntegerType, HasType, int_type}
+use Rattle.hls_ints.specs.Types.{IntegerType, HasType, int_type, long_int}
 use Rattle.c_program.specs.declared.tree.LocalVariable.{LocalVariable}
 use Rattle.c_program.specs.Tree.{Piece, GlobalVariable, Function, Program}
 use Rattle.c_program.specs.Types.{unary_type, binary_type}
+use Rattle.c_program.specs.Resolved.{IsName}
 use Rattle.c_program.specs.Weight.{weight}
 use Rattle.block_ir.specs.declared.operand.Source.{Source}
 use Rattle.block_ir.specs.declared.operand.Source.TheVariants.{Constant, Variable, Value}
@@ -22,7 +23,7 @@ use Rattle.block_ir.specs.declared.code.Array.{Array}
 use Rattle.block_ir.specs.declared.code.Stage.{Stage}
 use Rattle.block_ir.specs.declared.code.Stage.TheVariants as stage
 use Rattle.block_ir.specs.declared.code.ThreadCode.{ThreadCode}
-use Rattle.code_following.specs.Following.{print_formats, conversions_of}
+use Rattle.code_following.specs.Following.{print_formats, conversions_of, IsLowered}
 
 -- ---- operations
 
@@ -151,9 +152,27 @@ pub record IsLocalArray (P : Program) (array : Array) : Type 0 where
   pub typed : variable.ty ≡ array.ty
   pub long : variable.length ≡ array.length
 
+-- main takes no argument, and a routine has its own in a variable of 64 bits
+abbrev pub BeginsWith : Program → ℕ → Option ℕ → List IntegerType → Type 0
+BeginsWith P f None types = f ≡ P.main
+BeginsWith P f (Some x) types = (f ≢ P.main) × (slice_get types x ≡ Some long_int)
+
+-- the name of a local, or none
+abbrev pub IsNameIfAny : List ℕ → Type 0
+IsNameIfAny [] = Unit {0}
+IsNameIfAny name = IsName name
+
 -- TYPED: one stage or more, each typed, with at most 4 operations in a block for each unit of the program's weight; each array
--- is a local's
-pub record IsTypedCode (P : Program) (code : ThreadCode) : Type 0 where
+-- is a local's; each variable has the name of one, or none
+pub record IsTypedCode (P : Program) (f : ℕ) (code : ThreadCode) : Type 0 where
   pub some : 0 < length code.stages
   pub stages : (l : ℕ) (s : Stage) → slice_get code.stages l ≡ Some s → IsTypedStage (types_of P code) P (length code.stages) (4 * weight P) s
   pub arrays : (a : ℕ) (array : Array) → slice_get code.arrays a ≡ Some array → IsLocalArray P array
+  pub argument : BeginsWith P f code.argument code.variables
+  pub names : length code.names ≡ length code.variables
+  pub named : (x : ℕ) (name : List ℕ) → slice_get (map string_bytes code.names) x ≡ Some name → IsNameIfAny name
+
+-- THREAD CODE: what lowering makes of the thread function f
+pub record IsThreadCode (P : Program) (f : ℕ) (code : ThreadCode) : Type 0 where
+  pub lowered : IsLowered P f code
+  pub typed : IsTypedCode P f code

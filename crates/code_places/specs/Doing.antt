@@ -1,5 +1,5 @@
 -- What the code of a statement does.
-use Rattle.std.specs.Prelude.{◌≡◌, ℕ, ◌+◌, ◌≤◌, Bool, true, List, [], ◌++◌, ◌∷◌, length, replicate, Option, Some, None, Contains, ◌⊎◌}
+use Rattle.std.specs.Prelude.{◌≡◌, ℕ, ◌+◌, ◌≤◌, Bool, true, List, [], ◌++◌, ◌∷◌, length, map, replicate, Option, Some, None, Contains, ◌⊎◌, string_bytes}
 use Rattle.hls_ints.specs.Types.{long_int}
 use Rattle.c_program.specs.Tree.{Statement, Program}
 use Rattle.c_program.specs.Limits.{print_count}
@@ -155,6 +155,8 @@ pub record Starts (start : ℕ) (old new : Lowering) : Type 0 where
   pub begins : Begins start labelled new
 
 pub record IsFinished (start : ℕ) (c : Lowering) (code : ThreadCode) : Type 0 where
+  pub argument : code.argument ≡ None
   pub variables : code.variables ≡ c.variables ++ replicate c.act_operands long_int
+  pub names : map string_bytes code.names ≡ replicate (length code.variables) []
   pub arrays : code.arrays ≡ c.arrays
   pub finishes : Finishes start c.stages code.stages

@@ -1,6 +1,6 @@
 // The code of a thread in the making: the block at hand, and the stages before it.
 
-ghost use Rattle.std.specs.Prelude.{◌≡◌, ◌<◌, ◌+◌, ◌++◌, length, replicate, slice_get, true, false, Some, IsTrue, IfOk, IfErr, OnOk};
+ghost use Rattle.std.specs.Prelude.{◌≡◌, ◌<◌, ◌+◌, ◌++◌, [], length, map, replicate, slice_get, string_bytes, true, false, Some, IsTrue, IfOk, IfErr, OnOk};
 ghost use Rattle.hls_ints.specs.Types.{long_int};
 ghost use Rattle.code_places.specs.Control as control;
 ghost use Rattle.code_places.specs.Doing as doing;
@@ -380,9 +380,12 @@ impl Lowering {
             stages,
         } = self.parts();
         let variables = with_words(variables, words)?;
+        let names = no_names(alloc, variables.len())?;
         let stages = stages.finish(alloc, start)?;
         Ok(ThreadCode {
+            argument: None,
             variables,
+            names,
             arrays,
             stages,
         })
@@ -426,4 +429,15 @@ fn with_words(variables: Items<CType>, count: usize) -> Result<Items<CType>, All
         all.push(CType::LONG)?;
     }
     Ok(all)
+}
+
+/// So many empty names.
+fn no_names(alloc: Global, count: usize) -> Result<Items<String>, AllocError>
+    ensures { IfOk result (λ names. map string_bytes names ≡ replicate count []) }
+{
+    let mut names = Items::new(alloc);
+    for done in 0..count {
+        names.push(String::new(alloc))?;
+    }
+    Ok(names)
 }

@@ -1,7 +1,8 @@
 -- The code of main is that of the program.
 use Rattle.std.proofs.Common.{◌≡◌, true, false, ℕ, zero, suc, ◌+◌, ◌*◌, ◌<◌, ◌≤◌, List, [], ◌∷◌, ◌++◌, length, map, replicate, Option, Some, None, refl, sym, ap, ◌∙◌, subst}
 use Rattle.std.proofs.Common.{arith, append-nil}
-use Rattle.std.specs.Prelude.{slice_get, slice_index}
+use Rattle.std.specs.Prelude.{slice_get, slice_index, string_bytes}
+use Rattle.std.proofs.lemmas.List.{length-map, length-replicate}
 use Rattle.hls_ints.specs.Types.{IntegerType, long_int}
 use Rattle.c_program.specs.declared.tree.LocalVariable.{LocalVariable}
 use Rattle.c_program.specs.declared.tree.Function.{Function as FunctionTree}
@@ -30,7 +31,8 @@ use Rattle.thread_rooms.specs.Locals.{variables_of, arrays_of, reached_locals, h
 use Rattle.thread_rooms.specs.Reaching.{has, marks_of}
 use Rattle.thread_rooms.specs.Values.{most_values, all_values}
 use Rattle.code_places.specs.Weighing.{inlined_weight}
-use Rattle.code_following.specs.Typed.{types_of, IsTypedStage, IsTypedCode}
+use Rattle.code_following.specs.Typed.{types_of, IsTypedStage, BeginsWith, IsTypedCode}
+use Rattle.code_following.proofs.Arguments.{none_given, none_named}
 use Rattle.straight_code.specs.Typing.{Typing, IsTypedHome, Fits, HasWords}
 use Rattle.straight_code.proofs.Words.{sum_cons}
 use Rattle.straight_code.proofs.Typing.{get_more}
@@ -189,12 +191,14 @@ module _ (p : ProgramTree) (code : ThreadCode) (made : IsCodeOf p p.main code) (
         begin_at W homes n (settled Onward (Do body ∷ [])) nothing_kept made.start made.starts.labelled made.begun idle made.starts.begins
         (leads.leads W homes size n [] suits (ended.grows.whole W whole) tt (after n) reached n (omega arith))
 
-    pub lowered_at : IsLowered P code
-    lowered_at = λ n variables arrays.
-        subst (λ o. Follows P code.stages n 0 variables arrays (started o p.main [])) (sym found)
+    pub lowered_at : IsLowered P p.main code
+    lowered_at = λ n variables arrays arguments has.
+        subst (λ vs. Follows P code.stages n 0 variables arrays (started (slice_get P.functions p.main) p.main vs))
+        (sym (none_given code.argument variables arguments made.finished.argument has))
+        (subst (λ o. Follows P code.stages n 0 variables arrays (started o p.main [])) (sym found)
         (subst (λ l. Follows P code.stages n l variables arrays (begun (function_of f) p.main [] ∷ [])) made.finished.finishes.first
         (begins n tt variables arrays (begun (function_of f) p.main []) [] refl
-        (record { number = refl; shape = shape_fresh f.locals.items; locals = λ x j v e. absurd (nothing_written f.locals.items x j v e); kept = tt; callers = tt })))
+        (record { number = refl; shape = shape_fresh f.locals.items; locals = λ x j v e. absurd (nothing_written f.locals.items x j v e); kept = tt; callers = tt }))))
 
     -- its types are those of the program's objects
 
@@ -279,9 +283,12 @@ module _ (p : ProgramTree) (code : ThreadCode) (made : IsCodeOf p p.main code) (
         (stage_more (types_of P code) P (length made.ended.stages.stages.items) (length made.ended.stages.stages.items) m (4 * weight P) (omega arith) (let w = light in omega arith)
         (led_stage stage_of h.0) (ended_typed.stages l h.0 h.1 (length made.ended.stages.stages.items) stage_of made.finished.finishes.below)))
 
-    pub typed_at : IsTypedCode P code
+    pub typed_at : IsTypedCode P p.main code
     typed_at = record {
       some = (let e = long in let b = made.finished.finishes.below 0 in omega (arith, e, b));
       stages = stage_typed;
       arrays = λ a array e. array_local P a array (ap (λ arrays. slice_get arrays a) (sym arrays_are) ∙ e);
+      argument = subst (λ o. BeginsWith P p.main o code.variables) (sym made.finished.argument) refl;
+      names = sym (length-map code.names string_bytes) ∙ ap length made.finished.names ∙ length-replicate (length code.variables) [];
+      named = λ x name e. none_named (length code.variables) x name (ap (λ names. slice_get names x) (sym made.finished.names) ∙ e);
     }

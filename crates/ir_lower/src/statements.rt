@@ -228,8 +228,12 @@ pub fn lower(alloc: Global, program: &Program) -> Result<ThreadCode, LowerError>
     ensures taken { OnOk result (is_taken_program (program_of program.now) ≡ true) }
     ensures not_yet { is_taken_program (program_of program.now) ≡ false → result ≡ Err LowerError.NotYet }
     ensures untaken { IfErr result (λ e. e ≡ LowerError.NotYet → is_taken_program (program_of program.now) ≡ false) }
-    ensures lowered { IfOk result (λ code. is_sequential_program (program_of program.now) ≡ true → IsResolved (program_of program.now) → IsLowered (program_of program.now) code) }
-    ensures typed { IfOk result (λ code. is_sequential_program (program_of program.now) ≡ true → IsResolved (program_of program.now) → IsTypedCode (program_of program.now) code) }
+    ensures lowered { IfOk result
+        (λ code. is_sequential_program (program_of program.now) ≡ true → IsResolved (program_of program.now) →
+        IsLowered (program_of program.now) program.now.main code) }
+    ensures typed { IfOk result
+        (λ code. is_sequential_program (program_of program.now) ≡ true → IsResolved (program_of program.now) →
+        IsTypedCode (program_of program.now) program.now.main code) }
     ensures ample { IfErr result
         (λ e. is_sequential_program (program_of program.now) ≡ true → IsResolved (program_of program.now) → IsWithinLimits (program_of program.now) →
         e ≢ LowerError.Fault LoweringFault.TooLarge) }

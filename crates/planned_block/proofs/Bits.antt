@@ -1,30 +1,9 @@
 -- Facts on tests.
 use Rattle.std.specs.Prelude.{◌⊎◌, nat_eq, nat_lt, ◌&&◌, Bool, true, false, ◌||◌}
 use Rattle.std.proofs.Common.{◌≡◌, ◌≢◌, ℕ, suc, ◌<◌, ◌≤◌, refl, sym, ap, ◌∙◌, ⊎_elim, arith}
-use Rattle.std.proofs.lemmas.Bool.Decides.{nat_tests}
-
-pub both_true : (a b : Bool) → (a && b) ≡ true → (a ≡ true) × (b ≡ true)
-both_true true true e = (refl, refl)
-both_true true false e = absurd cc
-both_true false b e = absurd cc
-
-pub is_same : (a b : ℕ) → nat_eq a b ≡ true → a ≡ b
-is_same a b e = grind (arith, nat_tests)
-
-pub same_is : (a b : ℕ) → a ≡ b → nat_eq a b ≡ true
-same_is a b e = grind (arith, nat_tests)
-
-pub other_is : (a b : ℕ) → a ≢ b → nat_eq a b ≡ false
-other_is a b e = grind (arith, nat_tests)
-
-pub less_is : (a b : ℕ) → a < b → nat_lt a b ≡ true
-less_is a b e = grind (arith, nat_tests)
-
-pub not_less_is : (a b : ℕ) → b ≤ a → nat_lt a b ≡ false
-not_less_is a b e = grind (arith, nat_tests)
-
-pub less_or_not : (a b : ℕ) → (a < b) ⊎ (b ≤ a)
-less_or_not a b = grind arith
+-- std's facts on tests, under the names that proofs on blocks have for them
+pub use Rattle.std.proofs.lemmas.Bool.{and_parts as both_true, eqb-true as is_same, eq-eqb as same_is, ne_eqb as other_is}
+pub use Rattle.std.proofs.lemmas.Bool.{lt-ltb as less_is, le-ltb as not_less_is, cases_lt as less_or_not}
 
 -- who isn't done hasn't started before
 pub not_before : (a s : ℕ) (c : Bool) → (nat_lt a s || c) ≡ false → s ≤ a

@@ -3,6 +3,7 @@ use Rattle.std.specs.Prelude.{◌⊎◌, nat_eq, nat_lt, ◌&&◌, ℤ, Bool, tr
 use Rattle.std.proofs.Common.{inr, ◌≡◌, ◌≢◌, ℕ, zero, suc, ◌+◌, ◌<◌, ◌≤◌, List, [], ◌∷◌, ◌++◌, refl, sym, ap, ◌∙◌, subst, ⊎_elim, inl, arith}
 use Rattle.std.proofs.Math.Path.{fun_ext}
 use Rattle.std.proofs.lemmas.Bool.Decides.{nat_tests}
+use mathlib.Core.Bool.{or-false}
 use Rattle.interleaving.specs.Memory.{Location, Memory, Access, memory_after, Touches, AreApart, AgreeOn}
 use Rattle.interleaving.specs.AnyOrder.{Event, ReadEvent, accesses_in, ReadsRight, Remains}
 use Rattle.interleaving.proofs.Accesses.{memory_after-append}
@@ -60,10 +61,6 @@ no_request (BankWrite x) l r v e = absurd cc
 no_request (ArrayRead x) l r v e = refl
 no_request (ArrayWrite x) l r v e = refl
 
-or_false : (c : Bool) → (c || false) ≡ c
-or_false true = refl
-or_false false = refl
-
 module _ (bank : Location → ℕ) (banks : AreBanks bank) (b : Block) (p : Plan) (keeps : KeepsOrders b p) where
   -- operations that are not in order of their starts touch nothing in common that matters
   bank_clear : (variables values : ℕ → ℤ) (j k : ℕ) → j < k → k < size b → p.start k ≤ p.start j →
@@ -105,7 +102,7 @@ module _ (bank : Location → ℕ) (banks : AreBanks bank) (b : Block) (p : Plan
     now_clear : (j k : ℕ) → j < k → k < size b → starts_now b p q k ≡ true → started_before p q.state j ≡ false → AreApart (accesses_in (array_ev j)) (accesses_in (array_ev k))
     now_clear j k lt below t w =
         let e = is_same (p.start k) q.state t in
-        let le : q.state ≤ p.start j = not_before (p.start j) q.state false (or_false (started_before p q.state j) ∙ w) in
+        let le : q.state ≤ p.start j = not_before (p.start j) q.state false (or-false (started_before p q.state j) ∙ w) in
         array_clear q.variables values j k lt below (omega arith)
 
     array_read : (k x : ℕ) → k < size b → (operation_at b k).kind ≡ ArrayRead x → p.start k ≡ q.state → q.arrays (element x (left_of k)) ≡ values k

@@ -2,6 +2,7 @@
 use Rattle.std.specs.Prelude.{◌⊎◌, nat_lt, Bool, true, false, ◌||◌, if◌then◌else◌, Some, None}
 use Rattle.std.proofs.Common.{inr, ◌≡◌, ◌≢◌, ℕ, zero, suc, ◌+◌, ◌-◌, ◌<◌, ◌≤◌, List, [], ◌∷◌, refl, sym, ap, ◌∙◌, subst, ⊎_elim, inl, arith}
 use Rattle.std.proofs.lemmas.Bool.Decides.{nat_tests}
+use Rattle.std.proofs.lemmas.Bool.{or_left, or_right}
 use Rattle.interleaving.proofs.Update.{same_or_not}
 use Rattle.planned_block.specs.Block.{Operand, Constant, Variable, Value, Through, Kind, Simple, Multiply, Divide, BankRead, BankWrite, ArrayRead, ArrayWrite}
 use Rattle.planned_block.specs.Block.{Final, Block, operation_at, size, Uses, UsesIn, IsAmong, IsUsedAtEnd, IsOrdered}
@@ -29,14 +30,6 @@ greater_left a c = grind (arith, nat_tests)
 
 greater_right : (a c : ℕ) → c ≤ greater a c
 greater_right a c = grind (arith, nat_tests)
-
-or_left : (a c : Bool) → a ≡ true → (a || c) ≡ true
-or_left true c e = refl
-or_left false c e = absurd cc
-
-or_right : (a c : Bool) → c ≡ true → (a || c) ≡ true
-or_right true c e = refl
-or_right false c e = e
 
 user_is_before : (b : Block) (p : Plan) (j k n : ℕ) → k < n → Uses (operation_at b k) j → last_state b p k ≤ last_user b p j n
 user_is_before b p j k zero lt u = absurd (omega arith)

@@ -1,6 +1,7 @@
 -- The next slot as a function is a next slot of the relation; in a closed state it hangs on the slot alone.
 use Rattle.std.specs.Prelude.{◌⊎◌, nat_eq, ℤ, Bool, true, false, ◌&&◌, ◌||◌, not, if◌then◌else◌, Option, Some, None}
 use Rattle.std.proofs.Common.{inr, ◌≡◌, ◌≢◌, ℕ, zero, suc, ◌+◌, ◌<◌, ◌≤◌, List, [], ◌++◌, refl, sym, ap, ◌∙◌, subst, ⊎_elim, inl, arith}
+use Rattle.std.proofs.lemmas.Bool.{false_from_ne_true}
 use Rattle.interleaving.specs.Memory.{Location, Memory, Access, memory_after}
 use Rattle.interleaving.proofs.Update.{same_or_not}
 use Rattle.planned_block.specs.Block.{Operand, Constant, Variable, Value, Through, Kind, Simple, Multiply, Divide, BankRead, BankWrite, ArrayRead, ArrayWrite}
@@ -55,10 +56,6 @@ accesses_where-same f u v (suc count) n each = here (f n) refl (accesses_where-s
 register_tells : (o : Option ℕ) (r : ℕ) → is_register o r ≡ true → o ≡ Some r
 register_tells None r e = absurd cc
 register_tells (Some s) r e = ap Some (is_same s r e)
-
-false_unless : (c : Bool) → (c ≡ true → ⊥) → c ≡ false
-false_unless true never = absurd (never refl)
-false_unless false never = refl
 
 -- operands hang on the wires of this state and on registers
 operand_same : (b : Block) (p : Plan) (q : Slot) (u v : ℕ → ℤ) (o : Operand) → ((j : ℕ) → UsesIn o j → last_state b p j ≡ q.state → u j ≡ v j) →
@@ -152,7 +149,7 @@ module _ (bank : Location → ℕ) (b : Block) (p : Plan) (keeps : KeepsOrders b
           let two = both_true (grants j) (reads_bank bank (operation_at b j).kind (index j) n) t in
           ap word (one_read n j k below lt two.0 g (reads_tell n j (operation_at b j).kind refl two.1) (record { global = x; kind = e; bank_is = refl })))
           ∙ ap (λ kind. word_read bank kind (index k) m) e;
-      kept = λ n none. last_of-miss (reads n) word (q.words n) (size b) (λ j below. false_unless (reads n j) (λ t.
+      kept = λ n none. last_of-miss (reads n) word (q.words n) (size b) (λ j below. false_from_ne_true (reads n j) (λ t.
           let two = both_true (grants j) (reads_bank bank (operation_at b j).kind (index j) n) t in
           let r = reads_tell n j (operation_at b j).kind refl two.1 in
           none j r.global below two.0 r.kind r.bank_is));
@@ -169,7 +166,7 @@ module _ (bank : Location → ℕ) (b : Block) (p : Plan) (keeps : KeepsOrders b
         (λ j below t.
         let two = both_true (nat_eq (last_state b p j) q.state) (is_register (p.register j) r) t in
         ap (wires bank b p q) (one_value j k r below lt (is_same (last_state b p j) q.state two.0) s (register_tells (p.register j) r two.1) e));
-    kept = λ r none. last_of-miss (ends_now q r) (wires bank b p q) (q.registers r) (size b) (λ j below. false_unless (ends_now q r j) (λ t.
+    kept = λ r none. last_of-miss (ends_now q r) (wires bank b p q) (q.registers r) (size b) (λ j below. false_from_ne_true (ends_now q r j) (λ t.
         let two = both_true (nat_eq (last_state b p j) q.state) (is_register (p.register j) r) t in
         none j below (is_same (last_state b p j) q.state two.0) (register_tells (p.register j) r two.1)));
   }

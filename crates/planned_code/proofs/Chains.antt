@@ -39,7 +39,7 @@ view_length : (os : List CodeOperation) → length (operations_view os) ≡ leng
 view_length [] = refl
 view_length (o ∷ os) = ap suc (view_length os)
 
-module _ (P : Program) (code : ThreadCode) (plan : Planned) (typed : IsTypedCode P code) (is : IsRightPlan code plan) where
+module _ (P : Program) (routine : ℕ) (code : ThreadCode) (plan : Planned) (typed : IsTypedCode P routine code) (is : IsRightPlan code plan) where
   pub typed_at : (l : ℕ) (b : CodeBlock) → slice_get code.stages l ≡ Some (stage.Run b) → IsTypedBlock (types_of P code) (length code.stages) (4 * weight P) b
   typed_at l b at = typed.stages l (stage.Run b) at
 
@@ -49,7 +49,7 @@ module _ (P : Program) (code : ThreadCode) (plan : Planned) (typed : IsTypedCode
   abbrev pub chain : ℕ → ℕ → ℕ
   chain f l = own_latencies (blocks_of code f l)
 
-  short : (l : ℕ) (o : Option Stage) → slice_get code.stages l ≡ o → (plan_at o (slice_get plan.stages l)).states ≤ own_latencies (block_at o)
+  pub short : (l : ℕ) (o : Option Stage) → slice_get code.stages l ≡ o → (plan_at o (slice_get plan.stages l)).states ≤ own_latencies (block_at o)
   short l None at = omega arith
   short l (Some (stage.Act a next)) at = omega arith
   short l (Some (stage.Run b)) at =
@@ -59,15 +59,16 @@ module _ (P : Program) (code : ThreadCode) (plan : Planned) (typed : IsTypedCode
       let brief = p.2.short in
       subst (λ q. (plan_at (Some (stage.Run b)) q).states ≤ own_latencies v) (sym p.1) (omega (arith, brief, most))
 
-  busy : (l : ℕ) (o : Option Stage) → slice_get code.stages l ≡ o → 0 < (plan_at o (slice_get plan.stages l)).states → (block_at o).steps ≡ 0 → ⊥
+  pub busy : (l : ℕ) (o : Option Stage) → slice_get code.stages l ≡ o → 0 < (plan_at o (slice_get plan.stages l)).states → (block_at o).steps ≡ 0 → ⊥
   busy l None at some idle = omega arith
   busy l (Some (stage.Act a next)) at some idle = omega arith
   busy l (Some (stage.Run b)) at some idle = let h = (typed_at l b at).busy in omega arith
 
-  bounded : (l : ℕ) (o : Option Stage) → slice_get code.stages l ≡ o → own_latencies (block_at o) ≤ 32 * (weight P + 1)
-  bounded l None at = omega arith
-  bounded l (Some (stage.Act a next)) at = omega arith
-  bounded l (Some (stage.Run b)) at =
+  -- of the latencies of a block are at most 32 for each unit of the weight
+  pub low : (l : ℕ) (o : Option Stage) → slice_get code.stages l ≡ o → own_latencies (block_at o) ≤ 32 * weight P + 1
+  low l None at = omega arith
+  low l (Some (stage.Act a next)) at = omega arith
+  low l (Some (stage.Run b)) at =
       let v = planned_view b in
       let most = latencies_most v (size v) in
       let long = view_length b.operations in
@@ -79,12 +80,12 @@ module _ (P : Program) (code : ThreadCode) (plan : Planned) (typed : IsTypedCode
     short = λ f l. short l (slice_get code.stages l) refl;
     holds = λ f l. omega arith;
     stepless = λ f l some idle value. absurd (busy l (slice_get code.stages l) refl some idle);
-    bounded = λ f l. bounded l (slice_get code.stages l) refl;
+    bounded = λ f l. let few = low l (slice_get code.stages l) refl in omega (arith, few);
   }
 
 pub plans_are_small : PlansAreSmall
 plans_are_small P code plan typed is l b p at here =
-    let q = planned_at P code plan typed is l b at in
+    let q = planned_at P P.main code plan typed is l b at in
     let v = planned_view b in
     let same : p ≡ q.0 = (let both : Some (planned.Run p) ≡ Some (planned.Run q.0) = sym here ∙ q.1 in cc) in
     let states : p.states ≡ q.0.states = ap (λ (z : BlockPlan). z.states) same in
@@ -92,5 +93,5 @@ plans_are_small P code plan typed is l b p at here =
     let most = sequential_short v in
     let sum = latencies_most v (size v) in
     let long = view_length b.operations in
-    let few = (typed_at P code plan typed is l b at).few in
+    let few = (typed_at P P.main code plan typed is l b at).few in
     omega (arith, states, brief, most, sum, long, few)

@@ -16,6 +16,7 @@ use Rattle.block_ir.specs.declared.plan.BlockPlan.{BlockPlan}
 use Rattle.block_ir.specs.declared.plan.Planned.{Planned}
 use Rattle.right_plan.specs.Right.{IsRightPlan}
 use Rattle.code_following.specs.Typed.{types_of, IsTypedNext, IsTypedStage, IsTypedCode}
+use Rattle.code_following.proofs.Arguments.{main_takes_none}
 use Rattle.thread_promise.specs.Promise.{RunsAt}
 use Rattle.bank_partition.specs.declared.banks.Spread.{Spread}
 use Rattle.bank_partition.specs.Shapes.{count_of, spreads_from}
@@ -32,7 +33,7 @@ spread_at threads [] y first x n e = cc
 spread_at threads (g ∷ globals) y first zero n e = (record { first = first; count = count_of threads y g; length = g.length }, refl, (let same : g.length ≡ n = cc in same))
 spread_at threads (g ∷ globals) y first (suc x) n e = spread_at threads globals (y + 1) (first + count_of threads y g) x n e
 
-module _ (P : Program) (threads : List ℕ) (code : ThreadCode) (plan : Planned) (resolved : IsResolved P) (typed : IsTypedCode P code) (is : IsRightPlan code plan) where
+module _ (P : Program) (threads : List ℕ) (routine : ℕ) (code : ThreadCode) (plan : Planned) (typed : IsTypedCode P routine code) (is : IsRightPlan code plan) where
   abbrev spreads : List Spread
   spreads = spreads_from threads 0 0 P.globals
 
@@ -54,10 +55,10 @@ module _ (P : Program) (threads : List ℕ) (code : ThreadCode) (plan : Planned)
   stage_is (stage.Act (act.BarrierDestroy barrier) next) h = absurd h
   stage_is (stage.Act (act.BarrierWait barrier) next) h = absurd h
 
-  planned : (l : ℕ) (b : Block) → slice_get code.stages l ≡ Some (stage.Run b) → (p : BlockPlan) × RunsAt (globals_of P) spreads code plan l b p × (0 < p.states)
+  pub planned : (l : ℕ) (b : Block) → slice_get code.stages l ≡ Some (stage.Run b) → (p : BlockPlan) × RunsAt (globals_of P) spreads code plan l b p × (0 < p.states)
   planned l b at =
-      let p = planned_at P code plan typed is l b at in
-      let t = typed_at P code plan typed is l b at in
+      let p = planned_at P routine code plan typed is l b at in
+      let t = typed_at P routine code plan typed is l b at in
       let order = in_order (types_of P code) (length code.stages) (4 * weight P) b t in (
         p.0,
         record {
@@ -75,10 +76,11 @@ module _ (P : Program) (threads : List ℕ) (code : ThreadCode) (plan : Planned)
 pub plan_is_code : PlanIsCode
 plan_is_code P threads code plan resolved lowered typed is = record {
   lowered = lowered;
+  argument = main_takes_none P code.argument code.variables typed.argument;
   some = typed.some;
-  stages = λ l s at. stage_is P threads code plan resolved typed is s (typed.stages l s at);
+  stages = λ l s at. stage_is P threads P.main code plan typed is s (typed.stages l s at);
   prints = λ l site next values format at at_site. (typed.stages l (stage.Act (act.Print site values) next) at).0.counted format at_site;
-  planned = planned P threads code plan resolved typed is;
-  chain = chain P code plan typed is;
-  chains = chains P code plan typed is;
+  planned = planned P threads P.main code plan typed is;
+  chain = chain P P.main code plan typed is;
+  chains = chains P P.main code plan typed is;
 }

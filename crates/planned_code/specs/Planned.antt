@@ -18,11 +18,11 @@ use Rattle.program_machine.specs.Built.{IsCode}
 -- printf having at most 4 values
 abbrev pub PlanIsCode : Type 0
 PlanIsCode =
-    (P : Program) (threads : List ℕ) (code : ThreadCode) (plan : Planned) → IsResolved P → IsLowered P code → IsTypedCode P code → IsRightPlan code plan →
+    (P : Program) (threads : List ℕ) (code : ThreadCode) (plan : Planned) → IsResolved P → IsLowered P P.main code → IsTypedCode P P.main code → IsRightPlan code plan →
     IsCode P (spreads_from threads 0 0 P.globals) code plan 4
 
 -- the number of a block's states has 64 bits
 abbrev pub PlansAreSmall : Type 0
 PlansAreSmall =
-    (P : Program) (code : ThreadCode) (plan : Planned) → IsTypedCode P code → IsRightPlan code plan →
+    (P : Program) (code : ThreadCode) (plan : Planned) → IsTypedCode P P.main code → IsRightPlan code plan →
     (l : ℕ) (b : Block) (p : BlockPlan) → slice_get code.stages l ≡ Some (stage.Run b) → slice_get plan.stages l ≡ Some (planned.Run p) → p.states < 2 ^ 64

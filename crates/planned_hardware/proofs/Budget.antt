@@ -25,7 +25,7 @@ requests_fit b (suc n) =
 
 module _ (blocks : ℕ → ℕ → Block) (plans : ℕ → ℕ → Plan) (chain : ℕ → ℕ → ℕ) (weight : ℕ) (chains : AreChains blocks plans chain weight) where
   -- a block has at most one change for each state and one for each request
-  within_chain : (f l : ℕ) → changes_of (code_of blocks plans chain) f l < 2 * chain f l
+  pub within_chain : (f l : ℕ) → changes_of (code_of blocks plans chain) f l < 2 * chain f l
   within_chain f l =
       let s = chains.short f l in
       let h = chains.holds f l in

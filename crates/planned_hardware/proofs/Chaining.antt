@@ -1,6 +1,7 @@
 -- A cycle of a net of planned threads is a chain of their moves, and its runs follow one interleaving.
 use Rattle.std.specs.Prelude.{◌⊎◌, ℤ, Bool, true, false, ◌&&◌, ◌||◌, if◌then◌else◌}
 use Rattle.std.proofs.Common.{◌≡◌, ℕ, ◌<◌, List, [], refl, ap, ◌∙◌, subst, ⊎_elim, inl, ◌≢◌}
+use Rattle.std.proofs.lemmas.Bool.{or_right, both_ways}
 use Rattle.interleaving.specs.Memory.{Access, memory_after}
 use Rattle.interleaving.specs.Hardware.{World}
 use Rattle.interleaving.specs.Cycle.{StaysInCycle, TurnsInCycle, ActsInCycle}
@@ -17,14 +18,6 @@ use Rattle.planned_hardware.specs.Headline.{BlocksArePlanned, PlannedProgram, Pl
 use Rattle.planned_block.proofs.Advancing.{advances, ready_or_asks, some_tells, touched_by_one, turns_frame, turns_change}
 use Rattle.planned_hardware.proofs.Planned.{blocks_planned, blocks_timed}
 
-differ : (a : Bool) → a ≡ true → a ≡ false → ⊥
-differ true e z = cc
-differ false e z = cc
-
-or_right : (a c : Bool) → c ≡ true → (a || c) ≡ true
-or_right true c t = refl
-or_right false c t = t
-
 module _ (M : PlannedThreads) (w v : World ℤ Slot (ℕ → M.Core)) (g : Grants) where
   abbrev b : ℕ → Block
   b n = block_of M.code (w.slots n)
@@ -39,7 +32,7 @@ module _ (M : PlannedThreads) (w v : World ℤ Slot (ℕ → M.Core)) (g : Grant
   goes n = is_ready (b n) (p n) (w.slots n) (g.grant n) || is_answered (b n) (p n) (w.slots n) (g.grant n)
 
   turns : (n : ℕ) → RunsInCycle M w v g n → (e : Bool) → g.enabled n ≡ e → (e && goes n) ≡ true → TurnsInCycle M.source (hardware_of M) w v (place_owner M w v g) g.core_owner n
-  turns n r false e go = absurd (differ false go refl)
+  turns n r false e go = absurd (both_ways false refl go)
   turns n r true e go =
       ⊎_elim
       (λ t. record {
@@ -50,7 +43,7 @@ module _ (M : PlannedThreads) (w v : World ℤ Slot (ℕ → M.Core)) (g : Grant
         memory = λ l o. subst (λ (c : Bool). v.memory l ≡ memory_after (if c then made n else []) w.memory l) e (r.memory l o);
         cores = r.cores;
       })
-      (λ rest. absurd (differ (goes n) go rest.2))
+      (λ rest. absurd (both_ways (goes n) rest.2 go))
       (advances M.bank (b n) (p n) (w.slots n) w.memory (g.grant n) (g.wire n) (v.slots n) (r.on e) (r.inside e) r.within)
 
   stays : (n : ℕ) → RunsInCycle M w v g n → (e : Bool) → g.enabled n ≡ e → (e && goes n) ≡ false → StaysInCycle M.source (hardware_of M) w v (place_owner M w v g) g.core_owner n
@@ -61,7 +54,7 @@ module _ (M : PlannedThreads) (w v : World ℤ Slot (ℕ → M.Core)) (g : Grant
   }
   stays n r true e go =
       ⊎_elim
-      (λ t. absurd (differ (goes n) t.1 go))
+      (λ t. absurd (both_ways (goes n) go t.1))
       (λ rest. record {
         slot = rest.0;
         memory = λ l o. subst (λ (c : Bool). v.memory l ≡ memory_after (if c then made n else []) w.memory l) e (r.memory l o) ∙ ap (λ es. memory_after es w.memory l) rest.1;
@@ -76,7 +69,7 @@ module _ (M : PlannedThreads) (w v : World ℤ Slot (ℕ → M.Core)) (g : Grant
     moves_one n lt false a m = inl (turns n (net.runs n lt a) (g.enabled n) refl m)
 
     stays_one : (n : ℕ) → n < T → (a : Bool) → g.outside n ≡ a → (a || (g.enabled n && goes n)) ≡ false → StaysInCycle M.source (hardware_of M) w v (place_owner M w v g) g.core_owner n
-    stays_one n lt true a m = absurd (differ true refl m)
+    stays_one n lt true a m = absurd (both_ways true m refl)
     stays_one n lt false a m = stays n (net.runs n lt a) (g.enabled n) refl m
 
 -- ORDER IN A CYCLE, for planned threads
@@ -115,11 +108,11 @@ pub moves_change : (M : PlannedThreads) → MovesChange M
 moves_change M w v g n r go = by_enabled (g.enabled n) refl go
   where
     by_enabled : (e : Bool) → g.enabled n ≡ e → (e && goes M w v g n) ≡ true → v.slots n ≢ w.slots n
-    by_enabled false e m = absurd (differ false m refl)
+    by_enabled false e m = absurd (both_ways false refl m)
     by_enabled true e m =
         ⊎_elim
         (λ t. turns_change M.bank (b M w v g n) (p M w v g n) (w.slots n) w.memory (made M w v g n) (v.slots n) t.0)
-        (λ rest. absurd (differ (goes M w v g n) m rest.2))
+        (λ rest. absurd (both_ways (goes M w v g n) rest.2 m))
         (advances M.bank (b M w v g n) (p M w v g n) (w.slots n) w.memory (g.grant n) (g.wire n) (v.slots n) (r.on e) (r.inside e) r.within)
 
 -- PLANNED

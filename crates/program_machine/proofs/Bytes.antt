@@ -9,7 +9,8 @@ use Rattle.hls_ints.specs.Words.{signed_word}
 use Rattle.c_program.specs.Tree.{Piece, Program}
 use Rattle.circuit.specs.Rows.{spread}
 use Rattle.block_ir.specs.declared.code.ActOperand.{ActOperand}
-use Rattle.code_following.specs.Following.{print_formats, conversions_of, act_value}
+use Rattle.block_ir.specs.Asked.{act_value}
+use Rattle.code_following.specs.Following.{print_formats, conversions_of}
 use Rattle.block_refine.specs.Acts.{words_of, printed_words}
 use Rattle.print_core.specs.declared.format.Part.{Part}
 use Rattle.print_core.specs.Machine.{site_bytes, bytes_of_site}

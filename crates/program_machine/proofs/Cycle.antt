@@ -24,7 +24,8 @@ use Rattle.block_ir.specs.declared.code.ThreadCode.{ThreadCode}
 use Rattle.block_ir.specs.declared.block.Block.{Block}
 use Rattle.block_ir.specs.declared.plan.BlockPlan.{BlockPlan}
 use Rattle.block_ir.specs.declared.plan.Planned.{Planned}
-use Rattle.code_following.specs.Following.{print_formats, act_value}
+use Rattle.block_ir.specs.Asked.{act_value}
+use Rattle.code_following.specs.Following.{print_formats}
 use Rattle.block_refine.specs.Acts.{words_of}
 use Rattle.planned_block.specs.Block.{Kind, Simple, Multiply, Divide, BankRead, BankWrite, ArrayRead, ArrayWrite, operation_at, size, element}
 use Rattle.planned_block.specs.Plan.{NoTarget, OfGlobal, OfArray, Target, target_of}

@@ -258,7 +258,7 @@ module _ (P : Program) (spreads : List Spread) (banks : List Bank) (code : Threa
   planned l b e = some_states P spreads code plan shape.values R coded 0 l b e
 
   main_starts : Starts P code plan (local_of (start P) 0) 0 0 (λ x. pos 0) (λ l. pos 0)
-  main_starts = code_follows P code plan R coded.lowered planned (λ x. pos 0) (λ l. pos 0)
+  main_starts = code_follows P code plan R coded.lowered coded.argument planned (λ x. pos 0) (λ l. pos 0)
 
   past_states : (plans_of code plan 0 (length code.stages)).states ≡ 0
   past_states =

@@ -1,6 +1,6 @@
 -- What the parts of the hardware of a program of one thread are: its code, the plan, the module that runs it, the banks of its globals, the
 -- printer.
-use Rattle.std.specs.Prelude.{◌≡◌, ℕ, zero, suc, ◌<◌, List, [], ◌∷◌, length, map, Some, slice_get, Bool, true}
+use Rattle.std.specs.Prelude.{◌≡◌, ℕ, zero, suc, ◌<◌, List, [], ◌∷◌, length, map, Some, None, slice_get, Bool, true}
 use Rattle.hls_ints.specs.Types.{IntegerType}
 use Rattle.c_program.specs.Tree.{Piece, GlobalVariable, Program}
 use Rattle.bank_partition.specs.declared.banks.Spread.{Spread}
@@ -61,7 +61,8 @@ IsStage n values (stage.Act _ next) = ⊥
 -- the code of main, planned: it does the steps of thread 0, its plan keeps the orders of each block, and its chains of blocks
 -- are short
 pub record IsCode (P : Program) (spreads : List Spread) (code : ThreadCode) (plan : Planned) (values : ℕ) : Type 0 where
-  pub lowered : IsLowered P code
+  pub lowered : IsLowered P P.main code
+  pub argument : code.argument ≡ None
   pub some : 0 < length code.stages
   pub stages : (l : ℕ) (s : Stage) → slice_get code.stages l ≡ Some s → IsStage (length code.stages) values s
   -- a printf has a value for each conversion of its format

@@ -7,6 +7,7 @@ use Rattle.std.specs.Option.{option_map}
 use Rattle.std.proofs.lemmas.Bool.Decides.{nat_tests}
 use Rattle.std.proofs.lemmas.List.Folds.{list_any_at}
 use Rattle.std.proofs.lemmas.List.Elements.{Contains-append_cases, Contains-append_left, Contains-append_right}
+use Rattle.std.proofs.lemmas.Bool.{and_from, or_right, and_parts}
 use Rattle.thread_semantics.specs.Memory.{Location}
 use Rattle.thread_semantics.specs.Races.{Touch}
 use Rattle.race_check.specs.declared.access.Access.{Access}
@@ -40,26 +41,9 @@ module _ (A B C : Location → Type 0) (split : (q : Location) → C q → A q �
       (left p a.0, λ q c. elim (split q c) [ inl x ↦ a.1 q x | inr y ↦ absurd (b q y) ])
   least_of (Some p) (Some r) a b = lesser_of p r (precedes p r) refl a b
 
--- Tests.
-and_left : (a b : Bool) → (a && b) ≡ true → a ≡ true
-and_left true b e = refl
-and_left false b e = e
-
-and_right : (a b : Bool) → (a && b) ≡ true → b ≡ true
-and_right true b e = e
-and_right false b e = absurd (let never : ⊥ = cc in never)
-
-and_both : (a b : Bool) → a ≡ true → b ≡ true → (a && b) ≡ true
-and_both true b e d = d
-and_both false b e d = e
-
 or_second : (a b : Bool) → a ≡ false → (a || b) ≡ true → b ≡ true
 or_second true b e d = absurd (let never : ⊥ = cc in never)
 or_second false b e d = d
-
-or_right : (a b : Bool) → b ≡ true → (a || b) ≡ true
-or_right true b e = refl
-or_right false b e = e
 
 pub or_turned : (a b : Bool) → (a || b) ≡ true → (b || a) ≡ true
 or_turned true b e = or_right b true refl
@@ -72,8 +56,8 @@ same_place p q e d = ap₂ (λ (v j : ℕ). record { variable = v; index = j }) 
 
 at_is : (p : Location) (t : Touch) → is_at p t ≡ true → t.place ≡ p
 at_is p t h =
-    let a = and_left (nat_eq t.place.variable p.variable) (nat_eq t.place.index p.index) h in
-    let b = and_right (nat_eq t.place.variable p.variable) (nat_eq t.place.index p.index) h in
+    let a = (and_parts (nat_eq t.place.variable p.variable) (nat_eq t.place.index p.index) h).0 in
+    let b = (and_parts (nat_eq t.place.variable p.variable) (nat_eq t.place.index p.index) h).1 in
     let e : t.place.variable ≡ p.variable = grind (arith, nat_tests, a) in
     let d : t.place.index ≡ p.index = grind (arith, nat_tests, b) in
     same_place t.place p e d
@@ -114,7 +98,7 @@ hit_least x zs = go (x.written && list_any (is_at x.place) zs) refl
 
     go : (b : Bool) → (x.written && list_any (is_at x.place) zs) ≡ b → IsLeast (Hits (x ∷ []) zs) (if b then Some x.place else None)
     go true e =
-        let t = any_gives x.place zs (and_right x.written (list_any (is_at x.place) zs) e) in (
+        let t = any_gives x.place zs (and_parts x.written (list_any (is_at x.place) zs) e).1 in (
           record {
             first = x;
             second = t.0;
@@ -122,14 +106,14 @@ hit_least x zs = go (x.written && list_any (is_at x.place) zs) refl
             second_in = t.1;
             first_place = refl;
             second_place = t.2;
-            written = and_left x.written (list_any (is_at x.place) zs) e;
+            written = (and_parts x.written (list_any (is_at x.place) zs) e).0;
           },
           λ q h. subst (λ r. precedes x.place r ≡ true) (place_is q h) (precedes_itself x.place),
         )
     go false e = λ q h.
         let w : x.written ≡ true = ap (λ (t : Touch). t.written) (only_one x h.first h.first_in) ∙ h.written in
         let a : list_any (is_at x.place) zs ≡ true = any_from x.place zs h.second h.second_in (h.second_place ∙ sym (place_is q h)) in
-        let both : (x.written && list_any (is_at x.place) zs) ≡ true = and_both x.written (list_any (is_at x.place) zs) w a in
+        let both : (x.written && list_any (is_at x.place) zs) ≡ true = and_from x.written (list_any (is_at x.place) zs) w a in
         let never : ⊥ = cc (both, e) in never
 
 hits_with : (cs ys zs : List Touch) (q : Location) (h : Hits cs zs q) → Contains ys h.first → Hits ys zs q

@@ -2,7 +2,7 @@
 use Rattle.std.proofs.Common.{◌≡◌, refl, sym, ap, subst, ◌∙◌, ℕ, zero, suc, ◌<◌, ◌≤◌, Bool, true, false, List, [], ◌∷◌, map, length, Option, Some, None, eqb-true, leb-true, arith}
 use Rattle.std.specs.Prelude.{◌||◌, ◌&&◌, not, is_none, nat_eq, nat_le, slice_get, slice_index_or, count_by, Contains, ⊤}
 use Rattle.std.specs.List.{AllByRecursion}
-use Rattle.std.proofs.lemmas.Bool.{and_parts}
+use Rattle.std.proofs.lemmas.Bool.{and_parts, not-false, or_parts}
 use Rattle.c_tree.specs.declared.expression.Argument.{Argument, out-Argument}
 use Rattle.c_tree.specs.declared.expression.Argument.TheOpen.{Argument-F, Form-F}
 use Rattle.c_tree.specs.declared.expression.Form.{out-Form}
@@ -76,15 +76,6 @@ no_pointer_by false base.Mutex pointer h = refl
 no_pointer_by false base.Barrier pointer h = refl
 no_pointer_by false base.Unlisted pointer h = refl
 no_pointer_by true b pointer h = cc
-
-pub not-not : (b : Bool) → not b ≡ false → b ≡ true
-not-not true h = refl
-not-not false h = cc
-
-pub or_parts : (x y : Bool) → (x || y) ≡ false → (x ≡ false) × (y ≡ false)
-or_parts false false h = (refl, refl)
-or_parts false true h = cc
-or_parts true y h = cc
 
 pub not_equal : (m n : ℕ) → not (nat_eq m n) ≡ false → m ≡ n
 not_equal m n h = grind arith
@@ -355,7 +346,7 @@ module _ (whole : Findings) (P : Program) (number : ℕ) (f : Function) (s : Sco
       not (c.takes format count) ≡ false → r.AreExpressions P f values → length values ≡ count → InOrder (c.printed at format values)
   printed_is at None values count pieces takes all counted = cc
   printed_is at (Some pieces) values count are takes all counted =
-      let parts = and_parts (nat_eq (count_by r.is_conversion pieces) count) (nat_le count 4) (not-not (c.takes (Some pieces) count) takes) in
+      let parts = and_parts (nat_eq (count_by r.is_conversion pieces) count) (nat_le count 4) (not-false (c.takes (Some pieces) count) takes) in
       plain (Statement.Print at pieces values) (record {
         pieces = are;
         count = eqb-true (count_by r.is_conversion pieces) count parts.0 ∙ sym counted;

@@ -2,6 +2,7 @@
 -- its name.
 use Rattle.std.proofs.Common.{◌≡◌, refl, sym, ap, ◌∙◌, ℕ, Bool, true, false, List, length, Option, Some, None, eqb-true}
 use Rattle.std.specs.Prelude.{◌&&◌, not, slice_get, is_some}
+use Rattle.std.proofs.lemmas.Option.{same_Some}
 use Rattle.c_tree.specs.declared.declaration.Function.{Function as FunctionTree}
 use Rattle.c_program.specs.Tree.{Function}
 use Rattle.c_program.specs.Resolved.{IsName}
@@ -11,7 +12,6 @@ use Rattle.c_rules.specs.declared.names.Scope.{Scope}
 use Rattle.c_rules.specs.Levels.{named_in}
 use Rattle.c_rules.specs.Walks.{place_in_tree}
 use Rattle.c_resolution.specs.Functions as y
-use Rattle.resolved_program.proofs.Walks.{some-some}
 use Rattle.resolved_program.proofs.Growing.{front_at, Grows}
 
 -- the function of that number, where these functions are defined, and these names are those of the bodies so far
@@ -55,7 +55,7 @@ codes_on D names more s t functions stay grows are number code there = code_on D
 pub one_number : (D : List (List ℕ × ℕ)) (names : List (List ℕ)) (s : Scope) (functions : List Function) → AreCodes D names s functions →
     (i j : ℕ) (a b : Function) → slice_get functions i ≡ Some a → slice_get functions j ≡ Some b → a.name ≡ b.name → i ≡ j
 one_number D names s functions are i j a b at_i at_j same =
-    some-some i j (sym (are i a at_i).noted ∙ ap (λ n. named_in D n) same ∙ (are j b at_j).noted)
+    same_Some i j (sym (are i a at_i).noted ∙ ap (λ n. named_in D n) same ∙ (are j b at_j).noted)
 
 -- ---- the number of a body that is no second one
 

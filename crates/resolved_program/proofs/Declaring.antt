@@ -3,6 +3,8 @@
 use Rattle.std.proofs.Common.{◌≡◌, refl, sym, ap, subst, ◌∙◌, inl, inr, ℕ, ◌<◌, ◌≤◌, Bool, true, false, List, length, Option, Some, None, ℤ, arith}
 use Rattle.std.specs.Prelude.{◌⊎◌, ◌||◌, is_some, is_none, unwrap_or, if◌then◌else◌, ⊤}
 use Rattle.std.specs.List.{AllByRecursion}
+use Rattle.std.proofs.lemmas.Bool.{or_parts}
+use Rattle.lists.proofs.Places.{none_of}
 use Rattle.hls_ints.specs.Types.{HasType}
 use Rattle.c_tree.specs.declared.expression.Name.{Name}
 use Rattle.c_tree.specs.declared.declaration.Initializer.{Initializer}
@@ -51,14 +53,6 @@ finding_then {A} walk q x =
 
 -- ---- a new name
 
-no_second : (a b : Bool) → (a || b) ≡ false → b ≡ false
-no_second false b h = h
-no_second true b h = cc
-
-is_nothing : {A : Type 0} (o : Option A) → is_some o ≡ false → o ≡ None
-is_nothing None h = refl
-is_nothing (Some a) h = cc
-
 pub record IsNewName (whole : Findings) (name : Name) (m : Meaning) (x y : State) : Type 0 where
   pub found : IsPartOf whole x.found
   pub new : named_in x.scope.inner name.bytes ≡ None
@@ -72,7 +66,7 @@ module _ (whole : Findings) where
   new_by true name m x taken part = absurd ((shows_broken {Before = ⊤} {Is = λ _. ⊥} rule.Twice name.offset).forth x.found part tt)
   new_by false name m x taken part = record {
     found = part;
-    new = is_nothing (named_in x.scope.inner name.bytes) (no_second (is_some (function_named name.bytes)) (is_some (named_in x.scope.inner name.bytes)) taken);
+    new = none_of (named_in x.scope.inner name.bytes) (or_parts (is_some (function_named name.bytes)) (is_some (named_in x.scope.inner name.bytes)) taken).1;
     is = refl;
   }
 

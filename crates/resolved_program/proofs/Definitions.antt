@@ -77,7 +77,7 @@ module _ (whole : Findings) (P : Program) (given_routines : GivesRoutines whole 
   behind = items body within
 
   abbrev code : Function
-  code = y.defined f (y.return_type h) body (length after_head.scope.locals) (given behind) (left behind).scope.locals
+  code = y.defined f (y.return_type h) body (length after_head.scope.locals) (given behind) (left behind).scope.locals (left behind).scope.local_names
 
   pub definition_in_order : length code.locals ≤ 2 ^ 32 → IsReady P (place_in_tree count) f h code x → IsPartOf whole (left behind).found →
       IsDefined whole P (place_in_tree count) h code

@@ -3,7 +3,8 @@ use Rattle.std.proofs.Common.{◌≡◌, refl, sym, ap, subst, ◌∙◌, inl, i
 use Rattle.std.proofs.Common.{◌∷◌, ◌++◌, map, length, Option, Some, None, append-nil, arith}
 use Rattle.std.specs.Prelude.{◌⊎◌, ◌^◌, is_some, slice_get}
 use Rattle.std.proofs.lemmas.List.{length-map}
-use Rattle.std.proofs.lemmas.Option.{slice_get_within}
+use Rattle.std.proofs.lemmas.Option.{slice_get_within, same_Some}
+use Rattle.lists.proofs.Places.{get_there, get_front, get_last}
 use Rattle.c_tree.specs.declared.statement.Block.{Block}
 use Rattle.c_tree.specs.declared.declaration.Function.{Function as FunctionTree}
 use Rattle.c_tree.specs.declared.declaration.GlobalDeclaration.{GlobalDeclaration}
@@ -20,16 +21,16 @@ use Rattle.c_resolution.specs.Files.{File, Tables}
 use Rattle.c_resolution.specs.Functions as y
 use Rattle.c_resolution.specs.Globals.{text}
 use Rattle.c_resolution.specs.Texts.{definitions}
-use Rattle.resolved_program.proofs.Walks.{none-some, some-some, length-more}
+use Rattle.resolved_program.proofs.Walks.{none-some, length-more}
 use Rattle.resolved_program.proofs.Locals.{number_is}
 use Rattle.resolved_program.proofs.Ready.{IsFileScope}
 use Rattle.resolved_program.proofs.Functions.{defined_at}
 use Rattle.resolved_program.proofs.Filed.{headed}
 use Rattle.resolved_program.proofs.Numbers.{names_of, names_in, body_names, definition_number}
 use Rattle.resolved_program.proofs.Firsts.{body_names_more, first_number}
-use Rattle.resolved_program.proofs.Growing.{inserted_there, at_front}
+use Rattle.resolved_program.proofs.Growing.{inserted_there}
 use Rattle.resolved_program.proofs.Spelling.{text_is}
-use Rattle.resolved_program.proofs.Headed.{IsHeaderOf, AreHeaders, last_is, at_more, header_is}
+use Rattle.resolved_program.proofs.Headed.{IsHeaderOf, AreHeaders, at_more, header_is}
 use Rattle.resolved_program.proofs.Headers.{function_same, return_same}
 use Rattle.resolved_program.proofs.Coded.{IsCode, AreCodes, codes_on, not_second}
 use Rattle.resolved_program.proofs.Leaving.{IsFunctionLeft, IsTabled}
@@ -68,11 +69,6 @@ codes_more D names t functions code are is number other at =
 
 -- ---- a name that is new has no body so far
 
-pub some_at : {A : Type 0} (xs : List A) (n : ℕ) → n < length xs → (a : A) × (slice_get xs n ≡ Some a)
-some_at [] n lt = absurd (omega arith)
-some_at (x ∷ xs) zero lt = (x, refl)
-some_at (x ∷ xs) (suc n) lt = some_at xs n (omega arith)
-
 module _ (P : Program) (D : List (List ℕ × ℕ)) (done : List ExternalDeclaration) (x : File) (holds : FileHolds P D done x) where
   unnoted : (name : List ℕ) → length (body_names done) ≤ 2 ^ 32 → named_in x.scope.inner name ≡ None → named_in (definitions done) name ≡ None
   unnoted name small none = by (named_in (definitions done) name) refl
@@ -83,9 +79,9 @@ module _ (P : Program) (D : List (List ℕ × ℕ)) (done : List ExternalDeclara
           let body = definition_number done name n small is in
           let lt = slice_get_within (body_names done) n name body in
           let c = holds.count in
-          let code = some_at x.tables.functions n (omega arith) in
+          let code = get_there x.tables.functions n (omega arith) in
           let known = holds.codes n code.0 code.1 in
-          let same = some-some code.0.name name (sym known.body ∙ body) in
+          let same = same_Some code.0.name name (sym known.body ∙ body) in
           absurd (none-some (meaning.Function known.place) (sym (sym none ∙ ap (λ k. named_in x.scope.inner k) (sym same) ∙ known.at)))
 
 pub whole_word : 2 ^ 32 ≤ 2 ^ 32
@@ -137,7 +133,7 @@ module _ (whole : Findings) (P : Program) (D : List (List ℕ × ℕ)) (done res
   own_body : (body : Block) → f.body ≡ Some body → slice_get names count ≡ Some (text name)
   own_body body has =
       ap (λ l. slice_get l count) (body_names_more done (external.Function f) ∙ ap (λ b. body_names done ++ names_of f b) has)
-      ∙ ap (λ k. slice_get (body_names done ++ name ∷ []) k) holds.count ∙ last_is (body_names done) name ∙ ap Some (sym same)
+      ∙ ap (λ k. slice_get (body_names done ++ name ∷ []) k) holds.count ∙ get_last (body_names done) name ∙ ap Some (sym same)
 
   new_noted : (body : Block) → f.body ≡ Some body → count < 2 ^ 32 → named_in x.scope.inner name ≡ None → named_in D name ≡ Some count
   new_noted body has small none =
@@ -167,7 +163,7 @@ module _ (whole : Findings) (P : Program) (D : List (List ℕ × ℕ)) (done res
             named_too z.scope.inner ∙ ap (λ l. named_in l name) new.1
             ∙ inserted_there x.scope.inner name (meaning.Function (length x.scope.headers));
         header = h;
-        header_at = ap (λ l. slice_get l (length x.scope.headers)) new.2 ∙ last_is x.scope.headers h;
+        header_at = ap (λ l. slice_get l (length x.scope.headers)) new.2 ∙ get_last x.scope.headers h;
         returns = refl;
         parameters = own_parameters body has small;
       }
@@ -193,7 +189,7 @@ module _ (whole : Findings) (P : Program) (D : List (List ℕ × ℕ)) (done res
   earlier_codes =
       subst (λ l. AreCodes D l z.scope x.tables.functions) (sym (body_names_more done (external.Function f)))
       (codes_on D (body_names done) (body_names done ++ names_in (external.Function f)) x.scope z.scope x.tables.functions
-      (λ n a at. at_front (body_names done) (names_in (external.Function f)) n a at) (placed_grows whole P D f h x z p) holds.codes)
+      (λ n a at. get_front (body_names done) (names_in (external.Function f)) n a at) (placed_grows whole P D f h x z p) holds.codes)
 
   abbrev Tabled : Tables → Type 0
   Tabled t = AreCodes D names z.scope t.functions × (length t.functions ≡ length names)

@@ -50,7 +50,7 @@ function_defined whole P given_routines f h body x valid =
     let n = named f h count (state x.scope x.found) in
     let code_of = λ (s : State).
     let o = items body (before_body count s) in
-    y.defined f (y.return_type h) body (length s.scope.locals) (given o) (left o).scope.locals in
+    y.defined f (y.return_type h) body (length s.scope.locals) (given o) (left o).scope.locals (left o).scope.local_names in
     let e = head_is f h count (state x.scope x.found) in
     λ small ready part.
     let ended = subst (λ (z : File). IsPartOf whole z.found) (definition_is f (y.return_type h) body (headed f h x)) part in

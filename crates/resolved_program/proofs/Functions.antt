@@ -132,7 +132,7 @@ before_body count x = state (y.entered (place_in_tree count) x.scope) x.found
 abbrev pub defined_at : FunctionTree → ReturnType → Block → File → Function
 defined_at f returns body x =
     let o = items body (before_body (length x.tables.functions) (state x.scope x.found)) in
-    y.defined f returns body (length x.scope.locals) (given o) (left o).scope.locals
+    y.defined f returns body (length x.scope.locals) (given o) (left o).scope.locals (left o).scope.local_names
 
 pub definition_is : (f : FunctionTree) (returns : ReturnType) (body : Block) (x : File) →
     left (y.definition f returns body x) ≡

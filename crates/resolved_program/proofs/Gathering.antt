@@ -2,7 +2,8 @@
 use Rattle.std.proofs.Common.{◌≡◌, refl, sym, ap, subst, ◌∙◌, ℕ, ◌<◌, ◌≤◌, true, List, [], length, Option, Some, None, arith}
 use Rattle.std.specs.Prelude.{◌^◌, codes, slice_get}
 use Rattle.std.specs.List.{AllByRecursion}
-use Rattle.std.proofs.lemmas.Option.{slice_get_within}
+use Rattle.std.proofs.lemmas.Option.{slice_get_within, same_Some}
+use Rattle.lists.proofs.Places.{get_there}
 use Rattle.c_tree.specs.declared.statement.Block.{Block}
 use Rattle.c_tree.specs.declared.declaration.Function.{Function as FunctionTree}
 use Rattle.c_tree.specs.declared.declaration.ExternalDeclaration.{ExternalDeclaration}
@@ -23,7 +24,7 @@ use Rattle.resolved_program.specs.Laws.{IsNumbered}
 use Rattle.resolved_program.specs.Leaves.{AreValid, external_leaves, of_each}
 use Rattle.resolved_program.specs.Gathered.{IsGathered}
 use Rattle.resolved_program.specs.Orders.{left, IsFront, IsDefinition, IsHeader, IsPointerAt, GivesRoutines}
-use Rattle.resolved_program.proofs.Walks.{none-some, some-some}
+use Rattle.resolved_program.proofs.Walks.{none-some}
 use Rattle.resolved_program.proofs.Calls.{nothing_in}
 use Rattle.resolved_program.proofs.Steps.{front_length}
 use Rattle.resolved_program.proofs.Functions.{defined_at}
@@ -35,7 +36,7 @@ use Rattle.resolved_program.proofs.Fronts.{fronts_same, IsWithin}
 use Rattle.resolved_program.proofs.Headed.{IsHeaderOf, function_number}
 use Rattle.resolved_program.proofs.Coded.{one_number}
 use Rattle.resolved_program.proofs.Leaving.{IsTabled}
-use Rattle.resolved_program.proofs.FileHolds.{FileHolds, holds_on, some_at, function_keeps}
+use Rattle.resolved_program.proofs.FileHolds.{FileHolds, holds_on, function_keeps}
 use Rattle.resolved_program.proofs.ObjectKeeps.{object_keeps, same_functions}
 use Rattle.resolved_program.proofs.ObjectsHold.{ObjectsHold, function_objects, object_objects, one_global}
 use Rattle.resolved_program.proofs.Placing.{placed, placed_grows}
@@ -158,7 +159,7 @@ module _ (L : List ExternalDeclaration) (main : ℕ) (valid : AreValid (of_each 
   main_noted =
       let m = the_main in
       let named = first.file.headers.named (codes "main") m.place m.at in
-      let same = some-some named.0 m.header (sym named.1 ∙ m.header_at) in
+      let same = same_Some named.0 m.header (sym named.1 ∙ m.header_at) in
       sym named.2.definition ∙ ap (λ (h : Header). h.definition) same ∙ m.definition
 
   module _ (n : ℕ) (h : Header) (at : slice_get X.scope.headers n ≡ Some h) where
@@ -171,7 +172,7 @@ module _ (L : List ExternalDeclaration) (main : ℕ) (valid : AreValid (of_each 
     header_of : IsHeaderOf D name h
     header_of =
         let known = first.file.headers.named name n named in
-        subst (λ k. IsHeaderOf D name k) (some-some known.0 h (sym known.1 ∙ at)) known.2
+        subst (λ k. IsHeaderOf D name k) (same_Some known.0 h (sym known.1 ∙ at)) known.2
 
     definition_of : (number : ℕ) → h.definition ≡ Some number → IsDefinition P h number
     definition_of number is =
@@ -179,12 +180,12 @@ module _ (L : List ExternalDeclaration) (main : ℕ) (valid : AreValid (of_each 
         let body = definition_number L name number few noted in
         let lt = slice_get_within (body_names L) number name body in
         let e = first.file.count in
-        let code = some_at X.tables.functions number (omega arith) in
+        let code = get_there X.tables.functions number (omega arith) in
         let known = first.file.codes number code.0 code.1 in
-        let same = some-some code.0.name name (sym known.body ∙ body) in
+        let same = same_Some code.0.name name (sym known.body ∙ body) in
         let place = function_number known.place n
-        (some-some (meaning.Function known.place) (meaning.Function n) (sym known.at ∙ ap (λ k. named_in X.scope.inner k) same ∙ named)) in
-        let header = some-some known.header h (sym known.header_at ∙ ap (λ k. slice_get X.scope.headers k) place ∙ at) in
+        (same_Some (meaning.Function known.place) (meaning.Function n) (sym known.at ∙ ap (λ k. named_in X.scope.inner k) same ∙ named)) in
+        let header = same_Some known.header h (sym known.header_at ∙ ap (λ k. slice_get X.scope.headers k) place ∙ at) in
         record {
           code = code.0;
           found = code.1;
@@ -193,10 +194,10 @@ module _ (L : List ExternalDeclaration) (main : ℕ) (valid : AreValid (of_each 
           main = λ of_main.
               let m = the_main in
               let own = definition_number L (codes "main") main few main_noted in
-              let one = some-some name (codes "main") (sym body ∙ ap (λ k. slice_get (body_names L) k) of_main ∙ own) in
+              let one = same_Some name (codes "main") (sym body ∙ ap (λ k. slice_get (body_names L) k) of_main ∙ own) in
               let there = function_number n m.place
-              (some-some (meaning.Function n) (meaning.Function m.place) (sym named ∙ ap (λ k. named_in X.scope.inner k) one ∙ m.at)) in
-              let same_header = some-some h m.header (sym at ∙ ap (λ k. slice_get X.scope.headers k) there ∙ m.header_at) in
+              (same_Some (meaning.Function n) (meaning.Function m.place) (sym named ∙ ap (λ k. named_in X.scope.inner k) one ∙ m.at)) in
+              let same_header = same_Some h m.header (sym at ∙ ap (λ k. slice_get X.scope.headers k) there ∙ m.header_at) in
               ap (λ (k : Header). k.is_main) same_header ∙ m.is_main;
         }
 
@@ -242,7 +243,7 @@ module _ (L : List ExternalDeclaration) (main : ℕ) (valid : AreValid (of_each 
   main_in_order =
       let m = the_main in
       let named = first.file.headers.named (codes "main") m.place m.at in
-      let same = some-some named.0 m.header (sym named.1 ∙ m.header_at) in
+      let same = same_Some named.0 m.header (sym named.1 ∙ m.header_at) in
       let types = named.2.main (ap (λ (h : Header). h.is_main) same ∙ m.is_main) in
       let d = definition_of m.place m.header m.header_at main m.definition in
       record {

@@ -4,11 +4,13 @@ use Rattle.std.proofs.Common.{◌≡◌, refl, sym, ap, ◌∙◌, inl, inr, ℕ
 use Rattle.std.specs.Prelude.{◌⊎◌, if◌then◌else◌, slice_get}
 use Rattle.std.specs.Str.{bytes_eq}
 use Rattle.std.proofs.lemmas.Slice.Eq.{bytes_eq-Decides}
+use Rattle.std.proofs.lemmas.Option.{same_Some}
+use Rattle.lists.proofs.Places.{get_front}
 use Rattle.c_rules.specs.declared.names.Meaning.{Meaning}
 use Rattle.c_rules.specs.declared.names.Scope.{Scope}
 use Rattle.c_rules.specs.Levels.{named_in, inserted}
 use Rattle.resolved_program.specs.Orders.{IsFront}
-use Rattle.resolved_program.proofs.Walks.{none-some, some-some}
+use Rattle.resolved_program.proofs.Walks.{none-some}
 
 -- names with what they stand for
 abbrev Table : Type 0 → Type 0
@@ -57,7 +59,7 @@ module _ {A : Type 0} where
     where
       first : (c : Bool) → bytes_eq key d.0 ≡ c → (if c then Some a else named_in more key) ≡ Some m →
           ((key ≡ name) × (a ≡ m)) ⊎ ((if c then Some d.1 else named_in more key) ≡ Some m)
-      first true e is = inl ((bytes_eq-Decides key d.0).0 e ∙ sym ((bytes_eq-Decides name d.0).0 same), some-some a m is)
+      first true e is = inl ((bytes_eq-Decides key d.0).0 e ∙ sym ((bytes_eq-Decides name d.0).0 same), same_Some a m is)
       first false e is = inr is
   back_by false d more rest name key a m same later is = other (bytes_eq key d.0) is
     where
@@ -69,7 +71,7 @@ module _ {A : Type 0} where
   inserted_back [] name key a m is = only (bytes_eq key name) refl is
     where
       only : (c : Bool) → bytes_eq key name ≡ c → (if c then Some a else None) ≡ Some m → ((key ≡ name) × (a ≡ m)) ⊎ (None ≡ Some m)
-      only true e is = inl ((bytes_eq-Decides key name).0 e, some-some a m is)
+      only true e is = inl ((bytes_eq-Decides key name).0 e, same_Some a m is)
       only false e is = inr is
   inserted_back (d ∷ more) name key a m is =
       back_by (bytes_eq name d.0) d more (inserted more name a) name key a m refl (inserted_back more name key a m) is
@@ -82,13 +84,8 @@ front_same xs = ([], append-nil xs)
 pub front_on : {A : Type 0} (a b c : List A) → IsFront a b → IsFront b c → IsFront a c
 front_on a b c h k = (h.0 ++ k.0, sym (append_assoc a h.0 k.0) ∙ ap (λ l. l ++ k.0) h.1 ∙ k.1)
 
-pub at_front : {A : Type 0} (xs more : List A) (k : ℕ) (a : A) → slice_get xs k ≡ Some a → slice_get (xs ++ more) k ≡ Some a
-at_front [] more k a is = absurd (none-some a (sym is))
-at_front (x ∷ xs) more zero a is = is
-at_front (x ∷ xs) more (suc k) a is = at_front xs more k a is
-
 pub front_at : {A : Type 0} (xs list : List A) (k : ℕ) (a : A) → IsFront xs list → slice_get xs k ≡ Some a → slice_get list k ≡ Some a
-front_at xs list k a front is = ap (λ l. slice_get l k) (sym front.1) ∙ at_front xs front.0 k a is
+front_at xs list k a front is = ap (λ l. slice_get l k) (sym front.1) ∙ get_front xs front.0 k a is
 
 -- ---- scopes
 

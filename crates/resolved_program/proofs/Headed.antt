@@ -3,6 +3,8 @@ use Rattle.std.proofs.Common.{◌≡◌, refl, sym, ap, subst, ◌∙◌, inl, i
 use Rattle.std.specs.Prelude.{◌⊎◌, ◌&&◌, codes, slice_get}
 use Rattle.std.specs.Str.{bytes_eq}
 use Rattle.std.proofs.lemmas.Bool.{and_parts}
+use Rattle.std.proofs.lemmas.Option.{same_Some}
+use Rattle.lists.proofs.Places.{get_front, get_last}
 use Rattle.c_rules.specs.declared.names.Meaning.{Meaning}
 use Rattle.c_rules.specs.declared.names.Meaning.TheVariants as meaning
 use Rattle.c_rules.specs.declared.names.DeclaredType.{DeclaredType}
@@ -12,8 +14,8 @@ use Rattle.c_rules.specs.Levels.{named_in, inserted}
 use Rattle.c_rules.specs.Names.{is_int}
 use Rattle.c_resolution.specs.Functions as y
 use Rattle.resolved_program.specs.Orders.{IsFront}
-use Rattle.resolved_program.proofs.Walks.{none-some, some-some}
-use Rattle.resolved_program.proofs.Growing.{inserted_there, inserted_keeps, inserted_back, front_same, at_front, Grows}
+use Rattle.resolved_program.proofs.Walks.{none-some}
+use Rattle.resolved_program.proofs.Growing.{inserted_there, inserted_keeps, inserted_back, front_same, Grows}
 
 -- what the header of a function of that name says, where the text defines these functions
 pub record IsHeaderOf (D : List (List ℕ × ℕ)) (name : List ℕ) (h : Header) : Type 0 where
@@ -36,12 +38,8 @@ function_number a b h = ap number_of h
 
 -- ---- the last of a list
 
-pub last_is : {A : Type 0} (xs : List A) (a : A) → slice_get (xs ++ a ∷ []) (length xs) ≡ Some a
-last_is [] a = refl
-last_is (x ∷ xs) a = last_is xs a
-
 pub at_more : {A : Type 0} (xs : List A) (a b : A) (n : ℕ) → slice_get (xs ++ a ∷ []) n ≡ Some b → (slice_get xs n ≡ Some b) ⊎ ((n ≡ length xs) × (a ≡ b))
-at_more [] a b zero is = inr (refl, some-some a b is)
+at_more [] a b zero is = inr (refl, same_Some a b is)
 at_more [] a b (suc n) is = absurd (none-some b (sym is))
 at_more (x ∷ xs) a b zero is = inl is
 at_more (x ∷ xs) a b (suc n) is =
@@ -85,12 +83,12 @@ headers_more D s t name h are none is_of inner headers = record {
         | inl new ↦
             let place = function_number (length s.headers) n new.1 in (
               h,
-              ap (λ l. slice_get l n) headers ∙ ap (λ k. slice_get (s.headers ++ h ∷ []) k) (sym place) ∙ last_is s.headers h,
+              ap (λ l. slice_get l n) headers ∙ ap (λ k. slice_get (s.headers ++ h ∷ []) k) (sym place) ∙ get_last s.headers h,
               subst (λ key. IsHeaderOf D key h) (sym new.0) is_of,
             )
         | inr before ↦
             let known = are.named key n before in
-            (known.0, ap (λ l. slice_get l n) headers ∙ at_front s.headers (h ∷ []) n known.0 known.1, known.2)
+            (known.0, ap (λ l. slice_get l n) headers ∙ get_front s.headers (h ∷ []) n known.0 known.1, known.2)
       ];
   names = λ n k is.
       elim (at_more s.headers h k n (ap (λ l. slice_get l n) (sym headers) ∙ is)) [

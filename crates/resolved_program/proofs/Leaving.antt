@@ -1,6 +1,7 @@
 -- What a function at file scope leaves: the scope behind its name, and one function more where it has a body.
 use Rattle.std.proofs.Common.{◌≡◌, refl, sym, ap, subst, ◌∙◌, ℕ, ◌≤◌, false, List, [], ◌∷◌, ◌++◌, length, Option, Some, None, append-nil, length-append, arith}
 use Rattle.std.specs.Prelude.{◌^◌, ◌-◌, is_some, slice_get}
+use Rattle.std.proofs.lemmas.Option.{same_Some}
 use Rattle.c_tree.specs.declared.statement.Block.{Block}
 use Rattle.c_tree.specs.declared.declaration.Function.{Function as FunctionTree}
 use Rattle.c_program.specs.declared.tree.LocalVariable.{LocalVariable}
@@ -17,7 +18,7 @@ use Rattle.c_resolution.specs.Files.{File, Declares, file, going, with_function}
 use Rattle.c_resolution.specs.Functions as y
 use Rattle.resolved_program.specs.Leaves.{AreValid, block_leaves, of_any}
 use Rattle.resolved_program.specs.Orders.{left, IsFront, IsPartOf, IsAhead, GivesRoutines}
-use Rattle.resolved_program.proofs.Walks.{turn, none-some, some-some}
+use Rattle.resolved_program.proofs.Walks.{turn, none-some}
 use Rattle.resolved_program.proofs.Moving as m
 use Rattle.resolved_program.proofs.Statements.{block_claim}
 use Rattle.resolved_program.proofs.Parameters.{parameters_add}
@@ -140,7 +141,7 @@ front_le xs list h = let e = length-append xs h.0 in let f = ap length h.1 in om
 
 -- a function of no locals
 abbrev pub nobody : Function
-nobody = record { name = []; returns = returns_as.Void; parameters = 0; locals = []; body = Statement.Done; end = 0 }
+nobody = record { name = []; returns = returns_as.Void; parameters = 0; locals = []; local_names = []; body = Statement.Done; end = 0 }
 
 pub no_locals : length nobody.locals ≤ 2 ^ 32
 no_locals = grind arith
@@ -233,7 +234,7 @@ module _ (whole : Findings) (P : Program) (given_routines : GivesRoutines whole 
             count = head.count;
             fits = λ other is.
                 subst (λ b. length (headed f h x).scope.locals ≤ length (defined_at f (y.return_type h) b (headed f h x)).locals)
-                (some-some body other (sym has ∙ is)) whole_body.fits;
+                (same_Some body other (sym has ∙ is)) whole_body.fits;
             keeps =
                 subst (λ (w : File). Keeps (named f h count begin).scope w.scope) (sym e)
                 (body_keeps (named f h count begin).scope (headed f h x).scope (left o).scope (place_in_tree count) (head_moves f h x)

@@ -1,18 +1,18 @@
 -- Creates keep the lengths of the thread objects.
 use Rattle.std.proofs.Common.{◌≡◌, refl, sym, ap, ◌∙◌, ℕ, zero, suc, List, [], ◌∷◌, Option, Some, None, length}
 use Rattle.std.specs.Prelude.{fold, slice_get, slice_set}
+use Rattle.std.proofs.lemmas.Option.{same_Some}
 use Rattle.c_program.specs.declared.tree.ThreadObject.{ThreadObject}
 use Rattle.c_program.specs.Resolved.{thread_length}
 use Rattle.c_rules.specs.declared.fault.Fault.{Fault}
 use Rattle.c_rules.specs.declared.findings.Creation.{Creation}
 use Rattle.c_rules.specs.Faults.{first}
 use Rattle.c_resolution.specs.Routines as y
-use Rattle.resolved_program.proofs.Walks.{some-some}
 
 set_length : (list : List ThreadObject) (k n : ℕ) (a b : ThreadObject) → slice_get list k ≡ Some a → b.length ≡ a.length →
     thread_length (slice_get (slice_set list k b) n) ≡ thread_length (slice_get list n)
 set_length [] k n a b is same = refl
-set_length (x ∷ list) zero zero a b is same = ap Some (same ∙ ap (λ (o : ThreadObject). o.length) (sym (some-some x a is)))
+set_length (x ∷ list) zero zero a b is same = ap Some (same ∙ ap (λ (o : ThreadObject). o.length) (sym (same_Some x a is)))
 set_length (x ∷ list) zero (suc n) a b is same = refl
 set_length (x ∷ list) (suc k) zero a b is same = refl
 set_length (x ∷ list) (suc k) (suc n) a b is same = set_length list k n a b is same

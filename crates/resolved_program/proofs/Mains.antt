@@ -1,7 +1,7 @@
 -- The function main: the header of this name, and what it returns.
 use Rattle.std.proofs.Common.{◌≡◌, refl, sym, ℕ, Bool, true, false, List, [], ◌∷◌, length, Option, Some, None}
 use Rattle.std.specs.Prelude.{not, codes, if◌then◌else◌, slice_get}
-use Rattle.std.proofs.lemmas.Bool.{and_parts}
+use Rattle.std.proofs.lemmas.Bool.{and_parts, not-true}
 use Rattle.hls_ints.specs.Types.{int_type}
 use Rattle.c_program.specs.declared.tree.ReturnType.TheVariants as returns_as
 use Rattle.c_rules.specs.declared.specifiers.BasicType.TheVariants as basic
@@ -71,14 +71,10 @@ int_by : (routine : Bool) (b : BaseType) (pointer : Bool) → b ≡ base.Integer
 int_by true b pointer is plain = λ i. y.return_by true (is i) (plain i)
 int_by false b pointer is plain = λ i. y.return_by false (is i) (plain i)
 
-not_true : (b : Bool) → not b ≡ true → b ≡ false
-not_true false h = refl
-not_true true h = cc
-
 pub main_returns : (h : Header) → is_int h.returns ≡ true → y.return_type h ≡ returns_as.Integer int_type
 main_returns h is =
     let parts = and_parts (is_int_base h.returns.base) (not h.returns.is_pointer) is in
-    int_by (is_start_routine h) h.returns.base h.returns.is_pointer (int_is h.returns.base parts.0) (not_true h.returns.is_pointer parts.1)
+    int_by (is_start_routine h) h.returns.base h.returns.is_pointer (int_is h.returns.base parts.0) (not-true h.returns.is_pointer parts.1)
 
 pub no_parameters : (list : List DeclaredType) → y.is_empty list ≡ true → length list ≡ 0
 no_parameters [] h = refl

@@ -3,6 +3,7 @@
 use Rattle.std.proofs.Common.{◌≡◌, refl, sym, ap, subst, ◌∙◌, ℕ, ◌≤◌, Bool, true, false, List, [], ◌∷◌, ◌++◌, length, Option, Some, None, le_trans, arith}
 use Rattle.std.specs.Prelude.{◌+◌, ◌-◌, min, slice_get, remove, fold, unwrap_or, if◌then◌else◌}
 use Rattle.std.specs.List.{AllByRecursion}
+use Rattle.lists.proofs.Places.{get_last}
 use Rattle.c_rules.specs.declared.names.Scope.{Scope}
 use Rattle.c_rules.specs.declared.names.Meaning.{Meaning}
 use Rattle.c_rules.specs.declared.specifiers.BasicType.{BasicType}
@@ -148,10 +149,6 @@ moving_declaration steps d =
 
 -- ---- blocks and loops
 
-last_of : {A : Type 0} (xs : List A) (a : A) → slice_get (xs ++ a ∷ []) (length xs) ≡ Some a
-last_of [] a = refl
-last_of (x ∷ xs) a = last_of xs a
-
 remove_last : {A : Type 0} (xs : List A) (a : A) → remove (xs ++ a ∷ []) (length xs) ≡ xs
 remove_last [] a = refl
 remove_last (x ∷ xs) a = ap (λ l. x ∷ l) (remove_last xs a)
@@ -170,7 +167,7 @@ pub closed_moves : (s t : Scope) → Moves (opened s) t → Moves s (closed t) �
 unfolding opened closed
 closed_moves s t h =
     let level = slice_get t.outer (length t.outer - 1) in
-    let is = ap (λ l. slice_get l (length l - 1)) h.outer ∙ ap (λ k. slice_get (s.outer ++ s.inner ∷ []) k) (last_place s.outer s.inner) ∙ last_of s.outer s.inner in
+    let is = ap (λ l. slice_get l (length l - 1)) h.outer ∙ ap (λ k. slice_get (s.outer ++ s.inner ∷ []) k) (last_place s.outer s.inner) ∙ get_last s.outer s.inner in
     let gone = ap (λ l. remove l (length l - 1)) h.outer ∙ ap (λ k. remove (s.outer ++ s.inner ∷ []) k) (last_place s.outer s.inner) ∙ remove_last s.outer s.inner in
     let both = closed_is t s.outer s.inner level h.outer is gone in
     let rest = closed_same level t in (

@@ -1,6 +1,7 @@
 -- What the declaration of a function's name gives, where no rule is broken.
 use Rattle.std.proofs.Common.{◌≡◌, refl, sym, subst, inl, inr, ℕ, Bool, true, false, Option, Some, None}
 use Rattle.std.specs.Prelude.{◌⊎◌, not, is_some, if◌then◌else◌, slice_get, ⊤}
+use Rattle.std.proofs.lemmas.Bool.{not-false}
 use Rattle.c_tree.specs.declared.expression.Name.{Name}
 use Rattle.c_rules.specs.declared.fault.Rule.TheVariants as rule
 use Rattle.c_rules.specs.declared.findings.Findings.{Findings}
@@ -28,17 +29,13 @@ pub record IsNamed (whole : Findings) (name : Name) (h : Header) (second : Bool)
       ((named_in x.scope.inner name.bytes ≡ None) × (z.scope ≡ y.with_header name h x.scope))
       ⊎ ((number : ℕ) × (named_in x.scope.inner name.bytes ≡ Some (meaning.Function number)) × (z.scope ≡ x.scope) × IsAgain x.scope number h second)
 
-not-not : (b : Bool) → not b ≡ false → b ≡ true
-not-not true h = refl
-not-not false h = cc
-
 module _ (whole : Findings) where
   again_shows : (h : Header) (name : Name) (second : Bool) (o : Option Header) →
       Shows whole ⊤ (λ _. IfAny (λ (known : Header). (second ≡ false) × (y.is_same_function known h ≡ true)) o) (y.again h name second o)
   again_shows h name second None = shows_pure tt (λ _. tt)
   again_shows h name second (Some known) =
       shows_then (finds_if second rule.Twice name.offset) (λ _. finds_if (not (y.is_same_function known h)) rule.Kind name.offset) (shows_if second rule.Twice name.offset)
-      (λ _. shows_as (finds_if (not (y.is_same_function known h)) rule.Kind name.offset) (λ b. b) (λ _ b is. (b.1, not-not (y.is_same_function known h) is))
+      (λ _. shows_as (finds_if (not (y.is_same_function known h)) rule.Kind name.offset) (λ b. b) (λ _ b is. (b.1, not-false (y.is_same_function known h) is))
       (shows_if (not (y.is_same_function known h)) rule.Kind name.offset))
 
   twice_never : (name : Name) (x : State) → IsPartOf whole (left (y.twice name x)).found → ⊥

@@ -5,13 +5,14 @@ use Rattle.std.specs.Prelude.{◌+◌, ◌^◌, min, fold, is_some, if◌then◌
 use Rattle.std.specs.List.{AllByRecursion}
 use Rattle.std.specs.Str.{bytes_eq}
 use Rattle.std.proofs.lemmas.Slice.Eq.{bytes_eq-Decides}
+use Rattle.std.proofs.lemmas.Option.{same_Some}
 use Rattle.c_tree.specs.declared.statement.Block.{Block}
 use Rattle.c_tree.specs.declared.declaration.Function.{Function as FunctionTree}
 use Rattle.c_tree.specs.declared.declaration.ExternalDeclaration.{ExternalDeclaration}
 use Rattle.c_tree.specs.declared.declaration.ExternalDeclaration.TheVariants as external
 use Rattle.c_rules.specs.Levels.{named_in, inserted}
 use Rattle.c_resolution.specs.Texts as y
-use Rattle.resolved_program.proofs.Walks.{none-some, some-some, length-more}
+use Rattle.resolved_program.proofs.Walks.{none-some, length-more}
 
 -- the names of the functions that have a body, in the order of the text
 abbrev pub names_of : FunctionTree → Option Block → List (List ℕ)
@@ -111,7 +112,7 @@ found_by : (b : Bool) (done : List (List ℕ)) (e : List ℕ × ℕ) (o : Option
     (o ≡ Some n → slice_get done n ≡ Some name) →
     (if b then Some e.1 else o) ≡ Some n → slice_get done n ≡ Some name
 found_by true done e o name n same at later is =
-    ap (λ k. slice_get done k) (sym (some-some e.1 n is)) ∙ at ∙ ap Some (sym ((bytes_eq-Decides name e.0).0 same))
+    ap (λ k. slice_get done k) (sym (same_Some e.1 n is)) ∙ at ∙ ap Some (sym ((bytes_eq-Decides name e.0).0 same))
 found_by false done e o name n same at later is = later is
 
 found_at : (done : List (List ℕ)) (names : List (List ℕ × ℕ)) (name : List ℕ) (n : ℕ) → AllByRecursion (IsAt done) names → named_in names name ≡ Some n →

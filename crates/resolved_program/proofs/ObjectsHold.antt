@@ -2,6 +2,7 @@
 use Rattle.std.proofs.Common.{◌≡◌, refl, sym, ap, subst, ◌∙◌, inl, inr, ℕ, ◌<◌, Bool, true, List, [], ◌∷◌, ◌++◌, length, Option, Some, None}
 use Rattle.std.specs.Prelude.{◌⊎◌, is_none, unwrap_or, slice_get}
 use Rattle.std.specs.List.{AllByRecursion}
+use Rattle.std.proofs.lemmas.Option.{same_Some}
 use Rattle.c_tree.specs.declared.statement.Block.{Block}
 use Rattle.c_tree.specs.declared.declaration.Function.{Function as FunctionTree}
 use Rattle.c_tree.specs.declared.declaration.GlobalDeclarator.{GlobalDeclarator}
@@ -22,7 +23,7 @@ use Rattle.c_resolution.specs.Globals as g
 use Rattle.c_resolution.specs.Resolving.{program_at}
 use Rattle.resolved_program.specs.Laws.{IsNumbered}
 use Rattle.resolved_program.specs.Gathered.{IsDeclaredThread}
-use Rattle.resolved_program.proofs.Walks.{some-some, all_more}
+use Rattle.resolved_program.proofs.Walks.{all_more}
 use Rattle.resolved_program.proofs.Growing.{Grows}
 use Rattle.resolved_program.proofs.Fronts.{AreFronts}
 use Rattle.resolved_program.proofs.Headed.{at_more}
@@ -72,7 +73,7 @@ pub one_global : (s : Scope) (globals : List GlobalVariable) → AreNamed s glob
 one_global s globals are i j a b at_i at_j same =
     let first = are i a at_i in
     let second = are j b at_j in
-    let one = some-some (meaning.Variable first.0) (meaning.Variable second.0) (sym first.1 ∙ ap (λ n. named_in s.inner n) same ∙ second.1) in
+    let one = same_Some (meaning.Variable first.0) (meaning.Variable second.0) (sym first.1 ∙ ap (λ n. named_in s.inner n) same ∙ second.1) in
     sym first.2 ∙ ap number_of one ∙ second.2
 
 -- ---- declarations that add none

@@ -2,6 +2,7 @@
 use Rattle.std.proofs.Common.{◌≡◌, refl, sym, ap, subst, ◌∙◌, ℕ, suc, ◌≤◌, Bool, true, false, List, [], ◌∷◌, ◌++◌, length, Option, Some, None, append_assoc, append-nil, arith}
 use Rattle.std.specs.Prelude.{◌^◌, not, slice_get, if◌then◌else◌, ⊤}
 use Rattle.std.specs.List.{AllByRecursion}
+use Rattle.std.proofs.lemmas.Bool.{not-false}
 use Rattle.hls_ints.specs.Types.{long_int}
 use Rattle.c_tree.specs.declared.expression.Name.{Name}
 use Rattle.c_tree.specs.declared.declaration.Parameter.{Parameter}
@@ -24,7 +25,6 @@ use Rattle.resolved_program.specs.Orders.{left, given, IsFront, IsMeant, AreMean
 use Rattle.resolved_program.proofs.Walks.{shows_if, shows_broken, turn}
 use Rattle.resolved_program.proofs.Steps.{after_one, in_scope_is, inserted_is, front_length, next_in}
 use Rattle.resolved_program.proofs.Locals.{number_is, refused_local_shows}
-use Rattle.resolved_program.proofs.Calls.{not-not}
 
 front_of : {A : Type 0} (xs more list : List A) → IsFront (xs ++ more) list → IsFront xs list
 front_of xs more list h = (more ++ h.0, sym (append_assoc xs more h.0) ∙ h.1)
@@ -79,7 +79,7 @@ module _ (whole : Findings) (P : Program) (f : Function) (small : length f.local
     is_long = λ _. refl;
     locals = refl;
     inner = refl;
-    meant = λ front argument. argument (not-not routine ((shows_if {Before = ⊤} (not routine) rule.Kind at).forth x.found part tt));
+    meant = λ front argument. argument (not-false routine ((shows_if {Before = ⊤} (not routine) rule.Kind at).forth x.found part tt));
   }
 
   of_adds : (routine : Bool) (words : Spelled) (at : ℕ) (ty : Option BasicType) (x : State) → IsPartOf whole (left (y.parameter_of words at ty x)).found →

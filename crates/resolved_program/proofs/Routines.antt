@@ -2,12 +2,13 @@
 use Rattle.std.proofs.Common.{◌≡◌, refl, sym, ap, subst, ◌∙◌, inl, inr, ℕ, zero, suc, ◌<◌, Bool, true, false, List, [], ◌∷◌, length, Option, Some, None, eqb-true, eq-eqb, arith}
 use Rattle.std.specs.Prelude.{◌⊎◌, nat_eq, if◌then◌else◌, fold, slice_get, slice_set, slice_index_or, Contains}
 use Rattle.std.proofs.lemmas.Bool.{false≢true}
+use Rattle.std.proofs.lemmas.Option.{same_Some}
 use Rattle.c_program.specs.declared.tree.ThreadObject.{ThreadObject}
 use Rattle.c_rules.specs.declared.fault.Fault.{Fault}
 use Rattle.c_rules.specs.declared.findings.Creation.{Creation}
 use Rattle.c_rules.specs.Faults.{first}
 use Rattle.c_resolution.specs.Routines as y
-use Rattle.resolved_program.proofs.Walks.{first-none, none-some, some-some}
+use Rattle.resolved_program.proofs.Walks.{first-none, none-some}
 use Rattle.resolved_program.proofs.Graph.{first-second}
 
 -- ---- an element that is set
@@ -55,13 +56,13 @@ set_later c object threads at none k o is = by (nat_eq c.thread k) refl
     by true same =
         let e : c.thread ≡ k = eqb-true c.thread k same in
         let there = subst (λ n. slice_get (slice_set threads c.thread new) n ≡ Some new) e (set_there threads c.thread object new at) in
-        let made : new ≡ o = some-some new o (sym there ∙ is) in (
+        let made : new ≡ o = same_Some new o (sym there ∙ is) in (
           object,
           subst (λ n. slice_get threads n ≡ Some object) e at,
           subst (λ x. IsLater object x (By c k)) made (record {
             length = refl;
             kept = λ routine had. absurd (none-some routine (sym had ∙ none));
-            given = λ routine has. inr (sym e, sym (some-some c.routine routine has));
+            given = λ routine has. inr (sym e, sym (same_Some c.routine routine has));
           }),
         )
 
@@ -84,10 +85,10 @@ given_to_there : (c : Creation) (object : ThreadObject) (routine : Option ℕ) (
     (y.given_to c object routine threads).1 ≡ None → (o : ThreadObject) → slice_get (y.given_to c object routine threads).0 c.thread ≡ Some o → o.routine ≡ Some c.routine
 given_to_there c object None threads at is none o here =
     let new : ThreadObject = record { length = object.length; routine = Some c.routine } in
-    subst (λ (x : ThreadObject). x.routine ≡ Some c.routine) (some-some new o (sym (set_there threads c.thread object new at) ∙ here)) refl
+    subst (λ (x : ThreadObject). x.routine ≡ Some c.routine) (same_Some new o (sym (set_there threads c.thread object new at) ∙ here)) refl
 given_to_there c object (Some routine) threads at is none o here =
     let same = eqb-true routine c.routine (second_by (nat_eq routine c.routine) _ none) in
-    ap (λ (x : ThreadObject). x.routine) (some-some o object (sym here ∙ at)) ∙ is ∙ ap Some same
+    ap (λ (x : ThreadObject). x.routine) (same_Some o object (sym here ∙ at)) ∙ is ∙ ap Some same
 
 given_at_there : (c : Creation) (object : Option ThreadObject) (threads : List ThreadObject) → slice_get threads c.thread ≡ object → (y.given_at c object threads).1 ≡ None →
     (o : ThreadObject) → slice_get (y.given_at c object threads).0 c.thread ≡ Some o → o.routine ≡ Some c.routine

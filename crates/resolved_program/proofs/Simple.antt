@@ -1,6 +1,7 @@
 -- What statements without statements in them give.
 use Rattle.std.proofs.Common.{◌≡◌, refl, sym, subst, ℕ, Bool, true, false, Option, Some, None}
 use Rattle.std.specs.Prelude.{not, if◌then◌else◌, Contains, ⊤}
+use Rattle.std.proofs.lemmas.Bool.{not-false}
 use Rattle.c_tree.specs.declared.expression.BinaryOperator.{BinaryOperator}
 use Rattle.c_tree.specs.declared.expression.Argument.TheOpen.{Form-F}
 use Rattle.c_tree.specs.declared.expression.Form.{out-Form}
@@ -39,7 +40,7 @@ use Rattle.resolved_program.proofs.Walks.{Shows, shows_pure, shows_then, shows_a
 use Rattle.resolved_program.proofs.Known.{Is}
 use Rattle.resolved_program.proofs.Arguments.{target_shows, pointer_value_shows}
 use Rattle.resolved_program.proofs.Calls as k
-use Rattle.resolved_program.proofs.Calls.{nothing_in, not-not}
+use Rattle.resolved_program.proofs.Calls.{nothing_in}
 use Rattle.resolved_program.proofs.Trees.{value_shows, all_left, all_right}
 
 comparison_by : (b : Bool) (o : ResolvedBinary) → r.is_comparison o ≡ b → IfAny (λ o. r.is_comparison o ≡ false) (if b then None else Some o)
@@ -194,7 +195,7 @@ module _ (whole : Findings) (P : Program) (number : ℕ) (f : Function) (s : Sco
       shows_then (finds_if (not (y.may_return s.gives x)) rule.Kind at) (λ _. y.right_of s x >>= (λ right. pure (made right)))
       (shows_if (not (y.may_return s.gives x)) rule.Kind at)
       (λ _. shows_then (y.right_of s x) (λ right. pure (made right))
-      (shows_as (y.right_of s x) (λ b. (b.0, not-not (y.may_return s.gives x) b.1)) (λ _ _ is. is) (right_of_shows x valid))
+      (shows_as (y.right_of s x) (λ b. (b.0, not-false (y.may_return s.gives x) b.1)) (λ _ _ is. is) (right_of_shows x valid))
       (λ right. shows_pure (made right) (λ b. record {
         is = b.1.0;
         calls = b.1.1;

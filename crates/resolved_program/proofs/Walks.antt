@@ -3,6 +3,7 @@ use Rattle.std.proofs.Common.{◌≡◌, refl, sym, ap, subst, ℕ, suc, Bool, t
 use Rattle.std.specs.Prelude.{◌+◌, fold, if◌then◌else◌, unwrap_or, ⊤}
 use Rattle.std.specs.List.{AllByRecursion}
 use Rattle.std.proofs.lemmas.List.Elements.{Contains-append_left, Contains-append_right}
+use Rattle.std.proofs.lemmas.Option.{same_Some}
 use Rattle.c_rules.specs.declared.fault.Rule.{Rule}
 use Rattle.c_rules.specs.declared.fault.Fault.{Fault}
 use Rattle.c_rules.specs.declared.findings.Findings.{Findings}
@@ -34,9 +35,6 @@ none-some {A} x h = subst (λ (o : Option A). IsNone o) (sym h) tt
 chosen : (b : Bool) (x y : Fault) → (if b then Some x else Some y) ≡ None → ⊥
 chosen true x y h = none-some x h
 chosen false x y h = none-some y h
-
-pub some-some : {A : Type 0} (x y : A) → Some x ≡ Some y → x ≡ y
-some-some x y h = ap (λ o. unwrap_or o x) h
 
 pub first-some : (a : Option Fault) (b : Fault) → first a (Some b) ≡ None → ⊥
 unfolding first
@@ -139,7 +137,7 @@ module _ {whole : Findings} where
           creations = part.creations;
         };
         forth = λ found part is.
-            subst (λ n. IsFoundCall whole n callee) (some-some caller number is)
+            subst (λ n. IsFoundCall whole n callee) (same_Some caller number is)
             (at, part.calls site (Contains-append_right found.calls (site ∷ []) site (0, omega arith, refl)));
       }
 

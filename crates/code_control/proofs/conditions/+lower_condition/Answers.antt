@@ -50,7 +50,8 @@ returns-in_err-lower_condition-in-Both-2 t c =
     ap condition_of c.in-Both.is ∙ ap (λ z. Condition.Both (condition_of z) (condition_of c.in-Both.second.value)) (sym c.deref-in-Both.ensures)
     ∙ ap (λ z. Condition.Both (condition_of c.deref-in-Both.result.now) (condition_of z)) (sym c.deref-in-Both-2.ensures) in
     rw (p.1, p.2)
-    (second_at (condition_of c.args.condition.now) (condition_of c.deref-in-Both.result.now) (condition_of c.deref-in-Both-2.result.now) c.in_ok-next-in-Both.next c.in_ok-next-in-Both.next c.args.if_false
+    (second_at (condition_of c.args.condition.now) (condition_of c.deref-in-Both.result.now) (condition_of c.deref-in-Both-2.result.now) c.in_ok-next-in-Both.next
+    c.in_ok-next-in-Both.next c.args.if_false
     c.args.code.now c.new_label.new.self c.lower_condition.new.code c.begin.new.self _
     (ap condition_weight is) (λ S ok. subst (IsCondition S.program S.function) is ok) c.in_ok-next-in-Both.ensures.after c.in_ok-lower_condition-in-Both.ensures
     c.in_ok-begin-in-Both.ensures c.in_err-lower_condition-in-Both-2.ensures)

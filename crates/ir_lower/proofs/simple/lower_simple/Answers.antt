@@ -38,7 +38,8 @@ returns-in_ok-lower_returned-in-Return-clause-lowers c = λ P.
 
 pub returns-in_ok-lower_print-in-Print-clause-lowers : goal.returns-in_ok-lower_print-in-Print-clause-lowers
 returns-in_ok-lower_print-in-Print-clause-lowers c = λ P.
-    lowers_is P c.args.around (Statement.Print c.in-Print.field-0 (pieces_of c.deref-in-Print.result.now) (expressions_of c.deref-in-Print-2.result.now)) (statement_of c.args.statement.now) c.args.code.now
+    lowers_is P c.args.around (Statement.Print c.in-Print.field-0 (pieces_of c.deref-in-Print.result.now) (expressions_of c.deref-in-Print-2.result.now))
+    (statement_of c.args.statement.now) c.args.code.now
     c.lower_print.new.code
     (ap statement_of c.in-Print.is ∙ ap (λ f. Statement.Print c.in-Print.field-0 (pieces_of f) (expressions_of c.in-Print.arguments.items)) (sym c.deref-in-Print.ensures.value)
     ∙ ap (λ a. Statement.Print c.in-Print.field-0 (pieces_of c.deref-in-Print.result.now) (expressions_of a)) (sym c.deref-in-Print-2.ensures.value))

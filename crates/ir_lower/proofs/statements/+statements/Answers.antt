@@ -561,7 +561,8 @@ lower_statement-returns-in_ok-lower_delivery-in-Call-right-clause-lowers t c =
     let s = statement_of c.loop-rest.rest.now in
     let es = expressions_of c.deref-in-Call-right.result.now in
     via_last (program_of c.args.program.now) c.args.around (statement_of c.args.statement.now) s c.args.code.now c.loop-rest.code c.lower_delivery.new.code c.loop-rest.invariant.via
-    (call_assigned (program_of c.args.program.now) c.args.around s x.field-0 (place_of c.deref-in-Call-right-2.result.now) y.function es c.loop-rest.code c.lower_call-in-Call-right.new.code c.lower_delivery.new.code
+    (call_assigned (program_of c.args.program.now) c.args.around s x.field-0 (place_of c.deref-in-Call-right-2.result.now) y.function es c.loop-rest.code
+    c.lower_call-in-Call-right.new.code c.lower_delivery.new.code
     (sym c.is_reached.ensures ∙ c.if-not-is_reached.false)
     (ap statement_of x.is ∙ ap (λ z. Statement.Assign x.field-0 (place_of x.place.value) (right_side_of z)) y.is
     ∙ ap (λ a. Statement.Assign x.field-0 (place_of x.place.value) (RightSide.Call y.function (expressions_of a))) (sym c.deref-in-Call-right.ensures.value)
