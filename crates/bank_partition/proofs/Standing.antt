@@ -4,10 +4,11 @@ use Rattle.std.specs.Prelude.{true, false, nat_lt, if◌then◌else◌}
 use Rattle.std.specs.Prelude.{pos, unwrap_or, length}
 use Rattle.std.specs.List.{AllByRecursion}
 use Rattle.hls_ints.specs.Types.{Width, bits_8, bits_16, bits_32, bits_64, bits, width_of}
-use Rattle.hls_ints.proofs.Conversions.{residue_of-below}
+use Rattle.hls_ints.proofs.Conversions.{residue_of-below, at_least_1}
 use Rattle.std.proofs.lemmas.Bool.Decides.{nat_tests}
 use Rattle.std.proofs.lemmas.Nat.{div-mul-add, mod-mul-add, div-add-mod'}
 use Rattle.std.proofs.lemmas.Option.{none-some, same_Some}
+use Rattle.std.proofs.lemmas.Bool.{lt-ltb}
 use Rattle.c_program.specs.Tree.{GlobalVariable}
 use Rattle.bank_partition.specs.declared.banks.Spread.{Spread}
 use Rattle.bank_partition.specs.Counts.{power_from, words_of}
@@ -37,12 +38,6 @@ short_at (t ∷ spreads) known (suc x) s e = short_at spreads known.1 x s e
 
 -- ---- what the core of a bank asks
 
-bits_low : (w : Width) → 1 ≤ bits w
-bits_low bits_8 = omega arith
-bits_low bits_16 = omega arith
-bits_low bits_32 = omega arith
-bits_low bits_64 = omega arith
-
 bits_high : (w : Width) → bits w ≤ 64
 bits_high bits_8 = omega arith
 bits_high bits_16 = omega arith
@@ -59,7 +54,7 @@ all_below bound f h i (suc n) = (h i, all_below bound f h (i + 1) n)
 
 bank_held : (x : ℕ) (g : GlobalVariable) (count k : ℕ) → IsHeld (bank_of x g count k)
 bank_held x g count k = record {
-  low = bits_low g.ty.width;
+  low = at_least_1 g.ty.width;
   high = bits_high g.ty.width;
   counted = length-spread (λ a. first_value g (a * count + k)) 0 (words_of count k g.length);
   fits = all_below (2 ^ width_of g.ty) (λ a. first_value g (a * count + k)) (λ a. residue_of-below (width_of g.ty) (unwrap_or (slice_get g.initial (a * count + k)) (pos 0))) 0
@@ -204,19 +199,16 @@ module _ (threads : List ℕ) where
 
 -- ---- places and elements
 
-test_on : (a b : ℕ) → a < b → nat_lt a b ≡ true
-test_on a b l = grind (arith, nat_tests)
-
 same_element : (b : BankShape) (address x j : ℕ) → address < b.words → b.global ≡ x → address * b.count + b.number ≡ j → element_in (Some b) address ≡ Some (record { global = x; index = j })
 same_element b address x j l g e =
-    ap (λ t. if t then Some (record { global = b.global; index = address * b.count + b.number }) else None) (test_on address b.words l)
+    ap (λ t. if t then Some (record { global = b.global; index = address * b.count + b.number }) else None) (lt-ltb address b.words l)
     ∙ ap (λ y. Some (record { global = y; index = address * b.count + b.number })) g
     ∙ ap (λ y. Some (record { global = x; index = y })) e
 
 pub element_is : (banks : List BankShape) (i address : ℕ) (b : BankShape) → slice_get banks i ≡ Some b → address < b.words
     → Some (record { global = b.global; index = address * b.count + b.number }) ≡ element_of banks i address
 element_is banks i address b e l =
-    sym (ap (λ o. element_in o address) e ∙ ap (λ t. if t then Some (record { global = b.global; index = address * b.count + b.number }) else None) (test_on address b.words l))
+    sym (ap (λ o. element_in o address) e ∙ ap (λ t. if t then Some (record { global = b.global; index = address * b.count + b.number }) else None) (lt-ltb address b.words l))
 
 pub no_element : (banks : List BankShape) (i address : ℕ) (b : BankShape) → slice_get banks i ≡ Some b → b.words ≤ address → None ≡ element_of banks i address
 no_element banks i address b e l =

@@ -30,14 +30,13 @@ fn takes_the_commands(rt: HostRuntime) -> Result<(), Fail> {
             steps: 1,
         },
     ];
-    assert_eq!(rt; turns.as_slice() == &wanted[..], true);
+    assert!(rt; turns.as_slice() == &wanted[..]);
     let words = words_of(alloc, "hls step --cycles 3136")?;
-    assert_eq!(rt;
+    assert!(rt;
         matches!(
             parse(alloc, words.as_slice()),
             Ok(Task::Step { cycles: 3136 })
-        ),
-        true
+        )
     );
     for line in [
         "",
@@ -54,9 +53,8 @@ fn takes_the_commands(rt: HostRuntime) -> Result<(), Fail> {
         "hls --help",
     ] {
         let words = words_of(alloc, line)?;
-        assert_eq!(rt;
+        assert!(rt;
             matches!(parse(alloc, words.as_slice()), Err(WordsError::Usage)),
-            true,
             "at {line}"
         );
     }
@@ -81,7 +79,7 @@ fn reads_the_number_of_jobs(rt: HostRuntime) -> Result<(), Fail> {
         ("hls build --jobs 16", Some(16)),
         ("hls build --jobs 17", None),
     ] {
-        assert_eq!(rt; jobs_of(alloc, line)?, want, "at {line}");
+        assert!(rt; jobs_of(alloc, line)? == want, "at {line}");
     }
     Ok(())
 }
@@ -103,7 +101,7 @@ fn reads_the_number_of_cycles(rt: HostRuntime) -> Result<(), Fail> {
         ("hls step --cycles=4294967295", Some(u32::MAX)),
         ("hls step --cycles=4294967296", None),
     ] {
-        assert_eq!(rt; cycles_of(alloc, line)?, want, "at {line}");
+        assert!(rt; cycles_of(alloc, line)? == want, "at {line}");
     }
     Ok(())
 }

@@ -15,7 +15,7 @@ where
     S: Drop,
 {
     let whole = read_all(alloc, &mut source, TEXT.len()).expect(rt, name);
-    assert_eq!(rt; whole.as_slice(), TEXT, "of {name}");
+    assert!(rt; whole.as_slice() == TEXT, "of {name}");
     let rest = read_all(alloc, &mut source, 0).expect(rt, name);
     assert!(rt; rest.is_empty(), "of {name}");
 }
@@ -41,7 +41,7 @@ fn holds_to_the_most_bytes(rt: HostRuntime) {
     for (max, fits) in [(0, false), (24, false), (25, true), (65_536, true)] {
         let mut source = MemSource::new(TEXT, 7, &[]);
         let read = read_all(alloc, &mut source, max);
-        assert_eq!(rt; read.is_ok(), fits, "at {max}");
+        assert!(rt; read.is_ok() == fits, "at {max}");
         assert!(rt;
             fits || matches!(read, Err(ReadAllError::TooLong)),
             "at {max}"
@@ -56,7 +56,7 @@ fn fails_in_the_middle_of_a_read(rt: HostRuntime) -> Result<(), Fail> {
     let read = read_all(alloc, &mut source, 100);
     assert!(rt; matches!(read, Err(ReadAllError::ReadFault)));
     let rest = read_all(alloc, &mut source, 100)?;
-    assert_eq!(rt; rest.as_slice(), b"main(void){return 0;}".as_slice());
+    assert!(rt; rest.as_slice() == b"main(void){return 0;}".as_slice());
     Ok(())
 }
 
@@ -64,16 +64,13 @@ fn fails_in_the_middle_of_a_read(rt: HostRuntime) -> Result<(), Fail> {
 fn fails_in_the_middle_of_a_write(rt: HostRuntime) -> Result<(), Fail> {
     let alloc = rt.alloc();
     let mut sink = MemSink::new(alloc, 100, 4, &[3])?;
-    assert_eq!(rt; write_all(&mut sink, TEXT), Err(WriteFault { written: 8 }));
-    assert_eq!(rt; sink.held(), b"int main".as_slice());
-    assert_eq!(rt; write_all(&mut sink, b"(void)"), Ok(()));
-    assert_eq!(rt; sink.held(), b"int main(void)".as_slice());
+    assert!(rt; write_all(&mut sink, TEXT) == Err(WriteFault { written: 8 }));
+    assert!(rt; sink.held() == b"int main".as_slice());
+    assert!(rt; write_all(&mut sink, b"(void)").is_ok());
+    assert!(rt; sink.held() == b"int main(void)".as_slice());
     let mut small = MemSink::new(alloc, 10, 25, &[])?;
-    assert_eq!(rt;
-        write_all(&mut small, TEXT),
-        Err(WriteFault { written: 10 })
-    );
-    assert_eq!(rt; write_all(&mut SureSink::new(), TEXT), Ok(()));
+    assert!(rt; write_all(&mut small, TEXT) == Err(WriteFault { written: 10 }));
+    assert!(rt; write_all(&mut SureSink::new(), TEXT).is_ok());
     Ok(())
 }
 
@@ -131,15 +128,15 @@ fn stands_over_streams_of_std(rt: HostRuntime) -> Result<(), Fail> {
             broken_from,
         });
         let read = read_all(alloc, &mut source, 100);
-        assert_eq!(rt; matches!(read, Err(ReadAllError::ReadFault)), fails);
-        assert_eq!(rt; read.is_ok_and(|bytes| bytes.as_slice() == TEXT), !fails);
+        assert!(rt; matches!(read, Err(ReadAllError::ReadFault)) == fails);
+        assert!(rt; read.is_ok_and(|bytes| bytes.as_slice() == TEXT) == !fails);
     }
     let mut sink = StdSink::new(Grudging { calls: 0 });
-    assert_eq!(rt; write_all(&mut sink, TEXT), Err(WriteFault { written: 10 }));
+    assert!(rt; write_all(&mut sink, TEXT) == Err(WriteFault { written: 10 }));
     let mut vec_sink = StdSink::new(Vec::<u8>::new(alloc));
-    assert_eq!(rt; write_all(&mut vec_sink, TEXT), Ok(()));
+    assert!(rt; write_all(&mut vec_sink, TEXT).is_ok());
     let mut out = StdSink::new(rt.stdout());
-    assert_eq!(rt; write_all(&mut out, b"one line\n"), Ok(()));
+    assert!(rt; write_all(&mut out, b"one line\n").is_ok());
     Ok(())
 }
 
@@ -153,10 +150,10 @@ fn prints_minimal_decimals(rt: HostRuntime) -> Result<(), Fail> {
     }
     let want = b"hls: 0 7 -1 10 -100 4294967295 170141183460469231731687303715884105727 \
         -170141183460469231731687303715884105728";
-    assert_eq!(rt; bytes.as_slice(), want.as_slice());
+    assert!(rt; bytes.as_slice() == want.as_slice());
     bytes.truncate(5);
     bytes.put(b"usage")?;
-    assert_eq!(rt; bytes.as_slice(), b"hls: usage".as_slice());
-    assert_eq!(rt; bytes.len(), 10);
+    assert!(rt; bytes.as_slice() == b"hls: usage".as_slice());
+    assert!(rt; bytes.len() == 10);
     Ok(())
 }

@@ -3,32 +3,13 @@ use Rattle.std.proofs.Common.{◌≡◌, refl, sym, ap, ◌∙◌, subst, inl, i
 use Rattle.std.specs.Prelude.{Option, Some, None, slice_get, slice_set, unwrap_or, replicate, Contains}
 use Rattle.std.proofs.lemmas.Bool.{false≢true, cases_lt}
 use Rattle.std.proofs.lemmas.List.{length-append}
-use Rattle.std.proofs.lemmas.Option.{slice_get-get_or}
+use Rattle.std.proofs.lemmas.Option.{slice_get-get_or, none-some}
+use Rattle.lists.proofs.Places.{get_front, get_last}
 use Rattle.call_graph.specs.Graphs.{has, each_below}
 
 abbrev IsNone : {A : Type 0} → Option A → Type 0
 IsNone None = Unit {0}
 IsNone (Some x) = ⊥
-
-pub none-some : {A : Type 0} (x : A) → None ≡ Some x → ⊥
-none-some {A} x h = subst (λ (o : Option A). IsNone o) h tt
-
-pub some-some : {A : Type 0} (x y : A) → Some x ≡ Some y → x ≡ y
-some-some x y h = ap (λ o. unwrap_or o x) h
-
-pub some_at : {A : Type 0} (xs : List A) (k : ℕ) → k < length xs → (x : A) × (slice_get xs k ≡ Some x)
-some_at [] k lt = absurd (omega arith)
-some_at (x ∷ xs) zero lt = (x, refl)
-some_at (x ∷ xs) (suc k) lt = some_at xs k (omega arith)
-
-pub at_front : {A : Type 0} (xs ys : List A) (k : ℕ) (x : A) → slice_get xs k ≡ Some x → slice_get (xs ++ ys) k ≡ Some x
-at_front [] ys k x h = absurd (none-some x h)
-at_front (y ∷ xs) ys zero x h = h
-at_front (y ∷ xs) ys (suc k) x h = at_front xs ys k x h
-
-pub at_end : {A : Type 0} (xs : List A) (x : A) → slice_get (xs ++ x ∷ []) (length xs) ≡ Some x
-at_end [] x = refl
-at_end (y ∷ xs) x = at_end xs x
 
 pub at_Contains : {A : Type 0} (xs : List A) (x : A) → Contains xs x → (k : ℕ) × (slice_get xs k ≡ Some x)
 at_Contains xs x c = (c.0, slice_get-get_or xs c.0 x c.1 ∙ ap Some c.2)
@@ -47,12 +28,12 @@ module _ {A : Type 0} (of : ℕ → A) where
   each_at zero k lt = absurd (omega (arith, lt))
   each_at (suc n) k lt =
       elim (cases_lt k n) [
-        | inl less ↦ at_front (each_below of n) (of n ∷ []) k (of k) (each_at n k less)
+        | inl less ↦ get_front (each_below of n) (of n ∷ []) k (of k) (each_at n k less)
         | inr le ↦
             let same : n ≡ k = omega (arith, lt, le) in
             let P : ℕ → Type 0 = λ m. slice_get (each_below of (suc n)) m ≡ Some (of m) in
             let Q : ℕ → Type 0 = λ m. slice_get (each_below of (suc n)) m ≡ Some (of n) in
-            subst P same (subst Q (each_length n) (at_end (each_below of n) (of n)))
+            subst P same (subst Q (each_length n) (get_last (each_below of n) (of n)))
       ]
 
 -- ---- marks

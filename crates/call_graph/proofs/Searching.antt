@@ -3,14 +3,15 @@ use Rattle.std.proofs.Common.{◌≡◌, refl, sym, ap, ◌∙◌, subst, inl, i
 use Rattle.std.specs.Prelude.{not, nat_lt, if◌then◌else◌, Option, Some, None, slice_get, unwrap_or, Contains}
 use Rattle.std.specs.Bool.{Decides}
 use Rattle.std.proofs.lemmas.Bool.{false≢true, and_parts, and_cases, not-true, not-false, cases_lt, ltb-true, lt-ltb}
-use Rattle.std.proofs.lemmas.Option.{slice_get_within, slice_get_past, get_or_from_slice_get}
+use Rattle.std.proofs.lemmas.Option.{slice_get_within, slice_get_past, get_or_from_slice_get, none-some, same_Some}
 use Rattle.std.proofs.lemmas.List.{length-append, length-replicate}
 use Rattle.std.proofs.lemmas.List.Elements.{Contains-append_left, Contains-push}
+use Rattle.lists.proofs.Places.{get_there, get_front}
 use Rattle.call_graph.specs.declared.table.Call.{Call}
 use Rattle.call_graph.specs.declared.search.Search.{Search}
 use Rattle.call_graph.specs.Graphs.{callees, table, row, has, is_new, with_mark, marking, following, following_one, begun, turns, searched, marks_from, all_marks}
 use Rattle.call_graph.specs.Reaching.{Leads, Here, Further, leads, IsReach}
-use Rattle.call_graph.proofs.Marks.{none-some, some-some, some_at, at_front, at_Contains, has_inside, set_has, set_keeps}
+use Rattle.call_graph.proofs.Marks.{at_Contains, has_inside, set_has, set_keeps}
 use Rattle.call_graph.proofs.Marks.{set_back, set_length, none_has, count, count_none, count_few, count_set, each_length, each_at}
 
 Contains_at : (xs : List ℕ) (k x : ℕ) → slice_get xs k ≡ Some x → Contains xs x
@@ -37,7 +38,7 @@ choose_keeps : (s : Search) (f : ℕ) (b : Bool) → Keeps s (if b then with_mar
 choose_keeps s f true = record {
   size = set_length s.marks f;
   marks = λ h is. set_keeps s.marks f h is;
-  found = λ k x is. at_front s.found (f ∷ []) k x is;
+  found = λ k x is. get_front s.found (f ∷ []) k x is;
 }
 choose_keeps s f false = keeps_all s
 
@@ -65,7 +66,7 @@ following_has : (callees : List ℕ) (s : Search) (k h : ℕ) → slice_get call
     has (following s callees).marks h ≡ true
 following_has [] s k h at lt = absurd (none-some h at)
 following_has (c ∷ cs) s zero h at lt =
-    let is = some-some c h at in
+    let is = same_Some c h at in
     (following_keeps cs (marking s c)).marks h (subst (λ x. has (marking s c).marks x ≡ true) is (marking_has s c (subst (λ x. x < length s.marks) (sym is) lt)))
 following_has (c ∷ cs) s (suc k) h at lt =
     following_has cs (marking s c) k h at (subst (λ n. h < n) (sym (marking_keeps s c).size) lt)
@@ -78,7 +79,7 @@ module _ (P : ℕ → Type 0) where
     reason : (k h : ℕ) → slice_get s.found k ≡ Some h → P h
 
   push_reason : (xs : List ℕ) (f : ℕ) → ((k h : ℕ) → slice_get xs k ≡ Some h → P h) → P f → (k h : ℕ) → slice_get (xs ++ f ∷ []) k ≡ Some h → P h
-  push_reason [] f each here zero h at = subst P (some-some f h at) here
+  push_reason [] f each here zero h at = subst P (same_Some f h at) here
   push_reason [] f each here (suc k) h at = absurd (none-some h at)
   push_reason (x ∷ xs) f each here zero h at = each zero h at
   push_reason (x ∷ xs) f each here (suc k) h at = push_reason xs f (λ j y is. each (suc j) y is) here k h at
@@ -170,8 +171,8 @@ module _ (functions : ℕ) (calls : List Call) (root : ℕ) (rooted : root < fun
   earlier i s g at so k f h less is c inside =
       let keeps = following_keeps (row rows g) s in
       let long = slice_get_within s.found i g at in
-      let old = some_at s.found k (omega (arith, less, long)) in
-      let same = some-some f old.0 (sym is ∙ keeps.found k old.0 old.1) in
+      let old = get_there s.found k (omega (arith, less, long)) in
+      let same = same_Some f old.0 (sym is ∙ keeps.found k old.0 old.1) in
       keeps.marks h (so.closed k old.0 h less old.1 (subst (λ x. Contains (row rows x) h) same c) inside)
 
   turn_keeps : (i : ℕ) (s : Search) (o : Option ℕ) → slice_get s.found i ≡ o → So_far i s → So_far (suc i) (following_one rows s o)
@@ -201,7 +202,7 @@ module _ (functions : ℕ) (calls : List Call) (root : ℕ) (rooted : root < fun
           | inl less ↦ earlier i s g at so k f h less is c inside
           | inr le ↦
               let same : k ≡ i = omega arith in
-              let is_g = some-some g f (sym (keeps.found i g at) ∙ subst (λ j. slice_get t.found j ≡ Some f) same is) in
+              let is_g = same_Some g f (sym (keeps.found i g at) ∙ subst (λ j. slice_get t.found j ≡ Some f) same is) in
               let found = at_Contains cs h (subst (λ x. Contains (row rows x) h) (sym is_g) c) in
               following_has cs s found.0 h found.1 (subst (λ n. h < n) (sym so.size) inside)
         ];

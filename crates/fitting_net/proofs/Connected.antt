@@ -4,6 +4,7 @@ use Rattle.std.specs.Prelude.{◌&&◌, ◌==◌, slice_get, nat_lt, if◌then�
 use Rattle.std.specs.List.{flat_map}
 use Rattle.std.specs.Str.{bytes_eq}
 use Rattle.std.proofs.lemmas.Option.{same_Some, none-some}
+use Rattle.std.proofs.lemmas.Bool.{ltb-true, eqb-true}
 use Rattle.verilog_tree.specs.declared.kind.SignalClass.{SignalClass}
 use Rattle.verilog_tree.specs.declared.kind.Kind.TheVariants as kind
 use Rattle.verilog_tree.specs.declared.tree.Direction.{Direction}
@@ -26,7 +27,7 @@ use Rattle.netlist.specs.NetlistOf.{place}
 use Rattle.netlist_text.proofs.Places.{is_name, same_name}
 use Rattle.netlist_text.proofs.Members.{In, in_none, in_first, in_rest, in_cons, in_either, in_unflat, is_known_in}
 use Rattle.netlist_text.proofs.Grown.{items_modules, port_facts_are}
-use Rattle.fitting_net.proofs.Tests.{both, less, same, right_in}
+use Rattle.fitting_net.proofs.Tests.{both, right_in}
 use Rattle.fitting_net.proofs.Lists.{some_in, taken, each_at}
 use Rattle.fitting_net.proofs.Declarations.{item_is, port_kind}
 use Rattle.fitting_net.proofs.Signals.{IsTold, IsRead, told, told_kind, kind_at, class_of, read, clock_read, in_input_ports, in_output_ports, inner_declarations}
@@ -272,7 +273,7 @@ module _ (ms : List Module) (whole : Facts) (each : EachAfter (IsModule whole) a
           r.connects in
           let out : signal_right scope_at direction.Output x (scope.width_of r.port.high) ≡ true =
           subst (λ (q : Direction). signal_right scope_at q x (scope.width_of r.port.high) ≡ true) way here in
-          same (driven_width (kind_of scope_at x)) (scope.width_of r.port.high)
+          eqb-true (driven_width (kind_of scope_at x)) (scope.width_of r.port.high)
           (and_right (nat_lt 0 (scope.width_of r.port.high)) (driven_width (kind_of scope_at x) == scope.width_of r.port.high) out)
           ∙ wide
 
@@ -301,10 +302,10 @@ module _ (ms : List Module) (whole : Facts) (each : EachAfter (IsModule whole) a
           sym (ap (λ b. if b then (is_clk x && is_clock (kind_of scope_at x)) else signal_right scope_at r.port.direction x (scope.width_of r.port.high)) (ap is_clk r.name ∙ c)) ∙
           r.connects in
           let into : has_width scope_at x (scope.width_of r.port.high) ≡ true = subst (λ (y : Direction). signal_right scope_at y x (scope.width_of r.port.high) ≡ true) way here in
-          let reads = read whole f m (formed k m found) x (less 0 (read_width (kind_of scope_at x))
+          let reads = read whole f m (formed k m found) x (ltb-true 0 (read_width (kind_of scope_at x))
           (and_left (is_signal scope_at x) (read_width (kind_of scope_at x) == scope.width_of r.port.high) into)) in
           subst (Reads x)
-          (same (read_width (kind_of scope_at x)) (scope.width_of r.port.high) (and_right (is_signal scope_at x)
+          (eqb-true (read_width (kind_of scope_at x)) (scope.width_of r.port.high) (and_right (is_signal scope_at x)
           (read_width (kind_of scope_at x) == scope.width_of r.port.high) into) ∙ wide) reads
 
       pub input_tied : (d : n.Declaration) → In (n.declarations o.of) d → d.kind ≡ n.InputPort → Reads (n.connected t.connections d.name) d.width

@@ -6,6 +6,8 @@ use Rattle.std.specs.List.{flat_map}
 use Rattle.std.specs.Str.{bytes_eq}
 use Rattle.std.proofs.lemmas.Nat.{pow_pos}
 use Rattle.std.proofs.lemmas.Option.{same_Some, none-some}
+use Rattle.std.proofs.lemmas.Bool.{ltb-true}
+use Rattle.lists.proofs.Places.{get_mapped, get_unmapped}
 use Rattle.verilog_tree.specs.declared.kind.Kind.{Kind}
 use Rattle.verilog_tree.specs.declared.kind.Kind.TheVariants as kind
 use Rattle.verilog_tree.specs.declared.tree.Constant.{Constant}
@@ -24,11 +26,11 @@ use Rattle.verilog_tree.proofs.Tests.{and_left, and_right}
 use Rattle.netlist.specs.declared.netlist.Memory.{Memory}
 use Rattle.netlist.specs.NetlistOf as n
 use Rattle.netlist.specs.NetlistOf.{place}
-use Rattle.netlist_text.proofs.Places.{is_name, get_mapped, get_unmapped}
+use Rattle.netlist_text.proofs.Places.{is_name}
 use Rattle.netlist_text.proofs.Members.{In, Entry, in_first, in_rest, in_map, in_flat, in_unflat}
 use Rattle.circuit.specs.Rows.{EachOf}
 use Rattle.circuit.specs.Modules.{FitsMemory}
-use Rattle.fitting_net.proofs.Tests.{less, right_in}
+use Rattle.fitting_net.proofs.Tests.{right_in}
 use Rattle.fitting_net.proofs.Lists.{place_found, some_in}
 use Rattle.fitting_net.proofs.Declarations.{all, item_is, item_kind, kind_named}
 use Rattle.fitting_net.proofs.Signals.{range_of}
@@ -60,7 +62,7 @@ words_long cs x k (suc count) = ap suc (words_long cs x (k + 1) count)
 register_value : (sc : Scope) (o : Option Kind) (word : Option ℕ) (value : Constant) → n.same_word None word ≡ true → place_right sc o word value ≡ true →
     value.value < 2 ^ register_width o
 register_value sc o None value e h =
-    less value.value (2 ^ register_width o)
+    ltb-true value.value (2 ^ register_width o)
     (and_right (value.width == register_width o) (nat_lt value.value (2 ^ register_width o)) (and_right (nat_lt 0 (register_width o)) (is_constant value (register_width o)) h))
 register_value sc o (Some k) value e h = absurd (cc)
 
@@ -69,7 +71,7 @@ word_value : (sc : Scope) (o : Option Kind) (k : ℕ) (word : Option ℕ) (value
 word_value sc o k None value e h = absurd (cc)
 word_value sc o k (Some j) value e h =
     let rest = and_right (nat_lt 0 (memory_width o)) (nat_lt j (words_of o) && is_constant value (memory_width o)) h in
-    less value.value (2 ^ memory_width o)
+    ltb-true value.value (2 ^ memory_width o)
     (and_right (value.width == memory_width o) (nat_lt value.value (2 ^ memory_width o)) (and_right (nat_lt j (words_of o)) (is_constant value (memory_width o)) rest))
 
 memory_is : (x : Item) (y : text_memory.Memory) → n.memory_item x ≡ Some y → x ≡ i.Memory y

@@ -3,6 +3,7 @@ use Rattle.std.proofs.Common.{◌≡◌, ℕ, zero, suc, ◌⊎◌, List, [], �
 use Rattle.std.specs.Prelude.{◌||◌, slice_get, is_some, if◌then◌else◌}
 use Rattle.std.specs.Str.{bytes_eq}
 use Rattle.std.proofs.lemmas.Option.{same_Some, none-some}
+use Rattle.std.proofs.lemmas.Bool.{or_parts, not-true}
 use Rattle.verilog_tree.specs.declared.kind.Kind.{Kind}
 use Rattle.verilog_tree.specs.declared.tree.Port.{Port}
 use Rattle.verilog_tree.specs.declared.tree.Item.{Item}
@@ -10,10 +11,9 @@ use Rattle.verilog_tree.specs.declared.tree.Module.{Module}
 use Rattle.verilog_tree.specs.Scope.{Name, Scope, kind_of, is_clk, is_declared, declaration, port_declaration}
 use Rattle.verilog_tree.specs.Facts.{Facts, after, after_port, after_item, with_declaration, after_declaration, head_facts, port_facts, module_facts}
 use Rattle.verilog_tree.specs.WellFormed.{IsItem, IsPort, IsModule, is_new_declaration}
-use Rattle.verilog_tree.proofs.Tests.{not_true}
 use Rattle.netlist_text.proofs.Places.{is_name, same_name}
 use Rattle.netlist_text.proofs.Members.{Entry}
-use Rattle.fitting_net.proofs.Lists.{each_at, or_either}
+use Rattle.fitting_net.proofs.Lists.{each_at}
 
 -- ---- one declaration more
 
@@ -136,7 +136,7 @@ pub record IsItemNamed (m : Module) (z : Name) (k : Kind) : Type 0 where
   pub kind : entry.1 ≡ k
 
 pub new_by : (s : Scope) (o : Option Entry) (d : Entry) → o ≡ Some d → is_new_declaration s o ≡ true → (is_declared s d.0 ≡ false) × (is_clk d.0 ≡ false)
-new_by s o d e h = or_either (is_declared s d.0) (is_clk d.0) (not_true (is_declared s d.0 || is_clk d.0) (subst (λ (t : Option Entry). is_new_declaration s t ≡ true) e h))
+new_by s o d e h = or_parts (is_declared s d.0) (is_clk d.0) (not-true (is_declared s d.0 || is_clk d.0) (subst (λ (t : Option Entry). is_new_declaration s t ≡ true) e h))
 
 module _ (whole f : Facts) (m : Module) (is : IsModule whole f m) where
   abbrev pub all : Facts

@@ -6,6 +6,7 @@ use Rattle.std.specs.List.{flat_map}
 use Rattle.std.specs.Str.{bytes_eq}
 use Rattle.std.proofs.lemmas.Slice.Eq.{bytes_eq-Decides}
 use Rattle.std.proofs.lemmas.Option.{same_Some, none-some}
+use Rattle.std.proofs.lemmas.Bool.{not-true}
 use Rattle.verilog_tree.specs.declared.tree.Direction.{Direction}
 use Rattle.verilog_tree.specs.declared.tree.Direction.TheVariants as direction
 use Rattle.verilog_tree.specs.declared.tree.Expression.{Expression}
@@ -20,7 +21,7 @@ use Rattle.verilog_tree.specs.Scope.{Name, Names, Scope, is_known, kind_of, driv
 use Rattle.verilog_tree.specs.Rules.{all_right, are_distinct, expression_right, assign_right, port_named, connected_ports}
 use Rattle.verilog_tree.specs.Facts.{Facts, Interface, interface_named, ports_of, is_output, outputs, drives, nothing, after, with_name, after_module, port_facts, module_facts}
 use Rattle.verilog_tree.specs.WellFormed.{EachAfter, IsModule, is_input}
-use Rattle.verilog_tree.proofs.Tests.{and_left, and_right, and_both, not_true}
+use Rattle.verilog_tree.proofs.Tests.{and_left, and_right, and_both}
 use Rattle.netlist.specs.declared.netlist.Source.TheVariants as source
 use Rattle.netlist.specs.NetlistOf as n
 use Rattle.netlist.specs.NetlistOf.{is_output_port}
@@ -224,7 +225,7 @@ only_by c d cs next apart h true e = elim (in_cons d c cs h) [
   ]
 
   known_not : (x : Name) (xs : Names) → are_distinct (x ∷ xs) ≡ true → In xs x → ⊥
-  known_not x xs h q = both (not_true (is_known xs x) (and_left (not (is_known xs x)) (are_distinct xs) h)) (in_holds bytes_eq bytes_eq-Decides xs x q)
+  known_not x xs h q = both (not-true (is_known xs x) (and_left (not (is_known xs x)) (are_distinct xs) h)) (in_holds bytes_eq bytes_eq-Decides xs x q)
 only_by c d cs next apart h false e = elim (in_cons d c cs h) [
   | inl q ↦ both e (subst (λ (t : Connection). bytes_eq c.port t.port ≡ true) (sym q) (same_name c.port))
   | inr q ↦ next q

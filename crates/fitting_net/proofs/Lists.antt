@@ -54,7 +54,3 @@ each_take P step s (y ∷ xs) zero each = tt
 each_take P step s (y ∷ xs) (suc k) each = (each.0, each_take P step (step s y) xs k each.1)
 
 -- ---- tests
-
-pub or_either : (a b : Bool) → (a || b) ≡ false → (a ≡ false) × (b ≡ false)
-or_either true b e = absurd (cc)
-or_either false b e = (refl, e)

@@ -4,6 +4,7 @@ use Rattle.std.proofs.Common.{Option, Some, None, refl, sym, ap, ◌∙◌, subs
 use Rattle.std.specs.Prelude.{slice_get}
 use Rattle.std.specs.List.{flat_map}
 use Rattle.std.proofs.lemmas.Option.{same_Some}
+use Rattle.lists.proofs.Places.{get_mapped, get_unmapped}
 use Rattle.verilog_tree.specs.declared.tree.Direction.{Direction}
 use Rattle.verilog_tree.specs.declared.tree.Direction.TheVariants as direction
 use Rattle.verilog_tree.specs.declared.tree.Expression.{Expression}
@@ -27,7 +28,7 @@ use Rattle.netlist.specs.declared.netlist.Module.{Module}
 use Rattle.netlist.specs.NetlistOf as n
 use Rattle.netlist.specs.NetlistOf.{place, module_of, netlist_of}
 use Rattle.netlist.specs.Laid.{AreApart, signal_names, memory_names, instance_names}
-use Rattle.netlist_text.proofs.Places.{get_mapped, get_unmapped, get_either, map_map}
+use Rattle.netlist_text.proofs.Places.{get_either, map_map}
 use Rattle.netlist_text.proofs.Members.{In, in_none, in_one, in_unflat}
 use Rattle.verilog_meaning.specs.Readings.{or_zero}
 use Rattle.verilog_meaning.specs.Cycles.{IsRegister}

@@ -2,6 +2,8 @@
 use Rattle.std.proofs.Common.{◌≡◌, ℕ, zero, suc, ◌<◌, ◌⊎◌, List, [], ◌∷◌, true, false, Option, Some, None, refl, sym, ap, ◌∙◌, subst, inl, inr, take, arith}
 use Rattle.std.specs.Prelude.{slice_get, is_some, if◌then◌else◌}
 use Rattle.std.proofs.lemmas.Option.{same_Some, none-some}
+use Rattle.std.proofs.lemmas.Bool.{cases_order}
+use Rattle.lists.proofs.Places.{none_of}
 use Rattle.verilog_tree.specs.declared.tree.Module.{Module}
 use Rattle.verilog_tree.specs.Scope.{Name}
 use Rattle.verilog_tree.specs.Facts.{Facts, Interface, interface_named, interface_of, nothing, after, after_module}
@@ -9,15 +11,6 @@ use Rattle.verilog_tree.specs.WellFormed.{EachAfter, IsModule}
 use Rattle.netlist_text.proofs.Places.{same_name}
 use Rattle.fitting_net.proofs.Lists.{each_at, each_take}
 use Rattle.fitting_net.proofs.Earlier.{modules_kept, named_none}
-
-pub order : (a b : ℕ) → (a ≡ b) ⊎ ((a < b) ⊎ (b < a))
-order zero zero = inl refl
-order zero (suc b) = inr (inl (omega arith))
-order (suc a) zero = inr (inr (omega arith))
-order (suc a) (suc b) = elim (order a b) [
-  | inl e ↦ inl (ap suc e)
-  | inr p ↦ inr (elim p [ inl l ↦ inl (omega arith) | inr l ↦ inr (omega arith) ])
-]
 
 pub take_get : {A : Type 0} (xs : List A) (k i : ℕ) (x : A) → i < k → slice_get xs i ≡ Some x → slice_get (take k xs) i ≡ Some x
 take_get [] zero i x l e = absurd (none-some x e)
@@ -33,10 +26,6 @@ kept_take [] f zero z x e = e
 kept_take [] f (suc k) z x e = e
 kept_take (m ∷ ms) f zero z x e = modules_kept (m ∷ ms) f z x e
 kept_take (m ∷ ms) f (suc k) z x e = kept_take ms (after_module f m) k z x e
-
-none_of : {A : Type 0} (o : Option A) → is_some o ≡ false → o ≡ None
-none_of None e = refl
-none_of (Some x) e = absurd (let z : true ≡ false = e in cc)
 
 module _ (whole : Facts) where
   here : (m : Module) (ms : List Module) (f : Facts) → IsModule whole f m → interface_named (after after_module (after_module f m) ms).modules m.name
@@ -63,7 +52,7 @@ module _ (whole : Facts) where
 
     -- no two modules have one name
     pub names_apart : (i j : ℕ) (t u : Module) → slice_get ms i ≡ Some t → slice_get ms j ≡ Some u → t.name ≡ u.name → i ≡ j
-    names_apart i j t u e g same = elim (order i j) [
+    names_apart i j t u e g same = elim (cases_order i j) [
       | inl q ↦ q
       | inr p ↦ elim p [ inl l ↦ absurd (not_later i j t u e g same l) | inr l ↦ absurd (not_later j i u t g e (sym same) l) ]
     ]

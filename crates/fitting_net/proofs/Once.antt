@@ -5,6 +5,7 @@ use Rattle.std.specs.List.{flat_map}
 use Rattle.std.specs.Str.{bytes_eq}
 use Rattle.std.proofs.lemmas.Slice.Eq.{bytes_eq-Decides}
 use Rattle.std.proofs.lemmas.Option.{same_Some, none-some}
+use Rattle.std.proofs.lemmas.Bool.{not-true}
 use Rattle.verilog_tree.specs.declared.tree.Instance.{Instance}
 use Rattle.verilog_tree.specs.declared.tree.Item.{Item}
 use Rattle.verilog_tree.specs.declared.tree.Item.TheVariants as i
@@ -12,7 +13,6 @@ use Rattle.verilog_tree.specs.declared.tree.Module.{Module}
 use Rattle.verilog_tree.specs.Scope.{Name, Names, is_known}
 use Rattle.verilog_tree.specs.Facts.{Facts, Interface, places_printer, module_of, with_name, after_module_name, after, after_item, after_module, port_facts, module_facts}
 use Rattle.verilog_tree.specs.WellFormed.{EachAfter, IsItem, IsModule, is_new_printer}
-use Rattle.verilog_tree.proofs.Tests.{not_true}
 use Rattle.netlist.specs.NetlistOf as n
 use Rattle.netlist_text.proofs.Members.{In, in_first, in_front, in_back, in_flat, in_holds, is_known_in, in_after}
 use Rattle.netlist_text.proofs.Grown.{module_places, item_modules, module_placed, port_facts_are}
@@ -95,7 +95,7 @@ module _ (P : Name → Type 0) where
       let held : In (instances (x ∷ xs)) t = in_front (n.some (n.instance_item x)) (instances xs) t (subst (λ (y : Option Instance). In (n.some y) t) (sym e) (in_first t [])) in
       one_more f.placed t (instances xs)
       (λ p. second_false (places_printer f.modules (i.Instance t)) (is_known f.placed t.module_name)
-      (not_true (places_printer f.modules (i.Instance t) && is_known f.placed t.module_name) printer) (prints t held p))
+      (not-true (places_printer f.modules (i.Instance t) && is_known f.placed t.module_name) printer) (prints t held p))
       (subst (λ (names : Names). AreOnce names (instances xs)) placed rest)
 
   items_once : (all f : Facts) (xs : List Item) → EachAfter (IsItem all) after_item f xs

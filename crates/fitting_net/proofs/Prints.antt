@@ -5,6 +5,9 @@ use Rattle.std.specs.List.{flat_map, list_any}
 use Rattle.std.specs.Str.{bytes_eq}
 use Rattle.std.proofs.lemmas.Slice.Eq.{bytes_eq-Decides}
 use Rattle.std.proofs.lemmas.Option.{same_Some}
+use Rattle.std.proofs.lemmas.Bool.{cases_order, or_parts, or_left, or_right}
+use Rattle.std.proofs.lemmas.Map.Keys.{any_passes_from_place}
+use Rattle.lists.proofs.Places.{get_mapped, get_unmapped}
 use Rattle.verilog_tree.specs.declared.tree.Instance as text_instance
 use Rattle.verilog_tree.specs.declared.tree.Item.{Item}
 use Rattle.verilog_tree.specs.declared.tree.Item.TheVariants as i
@@ -14,7 +17,6 @@ use Rattle.verilog_tree.specs.Scope.{Name, Names, is_known}
 use Rattle.verilog_tree.specs.Facts.{Facts, interface_named, is_top, prints_below_top, item_prints, places_printer, module_prints}
 use Rattle.verilog_tree.specs.Facts.{nothing, after, after_item, after_module, port_facts}
 use Rattle.verilog_tree.specs.WellFormed.{EachAfter, IsModule, IsWellFormed}
-use Rattle.verilog_tree.proofs.Tests.{or_holds}
 use Rattle.netlist.specs.declared.netlist.Action.{Action}
 use Rattle.netlist.specs.declared.netlist.Instance.{Instance}
 use Rattle.netlist.specs.declared.netlist.Module.{Module}
@@ -22,17 +24,16 @@ use Rattle.netlist.specs.NetlistOf as n
 use Rattle.netlist.specs.NetlistOf.{place, module_of, netlist_of}
 use Rattle.netlist.specs.Laid.{AreApart, module_names}
 use Rattle.netlist.specs.Sound.{IsPrinting, IsTop, Places, Writes, is_write}
-use Rattle.netlist_text.proofs.Places.{get_unmapped, get_mapped}
 use Rattle.netlist_text.proofs.Members.{In, in_none, in_one, in_first, in_flat, in_unflat, is_known_in, after_in}
 use Rattle.netlist_text.proofs.Grown.{items_printed, modules_printed, modules_placed, module_places, module_writes, item_modules, port_facts_are}
-use Rattle.fitting_net.proofs.Tests.{both, implied, or_there, or_here, or_left, second_false, any_at}
+use Rattle.fitting_net.proofs.Tests.{both, implied, or_there, second_false}
 use Rattle.fitting_net.proofs.Declarations.{item_is}
 use Rattle.fitting_net.proofs.Statements.{body_prints}
 use Rattle.fitting_net.proofs.Earlier.{IsTold, told_module, module_there}
 use Rattle.fitting_net.proofs.Connected.{facts_at, formed, IsInstanceOf, instance_of}
 use Rattle.fitting_net.proofs.Drivers.{instance_at}
 use Rattle.fitting_net.proofs.Modules.{actions_are, instances_are, modules_are}
-use Rattle.fitting_net.proofs.Named.{order, take_get, kept_take, own, names_apart}
+use Rattle.fitting_net.proofs.Named.{take_get, kept_take, own, names_apart}
 use Rattle.fitting_net.proofs.Once.{one_instance}
 
 pub name_is : (before : List text.Module) (m : text.Module) → (module_of before m).name ≡ m.name
@@ -105,16 +106,16 @@ module _ (ms : List text.Module) (each : EachAfter (IsModule (after after_module
 
     write_below : HasWrite → (is_top m.name ≡ true) ⊎ (prints m.name ≡ true)
     write_below w =
-        top_or_below (any_at (λ x. item_prints x || places_printer (before_at k).modules x) m.items w.at w.item w.there
-        (or_here (item_prints w.item) (places_printer (before_at k).modules w.item) w.prints_it))
+        top_or_below (any_passes_from_place (λ x. item_prints x || places_printer (before_at k).modules x) m.items w.at w.item w.there
+        (or_left (item_prints w.item) (places_printer (before_at k).modules w.item) w.prints_it))
         (is_top m.name) refl
 
     holder_below : (t : text_instance.Instance) → In (n.instance_items m) t → IsPrinter t.module_name → (is_top m.name ≡ true) ⊎ (prints m.name ≡ true)
     holder_below t h p =
         let a = instance_at m t h in
         top_or_below
-        (any_at (λ x. item_prints x || places_printer (before_at k).modules x) m.items a.at (i.Instance t) a.found
-        (or_holds (item_prints (i.Instance t)) (places_printer (before_at k).modules (i.Instance t)) (sym (sees k m t found h) ∙ p)))
+        (any_passes_from_place (λ x. item_prints x || places_printer (before_at k).modules x) m.items a.at (i.Instance t) a.found
+        (or_right (item_prints (i.Instance t)) (places_printer (before_at k).modules (i.Instance t)) (sym (sees k m t found h) ∙ p)))
         (is_top m.name) refl
 
     -- no block with a $write stands before one
@@ -124,18 +125,18 @@ module _ (ms : List text.Module) (each : EachAfter (IsModule (after after_module
 
     unprinted : HasWrite → (before_at k).printed ≡ false
     unprinted w =
-        or_left (before_at k).printed (list_any item_prints (take w.at m.items))
-        (sym (items_printed (port_facts (before_at k) m) (take w.at m.items) ∙ ap (λ (g : Facts). g.printed || list_any item_prints (take w.at m.items))
-        (port_facts_are (before_at k) m)) ∙ printed_before w)
+        (or_parts (before_at k).printed (list_any item_prints (take w.at m.items)) (sym (items_printed (port_facts (before_at k) m) (take w.at m.items) ∙ ap (λ
+        (g : Facts). g.printed || list_any item_prints (take w.at m.items))
+        (port_facts_are (before_at k) m)) ∙ printed_before w)).0
 
   not_after : (k j : ℕ) (m w : text.Module) (e : slice_get ms k ≡ Some m) (g : slice_get ms j ≡ Some w) → HasWrite k m e → HasWrite j w g → k < j → ⊥
   not_after k j m w e g a b l =
-      let writes : module_writes m ≡ true = any_at item_prints m.items a.at a.item a.there a.prints_it in
-      let printed : (before_at j).printed ≡ true = modules_printed nothing (take j ms) ∙ any_at module_writes (take j ms) k m (take_get ms j k m l e) writes in
+      let writes : module_writes m ≡ true = any_passes_from_place item_prints m.items a.at a.item a.there a.prints_it in
+      let printed : (before_at j).printed ≡ true = modules_printed nothing (take j ms) ∙ any_passes_from_place module_writes (take j ms) k m (take_get ms j k m l e) writes in
       both (unprinted j w g b) printed
 
   one_writer : (k j : ℕ) (m w : text.Module) (e : slice_get ms k ≡ Some m) (g : slice_get ms j ≡ Some w) → HasWrite k m e → HasWrite j w g → k ≡ j
-  one_writer k j m w e g a b = elim (order k j) [
+  one_writer k j m w e g a b = elim (cases_order k j) [
     | inl q ↦ q
     | inr p ↦ elim p [ inl l ↦ absurd (not_after k j m w e g a b l) | inr l ↦ absurd (not_after j k w m g e b a l) ]
   ]
@@ -297,7 +298,7 @@ module _ (net : Net) (formed_net : IsWellFormed net) where
   top_or_placed k m e t w false h =
       let rule = implied (list_any item_prints t.text.items) (is_top t.text.name || is_known all_facts.placed t.text.name)
       (formed texts all_facts each_module k t.text t.listed).placed
-      (any_at item_prints t.text.items w.at w.item w.there w.prints_it) in
+      (any_passes_from_place item_prints t.text.items w.at w.item w.there w.prints_it) in
       inr (known_place k t.text t.listed (or_there (is_top t.text.name) (is_known all_facts.placed t.text.name) rule h))
 
   placed : (k : ℕ) → Writes (netlist_of net) k → IsTop (netlist_of net) k ⊎ HasPlace k

@@ -3,6 +3,7 @@ use Rattle.std.specs.Prelude.{◌≡◌, ℕ, ◌+◌, ◌-◌, ◌*◌, ◌^◌
 use Rattle.std.specs.Str.{bytes_eq}
 use Rattle.std.proofs.Common.{sym, ◌∙◌, subst, arith}
 use Rattle.std.proofs.lemmas.Bool.Decides.{nat_tests}
+use Rattle.std.proofs.lemmas.Bool.{leb-true, ltb-true, eqb-true}
 use Rattle.verilog_tree.specs.declared.tree.Constant.{Constant}
 use Rattle.verilog_tree.specs.declared.tree.BinaryOperator.{BinaryOperator}
 use Rattle.verilog_tree.specs.declared.tree.BinaryOperator.TheVariants as op
@@ -16,10 +17,6 @@ use Rattle.verilog_tree.proofs.Tests.{and_left, and_right}
 use Rattle.netlist.specs.declared.netlist.Memory.{Memory}
 use Rattle.netlist.specs.NetlistOf.{place, value}
 use Rattle.circuit.specs.Modules.{FitsBinary, FitsParts, FitsValue}
-use Rattle.fitting_net.proofs.Tests.{less, same}
-
-at_most : (a b : ℕ) → nat_le a b ≡ true → a ≤ b
-at_most a b e = grind (arith, nat_tests)
 
 -- a name with a range may be read
 ranged_by : (o : Option Kind) → 0 < ranged_width o → ranged_width o ≡ read_width o
@@ -48,23 +45,23 @@ module _ (signals memories : List Name) (scope : Scope) (P : ℕ → ℕ → Typ
   at x = place signals x
 
   one : (x : Name) → is_signal scope x ≡ true → P (at x) (width scope x)
-  one x q = at_name x (less 0 (width scope x) q)
+  one x q = at_name x (ltb-true 0 (width scope x) q)
 
   pub of_width : (x : Name) (w : ℕ) → has_width scope x w ≡ true → P (at x) w
-  of_width x w q = subst (P (at x)) (same (width scope x) w (and_right (is_signal scope x) (width scope x == w) q)) (one x (and_left (is_signal scope x) (width scope x == w) q))
+  of_width x w q = subst (P (at x)) (eqb-true (width scope x) w (and_right (is_signal scope x) (width scope x == w) q)) (one x (and_left (is_signal scope x) (width scope x == w) q))
 
   -- the width is not 0
   wide : (x : Name) (w : ℕ) → has_width scope x w ≡ true → 0 < w
   wide x w q =
-      let l = less 0 (width scope x) (and_left (is_signal scope x) (width scope x == w) q) in
-      let s = same (width scope x) w (and_right (is_signal scope x) (width scope x == w) q) in
+      let l = ltb-true 0 (width scope x) (and_left (is_signal scope x) (width scope x == w) q) in
+      let s = eqb-true (width scope x) w (and_right (is_signal scope x) (width scope x == w) q) in
       omega (arith, l, s)
 
   pair : (x y : Name) → have_one_width scope x y ≡ true → (u : ℕ) × P (at x) u × P (at y) u
   pair x y q = (width scope y, of_width x (width scope y) q, at_name y (wide x (width scope y) q))
 
   compared : (w : ℕ) (x y : Name) → (w == 1 && have_one_width scope x y) ≡ true → (w ≡ 1) × ((u : ℕ) × P (at x) u × P (at y) u)
-  compared w x y q = (same w 1 (and_left (w == 1) (have_one_width scope x y) q), pair x y (and_right (w == 1) (have_one_width scope x y) q))
+  compared w x y q = (eqb-true w 1 (and_left (w == 1) (have_one_width scope x y) q), pair x y (and_right (w == 1) (have_one_width scope x y) q))
 
   shifted : (w : ℕ) (x y : Name) → (has_width scope x w && is_signal scope y) ≡ true → P (at x) w × ((u : ℕ) × P (at y) u)
   shifted w x y q = (of_width x w (and_left (has_width scope x w) (is_signal scope y) q), (width scope y, one y (and_right (has_width scope x w) (is_signal scope y) q)))
@@ -92,7 +89,7 @@ module _ (signals memories : List Name) (scope : Scope) (P : ℕ → ℕ → Typ
 
   bit_inside : (x : Name) (high : ℕ) → nat_lt high (ranged_width (kind_of scope x)) ≡ true → P (at x) (width scope x) × (high < width scope x)
   bit_inside x high q =
-      let l = ranged (kind_of scope x) high (less high (ranged_width (kind_of scope x)) q) in
+      let l = ranged (kind_of scope x) high (ltb-true high (ranged_width (kind_of scope x)) q) in
       (at_name x (omega (arith, l)), l)
 
   parts_fit : (xs : List Name) → all_right (is_signal scope) xs ≡ true → FitsParts P (map at xs) (joint_width scope xs)
@@ -116,16 +113,16 @@ module _ (signals memories : List Name) (scope : Scope) (P : ℕ → ℕ → Typ
       let b = and_right (is_signal scope x) bounded a in
       let constant = and_left (is_constant bound (width scope x)) sized b in
       let c = and_right (is_constant bound (width scope x)) sized b in
-      let number = same bound.value (words_of (kind_of scope m)) (and_left (bound.value == words_of (kind_of scope m)) last c) in
+      let number = eqb-true bound.value (words_of (kind_of scope m)) (and_left (bound.value == words_of (kind_of scope m)) last c) in
       let d = and_right (bound.value == words_of (kind_of scope m)) last c in
-      let wide_words = same (memory_width (kind_of scope m)) w (and_left (memory_width (kind_of scope m) == w) (is_zero guarded w) d) in
+      let wide_words = eqb-true (memory_width (kind_of scope m)) w (and_left (memory_width (kind_of scope m) == w) (is_zero guarded w) d) in
       let k = at_memory m (omega (arith, wide_words, above)) in
-      let below = less bound.value (2 ^ width scope x) (and_right (bound.width == width scope x) (nat_lt bound.value (2 ^ width scope x)) constant) in
+      let below = ltb-true bound.value (2 ^ width scope x) (and_right (bound.width == width scope x) (nat_lt bound.value (2 ^ width scope x)) constant) in
       (k.words, k.listed, k.wide ∙ wide_words, (width scope x, address, subst (λ n. n < 2 ^ width scope x) (number ∙ sym k.long) below))
 
   pub fits : (x : Expression) (w : ℕ) → 0 < w → expression_right scope x w ≡ true → FitsValue P memory w (value signals memories x)
   fits (e.Copy x) w l q = of_width x w q
-  fits (e.Constant c) w l q = less c.value (2 ^ w) (and_right (c.width == w) (nat_lt c.value (2 ^ w)) q)
+  fits (e.Constant c) w l q = ltb-true c.value (2 ^ w) (and_right (c.width == w) (nat_lt c.value (2 ^ w)) q)
   fits (e.BitwiseNot x) w l q = of_width x w q
   fits (e.Binary operator x y) w l q = binary_fits operator w x y q
   fits (e.SignedLess x y) w l q = compared w x y q
@@ -138,22 +135,22 @@ module _ (signals memories : List Name) (scope : Scope) (P : ℕ → ℕ → Typ
   fits (e.MemoryRead tested bound m x guarded) w l q = read_fits tested bound m x guarded w l q
   fits (e.BitSelect x bit) w l q =
       let inside = bit_inside x bit (and_right (w == 1) (nat_lt bit (ranged_width (kind_of scope x))) q) in
-      let one_bit = same w 1 (and_left (w == 1) (nat_lt bit (ranged_width (kind_of scope x))) q) in
+      let one_bit = eqb-true w 1 (and_left (w == 1) (nat_lt bit (ranged_width (kind_of scope x))) q) in
       (omega arith, omega (arith, one_bit), (width scope x, inside.0, inside.1))
   fits (e.PartSelect x high low) w l q =
       let inner = nat_lt high (ranged_width (kind_of scope x)) in
       let sized = w == high - low + 1 in
-      let order = at_most low high (and_left (nat_le low high) (inner && sized) q) in
+      let order = leb-true low high (and_left (nat_le low high) (inner && sized) q) in
       let rest = and_right (nat_le low high) (inner && sized) q in
       let inside = bit_inside x high (and_left inner sized rest) in
-      let bits = same w (high - low + 1) (and_right inner sized rest) in
+      let bits = eqb-true w (high - low + 1) (and_right inner sized rest) in
       (order, omega (arith, order, bits), (width scope x, inside.0, inside.1))
   fits (e.Concatenation xs) w l q =
-      subst (FitsParts P (map at xs)) (same (joint_width scope xs) w (and_right (all_right (is_signal scope) xs) (joint_width scope xs == w) q))
+      subst (FitsParts P (map at xs)) (eqb-true (joint_width scope xs) w (and_right (all_right (is_signal scope) xs) (joint_width scope xs == w) q))
       (parts_fit xs (and_left (all_right (is_signal scope) xs) (joint_width scope xs == w) q))
   fits (e.Replication count x) w l q = (
     width scope x,
     one x (and_left (is_signal scope x) (count * width scope x == w) q),
-    same (count * width scope x) w
+    eqb-true (count * width scope x) w
         (and_right (is_signal scope x) (count * width scope x == w) q),
   )

@@ -3,6 +3,8 @@ use Rattle.std.proofs.Common.{◌≡◌, ℕ, ◌+◌, ◌<◌, ◌≤◌, List,
 use Rattle.std.specs.Prelude.{◌&&◌, ◌==◌, slice_get, is_some, nat_lt, if◌then◌else◌}
 use Rattle.std.specs.List.{flat_map}
 use Rattle.std.proofs.lemmas.Option.{same_Some, none-some}
+use Rattle.std.proofs.lemmas.Bool.{ltb-true, eqb-true}
+use Rattle.lists.proofs.Places.{get_unmapped}
 use Rattle.verilog_tree.specs.declared.kind.SignalClass.{SignalClass}
 use Rattle.verilog_tree.specs.declared.kind.SignalClass.TheVariants as class
 use Rattle.verilog_tree.specs.declared.kind.Kind.{Kind}
@@ -20,9 +22,8 @@ use Rattle.verilog_tree.specs.WellFormed.{IsPort, IsModule, is_input}
 use Rattle.verilog_tree.proofs.Tests.{and_left, and_right}
 use Rattle.netlist.specs.NetlistOf as n
 use Rattle.netlist.specs.NetlistOf.{place}
-use Rattle.netlist_text.proofs.Places.{get_unmapped}
 use Rattle.netlist_text.proofs.Members.{In, Entry, in_none, in_one, in_first, in_front, in_back, in_either, in_map, in_flat, in_unflat}
-use Rattle.fitting_net.proofs.Tests.{both, less, same, implied}
+use Rattle.fitting_net.proofs.Tests.{both, implied}
 use Rattle.fitting_net.proofs.Lists.{place_found, some_in}
 use Rattle.fitting_net.proofs.Declarations.{all, port_is, item_is, port_kind, item_kind, kind_named}
 
@@ -35,7 +36,7 @@ pub record IsRange (high : Option ℕ) : Type 0 where
   pub most : n.width_of high ≤ 64
 
 range_by : (b : Bool) (high : ℕ) → nat_lt high 64 ≡ b → nat_lt 0 (if b then high + 1 else 0) ≡ true → ((if b then high + 1 else 0) ≡ high + 1) × (high < 64)
-range_by true high e h = (refl, less high 64 e)
+range_by true high e h = (refl, ltb-true high 64 e)
 range_by false high e h = absurd (cc)
 
 pub range_of : (high : Option ℕ) → nat_lt 0 (scope.width_of high) ≡ true → IsRange high
@@ -171,7 +172,7 @@ module _ (whole f : Facts) (m : Module) (is : IsModule whole f m) where
         clock = λ h.
             let t = implied (is_clk p.name) (is_input p.direction && scope.width_of p.high == 1) port.clock h in (
               input_at p.direction (and_left (is_input p.direction) (scope.width_of p.high == 1) t),
-              sym r.width ∙ same (scope.width_of p.high) 1 (and_right (is_input p.direction) (scope.width_of p.high == 1) t),
+              sym r.width ∙ eqb-true (scope.width_of p.high) 1 (and_right (is_input p.direction) (scope.width_of p.high == 1) t),
             );
       }
 

@@ -2,6 +2,7 @@
 use Rattle.std.proofs.Common.{◌≡◌, ℕ, ◌<◌, List, [], ◌∷◌, ◌++◌, Bool, true, false, refl, sym, ap, ◌∙◌, subst, inl, inr, map, length, arith}
 use Rattle.std.specs.Prelude.{◌==◌, slice_get}
 use Rattle.std.specs.List.{flat_map, list_any}
+use Rattle.std.proofs.lemmas.Bool.{ltb-true, eqb-true, or_left, or_right}
 use Rattle.verilog_tree.specs.declared.tree.WriteArgument.{WriteArgument}
 use Rattle.verilog_tree.specs.declared.tree.WriteArgument.TheVariants as w
 use Rattle.verilog_tree.specs.declared.tree.Statement.{Statement}
@@ -12,7 +13,7 @@ use Rattle.verilog_tree.specs.Reads.{Each}
 use Rattle.verilog_tree.specs.Scope.{Name, Scope, kind_of, register_width, memory_width}
 use Rattle.verilog_tree.specs.Rules.{all_true, all_right, Between, values_in, has_values, width, is_signal, has_width, argument_right, statement_step, statement_right}
 use Rattle.verilog_tree.specs.Facts.{any_true, prints_step, statement_prints}
-use Rattle.verilog_tree.proofs.Tests.{and_left, and_right, or_holds}
+use Rattle.verilog_tree.proofs.Tests.{and_left, and_right}
 use Rattle.verilog_tree.proofs.Fold.{induct}
 use Rattle.netlist.specs.declared.netlist.Effect.TheVariants as effect
 use Rattle.netlist.specs.declared.netlist.Action.{Action}
@@ -24,7 +25,6 @@ use Rattle.netlist_text.proofs.Members.{In, in_none, in_one, in_either}
 use Rattle.netlist_text.proofs.Actions.{fold_set, fold_store, fold_write}
 use Rattle.circuit.specs.Rows.{EachOf}
 use Rattle.circuit.specs.Modules.{Has, HasRegister, FitsArgument, FitsAction}
-use Rattle.fitting_net.proofs.Tests.{less, same, or_here}
 use Rattle.fitting_net.proofs.Rights.{IsWords}
 
 pub fold_if : (A : Type 0) (f : Statement-F A → A) (x : Name) (ys : List Statement) → fold-Statement A f (s.If x ys) ≡ f (Statement-F.If x (map (fold-Statement A f) ys))
@@ -66,12 +66,12 @@ module _ (signals memories : List Name) where
 
     of_width : (x : Name) (k : ℕ) → has_width scope x k ≡ true → Has m (place signals x) k × (0 < k)
     of_width x k q =
-        let l = less 0 (width scope x) (and_left (is_signal scope x) (width scope x == k) q) in
-        let e = same (width scope x) k (and_right (is_signal scope x) (width scope x == k) q) in
+        let l = ltb-true 0 (width scope x) (and_left (is_signal scope x) (width scope x == k) q) in
+        let e = eqb-true (width scope x) k (and_right (is_signal scope x) (width scope x == k) q) in
         (subst (Has m (place signals x)) e (at_name x l), omega (arith, l, e))
 
     of_signal : (x : Name) → is_signal scope x ≡ true → (k : ℕ) × Has m (place signals x) k
-    of_signal x q = (width scope x, at_name x (less 0 (width scope x) q))
+    of_signal x q = (width scope x, at_name x (ltb-true 0 (width scope x) q))
 
     set_fits : (x y : Name) → Fits (s.Set x y)
     set_fits x y h cs fit =
@@ -156,8 +156,8 @@ module _ (signals memories : List Name) where
       → any_true (map statement_prints ys) ≡ true
   bodies_print [] each cs a i h = absurd (in_none a i)
   bodies_print (y ∷ ys) each cs a i h = elim (in_either (actions y cs) (flat_map (λ (g : List ℕ → List Action). g cs) (map actions ys)) a i) [
-    | inl p ↦ or_here (statement_prints y) (any_true (map statement_prints ys)) (each.0 cs a p h)
-    | inr p ↦ or_holds (statement_prints y) (any_true (map statement_prints ys)) (bodies_print ys each.1 cs a p h)
+    | inl p ↦ or_left (statement_prints y) (any_true (map statement_prints ys)) (each.0 cs a p h)
+    | inr p ↦ or_right (statement_prints y) (any_true (map statement_prints ys)) (bodies_print ys each.1 cs a p h)
   ]
 
   if_prints : (c : Name) (ys : List Statement) → Each Prints ys → Prints (s.If c ys)
@@ -171,6 +171,6 @@ module _ (signals memories : List Name) where
   pub body_prints : (ys : List Statement) (a : Action) → In (flat_map (λ (x : Statement). actions x []) ys) a → is_write a.effect ≡ true → list_any statement_prints ys ≡ true
   body_prints [] a i h = absurd (in_none a i)
   body_prints (y ∷ ys) a i h = elim (in_either (actions y []) (flat_map (λ (x : Statement). actions x []) ys) a i) [
-    | inl p ↦ or_here (statement_prints y) (list_any statement_prints ys) (statement_prints_too y [] a p h)
-    | inr p ↦ or_holds (statement_prints y) (list_any statement_prints ys) (body_prints ys a p h)
+    | inl p ↦ or_left (statement_prints y) (list_any statement_prints ys) (statement_prints_too y [] a p h)
+    | inr p ↦ or_right (statement_prints y) (list_any statement_prints ys) (body_prints ys a p h)
   ]

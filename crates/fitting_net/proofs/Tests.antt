@@ -4,19 +4,14 @@ use Rattle.std.specs.Prelude.{not, ◌&&◌, ◌||◌, ◌==◌, slice_get, nat_
 use Rattle.std.specs.List.{list_any}
 use Rattle.std.proofs.lemmas.Bool.Decides.{nat_tests}
 use Rattle.std.proofs.lemmas.Option.{same_Some, none-some}
+use Rattle.std.proofs.lemmas.Bool.{or_right}
 use Rattle.verilog_tree.specs.Rules.{all_right}
-use Rattle.verilog_tree.proofs.Tests.{and_left, and_right, or_holds}
+use Rattle.verilog_tree.proofs.Tests.{and_left, and_right}
 use Rattle.netlist_text.proofs.Members.{In, in_none, in_cons}
 
 -- a test that holds and fails
 pub both : {X : Type 0} {b : Bool} → b ≡ false → b ≡ true → X
 both p q = absurd (let z : false ≡ true = sym p ∙ q in cc)
-
-pub less : (a b : ℕ) → nat_lt a b ≡ true → a < b
-less a b e = grind (arith, nat_tests)
-
-pub same : (a b : ℕ) → (a == b) ≡ true → a ≡ b
-same a b e = grind (arith, nat_tests)
 
 pub implied : (a b : Bool) → (not a || b) ≡ true → a ≡ true → b ≡ true
 implied true b h e = h
@@ -25,14 +20,6 @@ implied false b h e = both refl e
 pub or_there : (a b : Bool) → (a || b) ≡ true → a ≡ false → b ≡ true
 or_there true b h e = both e refl
 or_there false b h e = h
-
-pub or_here : (a b : Bool) → a ≡ true → (a || b) ≡ true
-or_here true b e = refl
-or_here false b e = both refl e
-
-pub or_left : (a b : Bool) → (a || b) ≡ false → a ≡ false
-or_left true b e = e
-or_left false b e = refl
 
 pub second_false : (a b : Bool) → (a && b) ≡ false → a ≡ true → b ≡ false
 second_false true b e h = e
@@ -46,8 +33,3 @@ right_in p (y ∷ xs) x h q = elim (in_cons y x xs q) [
   | inl e ↦ ap p (sym e) ∙ and_left (p y) (all_right p xs) h
   | inr r ↦ right_in p xs x (and_right (p y) (all_right p xs) h) r
 ]
-
-pub any_at : {A : Type 0} (p : A → Bool) (xs : List A) (k : ℕ) (x : A) → slice_get xs k ≡ Some x → p x ≡ true → list_any p xs ≡ true
-any_at p [] k x e h = absurd (none-some x e)
-any_at p (y ∷ xs) zero x e h = or_here (p y) (list_any p xs) (ap p (same_Some y x e) ∙ h)
-any_at p (y ∷ xs) (suc k) x e h = or_holds (p y) (list_any p xs) (any_at p xs k x e h)

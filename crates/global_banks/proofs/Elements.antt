@@ -3,6 +3,7 @@ use Rattle.std.specs.Prelude.{◌≡◌, ℕ, zero, suc, ◌/◌, ◌%◌, ◌<�
 use Rattle.std.specs.Prelude.{Some, None, MatchOption, option_and_then, slice_get, codes, decimal, if◌then◌else◌, refl}
 use Rattle.std.proofs.Common.{ap, sym, ◌∙◌, subst, arith}
 use Rattle.std.proofs.lemmas.Option.{same_Some, none-some, slice_get_within, slice_get_past}
+use Rattle.std.proofs.lemmas.Bool.{ltb-true, lt-ltb}
 use Rattle.netlist.specs.declared.netlist.Memory.{Memory}
 use Rattle.netlist.specs.declared.netlist.Instance.{Instance}
 use Rattle.netlist.specs.declared.netlist.Module.{Module}
@@ -11,7 +12,7 @@ use Rattle.verilog_meaning.specs.Follows.{HasBanks, IsElement}
 use Rattle.global_banks.specs.declared.locate.Location.{Location}
 use Rattle.global_banks.specs.Banks.{memory_place, instance_place, memories_of, kind_of, bank_count, memories_at, in_bank, located, location}
 use Rattle.global_banks.specs.Elements.{AreNamed, IsPlace, ElementsAreLocated}
-use Rattle.global_banks.proofs.Named.{bank_name, less_of, is_less, true_false, found_at, one_place, rest_only, rest_all}
+use Rattle.global_banks.proofs.Named.{bank_name, true_false, found_at, one_place, rest_only, rest_all}
 use Rattle.global_banks.proofs.Listed.{is_memory, is_instance, kind_stands, counted, one_count}
 
 module _ (modules : List Module) (top : Module) (x : List ℕ) (j : ℕ) (named : AreNamed modules top) where
@@ -115,13 +116,13 @@ module _ (modules : List Module) (top : Module) (x : List ℕ) (j : ℕ) (named 
         }
 
     answer_by : (o : Option Memory) → slice_get memories m ≡ o → (b : Bool) → nat_lt word (memory_words o) ≡ b → Answer (if b then Some place else None)
-    answer_by None e true q = absurd (let l = less_of word 0 q in omega (arith, l))
-    answer_by (Some s) e true q = (is_there s e (less_of word (length s.initial) q), λ is. (there is).at)
+    answer_by None e true q = absurd (let l = ltb-true word 0 q in omega (arith, l))
+    answer_by (Some s) e true q = (is_there s e (ltb-true word (length s.initial) q), λ is. (there is).at)
     answer_by o e false q =
         λ is.
         let t = there is in
         let words : memory_words o ≡ length is.bank.memory.initial = ap memory_words (sym e ∙ t.listed) in
-        true_false (nat_lt word (memory_words o)) (is_less word (memory_words o) (let w = t.inside in omega (arith, words, w))) q
+        true_false (nat_lt word (memory_words o)) (lt-ltb word (memory_words o) (let w = t.inside in omega (arith, words, w))) q
 
     answer : Answer (in_bank modules top.instances x digits word)
     answer = answer_by (slice_get memories m) refl (nat_lt word (memory_words (slice_get memories m))) refl

@@ -3,6 +3,7 @@ use Rattle.std.specs.Prelude.{◌≡◌, ℕ, zero, suc, ◌<◌, Bool, true, fa
 use Rattle.std.specs.Prelude.{◌∷◌, length, map, Option, Some, None, option_and_then, slice_get, codes, if◌then◌else◌, refl}
 use Rattle.std.proofs.Common.{ap, sym, ◌∙◌, subst, arith}
 use Rattle.std.proofs.lemmas.Option.{same_Some, none-some}
+use Rattle.std.proofs.lemmas.Bool.{ltb-true, lt-ltb, and_parts, and_from}
 use Rattle.netlist.specs.declared.netlist.Memory.{Memory}
 use Rattle.netlist.specs.declared.netlist.Instance.{Instance}
 use Rattle.netlist.specs.declared.netlist.Module.{Module}
@@ -11,7 +12,7 @@ use Rattle.verilog_meaning.specs.Names.{IsMinimal, IsMemory}
 use Rattle.verilog_meaning.specs.Follows.{BankOf, HasBanks}
 use Rattle.verilog_meaning.proofs.Listing.{AreOnce, IsIn, same_length}
 use Rattle.global_banks.specs.Banks.{rest_of, is_rest, is_decimal, memory_place, memories_of, is_bank_by, is_bank, bank_count}
-use Rattle.global_banks.proofs.Named.{bank_name, less_of, is_less, both, both_true, found_at, within, rest_named, named_rest, rest_only, rest_all}
+use Rattle.global_banks.proofs.Named.{bank_name, found_at, within, rest_named, named_rest, rest_only, rest_all}
 use Rattle.global_banks.proofs.Digits.{minimal_passes, passed_minimal}
 
 -- ---- memories and instances by their digits
@@ -66,8 +67,8 @@ module _ (modules : List Module) (x : List ℕ) where
     -- and is the bank of this number
     passed_bank : (digits : List ℕ) → rest_of (codes "u_") x n.name ≡ Some digits → is_bank modules x n ≡ true → IsBank n digits
     passed_bank digits e q =
-        let parts = both (is_decimal digits) (nat_lt (memory_place x digits memories) (length memories)) (ap (is_bank_by x memories) (sym e) ∙ q) in
-        let kind = memories_some digits (slice_get modules n.of) refl (less_of (memory_place x digits memories) (length memories) parts.1) in
+        let parts = and_parts (is_decimal digits) (nat_lt (memory_place x digits memories) (length memories)) (ap (is_bank_by x memories) (sym e) ∙ q) in
+        let kind = memories_some digits (slice_get modules n.of) refl (ltb-true (memory_place x digits memories) (length memories) parts.1) in
         let memory = memory_found x digits kind.0 kind.2 in
         record {
           minimal = passed_minimal digits parts.0;
@@ -84,9 +85,9 @@ module _ (modules : List Module) (x : List ℕ) where
         let kind = is.kind in
         let inside : nat_lt (memory_place x digits memories) (length memories) ≡ true =
         subst (λ (o : Option Module). nat_lt (memory_place x digits (memories_of o)) (length (memories_of o)) ≡ true) (sym is.stands)
-        (is_less (memory_place x digits kind.memories) (length kind.memories) (memory_inside x digits kind is.place is.memory is.has)) in
+        (lt-ltb (memory_place x digits kind.memories) (length kind.memories) (memory_inside x digits kind is.place is.memory is.has)) in
         ap (is_bank_by x memories) (named_rest (codes "u_") x n.name digits is.named)
-        ∙ both_true (is_decimal digits) (nat_lt (memory_place x digits memories) (length memories)) (minimal_passes digits is.minimal) inside
+        ∙ and_from (is_decimal digits) (nat_lt (memory_place x digits memories) (length memories)) (minimal_passes digits is.minimal) inside
 
   -- ---- their numbers
 

@@ -13,22 +13,8 @@ use Rattle.netlist.specs.Laid.{AreApart}
 use Rattle.verilog_meaning.specs.Names.{with_digits}
 use Rattle.global_banks.specs.Banks.{behind, rest_of, is_rest}
 
-pub less_of : (a b : ℕ) → nat_lt a b ≡ true → a < b
-less_of a b e = grind (arith, nat_tests)
-
-pub is_less : (a b : ℕ) → a < b → nat_lt a b ≡ true
-is_less a b l = grind (arith, nat_tests)
-
 pub true_false : (b : Bool) → b ≡ true → b ≡ false → ⊥
 true_false b e f = absurd cc
-
-pub both : (a b : Bool) → (a && b) ≡ true → (a ≡ true) × (b ≡ true)
-both true b e = (refl, e)
-both false b e = absurd cc
-
-pub both_true : (a b : Bool) → a ≡ true → b ≡ true → (a && b) ≡ true
-both_true true b e f = f
-both_true false b e f = absurd cc
 
 same_bytes : (a b : List ℕ) → bytes_eq a b ≡ true → a ≡ b
 same_bytes a b e = (bytes_eq-Decides a b).0 e

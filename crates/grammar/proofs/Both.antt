@@ -1,10 +1,11 @@
 -- One rule after the other.
 use Rattle.std.proofs.Common.{◌≡◌, ℕ, suc, ◌+◌, ◌<◌, ◌≤◌, List, [], ◌∷◌, ◌++◌, length, Bool, true, false, refl, sym, ap, ◌∙◌, subst, ◌⊎◌, inl, inr, ⊎_elim, append_assoc, length-append, arith}
 use Rattle.std.specs.Prelude.{Ok, Err, ◌&&◌}
+use Rattle.std.proofs.lemmas.Bool.{and_from, and_parts, false_from_ne_true}
 use Rattle.grammar.specs.Rules.{Placed, Family}
 use Rattle.grammar.specs.Sentences.{plain, Within, Spelled, Starts}
 use Rattle.grammar.specs.Readers.{Syntax, Deep, Reading, Reader, and_then, reads_both}
-use Rattle.grammar.proofs.Lists.{and_both, and_parts, not_true, cuts, no_more, plain-append, length-plain, within-append, within_front, within_back, roof, Agrees, agrees-append, agrees-sym}
+use Rattle.grammar.proofs.Lists.{cuts, no_more, plain-append, length-plain, within-append, within_front, within_back, roof, Agrees, agrees-append, agrees-sym}
 use Rattle.grammar.proofs.Good.{Reads, Answers, Dead, Avoids, Calm, Begun, ◌∘>◌, avoids_wider, deeper_by, calm_complete, roof_complete, one_value, goes_on}
 
 module _ {T : Type 0} where
@@ -35,12 +36,12 @@ module _ {T : Type 0} where
         subst (λ y. at ≤ y.1) same (before.above depth at dd x front a h)
 
     both_empty : (depth at : ℕ) → D depth → (front back : List (Placed T)) (a : A) (v : B) → [] ≡ front ++ back → P depth at front a → Q a depth at back v → (null && null') ≡ true
-    both_empty depth at dd [] back a v e h k = and_both null null' (before.empty depth at dd a h) ((after a).empty depth at dd v (subst (λ l. Q a depth at l v) (sym e) k))
+    both_empty depth at dd [] back a v e h k = and_from null null' (before.empty depth at dd a h) ((after a).empty depth at dd v (subst (λ l. Q a depth at l v) (sym e) k))
     both_empty depth at dd (x ∷ front) back a v e h k = cc
 
     -- a token at which the second rule begins does not go on with the first
     avoids_token : (a : A) (t : T) → first' a t ≡ true → last a t ≡ false
-    avoids_token a t h = not_true (last a t) (λ yes. apart a t yes h)
+    avoids_token a t h = false_from_ne_true (last a t) (λ yes. apart a t yes h)
 
     second_begins : (depth at : ℕ) → D depth → (a : A) (x : T) (l : List T) (back : List (Placed T)) (v : B) → plain back ≡ x ∷ l → Q a depth at back v → first' a x ≡ true
     second_begins depth at dd a x l [] v e h = cc

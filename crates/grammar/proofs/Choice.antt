@@ -1,12 +1,14 @@
 -- One rule or the other, by the tokens ahead.
 use Rattle.std.proofs.Common.{◌≡◌, ℕ, suc, ◌+◌, ◌<◌, List, [], ◌∷◌, ◌++◌, length, Option, Some, None, Bool, true, false, refl, sym, ap, ◌∙◌, subst, inl, inr, ⊎_elim, append_assoc, arith}
 use Rattle.std.specs.Prelude.{Ok, Err, if◌then◌else◌, ◌||◌, ◌&&◌, not}
+use Rattle.std.proofs.lemmas.Bool.{or_left, or_right, and_from, and_parts, cases_Bool, false_from_ne_true, both_ways}
+use mathlib.Core.Bool.{or-false}
 use Rattle.grammar.specs.Rules.{Placed, Rule, Family, one, ◌>>=◌, ◌<|>◌, optional}
 use Rattle.grammar.specs.Sentences.{plain}
 use Rattle.grammar.specs.Readers.{Syntax, Deep, Reading, Reader, sees, sees_all, reads_when, reads_either, reads_optional}
-use Rattle.grammar.proofs.Lists.{false_true, or_left, or_right, or_cases, and_both, and_parts, true_or_not, not_true, append_nil, plain-append, Agrees, agrees-sym}
+use Rattle.grammar.proofs.Lists.{or_cases, append_nil, plain-append, Agrees, agrees-sym}
 use Rattle.grammar.proofs.Good.{Reads, Answers, Dead, Avoids, Calm, ◌∘>◌, avoids_wider, deeper_by}
-use Rattle.grammar.proofs.Parts.{if_so, gives, or_nothing, resize, same_rule, reads_nothing, ends}
+use Rattle.grammar.proofs.Parts.{if_so, gives, resize, same_rule, reads_nothing, ends}
 
 not_not : (b : Bool) → not b ≡ true → b ≡ true → ⊥
 not_not true e h = cc
@@ -134,7 +136,7 @@ module _ {T : Type 0} where
       (Last : A → T → Bool) (left_in : (v : A) (t : T) → last v t ≡ true → Last v t ≡ true) (right_in : (v : A) (t : T) → last' v t ≡ true → Last v t ≡ true)
       (empty_in : (depth at : ℕ) (v : A) (t : T) → null' ≡ true → Q depth at [] v → first t ≡ true → Last v t ≡ true) where
     sees_left : ((d : ℕ) → D d) → (depth at : ℕ) (w : List (Placed T)) (rest : List T) (v : A) → P depth at w v → sees first (plain w ++ rest) ≡ true
-    sees_left all depth at [] rest v h = absurd (false_true false (left.empty depth at (all depth) v h) refl)
+    sees_left all depth at [] rest v h = absurd (both_ways false refl (left.empty depth at (all depth) v h))
     sees_left all depth at (t ∷ w) rest v h = left.begins depth at (all depth) t w v h
 
     avoids_sees : (f : T → Bool) (ts : List T) → Avoids f ts → sees f ts ≡ false
@@ -143,7 +145,7 @@ module _ {T : Type 0} where
 
     sees_right : ((d : ℕ) → D d) → (depth at : ℕ) (w : List (Placed T)) (rest : List T) (v : A) → Q depth at w v → Avoids (Last v) rest → sees first (plain w ++ rest) ≡ false
     sees_right all depth at [] rest v h av = avoids_sees first rest (avoids_wider first (Last v) (λ t e. empty_in depth at v t (right.empty depth at (all depth) v h) h e) rest av)
-    sees_right all depth at (t ∷ w) rest v h av = not_true (first t.0) (λ yes. apart t.0 yes (right.begins depth at (all depth) t w v h))
+    sees_right all depth at (t ∷ w) rest v h av = false_from_ne_true (first t.0) (λ yes. apart t.0 yes (right.begins depth at (all depth) t w v h))
 
     token_agree : ((d : ℕ) → D d) → (depth depth' at : ℕ) (w w' : List (Placed T)) (v v' : A) → P depth at w v → Q depth' at w' v' → Agrees w w'
     token_agree all depth depth' at [] w' v v' h h' = tt
@@ -155,7 +157,7 @@ module _ {T : Type 0} where
     either_in =
         when_in left right (sees first) Last left_in right_in
         (λ lt at x t rest seen depth w more v e h. absurd (apart (head x t) (sym (sees_head first x t rest) ∙ seen) (begins_head right (left.whole lt) depth at x t more w v e h)))
-        (λ lt at x t rest seen depth w more v e h. absurd (false_true (first (head x t)) (begins_head left (left.whole lt) depth at x t more w v e h) (sym (sees_head first x t rest) ∙ seen)))
+        (λ lt at x t rest seen depth w more v e h. absurd (both_ways (first (head x t)) (sym (sees_head first x t rest) ∙ seen) (begins_head left (left.whole lt) depth at x t more w v e h)))
         (λ all depth at w rest v h av. sees_left all depth at w rest v h)
         sees_right token_agree
 
@@ -165,7 +167,7 @@ module _ {T : Type 0} where
     pub either : ((t : T) → first t ≡ true → first' t ≡ true → ⊥) → Reads D n (P <∘> Q) (λ room. reads_either first (p room) (q room))
         (λ t. first t || first' t) (λ v t. last v t || (last' v t || if_so null' first t)) null'
     either apart = either_in left right apart (λ v t. last v t || (last' v t || if_so null' first t)) (λ v t e. or_left (last v t) _ e)
-        (λ v t e. or_right (last v t) _ (or_left (last' v t) _ e)) (λ depth at v t z h e. or_right (last v t) _ (or_right (last' v t) _ (and_both null' (first t) z e)))
+        (λ v t e. or_right (last v t) _ (or_left (last' v t) _ e)) (λ depth at v t z h e. or_right (last v t) _ (or_right (last' v t) _ (and_from null' (first t) z e)))
 
   -- ---- by several tokens
 
@@ -194,36 +196,37 @@ module _ {T : Type 0} where
 
   level_out : (f : T → Bool) (fs : List (T → Bool)) (m : ℕ) (t : Placed T) (w : List (Placed T)) → f t.0 ≡ false → Level (f ∷ fs) m (t ∷ w)
   level_out f [] m t w out = tt
-  level_out f (g ∷ fs) m t w out = λ here. absurd (false_true (f t.0) here out)
+  level_out f (g ∷ fs) m t w out = λ here. absurd (both_ways (f t.0) out here)
 
   sees_within : (fs : List (T → Bool)) (x : List T) (t : T) (rest more : List T) → sees_all fs (x ++ (t ∷ rest)) ≡ true → partly fs (x ++ (t ∷ [])) ≡ false → sees_all fs (x ++ (t ∷ more)) ≡ true
   sees_within [] x t rest more e out = refl
   sees_within (f ∷ fs) [] t rest more e out =
       let parts = and_parts (f t) (sees_all fs rest) e in
-      and_both (f t) (sees_all fs more) parts.0 (none_left fs (partly_no parts.0 out)) where
+      and_from (f t) (sees_all fs more) parts.0 (none_left fs (partly_no parts.0 out)) where
         partly_no : f t ≡ true → (f t && partly fs []) ≡ false → partly fs [] ≡ false
-        partly_no here out' = not_true (partly fs []) (λ h. false_true (f t && partly fs []) (and_both (f t) (partly fs []) here h) out')
+        partly_no here out' = false_from_ne_true (partly fs []) (λ h. both_ways (f t && partly fs []) out' (and_from (f t) (partly fs []) here h))
 
         none_left : (gs : List (T → Bool)) → partly gs [] ≡ false → sees_all gs more ≡ true
         none_left [] h = refl
         none_left (g ∷ gs) h = cc
   sees_within (f ∷ fs) (y ∷ x) t rest more e out =
       let parts = and_parts (f y) (sees_all fs (x ++ (t ∷ rest))) e in
-      and_both (f y) (sees_all fs (x ++ (t ∷ more))) parts.0
-      (sees_within fs x t rest more parts.1 (not_true (partly fs (x ++ (t ∷ []))) (λ h. false_true (f y && partly fs (x ++ (t ∷ []))) (and_both (f y) (partly fs (x ++ (t ∷ []))) parts.0 h) out)))
+      and_from (f y) (sees_all fs (x ++ (t ∷ more))) parts.0
+      (sees_within fs x t rest more parts.1 (false_from_ne_true (partly fs (x ++ (t ∷ []))) (λ h. both_ways (f y && partly fs (x ++ (t ∷ []))) out (and_from (f y)
+      (partly fs (x ++ (t ∷ []))) parts.0 h))))
 
   pub sees_all-append : (fs : List (T → Bool)) (x y : List T) → sees_all fs x ≡ true → sees_all fs (x ++ y) ≡ true
   sees_all-append [] x y e = refl
   sees_all-append (f ∷ fs) [] y e = cc
-  sees_all-append (f ∷ fs) (t ∷ x) y e = let parts = and_parts (f t) (sees_all fs x) e in and_both (f t) (sees_all fs (x ++ y)) parts.0 (sees_all-append fs x y parts.1)
+  sees_all-append (f ∷ fs) (t ∷ x) y e = let parts = and_parts (f t) (sees_all fs x) e in and_from (f t) (sees_all fs (x ++ y)) parts.0 (sees_all-append fs x y parts.1)
 
   pub departs_not : (fs : List (T → Bool)) (x y : List T) → departs fs x ≡ true → sees_all fs (x ++ y) ≡ false
   departs_not [] x y e = cc
   departs_not (f ∷ fs) [] y e = cc
   departs_not (f ∷ fs) (t ∷ x) y e =
-      not_true (f t && sees_all fs (x ++ y)) (λ h.
+      false_from_ne_true (f t && sees_all fs (x ++ y)) (λ h.
       let parts = and_parts (f t) (sees_all fs (x ++ y)) h in
-      or_cases (not (f t)) (departs fs x) e (λ out. not_not (f t) out parts.0) (λ out. false_true (sees_all fs (x ++ y)) parts.1 (departs_not fs x y out)))
+      or_cases (not (f t)) (departs fs x) e (λ out. not_not (f t) out parts.0) (λ out. both_ways (sees_all fs (x ++ y)) (departs_not fs x y out) parts.1))
 
   pub departs-append : (fs : List (T → Bool)) (x y : List T) → departs fs x ≡ true → departs fs (x ++ y) ≡ true
   departs-append [] x y e = cc
@@ -245,13 +248,13 @@ module _ {T : Type 0} where
   level_agree (f ∷ fs) m (x ∷ w) [] e bar h h' = tt
   level_agree (f ∷ []) m (x ∷ w) (y ∷ w') e bar h h' = λ same.
       let parts = and_parts (f x.0) true e in
-      absurd (bar (and_both (f y.0) true (subst (λ t. f t ≡ true) same parts.0) refl))
+      absurd (bar (and_from (f y.0) true (subst (λ t. f t ≡ true) same parts.0) refl))
   level_agree (f ∷ g ∷ fs) m (x ∷ w) (y ∷ w') e bar h h' = λ same.
       let parts = and_parts (f x.0) (sees_all (g ∷ fs) (plain w)) e in
       let here : f y.0 ≡ true = subst (λ t. f t ≡ true) same parts.0 in
       let k = h parts.0 in
       let k' = h' here in
-      (k.0 ∙ sym k'.0, level_agree (g ∷ fs) m w w' parts.1 (λ s. bar (and_both (f y.0) (sees_all (g ∷ fs) (plain w')) here s)) k.1 k'.1)
+      (k.0 ∙ sym k'.0, level_agree (g ∷ fs) m w w' parts.1 (λ s. bar (and_from (f y.0) (sees_all (g ∷ fs) (plain w')) here s)) k.1 k'.1)
 
   -- The sentences of the first rule start with tokens of the sets, one of each, those of the second do not; and what
   -- starts with fewer of them can become either, with the same nestings.
@@ -271,16 +274,16 @@ module _ {T : Type 0} where
         when_in left right (sees_all fs) Last left_in right_in
         (λ lt at x t rest seen depth w more v e h.
         ⊎_elim (λ yes. left_common lt at (x ++ (t ∷ [])) yes)
-        (λ no. absurd (false_true (sees_all fs (plain w)) (ap (sees_all fs) e ∙ sees_within fs x t rest more seen no) (never (left.whole lt) depth at w v h)))
-        (true_or_not (partly fs (x ++ (t ∷ [])))))
+        (λ no. absurd (both_ways (sees_all fs (plain w)) (never (left.whole lt) depth at w v h) (ap (sees_all fs) e ∙ sees_within fs x t rest more seen no)))
+        (cases_Bool (partly fs (x ++ (t ∷ [])))))
         (λ lt at x t rest seen depth w more v e h.
         ⊎_elim (λ yes. right_common lt at (x ++ (t ∷ [])) yes)
-        (λ no. absurd (false_true (sees_all fs (x ++ (t ∷ rest))) (sees_within fs x t more rest (ap (sees_all fs) (sym e) ∙ (heads (left.whole lt) depth at w v h).0) no) seen))
-        (true_or_not (partly fs (x ++ (t ∷ [])))))
+        (λ no. absurd (both_ways (sees_all fs (x ++ (t ∷ rest))) seen (sees_within fs x t more rest (ap (sees_all fs) (sym e) ∙ (heads (left.whole lt) depth at w v h).0) no)))
+        (cases_Bool (partly fs (x ++ (t ∷ [])))))
         (λ all depth at w rest v h av. sees_all-append fs (plain w) rest (heads all depth at w v h).0)
         others
         (λ all depth depth' at w w' v v' h h'. level_agree fs (at + k) w w' (heads all depth at w v h).0
-        (λ s. false_true (sees_all fs (plain w')) s (never all depth' at w' v' h')) (heads all depth at w v h).1 (levels all depth' at w' v' h'))
+        (λ s. both_ways (sees_all fs (plain w')) (never all depth' at w' v' h') s) (heads all depth at w v h).1 (levels all depth' at w' v' h'))
 
   -- ---- how sentences start
 
@@ -317,7 +320,7 @@ module _ {T : Type 0} where
   one_starts f Q set fs at m w v exactly same h more =
       let whole : w ≡ (h.4.0, at) ∷ h.2 = h.3 ∙ ap (λ l. l ++ h.2) h.4.1 in
       let seen : set h.4.0 ≡ true = sym (exactly h.4.0) ∙ ap gives h.4.2 in
-      subst (StartsBy (set ∷ fs) m) (sym whole) (and_both (set h.4.0) (sees_all fs (plain h.2)) seen more.0, level_token set fs m (h.4.0, at) h.2 same more.1)
+      subst (StartsBy (set ∷ fs) m) (sym whole) (and_from (set h.4.0) (sees_all fs (plain h.2)) seen more.0, level_token set fs m (h.4.0, at) h.2 same more.1)
 
   pub one_departs : {A B : Type 0} (f : T → Option A) (Q : A → Rule T B) (set : T → Bool) (fs : List (T → Bool)) (at m : ℕ) (w : List (Placed T)) (v : B) → at ≡ m
       → (h : (one f >>= Q) at w v) → DepartsBy fs m h.2 → DepartsBy (set ∷ fs) m w
@@ -335,13 +338,13 @@ module _ {T : Type 0} where
     -- a rule none of whose first tokens is of the set
     pub begins_departs : (f : T → Bool) (fs : List (T → Bool)) → ((t : T) → first t ≡ true → f t ≡ true → ⊥) → (depth at m : ℕ) → D depth →
         (w : List (Placed T)) (v : A) → P depth at w v → DepartsBy (f ∷ fs) m w
-    begins_departs f fs apart depth at m dd [] v h = absurd (false_true false (good.empty depth at dd v h) refl)
-    begins_departs f fs apart depth at m dd (t ∷ w) v h = first_departs f fs m t w (not_true (f t.0) (λ yes. apart t.0 (good.begins depth at dd t w v h) yes))
+    begins_departs f fs apart depth at m dd [] v h = absurd (both_ways false refl (good.empty depth at dd v h))
+    begins_departs f fs apart depth at m dd (t ∷ w) v h = first_departs f fs m t w (false_from_ne_true (f t.0) (λ yes. apart t.0 (good.begins depth at dd t w v h) yes))
 
     -- a rule all of whose first tokens are of the set
     pub begins_starts : (f : T → Bool) → ((t : T) → first t ≡ true → f t ≡ true) → (depth at m : ℕ) → D depth → (w : List (Placed T)) (v : A) → P depth at w v → StartsBy (f ∷ []) m w
-    begins_starts f within depth at m dd [] v h = absurd (false_true false (good.empty depth at dd v h) refl)
-    begins_starts f within depth at m dd (t ∷ w) v h = (and_both (f t.0) true (within t.0 (good.begins depth at dd t w v h)) refl, tt)
+    begins_starts f within depth at m dd [] v h = absurd (both_ways false refl (good.empty depth at dd v h))
+    begins_starts f within depth at m dd (t ∷ w) v h = (and_from (f t.0) true (within t.0 (good.begins depth at dd t w v h)) refl, tt)
 
   -- one token or none, and what follows it
   pub optional_departs : {A B : Type 0} (f : T → Option A) (Q : Option A → Rule T B) (set : T → Bool) (fs : List (T → Bool)) (at m : ℕ) (w : List (Placed T)) (v : B) → at ≡ m
@@ -373,7 +376,7 @@ module _ {T : Type 0} where
     common_of good within lt at (t ∷ u ∷ x) e =
         let parts = and_parts (f t) (g u && false) e in
         let no_way : false ≡ true = (and_parts (g u) false parts.1).1 in
-        absurd (false_true false no_way refl)
+        absurd (both_ways false refl no_way)
 
     pub ahead_two : Reads D n (P <∘> Q) (λ room. reads_when (sees_all (f ∷ g ∷ [])) (p room) (q room)) (λ t. first t || first' t) Last (null || null')
     ahead_two =
@@ -455,4 +458,4 @@ module _ {T : Type 0} where
         resize
         (either_in (ends good (λ v. Some v) Last some_in) (reads_nothing {n = n} good.whole None) (λ t e h. cc) Last (λ v t e. e) (λ v t e. cc)
         (λ depth at v t z h e. subst (λ o. Last o t ≡ true) (sym h.1) (none_in t e)))
-        first Last true (λ t. or_nothing (first t)) (λ v t e. e) refl
+        first Last true (λ t. or-false (first t)) (λ v t e. e) refl

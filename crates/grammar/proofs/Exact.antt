@@ -1,6 +1,7 @@
 -- Each text has one answer: a sentence, one place of a syntax fault, or one place at which it nests too deep.
 use Rattle.std.proofs.Common.{◌≡◌, ℕ, zero, suc, ◌+◌, ◌<◌, ◌≤◌, List, [], ◌∷◌, ◌++◌, length, take, refl, sym, ap, ◌∙◌, subst, ◌⊎◌, inl, inr, ⊎_elim, append_assoc, length-append, arith}
 use Rattle.std.specs.Prelude.{Bool}
+use Rattle.std.proofs.lemmas.Bool.{cases_lt}
 use Rattle.grammar.specs.Rules.{Placed, Family}
 use Rattle.grammar.specs.Sentences.{plain, Within, Starts, Sentence, SentenceWithin, StartsSentence, StartsWithin, FaultAt, TooDeepAt}
 use Rattle.grammar.specs.Readers.{Reader}
@@ -17,12 +18,6 @@ in_order i k a b = le_same i k (not_less i k a) (not_less k i b) where
 
   le_same : (i k : ℕ) → k ≤ i → i ≤ k → i ≡ k
   le_same i k h g = omega arith
-
-less_or_not : (i k : ℕ) → (i < k) ⊎ (k ≤ i)
-less_or_not zero zero = inr (omega arith)
-less_or_not zero (suc k) = inl (omega arith)
-less_or_not (suc i) zero = inr (omega arith)
-less_or_not (suc i) (suc k) = ⊎_elim (λ h. inl (omega arith)) (λ h. inr (omega arith)) (less_or_not i k)
 
 module _ {T : Type 0} where
   -- the first i tokens are the first of the first k
@@ -152,7 +147,7 @@ module _ {T : Type 0} where
         ⊎_elim
         (λ lt. deep_past limit ts k j n b lt a.begun)
         (λ le. a.stuck (let lt = deep_inside limit ts k n b in omega (arith, lt, le)) (cut_starts (j + 1) (k + 1) ts (omega (arith, le)) (deep_starts limit ts k n b)))
-        (less_or_not k j)
+        (cases_lt k j)
 
     sentence_starts : (ts : List T) (v : A) (k : ℕ) → Sentence P ts v → StartsSentence P (take k ts)
     sentence_starts ts v k h =
@@ -165,7 +160,7 @@ module _ {T : Type 0} where
         ⊎_elim
         (λ lt. a.stuck lt (sentence_starts ts v (k + 1) h))
         (λ le. a.cut (let i = a.inside in omega (arith, i, le)) v h)
-        (less_or_not k (length ts))
+        (cases_lt k (length ts))
 
     -- a sentence that keeps the limit has no token that is too deep
     pub sentence_or_deep : (limit : ℕ) (ts : List T) (v : A) (k n : ℕ) → SentenceWithin P limit ts v → TooDeepAt P limit ts k n → ⊥

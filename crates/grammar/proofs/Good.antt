@@ -1,10 +1,11 @@
 -- When a reader reads a rule: both ways, and with the exact token at which no sentence goes on or the nesting is too deep.
 use Rattle.std.proofs.Common.{◌≡◌, ℕ, zero, suc, ◌+◌, ◌<◌, ◌≤◌, List, [], ◌∷◌, ◌++◌, length, Bool, true, false, refl, sym, ap, ◌∙◌, subst, ⊎_elim, arith}
 use Rattle.std.specs.Prelude.{Ok, Err}
+use Rattle.std.proofs.lemmas.Bool.{cases_Bool, false_from_ne_true, both_ways}
 use Rattle.grammar.specs.Rules.{Placed, Family, ◌>>=◌}
 use Rattle.grammar.specs.Sentences.{plain, Within, Spelled, Starts}
 use Rattle.grammar.specs.Readers.{Syntax, Deep, Reading, Reader}
-use Rattle.grammar.proofs.Lists.{false_true, true_or_not, not_true, append_nil, plain-append, length-plain, within_wider, roof, within_roof, Agrees}
+use Rattle.grammar.proofs.Lists.{append_nil, plain-append, length-plain, within_wider, roof, within_roof, Agrees}
 
 module _ {T : Type 0} where
   -- one rule after the other, at each depth
@@ -61,7 +62,7 @@ module _ {T : Type 0} where
 
   pub avoids_wider : (f g : T → Bool) → ((t : T) → f t ≡ true → g t ≡ true) → (ts : List T) → Avoids g ts → Avoids f ts
   avoids_wider f g within [] av = tt
-  avoids_wider f g within (t ∷ ts) av = not_true (f t) (λ yes. false_true (g t) (within t yes) av)
+  avoids_wider f g within (t ∷ ts) av = false_from_ne_true (f t) (λ yes. both_ways (g t) av (within t yes))
 
   module _ {D : ℕ → Type 0} {A : Type 0} {n : ℕ} {P : Family T A} {p : ℕ → Reader T A} {first : T → Bool} {last : A → T → Bool} {null : Bool} (good : Reads D n P p first last null) where
     pub deeper_by : ((d : ℕ) → D d) → (k depth at : ℕ) (w : List (Placed T)) (v : A) → P depth at w v → P (k + depth) at w v
@@ -122,7 +123,7 @@ module _ {T : Type 0} where
         let pair : was ≡ is = cc (b, c) in
         let none : t.0 ∷ plain z ≡ [] = ap (λ x. x.1) pair in
         cc (none))
-        (true_or_not (last v t.0))
+        (cases_Bool (last v t.0))
 
     pub less : (k : ℕ) → k ≤ n → Reads D k P p first last null
     less k le = record {

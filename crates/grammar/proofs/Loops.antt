@@ -1,10 +1,11 @@
 -- Any number of a rule, and what follows it.
 use Rattle.std.proofs.Common.{◌≡◌, ℕ, zero, suc, ◌+◌, ◌-◌, ◌≤◌, List, [], ◌∷◌, ◌++◌, length, Bool, true, false, refl, sym, ap, ◌∙◌, subst, inl, inr, ⊎_elim, append_assoc, arith}
 use Rattle.std.specs.Prelude.{Ok, Err, if◌then◌else◌, ◌||◌, fold}
+use Rattle.std.proofs.lemmas.Bool.{or_left, or_right, both_ways}
 use Rattle.grammar.specs.Rules.{Placed, Family, pure, ◌>>=◌, many}
 use Rattle.grammar.specs.Sentences.{Spelled}
 use Rattle.grammar.specs.Readers.{Reading, Reader, and_then, sees, sees_all, reads_pure, reads_both, reads_when, reads_while, reads_many, appended}
-use Rattle.grammar.proofs.Lists.{false_true, or_left, or_right, or_cases, append_nil, no_tokens}
+use Rattle.grammar.proofs.Lists.{or_cases, append_nil, no_tokens}
 use Rattle.grammar.proofs.Good.{Reads, ◌∘>◌, less}
 use Rattle.grammar.proofs.Parts.{resize, same_rule, same_reader, reads_nothing, some_then}
 use Rattle.grammar.proofs.Choice.{◌<∘>◌, StartsBy, DepartsBy, either_in, ahead_two, starts_both}
@@ -62,20 +63,20 @@ module _ {T : Type 0} where
     turn_begins depth at dd s t w b h =
         ⊎_elim (λ k. or_left (first t.0) (first' t.0) (item_begins k.1 k.2 k.0 k.3 k.4)) (λ k. or_right (first t.0) (first' t.0) ((after s).begins depth at dd t w b k)) h where
           item_begins : (f r : List (Placed T)) (v : A) → t ∷ w ≡ f ++ r → P depth at f v → first t.0 ≡ true
-          item_begins [] r v e k = absurd (false_true false (item.empty depth at dd v k) refl)
+          item_begins [] r v e k = absurd (both_ways false refl (item.empty depth at dd v k))
           item_begins (x ∷ f) r v e k = let same : x ≡ t = cc in subst (λ y. first y.0 ≡ true) same (item.begins depth at dd x f v k)
 
     turn_above : (depth at : ℕ) → D depth → (s : S) (t : Placed T) (w : List (Placed T)) (b : B) → Turn s depth at (t ∷ w) b → at ≤ t.1
     turn_above depth at dd s t w b h =
         ⊎_elim (λ k. item_above k.1 k.2 k.0 k.3 k.4) (λ k. (after s).above depth at dd t w b k) h where
           item_above : (f r : List (Placed T)) (v : A) → t ∷ w ≡ f ++ r → P depth at f v → at ≤ t.1
-          item_above [] r v e k = absurd (false_true false (item.empty depth at dd v k) refl)
+          item_above [] r v e k = absurd (both_ways false refl (item.empty depth at dd v k))
           item_above (x ∷ f) r v e k = let same : x ≡ t = cc in subst (λ y. at ≤ y.1) same (item.above depth at dd x f v k)
 
     turn_empty : (depth at : ℕ) → D depth → (s : S) (b : B) → Turn s depth at [] b → null' ≡ true
     turn_empty depth at dd s b h = ⊎_elim (λ k. no_item k.1 k.2 k.0 k.3 k.4) (λ k. (after s).empty depth at dd b k) h where
       no_item : {X : Type 0} (f r : List (Placed T)) (v : A) → [] ≡ f ++ r → P depth at f v → X
-      no_item [] r v e k = absurd (false_true false (item.empty depth at dd v k) refl)
+      no_item [] r v e k = absurd (both_ways false refl (item.empty depth at dd v k))
       no_item (x ∷ f) r v e k = cc
 
     only_after : (s : S) (at : ℕ) (w : List (Placed T)) (b : B) → Spelled (Q s) at w b → Spelled (Tail s) at w b

@@ -1,11 +1,11 @@
 -- One level deeper, and rules that refer to themselves.
 use Rattle.std.proofs.Common.{◌≡◌, ℕ, zero, suc, ◌+◌, ◌<◌, ◌≤◌, List, [], ◌∷◌, ◌++◌, length, Option, Bool, true, false, refl, sym, ap, ◌∙◌, subst, ⊎_elim, arith}
 use Rattle.std.specs.Prelude.{Ok, Err, if◌then◌else◌, ◌==◌}
-use Rattle.std.proofs.lemmas.Bool.{eqb-true}
+use Rattle.std.proofs.lemmas.Bool.{eqb-true, false_from_ne_true, both_ways}
 use Rattle.grammar.specs.Rules.{Placed, Rule, Family, one, ◌>>=◌, ◌<|>◌, nested}
 use Rattle.grammar.specs.Sentences.{plain, Within, Spelled, Starts}
 use Rattle.grammar.specs.Readers.{Syntax, Deep, Reading, Reader, sees, too_deep, too_deep_or, reads_within}
-use Rattle.grammar.proofs.Lists.{false_true, not_true, Agrees}
+use Rattle.grammar.proofs.Lists.{Agrees}
 use Rattle.grammar.proofs.Good.{Reads, Answers, Dead, Avoids, Calm, ◌∘>◌}
 use Rattle.grammar.proofs.Parts.{gives, same_reader}
 
@@ -26,16 +26,16 @@ module _ {T : Type 0} where
     unseen : (at room : ℕ) (ts : List T) → length ts < n → sees first ts ≡ false → (r : Reading T A) → Answers P at (at + room) ts r → r ≡ Err (Syntax ts)
     unseen at room ts lt out (Ok x) k = absurd (seen_sentence ts k.0 x.1 x.0 k.2.0 k.1 out k.2.1) where
       seen_sentence : (ts : List T) (w : List (Placed T)) (rest : List T) (v : A) (depth : ℕ) → ts ≡ plain w ++ rest → sees first ts ≡ false → P depth at w v → ⊥
-      seen_sentence ts [] rest v depth e out h = false_true false (good.empty depth at (good.whole (omega arith) depth) v h) refl
-      seen_sentence ts (t ∷ w) rest v depth e out h = false_true (first t.0) (good.begins depth at (good.whole (omega arith) depth) t w v h) (sym (ap (sees first) e) ∙ out)
+      seen_sentence ts [] rest v depth e out h = both_ways false refl (good.empty depth at (good.whole (omega arith) depth) v h)
+      seen_sentence ts (t ∷ w) rest v depth e out h = both_ways (first t.0) (sym (ap (sees first) e) ∙ out) (good.begins depth at (good.whole (omega arith) depth) t w v h)
     unseen at room ts lt out (Err (Syntax rest)) k = stuck_at k.0 k.1 k.2 where
       stuck_at : (w : List (Placed T)) → ts ≡ plain w ++ rest → Starts P at w → Stopped rest ≡ Stopped ts
       stuck_at [] e h = ap Stopped (sym e)
-      stuck_at (t ∷ w) e h = absurd (false_true (first t.0) (good.begins h.2.0 at (good.whole (omega arith) h.2.0) t (w ++ h.0) h.1 h.2.1) (sym (ap (sees first) e) ∙ out))
+      stuck_at (t ∷ w) e h = absurd (both_ways (first t.0) (sym (ap (sees first) e) ∙ out) (good.begins h.2.0 at (good.whole (omega arith) h.2.0) t (w ++ h.0) h.1 h.2.1))
     unseen at room ts lt out (Err (Deep above rest)) k = absurd (deep_at k.0 (k.5 ∙ ap (λ l. plain k.0 ++ l) k.4) k.6) where
       deep_at : (w : List (Placed T)) → ts ≡ plain w ++ (k.1 ∷ k.3) → Starts P at (w ++ ((k.1, k.2) ∷ [])) → ⊥
-      deep_at [] e h = false_true (first k.1) (good.begins h.2.0 at (good.whole (omega arith) h.2.0) (k.1, k.2) h.0 h.1 h.2.1) (sym (ap (sees first) e) ∙ out)
-      deep_at (t ∷ w) e h = false_true (first t.0) (good.begins h.2.0 at (good.whole (omega arith) h.2.0) t ((w ++ ((k.1, k.2) ∷ [])) ++ h.0) h.1 h.2.1) (sym (ap (sees first) e) ∙ out)
+      deep_at [] e h = both_ways (first k.1) (sym (ap (sees first) e) ∙ out) (good.begins h.2.0 at (good.whole (omega arith) h.2.0) (k.1, k.2) h.0 h.1 h.2.1)
+      deep_at (t ∷ w) e h = both_ways (first t.0) (sym (ap (sees first) e) ∙ out) (good.begins h.2.0 at (good.whole (omega arith) h.2.0) t ((w ++ ((k.1, k.2) ∷ [])) ++ h.0) h.1 h.2.1)
 
     to_inside : (at limit : ℕ) (ts : List T) (r : Reading T A) → Answers P (at + 1) limit ts r → Answers Inside at limit ts r
     to_inside at limit ts (Ok x) k = (k.0, k.1, k.2, k.3, inside_dead at (plain k.0) x.1 k.4) where
@@ -69,7 +69,7 @@ module _ {T : Type 0} where
           no_first depth [] more v s h = cc
           no_first depth (x ∷ w) more v s h =
               let same : x.0 ≡ t = cc in
-              false_true (first t) (subst (λ y. first y ≡ true) same (good.begins depth (at + 1) (good.whole (omega arith) depth) x w v h)) e
+              both_ways (first t) e (subst (λ y. first y ≡ true) same (good.begins depth (at + 1) (good.whole (omega arith) depth) x w v h))
 
     deep_sound : (more : T → ℕ) → Leads more → (at : ℕ) (ts : List T) → length ts < n → Answers Inside at (at + 0) ts (stopped_by more ts)
     deep_sound more leads at [] lt = let some = good.inhabited (good.whole (omega arith)) (at + 1) in ([], refl, (some.0, some.1, some.2), tt, tt)
@@ -86,7 +86,7 @@ module _ {T : Type 0} where
 
       inside_complete : (depth at room : ℕ) (ts : List T) (w : List (Placed T)) (rest : List T) (v : A) → length ts < n → ts ≡ plain w ++ rest
           → Inside depth at w v → Within (at + room) w → Avoids (last v) rest → p' room ts ≡ Ok (v, rest)
-      inside_complete depth at zero ts [] rest v lt e h low av = absurd (false_true false (good.empty depth (at + 1) (good.whole (omega arith) depth) v h) refl)
+      inside_complete depth at zero ts [] rest v lt e h low av = absurd (both_ways false refl (good.empty depth (at + 1) (good.whole (omega arith) depth) v h))
       inside_complete depth at zero ts (t ∷ w) rest v lt e h low av =
           let high : at + 1 ≤ t.1 = good.above depth (at + 1) (good.whole (omega arith) depth) t w v h in
           absurd (omega (arith, high, low.0))
@@ -153,7 +153,7 @@ module _ {T : Type 0} where
         (λ room. reads_within first room (p room)) first last false
     within_in p good flat =
         inside_in good (λ room. reads_within first room (p room)) (λ t. 0) (λ depth at dd t w v h. let i = flat.level depth at dd t w v h in omega (arith, i)) same_stop
-        (λ room ts. ap (λ b. if b then too_deep first ts else p (suc room) ts) (not_true (suc room == 0) (λ h. omega (arith, eqb-true (suc room) 0 h)))) where
+        (λ room ts. ap (λ b. if b then too_deep first ts else p (suc room) ts) (false_from_ne_true (suc room == 0) (λ h. omega (arith, eqb-true (suc room) 0 h)))) where
           same_stop : (ts : List T) → too_deep {A = A} first ts ≡ stopped_by good (λ t. 0) ts
           same_stop [] = refl
           same_stop (t ∷ ts) = refl

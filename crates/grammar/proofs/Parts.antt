@@ -1,10 +1,12 @@
 -- The rules without parts, the same reading under other sets, and what joins rules most often.
 use Rattle.std.proofs.Common.{◌≡◌, ℕ, suc, ◌+◌, ◌<◌, ◌≤◌, List, [], ◌∷◌, ◌++◌, length, Option, Some, None, Bool, true, false, refl, sym, ap, ◌∙◌, subst, ◌⊎◌, inl, inr, length-append, arith}
 use Rattle.std.specs.Prelude.{Ok, Err, if◌then◌else◌, ◌||◌, ◌&&◌}
+use Rattle.std.proofs.lemmas.Bool.{or_left, or_right, and_from, and_parts, both_ways}
+use mathlib.Core.Bool.{or-false}
 use Rattle.grammar.specs.Rules.{Placed, Family, pure, one}
 use Rattle.grammar.specs.Sentences.{plain, Spelled, Starts}
 use Rattle.grammar.specs.Readers.{Syntax, Deep, Reading, Reader, and_then, reads_pure, taken, reads_one, reads_both}
-use Rattle.grammar.proofs.Lists.{false_true, or_left, or_right, or_cases, and_both, and_parts, length-plain, Agrees}
+use Rattle.grammar.proofs.Lists.{or_cases, length-plain, Agrees}
 use Rattle.grammar.proofs.Good.{Reads, Answers, Dead, Calm, Begun, ◌∘>◌, avoids_wider}
 use Rattle.grammar.proofs.Both.{both_in}
 
@@ -15,10 +17,6 @@ gives None = false
 -- a set, if b
 abbrev pub if_so : {T : Type 0} → Bool → (T → Bool) → T → Bool
 if_so b f t = b && f t
-
-pub or_nothing : (a : Bool) → (a || false) ≡ a
-or_nothing true = refl
-or_nothing false = refl
 
 -- ---- what a reading that came to its end read
 
@@ -141,7 +139,7 @@ module _ {T : Type 0} where
     no_longer room ts x lt e = let le = no_longer_from 0 (0 + room) ts x (p room ts) e (good.sound 0 room ts lt) in omega (arith, le)
 
     some_tokens : (depth at : ℕ) → D depth → (done : List (Placed T)) (v : A) → null ≡ false → P depth at done v → 0 < length done
-    some_tokens depth at dd [] v z h = absurd (false_true null (good.empty depth at dd v h) z)
+    some_tokens depth at dd [] v z h = absurd (both_ways null z (good.empty depth at dd v h))
     some_tokens depth at dd (t ∷ done) v z h = omega arith
 
     shorter_from : ((d : ℕ) → D d) → null ≡ false → (at limit : ℕ) (ts : List T) (x : A × List T) (r : Reading T A) → r ≡ Ok x → Answers P at limit ts r → length x.1 < length ts
@@ -282,7 +280,7 @@ module _ {T : Type 0} where
         → Reads D n (P ∘> Q) (λ room. reads_both (p room) (λ a. q a room)) (λ t. first t || if_so null first' t) Last (null && null')
     both Last last_in early_in =
         both_in before after apart (no_longer before) (λ t. first t || if_so null first' t) Last
-        (λ t e. or_left (first t) (if_so null first' t) e) (λ a t z e. or_right (first t) (if_so null first' t) (and_both null (first' t) z e)) begins_with last_in early_in
+        (λ t e. or_left (first t) (if_so null first' t) e) (λ a t z e. or_right (first t) (if_so null first' t) (and_from null (first' t) z e)) begins_with last_in early_in
 
   -- the last value, by which the reading ends: `v ← P; pure (g v)`
   module _ {D : ℕ → Type 0} {A B : Type 0} {n : ℕ} {P : Family T A} {p : ℕ → Reader T A} {first : T → Bool} {last : A → T → Bool} {null : Bool}
@@ -295,8 +293,8 @@ module _ {T : Type 0} where
         first Last null (λ t. end_first null (first t)) (λ v t h. h) (end_null null)
       where
         end_first : (null b : Bool) → (b || (null && false)) ≡ b
-        end_first true b = or_nothing b
-        end_first false b = or_nothing b
+        end_first true b = or-false b
+        end_first false b = or-false b
 
         end_null : (null : Bool) → (null && true) ≡ null
         end_null true = refl

@@ -30,7 +30,8 @@ below_greatest f (y ∷ ys) (suc n) x e = let rest = below_greatest f ys n x e i
 abbrev pub IsFit : Array → Type 0
 IsFit array = (1 ≤ array.length) × (array.length < 2 ^ 31)
 
-pub arrays_fit : (P : Program) (code : ThreadCode) → IsResolved P → IsTypedCode P code → first_passed P ≡ None → (a : ℕ) (array : Array) → slice_get code.arrays a ≡ Some array → IsFit array
+pub arrays_fit : (P : Program) (code : ThreadCode) → IsResolved P → IsTypedCode P P.main code → first_passed P ≡ None →
+    (a : ℕ) (array : Array) → slice_get code.arrays a ≡ Some array → IsFit array
 arrays_fit P code resolved typed limits a array e =
     let local = typed.arrays a array e in
     let whole = arrays_short P limits in

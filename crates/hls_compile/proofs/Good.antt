@@ -68,7 +68,7 @@ module _ (P : Program) (code : ThreadCode) (plan : Planned) (parted : Banks) (ba
   abbrev spreads : List Spread
   spreads = parted.spreads.items
 
-  module _ (limits : first_passed P ≡ None) (lowered : IsLowered P code) (typed : IsTypedCode P code) where
+  module _ (limits : first_passed P ≡ None) (lowered : IsLowered P P.main code) (typed : IsTypedCode P P.main code) where
     banked : ArePartitioned P spreads banks
     banked = are_partitioned P parted banks part.is part.are part.elements part.held cores
 
@@ -79,7 +79,7 @@ module _ (P : Program) (code : ThreadCode) (plan : Planned) (parted : Banks) (ba
     few : length banks < 2 ^ 15
     few = few_banks P parted banks resolved limits part cores
 
-    served : IsServed (main_shape P spreads) code plan main_printer
+    served : IsServed (main_shape P spreads) code plan
     served =
         is_served P spreads code plan (few_formats P printer is_printer) typed is_main.right (right_spreads P resolved limits parted part.is part.are)
         (arrays_fit P code resolved typed limits)
@@ -87,50 +87,50 @@ module _ (P : Program) (code : ThreadCode) (plan : Planned) (parted : Banks) (ba
     pub runs_main : (n : Netlist) → slice_get n.modules 0 ≡ Some main → RunsMain P n code plan
     runs_main n first = record {
       of_main = main;
-      listed = first_named n.modules main (codes "fn_main") (subst (λ name. bytes_eq (codes "fn_main") name ≡ true) (sym (is_main.shape main_printer served).named) refl) first;
-      served = subst (λ (ss : List Spread). IsServed (main_shape P ss) code plan main_printer) part.is.spreads served;
+      listed = first_named n.modules main (codes "fn_main") (subst (λ name. bytes_eq (codes "fn_main") name ≡ true) (sym (is_main.routine refl served).named) refl) first;
+      served = subst (λ (ss : List Spread). IsServed (main_shape P ss) code plan) part.is.spreads served;
       made = subst (λ (ss : List Spread). IsMadeOf P ss code plan main) part.is.spreads is_main;
     }
 
     pub of_parts : (Holds : Program → Type 0) → OfParts Holds banks main arbiter modules printer → Holds P
     of_parts Holds given =
-        let shape = is_main.shape main_printer served in
-        let leaf = is_main.leaf main_printer served in
-        let runs = is_main.runs main_printer served in
+        let routine = is_main.routine refl served in
+        let leaf = is_main.leaf served in
+        let runs = is_main.runs served in
         let wide = is_printer.of_program.wide in
-        given P spreads code plan (input_count (bank_total spreads)) (leaf_of (bank_total spreads) main_printer main) is_printer.shape
+        given P spreads code plan (input_count (bank_total spreads)) (leaf_of (main_shape P spreads) main) is_printer.shape
         (record {
           resolved = resolved;
           single = single;
           coded = subst (IsCode P spreads code plan) (sym wide) coded;
           banked = banked;
-          module_ = is_thread P spreads banks banked main shape leaf is_printer.shape wide code plan runs;
+          module_ = is_thread P spreads banks banked main served.spreads routine leaf is_printer.shape wide code plan runs;
           printer = record { threads = is_printer.of_program.threads; wide = refl; sites = is_printer.of_program.sites };
         })
-        few is_printer.of_program (stands P spreads banks banked main shape leaf) is_arbiter are_modules is_printer.is
+        few is_printer.of_program (stands P spreads banks banked main served.spreads routine) is_arbiter are_modules is_printer.is
 
     -- THE NET OF THE PARTS IS THREADED, which is written
     pub threaded_parts : (n : Netlist) (net : Net) (text : List ℕ) → NetOfPartsIsThreaded → IsWritten (layout_of banks) (main ∷ arbiter ∷ modules ++ printer ∷ []) n net text
         → IsThreadedNet n 1
     threaded_parts n net text law written =
-        let shape = is_main.shape main_printer served in
-        let leaf = is_main.leaf main_printer served in
-        let runs = is_main.runs main_printer served in
+        let routine = is_main.routine refl served in
+        let leaf = is_main.leaf served in
+        let runs = is_main.runs served in
         let wide = is_printer.of_program.wide in
-        let steady : IsSteadyMain (suc (length banks)) main (leaf_of (bank_total spreads) main_printer main) =
-        subst (λ k. IsSteadyMain (suc k) main (leaf_of (bank_total spreads) main_printer main)) (total P spreads banks banked) (is_main.steady main_printer served).steady in
+        let steady : IsSteadyMain (suc (length banks)) main (leaf_of (main_shape P spreads) main) =
+        subst (λ k. IsSteadyMain (suc k) main (leaf_of (main_shape P spreads) main)) (total P spreads banks banked) (is_main.steady served).steady in
         let found =
-        law banks main arbiter printer modules n net text written P spreads code plan (input_count (bank_total spreads)) (leaf_of (bank_total spreads) main_printer main)
+        law banks main arbiter printer modules n net text written P spreads code plan (input_count (bank_total spreads)) (leaf_of (main_shape P spreads) main)
         is_printer.shape
         (record {
           resolved = resolved;
           single = single;
           coded = subst (IsCode P spreads code plan) (sym wide) coded;
           banked = banked;
-          module_ = is_thread P spreads banks banked main shape leaf is_printer.shape wide code plan runs;
+          module_ = is_thread P spreads banks banked main served.spreads routine leaf is_printer.shape wide code plan runs;
           printer = record { threads = is_printer.of_program.threads; wide = refl; sites = is_printer.of_program.sites };
         })
-        few is_printer.of_program (stands P spreads banks banked main shape leaf) is_arbiter are_modules is_printer.is steady in
+        few is_printer.of_program (stands P spreads banks banked main served.spreads routine) is_arbiter are_modules is_printer.is steady in
         record { top = found.0; is_top = found.1; threaded = found.2 }
 
 -- without thread objects main is the one thread

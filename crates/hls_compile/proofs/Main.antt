@@ -2,11 +2,11 @@
 use Rattle.std.proofs.Common.{◌≡◌, ℕ, zero, suc, ◌+◌, ◌*◌, ◌-◌, ◌<◌, ◌≤◌, ◌⊎◌, nat_lt, Bool, true, false, if◌then◌else◌, List}
 use Rattle.std.proofs.Common.{[], ◌∷◌, ◌++◌, length, map, Option, Some, refl, sym, ap, ◌∙◌, subst, inl, inr, ⊎_elim, arith}
 use Rattle.std.proofs.Common.{length-append}
-use Rattle.std.specs.Prelude.{replicate, slice_get}
+use Rattle.std.specs.Prelude.{replicate, slice_get, option_map, take, codes}
 use Rattle.std.proofs.lemmas.Bool.{cases_lt}
 use Rattle.std.proofs.lemmas.Bool.Decides.{nat_tests}
 use Rattle.std.proofs.lemmas.List.{length-map, length-replicate}
-use Rattle.std.proofs.lemmas.Option.{none-some, same_Some}
+use Rattle.std.proofs.lemmas.Option.{none-some, same_Some, slice_get_within, slice_get-map}
 use Rattle.hls_ints.specs.Types.{IntegerType, width_of}
 use Rattle.c_program.specs.Tree.{Program}
 use Rattle.bank_partition.specs.declared.banks.Spread.{Spread}
@@ -17,25 +17,24 @@ use Rattle.verilog_tree.specs.Scope.{is_clk}
 use Rattle.netlist.specs.declared.netlist.Action.{Action}
 use Rattle.netlist.specs.declared.netlist.Module.{Module}
 use Rattle.circuit.specs.Rows.{EachOf}
+use Rattle.circuit.specs.Interfaces.{first_of, IsTableModule}
 use Rattle.circuit.specs.Modules.{Has}
 use Rattle.leaf_machine.specs.Leaves.{Heard, Clock, Enable, Grant, Told, LeafPorts, IsHeard, IsPorted, AnswersAreLate, IsSlotBit, IsThreadLeaf}
-use Rattle.leaf_machine.specs.Standing.{main_inputs, bank_outputs, main_outputs, IsSilent, IsMainModule}
+use Rattle.leaf_machine.specs.Standing.{main_inputs, main_outputs, IsMainModule}
+use Rattle.core_ports.specs.Ports.{asks_of, told_of, ask_place, thread_inputs, thread_outputs, IsRoutineModule}
 use Rattle.module_sound.specs.Grades.{ActsRight}
 use Rattle.print_core.specs.declared.printer.Shape.{Shape}
 use Rattle.thread_promise.specs.Globals.{bank_total}
-use Rattle.thread_promise.specs.Promise.{BankPorts, RunsCode}
+use Rattle.thread_promise.specs.Promise.{RunsCode}
 use Rattle.thread_layout.specs.Leaf.{leaf_of}
-use Rattle.thread_sound.specs.Leaf.{parts_of, told_of, IsLeafOf}
-use Rattle.thread_layout.specs.Thread.{input_count, first_output, places_of, ports_of}
-use Rattle.thread_sound.specs.Shape.{HasBankPorts, HasShape}
+use Rattle.thread_sound.specs.Leaf.{parts_of, tells_of, IsLeafOf}
+use Rattle.thread_layout.specs.Thread.{AreRightSpreads, input_count, bank_port, printer_port, core_ports, first_output, port_at, places_of, ports_of}
+use Rattle.thread_layout.proofs.Spreading.{spread_there, spread_count}
+use Rattle.thread_requests.specs.Early.{spread_out}
 use Rattle.program_machine.specs.Built.{globals_of, parts, told, ArePartitioned, IsThreadModule}
 use Rattle.program_machine.proofs.Cores.{core_parts, core_told, print_parts, print_told}
 use Rattle.program_machine.proofs.Partitioned.{there, total, bank_is, type_here}
 use Rattle.hls_compile.specs.Parts.{main_shape, main_printer}
-
-silent_each : (m : Module) (actions : List Action) → EachOf (ActsRight m) actions → EachOf IsSilent actions
-silent_each m [] h = tt
-silent_each m (a ∷ actions) h = (h.0.sets.silent, silent_each m actions h.1)
 
 -- ---- cores with as many parts and told numbers are the same to a leaf
 
@@ -77,230 +76,225 @@ module _ (m : Module) (inputs : ℕ) (ports : LeafPorts) (cores : ℕ) (p q t u 
 
 -- ---- lists of widths
 
-among : (n v : ℕ) (rest : List ℕ) (y w : ℕ) → slice_get (replicate n v ++ rest) y ≡ Some w → ((y < n) × (w ≡ v)) ⊎ ((i : ℕ) × (y ≡ n + i) × (slice_get rest i ≡ Some w))
-among zero v rest y w e = inr (y, (let q : y ≡ 0 + y = omega arith in q), e)
-among (suc n) v rest zero w e = inl ((let l : 0 < suc n = omega arith in l), sym (same_Some v w e))
-among (suc n) v rest (suc y) w e =
-    ⊎_elim (λ t. inl ((let l = t.0 in omega (arith, l)), t.1)) (λ t. inr (t.0, (let q = t.1 in omega (arith, q)), t.2)) (among n v rest y w e)
-
--- the widths of what a bank is asked
-abbrev part_width : ℕ → ℕ → ℕ
-part_width zero v = 1
-part_width (suc zero) v = 1
-part_width (suc (suc zero)) v = 64
-part_width (suc (suc (suc j))) v = v
-
--- it is what a bank is asked, or stands behind that
-data Output (words rest : List ℕ) (x w : ℕ) : Type 0 where
-  OfBank : (n j v : ℕ) (small : j < 4) (listed : slice_get words n ≡ Some v) (place : x ≡ 4 * n + j) (wide : w ≡ part_width j v) → Output words rest x w
-  Behind : (i : ℕ) (place : x ≡ 4 * length words + i) (listed : slice_get rest i ≡ Some w) → Output words rest x w
-
-later : (v : ℕ) (words rest : List ℕ) (x w : ℕ) → Output words rest x w → Output (v ∷ words) rest (suc (suc (suc (suc x)))) w
-later v words rest x w (OfBank n j u small listed place wide) = OfBank (suc n) j u small listed (omega (arith, place)) wide
-later v words rest x w (Behind i place listed) = Behind i (omega (arith, place)) listed
-
-output_is : (words rest : List ℕ) (x w : ℕ) → slice_get (bank_outputs words ++ rest) x ≡ Some w → Output words rest x w
-output_is [] rest x w e = Behind x (let q : x ≡ 4 * 0 + x = omega arith in q) e
-output_is (v ∷ words) rest zero w e = OfBank 0 0 v (omega arith) refl (omega arith) (sym (same_Some 1 w e))
-output_is (v ∷ words) rest (suc zero) w e = OfBank 0 1 v (omega arith) refl (omega arith) (sym (same_Some 1 w e))
-output_is (v ∷ words) rest (suc (suc zero)) w e = OfBank 0 2 v (omega arith) refl (omega arith) (sym (same_Some 64 w e))
-output_is (v ∷ words) rest (suc (suc (suc zero))) w e = OfBank 0 3 v (omega arith) refl (omega arith) (sym (same_Some v w e))
-output_is (v ∷ words) rest (suc (suc (suc (suc x)))) w e = later v words rest x w (output_is words rest x w e)
-
-bank_long : (words : List ℕ) → length (bank_outputs words) ≡ 4 * length words
-bank_long [] = refl
-bank_long (w ∷ words) = let rest = bank_long words in omega (arith, rest)
+list_same : {X : Type 0} (xs ys : List X) → length xs ≡ length ys → ((k : ℕ) (x : X) → slice_get ys k ≡ Some x → slice_get xs k ≡ Some x) → xs ≡ ys
+list_same [] [] e f = refl
+list_same [] (y ∷ ys) e f = absurd (omega arith)
+list_same (x ∷ xs) [] e f = absurd (omega arith)
+list_same (x ∷ xs) (y ∷ ys) e f =
+    let same : x ≡ y = (let z = f 0 y refl in cc) in
+    ap (λ z. z ∷ xs) same ∙ ap (λ l. y ∷ l) (list_same xs ys (omega arith) (λ k z there. f (suc k) z there))
 
 width_at : (banks : List Bank) (n w : ℕ) → slice_get (map (λ (b : Bank). b.width) banks) n ≡ Some w → (b : Bank) × (slice_get banks n ≡ Some b) × (b.width ≡ w)
 width_at [] n w e = absurd (none-some w e)
 width_at (b ∷ banks) zero w e = (b, refl, same_Some b.width w e)
 width_at (b ∷ banks) (suc n) w e = width_at banks n w e
 
-module _ (P : Program) (spreads : List Spread) (banks : List Bank) (banked : ArePartitioned P spreads banks) (m : Module) (shape : HasShape (main_shape P spreads) main_printer m) where
+-- what the banks and the printer tell and are asked
+told_words : (words : List ℕ) → told_of (map bank_port words ++ printer_port main_printer ∷ []) ≡ words
+told_words [] = refl
+told_words (w ∷ words) = ap (λ l. w ∷ l) (told_words words)
+
+asks_words : (words : List ℕ) → thread_outputs (map bank_port words ++ printer_port main_printer ∷ []) ≡ main_outputs words 4
+asks_words [] = refl
+asks_words (w ∷ words) = ap (λ l. 1 ∷ 1 ∷ 64 ∷ w ∷ l) (asks_words words)
+
+ports_long : (words : List ℕ) → length (map bank_port words ++ printer_port main_printer ∷ []) ≡ suc (length words)
+ports_long [] = refl
+ports_long (w ∷ words) = ap suc (ports_long words)
+
+-- the ports of bank n, and those of the printer behind them
+ask_at : (words : List ℕ) (n : ℕ) → n ≤ length words → ask_place (map bank_port words ++ printer_port main_printer ∷ []) n ≡ 4 * n
+ask_at words zero le = refl
+ask_at [] (suc n) le = absurd (omega arith)
+ask_at (w ∷ words) (suc n) le =
+    let rest = ask_at words n (omega arith) in
+    let next : ask_place (map bank_port (w ∷ words) ++ printer_port main_printer ∷ []) (suc n) ≡ suc (suc (suc (suc (ask_place (map bank_port words ++ printer_port main_printer ∷ []) n)))) = refl in
+    omega arith
+
+asks_long : (words : List ℕ) → length (asks_of (map bank_port words ++ printer_port main_printer ∷ [])) ≡ 4 * length words + 6
+asks_long [] = refl
+asks_long (w ∷ words) =
+    let rest = asks_long words in
+    let next : length (asks_of (map bank_port (w ∷ words) ++ printer_port main_printer ∷ [])) ≡ suc (suc (suc (suc (length (asks_of
+    (map bank_port words ++ printer_port main_printer ∷ [])))))) = refl in
+    omega arith
+
+bank_parts : (words : List ℕ) (k : ℕ) → k < length words → parts_of (map bank_port words ++ printer_port main_printer ∷ []) k ≡ 4
+bank_parts [] k less = absurd (omega arith)
+bank_parts (w ∷ words) zero less = refl
+bank_parts (w ∷ words) (suc k) less = bank_parts words k (omega arith)
+
+last_parts : (words : List ℕ) → parts_of (map bank_port words ++ printer_port main_printer ∷ []) (length words) ≡ 6
+last_parts [] = refl
+last_parts (w ∷ words) = last_parts words
+
+bank_tells : (words : List ℕ) (k : ℕ) → k < length words → tells_of (map bank_port words ++ printer_port main_printer ∷ []) k ≡ 1
+bank_tells [] k less = absurd (omega arith)
+bank_tells (w ∷ words) zero less = refl
+bank_tells (w ∷ words) (suc k) less = bank_tells words k (omega arith)
+
+last_tells : (words : List ℕ) → tells_of (map bank_port words ++ printer_port main_printer ∷ []) (length words) ≡ 0
+last_tells [] = refl
+last_tells (w ∷ words) = last_tells words
+
+module _ (P : Program) (spreads : List Spread) (banks : List Bank) (banked : ArePartitioned P spreads banks) (m : Module) (right : AreRightSpreads (globals_of P) spreads)
+    (routine : IsRoutineModule (codes "fn_main") (core_ports (main_shape P spreads)) m (input_count (bank_total spreads)) (leaf_of (main_shape P spreads) m)) where
   abbrev B : ℕ
   B = bank_total spreads
 
-  abbrev first : ℕ
-  first = first_output B main_printer m
+  abbrev own : List ℕ
+  own = spread_out spreads (map width_of (globals_of P))
 
   abbrev words : List ℕ
   words = map (λ (b : Bank). b.width) banks
 
+  abbrev ports : LeafPorts
+  ports = leaf_of (main_shape P spreads) m
+
   wide : length words ≡ B
   wide = length-map banks (λ (b : Bank). b.width) ∙ sym (total P spreads banks banked)
 
-  there_is : (x y w v : ℕ) → x ≡ y → w ≡ v → Has m x w → Has m y v
-  there_is x y w v p q h = subst (λ z. Has m z v) p (subst (Has m x) q h)
+  own_count : length own ≡ B
+  own_count = spread_count spreads (map width_of (globals_of P)) (length-map (globals_of P) width_of ∙ sym right.count)
 
-  -- what bank n tells
-  word_port : (n w : ℕ) → slice_get words n ≡ Some w → Has m (3 + B + n) w
-  word_port n w e =
+  -- the words of the banks are as wide as the types of their globals
+  same_words : own ≡ words
+  same_words =
+      list_same own words (own_count ∙ sym wide)
+      (λ n w e.
       let b = width_at banks n w e in
       let is = bank_is P spreads banks banked n b.0 b.1 in
-      there_is (3 + B + (is.spread.first + is.k)) (3 + B + n) (width_of is.global.ty) w (let place = is.place in omega (arith, place)) (sym is.width ∙ b.2)
-      (shape.words is.x is.k is.spread is.global.ty is.listed (type_here P spreads banks banked is.x is.global is.declared) is.below).1
+      let declared : slice_get (map width_of (globals_of P)) is.x ≡ Some (width_of is.global.ty) =
+      slice_get-map width_of (globals_of P) is.x ∙ ap (option_map width_of) (type_here P spreads banks banked is.x is.global is.declared) in
+      let at : bank_total (take is.x spreads) + is.k ≡ n = ap (λ z. z + is.k) (sym (right.firsts is.x is.spread is.listed)) ∙ sym is.place in
+      ap (slice_get own) (sym at) ∙ spread_there spreads (map width_of (globals_of P)) is.x is.k (width_of is.global.ty) is.spread is.listed declared is.below
+      ∙ ap Some (sym is.width ∙ b.2))
 
-  at_input : (x w : ℕ) → slice_get (main_inputs words) x ≡ Some w → Has m x w
-  at_input zero w e = subst (Has m 0) (same_Some 1 w e) (shape.bits 0 (omega arith)).1
-  at_input (suc zero) w e = subst (Has m 1) (same_Some 1 w e) (shape.bits 1 (omega arith)).1
-  at_input (suc (suc y)) w e =
-      ⊎_elim
-      (λ t. subst (Has m (suc (suc y))) (sym t.1) (shape.bits (suc (suc y)) (let l = t.0 in let n = wide in omega (arith, l, n))).1)
-      (λ t. subst (λ z. Has m z w) (let q = t.1 in let n = wide in omega (arith, q, n)) (word_port t.0 w t.2))
-      (among (suc (length words)) 1 words y w e)
+  all_inputs : thread_inputs (core_ports (main_shape P spreads)) ≡ main_inputs words
+  all_inputs =
+      ap (λ l. 1 ∷ 1 ∷ (replicate (length (map bank_port l ++ printer_port main_printer ∷ [])) 1 ++ told_of (map bank_port l ++ printer_port main_printer ∷ []))) same_words
+      ∙ ap (λ k. 1 ∷ 1 ∷ (replicate k 1 ++ told_of (map bank_port words ++ printer_port main_printer ∷ []))) (ports_long words)
+      ∙ ap (λ l. 1 ∷ 1 ∷ (replicate (suc (length words)) 1 ++ l)) (told_words words)
 
-  -- what bank n is asked
-  bank_port : (n j v : ℕ) → j < 4 → slice_get words n ≡ Some v → Has m (first + (4 * n + j)) (part_width j v)
-  bank_port n j v small e =
-      let b = width_at banks n v e in
-      let is = bank_is P spreads banks banked n b.0 b.1 in
-      let has = shape.banks is.x is.k is.spread is.global.ty is.listed (type_here P spreads banks banked is.x is.global is.declared) is.below in
-      part j small (subst (λ z. HasBankPorts m ((ports_of B main_printer m).bank z) v) (sym is.place)
-      (subst (HasBankPorts m ((ports_of B main_printer m).bank (is.spread.first + is.k))) (sym is.width ∙ b.2) has))
+  all_outputs : thread_outputs (core_ports (main_shape P spreads)) ≡ main_outputs words 4
+  all_outputs = ap (λ l. thread_outputs (map bank_port l ++ printer_port main_printer ∷ [])) same_words ∙ asks_words words
+
+  first_is : first_of m (main_outputs words 4) ≡ first_output (main_shape P spreads) m
+  first_is = ap (first_of m) (sym all_outputs)
+
+  asked_place : (n : ℕ) → n ≤ length words → ask_place (core_ports (main_shape P spreads)) n ≡ 4 * n
+  asked_place n le = ap (λ l. ask_place (map bank_port l ++ printer_port main_printer ∷ []) n) same_words ∙ ask_at words n le
+
+  asked_all : length (asks_of (core_ports (main_shape P spreads))) ≡ 4 * length words + 6
+  asked_all = ap (λ l. length (asks_of (map bank_port l ++ printer_port main_printer ∷ []))) same_words ∙ asks_long words
+
+  word_port : (n w : ℕ) → slice_get words n ≡ Some w → Has m (3 + B + n) w
+  word_port n w e =
+      let n_less = slice_get_within words n w e in
+      let at : slice_get (main_inputs words) (suc (suc (suc (length words) + n))) ≡ Some w = among_words (suc (length words)) n w e in
+      subst (λ k. Has m k w) (let q = wide in let z : suc (suc (suc (length words) + n)) ≡ 3 + B + n = omega arith in z)
+      (routine.stands.interface.ports.inputs_are (suc (suc (suc (length words) + n))) w (ap (λ l. slice_get l (suc (suc (suc (length words) + n)))) all_inputs ∙ at))
     where
-      part : (j : ℕ) → j < 4 → HasBankPorts m ((ports_of B main_printer m).bank n) v → Has m (first + (4 * n + j)) (part_width j v)
-      part zero l h = subst (λ z. Has m z 1) (let q : first + 4 * n ≡ first + (4 * n + 0) = omega arith in q) h.ask
-      part (suc zero) l h = h.writes
-      part (suc (suc zero)) l h = h.address
-      part (suc (suc (suc zero))) l h = h.value
-      part (suc (suc (suc (suc j)))) l h = absurd (omega arith)
+      among_words : (k n w : ℕ) → slice_get words n ≡ Some w → slice_get (replicate k 1 ++ words) (k + n) ≡ Some w
+      among_words zero n w e = ap (slice_get words) (let z : 0 + n ≡ n = omega arith in z) ∙ e
+      among_words (suc k) n w e = ap (slice_get (1 ∷ (replicate k 1 ++ words))) (let z : suc k + n ≡ suc (k + n) = omega arith in z) ∙ among_words k n w e
 
-  abbrev last_outputs : List ℕ
-  last_outputs = 1 ∷ 16 ∷ (replicate 4 64 ++ 1 ∷ 1 ∷ [])
-
-  last_port : (i w : ℕ) → slice_get last_outputs i ≡ Some w → Has m (first + (4 * B + i)) w
-  last_port zero w e = there_is (first + 4 * B) (first + (4 * B + 0)) 1 w (omega arith) (same_Some 1 w e) shape.ask
-  last_port (suc zero) w e = there_is (first + (4 * B + 1)) (first + (4 * B + 1)) 16 w refl (same_Some 16 w e) shape.site
-  last_port (suc (suc zero)) w e = there_is (first + (4 * B + 2)) (first + (4 * B + 2)) 64 w refl (same_Some 64 w e) (shape.values 0 (omega arith))
-  last_port (suc (suc (suc zero))) w e = there_is (first + (4 * B + 3)) (first + (4 * B + 3)) 64 w refl (same_Some 64 w e) (shape.values 1 (omega arith))
-  last_port (suc (suc (suc (suc zero)))) w e = there_is (first + (4 * B + 4)) (first + (4 * B + 4)) 64 w refl (same_Some 64 w e) (shape.values 2 (omega arith))
-  last_port (suc (suc (suc (suc (suc zero))))) w e = there_is (first + (4 * B + 5)) (first + (4 * B + 5)) 64 w refl (same_Some 64 w e) (shape.values 3 (omega arith))
-  last_port (suc (suc (suc (suc (suc (suc zero)))))) w e = there_is (first + (4 * B + 2 + 4)) (first + (4 * B + 6)) 1 w (omega arith) (same_Some 1 w e) shape.need
-  last_port (suc (suc (suc (suc (suc (suc (suc zero))))))) w e = there_is (first + (4 * B + 3 + 4)) (first + (4 * B + 7)) 1 w (omega arith) (same_Some 1 w e) shape.done
-  last_port (suc (suc (suc (suc (suc (suc (suc (suc i)))))))) w e = absurd (none-some w e)
-
-  many : length (main_outputs words 4) ≡ 4 * B + 8
-  many =
-      let l = length-append (bank_outputs words) last_outputs in
-      let b = bank_long words in
-      let n = wide in
-      omega (arith, l, b, n)
-
-  first_is : length m.signals - length (main_outputs words 4) ≡ first
-  first_is = ap (λ z. length m.signals - z) (many ∙ (let q : 4 * B + 8 ≡ 4 * B + 4 + 4 = omega arith in q))
-
-  at_output : (x w : ℕ) → slice_get (main_outputs words 4) x ≡ Some w → Has m (length m.signals - length (main_outputs words 4) + x) w
-  at_output x w e = subst (λ z. Has m (z + x) w) (sym first_is) (go (output_is words last_outputs x w e))
+  bit_port : (x : ℕ) → x < 3 + B → Has m x 1
+  bit_port x less =
+      routine.stands.interface.ports.inputs_are x 1
+      (ap (λ l. slice_get l x) all_inputs ∙ first_bits x less)
     where
-      go : Output words last_outputs x w → Has m (first + x) w
-      go (OfBank n j v small listed place w_is) = there_is (first + (4 * n + j)) (first + x) (part_width j v) w (omega (arith, place)) (sym w_is) (bank_port n j v small listed)
-      go (Behind i place listed) = there_is (first + (4 * B + i)) (first + x) w w (let n = wide in omega (arith, place, n)) refl (last_port i w listed)
+      ones : (k y : ℕ) → y < k → slice_get (replicate k 1 ++ words) y ≡ Some 1
+      ones zero y less = absurd (omega arith)
+      ones (suc k) zero less = refl
+      ones (suc k) (suc y) less = ones k y (omega arith)
 
-  module _ (leaf : IsLeafOf B main_printer m) where
-    abbrev ports : LeafPorts
-    ports = leaf_of B main_printer m
+      first_bits : (x : ℕ) → x < 3 + B → slice_get (main_inputs words) x ≡ Some 1
+      first_bits zero less = refl
+      first_bits (suc zero) less = refl
+      first_bits (suc (suc y)) less = ones (suc (length words)) y (let n = wide in omega (arith, less, n))
 
-    inputs_long : length (main_inputs words) ≡ input_count B
-    inputs_long =
-        let l = length-append (replicate (suc (length words)) 1) words in
-        let one : ℕ = 1 in
-        let r = length-replicate (suc (length words)) one in
-        let n = wide in
-        omega (arith, l, r, n)
+  pub stands : IsMainModule words 4 m (input_count B) ports
+  stands = record {
+    named = routine.named;
+    stands = subst (λ l. IsTableModule m l (main_outputs words 4)) all_inputs
+        (subst (λ l. IsTableModule m (thread_inputs (core_ports (main_shape P spreads))) l) all_outputs routine.stands);
+    silent = routine.silent;
+    inputs_are = ap (λ z. 3 + 2 * z) (sym wide);
+    enable = refl;
+    grant = λ k l. refl;
+    told = λ n l. ap (λ z. 3 + z + n) (sym wide);
+    bank = λ n j l small. (let f = first_is in let a = asked_place n (omega arith) in omega (arith, f, a));
+    ask = λ j l. (let f = first_is in let a = asked_place (length words) (omega arith) in omega (arith, f, a));
+    need = (let f = first_is in let a = asked_all in omega (arith, f, a));
+    done = (let f = first_is in let a = asked_all in omega (arith, f, a));
+  }
 
-    pub stands : IsMainModule words 4 m (input_count B) ports
-    stands = record {
-      named = shape.named;
-      stands = record {
-        alone = shape.alone;
-        interface = record {
-          ports = record { inputs_are = at_input; outputs_are = at_output };
-          input_count = leaf.alone.input_count ∙ sym inputs_long;
-          output_count = (let n = leaf.alone.output_count in let long = shape.long in let all = many in omega (arith, n, long, all));
-          clock = leaf.alone.clock;
-        };
-        laid = leaf.alone.laid;
-        sound = leaf.alone.sound (ap is_clk shape.named);
-      };
-      silent = silent_each m m.actions leaf.acts;
-      inputs_are = ap (λ z. 3 + 2 * z) (sym wide);
-      enable = refl;
-      grant = λ k l. refl;
-      told = λ n l. ap (λ z. 3 + z + n) (sym wide);
-      bank = λ n j l small. ap (λ z. z + (4 * n + j)) (sym first_is);
-      ask = λ j l. let f = first_is in let n = wide in (ap (λ z. ports.ask z j) n ∙ omega (arith, f, n));
-      need = (let f = first_is in let n = wide in omega (arith, f, n));
-      done = (let f = first_is in let n = wide in omega (arith, f, n));
-    }
-
+  module _ (leaf : IsLeafOf (main_shape P spreads) m) where
     module _ (printer : Shape) (four : printer.values ≡ 4) where
-      same_parts : (k : ℕ) → k < suc B → parts banks printer k ≡ parts_of B 4 k
+      abbrev own_parts : ℕ → ℕ
+      own_parts = parts_of (core_ports (main_shape P spreads))
+
+      abbrev own_told : ℕ → ℕ
+      own_told = tells_of (core_ports (main_shape P spreads))
+
+      same_parts : (k : ℕ) → k < suc B → parts banks printer k ≡ own_parts k
       same_parts k l =
+          let back = ap (λ l. parts_of (map bank_port l ++ printer_port main_printer ∷ []) k) same_words in
           ⊎_elim
           (λ (bank : k < B).
           let b = there banks k (let all = total P spreads banks banked in omega (arith, all, bank)) in
-          let t : nat_lt k B ≡ true = grind (arith, nat_tests) in
-          core_parts banks printer k b.0 b.1 ∙ sym (ap (λ (c : Bool). if c then 4 else 6) t))
+          core_parts banks printer k b.0 b.1 ∙ sym (back ∙ bank_parts words k (let n = wide in omega (arith, bank, n))))
           (λ (le : B ≤ k).
           let all = total P spreads banks banked in
           let last : k ≡ length banks = omega (arith, all, l, le) in
-          let t : nat_lt k B ≡ false = grind (arith, nat_tests) in
-          ap (parts banks printer) last ∙ print_parts banks printer ∙ ap (λ z. suc (suc z)) four ∙ sym (ap (λ (c : Bool). if c then 4 else 6) t))
+          let end : k ≡ length words = (let n = wide in omega (arith, l, le, n)) in
+          ap (parts banks printer) last ∙ print_parts banks printer ∙ ap (λ z. suc (suc z)) four
+          ∙ sym (back ∙ ap (parts_of (map bank_port words ++ printer_port main_printer ∷ [])) end ∙ last_parts words))
           (cases_lt k B)
 
-      same_told : (k : ℕ) → k < suc B → told banks printer k ≡ told_of B k
+      same_told : (k : ℕ) → k < suc B → told banks printer k ≡ own_told k
       same_told k l =
+          let back = ap (λ l. tells_of (map bank_port l ++ printer_port main_printer ∷ []) k) same_words in
           ⊎_elim
           (λ (bank : k < B).
           let b = there banks k (let all = total P spreads banks banked in omega (arith, all, bank)) in
-          let t : nat_lt k B ≡ true = grind (arith, nat_tests) in
-          core_told banks printer k b.0 b.1 ∙ sym (ap (λ (c : Bool). if c then 1 else 0) t))
+          core_told banks printer k b.0 b.1 ∙ sym (back ∙ bank_tells words k (let n = wide in omega (arith, bank, n))))
           (λ (le : B ≤ k).
           let all = total P spreads banks banked in
           let last : k ≡ length banks = omega (arith, all, l, le) in
-          let t : nat_lt k B ≡ false = grind (arith, nat_tests) in
-          ap (told banks printer) last ∙ print_told banks printer ∙ sym (ap (λ (c : Bool). if c then 1 else 0) t))
+          let end : k ≡ length words = (let n = wide in omega (arith, l, le, n)) in
+          ap (told banks printer) last ∙ print_told banks printer
+          ∙ sym (back ∙ ap (tells_of (map bank_port words ++ printer_port main_printer ∷ [])) end ∙ last_tells words))
           (cases_lt k B)
-
-      -- the ports of bank n, which is asked there
-      abbrev asked_at : ℕ → ℕ → BankPorts
-      asked_at n z = record {
-        grant = 2 + n;
-        word = 3 + B + n;
-        ask = first + z;
-        writes = first + (4 * n + 1);
-        address = first + (4 * n + 2);
-        value = first + (4 * n + 3);
-      }
 
       used : (k : ℕ) → k < suc B → ports.uses k ≡ true
       used k l = grind (arith, nat_tests)
 
-      pub is_thread : (code : ThreadCode) (plan : Planned) → RunsCode (globals_of P) spreads code plan m (places_of B code plan) (ports_of B main_printer m) →
+      pub is_thread : (code : ThreadCode) (plan : Planned) → RunsCode (globals_of P) spreads code plan m (places_of B code plan) (ports_of (main_shape P spreads) m) →
           IsThreadModule P spreads banks printer code plan m (input_count B) ports
       is_thread code plan runs =
           let all : suc B ≡ suc (length banks) = ap suc (total P spreads banks banked) in
           record {
             thread = subst (λ n. IsThreadLeaf m (input_count B) ports n (parts banks printer) (told banks printer)) all
-                (thread_leaf m (input_count B) ports (suc B) (parts_of B 4) (parts banks printer) (told_of B) (told banks printer) same_parts same_told leaf.thread);
+                (thread_leaf m (input_count B) ports (suc B) own_parts (parts banks printer) own_told (told banks printer) same_parts same_told leaf.thread);
             done = subst (λ n. IsSlotBit m (input_count B) ports n (parts banks printer) (told banks printer) ports.done) all
-                (slot_bit m (input_count B) ports (suc B) (parts_of B 4) (parts banks printer) (told_of B) (told banks printer) same_parts same_told ports.done leaf.done);
+                (slot_bit m (input_count B) ports (suc B) own_parts (parts banks printer) own_told (told banks printer) same_parts same_told ports.done leaf.done);
             fits = record {
-              enable = (shape.bits 1 (omega arith)).1;
-              grants = λ k l. (shape.bits (2 + k) (omega (arith, all, l))).1;
+              enable = bit_port 1 (omega arith);
+              grants = λ k l. bit_port (2 + k) (omega (arith, all, l));
               tells = λ n b e. word_port n b.width (listed_width banks n b e);
             };
             places = places_of B code plan;
-            ports = ports_of B main_printer m;
+            ports = ports_of (main_shape P spreads) m;
             are = record {
               uses = λ k l. used k (omega (arith, all, l));
               enable = refl;
-              bank = λ n l.
-                  ap (asked_at n) (let q : 4 * n ≡ 4 * n + 0 = omega arith in q);
+              bank = λ n l. refl;
               grant = ap (λ z. 2 + z) (total P spreads banks banked);
-              ask = (let t = total P spreads banks banked in omega (arith, t));
-              site = (let t = total P spreads banks banked in omega (arith, t));
-              value = λ j l. ap (λ z. first + (4 * z + suc (suc j))) (total P spreads banks banked);
+              ask = ap (λ z. port_at (main_shape P spreads) m z 0) (total P spreads banks banked);
+              site = ap (λ z. port_at (main_shape P spreads) m z 1) (total P spreads banks banked);
+              value = λ j l. ap (λ z. port_at (main_shape P spreads) m z (suc (suc j))) (total P spreads banks banked);
               done = refl;
             };
             runs = runs;

@@ -32,7 +32,7 @@ each_numbered [] h = tt
 each_numbered (stage.Run b ∷ ss) h = (h 0 b refl, each_numbered ss (λ l c e. h (suc l) c e))
 each_numbered (stage.Act a next ∷ ss) h = (tt, each_numbered ss (λ l c e. h (suc l) c e))
 
-pub is_numbered : (P : Program) (code : ThreadCode) → IsTypedCode P code → IsNumberedCode code
+pub is_numbered : (P : Program) (code : ThreadCode) → IsTypedCode P P.main code → IsNumberedCode code
 is_numbered P code typed = each_numbered code.stages (λ l b at. (typed.stages l (stage.Run b) at).few)
 
 -- ---- what is compiled

@@ -44,12 +44,13 @@ all_at P code (w ∷ vs) (suc j) v all e = all_at P code vs j v all.1 e
 
 -- ---- all of it
 
-module _ (P : Program) (spreads : List Spread) (code : ThreadCode) (plan : Planned) (few : length (print_formats P) < 2 ^ 16) (typed : IsTypedCode P code) (is : IsRightPlan code plan)
+module _ (P : Program) (spreads : List Spread) (code : ThreadCode) (plan : Planned) (few : length (print_formats P) < 2 ^ 16)
+    (typed : IsTypedCode P P.main code) (is : IsRightPlan code plan)
     (right_spreads : AreRightSpreads (globals_of P) spreads) (arrays : (a : ℕ) (array : Array) → slice_get code.arrays a ≡ Some array → IsFit array) where
   enough : (l k x : ℕ) (b : Block) (p : BlockPlan) (o : Operation) → slice_get code.stages l ≡ Some (stage.Run b) → slice_get plan.stages l ≡ Some (planned.Run p) →
       slice_get b.operations k ≡ Some o → register_at p.registers k ≡ Some x → x < plan.registers
   enough l k x b p o at planned_so listed kept =
-      let q = right_plans_are_there code plan is l b at (typed_at P code plan typed is l b at).few in
+      let q = right_plans_are_there code plan is l b at (typed_at P P.main code plan typed is l b at).few in
       let same : q.0 ≡ p = (let both : Some (planned.Run q.0) ≡ Some (planned.Run p) = sym q.1 ∙ planned_so in cc) in
       let right : IsRight plan.registers b p = subst (λ (z : BlockPlan). IsRight plan.registers b z) same q.2 in
       right.below k x (slice_get_within b.operations k o listed) kept
@@ -64,10 +65,9 @@ module _ (P : Program) (spreads : List Spread) (code : ThreadCode) (plan : Plann
         leads = (let n = h.1 in omega (arith, n));
       }
 
-  pub is_served : IsServed (main_shape P spreads) code plan main_printer
+  pub is_served : IsServed (main_shape P spreads) code plan
   is_served = record {
     main = refl;
-    printer_is = refl;
     spreads = right_spreads;
     arrays = arrays;
     registers = enough;

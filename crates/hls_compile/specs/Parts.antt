@@ -14,8 +14,8 @@ use Rattle.block_ir.specs.declared.plan.Planned.{Planned}
 use Rattle.right_plan.specs.Right.{IsRightPlan}
 use Rattle.least_plan.specs.Planned.{IsPlanned}
 use Rattle.thread_runs.specs.Runs.{RunsServedCode}
-use Rattle.thread_sound.specs.Shape.{HasShapeOfServedCode}
 use Rattle.thread_sound.specs.Leaf.{IsLeafOfServedCode}
+use Rattle.thread_sound.specs.Routine.{IsRoutineOfServedCode}
 use Rattle.thread_steady.specs.Steady.{IsSteadyServedCode}
 use Rattle.thread_slots.specs.declared.shape.Printer.{Printer}
 use Rattle.thread_slots.specs.declared.shape.Shape.{Shape as ThreadShape}
@@ -34,15 +34,15 @@ abbrev pub main_printer : Printer
 main_printer = record { site_width = 16; values = 4 }
 
 abbrev pub main_shape : Program → List Spread → ThreadShape
-main_shape P spreads = record { name = codes "fn_main"; is_main = true; globals = globals_of P; spreads = spreads; printer = Some main_printer }
+main_shape P spreads = record { name = codes "fn_main"; is_main = true; globals = globals_of P; spreads = spreads; printer = main_printer }
 
 -- main's module by the plan of its code, as `module` makes it
 pub record IsMadeOf (P : Program) (spreads : List Spread) (code : ThreadCode) (plan : Planned) (m : Module) : Type 0 where
   pub planned : IsPlanned code plan
   pub right : IsRightPlan code plan
   pub runs : RunsServedCode (main_shape P spreads) code plan m
-  pub shape : HasShapeOfServedCode (main_shape P spreads) code plan m
   pub leaf : IsLeafOfServedCode (main_shape P spreads) code plan m
+  pub routine : IsRoutineOfServedCode (main_shape P spreads) code plan m
   pub steady : IsSteadyServedCode (main_shape P spreads) code plan m
 
 -- ---- banks

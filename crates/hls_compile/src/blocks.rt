@@ -20,8 +20,10 @@ pub fn with_maximal_blocks(
     program: &Program,
     code: ThreadCode,
 ) -> Result<ThreadCode, AllocError>
-    ensures typed { IfOk result (λ c. IsTypedCode (program_of program.now) code → IsTypedCode (program_of program.now) c) }
-    ensures lowered { IfOk result (λ c. IsTypedCode (program_of program.now) code → IsLowered (program_of program.now) code → IsLowered (program_of program.now) c) }
+    ensures typed { IfOk result (λ c. IsTypedCode (program_of program.now) program.now.main code → IsTypedCode (program_of program.now) program.now.main c) }
+    ensures lowered { IfOk result
+        (λ c. IsTypedCode (program_of program.now) program.now.main code → IsLowered (program_of program.now) program.now.main code →
+        IsLowered (program_of program.now) program.now.main c) }
     ensures maximal { IfOk result (IsMaximal (4 * capped (weight (program_of program.now)))) }
 {
     let weight = weight(alloc, program)?;

@@ -93,8 +93,8 @@ fn lowered(alloc: Global, program: &Program) -> Result<ThreadCode, BuildError>
     requires limits { first_passed (program_of program.now) ≡ None }
     ensures single { OnOk result (IsSingle (program_of program.now)) }
     ensures alone { OnOk result (IsAlone (program_of program.now)) }
-    ensures lowered { IfOk result (IsLowered (program_of program.now)) }
-    ensures typed { IfOk result (IsTypedCode (program_of program.now)) }
+    ensures lowered { IfOk result (IsLowered (program_of program.now) program.now.main) }
+    ensures typed { IfOk result (IsTypedCode (program_of program.now) program.now.main) }
     ensures unbuilt { IfErr result (StopsBuild (program_of program.now)) }
 {
     if let Some(construct) = unbuilt::unbuilt(program) {
@@ -115,8 +115,8 @@ fn code_of(alloc: Global, program: &Program) -> Result<ThreadCode, BuildError>
     requires limits { first_passed (program_of program.now) ≡ None }
     ensures single { OnOk result (IsSingle (program_of program.now)) }
     ensures alone { OnOk result (IsAlone (program_of program.now)) }
-    ensures lowered { IfOk result (IsLowered (program_of program.now)) }
-    ensures typed { IfOk result (IsTypedCode (program_of program.now)) }
+    ensures lowered { IfOk result (IsLowered (program_of program.now) program.now.main) }
+    ensures typed { IfOk result (IsTypedCode (program_of program.now) program.now.main) }
     ensures unbuilt { IfErr result (StopsBuild (program_of program.now)) }
 {
     let code = lowered(alloc, program)?;
@@ -129,8 +129,8 @@ fn text_of(alloc: Global, program: &Program, main: &PlannedFunction) -> Result<W
     requires resolved { IsResolved (program_of program.now) }
     requires limits { first_passed (program_of program.now) ≡ None }
     requires single { IsSingle (program_of program.now) }
-    requires lowered { IsLowered (program_of program.now) main.now.code }
-    requires typed { IsTypedCode (program_of program.now) main.now.code }
+    requires lowered { IsLowered (program_of program.now) program.now.main main.now.code }
+    requires typed { IsTypedCode (program_of program.now) program.now.main main.now.code }
     requires planned { IsPlanned main.now.code main.now.plan }
     ensures good { IfOk result (λ w. IsGoodVerilog (program_of program.now) w.text) }
     ensures net { IfOk result (λ w. IsNetOf 1 w.net w.text) }

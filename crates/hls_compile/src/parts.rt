@@ -73,7 +73,7 @@ fn main_shape(
         is_main: true,
         globals: global_types(alloc, program)?,
         spreads: Items::from_slice(alloc, spreads)?,
-        printer: Some(PRINTER),
+        printer: PRINTER,
     })
 }
 

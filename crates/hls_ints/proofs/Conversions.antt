@@ -7,7 +7,7 @@ use Rattle.hls_ints.specs.Residues.{residue_of, signed_value_of}
 use Rattle.hls_ints.specs.Types.{Width, IntegerType, HasType, bits, width_of, in_signed_range, wrapped}
 use Rattle.hls_ints.proofs.Ranges.{bits-at_least}
 
-double : (w : ℕ) → 1 ≤ w → 2 ^ w ≡ 2 ^ (w - 1) + 2 ^ (w - 1)
+pub double : (w : ℕ) → 1 ≤ w → 2 ^ w ≡ 2 ^ (w - 1) + 2 ^ (w - 1)
 double zero h = absurd (omega arith)
 double (suc w) h = let e : suc w - 1 ≡ w = omega arith in rw e (two-pow-succ w)
 
@@ -76,7 +76,7 @@ bits_by_half false w n below test = rw (high_word w n below test) (residue_of-ne
 pub residue_of-signed_value_of : (w n : ℕ) → n < 2 ^ w → residue_of w (signed_value_of w n) ≡ n
 residue_of-signed_value_of w n below = bits_by_half (nat_lt n (2 ^ (w - 1))) w n below refl
 
-at_least_1 : (w : Width) → 1 ≤ bits w
+pub at_least_1 : (w : Width) → 1 ≤ bits w
 at_least_1 w = let least = bits-at_least w in omega arith
 
 range_at : (signed : Bool) (w : Width) (z : ℤ) → HasType (record { width = w; signed = signed }) (wrapped (record { width = w; signed = signed }) z)

@@ -2,13 +2,11 @@
 use Rattle.std.proofs.Common.{◌≡◌, ◌≢◌, refl, ap, subst, sym, ⊎_elim, inl, inr}
 use Rattle.std.specs.Prelude.{◌==◌, ◌&&◌, Bool, true, false, if◌then◌else◌, ◌⊎◌}
 use Rattle.std.proofs.lemmas.Bool.Decides.{eqb_tells}
+use Rattle.std.proofs.lemmas.Bool.{and_from}
 use Rattle.interleaving.specs.Memory.{Location, same_location, Memory, with_value}
 
 location_of : (p q : Location) → p.object ≡ q.object → p.index ≡ q.index → p ≡ q
 location_of p q object index = λ i. record { object = object i; index = index i }
-
-both_true : (a b : Bool) → a ≡ true → b ≡ true → (a && b) ≡ true
-both_true a b x y = subst (λ c. (c && b) ≡ true) (sym x) y
 
 one_false : (a b : Bool) → (a ≡ false) ⊎ (b ≡ false) → (a && b) ≡ false
 one_false true b (inl e) = absurd cc
@@ -20,7 +18,7 @@ pub same_tells : (p q : Location) → ((same_location p q ≡ true) × (p ≡ q)
 same_tells p q =
     ⊎_elim
     (λ o. ⊎_elim
-    (λ i. inl (both_true (p.object == q.object) (p.index == q.index) o.0 i.0, location_of p q o.1 i.1))
+    (λ i. inl (and_from (p.object == q.object) (p.index == q.index) o.0 i.0, location_of p q o.1 i.1))
     (λ i. inr (one_false (p.object == q.object) (p.index == q.index) (inr i.0), λ e. i.1 (ap (λ (l : Location). l.index) e)))
     (eqb_tells p.index q.index))
     (λ o. inr (one_false (p.object == q.object) (p.index == q.index) (inl o.0), λ e. o.1 (ap (λ (l : Location). l.object) e)))

@@ -2,6 +2,7 @@
 use Rattle.std.proofs.Common.{◌≡◌, ℕ, suc, zero, ◌<◌, ◌≤◌, ◌+◌, List, [], ◌∷◌, length, get_or, Bool, true, false, refl, ◌∙◌, arith, nat_eq, nat_lt, if◌then◌else◌, ◌&&◌}
 use Rattle.std.specs.Prelude.{nat_le}
 use Rattle.std.proofs.lemmas.List.Sums.{sum_by-cons}
+use Rattle.std.proofs.lemmas.Bool.{false_from_ne_true}
 use Rattle.interval_pack.specs.declared.interval.Interval.{Interval}
 use Rattle.interval_pack.specs.Packing.{nowhere, crowd_at}
 
@@ -39,17 +40,13 @@ most_by : (test : Test) (a : Interval) (r : ℕ) (xs : List Interval) (rows : Li
 most_by test a r xs rows n f h true e = let z = none test xs rows n (f e) in omega (arith, z)
 most_by test a r xs rows n f h false e = omega (arith, h)
 
-bool_false : (b : Bool) → (b ≡ true → ⊥) → b ≡ false
-bool_false true f = absurd (f refl)
-bool_false false f = refl
-
 pub at_most : (test : Test) (xs : List Interval) (rows : List ℕ) → length rows ≡ length xs → ((i j : ℕ) → i < length xs → j < length xs
     → test (get_or xs i nowhere) (get_or rows i 0) ≡ true → test (get_or xs j nowhere) (get_or rows j 0) ≡ true → i ≡ j) → passing test xs rows ≤ 1
 at_most test [] rows n f = omega arith
 at_most test (a ∷ xs) [] n f = omega arith
 at_most test (a ∷ xs) (r ∷ rows) n f =
     let h = at_most test xs rows (omega arith) (λ i j l m p q. (let e : suc i ≡ suc j = f (suc i) (suc j) (omega arith) (omega arith) p q in omega arith)) in
-    most_by test a r xs rows (omega arith) (λ e i l. bool_false (test (get_or xs i nowhere) (get_or rows i 0)) (λ p. (let q : 0 ≡ suc i = f 0 (suc i) (omega arith)
+    most_by test a r xs rows (omega arith) (λ e i l. false_from_ne_true (test (get_or xs i nowhere) (get_or rows i 0)) (λ p. (let q : 0 ≡ suc i = f 0 (suc i) (omega arith)
     (omega arith) e p in omega arith))) h (test a r) refl
 
 pub same_passing : (s t : Test) (xs : List Interval) (rows : List ℕ) → length rows ≡ length xs → ((i : ℕ) → i < length xs

@@ -1,11 +1,9 @@
-//! Tests of the layers of the front end and below: the lexer, the parser, weights and bounds, races, the lowering and the banks of
-//! globals. They stand in a crate of their own, since a crate with tests is proved twice.
+//! Tests of the layers of the front end and below: the parser, weights and bounds, races, the lowering and the banks of globals. They
+//! stand in a crate of their own, since a crate with tests is proved twice.
 #![tactic(auto)]
 
 #[cfg(test)]
 mod banks;
-#[cfg(test)]
-mod lexing;
 #[cfg(test)]
 mod lowering;
 #[cfg(test)]

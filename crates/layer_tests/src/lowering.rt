@@ -170,6 +170,7 @@ fn discard_all(program: Program) {
             returns: _,
             parameters: _,
             locals: _,
+            local_names: _,
             body,
             end: _,
         } = function;

@@ -71,6 +71,7 @@ fn function(
     name: String,
     parameters: u32,
     locals: Vec<LocalVariable>,
+    local_names: Vec<String>,
     body: Box<Statement>,
 ) -> Function {
     Function {
@@ -78,6 +79,7 @@ fn function(
         returns: ReturnType::Integer(INT),
         parameters,
         locals,
+        local_names,
         body: Box::into_inner(body),
         end: 0,
     }
@@ -93,7 +95,7 @@ pub fn define(
 ) -> Result<(), AllocError> {
     let name = String::from_str(alloc, name)?;
     let locals = [LocalVariable { ty: INT, length: 1 }].to_vec(alloc)?;
-    functions.push(function(name, parameters, locals, body))?;
+    functions.push(function(name, parameters, locals, Vec::new(alloc), body))?;
     Ok(())
 }
 

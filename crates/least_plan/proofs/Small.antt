@@ -3,6 +3,7 @@ use Rattle.std.proofs.Common.{◌≡◌, ℕ, zero, suc, ◌+◌, ◌<◌, ◌�
 use Rattle.std.specs.List.{count_by, range_with_len}
 use Rattle.std.proofs.lemmas.List.Sums.{sum_by-cons, count_by-le-length}
 use Rattle.std.proofs.lemmas.List.FromFn.{length-range_with_len, get_or-range_with_len}
+use Rattle.std.proofs.lemmas.Bool.{eq-eqb}
 use Rattle.interval_pack.specs.LeftEdge.{IsLeftEdge}
 
 abbrev one_if : Bool → ℕ
@@ -53,9 +54,6 @@ split number m (x ∷ xs) =
     let c = count-cons (λ (i : ℕ). nat_eq (number i) m) x xs in
     omega (arith, h, e, a, b, c)
 
-same_true : (x m : ℕ) → x ≡ m → nat_eq x m ≡ true
-same_true x m e = grind arith
-
 not_below_itself : (x : ℕ) → nat_lt x x ≡ false
 not_below_itself x = grind arith
 
@@ -73,7 +71,7 @@ module _ (n : ℕ) (start : ℕ → ℕ) (Clash : ℕ → ℕ → Type 0) (numbe
   hit j l zero h = omega arith
   hit j l (suc m) h =
       let w = edge.least j m l (omega arith) in
-      let found = ap (λ (i : ℕ). nat_eq (number i) m) (place w.0 w.1) ∙ same_true (number w.0) m w.4 in
+      let found = ap (λ (i : ℕ). nat_eq (number i) m) (place w.0 w.1) ∙ eq-eqb (number w.0) m w.4 in
       let one = some_one (λ (i : ℕ). nat_eq (number i) m) all w.0 (within w.0 w.1) found in
       let rest = hit j l m (omega arith) in
       let s = split number m all in

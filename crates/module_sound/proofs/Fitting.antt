@@ -3,6 +3,7 @@ use Rattle.std.proofs.Common.{◌≡◌, ◌≢◌, ℕ, zero, suc, ◌+◌, ◌
 use Rattle.std.proofs.Common.{refl, sym, ap, subst, ◌∙◌, arith}
 use Rattle.std.proofs.lemmas.Bool.Decides.{nat_tests}
 use Rattle.std.proofs.lemmas.Option.{slice_get_within}
+use Rattle.std.proofs.lemmas.Bool.{and_from, eq-eqb}
 use Rattle.verilog_tree.specs.declared.tree.BinaryOperator.{BinaryOperator}
 use Rattle.verilog_tree.specs.declared.tree.BinaryOperator.TheVariants.{Add, Subtract, Multiply, And, Or, Xor, Equal, Less, ShiftLeft, ShiftRight}
 use Rattle.verilog_tree.specs.Scope.{is_clk}
@@ -19,14 +20,6 @@ use Rattle.netlist.specs.Sound.{words_of_memory, memory_words, width_of_memory, 
 use Rattle.circuit.specs.Modules.{Has, FitsParts, FitsValue}
 use Rattle.module_sound.specs.Kinds.{HasRange}
 
-and_both : (t u : Bool) → t ≡ true → u ≡ true → (t && u) ≡ true
-and_both true true e f = refl
-and_both true false e f = absurd cc
-and_both false u e f = absurd cc
-
-pub same_number : (a b : ℕ) → a ≡ b → (a == b) ≡ true
-same_number a b e = grind (arith, nat_tests)
-
 -- the memory of a number
 abbrev pub memory_at : Module → ℕ → Option Memory
 memory_at m = λ j. slice_get m.memories j
@@ -36,7 +29,7 @@ module _ (m : Module) (P : ℕ → ℕ → Type 0) (reads : (y w : ℕ) → P y 
   read y w p = let r = reads y w p in let positive : 0 < width m y = subst (λ (n : ℕ). 0 < n) (sym r.0) r.1 in grind (arith, nat_tests)
 
   has : (y w : ℕ) → P y w → has_width m y w ≡ true
-  has y w p = and_both (is_read m y) (width m y == w) (read y w p) (same_number (width m y) w (reads y w p).0)
+  has y w p = and_from (is_read m y) (width m y == w) (read y w p) (eq-eqb (width m y) w (reads y w p).0)
 
   alike : (x y v : ℕ) → P x v → P y v → have_one_width m x y ≡ true
   alike x y v p q = let e = (reads y v q).0 in subst (λ (n : ℕ). has_width m x n ≡ true) (sym e) (has x v p)
@@ -111,7 +104,7 @@ module _ (m : Module) (P : ℕ → ℕ → Type 0) (reads : (y w : ℕ) → P y 
 
   parts_read : (xs : List ℕ) (w : ℕ) → FitsParts P xs w → all_right (is_read m) xs ≡ true
   parts_read [] w f = refl
-  parts_read (x ∷ xs) w f = and_both (is_read m x) (all_right (is_read m) xs) (read x f.0 f.2) (parts_read xs f.1 f.3)
+  parts_read (x ∷ xs) w f = and_from (is_read m x) (all_right (is_read m) xs) (read x f.0 f.2) (parts_read xs f.1 f.3)
 
   parts_wide : (xs : List ℕ) (w : ℕ) → FitsParts P xs w → joint_width m xs ≡ w
   parts_wide [] w f = sym f
@@ -122,16 +115,16 @@ module _ (m : Module) (P : ℕ → ℕ → Type 0) (reads : (y w : ℕ) → P y 
   filled (x ∷ xs) w some f = refl
 
   binary_fits : (o : BinaryOperator) (w x y : ℕ) → FitsValue P (memory_at m) w (Binary o x y) → value_fits m (Binary o x y) w ≡ true
-  binary_fits Equal w x y f = and_both (w == 1) (have_one_width m x y) (same_number w 1 f.0) (alike x y f.1.0 f.1.1 f.1.2)
-  binary_fits Less w x y f = and_both (w == 1) (have_one_width m x y) (same_number w 1 f.0) (alike x y f.1.0 f.1.1 f.1.2)
-  binary_fits ShiftLeft w x y f = and_both (has_width m x w) (is_read m y) (has x w f.0) (read y f.1.0 f.1.1)
-  binary_fits ShiftRight w x y f = and_both (has_width m x w) (is_read m y) (has x w f.0) (read y f.1.0 f.1.1)
-  binary_fits Add w x y f = and_both (has_width m x w) (has_width m y w) (has x w f.0) (has y w f.1)
-  binary_fits Subtract w x y f = and_both (has_width m x w) (has_width m y w) (has x w f.0) (has y w f.1)
-  binary_fits Multiply w x y f = and_both (has_width m x w) (has_width m y w) (has x w f.0) (has y w f.1)
-  binary_fits And w x y f = and_both (has_width m x w) (has_width m y w) (has x w f.0) (has y w f.1)
-  binary_fits Or w x y f = and_both (has_width m x w) (has_width m y w) (has x w f.0) (has y w f.1)
-  binary_fits Xor w x y f = and_both (has_width m x w) (has_width m y w) (has x w f.0) (has y w f.1)
+  binary_fits Equal w x y f = and_from (w == 1) (have_one_width m x y) (eq-eqb w 1 f.0) (alike x y f.1.0 f.1.1 f.1.2)
+  binary_fits Less w x y f = and_from (w == 1) (have_one_width m x y) (eq-eqb w 1 f.0) (alike x y f.1.0 f.1.1 f.1.2)
+  binary_fits ShiftLeft w x y f = and_from (has_width m x w) (is_read m y) (has x w f.0) (read y f.1.0 f.1.1)
+  binary_fits ShiftRight w x y f = and_from (has_width m x w) (is_read m y) (has x w f.0) (read y f.1.0 f.1.1)
+  binary_fits Add w x y f = and_from (has_width m x w) (has_width m y w) (has x w f.0) (has y w f.1)
+  binary_fits Subtract w x y f = and_from (has_width m x w) (has_width m y w) (has x w f.0) (has y w f.1)
+  binary_fits Multiply w x y f = and_from (has_width m x w) (has_width m y w) (has x w f.0) (has y w f.1)
+  binary_fits And w x y f = and_from (has_width m x w) (has_width m y w) (has x w f.0) (has y w f.1)
+  binary_fits Or w x y f = and_from (has_width m x w) (has_width m y w) (has x w f.0) (has y w f.1)
+  binary_fits Xor w x y f = and_from (has_width m x w) (has_width m y w) (has x w f.0) (has y w f.1)
 
   below_power : (n w : ℕ) → n < 2 ^ w → nat_lt n (2 ^ w) ≡ true
   below_power n w less = grind (arith, nat_tests)
@@ -143,8 +136,8 @@ module _ (m : Module) (P : ℕ → ℕ → Type 0) (reads : (y w : ℕ) → P y 
       let b : nat_lt high (width m x) ≡ true = subst (λ (n : ℕ). nat_lt high n ≡ true) (sym e) (lt high own within) in
       let c : nat_lt 1 (width m x) ≡ true = subst (λ (n : ℕ). nat_lt 1 n ≡ true) (sym e) (lt 1 own wide) in
       let d : w ≡ high - low + 1 = omega arith in
-      and_both (nat_le low high) (nat_lt high (width m x) && (nat_lt 1 (width m x) && w == high - low + 1)) a
-      (and_both (nat_lt high (width m x)) (nat_lt 1 (width m x) && w == high - low + 1) b (and_both (nat_lt 1 (width m x)) (w == high - low + 1) c (same_number w (high - low + 1) d)))
+      and_from (nat_le low high) (nat_lt high (width m x) && (nat_lt 1 (width m x) && w == high - low + 1)) a
+      (and_from (nat_lt high (width m x)) (nat_lt 1 (width m x) && w == high - low + 1) b (and_from (nat_lt 1 (width m x)) (w == high - low + 1) c (eq-eqb w (high - low + 1) d)))
     where
       lt : (a b : ℕ) → a < b → nat_lt a b ≡ true
       lt a b h = grind (arith, nat_tests)
@@ -158,25 +151,25 @@ module _ (m : Module) (P : ℕ → ℕ → Type 0) (reads : (y w : ℕ) → P y 
       let e : width m x ≡ own = (reads x own p).0 in
       let b : nat_lt (memory_words m j) (2 ^ width m x) ≡ true =
       subst (λ (n : ℕ). nat_lt n (2 ^ width m x) ≡ true) (sym words) (subst (λ (n : ℕ). nat_lt (length s.initial) (2 ^ n) ≡ true) (sym e) (below_power (length s.initial) own less)) in
-      and_both (is_read m x) (nat_lt (memory_words m j) (2 ^ width m x) && memory_width m j == w) (read x own p)
-      (and_both (nat_lt (memory_words m j) (2 ^ width m x)) (memory_width m j == w) b (same_number (memory_width m j) w (ap (width_of_memory m) listed ∙ wide)))
+      and_from (is_read m x) (nat_lt (memory_words m j) (2 ^ width m x) && memory_width m j == w) (read x own p)
+      (and_from (nat_lt (memory_words m j) (2 ^ width m x)) (memory_width m j == w) b (eq-eqb (memory_width m j) w (ap (width_of_memory m) listed ∙ wide)))
 
   pub value_right : (w : ℕ) (v : Value) → 0 < w → HasRange m v → FitsValue P (memory_at m) w v → value_fits m v w ≡ true
   value_right w (Copy x) some range f = has x w f
   value_right w (Constant n) some range f = below_power n w f
   value_right w (BitwiseNot x) some range f = has x w f
   value_right w (Binary o x y) some range f = binary_fits o w x y f
-  value_right w (SignedLess x y) some range f = and_both (w == 1) (have_one_width m x y) (same_number w 1 f.0) (alike x y f.1.0 f.1.1 f.1.2)
-  value_right w (ArithmeticShiftRight x y) some range f = and_both (has_width m x w) (is_read m y) (has x w f.0) (read y f.1.0 f.1.1)
+  value_right w (SignedLess x y) some range f = and_from (w == 1) (have_one_width m x y) (eq-eqb w 1 f.0) (alike x y f.1.0 f.1.1 f.1.2)
+  value_right w (ArithmeticShiftRight x y) some range f = and_from (has_width m x w) (is_read m y) (has x w f.0) (read y f.1.0 f.1.1)
   value_right w (Conditional c x y) some range f =
-      and_both (has_width m c 1) (has_width m x w && has_width m y w) (has c 1 f.0) (and_both (has_width m x w) (has_width m y w) (has x w f.1) (has y w f.2))
-  value_right w (Division o x y) some range f = and_both (has_width m x w) (has_width m y w) (has x w f.0) (has y w f.1)
-  value_right w (SignedDivision o x y) some range f = and_both (has_width m x w) (has_width m y w) (has x w f.0) (has y w f.1)
+      and_from (has_width m c 1) (has_width m x w && has_width m y w) (has c 1 f.0) (and_from (has_width m x w) (has_width m y w) (has x w f.1) (has y w f.2))
+  value_right w (Division o x y) some range f = and_from (has_width m x w) (has_width m y w) (has x w f.0) (has y w f.1)
+  value_right w (SignedDivision o x y) some range f = and_from (has_width m x w) (has_width m y w) (has x w f.0) (has y w f.1)
   value_right w (MemoryRead j x) some range f = read_fits j x w f.3.0 f.0 f.1 f.2 f.3.1 f.3.2
   value_right w (Select x high low) some range f =
       select_fits w x high low f.2.0 f.0 f.1 f.2.1 f.2.2 (subst (λ (n : ℕ). 1 < n) (one_width x range.0 f.2.0 range.1 (reads x f.2.0 f.2.1).3) range.2)
   value_right w (Concatenation xs) some range f =
-      and_both (is_filled m xs) (all_right (is_read m) xs && joint_width m xs == w) (filled xs w some f)
-      (and_both (all_right (is_read m) xs) (joint_width m xs == w) (parts_read xs w f) (same_number (joint_width m xs) w (parts_wide xs w f)))
+      and_from (is_filled m xs) (all_right (is_read m) xs && joint_width m xs == w) (filled xs w some f)
+      (and_from (all_right (is_read m) xs) (joint_width m xs == w) (parts_read xs w f) (eq-eqb (joint_width m xs) w (parts_wide xs w f)))
   value_right w (Replication n x) some range f =
-      and_both (is_read m x) (n * width m x == w) (read x f.0 f.1) (same_number (n * width m x) w (ap (λ k. n * k) (reads x f.0 f.1).0 ∙ f.2))
+      and_from (is_read m x) (n * width m x == w) (read x f.0 f.1) (eq-eqb (n * width m x) w (ap (λ k. n * k) (reads x f.0 f.1).0 ∙ f.2))

@@ -6,6 +6,7 @@ use Rattle.std.specs.Str.{bytes_eq}
 use Rattle.std.proofs.lemmas.Bool.Decides.{nat_tests}
 use Rattle.std.proofs.lemmas.List.{append-nil}
 use Rattle.std.proofs.lemmas.Option.{slice_get-map, slice_get_within}
+use Rattle.std.proofs.lemmas.Bool.{and_from, lt-ltb, eq-eqb}
 use Rattle.interleaving.proofs.Update.{same_or_not}
 use Rattle.verilog_tree.specs.Scope.{is_clk}
 use Rattle.verilog_tree.specs.Rules.{all_right}
@@ -30,7 +31,7 @@ use Rattle.module_sound.specs.Names.{place_of, last_number}
 use Rattle.module_sound.specs.Kinds.{SetsAt, IsKindAt, IsPlaced}
 use Rattle.module_sound.specs.Sounds.{BeginsWithClock, AreRightMemories, IsSoundAlone, PlacedIsSound}
 use Rattle.module_sound.proofs.Ordering.{in_order, input_count, output_count}
-use Rattle.module_sound.proofs.Fitting.{value_signals, value_memories, value_right, same_number}
+use Rattle.module_sound.proofs.Fitting.{value_signals, value_memories, value_right}
 
 each_at : {X : Type 0} (P : X → Type 0) (xs : List X) → EachOf P xs → (k : ℕ) (x : X) → slice_get xs k ≡ Some x → P x
 each_at P [] e k x listed = absurd cc
@@ -46,18 +47,10 @@ named_at [] i x e = absurd cc
 named_at (s ∷ ss) zero x e = let same : s.name ≡ x = cc in (s, refl, same)
 named_at (s ∷ ss) (suc i) x e = named_at ss i x e
 
-both_true : (t u : Bool) → t ≡ true → u ≡ true → (t && u) ≡ true
-both_true true true e f = refl
-both_true true false e f = absurd cc
-both_true false u e f = absurd cc
-
-lt_true : (a b : ℕ) → a < b → nat_lt a b ≡ true
-lt_true a b h = grind arith
-
 -- initial constants that fit
 constants_right : (w : ℕ) (ns : List ℕ) → EachOf (λ n. n < 2 ^ w) ns → all_right (λ n. nat_lt n (2 ^ w)) ns ≡ true
 constants_right w [] e = refl
-constants_right w (n ∷ ns) e = both_true (nat_lt n (2 ^ w)) (all_right (λ k. nat_lt k (2 ^ w)) ns) (lt_true n (2 ^ w) e.0) (constants_right w ns e.1)
+constants_right w (n ∷ ns) e = and_from (nat_lt n (2 ^ w)) (all_right (λ k. nat_lt k (2 ^ w)) ns) (lt-ltb n (2 ^ w) e.0) (constants_right w ns e.1)
 
 -- ---- names of two lists
 
@@ -175,7 +168,7 @@ module _ (m : Module) (inputs first : ℕ) (grades : List ℕ) (are : AreGrades 
 
   sound_source : (x w g : ℕ) (out : Bool) (d : Source) → 0 < w → IsKindAt m inputs first x out d → IsGradedSource m grades x inputs w g d → source_fits m d w ≡ true
   sound_source x w g out Input some k t = refl
-  sound_source x w g out (Register n) some k t = lt_true n (2 ^ w) t
+  sound_source x w g out (Register n) some k t = lt-ltb n (2 ^ w) t
   sound_source x w g out (Assigned v) some k t = value_right m (IsOperand m grades x g) (reads x g) w v some k.3 t
   sound_source x w g out (Port i p) some k t = absurd k
 
@@ -193,15 +186,15 @@ module _ (m : Module) (inputs first : ℕ) (grades : List ℕ) (are : AreGrades 
   signals_at (c ∷ cs) a (suc k) x e = signals_at cs a.1 k x e
 
   read_width : (c w : ℕ) → Has m c w → 0 < c → is_read m c ≡ true
-  read_width c w h after = let r = wide_at c w h after in lt_true 0 (width m c) (subst (λ (n : ℕ). 0 < n) (sym r.0) r.1)
+  read_width c w h after = let r = wide_at c w h after in lt-ltb 0 (width m c) (subst (λ (n : ℕ). 0 < n) (sym r.0) r.1)
 
   reads_width : (c w : ℕ) → Has m c w → 0 < c → has_width m c w ≡ true
   reads_width c w h after =
-      both_true (is_read m c) (width m c == w) (read_width c w h after) (same_number (width m c) w (wide_at c w h after).0)
+      and_from (is_read m c) (width m c == w) (read_width c w h after) (eq-eqb (width m c) w (wide_at c w h after).0)
 
   bits_right : (cs : List ℕ) → EachOf (λ x. Has m x 1) cs → EachOf (λ x. 0 < x) cs → all_right (λ c. has_width m c 1) cs ≡ true
   bits_right [] a b = refl
-  bits_right (c ∷ cs) a b = both_true (has_width m c 1) (all_right (λ x. has_width m x 1) cs) (reads_width c 1 a.0 b.0) (bits_right cs a.1 b.1)
+  bits_right (c ∷ cs) a b = and_from (has_width m c 1) (all_right (λ x. has_width m x 1) cs) (reads_width c 1 a.0 b.0) (bits_right cs a.1 b.1)
 
   register_is : (d : Source) (w : ℕ) → IsRegister d → width_set m w d ≡ w
   register_is Input w is = absurd is
@@ -228,7 +221,7 @@ module _ (m : Module) (inputs first : ℕ) (grades : List ℕ) (are : AreGrades 
       let wide : memory_width m j ≡ f.0.width = ap (width_of_memory m) f.1 in (
         two x y (slice_get_within m.signals x f.3.1.signal f.3.1.listed) (slice_get_within m.signals y f.2.signal f.2.listed),
         one j (slice_get_within m.memories j f.0 f.1),
-        both_true (is_read m x) (has_width m y (memory_width m j)) (read_width x f.3.0 f.3.1 t.unclocked.0)
+        and_from (is_read m x) (has_width m y (memory_width m j)) (read_width x f.3.0 f.3.1 t.unclocked.0)
             (subst (λ (n : ℕ). has_width m y n ≡ true) (sym wide) (reads_width y f.0.width f.2 t.unclocked.1.0)),
       )
     where
@@ -283,7 +276,7 @@ module _ (m : Module) (inputs first : ℕ) (grades : List ℕ) (are : AreGrades 
       memories = λ k x listed. let c = memories.each k x listed in record { fits = constants_right x.width x.initial c.begins; clock = c.unclocked };
       actions = λ k a listed.
           let t = act_at k a listed in
-          both_true (all_right (λ c. has_width m c 1) a.conditions) (effect_fits m a.effect) (bits_right a.conditions t.bits t.unclocked) (set_right a.effect t.sets).2;
+          and_from (all_right (λ c. has_width m c 1) a.conditions) (effect_fits m a.effect) (bits_right a.conditions t.bits t.unclocked) (set_right a.effect t.sets).2;
       instances = λ k x listed. absurd (nothing_at m.instances k x instances listed);
       actions_clocked = λ k a listed. (0, begins.signal, begins.listed, begins.named);
       instances_clocked = λ i n of listed. absurd (nothing_at m.instances i n instances listed);

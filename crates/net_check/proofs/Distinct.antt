@@ -3,6 +3,7 @@ use Rattle.std.proofs.Common.{◌≡◌, ℕ, zero, suc, ◌<◌, ◌≤◌, Lis
 use Rattle.std.specs.Prelude.{◌&&◌, ◌||◌, not, nat_lt, if◌then◌else◌}
 use Rattle.std.specs.Str.{bytes_eq}
 use Rattle.std.proofs.lemmas.Bool.{ltb-true, leb-false}
+use mathlib.Core.Bool.{and-false}
 use Rattle.verilog_tree.specs.declared.tree.Port.{Port}
 use Rattle.verilog_tree.specs.declared.tree.Connection.{Connection}
 use Rattle.verilog_tree.specs.Scope.{Name, Names, Scope, is_known}
@@ -105,10 +106,6 @@ no_outputs (c ∷ cs) = no_outputs cs
 
 -- ---- words
 
-and_false : (a : Bool) → (a && false) ≡ false
-and_false true = refl
-and_false false = refl
-
 lower_or_same : (k n : ℕ) → k < suc n → (b : Bool) → nat_lt k n ≡ b → (k < n) ⊎ (k ≡ n)
 lower_or_same k n lt true e = inl (ltb-true k n e)
 lower_or_same k n lt false e = inr (let le : n ≤ k = omega (arith, leb-false (suc k) n e) in let same : k ≡ n = omega arith in same)
@@ -120,5 +117,5 @@ words_fail places x k (suc count) lt e =
     ⊎_elim
     (λ less. ap (λ b. b && fact.is_place places (x, Some count)) (words_fail places x k count less e))
     (λ same. let here : fact.is_place places (x, Some count) ≡ false =
-    subst (λ j. fact.is_place places (x, Some j) ≡ false) same e in ap (λ b. fact.words_below places x count && b) here ∙ and_false (fact.words_below places x count))
+    subst (λ j. fact.is_place places (x, Some j) ≡ false) same e in ap (λ b. fact.words_below places x count && b) here ∙ and-false (fact.words_below places x count))
     (lower_or_same k count lt (nat_lt k count) refl)

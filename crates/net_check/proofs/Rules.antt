@@ -2,6 +2,7 @@
 use Rattle.std.proofs.Common.{◌≡◌, Bool, true, false, refl, ◌⊎◌, inl, inr, ⊎_elim, List, [], ◌∷◌}
 use Rattle.std.specs.Prelude.{not, ◌&&◌, ◌||◌, nat_lt, is_some}
 use Rattle.std.specs.List.{list_any}
+use Rattle.std.proofs.lemmas.Bool.{and_cases, not-false, not-true}
 use Rattle.verilog_tree.specs.declared.tree.Expression.{Expression}
 use Rattle.verilog_tree.specs.declared.tree.Expression.TheVariants as expr
 use Rattle.verilog_tree.specs.declared.tree.Port.{Port}
@@ -14,18 +15,10 @@ use Rattle.verilog_tree.specs.Rules.{all_right, has_port}
 use Rattle.verilog_tree.specs.Reads.{IsFilled, IsFullExpression, IsFullItem}
 use Rattle.verilog_tree.specs.Facts.{Facts, interface_named, is_top, drives, written_by, body_of, item_prints}
 use Rattle.verilog_tree.specs.WellFormed.{IsItem, IsPort, is_new_declaration, are_new, none_known, is_complete, is_input, is_clocked}
-use Rattle.verilog_tree.proofs.Tests.{and_left, and_right, not_true}
+use Rattle.verilog_tree.proofs.Tests.{and_left, and_right}
 use Rattle.net_check.specs.Breaks.{is_empty, lacks_parts, lacks, BreaksItem, BreaksPort, BreaksHead}
 use Rattle.net_check.specs.Breaks.{BreaksItem as item, BreaksPort as port, BreaksHead as head}
 use Rattle.net_check.specs.Search as search_for
-
-both_false : (a b : Bool) → (a && b) ≡ false → (a ≡ false) ⊎ (b ≡ false)
-both_false true b e = inr e
-both_false false b e = inl refl
-
-not_false : (a : Bool) → not a ≡ false → a ≡ true
-not_false true e = refl
-not_false false e = cc
 
 -- ---- lists that are not empty
 
@@ -111,23 +104,23 @@ module _ (all before : Facts) (x : Item) where
           writer = and_left (all_right (λ s. none_known before.written (written_by s)) (body_of x)) _ after_driven;
           initial = and_right (all_right (λ s. none_known before.written (written_by s)) (body_of x)) _ after_driven;
           complete = and_left (is_complete all x) _ after_lacks;
-          printing = not_true _ (and_left (not (item_prints x && before.printed)) _ once);
+          printing = not-true _ (and_left (not (item_prints x && before.printed)) _ once);
           printer = and_right (not (item_prints x && before.printed)) _ once;
         };
-        full = not_true _ (and_left (not (lacks x)) _ others);
+        full = not-true _ (and_left (not (lacks x)) _ others);
       }
 
   new_breaks : search_for.is_new all before x ≡ false → BreaksItem all before x
   new_breaks h =
-      ⊎_elim item.Declares (λ g. ⊎_elim item.Drives (λ k. ⊎_elim item.Writes item.Gives (both_false _ _ k)) (both_false _ _ g)) (both_false _ _ h)
+      ⊎_elim item.Declares (λ g. ⊎_elim item.Drives (λ k. ⊎_elim item.Writes item.Gives (and_cases _ _ k)) (and_cases _ _ g)) (and_cases _ _ h)
 
   once_breaks : search_for.prints_once before x ≡ false → BreaksItem all before x
-  once_breaks h = ⊎_elim (λ g. item.Prints (not_false _ g)) item.Places (both_false _ _ h)
+  once_breaks h = ⊎_elim (λ g. item.Prints (not-false _ g)) item.Places (and_cases _ _ h)
 
   pub item_breaks : search_for.item_stands all before x ≡ false → BreaksItem all before x
   item_breaks h =
-      ⊎_elim new_breaks (λ g. ⊎_elim once_breaks (λ k. ⊎_elim (λ l. item.Lacks (not_false _ l)) (λ l. ⊎_elim item.Incomplete item.Differs (both_false _ _ l))
-      (both_false _ _ k)) (both_false _ _ g)) (both_false _ _ h)
+      ⊎_elim new_breaks (λ g. ⊎_elim once_breaks (λ k. ⊎_elim (λ l. item.Lacks (not-false _ l)) (λ l. ⊎_elim item.Incomplete item.Differs (and_cases _ _ l))
+      (and_cases _ _ k)) (and_cases _ _ g)) (and_cases _ _ h)
 
   pub item_unbroken : MeetsItem all before x → BreaksItem all before x → ⊥
   item_unbroken m (item.Lacks h) = let e = m.full in cc
@@ -148,7 +141,7 @@ module _ (all before : Facts) (p : Port) where
       let rest = and_right (not (is_declared before.scope p.name)) _ h in
       let others = and_right (nat_lt 0 (width_of p.high)) _ rest in
       record {
-        new = not_true _ (and_left (not (is_declared before.scope p.name)) _ h);
+        new = not-true _ (and_left (not (is_declared before.scope p.name)) _ h);
         width = and_left (nat_lt 0 (width_of p.high)) _ rest;
         driven = and_left (is_input p.direction || is_known all.driven p.name) _ others;
         clock = and_right (is_input p.direction || is_known all.driven p.name) _ others;
@@ -156,7 +149,7 @@ module _ (all before : Facts) (p : Port) where
 
   pub port_breaks : search_for.port_stands all before p ≡ false → BreaksPort all before p
   port_breaks h =
-      ⊎_elim (λ g. port.Declares (not_false _ g)) (λ g. ⊎_elim port.Width (λ k. ⊎_elim port.Undriven port.Clock (both_false _ _ k)) (both_false _ _ g)) (both_false _ _ h)
+      ⊎_elim (λ g. port.Declares (not-false _ g)) (λ g. ⊎_elim port.Width (λ k. ⊎_elim port.Undriven port.Clock (and_cases _ _ k)) (and_cases _ _ g)) (and_cases _ _ h)
 
   pub port_unbroken : IsPort all before p → BreaksPort all before p → ⊥
   port_unbroken m (port.Declares h) = let e = m.new in cc
@@ -180,17 +173,17 @@ module _ (whole before : Facts) (m : Module) where
       let unclocked = and_right (not (is_some (interface_named before.modules m.name))) _ named in
       let others = and_right (not (is_clk m.name)) _ unclocked in
       record {
-        ports = not_true _ (and_left (not (is_empty m.ports)) _ h);
-        new = not_true _ (and_left (not (is_some (interface_named before.modules m.name))) _ named);
-        name = not_true _ (and_left (not (is_clk m.name)) _ unclocked);
+        ports = not-true _ (and_left (not (is_empty m.ports)) _ h);
+        new = not-true _ (and_left (not (is_some (interface_named before.modules m.name))) _ named);
+        name = not-true _ (and_left (not (is_clk m.name)) _ unclocked);
         clock = and_left (not (list_any (is_clocked before.modules) m.items) || has_port m.ports clk) _ others;
         placed = and_right (not (list_any (is_clocked before.modules) m.items) || has_port m.ports clk) _ others;
       }
 
   pub head_breaks : search_for.head_stands whole.placed before m ≡ false → BreaksHead whole before m
   head_breaks h =
-      ⊎_elim (λ g. head.Portless (not_false _ g)) (λ g. ⊎_elim (λ k. head.Named (not_false _ k)) (λ k. ⊎_elim (λ l. head.NamedClock (not_false _ l))
-      (λ l. ⊎_elim head.Clockless head.Unplaced (both_false _ _ l)) (both_false _ _ k)) (both_false _ _ g)) (both_false _ _ h)
+      ⊎_elim (λ g. head.Portless (not-false _ g)) (λ g. ⊎_elim (λ k. head.Named (not-false _ k)) (λ k. ⊎_elim (λ l. head.NamedClock (not-false _ l))
+      (λ l. ⊎_elim head.Clockless head.Unplaced (and_cases _ _ l)) (and_cases _ _ k)) (and_cases _ _ g)) (and_cases _ _ h)
 
   pub head_unbroken : MeetsHead whole.placed before m → BreaksHead whole before m → ⊥
   head_unbroken k (head.Portless h) = let e = k.ports in cc

@@ -2,15 +2,12 @@
 use Rattle.std.proofs.Common.{◌≡◌, ℕ, List, true, false, refl, Bool}
 use Rattle.std.specs.Str.{bytes_eq}
 use Rattle.std.proofs.lemmas.Slice.Eq.{bytes_eq-Decides}
+use Rattle.std.proofs.lemmas.Bool.{false_from_ne_true}
 
 pub same_bytes : (x y : List ℕ) → bytes_eq x y ≡ true → x ≡ y
 same_bytes x y e = (bytes_eq-Decides x y).0 e
 
-false_of : (b : Bool) → (b ≡ true → ⊥) → b ≡ false
-false_of true h = absurd (h refl)
-false_of false h = refl
-
 -- a test of names is the same either way
 pub turned : (x y : List ℕ) (b : Bool) → bytes_eq x y ≡ b → bytes_eq y x ≡ b
 turned x y true e = (bytes_eq-Decides y x).1 (let same = (bytes_eq-Decides x y).0 e in cc)
-turned x y false e = false_of (bytes_eq y x) (λ h. let same : x ≡ y = (let back = (bytes_eq-Decides y x).0 h in cc) in let yes = (bytes_eq-Decides x y).1 same in cc)
+turned x y false e = false_from_ne_true (bytes_eq y x) (λ h. let same : x ≡ y = (let back = (bytes_eq-Decides y x).0 h in cc) in let yes = (bytes_eq-Decides x y).1 same in cc)

@@ -46,7 +46,3 @@ module _ {A : Type 0} where
   pub new-entry : (k : Bor (List ℕ)) (x : A) (es : List (Bor (List ℕ) × A)) → lookup (λ y. bytes_eq k.now y.now) es ≡ None → insert_entry same_key es k x ≡ es ++ (k, x) ∷ []
   new-entry k x [] h = refl
   new-entry k x (e ∷ es) h = new_at k x e es (bytes_eq k.now e.0.now) h (new-entry k x es)
-
-pub none_of : {A : Type 0} (o : Option A) → is_some o ≡ false → o ≡ None
-none_of None h = refl
-none_of (Some x) h = cc

@@ -3,6 +3,8 @@ use Rattle.std.proofs.Common.{◌≡◌, ℕ, suc, ◌<◌, List, [], ◌∷◌,
 use Rattle.std.specs.Prelude.{slice_get, ◌&&◌, ◌||◌}
 use Rattle.std.specs.List.{flat_map, list_any}
 use Rattle.std.proofs.lemmas.List.{append-nil, length-map}
+use Rattle.lists.proofs.Places.{get_there, get_mapped}
+use mathlib.Core.Bool.{or-false}
 use Rattle.verilog_tree.specs.declared.tree.WriteArgument.{WriteArgument}
 use Rattle.verilog_tree.specs.declared.tree.Statement.{Statement}
 use Rattle.verilog_tree.specs.declared.tree.Statement.TheVariants as s
@@ -24,7 +26,6 @@ use Rattle.netlist.specs.declared.netlist.Module.{Module}
 use Rattle.netlist.specs.Laid.{AreSignals, AreMemories, IsLaidAction, argument_place, effect_signals, memories_stored}
 use Rattle.netlist.specs.Sound as sound
 use Rattle.netlist_text.specs.LaidOut as laid
-use Rattle.netlist_text.proofs.Places.{get_there, get_mapped}
 use Rattle.netlist_text.proofs.Values.{signal_name_at}
 use Rattle.netlist_text.proofs.Members.{In, in_first, in_flat}
 use Rattle.netlist_text.proofs.Widths.{KnowsNames, has_is, read_is, memory_width_is, register_told}
@@ -46,10 +47,6 @@ module _ (A : Type 0) (f : Statement-F A → A) where
 
 -- ---- printing
 
-or_false : (b : Bool) → (b || false) ≡ b
-or_false true = refl
-or_false false = refl
-
 module _ (m : Module) where
   effect_prints : (x : Effect) → statement_prints (laid.effect_statement m x) ≡ sound.is_write x
   effect_prints (effect.Set x y) = fold_set Bool prints_step (laid.signal_name m x) (laid.signal_name m y)
@@ -58,7 +55,7 @@ module _ (m : Module) where
 
   guarded_prints : (cs : List ℕ) (x : Effect) → statement_prints (laid.guarded m cs x) ≡ sound.is_write x
   guarded_prints [] x = effect_prints x
-  guarded_prints (c ∷ cs) x = fold_if Bool prints_step (laid.signal_name m c) (laid.guarded m cs x) ∙ or_false (statement_prints (laid.guarded m cs x)) ∙ guarded_prints cs x
+  guarded_prints (c ∷ cs) x = fold_if Bool prints_step (laid.signal_name m c) (laid.guarded m cs x) ∙ or-false (statement_prints (laid.guarded m cs x)) ∙ guarded_prints cs x
 
   pub prints_are : (xs : List Action) → list_any statement_prints (map (laid.statement m) xs) ≡ list_any (λ (x : Action). sound.is_write x.effect) xs
   prints_are [] = refl

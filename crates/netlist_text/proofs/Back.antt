@@ -5,6 +5,7 @@ use Rattle.std.specs.List.{flat_map}
 use Rattle.std.proofs.lemmas.Bool.Decides.{nat_tests}
 use Rattle.std.proofs.lemmas.Option.{slice_get_within}
 use Rattle.std.proofs.lemmas.List.{take_at, map-append}
+use Rattle.lists.proofs.Places.{get_front, get_back}
 use Rattle.verilog_tree.specs.declared.tree.Memory as text_memory
 use Rattle.verilog_tree.specs.declared.tree.Module as text_module
 use Rattle.verilog_tree.specs.declared.tree.Net.{Net}
@@ -22,7 +23,7 @@ use Rattle.netlist.specs.Laid.{AreApart, IsSource, IsLaidInstance, IsLaidModule,
 use Rattle.netlist.specs.Laid.{input_signals, output_signals, signal_names, memory_names, instance_names, module_names}
 use Rattle.netlist_text.specs.LaidOut as laid
 use Rattle.netlist_text.specs.LaidOut.{net_of}
-use Rattle.netlist_text.proofs.Places.{get_front, get_back, map_map, map_back, map_against, apart_front, apart_back}
+use Rattle.netlist_text.proofs.Places.{map_map, map_back, map_against, apart_front, apart_back}
 use Rattle.netlist_text.proofs.Told.{told_declaration, told_declarations, told_ports_in, told_ports_out, told_memories}
 use Rattle.netlist_text.proofs.Told.{told_assigns, told_constants, told_instances, told_actions, told_signal_names}
 use Rattle.netlist_text.proofs.Constants.{register_back, memory_words_back}

@@ -4,6 +4,7 @@ use Rattle.std.specs.Prelude.{slice_get, unwrap_or, if◌then◌else◌}
 use Rattle.std.specs.Str.{bytes_eq}
 use Rattle.std.proofs.lemmas.Option.{same_Some, none-some}
 use Rattle.std.proofs.lemmas.List.{append-nil, length-append}
+use Rattle.lists.proofs.Places.{get_front, get_back, get_there, get_mapped}
 use Rattle.verilog_tree.specs.declared.tree.Connection.{Connection}
 use Rattle.verilog_tree.specs.declared.tree.Module as text_module
 use Rattle.netlist.specs.declared.netlist.Signal.{Signal}
@@ -13,7 +14,7 @@ use Rattle.netlist.specs.NetlistOf as n
 use Rattle.netlist.specs.NetlistOf.{Name, place, connected}
 use Rattle.netlist.specs.Laid.{AreApart, input_signals, inner_signals, output_signals, first_output, signal_names, module_names}
 use Rattle.netlist_text.specs.LaidOut as laid
-use Rattle.netlist_text.proofs.Places.{get_front, get_back, get_there, get_mapped, place_at, map_map, same_name, other_name}
+use Rattle.netlist_text.proofs.Places.{place_at, map_map, same_name, other_name}
 use Rattle.netlist_text.proofs.Values.{signal_name_at}
 
 -- a module whose signals have names of their own and stand in order

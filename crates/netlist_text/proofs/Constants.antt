@@ -6,6 +6,8 @@ use Rattle.std.specs.Str.{bytes_eq}
 use Rattle.std.proofs.lemmas.Bool.{eq-eqb}
 use Rattle.std.proofs.lemmas.Bool.Decides.{nat_tests}
 use Rattle.std.proofs.lemmas.Option.{same_Some, none-some}
+use Rattle.lists.proofs.Places.{get_mapped}
+use mathlib.Core.Bool.{and-false}
 use Rattle.verilog_tree.specs.declared.tree.InitialConstant.{InitialConstant}
 use Rattle.netlist.specs.declared.netlist.Source.{Source}
 use Rattle.netlist.specs.declared.netlist.Source.TheVariants as source
@@ -15,11 +17,7 @@ use Rattle.netlist.specs.declared.netlist.Module.{Module}
 use Rattle.netlist.specs.NetlistOf.{Name, initial_of, words_of}
 use Rattle.netlist.specs.Laid.{AreApart, signal_names, memory_names}
 use Rattle.netlist_text.specs.LaidOut as laid
-use Rattle.netlist_text.proofs.Places.{same_name, head_other, apart_rest, get_mapped}
-
-and_false : (b : Bool) → (b && false) ≡ false
-and_false true = refl
-and_false false = refl
+use Rattle.netlist_text.proofs.Places.{same_name, head_other, apart_rest}
 
 -- ---- registers
 
@@ -53,7 +51,7 @@ register_found (t ∷ ss) rest (suc k) s c apart h is =
 word_not_register : (t : Signal) (x : Name) (k : ℕ) (from : Source) (l rest : List InitialConstant)
     → initial_of ((laid.register_by t from ++ l) ++ rest) x (Some k) ≡ initial_of (l ++ rest) x (Some k)
 word_not_register t x k source.Input l rest = refl
-word_not_register t x k (source.Register d) l rest = ap (λ b. if b then d else initial_of (l ++ rest) x (Some k)) (and_false (bytes_eq x t.name))
+word_not_register t x k (source.Register d) l rest = ap (λ b. if b then d else initial_of (l ++ rest) x (Some k)) (and-false (bytes_eq x t.name))
 word_not_register t x k (source.Assigned right) l rest = refl
 word_not_register t x k (source.Port j port) l rest = refl
 
@@ -77,7 +75,7 @@ word_here t k (u ∷ vs) rest (suc i) v h =
     let after = initial_of (laid.with_places (laid.word_constant t) (k + 1) vs ++ rest) t.name (Some (k + suc i)) in
     let apart : nat_eq (k + suc i) k ≡ false = grind (arith, nat_tests) in
     let e : k + suc i ≡ k + 1 + i = omega arith in
-    ap (λ b. if bytes_eq t.name t.name && b then u else after) apart ∙ ap (λ b. if b then u else after) (and_false (bytes_eq t.name t.name))
+    ap (λ b. if bytes_eq t.name t.name && b then u else after) apart ∙ ap (λ b. if b then u else after) (and-false (bytes_eq t.name t.name))
     ∙ ap (λ j. initial_of (laid.with_places (laid.word_constant t) (k + 1) vs ++ rest) t.name (Some j)) e ∙ word_here t (k + 1) vs rest i v h
 
 word_found : (cs : List Memory) (j : ℕ) (c : Memory) → AreApart (map (λ (x : Memory). x.name) cs) → slice_get cs j ≡ Some c → (i v : ℕ) → slice_get c.initial i ≡ Some v

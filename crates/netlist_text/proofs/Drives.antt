@@ -5,6 +5,7 @@ use Rattle.std.specs.List.{flat_map}
 use Rattle.std.specs.Str.{bytes_eq}
 use Rattle.std.proofs.lemmas.Slice.Eq.{bytes_eq-Decides}
 use Rattle.std.proofs.lemmas.Option.{same_Some, none-some, slice_get_within}
+use Rattle.lists.proofs.Places.{get_front, get_mapped, get_unmapped}
 use Rattle.verilog_tree.specs.declared.tree.InitialConstant.{InitialConstant}
 use Rattle.verilog_tree.specs.declared.tree.Statement.{Statement}
 use Rattle.verilog_tree.specs.declared.tree.Item.{Item}
@@ -19,7 +20,6 @@ use Rattle.netlist.specs.declared.netlist.Instance.{Instance}
 use Rattle.netlist.specs.declared.netlist.Module.{Module}
 use Rattle.netlist.specs.Laid.{IsSource, IsDriven, IsLaidInstance, IsLaidModule, first_output}
 use Rattle.netlist_text.specs.LaidOut as laid
-use Rattle.netlist_text.proofs.Places.{get_front, get_mapped, get_unmapped}
 use Rattle.netlist_text.proofs.Values.{signal_name_at}
 use Rattle.netlist_text.proofs.Connections.{AreBefore}
 use Rattle.netlist_text.proofs.Members.{In, IsApart, in_none, in_one, in_map, in_flat, in_unflat, names_new, after_in, in_after, in_holds}

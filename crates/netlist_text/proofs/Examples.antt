@@ -7,7 +7,7 @@ use Rattle.verilog_tree.specs.declared.tree.BinaryOperator.TheVariants as op
 use Rattle.verilog_tree.specs.Scope.{is_known}
 use Rattle.verilog_tree.specs.Rules.{are_distinct}
 use Rattle.verilog_tree.specs.WellFormed.{IsWellFormed}
-use Rattle.verilog_tree.proofs.Tests.{and_left, and_right, not_true}
+use Rattle.verilog_tree.proofs.Tests.{and_left, and_right}
 use Rattle.netlist.specs.declared.netlist.Value.TheVariants as v
 use Rattle.netlist.specs.declared.netlist.Source.TheVariants as source
 use Rattle.netlist.specs.declared.netlist.Signal.{Signal}
@@ -22,6 +22,7 @@ use Rattle.netlist_text.specs.LaidOut.{net_of}
 use Rattle.netlist_text.proofs.Members.{In, in_holds}
 use Rattle.std.specs.Str.{bytes_eq}
 use Rattle.std.proofs.lemmas.Slice.Eq.{bytes_eq-Decides}
+use Rattle.std.proofs.lemmas.Bool.{not-true}
 use Rattle.netlist_text.proofs.Back.{netlist_back}
 use Rattle.netlist_text.proofs.NetFormed.{net_formed}
 
@@ -46,7 +47,7 @@ false_true b p q = let e : true ≡ false = sym p ∙ q in absurd (cc)
 first_apart : (n : Name) (names : List Name) → are_distinct (n ∷ names) ≡ true → (j : ℕ) (x : Name) → n ≡ x → slice_get names j ≡ Some x → ⊥
 first_apart n names h j x e q =
     let held : In names n = record { at = j; found = q ∙ ap Some (sym e) } in
-    false_true (is_known names n) (in_holds bytes_eq bytes_eq-Decides names n held) (not_true (is_known names n) (and_left _ _ h))
+    false_true (is_known names n) (in_holds bytes_eq bytes_eq-Decides names n held) (not-true (is_known names n) (and_left _ _ h))
 
 -- names that a test finds apart
 pub apart_by_test : (names : List Name) → are_distinct names ≡ true → (i j : ℕ) (x : Name) → slice_get names i ≡ Some x → slice_get names j ≡ Some x → i ≡ j

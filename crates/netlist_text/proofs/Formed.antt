@@ -7,6 +7,7 @@ use Rattle.std.proofs.lemmas.Slice.Eq.{bytes_eq-Decides}
 use Rattle.std.proofs.lemmas.Bool.Decides.{nat_tests}
 use Rattle.std.proofs.lemmas.Option.{none-some}
 use Rattle.std.proofs.lemmas.List.{append-nil}
+use Rattle.std.proofs.lemmas.Bool.{false_from_ne_true}
 use Rattle.verilog_tree.specs.declared.tree.InitialConstant.{InitialConstant}
 use Rattle.verilog_tree.specs.declared.tree.Statement.{Statement}
 use Rattle.verilog_tree.specs.declared.tree.Item.{Item}
@@ -31,7 +32,6 @@ use Rattle.netlist.specs.Laid.{IsSource, IsLaidModule, kind_by, kind_of, is_inne
 use Rattle.netlist.specs.Sound as sound
 use Rattle.netlist.specs.Sound.{IsSoundModule, is_write}
 use Rattle.netlist_text.specs.LaidOut as laid
-use Rattle.netlist_text.proofs.Places.{false_from}
 use Rattle.netlist_text.proofs.Values.{signal_name_at}
 use Rattle.netlist_text.proofs.Connections.{AreBefore, instance_is}
 use Rattle.netlist_text.proofs.Members.{In, in_after, in_holds}
@@ -277,7 +277,7 @@ module _ (all before : List Module) (m : Module) (known : AreBefore all before) 
       written_is fourth ∙ ap (λ l. after with_name [] (flat_map item_writes l)) (sym fourth_is) ∙ ap (after with_name []) (written_view all m m.signals m.memories m.signals constants [] [])
 
   none_printed_yet : list_any item_prints fourth ≡ false
-  none_printed_yet = ap (list_any item_prints) (sym fourth_is) ∙ false_from (list_any item_prints (front all m m.signals m.memories m.signals constants [] [])) (λ h.
+  none_printed_yet = ap (list_any item_prints) (sym fourth_is) ∙ false_from_ne_true (list_any item_prints (front all m m.signals m.memories m.signals constants [] [])) (λ h.
       elim (any_front item_prints (λ y. refl) (λ y. refl) (λ y. refl) (λ y. refl) (λ y. refl) all m m.signals m.memories m.signals constants [] [] h) [
         | inl p ↦ (let z : 0 < 0 = p.1 in omega arith)
         | inr p ↦ none-some p.1 p.2

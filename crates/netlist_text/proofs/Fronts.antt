@@ -5,6 +5,9 @@ use Rattle.std.specs.Prelude.{slice_get, ◌||◌}
 use Rattle.std.specs.List.{flat_map, list_any}
 use Rattle.std.proofs.lemmas.List.{append-nil}
 use Rattle.std.proofs.lemmas.List.Concat.{flat_map-append, flat_map_single}
+use Rattle.std.proofs.lemmas.Map.Keys.{any_passes_from_place}
+use Rattle.std.proofs.lemmas.Bool.{or_right}
+use Rattle.lists.proofs.Places.{get_back}
 use Rattle.verilog_tree.specs.declared.tree.InitialConstant.{InitialConstant}
 use Rattle.verilog_tree.specs.declared.tree.Statement.{Statement}
 use Rattle.verilog_tree.specs.declared.tree.Wire.{Wire}
@@ -16,7 +19,6 @@ use Rattle.verilog_tree.specs.declared.tree.Item.{Item}
 use Rattle.verilog_tree.specs.declared.tree.Item.TheVariants as i
 use Rattle.verilog_tree.specs.Facts.{after}
 use Rattle.verilog_tree.specs.WellFormed.{EachAfter}
-use Rattle.verilog_tree.proofs.Tests.{or_holds}
 use Rattle.netlist.specs.declared.netlist.Source.{Source}
 use Rattle.netlist.specs.declared.netlist.Source.TheVariants as source
 use Rattle.netlist.specs.declared.netlist.Signal.{Signal}
@@ -26,7 +28,6 @@ use Rattle.netlist.specs.declared.netlist.Module.{Module}
 use Rattle.netlist.specs.NetlistOf.{Kind, InputPort, OutputPort, PlainWire, Reg}
 use Rattle.netlist.specs.Laid.{kind_of}
 use Rattle.netlist_text.specs.LaidOut as laid
-use Rattle.netlist_text.proofs.Places.{get_back}
 use Rattle.netlist_text.proofs.Members.{In, in_none, in_one, in_first, in_rest, in_either, in_unmap, in_unflat}
 use Rattle.netlist_text.proofs.Grown.{after-append}
 use Rattle.netlist_text.proofs.Views.{front}
@@ -49,13 +50,8 @@ pub any_passes : {A : Type 0} (p : A → Bool) (xs : List A) → list_any p xs �
 any_passes p [] h = absurd (cc)
 any_passes p (y ∷ xs) h = passes_step p y xs (any_passes p xs) (p y) refl h
 
-any_at : {A : Type 0} (p : A → Bool) (xs : List A) (k : ℕ) (x : A) → slice_get xs k ≡ Some x → p x ≡ true → list_any p xs ≡ true
-any_at p [] k x h q = absurd (in_none x (record { at = k; found = h }))
-any_at p (y ∷ xs) zero x h q = ap (λ b. b || list_any p xs) (ap p (in_one y x (record { at = 0; found = h })) ∙ q)
-any_at p (y ∷ xs) (suc k) x h q = or_holds (p y) (list_any p xs) (any_at p xs k x h q)
-
 pub passes_any : {A : Type 0} (p : A → Bool) (xs : List A) (x : A) → In xs x → p x ≡ true → list_any p xs ≡ true
-passes_any p xs x h q = any_at p xs h.at x h.found q
+passes_any p xs x h q = any_passes_from_place p xs h.at x h.found q
 
 block_in : {A B : Type 0} (f : List A → B) (xs : List A) (y : B) → In (laid.block f xs) y → (f xs ≡ y) × (0 < length xs)
 block_in f [] y h = absurd (in_none y h)

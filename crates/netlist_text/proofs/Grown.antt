@@ -2,6 +2,7 @@
 use Rattle.std.proofs.Common.{◌≡◌, List, [], ◌∷◌, ◌++◌, Bool, true, false, Option, Some, None, refl, sym, ap, ◌∙◌, map}
 use Rattle.std.specs.Prelude.{◌||◌}
 use Rattle.std.specs.List.{flat_map, list_any}
+use mathlib.Core.Bool.{or-false, or_assoc}
 use Rattle.verilog_tree.specs.declared.kind.Kind.{Kind}
 use Rattle.verilog_tree.specs.declared.tree.Port.{Port}
 use Rattle.verilog_tree.specs.declared.tree.InitialConstant.{InitialConstant}
@@ -17,14 +18,6 @@ use Rattle.netlist.specs.NetlistOf.{some}
 pub after-append : {S A : Type 0} (step : S → A → S) (s : S) (xs ys : List A) → after step s (xs ++ ys) ≡ after step (after step s xs) ys
 after-append step s [] ys = refl
 after-append step s (x ∷ xs) ys = after-append step (step s x) xs ys
-
-or_assoc : (a b c : Bool) → ((a || b) || c) ≡ (a || (b || c))
-or_assoc true b c = refl
-or_assoc false b c = refl
-
-or_false : (a : Bool) → (a || false) ≡ a
-or_false true = refl
-or_false false = refl
 
 after_some : (s : Scope) (o : Option (Name × Kind)) → after_declaration s o ≡ after with_declaration s (some o)
 after_some s None = refl
@@ -78,7 +71,7 @@ items_given f (x ∷ xs) =
     ∙ sym (after-append with_place f.given (item_places x) (flat_map item_places xs))
 
 pub items_printed : (f : Facts) (xs : List Item) → (after after_item f xs).printed ≡ (f.printed || list_any item_prints xs)
-items_printed f [] = sym (or_false f.printed)
+items_printed f [] = sym (or-false f.printed)
 items_printed f (x ∷ xs) = items_printed (after_item f x) xs ∙ or_assoc f.printed (item_prints x) (list_any item_prints xs)
 
 abbrev pub item_modules : Item → Names
@@ -114,7 +107,7 @@ pub module_placed : (f : Facts) (m : Module) → (after_module f m).placed ≡ a
 module_placed f m = items_placed (port_facts f m) m.items ∙ ap (λ (g : Facts). after with_name g.placed (module_places m)) (port_facts_are f m)
 
 pub modules_printed : (f : Facts) (ms : List Module) → (after after_module f ms).printed ≡ (f.printed || list_any module_writes ms)
-modules_printed f [] = sym (or_false f.printed)
+modules_printed f [] = sym (or-false f.printed)
 modules_printed f (m ∷ ms) = modules_printed (after_module f m) ms ∙ ap (λ b. b || list_any module_writes ms) (module_printed f m) ∙ or_assoc f.printed (module_writes m) (list_any module_writes ms)
 
 pub modules_placed : (f : Facts) (ms : List Module) → (after after_module f ms).placed ≡ after with_name f.placed (flat_map module_places ms)

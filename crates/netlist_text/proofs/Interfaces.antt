@@ -4,6 +4,7 @@ use Rattle.std.proofs.Common.{false, Some, refl, sym, ap, ◌∙◌, subst, inl,
 use Rattle.std.specs.Prelude.{slice_get, if◌then◌else◌}
 use Rattle.std.specs.Str.{bytes_eq}
 use Rattle.std.proofs.lemmas.Option.{same_Some, none-some}
+use Rattle.lists.proofs.Places.{get_there, get_mapped}
 use Rattle.verilog_tree.specs.declared.tree.Direction.{Direction}
 use Rattle.verilog_tree.specs.declared.tree.Direction.TheVariants as direction
 use Rattle.verilog_tree.specs.declared.tree.Port.{Port}
@@ -19,7 +20,7 @@ use Rattle.netlist.specs.declared.netlist.Module.{Module}
 use Rattle.netlist.specs.NetlistOf.{Kind, InputPort, OutputPort, PlainWire, Reg, is_output_port}
 use Rattle.netlist.specs.Laid.{AreApart, IsLaidInstance, kind_of, is_input_port, input_signals, output_signals, first_output, signal_names}
 use Rattle.netlist_text.specs.LaidOut as laid
-use Rattle.netlist_text.proofs.Places.{get_there, get_mapped, get_filtered, same_name, is_name}
+use Rattle.netlist_text.proofs.Places.{get_filtered, same_name, is_name}
 use Rattle.netlist_text.proofs.Values.{signal_name_at}
 use Rattle.netlist_text.proofs.Connections.{IsOrdered, input_at, output_at, AreBefore, instance_is}
 use Rattle.netlist_text.proofs.Sources.{mapped_some}

@@ -6,12 +6,14 @@ use Rattle.std.specs.Bool.{Decides}
 use Rattle.std.specs.Str.{bytes_eq}
 use Rattle.std.proofs.lemmas.Slice.Eq.{bytes_eq-Decides}
 use Rattle.std.proofs.lemmas.Option.{same_Some, none-some}
+use Rattle.std.proofs.lemmas.Bool.{false_from_ne_true, or_right}
+use Rattle.lists.proofs.Places.{get_front, get_back, get_mapped, get_unmapped}
 use Rattle.verilog_tree.specs.declared.kind.Kind.{Kind}
 use Rattle.verilog_tree.specs.Scope.{Name, Names, Scope, kind_of, is_declared}
 use Rattle.verilog_tree.specs.Facts.{after, with_name, with_declaration}
 use Rattle.verilog_tree.specs.WellFormed.{are_new}
-use Rattle.verilog_tree.proofs.Tests.{and_both, or_holds}
-use Rattle.netlist_text.proofs.Places.{get_front, get_back, get_either, get_mapped, get_unmapped, false_from, same_name, is_name}
+use Rattle.verilog_tree.proofs.Tests.{and_both}
+use Rattle.netlist_text.proofs.Places.{get_either, same_name, is_name}
 
 pub record In {A : Type 0} (xs : List A) (x : A) : Type 0 where
   pub at : ℕ
@@ -105,13 +107,13 @@ module _ {A : Type 0} (same : A → A → Bool) (decides : (x y : A) → Decides
   holds_at : (xs : List A) (k : ℕ) (x : A) → slice_get xs k ≡ Some x → holds xs x ≡ true
   holds_at [] k x h = absurd (none-some x h)
   holds_at (y ∷ xs) zero x h = ap (λ b. b || holds xs x) ((decides x y).1 (sym (same_Some y x h)))
-  holds_at (y ∷ xs) (suc k) x h = or_holds (same x y) (holds xs x) (holds_at xs k x h)
+  holds_at (y ∷ xs) (suc k) x h = or_right (same x y) (holds xs x) (holds_at xs k x h)
 
   pub in_holds : (xs : List A) (x : A) → In xs x → holds xs x ≡ true
   in_holds xs x h = holds_at xs h.at x h.found
 
   pub not_holds : (xs : List A) (x : A) → (In xs x → ⊥) → holds xs x ≡ false
-  not_holds xs x h = false_from (holds xs x) (λ e. h (holds_in xs x e))
+  not_holds xs x h = false_from_ne_true (holds xs x) (λ e. h (holds_in xs x e))
 
   new_in_by : (xs : List A) (y x : A) (b : Bool) → In (if b then xs else xs ++ y ∷ []) x → In xs x ⊎ (y ≡ x)
   new_in_by xs y x true h = inl h

@@ -7,6 +7,8 @@ use Rattle.std.specs.Str.{bytes_eq}
 use Rattle.std.proofs.lemmas.Slice.Eq.{bytes_eq-Decides}
 use Rattle.std.proofs.lemmas.Option.{same_Some, none-some, slice_get_within}
 use Rattle.std.proofs.lemmas.List.{take_at, length-append}
+use Rattle.std.proofs.lemmas.Bool.{false_from_ne_true}
+use Rattle.lists.proofs.Places.{get_front, get_back, get_mapped}
 use Rattle.verilog_tree.specs.declared.tree.Connection.{Connection}
 use Rattle.verilog_tree.specs.declared.tree.Expression.TheVariants as e
 use Rattle.verilog_tree.specs.declared.tree.Item.TheVariants as i
@@ -35,7 +37,7 @@ use Rattle.netlist.specs.Sound as sound
 use Rattle.netlist.specs.Sound.{IsSound, IsSoundModule, Writes, Places, IsTop, is_write}
 use Rattle.netlist_text.specs.LaidOut as laid
 use Rattle.netlist_text.specs.LaidOut.{net_of}
-use Rattle.netlist_text.proofs.Places.{get_front, get_back, get_either, get_mapped, apart_front, other_name, same_name, false_from}
+use Rattle.netlist_text.proofs.Places.{get_either, apart_front, other_name, same_name}
 use Rattle.netlist_text.proofs.Connections.{AreBefore, instance_is}
 use Rattle.netlist_text.proofs.Back.{before_are, fits_at}
 use Rattle.netlist_text.proofs.Members.{In, in_none, in_flat, in_unmap, in_map, after_in, in_after, in_holds, holds_in}
@@ -338,7 +340,7 @@ module _ (x : Netlist) (ok : IsSound x) where
     -- ---- the module itself
 
     quiet : (list_any (λ (a : Action). is_write a.effect) m.actions && f.printed) ≡ false
-    quiet = false_from (list_any (λ (a : Action). is_write a.effect) m.actions && f.printed) (λ h.
+    quiet = false_from_ne_true (list_any (λ (a : Action). is_write a.effect) m.actions && f.printed) (λ h.
         (let w = g.printed (and_right (list_any (λ (a : Action). is_write a.effect) m.actions) f.printed h) in
         let same : w.0 ≡ length ms = ok.printing.one w.0 (length ms) w.2 (writes_by (and_left _ f.printed h)) in
         let low : w.0 < length ms = w.1 in omega arith))
@@ -354,7 +356,7 @@ module _ (x : Netlist) (ok : IsSound x) where
         let at_n = split_at m.instances a b n e in
         let items = front x.modules m m.signals m.memories m.signals (laid.constants m) (map (laid.statement m) m.actions) a in
         let state = at x.modules ms m known fits right f g.knows plain_before items in
-        false_from (places_printer f.modules (laid.instance_item x.modules m n) && is_known state.placed of.name) (λ q.
+        false_from_ne_true (places_printer f.modules (laid.instance_item x.modules m n) && is_known state.placed of.name) (λ q.
         (let below = below_by (length a) n at_n (and_left _ _ q) in
         let held : In state.placed of.name = holds_in bytes_eq bytes_eq-Decides state.placed of.name (and_right (places_printer f.modules (laid.instance_item x.modules m n)) _ q) in
         let grown : In (after with_name f.placed (flat_map item_modules items)) of.name = subst (λ (l : Names). In l of.name)

@@ -4,21 +4,12 @@ use Rattle.std.specs.Prelude.{not, filter, slice_get, option_map}
 use Rattle.std.specs.Str.{bytes_eq}
 use Rattle.std.proofs.lemmas.Slice.Eq.{bytes_eq-Decides}
 use Rattle.std.proofs.lemmas.Option.{slice_get-map, same_Some, none-some}
+use Rattle.std.proofs.lemmas.Bool.{false_from_ne_true}
+use Rattle.lists.proofs.Places.{get_front, get_back}
 use Rattle.netlist.specs.NetlistOf.{Name, place}
 use Rattle.netlist.specs.Laid.{AreApart}
 
 -- ---- elements
-
-pub get_front : {A : Type 0} (xs ys : List A) (i : ℕ) (x : A) → slice_get xs i ≡ Some x → slice_get (xs ++ ys) i ≡ Some x
-get_front [] ys i x h = absurd (none-some x h)
-get_front (y ∷ xs) ys zero x h = h
-get_front (y ∷ xs) ys (suc i) x h = get_front xs ys i x h
-
-pub get_back : {A : Type 0} (xs ys : List A) (i : ℕ) (x : A) → slice_get ys i ≡ Some x → slice_get (xs ++ ys) (length xs + i) ≡ Some x
-get_back [] ys i x h = let e : i ≡ 0 + i = omega arith in subst (λ (k : ℕ). slice_get ys k ≡ Some x) e h
-get_back (y ∷ xs) ys i x h =
-    let e : suc (length xs + i) ≡ suc (length xs) + i = omega arith in
-    subst (λ (k : ℕ). slice_get (y ∷ (xs ++ ys)) k ≡ Some x) e (get_back xs ys i x h)
 
 pub record IsBehind {A : Type 0} (xs ys : List A) (i : ℕ) (x : A) : Type 0 where
   pub at : ℕ
@@ -32,19 +23,6 @@ get_either (y ∷ xs) ys (suc i) x h = elim (get_either xs ys i x h) [
   | inl p ↦ inl p
   | inr p ↦ inr (let e : i ≡ length xs + p.at = p.is in record { at = p.at; is = omega arith; found = p.found })
 ]
-
-pub get_there : {A : Type 0} (xs : List A) (k : ℕ) → k < length xs → (x : A) × (slice_get xs k ≡ Some x)
-get_there [] k lt = absurd (omega arith)
-get_there (y ∷ xs) zero lt = (y, refl)
-get_there (y ∷ xs) (suc k) lt = get_there xs k (omega arith)
-
-pub get_mapped : {A B : Type 0} (f : A → B) (xs : List A) (k : ℕ) (x : A) → slice_get xs k ≡ Some x → slice_get (map f xs) k ≡ Some (f x)
-get_mapped f xs k x h = slice_get-map f xs k ∙ ap (option_map f) h
-
-pub get_unmapped : {A B : Type 0} (f : A → B) (xs : List A) (k : ℕ) (y : B) → slice_get (map f xs) k ≡ Some y → (x : A) × (slice_get xs k ≡ Some x) × (f x ≡ y)
-get_unmapped f [] k y h = absurd (none-some y h)
-get_unmapped f (x ∷ xs) zero y h = (x, refl, same_Some (f x) y h)
-get_unmapped f (x ∷ xs) (suc k) y h = get_unmapped f xs k y h
 
 filtered_step : {A : Type 0} (p : A → Bool) (y : A) (xs : List A) (x : A) → ((j : ℕ) → slice_get xs j ≡ Some x → p x ≡ true) → (b : Bool) (k : ℕ) → p y ≡ b
     → slice_get (cond b (y ∷ xs) xs) k ≡ Some x → p x ≡ true
@@ -75,15 +53,11 @@ map_against f (x ∷ xs) (y ∷ ys) e h =
 
 -- ---- names
 
-pub false_from : (b : Bool) → (b ≡ true → ⊥) → b ≡ false
-false_from true h = absurd (h refl)
-false_from false h = refl
-
 pub same_name : (x : Name) → bytes_eq x x ≡ true
 same_name x = (bytes_eq-Decides x x).1 refl
 
 pub other_name : (x n : Name) → (x ≡ n → ⊥) → bytes_eq x n ≡ false
-other_name x n h = false_from (bytes_eq x n) (λ e. h ((bytes_eq-Decides x n).0 e))
+other_name x n h = false_from_ne_true (bytes_eq x n) (λ e. h ((bytes_eq-Decides x n).0 e))
 
 pub is_name : (x n : Name) → bytes_eq x n ≡ true → x ≡ n
 is_name x n h = (bytes_eq-Decides x n).0 h

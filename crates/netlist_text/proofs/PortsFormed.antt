@@ -6,6 +6,7 @@ use Rattle.std.specs.Str.{bytes_eq}
 use Rattle.std.proofs.lemmas.Bool.{eq-eqb}
 use Rattle.std.proofs.lemmas.Bool.Decides.{nat_tests}
 use Rattle.std.proofs.lemmas.Option.{slice_get_within}
+use Rattle.lists.proofs.Places.{get_front}
 use Rattle.verilog_tree.specs.declared.tree.Port.{Port}
 use Rattle.verilog_tree.specs.declared.tree.Item.TheVariants as i
 use Rattle.verilog_tree.specs.Grammar.{clk}
@@ -22,7 +23,7 @@ use Rattle.netlist.specs.Laid as netlist_laid
 use Rattle.netlist.specs.Laid.{AreApart, IsLaidModule, kind_by, signal_names}
 use Rattle.netlist.specs.Sound.{IsSoundModule, HasClock}
 use Rattle.netlist_text.specs.LaidOut as laid
-use Rattle.netlist_text.proofs.Places.{get_front, is_name}
+use Rattle.netlist_text.proofs.Places.{is_name}
 use Rattle.netlist_text.proofs.Connections.{AreBefore, instance_is}
 use Rattle.netlist_text.proofs.Members.{In, Entry, in_none, in_first, in_rest, undeclared, declarations_in}
 use Rattle.netlist_text.proofs.Grown.{ports_are}

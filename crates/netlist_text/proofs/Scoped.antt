@@ -3,6 +3,7 @@ use Rattle.std.proofs.Common.{◌≡◌, ℕ, ◌<◌, ◌⊎◌, List, [], ◌�
 use Rattle.std.specs.Prelude.{slice_get, is_some, not, ◌||◌}
 use Rattle.std.specs.List.{flat_map}
 use Rattle.std.proofs.lemmas.Option.{same_Some, slice_get_within}
+use Rattle.lists.proofs.Places.{get_front}
 use Rattle.verilog_tree.specs.declared.kind.Kind as scope_kind
 use Rattle.verilog_tree.specs.declared.kind.Kind.TheVariants as kind
 use Rattle.verilog_tree.specs.declared.tree.InitialConstant.{InitialConstant}
@@ -19,7 +20,6 @@ use Rattle.netlist.specs.NetlistOf.{Kind, InputPort, OutputPort, PlainWire, Reg,
 use Rattle.netlist.specs.Laid as netlist_laid
 use Rattle.netlist.specs.Laid.{AreApart, declared_names, is_inner}
 use Rattle.netlist_text.specs.LaidOut as laid
-use Rattle.netlist_text.proofs.Places.{get_front}
 use Rattle.netlist_text.proofs.Members.{In, Entry, Named, in_none, in_front, in_back, in_either, kind_unique, undeclared, declarations_in, in_declarations}
 use Rattle.netlist_text.proofs.Grown.{after-append, items_scope, port_facts_are}
 use Rattle.netlist_text.proofs.Views.{told_kind, told_entry, memory_kind, memory_entry, is_port, OfSignal, OfMemory}

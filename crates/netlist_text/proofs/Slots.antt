@@ -3,12 +3,12 @@ use Rattle.std.proofs.Common.{◌≡◌, ℕ, ◌+◌, ◌<◌, ◌++◌, Some, 
 use Rattle.std.specs.Prelude.{slice_get}
 use Rattle.std.proofs.lemmas.Option.{slice_get_within}
 use Rattle.std.proofs.lemmas.List.{length-append}
+use Rattle.lists.proofs.Places.{get_front, get_back, get_mapped}
 use Rattle.netlist.specs.declared.netlist.Signal.{Signal}
 use Rattle.netlist.specs.declared.netlist.Memory.{Memory}
 use Rattle.netlist.specs.declared.netlist.Instance.{Instance}
 use Rattle.netlist.specs.declared.netlist.Module.{Module}
 use Rattle.netlist.specs.Laid.{AreApart, declared_names, signal_names, memory_names, instance_names}
-use Rattle.netlist_text.proofs.Places.{get_front, get_back, get_mapped}
 
 module _ (m : Module) (apart : AreApart (declared_names m)) where
   signal_at : (x : ℕ) (s : Signal) → slice_get m.signals x ≡ Some s → slice_get (signal_names m) x ≡ Some s.name

@@ -5,6 +5,7 @@ use Rattle.std.specs.List.{flat_map}
 use Rattle.std.specs.Str.{bytes_eq}
 use Rattle.std.proofs.lemmas.Slice.Eq.{bytes_eq-Decides}
 use Rattle.std.proofs.lemmas.Option.{same_Some, none-some, slice_get_within}
+use Rattle.lists.proofs.Places.{get_there, get_mapped, get_unmapped}
 use Rattle.verilog_tree.specs.declared.tree.Expression.{Expression}
 use Rattle.verilog_tree.specs.declared.tree.Connection.{Connection}
 use Rattle.verilog_tree.specs.declared.tree.Assign.{Assign}
@@ -19,7 +20,7 @@ use Rattle.netlist.specs.NetlistOf as n
 use Rattle.netlist.specs.NetlistOf.{Name, Kind, InputPort, OutputPort, PlainWire, Reg, Declaration, connected, assigned, is_output_port}
 use Rattle.netlist.specs.Laid.{EachAt, AreApart, IsDriven, IsLaidInstance, kind_of, is_input_port, is_inner, input_signals, inner_signals, output_signals, first_output, signal_names, source_at}
 use Rattle.netlist_text.specs.LaidOut as laid
-use Rattle.netlist_text.proofs.Places.{get_either, get_there, get_mapped, get_unmapped, get_filtered, same_name, other_name, is_name, head_other, apart_rest}
+use Rattle.netlist_text.proofs.Places.{get_either, get_filtered, same_name, other_name, is_name, head_other, apart_rest}
 use Rattle.netlist_text.proofs.Told.{told_declaration, told_declarations}
 use Rattle.netlist_text.proofs.Values.{signal_name_at}
 use Rattle.netlist_text.proofs.Connections.{IsOrdered, first_is, output_at, output_connected, AreBefore, texts, instance_is, of_instance_is}

@@ -4,9 +4,10 @@ use Rattle.std.proofs.Common.{false, Some, refl, sym, ap, ◌∙◌, subst, inl,
 use Rattle.std.specs.Prelude.{slice_get, not, nat_lt, ◌==◌, ◌&&◌, if◌then◌else◌}
 use Rattle.std.specs.Str.{bytes_eq}
 use Rattle.std.proofs.lemmas.Slice.Eq.{bytes_eq-Decides}
-use Rattle.std.proofs.lemmas.Bool.{eq-eqb}
+use Rattle.std.proofs.lemmas.Bool.{eq-eqb, false_from_ne_true}
 use Rattle.std.proofs.lemmas.Bool.Decides.{nat_tests}
 use Rattle.std.proofs.lemmas.Option.{same_Some, none-some, slice_get_within}
+use Rattle.lists.proofs.Places.{get_there, get_mapped}
 use Rattle.verilog_tree.specs.declared.kind.Kind.TheVariants as kind
 use Rattle.verilog_tree.specs.declared.kind.SignalClass.TheVariants as class
 use Rattle.verilog_tree.specs.declared.tree.Direction.TheVariants as direction
@@ -24,13 +25,13 @@ use Rattle.netlist.specs.declared.netlist.Module.{Module}
 use Rattle.netlist.specs.Laid.{AreApart, kind_by, kind_of, is_inner, input_signals, inner_signals, output_signals, first_output, signal_names}
 use Rattle.netlist.specs.Sound as sound
 use Rattle.netlist_text.specs.LaidOut as laid
-use Rattle.netlist_text.proofs.Places.{get_there, get_mapped, get_either, get_filtered}
+use Rattle.netlist_text.proofs.Places.{get_either, get_filtered}
 use Rattle.netlist_text.proofs.Values.{signal_name_at}
 use Rattle.netlist_text.proofs.Connections.{IsOrdered, length_parts, first_is}
 use Rattle.netlist_text.proofs.Members.{In, IsApart, in_first, in_rest, in_front, in_back, in_either, not_holds, in_holds, apart_tail}
 use Rattle.netlist_text.proofs.Views.{told_kind, told_kind_by, is_port}
 use Rattle.netlist_text.proofs.Scoped.{no_both}
-use Rattle.netlist_text.proofs.Widths.{IsPlain, KnowsNames, width_of_high, has_is, driven_by_port, no_clock_port, not_clock}
+use Rattle.netlist_text.proofs.Widths.{IsPlain, KnowsNames, width_of_high, has_is, driven_by_port, no_clock_port}
 use Rattle.netlist_text.proofs.Interfaces.{IsPortAt, input_port_at, output_port_at, port_from, direction_by}
 
 -- ---- tests over lists
@@ -175,7 +176,7 @@ clock_kind t p h =
 
 -- an output is no clock
 output_no_clock : (s : Signal) → IsPlain s → direction_by (kind_of s) ≡ direction.Output → is_clk s.name ≡ false
-output_no_clock s p d = not_clock (is_clk s.name) (λ h.
+output_no_clock s p d = false_from_ne_true (is_clk s.name) (λ h.
     let e : direction.Input ≡ direction.Output = sym (ap (λ f. direction_by (kind_by f s.is_output)) (p.clock h)) ∙ d in absurd (cc))
 
 module _ (sc : Scope) (m : Module) (knows : KnowsNames sc m) (of : Module) (ordered : IsOrdered of) (plain : (k : ℕ) (s : Signal) → slice_get of.signals k ≡ Some s → IsPlain s) where

@@ -4,6 +4,7 @@ use Rattle.std.specs.Prelude.{slice_get, option_map, unwrap_or, nat_eq, if◌the
 use Rattle.std.specs.List.{flat_map}
 use Rattle.std.proofs.lemmas.Bool.{eqb-true}
 use Rattle.std.proofs.lemmas.List.{append-nil}
+use Rattle.lists.proofs.Places.{get_there, get_mapped}
 use Rattle.verilog_tree.specs.declared.tree.Expression.{Expression}
 use Rattle.verilog_tree.specs.declared.tree.Expression.TheVariants as e
 use Rattle.verilog_tree.specs.declared.tree.Statement.{Statement}
@@ -24,7 +25,7 @@ use Rattle.netlist.specs.NetlistOf as n
 use Rattle.netlist.specs.NetlistOf.{Name, place}
 use Rattle.netlist.specs.Laid.{AreApart, AreSignals, AreMemories, IsLaidAction, operands, memories_read, argument_place, effect_signals, memories_stored, signal_names, memory_names}
 use Rattle.netlist_text.specs.LaidOut as laid
-use Rattle.netlist_text.proofs.Places.{get_there, get_mapped, place_at, map_back}
+use Rattle.netlist_text.proofs.Places.{place_at, map_back}
 
 -- the name of the signal at a place
 pub signal_name_at : (m : Module) (x : ℕ) (s : Signal) → slice_get m.signals x ≡ Some s → laid.signal_name m x ≡ s.name

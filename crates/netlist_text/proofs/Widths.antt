@@ -1,8 +1,9 @@
 -- Widths in a scope that knows the signals and the memories of a module.
 use Rattle.std.proofs.Common.{◌≡◌, ℕ, suc, ◌+◌, ◌-◌, ◌*◌, ◌^◌, ◌<◌, ◌≤◌, List, [], ◌∷◌, Bool, true, false, Some, None, refl, sym, ap, ◌∙◌, length, map, arith}
 use Rattle.std.specs.Prelude.{slice_get, is_some, option_map, unwrap_or, ◌==◌, ◌&&◌, nat_lt, nat_le, nat_eq, if◌then◌else◌}
-use Rattle.std.proofs.lemmas.Bool.{eqb-true, eq-eqb}
+use Rattle.std.proofs.lemmas.Bool.{eqb-true, eq-eqb, false_from_ne_true}
 use Rattle.std.proofs.lemmas.Bool.Decides.{nat_tests}
+use Rattle.lists.proofs.Places.{get_there}
 use Rattle.verilog_tree.specs.declared.kind.SignalClass.{SignalClass}
 use Rattle.verilog_tree.specs.declared.kind.SignalClass.TheVariants as class
 use Rattle.verilog_tree.specs.declared.kind.Kind.TheVariants as kind
@@ -23,7 +24,7 @@ use Rattle.netlist.specs.declared.netlist.Module.{Module}
 use Rattle.netlist.specs.Laid.{kind_by, AreSignals, AreMemories, operands, memories_read}
 use Rattle.netlist.specs.Sound as sound
 use Rattle.netlist_text.specs.LaidOut as laid
-use Rattle.netlist_text.proofs.Places.{get_there, same_name}
+use Rattle.netlist_text.proofs.Places.{same_name}
 use Rattle.netlist_text.proofs.Values.{signal_name_at, memory_name_at}
 use Rattle.netlist_text.proofs.Views.{told_kind_by, told_kind, memory_kind}
 
@@ -53,12 +54,8 @@ pub record IsPlain (s : Signal) : Type 0 where
   pub high : s.width ≤ 64
   pub clock : is_clk s.name ≡ true → s.source ≡ source.Input
 
-pub not_clock : (b : Bool) → (b ≡ true → ⊥) → b ≡ false
-not_clock true h = absurd (h refl)
-not_clock false h = refl
-
 no_clock_by : (s : Signal) → IsPlain s → (from : Source) → s.source ≡ from → (from ≡ source.Input → ⊥) → is_clk s.name ≡ false
-no_clock_by s p from e other = not_clock (is_clk s.name) (λ h. other (sym e ∙ p.clock h))
+no_clock_by s p from e other = false_from_ne_true (is_clk s.name) (λ h. other (sym e ∙ p.clock h))
 
 pub no_clock_register : (s : Signal) (n : ℕ) → IsPlain s → s.source ≡ source.Register n → is_clk s.name ≡ false
 no_clock_register s n p e = no_clock_by s p (source.Register n) e (λ h. cc)

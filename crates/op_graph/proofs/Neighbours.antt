@@ -3,7 +3,7 @@ use Rattle.std.proofs.Common.{◌≡◌, ℕ, suc, zero, ◌+◌, ◌-◌, ◌*�
 use Rattle.std.proofs.Common.{false, Option, Some, None, nat_eq, ◌||◌, if◌then◌else◌, refl, ap, subst, sym, ◌∙◌, ◌⊎◌, inl, inr, arith}
 use Rattle.std.proofs.Common.{pos, ◌+ℤ◌, ◌≤ℤ◌}
 use Rattle.std.specs.List.{All, Contains}
-use Rattle.std.proofs.lemmas.Bool.{cases_eq}
+use Rattle.std.proofs.lemmas.Bool.{cases_eq, eqb-true, eq-eqb}
 use Rattle.std.proofs.lemmas.Int.{ints}
 use Rattle.std.proofs.lemmas.List.Elements.{Contains-append_left, Contains-append_right, Contains-append_cases, All-contains, All-contains_itself}
 use Rattle.schedule_sdc.specs.declared.constraint.Constraint.{Constraint}
@@ -86,17 +86,11 @@ has_first test i (suc m) k l h e = has_first_if (test i) test i m k refl l h e (
 
 -- ---- what passes the tests
 
-same_number : (y x : ℕ) → nat_eq y x ≡ true → y ≡ x
-same_number y x e = grind arith
-
-equal_itself : (x : ℕ) → nat_eq x x ≡ true
-equal_itself x = grind arith
-
 global_kind : (x : ℕ) (k : Kind) → accesses_global x k ≡ true → k ≡ Global x (writes k)
 global_kind x Simple e = absurd cc
 global_kind x (Multiply w) e = absurd cc
 global_kind x (Divide w s) e = absurd cc
-global_kind x (Global y w) e = ap (λ (z : ℕ). Global z w) (same_number y x e)
+global_kind x (Global y w) e = ap (λ (z : ℕ). Global z w) (eqb-true y x e)
 global_kind x (Array y w) e = absurd cc
 
 write_kind : (x : ℕ) (k : Kind) → writes_array x k ≡ true → k ≡ Array x true
@@ -104,14 +98,14 @@ write_kind x Simple e = absurd cc
 write_kind x (Multiply w) e = absurd cc
 write_kind x (Divide w s) e = absurd cc
 write_kind x (Global y w) e = absurd cc
-write_kind x (Array y true) e = ap (λ (z : ℕ). Array z true) (same_number y x e)
+write_kind x (Array y true) e = ap (λ (z : ℕ). Array z true) (eqb-true y x e)
 write_kind x (Array y false) e = absurd cc
 
 is_global : (x : ℕ) (w : Bool) (k : Kind) → k ≡ Global x w → accesses_global x k ≡ true
-is_global x w k e = rw e (equal_itself x)
+is_global x w k e = rw e (eq-eqb x x refl)
 
 is_write : (x : ℕ) (k : Kind) → k ≡ Array x true → writes_array x k ≡ true
-is_write x k e = rw e (equal_itself x)
+is_write x k e = rw e (eq-eqb x x refl)
 
 writes_is : (x : ℕ) (w : Bool) (k : Kind) → k ≡ Global x w → writes k ≡ w
 writes_is x w k e = rw e refl

@@ -1,13 +1,14 @@
 -- An order that meets the constraints may be sorted.
 use Rattle.std.proofs.Common.{◌≡◌, ℕ, ◌<◌, ◌≤◌, List, [], ◌∷◌, length, Bool, true, false, refl, ap, ◌∙◌, ◌⊎◌, inl, inr, arith, pos, ◌||◌}
 use Rattle.std.specs.List.{AllByRecursion, Contains}
+use Rattle.std.proofs.lemmas.Bool.{cases_Bool}
 use Rattle.schedule_sdc.specs.declared.constraint.Constraint.{Constraint}
 use Rattle.op_graph.specs.declared.node.Node.{Node}
 use Rattle.op_graph.specs.Graph.{kind_at, Uses, is_simple, latency_at, UseEarlier}
 use Rattle.op_graph.specs.Table.{IsTable, Row, Chained, Kept, Awaited, OneGlobal, OneArray, gap_after}
 use Rattle.op_orders.specs.Run.{State, Given, run}
 use Rattle.op_orders.specs.Law.{MeetsOrder, IsOrder, from_on, OrdersAgree}
-use Rattle.op_orders.proofs.Commute.{Commutes, apart_or_idle, commutes, bool_cases}
+use Rattle.op_orders.proofs.Commute.{Commutes, apart_or_idle, commutes}
 use Rattle.op_orders.proofs.Sort.{sort, run_sort, MayCross, all_sort, length_sort, rises_sort, is_from_on}
 
 module _ (g : Given) (nodes : List Node) (list : List Constraint) (earlier : UseEarlier nodes) (table : IsTable nodes list) where
@@ -27,7 +28,7 @@ module _ (g : Given) (nodes : List Node) (list : List Constraint) (earlier : Use
   crossed : (a b : ℕ) → a < length nodes → b < length nodes → b < a → Free b a → Commutes g nodes a b
   crossed a b la lb lt free =
       let differs : a ≡ b → ⊥ = λ e. omega arith in
-      let ab : Uses nodes a b → ⊥ = λ u. unused_by b a la free u (bool_cases (is_simple (kind_at nodes b))) (bool_cases (is_simple (kind_at nodes a))) in
+      let ab : Uses nodes a b → ⊥ = λ u. unused_by b a la free u (cases_Bool (is_simple (kind_at nodes b))) (cases_Bool (is_simple (kind_at nodes a))) in
       let ba : Uses nodes b a → ⊥ = λ u. (let h = earlier b a lb u in omega arith) in
       let d = apart_or_idle g (kind_at nodes a) (kind_at nodes b) (λ x v w e f. refuted b a (gap_after v) free (OneGlobal x v w lt la e f refl))
       (λ x v w e f t. refuted b a 1 free (OneArray x v w lt la e f t refl)) in

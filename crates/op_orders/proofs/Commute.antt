@@ -1,7 +1,7 @@
 -- Operations that need not keep their order.
 use Rattle.std.proofs.Common.{◌≡◌, ℕ, ℤ, List, Bool, true, false, Option, Some, None, refl, ap, sym, ◌∙◌, ◌⊎◌, inl, inr, arith, nat_eq, if◌then◌else◌, ◌||◌}
 use Rattle.std.proofs.Math.Path.{fun_ext}
-use Rattle.std.proofs.lemmas.Bool.{cases_eq}
+use Rattle.std.proofs.lemmas.Bool.{cases_eq, eqb-true, ne_eqb, cases_Bool, eq-eqb}
 use Rattle.op_graph.specs.declared.node.Node.{Node}
 use Rattle.op_graph.specs.declared.node.Kind.{Kind}
 use Rattle.op_graph.specs.declared.node.Kind.TheVariants.{Simple, Multiply, Divide, Global, Array}
@@ -27,34 +27,21 @@ put_comm_at f i v j w k ne (inr p) (inr q) = put_other (put f i v) j w k q ∙ (
 put_comm : (f : ℕ → ℤ) (i : ℕ) (v : ℤ) (j : ℕ) (w : ℤ) → (i ≡ j → ⊥) → put (put f i v) j w ≡ put (put f j w) i v
 put_comm f i v j w ne = fun_ext (λ k. put_comm_at f i v j w k ne (cases_eq k i) (cases_eq k j))
 
-nat_eq_true : (x y : ℕ) → nat_eq x y ≡ true → x ≡ y
-nat_eq_true x y e = grind arith
-
-nat_eq_same : (x : ℕ) → nat_eq x x ≡ true
-nat_eq_same x = grind arith
-
-nat_eq_false : (x y : ℕ) → (x ≡ y → ⊥) → nat_eq x y ≡ false
-nat_eq_false x y ne = grind arith
-
 same_true : (x y : Object) → same_object x y ≡ true → x ≡ y
 same_true Nothing Nothing e = refl
 same_true Nothing (TheGlobal y) e = absurd (cc)
 same_true Nothing (TheArray y) e = absurd (cc)
 same_true (TheGlobal x) Nothing e = absurd (cc)
-same_true (TheGlobal x) (TheGlobal y) e = ap TheGlobal (nat_eq_true x y e)
+same_true (TheGlobal x) (TheGlobal y) e = ap TheGlobal (eqb-true x y e)
 same_true (TheGlobal x) (TheArray y) e = absurd (cc)
 same_true (TheArray x) Nothing e = absurd (cc)
 same_true (TheArray x) (TheGlobal y) e = absurd (cc)
-same_true (TheArray x) (TheArray y) e = ap TheArray (nat_eq_true x y e)
+same_true (TheArray x) (TheArray y) e = ap TheArray (eqb-true x y e)
 
 same_refl : (x : Object) → same_object x x ≡ true
 same_refl Nothing = refl
-same_refl (TheGlobal x) = nat_eq_same x
-same_refl (TheArray x) = nat_eq_same x
-
-pub bool_cases : (b : Bool) → (b ≡ true) ⊎ (b ≡ false)
-bool_cases true = inl refl
-bool_cases false = inr refl
+same_refl (TheGlobal x) = eq-eqb x x refl
+same_refl (TheArray x) = eq-eqb x x refl
 
 differ_sym : (x y : Object) → same_object x y ≡ false → (same_object y x ≡ true) ⊎ (same_object y x ≡ false) → same_object y x ≡ false
 differ_sym x y e (inr f) = f
@@ -77,14 +64,14 @@ content_comm_at f x v y w z ne (inr p) (inr q) = content_other (put_content f x 
 
 content_comm : (f : Object → Content) (x : Object) (v : Content) (y : Object) (w : Content) → same_object x y ≡ false →
     put_content (put_content f x v) y w ≡ put_content (put_content f y w) x v
-content_comm f x v y w ne = fun_ext (λ z. content_comm_at f x v y w z ne (bool_cases (same_object z x)) (bool_cases (same_object z y)))
+content_comm f x v y w ne = fun_ext (λ z. content_comm_at f x v y w z ne (cases_Bool (same_object z x)) (cases_Bool (same_object z y)))
 
 content_kept_at : (f : Object → Content) (x z : Object) → (same_object z x ≡ true) ⊎ (same_object z x ≡ false) → put_content f x (f x) z ≡ f z
 content_kept_at f x z (inl p) = content_same f x z (f x) p ∙ ap f (sym (same_true z x p))
 content_kept_at f x z (inr p) = content_other f x z (f x) p
 
 content_kept : (f : Object → Content) (x : Object) → put_content f x (f x) ≡ f
-content_kept f x = fun_ext (λ z. content_kept_at f x z (bool_cases (same_object z x)))
+content_kept f x = fun_ext (λ z. content_kept_at f x z (cases_Bool (same_object z x)))
 
 state_path : {v w : ℕ → ℤ} {c d : Object → Content} → v ≡ w → c ≡ d → ◌≡◌ {A = State} (record { value = v; content = c }) (record { value = w; content = d })
 state_path p q = λ i. record { value = p i; content = q i }
@@ -97,7 +84,7 @@ module _ (g : Given) where
   globals : (x y : ℕ) (w v : Bool) → ((z : ℕ) (p q : Bool) → Global y v ≡ Global z p → Global x w ≡ Global z q → ⊥) → (x ≡ y) ⊎ (x ≡ y → ⊥) → (same_object (TheGlobal x)
       (TheGlobal y) ≡ false) ⊎ (Idle (Global x w) × Idle (Global y v))
   globals x y w v never (inl e) = absurd (never y v w refl (ap (λ (z : ℕ). Global z w) e))
-  globals x y w v never (inr ne) = inl (nat_eq_false x y ne)
+  globals x y w v never (inr ne) = inl (ne_eqb x y ne)
 
   arrays_same : (x : ℕ) (w v : Bool) → ((v || w) ≡ true → ⊥) → Idle (Array x w) × Idle (Array x v)
   arrays_same x true true never = absurd (never refl)
@@ -112,7 +99,7 @@ module _ (g : Given) where
   arrays : (x y : ℕ) (w v : Bool) → ((z : ℕ) (p q : Bool) → Array y v ≡ Array z p → Array x w ≡ Array z q → (p || q) ≡ true → ⊥) → (x ≡ y) ⊎ (x ≡ y → ⊥) →
       (same_object (TheArray x) (TheArray y) ≡ false) ⊎ (Idle (Array x w) × Idle (Array y v))
   arrays x y w v never (inl e) = let h = arrays_same x w v (λ t. never y v w refl (ap (λ (z : ℕ). Array z w) e) t) in inr (h.0, idle_array x y v h.1)
-  arrays x y w v never (inr ne) = inl (nat_eq_false x y ne)
+  arrays x y w v never (inr ne) = inl (ne_eqb x y ne)
 
   pub apart_or_idle : (a b : Kind) → ((z : ℕ) (p q : Bool) → b ≡ Global z p → a ≡ Global z q → ⊥) → ((z : ℕ) (p q : Bool) → b ≡ Array z p → a ≡ Array z q →
       (p || q) ≡ true → ⊥) → (same_object (object_of a) (object_of b) ≡ false) ⊎ (Idle a × Idle b)
@@ -165,7 +152,7 @@ module _ (g : Given) where
 
     undisturbed : (a b : ℕ) (s : State) → (same_object (object_of (kind a)) (object_of (kind b)) ≡ false) ⊎ (Idle (kind a) × Idle (kind b)) → Undisturbed a b s
     undisturbed a b s (inl e) = content_other s.content (object_of (kind a)) (object_of (kind b)) _ (differ_sym (object_of (kind a))
-        (object_of (kind b)) e (bool_cases (same_object (object_of (kind b)) (object_of (kind a)))))
+        (object_of (kind b)) e (cases_Bool (same_object (object_of (kind b)) (object_of (kind a)))))
     undisturbed a b s (inr h) =
         let q = h.0 (g.left a (input s.value (node nodes a).left)) (g.right a (input s.value (node nodes a).right)) (s.content (object_of (kind a))) in
         ap (λ (c : Content). put_content s.content (object_of (kind a)) c (object_of (kind b))) q ∙ ap (λ (f : Object → Content). f (object_of (kind b)))

@@ -1,13 +1,13 @@
 -- A simulator of the netlist of a well-formed text can be opened.
 use Rattle.std.specs.Prelude.{◌≡◌, ℕ, Some, slice_get, codes}
 use Rattle.std.proofs.Common.{ap, ◌∙◌}
+use Rattle.lists.proofs.Places.{get_mapped}
 use Rattle.verilog_tree.specs.declared.tree.Net.{Net}
 use Rattle.verilog_tree.specs.WellFormed.{IsWellFormed}
 use Rattle.netlist.specs.declared.netlist.Signal.{Signal}
 use Rattle.netlist.specs.declared.netlist.Module.{Module}
 use Rattle.netlist.specs.Laid.{signal_names}
 use Rattle.netlist.specs.NetlistOf.{netlist_of}
-use Rattle.netlist_text.proofs.Places.{get_mapped}
 use Rattle.verilog_meaning.specs.Names.{top_of, IsSignal}
 use Rattle.fitting_net.specs.Fitting.{IsFitModule}
 use Rattle.fitting_net.proofs.Modules.{fits_of_well_formed}

@@ -4,6 +4,7 @@ use Rattle.std.specs.Str.{bytes_eq}
 use Rattle.std.proofs.Common.{ap, sym, ◌∙◌, subst, arith}
 use Rattle.std.proofs.lemmas.Option.{same_Some, none-some}
 use Rattle.std.proofs.lemmas.Slice.Eq.{bytes_eq-Decides}
+use Rattle.lists.proofs.Places.{get_mapped, get_unmapped}
 use Rattle.verilog_tree.specs.declared.tree.Direction.{Direction}
 use Rattle.verilog_tree.specs.declared.tree.Direction.TheVariants as direction
 use Rattle.verilog_tree.specs.declared.tree.Port.{Port}
@@ -17,7 +18,7 @@ use Rattle.netlist.specs.declared.netlist.Module.{Module}
 use Rattle.netlist.specs.NetlistOf as n
 use Rattle.netlist.specs.NetlistOf.{Name, module_of, netlist_of}
 use Rattle.netlist.specs.Laid.{AreApart, module_names}
-use Rattle.netlist_text.proofs.Places.{apart_rest, head_other, get_mapped, get_unmapped}
+use Rattle.netlist_text.proofs.Places.{apart_rest, head_other}
 use Rattle.netlist_text.proofs.Members.{In}
 use Rattle.verilog_meaning.specs.Names.{module_named, top_of}
 use Rattle.verilog_meaning.specs.Ports.{HasDone}

@@ -37,20 +37,19 @@ fn bind(alloc: Global, block: &Block) -> Result<Bound, AllocError>
 fn three_products(rt: HostRuntime) -> Result<(), Fail> {
     let alloc = rt.alloc();
     let block = products(alloc)?;
-    assert_eq!(rt; block.operations.len(), 4);
+    assert!(rt; block.operations.len() == 4);
     let bound = bind(alloc, &block)?;
-    assert_eq!(rt; bound.starts.as_slice(), [0, 0, 2, 3, 5].as_slice());
-    assert_eq!(rt; bound.units.unit.as_slice(), [0, 1, 0, 0].as_slice());
+    assert!(rt; bound.starts.as_slice() == [0, 0, 2, 3, 5].as_slice());
+    assert!(rt; bound.units.unit.as_slice() == [0, 1, 0, 0].as_slice());
     let multipliers = [UnitCount {
         kind: Kind::Multiply { width: 32 },
         count: 2,
     }];
-    assert_eq!(rt; bound.units.counts.as_slice(), multipliers.as_slice());
-    assert_eq!(rt;
-        bound.registers.register.as_slice(),
-        [Some(0), Some(1), Some(0), None].as_slice()
+    assert!(rt; bound.units.counts.as_slice() == multipliers.as_slice());
+    assert!(rt;
+        bound.registers.register.as_slice() == [Some(0), Some(1), Some(0), None].as_slice()
     );
-    assert_eq!(rt; bound.registers.count, 2);
-    assert_eq!(rt; bound.registers.crowded, 2);
+    assert!(rt; bound.registers.count == 2);
+    assert!(rt; bound.registers.crowded == 2);
     Ok(())
 }

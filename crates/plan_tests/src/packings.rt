@@ -11,9 +11,9 @@ fn intervals_that_meet_have_different_rows(rt: HostRuntime) -> Result<(), Fail> 
         Interval { start: 3, end: 5 },
     ];
     let packing = pack(rt.alloc(), &intervals)?;
-    assert_eq!(rt; packing.row.as_slice(), [0, 1, 0].as_slice());
-    assert_eq!(rt; packing.rows, 2);
-    assert_eq!(rt; packing.crowded, 1);
+    assert!(rt; packing.row.as_slice() == [0, 1, 0].as_slice());
+    assert!(rt; packing.rows == 2);
+    assert!(rt; packing.crowded == 1);
     Ok(())
 }
 
@@ -25,8 +25,8 @@ fn an_interval_without_a_place_meets_none(rt: HostRuntime) -> Result<(), Fail> {
         Interval { start: 1, end: 4 },
     ];
     let packing = pack_some(rt.alloc(), &intervals)?;
-    assert_eq!(rt; packing.row.as_slice(), [0, 0, 1].as_slice());
-    assert_eq!(rt; packing.rows, 2);
-    assert_eq!(rt; packing.crowded, 1);
+    assert!(rt; packing.row.as_slice() == [0, 0, 1].as_slice());
+    assert!(rt; packing.rows == 2);
+    assert!(rt; packing.crowded == 1);
     Ok(())
 }

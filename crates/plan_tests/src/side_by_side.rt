@@ -57,11 +57,11 @@ fn plans_each_code(rt: HostRuntime) -> Result<(), Fail> {
     }
     for jobs in [0, 1, 2, 3, 16] {
         let plans = plan_all(&rt, alloc, codes.as_slice(), jobs)?;
-        assert_eq!(rt; plans.len(), codes.len(), "at {jobs}");
+        assert!(rt; plans.len() == codes.len(), "at {jobs}");
         for (code, planned) in codes.iter().zip(plans.as_slice()) {
             let alone = plan(alloc, code)?;
-            assert_eq!(rt; starts(planned), starts(&alone), "at {jobs}");
-            assert_eq!(rt; planned.registers, alone.registers, "at {jobs}");
+            assert!(rt; starts(planned) == starts(&alone), "at {jobs}");
+            assert!(rt; planned.registers == alone.registers, "at {jobs}");
         }
     }
     Ok(())

@@ -143,7 +143,9 @@ pub fn code(alloc: Global, block: Block) -> Result<ThreadCode, AllocError> {
 pub fn with_stages(alloc: Global, stages: Items<Stage>) -> Result<ThreadCode, AllocError> {
     let variables = Items::from_slice(alloc, &[CType::INT])?;
     Ok(ThreadCode {
+        argument: None,
         variables,
+        names: Items::new(alloc),
         arrays: Items::new(alloc),
         stages,
     })

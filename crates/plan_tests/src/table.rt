@@ -43,7 +43,7 @@ fn sums(rt: HostRuntime) -> Result<(), Fail> {
         row(1, 3, 1),
         row(2, 3, 1),
     ];
-    assert_eq!(rt; list.as_slice(), rows.as_slice());
+    assert!(rt; list.as_slice() == rows.as_slice());
     Ok(())
 }
 
@@ -57,7 +57,7 @@ fn products(rt: HostRuntime) -> Result<(), Fail> {
     add_binary(alloc, all, BinaryOperator::Divide, value(0), local())?;
     let list = table(alloc, &operations)?;
     let rows = [row(0, 1, 2), row(0, 2, 2), row(1, 2, 8)];
-    assert_eq!(rt; list.as_slice(), rows.as_slice());
+    assert!(rt; list.as_slice() == rows.as_slice());
     Ok(())
 }
 
@@ -82,7 +82,7 @@ fn accesses(rt: HostRuntime) -> Result<(), Fail> {
         row(2, 4, 1),
         row(3, 4, 1),
     ];
-    assert_eq!(rt; list.as_slice(), rows.as_slice());
+    assert!(rt; list.as_slice() == rows.as_slice());
     let fewer = reduced(alloc, &operations)?;
     let kept = [
         row(2, 3, 1),
@@ -93,7 +93,7 @@ fn accesses(rt: HostRuntime) -> Result<(), Fail> {
         row(2, 4, 1),
         row(3, 4, 1),
     ];
-    assert_eq!(rt; fewer.as_slice(), kept.as_slice());
+    assert!(rt; fewer.as_slice() == kept.as_slice());
     Ok(())
 }
 
@@ -118,7 +118,7 @@ fn globals(rt: HostRuntime) -> Result<(), Fail> {
         row(2, 4, 2),
         row(3, 4, 2),
     ];
-    assert_eq!(rt; list.as_slice(), rows.as_slice());
+    assert!(rt; list.as_slice() == rows.as_slice());
     let fewer = reduced(alloc, &operations)?;
     let kept = [
         row(0, 1, 2),
@@ -128,6 +128,6 @@ fn globals(rt: HostRuntime) -> Result<(), Fail> {
         row(2, 4, 2),
         row(3, 4, 2),
     ];
-    assert_eq!(rt; fewer.as_slice(), kept.as_slice());
+    assert!(rt; fewer.as_slice() == kept.as_slice());
     Ok(())
 }

@@ -79,7 +79,7 @@ fn shape(alloc: Global) -> Result<Shape, AllocError> {
         is_main: true,
         globals: Items::new(alloc),
         spreads: Items::new(alloc),
-        printer: Some(printer),
+        printer,
     })
 }
 

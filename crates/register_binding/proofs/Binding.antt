@@ -3,7 +3,7 @@ use Rattle.std.proofs.Common.{◌≡◌, ℕ, zero, suc, ◌<◌, ◌≤◌, Lis
 use Rattle.std.proofs.Common.{sym, ◌∙◌, ◌⊎◌, inl, inr, arith}
 use Rattle.std.specs.Prelude.{slice_index, max}
 use Rattle.std.specs.List.{count_by, range_with_len}
-use Rattle.std.proofs.lemmas.Bool.{cases_lt}
+use Rattle.std.proofs.lemmas.Bool.{cases_lt, lt-ltb}
 use Rattle.std.proofs.lemmas.List.{ext_get_or}
 use Rattle.interval_pack.specs.declared.interval.Interval.{Interval}
 use Rattle.interval_pack.specs.LeftEdge.{IsBefore}
@@ -17,9 +17,6 @@ use Rattle.op_graph.specs.Graph.{node, done}
 use Rattle.register_binding.specs.Registers.{needed_to, uses_value, life_end, Lives, LiveTogether, lives_at, live_at, register_at, number, AreRegisters, RegistersBelow}
 use Rattle.register_binding.specs.Registers.{AreCrowded, RegistersAgree}
 use Rattle.register_binding.specs.Steps.{AreLives, AreRows}
-
-true_lt : (a b : ℕ) → a < b → nat_lt a b ≡ true
-true_lt a b l = grind arith
 
 false_lt : (a b : ℕ) → (a < b → ⊥) → nat_lt a b ≡ false
 false_lt a b n = grind arith
@@ -94,7 +91,7 @@ module _ (nodes : List Node) (starts : List ℕ) (at_end : ℕ → Bool) (lives 
       alive i l h =
           let a = start_is i l in
           let b = end_is i l in
-          let t = true_lt (at lives i).start (at lives i).end (omega arith) in
+          let t = lt-ltb (at lives i).start (at lives i).end (omega arith) in
           given.each i (within i l) ∙ ap (λ (b : Bool). if b then Some (slice_index row i) else None) t
 
       dead : (i : ℕ) → i < n → (Lives nodes starts at_end i → ⊥) → register_at registers i ≡ None

@@ -3,27 +3,16 @@ use Rattle.std.proofs.Common.{◌≡◌, ◌≢◌, ℕ, zero, suc, ◌+◌, ◌
 use Rattle.std.proofs.Common.{nat_eq, refl, sym, ap, subst, ◌∙◌, ◌⊎◌, inl, inr, arith, add-one, get_or-set_other, get_or-set_same}
 use Rattle.std.proofs.lemmas.Bool.{cases_eq}
 use Rattle.std.proofs.lemmas.List.{length-set, get_or-replicate, length-replicate}
+use mathlib.Core.Bool.{or-false, or-true, or_assoc}
 use Rattle.block_ir.specs.declared.block.Final.{Final}
 use Rattle.block_ir.specs.declared.block.Block.{Block}
 use Rattle.register_binding.specs.Used.{is_value, any_final, next_uses, is_used_at_end, AreUsedAtEnd, IsMarked}
-
-or_false : (a : Bool) → (a || false) ≡ a
-or_false true = refl
-or_false false = refl
-
-or_true : (a : Bool) → (a || true) ≡ true
-or_true true = refl
-or_true false = refl
-
-or_assoc : (a b c : Bool) → ((a || b) || c) ≡ (a || (b || c))
-or_assoc true b c = refl
-or_assoc false b c = refl
 
 -- nothing is marked
 pub no_marks : (f : ℕ → Bool) (a : List Bool) → ((k : ℕ) → k < length a → f k ≡ false) → IsMarked f a a
 no_marks f a none = record {
   count = refl;
-  each = λ k l. sym (ap (λ (b : Bool). get_or a k false || b) (none k l) ∙ or_false (get_or a k false));
+  each = λ k l. sym (ap (λ (b : Bool). get_or a k false || b) (none k l) ∙ or-false (get_or a k false));
 }
 
 -- place j is marked
@@ -37,11 +26,11 @@ mark_one f a b j within e is = rw e (record {
     each k l (inl same) =
         let here : get_or (set a j true) j false ≡ true = get_or-set_same a j true false within in
         let yes_it_is : nat_eq j k ≡ true = grind arith in
-        subst (λ (z : ℕ). get_or (set a j true) z false ≡ true) (sym same) here ∙ sym (ap (λ (b : Bool). get_or a k false || b) (is k ∙ yes_it_is) ∙ or_true (get_or a k false))
+        subst (λ (z : ℕ). get_or (set a j true) z false ≡ true) (sym same) here ∙ sym (ap (λ (b : Bool). get_or a k false || b) (is k ∙ yes_it_is) ∙ or-true (get_or a k false))
     each k l (inr other) =
         let ne : k ≢ j = other in
         let not_it : nat_eq j k ≡ false = grind arith in
-        get_or-set_other a j k true false ne ∙ sym (ap (λ (b : Bool). get_or a k false || b) (is k ∙ not_it) ∙ or_false (get_or a k false))
+        get_or-set_other a j k true false ne ∙ sym (ap (λ (b : Bool). get_or a k false || b) (is k ∙ not_it) ∙ or-false (get_or a k false))
 
 -- one after the other
 pub marks_then : (f g : ℕ → Bool) (a b c : List Bool) → IsMarked f a b → IsMarked g b c → IsMarked (λ k. f k || g k) a c
@@ -56,7 +45,7 @@ marks_alike : (f g : ℕ → Bool) (a b : List Bool) → IsMarked f a b → ((k 
 marks_alike f g a b s same = record { count = s.count; each = λ k l. s.each k l ∙ ap (λ (m : Bool). get_or a k false || m) (same k) }
 
 any_final-append : (fs : List Final) (g : Final) (k : ℕ) → any_final (fs ++ g ∷ []) k ≡ (any_final fs k || is_value g.value.source k)
-any_final-append [] g k = or_false (is_value g.value.source k)
+any_final-append [] g k = or-false (is_value g.value.source k)
 any_final-append (f ∷ fs) g k = ap (λ (m : Bool). is_value f.value.source k || m) (any_final-append fs g k) ∙ sym (or_assoc (is_value f.value.source k) (any_final fs k)
     (is_value g.value.source k))
 

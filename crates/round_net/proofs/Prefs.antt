@@ -2,6 +2,7 @@
 use Rattle.std.specs.Prelude.{◌≡◌, ℕ, zero, suc, ◌^◌, ◌<◌, ◌≤◌, Bool, true, false, ◌&&◌, List, [], ◌∷◌, length, map, Some, slice_get, codes, if◌then◌else◌, refl}
 use Rattle.std.proofs.Common.{sym, ap, ◌∙◌, inl, inr, arith, zero-add}
 use Rattle.std.proofs.lemmas.Option.{same_Some, none-some}
+use Rattle.std.proofs.lemmas.Bool.{and_parts, and_from}
 use Rattle.netlist.specs.declared.netlist.Source.{Source}
 use Rattle.netlist.specs.declared.netlist.Source.TheVariants.{Input, Register, Assigned, Port}
 use Rattle.netlist.specs.declared.netlist.Signal.{Signal}
@@ -17,14 +18,6 @@ use Rattle.top_wiring.proofs.Lists.{get_spread, spread_back}
 use Rattle.top_wiring.proofs.Naming.{numbers_same}
 use Rattle.round_net.specs.Prefs.{PrefsAreCounted}
 use Rattle.round_net.proofs.Counting.{pref_is}
-
-both : (a b : Bool) → (a && b) ≡ true → (a ≡ true) × (b ≡ true)
-both true b e = (refl, e)
-both false b e = absurd cc
-
-both_true : (a b : Bool) → a ≡ true → b ≡ true → (a && b) ≡ true
-both_true true b e f = f
-both_true false b e f = absurd cc
 
 source_is : (source : Source) → is_input source ≡ true → source ≡ Input
 source_is Input e = refl
@@ -142,7 +135,7 @@ module _ (top : Module) (threads : ℕ) (apart : AreApart (signal_names top)) (p
 
   counted_pref : (s : Signal) (x : ℕ) → slice_get top.signals x ≡ Some s → counts s ≡ true → IsIn (spread pref_name 0 K) s.name
   counted_pref s x e q =
-      let parts = both (is_input s.source) (is_pref s.name) q in
+      let parts = and_parts (is_input s.source) (is_pref s.name) q in
       elim (ports.only x s e (inl (source_is s.source parts.0))) [
         | inl clock ↦ absurd (port_pref s (codes "clk") clock refl parts.1)
         | inr more ↦ elim more [
@@ -158,7 +151,7 @@ module _ (top : Module) (threads : ℕ) (apart : AreApart (signal_names top)) (p
   pref_counted k l =
       let p = ports.prefs k l in
       let passes : counts p.signal ≡ true =
-      both_true (is_input p.signal.source) (is_pref p.signal.name) (ap is_input p.input) (ap is_pref p.is.named ∙ pref_is k (omega (arith, l, few))) in
+      and_from (is_input p.signal.source) (is_pref p.signal.name) (ap is_input p.input) (ap is_pref p.is.named ∙ pref_is k (omega (arith, l, few))) in
       let is = there top.signals p.place p.signal p.is.listed passes in
       (is.0, is.1 ∙ ap (λ z. Some z) p.is.named)
 

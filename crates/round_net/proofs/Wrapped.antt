@@ -4,6 +4,7 @@ use Rattle.std.proofs.Common.{refl, sym, ap, ◌∙◌, subst, arith, add-zero, 
 use Rattle.std.specs.Prelude.{slice_get, codes}
 use Rattle.std.specs.Str.{bytes_eq}
 use Rattle.std.proofs.lemmas.Option.{same_Some, none-some}
+use Rattle.lists.proofs.Places.{get_front, get_back}
 use Rattle.hls_ints.specs.Words.{word_sum}
 use Rattle.verilog_tree.specs.declared.tree.BinaryOperator.TheVariants.{Add}
 use Rattle.netlist.specs.declared.netlist.Value.TheVariants.{Copy, Constant, Binary, Concatenation}
@@ -23,7 +24,7 @@ use Rattle.top_wiring.specs.Wires.{source_of, wire_signal}
 use Rattle.top_wiring.specs.Top.{input, preference, output, all_wires, done_place}
 use Rattle.top_wiring.specs.Round.{inner, round_signals, top_instance}
 use Rattle.top_wiring.specs.Wired.{IsWired}
-use Rattle.top_wiring.proofs.Lists.{get_front, get_back, get_behind, get_copies}
+use Rattle.top_wiring.proofs.Lists.{get_behind, get_copies}
 use Rattle.top_wiring.proofs.Standing as standing
 use Rattle.top_wiring.proofs.SignalKinds as signals
 use Rattle.top_wiring.proofs.SignalKinds.SignalKind.{clock, mask, chosen, wire, done}

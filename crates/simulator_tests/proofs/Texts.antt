@@ -1,6 +1,7 @@
 -- The texts of the two nets, and that they are well formed.
 use Rattle.std.specs.Prelude.{◌≡◌, ℕ, Bool, true, false, not, ◌&&◌, ◌||◌, List, [], ◌∷◌, Option, Some, None, codes, refl}
 use Rattle.std.proofs.Common.{ap, ◌∙◌}
+use mathlib.Core.Bool.{and-false, or-true}
 use Rattle.verilog_tree.specs.declared.tree.BinaryOperator.TheVariants.{Add}
 use Rattle.verilog_tree.specs.declared.tree.Constant.{Constant}
 use Rattle.verilog_tree.specs.declared.tree.Direction.{Direction}
@@ -173,14 +174,6 @@ set_is A f = fold_set A f (codes "count") (codes "next")
 write_is : (A : Type 0) (f : Statement-F A → A) → fold-Statement A f write ≡ f (Statement-F.Write (codes "%0d,%0d;") written)
 write_is A f = fold_write A f (codes "%0d,%0d;") written
 
-and_false : (b : Bool) → (b && false) ≡ false
-and_false true = refl
-and_false false = refl
-
-or_true : (b : Bool) → (b || true) ≡ true
-or_true true = refl
-or_true false = refl
-
 abbrev stores_print : Bool
 stores_print = statement_prints (store (codes "bank_x_0")) || (statement_prints (store (codes "bank_x_1")) || false)
 
@@ -235,7 +228,7 @@ counter_formed = record {
       new = refl;
       name = refl;
       clock = refl;
-      placed = or_true (not (stores_print || false));
+      placed = or-true (not (stores_print || false));
       ports = (
         record { new = refl; width = refl; driven = refl; clock = refl },
         tt,
@@ -258,7 +251,7 @@ counter_formed = record {
                     writer = stores_write;
                     initial = refl;
                     complete = refl;
-                    printing = and_false stores_print;
+                    printing = and-false stores_print;
                     printer = refl;
                   },
                   tt,
@@ -274,7 +267,7 @@ counter_formed = record {
         new = refl;
         name = refl;
         clock = refl;
-        placed = or_true (not (tops_print || false));
+        placed = or-true (not (tops_print || false));
         ports = (
           record { new = refl; width = refl; driven = refl; clock = refl },
           (
@@ -331,7 +324,7 @@ counter_formed = record {
                             initial = refl;
                             complete = refl;
                             printing = refl;
-                            printer = ap not (and_false (((stores_print || false) || false) && true));
+                            printer = ap not (and-false (((stores_print || false) || false) && true));
                           },
                           (
                             record {

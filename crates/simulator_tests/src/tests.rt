@@ -39,10 +39,10 @@ fn a_cycle_takes_its_choice(rt: HostRuntime) -> Result<(), Fail> {
     assert!(rt; !sim.done());
     for is_done in [false, true] {
         let shows_done = cycle(&mut sim, &mut out)?;
-        assert_eq!(rt; shows_done, is_done);
-        assert_eq!(rt; sim.done(), is_done);
+        assert!(rt; shows_done == is_done);
+        assert!(rt; sim.done() == is_done);
     }
-    assert_eq!(rt; out.as_slice(), b"3,5;3,5;".as_slice());
+    assert!(rt; out.as_slice() == b"3,5;3,5;".as_slice());
     Ok(())
 }
 
@@ -59,12 +59,12 @@ fn an_element_stands_in_its_bank(rt: HostRuntime) -> Result<(), Fail> {
         (3, Some(13)),
         (4, None),
     ] {
-        assert_eq!(rt; sim.global("x", element), word, "at {element}");
+        assert!(rt; sim.global("x", element) == word, "at {element}");
     }
-    assert_eq!(rt; sim.global("y", 0), None);
+    assert!(rt; sim.global("y", 0) == None);
     let mut out = Bytes::new(rt.alloc());
     let cycles = sim.lockstep(1, &mut out)?;
-    assert_eq!(rt; cycles, 1);
+    assert!(rt; cycles == 1);
     for (element, word) in [
         (0u64, Some(7u64)),
         (1, Some(9)),
@@ -72,7 +72,7 @@ fn an_element_stands_in_its_bank(rt: HostRuntime) -> Result<(), Fail> {
         (3, Some(1)),
         (4, None),
     ] {
-        assert_eq!(rt; sim.global("x", element), word, "at {element}");
+        assert!(rt; sim.global("x", element) == word, "at {element}");
     }
     Ok(())
 }
@@ -86,9 +86,9 @@ fn lockstep_ends_where_done_is_shown(rt: HostRuntime) -> Result<(), Fail> {
     let mut out = Bytes::new(rt.alloc());
     for cycles in [2u32, 0] {
         let ran = sim.lockstep(20, &mut out)?;
-        assert_eq!(rt; ran, cycles);
+        assert!(rt; ran == cycles);
     }
-    assert_eq!(rt; out.as_slice(), b"3,0;3,1;".as_slice());
+    assert!(rt; out.as_slice() == b"3,0;3,1;".as_slice());
     Ok(())
 }
 
@@ -103,9 +103,9 @@ fn a_run_tells_its_cycles(rt: HostRuntime) -> Result<(), Fail> {
         (20, 2, true, "3,0;3,1;"),
     ] {
         let ran = run(rt.alloc(), modules.as_slice(), most)?;
-        assert_eq!(rt; ran.cycles, cycles, "of {most}");
-        assert_eq!(rt; ran.is_done, is_done, "of {most}");
-        assert_eq!(rt; ran.printed.as_slice(), printed.as_bytes(), "of {most}");
+        assert!(rt; ran.cycles == cycles, "of {most}");
+        assert!(rt; ran.is_done == is_done, "of {most}");
+        assert!(rt; ran.printed.as_slice() == printed.as_bytes(), "of {most}");
     }
     Ok(())
 }

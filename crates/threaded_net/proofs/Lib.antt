@@ -1,14 +1,3 @@
-pub mod Feeding
-pub mod Same
-pub mod Winning
-pub mod Resting
-pub mod Bits
-pub mod Fields
-pub mod Alone
-pub mod Written
-pub mod Stuck
-pub mod Steadiness
 pub mod Cores
 pub mod Net
-pub mod Stateless
 pub mod Parts

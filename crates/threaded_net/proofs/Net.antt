@@ -20,10 +20,10 @@ use Rattle.program_machine.proofs.Cores.{banks_silent}
 use Rattle.cycle_refine.specs.Whole.{places_of}
 use Rattle.cycle_refine.proofs.Determined.{done_is}
 use Rattle.leaf_machine.specs.Steady.{KeepsToItself}
-use Rattle.threaded_net.specs.Steady.{ShowsEnd, IsSteady}
+use Rattle.steady_net.specs.Steady.{ShowsEnd, IsSteady}
 use Rattle.threaded_net.specs.Whole.{IsSteadyWhole, NetIsThreaded}
 use Rattle.threaded_net.proofs.Cores.{core_waits}
-use Rattle.threaded_net.proofs.Steadiness.{steady_is_threaded}
+use Rattle.steady_net.proofs.Steadiness.{steady_is_threaded}
 
 module _ (P : Program) (spreads : List Spread) (banks : List Bank) (code : ThreadCode) (plan : Planned) (m : Module) (inputs : ℕ) (leaf : LeafPorts) (shape : Shape)
     (modules : List Module) (top : Module) (steady : IsSteadyWhole P spreads banks code plan m inputs leaf shape modules top) where

@@ -31,11 +31,11 @@ use Rattle.whole_net.specs.Table.{IsArbiterModule, AreBankModules, IsPrinterModu
 use Rattle.whole_net.specs.Whole.{IsWritten}
 use Rattle.whole_net.proofs.Widths.{widths, cores_are}
 use Rattle.whole_net.proofs.Whole as whole_net
-use Rattle.threaded_net.specs.Steady.{HoldsNothing}
+use Rattle.steady_net.specs.Steady.{HoldsNothing}
 use Rattle.threaded_net.specs.Whole.{IsSteadyWhole}
 use Rattle.leaf_machine.specs.Steady.{IsSteadyMain}
 use Rattle.threaded_net.specs.Parts.{NetOfPartsIsThreaded}
-use Rattle.threaded_net.proofs.Stateless.{arbiter_holds, top_holds}
+use Rattle.steady_net.proofs.Stateless.{arbiter_holds, top_holds}
 use Rattle.threaded_net.proofs.Net.{net_is_threaded}
 
 is_thread : LeafIsThread

@@ -1,3 +1,2 @@
-pub mod Steady
 pub mod Whole
 pub mod Parts

@@ -16,7 +16,7 @@ use Rattle.leaf_machine.specs.Leaves.{LeafPorts, leaf_thread, leaf_places}
 use Rattle.print_core.specs.declared.printer.Shape.{Shape}
 use Rattle.cycle_refine.specs.Whole.{IsWhole}
 use Rattle.leaf_machine.specs.Steady.{KeepsToItself}
-use Rattle.threaded_net.specs.Steady.{HoldsNothing}
+use Rattle.steady_net.specs.Steady.{HoldsNothing}
 
 module _ (P : Program) (spreads : List Spread) (banks : List Bank) (code : ThreadCode) (plan : Planned) (m : Module) (inputs : ℕ) (leaf : LeafPorts) (shape : Shape)
     (modules : List Module) (top : Module) where

@@ -4,6 +4,7 @@ use Rattle.std.specs.Prelude.{slice_get, codes}
 use Rattle.std.specs.Str.{bytes_eq}
 use Rattle.std.proofs.lemmas.Option.{same_Some, none-some}
 use Rattle.std.proofs.lemmas.Slice.Eq.{bytes_eq-Decides}
+use Rattle.lists.proofs.Places.{get_there}
 use Rattle.netlist.specs.declared.netlist.Source.TheVariants as source
 use Rattle.netlist.specs.declared.netlist.Signal.{Signal}
 use Rattle.netlist.specs.declared.netlist.Instance.{Instance}
@@ -18,7 +19,6 @@ use Rattle.top_wiring.specs.Wires.{first_port, wire_signal}
 use Rattle.top_wiring.specs.Top.{preference, starts, all_wires, done_place, thread_instance, IsSmall}
 use Rattle.top_wiring.specs.Wired.{IsWired}
 use Rattle.top_wiring.specs.Found.{IsFound, TopsAreFound}
-use Rattle.top_wiring.proofs.Lists.{get_there}
 use Rattle.top_wiring.proofs.Naming.{numbers_same}
 use Rattle.top_wiring.proofs.SignalKinds as signals
 use Rattle.top_wiring.proofs.SignalKinds.SignalKind.{clock, mask, chosen, wire, done}

@@ -8,6 +8,7 @@ use Rattle.std.proofs.lemmas.List.{length-replicate}
 use Rattle.std.proofs.lemmas.Option.{same_Some, none-some, slice_get_within}
 use Rattle.std.proofs.Math.Nat.{div-lt_iff_lt-mul, mod-lt, mul-add}
 use Rattle.std.proofs.lemmas.Nat.{div-add-mod'}
+use Rattle.lists.proofs.Places.{get_front, get_there}
 use Rattle.verilog_tree.specs.Scope.{is_clk}
 use Rattle.netlist.specs.declared.netlist.Source.{Source}
 use Rattle.netlist.specs.declared.netlist.Source.TheVariants as source
@@ -21,7 +22,7 @@ use Rattle.top_wiring.specs.Parts.{group_widths, ask_widths, told_widths, core_o
 use Rattle.top_wiring.specs.Wires.{first_port, wire_signal}
 use Rattle.top_wiring.specs.Top.{input, preference, starts, thread_inputs, core_inputs, arbiter_inputs, IsTop}
 use Rattle.top_wiring.specs.Ports as ports
-use Rattle.top_wiring.proofs.Lists.{get_front, get_behind, get_there, get_copies, get_each_copied, get_flat_map, copies_back, get_either, flat_map_back}
+use Rattle.top_wiring.proofs.Lists.{get_behind, get_copies, get_each_copied, get_flat_map, copies_back, get_either, flat_map_back}
 use Rattle.top_wiring.proofs.Standing as standing
 use Rattle.top_wiring.proofs.InputLists as inputs
 

@@ -6,6 +6,7 @@ use Rattle.std.specs.List.{flat_map}
 use Rattle.std.proofs.Math.Nat.{suc-mul}
 use Rattle.std.proofs.lemmas.List.{length-replicate, get_or-replicate}
 use Rattle.std.proofs.lemmas.Option.{slice_get-get_or, slice_get_within, same_Some, none-some}
+use Rattle.lists.proofs.Places.{get_front, get_back}
 use Rattle.netlist.specs.declared.netlist.Module.{Module}
 use Rattle.circuit.specs.Rows.{spread}
 use Rattle.circuit.proofs.Growth.{slice_get-spread}
@@ -13,17 +14,6 @@ use Rattle.top_wiring.specs.declared.parts.Part.{Part}
 use Rattle.top_wiring.specs.Parts.{each_from, flat_from, flat_spread}
 use Rattle.top_wiring.specs.Wires.{ports, starts_from}
 use Rattle.top_wiring.proofs.Growing.{length-ports}
-
-pub get_front : {A : Type 0} (xs ys : List A) (i : ℕ) (x : A) → slice_get xs i ≡ Some x → slice_get (xs ++ ys) i ≡ Some x
-get_front [] ys i x h = absurd (none-some x h)
-get_front (y ∷ xs) ys zero x h = h
-get_front (y ∷ xs) ys (suc i) x h = get_front xs ys i x h
-
-pub get_back : {A : Type 0} (xs ys : List A) (i : ℕ) (x : A) → slice_get ys i ≡ Some x → slice_get (xs ++ ys) (length xs + i) ≡ Some x
-get_back [] ys i x h = let e : i ≡ 0 + i = omega arith in subst (λ (k : ℕ). slice_get ys k ≡ Some x) e h
-get_back (y ∷ xs) ys i x h =
-    let e : suc (length xs + i) ≡ suc (length xs) + i = omega arith in
-    subst (λ (k : ℕ). slice_get (y ∷ (xs ++ ys)) k ≡ Some x) e (get_back xs ys i x h)
 
 -- the same, where the length is known
 pub get_behind : {A : Type 0} (n : ℕ) (xs ys : List A) (i : ℕ) (x : A) → length xs ≡ n → slice_get ys i ≡ Some x → slice_get (xs ++ ys) (n + i) ≡ Some x
@@ -41,16 +31,6 @@ get_either (y ∷ xs) ys (suc i) x h = elim (get_either xs ys i x h) [
   | inl p ↦ inl p
   | inr p ↦ inr (let e : i ≡ length xs + p.at = p.is in record { at = p.at; is = omega arith; found = p.found })
 ]
-
-pub get_there : {A : Type 0} (xs : List A) (k : ℕ) → k < length xs → (x : A) × (slice_get xs k ≡ Some x)
-get_there [] k lt = absurd (omega arith)
-get_there (y ∷ xs) zero lt = (y, refl)
-get_there (y ∷ xs) (suc k) lt = get_there xs k (omega arith)
-
-pub get_mapped : {A B : Type 0} (f : A → B) (xs : List A) (k : ℕ) (x : A) → slice_get xs k ≡ Some x → slice_get (map f xs) k ≡ Some (f x)
-get_mapped f [] k x h = absurd (none-some x h)
-get_mapped f (y ∷ xs) zero x h = ap (λ z. Some (f z)) (same_Some y x h)
-get_mapped f (y ∷ xs) (suc k) x h = get_mapped f xs k x h
 
 pub get_copies : {A : Type 0} (n k : ℕ) (a : A) → k < n → slice_get (replicate n a) k ≡ Some a
 get_copies n k a lt =

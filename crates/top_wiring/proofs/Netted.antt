@@ -5,6 +5,8 @@ use Rattle.std.specs.Prelude.{slice_get, codes, ◌||◌}
 use Rattle.std.proofs.Math.Seq.{take-append_seam}
 use Rattle.std.proofs.lemmas.List.{take-append-le}
 use Rattle.std.proofs.lemmas.Option.{same_Some, none-some, slice_get_within}
+use Rattle.std.proofs.lemmas.Bool.{or_right}
+use Rattle.lists.proofs.Places.{get_front, get_back, get_mapped}
 use Rattle.verilog_tree.specs.Facts.{is_top}
 use Rattle.netlist.specs.declared.netlist.Action.{Action}
 use Rattle.netlist.specs.declared.netlist.Instance.{Instance}
@@ -17,7 +19,7 @@ use Rattle.top_wiring.specs.declared.layout.Layout.{Layout}
 use Rattle.top_wiring.specs.Round.{count, top_instance}
 use Rattle.top_wiring.specs.Sound.{AreSound, WritesIn, IsOf, NetsAreSound}
 use Rattle.top_wiring.specs.Wired.{IsWired}
-use Rattle.top_wiring.proofs.Lists.{get_front, get_back, get_either, get_mapped}
+use Rattle.top_wiring.proofs.Lists.{get_either}
 use Rattle.top_wiring.proofs.Soundness as soundness
 use Rattle.top_wiring.proofs.Rounding as rounding
 
@@ -36,14 +38,10 @@ abbrev writes_at : Option Module → Bool
 writes_at None = false
 writes_at (Some m) = writes m.actions
 
-or_true : (a b : Bool) → b ≡ true → (a || b) ≡ true
-or_true true b e = refl
-or_true false b e = e
-
 writes_there : (actions : List Action) (k : ℕ) (a : Action) → slice_get actions k ≡ Some a → is_write a.effect ≡ true → writes actions ≡ true
 writes_there [] k a e h = absurd (none-some a e)
 writes_there (b ∷ actions) zero a e h = ap (λ (z : Action). is_write z.effect || writes actions) (same_Some b a e) ∙ ap (λ z. z || writes actions) h
-writes_there (b ∷ actions) (suc k) a e h = or_true (is_write b.effect) (writes actions) (writes_there actions k a e h)
+writes_there (b ∷ actions) (suc k) a e h = or_right (is_write b.effect) (writes actions) (writes_there actions k a e h)
 
 writer_of : (actions : List Action) → writes actions ≡ true → (k : ℕ) × (a : Action) × (slice_get actions k ≡ Some a) × (is_write a.effect ≡ true)
 writer_of [] e = absurd (let z : false ≡ true = e in cc)

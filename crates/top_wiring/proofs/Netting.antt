@@ -3,6 +3,7 @@ use Rattle.std.proofs.Common.{◌≡◌, ℕ, ◌+◌, ◌-◌, ◌*◌, ◌<◌
 use Rattle.std.specs.Prelude.{slice_get, slice_index, codes, option_and_then}
 use Rattle.std.proofs.lemmas.Bool.Decides.{nat_tests}
 use Rattle.std.proofs.lemmas.Option.{slice_get_within}
+use Rattle.lists.proofs.Places.{get_front, get_there}
 use Rattle.netlist.specs.declared.netlist.Value.TheVariants.{Copy, Select}
 use Rattle.netlist.specs.declared.netlist.Source.{Source}
 use Rattle.netlist.specs.declared.netlist.Source.TheVariants as source
@@ -26,7 +27,7 @@ use Rattle.circuit.specs.Interfaces.{first_of}
 use Rattle.top_wiring.specs.Ports.{asked_before, told_before, arbiter_outputs}
 use Rattle.top_wiring.specs.Machine.{IsThreadAt, IsCoreAt, IsArbiterAt, KeepPromises}
 use Rattle.top_wiring.specs.Wired.{IsWired}
-use Rattle.top_wiring.proofs.Lists.{get_front, get_there, get_copies, copies_back, flat_map_back}
+use Rattle.top_wiring.proofs.Lists.{get_copies, copies_back, flat_map_back}
 use Rattle.top_wiring.proofs.InstanceKinds.{Kind, kind_of}
 use Rattle.top_wiring.proofs.InstanceKinds.Kind.{of_thread, of_core, of_arbiter}
 use Rattle.top_wiring.proofs.Standing as standing

@@ -7,6 +7,8 @@ use Rattle.std.proofs.lemmas.Fmt.{decimal_digit}
 use Rattle.std.proofs.lemmas.Nat.{pow_pos}
 use Rattle.std.proofs.lemmas.List.{length-replicate}
 use Rattle.std.proofs.lemmas.Option.{same_Some, none-some}
+use Rattle.std.proofs.lemmas.Bool.{and_parts}
+use Rattle.lists.proofs.Places.{get_back, get_mapped}
 use Rattle.verilog_tree.specs.Scope.{is_clk}
 use Rattle.netlist.specs.declared.netlist.Value.TheVariants.{Constant, Concatenation}
 use Rattle.netlist.specs.declared.netlist.Source.TheVariants as source
@@ -26,7 +28,7 @@ use Rattle.top_wiring.specs.declared.layout.Layout.{Layout}
 use Rattle.top_wiring.specs.Top.{input, preference, output, done_place, all_wires, IsTop}
 use Rattle.top_wiring.specs.Round.{inner, round_signals, top_instance, count, IsRound}
 use Rattle.top_wiring.specs.Sound.{AreSound}
-use Rattle.top_wiring.proofs.Lists.{get_back, get_either, get_mapped, copies_back}
+use Rattle.top_wiring.proofs.Lists.{get_either, copies_back}
 use Rattle.top_wiring.proofs.Standing as standing
 use Rattle.top_wiring.proofs.Soundness as soundness
 
@@ -56,10 +58,6 @@ differs k (l ∷ ls) = not (nat_eq k l) && differs k ls
 abbrev all_differ : List ℕ → Bool
 all_differ [] = true
 all_differ (k ∷ ks) = differs k ks && all_differ ks
-
-and_parts : (a b : Bool) → (a && b) ≡ true → (a ≡ true) × (b ≡ true)
-and_parts true b e = (refl, e)
-and_parts false b e = absurd cc
 
 not_same : (k : ℕ) → not (nat_eq k k) ≡ true → ⊥
 not_same k e = let z : nat_eq k k ≡ true = grind (arith, nat_tests) in let y : false ≡ true = ap not (sym z) ∙ e in cc

@@ -4,6 +4,7 @@ use Rattle.std.proofs.Common.{List, [], ◌∷◌, length, Option, Some, refl, s
 use Rattle.std.specs.Prelude.{slice_get, codes}
 use Rattle.std.proofs.lemmas.Bool.Decides.{nat_tests}
 use Rattle.std.proofs.lemmas.Option.{same_Some, slice_get_within}
+use Rattle.lists.proofs.Places.{get_there}
 use Rattle.netlist.specs.declared.netlist.Source.TheVariants as source
 use Rattle.netlist.specs.declared.netlist.Signal.{Signal}
 use Rattle.netlist.specs.declared.netlist.Instance.{Instance}
@@ -28,7 +29,6 @@ use Rattle.top_wiring.specs.Ports as ports
 use Rattle.circuit.specs.Interfaces.{first_of, HasPorts}
 use Rattle.top_wiring.specs.Leaves.{IsThreadLeaf, IsCoreLeaf, IsArbiterLeaf, AreLeaves, NetsHaveStages, SettlesOnce, NetsSettle}
 use Rattle.top_wiring.specs.Wired.{IsWired}
-use Rattle.top_wiring.proofs.Lists.{get_there}
 use Rattle.top_wiring.proofs.InstanceKinds as kinds
 use Rattle.top_wiring.proofs.InstanceKinds.Kind.{of_thread, of_core, of_arbiter}
 use Rattle.top_wiring.proofs.SignalKinds as signals

@@ -8,6 +8,7 @@ use Rattle.std.proofs.lemmas.Slice.Eq.{bytes_eq-Decides}
 use Rattle.std.proofs.lemmas.List.{length-replicate, append-nil}
 use Rattle.std.proofs.lemmas.List.Elements.{filter-append}
 use Rattle.std.proofs.lemmas.Option.{same_Some, none-some, slice_get_within}
+use Rattle.lists.proofs.Places.{get_there}
 use Rattle.verilog_tree.specs.Scope.{is_clk}
 use Rattle.netlist.specs.declared.netlist.Value.TheVariants.{Select}
 use Rattle.netlist.specs.declared.netlist.Source.TheVariants as source
@@ -31,7 +32,7 @@ use Rattle.top_wiring.specs.Top.{input, preference, output, run, starts, all_wir
 use Rattle.top_wiring.specs.Ports as ports
 use Rattle.circuit.specs.Interfaces.{HasInterface}
 use Rattle.top_wiring.specs.Sound.{AreSound}
-use Rattle.top_wiring.proofs.Lists.{get_there, get_either, each_back, spread_back, get_spread}
+use Rattle.top_wiring.proofs.Lists.{get_either, each_back, spread_back, get_spread}
 use Rattle.top_wiring.proofs.InstanceKinds as kinds
 use Rattle.top_wiring.proofs.InstanceKinds.Kind.{of_thread, of_core, of_arbiter}
 use Rattle.top_wiring.proofs.SignalKinds as signals

@@ -5,6 +5,7 @@ use Rattle.std.specs.Prelude.{slice_get, slice_index, codes}
 use Rattle.std.proofs.lemmas.Bool.Decides.{nat_tests}
 use Rattle.std.proofs.lemmas.List.{length-replicate}
 use Rattle.std.proofs.lemmas.List.{length-map}
+use Rattle.lists.proofs.Places.{get_front, get_back, get_mapped}
 use Rattle.netlist.specs.declared.netlist.Signal.{Signal}
 use Rattle.netlist.specs.declared.netlist.Instance.{Instance}
 use Rattle.netlist.specs.declared.netlist.Module.{Module}
@@ -19,7 +20,7 @@ use Rattle.top_wiring.specs.Parts.{each_from, flat_from, ask_widths, thread_part
 use Rattle.top_wiring.specs.Wires.{first_port, port_wire, ports, enables, blocks, wire_signal}
 use Rattle.top_wiring.specs.Top.{input, preference, output, thread_instance, core_instance, arbiter_instance, all_wires, starts, done_place, IsTop}
 use Rattle.top_wiring.proofs.Growing.{length-each_from}
-use Rattle.top_wiring.proofs.Lists.{get_front, get_back, get_behind, get_each, get_spread, get_mapped, get_copies, get_flat_from, starts_at}
+use Rattle.top_wiring.proofs.Lists.{get_behind, get_each, get_spread, get_copies, get_flat_from, starts_at}
 
 -- the wire that says whether thread i is enabled
 abbrev pub enable_wire : ℕ → ℕ → Wire

@@ -1,7 +1,7 @@
 -- Numbers of lists as Rust reads them.
 use Rattle.std.proofs.Common.{◌≡◌, ℕ, ◌<◌, ◌^◌, Bool, List, true, false, refl, sym, ap, ◌∙◌, [], ◌∷◌, length, subst, arith}
 use Rattle.std.specs.Prelude.{Some, None, Result, Ok, Err, nat_lt, nat_le, nat_eq, slice_index, ◌&&◌, if◌then◌else◌}
-use Rattle.std.proofs.lemmas.Bool.{ltb-true, lt-ltb, eqb-true}
+use Rattle.std.proofs.lemmas.Bool.{ltb-true, lt-ltb, eqb-true, and_parts}
 use Rattle.std.specs.List.{list_all}
 use Rattle.std.specs.Char.{digit_value}
 use Rattle.std.specs.Str.Parse.{AllDigits, IsNumeral, ParsesUnsigned, digits_value, without_leading_plus}
@@ -9,26 +9,21 @@ use Rattle.std.specs.Result.{result_ok}
 use Rattle.std.specs.declared.num.ParseIntError.{ParseIntError}
 use Rattle.turns.specs.Turns.{is_decimal, read_number, number_of}
 
-both : (a b : Bool) → (a && b) ≡ true → (a ≡ true) × (b ≡ true)
-both true true e = (refl, refl)
-both true false e = cc
-both false b e = cc
-
 passes_all : (ds : List ℕ) → AllDigits 10 ds → list_all (λ d. nat_lt (digit_value d) 10) ds ≡ true
 passes_all [] h = refl
 passes_all (d ∷ ds) h = rw (lt-ltb (digit_value d) 10 h.0) (passes_all ds h.1)
 
 passed_all : (ds : List ℕ) → list_all (λ d. nat_lt (digit_value d) 10) ds ≡ true → AllDigits 10 ds
 passed_all [] e = tt
-passed_all (d ∷ ds) e = let parts = both _ _ e in (ltb-true _ _ parts.0, passed_all ds parts.1)
+passed_all (d ∷ ds) e = let parts = and_parts _ _ e in (ltb-true _ _ parts.0, passed_all ds parts.1)
 
 pub passes : (ds : List ℕ) → IsNumeral 10 ds → digits_value 10 ds < 2 ^ 32 → (is_decimal ds && nat_lt (digits_value 10 ds) (2 ^ 32)) ≡ true
 passes ds numeral below = rw (lt-ltb 0 (length ds) numeral.0, passes_all ds numeral.1, lt-ltb (digits_value 10 ds) (2 ^ 32) below) refl
 
 pub passed : (ds : List ℕ) → (is_decimal ds && nat_lt (digits_value 10 ds) (2 ^ 32)) ≡ true → IsNumeral 10 ds × (digits_value 10 ds < 2 ^ 32)
 passed ds e =
-    let parts = both _ _ e in
-    let numeral = both _ _ parts.0 in
+    let parts = and_parts _ _ e in
+    let numeral = and_parts _ _ parts.0 in
     ((ltb-true _ _ numeral.0, passed_all _ numeral.1), ltb-true _ _ parts.1)
 
 pub picked : (b : Bool) (n : ℕ) → b ≡ true → Some n ≡ (if b then Some n else None)

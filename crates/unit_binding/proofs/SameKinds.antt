@@ -3,6 +3,7 @@ use Rattle.std.proofs.Common.{◌≡◌, ℕ, suc, zero, ◌<◌, List, [], ◌�
 use Rattle.std.specs.Bool.{beq}
 use Rattle.std.specs.Cmp.{booleans_Decides}
 use Rattle.std.proofs.lemmas.Bool.{eqb-true, and_parts, or_parts}
+use mathlib.Core.Bool.{or-false, or_assoc}
 use Rattle.op_graph.specs.declared.node.Kind.{Kind}
 use Rattle.op_graph.specs.declared.node.Kind.TheVariants.{Multiply, Divide}
 use Rattle.unit_binding.specs.declared.bind.UnitCount.{UnitCount}
@@ -29,16 +30,8 @@ same_back a b e =
 
 -- ---- lists of kinds
 
-or_assoc : (a b c : Bool) → ((a || b) || c) ≡ (a || (b || c))
-or_assoc true b c = refl
-or_assoc false b c = refl
-
-or_false : (a : Bool) → (a || false) ≡ a
-or_false true = refl
-or_false false = refl
-
 pub listed-append : (cs : List UnitCount) (c : UnitCount) (k : Kind) → is_listed (cs ++ c ∷ []) k ≡ (is_listed cs k || same_kind c.kind k)
-listed-append [] c k = or_false (same_kind c.kind k)
+listed-append [] c k = or-false (same_kind c.kind k)
 listed-append (x ∷ cs) c k =
     ap (λ (b : Bool). same_kind x.kind k || b) (listed-append cs c k) ∙ sym (or_assoc (same_kind x.kind k) (is_listed cs k) (same_kind c.kind k))
 

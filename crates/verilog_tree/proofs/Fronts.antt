@@ -4,7 +4,7 @@ use Rattle.std.specs.Prelude.{not, ◌==◌, ◌&&◌, if◌then◌else◌, cond
 use Rattle.std.specs.Str.{bytes_eq}
 use Rattle.std.specs.Str.Parse.{digits_value}
 use Rattle.std.specs.Char.{is_ascii_digit}
-use Rattle.std.proofs.lemmas.Bool.{lt-ltb, ltb-true}
+use Rattle.std.proofs.lemmas.Bool.{lt-ltb, ltb-true, not-true, or_parts}
 use Rattle.std.proofs.lemmas.Bool.Decides.{nat_tests}
 use Rattle.std.proofs.lemmas.Fmt.{decimal_is_IsNumeral}
 use Rattle.verilog_tree.specs.declared.token.Word.{Word}
@@ -16,17 +16,17 @@ use Rattle.verilog_tree.specs.declared.token.Token.TheVariants as t
 use Rattle.verilog_tree.specs.Spelling.{Text, word_spelling, all_words, word_among, is_letter, is_name_byte, all_pass, is_no_word, is_name, is_plain, is_quoted}
 use Rattle.verilog_tree.specs.Tokens.{mark_spelling, spelling, run_of, after_run, word_by, word_or_name, number_of, with_byte, quoted, front_of, front}
 use Rattle.verilog_tree.specs.Tokens.{mark_by, is_token, is_blank, begins_slash, skip}
-use Rattle.verilog_tree.proofs.Tests.{and_left, and_right, not_true, or_right, bytes_same, digits_of}
+use Rattle.verilog_tree.proofs.Tests.{and_left, and_right, bytes_same, digits_of}
 
 -- a byte that goes on with no token before it
 abbrev pub separates : ℕ → Bool
 separates b = not (is_name_byte b) && (not (b == 61) && (not (b == 60) && (not (b == 62) && not (b == 47))))
 
 separates_name : (b : ℕ) → separates b ≡ true → is_name_byte b ≡ false
-separates_name b h = not_true _ (and_left _ _ h)
+separates_name b h = not-true _ (and_left _ _ h)
 
 separates_digit : (b : ℕ) → separates b ≡ true → is_ascii_digit b ≡ false
-separates_digit b h = or_right (is_letter b) (is_ascii_digit b) (separates_name b h)
+separates_digit b h = (or_parts (is_letter b) (is_ascii_digit b) (separates_name b h)).1
 
 -- ---- runs
 
@@ -85,7 +85,7 @@ sep_no c h =
     let a = and_right (not (is_name_byte c)) _ h in
     let b = and_right (not (c == 61)) _ a in
     let d = and_right (not (c == 60)) _ b in
-    (not_true _ (and_left (not (c == 61)) _ a), not_true _ (and_left (not (c == 60)) _ b), not_true _ (and_left (not (c == 62)) _ d))
+    (not-true _ (and_left (not (c == 61)) _ a), not-true _ (and_left (not (c == 60)) _ b), not-true _ (and_left (not (c == 62)) _ d))
 
 front_mark : (m : Mark) (c : ℕ) (r : Text) → separates c ≡ true → front (mark_spelling m ++ (c ∷ r)) ≡ Some (t.Mark m, c ∷ r)
 unfolding front
@@ -168,7 +168,7 @@ quoted_found true (b ∷ z) rest h =
     ∙ ap (with_byte b) (quoted_found false z rest (and_right (is_plain b) _ h))
 quoted_found false (b ∷ z) rest h =
     let more = and_right (not (b == 34)) _ h in
-    let no = not_true (b == 34) (and_left (not (b == 34)) _ h) in
+    let no = not-true (b == 34) (and_left (not (b == 34)) _ h) in
     ap (λ x. if x then Some ([], z ++ (34 ∷ rest)) else (if is_plain b then with_byte b (quoted (b == 92) (z ++ (34 ∷ rest))) else None)) no
     ∙ ap (λ x. if x then with_byte b (quoted (b == 92) (z ++ (34 ∷ rest))) else None) (and_left (is_plain b) _ more)
     ∙ ap (with_byte b) (quoted_found (b == 92) z rest (and_right (is_plain b) _ more))
@@ -204,7 +204,7 @@ stays b z h k =
 stays_mark : (m : Mark) (c : ℕ) (r : Text) → separates c ≡ true → skip false (mark_spelling m ++ (c ∷ r)) ≡ mark_spelling m ++ (c ∷ r)
 unfolding skip
 stays_mark m.Slash c r h =
-    let slash = not_true (c == 47) (and_right (not (c == 62)) _ (and_right (not (c == 60)) _ (and_right (not (c == 61)) _ (and_right (not (is_name_byte c)) _ h)))) in
+    let slash = not-true (c == 47) (and_right (not (c == 62)) _ (and_right (not (c == 60)) _ (and_right (not (c == 61)) _ (and_right (not (is_name_byte c)) _ h)))) in
     ap (λ x. elim x as (λ v. Text) [ true ↦ skip true (c ∷ r) | false ↦ 47 ∷ (c ∷ r) ]) slash
 stays_mark _ c r h = refl
 

@@ -4,9 +4,10 @@ use Rattle.std.specs.Prelude.{not, ◌==◌, ◌&&◌, if◌then◌else◌, deci
 use Rattle.std.specs.Str.{bytes_eq}
 use Rattle.std.specs.Char.{is_ascii_digit}
 use Rattle.std.proofs.lemmas.Bool.Decides.{nat_tests}
+use Rattle.std.proofs.lemmas.Bool.{not-true, or_right}
 use Rattle.verilog_tree.specs.declared.token.Word.{Word}
 use Rattle.verilog_tree.specs.Spelling.{Text, word_spelling, all_words, word_among, is_letter, is_name_byte, all_pass, is_no_word, is_name}
-use Rattle.verilog_tree.proofs.Tests.{and_left, and_right, and_both, not_true, or_holds, all_pass-append, digits_of}
+use Rattle.verilog_tree.proofs.Tests.{and_left, and_right, and_both, all_pass-append, digits_of}
 
 -- ---- no word of the grammar has a _
 
@@ -16,7 +17,7 @@ is_other b = not (b == 95)
 other_differs : (z : Text) (x : Text) (ys : Text) → all_pass is_other ys ≡ true → bytes_eq (x ++ (95 ∷ z)) ys ≡ false
 unfolding is_other
 other_differs z [] [] h = refl
-other_differs z [] (y ∷ ys) h = head y (not_true _ (and_left _ _ h)) where
+other_differs z [] (y ∷ ys) h = head y (not-true _ (and_left _ _ h)) where
   head : (y : ℕ) → (y == 95) ≡ false → ((95 == y) && bytes_eq z ys) ≡ false
   head y e = ap (λ v. v && bytes_eq z ys) (flip y e) where
     flip : (y : ℕ) → (y == 95) ≡ false → (95 == y) ≡ false
@@ -54,7 +55,7 @@ is_name-suffix (b ∷ x) z h k =
 
 digits_pass : (z : Text) → all_pass is_ascii_digit z ≡ true → all_pass is_name_byte z ≡ true
 digits_pass [] h = refl
-digits_pass (b ∷ z) h = and_both (is_name_byte b) _ (or_holds (is_letter b) (is_ascii_digit b) (and_left _ _ h)) (digits_pass z (and_right (is_ascii_digit b) _ h))
+digits_pass (b ∷ z) h = and_both (is_name_byte b) _ (or_right (is_letter b) (is_ascii_digit b) (and_left _ _ h)) (digits_pass z (and_right (is_ascii_digit b) _ h))
 
 pub name_bytes-decimal : (n : ℕ) → n < 2 ^ 64 → all_pass is_name_byte (decimal n) ≡ true
 name_bytes-decimal n lt = let ds = digits_of n lt in subst (λ z. all_pass is_name_byte z ≡ true) (sym ds.is) (digits_pass (ds.first ∷ ds.others) ds.digits)

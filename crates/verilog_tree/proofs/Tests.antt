@@ -4,6 +4,7 @@ use Rattle.std.specs.Prelude.{not, ◌&&◌, ◌||◌, decimal}
 use Rattle.std.specs.Str.{bytes_eq}
 use Rattle.std.specs.Char.{is_ascii_digit}
 use Rattle.std.proofs.lemmas.Bool.{eq-eqb}
+pub use Rattle.std.proofs.lemmas.Bool.{and_from as and_both}
 use Rattle.std.proofs.lemmas.Bool.Decides.{nat_tests}
 use Rattle.std.proofs.lemmas.Fmt.{decimal_by_steps}
 use Rattle.verilog_tree.specs.Spelling.{Text, all_pass}
@@ -15,22 +16,6 @@ and_left false b e = e
 pub and_right : (a b : Bool) → (a && b) ≡ true → b ≡ true
 and_right true b e = e
 and_right false b e = cc
-
-pub and_both : (a b : Bool) → a ≡ true → b ≡ true → (a && b) ≡ true
-and_both true b e f = f
-and_both false b e f = cc
-
-pub not_true : (a : Bool) → not a ≡ true → a ≡ false
-not_true true e = sym e
-not_true false e = refl
-
-pub or_right : (a b : Bool) → (a || b) ≡ false → b ≡ false
-or_right true b e = cc
-or_right false b e = e
-
-pub or_holds : (a b : Bool) → b ≡ true → (a || b) ≡ true
-or_holds true b e = refl
-or_holds false b e = e
 
 pub bytes_same : (z : Text) → bytes_eq z z ≡ true
 bytes_same [] = refl

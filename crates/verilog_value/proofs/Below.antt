@@ -5,6 +5,7 @@ use Rattle.std.proofs.lemmas.Bool.Decides.{nat_tests}
 use Rattle.std.proofs.lemmas.Option.{slice_get-map, same_Some}
 use Rattle.std.proofs.lemmas.Nat.{pow_pos}
 use Rattle.std.proofs.Math.Nat.{pow-le-pow_right}
+use Rattle.lists.proofs.Places.{get_there}
 use Rattle.hls_ints.specs.Words.{word}
 use Rattle.verilog_tree.specs.declared.tree.Expression.{Expression}
 use Rattle.verilog_tree.specs.declared.tree.Expression.TheVariants as e
@@ -23,11 +24,6 @@ use Rattle.verilog_value.specs.Value.{EachOf, IsWide, IsNarrow, HasRoom, fused, 
 use Rattle.verilog_value.specs.Condition.{IsRightSide, memories_in}
 use Rattle.verilog_value.proofs.Condition.{At, AreWords, WordsAt, right_fits}
 use Rattle.verilog_value.proofs.Words.{is_small}
-
-some_at : {X : Type 0} (xs : List X) (q : ℕ) → q < length xs → (x : X) × (slice_get xs q ≡ Some x)
-some_at [] q l = absurd (omega arith)
-some_at (x ∷ xs) zero l = (x, refl)
-some_at (x ∷ xs) (suc q) l = some_at xs q (omega arith)
 
 each_from : (P : ℕ → Type 0) (xs : List ℕ) → ((x : ℕ) → IsOneOf x xs → P x) → EachOf P xs
 each_from P [] f = tt
@@ -95,7 +91,7 @@ module _ (v : Valuation) where
       let here : memories j ≡ Some (memory_of m) = slice_get-map memory_of v.memories j ∙ ap (option_map memory_of) words.1 in
       let long : memory_words (memories j) ≡ length m.words = ap memory_words here in
       let inside : k < memory_words (memories j) = grind (arith, nat_tests) in
-      let n = some_at m.words k (omega (arith, long, inside)) in
+      let n = get_there m.words k (omega (arith, long, inside)) in
       let same : r.word j k ≡ n.0 = ap (λ o. word_at o k) words.1 ∙ ap or_zero n.1 in
       let width_same : m.width ≡ w = ap (λ (t : Memory). t.width) (same_Some (memory_of m) s (sym here ∙ e)) ∙ wide in
       let below : n.0 < 2 ^ w = subst (λ u. n.0 < 2 ^ u) width_same (words.2 k n.0 n.1) in

@@ -4,6 +4,7 @@ use Rattle.std.specs.Str.{bytes_eq}
 use Rattle.std.proofs.Common.{ap, sym, ◌∙◌, subst, arith}
 use Rattle.std.proofs.lemmas.Bool.Decides.{nat_tests}
 use Rattle.std.proofs.lemmas.Option.{slice_get-map}
+use Rattle.std.proofs.lemmas.Bool.{ltb-true, leb-true, and_parts, eqb-true}
 use Rattle.verilog_tree.specs.declared.tree.Constant.{Constant}
 use Rattle.verilog_tree.specs.declared.tree.BinaryOperator.{BinaryOperator}
 use Rattle.verilog_tree.specs.declared.tree.BinaryOperator.TheVariants as op
@@ -23,23 +24,6 @@ use Rattle.verilog_value.specs.Condition.{HasSignal, HasMemory, IsRightSide, sco
 use Rattle.verilog_value.proofs.Declared.{assigned_right, read_narrow, scope_narrow}
 
 -- ---- tests
-
-left : (a b : Bool) → (a && b) ≡ true → a ≡ true
-left true b e = refl
-left false b e = e
-
-right : (a b : Bool) → (a && b) ≡ true → b ≡ true
-right true b e = e
-right false b e = absurd cc
-
-less : (a b : ℕ) → nat_lt a b ≡ true → a < b
-less a b e = grind (arith, nat_tests)
-
-at_most : (a b : ℕ) → nat_le a b ≡ true → a ≤ b
-at_most a b e = grind (arith, nat_tests)
-
-same : (a b : ℕ) → (a == b) ≡ true → a ≡ b
-same a b e = grind (arith, nat_tests)
 
 -- ---- a signal of the valuation of so many bits
 
@@ -72,10 +56,11 @@ module _ (v : Valuation) (scope : Scope) (narrow : (x : Name) → read_width (ki
   }
 
   one : (x : Name) → Has x → is_signal scope x ≡ true → P (standing_for v x) (width scope x)
-  one x h e = at_name x h (less 0 (width scope x) e)
+  one x h e = at_name x h (ltb-true 0 (width scope x) e)
 
   of_width : (x : Name) (w : ℕ) → Has x → has_width scope x w ≡ true → P (standing_for v x) w
-  of_width x w h e = subst (P (standing_for v x)) (same (width scope x) w (right (is_signal scope x) (width scope x == w) e)) (one x h (left (is_signal scope x) (width scope x == w) e))
+  of_width x w h e = subst (P (standing_for v x)) (eqb-true (width scope x) w (and_parts (is_signal scope x) (width scope x == w) e).1) (one x h (and_parts
+      (is_signal scope x) (width scope x == w) e).0)
 
   pair : (x y : Name) → Has x → Has y → have_one_width scope x y ≡ true → (u : ℕ) × P (standing_for v x) u × P (standing_for v y) u
   pair x y h k e =
@@ -84,13 +69,13 @@ module _ (v : Valuation) (scope : Scope) (narrow : (x : Name) → read_width (ki
       (width scope y, a, at_name y k (omega (arith, l)))
 
   compared : (w : ℕ) (x y : Name) → Has x → Has y → (w == 1 && have_one_width scope x y) ≡ true → (w ≡ 1) × ((u : ℕ) × P (standing_for v x) u × P (standing_for v y) u)
-  compared w x y h k e = (same w 1 (left (w == 1) (have_one_width scope x y) e), pair x y h k (right (w == 1) (have_one_width scope x y) e))
+  compared w x y h k e = (eqb-true w 1 (and_parts (w == 1) (have_one_width scope x y) e).0, pair x y h k (and_parts (w == 1) (have_one_width scope x y) e).1)
 
   shifted : (w : ℕ) (x y : Name) → Has x → Has y → (has_width scope x w && is_signal scope y) ≡ true → P (standing_for v x) w × ((u : ℕ) × P (standing_for v y) u)
-  shifted w x y h k e = (of_width x w h (left (has_width scope x w) (is_signal scope y) e), (width scope y, one y k (right (has_width scope x w) (is_signal scope y) e)))
+  shifted w x y h k e = (of_width x w h (and_parts (has_width scope x w) (is_signal scope y) e).0, (width scope y, one y k (and_parts (has_width scope x w) (is_signal scope y) e).1))
 
   two : (w : ℕ) (x y : Name) → Has x → Has y → (has_width scope x w && has_width scope y w) ≡ true → P (standing_for v x) w × P (standing_for v y) w
-  two w x y h k e = (of_width x w h (left (has_width scope x w) (has_width scope y w) e), of_width y w k (right (has_width scope x w) (has_width scope y w) e))
+  two w x y h k e = (of_width x w h (and_parts (has_width scope x w) (has_width scope y w) e).0, of_width y w k (and_parts (has_width scope x w) (has_width scope y w) e).1)
 
   binary_fits : (operator : BinaryOperator) (w : ℕ) (x y : Name) → Has x → Has y → expression_right scope (e.Binary operator x y) w ≡ true
       → FitsBinary P operator w (standing_for v x) (standing_for v y)
@@ -110,7 +95,7 @@ module _ (v : Valuation) (scope : Scope) (narrow : (x : Name) → read_width (ki
   divided tested x y nought guarded w h k e =
       let widths = has_width scope x w && has_width scope y w in
       let guards = is_zero guarded w && widths in
-      two w x y h k (right (is_zero guarded w) widths (right (is_zero nought w) guards (right (bytes_eq tested y) (is_zero nought w && guards) e)))
+      two w x y h k (and_parts (is_zero guarded w) widths (and_parts (is_zero nought w) guards (and_parts (bytes_eq tested y) (is_zero nought w && guards) e).1).1).1
 
   ranged : (o : Option Kind) (k : ℕ) → k < ranged_width o → k < read_width o
   ranged o k l = let e = ranged_by o (omega (arith, l)) in omega (arith, e, l) where
@@ -124,7 +109,7 @@ module _ (v : Valuation) (scope : Scope) (narrow : (x : Name) → read_width (ki
 
   bit_inside : (x : Name) (high : ℕ) → Has x → nat_lt high (ranged_width (kind_of scope x)) ≡ true → P (standing_for v x) (width scope x) × (high < width scope x)
   bit_inside x high h e =
-      let l = ranged (kind_of scope x) high (less high (ranged_width (kind_of scope x)) e) in
+      let l = ranged (kind_of scope x) high (ltb-true high (ranged_width (kind_of scope x)) e) in
       (at_name x h (omega (arith, l)), l)
 
   parts_fit : (xs : List Name) → EachOf Has xs → all_right (is_signal scope) xs ≡ true → FitsParts P (places v xs) (joint_width scope xs)
@@ -132,8 +117,8 @@ module _ (v : Valuation) (scope : Scope) (narrow : (x : Name) → read_width (ki
   parts_fit (x ∷ xs) h e = (
     width scope x,
     joint_width scope xs,
-    one x h.0 (left (is_signal scope x) (all_right (is_signal scope) xs) e),
-    parts_fit xs h.1 (right (is_signal scope x) (all_right (is_signal scope) xs) e),
+    one x h.0 (and_parts (is_signal scope x) (all_right (is_signal scope) xs) e).0,
+    parts_fit xs h.1 (and_parts (is_signal scope x) (all_right (is_signal scope) xs) e).1,
     refl,
   )
 
@@ -143,15 +128,15 @@ module _ (v : Valuation) (scope : Scope) (narrow : (x : Name) → read_width (ki
       let last = memory_width (kind_of scope m) == w && is_zero guarded w in
       let sized = bound.value == words_of (kind_of scope m) && last in
       let bounded = is_constant bound (width scope x) && sized in
-      let a = right (bytes_eq tested x) (is_signal scope x && bounded) e in
-      let address = one x h (left (is_signal scope x) bounded a) in
-      let b = right (is_signal scope x) bounded a in
-      let constant = left (is_constant bound (width scope x)) sized b in
-      let c = right (is_constant bound (width scope x)) sized b in
-      let number = same bound.value (words_of (kind_of scope m)) (left (bound.value == words_of (kind_of scope m)) last c) in
-      let d = right (bound.value == words_of (kind_of scope m)) last c in
-      let wide = same (memory_width (kind_of scope m)) w (left (memory_width (kind_of scope m) == w) (is_zero guarded w) d) in
-      let below = less bound.value (2 ^ width scope x) (right (bound.width == width scope x) (nat_lt bound.value (2 ^ width scope x)) constant) in (
+      let a = (and_parts (bytes_eq tested x) (is_signal scope x && bounded) e).1 in
+      let address = one x h (and_parts (is_signal scope x) bounded a).0 in
+      let b = (and_parts (is_signal scope x) bounded a).1 in
+      let constant = (and_parts (is_constant bound (width scope x)) sized b).0 in
+      let c = (and_parts (is_constant bound (width scope x)) sized b).1 in
+      let number = eqb-true bound.value (words_of (kind_of scope m)) (and_parts (bound.value == words_of (kind_of scope m)) last c).0 in
+      let d = (and_parts (bound.value == words_of (kind_of scope m)) last c).1 in
+      let wide = eqb-true (memory_width (kind_of scope m)) w (and_parts (memory_width (kind_of scope m) == w) (is_zero guarded w) d).0 in
+      let below = ltb-true bound.value (2 ^ width scope x) (and_parts (bound.width == width scope x) (nat_lt bound.value (2 ^ width scope x)) constant).1 in (
         memory_of k.memory,
         slice_get-map memory_of v.memories (memory_place v m) ∙ ap (option_map memory_of) k.listed,
         k.wide ∙ wide,
@@ -160,34 +145,34 @@ module _ (v : Valuation) (scope : Scope) (narrow : (x : Name) → read_width (ki
 
   fits : (x : Expression) (w : ℕ) → EachOf Has (signals_in x) → EachOf (HasMemory v scope) (memories_in x) → expression_right scope x w ≡ true → FitsValue P memories w (fused v x)
   fits (e.Copy x) w h k q = of_width x w h.0 q
-  fits (e.Constant c) w h k q = less c.value (2 ^ w) (right (c.width == w) (nat_lt c.value (2 ^ w)) q)
+  fits (e.Constant c) w h k q = ltb-true c.value (2 ^ w) (and_parts (c.width == w) (nat_lt c.value (2 ^ w)) q).1
   fits (e.BitwiseNot x) w h k q = of_width x w h.0 q
   fits (e.Binary operator x y) w h k q = binary_fits operator w x y h.0 h.1.0 q
   fits (e.SignedLess x y) w h k q = compared w x y h.0 h.1.0 q
   fits (e.ArithmeticShiftRight x y) w h k q = shifted w x y h.0 h.1.0 q
   fits (e.Conditional c x y) w h k q =
-      let arms = two w x y h.1.0 h.1.1.0 (right (has_width scope c 1) (has_width scope x w && has_width scope y w) q) in
-      (of_width c 1 h.0 (left (has_width scope c 1) (has_width scope x w && has_width scope y w) q), arms.0, arms.1)
+      let arms = two w x y h.1.0 h.1.1.0 (and_parts (has_width scope c 1) (has_width scope x w && has_width scope y w) q).1 in
+      (of_width c 1 h.0 (and_parts (has_width scope c 1) (has_width scope x w && has_width scope y w) q).0, arms.0, arms.1)
   fits (e.Division tested nought guarded operator x y) w h k q = divided tested x y nought guarded w h.0 h.1.0 q
   fits (e.SignedDivision tested nought guarded operator x y) w h k q = divided tested x y nought guarded w h.0 h.1.0 q
   fits (e.MemoryRead tested bound m x guarded) w h k q = read_fits x bound m guarded tested w h.0 k.0 q
   fits (e.BitSelect x bit) w h k q =
-      let inside = bit_inside x bit h.0 (right (w == 1) (nat_lt bit (ranged_width (kind_of scope x))) q) in
-      let wide = same w 1 (left (w == 1) (nat_lt bit (ranged_width (kind_of scope x))) q) in
+      let inside = bit_inside x bit h.0 (and_parts (w == 1) (nat_lt bit (ranged_width (kind_of scope x))) q).1 in
+      let wide = eqb-true w 1 (and_parts (w == 1) (nat_lt bit (ranged_width (kind_of scope x))) q).0 in
       (omega arith, omega (arith, wide), (width scope x, inside.0, inside.1))
   fits (e.PartSelect x high low) w h k q =
       let inner = nat_lt high (ranged_width (kind_of scope x)) in
       let sized = w == high - low + 1 in
-      let order = at_most low high (left (nat_le low high) (inner && sized) q) in
-      let rest = right (nat_le low high) (inner && sized) q in
-      let inside = bit_inside x high h.0 (left inner sized rest) in
-      let wide = same w (high - low + 1) (right inner sized rest) in
+      let order = leb-true low high (and_parts (nat_le low high) (inner && sized) q).0 in
+      let rest = (and_parts (nat_le low high) (inner && sized) q).1 in
+      let inside = bit_inside x high h.0 (and_parts inner sized rest).0 in
+      let wide = eqb-true w (high - low + 1) (and_parts inner sized rest).1 in
       (order, omega (arith, order, wide), (width scope x, inside.0, inside.1))
   fits (e.Concatenation xs) w h k q =
-      subst (FitsParts P (places v xs)) (same (joint_width scope xs) w (right (all_right (is_signal scope) xs) (joint_width scope xs == w) q))
-      (parts_fit xs h (left (all_right (is_signal scope) xs) (joint_width scope xs == w) q))
+      subst (FitsParts P (places v xs)) (eqb-true (joint_width scope xs) w (and_parts (all_right (is_signal scope) xs) (joint_width scope xs == w) q).1)
+      (parts_fit xs h (and_parts (all_right (is_signal scope) xs) (joint_width scope xs == w) q).0)
   fits (e.Replication count x) w h k q =
-      (width scope x, one x h.0 (left (is_signal scope x) (count * width scope x == w) q), same (count * width scope x) w (right (is_signal scope x) (count * width scope x == w) q))
+      (width scope x, one x h.0 (and_parts (is_signal scope x) (count * width scope x == w) q).0, eqb-true (count * width scope x) w (and_parts (is_signal scope x) (count * width scope x == w) q).1)
 
 -- ---- the whole
 

@@ -4,6 +4,7 @@ use Rattle.std.specs.Str.{bytes_eq}
 use Rattle.std.proofs.Common.{ap, sym, subst, arith}
 use Rattle.std.proofs.lemmas.Bool.Decides.{nat_tests}
 use Rattle.std.proofs.lemmas.Option.{same_Some}
+use Rattle.std.proofs.lemmas.Bool.{and_parts}
 use Rattle.verilog_tree.specs.declared.kind.Kind.{Kind}
 use Rattle.verilog_tree.specs.declared.kind.Kind.TheVariants as kind
 use Rattle.verilog_tree.specs.declared.kind.SignalClass.TheVariants as class
@@ -124,10 +125,6 @@ each_at P step s [] k x each e = absurd cc
 each_at {S} {A} P step s (y ∷ xs) zero x each e = (s, subst (λ (t : A). P s t) (same_Some y x e) each.0)
 each_at P step s (y ∷ xs) (suc k) x each e = each_at P step (step s y) xs k x each.1 e
 
-right_of : (a b : Bool) → (a && b) ≡ true → b ≡ true
-right_of true b e = e
-right_of false b e = absurd cc
-
 -- it fits a target of 64 bits or fewer
 pub record FitsTarget (scope : Scope) (e : Expression) : Type 0 where
   pub target : ℕ
@@ -144,5 +141,5 @@ assigned_right n m e is =
     record {
       target = target;
       most = driven_narrow (scope_of m) a.target (scope_narrow m);
-      right = subst (λ (x : Expression). expression_right (scope_of m) x target ≡ true) is.is (right_of (nat_lt 0 target) (expression_right (scope_of m) a.value target) right);
+      right = subst (λ (x : Expression). expression_right (scope_of m) x target ≡ true) is.is (and_parts (nat_lt 0 target) (expression_right (scope_of m) a.value target) right).1;
     }

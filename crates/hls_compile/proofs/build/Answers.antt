@@ -15,8 +15,8 @@ returns-clause-plans g c = (
   c.in_ok-plans.ensures,
   record {
     named = c.in_ok-main.ensures.named;
-    lowered = subst (IsLowered (program_of c.args.program.now)) (sym c.in_ok-main.ensures.code) c.in_ok-code.ensures.lowered;
-    typed = subst (IsTypedCode (program_of c.args.program.now)) (sym c.in_ok-main.ensures.code) c.in_ok-code.ensures.typed;
+    lowered = subst (IsLowered (program_of c.args.program.now) c.args.program.now.main) (sym c.in_ok-main.ensures.code) c.in_ok-code.ensures.lowered;
+    typed = subst (IsTypedCode (program_of c.args.program.now) c.args.program.now.main) (sym c.in_ok-main.ensures.code) c.in_ok-code.ensures.typed;
     planned = c.in_ok-main.ensures.planned;
     runs = c.in_ok-written.ensures.runs;
   },

@@ -2,10 +2,11 @@ use Rattle.std.proofs.Common.{◌≡◌, ◌++◌, ◌∷◌, [], List, None, fa
 use Rattle.std.specs.Prelude.{is_some, if◌then◌else◌}
 use Rattle.std.specs.Str.{bytes_eq}
 use Rattle.std.specs.Map.{lookup}
+use Rattle.lists.proofs.Places.{none_of}
 use Rattle.verilog_tree.specs.declared.tree.Port.{Port}
 use Rattle.verilog_tree.specs.Scope.{Name}
 use Rattle.net_rules.specs.Tables.{plain_port, is_named}
-use Rattle.net_rules.proofs.Tables.{new-entry, pushed, none_of}
+use Rattle.net_rules.proofs.Tables.{new-entry, pushed}
 use Rattle.net_rules.proofs.PortTables.{lookup-ports, some_copied}
 use Rattle.net_rules.proofs.interfaces.add_port.Goals as goal
 

@@ -2,9 +2,10 @@ use Rattle.std.proofs.Common.{◌≡◌, ◌++◌, ◌∷◌, [], None, false, s
 use Rattle.std.specs.Prelude.{is_some, if◌then◌else◌}
 use Rattle.std.specs.Str.{bytes_eq}
 use Rattle.std.specs.Map.{lookup}
+use Rattle.lists.proofs.Places.{none_of}
 use Rattle.verilog_tree.specs.Scope.{Scope, kind_of, is_declared}
 use Rattle.net_rules.specs.Tables.{plain}
-use Rattle.net_rules.proofs.Tables.{lookup-plain, new-entry, pushed, none_of}
+use Rattle.net_rules.proofs.Tables.{lookup-plain, new-entry, pushed}
 use Rattle.net_rules.proofs.names.Scope.declare.Goals as goal
 
 pub returns-clause-scope : goal.returns-clause-scope
