@@ -34,7 +34,8 @@ ran modules count most journal output v over fin =
       };
     }
 
-pub ran_at : (modules : List Module) (count most : ℕ) (old new journal : List Entry) (output : List ℕ) (v : Verdict) → IsOver modules count most old v × (new ≡ old) → journal ≡ new → IsFinished modules count most new output
+pub ran_at : (modules : List Module) (count most : ℕ) (old new journal : List Entry) (output : List ℕ) (v : Verdict) → IsOver modules count most old v ×
+    (new ≡ old) → journal ≡ new → IsFinished modules count most new output
     → IsRan modules count most journal output v
 ran_at modules count most old new journal output v over e fin =
     subst (λ (j : List Entry). IsRan modules count most j output v) (sym e)

@@ -1,2 +1,4 @@
 pub mod Placing
+pub mod Modules
+pub mod Laying
 pub mod Scenes

@@ -1,6 +1,6 @@
 -- The cores of a table have their places.
-use Rattle.std.proofs.Common.{◌≡◌, ℕ, zero, suc, ◌+◌, ◌<◌, ◌≤◌, Bool, true, false, nat_lt, if◌then◌else◌, List, [], ◌∷◌, ◌++◌, length, map, replicate, Some}
-use Rattle.std.proofs.Common.{refl, sym, ap, ◌∙◌, subst, ⊎_elim, arith}
+use Rattle.std.proofs.Common.{◌≡◌, ℕ, zero, suc, ◌+◌, ◌<◌, ◌≤◌, Bool, true, false, nat_lt, if◌then◌else◌, List, [], ◌∷◌, ◌++◌, length, map, take, replicate, Some}
+use Rattle.std.proofs.Common.{add-one, length-append, refl, sym, ap, ◌∙◌, subst, ⊎_elim, arith}
 use Rattle.std.specs.Prelude.{◌||◌, not, slice_get}
 use Rattle.std.specs.List.{list_any}
 use Rattle.std.proofs.lemmas.Bool.{cases_lt}
@@ -9,7 +9,7 @@ use Rattle.std.proofs.lemmas.Bool.Decides.{nat_tests}
 use Rattle.std.proofs.lemmas.Option.{same_Some, none-some, slice_get_within}
 use Rattle.hls_ints.specs.Residues.{bit_of}
 use Rattle.netlist.specs.declared.netlist.Module.{Module}
-use Rattle.circuit.specs.Rows.{spread}
+use Rattle.circuit.specs.Rows.{EachOf, spread}
 use Rattle.circuit.proofs.Growth.{length-spread}
 use Rattle.top_wiring.specs.Parts.{each_from}
 use Rattle.lists.proofs.Places.{get_there, get_front}
@@ -17,17 +17,36 @@ use Rattle.top_wiring.proofs.Lists.{IsBehind, get_behind, get_either, get_each, 
 use Rattle.bank_cores.specs.declared.bank.Shape.{Shape as BankShape}
 use Rattle.mutex_cores.specs.declared.mutex.Shape.{Shape as MutexShape}
 use Rattle.core_family.specs.Family.{CoreShape, Bank, Mutex, Prints, IsCoreModule}
-use Rattle.net_tables.specs.Tables.{PlacedCore}
+use Rattle.net_tables.specs.Tables.{PlacedCore, IsNarrow}
 use Rattle.net_tables.specs.Whole.{SameModule}
-use Rattle.placed_cores.specs.Placing.{Wanted, barrier, forks, cores_of, unset_at, free_at, barrier_at, forks_at, printer_at, mutex_at, placed_bank, placed_mutex}
+use Rattle.placed_cores.specs.declared.wanted.Wanted.{Wanted}
+use Rattle.placed_cores.specs.Placing.{barrier, forks, cores_of, unset_at, free_at, barrier_at, forks_at, printer_at, mutex_at, placed_bank, placed_mutex}
 use Rattle.placed_cores.specs.Placing.{placed_barrier, placed_forks, placed_printer, last_cores, placed, HasKind, AreKinds, BanksApart, IsNumbered, CoresArePlaced}
 
 length-each : {A : Type 0} {B : Type 0} (f : ℕ → A → B) (i : ℕ) (xs : List A) → length (each_from f i xs) ≡ length xs
 length-each f i [] = refl
 length-each f i (x ∷ xs) = ap suc (length-each f (i + 1) xs)
 
+-- one more
+pub each_next : {A : Type 0} {B : Type 0} (f : ℕ → A → B) (n : ℕ) (xs : List A) (i : ℕ) (x : A) → slice_get xs i ≡ Some x →
+    each_from f n (take (i + 1) xs) ≡ each_from f n (take i xs) ++ f (n + i) x ∷ []
+each_next f n xs i x e = ap (λ k. each_from f n (take k xs)) (add-one i) ∙ next f n xs i x e
+  where
+    next : {A : Type 0} {B : Type 0} (f : ℕ → A → B) (n : ℕ) (xs : List A) (i : ℕ) (x : A) → slice_get xs i ≡ Some x →
+        each_from f n (take (suc i) xs) ≡ each_from f n (take i xs) ++ f (n + i) x ∷ []
+    next f n [] i x e = absurd (none-some x e)
+    next f n (y ∷ xs) zero x e =
+        ap (λ z. f n z ∷ []) (same_Some y x e) ∙ ap (λ k. f k x ∷ []) (let q : n ≡ n + 0 = omega arith in q)
+    next f n (y ∷ xs) (suc i) x e =
+        ap (λ l. f n y ∷ l) (next f (n + 1) xs i x e)
+        ∙ ap (λ k. f n y ∷ (each_from f (n + 1) (take i xs) ++ f k x ∷ [])) (let q : n + 1 + i ≡ n + suc i = omega arith in q)
+
 abbrev shape : PlacedCore → CoreShape
 shape c = c.shape
+
+-- with a printer of few values
+abbrev pub AllNarrow : List PlacedCore → Type 0
+AllNarrow cores = EachOf (λ (c : PlacedCore). IsNarrow c.shape) cores
 
 module _ (w : Wanted) where
   abbrev B : ℕ
@@ -168,12 +187,12 @@ module _ (w : Wanted) where
   numbered k c (AtPrinter at is) = subst (λ (z : PlacedCore). IsNumbered w k z.shape z.number) (sym is) refl
 
   module _ (kinds : List Module) (are : AreKinds w kinds) where
-    kind_there : (k : ℕ) (c : PlacedCore) → Which k c → HasKind w kinds c.kind c.shape
-    kind_there k c (AtBank b listed is) = subst (λ (z : PlacedCore). HasKind w kinds z.kind z.shape) (sym is) (are.bank k b listed)
-    kind_there k c (AtMutex n m listed at is) = subst (λ (z : PlacedCore). HasKind w kinds z.kind z.shape) (sym is) (are.mutex n m listed)
-    kind_there k c (AtBarrier n below at is) = subst (λ (z : PlacedCore). HasKind w kinds z.kind z.shape) (sym is) (are.barriers (omega (arith, below)))
-    kind_there k c (AtForks on at is) = subst (λ (z : PlacedCore). HasKind w kinds z.kind z.shape) (sym is) (are.ids on)
-    kind_there k c (AtPrinter at is) = subst (λ (z : PlacedCore). HasKind w kinds z.kind z.shape) (sym is) are.printer
+    kind_there : (k : ℕ) (c : PlacedCore) → Which k c → HasKind w.threads kinds c.kind c.shape
+    kind_there k c (AtBank b listed is) = subst (λ (z : PlacedCore). HasKind w.threads kinds z.kind z.shape) (sym is) (are.bank k b listed)
+    kind_there k c (AtMutex n m listed at is) = subst (λ (z : PlacedCore). HasKind w.threads kinds z.kind z.shape) (sym is) (are.mutex n m listed)
+    kind_there k c (AtBarrier n below at is) = subst (λ (z : PlacedCore). HasKind w.threads kinds z.kind z.shape) (sym is) (are.barriers (omega (arith, below)))
+    kind_there k c (AtForks on at is) = subst (λ (z : PlacedCore). HasKind w.threads kinds z.kind z.shape) (sym is) (are.ids on)
+    kind_there k c (AtPrinter at is) = subst (λ (z : PlacedCore). HasKind w.threads kinds z.kind z.shape) (sym is) are.printer
 
   -- ---- each place of a module is of some core
 
@@ -315,6 +334,44 @@ module _ (w : Wanted) where
       by (AtPrinter atx isx) (AtBarrier ny belowy aty isy) s = absurd (module_of (placed_printer w) (placed_barrier w ny) isx isy)
       by (AtPrinter atx isx) (AtForks ony aty isy) s = absurd (module_of (placed_printer w) (placed_forks w) isx isy)
       by (AtPrinter atx isx) (AtPrinter aty isy) s = kinds_of (placed_printer w) (placed_printer w) isx isy refl
+
+-- no core but the printer has a list of values
+banks_narrow : (w : Wanted) (i : ℕ) (bs : List BankShape) (rest : List PlacedCore) → AllNarrow rest → AllNarrow (each_from (placed_bank w) i bs ++ rest)
+banks_narrow w i [] rest h = h
+banks_narrow w i (b ∷ bs) rest h = (tt, banks_narrow w (i + 1) bs rest h)
+
+mutexes_narrow : (w : Wanted) (i : ℕ) (ms : List MutexShape) (rest : List PlacedCore) → AllNarrow rest → AllNarrow (each_from (placed_mutex w) i ms ++ rest)
+mutexes_narrow w i [] rest h = h
+mutexes_narrow w i (m ∷ ms) rest h = (tt, mutexes_narrow w (i + 1) ms rest h)
+
+barriers_narrow : (w : Wanted) (i n : ℕ) (rest : List PlacedCore) → AllNarrow rest → AllNarrow (spread (placed_barrier w) i n ++ rest)
+barriers_narrow w i zero rest h = h
+barriers_narrow w i (suc n) rest h = (tt, barriers_narrow w (i + 1) n rest h)
+
+last_narrow : (w : Wanted) (on : Bool) → w.printer.values ≤ 4 → AllNarrow ((if on then placed_forks w ∷ [] else []) ++ (placed_printer w ∷ []))
+last_narrow w true few = (tt, (few, tt))
+last_narrow w false few = (few, tt)
+
+last_count : (w : Wanted) (on : Bool) → length ((if on then placed_forks w ∷ [] else []) ++ (placed_printer w ∷ [])) ≡ bit_of on + 1
+last_count w true = refl
+last_count w false = refl
+
+-- how many there are
+pub placed_count : (w : Wanted) → length (placed w) ≡ length w.banks + (length w.mutexes + (w.barriers + (bit_of w.ids + 1)))
+placed_count w =
+    let last = last_count w w.ids in
+    let all = length-append (each_from (placed_bank w) 0 w.banks) (each_from (placed_mutex w) 0 w.mutexes ++ (spread (placed_barrier w) 0 w.barriers ++ last_cores w)) in
+    let rest = length-append (each_from (placed_mutex w) 0 w.mutexes) (spread (placed_barrier w) 0 w.barriers ++ last_cores w) in
+    let end = length-append (spread (placed_barrier w) 0 w.barriers) (last_cores w) in
+    let banks = length-each (placed_bank w) 0 w.banks in
+    let mutexes = length-each (placed_mutex w) 0 w.mutexes in
+    let barriers = length-spread (placed_barrier w) 0 w.barriers in
+    omega (arith, last, all, rest, end, banks, mutexes, barriers)
+
+pub placed_narrow : (w : Wanted) → w.printer.values ≤ 4 → AllNarrow (placed w)
+placed_narrow w few =
+    banks_narrow w 0 w.banks (each_from (placed_mutex w) 0 w.mutexes ++ (spread (placed_barrier w) 0 w.barriers ++ last_cores w))
+    (mutexes_narrow w 0 w.mutexes (spread (placed_barrier w) 0 w.barriers ++ last_cores w) (barriers_narrow w 0 w.barriers (last_cores w) (last_narrow w w.ids few)))
 
 pub cores_are_placed : CoresArePlaced
 cores_are_placed w t e threads are = record {

@@ -6,7 +6,8 @@ use Rattle.mutex_cores.specs.declared.mutex.Shape.{Shape as MutexShape}
 use Rattle.core_ports.specs.Ports.{CorePort, asks_of, told_of, ask_place, told_place}
 use Rattle.core_family.specs.Family.{port_of}
 use Rattle.net_tables.specs.Tables.{PlacedCore}
-use Rattle.placed_cores.specs.Placing.{Wanted, placed}
+use Rattle.placed_cores.specs.declared.wanted.Wanted.{Wanted}
+use Rattle.placed_cores.specs.Placing.{placed}
 
 abbrev bank : BankShape
 bank = record { threads = 3; name = codes "x"; number = 0; address_width = 64; width = 32; initial = 0 ∷ [] }

@@ -1,6 +1,6 @@
 -- The cores of a program's hardware, each with the place of its module and its number: banks, mutexes, barriers, the core of the thread ids where there
 -- is one, and the printer.
-use Rattle.std.specs.Prelude.{◌≡◌, ℕ, ◌+◌, ◌<◌, Bool, true, not, nat_lt, if◌then◌else◌, List, [], ◌∷◌, ◌++◌, length, map, replicate, Some, slice_get}
+use Rattle.std.specs.Prelude.{◌≡◌, ℕ, ◌+◌, ◌<◌, true, not, nat_lt, if◌then◌else◌, List, [], ◌∷◌, ◌++◌, length, map, replicate, Some, slice_get}
 use Rattle.std.specs.List.{list_any}
 use Rattle.hls_ints.specs.Residues.{bit_of}
 use Rattle.netlist.specs.declared.netlist.Module.{Module}
@@ -8,20 +8,16 @@ use Rattle.circuit.specs.Rows.{spread}
 use Rattle.top_wiring.specs.Parts.{each_from}
 use Rattle.bank_cores.specs.declared.bank.Shape.{Shape as BankShape}
 use Rattle.mutex_cores.specs.declared.mutex.Shape.{Shape as MutexShape}
-use Rattle.print_core.specs.declared.printer.Shape.{Shape as PrinterShape}
 use Rattle.core_family.specs.Family.{CoreShape, Bank, Mutex, Barrier, Forks, Prints, IsCoreModule}
 use Rattle.net_tables.specs.Tables.{PlacedCore, Table, HasModule, shapes_of}
 use Rattle.net_tables.specs.Whole.{KindsStandOnce}
+use Rattle.placed_cores.specs.declared.wanted.Wanted.{Wanted}
 
--- the cores that are wanted, for so many threads
-pub record Wanted : Type 0 where
-  pub threads : ℕ
-  pub banks : List BankShape
-  pub mutexes : List MutexShape
-  pub barriers : ℕ
-  -- whether there is a core of the thread ids
-  pub ids : Bool
-  pub printer : PrinterShape
+-- a module of a core of so many threads, of this shape, stands there
+pub record HasKind (threads : ℕ) (kinds : List Module) (place : ℕ) (s : CoreShape) : Type 0 where
+  pub body : Module
+  pub listed : slice_get kinds place ≡ Some body
+  pub is : IsCoreModule threads s body
 
 module _ (w : Wanted) where
   abbrev pub barrier : CoreShape
@@ -83,19 +79,13 @@ module _ (w : Wanted) where
 
   -- ---- the modules
 
-  -- a module of a core of this shape stands there
-  pub record HasKind (kinds : List Module) (place : ℕ) (s : CoreShape) : Type 0 where
-    pub body : Module
-    pub listed : slice_get kinds place ≡ Some body
-    pub is : IsCoreModule w.threads s body
-
   pub record AreKinds (kinds : List Module) : Type 0 where
     pub count : length kinds ≡ printer_at + 1
-    pub bank : (i : ℕ) (b : BankShape) → slice_get w.banks i ≡ Some b → HasKind kinds i (Bank b)
-    pub mutex : (n : ℕ) (m : MutexShape) → slice_get w.mutexes n ≡ Some m → HasKind kinds (mutex_at m) (Mutex m)
-    pub barriers : 0 < w.barriers → HasKind kinds barrier_at barrier
-    pub ids : w.ids ≡ true → HasKind kinds forks_at forks
-    pub printer : HasKind kinds printer_at (Prints w.printer)
+    pub bank : (i : ℕ) (b : BankShape) → slice_get w.banks i ≡ Some b → HasKind w.threads kinds i (Bank b)
+    pub mutex : (n : ℕ) (m : MutexShape) → slice_get w.mutexes n ≡ Some m → HasKind w.threads kinds (mutex_at m) (Mutex m)
+    pub barriers : 0 < w.barriers → HasKind w.threads kinds barrier_at barrier
+    pub ids : w.ids ≡ true → HasKind w.threads kinds forks_at forks
+    pub printer : HasKind w.threads kinds printer_at (Prints w.printer)
 
   -- banks have names of their own
   abbrev pub BanksApart : Type 0

@@ -1,7 +1,9 @@
 //! The cores of a program's hardware as a table of modules has them, each with the place of its module and its number.
 #![tactic(auto)]
 
+pub mod kinds;
 pub mod layout;
+pub mod wanted;
 
 ghost use Rattle.placed_cores.specs.Placing.{CoresArePlaced};
 

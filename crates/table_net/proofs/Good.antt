@@ -19,7 +19,8 @@ use Rattle.machine_follows.specs.Follows.{TurnsBeats}
 use Rattle.table_refine.specs.Wired as refine
 use Rattle.table_refine.proofs.Whole.{wired_follow}
 use Rattle.table_net.specs.Tables.{IsNumbered, IsLaidTable}
-use Rattle.table_net.specs.Texts.{IsWritten, IsNetOf, FollowsProgram}
+use Rattle.table_text.specs.Written.{IsWritten}
+use Rattle.table_net.specs.Texts.{IsNetOf, FollowsProgram}
 use Rattle.table_net.specs.Good.{ThreadsStand, IsGoodText, LaidTablesAreGood, wanted, PlacedTablesAreLaid}
 use Rattle.table_net.proofs.Wholes.{same_bank, is_whole}
 use Rattle.table_net.proofs.Texts.{texts_are_nets, texts_are_good}

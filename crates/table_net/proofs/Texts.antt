@@ -20,7 +20,8 @@ use Rattle.net_tables.specs.Whole.{IsWholeTable, AreThreads}
 use Rattle.net_tables.specs.Nets.{IsNetOfTable}
 use Rattle.net_tables.proofs.Sound.{tables_are_sound}
 use Rattle.net_tables.proofs.Netting.{tables_are_nets}
-use Rattle.table_net.specs.Texts.{IsWritten, IsNetOf, FollowsProgram, TextsAreNets, TextsAreGood}
+use Rattle.table_text.specs.Written.{IsWritten}
+use Rattle.table_net.specs.Texts.{IsNetOf, FollowsProgram, TextsAreNets, TextsAreGood}
 
 module _ (t : Table) (modules : ℕ → Module) (leaves : ℕ → LeafPorts) (n : Netlist) (net : Net) (text : List ℕ) (whole : IsWholeTable t)
     (threads : AreThreads t modules leaves) (written : IsWritten (layout_of t) (modules_of t) n net text) where

@@ -4,12 +4,10 @@ use Rattle.c_program.specs.Tree.{Program}
 use Rattle.c_program.specs.Weight.{thread_count}
 use Rattle.thread_semantics.specs.Races.{IsGood}
 use Rattle.verilog_tree.specs.declared.tree.Net.{Net}
-use Rattle.verilog_tree.specs.Reads.{IsFull, Reads}
-use Rattle.verilog_tree.specs.WellFormed.{IsWellFormed}
+use Rattle.verilog_tree.specs.Reads.{Reads}
 use Rattle.netlist.specs.declared.netlist.Module.{Module}
 use Rattle.netlist.specs.declared.netlist.Netlist.{Netlist}
 use Rattle.netlist.specs.NetlistOf.{netlist_of}
-use Rattle.netlist.specs.Laid.{IsLaid}
 use Rattle.netlist.specs.Sound.{IsSound}
 use Rattle.verilog_meaning.specs.Names.{top_of}
 use Rattle.verilog_meaning.specs.Ports.{HasDone}
@@ -17,23 +15,12 @@ use Rattle.verilog_meaning.specs.Cycles.{Valuation, Choice, Reaches}
 use Rattle.verilog_meaning.specs.Threads.{IsChoice, Place, Depends}
 use Rattle.verilog_meaning.specs.Follows.{IsDetermined, FollowsAlways}
 use Rattle.circuit.specs.Nets.{FitsChoice}
-use Rattle.top_wiring.specs.declared.layout.Layout.{Layout}
-use Rattle.top_wiring.specs.Sound.{AreSound}
-use Rattle.top_wiring.specs.Wired.{IsWired}
 use Rattle.leaf_machine.specs.Leaves.{LeafPorts}
 use Rattle.good_verilog.specs.Program.{seen_of}
 use Rattle.good_verilog.specs.GoodVerilog.{IsGoodVerilog}
 use Rattle.net_tables.specs.Tables.{Table, layout_of, modules_of}
 use Rattle.net_tables.specs.Whole.{IsWholeTable, AreThreads}
-
--- a net of these modules, its text's tree and the text, as they are promised: by `wire` of the net, by `text_of` of the tree,
--- and by `write` of the text
-pub record IsWritten (layout : Layout) (modules : List Module) (n : Netlist) (net : Net) (text : List ℕ) : Type 0 where
-  pub wired : IsWired modules layout n
-  pub sound : AreSound layout modules → IsSound n
-  pub netlist : IsLaid n → netlist_of net ≡ n
-  pub formed : IsSound n → IsWellFormed net
-  pub reads : IsFull net → Reads text net
+use Rattle.table_text.specs.Written.{IsWritten}
 
 -- the netlist that a text reads as: it is sound, its `top` has the output `done`, no signal depends on itself, and it takes the choices of
 -- so many threads

@@ -1,0 +1,4 @@
+pub mod Globals
+pub mod Printable
+pub mod Mutexes
+pub mod Cores

@@ -1,0 +1,130 @@
+-- The parts of a program's hardware, of what is made of the program: the codes of its thread functions with their plans, a module for each of them, and
+-- the cores.
+use Rattle.std.specs.Prelude.{◌≡◌, ℕ, zero, suc, ◌+◌, Bool, true, false, nat_eq, List, [], ◌∷◌, length, map, Some, None, slice_get, slice_index, codes}
+use Rattle.hls_ints.specs.Residues.{bit_of}
+use Rattle.c_program.specs.Tree.{Program}
+use Rattle.c_program.specs.Resolved.{IsResolved}
+use Rattle.c_program.specs.Weight.{thread_count, thread_functions}
+use Rattle.bank_partition.specs.declared.banks.Spread.{Spread}
+use Rattle.block_refine.specs.Routines.{RoutineCode, Codes}
+use Rattle.netlist.specs.declared.netlist.Module.{Module}
+use Rattle.netlist.specs.declared.netlist.Netlist.{Netlist}
+use Rattle.verilog_meaning.specs.Names.{top_of}
+use Rattle.verilog_meaning.specs.Readings.{Reading, next_reading}
+use Rattle.verilog_meaning.specs.Threads.{IsThreaded}
+use Rattle.circuit.specs.Modules.{Obeys, Agree}
+use Rattle.leaf_machine.specs.Leaves.{LeafPorts, IsThreadLeaf, IsSlotBit}
+use Rattle.leaf_machine.specs.Steady.{IsSteadyThread, IsSteadyMain}
+use Rattle.core_ports.specs.Ports.{CorePort, IsRoutineModule}
+use Rattle.core_family.specs.Family.{machine_at, port_of}
+use Rattle.placed_cores.specs.declared.wanted.Wanted.{Wanted}
+use Rattle.placed_cores.specs.Placing.{cores_of}
+use Rattle.block_ir.specs.Asked.{Numbers}
+use Rattle.thread_promise.specs.Slots.{Places}
+use Rattle.thread_promise.specs.Serving.{RunsCode}
+use Rattle.bank_memory.specs.Partition.{globals_of}
+use Rattle.net_cycle.specs.Built.{Parts}
+use Rattle.table_refine.specs.Wired.{promised_ports}
+use Rattle.routine_plans.specs.Plans.{IsRoutine}
+use Rattle.good_verilog.specs.GoodVerilog.{IsGoodVerilog}
+use Rattle.table_text.specs.Written.{IsTextOf}
+use Rattle.table_net.specs.Texts.{IsNetOf}
+use Rattle.program_cores.specs.Cores.{AreCoresOf}
+use Rattle.thread_numbers.specs.Numbers.{place_in, module_numbers, has_idle, function_module}
+
+-- ---- what is made
+
+-- a module of threads: how many inputs it has, and where its ports and its registers stand
+pub record ThreadBody : Type 0 where
+  pub body : Module
+  pub inputs : ℕ
+  pub leaf : LeafPorts
+  pub places : Places
+
+-- the code of threads without a function
+abbrev pub no_code : RoutineCode
+no_code = record { code = record { argument = None; variables = []; names = []; arrays = []; stages = [] }; plan = record { stages = []; registers = 0 } }
+
+abbrev pub code_at : List RoutineCode → ℕ → RoutineCode
+code_at [] k = no_code
+code_at (c ∷ cs) zero = c
+code_at (c ∷ cs) (suc k) = code_at cs k
+
+-- ---- the parts
+
+module _ (P : Program) (spreads : List Spread) (w : Wanted) (made : List RoutineCode) (bodies : ℕ → ThreadBody) where
+  -- by function
+  abbrev pub codes_of : Codes
+  codes_of f = code_at made (place_in (thread_functions P) f)
+
+  -- by thread
+  abbrev pub body_of : ℕ → ThreadBody
+  body_of i = bodies (slice_index (module_numbers P) i)
+
+  abbrev pub parts_of : Parts
+  parts_of = record {
+    threads = w.threads;
+    spreads = spreads;
+    banks = w.banks;
+    mutexes = w.mutexes;
+    barriers = w.barriers;
+    ids = w.ids;
+    printer = w.printer;
+    codes = codes_of;
+    modules = λ i. (body_of i).body;
+    inputs = λ i. (body_of i).inputs;
+    leaves = λ i. (body_of i).leaf;
+    places = λ i. (body_of i).places;
+    ports = λ i. promised_ports (body_of i).leaf;
+  }
+
+-- ---- what is promised of the modules
+
+abbrev pub core_count : Wanted → ℕ
+core_count w = length (cores_of w)
+
+abbrev pub ports_of : Wanted → List CorePort
+ports_of w = map port_of (cores_of w)
+
+abbrev pub numbers_of : Wanted → Numbers
+numbers_of w = record { banks = length w.banks; mutexes = length w.mutexes; barriers = w.barriers; ids = w.ids }
+
+-- beside these cores: the module has this name and their ports, is a thread's machine, runs the code by its plan, as main's or as another thread's, turns
+-- its beat where it changes, and keeps to itself
+pub record IsBody (P : Program) (spreads : List Spread) (w : Wanted) (main : Bool) (c : RoutineCode) (name : List ℕ) (b : ThreadBody) : Type 0 where
+  pub routine : IsRoutineModule name (ports_of w) b.body b.inputs b.leaf
+  pub leaf : IsThreadLeaf b.body b.inputs b.leaf (core_count w) (λ k. (machine_at (cores_of w) k).parts) (λ k. (machine_at (cores_of w) k).told)
+  pub done : IsSlotBit b.body b.inputs b.leaf (core_count w) (λ k. (machine_at (cores_of w) k).parts) (λ k. (machine_at (cores_of w) k).told) b.leaf.done
+  pub runs : (f : ℕ) → RunsCode (globals_of P) spreads (numbers_of w) main f c.code c.plan b.body b.places (promised_ports b.leaf)
+  pub beats : (r : Reading) → Obeys b.body r → (next_reading b.body r).signal b.places.beat ≡ r.signal b.places.beat → Agree b.body r (next_reading b.body r)
+  pub steady : IsSteadyThread (core_count w) b.body b.leaf
+
+-- the code of each thread function, in their order, by a right plan, and a module for each; and one for threads without a function, where there are such
+pub record AreBodies (P : Program) (spreads : List Spread) (w : Wanted) (made : List RoutineCode) (bodies : ℕ → ThreadBody) (routines : List Module) : Type 0 where
+  pub count : length made ≡ length (thread_functions P)
+  pub thread_codes : (k f : ℕ) (c : RoutineCode) → slice_get (thread_functions P) k ≡ Some f → slice_get made k ≡ Some c → IsRoutine P f c
+  pub total : length routines ≡ length made + bit_of (has_idle P)
+  pub listed : (k : ℕ) (m : Module) → slice_get routines k ≡ Some m → m ≡ (bodies k).body
+  pub each : (k f : ℕ) (c : RoutineCode) → slice_get (thread_functions P) k ≡ Some f → slice_get made k ≡ Some c →
+      IsBody P spreads w (nat_eq k 0) c (function_module P f) (bodies k)
+  pub idle : has_idle P ≡ true → IsBody P spreads w false no_code (codes "idle") (bodies (length made))
+  pub main : IsSteadyMain (core_count w) (bodies 0).body (bodies 0).leaf
+
+-- ---- the whole
+
+-- a netlist of so many threads is threaded: what their modules do while they need no core hangs on nothing outside them
+pub record IsThreadedNet (n : Netlist) (threads : ℕ) : Type 0 where
+  pub top : Module
+  pub is_top : top_of n.modules ≡ Some top
+  pub threaded : IsThreaded n.modules top threads
+
+pub record IsGoodText (P : Program) (n : Netlist) (text : List ℕ) : Type 0 where
+  pub good : IsGoodVerilog P text
+  pub net : IsNetOf (thread_count P) n text
+  pub threaded : IsThreadedNet n (thread_count P)
+
+-- PARTS ARE GOOD: the text that is written of a program's modules and cores is good Verilog of it, and reads as a threaded net
+abbrev pub PartsAreGood : Type 0
+PartsAreGood =
+    (P : Program) (spreads : List Spread) (w : Wanted) (made : List RoutineCode) (bodies : ℕ → ThreadBody) (routines : List Module) (n : Netlist) (text : List ℕ) →
+    IsResolved P → AreCoresOf P spreads w → AreBodies P spreads w made bodies routines → IsTextOf (module_numbers P) routines w n text → IsGoodText P n text
