@@ -1,0 +1,4 @@
+pub mod Growing
+pub mod Heading
+pub mod Listed
+pub mod Walking

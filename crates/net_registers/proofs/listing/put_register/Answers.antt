@@ -1,0 +1,6 @@
+use Rattle.std.proofs.Common.{arith}
+use Rattle.net_registers.proofs.Heading.{register_line_is}
+use Rattle.net_registers.proofs.listing.put_register.Goals as goal
+
+pub returns-clause-line : goal.returns-clause-line
+returns-clause-line c = register_line_is c.args.number c.args.signal.now c.as_str.ensures.name (omega arith)
