@@ -1,1 +1,6 @@
-pub mod Acting
+mod Acting
+mod Numbering
+mod Performing
+mod Placing
+mod Preparing
+mod Typed

@@ -1,172 +1,254 @@
 // Acts: a step that evaluates their operands, and the act itself.
 
-ghost use Rattle.std.specs.Prelude.{◌≡◌, ℕ, true, IfOk, OnOk, ◌+◌, ◌*◌, length, IfErr};
-ghost use Rattle.c_program.specs.Plain.{expressions_of, pieces_of};
+ghost use Rattle.std.specs.Prelude.{◌≡◌, ℕ, suc, true, IfNone, IfOk, IfSome, OnOk, [], ◌∷◌, ◌+◌, ◌*◌, length, IfErr};
+ghost use Rattle.hls_ints.specs.Types.{long_int};
+ghost use Rattle.c_program.specs.Plain.{expression_of, expressions_of, object_place_of, pieces_of, thread_call_of};
+ghost use Rattle.c_program.specs.Resolved as resolved;
 ghost use Rattle.c_program.specs.Tree as tree;
-ghost use Rattle.c_program.specs.Weight.{expressions_weight};
-ghost use Rattle.code_places.specs.Doing as doing;
+ghost use Rattle.c_program.specs.Weight.{expression_weight, expressions_weight, object_place_weight, thread_call_weight};
+ghost use Rattle.straight_code.specs.Assigning as assigning;
+ghost use Rattle.straight_code.specs.Evaluating as evaluating;
 ghost use Rattle.straight_code.specs.Room.{IsFull};
+ghost use Rattle.code_places.specs.Doing as doing;
+ghost use Rattle.code_acts.specs.Acts as acts;
 
 use block_ir::block::Operation;
 use block_ir::code::{Act, ActOperand};
-use block_ir::operand::Source;
-use c_program::tree::{BinaryOperator, Expression, ObjectPlace, Piece, Storage, ThreadCall};
+use block_ir::operand::{Operand, Source};
+use c_program::tree::{BinaryOperator, Expression, ObjectPlace, Piece, ThreadCall};
 use code_places::lowering::Lowering;
 use hls_ints::CType;
-use std::alloc::Global;
+use std::alloc::{AllocError, Global};
 use straight_code::expressions::lower_expression;
-use straight_code::fault::LoweringFault;
+use straight_code::fault::{LoweringFault, number_of};
 use straight_code::homes::Home;
-use straight_code::operands::plain;
+use straight_code::open_block::OpenBlock;
+use straight_code::operands::{converted, plain};
 use straight_code::printing::{conversions_of, lower_values, word_operands};
-use thread_rooms::objects::first_of;
+use thread_rooms::objects::{Objects, first_of};
 
-/// An operand of an act: a constant, a variable that holds it, or a value that is put into a variable for it.
-fn lower_operand(
+/// The number of an element of an array of objects: the index is added to the number of the first.
+fn element_number(
     alloc: Global,
-    code: &mut Lowering,
-    position: usize,
-    expression: &Expression,
-) -> Result<ActOperand, LoweringFault>
-    ensures stages { OnOk result (code.new.stages ≡ code.old.stages) }
-    ensures reached { OnOk result (code.new.reached ≡ code.old.reached) }
-    ensures back { OnOk result (code.new.back ≡ code.old.back) }
+    homes: &[Home],
+    block: &mut OpenBlock,
+    first: u32,
+    index: &Expression,
+) -> Result<Operand, LoweringFault>
+    ensures value { IfOk result (λ a. (object length : ℕ) → evaluating.Evaluates homes.now
+        (acts.number_expression first (tree.ObjectPlace.Element object length (expression_of index.now))) block.old block.new a) }
+    ensures full { IfErr result (IsFull (length block.old.operations + (2 * expression_weight (expression_of index.now) + 2))) }
 {
-    if let Expression::Constant(ty, number) = expression {
-        return Ok(ActOperand::Constant(*ty, *number));
-    }
-    if let Expression::Variable(Storage::Automatic, variable, ty) = expression {
-        if let Some(Home::Variable(home)) = code.homes.get(*variable as usize) {
-            return Ok(ActOperand::Variable(*home, *ty));
-        }
-    }
-    let value = lower_expression(alloc, code.homes.as_slice(), &mut code.block, expression)?;
-    code.act_operand(alloc, position, &value)
+    let value = lower_expression(alloc, homes, block, index)?;
+    let left = converted(alloc, &value, CType::LONG)?;
+    let right = plain(alloc, Source::Constant(CType::LONG, i128::from(first)));
+    let operation = Operation::Binary {
+        operator: BinaryOperator::Add,
+        ty: CType::LONG,
+        left,
+        right,
+    };
+    let number = block.put(alloc, operation, CType::LONG)?;
+    Ok(number)
 }
 
-/// The number of an object, or of an element of an array of them that begins with that number.
+/// The value is put into a variable of 64 bits.
+fn put_word(
+    alloc: Global,
+    block: &mut OpenBlock,
+    variable: u32,
+    value: &Operand,
+) -> Result<(), AllocError>
+    ensures { IfOk result (λ _. assigning.StoresVariable variable long_int value.now block.old block.new) }
+{
+    let word = converted(alloc, value, CType::LONG)?;
+    block.set(variable, word)?;
+    Ok(())
+}
+
+/// The number of an element is put into a variable of 64 bits.
+fn lower_element(
+    alloc: Global,
+    homes: &[Home],
+    block: &mut OpenBlock,
+    variable: u32,
+    first: u32,
+    index: &Expression,
+) -> Result<(), LoweringFault>
+    ensures puts { IfOk result (λ _. (object length : ℕ) → acts.PutsNumber homes.now variable first
+        (tree.ObjectPlace.Element object length (expression_of index.now)) block.old block.new) }
+    ensures full { IfErr result (IsFull (length block.old.operations + (2 * expression_weight (expression_of index.now) + 2))) }
+{
+    let number = element_number(alloc, homes, block, first, index)?;
+    put_word(alloc, block, variable, &number)?;
+    Ok(())
+}
+
+/// The number of an object: where it is an element, its number is put into the variable.
 fn lower_object(
     alloc: Global,
-    code: &mut Lowering,
-    first: u64,
+    homes: &[Home],
+    block: &mut OpenBlock,
+    variable: u32,
+    first: u32,
     place: &ObjectPlace,
 ) -> Result<ActOperand, LoweringFault>
-    ensures stages { OnOk result (code.new.stages ≡ code.old.stages) }
-    ensures reached { OnOk result (code.new.reached ≡ code.old.reached) }
-    ensures back { OnOk result (code.new.back ≡ code.old.back) }
+    ensures operand { IfOk result (λ o. o ≡ acts.number_operand variable first (object_place_of place.now)) }
+    ensures puts { IfOk result (λ _. acts.PutsNumber homes.now variable first (object_place_of place.now) block.old block.new) }
+    ensures full { IfErr result (IsFull (length block.old.operations + 2 * object_place_weight (object_place_of place.now))) }
 {
     match place {
         ObjectPlace::Single(_) => Ok(ActOperand::Constant(CType::LONG, i128::from(first))),
         ObjectPlace::Element(_, _, index) => {
-            let homes = code.homes.as_slice();
-            let left = lower_expression(alloc, homes, &mut code.block, index)?;
-            let right = plain(alloc, Source::Constant(CType::LONG, i128::from(first)));
-            let operation = Operation::Binary {
-                operator: BinaryOperator::Add,
-                ty: CType::LONG,
-                left,
-                right,
-            };
-            let number = code.block.put(alloc, operation, CType::LONG)?;
-            code.act_operand(alloc, 0, &number)
+            lower_element(alloc, homes, block, variable, first, index)?;
+            Ok(ActOperand::Variable(variable, CType::LONG))
         }
     }
 }
 
-fn object_of(place: &ObjectPlace) -> u32 {
+/// What the expression comes to is put into a variable of 64 bits.
+fn lower_word(
+    alloc: Global,
+    homes: &[Home],
+    block: &mut OpenBlock,
+    variable: u32,
+    expression: &Expression,
+) -> Result<(), LoweringFault>
+    ensures puts { IfOk result (λ _. acts.PutsWord homes.now variable (expression_of expression.now) block.old block.new) }
+    ensures full { IfErr result (IsFull (length block.old.operations + (2 * expression_weight (expression_of expression.now) + 1))) }
+{
+    let value = lower_expression(alloc, homes, block, expression)?;
+    put_word(alloc, block, variable, &value)?;
+    Ok(())
+}
+
+/// The object that a call names.
+fn place_of(call: &ThreadCall) -> &ObjectPlace
+    ensures { object_place_of result.now ≡ acts.place_of (thread_call_of call.now) }
+{
+    match call {
+        ThreadCall::Create(place, _, _)
+        | ThreadCall::Join(place)
+        | ThreadCall::MutexInit(place)
+        | ThreadCall::MutexDestroy(place)
+        | ThreadCall::MutexLock(place)
+        | ThreadCall::MutexUnlock(place)
+        | ThreadCall::BarrierInit(place, _)
+        | ThreadCall::BarrierDestroy(place)
+        | ThreadCall::BarrierWait(place) => place,
+    }
+}
+
+fn object_of(place: &ObjectPlace) -> u32
+    ensures { result ≡ resolved.object_of (object_place_of place.now) }
+{
     match place {
         ObjectPlace::Single(object) | ObjectPlace::Element(object, _, _) => *object,
     }
 }
 
-fn lower_thread(
-    alloc: Global,
-    code: &mut Lowering,
-    place: &ObjectPlace,
-) -> Result<ActOperand, LoweringFault>
-    ensures stages { OnOk result (code.new.stages ≡ code.old.stages) }
-    ensures reached { OnOk result (code.new.reached ≡ code.old.reached) }
-    ensures back { OnOk result (code.new.back ≡ code.old.back) }
+/// The number of the first element of the object that a call names.
+fn first_of_call(objects: &Objects, call: &ThreadCall) -> u32
+    ensures { result ≡ acts.first_of_call objects.now (thread_call_of call.now) }
 {
-    let first = first_of(code.objects.threads.as_slice(), object_of(place));
-    lower_object(alloc, code, first, place)
-}
-
-fn lower_mutex(
-    alloc: Global,
-    code: &mut Lowering,
-    place: &ObjectPlace,
-) -> Result<ActOperand, LoweringFault>
-    ensures stages { OnOk result (code.new.stages ≡ code.old.stages) }
-    ensures reached { OnOk result (code.new.reached ≡ code.old.reached) }
-    ensures back { OnOk result (code.new.back ≡ code.old.back) }
-{
-    let first = first_of(code.objects.mutexes.as_slice(), object_of(place));
-    lower_object(alloc, code, first, place)
-}
-
-fn lower_barrier(
-    alloc: Global,
-    code: &mut Lowering,
-    place: &ObjectPlace,
-) -> Result<ActOperand, LoweringFault>
-    ensures stages { OnOk result (code.new.stages ≡ code.old.stages) }
-    ensures reached { OnOk result (code.new.reached ≡ code.old.reached) }
-    ensures back { OnOk result (code.new.back ≡ code.old.back) }
-{
-    let first = first_of(code.objects.barriers.as_slice(), object_of(place));
-    lower_object(alloc, code, first, place)
-}
-
-/// The act of a pthread call, whose operands are at hand after the block.
-fn lower_call(alloc: Global, code: &mut Lowering, call: &ThreadCall) -> Result<Act, LoweringFault>
-    ensures stages { OnOk result (code.new.stages ≡ code.old.stages) }
-    ensures reached { OnOk result (code.new.reached ≡ code.old.reached) }
-    ensures back { OnOk result (code.new.back ≡ code.old.back) }
-{
+    let object = object_of(place_of(call));
     match call {
-        ThreadCall::Create(thread, _, argument) => {
-            let thread = lower_thread(alloc, code, thread)?;
-            let argument = lower_operand(alloc, code, 1, argument)?;
-            Ok(Act::Create { thread, argument })
+        ThreadCall::Create(_, _, _) | ThreadCall::Join(_) => {
+            first_of(objects.threads.as_slice(), object)
         }
-        ThreadCall::Join(thread) => {
-            let thread = lower_thread(alloc, code, thread)?;
-            Ok(Act::Join { thread })
-        }
-        ThreadCall::MutexInit(mutex) => {
-            let mutex = lower_mutex(alloc, code, mutex)?;
-            Ok(Act::MutexInit { mutex })
-        }
-        ThreadCall::MutexDestroy(mutex) => {
-            let mutex = lower_mutex(alloc, code, mutex)?;
-            Ok(Act::MutexDestroy { mutex })
-        }
-        ThreadCall::MutexLock(mutex) => {
-            let mutex = lower_mutex(alloc, code, mutex)?;
-            Ok(Act::MutexLock { mutex })
-        }
-        ThreadCall::MutexUnlock(mutex) => {
-            let mutex = lower_mutex(alloc, code, mutex)?;
-            Ok(Act::MutexUnlock { mutex })
-        }
-        ThreadCall::BarrierInit(barrier, count) => {
-            let barrier = lower_barrier(alloc, code, barrier)?;
-            let count = lower_operand(alloc, code, 1, count)?;
-            Ok(Act::BarrierInit { barrier, count })
-        }
-        ThreadCall::BarrierDestroy(barrier) => {
-            let barrier = lower_barrier(alloc, code, barrier)?;
-            Ok(Act::BarrierDestroy { barrier })
-        }
-        ThreadCall::BarrierWait(barrier) => {
-            let barrier = lower_barrier(alloc, code, barrier)?;
-            Ok(Act::BarrierWait { barrier })
-        }
+        ThreadCall::MutexInit(_)
+        | ThreadCall::MutexDestroy(_)
+        | ThreadCall::MutexLock(_)
+        | ThreadCall::MutexUnlock(_) => first_of(objects.mutexes.as_slice(), object),
+        ThreadCall::BarrierInit(_, _)
+        | ThreadCall::BarrierDestroy(_)
+        | ThreadCall::BarrierWait(_) => first_of(objects.barriers.as_slice(), object),
     }
 }
 
-/// A pthread call.
+/// The argument of a create, or the count of a barrier.
+fn value_of(call: &ThreadCall) -> Option<&Expression>
+    ensures none { IfNone result (acts.values_of (thread_call_of call.now) ≡ []) }
+    ensures some { IfSome result (λ e. acts.values_of (thread_call_of call.now) ≡ expression_of e.now ∷ []) }
+{
+    match call {
+        ThreadCall::Create(_, _, value) | ThreadCall::BarrierInit(_, value) => Some(value),
+        ThreadCall::Join(_)
+        | ThreadCall::MutexInit(_)
+        | ThreadCall::MutexDestroy(_)
+        | ThreadCall::MutexLock(_)
+        | ThreadCall::MutexUnlock(_)
+        | ThreadCall::BarrierDestroy(_)
+        | ThreadCall::BarrierWait(_) => None,
+    }
+}
+
+/// The argument of a create, or the count of a barrier, is put into a variable of 64 bits.
+#[tactic(auto, using(crate::proofs::Preparing::none_put, crate::proofs::Preparing::value_put))]
+fn lower_value(
+    alloc: Global,
+    homes: &[Home],
+    block: &mut OpenBlock,
+    variable: u32,
+    call: &ThreadCall,
+) -> Result<(), LoweringFault>
+    ensures puts { IfOk result (λ _. acts.PutsIfAny homes.now variable (acts.values_of (thread_call_of call.now)) block.old block.new) }
+    ensures full { IfErr result (IsFull (length block.old.operations + (2 * thread_call_weight (thread_call_of call.now) + 1))) }
+{
+    if let Some(value) = value_of(call) {
+        lower_word(alloc, homes, block, variable, value)?;
+        return Ok(());
+    }
+    Ok(())
+}
+
+/// The act of a call on an object, and with that value, if it takes one.
+fn act_on(call: &ThreadCall, object: ActOperand, value: ActOperand) -> Act
+    ensures { result ≡ acts.act_on (thread_call_of call.now) object value }
+{
+    match call {
+        ThreadCall::Create(_, _, _) => Act::Create {
+            thread: object,
+            argument: value,
+        },
+        ThreadCall::Join(_) => Act::Join { thread: object },
+        ThreadCall::MutexInit(_) => Act::MutexInit { mutex: object },
+        ThreadCall::MutexDestroy(_) => Act::MutexDestroy { mutex: object },
+        ThreadCall::MutexLock(_) => Act::MutexLock { mutex: object },
+        ThreadCall::MutexUnlock(_) => Act::MutexUnlock { mutex: object },
+        ThreadCall::BarrierInit(_, _) => Act::BarrierInit {
+            barrier: object,
+            count: value,
+        },
+        ThreadCall::BarrierDestroy(_) => Act::BarrierDestroy { barrier: object },
+        ThreadCall::BarrierWait(_) => Act::BarrierWait { barrier: object },
+    }
+}
+
+/// The act of a pthread call, whose operands are at hand after the block: the number of an element in the variable of that
+/// number, that of another object as a constant, and a value in the variable behind it.
+fn lower_call(
+    alloc: Global,
+    homes: &[Home],
+    objects: &Objects,
+    block: &mut OpenBlock,
+    first: u32,
+    call: &ThreadCall,
+) -> Result<Act, LoweringFault>
+    ensures act { IfOk result (λ act. act ≡ acts.act_at first objects.now (thread_call_of call.now)) }
+    ensures prepares { IfOk result (λ _. acts.PreparesCall homes.now objects.now first (thread_call_of call.now) block.old block.new) }
+    ensures typed { IfOk result (λ _. acts.WorksOnCall homes.now objects.now first (thread_call_of call.now) block.old block.new) }
+    ensures full { IfErr result (IsFull (length block.old.operations + first + 4 * (thread_call_weight (thread_call_of call.now) + 1))) }
+{
+    let number = first_of_call(objects, call);
+    let object = lower_object(alloc, homes, block, first, number, place_of(call))?;
+    let next = number_of(first as usize)?;
+    lower_value(alloc, homes, block, next + 1, call)?;
+    let value = ActOperand::Variable(next + 1, CType::LONG);
+    Ok(act_on(call, object, value))
+}
+
+/// A pthread call: a step that evaluates its operands, and the act.
 pub fn lower_thread_call(
     alloc: Global,
     code: &mut Lowering,
@@ -174,8 +256,19 @@ pub fn lower_thread_call(
 ) -> Result<(), LoweringFault>
     requires reached { code.old.reached ≡ true }
     ensures labels { OnOk result ((around : _) → doing.Proceeds around code.old code.new) }
+    ensures leads { IfOk result (λ _. (offset : ℕ) (P : _) → acts.LeadsThread P offset (thread_call_of call.now) code.old code.new) }
+    ensures full { IfErr result (IsFull
+        (length code.old.block.operations + code.old.block.steps + length code.old.variables + 4 * (thread_call_weight (thread_call_of call.now) + 1))) }
 {
-    let act = lower_call(alloc, code, call)?;
+    let first = code.first_word()?;
+    let act = lower_call(
+        alloc,
+        code.homes.as_slice(),
+        &code.objects,
+        &mut code.block,
+        first,
+        call,
+    )?;
     code.block.step()?;
     code.act(alloc, act)?;
     Ok(())

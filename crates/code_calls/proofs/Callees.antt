@@ -23,14 +23,14 @@ use Rattle.code_places.specs.declared.lowering.Caller.{Caller as CallerCode}
 use Rattle.code_places.specs.declared.lowering.Lowering.{Lowering}
 use Rattle.straight_code.specs.Assigning.{HaveHomes}
 use Rattle.straight_code.specs.Printing.{held_by}
-use Rattle.thread_rooms.specs.Locals.{variables_of, reached_locals, rooms_of, homes_there, homes_in, site_there, site_in}
-use Rattle.thread_rooms.specs.Reaching.{has, marks_of}
+use Rattle.thread_rooms.specs.declared.rooms.Rooms.{Rooms}
+use Rattle.thread_rooms.specs.Objects.{AreObjects}
 use Rattle.code_places.specs.Labels.{is_used}
 use Rattle.code_places.specs.Sequential.{is_sequential, are_sequential, is_sequential_program}
 use Rattle.code_places.specs.Weighing.{inlined_weight}
 use Rattle.straight_code.specs.Typing.{Typing, Fits, HasWords}
 use Rattle.straight_code.specs.Passing.{IsPassed, ArePassed, IsReady, Passed, Passes}
-use Rattle.thread_rooms.specs.Housing.{IsHomeOf, AreHomes}
+use Rattle.thread_rooms.specs.Housing.{IsHomeOf, AreHomes, homes_there, homes_in, site_there, site_in, Runs}
 use Rattle.code_places.specs.Resuming.{HasShape, home_value, HoldLocals, Caller, Setting, in_call, going_again, nothing_kept, words_held, IsMid, IsSound}
 use Rattle.thread_rooms.specs.Formats.{HasSites}
 use Rattle.code_places.specs.Apart.{IsTypedNow, IsGood}
@@ -42,9 +42,9 @@ use Rattle.straight_code.proofs.Running.{run_length}
 use Rattle.straight_code.proofs.Puts.{homes_more}
 use Rattle.straight_code.proofs.Arguments.{passed_none}
 use Rattle.code_places.proofs.Shapes.{have_homes}
-use Rattle.thread_rooms.proofs.Rooming.{variables_in_rooms, room_homes, room_local, room_scalar, room_sites}
+use Rattle.thread_rooms.proofs.Housed.{local_there}
 use Rattle.code_places.proofs.Weighing.{body_weighs}
-use Rattle.thread_rooms.proofs.Reached.{callee_reached}
+use Rattle.thread_rooms.proofs.Reached.{runs_callee}
 use Rattle.code_places.proofs.Staying.{anywhere_more, now_more}
 use Rattle.code_places.proofs.Resuming.{Goes, resume_less}
 use Rattle.code_places.proofs.Seating.{callers_kept, seat_on}
@@ -67,7 +67,7 @@ blank_written (suc n) zero v e = cc
 blank_written (suc n) (suc i) v e = blank_written n i v e
 
 -- the first count locals are scalars
-abbrev AreScalars : ℕ → List LocalVariable → Type 0
+abbrev pub AreScalars : ℕ → List LocalVariable → Type 0
 AreScalars count locals = (k : ℕ) (l : LocalVariable) → k < count → slice_get locals k ≡ Some l → l.length ≡ 1
 
 pub shape_passed : (locals : List LocalVariable) (vs : List ℤ) → AreScalars (length vs) locals → HasShape locals (fresh_locals locals vs)
@@ -122,7 +122,7 @@ passed_there size held arrays (l ∷ ls) (h ∷ room) (v ∷ vs) scalars homed n
     by rest zero j u e = let one = one_element (wrapped l.ty v) u j e in (h, refl, first h refl passed.0 j ∙ sym one.1)
     by rest (suc x) j u e = rest x j u e
 
-locals_passed : (size : ℕ) (held : ℕ → ℤ) (arrays : Cells) (locals : List LocalVariable) (room : List Home) (vs : List ℤ) → AreScalars (length vs) locals →
+pub locals_passed : (size : ℕ) (held : ℕ → ℤ) (arrays : Cells) (locals : List LocalVariable) (room : List Home) (vs : List ℤ) → AreScalars (length vs) locals →
     ((x : ℕ) (l : LocalVariable) → slice_get locals x ≡ Some l → IsHomeOf size l (slice_get room x)) → ((x : ℕ) (l : LocalVariable) → slice_get locals x ≡ Some l → l.length ≡ 1 →
     (a : ℕ) → slice_get room x ≡ Some (home.Array a) → ⊥) → ArePassed held room locals vs → HoldLocals room held arrays (fresh_locals locals vs)
 locals_passed size held arrays locals room vs scalars homed no_array passed =
@@ -144,10 +144,13 @@ sequential_in [] n f all at = absurd cc
 sequential_in (g ∷ gs) zero f all at = ap (λ (z : Function). is_sequential z.body) (let same : f ≡ g = cc in same) ∙ (both_hold (is_sequential g.body) (are_sequential gs) all).0
 sequential_in (g ∷ gs) (suc n) f all at = sequential_in gs n f (both_hold (is_sequential g.body) (are_sequential gs) all).1 at
 
-waiting_more : (P : Program) (rank : ℕ → ℕ) (low high : ℕ) → rank low < rank high → (cs : List Caller) → AllByRecursion (IsWaiting P rank high) cs → AllByRecursion (IsWaiting P rank low) cs
-waiting_more P rank low high less [] all = tt
-waiting_more P rank low high less (c ∷ cs) all =
-    (record { found = all.0.found; reached = all.0.reached; homes = all.0.homes; above = (let x = all.0.above in omega (arith, x, less)) }, waiting_more P rank low high less cs all.1)
+waiting_more : (P : Program) (root : ℕ) (H : Rooms) (rank : ℕ → ℕ) (low high : ℕ) → rank low < rank high → (cs : List Caller) → AllByRecursion (IsWaiting P root H rank high) cs →
+    AllByRecursion (IsWaiting P root H rank low) cs
+waiting_more P root H rank low high less [] all = tt
+waiting_more P root H rank low high less (c ∷ cs) all = (
+  record { found = all.0.found; runs = all.0.runs; homes = all.0.homes; above = (let x = all.0.above in omega (arith, x, less)) },
+  waiting_more P root H rank low high less cs all.1,
+)
 
 -- ---- a call that begins
 
@@ -175,11 +178,11 @@ module _ (P : Program) (g : ℕ) (es : List Expression) (old begun_ : Lowering) 
       let a = (label_relabels stepped).shifts.grows.good size (old_stepped.good size good) in
       subst (IsGood size) (sym opens.new_is) (record { variables = a.variables; sound = a.sound; idle = a.idle })
 
-  room_in : (Q : Program) → Q ≡ P → old.rooms ≡ rooms_of Q → opens.room ≡ homes_in Q g
-  room_in Q is rooms = opens.room_is ∙ ap (λ rs. homes_there (slice_get rs g)) rooms
+  room_in : (H : Rooms) → old.rooms ≡ H.rooms → opens.room ≡ homes_in H g
+  room_in H rooms = opens.room_is ∙ ap (λ rs. homes_there (slice_get rs g)) rooms
 
-  site_is : (Q : Program) → old.rooms ≡ rooms_of Q → begun_.site ≡ site_in Q g
-  site_is Q rooms = ap (λ (z : Lowering). z.site) opens.new_is ∙ ap (λ rs. site_there (slice_get rs g)) rooms
+  site_is : (H : Rooms) → old.rooms ≡ H.rooms → begun_.site ≡ site_in H g
+  site_is H rooms = ap (λ (z : Lowering). z.site) opens.new_is ∙ ap (λ rs. site_there (slice_get rs g)) rooms
 
   -- types
 
@@ -191,15 +194,15 @@ module _ (P : Program) (g : ℕ) (es : List Expression) (old begun_ : Lowering) 
     calls_it : IsCalled S.program.functions seated.number g
     calls_it = record { code = S.function; found = seated.found; called = called }
 
-    reached_function : has (marks_of S.program) g ≡ true
-    reached_function = callee_reached S.program seated.resolved seated.number g function seated.reached calls_it at_function
+    runs_function : Runs S.program seated.root g
+    runs_function = runs_callee S.program seated.root seated.number g seated.runs calls_it
 
     abbrev there : Typing
     there = record S { function = function }
 
     seats_fit : Fits there begun_.homes
     seats_fit =
-        subst (Fits there) (sym (ap (λ (z : Lowering). z.homes) opens.new_is ∙ room_in S.program seated.program seated.rooms)) (seated.fits g function at_function reached_function)
+        subst (Fits there) (sym (ap (λ (z : Lowering). z.homes) opens.new_is ∙ room_in seated.housing seated.rooms)) (seated.fits g function at_function runs_function)
 
     pub typed_begun : IsTypedNow there (w + arguments_weight es + 1) begun_
     typed_begun =
@@ -220,22 +223,26 @@ module _ (P : Program) (g : ℕ) (es : List Expression) (old begun_ : Lowering) 
     pub suits_there : SuitsTyping P there size function.body begun_
     suits_there = record {
       seated = record {
+        root = seated.root;
+        housing = seated.housing;
+        housed = seated.housed;
         program = seated.program;
         resolved = seated.resolved;
         number = g;
         found = at_function;
-        reached = reached_function;
+        runs = runs_function;
         rooms = ap (λ (z : Lowering). z.rooms) opens.new_is ∙ seated.rooms;
         fits = seated.fits;
         words = seated.words;
         back = word_typed;
+        objects = subst (AreObjects S.program) (sym (ap (λ (z : Lowering). z.objects) opens.new_is)) seated.objects;
       };
       fits = seats_fit;
       words = seated.words g function at_function;
       good = begun_good size good;
       in_loop = false;
       resolved = (function_in S.program S.program.functions g function seated.resolved.functions at_function).body;
-      sites = subst (HasSites S.program function.body) (sym (site_is S.program seated.rooms)) (room_sites S.program g function at_function reached_function);
+      sites = subst (HasSites S.program function.body) (sym (site_is seated.housing seated.rooms)) (seated.housed.sites g function at_function);
       calls = λ h c. c;
     }
 
@@ -285,6 +292,7 @@ module _ (P : Program) (g : ℕ) (es : List Expression) (old new : Lowering) (ca
     rooms = back_new.grows.rooms ∙ done_closed.grows.rooms ∙ lead.grows.rooms ∙ ap (λ (z : Lowering). z.rooms) call.opens.new_is;
     variables = back_new.grows.variables ∙ done_closed.grows.variables ∙ lead.grows.variables ∙ ap (λ (z : Lowering). z.variables) call.opens.new_is;
     arrays = back_new.grows.arrays ∙ done_closed.grows.arrays ∙ lead.grows.arrays ∙ ap (λ (z : Lowering). z.arrays) call.opens.new_is;
+    objects = back_new.grows.objects ∙ done_closed.grows.objects ∙ lead.grows.objects ∙ ap (λ (z : Lowering). z.objects) call.opens.new_is;
     words = back_new.grows.words ∙ done_closed.grows.words ∙ lead.grows.words ∙ ap (λ (z : Lowering). z.act_operands) call.opens.new_is;
     good = λ size good. back_new.grows.good size (back_good size good);
     whole = λ W whole. begun_whole W (lead.grows.whole W (done_closed.grows.whole W (closed_whole W whole)));
@@ -337,17 +345,17 @@ module _ (P : Program) (g : ℕ) (es : List Expression) (old new : Lowering) (ca
     same_function : is_call.code ≡ call.function
     same_function = let both : Some is_call.code ≡ Some call.function = sym is_call.found ∙ found in cc
 
-    reached_callee : has (marks_of Q) g ≡ true
-    reached_callee = callee_reached Q seated.resolved W.setting.number g call.function seated.reached (record { code = W.setting.function; found = seated.found; called = calls }) found
+    runs : Runs Q seated.root g
+    runs = runs_callee Q seated.root W.setting.number g seated.runs (record { code = W.setting.function; found = seated.found; called = calls })
 
     is : IsFunction Q call.function
     is = function_in Q Q.functions g call.function seated.resolved.functions found
 
-    room_is : call.opens.room ≡ homes_in Q g
-    room_is = room_in P g es old call.begun call.function call.found call.caller call.opens on Q seated.program seated.rooms
+    room_is : call.opens.room ≡ homes_in seated.housing g
+    room_is = room_in P g es old call.begun call.function call.found call.caller call.opens on seated.housing seated.rooms
 
     abbrev seats : List Home
-    seats = homes_in Q g
+    seats = homes_in seated.housing g
 
     falls : seated.resolved.acyclic.rank g < seated.resolved.acyclic.rank W.setting.number
     falls = seated.resolved.acyclic.falls W.setting.number g (record { code = W.setting.function; found = seated.found; called = calls })
@@ -361,18 +369,21 @@ module _ (P : Program) (g : ℕ) (es : List Expression) (old new : Lowering) (ca
     abbrev V : Whole
     V = record W { setting = below }
 
-    waiting : AllByRecursion (IsWaiting Q seated.resolved.acyclic.rank g) (waits ∷ W.setting.callers)
+    waiting : AllByRecursion (IsWaiting Q seated.root seated.housing seated.resolved.acyclic.rank g) (waits ∷ W.setting.callers)
     waiting = (
-      record { found = seated.found; reached = seated.reached; homes = seated.homes_are; above = falls },
-      waiting_more Q seated.resolved.acyclic.rank g W.setting.number falls W.setting.callers seated.waiting,
+      record { found = seated.found; runs = seated.runs; homes = seated.homes_are; above = falls },
+      waiting_more Q seated.root seated.housing seated.resolved.acyclic.rank g W.setting.number falls W.setting.callers seated.waiting,
     )
 
     begun_seated : IsSeated P V seats size call.begun
     begun_seated = record {
+      root = seated.root;
+      housing = seated.housing;
+      housed = seated.housed;
       program = seated.program;
       resolved = seated.resolved;
       found = found;
-      reached = reached_callee;
+      runs = runs;
       homes_are = refl;
       size_is = seated.size_is;
       word = seated.word;
@@ -380,10 +391,11 @@ module _ (P : Program) (g : ℕ) (es : List Expression) (old new : Lowering) (ca
       waiting = waiting;
       back = subst (LeadsBack V) (sym (ap (λ (z : Lowering). z.back) call.opens.new_is))
           (record { caller = waits; rest = W.setting.callers; callers = refl; stage = refl; returns = refl });
+      objects = subst (AreObjects Q) (sym (ap (λ (z : Lowering). z.objects) call.opens.new_is)) seated.objects;
     }
 
     seat_homes : AreHomes call.function.locals seats size
-    seat_homes = subst (AreHomes call.function.locals seats) (sym seated.size_is) (room_homes Q g call.function found reached_callee)
+    seat_homes = subst (AreHomes call.function.locals seats) (sym seated.size_is) (seated.housed.homes g call.function runs found)
 
     begun_suits : Suits P V seats size call.function.body call.begun
     begun_suits = record {
@@ -393,8 +405,8 @@ module _ (P : Program) (g : ℕ) (es : List Expression) (old new : Lowering) (ca
       locals = seat_homes;
       in_loop = false;
       resolved = is.body;
-      sites = subst (HasSites Q call.function.body) (sym (site_is P g es old call.begun call.function call.found call.caller call.opens on Q seated.rooms))
-          (room_sites Q g call.function found reached_callee);
+      sites = subst (HasSites Q call.function.body) (sym (site_is P g es old call.begun call.function call.found call.caller call.opens on seated.housing seated.rooms))
+          (seated.housed.sites g call.function found);
       calls = λ h c. c;
     }
 
@@ -402,7 +414,7 @@ module _ (P : Program) (g : ℕ) (es : List Expression) (old new : Lowering) (ca
     whole_closed = closed_whole W whole
 
     done_seated : IsSeated P V seats size call.done
-    done_seated = seat_on P V seats size call.begun call.done lead.grows.back lead.grows.rooms begun_seated
+    done_seated = seat_on P V seats size call.begun call.done lead.grows.back lead.grows.rooms lead.grows.objects begun_seated
 
     body_goes : OnwardUpTo V seats n call.begun (settled Onward (Do call.function.body ∷ []))
     body_goes =
@@ -427,16 +439,10 @@ module _ (P : Program) (g : ℕ) (es : List Expression) (old new : Lowering) (ca
       abbrev held : ℕ → ℤ
       held = held_by call.opens.passed.current variables ran.values
 
-      room_length : (locals_ : List LocalVariable) (room : List Home) → ((x : ℕ) (l : LocalVariable) → slice_get locals_ x ≡ Some l → IsHomeOf size l (slice_get room x)) →
-          length locals_ ≤ length room
-      room_length [] room each = omega arith
-      room_length (l ∷ ls) [] each = absurd (each 0 l refl)
-      room_length (l ∷ ls) (h ∷ room) each = let rest = room_length ls room (λ x d at. each (suc x) d at) in omega arith
-
       ready : IsReady homes seats (length old.block.current)
       ready = record {
         spare = λ x y m at there_.
-            let same : W.setting.number ≡ g = variables_in_rooms Q W.setting.number g x y m (subst (λ hs. slice_get hs x ≡ Some (home.Variable m)) seated.homes_are at) there_ in
+            let same : W.setting.number ≡ g = seated.housed.variables_apart W.setting.number g x y m (subst (λ hs. slice_get hs x ≡ Some (home.Variable m)) seated.homes_are at) there_ in
             let equal = ap seated.resolved.acyclic.rank same in
             let less = falls in
             omega (arith, equal, less);
@@ -446,7 +452,7 @@ module _ (P : Program) (g : ℕ) (es : List Expression) (old new : Lowering) (ca
         where
           inside : (y m : ℕ) → slice_get seats y ≡ Some (home.Variable m) → m < length old.block.current
           inside y m at =
-              let l = room_local Q g call.function found reached_callee y (home.Variable m) at in
+              let l = local_there Q seated.root seated.housing seated.housed g call.function runs found y (home.Variable m) at in
               let fit = subst (IsHomeOf size l.0) at (seat_homes.each y l.0 l.1) in
               let long = good.sound.size in
               let lt = fit.1 in
@@ -468,7 +474,7 @@ module _ (P : Program) (g : ℕ) (es : List Expression) (old new : Lowering) (ca
         done : Passed homes seats call.function.locals old.block.current call.opens.passed.current variables seen r ran vs ls
         done =
             here.does variables r seen vs ls good.sound.below mid.values homed ready
-            (let a = counted in let b = room_length call.function.locals seats seat_homes.each in omega (arith, a, b)) counted mid.holds gives
+            (let a = counted in let b = seated.housed.count g call.function runs found in omega (arith, a, b)) counted mid.holds gives
 
         abbrev inner : Frame
         inner = begun call.function g vs
@@ -477,7 +483,7 @@ module _ (P : Program) (g : ℕ) (es : List Expression) (old new : Lowering) (ca
         outer = record f { work = work; kept = [] }
 
         no_array : (x : ℕ) (l : LocalVariable) → slice_get call.function.locals x ≡ Some l → l.length ≡ 1 → (a : ℕ) → slice_get seats x ≡ Some (home.Array a) → ⊥
-        no_array x l at one a e = room_scalar Q g call.function found reached_callee x l a at one e
+        no_array x l at one a e = subst (IsHomeOf size l) e (seat_homes.each x l at) one
 
         begins_mid : IsMid below seats nothing_kept passed_block_ variables ran inner (outer ∷ fs) globals
         begins_mid = record {
@@ -499,9 +505,9 @@ module _ (P : Program) (g : ℕ) (es : List Expression) (old new : Lowering) (ca
               shape = mid.shape;
               locals = λ x j v e. home_local call.opens.passed.current variables ran x j (slice_get homes x) ∙ done.holds.locals x j v e;
             },
-            callers_kept Q seated.resolved.acyclic.rank g (held_by old.block.current variables r.values) held r.arrays ran.arrays
-                (done.spares (length (variables_of (reached_locals Q)))) W.setting.callers fs
-                (waiting_more Q seated.resolved.acyclic.rank g W.setting.number falls W.setting.callers seated.waiting) mid.callers,
+            callers_kept Q seated.root seated.housing seated.housed seated.resolved.acyclic.rank g (held_by old.block.current variables r.values) held r.arrays ran.arrays
+                (done.spares (length seated.housing.variables)) W.setting.callers fs
+                (waiting_more Q seated.root seated.housing seated.resolved.acyclic.rank g W.setting.number falls W.setting.callers seated.waiting) mid.callers,
           );
         }
 

@@ -316,7 +316,7 @@ call_assigned P around s offset place g es old mid new on is call d = rw is (λ 
           calls_go P g es old mid call all on W homes size n (Statement.Assign offset place (RightSide.Call g es)) offset (Store offset place ∷ k) k suits.seated suits.homes_ suits.good suits.locals
           suits.resolved.1.call (suits.calls g (Contains-push [] g)) (λ m f fs. refl) ((delivery_grows P place mid new d reached).whole W whole)
           (λ j le.
-          delivery_goes P place mid new d reached W homes size offset k at (grows.good size suits.good) (seat_on P W homes size old mid grows.back grows.rooms suits.seated) suits.locals
+          delivery_goes P place mid new d reached W homes size offset k at (grows.good size suits.good) (seat_on P W homes size old mid grows.back grows.rooms grows.objects suits.seated) suits.locals
           suits.resolved.0 j (after (ap (λ (z : Lowering). z.reached) d.is ∙ reached) j le));
     })
 
@@ -401,7 +401,7 @@ call_returned P around s offset g es old mid new on is call hands = rw is (λ al
               ((call_shifts mid new p.ends).grows.whole W whole)
               (λ j le.
               call_goes W homes size n (words_held W.setting.word) (Hand offset ∷ k) mid new p.ends (grows.good size suits.good) whole
-              (outermost_seat P W homes size mid (seat_on P W homes size old mid grows.back grows.rooms suits.seated) p.outermost)
+              (outermost_seat P W homes size mid (seat_on P W homes size old mid grows.back grows.rooms grows.objects suits.seated) p.outermost)
               (λ f globals work.
               subst (λ w. IsEnd (work_move W.setting.program (record { locals = f.locals; globals = globals }) f [] w)) (sym work)
               (hand_ends W.setting.program (record { locals = f.locals; globals = globals }) f k offset f.kept)) reached j le);
@@ -423,5 +423,5 @@ call_returned P around s offset g es old mid new on is call hands = rw is (λ al
               calls_go P g es old mid call all on W homes size n (Statement.Return offset (Some (RightSide.Call g es))) offset (Hand offset ∷ k) k suits.seated suits.homes_ suits.good suits.locals
               (right_call W.setting.program W.setting.function g es W.setting.function.returns suits.resolved) (suits.calls g (Contains-push [] g)) (λ m f fs. refl)
               ((hand_grows P offset mid new p reached).whole W whole)
-              (λ j le. hand_goes P offset mid new p reached W homes size j k (grows.good size suits.good) (seat_on P W homes size old mid grows.back grows.rooms suits.seated) whole);
+              (λ j le. hand_goes P offset mid new p reached W homes size j k (grows.good size suits.good) (seat_on P W homes size old mid grows.back grows.rooms grows.objects suits.seated) whole);
         }

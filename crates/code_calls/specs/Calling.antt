@@ -15,7 +15,7 @@ use Rattle.straight_code.specs.Needs.{IsConverted}
 use Rattle.straight_code.specs.Evaluating.{current_operand}
 use Rattle.straight_code.specs.Closing.{HasNoted}
 use Rattle.straight_code.specs.Assigning.{Stores, Places}
-use Rattle.thread_rooms.specs.Locals.{homes_there, site_there}
+use Rattle.thread_rooms.specs.Housing.{homes_there, site_there}
 use Rattle.straight_code.specs.Passing.{Passes, WorksOnArguments}
 use Rattle.code_places.specs.Control.{with_label, Jumps, Begins, EndsCall}
 use Rattle.code_places.specs.Doing.{Proceeds, Lowers}

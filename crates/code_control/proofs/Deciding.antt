@@ -150,15 +150,16 @@ test_fresh next old mid new e b test first block_is ends size sound =
 
 -- what a test keeps
 test_keeps : (next : Next) (old mid new : Lowering) (e : Expression) (b : OpenBlock) (test : Operand) → Evaluates old.homes e old.block b test → mid.block ≡ record b { steps = suc b.steps } →
-    mid.homes ≡ old.homes → mid.back ≡ old.back → mid.rooms ≡ old.rooms → mid.variables ≡ old.variables → mid.arrays ≡ old.arrays → mid.act_operands ≡ old.act_operands →
+    mid.homes ≡ old.homes → mid.back ≡ old.back → mid.rooms ≡ old.rooms → mid.variables ≡ old.variables → mid.arrays ≡ old.arrays → mid.objects ≡ old.objects → mid.act_operands ≡ old.act_operands →
     mid.stages.stages ≡ old.stages.stages → mid.stages.labels ≡ old.stages.labels → mid.stages.places ≡ old.stages.places →
     ((label : ℕ) → is_used old.stages.used label ≡ true → is_used mid.stages.used label ≡ true) → EndsAt next mid new → Keeps old new
-test_keeps next old mid new e b test first block_is homes back rooms variables arrays words items labels places used ends = record {
+test_keeps next old mid new e b test first block_is homes back rooms variables arrays objects words items labels places used ends = record {
   homes = ap (λ (z : Lowering). z.homes) ends.same ∙ homes;
   back = ap (λ (z : Lowering). z.back) ends.same ∙ back;
   rooms = ap (λ (z : Lowering). z.rooms) ends.same ∙ rooms;
   variables = ap (λ (z : Lowering). z.variables) ends.same ∙ variables;
   arrays = ap (λ (z : Lowering). z.arrays) ends.same ∙ arrays;
+  objects = ap (λ (z : Lowering). z.objects) ends.same ∙ objects;
   words = ap (λ (z : Lowering). z.act_operands) ends.same ∙ words;
   sound = λ size is sound. fresh_sound size new.block (test_fresh next old mid new e b test first block_is ends size sound);
   whole = λ W whole.
@@ -193,7 +194,7 @@ tests_branch e nonzero otherwise old mid new b test first same branches = record
   keeps =
       test_keeps (Branch test nonzero otherwise) old (marked otherwise (marked nonzero mid)) new e b test first block_is
       (ap (λ (z : Lowering). z.homes) same) (ap (λ (z : Lowering). z.back) same) (ap (λ (z : Lowering). z.rooms) same) (ap (λ (z : Lowering). z.variables) same)
-      (ap (λ (z : Lowering). z.arrays) same) (ap (λ (z : Lowering). z.act_operands) same)
+      (ap (λ (z : Lowering). z.arrays) same) (ap (λ (z : Lowering). z.objects) same) (ap (λ (z : Lowering). z.act_operands) same)
       (ap (λ (z : Lowering). z.stages.stages) same)
       (ap (λ (z : Lowering). z.stages.labels) same) (ap (λ (z : Lowering). z.stages.places) same)
       (λ label is. marks_keep (with_used mid.stages.used nonzero) otherwise label
@@ -283,6 +284,7 @@ begin_keeps label m b off (inl p) = record {
   rooms = ap (λ (z : Lowering). z.rooms) p.same;
   variables = ap (λ (z : Lowering). z.variables) p.same;
   arrays = ap (λ (z : Lowering). z.arrays) p.same;
+  objects = ap (λ (z : Lowering). z.objects) p.same;
   words = ap (λ (z : Lowering). z.act_operands) p.same;
   sound = λ size is sound. subst (λ (z : Lowering). IsSound size z.block) (sym p.same) sound;
   whole = λ W whole.
@@ -311,6 +313,7 @@ keeps_both a b c h k = record {
   rooms = k.rooms ∙ h.rooms;
   variables = k.variables ∙ h.variables;
   arrays = k.arrays ∙ h.arrays;
+  objects = k.objects ∙ h.objects;
   words = k.words ∙ h.words;
   sound = λ size is sound. k.sound size (ap length h.variables ∙ is) (h.sound size is sound);
   whole = λ W whole. h.whole W (k.whole W whole);

@@ -23,6 +23,7 @@ decides_grows d t f old new h = record {
   rooms = h.keeps.rooms;
   variables = h.keeps.variables;
   arrays = h.keeps.arrays;
+  objects = h.keeps.objects;
   words = h.keeps.words;
   good = λ size g. record {
     variables = ap length h.keeps.variables ∙ g.variables;

@@ -51,7 +51,7 @@ module _ (P : Program) (W : Whole) (homes : List Home) (size : ℕ) (s t : State
   pub suits_part : (in_loop : Bool) → IsStatement W.setting.program W.setting.function in_loop t → HasSites W.setting.program t c.site →
       ((g : ℕ) → Contains (calls_of t) g → Contains (calls_of s) g) → Suits P W homes size t c
   suits_part in_loop resolved sites calls = record {
-    seated = seat_on P W homes size old c grows.back grows.rooms suits.seated;
+    seated = seat_on P W homes size old c grows.back grows.rooms grows.objects suits.seated;
     homes_ = grows.homes ∙ suits.homes_;
     good = grows.good size suits.good;
     locals = suits.locals;
@@ -65,7 +65,7 @@ module _ (P : Program) (S : Typing) (size : ℕ) (s t : Statement) (old c : Lowe
   pub typing_part : (in_loop : Bool) → most_values t ≤ most_values s → IsStatement S.program S.function in_loop t → HasSites S.program t c.site →
       ((g : ℕ) → Contains (calls_of t) g → Contains (calls_of s) g) → SuitsTyping P S size t c
   typing_part in_loop most resolved sites calls = record {
-    seated = typed_seat_on P S size old c grows.back grows.rooms suits.seated;
+    seated = typed_seat_on P S size old c grows.back grows.rooms grows.objects suits.seated;
     fits = subst (Fits S) (sym grows.homes) suits.fits;
     words = words_less S.types size (most_values t) (most_values s) most suits.words;
     good = grows.good size suits.good;

@@ -9,13 +9,15 @@ use Rattle.block_ir.specs.declared.code.Act.{Act}
 use Rattle.block_ir.specs.declared.code.Act.TheVariants.{Return}
 use Rattle.block_ir.specs.declared.code.Stage.TheVariants as stage
 use Rattle.straight_code.specs.declared.homes.Home.{Home}
+use Rattle.thread_rooms.specs.declared.objects.Objects.{Objects}
 use Rattle.thread_rooms.specs.declared.rooms.Room.{Room}
 use Rattle.thread_rooms.specs.declared.rooms.Rooms.{Rooms}
 use Rattle.straight_code.specs.declared.open_block.OpenBlock.{OpenBlock}
 use Rattle.code_places.specs.declared.stages.Stages.{Stages}
 use Rattle.code_places.specs.declared.lowering.Lowering.{Lowering}
 use Rattle.straight_code.specs.Closing.{HasNoted, IsFresh}
-use Rattle.thread_rooms.specs.Locals.{homes_there, site_there, AreRoomsOf}
+use Rattle.thread_rooms.specs.Housing.{homes_there, site_there}
+use Rattle.thread_rooms.specs.Objects.{AreObjects}
 use Rattle.straight_code.specs.Typing.{Typing}
 use Rattle.code_places.specs.Resuming.{Keeping, nothing_kept, InBlock, AtFresh, IsSound}
 use Rattle.code_places.specs.Labels.{IsWhole, Pushes, is_used, with_used, IsOpen, IsTarget}
@@ -32,7 +34,7 @@ use Rattle.code_places.proofs.Opening.{marks_keep, is_marked, label_begun, act_o
 -- ---- what is kept
 
 pub grows_refl : (c : Lowering) → Grows c c
-grows_refl c = record { homes = refl; back = refl; rooms = refl; variables = refl; arrays = refl; words = refl; good = λ size g. g; whole = λ W w. w; used = λ label is. is }
+grows_refl c = record { homes = refl; back = refl; rooms = refl; variables = refl; arrays = refl; objects = refl; words = refl; good = λ size g. g; whole = λ W w. w; used = λ label is. is }
 
 pub grows_both : (a b c : Lowering) → Grows a b → Grows b c → Grows a c
 grows_both a b c h k = record {
@@ -41,6 +43,7 @@ grows_both a b c h k = record {
   rooms = k.rooms ∙ h.rooms;
   variables = k.variables ∙ h.variables;
   arrays = k.arrays ∙ h.arrays;
+  objects = k.objects ∙ h.objects;
   words = k.words ∙ h.words;
   good = λ size g. k.good size (h.good size g);
   whole = λ W w. h.whole W (k.whole W w);
@@ -64,6 +67,7 @@ site_grows site c = record {
   rooms = refl;
   variables = refl;
   arrays = refl;
+  objects = refl;
   words = refl;
   good = λ size g. record { variables = g.variables; sound = g.sound; idle = g.idle };
   whole = λ W w. w;
@@ -84,6 +88,7 @@ label_relabels c = record {
       rooms = refl;
       variables = refl;
       arrays = refl;
+      objects = refl;
       words = refl;
       good = λ size g. record { variables = g.variables; sound = g.sound; idle = g.idle };
       whole = (label_keeps c).whole;
@@ -119,6 +124,7 @@ marked_shifts label c = record {
     rooms = refl;
     variables = refl;
     arrays = refl;
+    objects = refl;
     words = refl;
     good = λ size g. record { variables = g.variables; sound = g.sound; idle = g.idle };
     whole = λ W w. record { part = record { more = w.part.more; is = w.part.is }; obeys = w.obeys };
@@ -136,6 +142,7 @@ placed_shifts label c open_ = record {
     rooms = refl;
     variables = refl;
     arrays = refl;
+    objects = refl;
     words = refl;
     good = λ size g. record { variables = g.variables; sound = g.sound; idle = λ off. absurd cc };
     whole = λ W w. whole_placed W label c open_ w;
@@ -153,6 +160,7 @@ settled_shifts label old new target p = record {
     rooms = ap (λ (z : Lowering). z.rooms) p.same;
     variables = ap (λ (z : Lowering). z.variables) p.same;
     arrays = ap (λ (z : Lowering). z.arrays) p.same;
+    objects = ap (λ (z : Lowering). z.objects) p.same;
     words = ap (λ (z : Lowering). z.act_operands) p.same;
     good = λ size g. record {
       variables = ap (λ (z : Lowering). length z.variables) p.same ∙ g.variables;
@@ -175,6 +183,7 @@ ends_grows next old new e = record {
   rooms = ap (λ (z : Lowering). z.rooms) e.same;
   variables = ap (λ (z : Lowering). z.variables) e.same;
   arrays = ap (λ (z : Lowering). z.arrays) e.same;
+  objects = ap (λ (z : Lowering). z.objects) e.same;
   words = ap (λ (z : Lowering). z.act_operands) e.same;
   good = λ size g.
       let fresh = subst (λ n. IsFresh n new.block) g.sound.size (e.left g.sound.noted) in
@@ -262,6 +271,7 @@ module _ (act : Act) (old new : Lowering) (a : ActsAt act old new) where
     rooms = ap (λ (z : Lowering). z.rooms) a.same;
     variables = ap (λ (z : Lowering). z.variables) a.same;
     arrays = ap (λ (z : Lowering). z.arrays) a.same;
+    objects = ap (λ (z : Lowering). z.objects) a.same;
     words = ap (λ (z : Lowering). z.act_operands) a.same;
     good = λ size g. subst (IsGood size) (sym a.same) (record { variables = g.variables; sound = g.sound; idle = g.idle });
     whole = acts_whole;
@@ -293,6 +303,7 @@ module _ (old new : Lowering) (e : EndsCall old new) where
     rooms = ap (λ (z : Lowering). z.rooms) e.same ∙ g.rooms;
     variables = ap (λ (z : Lowering). z.variables) e.same ∙ g.variables;
     arrays = ap (λ (z : Lowering). z.arrays) e.same ∙ g.arrays;
+    objects = ap (λ (z : Lowering). z.objects) e.same ∙ g.objects;
     words = ap (λ (z : Lowering). z.act_operands) e.same ∙ g.words;
     good = λ size good.
         let m = g.good size good in
@@ -374,24 +385,25 @@ module _ (W : Whole) (homes : List Home) (n : ℕ) (k : List Work) where
 
 -- ---- what the code of the parts gives
 
-pub is_new : (P : Program) (number words : ℕ) (r : Rooms) (room : Room) (c : Lowering) (n : ℕ) → AreRoomsOf P r → room.homes ≡ homes_there (slice_get r.rooms number) →
+pub is_new : (P : Program) (number words : ℕ) (r : Rooms) (objects : Objects) (room : Room) (c : Lowering) (n : ℕ) → AreObjects P objects → room.homes ≡ homes_there (slice_get r.rooms number) →
     room.site ≡ site_there (slice_get r.rooms number) → c.homes ≡ room.homes → c.back ≡ None → c.rooms ≡ r.rooms → c.variables ≡ r.variables → c.arrays ≡ r.arrays →
     n ≡ length r.variables + 4 → IsFresh n c.block → c.stages.stages.items ≡ [] → c.stages.labels ≡ [] → c.stages.used ≡ [] → c.stages.places ≡ [] → c.reached ≡ true → c.site ≡ room.site →
-    c.act_operands ≡ words → IsNew P number words c
-is_new P number words r room c n are homes_are site_is homes back rooms variables arrays long fresh items labels used places reached at count = record {
-  homes = homes ∙ homes_are ∙ ap (λ rs. homes_there (slice_get rs number)) are.rooms;
+    c.act_operands ≡ words → c.objects ≡ objects → IsNew P r number words c
+is_new P number words r objects room c n objects_are homes_are site_is homes back rooms variables arrays long fresh items labels used places reached at count held = record {
+  homes = homes ∙ homes_are;
   back = back;
-  rooms = rooms ∙ are.rooms;
-  variables = variables ∙ are.houses.variables;
-  arrays = arrays ∙ are.houses.arrays;
-  block = subst (λ k. IsFresh k c.block) (long ∙ ap (λ vs. length vs + 4) are.houses.variables) fresh;
+  rooms = rooms;
+  variables = variables;
+  arrays = arrays;
+  block = subst (λ k. IsFresh k c.block) long fresh;
   items = items;
   labels = labels;
   used = used;
   places = places;
   reached = reached;
-  site = at ∙ site_is ∙ ap (λ rs. site_there (slice_get rs number)) are.rooms;
+  site = at ∙ site_is;
   words_ = count;
+  objects = subst (AreObjects P) (sym held) objects_are;
 }
 
 pub binds_nothing : (label : ℕ) (c : Lowering) → is_used c.stages.used label ≡ false → Binds label c c

@@ -14,6 +14,7 @@ label_keeps c = record {
   rooms = refl;
   variables = refl;
   arrays = refl;
+  objects = refl;
   words = refl;
   sound = λ size is sound. sound;
   whole = λ W whole. record {

@@ -10,25 +10,25 @@ use Rattle.straight_code.specs.declared.homes.Home.{Home}
 use Rattle.straight_code.specs.declared.homes.Home.TheVariants as home
 use Rattle.code_places.specs.declared.lowering.Lowering.{Lowering}
 use Rattle.straight_code.specs.Assigning.{Spares}
-use Rattle.thread_rooms.specs.Locals.{variables_of, reached_locals, homes_in}
-use Rattle.thread_rooms.specs.Housing.{IsHomeOf}
+use Rattle.thread_rooms.specs.declared.rooms.Rooms.{Rooms}
+use Rattle.thread_rooms.specs.Housing.{IsHomeOf, homes_in, IsHousing}
+use Rattle.thread_rooms.specs.Objects.{AreObjects}
 use Rattle.code_places.specs.Resuming.{home_value, HoldLocals, Caller, IsHeld, AreHeld}
 use Rattle.code_places.specs.Control.{Whole}
 use Rattle.code_places.specs.Seats.{IsWaiting, LeadsBack, IsSeated, HasWord, IsSeatedTyping}
 use Rattle.straight_code.specs.Typing.{Typing}
 use Rattle.straight_code.proofs.Cells.{row_of}
 use Rattle.code_places.proofs.Shapes.{local_at}
-use Rattle.thread_rooms.proofs.Rooming.{variables_in_rooms, arrays_in_rooms, room_homes}
 
-module _ (P : Program) (rank : ℕ → ℕ) (number : ℕ) (variables after : ℕ → ℤ) (arrays cells : Cells)
-    (spares : Spares (homes_in P number) (length (variables_of (reached_locals P))) variables after arrays cells) where
-  home_kept : (c : Caller) → IsWaiting P rank number c → (x j : ℕ) (o : Option Home) → slice_get (homes_in P c.number) x ≡ o → (l : LocalVariable) →
-      IsHomeOf (length (variables_of (reached_locals P))) l o → home_value o after cells x j ≡ home_value o variables arrays x j
+module _ (P : Program) (root : ℕ) (H : Rooms) (housed : IsHousing P root H) (rank : ℕ → ℕ) (number : ℕ) (variables after : ℕ → ℤ) (arrays cells : Cells)
+    (spares : Spares (homes_in H number) (length H.variables) variables after arrays cells) where
+  home_kept : (c : Caller) → IsWaiting P root H rank number c → (x j : ℕ) (o : Option Home) → slice_get (homes_in H c.number) x ≡ o → (l : LocalVariable) →
+      IsHomeOf (length H.variables) l o → home_value o after cells x j ≡ home_value o variables arrays x j
   home_kept c waits x j None at l is = absurd is
   home_kept c waits x j (Some (home.Variable n)) at l is =
       spares.variables_ n is.1
       (λ y e.
-      let same : c.number ≡ number = variables_in_rooms P c.number number x y n at e in
+      let same : c.number ≡ number = housed.variables_apart c.number number x y n at e in
       let less = waits.above in
       let equal = ap rank same in
       omega (arith, less, equal))
@@ -36,12 +36,12 @@ module _ (P : Program) (rank : ℕ → ℕ) (number : ℕ) (variables after : �
       ap (λ row. row j)
       (spares.arrays_ a
       (λ y e.
-      let same : c.number ≡ number = arrays_in_rooms P c.number number x y a at e in
+      let same : c.number ≡ number = housed.arrays_apart c.number number x y a at e in
       let less = waits.above in
       let equal = ap rank same in
       omega (arith, less, equal)))
 
-  caller_kept : (c : Caller) (f : Frame) → IsWaiting P rank number c → IsHeld c variables arrays f → IsHeld c after cells f
+  caller_kept : (c : Caller) (f : Frame) → IsWaiting P root H rank number c → IsHeld c variables arrays f → IsHeld c after cells f
   caller_kept c f waits held = record {
     number = held.number;
     work = held.work;
@@ -50,11 +50,11 @@ module _ (P : Program) (rank : ℕ → ℕ) (number : ℕ) (variables after : �
         (λ x j v e.
         let at = row_of f.locals x j (Some v) e in
         let l = local_at c.function.locals f.locals x at.0 held.shape at.1 in
-        home_kept c waits x j (slice_get (homes_in P c.number) x) refl l.0 ((room_homes P c.number c.function waits.found waits.reached).each x l.0 l.1)
+        home_kept c waits x j (slice_get (homes_in H c.number) x) refl l.0 ((housed.homes c.number c.function waits.runs waits.found).each x l.0 l.1)
         ∙ subst (λ hs. HoldLocals hs variables arrays f.locals) waits.homes held.locals x j v e);
   }
 
-  pub callers_kept : (cs : List Caller) (fs : List Frame) → AllByRecursion (IsWaiting P rank number) cs → AreHeld cs variables arrays fs → AreHeld cs after cells fs
+  pub callers_kept : (cs : List Caller) (fs : List Frame) → AllByRecursion (IsWaiting P root H rank number) cs → AreHeld cs variables arrays fs → AreHeld cs after cells fs
   callers_kept [] [] all held = tt
   callers_kept [] (f ∷ fs) all held = absurd held
   callers_kept (c ∷ cs) [] all held = absurd held
@@ -64,35 +64,43 @@ module _ (P : Program) (rank : ℕ → ℕ) (number : ℕ) (variables after : �
 pub seat_kept : (P : Program) (W : Whole) (homes : List Home) (size : ℕ) (c : Lowering) (variables after : ℕ → ℤ) (arrays cells : Cells) (fs : List Frame) → IsSeated P W homes size c →
     Spares homes size variables after arrays cells → AreHeld W.setting.callers variables arrays fs → AreHeld W.setting.callers after cells fs
 seat_kept P W homes size c variables after arrays cells fs seated spares held =
-    callers_kept W.setting.program seated.resolved.acyclic.rank W.setting.number variables after arrays cells
-    (subst (λ n. Spares (homes_in W.setting.program W.setting.number) n variables after arrays cells) seated.size_is
+    callers_kept W.setting.program seated.root seated.housing seated.housed seated.resolved.acyclic.rank W.setting.number variables after arrays cells
+    (subst (λ n. Spares (homes_in seated.housing W.setting.number) n variables after arrays cells) seated.size_is
     (subst (λ hs. Spares hs size variables after arrays cells) seated.homes_are spares))
     W.setting.callers fs seated.waiting held
 
 -- the seat of code that keeps it
-pub seat_on : (P : Program) (W : Whole) (homes : List Home) (size : ℕ) (old new : Lowering) → new.back ≡ old.back → new.rooms ≡ old.rooms → IsSeated P W homes size old → IsSeated P W homes size new
-seat_on P W homes size old new back rooms s = record {
+pub seat_on : (P : Program) (W : Whole) (homes : List Home) (size : ℕ) (old new : Lowering) → new.back ≡ old.back → new.rooms ≡ old.rooms → new.objects ≡ old.objects → IsSeated P W homes size old → IsSeated P W homes size new
+seat_on P W homes size old new back rooms objects s = record {
+  root = s.root;
+  housing = s.housing;
+  housed = s.housed;
   program = s.program;
   resolved = s.resolved;
   found = s.found;
-  reached = s.reached;
+  runs = s.runs;
   homes_are = s.homes_are;
   size_is = s.size_is;
   word = s.word;
   rooms = rooms ∙ s.rooms;
   waiting = s.waiting;
   back = subst (LeadsBack W) (sym back) s.back;
+  objects = subst (AreObjects W.setting.program) (sym objects) s.objects;
 }
 
-pub typed_seat_on : (P : Program) (S : Typing) (size : ℕ) (old new : Lowering) → new.back ≡ old.back → new.rooms ≡ old.rooms → IsSeatedTyping P S size old → IsSeatedTyping P S size new
-typed_seat_on P S size old new back rooms s = record {
+pub typed_seat_on : (P : Program) (S : Typing) (size : ℕ) (old new : Lowering) → new.back ≡ old.back → new.rooms ≡ old.rooms → new.objects ≡ old.objects → IsSeatedTyping P S size old → IsSeatedTyping P S size new
+typed_seat_on P S size old new back rooms objects s = record {
+  root = s.root;
+  housing = s.housing;
+  housed = s.housed;
   program = s.program;
   resolved = s.resolved;
   number = s.number;
   found = s.found;
-  reached = s.reached;
+  runs = s.runs;
   rooms = rooms ∙ s.rooms;
   fits = s.fits;
   words = s.words;
   back = subst (HasWord S.types size) (sym back) s.back;
+  objects = subst (AreObjects S.program) (sym objects) s.objects;
 }

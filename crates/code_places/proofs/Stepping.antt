@@ -50,6 +50,7 @@ block_grows old new same sounds on = record {
   rooms = ap (λ (z : Lowering). z.rooms) same;
   variables = ap (λ (z : Lowering). z.variables) same;
   arrays = ap (λ (z : Lowering). z.arrays) same;
+  objects = ap (λ (z : Lowering). z.objects) same;
   words = ap (λ (z : Lowering). z.act_operands) same;
   good = λ size g. record {
     variables = ap (λ (z : Lowering). length z.variables) same ∙ g.variables;

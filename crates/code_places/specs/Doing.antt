@@ -13,13 +13,14 @@ use Rattle.code_places.specs.declared.targets.Loop.{Loop}
 use Rattle.code_places.specs.declared.stages.Stages.{Stages}
 use Rattle.code_places.specs.declared.lowering.Lowering.{Lowering}
 use Rattle.straight_code.specs.Closing.{IsFresh}
-use Rattle.thread_rooms.specs.Locals.{variables_of, arrays_of, reached_locals, rooms_of, homes_in, site_in}
+use Rattle.thread_rooms.specs.declared.rooms.Rooms.{Rooms}
+use Rattle.thread_rooms.specs.Objects.{AreObjects}
 use Rattle.thread_rooms.specs.Values.{most_values}
 use Rattle.code_places.specs.Sequential.{is_sequential, is_sequential_program}
 use Rattle.code_places.specs.Weighing.{inlined_weight}
 use Rattle.code_places.specs.Seats.{IsSeated, IsSeatedTyping}
 use Rattle.straight_code.specs.Typing.{Typing, Fits, HasWords}
-use Rattle.thread_rooms.specs.Housing.{AreHomes}
+use Rattle.thread_rooms.specs.Housing.{AreHomes, homes_in, site_in}
 use Rattle.code_places.specs.Resuming.{nothing_kept}
 use Rattle.thread_rooms.specs.Formats.{HasSites}
 use Rattle.code_places.specs.Labels.{IsHere, Finishes, is_used, IsTarget, Advances}
@@ -33,6 +34,7 @@ pub record Grows (old new : Lowering) : Type 0 where
   pub rooms : new.rooms ≡ old.rooms
   pub variables : new.variables ≡ old.variables
   pub arrays : new.arrays ≡ old.arrays
+  pub objects : new.objects ≡ old.objects
   pub words : new.act_operands ≡ old.act_operands
   pub good : (size : ℕ) → IsGood size old → IsGood size new
   pub whole : (W : Whole) → IsIn W new → IsIn W old
@@ -130,21 +132,22 @@ Lowers P around s old new = is_sequential_program P ≡ true → is_sequential s
 abbrev pub LowersHere : Program → Option Loop → Statement → Lowering → Lowering → Type 0
 LowersHere P around s old new = is_sequential s ≡ true → old.reached ≡ true → Leads P around s old new
 
--- nothing yet: the function of that number, with so many words
-pub record IsNew (P : Program) (number words : ℕ) (c : Lowering) : Type 0 where
-  pub homes : c.homes ≡ homes_in P number
+-- nothing yet: the function of that number, in a thread with these rooms, with so many words
+pub record IsNew (P : Program) (housing : Rooms) (number words : ℕ) (c : Lowering) : Type 0 where
+  pub homes : c.homes ≡ homes_in housing number
   pub back : c.back ≡ None
-  pub rooms : c.rooms ≡ rooms_of P
-  pub variables : c.variables ≡ variables_of (reached_locals P)
-  pub arrays : c.arrays ≡ arrays_of (reached_locals P)
-  pub block : IsFresh (length (variables_of (reached_locals P)) + 4) c.block
+  pub rooms : c.rooms ≡ housing.rooms
+  pub variables : c.variables ≡ housing.variables
+  pub arrays : c.arrays ≡ housing.arrays
+  pub block : IsFresh (length housing.variables + 4) c.block
   pub items : c.stages.stages.items ≡ []
   pub labels : c.stages.labels ≡ []
   pub used : c.stages.used ≡ []
   pub places : c.stages.places ≡ []
   pub reached : c.reached ≡ true
-  pub site : c.site ≡ site_in P number
+  pub site : c.site ≡ site_in housing number
   pub words_ : c.act_operands ≡ words
+  pub objects : AreObjects P c.objects
 
 -- a label that is the first place of the code
 pub record Starts (start : ℕ) (old new : Lowering) : Type 0 where
@@ -154,9 +157,10 @@ pub record Starts (start : ℕ) (old new : Lowering) : Type 0 where
   pub relabels : Relabels old labelled
   pub begins : Begins start labelled new
 
-pub record IsFinished (start : ℕ) (c : Lowering) (code : ThreadCode) : Type 0 where
-  pub argument : code.argument ≡ None
+-- the whole code: where its argument is, and the names of the variables that are no words of acts
+pub record IsFinished (start : ℕ) (argument : Option ℕ) (names : List (List ℕ)) (c : Lowering) (code : ThreadCode) : Type 0 where
+  pub argument_ : code.argument ≡ argument
   pub variables : code.variables ≡ c.variables ++ replicate c.act_operands long_int
-  pub names : map string_bytes code.names ≡ replicate (length code.variables) []
+  pub names_ : map string_bytes code.names ≡ names ++ replicate c.act_operands []
   pub arrays : code.arrays ≡ c.arrays
   pub finishes : Finishes start c.stages code.stages

@@ -1,5 +1,5 @@
 -- The calls of a thread, and which of them the code at hand is of.
-use Rattle.std.specs.Prelude.{◌≡◌, ℕ, ◌<◌, true, List, [], ◌∷◌, length, Option, Some, None, slice_get}
+use Rattle.std.specs.Prelude.{◌≡◌, ℕ, ◌<◌, List, [], ◌∷◌, length, Option, Some, None, slice_get}
 use Rattle.std.specs.List.{AllByRecursion}
 use Rattle.hls_ints.specs.Types.{long_int}
 use Rattle.c_program.specs.Tree.{Function, Program}
@@ -7,19 +7,20 @@ use Rattle.c_program.specs.Resolved.{IsResolved}
 use Rattle.straight_code.specs.declared.homes.Home.{Home}
 use Rattle.code_places.specs.declared.targets.Back.{Back}
 use Rattle.code_places.specs.declared.lowering.Lowering.{Lowering}
-use Rattle.thread_rooms.specs.Locals.{variables_of, reached_locals, rooms_of, homes_in}
-use Rattle.thread_rooms.specs.Reaching.{has, marks_of}
+use Rattle.thread_rooms.specs.declared.rooms.Rooms.{Rooms}
+use Rattle.thread_rooms.specs.Housing.{homes_in, Runs, IsHousing}
+use Rattle.thread_rooms.specs.Objects.{AreObjects}
 use Rattle.thread_rooms.specs.Values.{most_values}
 use Rattle.code_following.specs.Typed.{Types}
 use Rattle.straight_code.specs.Typing.{Typing, Fits, HasWords}
 use Rattle.code_places.specs.Resuming.{Caller}
 use Rattle.code_places.specs.Control.{Whole}
 
--- a call of the program that waits; its function's rank is above that of the function at hand
-pub record IsWaiting (P : Program) (rank : ℕ → ℕ) (number : ℕ) (c : Caller) : Type 0 where
+-- a call of the thread that waits, whose outermost function is root; its function's rank is above that of the function at hand
+pub record IsWaiting (P : Program) (root : ℕ) (housing : Rooms) (rank : ℕ → ℕ) (number : ℕ) (c : Caller) : Type 0 where
   pub found : slice_get P.functions c.number ≡ Some c.function
-  pub reached : has (marks_of P) c.number ≡ true
-  pub homes : c.homes ≡ homes_in P c.number
+  pub runs : Runs P root c.number
+  pub homes : c.homes ≡ homes_in housing c.number
   pub above : rank number < rank c.number
 
 -- a return leads to where the caller goes on
@@ -34,18 +35,22 @@ abbrev pub LeadsBack : Whole → Option Back → Type 0
 LeadsBack W None = W.setting.callers ≡ []
 LeadsBack W (Some b) = GoesBack W b
 
--- the code at hand is of the call at hand
+-- the code at hand is of the call at hand, in a thread whose outermost function is root
 pub record IsSeated (P : Program) (W : Whole) (homes : List Home) (size : ℕ) (c : Lowering) : Type 0 where
+  pub root : ℕ
+  pub housing : Rooms
+  pub housed : IsHousing W.setting.program root housing
   pub program : W.setting.program ≡ P
   pub resolved : IsResolved W.setting.program
   pub found : slice_get W.setting.program.functions W.setting.number ≡ Some W.setting.function
-  pub reached : has (marks_of W.setting.program) W.setting.number ≡ true
-  pub homes_are : homes ≡ homes_in W.setting.program W.setting.number
-  pub size_is : size ≡ length (variables_of (reached_locals W.setting.program))
+  pub runs : Runs W.setting.program root W.setting.number
+  pub homes_are : homes ≡ homes_in housing W.setting.number
+  pub size_is : size ≡ length housing.variables
   pub word : W.setting.word ≡ size
-  pub rooms : c.rooms ≡ rooms_of W.setting.program
-  pub waiting : AllByRecursion (IsWaiting W.setting.program resolved.acyclic.rank W.setting.number) W.setting.callers
+  pub rooms : c.rooms ≡ housing.rooms
+  pub waiting : AllByRecursion (IsWaiting W.setting.program root housing resolved.acyclic.rank W.setting.number) W.setting.callers
   pub back : LeadsBack W c.back
+  pub objects : AreObjects W.setting.program c.objects
 
 -- where a return leads there is a variable for the value
 abbrev pub HasWord : Types → ℕ → Option Back → Type 0
@@ -54,12 +59,16 @@ HasWord T size (Some b) = slice_get T.variables size ≡ Some long_int
 
 -- the same for the types
 pub record IsSeatedTyping (P : Program) (S : Typing) (size : ℕ) (c : Lowering) : Type 0 where
+  pub root : ℕ
+  pub housing : Rooms
+  pub housed : IsHousing S.program root housing
   pub program : S.program ≡ P
   pub resolved : IsResolved S.program
   pub number : ℕ
   pub found : slice_get S.program.functions number ≡ Some S.function
-  pub reached : has (marks_of S.program) number ≡ true
-  pub rooms : c.rooms ≡ rooms_of S.program
-  pub fits : (g : ℕ) (f : Function) → slice_get S.program.functions g ≡ Some f → has (marks_of S.program) g ≡ true → Fits (record S { function = f }) (homes_in S.program g)
+  pub runs : Runs S.program root number
+  pub rooms : c.rooms ≡ housing.rooms
+  pub fits : (g : ℕ) (f : Function) → slice_get S.program.functions g ≡ Some f → Runs S.program root g → Fits (record S { function = f }) (homes_in housing g)
   pub words : (g : ℕ) (f : Function) → slice_get S.program.functions g ≡ Some f → HasWords S.types size (most_values f.body)
   pub back : HasWord S.types size c.back
+  pub objects : AreObjects S.program c.objects

@@ -4,7 +4,8 @@ ghost use Rattle.std.specs.Prelude.{◌≡◌, ◌<◌, ◌+◌, ◌++◌, [], l
 ghost use Rattle.hls_ints.specs.Types.{long_int};
 ghost use Rattle.code_places.specs.Control as control;
 ghost use Rattle.code_places.specs.Doing as doing;
-ghost use Rattle.thread_rooms.specs.Locals as housing;
+ghost use Rattle.thread_rooms.specs.Housing as housing;
+ghost use Rattle.thread_rooms.specs.Objects.{AreObjects};
 ghost use Rattle.straight_code.specs.Room.{IsFull};
 ghost use Rattle.code_places.specs.Labels as spec;
 
@@ -79,7 +80,7 @@ impl Lowering {
         number: usize,
         words: usize,
     ) -> Result<Lowering, LoweringFault>
-        ensures code { IfOk result (λ c. (P : _) → housing.AreRoomsOf P rooms → doing.IsNew P number words c) }
+        ensures code { IfOk result (λ c. (P : _) → AreObjects P objects → doing.IsNew P rooms number words c) }
         ensures full { IfErr result (IsFull (length rooms.variables + 4)) }
     {
         let Rooms {
@@ -367,11 +368,18 @@ impl Lowering {
         Ok(start)
     }
 
-    /// The whole code, which begins at the label.
-    pub fn finish(self, alloc: Global, start: usize) -> Result<ThreadCode, AllocError>
+    /// The whole code, which begins at the label. The argument of its create, if any, is in that variable, and the variables of
+    /// locals have these names.
+    pub fn finish(
+        self,
+        alloc: Global,
+        start: usize,
+        argument: Option<u32>,
+        names: Items<String>,
+    ) -> Result<ThreadCode, AllocError>
         requires fit { spec.IsFit self.stages }
         requires first { spec.IsFirst start self.stages }
-        ensures { IfOk result (λ code. doing.IsFinished start self code) }
+        ensures { IfOk result (λ code. doing.IsFinished start argument (map string_bytes names) self code) }
     {
         let Parts {
             variables,
@@ -380,10 +388,10 @@ impl Lowering {
             stages,
         } = self.parts();
         let variables = with_words(variables, words)?;
-        let names = no_names(alloc, variables.len())?;
+        let names = with_no_names(alloc, names, words)?;
         let stages = stages.finish(alloc, start)?;
         Ok(ThreadCode {
-            argument: None,
+            argument,
             variables,
             names,
             arrays,
@@ -431,13 +439,17 @@ fn with_words(variables: Items<CType>, count: usize) -> Result<Items<CType>, All
     Ok(all)
 }
 
-/// So many empty names.
-fn no_names(alloc: Global, count: usize) -> Result<Items<String>, AllocError>
-    ensures { IfOk result (λ names. map string_bytes names ≡ replicate count []) }
+/// Those names, and so many empty ones.
+fn with_no_names(
+    alloc: Global,
+    names: Items<String>,
+    count: usize,
+) -> Result<Items<String>, AllocError>
+    ensures { IfOk result (λ all. map string_bytes all ≡ map string_bytes names ++ replicate count []) }
 {
-    let mut names = Items::new(alloc);
+    let mut all = names;
     for done in 0..count {
-        names.push(String::new(alloc))?;
+        all.push(String::new(alloc))?;
     }
-    Ok(names)
+    Ok(all)
 }

@@ -32,6 +32,7 @@ use c_profile::{Accepted, ProfileError, accept};
 use c_program::tree::Program;
 use hls_io::Bytes;
 use ir_lower::fault::LowerError;
+use ir_lower::functions::lower_function;
 use netlist::netlist::Netlist;
 pub use plans::PlannedFunction;
 use plans::planned_main;
@@ -100,7 +101,7 @@ fn lowered(alloc: Global, program: &Program) -> Result<ThreadCode, BuildError>
     if let Some(construct) = unbuilt::unbuilt(program) {
         return Err(BuildError::NotBuilt(construct));
     }
-    match ir_lower::statements::lower(alloc, program) {
+    match lower_function(alloc, program, program.main as usize) {
         Ok(code) => Ok(code),
         Err(LowerError::Fault(LoweringFault::Memory)) => Err(BuildError::Memory),
         // (each resolved program is lowered, and its numbers are within the limits)

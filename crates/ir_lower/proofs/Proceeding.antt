@@ -5,6 +5,7 @@ use Rattle.c_program.specs.declared.tree.Function.{Function as FunctionTree}
 use Rattle.c_program.specs.declared.tree.Program.{Program as ProgramTree}
 use Rattle.c_program.specs.Plain.{function_of, program_of, statement_of}
 use Rattle.c_program.specs.Tree.{Function, Program}
+use Rattle.thread_rooms.specs.declared.rooms.Rooms.{Rooms}
 use Rattle.code_places.specs.declared.lowering.Lowering.{Lowering}
 use Rattle.ir_lower.specs.Taken.{is_taken, are_taken, are_taken_with, is_taken_program}
 use Rattle.code_places.specs.Labels.{is_used, IsFit, IsFirst}
@@ -40,7 +41,7 @@ taken_functions P e = by (slice_get P.functions P.main) e
     by None h = cc
     by (Some f) h = h
 
-module _ (P : Program) (number words : ℕ) (first : Lowering) (new_ : IsNew P number words first) (start : ℕ) (begun : Lowering) (starts : Starts start first begun) where
+module _ (P : Program) (H : Rooms) (number words : ℕ) (first : Lowering) (new_ : IsNew P H number words first) (start : ℕ) (begun : Lowering) (starts : Starts start first begun) where
   labelled_is : starts.labelled.stages ≡ (with_label first).stages
   labelled_is = ap (λ (z : Lowering). z.stages) starts.is
 

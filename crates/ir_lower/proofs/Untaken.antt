@@ -4,7 +4,7 @@ use Rattle.std.specs.Prelude.{IsTrue}
 use Rattle.std.specs.List.{AllByRecursion}
 use Rattle.c_program.specs.Tree.{Expression, Piece, Statement, Function, Program}
 use Rattle.c_program.specs.Resolved.{IsPrint, IsStatement, IsFunction}
-use Rattle.ir_lower.specs.Mains.{ResolvedAreTaken}
+use Rattle.ir_lower.specs.Codes.{ResolvedAreTaken}
 use Rattle.ir_lower.specs.Taken.{fits_format, is_taken, are_taken, are_taken_with}
 
 both_true : (a b : Bool) → a ≡ true → b ≡ true → (a && b) ≡ true

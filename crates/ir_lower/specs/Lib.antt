@@ -1,2 +1,2 @@
-pub mod Mains
+pub mod Codes
 pub mod Taken

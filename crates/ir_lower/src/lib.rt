@@ -1,7 +1,8 @@
-//! Lowering: from a resolved C program to the code of a thread, basic blocks of operations and acts between them.
+//! Lowering: from a resolved C program to the codes of its thread functions, basic blocks of operations and acts between them.
 #![tactic(auto)]
 
 pub mod fault;
+pub mod functions;
 pub mod laws;
 pub mod simple;
 pub mod statements;

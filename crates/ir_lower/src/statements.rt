@@ -1,23 +1,13 @@
 // The code of statements.
 
-ghost use Rattle.std.specs.Prelude.{◌≡◌, true, false, length, is_some, None, IfOk, IfErr, OnOk, ◌≢◌};
+ghost use Rattle.std.specs.Prelude.{◌≡◌, true, false, length, is_some, None, IfErr, OnOk};
 ghost use Rattle.c_program.specs.Plain.{expressions_of, program_of, statement_of};
-ghost use Rattle.c_program.specs.Limits.{IsWithinLimits};
-ghost use Rattle.c_program.specs.Resolved.{IsResolved};
-ghost use Rattle.code_following.specs.Following.{IsLowered};
 ghost use Rattle.code_places.specs.Doing as doing;
 ghost use Rattle.code_calls.specs.Calling as calling;
-ghost use Rattle.ir_lower.specs.Mains as mains;
 ghost use Rattle.code_places.specs.Needing.{IsFullFor, IsFullCall};
-ghost use Rattle.ir_lower.specs.Mains.{IsFullProgram};
-ghost use Rattle.ir_lower.specs.Taken.{are_taken, is_taken, is_taken_program};
-ghost use Rattle.code_places.specs.Sequential.{is_sequential_program};
-ghost use Rattle.code_following.specs.Typed.{IsTypedCode};
+ghost use Rattle.ir_lower.specs.Taken.{are_taken, is_taken};
 
-use crate::fault::LowerError;
 use crate::simple::lower_simple;
-use crate::taken::is_taken_program;
-use block_ir::code::ThreadCode;
 use c_program::tree::{Expression, Program, RightSide, Statement};
 use code_calls::calling::{close_call, lower_delivery, lower_handing, open_call};
 use code_calls::returning::return_reached;
@@ -30,9 +20,7 @@ use code_places::targets::Loop;
 use sqlite_items::at;
 use std::alloc::Global;
 use straight_code::fault::LoweringFault;
-use thread_rooms::objects::objects_of;
-use thread_rooms::prints::{all_values, print_count};
-use thread_rooms::rooms::rooms_of;
+use thread_rooms::prints::print_count;
 
 /// The code of a statement, in which calls are less than so deep. What the program never comes to has none.
 #[cycle(statements)]
@@ -178,7 +166,7 @@ fn lower_call(
 }
 
 /// The code of a function's body, and of its closing brace.
-fn lower_body(
+pub fn lower_body(
     alloc: Global,
     program: &Program,
     code: &mut Lowering,
@@ -194,50 +182,4 @@ fn lower_body(
     lower_statement(alloc, program, depth, code, None, body)?;
     return_reached(alloc, code)?;
     Ok(())
-}
-
-/// The code of main.
-fn lower_main(alloc: Global, program: &Program) -> Result<ThreadCode, LowerError>
-    ensures taken { OnOk result (is_taken_program (program_of program.now) ≡ true) }
-    ensures not_yet { is_taken_program (program_of program.now) ≡ false → result ≡ Err LowerError.NotYet }
-    ensures untaken { IfErr result (λ e. e ≡ LowerError.NotYet → is_taken_program (program_of program.now) ≡ false) }
-    ensures done { IfOk result (λ code. mains.IsCodeOf program.now program.now.main code) }
-    ensures full { IfErr result (IsFullProgram (program_of program.now)) }
-{
-    if !is_taken_program(program) {
-        return Err(LowerError::NotYet);
-    }
-    let number = program.main as usize;
-    let Some(function) = at(&program.functions, number) else {
-        return Err(LowerError::NotYet);
-    };
-    let objects = objects_of(alloc, program)?;
-    let rooms = rooms_of(alloc, program)?;
-    let words = all_values(program.functions.as_slice());
-    let mut code = Lowering::new(alloc, rooms, objects, number, words)?;
-    let start = code.start(alloc)?;
-    lower_body(alloc, program, &mut code, &function.body)?;
-    let code = code.finish(alloc, start)?;
-    Ok(code)
-}
-
-/// The code of main. That of a program without pthread calls is proved to do its steps, to be typed, and not to be too large
-/// within the limits.
-#[tactic(auto, using(crate::proofs::Whole::lowered_at, crate::proofs::Whole::typed_at, crate::proofs::Ample::lower_ample))]
-pub fn lower(alloc: Global, program: &Program) -> Result<ThreadCode, LowerError>
-    ensures taken { OnOk result (is_taken_program (program_of program.now) ≡ true) }
-    ensures not_yet { is_taken_program (program_of program.now) ≡ false → result ≡ Err LowerError.NotYet }
-    ensures untaken { IfErr result (λ e. e ≡ LowerError.NotYet → is_taken_program (program_of program.now) ≡ false) }
-    ensures lowered { IfOk result
-        (λ code. is_sequential_program (program_of program.now) ≡ true → IsResolved (program_of program.now) →
-        IsLowered (program_of program.now) program.now.main code) }
-    ensures typed { IfOk result
-        (λ code. is_sequential_program (program_of program.now) ≡ true → IsResolved (program_of program.now) →
-        IsTypedCode (program_of program.now) program.now.main code) }
-    ensures ample { IfErr result
-        (λ e. is_sequential_program (program_of program.now) ≡ true → IsResolved (program_of program.now) → IsWithinLimits (program_of program.now) →
-        e ≢ LowerError.Fault LoweringFault.TooLarge) }
-{
-    let code = lower_main(alloc, program)?;
-    Ok(code)
 }

@@ -10,7 +10,7 @@ use c_program::tree::{
 };
 use hls_ints::CType;
 use ir_lower::fault::LowerError;
-use ir_lower::statements::lower;
+use ir_lower::functions::lower_function;
 use ir_lower::taken::is_sequential_program;
 use std::alloc::{AllocError, Global};
 use std::test::Fail;
@@ -95,13 +95,13 @@ fn is_lowered(
     program: &Program,
     wanted: &[(usize, usize, u32)],
 ) -> Result<bool, LowerError> {
-    let code = lower(alloc, program)?;
+    let code = lower_function(alloc, program, 0)?;
     Ok(is_sequential_program(program) && has_shapes(&code, wanted))
 }
 
 /// Whether the code of the program has these variables.
 fn has_variables(alloc: Global, program: &Program, wanted: &[CType]) -> Result<bool, LowerError> {
-    let code = lower(alloc, program)?;
+    let code = lower_function(alloc, program, 0)?;
     Ok(code.variables.as_slice() == wanted)
 }
 
@@ -127,7 +127,7 @@ fn converts_to(code: &ThreadCode, types: &[CType]) -> bool {
 
 /// Whether the code of the program is so.
 fn converts(alloc: Global, program: &Program, types: &[CType]) -> Result<bool, LowerError> {
-    let code = lower(alloc, program)?;
+    let code = lower_function(alloc, program, 0)?;
     Ok(converts_to(&code, types))
 }
 
@@ -246,6 +246,6 @@ fn recursion(alloc: Global) -> Result<Program, AllocError> {
 #[test]
 fn refuses_a_recursion(rt: HostRuntime) -> Result<(), Fail> {
     let program = recursion(rt.alloc())?;
-    assert!(rt; lower(rt.alloc(), &program).is_err());
+    assert!(rt; lower_function(rt.alloc(), &program, 0).is_err());
     Ok(())
 }

@@ -6,8 +6,8 @@ use Rattle.c_program.specs.declared.tree.LocalVariable.{LocalVariable}
 use Rattle.c_program.specs.Tree.{Function, Program}
 use Rattle.block_ir.specs.declared.code.Array.{Array}
 use Rattle.code_following.specs.Typed.{IsLocalArray}
-use Rattle.thread_rooms.specs.Locals.{is_scalar, array_of, arrays_of, all_locals, reached_locals}
-use Rattle.thread_rooms.specs.Reaching.{with_marks, marks_of}
+use Rattle.thread_rooms.specs.Locals.{is_scalar, array_of, arrays_of, all_locals}
+use Rattle.thread_rooms.specs.Reaching.{with_marks}
 
 -- a local of the list that has the array
 record IsAmongLocals (ls : List LocalVariable) (array : Array) : Type 0 where
@@ -57,9 +57,9 @@ in_functions (true ∷ marks) (f ∷ fs) a array e =
     (in_either (arrays_of f.locals) (arrays_of (all_locals (with_marks marks fs))) a array
     (ap (λ l. slice_get l a) (sym (flat_map-append array_of f.locals (all_locals (with_marks marks fs)))) ∙ e))
 
-pub array_local : (P : Program) (a : ℕ) (array : Array) → slice_get (arrays_of (reached_locals P)) a ≡ Some array → IsLocalArray P array
-array_local P a array e =
-    let h = in_functions (marks_of P) P.functions a array e in
+pub array_local : (P : Program) (marks : List Bool) (a : ℕ) (array : Array) → slice_get (arrays_of (all_locals (with_marks marks P.functions))) a ≡ Some array → IsLocalArray P array
+array_local P marks a array e =
+    let h = in_functions marks P.functions a array e in
     record {
       number = h.number;
       function = h.function;

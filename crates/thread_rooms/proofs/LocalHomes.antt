@@ -1,7 +1,7 @@
 -- Each local has a home of its own.
 use Rattle.std.proofs.Common.{◌≡◌, ℕ, zero, suc, ◌+◌, ◌≤◌, Bool, true, false, not, if◌then◌else◌, List, [], ◌∷◌, ◌++◌, length, Option, Some, None, refl, sym, ap, ◌∙◌, subst}
 use Rattle.std.proofs.Common.{⊎_elim, arith, append_assoc, append-nil, length-append, cond}
-use Rattle.std.specs.Prelude.{count_by, sum_by, slice_get}
+use Rattle.std.specs.Prelude.{count_by, sum_by, slice_get, nat_eq}
 use Rattle.std.proofs.lemmas.List.Concat.{flat_map-append}
 use Rattle.std.proofs.lemmas.List.Sums.{sum_by-append}
 use Rattle.std.proofs.lemmas.Bool.Decides.{eqb_tells}
@@ -17,7 +17,7 @@ use Rattle.thread_rooms.specs.Locals.{ArePlaced}
 use Rattle.straight_code.proofs.Words.{sum_cons}
 use Rattle.thread_rooms.specs.Housing.{IsHomeOf}
 
-count_last : (p : LocalVariable → Bool) (before : List LocalVariable) (l : LocalVariable) (b : Bool) → p l ≡ b → count_by p (before ++ l ∷ []) ≡ count_by p before + cond b 1 0
+pub count_last : (p : LocalVariable → Bool) (before : List LocalVariable) (l : LocalVariable) (b : Bool) → p l ≡ b → count_by p (before ++ l ∷ []) ≡ count_by p before + cond b 1 0
 count_last p before l b e =
     let all : count_by p (before ++ l ∷ []) ≡ count_by p before + (0 + cond (p l) 1 0) = sum_by-append (λ x. cond (p x) 1 0) before (l ∷ []) in
     let this : cond {A = ℕ} (p l) 1 0 ≡ cond b 1 0 = ap (λ c. cond c 1 0) e in
@@ -221,7 +221,7 @@ each_home before (d ∷ ls) size zero l room at =
         let this : cond {A = ℕ} (is_scalar d) 1 0 ≡ 1 = ap (λ b. cond b 1 0) is in
         let next = sum_cons (λ (z : LocalVariable). cond (is_scalar z) 1 0) d ls in
         (one, omega (arith, more, next, this, room))
-    by false is = tt
+    by false is = λ one. let wrong : true ≡ false = sym (ap (λ n. nat_eq n 1) one) ∙ is in cc
 each_home before (d ∷ ls) size (suc x) l room at =
     each_home (before ++ d ∷ []) ls size x l (let e = ap (count_by is_scalar) (append_assoc before (d ∷ []) ls) in omega (arith, e, room)) at
 

@@ -1,15 +1,24 @@
 -- There is a name, or none, for each variable, and each is an identifier.
-use Rattle.std.proofs.Common.{◌≡◌, ℕ, zero, suc, ◌+◌, Bool, true, false, ◌&&◌, if◌then◌else◌, List, [], ◌∷◌, ◌++◌, length, Option, Some, None, refl, sym, ap, ◌∙◌, arith, length-append}
-use Rattle.std.specs.Prelude.{slice_get}
+use Rattle.std.proofs.Common.{◌≡◌, ℕ, zero, suc, ◌+◌, ◌-◌, Bool, true, false, ◌&&◌, if◌then◌else◌, List, [], ◌∷◌, ◌++◌, length, take, Option, Some, None, refl, sym, ap, ◌∙◌, arith}
+use Rattle.std.proofs.Common.{append_assoc, append-nil, length-append, cond, get_or, map, ◌<◌}
+use Rattle.std.specs.Prelude.{count_by, slice_get}
+use Rattle.std.proofs.lemmas.List.Sums.{sum_by-append}
+use Rattle.std.proofs.lemmas.List.{map-append}
 use Rattle.std.specs.Bool.{IsTrue}
 use Rattle.std.specs.List.{flat_map, list_all, AllByRecursion}
 use Rattle.std.proofs.lemmas.List.Concat.{flat_map-append}
 use Rattle.c_program.specs.declared.tree.LocalVariable.{LocalVariable}
-use Rattle.c_program.specs.Tree.{Function, Program}
+use Rattle.c_program.specs.Limits.{print_count}
+use Rattle.c_program.specs.Tree.{Function}
 use Rattle.c_program.specs.Resolved.{is_letter, is_letter_or_digit}
 use Rattle.code_following.specs.Typed.{IsNameIfAny}
-use Rattle.thread_rooms.specs.Locals.{is_scalar, variable_of, variables_of, all_locals, reached_locals}
-use Rattle.thread_rooms.specs.Reaching.{reached_functions}
+use Rattle.straight_code.proofs.Typing.{get_more}
+use Rattle.straight_code.specs.declared.homes.Home.TheVariants.{Variable}
+use Rattle.thread_rooms.specs.Locals.{is_scalar, home_in, homes_after, variable_of, variables_of, all_locals, rooms_after}
+use Rattle.thread_rooms.specs.Housing.{homes_there}
+use Rattle.thread_rooms.proofs.LocalHomes.{count_last, variable_least, variables_count}
+use Rattle.thread_rooms.proofs.Rooming.{variable_room}
+use Rattle.thread_rooms.specs.Reaching.{kept}
 use Rattle.thread_rooms.specs.Names.{is_name, name_given, other_names, scalar_names, variable_names}
 
 -- ---- as many as variables
@@ -24,17 +33,14 @@ scalar_count (l ∷ ls) names = go (is_scalar l) (scalar_count ls (other_names n
     go true e = ap suc e
     go false e = e
 
-all_count : (fs : List Function) → length (flat_map (λ (f : Function). scalar_names f.locals f.local_names) fs) ≡ length (variables_of (all_locals fs))
-all_count [] = refl
-all_count (f ∷ fs) =
+pub names_count : (fs : List Function) → length (variable_names fs) ≡ length (variables_of (all_locals fs))
+names_count [] = refl
+names_count (f ∷ fs) =
     let one = scalar_count f.locals f.local_names in
-    let later = all_count fs in
+    let later = names_count fs in
     let left = length-append (scalar_names f.locals f.local_names) (flat_map (λ (g : Function). scalar_names g.locals g.local_names) fs) in
     let right = ap length (flat_map-append variable_of f.locals (all_locals fs)) ∙ length-append (variables_of f.locals) (variables_of (all_locals fs)) in
     omega (arith, one, later, left, right)
-
-pub names_count : (P : Program) → length (variable_names P) ≡ length (variables_of (reached_locals P))
-names_count P = all_count (reached_functions P)
 
 -- ---- identifiers
 
@@ -75,9 +81,115 @@ all_both : (xs ys : List (List ℕ)) → AllByRecursion IsNameIfAny xs → AllBy
 all_both [] ys h k = k
 all_both (x ∷ xs) ys h k = (h.0, all_both xs ys h.1 k)
 
-all_are : (fs : List Function) → AllByRecursion IsNameIfAny (flat_map (λ (f : Function). scalar_names f.locals f.local_names) fs)
-all_are [] = tt
-all_are (f ∷ fs) = all_both (scalar_names f.locals f.local_names) _ (scalars_are f.locals f.local_names) (all_are fs)
+pub names_are : (fs : List Function) → AllByRecursion IsNameIfAny (variable_names fs)
+names_are [] = tt
+names_are (f ∷ fs) = all_both (scalar_names f.locals f.local_names) _ (scalars_are f.locals f.local_names) (names_are fs)
 
-pub names_are : (P : Program) → AllByRecursion IsNameIfAny (variable_names P)
-names_are P = all_are (reached_functions P)
+-- ---- of the local that stands in the variable
+
+get_after : (xs ys : List (List ℕ)) (n k : ℕ) → n ≡ length xs + k → slice_get (xs ++ ys) n ≡ slice_get ys k
+get_after [] ys n k e = ap (slice_get ys) (let same : n ≡ k = omega arith in same)
+get_after (x ∷ xs) ys zero k e = absurd (omega arith)
+get_after (x ∷ xs) ys (suc n) k e = get_after xs ys n k (omega arith)
+
+other_there : (names : List (List ℕ)) (x : ℕ) → slice_get (other_names names) x ≡ slice_get names (suc x)
+other_there [] x = refl
+other_there (name ∷ names) x = refl
+
+-- one of these locals, after those before them
+scalar_named : (before ls : List LocalVariable) (names : List (List ℕ)) (x n k : ℕ) → slice_get (homes_after before ls) x ≡ Some (Variable n) → n ≡ count_by is_scalar before + k →
+    slice_get (scalar_names ls names) k ≡ Some (name_given (slice_get names x))
+scalar_named before [] names x n k e at = cc
+scalar_named before (l ∷ ls) names zero n k e at = by (is_scalar l) e
+  where
+    by : (b : Bool) → Some (home_in b before) ≡ Some (Variable n) →
+        slice_get (if b then name_given (slice_get names 0) ∷ scalar_names ls (other_names names) else scalar_names ls (other_names names)) k ≡ Some (name_given (slice_get names 0))
+    by true q =
+        let same : count_by is_scalar before ≡ n = cc in
+        let first : k ≡ 0 = omega (arith, same, at) in
+        ap (slice_get (name_given (slice_get names 0) ∷ scalar_names ls (other_names names))) first
+    by false q = cc
+scalar_named before (l ∷ ls) names (suc x) n k e at =
+    by (is_scalar l) refl k at (λ j from. scalar_named (before ++ l ∷ []) ls (other_names names) x n j e from ∙ ap (λ o. Some (name_given o)) (other_there names x))
+  where
+    by : (b : Bool) → is_scalar l ≡ b → (j : ℕ) → n ≡ count_by is_scalar before + j →
+        ((i : ℕ) → n ≡ count_by is_scalar (before ++ l ∷ []) + i → slice_get (scalar_names ls (other_names names)) i ≡ Some (name_given (slice_get names (suc x)))) →
+        slice_get (if b then name_given (slice_get names 0) ∷ scalar_names ls (other_names names) else scalar_names ls (other_names names)) j ≡ Some (name_given (slice_get names (suc x)))
+    by true is zero from next =
+        absurd (let least = variable_least (before ++ l ∷ []) ls x n e in let one = count_last is_scalar before l true is in omega (arith, least, one, from))
+    by true is (suc j) from next = next j (let one = count_last is_scalar before l true is in omega (arith, one, from))
+    by false is j from next = next j (let one = count_last is_scalar before l false is in omega (arith, one, from))
+
+pub named_in_rooms : (before : List LocalVariable) (site : ℕ) (fs : List Function) (g x n k : ℕ) (f : Function) → slice_get fs g ≡ Some f →
+    slice_get (homes_there (slice_get (rooms_after before site fs) g)) x ≡ Some (Variable n) → n ≡ count_by is_scalar before + k →
+    slice_get (variable_names fs) k ≡ Some (name_given (slice_get f.local_names x))
+named_in_rooms before site [] g x n k f at e from = cc
+named_in_rooms before site (d ∷ fs) zero x n k f at e from =
+    get_more (scalar_names d.locals d.local_names) (variable_names fs) k (name_given (slice_get f.local_names x))
+    (scalar_named before d.locals d.local_names x n k e from ∙ ap (λ (z : Function). Some (name_given (slice_get z.local_names x))) (let same : d ≡ f = cc in same))
+named_in_rooms before site (d ∷ fs) (suc g) x n k f at e from =
+    let least = variable_room (before ++ d.locals) (site + print_count d.body) fs g x n e in
+    let split = sum_by-append (λ (z : LocalVariable). cond (is_scalar z) 1 0) before d.locals in
+    let long = scalar_count d.locals d.local_names in
+    let many = variables_count d.locals in
+    get_after (scalar_names d.locals d.local_names) (variable_names fs) k (k - count_by is_scalar d.locals) (omega (arith, least, split, long, many, from))
+    ∙ named_in_rooms (before ++ d.locals) (site + print_count d.body) fs g x n (k - count_by is_scalar d.locals) f at e (omega (arith, least, split, from))
+
+-- ---- as the code lists them
+
+-- one more local
+pub scalars_more : (ls : List LocalVariable) (names : List (List ℕ)) (i : ℕ) (l : LocalVariable) → slice_get ls i ≡ Some l →
+    scalar_names (take (suc i) ls) names ≡ scalar_names (take i ls) names ++ (if is_scalar l then name_given (slice_get names i) ∷ [] else [])
+scalars_more [] names i l at = cc
+scalars_more (d ∷ ls) names zero l at = ap (λ (z : LocalVariable). if is_scalar z then name_given (slice_get names 0) ∷ [] else []) (let same : d ≡ l = cc in same)
+scalars_more (d ∷ ls) names (suc i) l at =
+    by (is_scalar d)
+    (scalars_more ls (other_names names) i l at
+    ∙ ap (λ o. scalar_names (take i ls) (other_names names) ++ (if is_scalar l then name_given o ∷ [] else [])) (other_there names i))
+  where
+    by : (b : Bool) →
+        scalar_names (take (suc i) ls) (other_names names) ≡ scalar_names (take i ls) (other_names names) ++ (if is_scalar l then name_given (slice_get names (suc i)) ∷ [] else []) →
+        (if b then name_given (slice_get names 0) ∷ scalar_names (take (suc i) ls) (other_names names) else scalar_names (take (suc i) ls) (other_names names))
+        ≡ (if b then name_given (slice_get names 0) ∷ scalar_names (take i ls) (other_names names) else scalar_names (take i ls) (other_names names))
+        ++ (if is_scalar l then name_given (slice_get names (suc i)) ∷ [] else [])
+    by true rest = ap (λ all. name_given (slice_get names 0) ∷ all) rest
+    by false rest = rest
+
+pub kept_names : (b : Bool) (f : Function) → (kept b f).local_names ≡ f.local_names
+kept_names true f = refl
+kept_names false f = refl
+
+-- one more function
+pub names_more : (fs : List Function) (f : Function) → variable_names (fs ++ f ∷ []) ≡ variable_names fs ++ scalar_names f.locals f.local_names
+names_more fs f =
+    flat_map-append (λ (g : Function). scalar_names g.locals g.local_names) fs (f ∷ [])
+    ∙ ap (λ l. variable_names fs ++ l) (append-nil (scalar_names f.locals f.local_names))
+
+local_at : (ls : List LocalVariable) (i : ℕ) (l : LocalVariable) → i < length ls → l ≡ get_or ls i l → slice_get ls i ≡ Some l
+local_at [] i l lt is = absurd (omega arith)
+local_at (d ∷ ls) zero l lt is = ap Some (sym is)
+local_at (d ∷ ls) (suc i) l lt is = local_at ls i l (omega arith) is
+
+module _ {A : Type 0} (bytes : A → List ℕ) (ls : List LocalVariable) (given : List (List ℕ)) (old names new : List A) (i : ℕ) (l : LocalVariable) (lt : i < length ls) (is : l ≡ get_or ls i l) where
+  next_names : (b : Bool) → is_scalar l ≡ b →
+      scalar_names (take (i + 1) ls) given ≡ scalar_names (take i ls) given ++ (if b then name_given (slice_get given i) ∷ [] else [])
+  next_names b e =
+      ap (λ n. scalar_names (take n ls) given) (let s : i + 1 ≡ suc i = omega arith in s) ∙ scalars_more ls given i l (local_at ls i l lt is)
+      ∙ ap (λ c. scalar_names (take i ls) given ++ (if c then name_given (slice_get given i) ∷ [] else [])) e
+
+  -- after a scalar
+  pub named_more : (name : A) → is_scalar l ≡ true → map bytes names ≡ map bytes old ++ scalar_names (take i ls) given →
+      bytes name ≡ name_given (slice_get given i) → new ≡ names ++ name ∷ [] → map bytes new ≡ map bytes old ++ scalar_names (take (i + 1) ls) given
+  named_more name scalar before named pushed =
+      ap (map bytes) pushed ∙ map-append bytes names (name ∷ [])
+      ∙ ap (λ xs. xs ++ bytes name ∷ []) before
+      ∙ append_assoc (map bytes old) (scalar_names (take i ls) given) (bytes name ∷ [])
+      ∙ ap (λ n. map bytes old ++ (scalar_names (take i ls) given ++ n ∷ [])) named
+      ∙ ap (λ xs. map bytes old ++ xs) (sym (next_names true scalar))
+
+  -- after an array
+  pub named_as : is_scalar l ≡ false → map bytes names ≡ map bytes old ++ scalar_names (take i ls) given → new ≡ names →
+      map bytes new ≡ map bytes old ++ scalar_names (take (i + 1) ls) given
+  named_as array before same =
+      ap (map bytes) same ∙ before
+      ∙ ap (λ xs. map bytes old ++ xs) (sym (next_names false array ∙ append-nil (scalar_names (take i ls) given)))

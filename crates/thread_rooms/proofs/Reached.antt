@@ -1,4 +1,4 @@
--- Which functions main reaches: those that calls lead to, and no more locals than the program's weight of them counts.
+-- Which functions a thread function reaches: those that calls lead to, and no more locals than the program's weight of them counts.
 use Rattle.std.proofs.Common.{◌≡◌, ℕ, zero, suc, ◌+◌, ◌-◌, ◌<◌, ◌≤◌, Bool, true, false, if◌then◌else◌, List, [], ◌∷◌, length, Option, Some, None, refl, sym, ap, ◌∙◌, subst}
 use Rattle.std.proofs.Common.{arith, sum_by, drop, ⊎_elim, inl, inr, length-append}
 use Rattle.std.specs.Prelude.{replicate, slice_get, slice_set, unwrap_or, Contains, ◌⊎◌}
@@ -8,11 +8,12 @@ use Rattle.std.proofs.lemmas.List.Elements.{Contains-append_left, Contains-appen
 use Rattle.c_program.specs.declared.tree.LocalVariable.{LocalVariable}
 use Rattle.c_program.specs.Tree.{Function, Program}
 use Rattle.c_program.specs.Limits.{own_elements, local_elements}
-use Rattle.c_program.specs.Calls.{calls_of, Calls, IsAcyclic}
+use Rattle.c_program.specs.Calls.{calls_of, Calls, Reaches, Directly, Through, IsAcyclic}
 use Rattle.c_program.specs.Weight.{with_callees, inlined}
 use Rattle.c_program.specs.Resolved.{IsFunction, IsResolved}
 use Rattle.thread_rooms.specs.Reaching.{has, callees, mark_all, mark_from, marks_of, kept, with_marks}
-use Rattle.thread_rooms.specs.Locals.{all_locals, reached_locals}
+use Rattle.thread_rooms.specs.Locals.{all_locals}
+use Rattle.thread_rooms.specs.Housing.{Runs}
 use Rattle.straight_code.proofs.Cells.{set_same, set_other, set_length, get_within}
 use Rattle.straight_code.proofs.Words.{sum_cons}
 
@@ -132,20 +133,51 @@ none_length : (n : ℕ) → length (replicate n false) ≡ n
 none_length zero = refl
 none_length (suc n) = ap suc (none_length n)
 
--- ---- what main reaches
+-- ---- what a function reaches
 
-module _ (P : Program) (resolved : IsResolved P) where
-  all_reached : MarksAll P.functions resolved.acyclic (P.main ∷ []) (replicate (length P.functions) false) (marks_of P)
+-- a function that reaches another is one of the program
+caller_found : (fs : List Function) (f g : ℕ) → Reaches fs f g → (d : Function) × (slice_get fs f ≡ Some d)
+caller_found fs f g (Directly call) = (call.code, call.found)
+caller_found fs f g (Through call rest) = (call.code, call.found)
+
+module _ (P : Program) (resolved : IsResolved P) (root : ℕ) (code : Function) (found : slice_get P.functions root ≡ Some code) where
+  all_reached : MarksAll P.functions resolved.acyclic (root ∷ []) (replicate (length P.functions) false) (marks_of P.functions root)
   all_reached =
-      from_marked P.functions resolved.acyclic (length P.functions) (replicate (length P.functions) false) P.main (none_length (length P.functions))
-      (resolved.acyclic.below P.main (get_within P.functions P.main resolved.main.code resolved.main.found))
+      from_marked P.functions resolved.acyclic (length P.functions) (replicate (length P.functions) false) root (none_length (length P.functions))
+      (resolved.acyclic.below root (get_within P.functions root code found))
 
-  pub main_reached : has (marks_of P) P.main ≡ true
-  main_reached = all_reached.each P.main (Contains-push [] P.main) (get_within P.functions P.main resolved.main.code resolved.main.found)
+  root_reached : has (marks_of P.functions root) root ≡ true
+  root_reached = all_reached.each root (Contains-push [] root) (get_within P.functions root code found)
 
-  pub callee_reached : (f g : ℕ) (code : Function) → has (marks_of P) f ≡ true → Calls P.functions f g → slice_get P.functions g ≡ Some code → has (marks_of P) g ≡ true
-  callee_reached f g code e call found =
-      all_reached.marks.closed (λ x y marked c lt. absurd (none_marked (length P.functions) x marked)) f g e call (get_within P.functions g code found)
+  callee_reached : (f g : ℕ) (d : Function) → has (marks_of P.functions root) f ≡ true → Calls P.functions f g → slice_get P.functions g ≡ Some d →
+      has (marks_of P.functions root) g ≡ true
+  callee_reached f g d e call at =
+      all_reached.marks.closed (λ x y marked c lt. absurd (none_marked (length P.functions) x marked)) f g e call (get_within P.functions g d at)
+
+  further_reached : (f g : ℕ) (d : Function) → Reaches P.functions f g → has (marks_of P.functions root) f ≡ true → slice_get P.functions g ≡ Some d →
+      has (marks_of P.functions root) g ≡ true
+  further_reached f g d (Directly call) e at = callee_reached f g d e call at
+  further_reached f g d (Through {g = h} call rest) e at =
+      let here = caller_found P.functions h g rest in
+      further_reached h g d rest (callee_reached f h here.0 e call here.1) at
+
+reaches_callee : (fs : List Function) (r f g : ℕ) → Reaches fs r f → Calls fs f g → Reaches fs r g
+reaches_callee fs r f g (Directly call) next = Through call (Directly next)
+reaches_callee fs r f g (Through {g = h} call rest) next = Through call (reaches_callee fs h f g rest next)
+
+-- what a thread function calls, and so on, is in its code
+pub runs_callee : (P : Program) (r f g : ℕ) → Runs P r f → Calls P.functions f g → Runs P r g
+runs_callee P r f g (inl same) call = inr (subst (λ x. Reaches P.functions x g) same (Directly call))
+runs_callee P r f g (inr reaches) call = inr (reaches_callee P.functions r f g reaches call)
+
+-- and is marked
+pub runs_marked : (P : Program) (r g : ℕ) (f : Function) → IsResolved P → Runs P r g → slice_get P.functions g ≡ Some f → has (marks_of P.functions r) g ≡ true
+runs_marked P r g f resolved (inl same) at =
+    subst (λ x. has (marks_of P.functions r) x ≡ true) (sym same)
+    (root_reached P resolved r f (subst (λ x. slice_get P.functions x ≡ Some f) same at))
+runs_marked P r g f resolved (inr reaches) at =
+    let here = caller_found P.functions r g reaches in
+    further_reached P resolved r here.0 here.1 r g f reaches (root_reached P resolved r here.0 here.1) at
 
 -- ---- the locals are few
 
@@ -256,15 +288,15 @@ is_function P [] n f all at = absurd cc
 is_function P (g ∷ gs) zero f all at = subst (IsFunction P) (let same : g ≡ f = cc in same) all.0
 is_function P (g ∷ gs) (suc n) f all at = is_function P gs n f all.1 at
 
-pub locals_few : (P : Program) → IsResolved P → length (reached_locals P) ≤ local_elements P.functions P.main
-locals_few P resolved =
-    let counted = from_few P.functions (length P.functions) (replicate (length P.functions) false) P.main in
+pub locals_few : (P : Program) (root : ℕ) → IsResolved P → length (all_locals (with_marks (marks_of P.functions root) P.functions)) ≤ local_elements P.functions root
+locals_few P root resolved =
+    let counted = from_few P.functions (length P.functions) (replicate (length P.functions) false) root in
     let none = none_counted (length P.functions) P.functions in
     let less = inlined_less own_locals own_elements P.functions
-    (λ g f at. elements_many f.locals (is_function P P.functions g f resolved.functions at).lengths) (length P.functions) P.main in
-    let is : length (reached_locals P)
-    ≡ length (all_locals (with_marks (mark_from P.functions (length P.functions) (replicate (length P.functions) false) P.main) P.functions)) = refl in
-    let most : local_elements P.functions P.main ≡ inlined own_elements P.functions (length P.functions) P.main = refl in
+    (λ g f at. elements_many f.locals (is_function P P.functions g f resolved.functions at).lengths) (length P.functions) root in
+    let is : length (all_locals (with_marks (marks_of P.functions root) P.functions))
+    ≡ length (all_locals (with_marks (mark_from P.functions (length P.functions) (replicate (length P.functions) false) root) P.functions)) = refl in
+    let most : local_elements P.functions root ≡ inlined own_elements P.functions (length P.functions) root = refl in
     omega (arith, counted, none, less, is, most)
 
 -- ---- one function after another

@@ -1,7 +1,7 @@
 -- Each function of a program has a room of its own.
 use Rattle.std.proofs.Common.{◌≡◌, ℕ, zero, suc, ◌+◌, ◌<◌, ◌≤◌, Bool, true, false, not, List, [], ◌∷◌, ◌++◌, length, Option, Some, None, refl, sym, ap, ◌∙◌, subst, arith}
 use Rattle.std.proofs.Common.{append_assoc, length-append, cond}
-use Rattle.std.specs.Prelude.{count_by, nat_eq, slice_get}
+use Rattle.std.specs.Prelude.{count_by, slice_get}
 use Rattle.std.specs.List.{flat_map}
 use Rattle.std.proofs.lemmas.List.Concat.{flat_map-append}
 use Rattle.std.proofs.lemmas.List.Sums.{sum_by-append}
@@ -11,10 +11,9 @@ use Rattle.c_program.specs.Limits.{print_count}
 use Rattle.code_following.specs.Following.{formats_of}
 use Rattle.straight_code.specs.declared.homes.Home.{Home}
 use Rattle.straight_code.specs.declared.homes.Home.TheVariants.{Variable, Array}
-use Rattle.thread_rooms.specs.Locals.{is_scalar, is_array, home_in, homes_after, variable_of, variables_of, array_of, arrays_of, all_locals, reached_locals, rooms_after}
-use Rattle.thread_rooms.specs.Locals.{homes_there, homes_in, site_there, site_in}
-use Rattle.thread_rooms.specs.Reaching.{has, marks_of, kept, with_marks, reached_functions}
-use Rattle.thread_rooms.specs.Housing.{AreHomes}
+use Rattle.thread_rooms.specs.Locals.{is_scalar, is_array, home_in, homes_after, variable_of, variables_of, array_of, arrays_of, all_locals, rooms_after}
+use Rattle.thread_rooms.specs.Reaching.{has, kept, with_marks}
+use Rattle.thread_rooms.specs.Housing.{AreHomes, homes_there, site_there}
 use Rattle.thread_rooms.specs.Formats.{HasSites}
 use Rattle.thread_rooms.proofs.LocalHomes.{variables_count, variable_least, array_least, variables_apart, arrays_apart, each_home, IsDeclaredHome, declared_home}
 use Rattle.thread_rooms.proofs.Sites.{formats_length}
@@ -100,23 +99,12 @@ array_most before (l ∷ ls) (suc x) n e =
     let split = ap (count_by is_array) (append_assoc before (l ∷ []) ls) in
     omega (arith, rest, split)
 
--- a home is a local's
-homes_local : (before ls : List LocalVariable) (x : ℕ) (h : Home) → slice_get (homes_after before ls) x ≡ Some h → (l : LocalVariable) × (slice_get ls x ≡ Some l)
-homes_local before [] x h e = cc
-homes_local before (l ∷ ls) zero h e = (l, refl)
-homes_local before (l ∷ ls) (suc x) h e = homes_local (before ++ l ∷ []) ls x h e
+-- as many homes as locals
+homes_count : (before ls : List LocalVariable) → length (homes_after before ls) ≡ length ls
+homes_count before [] = refl
+homes_count before (l ∷ ls) = ap suc (homes_count (before ++ l ∷ []) ls)
 
--- a local of one element stands in no array
-scalar_home : (before ls : List LocalVariable) (x : ℕ) (l : LocalVariable) (a : ℕ) → slice_get ls x ≡ Some l → l.length ≡ 1 → slice_get (homes_after before ls) x ≡ Some (Array a) → ⊥
-scalar_home before [] x l a at one e = cc
-scalar_home before (d ∷ ls) zero l a at one e =
-    let same : d ≡ l = cc in
-    let scalar : is_scalar d ≡ true = ap is_scalar same ∙ ap (λ n. nat_eq n 1) one in
-    let home : Some (home_in true before) ≡ Some (Array a) = ap (λ b. Some (home_in b before)) (sym scalar) ∙ e in
-    cc
-scalar_home before (d ∷ ls) (suc x) l a at one e = scalar_home (before ++ d ∷ []) ls x l a at one e
-
-variable_room : (before : List LocalVariable) (site : ℕ) (fs : List Function) (g x n : ℕ) → slice_get (homes_there (slice_get (rooms_after before site fs) g)) x ≡ Some (Variable n) →
+pub variable_room : (before : List LocalVariable) (site : ℕ) (fs : List Function) (g x n : ℕ) → slice_get (homes_there (slice_get (rooms_after before site fs) g)) x ≡ Some (Variable n) →
     count_by is_scalar before ≤ n
 variable_room before site [] g x n e = cc
 variable_room before site (f ∷ fs) zero x n e = variable_least before f.locals x n e
@@ -135,7 +123,7 @@ array_room before site (f ∷ fs) (suc g) x n e =
     omega (arith, rest, left)
 
 -- no two functions have a home in common
-variables_of_rooms : (before : List LocalVariable) (site : ℕ) (fs : List Function) (g h x y n : ℕ) → slice_get (homes_there (slice_get (rooms_after before site fs) g)) x ≡ Some (Variable n) →
+pub variables_of_rooms : (before : List LocalVariable) (site : ℕ) (fs : List Function) (g h x y n : ℕ) → slice_get (homes_there (slice_get (rooms_after before site fs) g)) x ≡ Some (Variable n) →
     slice_get (homes_there (slice_get (rooms_after before site fs) h)) y ≡ Some (Variable n) → g ≡ h
 variables_of_rooms before site [] g h x y n e q = cc
 variables_of_rooms before site (f ∷ fs) zero zero x y n e q = refl
@@ -145,7 +133,7 @@ variables_of_rooms before site (f ∷ fs) (suc g) zero x y n e q =
     absurd (let most = variable_most before f.locals y n q in let least = variable_room (before ++ f.locals) (site + print_count f.body) fs g x n e in omega (arith, most, least))
 variables_of_rooms before site (f ∷ fs) (suc g) (suc h) x y n e q = ap suc (variables_of_rooms (before ++ f.locals) (site + print_count f.body) fs g h x y n e q)
 
-arrays_of_rooms : (before : List LocalVariable) (site : ℕ) (fs : List Function) (g h x y n : ℕ) → slice_get (homes_there (slice_get (rooms_after before site fs) g)) x ≡ Some (Array n) →
+pub arrays_of_rooms : (before : List LocalVariable) (site : ℕ) (fs : List Function) (g h x y n : ℕ) → slice_get (homes_there (slice_get (rooms_after before site fs) g)) x ≡ Some (Array n) →
     slice_get (homes_there (slice_get (rooms_after before site fs) h)) y ≡ Some (Array n) → g ≡ h
 arrays_of_rooms before site [] g h x y n e q = cc
 arrays_of_rooms before site (f ∷ fs) zero zero x y n e q = refl
@@ -155,14 +143,8 @@ arrays_of_rooms before site (f ∷ fs) (suc g) zero x y n e q =
     absurd (let most = array_most before f.locals y n q in let least = array_room (before ++ f.locals) (site + print_count f.body) fs g x n e in omega (arith, most, least))
 arrays_of_rooms before site (f ∷ fs) (suc g) (suc h) x y n e q = ap suc (arrays_of_rooms (before ++ f.locals) (site + print_count f.body) fs g h x y n e q)
 
-pub variables_in_rooms : (P : Program) (g h x y n : ℕ) → slice_get (homes_in P g) x ≡ Some (Variable n) → slice_get (homes_in P h) y ≡ Some (Variable n) → g ≡ h
-variables_in_rooms P g h x y n e q = variables_of_rooms [] 0 (reached_functions P) g h x y n e q
-
-pub arrays_in_rooms : (P : Program) (g h x y n : ℕ) → slice_get (homes_in P g) x ≡ Some (Array n) → slice_get (homes_in P h) y ≡ Some (Array n) → g ≡ h
-arrays_in_rooms P g h x y n e q = arrays_of_rooms [] 0 (reached_functions P) g h x y n e q
-
 -- the functions that are not reached print what they do
-kept_at : (marks : List Bool) (fs : List Function) (g : ℕ) (f : Function) → slice_get fs g ≡ Some f → slice_get (with_marks marks fs) g ≡ Some (kept (has marks g) f)
+pub kept_at : (marks : List Bool) (fs : List Function) (g : ℕ) (f : Function) → slice_get fs g ≡ Some f → slice_get (with_marks marks fs) g ≡ Some (kept (has marks g) f)
 kept_at marks [] g f at = cc
 kept_at [] (d ∷ fs) zero f at = ap (λ z. Some (kept false z)) (let same : d ≡ f = cc in same)
 kept_at [] (d ∷ fs) (suc g) f at = kept_at [] fs g f at
@@ -178,47 +160,58 @@ kept_formats marks [] = refl
 kept_formats [] (f ∷ fs) = ap (λ l. formats_of f.body ++ l) (kept_formats [] fs)
 kept_formats (m ∷ marks) (f ∷ fs) = ap (λ s. formats_of s ++ all_formats (with_marks marks fs)) (kept_body m f) ∙ ap (λ l. formats_of f.body ++ l) (kept_formats marks fs)
 
--- each local has a home of its own, of its type
-module _ (P : Program) (g : ℕ) (f : Function) (at : slice_get P.functions g ≡ Some f) (reached : has (marks_of P) g ≡ true) where
-  room : IsRoom [] 0 (reached_functions P) g f
-  room =
-      is_room [] 0 (reached_functions P) g f
-      (kept_at (marks_of P) P.functions g f at ∙ ap (λ b. Some (kept b f)) reached)
+-- the room of a function of the list: each local of one that is marked has a home of its own, of its type
+module _ (P : Program) (marks : List Bool) (g : ℕ) (f : Function) (at : slice_get P.functions g ≡ Some f) where
+  abbrev functions : List Function
+  functions = with_marks marks P.functions
 
-  pub room_homes : AreHomes f.locals (homes_in P g) (length (variables_of (reached_locals P)))
-  room_homes = subst (λ hs. AreHomes f.locals hs (length (variables_of (reached_locals P)))) (sym room.homes) (record {
-    each = λ x l here. each_home room.earlier f.locals (length (variables_of (reached_locals P))) x l few here;
-    variables = λ x y n e q. variables_apart room.earlier f.locals x y n e q;
-    arrays = λ x y n e q. arrays_apart room.earlier f.locals x y n e q;
-  })
-    where
-      few : count_by is_scalar (room.earlier ++ f.locals) ≤ length (variables_of (reached_locals P))
-      few =
-          let all = variables_count (reached_locals P) in
-          let split = ap (count_by is_scalar) room.locals in
-          let left = count_left is_scalar (room.earlier ++ f.locals) room.later in
-          omega (arith, all, split, left)
+  abbrev room_there : List Home
+  room_there = homes_there (slice_get (rooms_after [] 0 functions) g)
 
-  pub room_declared : (x : ℕ) (l : LocalVariable) → slice_get f.locals x ≡ Some l → IsDeclaredHome (reached_locals P) l (slice_get (homes_in P g) x)
-  room_declared x l here =
-      subst (λ hs. IsDeclaredHome (reached_locals P) l (slice_get hs x)) (sym room.homes)
-      (subst (λ all. IsDeclaredHome all l (slice_get (homes_after room.earlier f.locals) x)) (sym room.locals)
-      (more (slice_get (homes_after room.earlier f.locals) x) (declared_home room.earlier f.locals x l here)))
-    where
-      more : (o : Option Home) → IsDeclaredHome (room.earlier ++ f.locals) l o → IsDeclaredHome ((room.earlier ++ f.locals) ++ room.later) l o
-      more None h = h
-      more (Some (Variable n)) h =
-          ap (λ ts. slice_get ts n) (flat_map-append variable_of (room.earlier ++ f.locals) room.later)
-          ∙ get_more (variables_of (room.earlier ++ f.locals)) (variables_of room.later) n l.ty h
-      more (Some (Array a)) h =
-          ap (λ ts. slice_get ts a) (flat_map-append array_of (room.earlier ++ f.locals) room.later)
-          ∙ get_more (arrays_of (room.earlier ++ f.locals)) (arrays_of room.later) a (record { ty = l.ty; length = l.length }) h
+  pub room_sites : HasSites P f.body (site_there (slice_get (rooms_after [] 0 functions) g))
+  room_sites =
+      let room = is_room [] 0 functions g (kept (has marks g) f) (kept_at marks P.functions g f at) in
+      record {
+        before = room.printed;
+        after = room.unprinted;
+        all =
+            sym (kept_formats marks P.functions) ∙ room.formats
+            ∙ ap (λ s. room.printed ++ (formats_of s ++ room.unprinted)) (kept_body (has marks g) f);
+        number = room.site_ ∙ (omega arith);
+      }
 
-  pub room_local : (x : ℕ) (h : Home) → slice_get (homes_in P g) x ≡ Some h → (l : LocalVariable) × (slice_get f.locals x ≡ Some l)
-  room_local x h e = homes_local room.earlier f.locals x h (ap (λ hs. slice_get hs x) (sym room.homes) ∙ e)
+  module _ (reached : has marks g ≡ true) where
+    room : IsRoom [] 0 functions g f
+    room = is_room [] 0 functions g f (kept_at marks P.functions g f at ∙ ap (λ b. Some (kept b f)) reached)
 
-  pub room_scalar : (x : ℕ) (l : LocalVariable) (a : ℕ) → slice_get f.locals x ≡ Some l → l.length ≡ 1 → slice_get (homes_in P g) x ≡ Some (Array a) → ⊥
-  room_scalar x l a at one e = scalar_home room.earlier f.locals x l a at one (ap (λ hs. slice_get hs x) (sym room.homes) ∙ e)
+    pub room_homes : AreHomes f.locals room_there (length (variables_of (all_locals functions)))
+    room_homes = subst (λ hs. AreHomes f.locals hs (length (variables_of (all_locals functions)))) (sym room.homes) (record {
+      each = λ x l here. each_home room.earlier f.locals (length (variables_of (all_locals functions))) x l few here;
+      variables = λ x y n e q. variables_apart room.earlier f.locals x y n e q;
+      arrays = λ x y n e q. arrays_apart room.earlier f.locals x y n e q;
+    })
+      where
+        few : count_by is_scalar (room.earlier ++ f.locals) ≤ length (variables_of (all_locals functions))
+        few =
+            let all = variables_count (all_locals functions) in
+            let split = ap (count_by is_scalar) room.locals in
+            let left = count_left is_scalar (room.earlier ++ f.locals) room.later in
+            omega (arith, all, split, left)
 
-  pub room_sites : HasSites P f.body (site_in P g)
-  room_sites = record { before = room.printed; after = room.unprinted; all = sym (kept_formats (marks_of P) P.functions) ∙ room.formats; number = room.site_ ∙ (omega arith) }
+    pub room_count : length room_there ≡ length f.locals
+    room_count = ap length room.homes ∙ homes_count room.earlier f.locals
+
+    pub room_declared : (x : ℕ) (l : LocalVariable) → slice_get f.locals x ≡ Some l → IsDeclaredHome (all_locals functions) l (slice_get room_there x)
+    room_declared x l here =
+        subst (λ hs. IsDeclaredHome (all_locals functions) l (slice_get hs x)) (sym room.homes)
+        (subst (λ all. IsDeclaredHome all l (slice_get (homes_after room.earlier f.locals) x)) (sym room.locals)
+        (more (slice_get (homes_after room.earlier f.locals) x) (declared_home room.earlier f.locals x l here)))
+      where
+        more : (o : Option Home) → IsDeclaredHome (room.earlier ++ f.locals) l o → IsDeclaredHome ((room.earlier ++ f.locals) ++ room.later) l o
+        more None h = h
+        more (Some (Variable n)) h =
+            ap (λ ts. slice_get ts n) (flat_map-append variable_of (room.earlier ++ f.locals) room.later)
+            ∙ get_more (variables_of (room.earlier ++ f.locals)) (variables_of room.later) n l.ty h
+        more (Some (Array a)) h =
+            ap (λ ts. slice_get ts a) (flat_map-append array_of (room.earlier ++ f.locals) room.later)
+            ∙ get_more (arrays_of (room.earlier ++ f.locals)) (arrays_of room.later) a (record { ty = l.ty; length = l.length }) h

@@ -1,6 +1,5 @@
 -- What the rooms of a program's functions need, where they are too many.
 use Rattle.std.proofs.Common.{◌≡◌, ℕ, zero, suc, ◌+◌, ◌<◌, ◌≤◌, Bool, true, false, List, [], ◌∷◌, ◌++◌, length, Some, take, map, get_or, refl, sym, ap, ◌∙◌, arith, length-append}
-use Rattle.std.proofs.Common.{sum_by}
 use Rattle.std.specs.Prelude.{slice_get}
 use Rattle.c_program.specs.declared.tree.LocalVariable.{LocalVariable}
 use Rattle.c_program.specs.declared.tree.Function.{Function as FunctionTree}
@@ -9,7 +8,7 @@ use Rattle.c_program.specs.Tree.{Function}
 use Rattle.c_program.specs.Limits.{print_count}
 use Rattle.straight_code.specs.declared.fault.LoweringFault.{LoweringFault}
 use Rattle.thread_rooms.specs.declared.rooms.Rooms.{Rooms}
-use Rattle.thread_rooms.specs.Locals.{is_scalar, variable_of, variables_of, array_of, arrays_of, Houses, ArePlaced, all_locals}
+use Rattle.thread_rooms.specs.Locals.{is_scalar, variable_of, variables_of, array_of, arrays_of, Houses, ArePlaced, all_locals, prints}
 use Rattle.thread_rooms.specs.Reaching.{has, kept, with_marks}
 use Rattle.straight_code.specs.Room.{IsFull}
 use Rattle.straight_code.proofs.Words.{sum_cons}
@@ -44,9 +43,6 @@ homes_full locals before i r fault lt houses full is =
     take_few (suc n) (x ∷ xs) = let h = take_few n xs in omega (arith, h)
 
 -- a function's locals, with those of the functions before it, are among those of all, and so are its printf calls
-abbrev pub prints : List Function → ℕ
-prints fs = sum_by (λ (g : Function). print_count g.body) fs
-
 pub kept_prints : (b : Bool) (f : Function) → print_count (kept b f).body ≡ print_count f.body
 kept_prints true f = refl
 kept_prints false f = refl

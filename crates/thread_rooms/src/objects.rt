@@ -1,51 +1,114 @@
 // The numbers of pthread objects: the elements of those of each kind, in order of declaration.
 
-use c_program::tree::Program;
+ghost use Rattle.std.specs.Prelude.{◌≡◌, ◌+◌, ◌^◌, ◌<◌, ◌++◌, ◌∷◌, [], IfOk, IfErr, OnOk};
+ghost use Rattle.std.specs.List.{sum_by};
+ghost use Rattle.c_program.specs.Limits.{mutex_elements, barrier_elements};
+ghost use Rattle.c_program.specs.Plain.{program_of};
+ghost use Rattle.c_program.specs.Weight.{thread_count};
+ghost use Rattle.straight_code.specs.Room.{IsFull};
+ghost use Rattle.thread_rooms.specs.Objects as objects;
+
+use c_program::tree::{BarrierObject, MutexObject, Program, ThreadObject};
 use sqlite_items::Items;
 use std::alloc::{AllocError, Global};
+use straight_code::fault::LoweringFault;
 
 /// For each object of each kind the number of its first element. Thread 0 is main.
 #[derive(Drop)]
 pub struct Objects {
-    pub threads: Items<u64>,
-    pub mutexes: Items<u64>,
-    pub barriers: Items<u64>,
+    pub threads: Items<u32>,
+    pub mutexes: Items<u32>,
+    pub barriers: Items<u32>,
 }
 
-fn threads_of(alloc: Global, program: &Program) -> Result<Items<u64>, AllocError> {
-    let mut first = Items::new(alloc);
-    let mut number = 1u64;
-    for object in &program.threads {
-        first.push(number)?;
-        number = number.saturating_add(object.length);
+/// The numbers of the first elements of objects of one kind, and the number after all their elements.
+#[derive(Drop)]
+struct Counted {
+    numbers: Items<u32>,
+    next: u32,
+}
+
+/// The number after those of so many elements from that number on.
+fn number_after(number: u32, length: u64) -> Result<u32, LoweringFault>
+    ensures sum { IfOk result (λ next. next ≡ number + length) }
+    ensures few { IfOk result (λ next. next < 2 ^ 32) }
+    ensures full { IfErr result (IsFull (number + length)) }
+{
+    let room = u64::from(u32::MAX - number);
+    if length > room {
+        return Err(LoweringFault::TooLarge);
     }
-    Ok(first)
+    Ok(number + length as u32)
 }
 
-fn mutexes_of(alloc: Global, program: &Program) -> Result<Items<u64>, AllocError> {
-    let mut first = Items::new(alloc);
-    let mut number = 0u64;
-    for object in &program.mutexes {
-        first.push(number)?;
-        number = number.saturating_add(object.length);
+impl Counted {
+    fn new(alloc: Global, first: u32) -> Counted
+        ensures numbers { result.numbers ≡ [] }
+        ensures next { result.next ≡ first }
+    {
+        Counted {
+            numbers: Items::new(alloc),
+            next: first,
+        }
     }
-    Ok(first)
-}
 
-fn barriers_of(alloc: Global, program: &Program) -> Result<Items<u64>, AllocError> {
-    let mut first = Items::new(alloc);
-    let mut number = 0u64;
-    for object in &program.barriers {
-        first.push(number)?;
-        number = number.saturating_add(object.length);
+    /// An object of that length comes next.
+    fn add(&mut self, length: u64) -> Result<(), LoweringFault>
+        ensures numbers { OnOk result (self.new.numbers ≡ self.old.numbers ++ self.old.next ∷ []) }
+        ensures next { OnOk result (self.new.next ≡ self.old.next + length) }
+        ensures few { OnOk result (self.new.next < 2 ^ 32) }
+        ensures full { IfErr result (IsFull (self.old.next + length)) }
+    {
+        let next = number_after(self.next, length)?;
+        self.numbers.push(self.next)?;
+        self.next = next;
+        Ok(())
     }
-    Ok(first)
 }
 
-pub fn objects_of(alloc: Global, program: &Program) -> Result<Objects, AllocError> {
-    let threads = threads_of(alloc, program)?;
-    let mutexes = mutexes_of(alloc, program)?;
-    let barriers = barriers_of(alloc, program)?;
+fn threads_of(alloc: Global, threads: &[ThreadObject]) -> Result<Items<u32>, LoweringFault>
+    ensures numbers { IfOk result (objects.AreNumbers 1 (λ object. object.length) threads.now) }
+    ensures full { IfErr result (IsFull (1 + sum_by (λ object. object.length) threads.now)) }
+{
+    let mut counted = Counted::new(alloc, 1);
+    for object in threads {
+        counted.add(object.length)?;
+    }
+    Ok(counted.numbers)
+}
+
+fn mutexes_of(alloc: Global, mutexes: &[MutexObject]) -> Result<Items<u32>, LoweringFault>
+    ensures numbers { IfOk result (objects.AreNumbers 0 (λ object. object.length) mutexes.now) }
+    ensures full { IfErr result (IsFull (sum_by (λ object. object.length) mutexes.now)) }
+{
+    let mut counted = Counted::new(alloc, 0);
+    for object in mutexes {
+        counted.add(object.length)?;
+    }
+    Ok(counted.numbers)
+}
+
+fn barriers_of(alloc: Global, barriers: &[BarrierObject]) -> Result<Items<u32>, LoweringFault>
+    ensures numbers { IfOk result (objects.AreNumbers 0 (λ object. object.length) barriers.now) }
+    ensures full { IfErr result (IsFull (sum_by (λ object. object.length) barriers.now)) }
+{
+    let mut counted = Counted::new(alloc, 0);
+    for object in barriers {
+        counted.add(object.length)?;
+    }
+    Ok(counted.numbers)
+}
+
+/// The numbers of a program's objects.
+#[tactic(auto, using(crate::proofs::Counting::are_objects))]
+pub fn objects_of(alloc: Global, program: &Program) -> Result<Objects, LoweringFault>
+    ensures objects { IfOk result (objects.AreObjects (program_of program.now)) }
+    ensures full { IfErr result (IsFull
+        (thread_count (program_of program.now) + mutex_elements (program_of program.now) + barrier_elements (program_of program.now))) }
+{
+    let threads = threads_of(alloc, &program.threads)?;
+    let mutexes = mutexes_of(alloc, &program.mutexes)?;
+    let barriers = barriers_of(alloc, &program.barriers)?;
     Ok(Objects {
         threads,
         mutexes,
@@ -53,7 +116,12 @@ pub fn objects_of(alloc: Global, program: &Program) -> Result<Objects, AllocErro
     })
 }
 
-/// The number of the first element of an object.
-pub fn first_of(numbers: &[u64], object: u32) -> u64 {
-    numbers.get(object as usize).copied().unwrap_or(0)
+/// The number of the first element of an object, where those of its kind have these; 0 where there is no such object.
+pub fn first_of(numbers: &[u32], object: u32) -> u32
+    ensures { result ≡ objects.first_in numbers.now object }
+{
+    match numbers.get(object as usize) {
+        None => 0,
+        Some(number) => *number,
+    }
 }

@@ -1,12 +1,12 @@
 // How many printf calls statements have, and how many words they need.
 
 ghost use Rattle.std.specs.Prelude.{◌≡◌, ◌+◌, map, IfOk, IfErr};
-ghost use Rattle.c_program.specs.Plain.{function_of, returned_of, right_side_of, statement_of};
+ghost use Rattle.c_program.specs.Plain.{function_of, returned_of, right_side_of, statement_of, thread_call_of};
 ghost use Rattle.c_program.specs.Limits.{print_count};
 ghost use Rattle.straight_code.specs.Room.{IsFull};
 ghost use Rattle.thread_rooms.specs.Values as values;
 
-use c_program::tree::{Function, RightSide, Statement};
+use c_program::tree::{Function, RightSide, Statement, ThreadCall};
 use straight_code::fault::LoweringFault;
 
 pub fn sum_of(a: u32, b: u32) -> Result<u32, LoweringFault>
@@ -62,7 +62,17 @@ fn returned_values(right: &Option<RightSide>) -> usize
     }
 }
 
-/// The most values that a printf of the statement has, or 1 for a call.
+/// The operands of a pthread call: the number of an object, and the argument of a create or the count of a barrier.
+fn operand_count(call: &ThreadCall) -> usize
+    ensures { result ≡ values.operand_count (thread_call_of call.now) }
+{
+    match call {
+        ThreadCall::Create(_, _, _) | ThreadCall::BarrierInit(_, _) => 2,
+        _ => 1,
+    }
+}
+
+/// The most values that a printf of the statement has, or operands a pthread call, or 1 for a call.
 pub fn most_values(statement: &Statement) -> usize
     ensures { result ≡ values.most_values (statement_of statement.now) }
 {
@@ -87,6 +97,7 @@ pub fn most_values(statement: &Statement) -> usize
         Statement::Assign(_, _, right) => right_values(right),
         Statement::Return(_, right) => returned_values(right),
         Statement::Call(_, _, _) => 1,
+        Statement::Thread(_, call) => operand_count(call),
         _ => 0,
     };
     last.max(most)

@@ -1,11 +1,11 @@
-// Which functions main reaches.
+// Which functions a thread function reaches.
 
 ghost use Rattle.std.specs.Prelude.{◌≡◌, ◌++◌, true, map, slice_get, slice_set, IfOk, OnOk};
 ghost use Rattle.c_program.specs.Calls.{calls_of, calls_of_right};
-ghost use Rattle.c_program.specs.Plain.{function_of, program_of, right_side_of, statement_of};
+ghost use Rattle.c_program.specs.Plain.{function_of, right_side_of, statement_of};
 ghost use Rattle.thread_rooms.specs.Reaching as spec;
 
-use c_program::tree::{Function, Program, RightSide, Statement};
+use c_program::tree::{Function, RightSide, Statement};
 use sqlite_items::Items;
 use std::alloc::{AllocError, Global};
 
@@ -109,14 +109,16 @@ fn mark_from(
     Ok(())
 }
 
-/// Marks on the functions that main reaches, and on main.
-pub fn marks_of(alloc: Global, program: &Program) -> Result<Items<bool>, AllocError>
-    ensures { IfOk result (λ marks. marks ≡ spec.marks_of (program_of program.now)) }
+/// Marks on the functions that the one of that number reaches, and on itself.
+pub fn marks_of(
+    alloc: Global,
+    functions: &[Function],
+    root: usize,
+) -> Result<Items<bool>, AllocError>
+    ensures { IfOk result (λ marks. marks ≡ spec.marks_of (map function_of functions.now) root) }
 {
-    let functions = program.functions.as_slice();
     let none = vec![in alloc; false; functions.len()]?;
     let mut marks = Items::from_vec(none);
-    let main = program.main as usize;
-    mark_from(alloc, functions, functions.len(), &mut marks, main)?;
+    mark_from(alloc, functions, functions.len(), &mut marks, root)?;
     Ok(marks)
 }

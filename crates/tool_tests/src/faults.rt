@@ -5,7 +5,7 @@ use crate::programs::MAIN;
 use c_profile::Refusal;
 use hls_compile::Construct;
 use hls_io::{MemSink, MemSource, SureSink, SureSource};
-use hls_tool::Status;
+use hls_tool::{Status, tell_memory};
 use std::test::Fail;
 
 #[test]
@@ -62,6 +62,18 @@ fn counts_what_each_sink_took(rt: HostRuntime) -> Result<(), Fail> {
         let told = call(&rt, alloc, &words, &mut source, &mut out, &mut err)?.status;
         assert!(rt; told == *status);
     }
+    Ok(())
+}
+
+#[test]
+fn tells_that_memory_is_wanting(rt: HostRuntime) -> Result<(), Fail> {
+    let alloc = rt.alloc();
+    let mut err = MemSink::new(alloc, 1000, 16, &[])?;
+    assert!(rt; tell_memory(&mut err) == Status::Memory);
+    assert!(rt; err.held() == b"hls: out of memory\n".as_slice());
+    let mut full = MemSink::new(alloc, 1000, 16, &[1])?;
+    assert!(rt; tell_memory(&mut full) == Status::Memory);
+    assert!(rt; full.held().is_empty());
     Ok(())
 }
 

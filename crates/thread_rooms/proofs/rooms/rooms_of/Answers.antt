@@ -1,43 +1,41 @@
-use Rattle.std.proofs.Common.{◌+◌, ◌++◌, [], ◌∷◌, length, map, take, refl, sym, ap, ◌∙◌, subst, arith}
+use Rattle.std.proofs.Common.{◌+◌, ◌∙◌, ap, length, map, subst}
 use Rattle.std.proofs.lemmas.Result.{err_from_is_err_and}
 use Rattle.c_program.specs.Plain.{function_of, program_of}
-use Rattle.thread_rooms.specs.Reaching.{has, kept, with_marks, marks_of}
-use Rattle.thread_rooms.specs.Locals.{ArePlaced, all_locals}
 use Rattle.straight_code.specs.Room.{IsFull}
-use Rattle.thread_rooms.proofs.RoomsFull.{prints, take_whole, rooms_next, rooms_full}
+use Rattle.thread_rooms.specs.Locals.{ArePlaced, all_locals, prints}
+use Rattle.thread_rooms.specs.Names.{variable_names}
+use Rattle.thread_rooms.specs.Reaching.{marks_of, with_marks}
+use Rattle.thread_rooms.proofs.Housed.{housed, named, housed_full}
 use Rattle.thread_rooms.proofs.rooms.rooms_of.Goals as goal
 
-pub loop-number-init : goal.loop-number-init
-loop-number-init c = record { rooms = c.new.ensures; houses = record { variables = c.new-2.ensures; arrays = c.new-3.ensures }; sites = refl }
+pub returns-in_err-rooms-clause-full : goal.returns-in_err-rooms-clause-full
+returns-in_err-rooms-clause-full c =
+    let p = err_from_is_err_and c.from_residual-in_err-rooms.result c.from_residual-in_err-rooms.ensures.1 in
+    let fs = ap (map function_of) c.as_slice-functions.ensures.value in
+    rw (p.1, p.2) (λ resolved.
+    housed_full (program_of c.args.program.now) c.args.root _
+    (subst (λ xs. IsFull (length (all_locals (with_marks (marks_of xs c.args.root) xs)) + prints xs) c.in_err-rooms.field-0.0) fs
+    (subst (λ marks. IsFull (length (all_locals (with_marks marks (map function_of c.as_slice-functions.result.now))) + prints (map function_of c.as_slice-functions.result.now)) c.in_err-rooms.field-0.0)
+    (c.as_slice.ensures ∙ c.in_ok-marks.ensures) c.in_err-rooms.ensures.full)) resolved)
 
-pub loop-number-preserved : goal.loop-number-preserved
-loop-number-preserved c =
-    let marks = marks_of (program_of c.args.program.now) in
-    let fs = c.deref-function-items.result.now in
-    let i = c.loop-number.number in
-    let f = c.function-item.result in
-    subst (λ xs. ArePlaced (with_marks marks (map function_of (take (i + 1) xs))) c.add.new.self) c.deref-function-items.ensures.value
-    (subst (λ gs. ArePlaced gs c.add.new.self) (sym (rooms_next marks fs i f c.loop-number-test.true c.function-item.is))
-    (subst (λ b. ArePlaced (with_marks marks (map function_of (take i fs)) ++ kept b (function_of f) ∷ []) c.add.new.self)
-    (c.has.ensures ∙ ap (λ m. has m i) (c.as_slice.ensures ∙ c.in_ok-marks.ensures))
-    (c.in_ok-add.ensures.placed (with_marks marks (map function_of (take i fs)))
-    (subst (λ xs. ArePlaced (with_marks marks (map function_of (take i xs))) c.loop-number.rooms) (sym c.deref-function-items.ensures.value) c.loop-number.invariant))))
+pub returns-clause-housing : goal.returns-clause-housing
+returns-clause-housing c =
+    let fs = ap (map function_of) c.as_slice-functions.ensures.value in
+    λ resolved.
+    housed (program_of c.args.program.now) c.args.root resolved c.in_ok-rooms.rooms
+    (subst (λ xs. ArePlaced (with_marks (marks_of xs c.args.root) xs) c.in_ok-rooms.rooms) fs
+    (subst (λ marks. ArePlaced (with_marks marks (map function_of c.as_slice-functions.result.now)) c.in_ok-rooms.rooms)
+    (c.as_slice.ensures ∙ c.in_ok-marks.ensures) c.in_ok-rooms.ensures.placed))
 
-pub returns-clause-placed : goal.returns-clause-placed
-returns-clause-placed c =
-    let long = ap length c.deref-function-items.ensures.value in
-    let end_ = c.loop-number-test.false in
-    subst (λ xs. ArePlaced (with_marks (marks_of (program_of c.args.program.now)) (map function_of xs)) c.loop-number.rooms)
-    (take_whole c.args.program.now.functions.items c.loop-number.number (omega (arith, long, end_))) c.loop-number.invariant
-
-pub returns-in_err-add-clause-full : goal.returns-in_err-add-clause-full
-returns-in_err-add-clause-full c =
-    let p = err_from_is_err_and c.from_residual-in_err-add.result c.from_residual-in_err-add.ensures.1 in
-    let marks = marks_of (program_of c.args.program.now) in
-    let same = c.deref-function-items.ensures.value in
-    let placed = subst (λ xs. ArePlaced (with_marks marks (map function_of (take c.loop-number.number xs))) c.loop-number.rooms) (sym same) c.loop-number.invariant in
-    rw (p.1, p.2)
-    (subst (λ xs. IsFull (length (all_locals (with_marks marks (map function_of xs))) + prints (map function_of xs)) c.in_err-add.field-0.0) same
-    (rooms_full marks c.deref-function-items.result.now c.loop-number.number c.function-item.result c.loop-number.rooms c.has.result _ c.loop-number-test.true c.function-item.is
-    (c.has.ensures ∙ ap (λ m. has m c.loop-number.number) (c.as_slice.ensures ∙ c.in_ok-marks.ensures)) placed
-    (c.in_err-add.ensures.full (with_marks marks (map function_of (take c.loop-number.number c.deref-function-items.result.now))) placed)))
+pub returns-clause-names : goal.returns-clause-names
+returns-clause-names c =
+    let fs = ap (map function_of) c.as_slice-functions.ensures.value in
+    λ resolved.
+    named (program_of c.args.program.now) c.args.root resolved c.in_ok-rooms.rooms
+    (subst (λ xs. ArePlaced (with_marks (marks_of xs c.args.root) xs) c.in_ok-rooms.rooms) fs
+    (subst (λ marks. ArePlaced (with_marks marks (map function_of c.as_slice-functions.result.now)) c.in_ok-rooms.rooms)
+    (c.as_slice.ensures ∙ c.in_ok-marks.ensures) c.in_ok-rooms.ensures.placed))
+    _
+    (c.in_ok-names.ensures
+    ∙ ap (λ marks. variable_names (with_marks marks (map function_of c.as_slice-functions.result.now))) (c.as_slice-2.ensures ∙ c.in_ok-marks.ensures)
+    ∙ ap (λ xs. variable_names (with_marks (marks_of xs c.args.root) xs)) fs)

@@ -1,0 +1,73 @@
+-- The codes of thread functions: what they are made of, where they are too large, and that resolved programs are lowered.
+use Rattle.std.specs.Prelude.{◌≡◌, ℕ, ◌^◌, true, if◌then◌else◌, nat_eq, List, [], ◌∷◌, Option, Some, None, slice_get, Contains, ◌≤◌, ◌+◌, ◌*◌}
+use Rattle.c_program.specs.declared.tree.Function.{Function as FunctionTree}
+use Rattle.c_program.specs.declared.tree.Program.{Program as ProgramTree}
+use Rattle.c_program.specs.Plain.{program_of, statement_of}
+use Rattle.c_program.specs.Tree.{Program}
+use Rattle.block_ir.specs.declared.code.ThreadCode.{ThreadCode}
+use Rattle.straight_code.specs.declared.homes.Home.{Home}
+use Rattle.straight_code.specs.declared.homes.Home.TheVariants as home
+use Rattle.code_following.specs.Typed.{IsThreadCode}
+use Rattle.code_places.specs.declared.lowering.Lowering.{Lowering}
+use Rattle.thread_rooms.specs.declared.rooms.Rooms.{Rooms}
+use Rattle.thread_rooms.specs.Housing.{homes_in, IsHousing, AreNames}
+use Rattle.thread_rooms.specs.Values.{all_values}
+use Rattle.code_places.specs.Doing.{Lowers, IsNew, Starts, IsFinished}
+use Rattle.c_program.specs.Limits.{local_elements, print_sites, mutex_elements, barrier_elements}
+use Rattle.c_program.specs.Resolved.{IsResolved}
+use Rattle.ir_lower.specs.Taken.{is_taken_program}
+use Rattle.c_program.specs.Weight.{function_weight, thread_functions, thread_count}
+use Rattle.straight_code.specs.declared.fault.LoweringFault.TheVariants.{TooLarge}
+use Rattle.ir_lower.specs.declared.fault.LowerError.{LowerError}
+use Rattle.ir_lower.specs.declared.fault.LowerError.TheVariants.{Fault}
+use Rattle.code_places.specs.Sequential.{is_sequential_program}
+use Rattle.code_calls.specs.Calling.{Closes}
+
+-- TAKEN: each resolved program is lowered
+abbrev pub ResolvedAreTaken : Type 0
+ResolvedAreTaken = (P : Program) → IsResolved P → is_taken_program P ≡ true
+
+-- THREAD CODES: the codes of these thread functions, one after another
+abbrev pub AreThreadCodes : Program → List ℕ → List ThreadCode → Type 0
+AreThreadCodes P [] [] = Unit {0}
+AreThreadCodes P [] (c ∷ cs) = ⊥
+AreThreadCodes P (f ∷ fs) [] = ⊥
+AreThreadCodes P (f ∷ fs) (c ∷ cs) = IsThreadCode P f c × AreThreadCodes P fs cs
+
+-- what the code of a thread function needs at most, with all calls inlined, and the numbers of objects
+abbrev pub function_needs : Program → ℕ → ℕ
+function_needs P f =
+    16 * function_weight P.functions f + local_elements P.functions f + 4 + print_sites P + (thread_count P + mutex_elements P + barrier_elements P)
+
+-- a thread function of a program without pthread calls is too large only where that is
+abbrev pub IsFullFunction : Program → ℕ → LowerError → Type 0
+IsFullFunction P f error =
+    is_sequential_program P ≡ true → IsResolved P → Contains (thread_functions P) f → error ≡ Fault TooLarge → 2 ^ 32 ≤ function_needs P f
+
+-- the variable that has the argument of a thread function: that of its one parameter, but main has none
+abbrev pub variable_of : Option Home → Option ℕ
+variable_of (Some (home.Variable n)) = Some n
+variable_of (Some (home.Array a)) = None
+variable_of None = None
+
+abbrev pub argument_of : Program → ℕ → Rooms → Option ℕ
+argument_of P f H = if nat_eq f P.main then None else variable_of (slice_get (homes_in H f) 0)
+
+-- the code was made of the function of that number, step by step
+pub record IsCodeOf (p : ProgramTree) (number : ℕ) (code : ThreadCode) : Type 0 where
+  pub function : FunctionTree
+  pub at : slice_get p.functions.items number ≡ Some function
+  pub housing : Rooms
+  pub housed : IsResolved (program_of p) → IsHousing (program_of p) number housing
+  pub names : List (List ℕ)
+  pub named : IsResolved (program_of p) → AreNames (program_of p) number housing names
+  pub first : Lowering
+  pub is_new : IsNew (program_of p) housing number (all_values (program_of p).functions) first
+  pub start : ℕ
+  pub begun : Lowering
+  pub starts : Starts start first begun
+  pub lowered : Lowering
+  pub lowers : Lowers (program_of p) None (statement_of function.body) begun lowered
+  pub ended : Lowering
+  pub closes : Closes lowered ended
+  pub finished : IsFinished start (argument_of (program_of p) number housing) names ended code

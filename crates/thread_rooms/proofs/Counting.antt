@@ -1,0 +1,96 @@
+-- Objects of one kind are counted one after the other.
+use Rattle.std.proofs.Common.{◌≡◌, ℕ, zero, suc, ◌+◌, ◌^◌, ◌<◌, ◌≤◌, List, [], ◌∷◌, ◌++◌, length, take, Some, get_or, refl, sym, ap, ◌∙◌, ⊎_elim, arith, length-append}
+use Rattle.std.specs.Prelude.{◌⊎◌, slice_get}
+use Rattle.std.specs.List.{sum_by}
+use Rattle.std.proofs.Math.Nat.{eq-or-lt_of_le}
+use Rattle.std.proofs.Math.Seq.{take-suc}
+use Rattle.std.proofs.lemmas.List.Sums.{sum_by_push, sum_by-take-le}
+use Rattle.c_program.specs.declared.tree.ThreadObject.{ThreadObject}
+use Rattle.c_program.specs.declared.tree.MutexObject.{MutexObject}
+use Rattle.c_program.specs.declared.tree.BarrierObject.{BarrierObject}
+use Rattle.c_program.specs.Tree.{Program}
+use Rattle.straight_code.specs.declared.fault.LoweringFault.{LoweringFault}
+use Rattle.straight_code.specs.Room.{IsFull}
+use Rattle.thread_rooms.specs.declared.objects.Counted.{Counted}
+use Rattle.thread_rooms.specs.declared.objects.Objects.{Objects}
+use Rattle.thread_rooms.specs.Objects.{AreObjects, AreNumbers}
+
+-- the objects before one of that number are counted
+pub record AreCounted {A : Type 0} (first : ℕ) (elements : A → ℕ) (objects : List A) (n : ℕ) (c : Counted) : Type 0 where
+  pub each : (x : ℕ) → x < n → slice_get c.numbers x ≡ Some (first + sum_by elements (take x objects))
+  pub long : length c.numbers ≡ n
+  pub next : c.next ≡ first + sum_by elements (take n objects)
+  pub few : c.next < 2 ^ 32
+
+get_pushed : (ns : List ℕ) (n x : ℕ) → x < length ns → slice_get (ns ++ n ∷ []) x ≡ slice_get ns x
+get_pushed [] n x lt = absurd (omega arith)
+get_pushed (m ∷ ns) n zero lt = refl
+get_pushed (m ∷ ns) n (suc x) lt = get_pushed ns n x (omega arith)
+
+get_last : (ns : List ℕ) (n : ℕ) → slice_get (ns ++ n ∷ []) (length ns) ≡ Some n
+get_last [] n = refl
+get_last (m ∷ ns) n = get_last ns n
+
+module _ {A : Type 0} (first : ℕ) (elements : A → ℕ) (objects : List A) where
+  sum_next : (i : ℕ) (d : A) → i < length objects → sum_by elements (take (i + 1) objects) ≡ sum_by elements (take i objects) + elements (get_or objects i d)
+  sum_next i d lt =
+      ap (λ n. sum_by elements (take n objects)) (let e : i + 1 ≡ suc i = omega arith in e)
+      ∙ ap (sum_by elements) (take-suc objects i d lt) ∙ sum_by_push elements (take i objects) (get_or objects i d)
+
+  pub none_counted : (c : Counted) → c.numbers ≡ [] → c.next ≡ first → first < 2 ^ 32 → AreCounted first elements objects 0 c
+  none_counted c none next few = record {
+    each = λ x lt. absurd (omega arith);
+    long = ap length none;
+    next = (omega (arith, next));
+    few = (omega (arith, next, few));
+  }
+
+  pub one_counted : (i : ℕ) (d : A) (old new : Counted) → AreCounted first elements objects i old → i < length objects →
+      new.numbers ≡ old.numbers ++ old.next ∷ [] → new.next ≡ old.next + elements (get_or objects i d) → new.next < 2 ^ 32 → AreCounted first elements objects (i + 1) new
+  one_counted i d old new before lt numbers next few = record {
+    each = λ x below. ⊎_elim (λ same. last x same) (λ less. earlier x less) (nat_cases x below);
+    long = ap length numbers ∙ length-append old.numbers (old.next ∷ []) ∙ ap (λ n. n + 1) before.long;
+    next = (let b = before.next in let s = sum_next i d lt in omega (arith, next, b, s));
+    few = few;
+  }
+    where
+      nat_cases : (x : ℕ) → x < i + 1 → (x ≡ i) ⊎ (x < i)
+      nat_cases x below = eq-or-lt_of_le (let le : x ≤ i = omega (arith, below) in le)
+
+      last : (x : ℕ) → x ≡ i → slice_get new.numbers x ≡ Some (first + sum_by elements (take x objects))
+      last x same =
+          ap (λ n. slice_get new.numbers n) (same ∙ sym before.long) ∙ ap (λ ns. slice_get ns (length old.numbers)) numbers ∙ get_last old.numbers old.next
+          ∙ ap Some before.next ∙ ap (λ n. Some (first + sum_by elements (take n objects))) (sym same)
+
+      earlier : (x : ℕ) → x < i → slice_get new.numbers x ≡ Some (first + sum_by elements (take x objects))
+      earlier x less =
+          ap (λ ns. slice_get ns x) numbers ∙ get_pushed old.numbers old.next x (let long = before.long in omega (arith, long)) ∙ before.each x less
+
+  take_all : (n : ℕ) (xs : List A) → length xs ≤ n → take n xs ≡ xs
+  take_all zero [] le = refl
+  take_all (suc n) [] le = refl
+  take_all zero (x ∷ xs) le = absurd (omega (arith, le))
+  take_all (suc n) (x ∷ xs) le = ap (λ l. x ∷ l) (take_all n xs (omega (arith, le)))
+
+  pub all_counted : (n : ℕ) (c : Counted) → AreCounted first elements objects n c → length objects ≤ n → AreNumbers first elements objects c.numbers
+  all_counted n c is le = record {
+    each = λ x lt. is.each x (omega (arith, lt, le));
+    few = (let next = is.next in let few = is.few in let all = ap (sum_by elements) (take_all n objects le) in omega (arith, next, few, all));
+  }
+
+  -- what an object adds is no more than all
+  pub counted_full : (i : ℕ) (d : A) (c : Counted) (fault : LoweringFault) → AreCounted first elements objects i c → i < length objects →
+      IsFull (c.next + elements (get_or objects i d)) fault → IsFull (first + sum_by elements objects) fault
+  counted_full i d c fault before lt full large =
+      let f = full large in let next = before.next in let s = sum_next i d lt in let all = sum_by-take-le elements objects (i + 1) in omega (arith, f, next, s, all)
+
+pub are_objects : (P : Program) (o : Objects) → AreNumbers 1 (λ (a : ThreadObject). a.length) P.threads o.threads → AreNumbers 0 (λ (a : MutexObject). a.length) P.mutexes o.mutexes →
+    AreNumbers 0 (λ (a : BarrierObject). a.length) P.barriers o.barriers → AreObjects P o
+are_objects P o threads mutexes barriers = record {
+  threads = threads.each;
+  mutexes = λ x lt. mutexes.each x lt ∙ ap Some (omega arith);
+  barriers = λ x lt. barriers.each x lt ∙ ap Some (omega arith);
+  few_threads = threads.few;
+  few_mutexes = (let few = mutexes.few in omega (arith, few));
+  few_barriers = (let few = barriers.few in omega (arith, few));
+}

@@ -1,0 +1,8 @@
+use Rattle.c_program.specs.declared.tree.ThreadObject.{ThreadObject}
+use Rattle.thread_rooms.proofs.Counting.{one_counted}
+use Rattle.thread_rooms.proofs.objects.threads_of.Goals as goal
+
+pub loop-object-preserved : goal.loop-object-preserved
+loop-object-preserved c =
+    one_counted 1 (λ (a : ThreadObject). a.length) c.args.threads.now c.loop-object.object-index _ c.loop-object.counted c.add.new.self c.loop-object.invariant c.loop-object-test.true
+    c.in_ok-add.ensures.numbers c.in_ok-add.ensures.next c.in_ok-add.ensures.few
