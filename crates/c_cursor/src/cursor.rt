@@ -1,8 +1,9 @@
 // A cursor over tokens.
 
-ghost use Rattle.std.specs.Prelude.{◌≡◌, ◌||◌, [], ◌∷◌, length};
+ghost use Rattle.std.specs.Prelude.{List, ◌≡◌, ◌||◌, [], ◌∷◌, length};
 ghost use Rattle.grammar.specs.Readers.{sees, sees_all};
 ghost use Rattle.grammar.specs.Steps.{Steps};
+ghost use Rattle.c_token.specs.declared.token.Token.{Token};
 ghost use Rattle.c_tree.specs.Tokens as tokens_of;
 ghost use Rattle.c_reading.specs.Tokens as spec;
 
@@ -15,23 +16,36 @@ use c_tree::{
 use grammar::Fault;
 use sqlite_items::Items;
 use std::alloc::Global;
+use std::marker::Model;
 
-/// The tokens that are not read yet.
+/// The tokens that are not read yet. A clause sees them as their list, so no step of a proof holds the type of tokens.
 #[derive(Drop)]
 pub struct Cursor<'a> {
-    pub rest: &'a [Token],
+    rest: &'a [Token],
+}
+
+impl<'a> Model for Cursor<'a> {
+    ghost Value = { List Token };
+
+    ghost view = { λ c. c.rest.now };
 }
 
 /// A fact of the next token.
 impl<'a> Cursor<'a> {
+    pub fn new(tokens: &'a [Token]) -> Cursor<'a>
+        ensures { result ≡ tokens.now }
+    {
+        Cursor { rest: tokens }
+    }
+
     pub fn left(&self) -> usize
-        ensures { result ≡ length self.now.rest.now }
+        ensures { result ≡ length self.now }
     {
         self.rest.len()
     }
 
     pub fn sees(&self, sign: Sign) -> bool
-        ensures { result ≡ sees (tokens_of.is sign) self.now.rest.now }
+        ensures { result ≡ sees (tokens_of.is sign) self.now }
     {
         match self.rest {
             [token, ..] => tokens::is(token, sign),
@@ -40,7 +54,7 @@ impl<'a> Cursor<'a> {
     }
 
     pub fn sees_name(&self) -> bool
-        ensures { result ≡ sees tokens_of.is_name self.now.rest.now }
+        ensures { result ≡ sees tokens_of.is_name self.now }
     {
         match self.rest {
             [token, ..] => tokens::is_name(token),
@@ -49,7 +63,7 @@ impl<'a> Cursor<'a> {
     }
 
     pub fn sees_constant(&self) -> bool
-        ensures { result ≡ sees tokens_of.is_constant self.now.rest.now }
+        ensures { result ≡ sees tokens_of.is_constant self.now }
     {
         match self.rest {
             [token, ..] => tokens::is_constant(token),
@@ -58,7 +72,7 @@ impl<'a> Cursor<'a> {
     }
 
     pub fn sees_text(&self) -> bool
-        ensures { result ≡ sees tokens_of.is_text self.now.rest.now }
+        ensures { result ≡ sees tokens_of.is_text self.now }
     {
         match self.rest {
             [token, ..] => tokens::is_text(token),
@@ -67,7 +81,7 @@ impl<'a> Cursor<'a> {
     }
 
     pub fn sees_type_word(&self) -> bool
-        ensures { result ≡ sees tokens_of.is_type_word self.now.rest.now }
+        ensures { result ≡ sees tokens_of.is_type_word self.now }
     {
         match self.rest {
             [token, ..] => tokens::type_word(token).is_some(),
@@ -76,7 +90,7 @@ impl<'a> Cursor<'a> {
     }
 
     pub fn sees_unary_operator(&self) -> bool
-        ensures { result ≡ sees tokens_of.is_unary self.now.rest.now }
+        ensures { result ≡ sees tokens_of.is_unary self.now }
     {
         match self.rest {
             [token, ..] => tokens::unary_operator(token).is_some(),
@@ -85,7 +99,7 @@ impl<'a> Cursor<'a> {
     }
 
     pub fn sees_direction(&self) -> bool
-        ensures { result ≡ sees tokens_of.is_direction self.now.rest.now }
+        ensures { result ≡ sees tokens_of.is_direction self.now }
     {
         match self.rest {
             [token, ..] => tokens::direction(token).is_some(),
@@ -95,7 +109,7 @@ impl<'a> Cursor<'a> {
 
     /// Whether a binary operator of the level is next.
     pub fn binds_at(&self, level: usize) -> bool
-        ensures { result ≡ sees (tokens_of.binds_at level) self.now.rest.now }
+        ensures { result ≡ sees (tokens_of.binds_at level) self.now }
     {
         match self.rest {
             [token, ..] => tokens::operator_at(level, token).is_some(),
@@ -104,7 +118,7 @@ impl<'a> Cursor<'a> {
     }
 
     pub fn begins_cast(&self) -> bool
-        ensures { result ≡ sees spec.begins_cast self.now.rest.now }
+        ensures { result ≡ sees spec.begins_cast self.now }
     {
         match self.rest {
             [token, ..] => tokens::begins_cast(token),
@@ -113,7 +127,7 @@ impl<'a> Cursor<'a> {
     }
 
     pub fn begins_argument(&self) -> bool
-        ensures { result ≡ sees spec.begins_argument self.now.rest.now }
+        ensures { result ≡ sees spec.begins_argument self.now }
     {
         match self.rest {
             [token, ..] => tokens::begins_argument(token),
@@ -122,7 +136,7 @@ impl<'a> Cursor<'a> {
     }
 
     pub fn begins_simple(&self) -> bool
-        ensures { result ≡ sees spec.begins_simple self.now.rest.now }
+        ensures { result ≡ sees spec.begins_simple self.now }
     {
         match self.rest {
             [token, ..] => tokens::begins_simple(token),
@@ -131,7 +145,7 @@ impl<'a> Cursor<'a> {
     }
 
     pub fn begins_compound(&self) -> bool
-        ensures { result ≡ sees spec.begins_compound self.now.rest.now }
+        ensures { result ≡ sees spec.begins_compound self.now }
     {
         match self.rest {
             [token, ..] => tokens::begins_compound(token),
@@ -140,7 +154,7 @@ impl<'a> Cursor<'a> {
     }
 
     pub fn begins_statement(&self) -> bool
-        ensures { result ≡ sees spec.begins_statement self.now.rest.now }
+        ensures { result ≡ sees spec.begins_statement self.now }
     {
         match self.rest {
             [token, ..] => tokens::begins_statement(token),
@@ -149,7 +163,7 @@ impl<'a> Cursor<'a> {
     }
 
     pub fn begins_item(&self) -> bool
-        ensures { result ≡ sees spec.begins_item self.now.rest.now }
+        ensures { result ≡ sees spec.begins_item self.now }
     {
         match self.rest {
             [token, ..] => tokens::begins_item(token),
@@ -162,7 +176,7 @@ impl<'a> Cursor<'a> {
 impl<'a> Cursor<'a> {
     /// `(` and a type.
     pub fn begins_conversion(&self) -> bool
-        ensures { result ≡ sees_all (tokens_of.is (Sign.Mark Punctuator.OpenRound) ∷ tokens_of.is_type_word ∷ []) self.now.rest.now }
+        ensures { result ≡ sees_all (tokens_of.is (Sign.Mark Punctuator.OpenRound) ∷ tokens_of.is_type_word ∷ []) self.now }
     {
         match self.rest {
             [first, second, ..] => {
@@ -175,7 +189,7 @@ impl<'a> Cursor<'a> {
 
     /// `(void *`
     pub fn begins_conversion_to_pointer(&self) -> bool
-        ensures { result ≡ sees_all (tokens_of.is (Sign.Mark Punctuator.OpenRound) ∷ tokens_of.is (Sign.Word Keyword.Void) ∷ tokens_of.is (Sign.Mark Punctuator.Star) ∷ []) self.now.rest.now }
+        ensures { result ≡ sees_all (tokens_of.is (Sign.Mark Punctuator.OpenRound) ∷ tokens_of.is (Sign.Word Keyword.Void) ∷ tokens_of.is (Sign.Mark Punctuator.Star) ∷ []) self.now }
     {
         match self.rest {
             [first, second, third, ..] => {
@@ -189,7 +203,7 @@ impl<'a> Cursor<'a> {
 
     /// A comma and a value.
     pub fn begins_next_value(&self) -> bool
-        ensures { result ≡ sees_all (tokens_of.is (Sign.Mark Punctuator.Comma) ∷ spec.begins_cast ∷ []) self.now.rest.now }
+        ensures { result ≡ sees_all (tokens_of.is (Sign.Mark Punctuator.Comma) ∷ spec.begins_cast ∷ []) self.now }
     {
         match self.rest {
             [first, second, ..] => {
@@ -205,7 +219,7 @@ impl<'a> Cursor<'a> {
     /// Takes the sign, and gives its place in the text.
     #[tactic(auto, unfolding(c_reading::specs::Tokens::expect))]
     pub fn expect(&mut self, sign: Sign) -> Result<usize, Fault>
-        ensures { Steps (spec.expect sign self.old.rest.now) result self.new.rest.now }
+        ensures { Steps (spec.expect sign self.old) result self.new }
     {
         match self.rest {
             [token, rest @ ..] if tokens::is(token, sign) => {
@@ -217,20 +231,20 @@ impl<'a> Cursor<'a> {
     }
 
     pub fn mark(&mut self, mark: Punctuator) -> Result<usize, Fault>
-        ensures { Steps (spec.expect (Sign.Mark mark) self.old.rest.now) result self.new.rest.now }
+        ensures { Steps (spec.expect (Sign.Mark mark) self.old) result self.new }
     {
         self.expect(Sign::Mark(mark))
     }
 
     pub fn word(&mut self, word: Keyword) -> Result<usize, Fault>
-        ensures { Steps (spec.expect (Sign.Word word) self.old.rest.now) result self.new.rest.now }
+        ensures { Steps (spec.expect (Sign.Word word) self.old) result self.new }
     {
         self.expect(Sign::Word(word))
     }
 
     #[tactic(auto, unfolding(c_reading::specs::Tokens::read_name))]
     pub fn name(&mut self, alloc: Global) -> Result<Name, Fault>
-        ensures { Steps (spec.read_name self.old.rest.now) result self.new.rest.now }
+        ensures { Steps (spec.read_name self.old) result self.new }
     {
         let [token, rest @ ..] = self.rest else {
             return Err(Fault::Syntax);
@@ -248,7 +262,7 @@ impl<'a> Cursor<'a> {
     /// The bytes of a string literal and its place.
     #[tactic(auto, unfolding(c_reading::specs::Tokens::read_text))]
     pub fn text(&mut self, alloc: Global) -> Result<(Items<u8>, usize), Fault>
-        ensures { Steps (spec.read_text self.old.rest.now) result self.new.rest.now }
+        ensures { Steps (spec.read_text self.old) result self.new }
     {
         let [token, rest @ ..] = self.rest else {
             return Err(Fault::Syntax);
@@ -262,7 +276,7 @@ impl<'a> Cursor<'a> {
 
     #[tactic(auto, unfolding(c_reading::specs::Tokens::read_constant))]
     pub fn constant(&mut self) -> Result<Expression, Fault>
-        ensures { Steps (spec.read_constant self.old.rest.now) result self.new.rest.now }
+        ensures { Steps (spec.read_constant self.old) result self.new }
     {
         let [token, rest @ ..] = self.rest else {
             return Err(Fault::Syntax);
@@ -280,7 +294,7 @@ impl<'a> Cursor<'a> {
     /// A word of a type and its place.
     #[tactic(auto, unfolding(c_reading::specs::Tokens::read_first_word))]
     pub fn first_word(&mut self) -> Result<(TypeWord, usize), Fault>
-        ensures { Steps (spec.read_first_word self.old.rest.now) result self.new.rest.now }
+        ensures { Steps (spec.read_first_word self.old) result self.new }
     {
         let [token, rest @ ..] = self.rest else {
             return Err(Fault::Syntax);
@@ -295,7 +309,7 @@ impl<'a> Cursor<'a> {
     /// A binary operator of the level and its place.
     #[tactic(auto, unfolding(c_reading::specs::Tokens::read_operator))]
     pub fn operator(&mut self, level: usize) -> Result<(BinaryOperator, usize), Fault>
-        ensures { Steps (spec.read_operator level self.old.rest.now) result self.new.rest.now }
+        ensures { Steps (spec.read_operator level self.old) result self.new }
     {
         let [token, rest @ ..] = self.rest else {
             return Err(Fault::Syntax);
@@ -309,7 +323,7 @@ impl<'a> Cursor<'a> {
 
     #[tactic(auto, unfolding(c_reading::specs::Tokens::read_type_word))]
     pub fn type_word(&mut self) -> Result<TypeWord, Fault>
-        ensures { Steps (spec.read_type_word self.old.rest.now) result self.new.rest.now }
+        ensures { Steps (spec.read_type_word self.old) result self.new }
     {
         let [token, rest @ ..] = self.rest else {
             return Err(Fault::Syntax);
@@ -324,7 +338,7 @@ impl<'a> Cursor<'a> {
     /// A unary operator and its place.
     #[tactic(auto, unfolding(c_reading::specs::Tokens::read_unary_operator))]
     pub fn unary_operator(&mut self) -> Result<(UnaryOperator, usize), Fault>
-        ensures { Steps (spec.read_unary_operator self.old.rest.now) result self.new.rest.now }
+        ensures { Steps (spec.read_unary_operator self.old) result self.new }
     {
         let [token, rest @ ..] = self.rest else {
             return Err(Fault::Syntax);
@@ -338,7 +352,7 @@ impl<'a> Cursor<'a> {
 
     #[tactic(auto, unfolding(c_reading::specs::Tokens::read_assignment_operator))]
     pub fn assignment_operator(&mut self) -> Result<AssignmentOperator, Fault>
-        ensures { Steps (spec.read_assignment_operator self.old.rest.now) result self.new.rest.now }
+        ensures { Steps (spec.read_assignment_operator self.old) result self.new }
     {
         let [token, rest @ ..] = self.rest else {
             return Err(Fault::Syntax);
@@ -353,7 +367,7 @@ impl<'a> Cursor<'a> {
     /// `++` or `--`, and its place.
     #[tactic(auto, unfolding(c_reading::specs::Tokens::read_direction))]
     pub fn direction(&mut self) -> Result<(Direction, usize), Fault>
-        ensures { Steps (spec.read_direction self.old.rest.now) result self.new.rest.now }
+        ensures { Steps (spec.read_direction self.old) result self.new }
     {
         let [token, rest @ ..] = self.rest else {
             return Err(Fault::Syntax);
@@ -368,7 +382,7 @@ impl<'a> Cursor<'a> {
     /// `++` or `--`
     #[tactic(auto, unfolding(c_reading::specs::Tokens::read_way))]
     pub fn way(&mut self) -> Result<Direction, Fault>
-        ensures { Steps (spec.read_way self.old.rest.now) result self.new.rest.now }
+        ensures { Steps (spec.read_way self.old) result self.new }
     {
         let [token, rest @ ..] = self.rest else {
             return Err(Fault::Syntax);

@@ -1,9 +1,9 @@
 -- The readings where some levels of nesting are left, and of one more level of operators or one more condition.
-use Rattle.std.proofs.Common.{◌≡◌, ℕ, zero, suc, ◌-◌, ◌<◌, List, [], ◌∷◌, ◌++◌, ap, ◌∙◌, arith}
-use Rattle.std.specs.Prelude.{reverse}
+use Rattle.std.proofs.Common.{◌≡◌, refl, ℕ, zero, suc, ◌-◌, ◌<◌, List, [], ◌∷◌, ◌++◌, ap, ◌∙◌, arith}
+use Rattle.std.specs.Prelude.{reverse, Ok, Err}
 use Rattle.std.proofs.lemmas.List.{reverse-append}
 use Rattle.c_token.specs.declared.token.Token.{Token}
-use Rattle.grammar.specs.Readers.{and_then, reads_both, reads_many, reads_pure, too_deep_or, appended}
+use Rattle.grammar.specs.Readers.{Reading, and_then, reads_both, reads_many, reads_pure, too_deep_or, appended}
 use Rattle.c_token.specs.declared.punctuator.Punctuator.TheVariants.{OpenRound}
 use Rattle.c_tree.specs.declared.sign.Sign.TheVariants.{Mark}
 use Rattle.c_tree.specs.declared.expression.Expression.{Expression}
@@ -51,14 +51,19 @@ binary_above (suc level) some operand ts =
     ap (λ k. and_then (read_binary k operand ts) (λ first. reads_both (reads_many (binds_at (suc level)) (read_term (suc level) (read_binary k operand)))
     (λ terms. reads_pure (joined first terms)))) e
 
+-- a reading that only joins what it finds, and then another
+joins : {A B C : Type 0} (r : Reading Token A) (f : A → B) (q : B → Reads C) → and_then r (λ x. q (f x)) ≡ and_then (and_then r (λ x. reads_pure (f x))) q
+joins (Ok x) f q = refl
+joins (Err stop) f q = refl
+
 module _ (cast expr : Reads Expression) (argument : Reads Argument) (room : ℕ) (outermost : Expression × ℕ) where
   pub choices_more : (old new : List (Expression × ℕ)) (last : Expression × ℕ) (found : List Choice) (ts : List Token) → old ≡ new ++ (last ∷ [])
       → read_choices cast expr argument room outermost (reverse old) found ts
-      ≡ and_then (read_choice cast expr argument room last ts) (λ x. read_choices cast expr argument room outermost (reverse new) (appended found x))
+      ≡ and_then (and_then (read_choice cast expr argument room last ts) (λ x. reads_pure (appended found x))) (read_choices cast expr argument room outermost (reverse new))
   unfolding read_choices
   choices_more old new last found ts e =
       let turned : reverse old ≡ last ∷ reverse new = ap reverse e ∙ reverse-append new (last ∷ []) in
-      ap (λ l. read_choices cast expr argument room outermost l found ts) turned
+      ap (λ l. read_choices cast expr argument room outermost l found ts) turned ∙ joins (read_choice cast expr argument room last ts) _ _
 
   pub choices_none : (old : List (Expression × ℕ)) (found : List Choice) (ts : List Token) → old ≡ []
       → read_choices cast expr argument room outermost (reverse old) found ts

@@ -19,4 +19,4 @@ pub record Nests (room : ℕ) (pre : Global → MutBor Cursor → ℕ → Part �
     (post : Global → MutBor Cursor → ℕ → Part → Result Expression Fault → MutBor Cursor → Type 0) : Type 0 where
   pub callable : (alloc : Global) (old : MutBor Cursor) (r : ℕ) (part : Part) → r ≤ room → pre alloc old r part
   pub reads : (alloc : Global) (old new : MutBor Cursor) (r : ℕ) (part : Part) (x : Result Expression Fault) → r ≤ room → post alloc old r part x new
-      → Steps (read_part part r old.now.rest.now) x new.now.rest.now
+      → Steps (read_part part r old.now) x new.now

@@ -2,7 +2,7 @@
 // proved by itself.
 
 ghost use Rattle.std.specs.Prelude.{◌≡◌, ◌-◌, ◌<◌, ◌≤◌, IfOk, List, [], reverse};
-ghost use Rattle.grammar.specs.Readers.{reads_many, reads_optional};
+ghost use Rattle.grammar.specs.Readers.{and_then, appended, reads_pure};
 ghost use Rattle.grammar.specs.Steps.{Steps};
 ghost use Rattle.c_tree.specs.Trees as tree;
 ghost use Rattle.c_reading.specs.Tokens as tokens_of;
@@ -30,37 +30,52 @@ pub enum Part {
     Whole,
 }
 
+/// The expression of the form, whose text begins at the place.
+fn boxed(alloc: Global, offset: usize, form: Form) -> Result<Boxed<Expression>, AllocError>
+    ensures { IfOk result (λ e. e ≡ tree.expression offset form) }
+{
+    Boxed::new(alloc, Expression { offset, form })
+}
+
+/// The expression with parentheses round it, the first of them at the place.
+fn moved(
+    alloc: Global,
+    offset: usize,
+    inner: Boxed<Expression>,
+) -> Result<Boxed<Expression>, AllocError>
+    ensures { IfOk result (λ e. e ≡ tree.moved offset inner) }
+{
+    boxed(alloc, offset, inner.into_inner().form)
+}
+
 /// The operand with the terms that follow it.
-fn joined(alloc: Global, first: Expression, terms: Items<Term>) -> Result<Expression, AllocError>
+fn joined(
+    alloc: Global,
+    first: Boxed<Expression>,
+    terms: Items<Term>,
+) -> Result<Boxed<Expression>, AllocError>
     ensures { IfOk result (λ e. e ≡ tree.joined first terms) }
 {
     if terms.is_empty() {
         return Ok(first);
     }
-    let offset = first.offset;
-    Ok(Expression {
-        offset,
-        form: Form::Binary(Boxed::new(alloc, first)?, terms),
-    })
+    boxed(alloc, first.get().offset, Form::Binary(first, terms))
 }
 
 /// The value with the choices round it; the place is that of the outermost condition.
 fn conditional(
     alloc: Global,
     offset: usize,
-    value: Expression,
+    value: Boxed<Expression>,
     choices: Items<Choice>,
-) -> Result<Expression, AllocError>
+) -> Result<Boxed<Expression>, AllocError>
     ensures { IfOk result (λ e. e ≡ tree.conditional offset value choices) }
 {
-    Ok(Expression {
-        offset,
-        form: Form::Conditional(Boxed::new(alloc, value)?, choices),
-    })
+    boxed(alloc, offset, Form::Conditional(value, choices))
 }
 
 fn words(alloc: Global, cursor: &mut Cursor<'_>, first: TypeWord) -> Result<Items<TypeWord>, Fault>
-    ensures { Steps (tokens_of.read_words first cursor.old.rest.now) result cursor.new.rest.now }
+    ensures { Steps (tokens_of.read_words first cursor.old) result cursor.new }
 {
     let mut found = Items::new(alloc);
     found.push(first)?;
@@ -76,7 +91,7 @@ fn words(alloc: Global, cursor: &mut Cursor<'_>, first: TypeWord) -> Result<Item
 /// One or more words of a type.
 #[tactic(auto, unfolding(c_reading::specs::Tokens::read_specifiers))]
 pub fn specifiers(alloc: Global, cursor: &mut Cursor<'_>) -> Result<Specifiers, Fault>
-    ensures { Steps (tokens_of.read_specifiers cursor.old.rest.now) result cursor.new.rest.now }
+    ensures { Steps (tokens_of.read_specifiers cursor.old) result cursor.new }
 {
     let (first, offset) = cursor.first_word()?;
     let words = words(alloc, cursor, first)?;
@@ -90,7 +105,7 @@ fn conversion(
     cursor: &mut Cursor<'_>,
     room: usize,
 ) -> Result<(Specifiers, usize), Fault>
-    ensures { Steps (spec.read_conversion room cursor.old.rest.now) result cursor.new.rest.now }
+    ensures { Steps (spec.read_conversion room cursor.old) result cursor.new }
 {
     if room == 0 {
         return Err(too_deep(cursor.sees(Sign::Mark(Punctuator::OpenRound)), false));
@@ -104,7 +119,7 @@ fn conversion(
 /// `(void *)`, and the place of its parenthesis.
 #[tactic(auto, unfolding(c_reading::specs::Expressions::read_conversion_to_pointer))]
 fn conversion_to_pointer(cursor: &mut Cursor<'_>, room: usize) -> Result<usize, Fault>
-    ensures { Steps (spec.read_conversion_to_pointer room cursor.old.rest.now) result cursor.new.rest.now }
+    ensures { Steps (spec.read_conversion_to_pointer room cursor.old) result cursor.new }
 {
     if room == 0 {
         return Err(too_deep(cursor.sees(Sign::Mark(Punctuator::OpenRound)), false));
@@ -118,7 +133,7 @@ fn conversion_to_pointer(cursor: &mut Cursor<'_>, room: usize) -> Result<usize, 
 
 #[tactic(auto, unfolding(c_reading::specs::Expressions::read_null))]
 pub fn null(cursor: &mut Cursor<'_>) -> Result<Pointer, Fault>
-    ensures { Steps (spec.read_null cursor.old.rest.now) result cursor.new.rest.now }
+    ensures { Steps (spec.read_null cursor.old) result cursor.new }
 {
     let offset = cursor.word(Keyword::Null)?;
     Ok(Pointer {
@@ -128,18 +143,19 @@ pub fn null(cursor: &mut Cursor<'_>) -> Result<Pointer, Fault>
 }
 
 #[tactic(auto, unfolding(c_reading::specs::Expressions::read_text_argument))]
-fn text_argument(alloc: Global, cursor: &mut Cursor<'_>) -> Result<Argument, Fault>
-    ensures { Steps (spec.read_text_argument cursor.old.rest.now) result cursor.new.rest.now }
+fn text_argument(alloc: Global, cursor: &mut Cursor<'_>) -> Result<Boxed<Argument>, Fault>
+    ensures { Steps (spec.read_text_argument cursor.old) result cursor.new }
 {
     let (bytes, offset) = cursor.text(alloc)?;
-    Ok(Argument::Text(bytes, offset))
+    Ok(Boxed::new(alloc, Argument::Text(bytes, offset))?)
 }
 
 #[tactic(auto, unfolding(c_reading::specs::Expressions::read_null_argument))]
-fn null_argument(cursor: &mut Cursor<'_>) -> Result<Argument, Fault>
-    ensures { Steps (spec.read_null_argument cursor.old.rest.now) result cursor.new.rest.now }
+fn null_argument(alloc: Global, cursor: &mut Cursor<'_>) -> Result<Boxed<Argument>, Fault>
+    ensures { Steps (spec.read_null_argument cursor.old) result cursor.new }
 {
-    Ok(Argument::Pointer(null(cursor)?))
+    let pointer = null(cursor)?;
+    Ok(Boxed::new(alloc, Argument::Pointer(pointer))?)
 }
 
 /// The rules of expressions, by the function that reads what is in them. The room of each is how many levels of nesting
@@ -150,27 +166,31 @@ pub struct Rules<F> {
     pub read: F,
 }
 
-impl<F: Fn(Global, &mut Cursor<'_>, usize, Part) -> Result<Expression, Fault>> Rules<F> {
+impl<F: Fn(Global, &mut Cursor<'_>, usize, Part) -> Result<Boxed<Expression>, Fault>> Rules<F> {
     /// An operand one level deeper.
-    fn inner(&self, cursor: &mut Cursor<'_>, room: usize) -> Result<Expression, Fault>
+    fn inner(&self, cursor: &mut Cursor<'_>, room: usize) -> Result<Boxed<Expression>, Fault>
         requires { Nests room (F.pre self.now.read) (F.post self.now.read) }
-        ensures { Steps (spec.read_cast room cursor.old.rest.now) result cursor.new.rest.now }
+        ensures { Steps (spec.read_cast room cursor.old) result cursor.new }
     {
         (self.read)(self.alloc, cursor, room, Part::Operand)
     }
 
     /// An expression one level deeper.
-    fn whole_inside(&self, cursor: &mut Cursor<'_>, room: usize) -> Result<Expression, Fault>
+    fn whole_inside(&self, cursor: &mut Cursor<'_>, room: usize) -> Result<Boxed<Expression>, Fault>
         requires { Nests room (F.pre self.now.read) (F.post self.now.read) }
-        ensures { Steps (spec.read_expr room cursor.old.rest.now) result cursor.new.rest.now }
+        ensures { Steps (spec.read_expr room cursor.old) result cursor.new }
     {
         (self.read)(self.alloc, cursor, room, Part::Whole)
     }
 
     #[tactic(auto, unfolding(c_reading::specs::Expressions::read_parenthesized))]
-    fn parenthesized(&self, cursor: &mut Cursor<'_>, room: usize) -> Result<Expression, Fault>
+    fn parenthesized(
+        &self,
+        cursor: &mut Cursor<'_>,
+        room: usize,
+    ) -> Result<Boxed<Expression>, Fault>
         requires { Nests room (F.pre self.now.read) (F.post self.now.read) }
-        ensures { Steps (spec.read_parenthesized (spec.read_expr room) room cursor.old.rest.now) result cursor.new.rest.now }
+        ensures { Steps (spec.read_parenthesized (spec.read_expr room) room cursor.old) result cursor.new }
     {
         if room == 0 {
             return Err(too_deep(cursor.sees(Sign::Mark(Punctuator::OpenRound)), false));
@@ -178,16 +198,13 @@ impl<F: Fn(Global, &mut Cursor<'_>, usize, Part) -> Result<Expression, Fault>> R
         let offset = cursor.mark(Punctuator::OpenRound)?;
         let inner = self.whole_inside(cursor, room)?;
         cursor.mark(Punctuator::CloseRound)?;
-        Ok(Expression {
-            offset,
-            form: inner.form,
-        })
+        Ok(moved(self.alloc, offset, inner)?)
     }
 
     #[tactic(auto, unfolding(c_reading::specs::Expressions::read_index))]
-    fn index(&self, cursor: &mut Cursor<'_>, room: usize) -> Result<Expression, Fault>
+    fn index(&self, cursor: &mut Cursor<'_>, room: usize) -> Result<Boxed<Expression>, Fault>
         requires { Nests room (F.pre self.now.read) (F.post self.now.read) }
-        ensures { Steps (spec.read_index (spec.read_expr room) room cursor.old.rest.now) result cursor.new.rest.now }
+        ensures { Steps (spec.read_index (spec.read_expr room) room cursor.old) result cursor.new }
     {
         if room == 0 {
             return Err(too_deep(cursor.sees(Sign::Mark(Punctuator::OpenSquare)), false));
@@ -204,9 +221,9 @@ impl<F: Fn(Global, &mut Cursor<'_>, usize, Part) -> Result<Expression, Fault>> R
         &self,
         cursor: &mut Cursor<'_>,
         room: usize,
-    ) -> Result<Option<Expression>, Fault>
+    ) -> Result<Option<Boxed<Expression>>, Fault>
         requires { Nests room (F.pre self.now.read) (F.post self.now.read) }
-        ensures { Steps (spec.read_optional_index (spec.read_expr room) room cursor.old.rest.now) result cursor.new.rest.now }
+        ensures { Steps (spec.read_optional_index (spec.read_expr room) room cursor.old) result cursor.new }
     {
         if !cursor.sees(Sign::Mark(Punctuator::OpenSquare)) {
             return Ok(None);
@@ -214,59 +231,47 @@ impl<F: Fn(Global, &mut Cursor<'_>, usize, Part) -> Result<Expression, Fault>> R
         Ok(Some(self.index(cursor, room)?))
     }
 
-    /// The same on the heap.
-    #[tactic(auto, unfolding(c_reading::specs::Expressions::read_optional_index))]
-    pub fn boxed_index(
-        &self,
-        cursor: &mut Cursor<'_>,
-        room: usize,
-    ) -> Result<Option<Boxed<Expression>>, Fault>
-        requires { Nests room (F.pre self.now.read) (F.post self.now.read) }
-        ensures { Steps (spec.read_optional_index (spec.read_expr room) room cursor.old.rest.now) result cursor.new.rest.now }
-    {
-        if !cursor.sees(Sign::Mark(Punctuator::OpenSquare)) {
-            return Ok(None);
-        }
-        let index = self.index(cursor, room)?;
-        Ok(Some(Boxed::new(self.alloc, index)?))
-    }
-
     #[tactic(auto, unfolding(c_reading::specs::Expressions::read_place))]
     pub fn place(&self, cursor: &mut Cursor<'_>, room: usize) -> Result<Place, Fault>
         requires { Nests room (F.pre self.now.read) (F.post self.now.read) }
-        ensures { Steps (spec.read_place (spec.read_expr room) room cursor.old.rest.now) result cursor.new.rest.now }
+        ensures { Steps (spec.read_place (spec.read_expr room) room cursor.old) result cursor.new }
     {
         let name = cursor.name(self.alloc)?;
-        let index = self.boxed_index(cursor, room)?;
+        let index = self.optional_index(cursor, room)?;
         Ok(Place { name, index })
     }
 
     #[tactic(auto, unfolding(c_reading::specs::Expressions::read_converted_pointer))]
     pub fn converted_pointer(&self, cursor: &mut Cursor<'_>, room: usize) -> Result<Pointer, Fault>
         requires { Nests room (F.pre self.now.read) (F.post self.now.read) }
-        ensures { Steps (spec.read_converted_pointer (spec.read_cast room) room cursor.old.rest.now) result cursor.new.rest.now }
+        ensures { Steps (spec.read_converted_pointer (spec.read_cast room) room cursor.old) result cursor.new }
     {
         let offset = conversion_to_pointer(cursor, room)?;
         let operand = self.inner(cursor, room)?;
         Ok(Pointer {
-            operand: Some(Boxed::new(self.alloc, operand)?),
+            operand: Some(operand),
             offset,
         })
     }
 
     #[tactic(auto, unfolding(c_reading::specs::Expressions::read_pointer_argument))]
-    fn pointer_argument(&self, cursor: &mut Cursor<'_>, room: usize) -> Result<Argument, Fault>
+    fn pointer_argument(
+        &self,
+        cursor: &mut Cursor<'_>,
+        room: usize,
+    ) -> Result<Boxed<Argument>, Fault>
         requires { Nests room (F.pre self.now.read) (F.post self.now.read) }
-        ensures { Steps (spec.read_pointer_argument (spec.read_cast room) room cursor.old.rest.now) result cursor.new.rest.now }
+        ensures { Steps (spec.read_pointer_argument (spec.read_cast room) room cursor.old) result cursor.new }
     {
-        Ok(Argument::Pointer(self.converted_pointer(cursor, room)?))
+        let pointer = self.converted_pointer(cursor, room)?;
+        Ok(Boxed::new(self.alloc, Argument::Pointer(pointer))?)
     }
 
     /// A place one level deeper.
     #[tactic(auto, unfolding(c_reading::specs::Expressions::read_target))]
     fn target(&self, cursor: &mut Cursor<'_>, room: usize) -> Result<Place, Fault>
         requires { Nests room (F.pre self.now.read) (F.post self.now.read) }
-        ensures { Steps (spec.read_target room cursor.old.rest.now) result cursor.new.rest.now }
+        ensures { Steps (spec.read_target room cursor.old) result cursor.new }
     {
         if room == 0 {
             return Err(too_deep(cursor.sees_name(), false));
@@ -276,36 +281,37 @@ impl<F: Fn(Global, &mut Cursor<'_>, usize, Part) -> Result<Expression, Fault>> R
 
     /// `&` and a place.
     #[tactic(auto, unfolding(c_reading::specs::Expressions::read_address))]
-    fn address(&self, cursor: &mut Cursor<'_>, room: usize) -> Result<Argument, Fault>
+    fn address(&self, cursor: &mut Cursor<'_>, room: usize) -> Result<Boxed<Argument>, Fault>
         requires { Nests room (F.pre self.now.read) (F.post self.now.read) }
-        ensures { Steps (spec.read_address (spec.read_target room) cursor.old.rest.now) result cursor.new.rest.now }
+        ensures { Steps (spec.read_address (spec.read_target room) cursor.old) result cursor.new }
     {
         let offset = cursor.mark(Punctuator::And)?;
         let place = self.target(cursor, room)?;
-        Ok(Argument::Address(place, offset))
+        Ok(Boxed::new(self.alloc, Argument::Address(place, offset))?)
     }
 
     #[tactic(auto, unfolding(c_reading::specs::Expressions::read_value_argument))]
-    fn value_argument(&self, cursor: &mut Cursor<'_>, room: usize) -> Result<Argument, Fault>
+    fn value_argument(&self, cursor: &mut Cursor<'_>, room: usize) -> Result<Boxed<Argument>, Fault>
         requires { Nests room (F.pre self.now.read) (F.post self.now.read) }
-        ensures { Steps (spec.read_value_argument (spec.read_expr room) cursor.old.rest.now) result cursor.new.rest.now }
+        ensures { Steps (spec.read_value_argument (spec.read_expr room) cursor.old) result cursor.new }
     {
-        Ok(Argument::Value(self.whole_inside(cursor, room)?))
+        let value = self.whole_inside(cursor, room)?;
+        Ok(Boxed::new(self.alloc, Argument::Value(value.into_inner()))?)
     }
 
     /// An argument, where a level is left for it.
     #[tactic(auto, unfolding(c_reading::specs::Expressions::read_any_argument))]
-    fn any_argument(&self, cursor: &mut Cursor<'_>, room: usize) -> Result<Argument, Fault>
+    fn any_argument(&self, cursor: &mut Cursor<'_>, room: usize) -> Result<Boxed<Argument>, Fault>
         requires nests { Nests room (F.pre self.now.read) (F.post self.now.read) }
         requires some { 0 < room }
-        ensures { Steps (spec.read_any_argument (spec.read_expr room) (spec.read_cast (room - 1)) (spec.read_target (room - 1)) (room - 1) cursor.old.rest.now) result cursor.new.rest.now }
+        ensures { Steps (spec.read_any_argument (spec.read_expr room) (spec.read_cast (room - 1)) (spec.read_target (room - 1)) (room - 1) cursor.old) result cursor.new }
     {
         if cursor.sees_text() {
             text_argument(self.alloc, cursor)
         } else if cursor.sees(Sign::Mark(Punctuator::And)) {
             self.address(cursor, room - 1)
         } else if cursor.sees(Sign::Word(Keyword::Null)) {
-            null_argument(cursor)
+            null_argument(self.alloc, cursor)
         } else if cursor.begins_conversion_to_pointer() {
             self.pointer_argument(cursor, room - 1)
         } else {
@@ -314,9 +320,9 @@ impl<F: Fn(Global, &mut Cursor<'_>, usize, Part) -> Result<Expression, Fault>> R
     }
 
     /// An argument one level deeper.
-    fn argument(&self, cursor: &mut Cursor<'_>, room: usize) -> Result<Argument, Fault>
+    fn argument(&self, cursor: &mut Cursor<'_>, room: usize) -> Result<Boxed<Argument>, Fault>
         requires { Nests room (F.pre self.now.read) (F.post self.now.read) }
-        ensures { Steps (spec.read_argument room cursor.old.rest.now) result cursor.new.rest.now }
+        ensures { Steps (spec.read_argument room cursor.old) result cursor.new }
     {
         if room == 0 {
             return Err(too_deep(cursor.begins_argument(), false));
@@ -326,9 +332,9 @@ impl<F: Fn(Global, &mut Cursor<'_>, usize, Part) -> Result<Expression, Fault>> R
 
     /// A comma and one more argument.
     #[tactic(auto, unfolding(c_reading::specs::Tokens::read_next))]
-    fn next_argument(&self, cursor: &mut Cursor<'_>, room: usize) -> Result<Argument, Fault>
+    fn next_argument(&self, cursor: &mut Cursor<'_>, room: usize) -> Result<Boxed<Argument>, Fault>
         requires { Nests room (F.pre self.now.read) (F.post self.now.read) }
-        ensures { Steps (tokens_of.read_next (spec.read_argument room) cursor.old.rest.now) result cursor.new.rest.now }
+        ensures { Steps (tokens_of.read_next (spec.read_argument room) cursor.old) result cursor.new }
     {
         cursor.mark(Punctuator::Comma)?;
         self.argument(cursor, room)
@@ -339,18 +345,18 @@ impl<F: Fn(Global, &mut Cursor<'_>, usize, Part) -> Result<Expression, Fault>> R
         &self,
         cursor: &mut Cursor<'_>,
         room: usize,
-        first: Argument,
+        first: Boxed<Argument>,
     ) -> Result<Items<Argument>, Fault>
         requires { Nests room (F.pre self.now.read) (F.post self.now.read) }
-        ensures { Steps (tokens_of.read_more (spec.read_argument room) first cursor.old.rest.now) result cursor.new.rest.now }
+        ensures { Steps (tokens_of.read_more (spec.read_argument room) first cursor.old) result cursor.new }
     {
         let mut found = Items::new(self.alloc);
-        found.push(first)?;
+        found.push(first.into_inner())?;
         for _turn in 0..cursor.left() {
             if !cursor.sees(Sign::Mark(Punctuator::Comma)) {
                 return Ok(found);
             }
-            found.push(self.next_argument(cursor, room)?)?;
+            found.push(self.next_argument(cursor, room)?.into_inner())?;
         }
         Ok(found)
     }
@@ -362,7 +368,7 @@ impl<F: Fn(Global, &mut Cursor<'_>, usize, Part) -> Result<Expression, Fault>> R
         room: usize,
     ) -> Result<Items<Argument>, Fault>
         requires { Nests room (F.pre self.now.read) (F.post self.now.read) }
-        ensures { Steps (tokens_of.read_any tokens_of.begins_argument (spec.read_argument room) cursor.old.rest.now) result cursor.new.rest.now }
+        ensures { Steps (tokens_of.read_any tokens_of.begins_argument (spec.read_argument room) cursor.old) result cursor.new }
     {
         if !cursor.begins_argument() {
             return Ok(Items::new(self.alloc));
@@ -375,7 +381,7 @@ impl<F: Fn(Global, &mut Cursor<'_>, usize, Part) -> Result<Expression, Fault>> R
     #[tactic(auto, unfolding(c_reading::specs::Expressions::read_arguments))]
     pub fn arguments(&self, cursor: &mut Cursor<'_>, room: usize) -> Result<Items<Argument>, Fault>
         requires { Nests room (F.pre self.now.read) (F.post self.now.read) }
-        ensures { Steps (spec.read_arguments (spec.read_argument room) room cursor.old.rest.now) result cursor.new.rest.now }
+        ensures { Steps (spec.read_arguments (spec.read_argument room) room cursor.old) result cursor.new }
     {
         if room == 0 {
             return Err(too_deep(cursor.sees(Sign::Mark(Punctuator::OpenRound)), false));
@@ -388,16 +394,19 @@ impl<F: Fn(Global, &mut Cursor<'_>, usize, Part) -> Result<Expression, Fault>> R
 
     /// The call whose name was read.
     #[tactic(auto, unfolding(c_reading::specs::Expressions::read_call_of))]
-    fn call_of(&self, cursor: &mut Cursor<'_>, room: usize, name: Name) -> Result<Expression, Fault>
+    fn call_of(
+        &self,
+        cursor: &mut Cursor<'_>,
+        room: usize,
+        name: Name,
+    ) -> Result<Boxed<Expression>, Fault>
         requires { Nests room (F.pre self.now.read) (F.post self.now.read) }
-        ensures { Steps (spec.read_call_of (spec.read_cast room) (spec.read_expr room) (spec.read_argument room) room name cursor.old.rest.now) result cursor.new.rest.now }
+        ensures { Steps (spec.read_call_of (spec.read_cast room) (spec.read_expr room) (spec.read_argument room) room name cursor.old) result cursor.new }
     {
         let offset = name.offset;
         let arguments = self.arguments(cursor, room)?;
-        Ok(Expression {
-            offset,
-            form: Form::Call(Call { name, arguments }),
-        })
+        let call = Call { name, arguments };
+        Ok(boxed(self.alloc, offset, Form::Call(call))?)
     }
 
     /// The value of the place whose name was read.
@@ -407,23 +416,21 @@ impl<F: Fn(Global, &mut Cursor<'_>, usize, Part) -> Result<Expression, Fault>> R
         cursor: &mut Cursor<'_>,
         room: usize,
         name: Name,
-    ) -> Result<Expression, Fault>
+    ) -> Result<Boxed<Expression>, Fault>
         requires { Nests room (F.pre self.now.read) (F.post self.now.read) }
-        ensures { Steps (spec.read_place_of (spec.read_cast room) (spec.read_expr room) (spec.read_argument room) room name cursor.old.rest.now) result cursor.new.rest.now }
+        ensures { Steps (spec.read_place_of (spec.read_cast room) (spec.read_expr room) (spec.read_argument room) room name cursor.old) result cursor.new }
     {
         let offset = name.offset;
-        let index = self.boxed_index(cursor, room)?;
-        Ok(Expression {
-            offset,
-            form: Form::Place(Place { name, index }),
-        })
+        let index = self.optional_index(cursor, room)?;
+        let place = Place { name, index };
+        Ok(boxed(self.alloc, offset, Form::Place(place))?)
     }
 
     /// A place, or a call.
     #[tactic(auto, unfolding(c_reading::specs::Expressions::read_named))]
-    fn named(&self, cursor: &mut Cursor<'_>, room: usize) -> Result<Expression, Fault>
+    fn named(&self, cursor: &mut Cursor<'_>, room: usize) -> Result<Boxed<Expression>, Fault>
         requires { Nests room (F.pre self.now.read) (F.post self.now.read) }
-        ensures { Steps (spec.read_named (spec.read_cast room) (spec.read_expr room) (spec.read_argument room) room cursor.old.rest.now) result cursor.new.rest.now }
+        ensures { Steps (spec.read_named (spec.read_cast room) (spec.read_expr room) (spec.read_argument room) room cursor.old) result cursor.new }
     {
         let name = cursor.name(self.alloc)?;
         if cursor.sees(Sign::Mark(Punctuator::OpenRound)) {
@@ -434,50 +441,44 @@ impl<F: Fn(Global, &mut Cursor<'_>, usize, Part) -> Result<Expression, Fault>> R
     }
 
     #[tactic(auto, unfolding(c_reading::specs::Expressions::read_primary))]
-    fn primary(&self, cursor: &mut Cursor<'_>, room: usize) -> Result<Expression, Fault>
+    fn primary(&self, cursor: &mut Cursor<'_>, room: usize) -> Result<Boxed<Expression>, Fault>
         requires { Nests room (F.pre self.now.read) (F.post self.now.read) }
-        ensures { Steps (spec.read_primary (spec.read_cast room) (spec.read_expr room) (spec.read_argument room) room cursor.old.rest.now) result cursor.new.rest.now }
+        ensures { Steps (spec.read_primary (spec.read_cast room) (spec.read_expr room) (spec.read_argument room) room cursor.old) result cursor.new }
     {
         if cursor.sees_name() {
             self.named(cursor, room)
         } else if cursor.sees_constant() {
-            cursor.constant()
+            Ok(Boxed::new(self.alloc, cursor.constant()?)?)
         } else {
             self.parenthesized(cursor, room)
         }
     }
 
     #[tactic(auto, unfolding(c_reading::specs::Expressions::read_unary))]
-    fn unary(&self, cursor: &mut Cursor<'_>, room: usize) -> Result<Expression, Fault>
+    fn unary(&self, cursor: &mut Cursor<'_>, room: usize) -> Result<Boxed<Expression>, Fault>
         requires { Nests room (F.pre self.now.read) (F.post self.now.read) }
-        ensures { Steps (spec.read_unary (spec.read_cast room) (spec.read_expr room) (spec.read_argument room) room cursor.old.rest.now) result cursor.new.rest.now }
+        ensures { Steps (spec.read_unary (spec.read_cast room) (spec.read_expr room) (spec.read_argument room) room cursor.old) result cursor.new }
     {
         let (operator, offset) = cursor.unary_operator()?;
         let operand = self.inner(cursor, room)?;
-        Ok(Expression {
-            offset,
-            form: Form::Unary(operator, Boxed::new(self.alloc, operand)?),
-        })
+        Ok(boxed(self.alloc, offset, Form::Unary(operator, operand))?)
     }
 
     #[tactic(auto, unfolding(c_reading::specs::Expressions::read_converted))]
-    fn converted(&self, cursor: &mut Cursor<'_>, room: usize) -> Result<Expression, Fault>
+    fn converted(&self, cursor: &mut Cursor<'_>, room: usize) -> Result<Boxed<Expression>, Fault>
         requires { Nests room (F.pre self.now.read) (F.post self.now.read) }
-        ensures { Steps (spec.read_converted (spec.read_cast room) (spec.read_expr room) (spec.read_argument room) room cursor.old.rest.now) result cursor.new.rest.now }
+        ensures { Steps (spec.read_converted (spec.read_cast room) (spec.read_expr room) (spec.read_argument room) room cursor.old) result cursor.new }
     {
         let (specifiers, offset) = conversion(self.alloc, cursor, room)?;
         let operand = self.inner(cursor, room)?;
-        Ok(Expression {
-            offset,
-            form: Form::Cast(specifiers, Boxed::new(self.alloc, operand)?),
-        })
+        Ok(boxed(self.alloc, offset, Form::Cast(specifiers, operand))?)
     }
 
     /// An operand of a binary operator.
     #[tactic(auto, unfolding(c_reading::specs::Expressions::read_operand))]
-    fn operand(&self, cursor: &mut Cursor<'_>, room: usize) -> Result<Expression, Fault>
+    fn operand(&self, cursor: &mut Cursor<'_>, room: usize) -> Result<Boxed<Expression>, Fault>
         requires { Nests room (F.pre self.now.read) (F.post self.now.read) }
-        ensures { Steps (spec.read_operand (spec.read_cast room) (spec.read_expr room) (spec.read_argument room) room cursor.old.rest.now) result cursor.new.rest.now }
+        ensures { Steps (spec.read_operand (spec.read_cast room) (spec.read_expr room) (spec.read_argument room) room cursor.old) result cursor.new }
     {
         if cursor.begins_conversion() {
             self.converted(cursor, room)
@@ -491,18 +492,19 @@ impl<F: Fn(Global, &mut Cursor<'_>, usize, Part) -> Result<Expression, Fault>> R
     /// A binary operator of the level, and its right operand.
     #[cycle(levels)]
     #[tactic(auto, unfolding(c_reading::specs::Expressions::read_term))]
-    fn term(&self, cursor: &mut Cursor<'_>, room: usize, level: usize) -> Result<Term, Fault>
+    fn term(&self, cursor: &mut Cursor<'_>, room: usize, level: usize) -> Result<Boxed<Term>, Fault>
         requires nests { Nests room (F.pre self.now.read) (F.post self.now.read) }
         requires some { 0 < level }
-        ensures { Steps (spec.read_term level (spec.read_binary (level - 1) (spec.operand_within room)) cursor.old.rest.now) result cursor.new.rest.now }
+        ensures { Steps (spec.read_term level (spec.read_binary (level - 1) (spec.operand_within room)) cursor.old) result cursor.new }
     {
         let (operator, offset) = cursor.operator(level)?;
         let operand = self.binary(cursor, room, level - 1)?;
-        Ok(Term {
+        let term = Term {
             operator,
             offset,
-            operand,
-        })
+            operand: operand.into_inner(),
+        };
+        Ok(Boxed::new(self.alloc, term)?)
     }
 
     /// The operators of the level, each with its right operand.
@@ -515,14 +517,14 @@ impl<F: Fn(Global, &mut Cursor<'_>, usize, Part) -> Result<Expression, Fault>> R
     ) -> Result<Items<Term>, Fault>
         requires nests { Nests room (F.pre self.now.read) (F.post self.now.read) }
         requires some { 0 < level }
-        ensures { Steps (spec.read_terms level room cursor.old.rest.now) result cursor.new.rest.now }
+        ensures { Steps (spec.read_terms level room cursor.old) result cursor.new }
     {
         let mut found = Items::new(self.alloc);
         for _turn in 0..cursor.left() {
             if !cursor.binds_at(level) {
                 return Ok(found);
             }
-            found.push(self.term(cursor, room, level)?)?;
+            found.push(self.term(cursor, room, level)?.into_inner())?;
         }
         Ok(found)
     }
@@ -534,9 +536,9 @@ impl<F: Fn(Global, &mut Cursor<'_>, usize, Part) -> Result<Expression, Fault>> R
         cursor: &mut Cursor<'_>,
         room: usize,
         level: usize,
-    ) -> Result<Expression, Fault>
+    ) -> Result<Boxed<Expression>, Fault>
         requires { Nests room (F.pre self.now.read) (F.post self.now.read) }
-        ensures { Steps (spec.read_binary level (spec.operand_within room) cursor.old.rest.now) result cursor.new.rest.now }
+        ensures { Steps (spec.read_binary level (spec.operand_within room) cursor.old) result cursor.new }
     {
         if level == 0 {
             return self.operand(cursor, room);
@@ -548,9 +550,13 @@ impl<F: Fn(Global, &mut Cursor<'_>, usize, Part) -> Result<Expression, Fault>> R
 
     /// `?`, and what stands behind it.
     #[tactic(auto, unfolding(c_reading::specs::Expressions::read_question))]
-    fn question(&self, cursor: &mut Cursor<'_>, room: usize) -> Result<(usize, Expression), Fault>
+    fn question(
+        &self,
+        cursor: &mut Cursor<'_>,
+        room: usize,
+    ) -> Result<(usize, Boxed<Expression>), Fault>
         requires { Nests room (F.pre self.now.read) (F.post self.now.read) }
-        ensures { Steps (spec.read_question (spec.read_cast room) (spec.read_expr room) (spec.read_argument room) room cursor.old.rest.now) result cursor.new.rest.now }
+        ensures { Steps (spec.read_question (spec.read_cast room) (spec.read_expr room) (spec.read_argument room) room cursor.old) result cursor.new }
     {
         let offset = cursor.mark(Punctuator::Question)?;
         let value = self.binary(cursor, room, LEVELS)?;
@@ -562,10 +568,10 @@ impl<F: Fn(Global, &mut Cursor<'_>, usize, Part) -> Result<Expression, Fault>> R
         &self,
         cursor: &mut Cursor<'_>,
         room: usize,
-        first: Expression,
-    ) -> Result<(Items<(Expression, usize)>, Expression), Fault>
+        first: Boxed<Expression>,
+    ) -> Result<(Items<(Boxed<Expression>, usize)>, Boxed<Expression>), Fault>
         requires { Nests room (F.pre self.now.read) (F.post self.now.read) }
-        ensures { Steps (spec.read_questions (spec.read_cast room) (spec.read_expr room) (spec.read_argument room) room first cursor.old.rest.now) result cursor.new.rest.now }
+        ensures { Steps (spec.read_questions (spec.read_cast room) (spec.read_expr room) (spec.read_argument room) room first cursor.old) result cursor.new }
     {
         let mut conditions = Items::new(self.alloc);
         let mut value = first;
@@ -586,19 +592,37 @@ impl<F: Fn(Global, &mut Cursor<'_>, usize, Part) -> Result<Expression, Fault>> R
         &self,
         cursor: &mut Cursor<'_>,
         room: usize,
-        asked: (Expression, usize),
-    ) -> Result<Choice, Fault>
+        asked: (Boxed<Expression>, usize),
+    ) -> Result<Boxed<Choice>, Fault>
         requires { Nests room (F.pre self.now.read) (F.post self.now.read) }
-        ensures { Steps (spec.read_choice (spec.read_cast room) (spec.read_expr room) (spec.read_argument room) room asked cursor.old.rest.now) result cursor.new.rest.now }
+        ensures { Steps (spec.read_choice (spec.read_cast room) (spec.read_expr room) (spec.read_argument room) room asked cursor.old) result cursor.new }
     {
         cursor.mark(Punctuator::Colon)?;
         let otherwise = self.whole_inside(cursor, room)?;
         let (condition, offset) = asked;
-        Ok(Choice {
-            condition,
+        let choice = Choice {
+            condition: condition.into_inner(),
             offset,
-            otherwise,
-        })
+            otherwise: otherwise.into_inner(),
+        };
+        Ok(Boxed::new(self.alloc, choice)?)
+    }
+
+    /// The choices, and behind them that of the condition.
+    fn with_choice(
+        &self,
+        cursor: &mut Cursor<'_>,
+        room: usize,
+        mut found: Items<Choice>,
+        asked: (Boxed<Expression>, usize),
+    ) -> Result<Items<Choice>, Fault>
+        requires { Nests room (F.pre self.now.read) (F.post self.now.read) }
+        ensures { Steps (and_then (spec.read_choice (spec.read_cast room) (spec.read_expr room) (spec.read_argument room) room asked cursor.old)
+            (λ c. reads_pure (appended found c))) result cursor.new }
+    {
+        let choice = self.choice(cursor, room, asked)?;
+        found.push(choice.into_inner())?;
+        Ok(found)
     }
 
     /// The same for each of the conditions, from the last to the outermost.
@@ -606,19 +630,18 @@ impl<F: Fn(Global, &mut Cursor<'_>, usize, Part) -> Result<Expression, Fault>> R
         &self,
         cursor: &mut Cursor<'_>,
         room: usize,
-        outermost: (Expression, usize),
-        mut conditions: Items<(Expression, usize)>,
+        outermost: (Boxed<Expression>, usize),
+        mut conditions: Items<(Boxed<Expression>, usize)>,
     ) -> Result<Items<Choice>, Fault>
         requires { Nests room (F.pre self.now.read) (F.post self.now.read) }
         ensures { Steps (spec.read_choices (spec.read_cast room) (spec.read_expr room) (spec.read_argument room) room outermost (reverse conditions) []
-            cursor.old.rest.now) result cursor.new.rest.now }
+            cursor.old) result cursor.new }
     {
         let mut found = Items::new(self.alloc);
         while let Some(asked) = conditions.pop() {
-            found.push(self.choice(cursor, room, asked)?)?;
+            found = self.with_choice(cursor, room, found, asked)?;
         }
-        found.push(self.choice(cursor, room, outermost)?)?;
-        Ok(found)
+        self.with_choice(cursor, room, found, outermost)
     }
 
     /// What stands behind the first condition of a conditional.
@@ -627,12 +650,12 @@ impl<F: Fn(Global, &mut Cursor<'_>, usize, Part) -> Result<Expression, Fault>> R
         &self,
         cursor: &mut Cursor<'_>,
         room: usize,
-        first: Expression,
-    ) -> Result<Expression, Fault>
+        first: Boxed<Expression>,
+    ) -> Result<Boxed<Expression>, Fault>
         requires { Nests room (F.pre self.now.read) (F.post self.now.read) }
-        ensures { Steps (spec.read_chosen_by (spec.read_cast room) (spec.read_expr room) (spec.read_argument room) room first cursor.old.rest.now) result cursor.new.rest.now }
+        ensures { Steps (spec.read_chosen_by (spec.read_cast room) (spec.read_expr room) (spec.read_argument room) room first cursor.old) result cursor.new }
     {
-        let offset = first.offset;
+        let offset = first.get().offset;
         let (question, value) = self.question(cursor, room)?;
         let (conditions, value) = self.questions(cursor, room, value)?;
         let choices = self.choices(cursor, room, (first, question), conditions)?;
@@ -640,9 +663,9 @@ impl<F: Fn(Global, &mut Cursor<'_>, usize, Part) -> Result<Expression, Fault>> R
     }
 
     #[tactic(auto, unfolding(c_reading::specs::Expressions::read_whole))]
-    fn whole(&self, cursor: &mut Cursor<'_>, room: usize) -> Result<Expression, Fault>
+    fn whole(&self, cursor: &mut Cursor<'_>, room: usize) -> Result<Boxed<Expression>, Fault>
         requires { Nests room (F.pre self.now.read) (F.post self.now.read) }
-        ensures { Steps (spec.read_whole (spec.read_cast room) (spec.read_expr room) (spec.read_argument room) room cursor.old.rest.now) result cursor.new.rest.now }
+        ensures { Steps (spec.read_whole (spec.read_cast room) (spec.read_expr room) (spec.read_argument room) room cursor.old) result cursor.new }
     {
         let first = self.binary(cursor, room, LEVELS)?;
         if cursor.sees(Sign::Mark(Punctuator::Question)) {
@@ -659,8 +682,8 @@ pub fn expression(
     cursor: &mut Cursor<'_>,
     room: usize,
     part: Part,
-) -> Result<Expression, Fault>
-    ensures { Steps (read_part part room cursor.old.rest.now) result cursor.new.rest.now }
+) -> Result<Boxed<Expression>, Fault>
+    ensures { Steps (read_part part room cursor.old) result cursor.new }
 {
     if room == 0 {
         return Err(too_deep(

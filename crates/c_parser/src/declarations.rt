@@ -27,7 +27,7 @@ use std::alloc::Global;
 /// Whether a `*` stands here.
 #[tactic(auto, unfolding(c_reading::specs::Declarations::read_star))]
 fn star(cursor: &mut Cursor<'_>) -> Result<bool, Fault>
-    ensures { Steps (spec.read_star cursor.old.rest.now) result cursor.new.rest.now }
+    ensures { Steps (spec.read_star cursor.old) result cursor.new }
 {
     if !cursor.sees(Sign::Mark(Punctuator::Star)) {
         return Ok(false);
@@ -38,7 +38,7 @@ fn star(cursor: &mut Cursor<'_>) -> Result<bool, Fault>
 
 #[tactic(auto, unfolding(c_reading::specs::Declarations::read_optional_name))]
 fn optional_name(alloc: Global, cursor: &mut Cursor<'_>) -> Result<Option<Name>, Fault>
-    ensures { Steps (spec.read_optional_name cursor.old.rest.now) result cursor.new.rest.now }
+    ensures { Steps (spec.read_optional_name cursor.old) result cursor.new }
 {
     if !cursor.sees_name() {
         return Ok(None);
@@ -48,7 +48,7 @@ fn optional_name(alloc: Global, cursor: &mut Cursor<'_>) -> Result<Option<Name>,
 
 #[tactic(auto, unfolding(c_reading::specs::Declarations::read_parameter))]
 fn parameter(alloc: Global, cursor: &mut Cursor<'_>) -> Result<Parameter, Fault>
-    ensures { Steps (spec.read_parameter cursor.old.rest.now) result cursor.new.rest.now }
+    ensures { Steps (spec.read_parameter cursor.old) result cursor.new }
 {
     let specifiers = specifiers(alloc, cursor)?;
     let is_pointer = star(cursor)?;
@@ -63,7 +63,7 @@ fn parameter(alloc: Global, cursor: &mut Cursor<'_>) -> Result<Parameter, Fault>
 /// A comma and one more parameter.
 #[tactic(auto, unfolding(c_reading::specs::Tokens::read_next))]
 fn next_parameter(alloc: Global, cursor: &mut Cursor<'_>) -> Result<Parameter, Fault>
-    ensures { Steps (tokens_of.read_next spec.read_parameter cursor.old.rest.now) result cursor.new.rest.now }
+    ensures { Steps (tokens_of.read_next spec.read_parameter cursor.old) result cursor.new }
 {
     cursor.mark(Punctuator::Comma)?;
     parameter(alloc, cursor)
@@ -75,7 +75,7 @@ fn more_parameters(
     cursor: &mut Cursor<'_>,
     first: Parameter,
 ) -> Result<Items<Parameter>, Fault>
-    ensures { Steps (tokens_of.read_more spec.read_parameter first cursor.old.rest.now) result cursor.new.rest.now }
+    ensures { Steps (tokens_of.read_more spec.read_parameter first cursor.old) result cursor.new }
 {
     let mut found = Items::new(alloc);
     found.push(first)?;
@@ -90,7 +90,7 @@ fn more_parameters(
 
 #[tactic(auto, unfolding(c_reading::specs::Tokens::read_any, c_reading::specs::Tokens::read_listed))]
 fn any_parameters(alloc: Global, cursor: &mut Cursor<'_>) -> Result<Items<Parameter>, Fault>
-    ensures { Steps (tokens_of.read_any is_type_word spec.read_parameter cursor.old.rest.now) result cursor.new.rest.now }
+    ensures { Steps (tokens_of.read_any is_type_word spec.read_parameter cursor.old) result cursor.new }
 {
     if !cursor.sees_type_word() {
         return Ok(Items::new(alloc));
@@ -106,7 +106,7 @@ fn parameters(
     cursor: &mut Cursor<'_>,
     room: usize,
 ) -> Result<Items<Parameter>, Fault>
-    ensures { Steps (spec.read_parameters room cursor.old.rest.now) result cursor.new.rest.now }
+    ensures { Steps (spec.read_parameters room cursor.old) result cursor.new }
 {
     if room == 0 {
         return Err(too_deep(cursor.sees(Sign::Mark(Punctuator::OpenRound)), false));
@@ -122,7 +122,7 @@ fn parameters(
 /// A comma and one more value.
 #[tactic(auto, unfolding(c_reading::specs::Tokens::read_next))]
 fn next_value(alloc: Global, cursor: &mut Cursor<'_>, room: usize) -> Result<Expression, Fault>
-    ensures { Steps (tokens_of.read_next (read_expr room) cursor.old.rest.now) result cursor.new.rest.now }
+    ensures { Steps (tokens_of.read_next (read_expr room) cursor.old) result cursor.new }
 {
     cursor.mark(Punctuator::Comma)?;
     value(alloc, cursor, room)
@@ -135,7 +135,7 @@ fn values(
     room: usize,
     first: Expression,
 ) -> Result<Items<Expression>, Fault>
-    ensures { Steps (spec.read_values room first cursor.old.rest.now) result cursor.new.rest.now }
+    ensures { Steps (spec.read_values room first cursor.old) result cursor.new }
 {
     let mut found = Items::new(alloc);
     found.push(first)?;
@@ -150,7 +150,7 @@ fn values(
 
 #[tactic(auto, unfolding(c_reading::specs::Declarations::read_optional_comma))]
 fn optional_comma(cursor: &mut Cursor<'_>) -> Result<Option<usize>, Fault>
-    ensures { Steps (spec.read_optional_comma cursor.old.rest.now) result cursor.new.rest.now }
+    ensures { Steps (spec.read_optional_comma cursor.old) result cursor.new }
 {
     if !cursor.sees(Sign::Mark(Punctuator::Comma)) {
         return Ok(None);
@@ -161,7 +161,7 @@ fn optional_comma(cursor: &mut Cursor<'_>) -> Result<Option<usize>, Fault>
 /// Values in braces.
 #[tactic(auto, unfolding(c_reading::specs::Declarations::read_list))]
 fn list(alloc: Global, cursor: &mut Cursor<'_>, room: usize) -> Result<Initializer, Fault>
-    ensures { Steps (spec.read_list room cursor.old.rest.now) result cursor.new.rest.now }
+    ensures { Steps (spec.read_list room cursor.old) result cursor.new }
 {
     if room == 0 {
         return Err(too_deep(cursor.sees(Sign::Mark(Punctuator::OpenCurly)), false));
@@ -176,7 +176,7 @@ fn list(alloc: Global, cursor: &mut Cursor<'_>, room: usize) -> Result<Initializ
 
 #[tactic(auto, unfolding(c_reading::specs::Declarations::read_mutex))]
 fn mutex(cursor: &mut Cursor<'_>) -> Result<Initializer, Fault>
-    ensures { Steps (spec.read_mutex cursor.old.rest.now) result cursor.new.rest.now }
+    ensures { Steps (spec.read_mutex cursor.old) result cursor.new }
 {
     cursor.word(Keyword::MutexInitializer)?;
     Ok(Initializer::Mutex)
@@ -188,7 +188,7 @@ fn initial_expression(
     cursor: &mut Cursor<'_>,
     room: usize,
 ) -> Result<Initializer, Fault>
-    ensures { Steps (spec.read_initial_value room (below room) cursor.old.rest.now) result cursor.new.rest.now }
+    ensures { Steps (spec.read_initial_value room (below room) cursor.old) result cursor.new }
 {
     Ok(Initializer::Value(value(alloc, cursor, room)?))
 }
@@ -196,7 +196,7 @@ fn initial_expression(
 /// What an object begins with.
 #[tactic(auto, unfolding(c_reading::specs::Declarations::read_initial))]
 fn initial(alloc: Global, cursor: &mut Cursor<'_>, room: usize) -> Result<Initializer, Fault>
-    ensures { Steps (spec.read_initial room (below room) cursor.old.rest.now) result cursor.new.rest.now }
+    ensures { Steps (spec.read_initial room (below room) cursor.old) result cursor.new }
 {
     if cursor.sees(Sign::Mark(Punctuator::OpenCurly)) {
         list(alloc, cursor, inside(room))
@@ -209,7 +209,7 @@ fn initial(alloc: Global, cursor: &mut Cursor<'_>, room: usize) -> Result<Initia
 
 #[tactic(auto, unfolding(c_reading::specs::Declarations::read_initializer))]
 fn initializer(alloc: Global, cursor: &mut Cursor<'_>, room: usize) -> Result<Initializer, Fault>
-    ensures { Steps (spec.read_initializer room (below room) cursor.old.rest.now) result cursor.new.rest.now }
+    ensures { Steps (spec.read_initializer room (below room) cursor.old) result cursor.new }
 {
     cursor.mark(Punctuator::Assign)?;
     initial(alloc, cursor, room)
@@ -221,7 +221,7 @@ fn optional_initializer(
     cursor: &mut Cursor<'_>,
     room: usize,
 ) -> Result<Option<Initializer>, Fault>
-    ensures { Steps (spec.read_optional_initializer room (below room) cursor.old.rest.now) result cursor.new.rest.now }
+    ensures { Steps (spec.read_optional_initializer room (below room) cursor.old) result cursor.new }
 {
     if !cursor.sees(Sign::Mark(Punctuator::Assign)) {
         return Ok(None);
@@ -237,7 +237,7 @@ fn global(
     room: usize,
     name: Name,
 ) -> Result<GlobalDeclarator, Fault>
-    ensures { Steps (spec.read_global room (below room) name cursor.old.rest.now) result cursor.new.rest.now }
+    ensures { Steps (spec.read_global room (below room) name cursor.old) result cursor.new }
 {
     let length = optional_index(alloc, cursor, inside(room))?;
     let initializer = optional_initializer(alloc, cursor, room)?;
@@ -255,7 +255,7 @@ fn next_global(
     cursor: &mut Cursor<'_>,
     room: usize,
 ) -> Result<GlobalDeclarator, Fault>
-    ensures { Steps (spec.read_next_global room (below room) cursor.old.rest.now) result cursor.new.rest.now }
+    ensures { Steps (spec.read_next_global room (below room) cursor.old) result cursor.new }
 {
     cursor.mark(Punctuator::Comma)?;
     let name = cursor.name(alloc)?;
@@ -269,7 +269,7 @@ fn globals(
     room: usize,
     first: GlobalDeclarator,
 ) -> Result<Items<GlobalDeclarator>, Fault>
-    ensures { Steps (spec.read_globals room (below room) first cursor.old.rest.now) result cursor.new.rest.now }
+    ensures { Steps (spec.read_globals room (below room) first cursor.old) result cursor.new }
 {
     let mut found = Items::new(alloc);
     found.push(first)?;
@@ -292,7 +292,7 @@ fn objects(
     is_pointer: bool,
     name: Name,
 ) -> Result<ExternalDeclaration, Fault>
-    ensures { Steps (spec.read_objects room (below room) specifiers is_pointer name cursor.old.rest.now) result cursor.new.rest.now }
+    ensures { Steps (spec.read_objects room (below room) specifiers is_pointer name cursor.old) result cursor.new }
 {
     let first = global(alloc, cursor, room, name)?;
     let declarators = globals(alloc, cursor, room, first)?;
@@ -307,7 +307,7 @@ fn objects(
 // ---- functions, and the text as a whole
 
 fn block(alloc: Global, cursor: &mut Cursor<'_>, room: usize) -> Result<Block, Fault>
-    ensures { Steps (read_block (read_statement room) room cursor.old.rest.now) result cursor.new.rest.now }
+    ensures { Steps (read_block (read_statement room) room cursor.old) result cursor.new }
 {
     let bodies = Bodies {
         alloc,
@@ -318,14 +318,14 @@ fn block(alloc: Global, cursor: &mut Cursor<'_>, room: usize) -> Result<Block, F
 
 #[tactic(auto, unfolding(c_reading::specs::Declarations::read_defined))]
 fn defined(alloc: Global, cursor: &mut Cursor<'_>, room: usize) -> Result<Option<Block>, Fault>
-    ensures { Steps (spec.read_defined room (below room) cursor.old.rest.now) result cursor.new.rest.now }
+    ensures { Steps (spec.read_defined room (below room) cursor.old) result cursor.new }
 {
     Ok(Some(block(alloc, cursor, inside(room))?))
 }
 
 #[tactic(auto, unfolding(c_reading::specs::Declarations::read_prototype))]
 fn prototype(cursor: &mut Cursor<'_>, room: usize) -> Result<Option<Block>, Fault>
-    ensures { Steps (spec.read_prototype room (below room) cursor.old.rest.now) result cursor.new.rest.now }
+    ensures { Steps (spec.read_prototype room (below room) cursor.old) result cursor.new }
 {
     cursor.mark(Punctuator::Semicolon)?;
     Ok(None)
@@ -334,7 +334,7 @@ fn prototype(cursor: &mut Cursor<'_>, room: usize) -> Result<Option<Block>, Faul
 /// A body, or the `;` of a prototype.
 #[tactic(auto, unfolding(c_reading::specs::Declarations::read_body))]
 fn body(alloc: Global, cursor: &mut Cursor<'_>, room: usize) -> Result<Option<Block>, Fault>
-    ensures { Steps (spec.read_body room (below room) cursor.old.rest.now) result cursor.new.rest.now }
+    ensures { Steps (spec.read_body room (below room) cursor.old) result cursor.new }
 {
     if cursor.sees(Sign::Mark(Punctuator::OpenCurly)) {
         defined(alloc, cursor, room)
@@ -353,7 +353,7 @@ fn function(
     is_pointer: bool,
     name: Name,
 ) -> Result<ExternalDeclaration, Fault>
-    ensures { Steps (spec.read_function room (below room) specifiers is_pointer name cursor.old.rest.now) result cursor.new.rest.now }
+    ensures { Steps (spec.read_function room (below room) specifiers is_pointer name cursor.old) result cursor.new }
 {
     let parameters = parameters(alloc, cursor, inside(room))?;
     let body = body(alloc, cursor, room)?;
@@ -372,7 +372,7 @@ fn external(
     cursor: &mut Cursor<'_>,
     room: usize,
 ) -> Result<ExternalDeclaration, Fault>
-    ensures { Steps (spec.read_external room (below room) cursor.old.rest.now) result cursor.new.rest.now }
+    ensures { Steps (spec.read_external room (below room) cursor.old) result cursor.new }
 {
     let specifiers = specifiers(alloc, cursor)?;
     let is_pointer = star(cursor)?;
@@ -391,7 +391,7 @@ fn externals(
     room: usize,
     first: ExternalDeclaration,
 ) -> Result<Items<ExternalDeclaration>, Fault>
-    ensures { Steps (spec.read_externals room (below room) first cursor.old.rest.now) result cursor.new.rest.now }
+    ensures { Steps (spec.read_externals room (below room) first cursor.old) result cursor.new }
 {
     let mut found = Items::new(alloc);
     found.push(first)?;
@@ -407,7 +407,7 @@ fn externals(
 /// A whole text, its end included.
 #[tactic(auto, unfolding(c_reading::specs::Declarations::read_unit))]
 pub fn unit(alloc: Global, cursor: &mut Cursor<'_>, room: usize) -> Result<TranslationUnit, Fault>
-    ensures { Steps (spec.read_unit room (below room) cursor.old.rest.now) result cursor.new.rest.now }
+    ensures { Steps (spec.read_unit room (below room) cursor.old) result cursor.new }
 {
     let first = external(alloc, cursor, room)?;
     let declarations = externals(alloc, cursor, room, first)?;

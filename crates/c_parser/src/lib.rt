@@ -83,7 +83,7 @@ pub fn parse(alloc: Global, tokens: &[Token]) -> Result<TranslationUnit, ParseEr
     ensures syntax { (k : ℕ) → FaultAt unit 64 tokens.now k → spec.AnswersOnly (Syntax k (spec.offset_at tokens.now k)) result }
     ensures nesting { (k count : ℕ) → TooDeepAt unit 64 tokens.now k count → spec.AnswersOnly (Nesting k count (spec.offset_at tokens.now k)) result }
 {
-    let mut cursor = Cursor { rest: tokens };
+    let mut cursor = Cursor::new(tokens);
     match unit(alloc, &mut cursor, NESTING_LIMIT + 1) {
         Ok(tree) => {
             let left = cursor.left();

@@ -12,4 +12,4 @@ pub record NestsStatements (room : ℕ) (pre : Global → MutBor Cursor → ℕ 
     (post : Global → MutBor Cursor → ℕ → Result Statement Fault → MutBor Cursor → Type 0) : Type 0 where
   pub callable : (alloc : Global) (old : MutBor Cursor) (r : ℕ) → r ≤ room → pre alloc old r
   pub reads : (alloc : Global) (old new : MutBor Cursor) (r : ℕ) (x : Result Statement Fault) → r ≤ room → post alloc old r x new
-      → Steps (read_statement r old.now.rest.now) x new.now.rest.now
+      → Steps (read_statement r old.now) x new.now

@@ -1,7 +1,7 @@
 // Statements with no statement in them, declarations in a block, and the heads of control statements. The room of each
 // is how many levels of nesting are left, its own among them.
 
-ghost use Rattle.std.specs.Prelude.{◌≡◌};
+ghost use Rattle.std.specs.Prelude.{◌≡◌, IfOk};
 ghost use Rattle.grammar.specs.Readers.{reads_optional};
 ghost use Rattle.grammar.specs.Steps.{Steps};
 ghost use Rattle.c_reading.specs.Tokens as tokens_of;
@@ -17,7 +17,7 @@ use c_tree::{
 };
 use grammar::{Fault, too_deep};
 use sqlite_items::{Boxed, Items};
-use std::alloc::Global;
+use std::alloc::{AllocError, Global};
 
 /// How many levels are left inside of the phrase.
 #[tactic(auto, using(crate::proofs::Below::below_is))]
@@ -29,19 +29,40 @@ pub fn inside(room: usize) -> usize
 
 // ---- what is read of expressions
 
-pub fn value(alloc: Global, cursor: &mut Cursor<'_>, room: usize) -> Result<Expression, Fault>
-    ensures { Steps (expressions_of.read_expr room cursor.old.rest.now) result cursor.new.rest.now }
+fn boxed_value(
+    alloc: Global,
+    cursor: &mut Cursor<'_>,
+    room: usize,
+) -> Result<Boxed<Expression>, Fault>
+    ensures { Steps (expressions_of.read_expr room cursor.old) result cursor.new }
 {
     expression(alloc, cursor, room, Part::Whole)
 }
 
+/// The same out of its box.
+pub fn value(alloc: Global, cursor: &mut Cursor<'_>, room: usize) -> Result<Expression, Fault>
+    ensures { Steps (expressions_of.read_expr room cursor.old) result cursor.new }
+{
+    Ok(boxed_value(alloc, cursor, room)?.into_inner())
+}
+
+/// What is in the box, if there is one.
+pub fn unboxed<T>(boxed: Option<Boxed<T>>) -> Option<T>
+    ensures { result ≡ boxed }
+{
+    match boxed {
+        Some(inner) => Some(inner.into_inner()),
+        None => None,
+    }
+}
+
 /// What stands between brackets, if there are any.
-pub fn optional_index(
+fn boxed_index(
     alloc: Global,
     cursor: &mut Cursor<'_>,
     room: usize,
-) -> Result<Option<Expression>, Fault>
-    ensures { Steps (expressions_of.read_optional_index (expressions_of.read_expr room) room cursor.old.rest.now) result cursor.new.rest.now }
+) -> Result<Option<Boxed<Expression>>, Fault>
+    ensures { Steps (expressions_of.read_optional_index (expressions_of.read_expr room) room cursor.old) result cursor.new }
 {
     let rules = Rules {
         alloc,
@@ -50,23 +71,19 @@ pub fn optional_index(
     rules.optional_index(cursor, room)
 }
 
-/// The same on the heap.
-fn boxed_index(
+/// The same out of its box.
+pub fn optional_index(
     alloc: Global,
     cursor: &mut Cursor<'_>,
     room: usize,
-) -> Result<Option<Boxed<Expression>>, Fault>
-    ensures { Steps (expressions_of.read_optional_index (expressions_of.read_expr room) room cursor.old.rest.now) result cursor.new.rest.now }
+) -> Result<Option<Expression>, Fault>
+    ensures { Steps (expressions_of.read_optional_index (expressions_of.read_expr room) room cursor.old) result cursor.new }
 {
-    let rules = Rules {
-        alloc,
-        read: expression,
-    };
-    rules.boxed_index(cursor, room)
+    Ok(unboxed(boxed_index(alloc, cursor, room)?))
 }
 
 fn place(alloc: Global, cursor: &mut Cursor<'_>, room: usize) -> Result<Place, Fault>
-    ensures { Steps (expressions_of.read_place (expressions_of.read_expr room) room cursor.old.rest.now) result cursor.new.rest.now }
+    ensures { Steps (expressions_of.read_place (expressions_of.read_expr room) room cursor.old) result cursor.new }
 {
     let rules = Rules {
         alloc,
@@ -76,7 +93,7 @@ fn place(alloc: Global, cursor: &mut Cursor<'_>, room: usize) -> Result<Place, F
 }
 
 fn arguments(alloc: Global, cursor: &mut Cursor<'_>, room: usize) -> Result<Items<Argument>, Fault>
-    ensures { Steps (expressions_of.read_arguments (expressions_of.read_argument room) room cursor.old.rest.now) result cursor.new.rest.now }
+    ensures { Steps (expressions_of.read_arguments (expressions_of.read_argument room) room cursor.old) result cursor.new }
 {
     let rules = Rules {
         alloc,
@@ -86,7 +103,7 @@ fn arguments(alloc: Global, cursor: &mut Cursor<'_>, room: usize) -> Result<Item
 }
 
 fn converted_pointer(alloc: Global, cursor: &mut Cursor<'_>, room: usize) -> Result<Pointer, Fault>
-    ensures { Steps (expressions_of.read_converted_pointer (expressions_of.read_cast room) room cursor.old.rest.now) result cursor.new.rest.now }
+    ensures { Steps (expressions_of.read_converted_pointer (expressions_of.read_cast room) room cursor.old) result cursor.new }
 {
     let rules = Rules {
         alloc,
@@ -97,21 +114,29 @@ fn converted_pointer(alloc: Global, cursor: &mut Cursor<'_>, room: usize) -> Res
 
 // ---- simple statements
 
+/// The statement of the form, whose text begins at the place.
+fn boxed_simple(
+    alloc: Global,
+    form: SimpleForm,
+    offset: usize,
+) -> Result<Boxed<SimpleStatement>, AllocError>
+    ensures { IfOk result (λ s. s ≡ record { form = form; offset = offset }) }
+{
+    Boxed::new(alloc, SimpleStatement { form, offset })
+}
+
 /// `++` or `--`, and a place.
 #[tactic(auto, unfolding(c_reading::specs::Statements::read_step_before))]
 fn step_before(
     alloc: Global,
     cursor: &mut Cursor<'_>,
     room: usize,
-) -> Result<SimpleStatement, Fault>
-    ensures { Steps (spec.read_step_before room (spec.below room) cursor.old.rest.now) result cursor.new.rest.now }
+) -> Result<Boxed<SimpleStatement>, Fault>
+    ensures { Steps (spec.read_step_before room (spec.below room) cursor.old) result cursor.new }
 {
     let (direction, offset) = cursor.direction()?;
     let place = place(alloc, cursor, inside(room))?;
-    Ok(SimpleStatement {
-        form: SimpleForm::Step(place, direction),
-        offset,
-    })
+    Ok(boxed_simple(alloc, SimpleForm::Step(place, direction), offset)?)
 }
 
 /// The call whose name was read.
@@ -121,33 +146,30 @@ fn called(
     cursor: &mut Cursor<'_>,
     room: usize,
     name: Name,
-) -> Result<SimpleStatement, Fault>
-    ensures { Steps (spec.read_called room (spec.below room) name cursor.old.rest.now) result cursor.new.rest.now }
+) -> Result<Boxed<SimpleStatement>, Fault>
+    ensures { Steps (spec.read_called room (spec.below room) name cursor.old) result cursor.new }
 {
     let offset = name.offset;
     let arguments = arguments(alloc, cursor, inside(room))?;
-    Ok(SimpleStatement {
-        form: SimpleForm::Call(Call { name, arguments }),
-        offset,
-    })
+    let call = Call { name, arguments };
+    Ok(boxed_simple(alloc, SimpleForm::Call(call), offset)?)
 }
 
 /// `++` or `--`, behind the place that was read.
 #[tactic(auto, unfolding(c_reading::specs::Statements::read_step_behind))]
 fn step_behind(
+    alloc: Global,
     cursor: &mut Cursor<'_>,
     room: usize,
     name: Name,
     index: Option<Boxed<Expression>>,
-) -> Result<SimpleStatement, Fault>
-    ensures { Steps (spec.read_step_behind room (spec.below room) name index cursor.old.rest.now) result cursor.new.rest.now }
+) -> Result<Boxed<SimpleStatement>, Fault>
+    ensures { Steps (spec.read_step_behind room (spec.below room) name index cursor.old) result cursor.new }
 {
     let offset = name.offset;
     let direction = cursor.way()?;
-    Ok(SimpleStatement {
-        form: SimpleForm::Step(Place { name, index }, direction),
-        offset,
-    })
+    let place = Place { name, index };
+    Ok(boxed_simple(alloc, SimpleForm::Step(place, direction), offset)?)
 }
 
 /// What is assigned to the place that was read.
@@ -158,16 +180,14 @@ fn assigned(
     room: usize,
     name: Name,
     index: Option<Boxed<Expression>>,
-) -> Result<SimpleStatement, Fault>
-    ensures { Steps (spec.read_assigned room (spec.below room) name index cursor.old.rest.now) result cursor.new.rest.now }
+) -> Result<Boxed<SimpleStatement>, Fault>
+    ensures { Steps (spec.read_assigned room (spec.below room) name index cursor.old) result cursor.new }
 {
     let offset = name.offset;
     let operator = cursor.assignment_operator()?;
-    let value = value(alloc, cursor, room)?;
-    Ok(SimpleStatement {
-        form: SimpleForm::Assign(Place { name, index }, operator, value),
-        offset,
-    })
+    let value = boxed_value(alloc, cursor, room)?;
+    let form = SimpleForm::Assign(Place { name, index }, operator, value.into_inner());
+    Ok(boxed_simple(alloc, form, offset)?)
 }
 
 /// What changes the place whose name was read.
@@ -177,12 +197,12 @@ fn changed(
     cursor: &mut Cursor<'_>,
     room: usize,
     name: Name,
-) -> Result<SimpleStatement, Fault>
-    ensures { Steps (spec.read_changed room (spec.below room) name cursor.old.rest.now) result cursor.new.rest.now }
+) -> Result<Boxed<SimpleStatement>, Fault>
+    ensures { Steps (spec.read_changed room (spec.below room) name cursor.old) result cursor.new }
 {
     let index = boxed_index(alloc, cursor, inside(room))?;
     if cursor.sees_direction() {
-        step_behind(cursor, room, name, index)
+        step_behind(alloc, cursor, room, name, index)
     } else {
         assigned(alloc, cursor, room, name, index)
     }
@@ -190,8 +210,12 @@ fn changed(
 
 /// What begins with a name.
 #[tactic(auto, unfolding(c_reading::specs::Statements::read_on_name))]
-fn on_name(alloc: Global, cursor: &mut Cursor<'_>, room: usize) -> Result<SimpleStatement, Fault>
-    ensures { Steps (spec.read_on_name room (spec.below room) cursor.old.rest.now) result cursor.new.rest.now }
+fn on_name(
+    alloc: Global,
+    cursor: &mut Cursor<'_>,
+    room: usize,
+) -> Result<Boxed<SimpleStatement>, Fault>
+    ensures { Steps (spec.read_on_name room (spec.below room) cursor.old) result cursor.new }
 {
     let name = cursor.name(alloc)?;
     if cursor.sees(Sign::Mark(Punctuator::OpenRound)) {
@@ -202,8 +226,12 @@ fn on_name(alloc: Global, cursor: &mut Cursor<'_>, room: usize) -> Result<Simple
 }
 
 #[tactic(auto, unfolding(c_reading::specs::Statements::read_simple))]
-pub fn simple(alloc: Global, cursor: &mut Cursor<'_>, room: usize) -> Result<SimpleStatement, Fault>
-    ensures { Steps (spec.read_simple room (spec.below room) cursor.old.rest.now) result cursor.new.rest.now }
+pub fn simple(
+    alloc: Global,
+    cursor: &mut Cursor<'_>,
+    room: usize,
+) -> Result<Boxed<SimpleStatement>, Fault>
+    ensures { Steps (spec.read_simple room (spec.below room) cursor.old) result cursor.new }
 {
     if cursor.sees_direction() {
         step_before(alloc, cursor, room)
@@ -216,11 +244,15 @@ pub fn simple(alloc: Global, cursor: &mut Cursor<'_>, room: usize) -> Result<Sim
 
 /// `=`, and a value.
 #[tactic(auto, unfolding(c_reading::specs::Statements::read_value))]
-fn initial_value(alloc: Global, cursor: &mut Cursor<'_>, room: usize) -> Result<Expression, Fault>
-    ensures { Steps (spec.read_value room (spec.below room) cursor.old.rest.now) result cursor.new.rest.now }
+fn initial_value(
+    alloc: Global,
+    cursor: &mut Cursor<'_>,
+    room: usize,
+) -> Result<Boxed<Expression>, Fault>
+    ensures { Steps (spec.read_value room (spec.below room) cursor.old) result cursor.new }
 {
     cursor.mark(Punctuator::Assign)?;
-    value(alloc, cursor, room)
+    boxed_value(alloc, cursor, room)
 }
 
 /// The same, if there is one.
@@ -229,8 +261,8 @@ fn optional_value(
     alloc: Global,
     cursor: &mut Cursor<'_>,
     room: usize,
-) -> Result<Option<Expression>, Fault>
-    ensures { Steps (spec.read_optional_value room (spec.below room) cursor.old.rest.now) result cursor.new.rest.now }
+) -> Result<Option<Boxed<Expression>>, Fault>
+    ensures { Steps (spec.read_optional_value room (spec.below room) cursor.old) result cursor.new }
 {
     if !cursor.sees(Sign::Mark(Punctuator::Assign)) {
         return Ok(None);
@@ -239,23 +271,32 @@ fn optional_value(
 }
 
 #[tactic(auto, unfolding(c_reading::specs::Statements::read_declarator))]
-fn declarator(alloc: Global, cursor: &mut Cursor<'_>, room: usize) -> Result<Declarator, Fault>
-    ensures { Steps (spec.read_declarator room (spec.below room) cursor.old.rest.now) result cursor.new.rest.now }
+fn declarator(
+    alloc: Global,
+    cursor: &mut Cursor<'_>,
+    room: usize,
+) -> Result<Boxed<Declarator>, Fault>
+    ensures { Steps (spec.read_declarator room (spec.below room) cursor.old) result cursor.new }
 {
     let name = cursor.name(alloc)?;
-    let length = optional_index(alloc, cursor, inside(room))?;
+    let length = boxed_index(alloc, cursor, inside(room))?;
     let initializer = optional_value(alloc, cursor, room)?;
-    Ok(Declarator {
+    let declarator = Declarator {
         name,
-        length,
-        initializer,
-    })
+        length: unboxed(length),
+        initializer: unboxed(initializer),
+    };
+    Ok(Boxed::new(alloc, declarator)?)
 }
 
 /// A comma and one more declarator.
 #[tactic(auto, unfolding(c_reading::specs::Tokens::read_next))]
-fn next_declarator(alloc: Global, cursor: &mut Cursor<'_>, room: usize) -> Result<Declarator, Fault>
-    ensures { Steps (tokens_of.read_next (spec.read_declarator room (spec.below room)) cursor.old.rest.now) result cursor.new.rest.now }
+fn next_declarator(
+    alloc: Global,
+    cursor: &mut Cursor<'_>,
+    room: usize,
+) -> Result<Boxed<Declarator>, Fault>
+    ensures { Steps (tokens_of.read_next (spec.read_declarator room (spec.below room)) cursor.old) result cursor.new }
 {
     cursor.mark(Punctuator::Comma)?;
     declarator(alloc, cursor, room)
@@ -266,17 +307,17 @@ fn more_declarators(
     alloc: Global,
     cursor: &mut Cursor<'_>,
     room: usize,
-    first: Declarator,
+    first: Boxed<Declarator>,
 ) -> Result<Items<Declarator>, Fault>
-    ensures { Steps (tokens_of.read_more (spec.read_declarator room (spec.below room)) first cursor.old.rest.now) result cursor.new.rest.now }
+    ensures { Steps (tokens_of.read_more (spec.read_declarator room (spec.below room)) first cursor.old) result cursor.new }
 {
     let mut found = Items::new(alloc);
-    found.push(first)?;
+    found.push(first.into_inner())?;
     for _turn in 0..cursor.left() {
         if !cursor.sees(Sign::Mark(Punctuator::Comma)) {
             return Ok(found);
         }
-        found.push(next_declarator(alloc, cursor, room)?)?;
+        found.push(next_declarator(alloc, cursor, room)?.into_inner())?;
     }
     Ok(found)
 }
@@ -287,7 +328,7 @@ fn declarators(
     cursor: &mut Cursor<'_>,
     room: usize,
 ) -> Result<Items<Declarator>, Fault>
-    ensures { Steps (tokens_of.read_listed (spec.read_declarator room (spec.below room)) cursor.old.rest.now) result cursor.new.rest.now }
+    ensures { Steps (tokens_of.read_listed (spec.read_declarator room (spec.below room)) cursor.old) result cursor.new }
 {
     let first = declarator(alloc, cursor, room)?;
     more_declarators(alloc, cursor, room, first)
@@ -300,7 +341,7 @@ pub fn declaration(
     cursor: &mut Cursor<'_>,
     room: usize,
 ) -> Result<Declaration, Fault>
-    ensures { Steps (spec.read_declaration room (spec.below room) cursor.old.rest.now) result cursor.new.rest.now }
+    ensures { Steps (spec.read_declaration room (spec.below room) cursor.old) result cursor.new }
 {
     let specifiers = specifiers(alloc, cursor)?;
     let declarators = declarators(alloc, cursor, room)?;
@@ -314,84 +355,107 @@ pub fn declaration(
 // ---- statements with no statement in them
 
 #[tactic(auto, unfolding(c_reading::specs::Statements::read_simple_statement))]
-fn simple_statement(alloc: Global, cursor: &mut Cursor<'_>, room: usize) -> Result<Statement, Fault>
-    ensures { Steps (spec.read_simple_statement room (spec.below room) cursor.old.rest.now) result cursor.new.rest.now }
+fn simple_statement(
+    alloc: Global,
+    cursor: &mut Cursor<'_>,
+    room: usize,
+) -> Result<Boxed<Statement>, Fault>
+    ensures { Steps (spec.read_simple_statement room (spec.below room) cursor.old) result cursor.new }
 {
     let simple = simple(alloc, cursor, room)?;
     cursor.mark(Punctuator::Semicolon)?;
-    Ok(Statement::Simple(simple))
+    Ok(Boxed::new(alloc, Statement::Simple(simple.into_inner()))?)
 }
 
 #[tactic(auto, unfolding(c_reading::specs::Statements::read_empty))]
-fn empty(cursor: &mut Cursor<'_>) -> Result<Statement, Fault>
-    ensures { Steps (spec.read_empty cursor.old.rest.now) result cursor.new.rest.now }
+fn empty(alloc: Global, cursor: &mut Cursor<'_>) -> Result<Boxed<Statement>, Fault>
+    ensures { Steps (spec.read_empty cursor.old) result cursor.new }
 {
     cursor.mark(Punctuator::Semicolon)?;
-    Ok(Statement::Empty)
+    Ok(Boxed::new(alloc, Statement::Empty)?)
 }
 
 #[tactic(auto, unfolding(c_reading::specs::Statements::read_break))]
-fn break_out(cursor: &mut Cursor<'_>) -> Result<Statement, Fault>
-    ensures { Steps (spec.read_break cursor.old.rest.now) result cursor.new.rest.now }
+fn break_out(alloc: Global, cursor: &mut Cursor<'_>) -> Result<Boxed<Statement>, Fault>
+    ensures { Steps (spec.read_break cursor.old) result cursor.new }
 {
     let offset = cursor.word(Keyword::Break)?;
     cursor.mark(Punctuator::Semicolon)?;
-    Ok(Statement::Break(offset))
+    Ok(Boxed::new(alloc, Statement::Break(offset))?)
 }
 
 #[tactic(auto, unfolding(c_reading::specs::Statements::read_continue))]
-fn continue_on(cursor: &mut Cursor<'_>) -> Result<Statement, Fault>
-    ensures { Steps (spec.read_continue cursor.old.rest.now) result cursor.new.rest.now }
+fn continue_on(alloc: Global, cursor: &mut Cursor<'_>) -> Result<Boxed<Statement>, Fault>
+    ensures { Steps (spec.read_continue cursor.old) result cursor.new }
 {
     let offset = cursor.word(Keyword::Continue)?;
     cursor.mark(Punctuator::Semicolon)?;
-    Ok(Statement::Continue(offset))
+    Ok(Boxed::new(alloc, Statement::Continue(offset))?)
 }
 
 #[tactic(auto, unfolding(c_reading::specs::Statements::read_returned_null))]
-fn returned_null(cursor: &mut Cursor<'_>, room: usize) -> Result<Returned, Fault>
-    ensures { Steps (spec.read_returned_null room (spec.below room) cursor.old.rest.now) result cursor.new.rest.now }
+fn returned_null(
+    alloc: Global,
+    cursor: &mut Cursor<'_>,
+    room: usize,
+) -> Result<Boxed<Returned>, Fault>
+    ensures { Steps (spec.read_returned_null room (spec.below room) cursor.old) result cursor.new }
 {
-    Ok(Returned::Pointer(null(cursor)?))
+    let pointer = null(cursor)?;
+    Ok(Boxed::new(alloc, Returned::Pointer(pointer))?)
 }
 
 #[tactic(auto, unfolding(c_reading::specs::Statements::read_returned_pointer))]
-fn returned_pointer(alloc: Global, cursor: &mut Cursor<'_>, room: usize) -> Result<Returned, Fault>
-    ensures { Steps (spec.read_returned_pointer room (spec.below room) cursor.old.rest.now) result cursor.new.rest.now }
+fn returned_pointer(
+    alloc: Global,
+    cursor: &mut Cursor<'_>,
+    room: usize,
+) -> Result<Boxed<Returned>, Fault>
+    ensures { Steps (spec.read_returned_pointer room (spec.below room) cursor.old) result cursor.new }
 {
-    Ok(Returned::Pointer(converted_pointer(alloc, cursor, inside(room))?))
+    let pointer = converted_pointer(alloc, cursor, inside(room))?;
+    Ok(Boxed::new(alloc, Returned::Pointer(pointer))?)
 }
 
 #[tactic(auto, unfolding(c_reading::specs::Statements::read_returned_value))]
-fn returned_value(alloc: Global, cursor: &mut Cursor<'_>, room: usize) -> Result<Returned, Fault>
-    ensures { Steps (spec.read_returned_value room (spec.below room) cursor.old.rest.now) result cursor.new.rest.now }
+fn returned_value(
+    alloc: Global,
+    cursor: &mut Cursor<'_>,
+    room: usize,
+) -> Result<Boxed<Returned>, Fault>
+    ensures { Steps (spec.read_returned_value room (spec.below room) cursor.old) result cursor.new }
 {
-    Ok(Returned::Value(value(alloc, cursor, room)?))
+    let value = boxed_value(alloc, cursor, room)?;
+    Ok(Boxed::new(alloc, Returned::Value(value.into_inner()))?)
 }
 
 #[tactic(auto, unfolding(c_reading::specs::Statements::read_returned))]
-fn returned(alloc: Global, cursor: &mut Cursor<'_>, room: usize) -> Result<Returned, Fault>
-    ensures { Steps (spec.read_returned room (spec.below room) cursor.old.rest.now) result cursor.new.rest.now }
+fn returned(alloc: Global, cursor: &mut Cursor<'_>, room: usize) -> Result<Boxed<Returned>, Fault>
+    ensures { Steps (spec.read_returned room (spec.below room) cursor.old) result cursor.new }
 {
     if cursor.sees(Sign::Word(Keyword::Null)) {
-        returned_null(cursor, room)
+        returned_null(alloc, cursor, room)
     } else if cursor.begins_conversion_to_pointer() {
         returned_pointer(alloc, cursor, room)
     } else if cursor.begins_cast() {
         returned_value(alloc, cursor, room)
     } else {
-        Ok(Returned::Nothing)
+        Ok(Boxed::new(alloc, Returned::Nothing)?)
     }
 }
 
 #[tactic(auto, unfolding(c_reading::specs::Statements::read_return))]
-fn return_back(alloc: Global, cursor: &mut Cursor<'_>, room: usize) -> Result<Statement, Fault>
-    ensures { Steps (spec.read_return room (spec.below room) cursor.old.rest.now) result cursor.new.rest.now }
+fn return_back(
+    alloc: Global,
+    cursor: &mut Cursor<'_>,
+    room: usize,
+) -> Result<Boxed<Statement>, Fault>
+    ensures { Steps (spec.read_return room (spec.below room) cursor.old) result cursor.new }
 {
     let offset = cursor.word(Keyword::Return)?;
     let returned = returned(alloc, cursor, room)?;
     cursor.mark(Punctuator::Semicolon)?;
-    Ok(Statement::Return(returned, offset))
+    Ok(Boxed::new(alloc, Statement::Return(returned.into_inner(), offset))?)
 }
 
 /// A statement with no other in it, by its first word or mark.
@@ -400,15 +464,15 @@ pub fn plain_statement(
     alloc: Global,
     cursor: &mut Cursor<'_>,
     room: usize,
-) -> Result<Statement, Fault>
-    ensures { Steps (spec.read_plain room (spec.below room) cursor.old.rest.now) result cursor.new.rest.now }
+) -> Result<Boxed<Statement>, Fault>
+    ensures { Steps (spec.read_plain room (spec.below room) cursor.old) result cursor.new }
 {
     if cursor.sees(Sign::Mark(Punctuator::Semicolon)) {
-        empty(cursor)
+        empty(alloc, cursor)
     } else if cursor.sees(Sign::Word(Keyword::Break)) {
-        break_out(cursor)
+        break_out(alloc, cursor)
     } else if cursor.sees(Sign::Word(Keyword::Continue)) {
-        continue_on(cursor)
+        continue_on(alloc, cursor)
     } else if cursor.sees(Sign::Word(Keyword::Return)) {
         return_back(alloc, cursor, room)
     } else {
@@ -419,53 +483,66 @@ pub fn plain_statement(
 // ---- the heads of control statements
 
 #[tactic(auto, unfolding(c_reading::specs::Statements::read_condition))]
-pub fn condition(alloc: Global, cursor: &mut Cursor<'_>, room: usize) -> Result<Expression, Fault>
-    ensures { Steps (spec.read_condition room cursor.old.rest.now) result cursor.new.rest.now }
+pub fn condition(
+    alloc: Global,
+    cursor: &mut Cursor<'_>,
+    room: usize,
+) -> Result<Boxed<Expression>, Fault>
+    ensures { Steps (spec.read_condition room cursor.old) result cursor.new }
 {
     if room == 0 {
         return Err(too_deep(cursor.sees(Sign::Mark(Punctuator::OpenRound)), false));
     }
     cursor.mark(Punctuator::OpenRound)?;
-    let value = value(alloc, cursor, room)?;
+    let value = boxed_value(alloc, cursor, room)?;
     cursor.mark(Punctuator::CloseRound)?;
     Ok(value)
 }
 
 #[tactic(auto, unfolding(c_reading::specs::Statements::read_declared_start))]
-fn declared_start(alloc: Global, cursor: &mut Cursor<'_>, room: usize) -> Result<ForStart, Fault>
-    ensures { Steps (spec.read_declared_start room (spec.below room) cursor.old.rest.now) result cursor.new.rest.now }
+fn declared_start(
+    alloc: Global,
+    cursor: &mut Cursor<'_>,
+    room: usize,
+) -> Result<Boxed<ForStart>, Fault>
+    ensures { Steps (spec.read_declared_start room (spec.below room) cursor.old) result cursor.new }
 {
-    Ok(ForStart::Declaration(declaration(alloc, cursor, room)?))
+    let declaration = declaration(alloc, cursor, room)?;
+    Ok(Boxed::new(alloc, ForStart::Declaration(declaration))?)
 }
 
 #[tactic(auto, unfolding(c_reading::specs::Statements::read_simple_start))]
-fn simple_start(alloc: Global, cursor: &mut Cursor<'_>, room: usize) -> Result<ForStart, Fault>
-    ensures { Steps (spec.read_simple_start room (spec.below room) cursor.old.rest.now) result cursor.new.rest.now }
+fn simple_start(
+    alloc: Global,
+    cursor: &mut Cursor<'_>,
+    room: usize,
+) -> Result<Boxed<ForStart>, Fault>
+    ensures { Steps (spec.read_simple_start room (spec.below room) cursor.old) result cursor.new }
 {
     let simple = simple(alloc, cursor, room)?;
     cursor.mark(Punctuator::Semicolon)?;
-    Ok(ForStart::Simple(simple))
+    Ok(Boxed::new(alloc, ForStart::Simple(simple.into_inner()))?)
 }
 
 #[tactic(auto, unfolding(c_reading::specs::Statements::read_no_start))]
-fn no_start(cursor: &mut Cursor<'_>, room: usize) -> Result<ForStart, Fault>
-    ensures { Steps (spec.read_no_start room (spec.below room) cursor.old.rest.now) result cursor.new.rest.now }
+fn no_start(alloc: Global, cursor: &mut Cursor<'_>, room: usize) -> Result<Boxed<ForStart>, Fault>
+    ensures { Steps (spec.read_no_start room (spec.below room) cursor.old) result cursor.new }
 {
     cursor.mark(Punctuator::Semicolon)?;
-    Ok(ForStart::Nothing)
+    Ok(Boxed::new(alloc, ForStart::Nothing)?)
 }
 
 /// What the head of a `for` begins with, the `;` behind it included.
 #[tactic(auto, unfolding(c_reading::specs::Statements::read_for_start))]
-fn for_start(alloc: Global, cursor: &mut Cursor<'_>, room: usize) -> Result<ForStart, Fault>
-    ensures { Steps (spec.read_for_start room (spec.below room) cursor.old.rest.now) result cursor.new.rest.now }
+fn for_start(alloc: Global, cursor: &mut Cursor<'_>, room: usize) -> Result<Boxed<ForStart>, Fault>
+    ensures { Steps (spec.read_for_start room (spec.below room) cursor.old) result cursor.new }
 {
     if cursor.sees_type_word() {
         declared_start(alloc, cursor, room)
     } else if cursor.begins_simple() {
         simple_start(alloc, cursor, room)
     } else {
-        no_start(cursor, room)
+        no_start(alloc, cursor, room)
     }
 }
 
@@ -474,13 +551,13 @@ fn optional_expression(
     alloc: Global,
     cursor: &mut Cursor<'_>,
     room: usize,
-) -> Result<Option<Expression>, Fault>
-    ensures { Steps (spec.read_optional_expr room (spec.below room) cursor.old.rest.now) result cursor.new.rest.now }
+) -> Result<Option<Boxed<Expression>>, Fault>
+    ensures { Steps (spec.read_optional_expr room (spec.below room) cursor.old) result cursor.new }
 {
     if !cursor.begins_cast() {
         return Ok(None);
     }
-    Ok(Some(value(alloc, cursor, room)?))
+    Ok(Some(boxed_value(alloc, cursor, room)?))
 }
 
 #[tactic(auto, unfolding(c_reading::specs::Statements::read_optional_simple))]
@@ -488,8 +565,8 @@ fn optional_simple(
     alloc: Global,
     cursor: &mut Cursor<'_>,
     room: usize,
-) -> Result<Option<SimpleStatement>, Fault>
-    ensures { Steps (spec.read_optional_simple room (spec.below room) cursor.old.rest.now) result cursor.new.rest.now }
+) -> Result<Option<Boxed<SimpleStatement>>, Fault>
+    ensures { Steps (spec.read_optional_simple room (spec.below room) cursor.old) result cursor.new }
 {
     if !cursor.begins_simple() {
         return Ok(None);
@@ -505,8 +582,8 @@ fn for_step<S: Drop, C: Drop>(
     room: usize,
     start: S,
     condition: C,
-) -> Result<(S, C, Option<SimpleStatement>), Fault>
-    ensures { Steps (spec.read_for_step room start condition cursor.old.rest.now) result cursor.new.rest.now }
+) -> Result<(S, C, Option<Boxed<SimpleStatement>>), Fault>
+    ensures { Steps (spec.read_for_step room start condition cursor.old) result cursor.new }
 {
     let step = optional_simple(alloc, cursor, room)?;
     cursor.mark(Punctuator::CloseRound)?;
@@ -520,8 +597,8 @@ fn for_condition<S: Drop>(
     cursor: &mut Cursor<'_>,
     room: usize,
     start: S,
-) -> Result<(S, Option<Expression>, Option<SimpleStatement>), Fault>
-    ensures { Steps (spec.read_for_condition room start cursor.old.rest.now) result cursor.new.rest.now }
+) -> Result<(S, Option<Boxed<Expression>>, Option<Boxed<SimpleStatement>>), Fault>
+    ensures { Steps (spec.read_for_condition room start cursor.old) result cursor.new }
 {
     let condition = optional_expression(alloc, cursor, room)?;
     cursor.mark(Punctuator::Semicolon)?;
@@ -534,8 +611,15 @@ pub fn for_head(
     alloc: Global,
     cursor: &mut Cursor<'_>,
     room: usize,
-) -> Result<(ForStart, Option<Expression>, Option<SimpleStatement>), Fault>
-    ensures { Steps (spec.read_for_head room cursor.old.rest.now) result cursor.new.rest.now }
+) -> Result<
+    (
+        Boxed<ForStart>,
+        Option<Boxed<Expression>>,
+        Option<Boxed<SimpleStatement>>,
+    ),
+    Fault,
+>
+    ensures { Steps (spec.read_for_head room cursor.old) result cursor.new }
 {
     if room == 0 {
         return Err(too_deep(cursor.sees(Sign::Mark(Punctuator::OpenRound)), false));

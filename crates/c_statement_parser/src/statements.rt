@@ -8,7 +8,7 @@ ghost use Rattle.c_reading.specs.Tokens as tokens_of;
 ghost use Rattle.c_reading.specs.Statements as spec;
 ghost use Rattle.c_statement_parser.specs.NestsStatements.{NestsStatements};
 
-use crate::plain::{condition, declaration, for_head, plain_statement};
+use crate::plain::{condition, declaration, for_head, plain_statement, unboxed};
 use c_cursor::Cursor;
 use c_token::{Keyword, Punctuator};
 use c_tree::{Block, BlockItem, Sign, Statement};
@@ -24,45 +24,42 @@ pub struct Bodies<F> {
     pub read: F,
 }
 
-impl<F: Fn(Global, &mut Cursor<'_>, usize) -> Result<Statement, Fault>> Bodies<F> {
+impl<F: Fn(Global, &mut Cursor<'_>, usize) -> Result<Boxed<Statement>, Fault>> Bodies<F> {
     /// A statement inside.
-    fn body(&self, cursor: &mut Cursor<'_>, room: usize) -> Result<Statement, Fault>
+    fn body(&self, cursor: &mut Cursor<'_>, room: usize) -> Result<Boxed<Statement>, Fault>
         requires { NestsStatements room (F.pre self.now.read) (F.post self.now.read) }
-        ensures { Steps (spec.read_statement room cursor.old.rest.now) result cursor.new.rest.now }
+        ensures { Steps (spec.read_statement room cursor.old) result cursor.new }
     {
         (self.read)(self.alloc, cursor, room)
     }
 
-    /// The same on the heap.
-    fn boxed_body(&self, cursor: &mut Cursor<'_>, room: usize) -> Result<Boxed<Statement>, Fault>
-        requires { NestsStatements room (F.pre self.now.read) (F.post self.now.read) }
-        ensures { Steps (spec.read_statement room cursor.old.rest.now) result cursor.new.rest.now }
-    {
-        let body = self.body(cursor, room)?;
-        Ok(Boxed::new(self.alloc, body)?)
-    }
-
     #[tactic(auto, unfolding(c_reading::specs::Statements::read_declared_item))]
-    fn declared_item(&self, cursor: &mut Cursor<'_>, room: usize) -> Result<BlockItem, Fault>
+    fn declared_item(&self, cursor: &mut Cursor<'_>, room: usize) -> Result<Boxed<BlockItem>, Fault>
         requires { NestsStatements room (F.pre self.now.read) (F.post self.now.read) }
-        ensures { Steps (spec.read_declared_item (spec.read_statement room) room cursor.old.rest.now) result cursor.new.rest.now }
+        ensures { Steps (spec.read_declared_item (spec.read_statement room) room cursor.old) result cursor.new }
     {
-        Ok(BlockItem::Declaration(declaration(self.alloc, cursor, room)?))
+        let declaration = declaration(self.alloc, cursor, room)?;
+        Ok(Boxed::new(self.alloc, BlockItem::Declaration(declaration))?)
     }
 
     #[tactic(auto, unfolding(c_reading::specs::Statements::read_statement_item))]
-    fn statement_item(&self, cursor: &mut Cursor<'_>, room: usize) -> Result<BlockItem, Fault>
+    fn statement_item(
+        &self,
+        cursor: &mut Cursor<'_>,
+        room: usize,
+    ) -> Result<Boxed<BlockItem>, Fault>
         requires { NestsStatements room (F.pre self.now.read) (F.post self.now.read) }
-        ensures { Steps (spec.read_statement_item (spec.read_statement room) room cursor.old.rest.now) result cursor.new.rest.now }
+        ensures { Steps (spec.read_statement_item (spec.read_statement room) room cursor.old) result cursor.new }
     {
-        Ok(BlockItem::Statement(self.body(cursor, room)?))
+        let statement = self.body(cursor, room)?;
+        Ok(Boxed::new(self.alloc, BlockItem::Statement(statement.into_inner()))?)
     }
 
     /// A declaration or a statement.
     #[tactic(auto, unfolding(c_reading::specs::Statements::read_item))]
-    fn item(&self, cursor: &mut Cursor<'_>, room: usize) -> Result<BlockItem, Fault>
+    fn item(&self, cursor: &mut Cursor<'_>, room: usize) -> Result<Boxed<BlockItem>, Fault>
         requires { NestsStatements room (F.pre self.now.read) (F.post self.now.read) }
-        ensures { Steps (spec.read_item (spec.read_statement room) room cursor.old.rest.now) result cursor.new.rest.now }
+        ensures { Steps (spec.read_item (spec.read_statement room) room cursor.old) result cursor.new }
     {
         if cursor.sees_type_word() {
             self.declared_item(cursor, room)
@@ -73,14 +70,14 @@ impl<F: Fn(Global, &mut Cursor<'_>, usize) -> Result<Statement, Fault>> Bodies<F
 
     fn items(&self, cursor: &mut Cursor<'_>, room: usize) -> Result<Items<BlockItem>, Fault>
         requires { NestsStatements room (F.pre self.now.read) (F.post self.now.read) }
-        ensures { Steps (reads_many tokens_of.begins_item (spec.read_item (spec.read_statement room) room) cursor.old.rest.now) result cursor.new.rest.now }
+        ensures { Steps (reads_many tokens_of.begins_item (spec.read_item (spec.read_statement room) room) cursor.old) result cursor.new }
     {
         let mut found = Items::new(self.alloc);
         for _turn in 0..cursor.left() {
             if !cursor.begins_item() {
                 return Ok(found);
             }
-            found.push(self.item(cursor, room)?)?;
+            found.push(self.item(cursor, room)?.into_inner())?;
         }
         Ok(found)
     }
@@ -88,7 +85,7 @@ impl<F: Fn(Global, &mut Cursor<'_>, usize) -> Result<Statement, Fault>> Bodies<F
     #[tactic(auto, unfolding(c_reading::specs::Statements::read_block))]
     pub fn block(&self, cursor: &mut Cursor<'_>, room: usize) -> Result<Block, Fault>
         requires { NestsStatements room (F.pre self.now.read) (F.post self.now.read) }
-        ensures { Steps (spec.read_block (spec.read_statement room) room cursor.old.rest.now) result cursor.new.rest.now }
+        ensures { Steps (spec.read_block (spec.read_statement room) room cursor.old) result cursor.new }
     {
         if room == 0 {
             return Err(too_deep(cursor.sees(Sign::Mark(Punctuator::OpenCurly)), false));
@@ -100,60 +97,68 @@ impl<F: Fn(Global, &mut Cursor<'_>, usize) -> Result<Statement, Fault>> Bodies<F
     }
 
     #[tactic(auto, unfolding(c_reading::specs::Statements::read_block_statement))]
-    fn block_statement(&self, cursor: &mut Cursor<'_>, room: usize) -> Result<Statement, Fault>
+    fn block_statement(
+        &self,
+        cursor: &mut Cursor<'_>,
+        room: usize,
+    ) -> Result<Boxed<Statement>, Fault>
         requires { NestsStatements room (F.pre self.now.read) (F.post self.now.read) }
-        ensures { Steps (spec.read_block_statement (spec.read_statement room) room cursor.old.rest.now) result cursor.new.rest.now }
+        ensures { Steps (spec.read_block_statement (spec.read_statement room) room cursor.old) result cursor.new }
     {
-        Ok(Statement::Block(self.block(cursor, room)?))
+        let block = self.block(cursor, room)?;
+        Ok(Boxed::new(self.alloc, Statement::Block(block))?)
     }
 
     /// `else` and its statement, if there is one.
     #[tactic(auto, unfolding(c_reading::specs::Statements::read_other))]
     fn other(&self, cursor: &mut Cursor<'_>, room: usize) -> Result<Option<Boxed<Statement>>, Fault>
         requires { NestsStatements room (F.pre self.now.read) (F.post self.now.read) }
-        ensures { Steps (spec.read_other (spec.read_statement room) room cursor.old.rest.now) result cursor.new.rest.now }
+        ensures { Steps (spec.read_other (spec.read_statement room) room cursor.old) result cursor.new }
     {
         if !cursor.sees(Sign::Word(Keyword::Else)) {
             return Ok(None);
         }
         cursor.word(Keyword::Else)?;
-        Ok(Some(self.boxed_body(cursor, room)?))
+        Ok(Some(self.body(cursor, room)?))
     }
 
     #[tactic(auto, unfolding(c_reading::specs::Statements::read_branch))]
-    fn branch(&self, cursor: &mut Cursor<'_>, room: usize) -> Result<Statement, Fault>
+    fn branch(&self, cursor: &mut Cursor<'_>, room: usize) -> Result<Boxed<Statement>, Fault>
         requires { NestsStatements room (F.pre self.now.read) (F.post self.now.read) }
-        ensures { Steps (spec.read_branch (spec.read_statement room) room cursor.old.rest.now) result cursor.new.rest.now }
+        ensures { Steps (spec.read_branch (spec.read_statement room) room cursor.old) result cursor.new }
     {
         cursor.word(Keyword::If)?;
         let condition = condition(self.alloc, cursor, room)?;
-        let body = self.boxed_body(cursor, room)?;
+        let body = self.body(cursor, room)?;
         let other = self.other(cursor, room)?;
-        Ok(Statement::If(condition, body, other))
+        let branch = Statement::If(condition.into_inner(), body, other);
+        Ok(Boxed::new(self.alloc, branch)?)
     }
 
     #[tactic(auto, unfolding(c_reading::specs::Statements::read_while))]
-    fn while_loop(&self, cursor: &mut Cursor<'_>, room: usize) -> Result<Statement, Fault>
+    fn while_loop(&self, cursor: &mut Cursor<'_>, room: usize) -> Result<Boxed<Statement>, Fault>
         requires { NestsStatements room (F.pre self.now.read) (F.post self.now.read) }
-        ensures { Steps (spec.read_while (spec.read_statement room) room cursor.old.rest.now) result cursor.new.rest.now }
+        ensures { Steps (spec.read_while (spec.read_statement room) room cursor.old) result cursor.new }
     {
         cursor.word(Keyword::While)?;
         let condition = condition(self.alloc, cursor, room)?;
-        let body = self.boxed_body(cursor, room)?;
-        Ok(Statement::While(condition, body))
+        let body = self.body(cursor, room)?;
+        let while_loop = Statement::While(condition.into_inner(), body);
+        Ok(Boxed::new(self.alloc, while_loop)?)
     }
 
     #[tactic(auto, unfolding(c_reading::specs::Statements::read_do))]
-    fn do_loop(&self, cursor: &mut Cursor<'_>, room: usize) -> Result<Statement, Fault>
+    fn do_loop(&self, cursor: &mut Cursor<'_>, room: usize) -> Result<Boxed<Statement>, Fault>
         requires { NestsStatements room (F.pre self.now.read) (F.post self.now.read) }
-        ensures { Steps (spec.read_do (spec.read_statement room) room cursor.old.rest.now) result cursor.new.rest.now }
+        ensures { Steps (spec.read_do (spec.read_statement room) room cursor.old) result cursor.new }
     {
         cursor.word(Keyword::Do)?;
-        let body = self.boxed_body(cursor, room)?;
+        let body = self.body(cursor, room)?;
         cursor.word(Keyword::While)?;
         let condition = condition(self.alloc, cursor, room)?;
         cursor.mark(Punctuator::Semicolon)?;
-        Ok(Statement::DoWhile(body, condition))
+        let do_loop = Statement::DoWhile(body, condition.into_inner());
+        Ok(Boxed::new(self.alloc, do_loop)?)
     }
 
     /// The body, with what stands before it.
@@ -165,28 +170,29 @@ impl<F: Fn(Global, &mut Cursor<'_>, usize) -> Result<Statement, Fault>> Bodies<F
         head: H,
     ) -> Result<(H, Boxed<Statement>), Fault>
         requires { NestsStatements room (F.pre self.now.read) (F.post self.now.read) }
-        ensures { Steps (spec.read_with_body (spec.read_statement room) room head cursor.old.rest.now) result cursor.new.rest.now }
+        ensures { Steps (spec.read_with_body (spec.read_statement room) room head cursor.old) result cursor.new }
     {
-        let body = self.boxed_body(cursor, room)?;
+        let body = self.body(cursor, room)?;
         Ok((head, body))
     }
 
     #[tactic(auto, unfolding(c_reading::specs::Statements::read_for))]
-    fn for_loop(&self, cursor: &mut Cursor<'_>, room: usize) -> Result<Statement, Fault>
+    fn for_loop(&self, cursor: &mut Cursor<'_>, room: usize) -> Result<Boxed<Statement>, Fault>
         requires { NestsStatements room (F.pre self.now.read) (F.post self.now.read) }
-        ensures { Steps (spec.read_for (spec.read_statement room) room cursor.old.rest.now) result cursor.new.rest.now }
+        ensures { Steps (spec.read_for (spec.read_statement room) room cursor.old) result cursor.new }
     {
         cursor.word(Keyword::For)?;
         let head = for_head(self.alloc, cursor, room)?;
         let ((start, condition, step), body) = self.with_body(cursor, room, head)?;
-        Ok(Statement::For(start, condition, step, body))
+        let for_loop = Statement::For(start.into_inner(), unboxed(condition), unboxed(step), body);
+        Ok(Boxed::new(self.alloc, for_loop)?)
     }
 
     /// A block or a control statement.
     #[tactic(auto, unfolding(c_reading::specs::Statements::read_compound))]
-    fn compound(&self, cursor: &mut Cursor<'_>, room: usize) -> Result<Statement, Fault>
+    fn compound(&self, cursor: &mut Cursor<'_>, room: usize) -> Result<Boxed<Statement>, Fault>
         requires { NestsStatements room (F.pre self.now.read) (F.post self.now.read) }
-        ensures { Steps (spec.read_compound (spec.read_statement room) room cursor.old.rest.now) result cursor.new.rest.now }
+        ensures { Steps (spec.read_compound (spec.read_statement room) room cursor.old) result cursor.new }
     {
         if cursor.sees(Sign::Mark(Punctuator::OpenCurly)) {
             self.block_statement(cursor, room)
@@ -203,8 +209,12 @@ impl<F: Fn(Global, &mut Cursor<'_>, usize) -> Result<Statement, Fault>> Bodies<F
 }
 
 /// A statement; the room is how many levels of nesting are left, its own among them.
-pub fn statement(alloc: Global, cursor: &mut Cursor<'_>, room: usize) -> Result<Statement, Fault>
-    ensures { Steps (spec.read_statement room cursor.old.rest.now) result cursor.new.rest.now }
+pub fn statement(
+    alloc: Global,
+    cursor: &mut Cursor<'_>,
+    room: usize,
+) -> Result<Boxed<Statement>, Fault>
+    ensures { Steps (spec.read_statement room cursor.old) result cursor.new }
 {
     if room == 0 {
         return Err(too_deep(

@@ -6,5 +6,5 @@ use Rattle.c_reading.specs.Declarations.{read_externals, read_external}
 use Rattle.c_parser.proofs.declarations.externals.Given as goal
 
 abbrev pub invariant-loop-turn : goal.invariant-loop-turn
-invariant-loop-turn l = read_externals l.room (below l.room) l.fn.first l.fn.cursor.rest.now ≡ reads_while (sees is_type_word) appended (read_external l.room (below l.room))
-    (l._turn-end - l._turn) l.found l.cursor.rest.now
+invariant-loop-turn l = read_externals l.room (below l.room) l.fn.first l.fn.cursor ≡ reads_while (sees is_type_word) appended (read_external l.room (below l.room))
+    (l._turn-end - l._turn) l.found l.cursor

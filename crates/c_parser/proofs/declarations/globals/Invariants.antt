@@ -8,5 +8,5 @@ use Rattle.c_reading.specs.Declarations.{read_globals, read_next_global}
 use Rattle.c_parser.proofs.declarations.globals.Given as goal
 
 abbrev pub invariant-loop-turn : goal.invariant-loop-turn
-invariant-loop-turn l = read_globals l.room (below l.room) l.fn.first l.fn.cursor.rest.now ≡ reads_while (sees (is (Mark Comma))) appended (read_next_global l.room (below l.room))
-    (l._turn-end - l._turn) l.found l.cursor.rest.now
+invariant-loop-turn l = read_globals l.room (below l.room) l.fn.first l.fn.cursor ≡ reads_while (sees (is (Mark Comma))) appended (read_next_global l.room (below l.room))
+    (l._turn-end - l._turn) l.found l.cursor

@@ -8,5 +8,5 @@ use Rattle.c_reading.specs.Declarations.{read_parameter}
 use Rattle.c_parser.proofs.declarations.more_parameters.Given as goal
 
 abbrev pub invariant-loop-turn : goal.invariant-loop-turn
-invariant-loop-turn l = read_more read_parameter l.fn.first l.fn.cursor.rest.now ≡ reads_while (sees (is (Mark Comma))) appended (read_next read_parameter)
-    (l._turn-end - l._turn) l.found l.cursor.rest.now
+invariant-loop-turn l = read_more read_parameter l.fn.first l.fn.cursor ≡ reads_while (sees (is (Mark Comma))) appended (read_next read_parameter)
+    (l._turn-end - l._turn) l.found l.cursor

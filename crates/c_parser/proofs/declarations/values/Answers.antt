@@ -18,26 +18,26 @@ pub returns : goal.returns
 unfolding reads_while
 returns c =
     let e = no_more (λ n. reads_while (sees_all (is (Mark Comma) ∷ begins_cast ∷ [])) appended
-    (read_next (read_expr c.args.room)) n c.loop-turn.found c.loop-turn.cursor.rest.now) _ c.loop-turn._turn c.loop-turn-test.false c.loop-turn.invariant in
+    (read_next (read_expr c.args.room)) n c.loop-turn.found c.loop-turn.cursor) _ c.loop-turn._turn c.loop-turn-test.false c.loop-turn.invariant in
     first_of (search rules, grind (arith, common_steps))
 
 pub returns-then-not-begins_next_value : goal.returns-then-not-begins_next_value
 unfolding reads_while
 returns-then-not-begins_next_value c =
     let e = one_more (λ n. reads_while (sees_all (is (Mark Comma) ∷ begins_cast ∷ [])) appended
-    (read_next (read_expr c.args.room)) n c.loop-turn.found c.loop-turn.cursor.rest.now) _ c.loop-turn._turn c.loop-turn-test.true c.loop-turn.invariant in
+    (read_next (read_expr c.args.room)) n c.loop-turn.found c.loop-turn.cursor) _ c.loop-turn._turn c.loop-turn-test.true c.loop-turn.invariant in
     first_of (search rules, grind (arith, common_steps))
 
 pub returns-in_err-next_value : goal.returns-in_err-next_value
 unfolding reads_while
 returns-in_err-next_value c =
     let e = one_more (λ n. reads_while (sees_all (is (Mark Comma) ∷ begins_cast ∷ [])) appended
-    (read_next (read_expr c.args.room)) n c.loop-turn.found c.loop-turn.cursor.rest.now) _ c.loop-turn._turn c.loop-turn-test.true c.loop-turn.invariant in
+    (read_next (read_expr c.args.room)) n c.loop-turn.found c.loop-turn.cursor) _ c.loop-turn._turn c.loop-turn-test.true c.loop-turn.invariant in
     first_of (search rules, grind (arith, common_steps))
 
 pub loop-turn-preserved : goal.loop-turn-preserved
 unfolding reads_while
 loop-turn-preserved c =
     let e = one_more (λ n. reads_while (sees_all (is (Mark Comma) ∷ begins_cast ∷ [])) appended
-    (read_next (read_expr c.args.room)) n c.loop-turn.found c.loop-turn.cursor.rest.now) _ c.loop-turn._turn c.loop-turn-test.true c.loop-turn.invariant in
+    (read_next (read_expr c.args.room)) n c.loop-turn.found c.loop-turn.cursor) _ c.loop-turn._turn c.loop-turn-test.true c.loop-turn.invariant in
     first_of (search rules, grind (arith, common_steps))

@@ -9,5 +9,5 @@ use Rattle.c_reading.specs.Declarations.{read_values}
 use Rattle.c_parser.proofs.declarations.values.Given as goal
 
 abbrev pub invariant-loop-turn : goal.invariant-loop-turn
-invariant-loop-turn l = read_values l.room l.fn.first l.fn.cursor.rest.now ≡ reads_while (sees_all (is (Mark Comma) ∷ begins_cast ∷ [])) appended (read_next (read_expr l.room))
-    (l._turn-end - l._turn) l.found l.cursor.rest.now
+invariant-loop-turn l = read_values l.room l.fn.first l.fn.cursor ≡ reads_while (sees_all (is (Mark Comma) ∷ begins_cast ∷ [])) appended (read_next (read_expr l.room))
+    (l._turn-end - l._turn) l.found l.cursor

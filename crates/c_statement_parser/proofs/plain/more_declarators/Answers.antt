@@ -17,26 +17,26 @@ pub returns : goal.returns
 unfolding reads_while
 returns c =
     let e = no_more (λ n. reads_while (sees (is (Mark Comma))) appended (read_next (read_declarator c.args.room
-    (below c.args.room))) n c.loop-turn.found c.loop-turn.cursor.rest.now) _ c.loop-turn._turn c.loop-turn-test.false c.loop-turn.invariant in
+    (below c.args.room))) n c.loop-turn.found c.loop-turn.cursor) _ c.loop-turn._turn c.loop-turn-test.false c.loop-turn.invariant in
     first_of (search rules, grind (arith, common_steps))
 
 pub returns-then-not-sees : goal.returns-then-not-sees
 unfolding reads_while
 returns-then-not-sees c =
     let e = one_more (λ n. reads_while (sees (is (Mark Comma))) appended (read_next (read_declarator c.args.room
-    (below c.args.room))) n c.loop-turn.found c.loop-turn.cursor.rest.now) _ c.loop-turn._turn c.loop-turn-test.true c.loop-turn.invariant in
+    (below c.args.room))) n c.loop-turn.found c.loop-turn.cursor) _ c.loop-turn._turn c.loop-turn-test.true c.loop-turn.invariant in
     first_of (search rules, grind (arith, common_steps))
 
 pub returns-in_err-next_declarator : goal.returns-in_err-next_declarator
 unfolding reads_while
 returns-in_err-next_declarator c =
     let e = one_more (λ n. reads_while (sees (is (Mark Comma))) appended (read_next (read_declarator c.args.room
-    (below c.args.room))) n c.loop-turn.found c.loop-turn.cursor.rest.now) _ c.loop-turn._turn c.loop-turn-test.true c.loop-turn.invariant in
+    (below c.args.room))) n c.loop-turn.found c.loop-turn.cursor) _ c.loop-turn._turn c.loop-turn-test.true c.loop-turn.invariant in
     first_of (search rules, grind (arith, common_steps))
 
 pub loop-turn-preserved : goal.loop-turn-preserved
 unfolding reads_while
 loop-turn-preserved c =
     let e = one_more (λ n. reads_while (sees (is (Mark Comma))) appended (read_next (read_declarator c.args.room
-    (below c.args.room))) n c.loop-turn.found c.loop-turn.cursor.rest.now) _ c.loop-turn._turn c.loop-turn-test.true c.loop-turn.invariant in
+    (below c.args.room))) n c.loop-turn.found c.loop-turn.cursor) _ c.loop-turn._turn c.loop-turn-test.true c.loop-turn.invariant in
     first_of (search rules, grind (arith, common_steps))

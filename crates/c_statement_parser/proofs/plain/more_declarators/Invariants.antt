@@ -8,5 +8,5 @@ use Rattle.c_reading.specs.Statements.{read_declarator, below}
 use Rattle.c_statement_parser.proofs.plain.more_declarators.Given as goal
 
 abbrev pub invariant-loop-turn : goal.invariant-loop-turn
-invariant-loop-turn l = read_more (read_declarator l.room (below l.room)) l.fn.first l.fn.cursor.rest.now ≡ reads_while (sees (is (Mark Comma))) appended
-    (read_next (read_declarator l.room (below l.room))) (l._turn-end - l._turn) l.found l.cursor.rest.now
+invariant-loop-turn l = read_more (read_declarator l.room (below l.room)) l.fn.first l.fn.cursor ≡ reads_while (sees (is (Mark Comma))) appended
+    (read_next (read_declarator l.room (below l.room))) (l._turn-end - l._turn) l.found l.cursor

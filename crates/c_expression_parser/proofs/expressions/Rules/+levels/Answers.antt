@@ -14,19 +14,19 @@ binary-returns-then-level-eq0 g t c = first_of (search rules, grind (arith, comm
 pub binary-returns-in_err-first : goal.binary-returns-in_err-first
 unfolding read_terms
 binary-returns-in_err-first g t c =
-    let e = binary_above c.args.level (omega arith) (operand_within c.args.room) c.args.cursor.now.rest.now in
+    let e = binary_above c.args.level (omega arith) (operand_within c.args.room) c.args.cursor.now in
     first_of (search rules, grind (arith, common_steps))
 
 pub binary-returns-in_err-terms : goal.binary-returns-in_err-terms
 unfolding read_terms
 binary-returns-in_err-terms g t c =
-    let e = binary_above c.args.level (omega arith) (operand_within c.args.room) c.args.cursor.now.rest.now in
+    let e = binary_above c.args.level (omega arith) (operand_within c.args.room) c.args.cursor.now in
     first_of (search rules, grind (arith, common_steps))
 
 pub binary-returns : goal.binary-returns
 unfolding read_terms
 binary-returns g t c =
-    let e = binary_above c.args.level (omega arith) (operand_within c.args.room) c.args.cursor.now.rest.now in
+    let e = binary_above c.args.level (omega arith) (operand_within c.args.room) c.args.cursor.now in
     first_of (search rules, grind (arith, common_steps))
 
 pub terms-loop-turn-init : goal.terms-loop-turn-init
@@ -37,26 +37,26 @@ pub terms-returns : goal.terms-returns
 unfolding reads_while
 terms-returns g t c =
     let e = no_more (λ n. reads_while (sees (binds_at c.args.level)) appended (read_term c.args.level
-    (read_binary (c.args.level - 1) (operand_within c.args.room))) n c.loop-turn.found c.loop-turn.cursor.rest.now) _ c.loop-turn._turn c.loop-turn-test.false c.loop-turn.invariant in
+    (read_binary (c.args.level - 1) (operand_within c.args.room))) n c.loop-turn.found c.loop-turn.cursor) _ c.loop-turn._turn c.loop-turn-test.false c.loop-turn.invariant in
     first_of (search rules, grind (arith, common_steps))
 
 pub terms-returns-then-not-binds_at : goal.terms-returns-then-not-binds_at
 unfolding reads_while
 terms-returns-then-not-binds_at g t c =
     let e = one_more (λ n. reads_while (sees (binds_at c.args.level)) appended (read_term c.args.level
-    (read_binary (c.args.level - 1) (operand_within c.args.room))) n c.loop-turn.found c.loop-turn.cursor.rest.now) _ c.loop-turn._turn c.loop-turn-test.true c.loop-turn.invariant in
+    (read_binary (c.args.level - 1) (operand_within c.args.room))) n c.loop-turn.found c.loop-turn.cursor) _ c.loop-turn._turn c.loop-turn-test.true c.loop-turn.invariant in
     first_of (search rules, grind (arith, common_steps))
 
 pub terms-returns-in_err-term : goal.terms-returns-in_err-term
 unfolding reads_while
 terms-returns-in_err-term g t c =
     let e = one_more (λ n. reads_while (sees (binds_at c.args.level)) appended (read_term c.args.level
-    (read_binary (c.args.level - 1) (operand_within c.args.room))) n c.loop-turn.found c.loop-turn.cursor.rest.now) _ c.loop-turn._turn c.loop-turn-test.true c.loop-turn.invariant in
+    (read_binary (c.args.level - 1) (operand_within c.args.room))) n c.loop-turn.found c.loop-turn.cursor) _ c.loop-turn._turn c.loop-turn-test.true c.loop-turn.invariant in
     first_of (search rules, grind (arith, common_steps))
 
 pub terms-loop-turn-preserved : goal.terms-loop-turn-preserved
 unfolding reads_while
 terms-loop-turn-preserved g t c =
     let e = one_more (λ n. reads_while (sees (binds_at c.args.level)) appended (read_term c.args.level
-    (read_binary (c.args.level - 1) (operand_within c.args.room))) n c.loop-turn.found c.loop-turn.cursor.rest.now) _ c.loop-turn._turn c.loop-turn-test.true c.loop-turn.invariant in
+    (read_binary (c.args.level - 1) (operand_within c.args.room))) n c.loop-turn.found c.loop-turn.cursor) _ c.loop-turn._turn c.loop-turn-test.true c.loop-turn.invariant in
     first_of (search rules, grind (arith, common_steps))

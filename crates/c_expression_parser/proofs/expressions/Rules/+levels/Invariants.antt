@@ -15,5 +15,5 @@ decreases-terms g l = 3 * (l.level - 1) + 2
 
 abbrev pub invariant-terms-loop-turn : goal.invariant-terms-loop-turn
 invariant-terms-loop-turn g l =
-    read_terms l.level l.room l.fn.cursor.rest.now
-    ≡ reads_while (sees (binds_at l.level)) appended (read_term l.level (read_binary (l.level - 1) (operand_within l.room))) (l._turn-end - l._turn) l.found l.cursor.rest.now
+    read_terms l.level l.room l.fn.cursor
+    ≡ reads_while (sees (binds_at l.level)) appended (read_term l.level (read_binary (l.level - 1) (operand_within l.room))) (l._turn-end - l._turn) l.found l.cursor

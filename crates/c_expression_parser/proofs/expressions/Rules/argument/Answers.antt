@@ -11,4 +11,4 @@ returns-then-room-eq0 g c = first_of (search rules, grind (arith, common_steps))
 
 pub returns : goal.returns
 returns g c =
-    subst (λ r. Steps r c.any_argument.result c.any_argument.new.cursor.rest.now) (sym (argument_above c.args.room (omega arith) c.args.cursor.now.rest.now)) c.any_argument.ensures
+    subst (λ r. Steps r c.any_argument.result c.any_argument.new.cursor) (sym (argument_above c.args.room (omega arith) c.args.cursor.now)) c.any_argument.ensures

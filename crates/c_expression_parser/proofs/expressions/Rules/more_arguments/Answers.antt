@@ -17,26 +17,26 @@ pub returns : goal.returns
 unfolding reads_while
 returns g c =
     let e = no_more (λ n. reads_while (sees (is (Mark Comma))) appended
-    (read_next (read_argument c.args.room)) n c.loop-turn.found c.loop-turn.cursor.rest.now) _ c.loop-turn._turn c.loop-turn-test.false c.loop-turn.invariant in
+    (read_next (read_argument c.args.room)) n c.loop-turn.found c.loop-turn.cursor) _ c.loop-turn._turn c.loop-turn-test.false c.loop-turn.invariant in
     first_of (search rules, grind (arith, common_steps))
 
 pub returns-then-not-sees : goal.returns-then-not-sees
 unfolding reads_while
 returns-then-not-sees g c =
     let e = one_more (λ n. reads_while (sees (is (Mark Comma))) appended
-    (read_next (read_argument c.args.room)) n c.loop-turn.found c.loop-turn.cursor.rest.now) _ c.loop-turn._turn c.loop-turn-test.true c.loop-turn.invariant in
+    (read_next (read_argument c.args.room)) n c.loop-turn.found c.loop-turn.cursor) _ c.loop-turn._turn c.loop-turn-test.true c.loop-turn.invariant in
     first_of (search rules, grind (arith, common_steps))
 
 pub returns-in_err-next_argument : goal.returns-in_err-next_argument
 unfolding reads_while
 returns-in_err-next_argument g c =
     let e = one_more (λ n. reads_while (sees (is (Mark Comma))) appended
-    (read_next (read_argument c.args.room)) n c.loop-turn.found c.loop-turn.cursor.rest.now) _ c.loop-turn._turn c.loop-turn-test.true c.loop-turn.invariant in
+    (read_next (read_argument c.args.room)) n c.loop-turn.found c.loop-turn.cursor) _ c.loop-turn._turn c.loop-turn-test.true c.loop-turn.invariant in
     first_of (search rules, grind (arith, common_steps))
 
 pub loop-turn-preserved : goal.loop-turn-preserved
 unfolding reads_while
 loop-turn-preserved g c =
     let e = one_more (λ n. reads_while (sees (is (Mark Comma))) appended
-    (read_next (read_argument c.args.room)) n c.loop-turn.found c.loop-turn.cursor.rest.now) _ c.loop-turn._turn c.loop-turn-test.true c.loop-turn.invariant in
+    (read_next (read_argument c.args.room)) n c.loop-turn.found c.loop-turn.cursor) _ c.loop-turn._turn c.loop-turn-test.true c.loop-turn.invariant in
     first_of (search rules, grind (arith, common_steps))

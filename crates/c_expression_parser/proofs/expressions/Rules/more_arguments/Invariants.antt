@@ -8,5 +8,5 @@ use Rattle.c_reading.specs.Expressions.{read_argument}
 use Rattle.c_expression_parser.proofs.expressions.Rules.more_arguments.Given as goal
 
 abbrev pub invariant-loop-turn : goal.invariant-loop-turn
-invariant-loop-turn g l = read_more (read_argument l.room) l.fn.first l.fn.cursor.rest.now ≡ reads_while (sees (is (Mark Comma))) appended (read_next (read_argument l.room))
-    (l._turn-end - l._turn) l.found l.cursor.rest.now
+invariant-loop-turn g l = read_more (read_argument l.room) l.fn.first l.fn.cursor ≡ reads_while (sees (is (Mark Comma))) appended (read_next (read_argument l.room))
+    (l._turn-end - l._turn) l.found l.cursor

@@ -8,5 +8,5 @@ use Rattle.c_reading.specs.Expressions.{read_cast, read_expr, read_argument, rea
 use Rattle.c_expression_parser.proofs.expressions.Rules.questions.Given as goal
 
 abbrev pub invariant-loop-turn : goal.invariant-loop-turn
-invariant-loop-turn g l = read_questions (read_cast l.room) (read_expr l.room) (read_argument l.room) l.room l.fn.first l.fn.cursor.rest.now ≡ reads_while (sees (is (Mark Question))) asked
-    (read_question (read_cast l.room) (read_expr l.room) (read_argument l.room) l.room) (l._turn-end - l._turn) (l.conditions, l.value) l.cursor.rest.now
+invariant-loop-turn g l = read_questions (read_cast l.room) (read_expr l.room) (read_argument l.room) l.room l.fn.first l.fn.cursor ≡ reads_while (sees (is (Mark Question))) asked
+    (read_question (read_cast l.room) (read_expr l.room) (read_argument l.room) l.room) (l._turn-end - l._turn) (l.conditions, l.value) l.cursor

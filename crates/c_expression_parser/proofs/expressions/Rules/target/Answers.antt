@@ -7,5 +7,5 @@ use Rattle.c_expression_parser.proofs.expressions.Rules.target.Goals as goal
 pub returns : goal.returns
 unfolding read_target
 returns g c =
-    let e = deeper (λ r. read_target r c.args.cursor.now.rest.now) c.args.room (omega arith) in
-    subst (λ r. Steps r c.place.result c.place.new.cursor.rest.now) (sym e) c.place.ensures
+    let e = deeper (λ r. read_target r c.args.cursor.now) c.args.room (omega arith) in
+    subst (λ r. Steps r c.place.result c.place.new.cursor) (sym e) c.place.ensures

@@ -14,26 +14,26 @@ pub returns : goal.returns
 unfolding reads_while
 returns g c =
     let e = no_more (λ n. reads_while (sees begins_item) appended
-    (read_item (read_statement c.args.room) c.args.room) n c.loop-turn.found c.loop-turn.cursor.rest.now) _ c.loop-turn._turn c.loop-turn-test.false c.loop-turn.invariant in
+    (read_item (read_statement c.args.room) c.args.room) n c.loop-turn.found c.loop-turn.cursor) _ c.loop-turn._turn c.loop-turn-test.false c.loop-turn.invariant in
     first_of (search rules, grind (arith, common_steps))
 
 pub returns-then-not-begins_item : goal.returns-then-not-begins_item
 unfolding reads_while
 returns-then-not-begins_item g c =
     let e = one_more (λ n. reads_while (sees begins_item) appended
-    (read_item (read_statement c.args.room) c.args.room) n c.loop-turn.found c.loop-turn.cursor.rest.now) _ c.loop-turn._turn c.loop-turn-test.true c.loop-turn.invariant in
+    (read_item (read_statement c.args.room) c.args.room) n c.loop-turn.found c.loop-turn.cursor) _ c.loop-turn._turn c.loop-turn-test.true c.loop-turn.invariant in
     first_of (search rules, grind (arith, common_steps))
 
 pub returns-in_err-item : goal.returns-in_err-item
 unfolding reads_while
 returns-in_err-item g c =
     let e = one_more (λ n. reads_while (sees begins_item) appended
-    (read_item (read_statement c.args.room) c.args.room) n c.loop-turn.found c.loop-turn.cursor.rest.now) _ c.loop-turn._turn c.loop-turn-test.true c.loop-turn.invariant in
+    (read_item (read_statement c.args.room) c.args.room) n c.loop-turn.found c.loop-turn.cursor) _ c.loop-turn._turn c.loop-turn-test.true c.loop-turn.invariant in
     first_of (search rules, grind (arith, common_steps))
 
 pub loop-turn-preserved : goal.loop-turn-preserved
 unfolding reads_while
 loop-turn-preserved g c =
     let e = one_more (λ n. reads_while (sees begins_item) appended
-    (read_item (read_statement c.args.room) c.args.room) n c.loop-turn.found c.loop-turn.cursor.rest.now) _ c.loop-turn._turn c.loop-turn-test.true c.loop-turn.invariant in
+    (read_item (read_statement c.args.room) c.args.room) n c.loop-turn.found c.loop-turn.cursor) _ c.loop-turn._turn c.loop-turn-test.true c.loop-turn.invariant in
     first_of (search rules, grind (arith, common_steps))

@@ -5,5 +5,5 @@ use Rattle.c_reading.specs.Statements.{read_statement, read_item}
 use Rattle.c_statement_parser.proofs.statements.Bodies.items.Given as goal
 
 abbrev pub invariant-loop-turn : goal.invariant-loop-turn
-invariant-loop-turn g l = reads_many begins_item (read_item (read_statement l.room) l.room) l.fn.cursor.rest.now ≡ reads_while (sees begins_item) appended
-    (read_item (read_statement l.room) l.room) (l._turn-end - l._turn) l.found l.cursor.rest.now
+invariant-loop-turn g l = reads_many begins_item (read_item (read_statement l.room) l.room) l.fn.cursor ≡ reads_while (sees begins_item) appended
+    (read_item (read_statement l.room) l.room) (l._turn-end - l._turn) l.found l.cursor
