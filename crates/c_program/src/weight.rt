@@ -173,7 +173,7 @@ fn push_right_side(right: &RightSide, calls: &mut Vec<u32>) -> Result<(), AllocE
 }
 
 /// Appends the functions that a statement calls, once for each call, in the order of the text.
-fn push_calls(statement: &Statement, calls: &mut Vec<u32>) -> Result<(), AllocError>
+pub fn push_calls(statement: &Statement, calls: &mut Vec<u32>) -> Result<(), AllocError>
     ensures { IfOk result (λ _. calls.new.items ≡ calls.old.items ++ calls_of (statement_of statement.now)) }
 {
     match statement {

@@ -1,6 +1,7 @@
 -- How many hardware threads name a global: those whose function does, or one that it calls, or one that that calls, and so on. A name counts also
 -- in a statement that is never reached; what a thread creates counts for the thread that is created alone.
-use Rattle.std.specs.Prelude.{◌≤◌, ℕ, ◌+◌, Bool, nat_eq, nat_lt, if◌then◌else◌, List, length, sum_by, Option, Some, None}
+use Rattle.std.specs.Prelude.{◌≡◌, ◌<◌, ◌≤◌, ℕ, Bool, nat_eq, nat_lt, if◌then◌else◌, List, [], ◌∷◌, ◌++◌, length, filter, sum_by, Option, Some, None, slice_get}
+use Rattle.std.specs.List.{flat_map}
 use Rattle.c_program.specs.declared.tree.Storage.{Storage}
 use Rattle.c_program.specs.declared.tree.Storage.TheVariants.{Automatic, Static}
 use Rattle.c_program.specs.Tree.{Expression, Place, Condition, RightSide, ObjectPlace, ThreadCall, Statement, Function, Program}
@@ -9,80 +10,81 @@ use Rattle.c_program.specs.Weight.{inlined, thread_count, hardware_routines}
 abbrev pub one_if : Bool → ℕ
 one_if b = if b then 1 else 0
 
--- how often each names the global x
+-- the globals that each names, once for each time, in the order of the text
 
-abbrev pub variable_mentions : ℕ → Storage → ℕ → ℕ
-variable_mentions x Automatic variable = 0
-variable_mentions x Static variable = one_if (nat_eq variable x)
+abbrev pub variable_globals : Storage → ℕ → List ℕ
+variable_globals Automatic variable = []
+variable_globals Static variable = variable ∷ []
 
-abbrev pub expression_mentions : ℕ → Expression → ℕ
-expression_mentions x (Expression.Constant ty number) = 0
-expression_mentions x (Expression.Variable storage variable ty) = variable_mentions x storage variable
-expression_mentions x (Expression.Element storage variable length ty index) = variable_mentions x storage variable + expression_mentions x index
-expression_mentions x (Expression.Unary operator ty operand) = expression_mentions x operand
-expression_mentions x (Expression.Binary operator ty left right) = expression_mentions x left + expression_mentions x right
-expression_mentions x (Expression.Cast ty operand) = expression_mentions x operand
+abbrev pub expression_globals : Expression → List ℕ
+expression_globals (Expression.Constant ty number) = []
+expression_globals (Expression.Variable storage variable ty) = variable_globals storage variable
+expression_globals (Expression.Element storage variable length ty index) = variable_globals storage variable ++ expression_globals index
+expression_globals (Expression.Unary operator ty operand) = expression_globals operand
+expression_globals (Expression.Binary operator ty left right) = expression_globals left ++ expression_globals right
+expression_globals (Expression.Cast ty operand) = expression_globals operand
 
-abbrev pub expressions_mention : ℕ → List Expression → ℕ
-expressions_mention x list = sum_by (expression_mentions x) list
+abbrev pub expressions_globals : List Expression → List ℕ
+expressions_globals list = flat_map expression_globals list
 
-abbrev pub condition_mentions : ℕ → Condition → ℕ
-condition_mentions x (Condition.Operand offset operand) = expression_mentions x operand
-condition_mentions x (Condition.Both first second) = condition_mentions x first + condition_mentions x second
-condition_mentions x (Condition.Either first second) = condition_mentions x first + condition_mentions x second
-condition_mentions x (Condition.Opposite inner) = condition_mentions x inner
+abbrev pub condition_globals : Condition → List ℕ
+condition_globals (Condition.Operand offset operand) = expression_globals operand
+condition_globals (Condition.Both first second) = condition_globals first ++ condition_globals second
+condition_globals (Condition.Either first second) = condition_globals first ++ condition_globals second
+condition_globals (Condition.Opposite inner) = condition_globals inner
 
-abbrev pub place_mentions : ℕ → Place → ℕ
-place_mentions x (Place.Scalar storage variable ty) = variable_mentions x storage variable
-place_mentions x (Place.Element storage variable length ty index) = variable_mentions x storage variable + expression_mentions x index
+abbrev pub place_globals : Place → List ℕ
+place_globals (Place.Scalar storage variable ty) = variable_globals storage variable
+place_globals (Place.Element storage variable length ty index) = variable_globals storage variable ++ expression_globals index
 
-abbrev pub object_mentions : ℕ → ObjectPlace → ℕ
-object_mentions x (ObjectPlace.Single object) = 0
-object_mentions x (ObjectPlace.Element object length index) = expression_mentions x index
+abbrev pub object_globals : ObjectPlace → List ℕ
+object_globals (ObjectPlace.Single object) = []
+object_globals (ObjectPlace.Element object length index) = expression_globals index
 
 -- a call without the callee
-abbrev pub right_side_mentions : ℕ → RightSide → ℕ
-right_side_mentions x (RightSide.Value expression) = expression_mentions x expression
-right_side_mentions x (RightSide.Call function arguments) = expressions_mention x arguments
+abbrev pub right_side_globals : RightSide → List ℕ
+right_side_globals (RightSide.Value expression) = expression_globals expression
+right_side_globals (RightSide.Call function arguments) = expressions_globals arguments
 
-abbrev pub returned_mentions : ℕ → Option RightSide → ℕ
-returned_mentions x None = 0
-returned_mentions x (Some right) = right_side_mentions x right
+abbrev pub returned_globals : Option RightSide → List ℕ
+returned_globals None = []
+returned_globals (Some right) = right_side_globals right
 
-abbrev pub thread_call_mentions : ℕ → ThreadCall → ℕ
-thread_call_mentions x (ThreadCall.Create thread routine argument) = object_mentions x thread + expression_mentions x argument
-thread_call_mentions x (ThreadCall.Join thread) = object_mentions x thread
-thread_call_mentions x (ThreadCall.MutexInit mutex) = object_mentions x mutex
-thread_call_mentions x (ThreadCall.MutexDestroy mutex) = object_mentions x mutex
-thread_call_mentions x (ThreadCall.MutexLock mutex) = object_mentions x mutex
-thread_call_mentions x (ThreadCall.MutexUnlock mutex) = object_mentions x mutex
-thread_call_mentions x (ThreadCall.BarrierInit barrier count) = object_mentions x barrier + expression_mentions x count
-thread_call_mentions x (ThreadCall.BarrierDestroy barrier) = object_mentions x barrier
-thread_call_mentions x (ThreadCall.BarrierWait barrier) = object_mentions x barrier
+abbrev pub thread_call_globals : ThreadCall → List ℕ
+thread_call_globals (ThreadCall.Create thread routine argument) = object_globals thread ++ expression_globals argument
+thread_call_globals (ThreadCall.Join thread) = object_globals thread
+thread_call_globals (ThreadCall.MutexInit mutex) = object_globals mutex
+thread_call_globals (ThreadCall.MutexDestroy mutex) = object_globals mutex
+thread_call_globals (ThreadCall.MutexLock mutex) = object_globals mutex
+thread_call_globals (ThreadCall.MutexUnlock mutex) = object_globals mutex
+thread_call_globals (ThreadCall.BarrierInit barrier count) = object_globals barrier ++ expression_globals count
+thread_call_globals (ThreadCall.BarrierDestroy barrier) = object_globals barrier
+thread_call_globals (ThreadCall.BarrierWait barrier) = object_globals barrier
 
-abbrev pub statement_mentions : ℕ → Statement → ℕ
-statement_mentions x Statement.Done = 0
-statement_mentions x (Statement.Sequence first rest) = statement_mentions x first + statement_mentions x rest
-statement_mentions x Statement.Empty = 0
-statement_mentions x (Statement.Block body) = statement_mentions x body
-statement_mentions x (Statement.Declare offset local operators) = 0
-statement_mentions x (Statement.Assign offset place right) = place_mentions x place + right_side_mentions x right
-statement_mentions x (Statement.Update offset place operator ty right) = place_mentions x place + expression_mentions x right
-statement_mentions x (Statement.If condition consequent alternative) = condition_mentions x condition + statement_mentions x consequent + statement_mentions x alternative
-statement_mentions x (Statement.While condition body) = condition_mentions x condition + statement_mentions x body
-statement_mentions x (Statement.DoWhile body condition) = statement_mentions x body + condition_mentions x condition
-statement_mentions x (Statement.For first condition last body) =
-    statement_mentions x first + condition_mentions x condition + statement_mentions x last + statement_mentions x body
-statement_mentions x Statement.Break = 0
-statement_mentions x Statement.Continue = 0
-statement_mentions x (Statement.Return offset right) = returned_mentions x right
-statement_mentions x (Statement.Call offset function arguments) = expressions_mention x arguments
-statement_mentions x (Statement.Print offset format arguments) = expressions_mention x arguments
-statement_mentions x (Statement.Thread offset call) = thread_call_mentions x call
+abbrev pub statement_globals : Statement → List ℕ
+statement_globals Statement.Done = []
+statement_globals (Statement.Sequence first rest) = statement_globals first ++ statement_globals rest
+statement_globals Statement.Empty = []
+statement_globals (Statement.Block body) = statement_globals body
+statement_globals (Statement.Declare offset local operators) = []
+statement_globals (Statement.Assign offset place right) = place_globals place ++ right_side_globals right
+statement_globals (Statement.Update offset place operator ty right) = place_globals place ++ expression_globals right
+statement_globals (Statement.If condition consequent alternative) =
+    condition_globals condition ++ (statement_globals consequent ++ statement_globals alternative)
+statement_globals (Statement.While condition body) = condition_globals condition ++ statement_globals body
+statement_globals (Statement.DoWhile body condition) = statement_globals body ++ condition_globals condition
+statement_globals (Statement.For first condition last body) =
+    statement_globals first ++ (condition_globals condition ++ (statement_globals last ++ statement_globals body))
+statement_globals Statement.Break = []
+statement_globals Statement.Continue = []
+statement_globals (Statement.Return offset right) = returned_globals right
+statement_globals (Statement.Call offset function arguments) = expressions_globals arguments
+statement_globals (Statement.Print offset format arguments) = expressions_globals arguments
+statement_globals (Statement.Thread offset call) = thread_call_globals call
 
--- a function without those that it calls
+-- how often a function names the global x, without those that it calls
 abbrev pub mentions : ℕ → Function → ℕ
-mentions x function = statement_mentions x function.body
+mentions x function = length (filter (nat_eq x) (statement_globals function.body))
 
 -- whether the function f names the global x, or one that is inlined in it does
 abbrev pub names_global : Program → ℕ → ℕ → Bool
@@ -100,3 +102,8 @@ naming_threads P x = sum_by (runner_names P x) (hardware_routines P)
 -- NO MORE THAN THREADS
 abbrev pub NoMoreThanThreads : Type 0
 NoMoreThanThreads = (P : Program) (x : ℕ) → naming_threads P x ≤ thread_count P
+
+-- for each global how many hardware threads name it
+pub record AreCounts (P : Program) (counts : List ℕ) : Type 0 where
+  pub count : length counts ≡ length P.globals
+  pub each : (x : ℕ) → x < length P.globals → slice_get counts x ≡ Some (naming_threads P x)

@@ -3,6 +3,9 @@
 
 ghost use Rattle.global_naming.specs.Naming.{NoMoreThanThreads};
 
+mod names;
+pub mod naming;
+
 /// No more hardware threads name a global than there are.
 pub fn no_more_than_threads()
     ensures { NoMoreThanThreads }

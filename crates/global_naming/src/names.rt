@@ -1,0 +1,169 @@
+// The globals that the parts of a function name.
+ghost use Rattle.std.specs.Prelude.{◌≡◌, ◌++◌, IfOk};
+ghost use Rattle.c_program.specs.Plain.{expression_of, expressions_of, place_of, condition_of, right_side_of, object_place_of};
+ghost use Rattle.c_program.specs.Plain.{thread_call_of, statement_of, returned_of};
+ghost use Rattle.global_naming.specs.Naming.{variable_globals, expression_globals, expressions_globals, condition_globals, place_globals};
+ghost use Rattle.global_naming.specs.Naming.{object_globals, right_side_globals, returned_globals, thread_call_globals, statement_globals};
+
+use c_program::tree::{
+    Condition, Expression, ObjectPlace, Place, RightSide, Statement, Storage, ThreadCall,
+};
+use std::alloc::AllocError;
+
+fn push_variable(storage: Storage, variable: u32, names: &mut Vec<u32>) -> Result<(), AllocError>
+    ensures { IfOk result (λ _. names.new.items ≡ names.old.items ++ variable_globals storage variable) }
+{
+    if storage == Storage::Static {
+        names.push(variable)?;
+    }
+    Ok(())
+}
+
+fn push_expression(expression: &Expression, names: &mut Vec<u32>) -> Result<(), AllocError>
+    ensures { IfOk result (λ _. names.new.items ≡ names.old.items ++ expression_globals (expression_of expression.now)) }
+{
+    match expression {
+        Expression::Constant(_, _) => Ok(()),
+        Expression::Variable(storage, variable, _) => push_variable(*storage, *variable, names),
+        Expression::Element(storage, variable, _, _, index) => {
+            push_variable(*storage, *variable, names)?;
+            push_expression(index, names)
+        }
+        Expression::Unary(_, _, inner) | Expression::Cast(_, inner) => push_expression(
+            inner, names,
+        ),
+        Expression::Binary(_, _, left, right) => {
+            push_expression(left, names)?;
+            push_expression(right, names)
+        }
+    }
+}
+
+fn push_expressions(expressions: &[Expression], names: &mut Vec<u32>) -> Result<(), AllocError>
+    ensures { IfOk result (λ _. names.new.items ≡ names.old.items ++ expressions_globals (expressions_of expressions.now)) }
+{
+    for expression in expressions {
+        push_expression(expression, names)?;
+    }
+    Ok(())
+}
+
+fn push_condition(condition: &Condition, names: &mut Vec<u32>) -> Result<(), AllocError>
+    ensures { IfOk result (λ _. names.new.items ≡ names.old.items ++ condition_globals (condition_of condition.now)) }
+{
+    match condition {
+        Condition::Operand(_, operand) => push_expression(operand, names),
+        Condition::Both(first, second) | Condition::Either(first, second) => {
+            push_condition(first, names)?;
+            push_condition(second, names)
+        }
+        Condition::Opposite(inner) => push_condition(inner, names),
+    }
+}
+
+fn push_place(place: &Place, names: &mut Vec<u32>) -> Result<(), AllocError>
+    ensures { IfOk result (λ _. names.new.items ≡ names.old.items ++ place_globals (place_of place.now)) }
+{
+    match place {
+        Place::Scalar(storage, variable, _) => push_variable(*storage, *variable, names),
+        Place::Element(storage, variable, _, _, index) => {
+            push_variable(*storage, *variable, names)?;
+            push_expression(index, names)
+        }
+    }
+}
+
+fn push_object(place: &ObjectPlace, names: &mut Vec<u32>) -> Result<(), AllocError>
+    ensures { IfOk result (λ _. names.new.items ≡ names.old.items ++ object_globals (object_place_of place.now)) }
+{
+    match place {
+        ObjectPlace::Single(_) => Ok(()),
+        ObjectPlace::Element(_, _, index) => push_expression(index, names),
+    }
+}
+
+fn push_right_side(right: &RightSide, names: &mut Vec<u32>) -> Result<(), AllocError>
+    ensures { IfOk result (λ _. names.new.items ≡ names.old.items ++ right_side_globals (right_side_of right.now)) }
+{
+    match right {
+        RightSide::Value(expression) => push_expression(expression, names),
+        RightSide::Call(_, arguments) => push_expressions(arguments, names),
+    }
+}
+
+fn push_returned(right: &Option<RightSide>, names: &mut Vec<u32>) -> Result<(), AllocError>
+    ensures { IfOk result (λ _. names.new.items ≡ names.old.items ++ returned_globals (returned_of right.now)) }
+{
+    match right {
+        None => Ok(()),
+        Some(right) => push_right_side(right, names),
+    }
+}
+
+fn push_thread_call(call: &ThreadCall, names: &mut Vec<u32>) -> Result<(), AllocError>
+    ensures { IfOk result (λ _. names.new.items ≡ names.old.items ++ thread_call_globals (thread_call_of call.now)) }
+{
+    match call {
+        ThreadCall::Create(place, _, operand) | ThreadCall::BarrierInit(place, operand) => {
+            push_object(place, names)?;
+            push_expression(operand, names)
+        }
+        ThreadCall::Join(place)
+        | ThreadCall::MutexInit(place)
+        | ThreadCall::MutexDestroy(place)
+        | ThreadCall::MutexLock(place)
+        | ThreadCall::MutexUnlock(place)
+        | ThreadCall::BarrierDestroy(place)
+        | ThreadCall::BarrierWait(place) => push_object(place, names),
+    }
+}
+
+/// Appends the globals that a statement names, once for each time, in the order of the text.
+pub fn push_globals(statement: &Statement, names: &mut Vec<u32>) -> Result<(), AllocError>
+    ensures { IfOk result (λ _. names.new.items ≡ names.old.items ++ statement_globals (statement_of statement.now)) }
+{
+    match statement {
+        Statement::Sequence(first, rest) => {
+            push_globals(first, names)?;
+            push_globals(rest, names)
+        }
+        Statement::Block(body) => push_globals(body, names),
+        Statement::Assign(_, place, right) => {
+            push_place(place, names)?;
+            push_right_side(right, names)
+        }
+        Statement::Update(_, place, _, _, right) => {
+            push_place(place, names)?;
+            push_expression(right, names)
+        }
+        Statement::If(condition, consequent, alternative) => {
+            push_condition(condition, names)?;
+            push_globals(consequent, names)?;
+            push_globals(alternative, names)
+        }
+        Statement::While(condition, body) => {
+            push_condition(condition, names)?;
+            push_globals(body, names)
+        }
+        Statement::DoWhile(body, condition) => {
+            push_globals(body, names)?;
+            push_condition(condition, names)
+        }
+        Statement::For(first, condition, last, body) => {
+            push_globals(first, names)?;
+            push_condition(condition, names)?;
+            push_globals(last, names)?;
+            push_globals(body, names)
+        }
+        Statement::Return(_, right) => push_returned(right, names),
+        Statement::Call(_, _, arguments) | Statement::Print(_, _, arguments) => {
+            push_expressions(arguments, names)
+        }
+        Statement::Thread(_, call) => push_thread_call(call, names),
+        Statement::Done
+        | Statement::Empty
+        | Statement::Declare(_, _, _)
+        | Statement::Break
+        | Statement::Continue => Ok(()),
+    }
+}
