@@ -1,5 +1,6 @@
 -- What the walk over an argument finds, by its parts.
 use Rattle.std.proofs.Common.{◌≡◌, refl, sym, subst, ap, ◌∙◌, ℕ, Bool, true, false, List, [], ◌∷◌, ◌++◌, Option, Some, None}
+use Rattle.std.proofs.lemmas.Bool.{false≢true}
 use Rattle.std.specs.Prelude.{is_none, if◌then◌else◌, option_map}
 use Rattle.std.proofs.lemmas.Option.{same_Some, none-some}
 use Rattle.c_tree.specs.declared.expression.Name.{Name}
@@ -25,9 +26,6 @@ use Rattle.broken_rules.proofs.Ledgers.{Ledger, Good, good_pure, good_then, good
 use Rattle.broken_rules.proofs.Events.{Events}
 use Rattle.broken_rules.proofs.Unrolled.{argument_is, expression_is, pointer_is, place_name, place_index, argument_of, form_of}
 use Rattle.broken_rules.proofs.Values.{good_argument, good_value, good_index}
-
-no_truth : false ≡ true → ⊥
-no_truth h = cc
 
 module _ (L : Ledger) (s : Scope) (w : Where) (events : Events L s w) where
   pub refused : (x : ArgumentTree) → Good L (a.refused s x) (p.argument_parts w x)
@@ -88,9 +86,9 @@ module _ (L : Ledger) (s : Scope) (w : Where) (events : Events L s w) where
 
   null_parts : (l : a.ArgumentLayer) → a.is_null_in l ≡ true → argument_of w l ≡ []
   null_parts (Argument-F.Pointer q) is = pointer_is w q ∙ operand_null (out-Pointer q).operand is
-  null_parts (Argument-F.Value v) is = absurd (no_truth is)
-  null_parts (Argument-F.Text bytes at) is = absurd (no_truth is)
-  null_parts (Argument-F.Address q at) is = absurd (no_truth is)
+  null_parts (Argument-F.Value v) is = absurd (false≢true is)
+  null_parts (Argument-F.Text bytes at) is = absurd (false≢true is)
+  null_parts (Argument-F.Address q at) is = absurd (false≢true is)
 
   null_by : (x : ArgumentTree) (b : Bool) → a.is_null x ≡ b → Good L (if b then pure tt else a.refused s x) (p.argument_parts w x)
   null_by x true is = subst (λ ps. Good L (pure tt) ps) (sym (argument_is w x ∙ null_parts (out-Argument x) is)) (good_pure L tt)
@@ -169,7 +167,7 @@ module _ (L : Ledger) (s : Scope) (w : Where) (events : Events L s w) where
 
   no_index : (o : Option ExpressionTree) → is_none o ≡ true → option_map (λ (v : ExpressionTree). p.expression_parts w v) o ≡ None
   no_index None is = refl
-  no_index (Some v) is = absurd (no_truth is)
+  no_index (Some v) is = absurd (false≢true is)
 
   name_parts : (q : PlaceTree) → is_none (out-Place q).index ≡ true → place_alone q ≡ Part.Use w (out-Place q).name ∷ Part.Read w (out-Place q).name ∷ []
   name_parts q is =

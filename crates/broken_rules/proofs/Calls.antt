@@ -36,9 +36,6 @@ use Rattle.broken_rules.proofs.Unrolled.{expression_is, call_is, form_of}
 use Rattle.broken_rules.proofs.Values.{good_argument, good_arguments, good_value}
 use Rattle.broken_rules.proofs.Arguments.{value_argument, value_arguments, null_argument, pointer_argument, address_argument, thread_argument, routine_argument}
 
-no_truth : false ≡ true → ⊥
-no_truth h = cc
-
 not_four : (n : ℕ) → nat_eq 4 (suc (suc (suc (suc (suc n))))) ≡ false
 not_four n = grind (arith, nat_tests)
 

@@ -1,7 +1,7 @@
 -- Constants out of range: the parts of a text that break the rule, and its first fault.
 use Rattle.std.proofs.Common.{◌≡◌, refl, sym, subst, ap, ◌∙◌, inl, inr, ℕ, zero, suc, ◌<◌, ◌≤◌, true, List, [], ◌∷◌, Some, arith}
+use Rattle.std.proofs.lemmas.Bool.{leb-true, le-leb}
 use Rattle.std.specs.Prelude.{◌⊎◌, nat_le, ℤ, pos, negsuc, ◌≤ℤ◌, min, Contains}
-use Rattle.std.proofs.lemmas.Bool.Decides.{nat_tests}
 use Rattle.std.proofs.lemmas.Int.{ints}
 use Rattle.std.proofs.lemmas.List.Elements.{Contains-append_left, Contains-append_right, Contains-append_cases, Contains-push_cases}
 use Rattle.c_token.specs.declared.constant.Constant.TheVariants as constant
@@ -72,12 +72,6 @@ length_breaks tree v is.NotConstant e stands h = Breaks.LengthNotConstant v stan
 
 -- ---- initial values of arrays
 
-not_beyond : (n m : ℕ) → nat_le n m ≡ true → n ≤ m
-not_beyond n m h = grind (arith, nat_tests)
-
-beyond : (n m : ℕ) → n ≤ m → nat_le n m ≡ true
-beyond n m h = grind (arith, nat_tests)
-
 no_value : (x : Typed) (n : ℕ) → is.Constant x ≡ is.NotConstant → ⊥
 no_value x n h = cc
 
@@ -112,23 +106,23 @@ number_of e l = ap (λ (y : Typed). y.number) (constant_same _ _ (sym e ∙ l.co
 listed_by : (tree : TranslationUnit) (size v : ExpressionTree) (index : ℕ) (x : Typed) → constancy size ≡ is.Constant x → Contains (parts tree) (Part.Listed size index v) →
     (z : ℤ) → x.number ≡ z → nat_le (length_by (positive z)) index ≡ true → Breaks tree rule.Constant (Place v)
 listed_by tree size v index x e stands (pos zero) is h =
-    Breaks.TooManyForOne size index v stands (λ n l. below_none l.number (sym is ∙ number_of e l) l.positive) (not_beyond 1 index h)
+    Breaks.TooManyForOne size index v stands (λ n l. below_none l.number (sym is ∙ number_of e l) l.positive) (leb-true 1 index h)
 listed_by tree size v index x e stands (negsuc m) is h =
-    Breaks.TooManyForOne size index v stands (λ n l. not_pos m l.number (sym is ∙ number_of e l)) (not_beyond 1 index h)
+    Breaks.TooManyForOne size index v stands (λ n l. not_pos m l.number (sym is ∙ number_of e l)) (leb-true 1 index h)
 listed_by tree size v index x e stands (pos (suc m)) is h =
     let n = min (suc m) 0xffff_ffff_ffff_ffff in
-    Breaks.TooMany size n index v stands (record { x = x; constant = e; number = suc m; value = is; positive = omega arith; most = refl }) (not_beyond n index h)
+    Breaks.TooMany size n index v stands (record { x = x; constant = e; number = suc m; value = is; positive = omega arith; most = refl }) (leb-true n index h)
 
 listed_breaks : (tree : TranslationUnit) (size v : ExpressionTree) (index : ℕ) (x : Constancy) → constancy size ≡ x → Contains (parts tree) (Part.Listed size index v) →
     nat_le (length_given x) index ≡ true → Breaks tree rule.Constant (Place v)
 listed_breaks tree size v index (is.Constant x) e stands h = listed_by tree size v index x e stands x.number refl h
-listed_breaks tree size v index is.Unknown e stands h = Breaks.TooManyForOne size index v stands (λ n l. unknown_length (sym e ∙ l.constant)) (not_beyond 1 index h)
-listed_breaks tree size v index is.NotConstant e stands h = Breaks.TooManyForOne size index v stands (λ n l. not_length (sym e ∙ l.constant)) (not_beyond 1 index h)
+listed_breaks tree size v index is.Unknown e stands h = Breaks.TooManyForOne size index v stands (λ n l. unknown_length (sym e ∙ l.constant)) (leb-true 1 index h)
+listed_breaks tree size v index is.NotConstant e stands h = Breaks.TooManyForOne size index v stands (λ n l. not_length (sym e ∙ l.constant)) (leb-true 1 index h)
 
 too_many : (size : ExpressionTree) (n index : ℕ) → IsLength size n → n ≤ index → IsBeyond size index
 too_many size n index l le =
     let given : length_given (constancy size) ≡ n = ap length_given l.constant ∙ ap length_by (sized l.x.number l.number l.value l.positive) ∙ sym l.most in
-    ap (λ k. nat_le k index) given ∙ beyond n index le
+    ap (λ k. nat_le k index) given ∙ le-leb n index le
 
 one_by : (size : ExpressionTree) (x : Typed) → constancy size ≡ is.Constant x → ((n : ℕ) → IsLength size n → ⊥) → (z : ℤ) → x.number ≡ z → length_by (positive z) ≡ 1
 one_by size x e none (pos zero) is = refl
@@ -142,7 +136,7 @@ one_given size is.Unknown e none = refl
 one_given size is.NotConstant e none = refl
 
 too_many_for_one : (size : ExpressionTree) (index : ℕ) → ((n : ℕ) → IsLength size n → ⊥) → 1 ≤ index → IsBeyond size index
-too_many_for_one size index none le = ap (λ k. nat_le k index) (one_given size (constancy size) refl none) ∙ beyond 1 index le
+too_many_for_one size index none le = ap (λ k. nat_le k index) (one_given size (constancy size) refl none) ∙ le-leb 1 index le
 
 -- ---- the rule
 

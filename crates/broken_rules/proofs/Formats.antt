@@ -1,8 +1,8 @@
 -- The formats of printf, as they are read and as they are.
-use Rattle.std.proofs.Common.{◌≡◌, ◌≢◌, refl, sym, subst, ap, ◌∙◌, inl, inr, ℕ, zero, suc, ◌≤◌, ◌+◌, Bool, true, false, List, [], ◌∷◌, ◌++◌, length}
+use Rattle.std.proofs.Common.{◌≡◌, refl, sym, subst, ap, ◌∙◌, inl, inr, ℕ, zero, suc, ◌≤◌, ◌+◌, Bool, true, false, List, [], ◌∷◌, ◌++◌, length}
+use Rattle.std.proofs.lemmas.Bool.{true≢false, eqb-true, eqb-false, ne_eqb}
 use Rattle.std.proofs.Common.{Option, Some, None, add-zero, zero-add, add_assoc, cond, arith}
 use Rattle.std.specs.Prelude.{nat_eq, count_by, fold, if◌then◌else◌, option_and_then, option_map}
-use Rattle.std.proofs.lemmas.Bool.Decides.{nat_tests}
 use Rattle.std.proofs.lemmas.Option.{same_Some, none-some}
 use Rattle.c_program.specs.Tree.{Piece}
 use Rattle.c_program.specs.Resolved.{is_conversion}
@@ -13,18 +13,6 @@ use Rattle.c_rules.specs.declared.format.Part.TheVariants.{Byte, Conversion}
 use Rattle.c_rules.specs.Formats as f
 use Rattle.c_rules.specs.Specifiers.{c_type}
 use Rattle.broken_rules.specs.Formats.{IsFormat, IsEscaped, IsConverted}
-
-equal : (a b : ℕ) → nat_eq a b ≡ true → a ≡ b
-equal a b h = grind (arith, nat_tests)
-
-unequal : (a b : ℕ) → nat_eq a b ≡ false → a ≢ b
-unequal a b h e = grind (arith, nat_tests)
-
-different : (a b : ℕ) → a ≢ b → nat_eq a b ≡ false
-different a b h = grind (arith, nat_tests)
-
-no_truth : true ≡ false → ⊥
-no_truth h = cc
 
 -- ---- one more part
 
@@ -40,8 +28,8 @@ Grows text (Some r) = (n : ℕ) → IsFormat r.1 n → IsFormat text (grown r.0 
 letter_by : (whole : List ℕ → List ℕ) → ((letter : ℕ) (rest : List ℕ) (n : ℕ) → IsConverted letter → IsFormat rest n → IsFormat (whole (letter ∷ rest)) (suc n)) →
     (signed unsigned : BasicType) (letter : ℕ) (rest : List ℕ) (b c : Bool) → nat_eq letter 100 ≡ b → nat_eq letter 117 ≡ c →
     Grows (whole (letter ∷ rest)) (if b then Some (Conversion signed, rest) else (if c then Some (Conversion unsigned, rest) else None))
-letter_by whole make signed unsigned letter rest true c d u = λ n h. make letter rest n (inl (equal letter 100 d)) h
-letter_by whole make signed unsigned letter rest false true d u = λ n h. make letter rest n (inr (equal letter 117 u)) h
+letter_by whole make signed unsigned letter rest true c d u = λ n h. make letter rest n (inl (eqb-true letter 100 d)) h
+letter_by whole make signed unsigned letter rest false true d u = λ n h. make letter rest n (inr (eqb-true letter 117 u)) h
 letter_by whole make signed unsigned letter rest false false d u = tt
 
 lettered : (whole : List ℕ → List ℕ) → ((letter : ℕ) (rest : List ℕ) (n : ℕ) → IsConverted letter → IsFormat rest n → IsFormat (whole (letter ∷ rest)) (suc n)) →
@@ -52,7 +40,7 @@ lettered whole make signed unsigned (letter ∷ rest) = letter_by whole make sig
 long_by : (byte : ℕ) (rest : List ℕ) (b : Bool) → nat_eq byte 108 ≡ b →
     Grows (37 ∷ 108 ∷ byte ∷ rest) (if b then f.lettered Long UnsignedLong rest else f.lettered Long UnsignedLong (byte ∷ rest))
 long_by byte rest true e =
-    subst (λ k. Grows (37 ∷ 108 ∷ k ∷ rest) (f.lettered Long UnsignedLong rest)) (sym (equal byte 108 e))
+    subst (λ k. Grows (37 ∷ 108 ∷ k ∷ rest) (f.lettered Long UnsignedLong rest)) (sym (eqb-true byte 108 e))
     (lettered (λ text. 37 ∷ 108 ∷ 108 ∷ text) (λ letter rest n h m. IsFormat.LongLong letter rest n h m) Long UnsignedLong rest)
 long_by byte rest false e = lettered (λ text. 37 ∷ 108 ∷ text) (λ letter rest n h m. IsFormat.Long letter rest n h m) Long UnsignedLong (byte ∷ rest)
 
@@ -62,8 +50,8 @@ long (byte ∷ rest) = long_by byte rest (nat_eq byte 108) refl
 
 conversion_by : (byte : ℕ) (rest : List ℕ) (b c : Bool) → nat_eq byte 37 ≡ b → nat_eq byte 108 ≡ c →
     Grows (37 ∷ byte ∷ rest) (if b then Some (Byte 37, rest) else (if c then f.long rest else f.lettered Int UnsignedInt (byte ∷ rest)))
-conversion_by byte rest true c e l = λ n h. subst (λ k. IsFormat (37 ∷ k ∷ rest) n) (sym (equal byte 37 e)) (IsFormat.Percent rest n h)
-conversion_by byte rest false true e l = subst (λ k. Grows (37 ∷ k ∷ rest) (f.long rest)) (sym (equal byte 108 l)) (long rest)
+conversion_by byte rest true c e l = λ n h. subst (λ k. IsFormat (37 ∷ k ∷ rest) n) (sym (eqb-true byte 37 e)) (IsFormat.Percent rest n h)
+conversion_by byte rest false true e l = subst (λ k. Grows (37 ∷ k ∷ rest) (f.long rest)) (sym (eqb-true byte 108 l)) (long rest)
 conversion_by byte rest false false e l = lettered (λ text. 37 ∷ text) (λ letter rest n h m. IsFormat.Conversion letter rest n h m) Int UnsignedInt (byte ∷ rest)
 
 conversion : (text : List ℕ) → Grows (37 ∷ text) (f.conversion text)
@@ -73,10 +61,10 @@ conversion (byte ∷ rest) = conversion_by byte rest (nat_eq byte 37) (nat_eq by
 escape_by : (byte : ℕ) (rest : List ℕ) (a b c d : Bool) → nat_eq byte 110 ≡ a → nat_eq byte 116 ≡ b → nat_eq byte 92 ≡ c → nat_eq byte 34 ≡ d →
     Grows (92 ∷ byte ∷ rest) (option_map (λ (x : ℕ). (Byte x, rest))
     (if a then Some 10 else (if b then Some 9 else (if c then Some 92 else (if d then Some 34 else None)))))
-escape_by byte rest true b c d e g h k = λ n m. IsFormat.Escape byte rest n (inl (equal byte 110 e)) m
-escape_by byte rest false true c d e g h k = λ n m. IsFormat.Escape byte rest n (inr (inl (equal byte 116 g))) m
-escape_by byte rest false false true d e g h k = λ n m. IsFormat.Escape byte rest n (inr (inr (inl (equal byte 92 h)))) m
-escape_by byte rest false false false true e g h k = λ n m. IsFormat.Escape byte rest n (inr (inr (inr (equal byte 34 k)))) m
+escape_by byte rest true b c d e g h k = λ n m. IsFormat.Escape byte rest n (inl (eqb-true byte 110 e)) m
+escape_by byte rest false true c d e g h k = λ n m. IsFormat.Escape byte rest n (inr (inl (eqb-true byte 116 g))) m
+escape_by byte rest false false true d e g h k = λ n m. IsFormat.Escape byte rest n (inr (inr (inl (eqb-true byte 92 h)))) m
+escape_by byte rest false false false true e g h k = λ n m. IsFormat.Escape byte rest n (inr (inr (inr (eqb-true byte 34 k)))) m
 escape_by byte rest false false false false e g h k = tt
 
 escape : (text : List ℕ) → Grows (92 ∷ text) (f.escape text)
@@ -85,9 +73,9 @@ escape (byte ∷ rest) = escape_by byte rest (nat_eq byte 110) (nat_eq byte 116)
 
 first_by : (byte : ℕ) (rest : List ℕ) (b c : Bool) → nat_eq byte 92 ≡ b → nat_eq byte 37 ≡ c →
     Grows (byte ∷ rest) (if b then f.escape rest else (if c then f.conversion rest else Some (Byte byte, rest)))
-first_by byte rest true c e p = subst (λ k. Grows (k ∷ rest) (f.escape rest)) (sym (equal byte 92 e)) (escape rest)
-first_by byte rest false true e p = subst (λ k. Grows (k ∷ rest) (f.conversion rest)) (sym (equal byte 37 p)) (conversion rest)
-first_by byte rest false false e p = λ n h. IsFormat.Byte byte rest n (unequal byte 92 e) (unequal byte 37 p) h
+first_by byte rest true c e p = subst (λ k. Grows (k ∷ rest) (f.escape rest)) (sym (eqb-true byte 92 e)) (escape rest)
+first_by byte rest false true e p = subst (λ k. Grows (k ∷ rest) (f.conversion rest)) (sym (eqb-true byte 37 p)) (conversion rest)
+first_by byte rest false false e p = λ n h. IsFormat.Byte byte rest n (eqb-false byte 92 e) (eqb-false byte 37 p) h
 
 first_grows : (byte : ℕ) (rest : List ℕ) → Grows (byte ∷ rest) (f.first_part (byte ∷ rest))
 first_grows byte rest = first_by byte rest (nat_eq byte 92) (nat_eq byte 37) refl refl
@@ -150,8 +138,8 @@ read_is (suc k) draft (byte ∷ rest) pieces h = next_read k draft (byte ∷ res
 byte_first : (byte : ℕ) (rest : List ℕ) (b c : Bool) → b ≡ false → c ≡ false →
     (if b then f.escape rest else (if c then f.conversion rest else Some (Byte byte, rest))) ≡ Some (Byte byte, rest)
 byte_first byte rest false false e p = refl
-byte_first byte rest true c e p = absurd (no_truth e)
-byte_first byte rest false true e p = absurd (no_truth p)
+byte_first byte rest true c e p = absurd (true≢false e)
+byte_first byte rest false true e p = absurd (true≢false p)
 
 escaped_first : (byte : ℕ) (rest : List ℕ) → IsEscaped byte → (p : Part) × (f.first_part (92 ∷ byte ∷ rest) ≡ Some (p, rest)) × ((n : ℕ) → grown p n ≡ n)
 escaped_first byte rest (inl e) = (Byte 10, ap (λ k. f.first_part (92 ∷ k ∷ rest)) e, λ n. refl)
@@ -185,7 +173,7 @@ pub found : (text : List ℕ) (n : ℕ) → IsFormat text n → IsFound text n
 unfolding f.pieces_from
 found text n IsFormat.End = λ k lt draft. (f.flushed draft.0 draft.1, refl, flushed_count draft.0 draft.1 ∙ sym (add-zero (conversions draft.0)))
 found text n (IsFormat.Byte byte rest m no_escape no_conversion more) =
-    step byte rest rest (Byte byte) m m (byte_first byte rest (nat_eq byte 92) (nat_eq byte 37) (different byte 92 no_escape) (different byte 37 no_conversion)) (omega arith) refl
+    step byte rest rest (Byte byte) m m (byte_first byte rest (nat_eq byte 92) (nat_eq byte 37) (ne_eqb byte 92 no_escape) (ne_eqb byte 37 no_conversion)) (omega arith) refl
     (found rest m more)
 found text n (IsFormat.Escape byte rest m escaped more) =
     let e = escaped_first byte rest escaped in

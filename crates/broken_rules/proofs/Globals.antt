@@ -1,5 +1,6 @@
 -- What declarations of objects at file scope write.
 use Rattle.std.proofs.Common.{◌≡◌, refl, sym, subst, ap, ◌∙◌, ℕ, suc, Bool, true, false, List, [], ◌∷◌, ◌++◌, Option, Some, None, length, append_assoc, ℤ}
+use Rattle.std.proofs.lemmas.Bool.{false≢true}
 use Rattle.std.specs.Prelude.{unwrap_or, if◌then◌else◌, not, ◌&&◌, nat_le}
 use Rattle.hls_ints.specs.Types.{IntegerType}
 use Rattle.c_tree.specs.declared.expression.Name.{Name}
@@ -47,9 +48,6 @@ length-more (x ∷ xs) a = ap suc (length-more xs a)
 
 given_pure : {A B : Type 0} (p : Finds A) (f : A → B) (found : Findings) → given ((p >>= (λ x. pure (f x))) found) ≡ f (given (p found))
 given_pure p f found = ap (λ o. given o) (turn (p found) (λ x. pure (f x)))
-
-no_truth : false ≡ true → ⊥
-no_truth h = cc
 
 -- the length that was given, and what it is
 abbrev pub IsSize : Option ExpressionTree → Option ℕ → Type 0
@@ -142,8 +140,8 @@ module _ (L : Ledger) (s : Scope) (w : Where) (events : Events L s w) where
 
   mutex_only : (o : Object) (i : Initializer) → (g.is_mutex_initializer i && g.is_scalar_mutex o) ≡ true → p.initializer_parts w i ≡ []
   mutex_only o initial_as.Mutex is = refl
-  mutex_only o (initial_as.Value v) is = absurd (no_truth is)
-  mutex_only o (initial_as.List list) is = absurd (no_truth is)
+  mutex_only o (initial_as.Value v) is = absurd (false≢true is)
+  mutex_only o (initial_as.List list) is = absurd (false≢true is)
 
   pub is_initialised : (o : Object) (name : Name) (size : Option ExpressionTree) (i : Option Initializer) → Good L (g.is_initialised o name i s) (of_any (p.given_parts w
       false size) i)

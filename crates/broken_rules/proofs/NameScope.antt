@@ -1,5 +1,6 @@
 -- Unknown names in a whole text.
 use Rattle.std.proofs.Common.{◌≡◌, refl, sym, subst, ap, ◌∙◌, ℕ, Bool, true, false, List, [], ◌∷◌, ◌++◌, length, Option, Some, None, append-nil}
+use Rattle.std.proofs.lemmas.Bool.{false≢true}
 use Rattle.std.specs.Prelude.{pos, ◌||◌, ◌&&◌, is_some, not, if◌then◌else◌, slice_get}
 use Rattle.hls_ints.specs.Types.{IntegerType, wrapped}
 use Rattle.c_token.specs.declared.constant.Constant.{Constant}
@@ -51,9 +52,6 @@ use Rattle.broken_rules.proofs.Sights.{Agrees, MeansIn, Scopes, Level, header_in
 use Rattle.broken_rules.proofs.Names as q
 use Rattle.broken_rules.proofs.Names.{BreaksAt, name_ledger}
 use Rattle.broken_rules.proofs.Naming as m
-
-no_truth : false ≡ true → ⊥
-no_truth h = cc
 
 module _ (D : List (List ℕ × ℕ)) where
   abbrev L : Ledger
@@ -178,16 +176,16 @@ module _ (D : List (List ℕ × ℕ)) where
   twice_still x name = finding_still (λ s. finds rule.Twice name.offset) x (q.other D rule.Twice name.offset (λ j. j))
 
   some_or : (b c : Bool) → (b || c) ≡ true → b ≡ false → c ≡ true
-  some_or true c h e = absurd (no_truth (sym e))
+  some_or true c h e = absurd (false≢true (sym e))
   some_or false c h e = h
 
   none_or : (b c : Bool) → (b || c) ≡ false → c ≡ false
-  none_or true c h = absurd (no_truth (sym h))
+  none_or true c h = absurd (false≢true (sym h))
   none_or false c h = h
 
   none_is : {A : Type 0} (o : Option A) → is_some o ≡ false → o ≡ None
   none_is None h = refl
-  none_is (Some x) h = absurd (no_truth (sym h))
+  none_is (Some x) h = absurd (false≢true (sym h))
 
   none_some : {A : Type 0} (o : Option A) → o ≡ None → is_some o ≡ false
   none_some o h = ap is_some h
@@ -274,7 +272,7 @@ module _ (D : List (List ℕ × ℕ)) where
       Right L (Agrees D) x (if b then y.twice f.name x else y.declare_over h f.name second (named_in x.scope.inner f.name.bytes) x) (λ _. Unit {0})
       (Part.Declares w f.name (Declared.OfFunction f) ∷ []) (behind (function_names f) w)
   function_by x w f h second agrees is true e =
-      let r = old_function x (left (y.twice f.name x)) w f (twice_still x f.name) (λ own. absurd (no_truth (sym (none_some (function_named f.name.bytes) own) ∙ e))) agrees in
+      let r = old_function x (left (y.twice f.name x)) w f (twice_still x f.name) (λ own. absurd (false≢true (sym (none_some (function_named f.name.bytes) own) ∙ e))) agrees in
       record { writes = r.0; agrees = r.1; value = tt }
   function_by x w f h second agrees is false e =
       let r = over_is x w f h second agrees is (named_in x.scope.inner f.name.bytes) refl in

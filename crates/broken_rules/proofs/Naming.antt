@@ -1,5 +1,6 @@
 -- Unknown names: each finding of a walk by what its name stands for where it is used.
 use Rattle.std.proofs.Common.{◌≡◌, refl, sym, subst, ap, ◌∙◌, inl, inr, ℕ, Bool, true, false, List, [], ◌∷◌, ◌++◌, Option, Some, None}
+use Rattle.std.proofs.lemmas.Bool.{false≢true}
 use Rattle.std.specs.Prelude.{◌⊎◌, is_none, slice_get}
 use Rattle.std.proofs.lemmas.Option.{same_Some, none-some}
 use Rattle.c_tree.specs.declared.expression.Name.{Name}
@@ -54,9 +55,6 @@ not_argument n h = cc
 pub no_parameter : (b : Bool) (n : ℕ) → IsParameter b (meaning.Function n) → ⊥
 no_parameter true n h = not_argument n h
 no_parameter false n h = h
-
-no_truth : false ≡ true → ⊥
-no_truth h = cc
 
 abbrev pub IsNoFunction : Meaning → Type 0
 IsNoFunction (meaning.Function n) = ⊥
@@ -161,10 +159,10 @@ module _ (D : List (List ℕ × ℕ)) where
 
   none_of : {A : Type 0} (o : Option A) → is_none o ≡ true → o ≡ None
   none_of None h = refl
-  none_of (Some x) h = absurd (no_truth h)
+  none_of (Some x) h = absurd (false≢true h)
 
   defined_one : {A : Type 0} (o : Option A) → is_none o ≡ false → o ≡ None → ⊥
-  defined_one None h e = no_truth (sym h)
+  defined_one None h e = false≢true (sym h)
   defined_one (Some x) h e = none-some x (sym e)
 
   -- a function that is defined is none without a definition
@@ -287,7 +285,7 @@ module _ (D : List (List ℕ × ℕ)) where
       quiet_call s w name agrees (known.Library f) is tt (λ n e. not_library f (meaning.Function n) e) (q.library_name D s f count name.offset)
 
   argument_known : (x : Known) → is_argument x ≡ true → q.IsKnown D x
-  argument_known known.Unknown h = absurd (no_truth h)
+  argument_known known.Unknown h = absurd (false≢true h)
   argument_known (known.Declared o) h = tt
   argument_known (known.Library f) h = tt
 

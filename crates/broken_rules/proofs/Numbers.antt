@@ -1,5 +1,6 @@
 -- The numbers of the functions that a text defines.
 use Rattle.std.proofs.Common.{◌≡◌, refl, sym, subst, ap, ◌∙◌, inl, inr, ℕ, suc, ◌<◌, ◌≤◌, Bool, true, false, List, [], ◌∷◌, ◌++◌, length, Option, Some, None, arith}
+use Rattle.std.proofs.lemmas.Bool.{true≢false}
 use Rattle.std.specs.Prelude.{◌⊎◌, ◌+◌, min, is_some, nat_eq, if◌then◌else◌}
 use Rattle.std.specs.Str.{bytes_eq}
 use Rattle.std.proofs.lemmas.Slice.Eq.{bytes_eq-Decides}
@@ -21,9 +22,6 @@ use Rattle.broken_rules.proofs.Unknown.{Defines, noted_by, all_here, all_back, f
 abbrev most : ℕ
 most = 0xffff_ffff
 
-no_truth : true ≡ false → ⊥
-no_truth h = cc
-
 -- ---- one more declaration
 
 abbrev Below : t.Noted → ℕ → Type 0
@@ -39,7 +37,7 @@ one_value false n v h = absurd (none-some v h)
 
 none_of : {A : Type 0} (o : Option A) → is_some o ≡ false → o ≡ None
 none_of None h = refl
-none_of (Some a) h = absurd (no_truth h)
+none_of (Some a) h = absurd (true≢false h)
 
 value_below : (names : List (List ℕ × ℕ)) (key name : List ℕ) (m n v : ℕ) → m ≡ min n most → ((v : ℕ) → named_in names key ≡ Some v → v < n) →
     (named_in names key ≡ Some v) ⊎ ((if bytes_eq key name then Some m else None) ≡ Some v) → v < suc n
@@ -112,7 +110,7 @@ noted_both (x ∷ before) list d = noted_both before list (t.with_declaration d 
 
 new_here : (names : List (List ℕ × ℕ)) (name : List ℕ) (m : ℕ) (b : Bool) → is_some (named_in names name) ≡ b → b ≡ false →
     named_in (if b then names else inserted names name m) name ≡ Some m
-new_here names name m true e f = absurd (no_truth f)
+new_here names name m true e f = absurd (true≢false f)
 new_here names name m false e f =
     named_inserted names name name m (none_of (named_in names name) e)
     ∙ ap (λ x. or_else x (if bytes_eq name name then Some m else None)) (none_of (named_in names name) e)
@@ -120,12 +118,12 @@ new_here names name m false e f =
 
 body_here : (d : t.Noted) (f : Function) (o : Option Block) → is_some o ≡ true → is_some (named_in d.0 f.name.bytes) ≡ false → named_in (t.with_function f d o).0
     f.name.bytes ≡ Some d.1
-body_here d f None h e = absurd (no_truth (sym h))
+body_here d f None h e = absurd (true≢false (sym h))
 body_here d f (Some body) h e = new_here d.0 f.name.bytes d.1 (is_some (named_in d.0 f.name.bytes)) refl e
 
 some_value : {A : Type 0} (o : Option A) → is_some o ≡ true → (v : A) × (o ≡ Some v)
 some_value (Some a) h = (a, refl)
-some_value None h = absurd (no_truth (sym h))
+some_value None h = absurd (true≢false (sym h))
 
 equal_self : (m : ℕ) → nat_eq m m ≡ true
 equal_self m = grind (arith, nat_tests)

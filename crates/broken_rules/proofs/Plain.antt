@@ -1,5 +1,6 @@
 -- Faults in constants and formats: what a part of a text is by itself, wherever it stands.
 use Rattle.std.proofs.Common.{◌≡◌, refl, sym, subst, ap, ◌∙◌, inl, inr, ℕ, Bool, true, false, List, [], ◌∷◌, length, Option, Some, None}
+use Rattle.std.proofs.lemmas.Bool.{true≢false, not-true}
 use Rattle.std.specs.Prelude.{◌⊎◌, nat_le, not, is_none, is_some, ◌||◌, ◌&&◌, nat_eq, if◌then◌else◌, slice_get, option_map, pos}
 use Rattle.hls_ints.specs.Types.{IntegerType, wrapped}
 use Rattle.c_token.specs.declared.constant.Constant.{Constant}
@@ -364,31 +365,24 @@ initial_by_is ty v is.NotConstant e =
     good_before plain_ledger (finds rule.Constant (out-Expression v).offset) (λ _. pure (pos 0)) (Part.Initial v ∷ [])
     (part_fault (Part.Initial v) rule.Constant (out-Expression v).offset (e, refl) (λ z h. h.1)) (λ _. good_pure plain_ledger (pos 0))
 
-no_truth : true ≡ false → ⊥
-no_truth h = cc
-
 pub listed_is : (size v : ExpressionTree) (n index : ℕ) → n ≡ length_given (constancy size) →
     Plain (finds_if (nat_le n index) rule.Constant (out-Expression v).offset) (Part.Listed size index v ∷ [])
 listed_is size v n index is =
     let same = ap (λ m. nat_le m index) is in
     part_if (nat_le n index) (Part.Listed size index v) rule.Constant (out-Expression v).offset (λ b. (sym same ∙ b, refl)) (λ z h. h.1)
-    (λ b z h. no_truth (sym h.0 ∙ sym same ∙ b))
+    (λ b z h. true≢false (sym h.0 ∙ sym same ∙ b))
 
 -- ---- formats
 
-not_false : (b : Bool) → not b ≡ true → b ≡ false
-not_false true h = sym h
-not_false false h = refl
-
 not_true : (b : Bool) → not b ≡ false → b ≡ false → ⊥
-not_true true h k = no_truth k
-not_true false h k = no_truth h
+not_true true h k = true≢false k
+not_true false h k = true≢false h
 
 pub print_is : (name : Name) (first : Argument) (values : List Argument) →
     Plain (finds_if (not (k.takes (k.format first) (length values))) rule.Format (a.argument_offset first)) (Part.Print name (first ∷ values) ∷ [])
 print_is name first values =
     let b = k.takes (k.format first) (length values) in
-    part_if (not b) (Part.Print name (first ∷ values)) rule.Format (a.argument_offset first) (λ h. (not_false b h, refl)) (λ z h. h.1) (λ h z q. not_true b h q.0)
+    part_if (not b) (Part.Print name (first ∷ values)) rule.Format (a.argument_offset first) (λ h. (not-true b h, refl)) (λ z h. h.1) (λ h z q. not_true b h q.0)
 
 pub no_print_is : (name : Name) → Plain (finds rule.Format name.offset) (Part.Print name [] ∷ [])
 no_print_is name = part_fault (Part.Print name []) rule.Format name.offset refl (λ z h. h)

@@ -1,5 +1,6 @@
 -- The rule on formats: the calls of printf that break it, and the first fault of a text.
-use Rattle.std.proofs.Common.{◌≡◌, ◌≢◌, refl, sym, subst, ap, ◌∙◌, ℕ, ◌≤◌, Bool, true, false, List, [], ◌∷◌, length, Option, Some, None, arith}
+use Rattle.std.proofs.Common.{◌≡◌, ◌≢◌, refl, sym, subst, ap, ◌∙◌, ℕ, ◌≤◌, true, List, [], ◌∷◌, length, Option, Some, None, arith}
+use Rattle.std.proofs.lemmas.Bool.{false≢true, true≢false, false_from_ne_true}
 use Rattle.std.specs.Prelude.{◌&&◌, nat_eq, nat_le, count_by, Contains}
 use Rattle.std.proofs.lemmas.Bool.Decides.{nat_tests}
 use Rattle.std.proofs.lemmas.Option.{none-some}
@@ -25,12 +26,6 @@ use Rattle.broken_rules.proofs.Plain.{plain_ledger, BreaksAt, PrintBreaks, fault
 use Rattle.broken_rules.proofs.PlainScope.{first_is_part, part_is_reached}
 use Rattle.broken_rules.proofs.Constants.{any_contains, contains_any}
 use Rattle.broken_rules.proofs.Formats.{read, is_read}
-
-no_truth : true ≡ false → ⊥
-no_truth h = cc
-
-no_false : false ≡ true → ⊥
-no_false h = cc
 
 -- ---- what a printf takes
 
@@ -60,7 +55,7 @@ text_some (byte ∷ more) h = refl
 -- what is taken is a format with as many values
 takes_text : (first : Argument) (values : List Argument) (bytes : List ℕ) (at : ℕ) → out-Argument first ≡ Argument-F.Text bytes at → (o : Option (List Piece)) →
     k.text_pieces bytes ≡ o → k.takes o (length values) ≡ true → IsPrint first values
-takes_text first values bytes at is None e h = absurd (no_false h)
+takes_text first values bytes at is None e h = absurd (false≢true h)
 takes_text first values bytes at is (Some pieces) e h =
     let fit = fits (count_by is_conversion pieces) (length values) h in
     let some = some_text bytes pieces e in
@@ -75,9 +70,9 @@ takes_text first values bytes at is (Some pieces) e h =
 
 takes_layer : (first : Argument) (values : List Argument) (l : a.ArgumentLayer) → out-Argument first ≡ l → k.takes (k.format_in l) (length values) ≡ true → IsPrint first values
 takes_layer first values (Argument-F.Text bytes at) is h = takes_text first values bytes at is (k.text_pieces bytes) refl h
-takes_layer first values (Argument-F.Value v) is h = absurd (no_false h)
-takes_layer first values (Argument-F.Address q at) is h = absurd (no_false h)
-takes_layer first values (Argument-F.Pointer q) is h = absurd (no_false h)
+takes_layer first values (Argument-F.Value v) is h = absurd (false≢true h)
+takes_layer first values (Argument-F.Address q at) is h = absurd (false≢true h)
+takes_layer first values (Argument-F.Pointer q) is h = absurd (false≢true h)
 
 takes_is : (first : Argument) (values : List Argument) → k.takes (k.format first) (length values) ≡ true → IsPrint first values
 takes_is first values h = takes_layer first values (out-Argument first) refl h
@@ -88,10 +83,6 @@ is_taken first values h =
     let r = is_read h.bytes (length values) h.format in
     let format = ap k.format_in h.text ∙ text_some h.bytes h.some ∙ r.1 in
     ap (λ o. k.takes o (length values)) format ∙ taken (count_by is_conversion r.0) (length values) r.2 h.most
-
-not_taken : (b : Bool) → (b ≡ true → ⊥) → b ≡ false
-not_taken true h = absurd (h refl)
-not_taken false h = refl
 
 -- ---- the rule
 
@@ -123,7 +114,7 @@ print_breaks : (tree : TranslationUnit) (at : ℕ) (name : Name) (arguments : Li
     PrintBreaks name arguments (fault_at rule.Format at) → Breaks tree rule.Format at
 print_breaks tree at name [] c h = at_place tree at name.offset h (Breaks.NoFormat name c)
 print_breaks tree at name (first ∷ values) c h =
-    at_place tree at (a.argument_offset first) h.1 (Breaks.BadFormat name first values c (λ is. no_truth (sym (is_taken first values is) ∙ h.0)))
+    at_place tree at (a.argument_offset first) h.1 (Breaks.BadFormat name first values c (λ is. true≢false (sym (is_taken first values is) ∙ h.0)))
 
 part_breaks : (tree : TranslationUnit) (at : ℕ) (part : Part) → Contains (parts tree) part → BreaksAt part (fault_at rule.Format at) → Breaks tree rule.Format at
 part_breaks tree at (Part.Print name arguments) c h = print_breaks tree at name arguments c h
@@ -150,7 +141,7 @@ entered tree part at c h = contains_any (λ part. BreaksAt part (fault_at rule.F
 
 broken_entered : (tree : TranslationUnit) (r : Rule) (at : ℕ) → Breaks tree r at → r ≡ rule.Format → Entered plain_ledger (parts tree) (fault_at rule.Format at)
 broken_entered tree r at (Breaks.BadFormat name first values c b) e =
-    entered tree (Part.Print name (first ∷ values)) (a.argument_offset first) c (not_taken (k.takes (k.format first) (length values)) (λ h. b (takes_is first values h)), refl)
+    entered tree (Part.Print name (first ∷ values)) (a.argument_offset first) c (false_from_ne_true (k.takes (k.format first) (length values)) (λ h. b (takes_is first values h)), refl)
 broken_entered tree r at (Breaks.NoFormat name c) e = entered tree (Part.Print name []) name.offset c refl
 broken_entered tree r at (Breaks.UnknownName w name c u) e = absurd (unknown_not e)
 broken_entered tree r at (Breaks.UnknownCall w name c u) e = absurd (unknown_not e)

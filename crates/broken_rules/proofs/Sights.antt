@@ -1,5 +1,6 @@
 -- How the names of a scope agree with the declarations in sight.
 use Rattle.std.proofs.Common.{◌≡◌, refl, sym, subst, ap, ◌∙◌, ℕ, zero, suc, Bool, true, false, List, [], ◌∷◌, ◌++◌, length, Option, Some, None, arith}
+use Rattle.std.proofs.lemmas.Bool.{false≢true}
 use Rattle.std.specs.Prelude.{◌-◌, is_some, fold, remove, slice_get, if◌then◌else◌}
 use Rattle.std.specs.Str.{bytes_eq}
 use Rattle.std.proofs.lemmas.Slice.Eq.{bytes_eq-Decides}
@@ -20,9 +21,6 @@ use Rattle.c_resolution.specs.Resolving.{scope_with}
 use Rattle.c_resolution.specs.Functions as y
 use Rattle.broken_rules.specs.Sight.{Declared, Names, Where, declaration_in, with_names, inside}
 use Rattle.broken_rules.proofs.Walks.{IsUsual, IsParameter, IsGlobal, IsOpen, is_thread, is_thread_object, within}
-
-no_truth : false ≡ true → ⊥
-no_truth h = cc
 
 -- ---- names in tables
 
@@ -91,7 +89,7 @@ module _ (D : List (List ℕ × ℕ)) where
   same_taken : (headers : List Header) (b : Bool) (d : Declared) (x : Option Declared) (z : Option Meaning) → (b ≡ true → is_some z ≡ true) → Same headers x z →
       Same headers (or_else x (if b then Some d else None)) z
   same_taken headers b d (Some e) (Some m) taken h = h
-  same_taken headers true d None None taken h = absurd (no_truth (taken refl))
+  same_taken headers true d None None taken h = absurd (false≢true (taken refl))
   same_taken headers false d None None taken h = tt
   same_taken headers b d None (Some m) taken h = absurd h
   same_taken headers b d (Some e) None taken h = absurd h

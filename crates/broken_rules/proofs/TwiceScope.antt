@@ -1,5 +1,6 @@
 -- Names that are declared twice, in a whole text.
 use Rattle.std.proofs.Common.{◌≡◌, refl, sym, subst, ap, ◌∙◌, ℕ, Bool, true, false, List, [], ◌∷◌, length, Option, Some, None, inl, inr}
+use Rattle.std.proofs.lemmas.Bool.{false≢true, or_cases}
 use Rattle.std.specs.Prelude.{pos, ◌||◌, ◌&&◌, Contains, is_some, not, if◌then◌else◌, slice_get, ◌⊎◌}
 use Rattle.hls_ints.specs.Types.{IntegerType, wrapped}
 use Rattle.c_token.specs.declared.constant.Constant.{Constant}
@@ -120,28 +121,21 @@ events s w = record {
   listed = λ size v n index is. q.quiet (Part.Listed size index v) (λ x k. k) (q.other_if _ rule.Constant (out-Expression v).offset (λ j. j));
 }
 
-no_truth : false ≡ true → ⊥
-no_truth h = cc
-
-some_or : (b c : Bool) → (b || c) ≡ true → (b ≡ true) ⊎ (c ≡ true)
-some_or true c h = inl refl
-some_or false c h = inr h
-
 none_first : (b c : Bool) → (b || c) ≡ false → b ≡ false
 none_first true c h = h
 none_first false c h = refl
 
 none_second : (b c : Bool) → (b || c) ≡ false → c ≡ false
-none_second true c h = absurd (no_truth (sym h))
+none_second true c h = absurd (false≢true (sym h))
 none_second false c h = h
 
 none_is : {A : Type 0} (o : Option A) → is_some o ≡ false → o ≡ None
 none_is None h = refl
-none_is (Some x) h = absurd (no_truth (sym h))
+none_is (Some x) h = absurd (false≢true (sym h))
 
 some_is : {A : Type 0} (o : Option A) → is_some o ≡ true → (x : A) × (o ≡ Some x)
 some_is (Some x) h = (x, refl)
-some_is None h = absurd (no_truth h)
+some_is None h = absurd (false≢true h)
 
 library_or : (o : Option LibraryFunction) → (is_some o ≡ true) ⊎ (o ≡ None)
 library_or None = inr refl
@@ -214,7 +208,7 @@ module _ (D : List (List ℕ × ℕ)) where
 
   -- a name that is free
   free_by : (s : Scope) (w : Where) (name : Name) (d : Declared) → Agrees D s w → function_named name.bytes ≡ None → named_in s.inner name.bytes ≡ None → IsTwice w name d → ⊥
-  free_by s w name d agrees own none (inl k) = no_truth (sym (ap is_some own) ∙ k)
+  free_by s w name d agrees own none (inl k) = false≢true (sym (ap is_some own) ∙ k)
   free_by s w name d agrees own none (inr (inl k)) =
       none-some k.earlier (sym (same_none s.headers (named_in (innermost w.scopes) name.bytes) (named_in s.inner name.bytes) (inner_same s w name.bytes own agrees) none) ∙ k.first)
   free_by s w name d agrees own none (inr (inr k)) =
@@ -225,7 +219,7 @@ module _ (D : List (List ℕ × ℕ)) where
   unfolding is_taken
   declared_by x w name d o agrees means true taken =
       (twice_still x w name d (taken_by x.scope w name d o agrees means (library_or (function_named name.bytes))
-      (some_or (is_some (function_named name.bytes)) (is_some (named_in x.scope.inner name.bytes)) taken))).0
+      (or_cases (is_some (function_named name.bytes)) (is_some (named_in x.scope.inner name.bytes)) taken))).0
   declared_by x w name d o agrees means false free =
       let own = none_is (function_named name.bytes) (none_first (is_some (function_named name.bytes)) (is_some (named_in x.scope.inner name.bytes)) free) in
       let none = none_is (named_in x.scope.inner name.bytes) (none_second (is_some (function_named name.bytes)) (is_some (named_in x.scope.inner name.bytes)) free) in
@@ -252,14 +246,14 @@ module _ (D : List (List ℕ × ℕ)) where
       same_some x.scope.headers (named_in (innermost w.scopes) f.name.bytes) (named_in x.scope.inner f.name.bytes) (inner_same x.scope w f.name.bytes own agrees) o e
 
   both_functions : (b c : Bool) → b ≡ true → c ≡ true → (b && c) ≡ false → ⊥
-  both_functions true true h k e = no_truth (sym e)
-  both_functions false c h k e = no_truth h
-  both_functions true false h k e = no_truth k
+  both_functions true true h k e = false≢true (sym e)
+  both_functions false c h k e = false≢true h
+  both_functions true false h k e = false≢true k
 
   not_again : (w : Where) (f : Function) (second : Bool) (e : Declared) → IsDeclared w f.name e → is_function e ≡ true → IsSecondBy w f second → function_named
       f.name.bytes ≡ None →
       second ≡ false → IsTwice w f.name (Declared.OfFunction f) → ⊥
-  not_again w f second e first function by own out (inl k) = no_truth (sym (ap is_some own) ∙ k)
+  not_again w f second e first function by own out (inl k) = false≢true (sym (ap is_some own) ∙ k)
   not_again w f second e first function by own out (inr (inl k)) =
       both_functions (is_function k.earlier) true (ap is_function (same_Some _ _ (sym k.first ∙ first)) ∙ function) refl k.no_functions
   not_again w f second e first function by own out (inr (inr k)) =

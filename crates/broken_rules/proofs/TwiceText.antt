@@ -1,5 +1,6 @@
 -- Names that are declared twice: the first fault of a text, where it defines fewer than 2 ^ 32 functions.
 use Rattle.std.proofs.Common.{◌≡◌, refl, sym, subst, ap, ◌∙◌, ℕ, Bool, true, false, List, [], ◌∷◌, ◌++◌, length, Option, Some, append-nil, inl, inr}
+use Rattle.std.proofs.lemmas.Bool.{false≢true}
 use Rattle.std.specs.Prelude.{◌&&◌, Contains, is_some, not, if◌then◌else◌, ◌⊎◌}
 use Rattle.c_tree.specs.declared.expression.Name.{Name}
 use Rattle.c_tree.specs.declared.declaration.Function.{Function}
@@ -51,9 +52,6 @@ use Rattle.broken_rules.proofs.TwiceScope.{IsSecondBy}
 abbrev most : ℕ
 most = 0xffff_ffff
 
-no_truth : false ≡ true → ⊥
-no_truth h = cc
-
 abbrev Named : Type 0
 Named = List ℕ × Declared
 
@@ -102,7 +100,7 @@ no_object words pointer d g h = cc
 
 body_defines : (f : Function) (key : List ℕ) (b : Bool) → b ≡ true → f.name.bytes ≡ key → Defines (definition_by f b) key
 body_defines f key true e same = inl same
-body_defines f key false e same = absurd (no_truth e)
+body_defines f key false e same = absurd (false≢true e)
 
 objects_by : (words : Words) (pointer : Bool) (d : GlobalDeclarator) (list : List GlobalDeclarator) (key : List ℕ) (g : Function) →
     Contains {X = Named} ((d.name.bytes, Declared.OfObject words pointer d) ∷ []) (key, Declared.OfFunction g) ⊎ Contains (objects_names words false list) (
@@ -210,19 +208,19 @@ module _ (tree : TranslationUnit) (few : IsOfFew tree) where
   first_and false c h = h
 
   second_and : (b c : Bool) → (b && not c) ≡ true → c ≡ true → ⊥
-  second_and true true h e = no_truth h
-  second_and false c h e = no_truth h
-  second_and true false h e = no_truth e
+  second_and true true h e = false≢true h
+  second_and false c h e = false≢true h
+  second_and true false h e = false≢true e
 
   both_and : (b c : Bool) → b ≡ true → c ≡ false → (b && not c) ≡ true
   both_and true false h e = refl
-  both_and false c h e = absurd (no_truth h)
-  both_and true true h e = absurd (no_truth (sym e))
+  both_and false c h e = absurd (false≢true h)
+  both_and true true h e = absurd (false≢true (sym e))
 
   decided : (before : List ExternalDeclaration) (key : List ℕ) (b : Bool) → is_some (named_in (noted_by ([], 0) before).0 key) ≡ b → Defines (definitions before) key ⊎
       (Defines (definitions before) key → ⊥)
   decided before key true e = inl (from_nothing key before (all_back before ([], 0) key e))
-  decided before key false e = inr (λ k. no_truth (sym e ∙ all_here before ([], 0) key k))
+  decided before key false e = inr (λ k. false≢true (sym e ∙ all_here before ([], 0) key k))
 
   forced : (P : Type 0) → P ⊎ (P → ⊥) → ((P → ⊥) → ⊥) → P
   forced P (inl p) h = p
@@ -249,7 +247,7 @@ module _ (tree : TranslationUnit) (few : IsOfFew tree) where
             (d.0, subst (λ l. Contains l (f.name.bytes, Declared.OfFunction d.0)) (sym scope) d.1, d.2, body);
         back = λ out g c defined body.
             let some = all_defines B f.name.bytes g defined (subst (λ l. Contains l (f.name.bytes, Declared.OfFunction g)) scope c) in
-            no_truth (sym out ∙ both_and (is_some f.body) (y.same_number h.definition (place_in_tree n)) body
+            false≢true (sym out ∙ both_and (is_some f.body) (y.same_number h.definition (place_in_tree n)) body
             (numbers ∙ second_number B f rest tree.declarations here.text n here.count (few_before B (external.Function f ∷ rest) n here.text here.count) some));
       }
 

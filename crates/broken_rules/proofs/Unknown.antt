@@ -1,5 +1,6 @@
 -- The rule on unknown names: the names that break it, and the first fault of a text.
 use Rattle.std.proofs.Common.{◌≡◌, refl, sym, subst, ap, ◌∙◌, inl, inr, ℕ, Bool, true, false, List, [], ◌∷◌, ◌++◌, Option, Some, None}
+use Rattle.std.proofs.lemmas.Bool.{true≢false}
 use Rattle.std.specs.Prelude.{◌⊎◌, fold, Contains, is_some, if◌then◌else◌}
 use Rattle.std.specs.Str.{bytes_eq}
 use Rattle.std.proofs.lemmas.Slice.Eq.{bytes_eq-Decides}
@@ -32,15 +33,12 @@ use Rattle.broken_rules.proofs.NameScope.{text_names}
 
 -- ---- which functions a text defines
 
-no_truth : true ≡ false → ⊥
-no_truth h = cc
-
 abbrev pub IsHere : List (List ℕ × ℕ) → List ℕ → Type 0
 IsHere names key = is_some (named_in names key) ≡ true
 
 here_or : {A : Type 0} (x z : Option A) → is_some x ≡ true → is_some (or_else x z) ≡ true
 here_or (Some a) z h = refl
-here_or None z h = absurd (no_truth (sym h))
+here_or None z h = absurd (true≢false (sym h))
 
 or_here : {A : Type 0} (x z : Option A) → is_some z ≡ true → is_some (or_else x z) ≡ true
 or_here (Some a) z h = refl
@@ -52,7 +50,7 @@ from_or None z h = inr h
 
 is_none : {A : Type 0} (o : Option A) → is_some o ≡ false → o ≡ None
 is_none None h = refl
-is_none (Some a) h = absurd (no_truth h)
+is_none (Some a) h = absurd (true≢false h)
 
 noted_kept : (names : List (List ℕ × ℕ)) (name key : List ℕ) (n : ℕ) (b : Bool) → is_some (named_in names name) ≡ b → IsHere names key →
     IsHere (if b then names else inserted names name n) key
@@ -68,7 +66,7 @@ noted_new names name n false e =
 
 one_here : (key name : List ℕ) (n : ℕ) (c : Bool) → bytes_eq key name ≡ c → is_some (if c then Some n else None) ≡ true → name ≡ key
 one_here key name n true e h = sym ((bytes_eq-Decides key name).0 e)
-one_here key name n false e h = absurd (no_truth (sym h))
+one_here key name n false e h = absurd (true≢false (sym h))
 
 back_by : (names : List (List ℕ × ℕ)) (name key : List ℕ) (n : ℕ) → (is_some (named_in names key) ≡ true) ⊎ (is_some (if bytes_eq key name then Some n else None) ≡ true) →
     IsHere names key ⊎ (name ≡ key)
@@ -169,10 +167,10 @@ nobody None h = refl
 nobody (Some a) h = absurd (h refl)
 
 no_here : (o : Option ℕ) → o ≡ None → is_some o ≡ true → ⊥
-no_here o e h = no_truth (sym h ∙ ap is_some e)
+no_here o e h = true≢false (sym h ∙ ap is_some e)
 
 pub from_nothing : (key : List ℕ) (list : List ExternalDeclaration) → IsHere [] key ⊎ Defines (definitions list) key → Defines (definitions list) key
-from_nothing key list (inl h) = absurd (no_truth (sym h))
+from_nothing key list (inl h) = absurd (true≢false (sym h))
 from_nothing key list (inr h) = h
 
 never_defined : (tree : TranslationUnit) (key : List ℕ) → named_in (t.definitions tree.declarations) key ≡ None → IsNeverDefined tree key

@@ -1,5 +1,6 @@
 -- What the walk over an expression finds, by its parts.
 use Rattle.std.proofs.Common.{◌≡◌, refl, sym, subst, ap, inl, inr, ℕ, Bool, true, false, List, [], ◌∷◌, ◌++◌, map, length, Option, Some, None}
+use Rattle.std.proofs.lemmas.Bool.{false≢true}
 use Rattle.std.specs.Prelude.{◌&&◌, if◌then◌else◌}
 use Rattle.std.specs.List.{AllByRecursion}
 use denote.Hole.Holds.{Such}
@@ -49,9 +50,6 @@ is_argument_name s (Some name) = is_argument (look_up s name)
 each_part : {A : Type 0} (of : A → Parts) (list : List A) → all_of (map of list) ≡ of_each of list
 each_part of [] = refl
 each_part of (a ∷ list) = ap (λ ps. of a ++ ps) (each_part of list)
-
-no_truth : false ≡ true → ⊥
-no_truth h = cc
 
 module _ (L : Ledger) (s : Scope) (w : Where) (events : Events L s w) where
   refused : (r : Rule) (at : ℕ) → IsOther r → Good L (e.refused r at) []
@@ -121,7 +119,7 @@ module _ (L : Ledger) (s : Scope) (w : Where) (events : Events L s w) where
     value = h;
     condition = λ at. operand_condition walk at ps h;
     converted = λ no. h;
-    argument = λ is. absurd (no_truth is);
+    argument = λ is. absurd (false≢true is);
   }
 
   one_used : (name : Name) → ((x : L.Entry) → L.At (Part.Use w name) x → ⊥) → (x : L.Entry) → Entered L (Part.Use w name ∷ []) x → ⊥
@@ -147,7 +145,7 @@ module _ (L : Ledger) (s : Scope) (w : Where) (events : Events L s w) where
         value = used;
         condition = λ at. operand_condition (e.place_value s m) at (ps ++ Part.Use w name ∷ []) used;
         converted = λ no. used;
-        argument = λ is. absurd (no_truth is);
+        argument = λ is. absurd (false≢true is);
       }
   place_form name None (Some ps) h = absurd h
   place_form name (Some walk) None h = absurd h
@@ -166,7 +164,7 @@ module _ (L : Ledger) (s : Scope) (w : Where) (events : Events L s w) where
         (good_before L m.condition (λ k. pure (e.opposite_of k)) q.parts h.condition (λ k. good_pure L (e.opposite_of k)))
         (operand_condition (e.unary_value s operator m) at q.parts (unary_value operator m q h));
     converted = λ no. unary_value operator m q h;
-    argument = λ is. absurd (no_truth is);
+    argument = λ is. absurd (false≢true is);
   }
 
   argument_read : (m : Meant) (q : Parted) → GoodMeant m q → (b : Bool) → is_argument_name s m.name ≡ b → Good L (if b then pure e.argument_value else m.value) q.converted
@@ -430,7 +428,7 @@ module _ (L : Ledger) (s : Scope) (w : Where) (events : Events L s w) where
             (λ k. good_through L (e.term_condition s) (e.term s) term_parts list (term_conditions list all) k))
             (operand_condition (e.binary_value s m terms) at ps (binary_value m q h list all));
         converted = λ no. binary_value m q h list all;
-        argument = λ is. absurd (no_truth is);
+        argument = λ is. absurd (false≢true is);
       }
 
   call_value : (name : Name) (list : List Looked) (ps : Parts) → Good L (visited (λ (a : Looked). a) list) ps →
