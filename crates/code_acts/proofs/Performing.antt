@@ -131,7 +131,8 @@ module _ (P : Program) (call : ThreadCall) (old mid new : Lowering) (b : OpenBlo
         (λ globals.
         subst (λ w. IsAct W.setting.program variables (act_at size old.objects call) (work_move W.setting.program (record { locals = f.locals; globals = globals }) f fs w)
         (λ frames. Follows W.setting.program W.setting.stages i (W.stage_of acts.next) variables arrays frames)) (sym work) (
-          same_act W.setting.program call variables (number_operand size (first_of_call old.objects call) (place_of call)) (act_operand.Variable (suc size) _) f.kept stands.kept.0 stands.kept.1 stands.kept.2,
+          same_act W.setting.program call variables (number_operand size (first_of_call old.objects call) (place_of call)) (act_operand.Variable (suc size) _)
+              f.kept stands.kept.0 stands.kept.1 stands.kept.2,
           (after reached_new i (omega arith)).fresh idle_new acts.next next_here
               (resume_less W.setting.program W.setting.stages W.setting.word W.setting.callers i (suc i) (omega arith) resume) variables arrays (going_on f k) fs refl
               (record { number = stands.number; shape = stands.shape; locals = stands.locals; kept = tt; callers = stands.callers }),

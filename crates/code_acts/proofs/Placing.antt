@@ -105,7 +105,8 @@ module _ (P : Program) (f : Function) (o : Objects) (are : AreObjects P o) where
   barrier_values barrier m vs ls at e =
       one_value (object_number (first_barrier P) barrier m) (number_expression (first_in o.barriers (object_of barrier)) barrier) m vs ls (barrier_value barrier at m) e
 
-  pub operand_values : (call : ThreadCall) (m : Memory) (vs : List ℤ) (ls : List Location) → IsThreadCall P f call → operands_of P call m ≡ Gives vs ls → values (operand_expressions o call) m ≡ Gives vs ls
+  pub operand_values : (call : ThreadCall) (m : Memory) (vs : List ℤ) (ls : List Location) → IsThreadCall P f call → operands_of P call m ≡ Gives vs ls →
+      values (operand_expressions o call) m ≡ Gives vs ls
   operand_values (ThreadCall.Create thread routine argument) m vs ls at e =
       two_values (object_number (first_thread P) thread m) (number_expression (first_in o.threads (object_of thread)) thread) argument m vs ls (thread_value thread at.0 m) e
   operand_values (ThreadCall.Join thread) m vs ls at e =

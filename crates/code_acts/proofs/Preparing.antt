@@ -1,6 +1,7 @@
 -- The operands of a pthread call are made ready.
 use Rattle.std.proofs.Common.{◌≡◌, ℕ, suc, ◌+◌, ◌^◌, ◌<◌, List, [], ◌∷◌, ◌++◌, length, ℤ, pos, refl, sym, ap, ◌∙◌, subst, arith, append-nil, append_assoc, length-append}
-use Rattle.std.specs.Prelude.{slice_get}
+use Rattle.std.proofs.Common.{inl, inr, ⊎_elim}
+use Rattle.std.specs.Prelude.{◌⊎◌, slice_get}
 use Rattle.hls_ints.specs.Types.{long_int, wrapped}
 use Rattle.c_program.specs.declared.tree.BinaryOperator.TheVariants.{Add}
 use Rattle.c_program.specs.Tree.{Expression, ObjectPlace, ThreadCall}
@@ -27,15 +28,18 @@ use Rattle.straight_code.proofs.Values.{constant_at, cast_at, binary_at}
 use Rattle.straight_code.proofs.Steps.{gives_is}
 use Rattle.straight_code.proofs.Puts.{wrapped_twice, homes_more, puts_value}
 use Rattle.straight_code.proofs.Working.{value_works}
-use Rattle.code_acts.specs.Acts.{place_of, values_of, first_of_call, number_expression, number_operand, with_values, act_on, act_at, Prepared, Prepares, PutsWord, PutsNumber, PutsIfAny, PreparesCall, WorksOnCall}
+use Rattle.code_acts.specs.Acts.{place_of, values_of, first_of_call, number_expression, number_operand, with_values, act_on, act_at, Prepared, Prepares}
+use Rattle.code_acts.specs.Acts.{PutsWord, PutsNumber, PutsIfAny, PreparesCall, WorksOnCall}
 use Rattle.code_acts.proofs.Typed.{object_works, value_works_}
 
 -- the number of an element is the sum of its index and the number of the first
 pub element_evaluates : (homes : List Home) (object length_ first : ℕ) (index : Expression) (old mid new : OpenBlock) (a left right number : Operand) → Evaluates homes index old mid a →
-    IsConverted long_int a left → right ≡ plain (FromConstant long_int (pos first)) → new ≡ with_more mid (Binary Add long_int left right ∷ []) → number ≡ plain (FromValue (length mid.operations) long_int) →
+    IsConverted long_int a left → right ≡ plain (FromConstant long_int (pos first)) → new ≡ with_more mid (Binary Add long_int left right ∷ []) →
+    number ≡ plain (FromValue (length mid.operations) long_int) →
     length new.operations < 2 ^ 32 → Evaluates homes (number_expression first (ObjectPlace.Element object length_ index)) old new number
 element_evaluates homes object length_ first index old mid new a left right number value is_left is_right added is few =
-    binary_at homes (Expression.Cast long_int index) (Expression.Constant long_int (pos first)) (number_expression first (ObjectPlace.Element object length_ index)) Add long_int long_int old mid mid new
+    binary_at homes (Expression.Cast long_int index) (Expression.Constant long_int (pos first)) (number_expression first (ObjectPlace.Element object length_ index))
+    Add long_int long_int old mid mid new
     left right number refl (cast_at homes index (Expression.Cast long_int index) long_int old mid a left refl value is_left)
     (constant_at homes (Expression.Constant long_int (pos first)) mid long_int (pos first) right refl is_right) added is refl few
 
@@ -189,29 +193,37 @@ none_put homes n es b none = subst (λ z. PutsIfAny homes n z b b) (sym none) re
 pub value_put : (homes : List Home) (n : ℕ) (es : List Expression) (e : Expression) (old new : OpenBlock) → es ≡ e ∷ [] → PutsWord homes n e old new → PutsIfAny homes n es old new
 value_put homes n es e old new one w = subst (λ z. PutsIfAny homes n z old new) (sym one) w
 
-any_prepares : (homes : List Home) (o : Objects) (n : ℕ) (call : ThreadCall) (old mid new : OpenBlock) → PutsNumber homes n (first_of_call o call) (place_of call) old mid →
-    PutsIfAny homes (suc n) (values_of call) mid new → PreparesCall homes o n call old new
-any_prepares homes o n (ThreadCall.Create thread routine argument) old mid new w v = value_prepares homes o n (ThreadCall.Create thread routine argument) argument old mid new refl w v
-any_prepares homes o n (ThreadCall.Join thread) old mid new w v = object_prepares homes o n (ThreadCall.Join thread) old new refl (subst (PutsNumber homes n (first_of_call o (ThreadCall.Join thread)) (place_of (ThreadCall.Join thread)) old) (sym v) w)
-any_prepares homes o n (ThreadCall.MutexInit mutex) old mid new w v = object_prepares homes o n (ThreadCall.MutexInit mutex) old new refl (subst (PutsNumber homes n (first_of_call o (ThreadCall.MutexInit mutex)) (place_of (ThreadCall.MutexInit mutex)) old) (sym v) w)
-any_prepares homes o n (ThreadCall.MutexDestroy mutex) old mid new w v = object_prepares homes o n (ThreadCall.MutexDestroy mutex) old new refl (subst (PutsNumber homes n (first_of_call o (ThreadCall.MutexDestroy mutex)) (place_of (ThreadCall.MutexDestroy mutex)) old) (sym v) w)
-any_prepares homes o n (ThreadCall.MutexLock mutex) old mid new w v = object_prepares homes o n (ThreadCall.MutexLock mutex) old new refl (subst (PutsNumber homes n (first_of_call o (ThreadCall.MutexLock mutex)) (place_of (ThreadCall.MutexLock mutex)) old) (sym v) w)
-any_prepares homes o n (ThreadCall.MutexUnlock mutex) old mid new w v = object_prepares homes o n (ThreadCall.MutexUnlock mutex) old new refl (subst (PutsNumber homes n (first_of_call o (ThreadCall.MutexUnlock mutex)) (place_of (ThreadCall.MutexUnlock mutex)) old) (sym v) w)
-any_prepares homes o n (ThreadCall.BarrierInit barrier count) old mid new w v = value_prepares homes o n (ThreadCall.BarrierInit barrier count) count old mid new refl w v
-any_prepares homes o n (ThreadCall.BarrierDestroy barrier) old mid new w v = object_prepares homes o n (ThreadCall.BarrierDestroy barrier) old new refl (subst (PutsNumber homes n (first_of_call o (ThreadCall.BarrierDestroy barrier)) (place_of (ThreadCall.BarrierDestroy barrier)) old) (sym v) w)
-any_prepares homes o n (ThreadCall.BarrierWait barrier) old mid new w v = object_prepares homes o n (ThreadCall.BarrierWait barrier) old new refl (subst (PutsNumber homes n (first_of_call o (ThreadCall.BarrierWait barrier)) (place_of (ThreadCall.BarrierWait barrier)) old) (sym v) w)
+-- a call takes no value, or one
+values_few : (call : ThreadCall) → (values_of call ≡ []) ⊎ ((e : Expression) × (values_of call ≡ e ∷ []))
+values_few (ThreadCall.Create thread routine argument) = inr (argument, refl)
+values_few (ThreadCall.Join thread) = inl refl
+values_few (ThreadCall.MutexInit mutex) = inl refl
+values_few (ThreadCall.MutexDestroy mutex) = inl refl
+values_few (ThreadCall.MutexLock mutex) = inl refl
+values_few (ThreadCall.MutexUnlock mutex) = inl refl
+values_few (ThreadCall.BarrierInit barrier count) = inr (count, refl)
+values_few (ThreadCall.BarrierDestroy barrier) = inl refl
+values_few (ThreadCall.BarrierWait barrier) = inl refl
 
-any_works : (homes : List Home) (o : Objects) (n : ℕ) (call : ThreadCall) (old mid new : OpenBlock) → PutsNumber homes n (first_of_call o call) (place_of call) old mid →
-    PutsIfAny homes (suc n) (values_of call) mid new → WorksOnCall homes o n call old new
-any_works homes o n (ThreadCall.Create thread routine argument) old mid new w v = value_works_ homes o n (ThreadCall.Create thread routine argument) argument old mid new refl w v
-any_works homes o n (ThreadCall.Join thread) old mid new w v = object_works homes o n (ThreadCall.Join thread) old new refl (subst (PutsNumber homes n (first_of_call o (ThreadCall.Join thread)) (place_of (ThreadCall.Join thread)) old) (sym v) w)
-any_works homes o n (ThreadCall.MutexInit mutex) old mid new w v = object_works homes o n (ThreadCall.MutexInit mutex) old new refl (subst (PutsNumber homes n (first_of_call o (ThreadCall.MutexInit mutex)) (place_of (ThreadCall.MutexInit mutex)) old) (sym v) w)
-any_works homes o n (ThreadCall.MutexDestroy mutex) old mid new w v = object_works homes o n (ThreadCall.MutexDestroy mutex) old new refl (subst (PutsNumber homes n (first_of_call o (ThreadCall.MutexDestroy mutex)) (place_of (ThreadCall.MutexDestroy mutex)) old) (sym v) w)
-any_works homes o n (ThreadCall.MutexLock mutex) old mid new w v = object_works homes o n (ThreadCall.MutexLock mutex) old new refl (subst (PutsNumber homes n (first_of_call o (ThreadCall.MutexLock mutex)) (place_of (ThreadCall.MutexLock mutex)) old) (sym v) w)
-any_works homes o n (ThreadCall.MutexUnlock mutex) old mid new w v = object_works homes o n (ThreadCall.MutexUnlock mutex) old new refl (subst (PutsNumber homes n (first_of_call o (ThreadCall.MutexUnlock mutex)) (place_of (ThreadCall.MutexUnlock mutex)) old) (sym v) w)
-any_works homes o n (ThreadCall.BarrierInit barrier count) old mid new w v = value_works_ homes o n (ThreadCall.BarrierInit barrier count) count old mid new refl w v
-any_works homes o n (ThreadCall.BarrierDestroy barrier) old mid new w v = object_works homes o n (ThreadCall.BarrierDestroy barrier) old new refl (subst (PutsNumber homes n (first_of_call o (ThreadCall.BarrierDestroy barrier)) (place_of (ThreadCall.BarrierDestroy barrier)) old) (sym v) w)
-any_works homes o n (ThreadCall.BarrierWait barrier) old mid new w v = object_works homes o n (ThreadCall.BarrierWait barrier) old new refl (subst (PutsNumber homes n (first_of_call o (ThreadCall.BarrierWait barrier)) (place_of (ThreadCall.BarrierWait barrier)) old) (sym v) w)
+module _ (homes : List Home) (o : Objects) (n : ℕ) (call : ThreadCall) (old mid new : OpenBlock) (number : PutsNumber homes n (first_of_call o call) (place_of call) old mid)
+    (value_ : PutsIfAny homes (suc n) (values_of call) mid new) where
+  number_alone : values_of call ≡ [] → PutsNumber homes n (first_of_call o call) (place_of call) old new
+  number_alone none =
+      let same : new ≡ mid = subst (λ es. PutsIfAny homes (suc n) es mid new) none value_ in
+      subst (PutsNumber homes n (first_of_call o call) (place_of call) old) (sym same) number
+
+  value_too : (e : Expression) → values_of call ≡ e ∷ [] → PutsWord homes (suc n) e mid new
+  value_too e one = subst (λ es. PutsIfAny homes (suc n) es mid new) one value_
+
+  any_prepares : PreparesCall homes o n call old new
+  any_prepares =
+      ⊎_elim (λ none. object_prepares homes o n call old new none (number_alone none))
+      (λ one. value_prepares homes o n call one.0 old mid new one.1 number (value_too one.0 one.1)) (values_few call)
+
+  any_works : WorksOnCall homes o n call old new
+  any_works =
+      ⊎_elim (λ none. object_works homes o n call old new none (number_alone none))
+      (λ one. value_works_ homes o n call one.0 old mid new one.1 number (value_too one.0 one.1)) (values_few call)
 
 -- the parts of the lowering of a call
 module _ (homes : List Home) (o : Objects) (n next start : ℕ) (call : ThreadCall) (place : ObjectPlace) (old mid new : OpenBlock) (start_is : start ≡ first_of_call o call)

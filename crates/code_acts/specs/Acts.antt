@@ -114,7 +114,8 @@ act_at n o call = act_on call (number_operand n (first_of_call o call) (place_of
 -- ---- a block that makes operands ready
 
 -- from r to s nothing is written and these globals are read, no local's variable changes, and the operands hold these values
-pub record Prepared (homes : List Home) (before after : OpenBlock) (variables : ℕ → ℤ) (n : ℕ) (operands : List ActOperand) (m : Memory) (r s : Running) (vs : List ℤ) (ls : List Location) : Type 0 where
+pub record Prepared (homes : List Home) (before after : OpenBlock) (variables : ℕ → ℤ) (n : ℕ) (operands : List ActOperand) (m : Memory)
+    (r s : Running) (vs : List ℤ) (ls : List Location) : Type 0 where
   pub reads : Reads r s ls
   pub holds : Holds homes after.current variables m s
   pub operands_ : AreValues (held_by after.current variables s.values) operands vs

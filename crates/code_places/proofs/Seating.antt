@@ -70,7 +70,8 @@ seat_kept P W homes size c variables after arrays cells fs seated spares held =
     W.setting.callers fs seated.waiting held
 
 -- the seat of code that keeps it
-pub seat_on : (P : Program) (W : Whole) (homes : List Home) (size : ℕ) (old new : Lowering) → new.back ≡ old.back → new.rooms ≡ old.rooms → new.objects ≡ old.objects → IsSeated P W homes size old → IsSeated P W homes size new
+pub seat_on : (P : Program) (W : Whole) (homes : List Home) (size : ℕ) (old new : Lowering) → new.back ≡ old.back → new.rooms ≡ old.rooms → new.objects ≡
+    old.objects → IsSeated P W homes size old → IsSeated P W homes size new
 seat_on P W homes size old new back rooms objects s = record {
   root = s.root;
   housing = s.housing;
@@ -88,7 +89,8 @@ seat_on P W homes size old new back rooms objects s = record {
   objects = subst (AreObjects W.setting.program) (sym objects) s.objects;
 }
 
-pub typed_seat_on : (P : Program) (S : Typing) (size : ℕ) (old new : Lowering) → new.back ≡ old.back → new.rooms ≡ old.rooms → new.objects ≡ old.objects → IsSeatedTyping P S size old → IsSeatedTyping P S size new
+pub typed_seat_on : (P : Program) (S : Typing) (size : ℕ) (old new : Lowering) → new.back ≡ old.back → new.rooms ≡ old.rooms → new.objects ≡ old.objects →
+    IsSeatedTyping P S size old → IsSeatedTyping P S size new
 typed_seat_on P S size old new back rooms objects s = record {
   root = s.root;
   housing = s.housing;

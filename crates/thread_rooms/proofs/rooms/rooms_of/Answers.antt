@@ -15,7 +15,8 @@ returns-in_err-rooms-clause-full c =
     rw (p.1, p.2) (λ resolved.
     housed_full (program_of c.args.program.now) c.args.root _
     (subst (λ xs. IsFull (length (all_locals (with_marks (marks_of xs c.args.root) xs)) + prints xs) c.in_err-rooms.field-0.0) fs
-    (subst (λ marks. IsFull (length (all_locals (with_marks marks (map function_of c.as_slice-functions.result.now))) + prints (map function_of c.as_slice-functions.result.now)) c.in_err-rooms.field-0.0)
+    (subst (λ marks. IsFull (length (all_locals (with_marks marks (map function_of c.as_slice-functions.result.now))) + prints
+    (map function_of c.as_slice-functions.result.now)) c.in_err-rooms.field-0.0)
     (c.as_slice.ensures ∙ c.in_ok-marks.ensures) c.in_err-rooms.ensures.full)) resolved)
 
 pub returns-clause-housing : goal.returns-clause-housing
