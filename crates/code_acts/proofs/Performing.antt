@@ -1,5 +1,5 @@
 -- A pthread call: the step that evaluates its operands, and the act.
-use Rattle.std.proofs.Common.{◌≡◌, ℕ, zero, suc, ◌+◌, ◌≤◌, true, List, [], ◌∷◌, ◌++◌, length, ℤ, Some, refl, sym, ap, None, ◌∙◌, subst, arith, append-nil}
+use Rattle.std.proofs.Common.{◌≡◌, ℕ, zero, suc, ◌+◌, ◌≤◌, true, List, [], ◌∷◌, ◌++◌, length, ℤ, Option, Some, refl, sym, ap, None, ◌∙◌, subst, arith, append-nil}
 use Rattle.std.proofs.Common.{length-append}
 use Rattle.c_program.specs.Tree.{ThreadCall, Statement, Program}
 use Rattle.thread_semantics.specs.Memory.{Memory, Evaluation, Gives, Fails}
@@ -25,7 +25,8 @@ use Rattle.code_places.specs.Labels.{IsHere}
 use Rattle.code_places.specs.Resuming.{Keeping, nothing_kept, IsMid, AtFresh, IsSound}
 use Rattle.code_places.specs.Apart.{IsGood}
 use Rattle.code_places.specs.Control.{with_label, ActsAt, Whole, IsIn, GoesOn}
-use Rattle.code_places.specs.Doing.{Grows, OnwardUpTo, Suits}
+use Rattle.code_places.specs.declared.targets.Loop.{Loop}
+use Rattle.code_places.specs.Doing.{Grows, OnwardUpTo, Suits, Leads}
 use Rattle.code_places.proofs.Advancing.{get_more, pushed_here}
 use Rattle.code_places.proofs.Opening.{act_open}
 use Rattle.code_places.proofs.Shapes.{have_homes}
@@ -34,7 +35,7 @@ use Rattle.code_places.proofs.Seating.{seat_kept}
 use Rattle.code_places.proofs.Controlling.{pushed_at}
 use Rattle.code_places.proofs.Growing.{grows_both, stage_idle, stage_reached, stage_goes, acts_pushed, acts_whole, acts_grows, acts_site}
 use Rattle.code_places.proofs.Stepping.{block_grows, step_goes}
-use Rattle.code_acts.specs.Acts.{values_of, with_values, act_on, first_of_call, place_of, number_operand, operands_at, act_at, PreparesCall, WorksOnCall, LeadsThread}
+use Rattle.code_acts.specs.Acts.{values_of, with_values, act_on, first_of_call, place_of, number_operand, operands_at, act_at, PreparesCall, WorksOnCall}
 use Rattle.code_acts.proofs.Placing.{operand_values}
 use Rattle.code_acts.proofs.Typed.{thread_typed}
 
@@ -185,12 +186,12 @@ module _ (P : Program) (call : ThreadCall) (old mid new : Lowering) (b : OpenBlo
         (stage_goes W homes j (Perform offset (act_of call) ∷ k) keeping size mid acts.mid good_mid mid_reached acts.begins
         (acts_whole code_act mid new acts W whole) (λ i below. at_act i (omega arith)))
 
-  pub thread_leads : LeadsThread P offset call old new
-  thread_leads = record {
+  pub thread_leads : (around : Option Loop) → Leads P around statement old new
+  thread_leads around = record {
     grows = grows_both old mid new mid_grows (acts_grows code_act mid new acts);
-    site = acts_site code_act mid new acts ∙ ap (λ (z : Lowering). z.site) stepped;
+    site = (let e = acts_site code_act mid new acts ∙ ap (λ (z : Lowering). z.site) stepped in omega (arith, e));
     typed = thread_typed P call old mid new b code_act first first_is prepares works stepped act_is acts offset mid_grows;
-    leads = λ W homes size n k suits whole after.
+    leads = λ W homes size n k suits whole out after.
         let size_is : first ≡ size = first_is ∙ suits.good.variables in
         call_goes W homes size n k
         (subst (λ m. PreparesCall homes old.objects m call old.block b) size_is (subst (λ hs. PreparesCall hs old.objects first call old.block b) suits.homes_ prepares))

@@ -8,8 +8,7 @@ use Rattle.c_program.specs.Limits.{mutex_elements, barrier_elements}
 use Rattle.c_program.specs.Resolved.{IsExpression, IsObjectPlace, IsThreadCall, object_of}
 use Rattle.c_program.specs.Weight.{expression_weight, object_place_weight, thread_count, thread_call_weight}
 use Rattle.block_ir.specs.declared.code.Act.{Act as CodeAct}
-use Rattle.block_ir.specs.declared.code.Stage.TheVariants as stage
-use Rattle.code_following.specs.Typed.{Types, IsTypedStage}
+use Rattle.code_following.specs.Typed.{Types, IsTypedNumber, IsTypedAct}
 use Rattle.thread_semantics.specs.Move.{first_thread, first_mutex, first_barrier}
 use Rattle.thread_rooms.specs.declared.objects.Objects.{Objects}
 use Rattle.straight_code.specs.declared.homes.Home.{Home}
@@ -21,12 +20,11 @@ use Rattle.code_places.specs.declared.lowering.Lowering.{Lowering}
 use Rattle.code_places.specs.Apart.{IsTypedNow}
 use Rattle.code_places.specs.Control.{ActsAt}
 use Rattle.code_places.specs.Doing.{Grows, SuitsTyping}
-use Rattle.code_places.proofs.Staying.{anywhere_more}
+use Rattle.code_places.proofs.Staying.{anywhere_more, act_stage}
 use Rattle.code_places.proofs.Growing.{acts_typed}
 use Rattle.thread_rooms.specs.Objects.{AreObjects, first_in}
 use Rattle.thread_rooms.specs.Values.{operand_count}
-use Rattle.code_acts.specs.Acts.{place_of, values_of, first_of_call, number_operand, act_at, PutsWord, PutsNumber, PreparesCall, WorksOnCall, IsTypedNumber}
-use Rattle.code_acts.specs.Acts.{IsTypedAct}
+use Rattle.code_acts.specs.Acts.{place_of, values_of, first_of_call, number_operand, act_at, PutsWord, PutsNumber, PreparesCall, WorksOnCall}
 use Rattle.code_acts.proofs.Numbering.{small_typed}
 use Rattle.code_acts.proofs.Placing.{IsPlaced, thread_placed, mutex_placed, barrier_placed}
 
@@ -195,9 +193,9 @@ module _ (P : Program) (call : ThreadCall) (old mid new : Lowering) (b : OpenBlo
     (prepares : PreparesCall old.homes old.objects first call old.block b) (works : WorksOnCall old.homes old.objects first call old.block b)
     (stepped : mid ≡ record old { block = record b { steps = suc b.steps } }) (act_is : code_act ≡ act_at first old.objects call)
     (acts : ActsAt code_act mid new) (offset : ℕ) (grows : Grows old mid) where
-  pub thread_typed : (S : Typing) (w size : ℕ) → ((n m l : ℕ) (a : CodeAct) → IsTypedAct S.types S.program a → l < n → IsTypedStage S.types S.program n m (stage.Act a l)) →
-      SuitsTyping P S size (Statement.Thread offset call) old → IsTypedNow S w old → IsTypedNow S (w + inlined_weight S.program (Statement.Thread offset call)) new
-  thread_typed S w size stands suits now =
+  pub thread_typed : (S : Typing) (w size : ℕ) → SuitsTyping P S size (Statement.Thread offset call) old → IsTypedNow S w old →
+      IsTypedNow S (w + inlined_weight S.program (Statement.Thread offset call)) new
+  thread_typed S w size suits now =
       let size_is : first ≡ size = first_is ∙ suits.good.variables in
       let words : HasWords S.types first (operand_count call) = subst (λ n. HasWords S.types n (operand_count call)) (sym size_is) suits.words in
       let words_ = call_words S.types first call words in
@@ -208,7 +206,7 @@ module _ (P : Program) (call : ThreadCall) (old mid new : Lowering) (b : OpenBlo
       (λ some. second_word S.types first (length (values_of call)) words_ some)) in
       let more = w + inlined_weight S.program (Statement.Thread offset call) in
       acts_typed code_act mid new acts S more size (grows.good size suits.good)
-      (λ n stage_of below. stands n (4 * more) (stage_of acts.next) code_act typed (below acts.next))
+      (λ n stage_of below. act_stage S.types S.program n (4 * more) (stage_of acts.next) code_act typed (below acts.next))
       (subst (IsTypedNow S more) (sym stepped) (record {
         block = record { operations = open_.operations; few = open_.few; current = open_.current };
         size = (let c = works.count in let f = now.size in omega (arith, c, f));

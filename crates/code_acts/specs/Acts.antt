@@ -1,23 +1,19 @@
 -- The operands of pthread calls, and the acts that have them.
-use Rattle.std.specs.Prelude.{◌≡◌, ℕ, suc, ◌+◌, ◌*◌, ◌<◌, ◌≤◌, List, [], ◌∷◌, ◌++◌, length, ℤ, pos, Some, slice_get}
-use Rattle.hls_ints.specs.Types.{HasType, long_int}
+use Rattle.std.specs.Prelude.{◌≡◌, ℕ, suc, ◌+◌, ◌*◌, ◌≤◌, List, [], ◌∷◌, ◌++◌, length, ℤ, pos}
+use Rattle.hls_ints.specs.Types.{long_int}
 use Rattle.c_program.specs.declared.tree.BinaryOperator.TheVariants.{Add}
-use Rattle.c_program.specs.Tree.{Expression, ObjectPlace, ThreadCall, Statement, Program}
-use Rattle.c_program.specs.Limits.{mutex_elements, barrier_elements}
+use Rattle.c_program.specs.Tree.{Expression, ObjectPlace, ThreadCall}
 use Rattle.c_program.specs.Resolved.{IsThreadCall, object_of}
-use Rattle.c_program.specs.Weight.{thread_count, thread_call_weight}
+use Rattle.c_program.specs.Weight.{thread_call_weight}
 use Rattle.thread_semantics.specs.Memory.{Location, Memory, Gives}
 use Rattle.thread_semantics.specs.Value.{values}
-use Rattle.thread_semantics.specs.Work.{Work, Do, Onward, settled}
 use Rattle.block_ir.specs.declared.block.Operation.{Operation}
 use Rattle.block_ir.specs.declared.code.Act.{Act}
 use Rattle.block_ir.specs.declared.code.Act.TheVariants as act
 use Rattle.block_ir.specs.declared.code.ActOperand.{ActOperand}
 use Rattle.block_ir.specs.declared.code.ActOperand.TheVariants as act_operand
-use Rattle.block_ir.specs.declared.code.Stage.TheVariants as stage
 use Rattle.block_ir.specs.Run.{Running, operations_run}
 use Rattle.code_following.specs.Following.{AreValues}
-use Rattle.code_following.specs.Typed.{Types, IsTypedPrint, IsTypedStage, IsTypedValue}
 use Rattle.thread_rooms.specs.declared.objects.Objects.{Objects}
 use Rattle.straight_code.specs.declared.homes.Home.{Home}
 use Rattle.straight_code.specs.declared.open_block.OpenBlock.{OpenBlock}
@@ -27,11 +23,6 @@ use Rattle.straight_code.specs.Assigning.{HaveHomes, Spares}
 use Rattle.straight_code.specs.Closing.{HasNoted}
 use Rattle.straight_code.specs.Printing.{held_by, PutsValue}
 use Rattle.straight_code.specs.Typing.{Typing, HasWords, Works, WorksOnValue}
-use Rattle.code_places.specs.declared.lowering.Lowering.{Lowering}
-use Rattle.code_places.specs.Apart.{IsTypedNow}
-use Rattle.code_places.specs.Control.{Whole, IsIn}
-use Rattle.code_places.specs.Weighing.{inlined_weight}
-use Rattle.code_places.specs.Doing.{Grows, OnwardUpTo, Suits, SuitsTyping}
 use Rattle.thread_rooms.specs.Objects.{AreObjects, first_in}
 use Rattle.thread_rooms.specs.Values.{operand_count}
 
@@ -158,35 +149,3 @@ abbrev pub WorksOnCall : List Home → Objects → ℕ → ThreadCall → OpenBl
 WorksOnCall homes o n call old new =
     Works homes (4 * (thread_call_weight call + 1))
     (λ (S : Typing). AreObjects S.program o × IsThreadCall S.program S.function call × HasWords S.types n (operand_count call)) old new
-
--- ---- typed acts
-
--- a constant is the number of one of so many objects
-abbrev pub IsTypedNumber : Types → ℕ → ActOperand → Type 0
-IsTypedNumber T count (act_operand.Constant ty v) = HasType ty v × ((k : ℕ) × (v ≡ pos k) × (k < count))
-IsTypedNumber T count (act_operand.Variable x ty) = slice_get T.variables x ≡ Some ty
-
-abbrev pub IsTypedAct : Types → Program → Act → Type 0
-IsTypedAct T P (act.Print site values) = IsTypedPrint T P site values
-IsTypedAct T P (act.Create thread argument) = IsTypedNumber T (thread_count P) thread × IsTypedValue T argument
-IsTypedAct T P (act.Join thread) = IsTypedNumber T (thread_count P) thread
-IsTypedAct T P (act.MutexInit mutex) = IsTypedNumber T (mutex_elements P) mutex
-IsTypedAct T P (act.MutexDestroy mutex) = IsTypedNumber T (mutex_elements P) mutex
-IsTypedAct T P (act.MutexLock mutex) = IsTypedNumber T (mutex_elements P) mutex
-IsTypedAct T P (act.MutexUnlock mutex) = IsTypedNumber T (mutex_elements P) mutex
-IsTypedAct T P (act.BarrierInit barrier count) = IsTypedNumber T (barrier_elements P) barrier × IsTypedValue T count
-IsTypedAct T P (act.BarrierDestroy barrier) = IsTypedNumber T (barrier_elements P) barrier
-IsTypedAct T P (act.BarrierWait barrier) = IsTypedNumber T (barrier_elements P) barrier
-IsTypedAct T P act.Return = Unit {0}
-
--- ---- a call
-
--- the code of a pthread call was added, typed where a typed act is a typed stage: where the work after it goes on behind it, the work that begins with it
--- goes on before it
-pub record LeadsThread (P : Program) (offset : ℕ) (call : ThreadCall) (old new : Lowering) : Type 0 where
-  pub grows : Grows old new
-  pub site : new.site ≡ old.site
-  pub typed : (S : Typing) (w size : ℕ) → ((n m l : ℕ) (a : Act) → IsTypedAct S.types S.program a → l < n → IsTypedStage S.types S.program n m (stage.Act a l)) →
-      SuitsTyping P S size (Statement.Thread offset call) old → IsTypedNow S w old → IsTypedNow S (w + inlined_weight S.program (Statement.Thread offset call)) new
-  pub leads : (W : Whole) (homes : List Home) (size n : ℕ) (k : List Work) → Suits P W homes size (Statement.Thread offset call) old → IsIn W new →
-      OnwardUpTo W homes n new (settled Onward k) → OnwardUpTo W homes n old (settled Onward (Do (Statement.Thread offset call) ∷ k))

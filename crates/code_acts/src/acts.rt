@@ -256,7 +256,8 @@ pub fn lower_thread_call(
 ) -> Result<(), LoweringFault>
     requires reached { code.old.reached ≡ true }
     ensures labels { OnOk result ((around : _) → doing.Proceeds around code.old code.new) }
-    ensures leads { IfOk result (λ _. (offset : ℕ) (P : _) → acts.LeadsThread P offset (thread_call_of call.now) code.old code.new) }
+    ensures lowers { IfOk result (λ _. (offset : ℕ) (P : _) (around : _) → doing.LowersHere P around
+        (tree.Statement.Thread offset (thread_call_of call.now)) code.old code.new) }
     ensures full { IfErr result (IsFull
         (length code.old.block.operations + code.old.block.steps + length code.old.variables + 4 * (thread_call_weight (thread_call_of call.now) + 1))) }
 {

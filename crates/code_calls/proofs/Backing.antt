@@ -253,7 +253,7 @@ closes_goes P W homes size n old new (inr p) good seated whole =
 -- ---- the statements
 
 pub empty_return_at : (P : Program) (old new : Lowering) → ReturnsNothing old new → (offset : ℕ) (around : Option Loop) → LowersHere P around (Statement.Return offset None) old new
-empty_return_at P old new returns offset around = λ own on. record {
+empty_return_at P old new returns offset around = λ on. record {
   grows = (nothing_shifts old new on returns).grows;
   site = (let e = (nothing_shifts old new on returns).site in omega (arith, e));
   typed = λ S w size suits now. now_more S w (w + inlined_weight S.program (Statement.Return offset None)) new (omega arith) ((nothing_shifts old new on returns).typed S w size suits.good now);
@@ -271,7 +271,7 @@ return_ends P m f k offset e = by (value e m)
 
 pub end_return_at : (P : Program) (old new : Lowering) (e : Expression) → old.back ≡ None → EndsCall old new → (offset : ℕ) (around : Option Loop) →
     LowersHere P around (return_of offset e) old new
-end_return_at P old new e none ends offset around = λ own on. record {
+end_return_at P old new e none ends offset around = λ on. record {
   grows = (call_shifts old new ends).grows;
   site = (let x = (call_shifts old new ends).site in omega (arith, x));
   typed = λ S w size suits now. now_more S w (w + inlined_weight S.program (return_of offset e)) new (omega arith) ((call_shifts old new ends).typed S w size suits.good now);
@@ -335,5 +335,5 @@ module _ (P : Program) (b : Back) (old code new : Lowering) (e : Expression) (a 
 
 pub return_at : (P : Program) (b : Back) (old code new : Lowering) (e : Expression) (a : Operand) (homes : List Home) → homes ≡ old.homes → Evaluates homes e old.block code.block a →
     code ≡ record old { block = code.block } → old.back ≡ Some b → Returns b a code new → (offset : ℕ) (around : Option Loop) → LowersHere P around (return_of offset e) old new
-return_at P b old code new e a homes housed first code_is back_is ret offset around = λ own on.
+return_at P b old code new e a homes housed first code_is back_is ret offset around = λ on.
     return_leads P b old code new e a (subst (λ hs. Evaluates hs e old.block code.block a) housed first) code_is back_is ret offset around on

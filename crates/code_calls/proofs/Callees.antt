@@ -26,7 +26,6 @@ use Rattle.straight_code.specs.Printing.{held_by}
 use Rattle.thread_rooms.specs.declared.rooms.Rooms.{Rooms}
 use Rattle.thread_rooms.specs.Objects.{AreObjects}
 use Rattle.code_places.specs.Labels.{is_used}
-use Rattle.code_places.specs.Sequential.{is_sequential, are_sequential, is_sequential_program}
 use Rattle.code_places.specs.Weighing.{inlined_weight}
 use Rattle.straight_code.specs.Typing.{Typing, Fits, HasWords}
 use Rattle.straight_code.specs.Passing.{IsPassed, ArePassed, IsReady, Passed, Passes}
@@ -135,15 +134,6 @@ function_in P [] n f all at = absurd cc
 function_in P (g ∷ gs) zero f all at = subst (IsFunction P) (let same : g ≡ f = cc in same) all.0
 function_in P (g ∷ gs) (suc n) f all at = function_in P gs n f all.1 at
 
-both_hold : (a b : Bool) → (a && b) ≡ true → (a ≡ true) × (b ≡ true)
-both_hold true b e = (refl, e)
-both_hold false b e = absurd cc
-
-pub sequential_in : (fs : List Function) (n : ℕ) (f : Function) → are_sequential fs ≡ true → slice_get fs n ≡ Some f → is_sequential f.body ≡ true
-sequential_in [] n f all at = absurd cc
-sequential_in (g ∷ gs) zero f all at = ap (λ (z : Function). is_sequential z.body) (let same : f ≡ g = cc in same) ∙ (both_hold (is_sequential g.body) (are_sequential gs) all).0
-sequential_in (g ∷ gs) (suc n) f all at = sequential_in gs n f (both_hold (is_sequential g.body) (are_sequential gs) all).1 at
-
 waiting_more : (P : Program) (root : ℕ) (H : Rooms) (rank : ℕ → ℕ) (low high : ℕ) → rank low < rank high → (cs : List Caller) → AllByRecursion (IsWaiting P root H rank high) cs →
     AllByRecursion (IsWaiting P root H rank low) cs
 waiting_more P root H rank low high less [] all = tt
@@ -248,9 +238,9 @@ module _ (P : Program) (g : ℕ) (es : List Expression) (old begun_ : Lowering) 
 
 -- ---- a call
 
-module _ (P : Program) (g : ℕ) (es : List Expression) (old new : Lowering) (call : Calls P g es old new) (all : is_sequential_program P ≡ true) (on : old.reached ≡ true) where
+module _ (P : Program) (g : ℕ) (es : List Expression) (old new : Lowering) (call : Calls P g es old new) (on : old.reached ≡ true) where
   lead : Leads P None call.function.body call.begun call.done
-  lead = call.lowers all (sequential_in P.functions g call.function all call.found)
+  lead = call.lowers
 
   abbrev passed_block_ : OpenBlock
   passed_block_ = record call.opens.passed { steps = suc call.opens.passed.steps }

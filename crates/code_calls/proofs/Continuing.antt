@@ -29,7 +29,6 @@ use Rattle.straight_code.specs.Evaluating.{current_operand, Holds}
 use Rattle.straight_code.specs.Assigning.{HaveHomes, IsThere, memory_after, writes_of, Assigned}
 use Rattle.straight_code.specs.Closing.{HasNoted}
 use Rattle.straight_code.specs.Printing.{HoldWords, held_by}
-use Rattle.code_places.specs.Sequential.{is_sequential_program}
 use Rattle.code_following.specs.Typed.{IsTypedOperand}
 use Rattle.straight_code.specs.Typing.{Typing, Fits, IsTypedOpen, Works}
 use Rattle.thread_rooms.specs.Housing.{AreHomes}
@@ -38,7 +37,7 @@ use Rattle.code_places.specs.Weighing.{inlined_weight}
 use Rattle.code_places.specs.Apart.{IsTypedNow, IsGood}
 use Rattle.code_places.specs.Control.{Whole, IsIn, GoesOn}
 use Rattle.code_places.specs.Seats.{IsSeated}
-use Rattle.code_places.specs.Doing.{Grows, Leads, Lowers}
+use Rattle.code_places.specs.Doing.{Grows, Leads}
 use Rattle.code_calls.specs.Calling.{Calls, Delivers, HandsBack, Hands}
 use Rattle.straight_code.proofs.Conversions.{from_word}
 use Rattle.straight_code.proofs.Running.{parts, run_append, run_length, operand_kept, below_more, are_below_more, reads_none}
@@ -82,17 +81,17 @@ keeps_more W homes Kept n c k g = record {
 -- ---- a call whose value is dropped
 
 pub call_lowers : (P : Program) (around : Option Loop) (s : Statement) (offset g : ℕ) (es : List Expression) (old new : Lowering) → old.reached ≡ true → s ≡ Statement.Call offset g es →
-    Calls P g es old new → Lowers P around s old new
-call_lowers P around s offset g es old new on is call = rw is (λ all own. record {
-  grows = calls_grows P g es old new call all on;
-  site = (let e = calls_site P g es old new call all on in omega (arith, e));
+    Calls P g es old new → Leads P around s old new
+call_lowers P around s offset g es old new on is call = rw is (record {
+  grows = calls_grows P g es old new call on;
+  site = (let e = calls_site P g es old new call on in omega (arith, e));
   typed = λ S w size suits now.
       now_more S (w + (arguments_weight es + function_weight S.program.functions g)) (w + inlined_weight S.program (Statement.Call offset g es)) new (omega arith)
-      (calls_typed P g es old new call all on S w size suits.seated suits.fits suits.good suits.words suits.resolved.passed (suits.calls g (Contains-push [] g)) now);
+      (calls_typed P g es old new call on S w size suits.seated suits.fits suits.good suits.words suits.resolved.passed (suits.calls g (Contains-push [] g)) now);
   leads = λ W homes size n k suits whole out after.
-      calls_go P g es old new call all on W homes size n (Statement.Call offset g es) offset (Drop ∷ k) k suits.seated suits.homes_ suits.good suits.locals suits.resolved
+      calls_go P g es old new call on W homes size n (Statement.Call offset g es) offset (Drop ∷ k) k suits.seated suits.homes_ suits.good suits.locals suits.resolved
       (suits.calls g (Contains-push [] g)) (λ m f fs. refl) whole (λ j le. keeps_more W homes (words_held W.setting.word) j new (settled Onward k)
-      (after (calls_reached P g es old new call all on) j le));
+      (after (calls_reached P g es old new call on) j le));
 })
 
 -- ---- the word that holds the value
@@ -295,13 +294,13 @@ module _ (P : Program) (place : Place) (old new : Lowering) (d : Delivers place 
         (ap (λ (z : Lowering). z.stages) d.is) ops_added stepped delivers good g
 
 pub call_assigned : (P : Program) (around : Option Loop) (s : Statement) (offset : ℕ) (place : Place) (g : ℕ) (es : List Expression) (old mid new : Lowering) → old.reached ≡ true →
-    s ≡ Statement.Assign offset place (RightSide.Call g es) → Calls P g es old mid → Delivers place mid new → Lowers P around s old new
-call_assigned P around s offset place g es old mid new on is call d = rw is (λ all own.
-    let reached = calls_reached P g es old mid call all on in
-    let grows = calls_grows P g es old mid call all on in
+    s ≡ Statement.Assign offset place (RightSide.Call g es) → Calls P g es old mid → Delivers place mid new → Leads P around s old new
+call_assigned P around s offset place g es old mid new on is call d = rw is (
+    let reached = calls_reached P g es old mid call on in
+    let grows = calls_grows P g es old mid call on in
     record {
       grows = grows_both old mid new grows (delivery_grows P place mid new d reached);
-      site = (let e = calls_site P g es old mid call all on in let k = ap (λ (z : Lowering). z.site) d.is in omega (arith, e, k));
+      site = (let e = calls_site P g es old mid call on in let k = ap (λ (z : Lowering). z.site) d.is in omega (arith, e, k));
       typed = λ S w size suits now.
           let word : slice_get S.types.variables size ≡ Some long_int =
           subst (λ n. slice_get S.types.variables n ≡ Some long_int) (let e : size + 0 ≡ size = omega arith in e) (suits.words 0 (omega arith)) in
@@ -309,11 +308,11 @@ call_assigned P around s offset place g es old mid new on is call d = rw is (λ 
           new (omega arith)
           (delivery_typed P place mid new d reached S (w + (arguments_weight es + function_weight S.program.functions g)) size (subst (Fits S) (sym grows.homes) suits.fits) suits.resolved.0 word
           (grows.good size suits.good)
-          (calls_typed P g es old mid call all on S w size suits.seated suits.fits suits.good suits.words suits.resolved.1.call.passed (suits.calls g (Contains-push [] g)) now));
+          (calls_typed P g es old mid call on S w size suits.seated suits.fits suits.good suits.words suits.resolved.1.call.passed (suits.calls g (Contains-push [] g)) now));
       leads = λ W homes size n k suits whole out after.
           let housed = grows.homes ∙ suits.homes_ in
           let at = subst (λ hs. Located hs place mid.block d.placed d.target) housed (located mid.homes place mid.block d.placed d.target d.places) in
-          calls_go P g es old mid call all on W homes size n (Statement.Assign offset place (RightSide.Call g es)) offset (Store offset place ∷ k) k suits.seated suits.homes_ suits.good suits.locals
+          calls_go P g es old mid call on W homes size n (Statement.Assign offset place (RightSide.Call g es)) offset (Store offset place ∷ k) k suits.seated suits.homes_ suits.good suits.locals
           suits.resolved.1.call (suits.calls g (Contains-push [] g)) (λ m f fs. refl) ((delivery_grows P place mid new d reached).whole W whole)
           (λ j le.
           delivery_goes P place mid new d reached W homes size offset k at (grows.good size suits.good) (seat_on P W homes size old mid grows.back grows.rooms grows.objects suits.seated) suits.locals
@@ -380,23 +379,23 @@ module _ (P : Program) (offset : ℕ) (old new : Lowering) (h : HandsBack old ne
       })
 
 pub call_returned : (P : Program) (around : Option Loop) (s : Statement) (offset g : ℕ) (es : List Expression) (old mid new : Lowering) → old.reached ≡ true →
-    s ≡ Statement.Return offset (Some (RightSide.Call g es)) → Calls P g es old mid → Hands mid new → Lowers P around s old new
-call_returned P around s offset g es old mid new on is call hands = rw is (λ all own. by all hands)
+    s ≡ Statement.Return offset (Some (RightSide.Call g es)) → Calls P g es old mid → Hands mid new → Leads P around s old new
+call_returned P around s offset g es old mid new on is call hands = rw is (by hands)
   where
-    by : is_sequential_program P ≡ true → Hands mid new → Leads P around (Statement.Return offset (Some (RightSide.Call g es))) old new
-    by all (inl p) =
-        let reached = calls_reached P g es old mid call all on in
-        let grows = calls_grows P g es old mid call all on in
+    by : Hands mid new → Leads P around (Statement.Return offset (Some (RightSide.Call g es))) old new
+    by (inl p) =
+        let reached = calls_reached P g es old mid call on in
+        let grows = calls_grows P g es old mid call on in
         record {
           grows = grows_both old mid new grows (call_shifts mid new p.ends).grows;
-          site = (let e = calls_site P g es old mid call all on in let x = (call_shifts mid new p.ends).site in omega (arith, e, x));
+          site = (let e = calls_site P g es old mid call on in let x = (call_shifts mid new p.ends).site in omega (arith, e, x));
           typed = λ S w size suits now.
               now_more S (w + (arguments_weight es + function_weight S.program.functions g)) (w + inlined_weight S.program (Statement.Return offset (Some (RightSide.Call g es)))) new (omega arith)
               ((call_shifts mid new p.ends).typed S (w + (arguments_weight es + function_weight S.program.functions g)) size (grows.good size suits.good)
-              (calls_typed P g es old mid call all on S w size suits.seated suits.fits suits.good suits.words
+              (calls_typed P g es old mid call on S w size suits.seated suits.fits suits.good suits.words
               (right_call S.program S.function g es S.function.returns suits.resolved).passed (suits.calls g (Contains-push [] g)) now));
           leads = λ W homes size n k suits whole out after.
-              calls_go P g es old mid call all on W homes size n (Statement.Return offset (Some (RightSide.Call g es))) offset (Hand offset ∷ k) k suits.seated suits.homes_ suits.good suits.locals
+              calls_go P g es old mid call on W homes size n (Statement.Return offset (Some (RightSide.Call g es))) offset (Hand offset ∷ k) k suits.seated suits.homes_ suits.good suits.locals
               (right_call W.setting.program W.setting.function g es W.setting.function.returns suits.resolved) (suits.calls g (Contains-push [] g)) (λ m f fs. refl)
               ((call_shifts mid new p.ends).grows.whole W whole)
               (λ j le.
@@ -406,21 +405,21 @@ call_returned P around s offset g es old mid new on is call hands = rw is (λ al
               subst (λ w. IsEnd (work_move W.setting.program (record { locals = f.locals; globals = globals }) f [] w)) (sym work)
               (hand_ends W.setting.program (record { locals = f.locals; globals = globals }) f k offset f.kept)) reached j le);
         }
-    by all (inr p) =
-        let reached = calls_reached P g es old mid call all on in
-        let grows = calls_grows P g es old mid call all on in
+    by (inr p) =
+        let reached = calls_reached P g es old mid call on in
+        let grows = calls_grows P g es old mid call on in
         record {
           grows = grows_both old mid new grows (hand_grows P offset mid new p reached);
-          site = (let e = calls_site P g es old mid call all on in let x = hand_site P offset mid new p reached in omega (arith, e, x));
+          site = (let e = calls_site P g es old mid call on in let x = hand_site P offset mid new p reached in omega (arith, e, x));
           typed = λ S w size suits now.
               let word : slice_get S.types.variables size ≡ Some long_int =
               subst (λ n. slice_get S.types.variables n ≡ Some long_int) (let e : size + 0 ≡ size = omega arith in e) (suits.words 0 (omega arith)) in
               now_more S (w + (arguments_weight es + function_weight S.program.functions g) + 1) (w + inlined_weight S.program (Statement.Return offset (Some (RightSide.Call g es)))) new (omega arith)
               (hand_typed P offset mid new p reached S (w + (arguments_weight es + function_weight S.program.functions g)) size word (grows.good size suits.good)
-              (calls_typed P g es old mid call all on S w size suits.seated suits.fits suits.good suits.words
+              (calls_typed P g es old mid call on S w size suits.seated suits.fits suits.good suits.words
               (right_call S.program S.function g es S.function.returns suits.resolved).passed (suits.calls g (Contains-push [] g)) now));
           leads = λ W homes size n k suits whole out after.
-              calls_go P g es old mid call all on W homes size n (Statement.Return offset (Some (RightSide.Call g es))) offset (Hand offset ∷ k) k suits.seated suits.homes_ suits.good suits.locals
+              calls_go P g es old mid call on W homes size n (Statement.Return offset (Some (RightSide.Call g es))) offset (Hand offset ∷ k) k suits.seated suits.homes_ suits.good suits.locals
               (right_call W.setting.program W.setting.function g es W.setting.function.returns suits.resolved) (suits.calls g (Contains-push [] g)) (λ m f fs. refl)
               ((hand_grows P offset mid new p reached).whole W whole)
               (λ j le. hand_goes P offset mid new p reached W homes size j k (grows.good size suits.good) (seat_on P W homes size old mid grows.back grows.rooms grows.objects suits.seated) whole);

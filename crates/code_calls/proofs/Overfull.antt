@@ -8,29 +8,29 @@ use Rattle.straight_code.specs.declared.fault.LoweringFault.{LoweringFault}
 use Rattle.code_places.specs.declared.lowering.Caller.{Caller as CallerCode}
 use Rattle.code_places.specs.declared.lowering.Lowering.{Lowering}
 use Rattle.code_places.specs.Weighing.{inlined_weight}
-use Rattle.code_places.specs.Doing.{Lowers}
+use Rattle.code_places.specs.Doing.{Leads}
 use Rattle.code_calls.specs.Calling.{OpensCall, Calls}
 use Rattle.straight_code.specs.Room.{IsFull}
 use Rattle.code_places.specs.Needing.{needed, IsFullFor, IsFullCall}
 use Rattle.straight_code.proofs.Room.{full_more}
 use Rattle.code_places.proofs.Weighing.{body_weighs}
-use Rattle.code_calls.proofs.Callees.{sequential_in, at_function, typed_begun, suits_there, calls_grows, calls_typed}
+use Rattle.code_calls.proofs.Callees.{at_function, typed_begun, suits_there, calls_grows, calls_typed}
 use Rattle.code_calls.proofs.Continuing.{right_call}
 
 module _ (P : Program) (depth g : ℕ) (es : List Expression) (c : Lowering) (fault : LoweringFault) where
   -- calls are not so deep
   pub call_too_deep : depth ≡ 0 → IsFullCall P depth g es c fault
-  call_too_deep none = λ all S w size seated deep fits words good is called now.
+  call_too_deep none = λ S w size seated deep fits words good is called now.
       absurd (let low = deep seated.resolved.acyclic g called in omega (arith, low, none))
 
   -- there is such a function
   pub call_unknown : slice_get P.functions g ≡ None → IsFullCall P depth g es c fault
-  call_unknown none = λ all S w size seated deep fits words good is called now.
+  call_unknown none = λ S w size seated deep fits words good is called now.
       absurd (let known : None ≡ Some is.code = sym (ap (λ (z : Program). slice_get z.functions g) seated.program ∙ none) ∙ is.found in cc)
 
   -- the step that begins it
   pub call_opening : IsFull (length c.block.operations + c.block.steps + (2 * arguments_weight es + 1)) fault → IsFullCall P depth g es c fault
-  call_opening full = λ all S w size seated deep fits words good is called now.
+  call_opening full = λ S w size seated deep fits words good is called now.
       full_more fault (length c.block.operations + c.block.steps + (2 * arguments_weight es + 1)) (needed S size (w + (arguments_weight es + function_weight S.program.functions g)))
       (let o = now.size in let s = now.steps in let weighs = body_weighs S.program g is.code seated.resolved.acyclic is.found in omega (arith, o, s, weighs)) full
 
@@ -38,12 +38,12 @@ module _ (P : Program) (depth g : ℕ) (es : List Expression) (c : Lowering) (fa
       (on : c.reached ≡ true) where
     -- the code of the function
     pub call_body : (less : ℕ) → less + 1 ≡ depth → IsFullFor P less function.body begun fault → IsFullCall P depth g es c fault
-    call_body less is_less full = λ all S w size seated deep fits words good is called now.
+    call_body less is_less full = λ S w size seated deep fits words good is called now.
         let at = at_function P g es c begun function found caller opens on S w size seated fits good words is.passed called now in
         let weighs = body_weighs S.program g function seated.resolved.acyclic at in
         full_more fault (needed S size (w + arguments_weight es + 1 + inlined_weight S.program function.body)) (needed S size (w + (arguments_weight es + function_weight S.program.functions g)))
         (omega (arith, weighs))
-        (full all (sequential_in P.functions g function all found) (record S { function = function }) (w + arguments_weight es + 1) size
+        (full (record S { function = function }) (w + arguments_weight es + 1) size
         (suits_there P g es c begun function found caller opens on S w size seated fits good words is.passed called now)
         (λ acyclic h inner.
         let low = deep acyclic g called in
@@ -52,12 +52,12 @@ module _ (P : Program) (depth g : ℕ) (es : List Expression) (c : Lowering) (fa
         (typed_begun P g es c begun function found caller opens on S w size seated fits good words is.passed called now))
 
     -- its closing brace
-    pub call_closing : (done : Lowering) → Lowers P None function.body begun done → IsFull (done.block.steps + 1) fault → IsFullCall P depth g es c fault
-    call_closing done lowers full = λ all S w size seated deep fits words good is called now.
+    pub call_closing : (done : Lowering) → Leads P None function.body begun done → IsFull (done.block.steps + 1) fault → IsFullCall P depth g es c fault
+    call_closing done lowers full = λ S w size seated deep fits words good is called now.
         let at = at_function P g es c begun function found caller opens on S w size seated fits good words is.passed called now in
         let weighs = body_weighs S.program g function seated.resolved.acyclic at in
         let typed =
-        (lowers all (sequential_in P.functions g function all found)).typed (record S { function = function }) (w + arguments_weight es + 1) size
+        lowers.typed (record S { function = function }) (w + arguments_weight es + 1) size
         (suits_there P g es c begun function found caller opens on S w size seated fits good words is.passed called now)
         (typed_begun P g es c begun function found caller opens on S w size seated fits good words is.passed called now) in
         full_more fault (done.block.steps + 1) (needed S size (w + (arguments_weight es + function_weight S.program.functions g)))
@@ -68,46 +68,46 @@ module _ (P : Program) (depth g : ℕ) (es : List Expression) (c : Lowering) (fa
 pub call_for : (P : Program) (depth : ℕ) (s : Statement) (offset g : ℕ) (es : List Expression) (c : Lowering) (fault : LoweringFault) → s ≡ Statement.Call offset g es →
     IsFullCall P depth g es c fault →
     IsFullFor P depth s c fault
-call_for P depth s offset g es c fault is full = rw is (λ all own S w size suits deep now.
+call_for P depth s offset g es c fault is full = rw is (λ S w size suits deep now.
     full_more fault (needed S size (w + (arguments_weight es + function_weight S.program.functions g))) (needed S size (w + inlined_weight S.program (Statement.Call offset g es))) (omega arith)
-    (full all S w size suits.seated deep suits.fits suits.words suits.good suits.resolved (suits.calls g (Contains-push [] g)) now))
+    (full S w size suits.seated deep suits.fits suits.words suits.good suits.resolved (suits.calls g (Contains-push [] g)) now))
 
 pub assigned_for : (P : Program) (depth : ℕ) (s : Statement) (offset : ℕ) (place : Place) (g : ℕ) (es : List Expression) (c : Lowering) (fault : LoweringFault) →
     s ≡ Statement.Assign offset place (RightSide.Call g es) → IsFullCall P depth g es c fault → IsFullFor P depth s c fault
-assigned_for P depth s offset place g es c fault is full = rw is (λ all own S w size suits deep now.
+assigned_for P depth s offset place g es c fault is full = rw is (λ S w size suits deep now.
     full_more fault (needed S size (w + (arguments_weight es + function_weight S.program.functions g)))
     (needed S size (w + inlined_weight S.program (Statement.Assign offset place (RightSide.Call g es)))) (omega arith)
-    (full all S w size suits.seated deep suits.fits suits.words suits.good suits.resolved.1.call (suits.calls g (Contains-push [] g)) now))
+    (full S w size suits.seated deep suits.fits suits.words suits.good suits.resolved.1.call (suits.calls g (Contains-push [] g)) now))
 
 pub returned_for : (P : Program) (depth : ℕ) (s : Statement) (offset g : ℕ) (es : List Expression) (c : Lowering) (fault : LoweringFault) →
     s ≡ Statement.Return offset (Some (RightSide.Call g es)) → IsFullCall P depth g es c fault → IsFullFor P depth s c fault
-returned_for P depth s offset g es c fault is full = rw is (λ all own S w size suits deep now.
+returned_for P depth s offset g es c fault is full = rw is (λ S w size suits deep now.
     full_more fault (needed S size (w + (arguments_weight es + function_weight S.program.functions g)))
     (needed S size (w + inlined_weight S.program (Statement.Return offset (Some (RightSide.Call g es))))) (omega arith)
-    (full all S w size suits.seated deep suits.fits suits.words suits.good (right_call S.program S.function g es S.function.returns suits.resolved) (suits.calls g (Contains-push [] g)) now))
+    (full S w size suits.seated deep suits.fits suits.words suits.good (right_call S.program S.function g es S.function.returns suits.resolved) (suits.calls g (Contains-push [] g)) now))
 
 -- and what follows it
 pub delivery_for : (P : Program) (depth : ℕ) (s : Statement) (offset : ℕ) (place : Place) (g : ℕ) (es : List Expression) (c mid : Lowering) (fault : LoweringFault) → c.reached ≡ true →
     s ≡ Statement.Assign offset place (RightSide.Call g es) → Calls P g es c mid →
     IsFull (length mid.variables + length mid.block.operations + mid.block.steps + (2 * place_weight place + 2)) fault → IsFullFor P depth s c fault
-delivery_for P depth s offset place g es c mid fault on is call full = rw is (λ all own S w size suits deep now.
-    let typed = calls_typed P g es c mid call all on S w size suits.seated suits.fits suits.good suits.words suits.resolved.1.call.passed (suits.calls g (Contains-push [] g)) now in
-    let good = (calls_grows P g es c mid call all on).good size suits.good in
+delivery_for P depth s offset place g es c mid fault on is call full = rw is (λ S w size suits deep now.
+    let typed = calls_typed P g es c mid call on S w size suits.seated suits.fits suits.good suits.words suits.resolved.1.call.passed (suits.calls g (Contains-push [] g)) now in
+    let good = (calls_grows P g es c mid call on).good size suits.good in
     full_more fault (length mid.variables + length mid.block.operations + mid.block.steps + (2 * place_weight place + 2))
     (needed S size (w + inlined_weight S.program (Statement.Assign offset place (RightSide.Call g es))))
     (let o = typed.size in let t = typed.steps in let v = good.variables in omega (arith, o, t, v)) full)
 
 pub handing_for : (P : Program) (depth : ℕ) (s : Statement) (offset g : ℕ) (es : List Expression) (c mid : Lowering) (fault : LoweringFault) → c.reached ≡ true →
     s ≡ Statement.Return offset (Some (RightSide.Call g es)) → Calls P g es c mid → IsFull (length mid.variables + mid.block.steps + 1) fault → IsFullFor P depth s c fault
-handing_for P depth s offset g es c mid fault on is call full = rw is (λ all own S w size suits deep now.
+handing_for P depth s offset g es c mid fault on is call full = rw is (λ S w size suits deep now.
     let typed =
-    calls_typed P g es c mid call all on S w size suits.seated suits.fits suits.good suits.words (right_call S.program S.function g es S.function.returns suits.resolved).passed
+    calls_typed P g es c mid call on S w size suits.seated suits.fits suits.good suits.words (right_call S.program S.function g es S.function.returns suits.resolved).passed
     (suits.calls g (Contains-push [] g)) now in
-    let good = (calls_grows P g es c mid call all on).good size suits.good in
+    let good = (calls_grows P g es c mid call on).good size suits.good in
     full_more fault (length mid.variables + mid.block.steps + 1) (needed S size (w + inlined_weight S.program (Statement.Return offset (Some (RightSide.Call g es)))))
     (let t = typed.steps in let v = good.variables in omega (arith, t, v)) full)
 
 -- the closing brace of main
-pub closing_for : (P : Program) (depth : ℕ) (s : Statement) (c done : Lowering) (fault : LoweringFault) → Lowers P None s c done → IsFull (done.block.steps + 1) fault → IsFullFor P depth s c fault
-closing_for P depth s c done fault lowers full = λ all own S w size suits deep now same.
-    (let h = full same in let t = ((lowers all own).typed S w size suits now).steps in omega (arith, h, t))
+pub closing_for : (P : Program) (depth : ℕ) (s : Statement) (c done : Lowering) (fault : LoweringFault) → Leads P None s c done → IsFull (done.block.steps + 1) fault → IsFullFor P depth s c fault
+closing_for P depth s c done fault lowers full = λ S w size suits deep now same.
+    (let h = full same in let t = (lowers.typed S w size suits now).steps in omega (arith, h, t))

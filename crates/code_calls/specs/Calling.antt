@@ -18,7 +18,7 @@ use Rattle.straight_code.specs.Assigning.{Stores, Places}
 use Rattle.thread_rooms.specs.Housing.{homes_there, site_there}
 use Rattle.straight_code.specs.Passing.{Passes, WorksOnArguments}
 use Rattle.code_places.specs.Control.{with_label, Jumps, Begins, EndsCall}
-use Rattle.code_places.specs.Doing.{Proceeds, Lowers}
+use Rattle.code_places.specs.Doing.{Proceeds, Leads}
 
 abbrev pub return_of : ℕ → Expression → Statement
 return_of offset e = Statement.Return offset (Some (RightSide.Value e))
@@ -81,7 +81,7 @@ Closes old new = ClosesNot old new ⊎ ClosesThere old new
 pub record LowersBody (P : Program) (s : Statement) (old new : Lowering) : Type 0 where
   pub lowered : Lowering
   pub labels : Proceeds None old lowered
-  pub lowers : Lowers P None s old lowered
+  pub lowers : Leads P None s old lowered
   pub closes : Closes lowered new
 
 -- ---- calls
@@ -114,7 +114,7 @@ pub record Calls (P : Program) (number : ℕ) (es : List Expression) (old new : 
   pub begun : Lowering
   pub opens : OpensCall number function es caller old begun
   pub done : Lowering
-  pub lowers : Lowers P None function.body begun done
+  pub lowers : Leads P None function.body begun done
   pub closes : ClosesCall caller done new
 
 -- ---- what follows a call

@@ -14,7 +14,6 @@ use Rattle.code_control.specs.declared.branching.ChoiceLabels.{ChoiceLabels}
 use Rattle.code_control.specs.declared.branching.LoopLabels.{LoopLabels}
 use Rattle.straight_code.specs.declared.fault.LoweringFault.{LoweringFault}
 use Rattle.code_places.specs.declared.lowering.Lowering.{Lowering}
-use Rattle.code_places.specs.Sequential.{is_sequential, is_sequential_program}
 use Rattle.code_places.specs.Weighing.{inlined_weight}
 use Rattle.thread_rooms.specs.Values.{most_values}
 use Rattle.straight_code.specs.Typing.{Typing, Fits}
@@ -22,7 +21,7 @@ use Rattle.thread_rooms.specs.Formats.{HasSites}
 use Rattle.code_places.specs.Apart.{IsTypedNow, IsGood}
 use Rattle.code_places.specs.Control.{with_label, Begins, Binds}
 use Rattle.code_control.specs.Deciding.{Decides}
-use Rattle.code_places.specs.Doing.{Grows, Shifts, at_site, SuitsTyping, Lowers}
+use Rattle.code_places.specs.Doing.{Grows, Shifts, at_site, SuitsTyping, Leads}
 use Rattle.code_control.specs.Branching.{OpensChoice, TurnsChoice, OpensLoop, OpensTurn}
 use Rattle.straight_code.specs.Room.{IsFull}
 use Rattle.code_places.specs.Needing.{IsFullAt, IsDeep, needed, IsFullFor}
@@ -30,7 +29,7 @@ use Rattle.straight_code.proofs.Room.{full_more}
 use Rattle.thread_rooms.proofs.Sites.{formats_length, part_sites}
 use Rattle.code_places.proofs.Growing.{grows_refl, grows_both, site_grows, site_typed, label_relabels, begins_shifts, binds_shifts, leaps_shifts}
 use Rattle.code_control.proofs.Growing.{decides_grows}
-use Rattle.code_control.proofs.Nesting.{typing_part, both_true, loop_shifts, turn_grows, turn_site, turn_typed, labels_of}
+use Rattle.code_control.proofs.Nesting.{typing_part, loop_shifts, turn_grows, turn_site, turn_typed, labels_of}
 
 -- Conditions.
 
@@ -100,7 +99,7 @@ module _ (P : Program) (depth : ℕ) where
 
   -- what is left out
   pub skipped_for : (s : Statement) (c : Lowering) (n : ℕ) (fault : LoweringFault) → n ≤ c.site + print_count s → IsFull n fault → IsFullFor P depth s c fault
-  skipped_for s c n fault le full = λ all own S w size suits deep now.
+  skipped_for s c n fault le full = λ S w size suits deep now.
       let p = sites_within S.program s c.site suits.sites in
       full_more fault n (needed S size (w + inlined_weight S.program s)) (omega (arith, le, p)) full
 
@@ -108,13 +107,13 @@ module _ (P : Program) (depth : ℕ) where
 
   -- a part of a statement, behind code that weighs so much
   module _ (s t : Statement) (old c : Lowering) (fault : LoweringFault) (full : IsFullFor P depth t c fault) (grows : Grows old c) (S : Typing) (w v size : ℕ) (suits : SuitsTyping P S size s old)
-      (all : is_sequential_program P ≡ true) (deep : IsDeep S.program S.function depth) where
-    part_for : is_sequential t ≡ true → (in_loop : _) → ((g : ℕ) → Contains (calls_of t) g → Contains (calls_of s) g) → most_values t ≤ most_values s →
+      (deep : IsDeep S.program S.function depth) where
+    part_for : (in_loop : _) → ((g : ℕ) → Contains (calls_of t) g → Contains (calls_of s) g) → most_values t ≤ most_values s →
         IsStatement S.program S.function in_loop t → HasSites S.program t c.site → IsTypedNow S v c →
         v + inlined_weight S.program t ≤ w + inlined_weight S.program s → IsFull (needed S size (w + inlined_weight S.program s)) fault
-    part_for own in_loop calls most resolved sites now le =
+    part_for in_loop calls most resolved sites now le =
         full_more fault (needed S size (v + inlined_weight S.program t)) (needed S size (w + inlined_weight S.program s)) (omega (arith, le))
-        (full all own S v size (typing_part P S size s t old c grows suits in_loop most resolved sites calls) deep now)
+        (full S v size (typing_part P S size s t old c grows suits in_loop most resolved sites calls) deep now)
 
   -- a condition in a statement
   condition_for : (s : Statement) (d : Condition) (more : ℕ) (c : Lowering) (fault : LoweringFault) → IsFullAt d more c fault → (S : Typing) (w v size : ℕ) → Fits S c.homes →
@@ -124,34 +123,32 @@ module _ (P : Program) (depth : ℕ) where
       full_more fault (5 * (v + (condition_weight d + 1)) + more) (needed S size (w + inlined_weight S.program s)) (omega (arith, le, few)) (full S v size fits is good now)
 
   pub sequence_first : (a b : Statement) (old : Lowering) (fault : LoweringFault) → IsFullFor P depth a old fault → IsFullFor P depth (Statement.Sequence a b) old fault
-  sequence_first a b old fault full = λ all own S w size suits deep now.
-      part_for (Statement.Sequence a b) a old old fault full (grows_refl old) S w w size suits all deep (both_true (is_sequential a) (is_sequential b) own).0 suits.in_loop
+  sequence_first a b old fault full = λ S w size suits deep now.
+      part_for (Statement.Sequence a b) a old old fault full (grows_refl old) S w w size suits deep suits.in_loop
       (Contains-append_left (calls_of a) (calls_of b)) (omega arith) suits.resolved.0
       (part_sites S.program (Statement.Sequence a b) a [] (formats_of b) old.site old.site suits.sites refl (omega arith)) now (omega arith)
 
-  pub sequence_rest : (around : Option Loop) (a b : Statement) (old mid : Lowering) (fault : LoweringFault) → Lowers P around a old mid → IsFullFor P depth b mid fault →
+  pub sequence_rest : (around : Option Loop) (a b : Statement) (old mid : Lowering) (fault : LoweringFault) → Leads P around a old mid → IsFullFor P depth b mid fault →
       IsFullFor P depth (Statement.Sequence a b) old fault
-  sequence_rest around a b old mid fault lowers full = λ all own S w size suits deep now.
-      let both = both_true (is_sequential a) (is_sequential b) own in
-      let first = lowers all both.0 in
+  sequence_rest around a b old mid fault first full = λ S w size suits deep now.
       let before = typing_part P S size (Statement.Sequence a b) a old old (grows_refl old) suits suits.in_loop (omega arith) suits.resolved.0
       (part_sites S.program (Statement.Sequence a b) a [] (formats_of b) old.site old.site suits.sites refl (omega arith)) (Contains-append_left (calls_of a) (calls_of b)) in
-      part_for (Statement.Sequence a b) b old mid fault full first.grows S w (w + inlined_weight S.program a) size suits all deep both.1 suits.in_loop
+      part_for (Statement.Sequence a b) b old mid fault full first.grows S w (w + inlined_weight S.program a) size suits deep suits.in_loop
       (Contains-append_right (calls_of a) (calls_of b)) (omega arith) suits.resolved.1
       (part_sites S.program (Statement.Sequence a b) b (formats_of a) [] old.site mid.site suits.sites (ap (λ l. formats_of a ++ l) (sym (append-nil (formats_of b))))
       (let l = formats_length a in let e = first.site in omega (arith, l, e)))
       (first.typed S w size before now) (omega arith)
 
   pub block_for : (s body : Statement) (old : Lowering) (fault : LoweringFault) → s ≡ Statement.Block body → IsFullFor P depth body old fault → IsFullFor P depth s old fault
-  block_for s body old fault is full = rw is (λ all own S w size suits deep now.
-      part_for (Statement.Block body) body old old fault full (grows_refl old) S w w size suits all deep own suits.in_loop (λ g c. c) (omega arith) suits.resolved
+  block_for s body old fault is full = rw is (λ S w size suits deep now.
+      part_for (Statement.Block body) body old old fault full (grows_refl old) S w w size suits deep suits.in_loop (λ g c. c) (omega arith) suits.resolved
       (part_sites S.program (Statement.Block body) body [] [] old.site old.site suits.sites (sym (append-nil (formats_of body))) (omega arith)) now (omega arith))
 
   -- an if
 
   pub choice_condition : (s : Statement) (d : Condition) (one other : Statement) (old : Lowering) (fault : LoweringFault) → s ≡ Statement.If d one other → IsFullAt d 0 old fault →
       IsFullFor P depth s old fault
-  choice_condition s d one other old fault is full = rw is (λ all own S w size suits deep now.
+  choice_condition s d one other old fault is full = rw is (λ S w size suits deep now.
       condition_for (Statement.If d one other) d 0 old fault full S w w size suits.fits suits.resolved.0 suits.good now (omega arith) (omega arith))
 
   module _ (around : Option Loop) (d : Condition) (l : ChoiceLabels) (one other : Statement) (old a : Lowering) (opens : OpensChoice d l old a) where
@@ -183,12 +180,12 @@ module _ (P : Program) (depth : ℕ) where
         (opens.decides.typed S w size (subst (Fits S) (sym opens.relabels.shifts.grows.homes) suits.fits) suits.resolved.0 good (opens.relabels.shifts.typed S w size suits.good now))
 
     pub choice_one : (fault : LoweringFault) → IsFullFor P depth one a fault → IsFullFor P depth choice old fault
-    choice_one fault full = λ all own S w size suits deep now.
-        part_for choice one old a fault full old_a S w (w + (condition_weight d + 1)) size suits all deep (both_true (is_sequential one) (is_sequential other) own).0 suits.in_loop
+    choice_one fault full = λ S w size suits deep now.
+        part_for choice one old a fault full old_a S w (w + (condition_weight d + 1)) size suits deep suits.in_loop
         (Contains-append_left (calls_of one) (calls_of other)) (omega arith) suits.resolved.1
         (one_sites S.program suits.sites) (at_a S w size suits now) (omega arith)
 
-    module _ (b e : Lowering) (lowers : Lowers P around one a b) (turns : TurnsChoice l b e) where
+    module _ (b e : Lowering) (first : Leads P around one a b) (turns : TurnsChoice l b e) where
       to_mid : Shifts b turns.mid
       to_mid = leaps_shifts l.join b turns.mid turns.leaps
 
@@ -196,9 +193,7 @@ module _ (P : Program) (depth : ℕ) where
       to_e = binds_shifts l.if_false turns.mid e turns.binds
 
       pub choice_other : (fault : LoweringFault) → IsFullFor P depth other e fault → IsFullFor P depth choice old fault
-      choice_other fault full = λ all own S w size suits deep now.
-          let both = both_true (is_sequential one) (is_sequential other) own in
-          let first = lowers all both.0 in
+      choice_other fault full = λ S w size suits deep now.
           let v = w + (condition_weight d + 1) in
           let at_b = first.typed S v size (typing_part P S size choice one old a old_a suits suits.in_loop (omega arith) suits.resolved.1 (one_sites S.program suits.sites)
           (Contains-append_left (calls_of one) (calls_of other))) (at_a S w size suits now) in
@@ -206,7 +201,7 @@ module _ (P : Program) (depth : ℕ) where
           let good_b = old_b.good size suits.good in
           let at_e = to_e.typed S (v + inlined_weight S.program one) size (to_mid.grows.good size good_b) (to_mid.typed S (v + inlined_weight S.program one) size good_b at_b) in
           part_for choice other old e fault full (grows_both old turns.mid e (grows_both old b turns.mid old_b to_mid.grows) to_e.grows) S w
-          (v + inlined_weight S.program one) size suits all deep both.1 suits.in_loop
+          (v + inlined_weight S.program one) size suits deep suits.in_loop
           (Contains-append_right (calls_of one) (calls_of other)) (omega arith) suits.resolved.2
           (part_sites S.program choice other (formats_of one) [] old.site e.site suits.sites (ap (λ z. formats_of one ++ z) (sym (append-nil (formats_of other))))
           (let c = formats_length one in let x = a_site in let y = first.site in let z = to_e.site ∙ to_mid.site in omega (arith, c, x, y, z)))
@@ -217,22 +212,22 @@ module _ (P : Program) (depth : ℕ) where
   one_for around s d one other l old a fault is opens full = rw is (choice_one around d l one other old a opens fault full)
 
   pub other_for : (around : Option Loop) (s : Statement) (d : Condition) (one other : Statement) (l : ChoiceLabels) (old a b e : Lowering) (fault : LoweringFault) → s ≡ Statement.If d one other →
-      OpensChoice d l old a → Lowers P around one a b → TurnsChoice l b e → IsFullFor P depth other e fault → IsFullFor P depth s old fault
+      OpensChoice d l old a → Leads P around one a b → TurnsChoice l b e → IsFullFor P depth other e fault → IsFullFor P depth s old fault
   other_for around s d one other l old a b e fault is opens lowers turns full = rw is (choice_other around d l one other old a opens b e lowers turns fault full)
 
   -- while
 
   pub while_condition : (s : Statement) (d : Condition) (body : Statement) (old : Lowering) (fault : LoweringFault) → s ≡ Statement.While d body → IsFullAt d 0 old fault →
       IsFullFor P depth s old fault
-  while_condition s d body old fault is full = rw is (λ all own S w size suits deep now.
+  while_condition s d body old fault is full = rw is (λ S w size suits deep now.
       condition_for (Statement.While d body) d 0 old fault full S w w size suits.fits suits.resolved.0 suits.good now (omega arith) (omega arith))
 
   pub while_body : (s : Statement) (d : Condition) (body : Statement) (l : LoopLabels) (old a : Lowering) (fault : LoweringFault) → s ≡ Statement.While d body → OpensTurn d l old a →
       IsFullFor P depth body a fault → IsFullFor P depth s old fault
-  while_body s d body l old a fault is opens full = rw is (λ all own S w size suits deep now.
+  while_body s d body l old a fault is opens full = rw is (λ S w size suits deep now.
       let loop = while_loop d body in
       let now_a = turn_typed loop l old a opens S w size suits.fits suits.resolved.0 suits.good now in
-      part_for (Statement.While d body) body old a fault full (turn_grows loop l old a opens) S w (w + (condition_weight d + 1)) size suits all deep own true (λ g c. c) (omega arith) suits.resolved.1
+      part_for (Statement.While d body) body old a fault full (turn_grows loop l old a opens) S w (w + (condition_weight d + 1)) size suits deep true (λ g c. c) (omega arith) suits.resolved.1
       (part_sites S.program (Statement.While d body) body [] [] old.site a.site suits.sites (sym (append-nil (formats_of body)))
       (let x = turn_site loop l old a opens in omega (arith, x)))
       now_a (omega arith))
@@ -250,13 +245,12 @@ module _ (P : Program) (depth : ℕ) where
     do_sites Q sites = part_sites Q do_ body [] [] old.site a.site sites (sym (append-nil (formats_of body))) (let x = to_a.site in omega (arith, x))
 
     pub do_inner : (fault : LoweringFault) → IsFullFor P depth body a fault → IsFullFor P depth do_ old fault
-    do_inner fault full = λ all own S w size suits deep now.
-        part_for do_ body old a fault full to_a.grows S w w size suits all deep own true (λ g c. c) (omega arith) suits.resolved.0 (do_sites S.program suits.sites)
+    do_inner fault full = λ S w size suits deep now.
+        part_for do_ body old a fault full to_a.grows S w w size suits deep true (λ g c. c) (omega arith) suits.resolved.0 (do_sites S.program suits.sites)
         (to_a.typed S w size suits.good now) (omega arith)
 
-    pub do_asks : (b : Lowering) (fault : LoweringFault) → Lowers P (Some (labels_of l)) body a b → IsFullAt d 0 b fault → IsFullFor P depth do_ old fault
-    do_asks b fault lowers full = λ all own S w size suits deep now.
-        let inner = lowers all own in
+    pub do_asks : (b : Lowering) (fault : LoweringFault) → Leads P (Some (labels_of l)) body a b → IsFullAt d 0 b fault → IsFullFor P depth do_ old fault
+    do_asks b fault inner full = λ S w size suits deep now.
         let now_b = inner.typed S w size (typing_part P S size do_ body old a to_a.grows suits true (omega arith) suits.resolved.0 (do_sites S.program suits.sites) (λ g c. c))
         (to_a.typed S w size suits.good now) in
         let old_b = grows_both old a b to_a.grows inner.grows in
@@ -268,7 +262,7 @@ module _ (P : Program) (depth : ℕ) where
   do_body s d body l old a fault is opens full = rw is (do_inner d body l old a opens fault full)
 
   pub do_condition : (s : Statement) (d : Condition) (body : Statement) (l : LoopLabels) (old a b : Lowering) (fault : LoweringFault) → s ≡ Statement.DoWhile body d → OpensLoop l old a →
-      Lowers P (Some (labels_of l)) body a b → IsFullAt d 0 b fault → IsFullFor P depth s old fault
+      Leads P (Some (labels_of l)) body a b → IsFullAt d 0 b fault → IsFullFor P depth s old fault
   do_condition s d body l old a b fault is opens lowers full = rw is (do_asks d body l old a opens b fault lowers full)
 
   -- for
@@ -280,34 +274,24 @@ module _ (P : Program) (depth : ℕ) where
     first_sites : (Q : Program) → HasSites Q for_ old.site → HasSites Q first_ old.site
     first_sites Q sites = part_sites Q for_ first_ [] (formats_of last ++ formats_of body) old.site old.site sites refl (omega arith)
 
-    own_first : is_sequential for_ ≡ true → is_sequential first_ ≡ true
-    own_first own = (both_true (is_sequential first_) _ own).0
-
-    own_last : is_sequential for_ ≡ true → is_sequential last ≡ true
-    own_last own = (both_true (is_sequential last) (is_sequential body) (both_true (is_sequential first_) _ own).1).0
-
-    own_body : is_sequential for_ ≡ true → is_sequential body ≡ true
-    own_body own = (both_true (is_sequential last) (is_sequential body) (both_true (is_sequential first_) _ own).1).1
-
     pub for_begins : (fault : LoweringFault) → IsFullFor P depth first_ old fault → IsFullFor P depth for_ old fault
-    for_begins fault full = λ all own S w size suits deep now.
-        part_for for_ first_ old old fault full (grows_refl old) S w w size suits all deep (own_first own) false
+    for_begins fault full = λ S w size suits deep now.
+        part_for for_ first_ old old fault full (grows_refl old) S w w size suits deep false
         (Contains-append_left (calls_of first_) (calls_of last ++ calls_of body)) (omega arith) suits.resolved.0 (first_sites S.program suits.sites) now (omega arith)
 
-    module _ (a0 : Lowering) (first : Lowers P None first_ old a0) where
-      at_a0 : (all : is_sequential_program P ≡ true) (own : is_sequential for_ ≡ true) (S : Typing) (w size : ℕ) → SuitsTyping P S size for_ old → IsTypedNow S w old →
+    module _ (a0 : Lowering) (first : Leads P None first_ old a0) where
+      at_a0 : (S : Typing) (w size : ℕ) → SuitsTyping P S size for_ old → IsTypedNow S w old →
           IsTypedNow S (w + inlined_weight S.program first_) a0
-      at_a0 all own S w size suits now =
-          (first all (own_first own)).typed S w size (typing_part P S size for_ first_ old old (grows_refl old) suits false (omega arith) suits.resolved.0
+      at_a0 S w size suits now =
+          first.typed S w size (typing_part P S size for_ first_ old old (grows_refl old) suits false (omega arith) suits.resolved.0
           (first_sites S.program suits.sites) (Contains-append_left (calls_of first_) (calls_of last ++ calls_of body))) now
 
       pub for_opens : (fault : LoweringFault) → IsFullAt d (a0.site + print_count last) a0 fault → IsFullFor P depth for_ old fault
-      for_opens fault full = λ all own S w size suits deep now.
-          let f = first all (own_first own) in
+      for_opens fault full = λ S w size suits deep now.
           let p = sites_within S.program for_ old.site suits.sites in
-          let e = f.site in
-          condition_for for_ d (a0.site + print_count last) a0 fault full S w (w + inlined_weight S.program first_) size (subst (Fits S) (sym f.grows.homes) suits.fits) suits.resolved.1
-          (f.grows.good size suits.good) (at_a0 all own S w size suits now) (omega arith) (omega (arith, p, e))
+          let e = first.site in
+          condition_for for_ d (a0.site + print_count last) a0 fault full S w (w + inlined_weight S.program first_) size (subst (Fits S) (sym first.grows.homes) suits.fits) suits.resolved.1
+          (first.grows.good size suits.good) (at_a0 S w size suits now) (omega arith) (omega (arith, p, e))
 
       module _ (l : LoopLabels) (a : Lowering) (opens : OpensTurn d l (at_site (a0.site + print_count last) a0) a) where
         abbrev loop : WorkLoop
@@ -316,50 +300,49 @@ module _ (P : Program) (depth : ℕ) where
         abbrev skipped : Lowering
         skipped = at_site (a0.site + print_count last) a0
 
-        old_skipped : (all : is_sequential_program P ≡ true) (own : is_sequential for_ ≡ true) → Grows old skipped
-        old_skipped all own = grows_both old a0 skipped (first all (own_first own)).grows (site_grows (a0.site + print_count last) a0)
+        old_skipped : Grows old skipped
+        old_skipped = grows_both old a0 skipped first.grows (site_grows (a0.site + print_count last) a0)
 
-        for_old_a : (all : is_sequential_program P ≡ true) (own : is_sequential for_ ≡ true) → Grows old a
-        for_old_a all own = grows_both old skipped a (old_skipped all own) (turn_grows loop l skipped a opens)
+        for_old_a : Grows old a
+        for_old_a = grows_both old skipped a old_skipped (turn_grows loop l skipped a opens)
 
-        for_at_a : (all : is_sequential_program P ≡ true) (own : is_sequential for_ ≡ true) (S : Typing) (w size : ℕ) → SuitsTyping P S size for_ old → IsTypedNow S w old →
+        for_at_a : (S : Typing) (w size : ℕ) → SuitsTyping P S size for_ old → IsTypedNow S w old →
             IsTypedNow S (w + inlined_weight S.program first_ + (condition_weight d + 1)) a
-        for_at_a all own S w size suits now =
-            turn_typed loop l skipped a opens S (w + inlined_weight S.program first_) size (subst (Fits S) (sym (old_skipped all own).homes) suits.fits) suits.resolved.1
-            ((old_skipped all own).good size suits.good)
-            (site_typed (a0.site + print_count last) a0 S (w + inlined_weight S.program first_) (at_a0 all own S w size suits now))
+        for_at_a S w size suits now =
+            turn_typed loop l skipped a opens S (w + inlined_weight S.program first_) size (subst (Fits S) (sym old_skipped.homes) suits.fits) suits.resolved.1
+            (old_skipped.good size suits.good)
+            (site_typed (a0.site + print_count last) a0 S (w + inlined_weight S.program first_) (at_a0 S w size suits now))
 
-        body_sites : (all : is_sequential_program P ≡ true) (own : is_sequential for_ ≡ true) (Q : Program) → HasSites Q for_ old.site → HasSites Q body a.site
-        body_sites all own Q sites = part_sites Q for_ body (formats_of first_ ++ formats_of last) [] old.site a.site sites
+        body_sites : (Q : Program) → HasSites Q for_ old.site → HasSites Q body a.site
+        body_sites Q sites = part_sites Q for_ body (formats_of first_ ++ formats_of last) [] old.site a.site sites
             (sym (append_assoc (formats_of first_) (formats_of last) (formats_of body ++ []) ∙ ap (λ z. formats_of first_ ++ (formats_of last ++ z)) (append-nil (formats_of body))))
-            (let x = formats_length first_ in let y = formats_length last in let z = turn_site loop l skipped a opens in let f = (first all (own_first own)).site in
+            (let x = formats_length first_ in let y = formats_length last in let z = turn_site loop l skipped a opens in let f = first.site in
             let u = length-append (formats_of first_) (formats_of last) in omega (arith, x, y, z, f, u))
 
         pub for_goes : (fault : LoweringFault) → IsFullFor P depth body a fault → IsFullFor P depth for_ old fault
-        for_goes fault full = λ all own S w size suits deep now.
-            part_for for_ body old a fault full (for_old_a all own) S w (w + inlined_weight S.program first_ + (condition_weight d + 1)) size suits all deep (own_body own) true
+        for_goes fault full = λ S w size suits deep now.
+            part_for for_ body old a fault full for_old_a S w (w + inlined_weight S.program first_ + (condition_weight d + 1)) size suits deep true
             (λ g c. Contains-append_right (calls_of first_) (calls_of last ++ calls_of body) g (Contains-append_right (calls_of last) (calls_of body) g c)) (omega arith) suits.resolved.3
-            (body_sites all own S.program suits.sites) (for_at_a all own S w size suits now) (omega arith)
+            (body_sites S.program suits.sites) (for_at_a S w size suits now) (omega arith)
 
-        module _ (b c : Lowering) (inner : Lowers P (Some (labels_of l)) body a b) (turns : Binds l.turning (at_site a0.site b) c) where
+        module _ (b c : Lowering) (inner : Leads P (Some (labels_of l)) body a b) (turns : Binds l.turning (at_site a0.site b) c) where
           sited_c : Shifts (at_site a0.site b) c
           sited_c = binds_shifts l.turning (at_site a0.site b) c turns
 
           pub for_turns : (fault : LoweringFault) → IsFullFor P depth last c fault → IsFullFor P depth for_ old fault
-          for_turns fault full = λ all own S w size suits deep now.
+          for_turns fault full = λ S w size suits deep now.
               let v = w + inlined_weight S.program first_ + (condition_weight d + 1) in
-              let i = inner all (own_body own) in
-              let now_b = i.typed S v size (typing_part P S size for_ body old a (for_old_a all own) suits true (omega arith) suits.resolved.3 (body_sites all own S.program suits.sites)
+              let now_b = inner.typed S v size (typing_part P S size for_ body old a for_old_a suits true (omega arith) suits.resolved.3 (body_sites S.program suits.sites)
               (λ g c. Contains-append_right (calls_of first_) (calls_of last ++ calls_of body) g (Contains-append_right (calls_of last) (calls_of body) g c)))
-              (for_at_a all own S w size suits now) in
-              let old_b = grows_both old a b (for_old_a all own) i.grows in
+              (for_at_a S w size suits now) in
+              let old_b = grows_both old a b for_old_a inner.grows in
               let old_sited = grows_both old b (at_site a0.site b) old_b (site_grows a0.site b) in
               let now_c = sited_c.typed S (v + inlined_weight S.program body) size (old_sited.good size suits.good) (site_typed a0.site b S (v + inlined_weight S.program body) now_b) in
-              part_for for_ last old c fault full (grows_both old (at_site a0.site b) c old_sited sited_c.grows) S w (v + inlined_weight S.program body) size suits all deep (own_last own) false
+              part_for for_ last old c fault full (grows_both old (at_site a0.site b) c old_sited sited_c.grows) S w (v + inlined_weight S.program body) size suits deep false
               (λ g c. Contains-append_right (calls_of first_) (calls_of last ++ calls_of body) g (Contains-append_left (calls_of last) (calls_of body) g c)) (omega arith)
               suits.resolved.2
               (part_sites S.program for_ last (formats_of first_) (formats_of body) old.site c.site suits.sites refl
-              (let x = formats_length first_ in let y = sited_c.site in let z = (first all (own_first own)).site in omega (arith, x, y, z)))
+              (let x = formats_length first_ in let y = sited_c.site in let z = first.site in omega (arith, x, y, z)))
               now_c (omega arith)
 
   pub for_first : (s first_ : Statement) (d : Condition) (last body : Statement) (old : Lowering) (fault : LoweringFault) → s ≡ Statement.For first_ d last body → IsFullFor P depth first_ old fault →
@@ -367,15 +350,15 @@ module _ (P : Program) (depth : ℕ) where
   for_first s first_ d last body old fault is full = rw is (for_begins first_ d last body old fault full)
 
   pub for_condition : (s first_ : Statement) (d : Condition) (last body : Statement) (old a0 : Lowering) (fault : LoweringFault) → s ≡ Statement.For first_ d last body →
-      Lowers P None first_ old a0 → IsFullAt d (a0.site + print_count last) a0 fault → IsFullFor P depth s old fault
+      Leads P None first_ old a0 → IsFullAt d (a0.site + print_count last) a0 fault → IsFullFor P depth s old fault
   for_condition s first_ d last body old a0 fault is first full = rw is (for_opens first_ d last body old a0 first fault full)
 
   pub for_body : (s first_ : Statement) (d : Condition) (last body : Statement) (l : LoopLabels) (old a0 a : Lowering) (fault : LoweringFault) → s ≡ Statement.For first_ d last body →
-      Lowers P None first_ old a0 → OpensTurn d l (at_site (a0.site + print_count last) a0) a → IsFullFor P depth body a fault → IsFullFor P depth s old fault
+      Leads P None first_ old a0 → OpensTurn d l (at_site (a0.site + print_count last) a0) a → IsFullFor P depth body a fault → IsFullFor P depth s old fault
   for_body s first_ d last body l old a0 a fault is first opens full = rw is (for_goes first_ d last body old a0 first l a opens fault full)
 
   pub for_last : (s first_ : Statement) (d : Condition) (last body : Statement) (l : LoopLabels) (old a0 a b c : Lowering) (last_site : ℕ) (fault : LoweringFault) →
-      s ≡ Statement.For first_ d last body → Lowers P None first_ old a0 → OpensTurn d l (at_site (a0.site + print_count last) a0) a → Lowers P (Some (labels_of l)) body a b →
+      s ≡ Statement.For first_ d last body → Leads P None first_ old a0 → OpensTurn d l (at_site (a0.site + print_count last) a0) a → Leads P (Some (labels_of l)) body a b →
       last_site ≡ a0.site → Binds l.turning (at_site last_site b) c → IsFullFor P depth last c fault → IsFullFor P depth s old fault
   for_last s first_ d last body l old a0 a b c last_site fault is first opens inner site turns full =
       rw is (for_turns first_ d last body old a0 first l a opens b c inner (subst (λ n. Binds l.turning (at_site n b) c) site turns) fault full)
@@ -388,7 +371,7 @@ module _ (P : Program) (depth : ℕ) where
   pub behind_none : (s : Statement) (c : Lowering) → IsBehind s s c c
   behind_none s c = record { full = λ fault h. h }
 
-  pub behind_more : (around : Option Loop) (whole left a b : Statement) (initial old mid : Lowering) → IsBehind whole left initial old → left ≡ Statement.Sequence a b → Lowers P around a old mid →
+  pub behind_more : (around : Option Loop) (whole left a b : Statement) (initial old mid : Lowering) → IsBehind whole left initial old → left ≡ Statement.Sequence a b → Leads P around a old mid →
       IsBehind whole b initial mid
   behind_more around whole left a b initial old mid behind is first = record {
     full = λ fault h. behind.full fault (full_is (Statement.Sequence a b) left old fault is (sequence_rest around a b old mid fault first h));

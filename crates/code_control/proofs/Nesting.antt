@@ -17,7 +17,6 @@ use Rattle.code_places.specs.declared.targets.Loop.{Loop}
 use Rattle.code_control.specs.declared.branching.ChoiceLabels.{ChoiceLabels}
 use Rattle.code_control.specs.declared.branching.LoopLabels.{LoopLabels}
 use Rattle.code_places.specs.declared.lowering.Lowering.{Lowering}
-use Rattle.code_places.specs.Sequential.{is_sequential}
 use Rattle.thread_rooms.specs.Values.{most_values}
 use Rattle.straight_code.specs.Typing.{Typing, Fits}
 use Rattle.code_places.specs.Resuming.{nothing_kept}
@@ -26,7 +25,7 @@ use Rattle.code_places.specs.Labels.{is_used}
 use Rattle.code_places.specs.Apart.{IsTypedNow, IsGood}
 use Rattle.code_control.specs.Deciding.{side}
 use Rattle.code_places.specs.Control.{Binds, Whole, IsIn, AtLabel, AtLabelUpTo, GoesOn}
-use Rattle.code_places.specs.Doing.{Grows, Shifts, at_site, OnwardUpTo, IfUsed, LeadsOut, Suits, SuitsTyping, Leads, Lowers, LowersHere}
+use Rattle.code_places.specs.Doing.{Grows, Shifts, at_site, OnwardUpTo, IfUsed, LeadsOut, Suits, SuitsTyping, Leads, LowersHere}
 use Rattle.code_control.specs.Branching.{OpensChoice, TurnsChoice, OpensLoop, OpensTurn, ClosesTurn, Asks, ClosesDo}
 use Rattle.thread_rooms.proofs.Sites.{formats_length, part_sites}
 use Rattle.code_places.proofs.Seating.{seat_on, typed_seat_on}
@@ -75,14 +74,10 @@ module _ (P : Program) (S : Typing) (size : ℕ) (s t : Statement) (old c : Lowe
     calls = λ g c. suits.calls g (calls g c);
   }
 
-pub both_true : (a b : Bool) → (a && b) ≡ true → (a ≡ true) × (b ≡ true)
-both_true true b e = (refl, e)
-both_true false b e = absurd cc
-
 -- ---- what is left out
 
-pub skips : (P : Program) (around : Option Loop) (s : Statement) (old new : Lowering) → old.reached ≡ false → new ≡ at_site (old.site + print_count s) old → Lowers P around s old new
-skips P around s old new off is = λ all own. record {
+pub skips : (P : Program) (around : Option Loop) (s : Statement) (old new : Lowering) → old.reached ≡ false → new ≡ at_site (old.site + print_count s) old → Leads P around s old new
+skips P around s old new off is = record {
   grows = subst (Grows old) (sym is) (site_grows (old.site + print_count s) old);
   site = ap (λ (z : Lowering). z.site) is;
   typed = λ S w size suits now.
@@ -91,8 +86,8 @@ skips P around s old new off is = λ all own. record {
   leads = λ W homes size n k suits whole out after on. absurd cc;
 }
 
-pub simple_lowers : (P : Program) (around : Option Loop) (s : Statement) (old new : Lowering) → old.reached ≡ true → LowersHere P around s old new → Lowers P around s old new
-simple_lowers P around s old new on h = λ all own. h own on
+pub simple_lowers : (P : Program) (around : Option Loop) (s : Statement) (old new : Lowering) → old.reached ≡ true → LowersHere P around s old new → Leads P around s old new
+simple_lowers P around s old new on h = h on
 
 -- ---- one statement after another
 
@@ -146,9 +141,9 @@ module _ (P : Program) (around : Option Loop) (a b : Statement) (old mid new : L
 
 -- ---- a block
 
-pub block_lowers : (P : Program) (around : Option Loop) (s body : Statement) (old new : Lowering) → s ≡ Statement.Block body → Lowers P around body old new → Lowers P around s old new
-block_lowers P around s body old new is h = rw is (λ all own.
-    let inner = h all own in
+pub block_lowers : (P : Program) (around : Option Loop) (s body : Statement) (old new : Lowering) → s ≡ Statement.Block body → Leads P around body old new → Leads P around s old new
+block_lowers P around s body old new is h = rw is (
+    let inner = h in
     record {
       grows = inner.grows;
       site = inner.site;
@@ -295,10 +290,9 @@ module _ (P : Program) (around : Option Loop) (d : Condition) (l : ChoiceLabels)
 
 pub choice_lowers : (P : Program) (around : Option Loop) (s : Statement) (d : Condition) (one other : Statement) (l : ChoiceLabels) (old a b e g new : Lowering) → s ≡ Statement.If d one other →
     OpensChoice d l old a →
-    Lowers P around one a b → TurnsChoice l b e → Lowers P around other e g → Binds l.join g new → Lowers P around s old new
-choice_lowers P around s d one other l old a b e g new is opens first turns second closes = rw is (λ all own.
-    let both = both_true (is_sequential one) (is_sequential other) own in
-    choice_leads P around d l one other old a b e g new opens (first all both.0) turns (second all both.1) closes)
+    Leads P around one a b → TurnsChoice l b e → Leads P around other e g → Binds l.join g new → Leads P around s old new
+choice_lowers P around s d one other l old a b e g new is opens first turns second closes =
+    rw is (choice_leads P around d l one other old a b e g new opens first turns second closes)
 
 -- ---- the turns of a loop
 
@@ -466,8 +460,8 @@ module _ (P : Program) (around : Option Loop) (d : Condition) (l : LoopLabels) (
 
 pub while_lowers : (P : Program) (around : Option Loop) (s : Statement) (d : Condition) (body : Statement) (l : LoopLabels) (old a b new : Lowering) → s ≡ Statement.While d body →
     OpensTurn d l old a →
-    Lowers P (Some (while_labels l)) body a b → ClosesTurn l b new → Lowers P around s old new
-while_lowers P around s d body l old a b new is opens inner closes = rw is (λ all own. while_leads P around d l body old a b new opens (inner all own) closes)
+    Leads P (Some (while_labels l)) body a b → ClosesTurn l b new → Leads P around s old new
+while_lowers P around s d body l old a b new is opens inner closes = rw is (while_leads P around d l body old a b new opens inner closes)
 
 -- ---- do
 
@@ -604,8 +598,8 @@ module _ (P : Program) (around : Option Loop) (d : Condition) (l : LoopLabels) (
   }
 
 pub do_lowers : (P : Program) (around : Option Loop) (s : Statement) (d : Condition) (body : Statement) (l : LoopLabels) (old a b new : Lowering) → s ≡ Statement.DoWhile body d → OpensLoop l old a →
-    Lowers P (Some (labels_of l)) body a b → ClosesDo d l b new → Lowers P around s old new
-do_lowers P around s d body l old a b new is opens inner closes = rw is (λ all own. do_leads P around d l body old a b new opens (inner all own) closes)
+    Leads P (Some (labels_of l)) body a b → ClosesDo d l b new → Leads P around s old new
+do_lowers P around s d body l old a b new is opens inner closes = rw is (do_leads P around d l body old a b new opens inner closes)
 
 -- ---- for
 
@@ -759,33 +753,28 @@ module _ (P : Program) (around : Option Loop) (first_ : Statement) (d : Conditio
   }
 
 pub for_lowers : (P : Program) (around : Option Loop) (s first_ : Statement) (d : Condition) (last body : Statement) (l : LoopLabels) (old a0 a b c e new : Lowering) (last_site after_site : ℕ) →
-    s ≡ Statement.For first_ d last body → Lowers P None first_ old a0 → last_site ≡ a0.site → OpensTurn d l (at_site (a0.site + print_count last) a0) a → Lowers P (Some (labels_of l)) body a b →
-    after_site ≡ b.site → Binds l.turning (at_site last_site b) c → Lowers P None last c e → ClosesTurn l (at_site after_site e) new → Lowers P around s old new
-for_lowers P around s first_ d last body l old a0 a b c e new last_site after_site is first last_is opens inner after_is turns last_ closes = rw is (λ all own.
-    let parts = both_true (is_sequential first_) (is_sequential last && is_sequential body) own in
-    let rest = both_true (is_sequential last) (is_sequential body) parts.1 in
-    for_leads P around first_ d last body l old a0 a b c e new last_site after_site (first all parts.0) last_is opens (inner all rest.1) after_is turns (last_ all rest.0) closes)
+    s ≡ Statement.For first_ d last body → Leads P None first_ old a0 → last_site ≡ a0.site → OpensTurn d l (at_site (a0.site + print_count last) a0) a → Leads P (Some (labels_of l)) body a b →
+    after_site ≡ b.site → Binds l.turning (at_site last_site b) c → Leads P None last c e → ClosesTurn l (at_site after_site e) new → Leads P around s old new
+for_lowers P around s first_ d last body l old a0 a b c e new last_site after_site is first last_is opens inner after_is turns last_ closes =
+    rw is (for_leads P around first_ d last body l old a0 a b c e new last_site after_site first last_is opens inner after_is turns last_ closes)
 
 -- ---- lists of statements: the code of what is left of one is that of the whole
 
 pub record IsVia (P : Program) (around : Option Loop) (whole left : Statement) (initial now : Lowering) : Type 0 where
-  pub lowers : (new : Lowering) → Lowers P around left now new → Lowers P around whole initial new
+  pub lowers : (new : Lowering) → Leads P around left now new → Leads P around whole initial new
 
 pub via_all : (P : Program) (around : Option Loop) (s : Statement) (c : Lowering) → IsVia P around s s c c
 via_all P around s c = record { lowers = λ new h. h }
 
 pub via_more : (P : Program) (around : Option Loop) (whole left a b : Statement) (initial old mid : Lowering) → IsVia P around whole left initial old →
-    left ≡ Statement.Sequence a b → Lowers P around a old mid →
+    left ≡ Statement.Sequence a b → Leads P around a old mid →
     IsVia P around whole b initial mid
 via_more P around whole left a b initial old mid via is first = record {
   lowers = λ new second.
       via.lowers new
-      (subst (λ z. Lowers P around z old new) (sym is)
-      (λ all own.
-      let both = both_true (is_sequential a) (is_sequential b) own in
-      sequence_leads P around a b old mid new (first all both.0) (second all both.1)));
+      (subst (λ z. Leads P around z old new) (sym is) (sequence_leads P around a b old mid new first second));
 }
 
-pub via_last : (P : Program) (around : Option Loop) (whole left : Statement) (initial old new : Lowering) → IsVia P around whole left initial old → Lowers P around left old new →
-    Lowers P around whole initial new
+pub via_last : (P : Program) (around : Option Loop) (whole left : Statement) (initial old new : Lowering) → IsVia P around whole left initial old → Leads P around left old new →
+    Leads P around whole initial new
 via_last P around whole left initial old new via h = via.lowers new h

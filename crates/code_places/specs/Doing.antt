@@ -16,7 +16,6 @@ use Rattle.straight_code.specs.Closing.{IsFresh}
 use Rattle.thread_rooms.specs.declared.rooms.Rooms.{Rooms}
 use Rattle.thread_rooms.specs.Objects.{AreObjects}
 use Rattle.thread_rooms.specs.Values.{most_values}
-use Rattle.code_places.specs.Sequential.{is_sequential, is_sequential_program}
 use Rattle.code_places.specs.Weighing.{inlined_weight}
 use Rattle.code_places.specs.Seats.{IsSeated, IsSeatedTyping}
 use Rattle.straight_code.specs.Typing.{Typing, Fits, HasWords}
@@ -124,13 +123,9 @@ pub record Leads (P : Program) (around : Option Loop) (s : Statement) (old new :
   pub leads : (W : Whole) (homes : List Home) (size n : ℕ) (k : List Work) → Suits P W homes size s old → IsIn W new → LeadsOut W homes n new.stages.used around k →
       OnwardUpTo W homes n new (settled Onward k) → OnwardUpTo W homes n old (settled Onward (Do s ∷ k))
 
--- of those that call no function of pthreads, in a program in which no function does
-abbrev pub Lowers : Program → Option Loop → Statement → Lowering → Lowering → Type 0
-Lowers P around s old new = is_sequential_program P ≡ true → is_sequential s ≡ true → Leads P around s old new
-
 -- a statement without others in it is lowered where it is reached
 abbrev pub LowersHere : Program → Option Loop → Statement → Lowering → Lowering → Type 0
-LowersHere P around s old new = is_sequential s ≡ true → old.reached ≡ true → Leads P around s old new
+LowersHere P around s old new = old.reached ≡ true → Leads P around s old new
 
 -- nothing yet: the function of that number, in a thread with these rooms, with so many words
 pub record IsNew (P : Program) (housing : Rooms) (number words : ℕ) (c : Lowering) : Type 0 where

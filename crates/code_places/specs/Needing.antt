@@ -8,7 +8,6 @@ use Rattle.code_following.specs.Following.{print_formats}
 use Rattle.straight_code.specs.declared.fault.LoweringFault.{LoweringFault}
 use Rattle.code_places.specs.declared.lowering.Lowering.{Lowering}
 use Rattle.straight_code.specs.Typing.{Typing, Fits, HasWords}
-use Rattle.code_places.specs.Sequential.{is_sequential, is_sequential_program}
 use Rattle.code_places.specs.Weighing.{inlined_weight}
 use Rattle.code_places.specs.Seats.{IsSeatedTyping}
 use Rattle.code_places.specs.Apart.{IsTypedNow, IsGood}
@@ -32,15 +31,15 @@ IsDeep P f depth = (acyclic : IsAcyclic P.functions) (g : ℕ) → Contains (cal
 abbrev pub needed : Typing → ℕ → ℕ → ℕ
 needed S size w = 16 * w + size + length (print_formats S.program)
 
--- the same of a statement without pthread calls, in which calls are less than so deep
+-- the same of a statement in which calls are less than so deep
 abbrev pub IsFullFor : Program → ℕ → Statement → Lowering → LoweringFault → Type 0
 IsFullFor P depth s c fault =
-    is_sequential_program P ≡ true → is_sequential s ≡ true → (S : Typing) (w size : ℕ) → SuitsTyping P S size s c → IsDeep S.program S.function depth →
+    (S : Typing) (w size : ℕ) → SuitsTyping P S size s c → IsDeep S.program S.function depth →
     IsTypedNow S w c → IsFull (needed S size (w + inlined_weight S.program s)) fault
 
 -- the same of a call of the function g in the function that is lowered
 abbrev pub IsFullCall : Program → ℕ → ℕ → List Expression → Lowering → LoweringFault → Type 0
 IsFullCall P depth g es c fault =
-    is_sequential_program P ≡ true → (S : Typing) (w size : ℕ) → IsSeatedTyping P S size c → IsDeep S.program S.function depth → Fits S c.homes → HasWords S.types size 1 →
+    (S : Typing) (w size : ℕ) → IsSeatedTyping P S size c → IsDeep S.program S.function depth → Fits S c.homes → HasWords S.types size 1 →
     IsGood size c → IsCall S.program S.function g es → Contains (calls_of S.function.body) g → IsTypedNow S w c →
     IsFull (needed S size (w + (arguments_weight es + function_weight S.program.functions g))) fault

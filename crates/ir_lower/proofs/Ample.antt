@@ -1,5 +1,5 @@
 -- The code of a program within the limits is not too large.
-use Rattle.std.proofs.Common.{◌≡◌, ℕ, ◌+◌, ◌<◌, ◌≤◌, true, false, List, [], ◌∷◌, ◌++◌, length, map, replicate, Option, Some, None, refl, sym, ap, ◌∙◌, subst, arith, inl}
+use Rattle.std.proofs.Common.{◌≡◌, ℕ, ◌+◌, ◌<◌, ◌≤◌, false, List, [], ◌∷◌, ◌++◌, length, map, replicate, Option, Some, None, refl, sym, ap, ◌∙◌, subst, arith, inl}
 use Rattle.std.specs.Prelude.{slice_get, Contains}
 use Rattle.hls_ints.specs.Types.{long_int}
 use Rattle.c_program.specs.declared.tree.LocalVariable.{LocalVariable}
@@ -7,19 +7,16 @@ use Rattle.c_program.specs.declared.tree.Function.{Function as FunctionTree}
 use Rattle.c_program.specs.declared.tree.Program.{Program as ProgramTree}
 use Rattle.c_program.specs.Plain.{function_of, program_of, statement_of}
 use Rattle.c_program.specs.Tree.{Statement, Function, GlobalVariable, Program}
-use Rattle.c_program.specs.Limits.{local_elements, print_sites, IsWithinLimits}
+use Rattle.c_program.specs.Limits.{local_elements, IsWithinLimits}
 use Rattle.c_program.specs.Calls.{calls_of, IsAcyclic}
 use Rattle.c_program.specs.Weight.{function_weight, thread_functions}
 use Rattle.c_program.specs.Resolved.{IsFunction, IsResolved}
 use Rattle.straight_code.specs.declared.fault.LoweringFault.{LoweringFault}
 use Rattle.straight_code.specs.declared.fault.LoweringFault.TheVariants.{TooLarge}
-use Rattle.ir_lower.specs.declared.fault.LowerError.{LowerError}
-use Rattle.ir_lower.specs.declared.fault.LowerError.TheVariants.{Fault}
 use Rattle.straight_code.specs.declared.homes.Home.{Home}
 use Rattle.straight_code.specs.declared.homes.Home.TheVariants as home
 use Rattle.thread_rooms.specs.declared.rooms.Rooms.{Rooms}
 use Rattle.code_places.specs.declared.lowering.Lowering.{Lowering}
-use Rattle.code_places.specs.Sequential.{is_sequential_program}
 use Rattle.thread_rooms.specs.Values.{most_values, all_values}
 use Rattle.thread_rooms.specs.Housing.{homes_in, Runs, types_in, IsHousing}
 use Rattle.thread_rooms.specs.Objects.{AreObjects}
@@ -31,7 +28,7 @@ use Rattle.code_places.specs.Seats.{HasWord}
 use Rattle.code_places.specs.Doing.{Shifts, SuitsTyping, IsNew, Starts}
 use Rattle.straight_code.specs.Room.{IsFull}
 use Rattle.code_places.specs.Needing.{needed, IsFullFor}
-use Rattle.ir_lower.specs.Codes.{function_needs, IsFullFunction}
+use Rattle.ir_lower.specs.Codes.{function_needs}
 use Rattle.straight_code.proofs.Cells.{get_within}
 use Rattle.straight_code.proofs.Room.{full_more}
 use Rattle.straight_code.proofs.Typing.{get_more}
@@ -39,7 +36,7 @@ use Rattle.code_places.proofs.Staying.{fresh_typed, words_less}
 use Rattle.code_places.proofs.Resuming.{fresh_sound}
 use Rattle.code_places.proofs.Growing.{shifts_both, begins_shifts}
 use Rattle.code_places.proofs.Weighing.{body_weighs}
-use Rattle.code_calls.proofs.Callees.{function_in, sequential_in}
+use Rattle.code_calls.proofs.Callees.{function_in}
 use Rattle.ir_lower.proofs.Whole.{get_map, get_none, values_among, word_at}
 use Rattle.ir_lower.proofs.Roots.{thread_function, holds_of}
 use Rattle.thread_rooms.proofs.Sites.{formats_count}
@@ -144,13 +141,13 @@ module _ (p : ProgramTree) (r : ℕ) (f : FunctionTree) (at : slice_get p.functi
     stages = λ l t e. absurd (let none : slice_get [] l ≡ Some t = ap (λ xs. slice_get xs l) (sym is_new.items) ∙ e in cc);
   }
 
-  pub body_full : (depth : ℕ) (fault : LoweringFault) → depth ≡ length p.functions.items → is_sequential_program P ≡ true → IsFullFor P depth body begun fault → IsFull (function_needs P r) fault
-  body_full depth fault deep all full =
+  pub body_full : (depth : ℕ) (fault : LoweringFault) → depth ≡ length p.functions.items → IsFullFor P depth body begun fault → IsFull (function_needs P r) fault
+  body_full depth fault deep full =
       let few = housed.few in
       let count = formats_count P.functions in
       let weighs = body_weighs P r (function_of f) resolved.acyclic found in
       full_more fault (needed typing size (0 + inlined_weight P body)) (function_needs P r) (omega (arith, few, count, weighs))
-      (full all (sequential_in P.functions r (function_of f) all found) typing 0 size suits_typing low
+      (full typing 0 size suits_typing low
       (first_begun.typed typing 0 size good_first first_typed))
     where
       low : (acyclic : IsAcyclic P.functions) (g : ℕ) → Contains (calls_of body) g → acyclic.rank g < depth
@@ -160,29 +157,25 @@ module _ (p : ProgramTree) (r : ℕ) (f : FunctionTree) (at : slice_get p.functi
           let long = map_long p.functions.items in
           omega (arith, below, falls, deep, long)
 
--- the faults of a program's code
-
-pub fault_function : (P : Program) (r : ℕ) (fault : LoweringFault) → (is_sequential_program P ≡ true → IsResolved P → IsFull (function_needs P r) fault) → IsFullFunction P r (Fault fault)
-fault_function P r fault full = λ own resolved among same. full own resolved (let e : fault ≡ TooLarge = cc in e)
-
-pub counted_function : (P : Program) (r n : ℕ) (fault : LoweringFault) → (IsResolved P → n ≤ function_needs P r) → IsFull n fault → IsFullFunction P r (Fault fault)
-counted_function P r n fault few full = fault_function P r fault (λ own resolved. full_more fault n (function_needs P r) (few resolved) full)
+-- what is needed before its code begins
 
 pub variables_few : (P : Program) (r : ℕ) (H : Rooms) → IsHousing P r H → length H.variables ≤ local_elements P.functions r
 variables_few P r H housed = let few = housed.few in omega (arith, few)
 
+pub counted_function : (P : Program) (r n : ℕ) (fault : LoweringFault) → n ≤ function_needs P r → IsFull n fault → IsFull (function_needs P r) fault
+counted_function P r n fault few full = full_more fault n (function_needs P r) few full
+
 -- a thread function is one of the program
-pub no_function : (p : ProgramTree) (r : ℕ) (error : LowerError) → slice_get p.functions.items r ≡ None → IsFullFunction (program_of p) r error
-no_function p r error none = λ own resolved among same.
+pub no_function : (p : ProgramTree) (r : ℕ) → IsResolved (program_of p) → Contains (thread_functions (program_of p)) r → slice_get p.functions.items r ≡ None → ⊥
+no_function p r resolved among none =
     let t = thread_function (program_of p) resolved r among in
     let both : None ≡ Some t.function = sym (get_none function_of p.functions.items r none) ∙ t.found in
-    absurd cc
+    cc
 
 -- within the limits there is room
-pub function_ample : (P : Program) (r : ℕ) (error : LowerError) → IsFullFunction P r error → is_sequential_program P ≡ true → IsResolved P → Contains (thread_functions P) r →
-    IsWithinLimits P → error ≡ Fault TooLarge → ⊥
-function_ample P r error full own resolved among within same =
-    let h = full own resolved among same in
+pub function_ample : (P : Program) (r : ℕ) (fault : LoweringFault) → IsFull (function_needs P r) fault → Contains (thread_functions P) r → IsWithinLimits P → fault ≡ TooLarge → ⊥
+function_ample P r fault full among within same =
+    let h = full same in
     let weight = holds_of (λ f. function_weight P.functions f ≤ 8192) (thread_functions P) r within.weights among in
     let most = holds_of (λ f. local_elements P.functions f ≤ 16384) (thread_functions P) r within.locals among in
     let prints = within.prints in
@@ -190,7 +183,3 @@ function_ample P r error full own resolved among within same =
     let mutexes = within.mutexes in
     let barriers = within.barriers in
     omega (arith, h, weight, most, prints, threads, mutexes, barriers)
-
-pub rooms_function : (P : Program) (r : ℕ) (fault : LoweringFault) → (IsResolved P → IsFull (local_elements P.functions r + print_sites P) fault) → IsFullFunction P r (Fault fault)
-rooms_function P r fault full =
-    fault_function P r fault (λ own resolved. full_more fault (local_elements P.functions r + print_sites P) (function_needs P r) (omega arith) (full resolved))

@@ -1,13 +1,13 @@
 -- The code of a program begins at its first place.
-use Rattle.std.proofs.Common.{◌≡◌, ℕ, zero, suc, Bool, true, false, ◌&&◌, List, [], ◌∷◌, map, Option, Some, None, refl, sym, ap, ◌∙◌, subst, inl, inr, arith}
+use Rattle.std.proofs.Common.{◌≡◌, ℕ, zero, suc, Bool, true, false, ◌&&◌, List, [], ◌∷◌, map, Some, None, refl, sym, ap, ◌∙◌, subst, inl, inr, arith}
 use Rattle.std.specs.Prelude.{slice_get}
 use Rattle.c_program.specs.declared.tree.Function.{Function as FunctionTree}
 use Rattle.c_program.specs.declared.tree.Program.{Program as ProgramTree}
 use Rattle.c_program.specs.Plain.{function_of, program_of, statement_of}
-use Rattle.c_program.specs.Tree.{Function, Program}
+use Rattle.c_program.specs.Tree.{Program}
 use Rattle.thread_rooms.specs.declared.rooms.Rooms.{Rooms}
 use Rattle.code_places.specs.declared.lowering.Lowering.{Lowering}
-use Rattle.ir_lower.specs.Taken.{is_taken, are_taken, are_taken_with, is_taken_program}
+use Rattle.ir_lower.specs.Taken.{is_taken, are_taken}
 use Rattle.code_places.specs.Labels.{is_used, IsFit, IsFirst}
 use Rattle.code_places.specs.Control.{marked, with_label, Begins, IsAtHand, Begun}
 use Rattle.code_places.specs.Doing.{Proceeds, IsNew, Starts}
@@ -20,7 +20,7 @@ use Rattle.code_places.proofs.Proceeding.{none_begun}
 
 -- ---- the whole
 
-both_taken : (a b : Bool) → (a && b) ≡ true → (a ≡ true) × (b ≡ true)
+pub both_taken : (a b : Bool) → (a && b) ≡ true → (a ≡ true) × (b ≡ true)
 both_taken true b e = (refl, e)
 both_taken false b e = absurd cc
 
@@ -33,13 +33,6 @@ taken_in (g ∷ gs) (suc n) f at all = taken_in gs n f at (both_taken (is_taken 
 pub taken_body : (p : ProgramTree) (number : ℕ) (f : FunctionTree) → slice_get p.functions.items number ≡ Some f → are_taken (program_of p).functions ≡ true →
     is_taken false (statement_of f.body) ≡ true
 taken_body p number f at taken = taken_in p.functions.items number f at taken
-
-pub taken_functions : (P : Program) → is_taken_program P ≡ true → are_taken P.functions ≡ true
-taken_functions P e = by (slice_get P.functions P.main) e
-  where
-    by : (o : Option Function) → are_taken_with o P.functions ≡ true → are_taken P.functions ≡ true
-    by None h = cc
-    by (Some f) h = h
 
 module _ (P : Program) (H : Rooms) (number words : ℕ) (first : Lowering) (new_ : IsNew P H number words first) (start : ℕ) (begun : Lowering) (starts : Starts start first begun) where
   labelled_is : starts.labelled.stages ≡ (with_label first).stages

@@ -1,8 +1,8 @@
 -- The code of statements without others in them.
-use Rattle.std.proofs.Common.{◌≡◌, ℕ, suc, ◌+◌, ◌*◌, false, List, [], ◌∷◌, Option, Some, refl, sym, ap, ◌∙◌, subst, arith, append-nil}
+use Rattle.std.proofs.Common.{◌≡◌, ℕ, suc, ◌+◌, ◌*◌, List, [], ◌∷◌, Option, Some, refl, sym, ap, ◌∙◌, subst, arith, append-nil}
 use Rattle.hls_ints.specs.Types.{IntegerType}
 use Rattle.c_program.specs.declared.tree.BinaryOperator.{BinaryOperator}
-use Rattle.c_program.specs.Tree.{Expression, Place, RightSide, ThreadCall, Statement, Program}
+use Rattle.c_program.specs.Tree.{Expression, Place, RightSide, Statement, Program}
 use Rattle.c_program.specs.Limits.{print_count}
 use Rattle.code_places.specs.Weighing.{inlined_weight}
 use Rattle.c_program.specs.Resolved.{IsExpression, IsPlace, IsUpdate}
@@ -13,7 +13,6 @@ use Rattle.straight_code.specs.declared.open_block.OpenBlock.{OpenBlock}
 use Rattle.code_places.specs.declared.targets.Loop.{Loop}
 use Rattle.code_places.specs.declared.lowering.Lowering.{Lowering}
 use Rattle.straight_code.specs.Assigning.{Assigns}
-use Rattle.code_places.specs.Sequential.{is_sequential}
 use Rattle.straight_code.specs.Typing.{WorksOnAssignment, WorksOnUpdate}
 use Rattle.code_following.specs.Following.{AfterMove}
 use Rattle.code_places.specs.Resuming.{nothing_kept, IsMid, IsSound}
@@ -28,7 +27,7 @@ use Rattle.code_places.proofs.Stepping.{assigning_leads, block_grows, step_goes}
 pub assign_at : (P : Program) (place : Place) (right : RightSide) (e : Expression) (homes : List Home) (old new : Lowering) → right ≡ RightSide.Value e → homes ≡ old.homes →
     Assigns homes (λ m. assignment place e m) old.block new.block → WorksOnAssignment homes place e old.block new.block → new ≡ record old { block = new.block } →
     (offset : ℕ) (around : Option Loop) → LowersHere P around (Statement.Assign offset place right) old new
-assign_at P place right e homes old new is housed a works same offset around = λ own on.
+assign_at P place right e homes old new is housed a works same offset around = λ on.
     rw is
     (assigning_leads P (Statement.Assign offset place (RightSide.Value e)) offset (λ m. assignment place e m) old new
     (subst (λ hs. Assigns hs (λ m. assignment place e m) old.block new.block) housed a) same (λ P m f fs k. refl)
@@ -41,7 +40,7 @@ assign_at P place right e homes old new is housed a works same offset around = �
 pub update_at : (P : Program) (place : Place) (operator : BinaryOperator) (ty : IntegerType) (e : Expression) (homes : List Home) (old new : Lowering) → homes ≡ old.homes →
     Assigns homes (λ m. update place operator ty e m) old.block new.block → WorksOnUpdate homes place operator ty e old.block new.block → new ≡ record old { block = new.block } →
     (offset : ℕ) (around : Option Loop) → LowersHere P around (Statement.Update offset place operator ty e) old new
-update_at P place operator ty e homes old new housed a works same offset around = λ own on.
+update_at P place operator ty e homes old new housed a works same offset around = λ on.
     assigning_leads P (Statement.Update offset place operator ty e) offset (λ m. update place operator ty e m) old new
     (subst (λ hs. Assigns hs (λ m. update place operator ty e m) old.block new.block) housed a) same (λ P m f fs k. refl)
     (λ P f in_loop m ok shape x ls gives. update_there P f m shape place operator ty e x ls ok.target gives) refl (λ k. refl) around on
@@ -54,7 +53,7 @@ update_at P place operator ty e homes old new housed a works same offset around 
 
 pub declare_at : (P : Program) (old new : Lowering) (b : OpenBlock) → b ≡ record old.block { steps = suc old.block.steps } → new ≡ record old { block = b } →
     (offset local operators : ℕ) (around : Option Loop) → LowersHere P around (Statement.Declare offset local operators) old new
-declare_at P old new b stepped is offset local operators around = λ own on. record {
+declare_at P old new b stepped is offset local operators around = λ on. record {
   grows = block_grows old new same
       (λ size sound. subst (IsSound size) (sym block_is) (record {
         size = sound.size;
@@ -109,22 +108,18 @@ nothing_leads P s c around none opens = record {
 }
 
 pub done_at : (P : Program) (around : Option Loop) (s : Statement) (c : Lowering) → s ≡ Statement.Done → LowersHere P around s c c
-done_at P around s c is = λ own on. rw is (nothing_leads P Statement.Done c around refl (λ k. refl))
+done_at P around s c is = λ on. rw is (nothing_leads P Statement.Done c around refl (λ k. refl))
 
 pub empty_at : (P : Program) (around : Option Loop) (s : Statement) (c : Lowering) → s ≡ Statement.Empty → LowersHere P around s c c
-empty_at P around s c is = λ own on. rw is (nothing_leads P Statement.Empty c around refl (λ k. refl))
+empty_at P around s c is = λ on. rw is (nothing_leads P Statement.Empty c around refl (λ k. refl))
 
 pub lowers_is : (P : Program) (around : Option Loop) (s t : Statement) (old new : Lowering) → t ≡ s → LowersHere P around s old new → LowersHere P around t old new
 lowers_is P around s t old new e h = subst (λ z. LowersHere P around z old new) (sym e) h
 
--- of pthread calls nothing is said
-pub thread_at : (P : Program) (around : Option Loop) (s : Statement) (offset : ℕ) (call : ThreadCall) (old new : Lowering) → s ≡ Statement.Thread offset call → LowersHere P around s old new
-thread_at P around s offset call old new is = λ own on. absurd (let e : is_sequential s ≡ false = ap is_sequential is in cc)
-
 -- Break and continue.
 
 pub break_at : (P : Program) (around : Option Loop) (l : Loop) (old new : Lowering) → around ≡ Some l → Jumps l.leaving old new → LowersHere P around Statement.Break old new
-break_at P around l old new is jumps = λ own on. rw is record {
+break_at P around l old new is jumps = λ on. rw is record {
   grows = (jumps_shifts l.leaving old new jumps).grows;
   site = (let e = (jumps_shifts l.leaving old new jumps).site in omega (arith, e));
   typed = λ S w size suits now.
@@ -133,7 +128,7 @@ break_at P around l old new is jumps = λ own on. rw is record {
 }
 
 pub continue_at : (P : Program) (around : Option Loop) (l : Loop) (old new : Lowering) → around ≡ Some l → Jumps l.turning old new → LowersHere P around Statement.Continue old new
-continue_at P around l old new is jumps = λ own on. rw is record {
+continue_at P around l old new is jumps = λ on. rw is record {
   grows = (jumps_shifts l.turning old new jumps).grows;
   site = (let e = (jumps_shifts l.turning old new jumps).site in omega (arith, e));
   typed = λ S w size suits now.

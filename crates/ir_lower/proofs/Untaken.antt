@@ -1,11 +1,10 @@
--- Resolved programs are taken.
-use Rattle.std.proofs.Common.{◌≡◌, Bool, true, false, ◌&&◌, List, [], ◌∷◌, refl, ap, ◌∙◌, eq-eqb, le-leb}
+-- The statements of resolved programs are taken.
+use Rattle.std.proofs.Common.{◌≡◌, Bool, true, false, ◌&&◌, List, [], ◌∷◌, refl, eq-eqb, le-leb}
 use Rattle.std.specs.Prelude.{IsTrue}
 use Rattle.std.specs.List.{AllByRecursion}
 use Rattle.c_program.specs.Tree.{Expression, Piece, Statement, Function, Program}
 use Rattle.c_program.specs.Resolved.{IsPrint, IsStatement, IsFunction}
-use Rattle.ir_lower.specs.Codes.{ResolvedAreTaken}
-use Rattle.ir_lower.specs.Taken.{fits_format, is_taken, are_taken, are_taken_with}
+use Rattle.ir_lower.specs.Taken.{fits_format, is_taken, are_taken}
 
 both_true : (a b : Bool) → a ≡ true → b ≡ true → (a && b) ≡ true
 both_true true b h k = k
@@ -40,9 +39,6 @@ taken P f l (Statement.Call offset g arguments) is = refl
 taken P f l (Statement.Print offset format arguments) is = format_fits P f format arguments is
 taken P f l (Statement.Thread offset call) is = refl
 
-all_taken : (P : Program) (fs : List Function) → AllByRecursion (IsFunction P) fs → are_taken fs ≡ true
+pub all_taken : (P : Program) (fs : List Function) → AllByRecursion (IsFunction P) fs → are_taken fs ≡ true
 all_taken P [] all = refl
 all_taken P (f ∷ fs) all = both_true (is_taken false f.body) (are_taken fs) (taken P f false f.body all.0.body) (all_taken P fs all.1)
-
-pub resolved_are_taken : ResolvedAreTaken
-resolved_are_taken P resolved = ap (λ o. are_taken_with o P.functions) resolved.main.found ∙ all_taken P P.functions resolved.functions

@@ -1,5 +1,5 @@
 -- The code of a thread function does its steps, and is typed.
-use Rattle.std.proofs.Common.{◌≡◌, true, false, ℕ, zero, suc, ◌+◌, ◌*◌, ◌<◌, ◌≤◌, List, [], ◌∷◌, ◌++◌, length, map, replicate, Option, Some, None, refl, sym, ap, ◌∙◌, subst}
+use Rattle.std.proofs.Common.{◌≡◌, false, ℕ, zero, suc, ◌+◌, ◌*◌, ◌<◌, ◌≤◌, List, [], ◌∷◌, ◌++◌, length, map, replicate, Option, Some, None, refl, sym, ap, ◌∙◌, subst}
 use Rattle.std.proofs.Common.{◌≢◌, ℤ, if◌then◌else◌, arith, append-nil, length-append, eq-eqb, ⊎_elim, inl}
 use Rattle.std.specs.List.{AllByRecursion}
 use Rattle.std.proofs.lemmas.Bool.Decides.{eqb_tells}
@@ -24,7 +24,6 @@ use Rattle.straight_code.specs.declared.homes.Home.{Home}
 use Rattle.straight_code.specs.declared.homes.Home.TheVariants as home
 use Rattle.code_places.specs.Resuming.{HasShape, HoldLocals, nothing_kept}
 use Rattle.thread_rooms.specs.Formats.{HasSites}
-use Rattle.code_places.specs.Sequential.{is_sequential_program}
 use Rattle.code_places.specs.Labels.{led_stage, led}
 use Rattle.code_places.specs.Apart.{IsTypedNow, IsGood}
 use Rattle.code_places.specs.Control.{Whole, IsIn, AtLabel}
@@ -46,7 +45,7 @@ use Rattle.code_places.proofs.Controlling.{led_length, begin_at, begun_idle}
 use Rattle.code_places.proofs.Growing.{grows_both, shifts_both, begins_shifts, begun_reached}
 use Rattle.code_places.proofs.Seating.{seat_on}
 use Rattle.code_calls.proofs.Backing.{closes_shifts, closes_goes}
-use Rattle.code_calls.proofs.Callees.{AreScalars, shape_passed, locals_passed, function_in, sequential_in}
+use Rattle.code_calls.proofs.Callees.{AreScalars, shape_passed, locals_passed, function_in}
 use Rattle.code_places.proofs.Weighing.{body_weighs}
 use Rattle.code_places.proofs.Shapes.{shape_fresh, nothing_written}
 use Rattle.straight_code.proofs.Arguments.{passed_none}
@@ -134,7 +133,7 @@ module _ (size : ℕ) (locals : List LocalVariable) (room : List Home) (homed : 
   }
   begins_given variables arrays (v ∷ (w ∷ ws)) has = absurd has
 
-module _ (p : ProgramTree) (r : ℕ) (code : ThreadCode) (made : IsCodeOf p r code) (own : is_sequential_program (program_of p) ≡ true) where
+module _ (p : ProgramTree) (r : ℕ) (code : ThreadCode) (made : IsCodeOf p r code) where
   abbrev P : Program
   P = program_of p
 
@@ -157,7 +156,7 @@ module _ (p : ProgramTree) (r : ℕ) (code : ThreadCode) (made : IsCodeOf p r co
   found = get_map function_of p.functions.items r f made.at
 
   leads : Leads P None body made.begun made.lowered
-  leads = made.lowers own (sequential_in P.functions r (function_of f) own found)
+  leads = made.lowers
 
   first_begun : Shifts made.first made.begun
   first_begun =

@@ -1,5 +1,5 @@
--- The codes of thread functions: what they are made of, where they are too large, and that resolved programs are lowered.
-use Rattle.std.specs.Prelude.{◌≡◌, ℕ, ◌^◌, true, if◌then◌else◌, nat_eq, List, [], ◌∷◌, Option, Some, None, slice_get, Contains, ◌≤◌, ◌+◌, ◌*◌}
+-- The codes of thread functions: what they are made of, and what they need.
+use Rattle.std.specs.Prelude.{◌≡◌, ℕ, if◌then◌else◌, nat_eq, List, [], ◌∷◌, Option, Some, None, slice_get, ◌+◌, ◌*◌}
 use Rattle.c_program.specs.declared.tree.Function.{Function as FunctionTree}
 use Rattle.c_program.specs.declared.tree.Program.{Program as ProgramTree}
 use Rattle.c_program.specs.Plain.{program_of, statement_of}
@@ -12,20 +12,11 @@ use Rattle.code_places.specs.declared.lowering.Lowering.{Lowering}
 use Rattle.thread_rooms.specs.declared.rooms.Rooms.{Rooms}
 use Rattle.thread_rooms.specs.Housing.{homes_in, IsHousing, AreNames}
 use Rattle.thread_rooms.specs.Values.{all_values}
-use Rattle.code_places.specs.Doing.{Lowers, IsNew, Starts, IsFinished}
+use Rattle.code_places.specs.Doing.{Leads, IsNew, Starts, IsFinished}
 use Rattle.c_program.specs.Limits.{local_elements, print_sites, mutex_elements, barrier_elements}
 use Rattle.c_program.specs.Resolved.{IsResolved}
-use Rattle.ir_lower.specs.Taken.{is_taken_program}
-use Rattle.c_program.specs.Weight.{function_weight, thread_functions, thread_count}
-use Rattle.straight_code.specs.declared.fault.LoweringFault.TheVariants.{TooLarge}
-use Rattle.ir_lower.specs.declared.fault.LowerError.{LowerError}
-use Rattle.ir_lower.specs.declared.fault.LowerError.TheVariants.{Fault}
-use Rattle.code_places.specs.Sequential.{is_sequential_program}
+use Rattle.c_program.specs.Weight.{function_weight, thread_count}
 use Rattle.code_calls.specs.Calling.{Closes}
-
--- TAKEN: each resolved program is lowered
-abbrev pub ResolvedAreTaken : Type 0
-ResolvedAreTaken = (P : Program) → IsResolved P → is_taken_program P ≡ true
 
 -- THREAD CODES: the codes of these thread functions, one after another
 abbrev pub AreThreadCodes : Program → List ℕ → List ThreadCode → Type 0
@@ -38,11 +29,6 @@ AreThreadCodes P (f ∷ fs) (c ∷ cs) = IsThreadCode P f c × AreThreadCodes P 
 abbrev pub function_needs : Program → ℕ → ℕ
 function_needs P f =
     16 * function_weight P.functions f + local_elements P.functions f + 4 + print_sites P + (thread_count P + mutex_elements P + barrier_elements P)
-
--- a thread function of a program without pthread calls is too large only where that is
-abbrev pub IsFullFunction : Program → ℕ → LowerError → Type 0
-IsFullFunction P f error =
-    is_sequential_program P ≡ true → IsResolved P → Contains (thread_functions P) f → error ≡ Fault TooLarge → 2 ^ 32 ≤ function_needs P f
 
 -- the variable that has the argument of a thread function: that of its one parameter, but main has none
 abbrev pub variable_of : Option Home → Option ℕ
@@ -67,7 +53,7 @@ pub record IsCodeOf (p : ProgramTree) (number : ℕ) (code : ThreadCode) : Type 
   pub begun : Lowering
   pub starts : Starts start first begun
   pub lowered : Lowering
-  pub lowers : Lowers (program_of p) None (statement_of function.body) begun lowered
+  pub lowers : Leads (program_of p) None (statement_of function.body) begun lowered
   pub ended : Lowering
   pub closes : Closes lowered ended
   pub finished : IsFinished start (argument_of (program_of p) number housing) names ended code

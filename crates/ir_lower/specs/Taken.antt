@@ -1,6 +1,6 @@
--- What lowering takes, and what makes no pthread call.
-use Rattle.std.specs.Prelude.{ℕ, Bool, true, false, ◌&&◌, nat_eq, nat_le, List, [], ◌∷◌, length, count_by, Option, Some, None, slice_get}
-use Rattle.c_program.specs.Tree.{Expression, Piece, RightSide, Statement, Function, Program}
+-- Statements whose jumps stand in loops and whose printfs fit their formats, as those of resolved programs do.
+use Rattle.std.specs.Prelude.{ℕ, Bool, true, false, ◌&&◌, nat_eq, nat_le, List, [], ◌∷◌, length, count_by, Option, Some, None}
+use Rattle.c_program.specs.Tree.{Expression, Piece, RightSide, Statement, Function}
 use Rattle.c_program.specs.Resolved.{is_conversion}
 
 abbrev pub conversion_count : List Piece → ℕ
@@ -29,17 +29,6 @@ is_taken in_loop statement = true
 abbrev pub are_taken : List Function → Bool
 are_taken [] = true
 are_taken (f ∷ fs) = is_taken false f.body && are_taken fs
-
-abbrev pub are_taken_with : Option Function → List Function → Bool
-are_taken_with None functions = false
-are_taken_with (Some function) functions = are_taken functions
-
--- the function of that number is one of them
-abbrev pub is_taken_from : Program → ℕ → Bool
-is_taken_from P number = are_taken_with (slice_get P.functions number) P.functions
-
-abbrev pub is_taken_program : Program → Bool
-is_taken_program P = is_taken_from P P.main
 
 -- a right side that is no call
 abbrev pub is_value : RightSide → Bool

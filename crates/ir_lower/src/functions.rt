@@ -1,18 +1,15 @@
 // The codes of a program's thread functions.
 
-ghost use Rattle.std.specs.Prelude.{◌≡◌, ◌≢◌, true, false, Contains, IfOk, IfErr, OnOk};
+ghost use Rattle.std.specs.Prelude.{◌≡◌, ◌≢◌, Contains, IfOk, IfErr};
 ghost use Rattle.c_program.specs.Plain.{program_of};
 ghost use Rattle.c_program.specs.Limits.{IsWithinLimits};
 ghost use Rattle.c_program.specs.Resolved.{IsResolved};
 ghost use Rattle.c_program.specs.Weight.{thread_functions};
 ghost use Rattle.code_following.specs.Typed.{IsThreadCode};
-ghost use Rattle.code_places.specs.Sequential.{is_sequential_program};
 ghost use Rattle.ir_lower.specs.Codes as spec;
-ghost use Rattle.ir_lower.specs.Taken.{is_taken_program};
+ghost use Rattle.straight_code.specs.Room.{IsFull};
 
-use crate::fault::LowerError;
 use crate::statements::lower_body;
-use crate::taken::is_taken_program;
 use block_ir::code::ThreadCode;
 use c_program::threads::thread_functions;
 use c_program::tree::Program;
@@ -40,18 +37,14 @@ fn argument_of(program: &Program, function: usize, rooms: &Rooms) -> Option<u32>
 }
 
 /// The code of a thread function, as it is made.
-fn code_of(alloc: Global, program: &Program, function: usize) -> Result<ThreadCode, LowerError>
-    ensures taken { OnOk result (is_taken_program (program_of program.now) ≡ true) }
-    ensures not_yet { is_taken_program (program_of program.now) ≡ false → result ≡ Err LowerError.NotYet }
-    ensures untaken { IfErr result (λ e. e ≡ LowerError.NotYet → is_taken_program (program_of program.now) ≡ false) }
+fn code_of(alloc: Global, program: &Program, function: usize) -> Result<ThreadCode, LoweringFault>
+    requires resolved { IsResolved (program_of program.now) }
+    requires runs { Contains (thread_functions (program_of program.now)) function }
     ensures done { IfOk result (spec.IsCodeOf program.now function) }
-    ensures full { IfErr result (spec.IsFullFunction (program_of program.now) function) }
+    ensures full { IfErr result (IsFull (spec.function_needs (program_of program.now) function)) }
 {
-    if !is_taken_program(program) {
-        return Err(LowerError::NotYet);
-    }
     let Some(found) = at(&program.functions, function) else {
-        return Err(LowerError::Fault(LoweringFault::TooLarge));
+        unreachable!();
     };
     let objects = objects_of(alloc, program)?;
     let housing = rooms_of(alloc, program, function)?;
@@ -66,44 +59,29 @@ fn code_of(alloc: Global, program: &Program, function: usize) -> Result<ThreadCo
 }
 
 /// The code of one thread function, which is main or a start routine that a create names, with that of each function that it
-/// calls. That of a program without pthread calls is proved to do its steps, to be typed, and not to be too large within the
-/// limits.
+/// calls. Errors: out of memory, and too large, which it is not within the limits.
 #[tactic(auto, using(crate::proofs::Whole::code_is, crate::proofs::Ample::function_ample))]
 pub fn lower_function(
     alloc: Global,
     program: &Program,
     function: usize,
-) -> Result<ThreadCode, LowerError>
-    ensures taken { OnOk result (is_taken_program (program_of program.now) ≡ true) }
-    ensures not_yet { is_taken_program (program_of program.now) ≡ false → result ≡ Err LowerError.NotYet }
-    ensures untaken { IfErr result (λ e. e ≡ LowerError.NotYet → is_taken_program (program_of program.now) ≡ false) }
-    ensures code { IfOk result
-        (λ code. is_sequential_program (program_of program.now) ≡ true → IsResolved (program_of program.now) →
-        Contains (thread_functions (program_of program.now)) function → IsThreadCode (program_of program.now) function code) }
-    ensures ample { IfErr result
-        (λ e. is_sequential_program (program_of program.now) ≡ true → IsResolved (program_of program.now) →
-        Contains (thread_functions (program_of program.now)) function → IsWithinLimits (program_of program.now) →
-        e ≢ LowerError.Fault LoweringFault.TooLarge) }
+) -> Result<ThreadCode, LoweringFault>
+    requires resolved { IsResolved (program_of program.now) }
+    requires runs { Contains (thread_functions (program_of program.now)) function }
+    ensures code { IfOk result (IsThreadCode (program_of program.now) function) }
+    ensures ample { IfErr result (λ e. IsWithinLimits (program_of program.now) → e ≢ LoweringFault.TooLarge) }
 {
     let code = code_of(alloc, program, function)?;
     Ok(code)
 }
 
-/// The code of main, and of each start routine that a create names, in the order of their definitions.
-pub fn lower(alloc: Global, program: &Program) -> Result<Items<ThreadCode>, LowerError>
-    ensures taken { OnOk result (is_taken_program (program_of program.now) ≡ true) }
-    ensures not_yet { is_taken_program (program_of program.now) ≡ false → result ≡ Err LowerError.NotYet }
-    ensures untaken { IfErr result (λ e. e ≡ LowerError.NotYet → is_taken_program (program_of program.now) ≡ false) }
-    ensures codes { IfOk result
-        (λ codes. is_sequential_program (program_of program.now) ≡ true → IsResolved (program_of program.now) →
-        spec.AreThreadCodes (program_of program.now) (thread_functions (program_of program.now)) codes) }
-    ensures ample { IfErr result
-        (λ e. is_sequential_program (program_of program.now) ≡ true → IsResolved (program_of program.now) → IsWithinLimits (program_of program.now) →
-        e ≢ LowerError.Fault LoweringFault.TooLarge) }
+/// The code of main, and of each start routine that a create names, in the order of their definitions. Errors: out of memory,
+/// and too large, which none is within the limits.
+pub fn lower(alloc: Global, program: &Program) -> Result<Items<ThreadCode>, LoweringFault>
+    requires resolved { IsResolved (program_of program.now) }
+    ensures codes { IfOk result (spec.AreThreadCodes (program_of program.now) (thread_functions (program_of program.now))) }
+    ensures ample { IfErr result (λ e. IsWithinLimits (program_of program.now) → e ≢ LoweringFault.TooLarge) }
 {
-    if !is_taken_program(program) {
-        return Err(LowerError::NotYet);
-    }
     let functions = thread_functions(alloc, program)?;
     let mut codes = Items::new(alloc);
     for function in &functions {

@@ -1,9 +1,6 @@
 //! Lowering: from a resolved C program to the codes of its thread functions, basic blocks of operations and acts between them.
 #![tactic(auto)]
 
-pub mod fault;
 pub mod functions;
-pub mod laws;
 pub mod simple;
 pub mod statements;
-pub mod taken;

@@ -153,7 +153,6 @@ fn lower_returned(
 }
 
 /// The code of a statement that has no other in it and calls no function of the program.
-#[tactic(auto, using(crate::proofs::Stepping::thread_at))]
 pub fn lower_simple(
     alloc: Global,
     code: &mut Lowering,

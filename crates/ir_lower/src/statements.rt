@@ -38,7 +38,7 @@ pub fn lower_statement(
     requires targets { doing.AreTargets around code.old.stages }
     requires back { doing.IsBackTarget code.old.back code.old.stages }
     ensures labels { OnOk result (doing.Proceeds around code.old code.new) }
-    ensures lowers { OnOk result (doing.Lowers (program_of program.now) around (statement_of statement.now) code.old code.new) }
+    ensures lowers { OnOk result (doing.Leads (program_of program.now) around (statement_of statement.now) code.old code.new) }
     ensures full { IfErr result (IsFullFor (program_of program.now) depth (statement_of statement.now) code.old) }
 {
     let mut rest = statement;

@@ -15,8 +15,8 @@ use Rattle.planned_block.specs.Block.{Block, Kind, Simple, Multiply, Divide, Ban
 use Rattle.planned_block.specs.Table.{latency, latencies_before}
 use Rattle.planned_block.proofs.Tables.{sequential_short}
 use Rattle.planned_view.specs.View.{operations_view, planned_view}
-use Rattle.planned_hardware.specs.Following.{own_latencies, AreChains}
-use Rattle.block_refine.specs.Threads.{block_at, plan_at, blocks_of, plans_of}
+use Rattle.planned_hardware.specs.Following.{own_latencies}
+use Rattle.block_refine.specs.Threads.{block_at, plan_at}
 use Rattle.right_plan.specs.Right.{IsRight, IsRightPlan}
 use Rattle.right_plan.proofs.Stages.{right_plans_are_there}
 use Rattle.planned_code.specs.Planned.{PlansAreSmall}
@@ -46,9 +46,6 @@ module _ (P : Program) (routine : ℕ) (code : ThreadCode) (plan : Planned) (typ
   pub planned_at : (l : ℕ) (b : CodeBlock) → slice_get code.stages l ≡ Some (stage.Run b) → (p : BlockPlan) × (slice_get plan.stages l ≡ Some (planned.Run p)) × IsRight plan.registers b p
   planned_at l b at = right_plans_are_there code plan is l b at (typed_at l b at).few
 
-  abbrev pub chain : ℕ → ℕ → ℕ
-  chain f l = own_latencies (blocks_of code f l)
-
   pub short : (l : ℕ) (o : Option Stage) → slice_get code.stages l ≡ o → (plan_at o (slice_get plan.stages l)).states ≤ own_latencies (block_at o)
   short l None at = omega arith
   short l (Some (stage.Act a next)) at = omega arith
@@ -75,17 +72,9 @@ module _ (P : Program) (routine : ℕ) (code : ThreadCode) (plan : Planned) (typ
       let few = (typed_at l b at).size in
       omega (arith, most, long, few)
 
-  pub chains : AreChains (blocks_of code) (plans_of code plan) chain (weight P)
-  chains = record {
-    short = λ f l. short l (slice_get code.stages l) refl;
-    holds = λ f l. omega arith;
-    stepless = λ f l some idle value. absurd (busy l (slice_get code.stages l) refl some idle);
-    bounded = λ f l. let few = low l (slice_get code.stages l) refl in omega (arith, few);
-  }
-
 pub plans_are_small : PlansAreSmall
-plans_are_small P code plan typed is l b p at here =
-    let q = planned_at P P.main code plan typed is l b at in
+plans_are_small P f code plan typed is l b p at here =
+    let q = planned_at P f code plan typed is l b at in
     let v = planned_view b in
     let same : p ≡ q.0 = (let both : Some (planned.Run p) ≡ Some (planned.Run q.0) = sym here ∙ q.1 in cc) in
     let states : p.states ≡ q.0.states = ap (λ (z : BlockPlan). z.states) same in
@@ -93,5 +82,5 @@ plans_are_small P code plan typed is l b p at here =
     let most = sequential_short v in
     let sum = latencies_most v (size v) in
     let long = view_length b.operations in
-    let few = (typed_at P P.main code plan typed is l b at).few in
+    let few = (typed_at P f code plan typed is l b at).few in
     omega (arith, states, brief, most, sum, long, few)

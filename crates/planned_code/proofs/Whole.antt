@@ -1,30 +1,22 @@
--- Typed code by a right plan is code as the machine needs it.
+-- Blocks of typed code by a right plan run as the machine needs it.
 use Rattle.std.proofs.Common.{◌≡◌, ℕ, zero, suc, ◌+◌, ◌*◌, ◌<◌, List, [], ◌∷◌, length, map, Some, refl, arith}
 use Rattle.std.specs.Prelude.{slice_get}
 use Rattle.c_program.specs.Tree.{GlobalVariable, Program}
 use Rattle.c_program.specs.Weight.{weight}
-use Rattle.c_program.specs.Resolved.{IsResolved}
 use Rattle.block_ir.specs.declared.block.Operation.{Operation}
-use Rattle.block_ir.specs.declared.block.Next.{Next}
-use Rattle.block_ir.specs.declared.block.Next.TheVariants.{Jump, Branch}
 use Rattle.block_ir.specs.declared.block.Block.{Block}
-use Rattle.block_ir.specs.declared.code.Act.TheVariants as act
-use Rattle.block_ir.specs.declared.code.Stage.{Stage}
 use Rattle.block_ir.specs.declared.code.Stage.TheVariants as stage
 use Rattle.block_ir.specs.declared.code.ThreadCode.{ThreadCode}
 use Rattle.block_ir.specs.declared.plan.BlockPlan.{BlockPlan}
 use Rattle.block_ir.specs.declared.plan.Planned.{Planned}
 use Rattle.right_plan.specs.Right.{IsRightPlan}
-use Rattle.code_following.specs.Typed.{types_of, IsTypedNext, IsTypedStage, IsTypedCode}
-use Rattle.code_following.proofs.Arguments.{main_takes_none}
+use Rattle.code_following.specs.Typed.{types_of, IsTypedCode}
 use Rattle.thread_promise.specs.Promise.{RunsAt}
 use Rattle.bank_partition.specs.declared.banks.Spread.{Spread}
 use Rattle.bank_partition.specs.Shapes.{count_of, spreads_from}
 use Rattle.thread_promise.specs.Globals.{IsGlobalOf}
-use Rattle.program_machine.specs.Built.{globals_of, LeadsBelow, IsStage}
-use Rattle.planned_code.specs.Planned.{PlanIsCode}
 use Rattle.planned_code.proofs.Types.{accesses_are, block_typed, in_order}
-use Rattle.planned_code.proofs.Chains.{planned_at, typed_at, chain, chains}
+use Rattle.planned_code.proofs.Chains.{planned_at, typed_at}
 
 -- the banks of the global that has this length
 spread_at : (threads : List ℕ) (globals : List GlobalVariable) (y first x n : ℕ) → slice_get (map (λ (g : GlobalVariable). g.length) globals) x ≡ Some n →
@@ -37,25 +29,7 @@ module _ (P : Program) (threads : List ℕ) (routine : ℕ) (code : ThreadCode) 
   abbrev spreads : List Spread
   spreads = spreads_from threads 0 0 P.globals
 
-  leads : (before : List Operation) (to : Next) → IsTypedNext (types_of P code) (length code.stages) before to → LeadsBelow (length code.stages) to
-  leads before (Jump l) h = h
-  leads before (Branch test l k) h = (h.1, h.2)
-
-  stage_is : (s : Stage) → IsTypedStage (types_of P code) P (length code.stages) (4 * weight P) s → IsStage (length code.stages) 4 s
-  stage_is (stage.Run b) h = leads b.operations b.next h.next
-  stage_is (stage.Act (act.Print site values) next) h = (let few = h.0.few in omega arith, h.1)
-  stage_is (stage.Act act.Return next) h = tt
-  stage_is (stage.Act (act.Create thread argument) next) h = absurd h
-  stage_is (stage.Act (act.Join thread) next) h = absurd h
-  stage_is (stage.Act (act.MutexInit mutex) next) h = absurd h
-  stage_is (stage.Act (act.MutexDestroy mutex) next) h = absurd h
-  stage_is (stage.Act (act.MutexLock mutex) next) h = absurd h
-  stage_is (stage.Act (act.MutexUnlock mutex) next) h = absurd h
-  stage_is (stage.Act (act.BarrierInit barrier count) next) h = absurd h
-  stage_is (stage.Act (act.BarrierDestroy barrier) next) h = absurd h
-  stage_is (stage.Act (act.BarrierWait barrier) next) h = absurd h
-
-  pub planned : (l : ℕ) (b : Block) → slice_get code.stages l ≡ Some (stage.Run b) → (p : BlockPlan) × RunsAt (globals_of P) spreads code plan l b p × (0 < p.states)
+  pub planned : (l : ℕ) (b : Block) → slice_get code.stages l ≡ Some (stage.Run b) → (p : BlockPlan) × RunsAt (map (λ (g : GlobalVariable). g.ty) P.globals) spreads code plan l b p × (0 < p.states)
   planned l b at =
       let p = planned_at P routine code plan typed is l b at in
       let t = typed_at P routine code plan typed is l b at in
@@ -72,15 +46,3 @@ module _ (P : Program) (threads : List ℕ) (routine : ℕ) (code : ThreadCode) 
         },
         p.2.some,
       )
-
-pub plan_is_code : PlanIsCode
-plan_is_code P threads code plan resolved lowered typed is = record {
-  lowered = lowered;
-  argument = main_takes_none P code.argument code.variables typed.argument;
-  some = typed.some;
-  stages = λ l s at. stage_is P threads P.main code plan typed is s (typed.stages l s at);
-  prints = λ l site next values format at at_site. (typed.stages l (stage.Act (act.Print site values) next) at).0.counted format at_site;
-  planned = planned P threads P.main code plan typed is;
-  chain = chain P P.main code plan typed is;
-  chains = chains P P.main code plan typed is;
-}

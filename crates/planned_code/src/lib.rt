@@ -1,11 +1,9 @@
-//! Typed code by a right plan is what the machine of a program of one thread is built of.
+//! Typed code by a right plan: its blocks take few states.
 #![tactic(auto)]
 
-ghost use Rattle.planned_code.specs.Planned.{PlanIsCode, PlansAreSmall};
+ghost use Rattle.planned_code.specs.Planned.{PlansAreSmall};
 
-/// The code of main alone that does its steps and is typed, is code as the machine needs it, by any right plan,
-/// whatever the banks of the globals are. The number of states of a block has 64 bits.
+/// The number of states of a block of typed code, by any right plan, has 64 bits.
 pub fn planned_code()
-    ensures code { PlanIsCode }
-    ensures small { PlansAreSmall }
+    ensures { PlansAreSmall }
 {}

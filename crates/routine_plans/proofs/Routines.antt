@@ -41,15 +41,15 @@ module _ (P : Program) (threads : List ℕ) (f : ℕ) (c : RoutineCode) (is : Is
   stage_leads (stage.Run b) h = leads b.operations b.next h.next
   stage_leads (stage.Act (act.Print site values) next) h = h.1
   stage_leads (stage.Act act.Return next) h = tt
-  stage_leads (stage.Act (act.Create thread argument) next) h = absurd h
-  stage_leads (stage.Act (act.Join thread) next) h = absurd h
-  stage_leads (stage.Act (act.MutexInit mutex) next) h = absurd h
-  stage_leads (stage.Act (act.MutexDestroy mutex) next) h = absurd h
-  stage_leads (stage.Act (act.MutexLock mutex) next) h = absurd h
-  stage_leads (stage.Act (act.MutexUnlock mutex) next) h = absurd h
-  stage_leads (stage.Act (act.BarrierInit barrier count) next) h = absurd h
-  stage_leads (stage.Act (act.BarrierDestroy barrier) next) h = absurd h
-  stage_leads (stage.Act (act.BarrierWait barrier) next) h = absurd h
+  stage_leads (stage.Act (act.Create thread argument) next) h = h.1
+  stage_leads (stage.Act (act.Join thread) next) h = h.1
+  stage_leads (stage.Act (act.MutexInit mutex) next) h = h.1
+  stage_leads (stage.Act (act.MutexDestroy mutex) next) h = h.1
+  stage_leads (stage.Act (act.MutexLock mutex) next) h = h.1
+  stage_leads (stage.Act (act.MutexUnlock mutex) next) h = h.1
+  stage_leads (stage.Act (act.BarrierInit barrier count) next) h = h.1
+  stage_leads (stage.Act (act.BarrierDestroy barrier) next) h = h.1
+  stage_leads (stage.Act (act.BarrierWait barrier) next) h = h.1
 
   routine_is_code : IsCode P (spreads_from threads 0 0 P.globals) c 4
   routine_is_code = record {

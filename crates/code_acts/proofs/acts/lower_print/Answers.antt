@@ -10,7 +10,7 @@ use Rattle.code_acts.proofs.Acting.{print_leads}
 use Rattle.code_acts.proofs.acts.lower_print.Goals as goal
 
 pub returns-clause-lowers : goal.returns-clause-lowers
-returns-clause-lowers c = λ offset P around own on.
+returns-clause-lowers c = λ offset P around on.
     let old = c.args.code.now in
     let es = expressions_of c.args.arguments.now in
     let first = c.in_ok-first.first in

@@ -4,8 +4,9 @@ use Rattle.std.specs.Prelude.{slice_get, string_bytes}
 use Rattle.c_program.specs.Plain.{function_of, program_of}
 use Rattle.code_places.specs.Doing.{IsNew, IsFinished}
 use Rattle.thread_rooms.specs.Values.{all_values}
-use Rattle.ir_lower.proofs.Ample.{body_full, fault_function, counted_function, variables_few, no_function, rooms_function}
-use Rattle.ir_lower.proofs.Proceeding.{taken_body, taken_functions, start_back, ended_fit, ended_first}
+use Rattle.ir_lower.proofs.Ample.{body_full, counted_function, variables_few, no_function}
+use Rattle.ir_lower.proofs.Proceeding.{taken_body, start_back, ended_fit, ended_first}
+use Rattle.ir_lower.proofs.Untaken.{all_taken}
 use Rattle.ir_lower.proofs.functions.code_of.Goals as goal
 
 pub returns-clause-done : goal.returns-clause-done
@@ -35,45 +36,39 @@ returns-clause-done c = record {
 pub returns-in_err-housing-clause-full : goal.returns-in_err-housing-clause-full
 returns-in_err-housing-clause-full c =
     let p = err_from_is_err_and c.from_residual-in_err-housing.result c.from_residual-in_err-housing.ensures.1 in
-    rw (p.1, p.2) (rooms_function (program_of c.args.program.now) c.args.function _ c.in_err-housing.ensures.full)
+    rw (p.1, p.2) (counted_function (program_of c.args.program.now) c.args.function _ _ (omega arith) (c.in_err-housing.ensures.full c.requires.resolved))
 
 pub returns-in_err-code-clause-full : goal.returns-in_err-code-clause-full
 returns-in_err-code-clause-full c =
     let p = err_from_is_err_and c.from_residual-in_err-code.result c.from_residual-in_err-code.ensures.1 in
     rw (p.1, p.2)
     (counted_function (program_of c.args.program.now) c.args.function _ _
-    (λ resolved. let few = variables_few (program_of c.args.program.now) c.args.function c.in_ok-housing.housing.rooms (c.in_ok-housing.ensures.housing resolved) in omega (arith, few))
+    (let few = variables_few (program_of c.args.program.now) c.args.function c.in_ok-housing.housing.rooms (c.in_ok-housing.ensures.housing c.requires.resolved) in omega (arith, few))
     c.in_err-code.ensures.full)
 
 pub lower_body-requires-clause-functions : goal.lower_body-requires-clause-functions
-lower_body-requires-clause-functions c = (taken_functions (program_of c.args.program.now) (sym c.is_taken_program.ensures ∙ c.if-not-is_taken_program.false))
+lower_body-requires-clause-functions c = (all_taken (program_of c.args.program.now) (program_of c.args.program.now).functions c.requires.resolved.functions)
 
 pub lower_body-requires-clause-taken : goal.lower_body-requires-clause-taken
 lower_body-requires-clause-taken c =
     taken_body c.args.program.now c.args.function c.in-Some.found.now (ap (λ l. slice_get l c.args.function) (sym c.deref.ensures.value) ∙ sym c.in-Some.ensures)
-    (taken_functions (program_of c.args.program.now) (sym c.is_taken_program.ensures ∙ c.if-not-is_taken_program.false))
+    (all_taken (program_of c.args.program.now) (program_of c.args.program.now).functions c.requires.resolved.functions)
 
 pub lower_body-requires-clause-outermost : goal.lower_body-requires-clause-outermost
 lower_body-requires-clause-outermost c =
     start_back (program_of c.args.program.now) c.in_ok-housing.housing.rooms c.args.function _ c.in_ok-code.code (c.in_ok-code.ensures.code
     (program_of c.args.program.now) c.in_ok-objects.ensures.objects) c.in_ok-start.start c.start.new.self c.in_ok-start.ensures
 
-pub returns-in_err-lower_body-clause-untaken : goal.returns-in_err-lower_body-clause-untaken
-returns-in_err-lower_body-clause-untaken c =
-    let p = err_from_is_err_and c.from_residual-in_err-lower_body.result c.from_residual-in_err-lower_body.ensures.1 in
-    rw (p.1, p.2) (λ e. absurd cc)
-
 pub returns-in_err-lower_body-clause-full : goal.returns-in_err-lower_body-clause-full
 returns-in_err-lower_body-clause-full c =
     let p = err_from_is_err_and c.from_residual-in_err-lower_body.result c.from_residual-in_err-lower_body.ensures.1 in
     rw (p.1, p.2)
-    (fault_function (program_of c.args.program.now) c.args.function _
-    (λ own resolved. body_full c.args.program.now c.args.function c.in-Some.found.now (ap (λ l. slice_get l c.args.function) (sym c.deref.ensures.value) ∙ sym c.in-Some.ensures)
+    (body_full c.args.program.now c.args.function c.in-Some.found.now (ap (λ l. slice_get l c.args.function) (sym c.deref.ensures.value) ∙ sym c.in-Some.ensures)
     c.in_ok-housing.housing.rooms c.in_ok-code.code c.start.new.self c.in_ok-start.start
     (subst (λ n. IsNew (program_of c.args.program.now) c.in_ok-housing.housing.rooms c.args.function n c.in_ok-code.code) (c.all_values-words.ensures ∙ ap
     (λ l. all_values (map function_of l)) c.as_slice.ensures.value)
     (c.in_ok-code.ensures.code (program_of c.args.program.now) c.in_ok-objects.ensures.objects))
-    c.in_ok-start.ensures resolved (c.in_ok-housing.ensures.housing resolved) _ _ refl own c.in_err-lower_body.ensures.full))
+    c.in_ok-start.ensures c.requires.resolved (c.in_ok-housing.ensures.housing c.requires.resolved) _ _ refl c.in_err-lower_body.ensures.full)
 
 pub finish-requires-clause-fit : goal.finish-requires-clause-fit
 finish-requires-clause-fit c =
@@ -92,8 +87,8 @@ finish-requires-clause-first c =
 pub returns-in_err-objects-clause-full : goal.returns-in_err-objects-clause-full
 returns-in_err-objects-clause-full c =
     let p = err_from_is_err_and c.from_residual.result c.from_residual.ensures.1 in
-    rw (p.1, p.2) (counted_function (program_of c.args.program.now) c.args.function _ _ (λ resolved. omega arith) c.in_err-objects.ensures.full)
+    rw (p.1, p.2) (counted_function (program_of c.args.program.now) c.args.function _ _ (omega arith) c.in_err-objects.ensures.full)
 
-pub returns-in_default-clause-full : goal.returns-in_default-clause-full
-returns-in_default-clause-full c =
-    no_function c.args.program.now c.args.function _ (ap (λ l. slice_get l c.args.function) (sym c.deref.ensures.value) ∙ sym c.in_default.ensures)
+pub unreachable-requires : goal.unreachable-requires
+unreachable-requires c =
+    no_function c.args.program.now c.args.function c.requires.resolved c.requires.runs (ap (λ l. slice_get l c.args.function) (sym c.deref.ensures.value) ∙ sym c.in_default.ensures)

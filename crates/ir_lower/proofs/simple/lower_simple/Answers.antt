@@ -1,5 +1,5 @@
 use Rattle.std.proofs.Common.{sym, ap, ◌∙◌}
-use Rattle.c_program.specs.Plain.{expression_of, expressions_of, pieces_of, place_of, returned_of, right_side_of, statement_of}
+use Rattle.c_program.specs.Plain.{expression_of, expressions_of, pieces_of, place_of, returned_of, right_side_of, statement_of, thread_call_of}
 use Rattle.c_program.specs.Tree.{Statement}
 use Rattle.ir_lower.proofs.Stepping.{done_at, empty_at, lowers_is}
 use Rattle.code_places.proofs.Proceeding.{proceeds_refl}
@@ -97,3 +97,10 @@ returns-in_ok-lower_continue-in-Continue-clause-lowers c = λ P.
 pub returns-in_ok-lower_thread_call-in-Thread-clause-labels : goal.returns-in_ok-lower_thread_call-in-Thread-clause-labels
 returns-in_ok-lower_thread_call-in-Thread-clause-labels c =
     c.in_ok-lower_thread_call-in-Thread.ensures.labels c.args.around
+
+pub returns-in_ok-lower_thread_call-in-Thread-clause-lowers : goal.returns-in_ok-lower_thread_call-in-Thread-clause-lowers
+returns-in_ok-lower_thread_call-in-Thread-clause-lowers c = λ P.
+    lowers_is P c.args.around (Statement.Thread c.in-Thread.field-0 (thread_call_of c.deref-in-Thread.result.now)) (statement_of c.args.statement.now) c.args.code.now
+    c.lower_thread_call.new.code
+    (ap statement_of c.in-Thread.is ∙ ap (λ z. Statement.Thread c.in-Thread.field-0 (thread_call_of z)) (sym c.deref-in-Thread.ensures))
+    (c.in_ok-lower_thread_call-in-Thread.ensures.lowers c.in-Thread.field-0 P c.args.around)

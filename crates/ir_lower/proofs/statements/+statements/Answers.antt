@@ -15,7 +15,7 @@ use Rattle.code_control.proofs.Proceeding.{choice_targets, choice_back_first, ch
 use Rattle.code_control.proofs.Proceeding.{while_proceeds, while_targets, while_head, while_leaving, do_proceeds, do_targets}
 use Rattle.code_control.proofs.Proceeding.{do_turning, do_leaving, do_apart, for_proceeds, for_targets, for_turning, for_head, for_leaving}
 use Rattle.code_control.proofs.Proceeding.{turn_back_target, do_back_target, for_back_target}
-use Rattle.ir_lower.proofs.Proceeding.{taken_body}
+use Rattle.ir_lower.proofs.Proceeding.{both_taken, taken_body}
 use Rattle.code_calls.proofs.Proceeding.{call_back_target}
 use Rattle.code_calls.proofs.Proceeding.{done_open, done_back, calls_proceed, delivers_proceed, hands_proceed, closed_reached}
 use Rattle.code_calls.proofs.Continuing.{call_lowers, call_assigned, call_returned}
@@ -24,7 +24,7 @@ use Rattle.code_control.proofs.Filling.{skipped_for, block_for, choice_condition
 use Rattle.code_control.proofs.Filling.{for_condition, for_body, for_last}
 use Rattle.code_control.proofs.Filling.{behind_more, behind_first}
 use Rattle.code_calls.proofs.Overfull.{call_too_deep, call_unknown, call_body, call_closing, call_for, assigned_for, returned_for, delivery_for, handing_for}
-use Rattle.code_control.proofs.Nesting.{both_true, skips, simple_lowers, block_lowers, choice_lowers, while_lowers, do_lowers, for_lowers, via_more, via_last}
+use Rattle.code_control.proofs.Nesting.{skips, simple_lowers, block_lowers, choice_lowers, while_lowers, do_lowers, for_lowers, via_more, via_last}
 use Rattle.ir_lower.proofs.Whole.{get_map, get_none}
 use Rattle.ir_lower.proofs.statements.+statements.Goals as goal
 
@@ -33,7 +33,7 @@ lower_statement-loop-rest-preserved t c =
     let is : statement_of c.loop-rest.rest.now ≡ Statement.Sequence (statement_of c.deref.result.now) (statement_of c.deref-rest.result.now) =
     ap statement_of c.in-Sequence.is ∙ ap (λ z. Statement.Sequence (statement_of z) (statement_of c.in-Sequence.next.value)) (sym c.deref.ensures)
     ∙ ap (λ z. Statement.Sequence (statement_of c.deref.result.now) (statement_of z)) (sym c.deref-rest.ensures) in
-    let part = both_true (is_taken (is_some c.args.around) (statement_of c.deref.result.now)) (is_taken (is_some c.args.around) (statement_of c.deref-rest.result.now))
+    let part = both_taken (is_taken (is_some c.args.around) (statement_of c.deref.result.now)) (is_taken (is_some c.args.around) (statement_of c.deref-rest.result.now))
     (sym (ap (is_taken (is_some c.args.around)) is) ∙ c.loop-rest.invariant.taken) in
     record {
       taken = part.1;
@@ -102,7 +102,7 @@ lower_statement-lower_statement-requires t c =
       (
         c.requires.functions,
         (
-          (both_true (is_taken (is_some c.args.around) (statement_of c.deref.result.now)) (is_taken (is_some c.args.around) (statement_of c.in-Sequence.next.value))
+          (both_taken (is_taken (is_some c.args.around) (statement_of c.deref.result.now)) (is_taken (is_some c.args.around) (statement_of c.in-Sequence.next.value))
               (sym (ap (is_taken (is_some c.args.around)) (is)) ∙ c.loop-rest.invariant.taken)).0,
           (
             targets_after c.args.around c.args.code.now.stages c.loop-rest.code.stages c.loop-rest.invariant.proceeds.advances c.requires.targets,
@@ -137,7 +137,7 @@ lower_statement-lower_statement-requires-in-If t c =
       (
         c.requires.functions,
         (
-          (both_true (is_taken (is_some c.args.around) (statement_of c.deref-in-If.result.now)) (is_taken (is_some c.args.around) (statement_of c.in-If.alternative.value))
+          (both_taken (is_taken (is_some c.args.around) (statement_of c.deref-in-If.result.now)) (is_taken (is_some c.args.around) (statement_of c.in-If.alternative.value))
               (sym (ap (is_taken (is_some c.args.around)) is) ∙ c.loop-rest.invariant.taken)).0,
           (
             targets_after c.args.around c.args.code.now.stages c.open_choice.new.code.stages
@@ -159,7 +159,7 @@ lower_statement-lower_statement-requires-in-If-2 t c =
       (
         c.requires.functions,
         (
-          (both_true (is_taken (is_some c.args.around) (statement_of c.in-If.consequent.value)) (is_taken (is_some c.args.around) (statement_of c.deref-in-If-2.result.now))
+          (both_taken (is_taken (is_some c.args.around) (statement_of c.in-If.consequent.value)) (is_taken (is_some c.args.around) (statement_of c.deref-in-If-2.result.now))
               (sym (ap (is_taken (is_some c.args.around)) is) ∙ c.loop-rest.invariant.taken)).1,
           (
             choice_targets c.args.around (condition_of c.in-If.condition) c.in_ok-labels-in-If.labels c.args.code.now c.loop-rest.code c.open_choice.new.code
@@ -219,8 +219,8 @@ lower_statement-lower_statement-requires-in-For-2 t c =
       (
         c.requires.functions,
         (
-          (both_true (is_taken false (statement_of c.in-For.last.value)) (is_taken true (statement_of c.deref-in-For-3.result.now))
-              (both_true (is_taken false (statement_of c.in-For.first.value)) (is_taken false (statement_of c.in-For.last.value) && is_taken true
+          (both_taken (is_taken false (statement_of c.in-For.last.value)) (is_taken true (statement_of c.deref-in-For-3.result.now))
+              (both_taken (is_taken false (statement_of c.in-For.first.value)) (is_taken false (statement_of c.in-For.last.value) && is_taken true
               (statement_of c.deref-in-For-3.result.now))
               (sym (ap (is_taken (is_some c.args.around)) is) ∙ c.loop-rest.invariant.taken)).1).1,
           (
@@ -613,7 +613,7 @@ lower_statement-lower_statement-requires-in-For t c =
       (
         c.requires.functions,
         (
-          (both_true (is_taken false (statement_of c.deref-in-For.result.now)) (is_taken false (statement_of c.in-For.last.value) && is_taken true (statement_of c.in-For.body.value))
+          (both_taken (is_taken false (statement_of c.deref-in-For.result.now)) (is_taken false (statement_of c.in-For.last.value) && is_taken true (statement_of c.in-For.body.value))
               (sym (ap (is_taken (is_some c.args.around)) is) ∙ c.loop-rest.invariant.taken)).0,
           (
             tt,
@@ -633,8 +633,8 @@ lower_statement-lower_statement-requires-in-For-3 t c =
       (
         c.requires.functions,
         (
-          (both_true (is_taken false (statement_of c.deref-in-For-4.result.now)) (is_taken true (statement_of c.in-For.body.value))
-              (both_true (is_taken false (statement_of c.in-For.first.value)) (is_taken false (statement_of c.deref-in-For-4.result.now) && is_taken true (statement_of c.in-For.body.value))
+          (both_taken (is_taken false (statement_of c.deref-in-For-4.result.now)) (is_taken true (statement_of c.in-For.body.value))
+              (both_taken (is_taken false (statement_of c.in-For.first.value)) (is_taken false (statement_of c.deref-in-For-4.result.now) && is_taken true (statement_of c.in-For.body.value))
               (sym (ap (is_taken (is_some c.args.around)) is) ∙ c.loop-rest.invariant.taken)).1).0,
           (
             tt,
