@@ -98,7 +98,7 @@ pub fn printer_core(alloc: Global, place: usize, values: usize) -> Result<Core, 
 
 /// The banks, whose modules have numbers from this one on.
 pub fn bank_cores(alloc: Global, first: usize, banks: &[Shape]) -> Result<Items<Core>, AllocError>
-    requires few { first ≤ 64 }
+    requires few { first ≤ 65 }
     ensures { IfOk result (λ cores. cores ≡ each_from bank_core first banks.now) }
 {
     let mut cores: Items<Core> = Items::new(alloc);
@@ -181,7 +181,7 @@ fn bit(b: bool) -> usize
 }
 
 fn places_from(first: usize, wanted: &Wanted) -> Places
-    requires few { first ≤ 64 }
+    requires few { first ≤ 65 }
     requires few_banks { length wanted.now.banks < 2 ^ 15 }
     ensures { result ≡ places_of first wanted.now }
 {
@@ -227,7 +227,7 @@ fn joined(
 
 /// The cores that are wanted, in the order of their arbiters, where the modules of cores are numbered from `first` on.
 fn cores(alloc: Global, first: usize, wanted: &Wanted) -> Result<Items<Core>, AllocError>
-    requires few { first ≤ 64 }
+    requires few { first ≤ 65 }
     requires few_banks { length wanted.now.banks < 2 ^ 15 }
     ensures { IfOk result (λ cores. cores ≡ map (laid_core first) (placed wanted.now)) }
 {
@@ -241,14 +241,14 @@ fn cores(alloc: Global, first: usize, wanted: &Wanted) -> Result<Items<Core>, Al
 }
 
 /// The layout of these threads, each by the number of its module, and of the cores that are wanted: the modules of threads come
-/// first, of which there are at most 63, then that of the arbiter, then those of cores.
+/// first, of which there are at most 64, then that of the arbiter, then those of cores.
 pub fn layout(
     alloc: Global,
     threads: Items<usize>,
     routines: usize,
     wanted: &Wanted,
 ) -> Result<Layout, AllocError>
-    requires few { routines < 64 }
+    requires few { routines ≤ 64 }
     requires few_banks { length wanted.now.banks < 2 ^ 15 }
     ensures { IfOk result (λ layout. layout ≡ layout_of threads routines wanted.now) }
 {

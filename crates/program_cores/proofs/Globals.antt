@@ -173,7 +173,7 @@ name_bytes : (name : List ℕ) → AllByRecursion (λ b. IsTrue (is_letter_or_di
 name_bytes [] all = refl
 name_bytes (b ∷ name) all = ap (λ t. t && all_pass is_name_byte name) (name_byte b all.0) ∙ name_bytes name all.1
 
-named : (name : List ℕ) → IsName name → all_pass is_name_byte name ≡ true
+pub named : (name : List ℕ) → IsName name → all_pass is_name_byte name ≡ true
 named [] h = absurd h
 named (b ∷ name) h =
     ap (λ t. t && all_pass is_name_byte name) (name_byte b (or_left (is_letter b) (nat_le 48 b && nat_le b 57) h.0)) ∙ name_bytes name h.1

@@ -31,7 +31,7 @@ table_of threads routines arbiter w kinds = record { threads = threads; routines
 -- there are not too many of them, and each thread has one of the modules
 pub record FitsTable (threads : List ℕ) (routines : List Module) (w : Wanted) : Type 0 where
   pub count : length threads ≡ w.threads
-  pub few_routines : length routines < 64
+  pub few_routines : length routines ≤ 64
   pub runs : (i number : ℕ) → slice_get threads i ≡ Some number → number < length routines
   pub few_cores : length (placed w) < 2 ^ 15
   pub narrow : w.printer.values ≤ 4

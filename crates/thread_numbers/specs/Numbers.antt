@@ -1,10 +1,12 @@
 -- The modules of a program's hardware threads, by number: one for each function that threads run, main's first, and behind them one for threads
 -- without a function.
-use Rattle.std.specs.Prelude.{◌&&◌, ℕ, suc, Bool, true, false, nat_eq, nat_lt, if◌then◌else◌, List, [], ◌∷◌, ◌++◌, length, map, replicate, Option, Some, None, slice_get, codes}
+use Rattle.std.specs.Prelude.{◌&&◌, ℕ, ◌+◌, ◌≤◌, suc, Bool, true, false, nat_eq, nat_lt, if◌then◌else◌, List, [], ◌∷◌, ◌++◌, length, map, replicate, Option, Some, None, slice_get, codes}
 use Rattle.std.specs.List.{list_any}
+use Rattle.hls_ints.specs.Residues.{bit_of}
 use Rattle.c_program.specs.declared.tree.ThreadObject.{ThreadObject}
 use Rattle.c_program.specs.Tree.{Function, Program}
-use Rattle.c_program.specs.Weight.{thread_functions, hardware_routines}
+use Rattle.c_program.specs.Resolved.{IsResolved}
+use Rattle.c_program.specs.Weight.{thread_count, thread_functions, hardware_routines}
 
 -- the first place of a number in a list, or the length of the list where it has none
 abbrev pub place_in : List ℕ → ℕ → ℕ
@@ -34,6 +36,10 @@ is_idle_object object = is_idle object.routine && nat_lt 0 object.length
 -- a thread has no function
 abbrev pub has_idle : Program → Bool
 has_idle P = list_any is_idle (hardware_routines P)
+
+-- NO MORE MODULES THAN THREADS: those of the functions that threads run, and the one for threads without a function where there is such a thread
+abbrev pub NoMoreModules : Type 0
+NoMoreModules = (P : Program) → IsResolved P → length (thread_functions P) + bit_of (has_idle P) ≤ thread_count P
 
 -- ---- names
 

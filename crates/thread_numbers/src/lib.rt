@@ -6,7 +6,7 @@ ghost use Rattle.std.specs.Prelude.{◌≡◌, ◌++◌, ◌∷◌, IfOk, OnOk};
 ghost use Rattle.std.specs.List.{flat_map, list_any};
 ghost use Rattle.c_program.specs.Plain.{program_of};
 ghost use Rattle.c_program.specs.Weight.{thread_functions};
-ghost use Rattle.thread_numbers.specs.Numbers.{has_idle, is_idle_object, module_numbers, number_in, object_numbers, place_in};
+ghost use Rattle.thread_numbers.specs.Numbers.{NoMoreModules, has_idle, is_idle_object, module_numbers, number_in, object_numbers, place_in};
 
 use c_program::tree::{Program, ThreadObject};
 use sqlite_items::Items;
@@ -99,3 +99,9 @@ pub fn has_idle(program: &Program) -> bool
 {
     any_idle(program.threads.as_slice())
 }
+
+/// There are no more modules of threads than hardware threads.
+#[tactic(auto, using(crate::proofs::Few::no_more_modules))]
+pub fn no_more_modules()
+    ensures { NoMoreModules }
+{}
