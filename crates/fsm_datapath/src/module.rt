@@ -1,8 +1,9 @@
 // The module of a thread.
 
 ghost use Rattle.std.specs.Prelude.{IfOk};
-ghost use Rattle.thread_runs.specs.Runs.{RunsServedCode};
+ghost use Rattle.thread_runs.specs.Runs.{RunsServedCode, ServesCode};
 ghost use Rattle.thread_sound.specs.Leaf.{IsLeafOfServedCode};
+ghost use Rattle.thread_sound.specs.Naming.{NamesServedVariables};
 ghost use Rattle.thread_sound.specs.Routine.{IsRoutineOfServedCode};
 ghost use Rattle.thread_steady.specs.Steady.{IsSteadyServedCode};
 
@@ -21,8 +22,10 @@ pub fn module(
     planned: &Planned,
 ) -> Result<Module, AllocError>
     ensures runs { IfOk result (RunsServedCode shape.now code.now planned.now) }
+    ensures serves { IfOk result (ServesCode shape.now code.now planned.now) }
     ensures leaf { IfOk result (IsLeafOfServedCode shape.now code.now planned.now) }
     ensures routine { IfOk result (IsRoutineOfServedCode shape.now code.now planned.now) }
+    ensures named { IfOk result (NamesServedVariables shape.now code.now planned.now) }
     ensures steady { IfOk result (IsSteadyServedCode shape.now code.now planned.now) }
 {
     assembled(alloc, shape, code, planned)

@@ -1,8 +1,11 @@
+pub mod Cores
 mod Edges
 mod Insides
+pub mod Losing
 pub mod Meeting
 pub mod Moving
 pub mod Needed
+pub mod News
 pub mod Opened
 pub mod Placed
 pub mod Quiet
@@ -16,3 +19,4 @@ pub mod Shown
 pub mod Sight
 mod Slotting
 pub mod Spreading
+pub mod Tellings

@@ -1,6 +1,7 @@
 -- A state of a block is left as the planned block is ready, and moves as one of its requests is granted.
-use Rattle.std.proofs.Common.{◌≡◌, ℕ, zero, suc, ◌+◌, ◌-◌, ◌%◌, ◌<◌, ◌≤◌, Bool, true, false, not, ◌&&◌, ◌||◌, nat_eq, nat_lt, nat_le, if◌then◌else◌, List, length, slice_get}
-use Rattle.std.proofs.Common.{slice_index, Option, Some, None, ℤ, refl, sym, ap, subst, ◌∙◌, arith}
+use Rattle.std.proofs.Common.{◌≡◌, ℕ, zero, suc, ◌+◌, ◌-◌, ◌%◌, ◌<◌, ◌≤◌, Bool, true, false, not, ◌&&◌, ◌||◌, nat_eq, nat_lt, nat_le, List, length, slice_get}
+use Rattle.std.proofs.Common.{slice_index, Option, Some, None, ℤ, refl, sym, ap, subst, ◌∙◌, arith, ⊎_elim}
+use Rattle.std.proofs.lemmas.Bool.{cases_lt}
 use Rattle.std.proofs.lemmas.Bool.Decides.{nat_tests}
 use Rattle.hls_ints.specs.Residues.{bit_of}
 use Rattle.hls_ints.specs.Types.{IntegerType, HasType}
@@ -28,13 +29,17 @@ use Rattle.block_datapath.specs.Accesses.{is_bank, reaches_in}
 use Rattle.block_datapath.proofs.Reaching.{some_banks, reaching, only_one}
 use Rattle.block_datapath.proofs.Wanting.{view_count, Asker, asker_of}
 use Rattle.thread_slots.specs.declared.shape.Shape.{Shape}
+use Rattle.block_ir.specs.Asked.{Service}
+use Rattle.thread_slots.specs.Requests.{group}
+use Rattle.thread_requests.proofs.Opening.{joined_front, joined_back}
 use Rattle.thread_slots.specs.Bits.{HasBit, HaveBits, is_in}
 use Rattle.thread_requests.specs.Early.{spread_out}
 use Rattle.thread_states.specs.Control.{got, unmet, is_left, counts_of, Steers}
 use Rattle.thread_layout.specs.Modules.{marks_of, IsModule}
-use Rattle.thread_layout.specs.Thread.{places_of, ports_of, IsServed}
+use Rattle.thread_layout.specs.Thread.{cores_of, inputs_of, places_of, ports_of, IsServed}
 use Rattle.thread_layout.proofs.Meeting.{any_found, any_is, ready, moving, only_own}
-use Rattle.thread_layout.proofs.Opened.{raised_by, marked_now, mark_bit, mark_of_bank, open_bits, is_less, is_not_less, bit_told}
+use Rattle.thread_layout.proofs.Opened.{raised_by, acts_by, no_service, all_count, marked_now, mark_bit, mark_of_bank, open_bits, is_less, bit_told}
+use Rattle.thread_layout.proofs.Cores.{none_open}
 use Rattle.thread_layout.proofs.Placed.{from_control, opens_count}
 use Rattle.thread_layout.proofs.Raising.{reached, wanted, wanted_bit}
 use Rattle.thread_layout.proofs.Resting.{mark_at, mark_wide, marks_counted}
@@ -71,6 +76,17 @@ any_alike f g (suc n) same = ap (λ t. t || f n) (any_alike f g n (λ k less. sa
 or_false : (t : Bool) → (t || false) ≡ t
 or_false true = refl
 or_false false = refl
+
+-- none of the last ones holds
+pub any_shorter : (f : ℕ → Bool) (b n : ℕ) → b ≤ n → ((k : ℕ) → b ≤ k → k < n → f k ≡ false) → any_below f n ≡ any_below f b
+any_shorter f b zero le none = ap (any_below f) (let z : 0 ≡ b = omega arith in z)
+any_shorter f b (suc n) le none =
+    ⊎_elim
+    (λ (less : b < suc n).
+    ap (λ z. any_below f n || z) (none n (omega arith) (omega arith)) ∙ or_false (any_below f n)
+    ∙ any_shorter f b n (omega arith) (λ k past under. none k past (omega arith)))
+    (λ (past : suc n ≤ b). ap (any_below f) (let z : suc n ≡ b = omega arith in z))
+    (cases_lt b (suc n))
 
 and_true : (t : Bool) → (t && true) ≡ t
 and_true true = refl
@@ -134,7 +150,7 @@ module _ (shape : Shape) (code : ThreadCode) (plan : Planned) (m : Module) (t : 
   banks = bank_total shape.spreads
 
   module _ (r : Reading) (q : Slot) (b : Block) (p : BlockPlan) (o : Obeys m r)
-      (inside : IsInside shape.globals shape.spreads code plan m (places_of banks code plan) (ports_of shape m) r q b p)
+      (inside : IsInside shape.globals shape.spreads code plan m (places_of (inputs_of shape) code plan) (ports_of shape m) r q b p)
       (indices : (k x n : ℕ) (i : Operand) → slice_get b.operations k ≡ Some (ReadGlobal x n i) → slice_index p.starts k ≡ q.state → (ty : IntegerType)
       × HasType ty (seen_value q.variables (value_now (planned_view b) (plan_view b p) q (wires_now shape.spreads b p q)) i))
       (targets : (k x n : ℕ) (i a : Operand) → slice_get b.operations k ≡ Some (WriteGlobal x n i a) → slice_index p.starts k ≡ q.state → (ty : IntegerType)
@@ -202,7 +218,8 @@ module _ (shape : Shape) (code : ThreadCode) (plan : Planned) (m : Module) (t : 
     -- ---- control
 
     abbrev raised : ℕ → Bool
-    raised = raised_by shape code plan m t served (wanted shape code plan m t served r q b p o inside) (marked_now shape code plan m t served r) false
+    raised = raised_by shape code plan m t served (wanted shape code plan m t served r q b p o inside) (marked_now shape code plan m t served r)
+        (acts_by shape code plan m t served r (no_service shape code plan m t served))
 
     abbrev grants : ℕ → Bool
     grants n = nat_eq (r.signal (2 + n)) 1
@@ -211,20 +228,25 @@ module _ (shape : Shape) (code : ThreadCode) (plan : Planned) (m : Module) (t : 
     opened n = wanted shape code plan m t served r q b p o inside n && not (marked_now shape code plan m t served r n)
 
     up : (n : ℕ) → n < banks → raised n ≡ opened n
-    up n less = ap (λ c. if c then opened n else false) (is_less n banks less)
+    up n less = joined_front banks opened (acts_by shape code plan m t served r (no_service shape code plan m t served)) n less
 
-    down : raised banks ≡ false
-    down = ap (λ c. if c then opened banks else false) (is_not_less banks)
+    down : (n : ℕ) → banks ≤ n → raised n ≡ false
+    down n past =
+        joined_back banks opened (acts_by shape code plan m t served r (no_service shape code plan m t served)) n past
+        ∙ none_open shape.served (λ s. r.signal (group t.inside.early.requests s).object) (n - banks)
 
-    -- what is open, in a reading in which the printer is not wanted
-    all_open : HasBit m r t.inside.early.requests.wants false → HaveBits m r t.inside.early.opens (length t.inside.early.opens) raised
+    many : banks ≤ cores_of shape
+    many = omega arith
+
+    -- what is open, in a reading in which no core that acts ask is wanted
+    all_open : ((k : Service) → HasBit m r (group t.inside.early.requests k).wants false) → HaveBits m r t.inside.early.opens (length t.inside.early.opens) raised
     all_open printing n less =
-        open_bits shape code plan m t served r o (wanted shape code plan m t served r q b p o inside) (marked_now shape code plan m t served r) false
-        (λ k below. wanted_bit shape code plan m t served r q b p o inside k below) (λ k below. mark_bit shape code plan m t served r k o below) printing n
-        (subst (λ k. n < k) (opens_count shape code plan m t served) less)
+        open_bits shape code plan m t served r o (wanted shape code plan m t served r q b p o inside) (marked_now shape code plan m t served r)
+        (no_service shape code plan m t served) (λ k below. wanted_bit shape code plan m t served r q b p o inside k below) (λ k below. mark_bit shape code plan m t served r k o below) printing n
+        (subst (λ k. n < k) (opens_count shape code plan m t served ∙ sym (all_count shape code plan m t served)) less)
 
     -- bank n is asked as it is open
-    pub block_asks : HasBit m r t.inside.early.requests.wants false → (e : Bool) → HasBit m r t.inside.inputs.enable e → (n : ℕ) → n < banks →
+    pub block_asks : ((k : Service) → HasBit m r (group t.inside.early.requests k).wants false) → (e : Bool) → HasBit m r t.inside.inputs.enable e → (n : ℕ) → n < banks →
         r.signal (slice_index t.edge.asks n) ≡ bit_of (opened n && e)
     block_asks printing e on n less =
         (t.closed.controls.asks m r raised e (from_control shape code plan m t served) o (all_open printing) on n
@@ -286,14 +308,15 @@ module _ (shape : Shape) (code : ThreadCode) (plan : Planned) (m : Module) (t : 
         })
 
     -- the bank of an access that is still to be granted is asked
-    pub own_asked : HasBit m r t.inside.early.requests.wants false → (e : Bool) → HasBit m r t.inside.inputs.enable e → (k : ℕ) → k < size (planned_view b) → asking k ≡ true →
+    pub own_asked : ((k : Service) → HasBit m r (group t.inside.early.requests k).wants false) → (e : Bool) → HasBit m r t.inside.inputs.enable e → (k : ℕ) →
+        k < size (planned_view b) → asking k ≡ true →
         q.granted k ≡ false
         → r.signal (slice_index t.edge.asks (bank k)) ≡ bit_of e
     own_asked printing e on k below asks_now not_so =
         block_asks printing e on (bank k) (within k below asks_now) ∙ ap (λ z. bit_of (z && e)) (own_open k below asks_now not_so)
 
     -- and no other one
-    pub none_asked : HasBit m r t.inside.early.requests.wants false → (e : Bool) → HasBit m r t.inside.inputs.enable e → (n : ℕ) → n < banks
+    pub none_asked : ((k : Service) → HasBit m r (group t.inside.early.requests k).wants false) → (e : Bool) → HasBit m r t.inside.inputs.enable e → (n : ℕ) → n < banks
         → ((k : ℕ) → k < size (planned_view b) → asking k ≡ true → q.granted k ≡ false → bank k ≡ n → ⊥) → r.signal (slice_index t.edge.asks n) ≡ 0
     none_asked printing e on n less none = block_asks printing e on n less ∙ ap (λ z. bit_of (z && e)) (shut (opened n) refl)
       where
@@ -301,7 +324,7 @@ module _ (shape : Shape) (code : ThreadCode) (plan : Planned) (m : Module) (t : 
         shut true is = absurd (let k = open_asker n less is in none k.0 k.1 k.2 k.3 k.4)
         shut false is = is
 
-    module _ (grant : ℕ → Bool) (hears : HearsBanks shape.globals shape.spreads code plan m (places_of banks code plan) (ports_of shape m) r q b p grant) where
+    module _ (grant : ℕ → Bool) (hears : HearsBanks shape.globals shape.spreads code plan m (places_of (inputs_of shape) code plan) (ports_of shape m) r q b p grant) where
       heard_so : (k : ℕ) → k < size (planned_view b) → asking k ≡ true → q.granted k ≡ false → nat_eq (r.signal (2 + bank k)) 1 ≡ grant k
       heard_so k below e not_so =
           let a = who k below e in
@@ -312,7 +335,7 @@ module _ (shape : Shape) (code : ThreadCode) (plan : Planned) (m : Module) (t : 
           } in
           told_bit (r.signal (2 + bank k)) (grant k) (ap (λ n. r.signal (2 + n)) (own_bank k below e) ∙ hears.grants k a.global a.writes open_now)
 
-      module _ (printing : HasBit m r t.inside.early.requests.wants false) (waits : r.signal t.inside.chains.waits ≡ 0) (on : r.signal 1 ≡ 1) where
+      module _ (printing : ((k : Service) → HasBit m r (group t.inside.early.requests k).wants false)) (waits : r.signal t.inside.chains.waits ≡ 0) (on : r.signal 1 ≡ 1) where
         steers : Steers m r t.inside.inputs t.inside.chains t.inside.early.opens raised grants false true
         steers =
             steered shape code plan m t served r o raised grants false true
@@ -322,15 +345,13 @@ module _ (shape : Shape) (code : ThreadCode) (plan : Planned) (m : Module) (t : 
         lacks : any_below (unmet raised grants true) (length t.inside.early.opens) ≡ any_below (unmet opened grants true) banks
         lacks =
             ap (any_below (unmet raised grants true)) (opens_count shape code plan m t served)
-            ∙ ap (λ z. any_below (unmet raised grants true) banks || (z && not ((z && true) && grants banks))) down
-            ∙ or_false (any_below (unmet raised grants true) banks)
+            ∙ any_shorter (unmet raised grants true) banks (cores_of shape) many (λ k past less. ap (λ z. z && not ((z && true) && grants k)) (down k past))
             ∙ any_alike (unmet raised grants true) (unmet opened grants true) banks (λ k less. ap (λ z. z && not ((z && true) && grants k)) (up k less))
 
         wins : any_below (got raised grants true) (length t.inside.early.opens) ≡ any_below (got opened grants true) banks
         wins =
             ap (any_below (got raised grants true)) (opens_count shape code plan m t served)
-            ∙ ap (λ z. any_below (got raised grants true) banks || ((z && true) && grants banks)) down
-            ∙ or_false (any_below (got raised grants true) banks)
+            ∙ any_shorter (got raised grants true) banks (cores_of shape) many (λ k past less. ap (λ z. (z && true) && grants k) (down k past))
             ∙ any_alike (got raised grants true) (got opened grants true) banks (λ k less. ap (λ z. (z && true) && grants k) (up k less))
 
         ready_so : is_ready (planned_view b) (plan_view b p) q grant ≡ not (any_below (unmet opened grants true) banks)
@@ -385,12 +406,9 @@ module _ (shape : Shape) (code : ThreadCode) (plan : Planned) (m : Module) (t : 
             let listed : slice_get t.inside.slot.spreads a.global ≡ Some a.spread = ap (λ l. slice_get l a.global) t.laid.slot.spreads_are ∙ a.listed in
             let less : a.number % a.spread.count < a.spread.count = some_banks a.number a.spread.count (served.spreads.powers a.global a.spread a.listed) in
             ap (any_below (λ n. counts_of (slice_get t.inside.slot.spreads a.global) n && got raised grants true n)) (opens_count shape code plan m t served)
-            ∙ ap
-            (λ z. any_below (λ n. counts_of (slice_get t.inside.slot.spreads a.global) n && got raised grants true n) banks
-            || (counts_of (slice_get t.inside.slot.spreads a.global) banks && ((z && true) && grants banks))) down
-            ∙ ap (λ z. any_below (λ n. counts_of (slice_get t.inside.slot.spreads a.global) n && got raised grants true n) banks || z)
-            (and_false (counts_of (slice_get t.inside.slot.spreads a.global) banks))
-            ∙ or_false (any_below (λ n. counts_of (slice_get t.inside.slot.spreads a.global) n && got raised grants true n) banks)
+            ∙ any_shorter (λ n. counts_of (slice_get t.inside.slot.spreads a.global) n && got raised grants true n) banks (cores_of shape) many
+            (λ n past under. ap (λ z. counts_of (slice_get t.inside.slot.spreads a.global) n && ((z && true) && grants n)) (down n past)
+            ∙ and_false (counts_of (slice_get t.inside.slot.spreads a.global) n))
             ∙ any_alike (λ n. counts_of (slice_get t.inside.slot.spreads a.global) n && got raised grants true n) (λ n. is_in a.spread n && got opened grants true n) banks
             (λ n under. ap (λ z. counts_of z n && got raised grants true n) listed ∙ ap (λ z. is_in a.spread n && ((z && true) && grants n)) (up n under))
             ∙ only_own (size (planned_view b)) banks asking q.granted grant (wanted shape code plan m t served r q b p o inside)

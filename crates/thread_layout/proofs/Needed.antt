@@ -1,5 +1,5 @@
 -- Whether a core is needed: it is where a word is taken and where the thread waits, and not in a state that asks nothing and takes no word.
-use Rattle.std.proofs.Common.{◌≡◌, ◌≢◌, ℕ, zero, suc, ◌+◌, ◌<◌, ◌≤◌, nat_eq, Bool, true, false, ◌&&◌, ◌||◌, List, [], ◌∷◌, ◌++◌, length, slice_get, slice_index, Option, Some}
+use Rattle.std.proofs.Common.{◌≡◌, ◌≢◌, ℕ, zero, suc, ◌+◌, ◌-◌, ◌<◌, ◌≤◌, nat_eq, Bool, true, false, ◌&&◌, ◌||◌, List, [], ◌∷◌, length, slice_get, slice_index, Option, Some}
 use Rattle.std.proofs.Common.{None, ℤ, refl, sym, ap, subst, ◌∙◌, arith, ⊎_elim, length-append}
 use Rattle.std.proofs.lemmas.Bool.{cases_lt}
 use Rattle.std.proofs.lemmas.Bool.Decides.{nat_tests}
@@ -34,13 +34,17 @@ use Rattle.block_datapath.proofs.Wanting.{view_count}
 use Rattle.thread_slots.specs.declared.shape.Shape.{Shape}
 use Rattle.thread_slots.specs.Bits.{HasBit, HaveBits}
 use Rattle.thread_layout.specs.Modules.{IsModule}
-use Rattle.thread_requests.specs.Needing.{takes_word, takes_at, needs_in, IsInPlan, IsNeedOfFirst}
+use Rattle.thread_promise.specs.Moves.{meeting}
+use Rattle.thread_slots.specs.Numbers.{is_wait}
+use Rattle.thread_needs.specs.Needing.{takes_word, takes_at, needs_in, meets_at, needs_at, IsInPlan, IsNeedOfFirst}
 use Rattle.thread_slots.specs.Idle.{is_idle}
-use Rattle.thread_layout.specs.Thread.{places_of, ports_of, IsServed}
-use Rattle.thread_slots.proofs.Gating.{index_last}
-use Rattle.thread_slots.proofs.Linking.{has_stage}
-use Rattle.thread_requests.proofs.Needs.{idle_needs}
-use Rattle.thread_layout.proofs.Opened.{front_index, wired, earlier_wide, wants_count, want_wide, print_wide, bit_told}
+use Rattle.thread_layout.specs.Thread.{inputs_of, places_of, ports_of, IsServed}
+use Rattle.thread_needs.proofs.Needs.{idle_needs}
+use Rattle.thread_layout.proofs.Opened.{wired, earlier_wide, wants_count, want_wide, ask_wide, bit_told}
+use Rattle.thread_requests.proofs.Opening.{front_index, back_index}
+use Rattle.thread_requests.specs.Early.{wants_of}
+use Rattle.block_ir.specs.Asked.{Service, Mutexes, Barriers, Ids, Prints}
+use Rattle.thread_slots.specs.Requests.{group}
 use Rattle.thread_layout.proofs.Placed.{from_early, wide_bit, got_any}
 use Rattle.thread_layout.proofs.Raising.{from_asks, from_needs}
 use Rattle.thread_layout.proofs.Sight.{knows, in_stage}
@@ -78,6 +82,10 @@ both_yes true true e f = refl
 both_yes true false e f = absurd cc
 both_yes false u e f = absurd cc
 
+and_false : (h : Bool) → (h && false) ≡ false
+and_false true = refl
+and_false false = refl
+
 and_no : (t u : Bool) → t ≡ false → (t && u) ≡ false
 and_no true u e = absurd cc
 and_no false u e = refl
@@ -86,6 +94,20 @@ both_split : (t u : Bool) → (t && u) ≡ true → (t ≡ true) × (u ≡ true)
 both_split true true e = (refl, refl)
 both_split true false e = absurd cc
 both_split false u e = absurd cc
+
+first_yes : (t u : Bool) → t ≡ true → (t || u) ≡ true
+first_yes true u e = refl
+first_yes false u e = absurd cc
+
+-- who is at no meeting
+meets_none : (n l x : ℕ) (s : Option Stage) → x ≢ meeting n l → meets_at n l s x ≡ false
+meets_none n l x None ne = refl
+meets_none n l x (Some s) ne = ap (λ z. is_wait s && z) (other_number x (meeting n l) ne) ∙ and_false (is_wait s)
+
+-- and who is
+meets_so : (n l x : ℕ) (s : Stage) (t : Bool) → is_wait s ≡ true → x ≡ meeting n l → (t || meets_at n l (Some s) x) ≡ true
+meets_so n l x s t waits here =
+    ap (λ z. t || (z && nat_eq x (meeting n l))) waits ∙ ap (λ z. t || z) (same_number x (meeting n l) here) ∙ or_true t
 
 -- one of the first n holds, and none does
 pub some_below : (f : ℕ → Bool) (n k : ℕ) → k < n → f k ≡ true → any_below f n ≡ true
@@ -114,10 +136,6 @@ no_read operators.Divide f x e = absurd cc
 no_read operators.Remainder f x e = absurd cc
 no_read _ f x e = absurd cc
 
-and_false : (h : Bool) → (h && false) ≡ false
-and_false true = refl
-and_false false = refl
-
 or_second : (t u : Bool) → (t || u) ≡ false → u ≡ false
 or_second true u e = absurd cc
 or_second false u e = e
@@ -141,34 +159,50 @@ module _ (shape : Shape) (code : ThreadCode) (plan : Planned) (m : Module) (t : 
   banks = bank_total shape.spreads
 
   abbrev asked : List ℕ
-  asked = t.laid.early.asked
+  asked = wants_of t.inside.early.requests
 
-  whole : asked ≡ t.inside.early.requests.banks.wants ++ t.inside.early.requests.wants ∷ []
-  whole = t.laid.early.asked_is
+  -- how many wants there are: of each bank, and of each kind of cores that acts ask
+  abbrev pub wants_all : ℕ
+  wants_all = banks + 4
 
-  asked_count : length asked ≡ suc banks
+  asked_count : length asked ≡ wants_all
   asked_count =
-      ap length whole ∙ length-append t.inside.early.requests.banks.wants (t.inside.early.requests.wants ∷ [])
-      ∙ ap (λ k. k + 1) (wants_count shape code plan m t served) ∙ (let next : banks + 1 ≡ suc banks = omega arith in next)
+      length-append t.inside.early.requests.banks.wants
+      (t.inside.early.requests.mutex.wants ∷ t.inside.early.requests.barrier.wants ∷ t.inside.early.requests.ids.wants ∷ t.inside.early.requests.print.wants ∷ [])
+      ∙ ap (λ k. k + 4) (wants_count shape code plan m t served)
 
-  -- bank n, and the printer
+  -- bank n
   pub asked_bank : (n : ℕ) → n < banks → slice_index asked n ≡ slice_index t.inside.early.requests.banks.wants n
   asked_bank n less =
-      ap (λ l. slice_index l n) whole
-      ∙ front_index t.inside.early.requests.banks.wants (t.inside.early.requests.wants ∷ []) n (subst (λ k. n < k) (sym (wants_count shape code plan m t served)) less)
+      front_index t.inside.early.requests.banks.wants _ n (subst (λ k. n < k) (sym (wants_count shape code plan m t served)) less)
 
-  pub asked_printer : slice_index asked banks ≡ t.inside.early.requests.wants
-  asked_printer =
-      ap (λ l. slice_index l banks) whole
-      ∙ ap (slice_index (t.inside.early.requests.banks.wants ++ t.inside.early.requests.wants ∷ [])) (sym (wants_count shape code plan m t served))
-      ∙ index_last t.inside.early.requests.banks.wants t.inside.early.requests.wants
+  -- behind them some kind
+  pub asked_kind : (n : ℕ) → banks ≤ n → n < wants_all → (s : Service) × (slice_index asked n ≡ (group t.inside.early.requests s).wants)
+  asked_kind n past less = by (n - banks) refl (omega arith)
+    where
+      at : (k : ℕ) → n - banks ≡ k → slice_index asked n ≡ slice_index
+          (t.inside.early.requests.mutex.wants ∷ t.inside.early.requests.barrier.wants ∷ t.inside.early.requests.ids.wants ∷ t.inside.early.requests.print.wants ∷ []) k
+      at k e =
+          back_index t.inside.early.requests.banks.wants _ n (subst (λ z. z ≤ n) (sym (wants_count shape code plan m t served)) past)
+          ∙ ap
+          (λ z. slice_index
+          (t.inside.early.requests.mutex.wants ∷ t.inside.early.requests.barrier.wants ∷ t.inside.early.requests.ids.wants ∷ t.inside.early.requests.print.wants ∷ [])
+          (n - z)) (wants_count shape code plan m t served)
+          ∙ ap
+          (slice_index
+          (t.inside.early.requests.mutex.wants ∷ t.inside.early.requests.barrier.wants ∷ t.inside.early.requests.ids.wants ∷ t.inside.early.requests.print.wants ∷ [])) e
 
-  asked_wide : (n : ℕ) → n < suc banks → width m (slice_index asked n) ≡ 1
+      by : (k : ℕ) → n - banks ≡ k → k < 4 → (s : Service) × (slice_index asked n ≡ (group t.inside.early.requests s).wants)
+      by zero e lt = (Mutexes, at 0 e)
+      by (suc zero) e lt = (Barriers, at 1 e)
+      by (suc (suc zero)) e lt = (Ids, at 2 e)
+      by (suc (suc (suc zero))) e lt = (Prints, at 3 e)
+      by (suc (suc (suc (suc k)))) e lt = absurd (omega arith)
+
+  asked_wide : (n : ℕ) → n < wants_all → width m (slice_index asked n) ≡ 1
   asked_wide n less =
       ⊎_elim (λ (h : n < banks). ap (width m) (asked_bank n h) ∙ want_wide shape code plan m t served n h)
-      (λ (h : banks ≤ n).
-      let same : n ≡ banks = omega arith in
-      ap (λ k. width m (slice_index asked k)) same ∙ ap (width m) asked_printer ∙ print_wide shape code plan m t served) (cases_lt n banks)
+      (λ (h : banks ≤ n). let kind = asked_kind n h less in ap (width m) kind.1 ∙ ask_wide shape code plan m t served kind.0) (cases_lt n banks)
 
   pub need_wide : width m t.inside.early.need ≡ 1
   need_wide =
@@ -188,6 +222,35 @@ module _ (shape : Shape) (code : ThreadCode) (plan : Planned) (m : Module) (t : 
         let bit = wide_bit m r (slice_index asked n) o wide in
         record { wide = wide; shows = bit_told (r.signal (slice_index asked n)) bit.0 bit.1 }
 
+    -- where none is wanted no core that acts ask is
+    pub service_off : ((n : ℕ) → n < wants_all → asked_now n ≡ false) → (s : Service) → HasBit m r (group t.inside.early.requests s).wants false
+    service_off quiet s =
+        let wide = ask_wide shape code plan m t served s in
+        let bit = wide_bit m r (group t.inside.early.requests s).wants o wide in
+        let at = kind_place s in
+        record {
+          wide = wide;
+          shows =
+              bit_told (r.signal (group t.inside.early.requests s).wants) bit.0 bit.1
+              ∙ ap (λ z. bit_of (nat_eq (r.signal z) 1)) (sym at.1) ∙ ap bit_of (quiet (banks + at.0) at.2);
+        }
+      where
+        there : (k : ℕ) → k < 4 → slice_index asked (banks + k) ≡ slice_index
+            (t.inside.early.requests.mutex.wants ∷ t.inside.early.requests.barrier.wants ∷ t.inside.early.requests.ids.wants ∷ t.inside.early.requests.print.wants ∷ []) k
+        there k less =
+            let count = wants_count shape code plan m t served in
+            back_index t.inside.early.requests.banks.wants _ (banks + k) (omega arith)
+            ∙ ap
+            (slice_index
+            (t.inside.early.requests.mutex.wants ∷ t.inside.early.requests.barrier.wants ∷ t.inside.early.requests.ids.wants ∷ t.inside.early.requests.print.wants ∷ []))
+            (let z : banks + k - length t.inside.early.requests.banks.wants ≡ k = omega arith in z)
+
+        kind_place : (k : Service) → (n : ℕ) × (slice_index asked (banks + n) ≡ (group t.inside.early.requests k).wants) × (banks + n < wants_all)
+        kind_place Mutexes = (0, there 0 (omega arith), omega arith)
+        kind_place Barriers = (1, there 1 (omega arith), omega arith)
+        kind_place Ids = (2, there 2 (omega arith), omega arith)
+        kind_place Prints = (3, there 3 (omega arith), omega arith)
+
     end_bit : HasBit m r t.inside.early.done (nat_eq now (length code.stages))
     end_bit = record {
       wide = t.laid.early.asks.done_wide m (from_asks shape code plan m t served);
@@ -201,8 +264,11 @@ module _ (shape : Shape) (code : ThreadCode) (plan : Planned) (m : Module) (t : 
         t.laid.early.needs.shows m r (nat_eq now (length code.stages) || u) asked_now (from_early shape code plan m t served) o
         (t.laid.early.holds.shows m r (nat_eq now (length code.stages)) u (from_needs shape code plan m t served) o end_bit place) asked_bits
 
+    abbrev needs_now : ℕ → ℕ → Bool
+    needs_now state l = needs_at (length code.stages) l (slice_get code.stages l) (slice_get plan.stages l) state now
+
     abbrev at_stages : ℕ → Bool
-    at_stages state = any_below (λ l. nat_eq now l && needs_in (slice_get code.stages l) (slice_get plan.stages l) state) (length code.stages)
+    at_stages state = any_below (needs_now state) (length code.stages)
 
     -- the place of a reading, whose state is s wherever its stage is a block
     abbrev Placed : ℕ → Type 0
@@ -213,7 +279,7 @@ module _ (shape : Shape) (code : ThreadCode) (plan : Planned) (m : Module) (t : 
     at_place s inside =
         need_bit (at_stages s)
         (record {
-          has = λ l less. has_stage code t.inside.slot l m r (knows shape code plan m t served r o) (omega arith);
+          knows = knows shape code plan m t served r o;
           state = s;
           inside = inside;
           is = refl;
@@ -225,7 +291,7 @@ module _ (shape : Shape) (code : ThreadCode) (plan : Planned) (m : Module) (t : 
         (t.laid.early.holds.wide m (from_needs shape code plan m t served) (t.laid.early.asks.done_wide m (from_asks shape code plan m t served)))
 
     -- where no core is needed none is asked
-    pub unneeded_asks : r.signal t.inside.early.need ≡ 0 → (n : ℕ) → n < suc banks → asked_now n ≡ false
+    pub unneeded_asks : r.signal t.inside.early.need ≡ 0 → (n : ℕ) → n < wants_all → asked_now n ≡ false
     unneeded_asks none n less =
         let need =
         t.laid.early.needs.shows m r held_bit.0 asked_now (from_early shape code plan m t served) o
@@ -238,15 +304,18 @@ module _ (shape : Shape) (code : ThreadCode) (plan : Planned) (m : Module) (t : 
 
     -- and one is needed nowhere else
     unneeded : (s l : ℕ) → Placed s → now ≡ l → l < length code.stages → needs_in (slice_get code.stages l) (slice_get plan.stages l) s ≡ false
-        → ((n : ℕ) → n < suc banks → asked_now n ≡ false) → r.signal t.inside.early.need ≡ 0
+        → ((n : ℕ) → n < wants_all → asked_now n ≡ false) → r.signal t.inside.early.need ≡ 0
     unneeded s l placed here below none quiet =
         let at : at_stages s ≡ false =
-        none_below (λ k. nat_eq now k && needs_in (slice_get code.stages k) (slice_get plan.stages k) s) (length code.stages)
-        (λ k less. ⊎_elim
+        none_below (needs_now s) (length code.stages)
+        (λ k less.
+        or_none (nat_eq now k && needs_in (slice_get code.stages k) (slice_get plan.stages k) s) (meets_at (length code.stages) k (slice_get code.stages k) now)
+        (⊎_elim
         (λ (same : k ≡ l).
         ap (λ z. nat_eq now z && needs_in (slice_get code.stages z) (slice_get plan.stages z) s) same
         ∙ ap (λ z. nat_eq now l && z) none ∙ and_false (nat_eq now l))
-        (λ (ne : k ≢ l). and_no (nat_eq now k) _ (other_number now k (λ is. ne (sym is ∙ here)))) (same_or_not k l)) in
+        (λ (ne : k ≢ l). and_no (nat_eq now k) _ (other_number now k (λ is. ne (sym is ∙ here)))) (same_or_not k l))
+        (meets_none (length code.stages) k now (slice_get code.stages k) (λ is. absurd (let same = sym here ∙ is in omega arith)))) in
         let end : nat_eq now (length code.stages) ≡ false =
         other_number now (length code.stages) (λ is. absurd (let same : l ≡ length code.stages = sym here ∙ is in omega arith)) in
         let ask : any_below (λ k. true && asked_now k) (length asked) ≡ false =
@@ -255,8 +324,15 @@ module _ (shape : Shape) (code : ThreadCode) (plan : Planned) (m : Module) (t : 
         ∙ ap bit_of (or_none (nat_eq now (length code.stages) || at_stages s) (any_below (λ k. true && asked_now k) (length asked))
         (or_none (nat_eq now (length code.stages)) (at_stages s) end at) ask)
 
+    -- and where a stage needs one
+    stage_needs : (s l : ℕ) → now ≡ l → l < length code.stages → needs_in (slice_get code.stages l) (slice_get plan.stages l) s ≡ true → at_stages s ≡ true
+    stage_needs s l here below needs =
+        some_below (needs_now s) (length code.stages) l below
+        (first_yes (nat_eq now l && needs_in (slice_get code.stages l) (slice_get plan.stages l) s) (meets_at (length code.stages) l (slice_get code.stages l) now)
+        (both_yes (nat_eq now l) (needs_in (slice_get code.stages l) (slice_get plan.stages l) s) (same_number now l here) needs))
+
     -- AT A RETURN no core is needed
-    pub return_needs : (next : ℕ) → slice_get code.stages now ≡ Some (stage.Act Return next) → ((n : ℕ) → n < suc banks → asked_now n ≡ false) → r.signal t.inside.early.need ≡ 0
+    pub return_needs : (next : ℕ) → slice_get code.stages now ≡ Some (stage.Act Return next) → ((n : ℕ) → n < wants_all → asked_now n ≡ false) → r.signal t.inside.early.need ≡ 0
     return_needs next listed quiet =
         unneeded 0 now
         (λ l b p e f is.
@@ -270,10 +346,7 @@ module _ (shape : Shape) (code : ThreadCode) (plan : Planned) (m : Module) (t : 
     idle_needs_so s listed idle =
         let less = slice_get_within code.stages now s listed in
         let here : at_stages 0 ≡ true =
-        some_below (λ l. nat_eq now l && needs_in (slice_get code.stages l) (slice_get plan.stages l) 0) (length code.stages) now less
-        (both_yes (nat_eq now now) (needs_in (slice_get code.stages now) (slice_get plan.stages now) 0) (same_number now now refl)
-        (ap (λ k. needs_in k (slice_get plan.stages now) 0) listed
-        ∙ idle_needs s (slice_get plan.stages now) 0 idle)) in
+        stage_needs 0 now refl less (ap (λ k. needs_in k (slice_get plan.stages now) 0) listed ∙ idle_needs s (slice_get plan.stages now) 0 idle) in
         (at_place 0 (λ l b p e f is. absurd (runs_idle l b p e f is))).shows
         ∙ ap (λ k. bit_of ((nat_eq now (length code.stages) || k) || any_below (λ k. true && asked_now k) (length asked))) here
         ∙ ap (λ k. bit_of (k || any_below (λ k. true && asked_now k) (length asked))) (or_true (nat_eq now (length code.stages)))
@@ -287,6 +360,19 @@ module _ (shape : Shape) (code : ThreadCode) (plan : Planned) (m : Module) (t : 
             ∙ ap (λ (k : Stage). is_idle k (slice_get plan.stages now)) (sym run) ∙ idle in
             absurd cc
 
+    -- WHERE THE THREAD MEETS OTHERS a core is needed
+    pub meeting_needs : (l : ℕ) (s : Stage) → slice_get code.stages l ≡ Some s → is_wait s ≡ true → now ≡ meeting (length code.stages) l → r.signal t.inside.early.need ≡ 1
+    meeting_needs l s listed waits here =
+        let below = slice_get_within code.stages l s listed in
+        let at : at_stages 0 ≡ true =
+        some_below (needs_now 0) (length code.stages) l below
+        (ap (λ z. needs_at (length code.stages) l z (slice_get plan.stages l) 0 now) listed
+        ∙ meets_so (length code.stages) l now s (nat_eq now l && needs_in (Some s) (slice_get plan.stages l) 0) waits here) in
+        (at_place 0
+        (λ k b p e f is. absurd (let less = slice_get_within code.stages k (stage.Run b) e in let same = sym here ∙ is in omega arith))).shows
+        ∙ ap (λ k. bit_of ((nat_eq now (length code.stages) || k) || any_below (λ k. true && asked_now k) (length asked))) at
+        ∙ ap (λ k. bit_of (k || any_below (λ k. true && asked_now k) (length asked))) (or_true (nat_eq now (length code.stages)))
+
     -- AT THE END a core is needed
     pub end_needs : now ≡ length code.stages → r.signal t.inside.early.need ≡ 1
     end_needs end =
@@ -296,7 +382,7 @@ module _ (shape : Shape) (code : ThreadCode) (plan : Planned) (m : Module) (t : 
 
     -- within a block
     module _ (q : Slot) (b : Block) (p : BlockPlan)
-        (inside : IsInside shape.globals shape.spreads code plan m (places_of banks code plan) (ports_of shape m) r q b p) where
+        (inside : IsInside shape.globals shape.spreads code plan m (places_of (inputs_of shape) code plan) (ports_of shape m) r q b p) where
       here_now : now ≡ q.stage
       here_now = (in_stage shape code plan m t served r o q b p inside.runs inside.state inside.shown).stage
 
@@ -361,9 +447,7 @@ module _ (shape : Shape) (code : ThreadCode) (plan : Planned) (m : Module) (t : 
           both_yes (takes_word (slice_get b.operations k)) (nat_eq q.state (suc (slice_index p.starts k))) takes
           (same_number q.state (suc (slice_index p.starts k)) (sym last ∙ last_of_read k x kind)) in
           let at : at_stages q.state ≡ true =
-          some_below (λ l. nat_eq now l && needs_in (slice_get code.stages l) (slice_get plan.stages l) q.state) (length code.stages) q.stage below_end
-          (both_yes (nat_eq now q.stage) (needs_in (slice_get code.stages q.stage) (slice_get plan.stages q.stage) q.state)
-          (same_number now q.stage here_now) (stage_need ∙ some_below (takes_at b p q.state) (length b.operations) k less hit)) in
+          stage_needs q.state q.stage here_now below_end (stage_need ∙ some_below (takes_at b p q.state) (length b.operations) k less hit) in
           (at_place q.state placed_here).shows
           ∙ ap (λ z. bit_of ((nat_eq now (length code.stages) || z) || any_below (λ k. true && asked_now k) (length asked))) at
           ∙ ap (λ z. bit_of (z || any_below (λ k. true && asked_now k) (length asked))) (or_true (nat_eq now (length code.stages)))
@@ -377,7 +461,7 @@ module _ (shape : Shape) (code : ThreadCode) (plan : Planned) (m : Module) (t : 
           read_takes (WriteArray y n i a) x e = absurd cc
 
       -- IN A CLOSED STATE no core is needed
-      pub closed_needs : IsClosed (planned_view b) (plan_view b p) q → ((n : ℕ) → n < suc banks → asked_now n ≡ false) → r.signal t.inside.early.need ≡ 0
+      pub closed_needs : IsClosed (planned_view b) (plan_view b p) q → ((n : ℕ) → n < wants_all → asked_now n ≡ false) → r.signal t.inside.early.need ≡ 0
       closed_needs closed quiet =
           let none : any_below (takes_at b p q.state) (length b.operations) ≡ false =
           none_below (takes_at b p q.state) (length b.operations)

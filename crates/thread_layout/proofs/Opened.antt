@@ -1,7 +1,6 @@
 -- Which cores are open to be asked, in a reading of a thread's module.
-use Rattle.std.proofs.Common.{◌≡◌, ℕ, zero, suc, ◌+◌, ◌-◌, ◌<◌, ◌≤◌, Bool, true, false, not, ◌&&◌, nat_eq, nat_lt, if◌then◌else◌, List, [], ◌∷◌, ◌++◌, length, map, slice_get}
-use Rattle.std.proofs.Common.{slice_index, Some, refl, sym, ap, subst, ◌∙◌, arith, ⊎_elim}
-use Rattle.std.proofs.lemmas.Bool.{cases_lt}
+use Rattle.std.proofs.Common.{◌≡◌, ℕ, zero, suc, ◌+◌, ◌-◌, ◌<◌, ◌^◌, Bool, true, false, not, ◌&&◌, nat_eq, nat_lt, List, [], ◌∷◌, length, map, slice_get}
+use Rattle.std.proofs.Common.{slice_index, Some, refl, sym, ap, subst, ◌∙◌, arith}
 use Rattle.std.proofs.lemmas.Bool.Decides.{nat_tests}
 use Rattle.std.proofs.lemmas.List.{length-map}
 use Rattle.std.proofs.lemmas.Option.{slice_get_within, get_or_from_slice_get}
@@ -22,19 +21,17 @@ use Rattle.block_datapath.specs.declared.registers.Held.{Held}
 use Rattle.block_datapath.specs.Requests.{AreAsMany}
 use Rattle.thread_slots.specs.declared.shape.Shape.{Shape}
 use Rattle.thread_slots.specs.Bits.{HasBit, HaveBits}
-use Rattle.thread_requests.specs.Early.{held_width, spread_out}
+use Rattle.thread_requests.specs.Early.{held_width, spread_out, act_count, act_open, joined_bits, HasObject}
 use Rattle.thread_layout.specs.Modules.{marks_of, IsModule, IsWiredInside}
-use Rattle.thread_layout.specs.Thread.{input_count, IsServed}
-use Rattle.thread_slots.proofs.Gating.{index_last, index_there}
-use Rattle.thread_layout.proofs.Placed.{from_early, wide_bit, words_count, mark_held, stands_wide}
+use Rattle.thread_layout.specs.Thread.{inputs_of, cores_of, IsServed}
+use Rattle.block_ir.specs.Asked.{Service}
+use Rattle.thread_slots.specs.Requests.{group}
+use Rattle.thread_slots.proofs.Gating.{index_there}
+use Rattle.thread_requests.proofs.Opening.{have_joined}
+use Rattle.thread_layout.proofs.Placed.{no_argument, from_early, wide_bit, words_count, mark_held, stands_wide}
 use Rattle.thread_layout.proofs.Spreading.{spread_there, spread_count}
 
 -- ---- lists
-
-pub front_index : (xs ys : List ℕ) (n : ℕ) → n < length xs → slice_index (xs ++ ys) n ≡ slice_index xs n
-front_index [] ys n less = absurd (omega arith)
-front_index (x ∷ xs) ys zero less = refl
-front_index (x ∷ xs) ys (suc n) less = front_index xs ys n (omega arith)
 
 pub is_less : (n k : ℕ) → n < k → nat_lt n k ≡ true
 is_less n k less = grind (arith, nat_tests)
@@ -54,12 +51,12 @@ module _ (shape : Shape) (code : ThreadCode) (plan : Planned) (m : Module) (t : 
   abbrev banks : ℕ
   banks = bank_total shape.spreads
 
-  -- whether a bank is open, and last the printer
-  abbrev pub raised_by : (ℕ → Bool) → (ℕ → Bool) → Bool → ℕ → Bool
-  raised_by wants marked prints n = if nat_lt n banks then wants n && not (marked n) else prints
+  -- whether a bank is open, and behind them the cores that acts ask
+  abbrev pub raised_by : (ℕ → Bool) → (ℕ → Bool) → (ℕ → Bool) → ℕ → Bool
+  raised_by wants marked acts = joined_bits banks (λ n. wants n && not (marked n)) acts
 
-  pub wired : IsWiredInside code plan shape t.laid.with_inputs t.laid.with_slot t.laid.with_early t.laid.with_heard t.with_inside t.inside
-  wired = t.laid.wired served.site_low served.site_high served.spreads refl
+  pub wired : IsWiredInside code plan shape t.laid.with_ports t.laid.with_inputs t.laid.with_slot t.laid.with_early t.laid.with_heard t.with_inside t.inside
+  wired = t.laid.wired served.site_low served.site_high served.spreads refl (no_argument shape code plan m t served)
 
   pub wants_count : length t.inside.early.requests.banks.wants ≡ banks
   wants_count = wired.early.linked.banks.wants.count ∙ bits_count
@@ -78,7 +75,7 @@ module _ (shape : Shape) (code : ThreadCode) (plan : Planned) (m : Module) (t : 
   pub start_less : (n : ℕ) → n < banks → n < length (map held_width t.inside.slot.words)
   start_less n less = subst (λ k. n < k) (sym (length-map t.inside.slot.words held_width ∙ words_count shape code plan m t served)) less
 
-  -- bits of banks, and of the printer
+  -- bits of banks, and of those that acts ask
   pub want_wide : (n : ℕ) → n < banks → width m (slice_index t.inside.early.requests.banks.wants n) ≡ 1
   want_wide n less =
       let there = index_there t.inside.early.requests.banks.wants n (subst (λ k. n < k) (sym wants_count) less) in
@@ -92,12 +89,23 @@ module _ (shape : Shape) (code : ThreadCode) (plan : Planned) (m : Module) (t : 
       index_held (x ∷ xs) zero h = (x, refl)
       index_held (x ∷ xs) (suc i) h = index_held xs i (omega arith)
 
-  pub print_wide : width m t.inside.early.requests.wants ≡ 1
-  print_wide = earlier_wide m t.laid.with_early _ t.inside.early.requests.wants 1 (from_early shape code plan m t served) wired.early.linked.wants
+  pub ask_wide : (s : Service) → width m (group t.inside.early.requests s).wants ≡ 1
+  ask_wide s =
+      earlier_wide m t.laid.with_early _ (group t.inside.early.requests s).wants 1 (from_early shape code plan m t served) (wired.early.linked.requests s).wants
+
+  -- a request's object is a number of 64 bits
+  pub has_object : (r : Reading) (s : Service) → Obeys m r → HasObject m r (group t.inside.early.requests s)
+  has_object r s o =
+      let there = (wired.early.linked.requests s).object in
+      let here = listed t.laid.with_early m.signals (group t.inside.early.requests s).object there.signal (from_early shape code plan m t served) there.listed in
+      record {
+        wide = ap signal_width here ∙ there.wide;
+        fits = subst (λ n. r.signal (group t.inside.early.requests s).object < 2 ^ n) there.wide (o.within (group t.inside.early.requests s).object there.signal here);
+      }
 
   -- the bit of a bank is that of its global
   pub mark_of_bank : (x k : ℕ) (s : Spread) → slice_get shape.spreads x ≡ Some s → k < s.count
-      → slice_index (spread_out t.inside.slot.spreads (marks_of t.inside)) (s.first + k) ≡ input_count banks + 3 + length code.variables + plan.registers + x
+      → slice_index (spread_out t.inside.slot.spreads (marks_of t.inside)) (s.first + k) ≡ inputs_of shape + 3 + length code.variables + plan.registers + x
   mark_of_bank x k s there less =
       let inside : x < length shape.globals = subst (λ n. x < n) served.spreads.count (slice_get_within shape.spreads x s there) in
       let v = mark_held shape code plan m t served x inside in
@@ -134,23 +142,37 @@ module _ (shape : Shape) (code : ThreadCode) (plan : Planned) (m : Module) (t : 
       let below : k < own.1.count = omega arith in
       let inside : own.0 < length shape.globals = subst (λ i. own.0 < i) served.spreads.count (slice_get_within shape.spreads own.0 own.1 own.2) in
       let v = mark_held shape code plan m t served own.0 inside in
-      let place : slice_index (spread_out t.inside.slot.spreads (marks_of t.inside)) n ≡ input_count banks + 3 + length code.variables + plan.registers + own.0 =
+      let place : slice_index (spread_out t.inside.slot.spreads (marks_of t.inside)) n ≡ inputs_of shape + 3 + length code.variables + plan.registers + own.0 =
       ap (slice_index (spread_out t.inside.slot.spreads (marks_of t.inside))) (sym at) ∙ mark_of_bank own.0 k own.1 own.2 below in
       let wide : width m (slice_index (spread_out t.inside.slot.spreads (marks_of t.inside)) n) ≡ 1 =
-      ap (width m) place ∙ stands_wide m (input_count banks + 3 + length code.variables + plan.registers + own.0) 1 (Register 0) v.stands in
+      ap (width m) place ∙ stands_wide m (inputs_of shape + 3 + length code.variables + plan.registers + own.0) 1 (Register 0) v.stands in
       let bit = wide_bit m r (slice_index (spread_out t.inside.slot.spreads (marks_of t.inside)) n) o wide in
       record { wide = wide; shows = bit_told (r.signal (slice_index (spread_out t.inside.slot.spreads (marks_of t.inside)) n)) bit.0 bit.1 }
 
-  module _ (r : Reading) (o : Obeys m r) (wants marked : ℕ → Bool) (prints : Bool)
+  pub from_lost : Grows t.laid.early.with_lost m.signals
+  from_lost = grows_then t.laid.early.with_lost t.laid.with_early m.signals t.laid.early.needs.grows (from_early shape code plan m t served)
+
+  pub from_acts : Grows t.laid.early.with_acts m.signals
+  from_acts = grows_then t.laid.early.with_acts t.laid.early.with_lost m.signals t.laid.early.loses.grows from_lost
+
+  pub from_open : Grows t.laid.early.with_open m.signals
+  from_open = grows_then t.laid.early.with_open t.laid.early.with_acts m.signals t.laid.early.opens_acts.grows from_acts
+
+  from_free : Grows t.laid.early.with_free m.signals
+  from_free = grows_then t.laid.early.with_free t.laid.early.with_open m.signals t.laid.early.opens.grows from_open
+
+  -- which cores that acts ask are open, by what is wanted
+  abbrev pub acts_by : Reading → (Service → Bool) → ℕ → Bool
+  acts_by r asks = act_open shape.served asks (λ s. r.signal (group t.inside.early.requests s).object)
+
+  -- nothing is wanted
+  abbrev pub no_service : Service → Bool
+  no_service s = false
+
+  module _ (r : Reading) (o : Obeys m r) (wants marked : ℕ → Bool) (asks : Service → Bool)
       (wanted : (n : ℕ) → n < banks → HasBit m r (slice_index t.inside.early.requests.banks.wants n) (wants n))
       (marks : (n : ℕ) → n < banks → HasBit m r (slice_index (spread_out t.inside.slot.spreads (marks_of t.inside)) n) (marked n))
-      (printing : HasBit m r t.inside.early.requests.wants prints) where
-    from_open : Grows t.laid.early.with_open m.signals
-    from_open = grows_then t.laid.early.with_open t.laid.with_early m.signals t.laid.early.needs.grows (from_early shape code plan m t served)
-
-    from_free : Grows t.laid.early.with_free m.signals
-    from_free = grows_then t.laid.early.with_free t.laid.early.with_open m.signals t.laid.early.opens.grows from_open
-
+      (asking : (s : Service) → HasBit m r (group t.inside.early.requests s).wants (asks s)) where
     bank_open : (n : ℕ) → n < banks → HasBit m r (slice_index t.laid.early.bank_opens n) (wants n && not (marked n))
     bank_open n less =
         let free =
@@ -159,28 +181,13 @@ module _ (shape : Shape) (code : ThreadCode) (plan : Planned) (m : Module) (t : 
         (record { one = wants n; two = not (marked n); has_one = wanted n less; has_two = free; is = refl })
 
     -- WHAT IS OPEN
-    pub open_bits : HaveBits m r t.inside.early.opens (suc banks) (raised_by wants marked prints)
-    open_bits n less = ⊎_elim bank last (cases_lt n banks)
-      where
-        own_count : length t.laid.early.bank_opens ≡ banks
-        own_count = t.laid.early.opens.count ∙ wants_count
+    pub open_bits : HaveBits m r t.inside.early.opens (banks + act_count shape.served) (raised_by wants marked (acts_by r asks))
+    open_bits =
+        subst (λ (l : List ℕ). HaveBits m r l (banks + act_count shape.served) (raised_by wants marked (acts_by r asks))) (sym t.laid.early.open_is)
+        (have_joined m r t.laid.early.bank_opens t.laid.early.acts.opens banks (act_count shape.served) (λ n. wants n && not (marked n)) (acts_by r asks)
+        (t.laid.early.opens.count ∙ wants_count) bank_open
+        (t.laid.early.opens_acts.shows m r asks from_acts o asking (λ s. has_object r s o)))
 
-        whole : t.inside.early.opens ≡ t.laid.early.bank_opens ++ t.inside.early.requests.wants ∷ []
-        whole = t.laid.early.open_is
-
-        bank : n < banks → HasBit m r (slice_index t.inside.early.opens n) (raised_by wants marked prints n)
-        bank inside =
-            let at : slice_index t.inside.early.opens n ≡ slice_index t.laid.early.bank_opens n =
-            ap (λ l. slice_index l n) whole ∙ front_index t.laid.early.bank_opens (t.inside.early.requests.wants ∷ []) n (subst (λ k. n < k) (sym own_count) inside) in
-            let value : (wants n && not (marked n)) ≡ raised_by wants marked prints n = ap (λ c. if c then wants n && not (marked n) else prints) (sym (is_less n banks inside)) in
-            subst (λ p. HasBit m r p (raised_by wants marked prints n)) (sym at) (subst (λ b. HasBit m r (slice_index t.laid.early.bank_opens n) b) value (bank_open n inside))
-
-        last : banks ≤ n → HasBit m r (slice_index t.inside.early.opens n) (raised_by wants marked prints n)
-        last past =
-            let same : n ≡ banks = omega arith in
-            let at : slice_index t.inside.early.opens n ≡ t.inside.early.requests.wants =
-            ap (λ l. slice_index l n) whole ∙ ap (slice_index (t.laid.early.bank_opens ++ t.inside.early.requests.wants ∷ [])) (same ∙ sym own_count)
-            ∙ index_last t.laid.early.bank_opens t.inside.early.requests.wants in
-            let value : prints ≡ raised_by wants marked prints n =
-            ap (λ c. if c then wants n && not (marked n) else prints) (sym (ap (λ k. nat_lt k banks) same ∙ is_not_less banks)) in
-            subst (λ p. HasBit m r p (raised_by wants marked prints n)) (sym at) (subst (λ b. HasBit m r t.inside.early.requests.wants b) value printing)
+  -- so many cores there are
+  pub all_count : banks + act_count shape.served ≡ cores_of shape
+  all_count = omega arith

@@ -1,5 +1,5 @@
 -- Where the parts of a module stand, and what a reading shows there.
-use Rattle.std.proofs.Common.{◌≡◌, ℕ, zero, suc, ◌+◌, ◌<◌, ◌^◌, Bool, true, false, if◌then◌else◌, List, [], ◌∷◌, length, map, slice_get, Option, Some, None, pos, refl, sym}
+use Rattle.std.proofs.Common.{◌≡◌, ℕ, zero, suc, ◌+◌, ◌-◌, ◌<◌, ◌^◌, Bool, true, false, if◌then◌else◌, List, [], ◌∷◌, length, map, slice_get, Option, Some, None, pos, refl, sym}
 use Rattle.std.proofs.Common.{ap, subst, ◌∙◌, arith, length-append, ◌++◌, ◌≤◌, take, ⊎_elim}
 use Rattle.std.proofs.lemmas.Bool.{cases_lt}
 use Rattle.std.specs.Prelude.{option_map, replicate, slice_index}
@@ -27,17 +27,22 @@ use Rattle.thread_slots.specs.declared.shape.Shape.{Shape}
 use Rattle.thread_slots.specs.Slots.{StandsAt}
 use Rattle.block_datapath.specs.declared.requests.BankRequests.{BankRequests}
 use Rattle.thread_requests.specs.declared.outputs.Row.{Row}
-use Rattle.thread_requests.specs.Outputs.{CopiesAt, joined, request_row, field_row, rows_at, fields_from, rows_of}
+use Rattle.thread_requests.specs.Outputs.{CopiesAt, joined, request_row, field_row, rows_at, fields_from, act_rows, acts_from, rows_of}
 use Rattle.thread_slots.specs.Wired.{field_width}
+use Rattle.thread_states.specs.Acts.{IsTypedArgument}
 use Rattle.thread_layout.specs.Modules.{IsModule}
-use Rattle.thread_slots.specs.Inputs.{core_count}
+use Rattle.block_ir.specs.Asked.{Service}
+use Rattle.thread_slots.specs.declared.shape.Service.{Service as Kind}
+use Rattle.thread_slots.specs.Requests.{group}
+use Rattle.thread_slots.specs.Services.{service_of, services, number_width, value_count}
 use Rattle.thread_slots.specs.Hearing.{IsHeard}
-use Rattle.thread_requests.specs.Early.{held_width, spread_out}
+use Rattle.thread_requests.specs.Early.{act_count, held_width, spread_out}
 use Rattle.core_ports.specs.Ports.{asks_of, thread_outputs}
-use Rattle.thread_layout.specs.Thread.{input_count, bank_port, printer_port, core_ports, first_output, port_at, need_at, done_at, IsServed}
+use Rattle.thread_layout.specs.Thread.{cores_of, inputs_of, bank_port, act_port, core_ports, first_output, port_at, need_at, done_at, IsServed}
 use Rattle.thread_slots.proofs.Laying.{stands_later}
 use Rattle.thread_layout.proofs.Insides.{heard_widths, widths_same}
-use Rattle.thread_layout.proofs.Rowing.{HaveWidths, own_asks, joined_there, place_of_rows, all_count, rows_widths, bank_there, last_there, field_there}
+use Rattle.thread_layout.proofs.Rowing.{HaveWidths, own_asks, joined_there, place_of_rows, all_count, rows_widths, acts_widths, bank_there, act_there, field_there}
+use Rattle.thread_layout.proofs.Cores.{services_count}
 use Rattle.thread_layout.proofs.Spreading.{spread_there, spread_count}
 
 -- ---- a signal that stands at a place
@@ -101,7 +106,15 @@ module _ (shape : Shape) (code : ThreadCode) (plan : Planned) (m : Module) (t : 
 
   -- the registers stand behind so many inputs
   abbrev pub behind : ℕ
-  behind = input_count banks
+  behind = inputs_of shape
+
+  -- its variable has room for the argument
+  pub no_argument : shape.is_main ≡ false → IsTypedArgument code.argument code.variables
+  no_argument = served.argument
+
+  -- the first stage
+  abbrev pub first_stage : ℕ
+  first_stage = if shape.is_main then 0 else length code.stages
 
   pub from_control : Grows t.closed.with_control m.signals
   from_control = grows_then t.closed.with_control t.closed.outputs.with_rows m.signals t.closed.outputs.rows.grows t.closed.outputs.grows
@@ -109,15 +122,24 @@ module _ (shape : Shape) (code : ThreadCode) (plan : Planned) (m : Module) (t : 
   pub from_inside : Grows t.with_inside m.signals
   from_inside = grows_then t.with_inside t.closed.with_control m.signals t.closed.controls.grows from_control
 
+  pub from_rest : Grows t.laid.with_rest m.signals
+  from_rest = grows_then t.laid.with_rest t.with_inside m.signals t.laid.waits.grows from_inside
+
   pub from_start : Grows t.laid.with_start m.signals
-  from_start = grows_then t.laid.with_start t.with_inside m.signals t.laid.walks.grows from_inside
+  from_start = grows_then t.laid.with_start t.laid.with_rest m.signals t.laid.walks.grows from_rest
+
+  pub from_told : Grows t.laid.with_told m.signals
+  from_told = grows_then t.laid.with_told t.laid.with_start m.signals t.laid.begins.grows from_start
 
   pub from_heard : Grows t.laid.with_heard m.signals
   from_heard = grows_then t.laid.with_heard t.laid.with_units m.signals t.laid.units.grows
-      (grows_then t.laid.with_units t.laid.with_start m.signals t.laid.begins.grows from_start)
+      (grows_then t.laid.with_units t.laid.with_told m.signals t.laid.tells.grows from_told)
+
+  pub from_words_heard : Grows t.laid.with_words_heard m.signals
+  from_words_heard = grows_then t.laid.with_words_heard t.laid.with_heard m.signals t.laid.hears_news.grows from_heard
 
   pub from_early : Grows t.laid.with_early m.signals
-  from_early = grows_then t.laid.with_early t.laid.with_heard m.signals t.laid.hears.grows from_heard
+  from_early = grows_then t.laid.with_early t.laid.with_words_heard m.signals t.laid.hears.grows from_words_heard
 
   pub from_slot : Grows t.laid.with_slot m.signals
   from_slot = grows_then t.laid.with_slot t.laid.with_early m.signals t.laid.early.grows from_early
@@ -128,8 +150,11 @@ module _ (shape : Shape) (code : ThreadCode) (plan : Planned) (m : Module) (t : 
   pub from_inputs : Grows t.laid.with_inputs m.signals
   from_inputs = grows_then t.laid.with_inputs t.laid.with_registers m.signals t.laid.slot.grows from_registers
 
+  pub from_words : Grows t.laid.with_words m.signals
+  from_words = grows_then t.laid.with_words t.laid.with_inputs m.signals t.laid.news_stand.grows from_inputs
+
   pub from_ports : Grows t.laid.with_ports m.signals
-  from_ports = grows_then t.laid.with_ports t.laid.with_inputs m.signals t.laid.words.grows from_inputs
+  from_ports = grows_then t.laid.with_ports t.laid.with_words m.signals t.laid.words.grows from_words
 
   pub bank_count : length (spread_out shape.spreads (map width_of shape.globals)) ≡ banks
   bank_count = spread_count shape.spreads (map width_of shape.globals) (length-map shape.globals width_of ∙ sym served.spreads.count)
@@ -140,26 +165,27 @@ module _ (shape : Shape) (code : ThreadCode) (plan : Planned) (m : Module) (t : 
   pub words_count : length t.inside.slot.words ≡ banks
   words_count = t.laid.hears.count ∙ told_count
 
-  pub cores : core_count (length (spread_out shape.spreads (map width_of shape.globals))) ≡ suc banks
-  cores = ap suc bank_count
+  pub cores : length (spread_out shape.spreads (map width_of shape.globals)) + length (services shape.served) ≡ cores_of shape
+  cores = let one = bank_count in let two = services_count shape.served in omega arith
 
-  pub ports_long : length t.laid.with_ports ≡ 3 + banks
+  pub ports_long : length t.laid.with_ports ≡ 2 + cores_of shape
   ports_long =
-      let long : length t.laid.with_ports ≡ 2 + core_count (length (spread_out shape.spreads (map width_of shape.globals))) = t.laid.inputs.long in
+      let long : length t.laid.with_ports ≡ 2 + (length (spread_out shape.spreads (map width_of shape.globals)) + length (services shape.served)) = t.laid.inputs.long in
       let count = cores in
       omega arith
 
   pub inputs_long : length t.laid.with_inputs ≡ behind
-  inputs_long = let one = t.laid.words.long in let two = ports_long in let three = bank_count in omega arith
+  inputs_long = let one = t.laid.words.long in let more = t.laid.news_stand.long in let two = ports_long in let three = bank_count in omega arith
 
   -- as many requests as cores
-  pub opens_count : length t.inside.early.opens ≡ suc banks
+  pub opens_count : length t.inside.early.opens ≡ cores_of shape
   opens_count =
       let wanted : length t.inside.early.requests.banks.wants ≡ banks =
       (t.laid.early.asks.many.banks (length (map held_width t.inside.slot.words)) t.laid.early.begins.many).wants ∙ length-map t.inside.slot.words held_width ∙ words_count in
       let own : length t.laid.early.bank_opens ≡ banks = t.laid.early.opens.count ∙ wanted in
-      ap length t.laid.early.open_is ∙ length-append t.laid.early.bank_opens (t.inside.early.requests.wants ∷ [])
-      ∙ (let sum : length t.laid.early.bank_opens + 1 ≡ suc banks = omega arith in sum)
+      let acts : length t.laid.early.acts.opens ≡ act_count shape.served = t.laid.early.opens_acts.count in
+      ap length t.laid.early.open_is ∙ length-append t.laid.early.bank_opens t.laid.early.acts.opens
+      ∙ (let sum : length t.laid.early.bank_opens + length t.laid.early.acts.opens ≡ cores_of shape = omega arith in sum)
 
   -- inputs
   pub enable_at : t.inside.inputs.enable ≡ 1
@@ -168,10 +194,10 @@ module _ (shape : Shape) (code : ThreadCode) (plan : Planned) (m : Module) (t : 
   pub enable_stands : StandsAt m.signals 1 1 Input
   enable_stands = stands_later t.laid.with_ports m.signals 1 1 Input from_ports t.laid.inputs.enable_stands
 
-  pub grant_at : (k : ℕ) → k < suc banks → slice_index t.inside.inputs.grants k ≡ 2 + k
+  pub grant_at : (k : ℕ) → k < cores_of shape → slice_index t.inside.inputs.grants k ≡ 2 + k
   grant_at k less = t.laid.inputs.grants k (subst (λ n. k < n) (sym cores) less)
 
-  pub grant_stands : (k : ℕ) → k < suc banks → StandsAt m.signals (2 + k) 1 Input
+  pub grant_stands : (k : ℕ) → k < cores_of shape → StandsAt m.signals (2 + k) 1 Input
   grant_stands k less = stands_later t.laid.with_ports m.signals (2 + k) 1 Input from_ports (t.laid.inputs.grants_stand k (subst (λ n. k < n) (sym cores) less))
 
   -- the word of bank k of a global: where it is told, and what is heard of it
@@ -181,9 +207,9 @@ module _ (shape : Shape) (code : ThreadCode) (plan : Planned) (m : Module) (t : 
     pub wide : held.width ≡ w
     pub told : Held
     pub own : told.width ≡ w
-    pub heard : IsHeard t.laid.with_heard t.inside.early.need told held
-    pub at : told.register ≡ 3 + banks + n
-    pub stands : StandsAt m.signals (3 + banks + n) w Input
+    pub heard : IsHeard t.laid.with_words_heard t.inside.early.need told held
+    pub at : told.register ≡ 2 + cores_of shape + n
+    pub stands : StandsAt m.signals (2 + cores_of shape + n) w Input
 
   pub word_held : (x k : ℕ) (s : Spread) (ty : IntegerType) → slice_get shape.spreads x ≡ Some s → slice_get shape.globals x ≡ Some ty → k < s.count →
       HasWord (s.first + k) (width_of ty)
@@ -193,7 +219,7 @@ module _ (shape : Shape) (code : ThreadCode) (plan : Planned) (m : Module) (t : 
       ap (λ (n : ℕ). slice_get (spread_out shape.spreads (map width_of shape.globals)) (n + k)) (served.spreads.firsts x s listed)
       ∙ spread_there shape.spreads (map width_of shape.globals) x k (width_of ty) s listed wide less in
       let f = t.laid.words.each (s.first + k) (width_of ty) (slice_get_within (spread_out shape.spreads (map width_of shape.globals)) (s.first + k) (width_of ty) there) there in
-      let place : length t.laid.with_ports + (s.first + k) ≡ 3 + banks + (s.first + k) = (let e = ports_long in omega arith) in
+      let place : length t.laid.with_ports + (s.first + k) ≡ 2 + cores_of shape + (s.first + k) = (let e = ports_long in omega arith) in
       let g = t.laid.hears.each (s.first + k) f.0 (slice_get_within t.laid.told (s.first + k) f.0 f.1) f.1 in
       record {
         held = g.0;
@@ -205,19 +231,17 @@ module _ (shape : Shape) (code : ThreadCode) (plan : Planned) (m : Module) (t : 
         at = f.3 ∙ place;
         stands =
             subst (λ (n : ℕ). StandsAt m.signals n (width_of ty) Input) place
-            (stands_later t.laid.with_inputs m.signals (length t.laid.with_ports + (s.first + k)) (width_of ty) Input from_inputs f.4);
+            (stands_later t.laid.with_words m.signals (length t.laid.with_ports + (s.first + k)) (width_of ty) Input from_words f.4);
       }
 
   -- the stage, the state and the beat
   pub stage_at : t.inside.slot.stage.register ≡ behind
   stage_at = t.laid.slot.stage.register ∙ inputs_long
 
-  pub stage_stands : StandsAt m.signals behind t.inside.slot.stage.width (Register 0)
+  pub stage_stands : StandsAt m.signals behind t.inside.slot.stage.width (Register first_stage)
   stage_stands =
-      subst (λ (n : ℕ). StandsAt m.signals behind t.inside.slot.stage.width (Register n)) (ap (λ (b : Bool). if b then 0 else length code.stages) served.main)
-      (stands_later t.laid.with_registers m.signals behind t.inside.slot.stage.width (Register (if shape.is_main then 0 else length code.stages)) from_registers
-      (subst (λ (x : ℕ). StandsAt t.laid.with_registers x t.inside.slot.stage.width (Register (if shape.is_main then 0 else length code.stages))) inputs_long
-      t.laid.slot.stage.stands))
+      stands_later t.laid.with_registers m.signals behind t.inside.slot.stage.width (Register first_stage) from_registers
+      (subst (λ (x : ℕ). StandsAt t.laid.with_registers x t.inside.slot.stage.width (Register first_stage)) inputs_long t.laid.slot.stage.stands)
 
   pub state_at : t.inside.slot.state.register ≡ behind + 1
   state_at = t.laid.slot.state.register ∙ ap (λ (n : ℕ). n + 1) inputs_long
@@ -345,29 +369,30 @@ module _ (shape : Shape) (code : ThreadCode) (plan : Planned) (m : Module) (t : 
       ∙ ap (λ (n : ℕ). behind + 3 + length t.inside.slot.variables + n + i) (sym kept)
 
   -- outputs
-  pub fields_count : length t.inside.early.requests.fields ≡ shape.printer.values + 1
-  fields_count = t.laid.early.asks.many.fields ∙ t.laid.early.begins.fields_count ∙ t.laid.early.widths
+  pub fields_count : (s : Service) → length (group t.inside.early.requests s).fields ≡ suc (value_count shape.served s)
+  fields_count s = t.laid.early.asks.many.fields s ∙ t.laid.early.begins.counts s
 
   -- what cores are asked
   abbrev pub rows : List (List Row)
-  rows = rows_of shape.printer.site_width t.inside.slot.words t.edge.asks t.inside.early.requests
+  rows = rows_of shape.served t.inside.slot.words t.edge.asks t.inside.early.requests
 
   words_wide : map held_width t.inside.slot.words ≡ spread_out shape.spreads (map width_of shape.globals)
   words_wide =
-      heard_widths t.laid.told t.inside.slot.words t.laid.with_early t.laid.with_heard t.inside.early.need t.laid.hears
-      ∙ widths_same t.laid.with_ports t.laid.with_inputs (spread_out shape.spreads (map width_of shape.globals)) t.laid.told t.laid.words
+      heard_widths t.laid.told t.inside.slot.words t.laid.with_early t.laid.with_words_heard t.inside.early.need t.laid.hears
+      ∙ widths_same t.laid.with_ports t.laid.with_words (spread_out shape.spreads (map width_of shape.globals)) t.laid.told t.laid.words
 
   pub widths_are : HaveWidths rows (core_ports shape)
   widths_are =
-      rows_widths t.edge.asks t.inside.early.requests.banks shape.printer t.inside.early.requests.fields (slice_index t.edge.asks (length t.inside.slot.words)) 0 t.inside.slot.words
-      fields_count
-      ∙ ap (λ l. map own_asks (map bank_port l ++ printer_port shape.printer ∷ [])) words_wide
+      rows_widths t.edge.asks t.inside.early.requests.banks 0 t.inside.slot.words
+      (acts_from shape.served t.edge.asks t.inside.early.requests (length t.inside.slot.words) (services shape.served)) (map (act_port shape.served) (services shape.served))
+      (acts_widths shape.served t.edge.asks t.inside.early.requests (length t.inside.slot.words) (services shape.served) fields_count)
+      ∙ ap (λ l. map own_asks (map bank_port l ++ map (act_port shape.served) (services shape.served))) words_wide
 
-  pub ports_count : length (core_ports shape) ≡ suc banks
+  pub ports_count : length (core_ports shape) ≡ cores_of shape
   ports_count =
-      length-append (map bank_port (spread_out shape.spreads (map width_of shape.globals))) (printer_port shape.printer ∷ [])
-      ∙ ap (λ n. n + 1) (length-map (spread_out shape.spreads (map width_of shape.globals)) bank_port ∙ bank_count)
-      ∙ (let next : banks + 1 ≡ suc banks = omega arith in next)
+      length-append (map bank_port (spread_out shape.spreads (map width_of shape.globals))) (map (act_port shape.served) (services shape.served))
+      ∙ ap (λ n. n + length (map (act_port shape.served) (services shape.served))) (length-map (spread_out shape.spreads (map width_of shape.globals)) bank_port)
+      ∙ ap (λ n. length (spread_out shape.spreads (map width_of shape.globals)) + n) (length-map (services shape.served) (act_port shape.served)) ∙ cores
 
   pub all_long : length m.signals ≡ length t.closed.with_control + length (thread_outputs (core_ports shape))
   all_long =
@@ -427,14 +452,31 @@ module _ (shape : Shape) (code : ThreadCode) (plan : Planned) (m : Module) (t : 
       subst (λ (n : ℕ). HasBankOutputs m.signals (port_at shape m (s.first + k)) t.edge.asks t.inside.early.requests.banks (s.first + k) n) w.wide
       (bank_asked (s.first + k) w.held w.listed)
 
-  abbrev pub printer_rows : List Row
-  printer_rows = request_row (slice_index t.edge.asks (length t.inside.slot.words)) ∷ fields_from shape.printer.site_width 0 t.inside.early.requests.fields
+  -- core n of those that acts ask
+  module _ (n : ℕ) (k : Kind) (own : slice_get (services shape.served) n ≡ Some k) where
+    abbrev pub own_act_rows : List Row
+    own_act_rows = act_rows shape.served (slice_index t.edge.asks (banks + n)) t.inside.early.requests (service_of k)
 
-  pub printer_listed : slice_get rows banks ≡ Some printer_rows
-  printer_listed = ap (slice_get rows) (sym words_count) ∙ last_there t.edge.asks t.inside.early.requests.banks 0 t.inside.slot.words printer_rows
+    pub act_listed : slice_get rows (banks + n) ≡ Some own_act_rows
+    act_listed =
+        ap (λ j. slice_get rows (j + n)) (sym words_count) ∙ act_there shape.served t.inside.slot.words t.edge.asks t.inside.early.requests n k own
+        ∙ ap (λ j. Some (act_rows shape.served (slice_index t.edge.asks (j + n)) t.inside.early.requests (service_of k))) words_count
+
+    act_ask : CopiesAt m.signals (port_at shape m (banks + n) 0) 1 (slice_index t.edge.asks (banks + n))
+    act_ask = port_copies (banks + n) 0 own_act_rows (request_row (slice_index t.edge.asks (banks + n))) act_listed refl
+
+    -- what it is asked for
+    pub field_stands : (j x : ℕ) → slice_get (group t.inside.early.requests (service_of k)).fields j ≡ Some x
+        → CopiesAt m.signals (port_at shape m (banks + n) (suc j)) (field_width (number_width shape.served (service_of k)) j) x
+    field_stands j x listed =
+        let w = number_width shape.served (service_of k) in
+        let fields = (group t.inside.early.requests (service_of k)).fields in
+        let there : slice_get (fields_from w 0 fields) j ≡ Some (field_row (field_width w j) x) =
+        field_there w 0 fields j x listed ∙ ap (λ i. Some (field_row (field_width w i) x)) (let z : 0 + j ≡ j = omega arith in z) in
+        port_copies (banks + n) (suc j) own_act_rows (field_row (field_width w j) x) act_listed there
 
   -- whether core k is asked
-  pub ask_stands : (k : ℕ) → k < suc banks → CopiesAt m.signals (port_at shape m k 0) 1 (slice_index t.edge.asks k)
+  pub ask_stands : (k : ℕ) → k < cores_of shape → CopiesAt m.signals (port_at shape m k 0) 1 (slice_index t.edge.asks k)
   ask_stands k less = ⊎_elim bank last (cases_lt k banks)
     where
       bank : k < banks → CopiesAt m.signals (port_at shape m k 0) 1 (slice_index t.edge.asks k)
@@ -444,22 +486,13 @@ module _ (shape : Shape) (code : ThreadCode) (plan : Planned) (m : Module) (t : 
 
       last : banks ≤ k → CopiesAt m.signals (port_at shape m k 0) 1 (slice_index t.edge.asks k)
       last past =
-          let same : banks ≡ k = omega arith in
-          subst (λ n. CopiesAt m.signals (port_at shape m n 0) 1 (slice_index t.edge.asks n)) same
-          (subst (λ n. CopiesAt m.signals (port_at shape m banks 0) 1 (slice_index t.edge.asks n)) words_count
-          (port_copies banks 0 printer_rows (request_row (slice_index t.edge.asks (length t.inside.slot.words))) printer_listed refl))
+          let count = services_count shape.served in
+          let own = got_any (services shape.served) (k - banks) (omega arith) in
+          let same : banks + (k - banks) ≡ k = omega arith in
+          subst (λ n. CopiesAt m.signals (port_at shape m n 0) 1 (slice_index t.edge.asks n)) same (act_ask (k - banks) own.0 own.1)
 
-  pub ask_copied : (r : Reading) (k : ℕ) → Obeys m r → k < suc banks → r.signal (port_at shape m k 0) ≡ r.signal (slice_index t.edge.asks k)
+  pub ask_copied : (r : Reading) (k : ℕ) → Obeys m r → k < cores_of shape → r.signal (port_at shape m k 0) ≡ r.signal (slice_index t.edge.asks k)
   ask_copied r k o less = stands_copies m r (port_at shape m k 0) 1 (slice_index t.edge.asks k) o (ask_stands k less)
-
-  -- what the printer is asked for
-  pub field_stands : (k x : ℕ) → slice_get t.inside.early.requests.fields k ≡ Some x
-      → CopiesAt m.signals (port_at shape m banks (suc k)) (field_width shape.printer.site_width k) x
-  field_stands k x listed =
-      let there : slice_get (fields_from shape.printer.site_width 0 t.inside.early.requests.fields) k ≡ Some (field_row (field_width shape.printer.site_width k) x) =
-      field_there shape.printer.site_width 0 t.inside.early.requests.fields k x listed
-      ∙ ap (λ n. Some (field_row (field_width shape.printer.site_width n) x)) (let z : 0 + k ≡ k = omega arith in z) in
-      port_copies banks (suc k) printer_rows (field_row (field_width shape.printer.site_width k) x) printer_listed there
 
   pub need_stands : CopiesAt m.signals (need_at shape m) 1 t.inside.early.need
   need_stands = subst (λ (n : ℕ). CopiesAt m.signals n 1 t.inside.early.need) before_need t.closed.outputs.need

@@ -26,10 +26,9 @@ use Rattle.block_datapath.proofs.Reaching.{asked_one, asked_nobody}
 use Rattle.thread_slots.specs.declared.shape.Shape.{Shape}
 use Rattle.thread_slots.specs.Bits.{HasBit}
 use Rattle.thread_layout.specs.Modules.{IsModule}
-use Rattle.thread_layout.specs.Thread.{places_of, ports_of, IsServed}
+use Rattle.thread_layout.specs.Thread.{inputs_of, places_of, ports_of, IsServed}
 use Rattle.thread_layout.proofs.Meeting.{any_found, any_is}
-use Rattle.thread_layout.proofs.Opened.{want_wide, start_many, start_less}
-use Rattle.thread_layout.proofs.Placed.{from_early}
+use Rattle.thread_layout.proofs.Opened.{want_wide, start_many, start_less, from_open}
 use Rattle.thread_layout.proofs.Sight.{asks_so, asks_right, in_stage, sees_slot, knows}
 
 both_true : (t u : Bool) → (t && u) ≡ true → (t ≡ true) × (u ≡ true)
@@ -62,14 +61,13 @@ module _ (shape : Shape) (code : ThreadCode) (plan : Planned) (m : Module) (t : 
   pub from_needs : Grows t.laid.early.with_needs m.signals
   from_needs =
       grows_then t.laid.early.with_needs t.laid.early.with_free m.signals t.laid.early.frees.grows
-      (grows_then t.laid.early.with_free t.laid.early.with_open m.signals t.laid.early.opens.grows
-      (grows_then t.laid.early.with_open t.laid.with_early m.signals t.laid.early.needs.grows (from_early shape code plan m t served)))
+      (grows_then t.laid.early.with_free t.laid.early.with_open m.signals t.laid.early.opens.grows (from_open shape code plan m t served))
 
   pub from_asks : Grows t.laid.early.with_asks m.signals
   from_asks = grows_then t.laid.early.with_asks t.laid.early.with_needs m.signals t.laid.early.holds.grows from_needs
 
   module _ (r : Reading) (q : Slot) (b : Block) (p : BlockPlan) (o : Obeys m r)
-      (inside : IsInside shape.globals shape.spreads code plan m (places_of banks code plan) (ports_of shape m) r q b p) where
+      (inside : IsInside shape.globals shape.spreads code plan m (places_of (inputs_of shape) code plan) (ports_of shape m) r q b p) where
     abbrev wire : ℕ → ℤ
     wire = wires_now shape.spreads b p q
 

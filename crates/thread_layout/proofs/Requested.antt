@@ -1,5 +1,5 @@
 -- What a state of a block asks banks, at the ports.
-use Rattle.std.proofs.Common.{◌≡◌, ℕ, suc, ◌%◌, ◌<◌, Bool, true, false, not, ◌&&◌, slice_get, slice_index, Option, Some, refl, sym, ap, subst, ◌∙◌, arith}
+use Rattle.std.proofs.Common.{◌≡◌, ℕ, ◌%◌, ◌<◌, Bool, true, false, not, ◌&&◌, slice_get, slice_index, Option, Some, refl, sym, ap, subst, ◌∙◌, arith}
 use Rattle.hls_ints.specs.Residues.{residue_of}
 use Rattle.hls_ints.specs.Types.{IntegerType, HasType, width_of}
 use Rattle.bank_partition.specs.declared.banks.Spread.{Spread}
@@ -17,7 +17,7 @@ use Rattle.verilog_meaning.specs.Readings.{Reading}
 use Rattle.circuit.specs.Modules.{Obeys}
 use Rattle.thread_promise.specs.Types.{or_int}
 use Rattle.thread_promise.specs.Globals.{IsAddress, bank_total, wires_now, place_now, bank_now, written_now, IsOpen}
-use Rattle.thread_promise.specs.Promise.{is_print, AsksBank, IsInside}
+use Rattle.thread_promise.specs.Promise.{is_run, AsksBank, IsInside}
 use Rattle.block_datapath.specs.Operations.{seen_value, SeesSlot}
 use Rattle.block_datapath.specs.Requests.{Asked, asked_at}
 use Rattle.block_datapath.specs.Accesses.{IsAskRight, asked_now}
@@ -25,12 +25,14 @@ use Rattle.block_datapath.proofs.Indexing.{index_typed, target_typed}
 use Rattle.block_datapath.proofs.Reaching.{some_banks}
 use Rattle.block_datapath.proofs.Wanting.{view_count, Asker}
 use Rattle.thread_slots.specs.declared.shape.Shape.{Shape}
+use Rattle.block_ir.specs.Asked.{Service}
+use Rattle.thread_slots.specs.Requests.{group}
 use Rattle.thread_slots.specs.Bits.{HasBit}
 use Rattle.thread_layout.specs.Modules.{IsModule}
-use Rattle.thread_layout.specs.Thread.{places_of, port_at, ports_of, IsServed}
+use Rattle.thread_layout.specs.Thread.{cores_of, inputs_of, places_of, port_at, ports_of, IsServed}
 use Rattle.thread_layout.proofs.Moving.{who, bank, own_bank, within, own_asked, none_asked}
 use Rattle.thread_layout.proofs.Placed.{HasBankOutputs, stands_copies, bank_outputs, ask_copied}
-use Rattle.thread_layout.proofs.Quiet.{quiet_bit}
+use Rattle.thread_layout.proofs.Quiet.{block_bit}
 use Rattle.thread_layout.proofs.Raising.{asked_by}
 use Rattle.thread_layout.proofs.Sight.{enabled, enable_bit, asks_right, sees_slot}
 
@@ -53,7 +55,7 @@ module _ (shape : Shape) (code : ThreadCode) (plan : Planned) (m : Module) (t : 
   banks = bank_total shape.spreads
 
   module _ (r : Reading) (q : Slot) (b : Block) (p : BlockPlan) (o : Obeys m r)
-      (inside : IsInside shape.globals shape.spreads code plan m (places_of banks code plan) (ports_of shape m) r q b p) where
+      (inside : IsInside shape.globals shape.spreads code plan m (places_of (inputs_of shape) code plan) (ports_of shape m) r q b p) where
     right : IsAskRight shape.globals code b p
     right = asks_right shape code plan m t served r o q b p inside.runs inside.state inside.shown
 
@@ -69,9 +71,9 @@ module _ (shape : Shape) (code : ThreadCode) (plan : Planned) (m : Module) (t : 
         × HasType ty (seen_value q.variables (value_now (planned_view b) (plan_view b p) q (wires_now shape.spreads b p q)) i)
     targets = target_typed shape.globals code t.inside.slot b p right m r q sees (wires_now shape.spreads b p q)
 
-    -- a block does not ask the printer
-    pub printing : HasBit m r t.inside.early.requests.wants false
-    printing = quiet_bit shape code plan m t served r q o inside.shown.shown (ap is_print inside.runs.listed)
+    -- a block asks no core that acts ask
+    pub printing : (k : Service) → HasBit m r (group t.inside.early.requests k).wants false
+    printing = block_bit shape code plan m t served r q o inside.shown.shown (ap is_run inside.runs.listed)
 
     abbrev asker : (k : ℕ) → k < size (planned_view b) → asks (planned_view b) (plan_view b p) q k ≡ true → Asker shape.globals shape.spreads code t.inside.slot q.stage b p q k
     asker = who shape code plan m t served r q b p o inside indices targets
@@ -149,7 +151,7 @@ module _ (shape : Shape) (code : ThreadCode) (plan : Planned) (m : Module) (t : 
         → r.signal (port_at shape m n 0) ≡ 0
     asks_none_so n less none =
         let on = enabled shape code plan m t served r o in
-        ask_copied shape code plan m t served r n o (let inside : n < suc banks = omega arith in inside)
+        ask_copied shape code plan m t served r n o (let inside : n < cores_of shape = omega arith in inside)
         ∙ none_asked shape code plan m t served r q b p o inside indices targets printing on.0 (enable_bit shape code plan m t served r o on.0 on.1) n less
         (λ j below e not_so is.
         let a = asker j below e in

@@ -16,7 +16,7 @@ use Rattle.thread_slots.specs.declared.shape.Shape.{Shape}
 use Rattle.thread_slots.specs.Bits.{HaveBits}
 use Rattle.thread_states.specs.Control.{got, is_left, counts_of, Steers}
 use Rattle.thread_layout.specs.Modules.{marks_of, IsModule}
-use Rattle.thread_layout.specs.Thread.{input_count, IsServed}
+use Rattle.thread_layout.specs.Thread.{inputs_of, IsServed}
 use Rattle.thread_slots.proofs.Gating.{index_there}
 use Rattle.thread_layout.proofs.Opened.{bit_told, wired, earlier_wide}
 use Rattle.thread_layout.proofs.Placed.{from_control, from_early, mark_held, stands_wide, wide_bit}
@@ -48,13 +48,13 @@ module _ (shape : Shape) (code : ThreadCode) (plan : Planned) (m : Module) (t : 
   banks = bank_total shape.spreads
 
   -- where the bit of global x stands, among those of all
-  pub mark_at : (x : ℕ) → x < length shape.globals → slice_index (marks_of t.inside) x ≡ input_count banks + 3 + length code.variables + plan.registers + x
+  pub mark_at : (x : ℕ) → x < length shape.globals → slice_index (marks_of t.inside) x ≡ inputs_of shape + 3 + length code.variables + plan.registers + x
   mark_at x less = let v = mark_held shape code plan m t served x less in mapped_index t.inside.granted x v.held v.listed ∙ v.at
 
   pub mark_wide : (x : ℕ) → x < length shape.globals → width m (slice_index (marks_of t.inside) x) ≡ 1
   mark_wide x less =
       ap (width m) (mark_at x less)
-      ∙ stands_wide m (input_count banks + 3 + length code.variables + plan.registers + x) 1 (Register 0) (mark_held shape code plan m t served x less).stands
+      ∙ stands_wide m (inputs_of shape + 3 + length code.variables + plan.registers + x) 1 (Register 0) (mark_held shape code plan m t served x less).stands
 
   pub marks_counted : length (marks_of t.inside) ≡ length shape.globals
   marks_counted = length-map t.inside.granted (λ (h : Held). h.register) ∙ t.laid.granted.count

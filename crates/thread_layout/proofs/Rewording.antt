@@ -21,16 +21,16 @@ use Rattle.block_datapath.specs.Seen.{IsVariable, IsKept}
 use Rattle.block_datapath.specs.Leave.{IsInStage}
 use Rattle.block_datapath.specs.Operations.{SeesSlot}
 use Rattle.unit_datapath.specs.Units.{IsInCode}
-use Rattle.thread_slots.specs.declared.shape.Printer.{Printer}
+use Rattle.thread_asks.specs.declared.asking.Caller.{Caller}
 use Rattle.thread_slots.specs.declared.requests.Requests.{Requests}
 use Rattle.thread_requests.specs.declared.early.Early.{Early}
-use Rattle.thread_requests.specs.Asking.{AsksAt}
+use Rattle.thread_asks.specs.Asking.{AsksAt}
 use Rattle.thread_requests.specs.Early.{held_width, LaysEarly}
 use Rattle.thread_slots.specs.Requests.{BeginsAsking}
 use Rattle.thread_layout.specs.Modules.{worded}
-use Rattle.thread_requests.specs.Needing.{NeedsMore, FitStages, IsNeedOfFirst}
+use Rattle.thread_needs.specs.Needing.{NeedsMore, FitStages, IsNeedOfFirst}
 use Rattle.thread_slots.specs.Slots.{LaysSlot, KnowsStage}
-use Rattle.thread_requests.specs.Fields.{SeesVariables}
+use Rattle.thread_asks.specs.Fields.{SeesVariables}
 use Rattle.thread_slots.specs.Wired.{AreSlots}
 
 -- ---- registers that stand
@@ -62,6 +62,7 @@ slot_reworded code plan first kept_widths told words units spreads a b registers
   beat = t.beat;
   beat_stands = t.beat_stands;
   variables_count = t.variables_count;
+  variables_named = t.variables_named;
   variables = t.variables;
   kept_count = t.kept_count;
   kept = t.kept;
@@ -130,7 +131,7 @@ needs_reworded code registers words units plan a b before after t = record {
   shows = λ m r v u g o has where_it_is.
       t.shows m r v u g o has
       (record {
-        has = λ l less. let own = where_it_is.has l less in record { wide = own.wide; room = own.room; fits = own.fits };
+        knows = knows_back code registers words units m r where_it_is.knows;
         state = where_it_is.state;
         inside = λ l b p e f here.
             let own = where_it_is.inside l b p e f here in
@@ -142,16 +143,16 @@ needs_reworded code registers words units plan a b before after t = record {
 
 -- ---- what is asked
 
-module _ (globals : List IntegerType) (code : ThreadCode) (registers : Registers) (words : List Held) (units : List UnitResults) (printer : Printer) where
+module _ (globals : List IntegerType) (code : ThreadCode) (registers : Registers) (words : List Held) (units : List UnitResults) (caller : Caller) where
   asks_at_reworded : (spreads : List Spread) (l : ℕ) (s : Stage) (plan : Option StagePlan) (new : List Signal) (start c : Requests)
-      → AsksAt globals spreads code registers printer l s plan new start c → AsksAt globals spreads code (worded registers words units) printer l s plan new start c
+      → AsksAt globals spreads code registers caller l s plan new start c → AsksAt globals spreads code (worded registers words units) caller l s plan new start c
   asks_at_reworded spreads l s plan new start c t = record {
-    prints = λ site next values e m r variables g o knows here none seen.
+    asks = λ act next call e f m r variables g o knows here none seen.
         let made =
-        t.prints site next values e m r variables g o (knows_back code registers words units m r knows) here none
+        t.asks act next call e f m r variables g o (knows_back code registers words units m r knows) here none
         (sees_back code registers words units m r variables seen) in
-        record { wants = made.wants; site_is = made.site_is; values_are = made.values_are };
-    quiet = λ no m r g o knows here none. t.quiet no m r g o (knows_back code registers words units m r knows) here none;
+        record { wants = made.wants; object_is = made.object_is; number_is = made.number_is; values_are = made.values_are };
+    quiet = λ k no m r g o knows here none. t.quiet k no m r g o (knows_back code registers words units m r knows) here none;
     blocks = λ b p e f m r q wire j many right g o knows inside sees fit as_many less.
         t.blocks b p e f m r q wire j many right g o (knows_back code registers words units m r knows) (in_stage_back code registers words units m r globals l b p q inside)
         (slot_back code registers words units m r globals b p q sees) fit as_many less;
@@ -159,24 +160,27 @@ module _ (globals : List IntegerType) (code : ThreadCode) (registers : Registers
   }
 
   pub early_reworded : (granted : List ℕ) (plan : Planned) (a b : List Signal) (early : Early) → map held_width words ≡ map held_width registers.words
-      → LaysEarly globals code registers granted printer plan a b early → LaysEarly globals code (worded registers words units) granted printer plan a b early
+      → LaysEarly globals code registers granted caller plan a b early → LaysEarly globals code (worded registers words units) granted caller plan a b early
   early_reworded granted plan a b early same t =
       let asks = t.asks in
       record {
         grows = t.grows;
-        fields = t.fields;
         free = t.free;
         bank_opens = t.bank_opens;
+        acts = t.acts;
         start = t.start;
         with_start = t.with_start;
         held = t.held;
-        asked = t.asked;
         with_asks = t.with_asks;
         with_needs = t.with_needs;
         with_free = t.with_free;
         with_open = t.with_open;
-        widths = t.widths;
-        begins = subst (λ (z : List ℕ). BeginsAsking a t.with_start t.fields z t.start) (sym same) t.begins;
+        with_acts = t.with_acts;
+        with_lost = t.with_lost;
+        met = λ k s less listed barrier next e m r variables g o knows here seen typed.
+            t.met k s less listed barrier next e m r variables g o (knows_back code registers words units m r knows) here
+            (sees_back code registers words units m r variables seen) typed;
+        begins = subst (λ (z : List ℕ). BeginsAsking a t.with_start caller.served z t.start) (sym same) t.begins;
         asks = record {
           grows = asks.grows;
           many = asks.many;
@@ -189,7 +193,9 @@ module _ (globals : List IntegerType) (code : ThreadCode) (registers : Registers
         holds = needs_reworded code registers words units plan t.with_asks t.with_needs early.done t.held t.holds;
         frees = t.frees;
         opens = t.opens;
+        opens_acts = t.opens_acts;
+        loses = t.loses;
         open_is = t.open_is;
-        asked_is = t.asked_is;
+        barriers_are = t.barriers_are;
         needs = t.needs;
       }

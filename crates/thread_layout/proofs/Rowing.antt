@@ -1,19 +1,24 @@
 -- Rows of cores, one core's behind another's, and the widths that they have.
 use Rattle.std.proofs.Common.{◌≡◌, ℕ, zero, suc, ◌+◌, ◌-◌, ◌<◌, ◌≤◌, List, [], ◌∷◌, ◌++◌, length, map, take, slice_get, Some, refl, sym, ap, ◌∙◌, arith, ⊎_elim}
 use Rattle.std.proofs.Common.{length-append}
-use Rattle.std.specs.Prelude.{replicate}
+use Rattle.std.specs.Prelude.{replicate, slice_index}
 use Rattle.std.proofs.lemmas.Bool.{cases_lt}
 use Rattle.std.proofs.lemmas.List.{length-map, map-append}
 use Rattle.core_ports.specs.Ports.{CorePort, asks_of, ask_place}
 use Rattle.block_datapath.specs.declared.registers.Held.{Held}
 use Rattle.block_datapath.specs.declared.requests.BankRequests.{BankRequests}
-use Rattle.thread_slots.specs.declared.shape.Printer.{Printer}
+use Rattle.block_ir.specs.Asked.{Service}
+use Rattle.thread_slots.specs.declared.requests.Requests.{Requests}
+use Rattle.thread_slots.specs.declared.shape.Served.{Served}
+use Rattle.thread_slots.specs.declared.shape.Service.{Service as Kind}
+use Rattle.thread_slots.specs.Requests.{group}
+use Rattle.thread_slots.specs.Services.{service_of, services, number_width, value_count}
 use Rattle.thread_slots.specs.Wired.{field_width}
 use Rattle.thread_slots.proofs.Linked.{later_field}
 use Rattle.thread_requests.specs.declared.outputs.Row.{Row}
 use Rattle.thread_requests.specs.Early.{held_width}
-use Rattle.thread_requests.specs.Outputs.{joined, request_row, field_row, rows_at, rows_from, fields_from}
-use Rattle.thread_layout.specs.Thread.{bank_port, printer_port}
+use Rattle.thread_requests.specs.Outputs.{joined, request_row, field_row, rows_at, rows_from, fields_from, act_rows, acts_from, rows_of}
+use Rattle.thread_layout.specs.Thread.{bank_port, act_port}
 
 -- ---- lists
 
@@ -136,25 +141,56 @@ row_there (o ∷ rows) (q ∷ ports) e (suc k) j p listed less =
     let tail : map (map row_width) rows ≡ map own_asks ports = cc in
     row_there rows ports tail k j p listed less
 
--- ---- the rows of banks and of the printer
+-- ---- the rows of banks and of those that acts ask
 
-fields_widths : (site_width n : ℕ) (fields : List ℕ) → map row_width (fields_from site_width (suc n) fields) ≡ replicate (length fields) 64
-fields_widths site_width n [] = refl
-fields_widths site_width n (x ∷ fields) =
-    ap (λ w. w ∷ map row_width (fields_from site_width (suc (suc n)) fields)) (later_field site_width n) ∙ ap (λ l. 64 ∷ l) (fields_widths site_width (suc n) fields)
+fields_widths : (w n : ℕ) (fields : List ℕ) → map row_width (fields_from w (suc n) fields) ≡ replicate (length fields) 64
+fields_widths w n [] = refl
+fields_widths w n (x ∷ fields) =
+    ap (λ v. v ∷ map row_width (fields_from w (suc (suc n)) fields)) (later_field w n) ∙ ap (λ l. 64 ∷ l) (fields_widths w (suc n) fields)
 
-printer_widths : (printer : Printer) (fields : List ℕ) (ask : ℕ) → length fields ≡ printer.values + 1
-    → map row_width (request_row ask ∷ fields_from printer.site_width 0 fields) ≡ (printer_port printer).asks
-printer_widths printer [] ask e = absurd (omega arith)
-printer_widths printer (x ∷ fields) ask e =
-    let count : length fields ≡ printer.values = omega arith in
-    ap (λ l. 1 ∷ printer.site_width ∷ l) (fields_widths printer.site_width 0 fields ∙ ap (λ n. replicate n 64) count)
+request_widths : (w values : ℕ) (fields : List ℕ) (ask : ℕ) → length fields ≡ suc values
+    → map row_width (request_row ask ∷ fields_from w 0 fields) ≡ 1 ∷ w ∷ replicate values 64
+request_widths w values [] ask e = absurd cc
+request_widths w values (x ∷ fields) ask e =
+    let count : length fields ≡ values = omega arith in
+    ap (λ l. 1 ∷ w ∷ l) (fields_widths w 0 fields ∙ ap (λ n. replicate n 64) count)
 
-pub rows_widths : (asks : List ℕ) (banks : BankRequests) (printer : Printer) (fields : List ℕ) (ask n : ℕ) (words : List Held) → length fields ≡ printer.values + 1
-    → HaveWidths (rows_from asks banks n words ++ (request_row ask ∷ fields_from printer.site_width 0 fields) ∷ []) (map bank_port (map held_width words) ++ printer_port printer ∷ [])
-rows_widths asks banks printer fields ask n [] e = ap (λ l. l ∷ []) (printer_widths printer fields ask e)
-rows_widths asks banks printer fields ask n (h ∷ words) e =
-    ap (λ l. (1 ∷ 1 ∷ 64 ∷ h.width ∷ []) ∷ l) (rows_widths asks banks printer fields ask (suc n) words e)
+pub acts_widths : (served : Served) (asks : List ℕ) (requests : Requests) (n : ℕ) (kinds : List Kind) → ((s : Service) → length (group requests s).fields ≡ suc (value_count served s))
+    → HaveWidths (acts_from served asks requests n kinds) (map (act_port served) kinds)
+acts_widths served asks requests n [] counts = refl
+acts_widths served asks requests n (k ∷ kinds) counts =
+    ap (λ l. l ∷ map (map row_width) (acts_from served asks requests (suc n) kinds))
+    (request_widths (number_width served (service_of k)) (value_count served (service_of k)) (group requests (service_of k)).fields (slice_index asks n) (counts (service_of k)))
+    ∙ ap (λ l. (act_port served k).asks ∷ l) (acts_widths served asks requests (suc n) kinds counts)
+
+pub rows_widths : (asks : List ℕ) (banks : BankRequests) (n : ℕ) (words : List Held) (rest : List (List Row)) (ports : List CorePort) → HaveWidths rest ports
+    → HaveWidths (rows_from asks banks n words ++ rest) (map bank_port (map held_width words) ++ ports)
+rows_widths asks banks n [] rest ports e = e
+rows_widths asks banks n (h ∷ words) rest ports e = ap (λ l. (1 ∷ 1 ∷ 64 ∷ h.width ∷ []) ∷ l) (rows_widths asks banks (suc n) words rest ports e)
+
+rows_count : (asks : List ℕ) (banks : BankRequests) (n : ℕ) (words : List Held) → length (rows_from asks banks n words) ≡ length words
+rows_count asks banks n [] = refl
+rows_count asks banks n (h ∷ words) = ap suc (rows_count asks banks (suc n) words)
+
+acts_there : (served : Served) (asks : List ℕ) (requests : Requests) (from : ℕ) (kinds : List Kind) (n : ℕ) (k : Kind) → slice_get kinds n ≡ Some k
+    → slice_get (acts_from served asks requests from kinds) n ≡ Some (act_rows served (slice_index asks (from + n)) requests (service_of k))
+acts_there served asks requests from [] n k e = absurd cc
+acts_there served asks requests from (g ∷ kinds) zero k e =
+    let same : g ≡ k = cc in
+    ap (λ (z : Kind). Some (act_rows served (slice_index asks from) requests (service_of z))) same
+    ∙ ap (λ j. Some (act_rows served (slice_index asks j) requests (service_of k))) (let at : from ≡ from + 0 = omega arith in at)
+acts_there served asks requests from (g ∷ kinds) (suc n) k e =
+    acts_there served asks requests (suc from) kinds n k e
+    ∙ ap (λ j. Some (act_rows served (slice_index asks j) requests (service_of k))) (let at : suc from + n ≡ from + suc n = omega arith in at)
+
+-- core n behind the banks
+pub act_there : (served : Served) (words : List Held) (asks : List ℕ) (requests : Requests) (n : ℕ) (k : Kind) → slice_get (services served) n ≡ Some k
+    → slice_get (rows_of served words asks requests) (length words + n) ≡ Some (act_rows served (slice_index asks (length words + n)) requests (service_of k))
+act_there served words asks requests n k e =
+    let banks = rows_from asks requests.banks 0 words in
+    let acts = acts_from served asks requests (length words) (services served) in
+    ap (λ j. slice_get (banks ++ acts) (j + n)) (sym (rows_count asks requests.banks 0 words)) ∙ further banks acts n
+    ∙ acts_there served asks requests (length words) (services served) n k e
 
 pub bank_there : (asks : List ℕ) (banks : BankRequests) (from : ℕ) (words : List Held) (last : List (List Row)) (n : ℕ) (h : Held) → slice_get words n ≡ Some h
     → slice_get (rows_from asks banks from words ++ last) n ≡ Some (rows_at asks banks (from + n) h.width)
@@ -164,10 +200,6 @@ bank_there asks banks from (g ∷ words) last zero h e =
     ap (λ (z : Held). Some (rows_at asks banks from z.width)) same ∙ ap (λ k. Some (rows_at asks banks k h.width)) (let at : from ≡ from + 0 = omega arith in at)
 bank_there asks banks from (g ∷ words) last (suc n) h e =
     bank_there asks banks (suc from) words last n h e ∙ ap (λ k. Some (rows_at asks banks k h.width)) (let at : suc from + n ≡ from + suc n = omega arith in at)
-
-pub last_there : (asks : List ℕ) (banks : BankRequests) (from : ℕ) (words : List Held) (own : List Row) → slice_get (rows_from asks banks from words ++ own ∷ []) (length words) ≡ Some own
-last_there asks banks from [] own = refl
-last_there asks banks from (g ∷ words) own = last_there asks banks (suc from) words own
 
 pub field_there : (site_width from : ℕ) (fields : List ℕ) (k x : ℕ) → slice_get fields k ≡ Some x
     → slice_get (fields_from site_width from fields) k ≡ Some (field_row (field_width site_width (from + k)) x)

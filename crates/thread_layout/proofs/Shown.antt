@@ -25,13 +25,14 @@ use Rattle.circuit.specs.Modules.{Agree}
 use Rattle.thread_promise.specs.Globals.{bank_total, IsAccess}
 use Rattle.thread_promise.specs.Types.{value_type}
 use Rattle.thread_promise.specs.Slots.{ShowsData, ShowsInBlock}
-use Rattle.thread_promise.specs.Promise.{first_slot, RunsAt}
+use Rattle.thread_promise.specs.Moves.{first_slot}
+use Rattle.thread_promise.specs.Promise.{RunsAt}
 use Rattle.block_datapath.proofs.Walking.{listed_view}
 use Rattle.thread_slots.specs.declared.shape.Shape.{Shape}
 use Rattle.thread_layout.specs.Memories.{memory_for}
 use Rattle.thread_layout.specs.Modules.{IsModule}
-use Rattle.thread_layout.specs.Thread.{input_count, places_of, IsServed}
-use Rattle.thread_layout.proofs.Placed.{zero_typed, stands_agrees, stands_begins, stage_stands, state_stands, beat_stands, variable_held, kept_held, kept_within, mark_held}
+use Rattle.thread_layout.specs.Thread.{inputs_of, places_of, IsServed}
+use Rattle.thread_layout.proofs.Placed.{first_stage, zero_typed, stands_agrees, stands_begins, stage_stands, state_stands, beat_stands, variable_held, kept_held, kept_within, mark_held}
 use Rattle.thread_layout.proofs.Placed.{got_any}
 use Rattle.thread_layout.proofs.Sight.{memory_of}
 
@@ -74,14 +75,14 @@ module _ (shape : Shape) (code : ThreadCode) (plan : Planned) (m : Module) (t : 
   banks = bank_total shape.spreads
 
   abbrev behind : ℕ
-  behind = input_count banks
+  behind = inputs_of shape
 
   abbrev pub Shows : Reading → Slot → Type 0
-  Shows = ShowsData shape.globals code (places_of banks code plan)
+  Shows = ShowsData shape.globals code (places_of (inputs_of shape) code plan)
 
-  pub starts_so : Shows (initial_reading (Some m)) first_slot
-  starts_so = record {
-    stage = stands_begins m behind t.inside.slot.stage.width 0 (stage_stands shape code plan m t served);
+  pub starts_so : (routine : ℕ) → Shows (initial_reading (Some m)) (first_slot shape.is_main routine (length code.stages))
+  starts_so routine = record {
+    stage = stands_begins m behind t.inside.slot.stage.width (first_stage shape code plan m t served) (stage_stands shape code plan m t served);
     state = stands_begins m (behind + 1) t.inside.slot.state.width 0 (state_stands shape code plan m t served);
     beat = stands_begins m (behind + 2) 1 0 (beat_stands shape code plan m t served);
     variables = λ x ty declared.
@@ -97,7 +98,7 @@ module _ (shape : Shape) (code : ThreadCode) (plan : Planned) (m : Module) (t : 
 
   pub keeps_so : (h g : Reading) (q : Slot) → Agree m h g → Shows h q → Shows g q
   keeps_so h g q agree shows = record {
-    stage = sym (stands_agrees m h g behind t.inside.slot.stage.width 0 agree (stage_stands shape code plan m t served)) ∙ shows.stage;
+    stage = sym (stands_agrees m h g behind t.inside.slot.stage.width (first_stage shape code plan m t served) agree (stage_stands shape code plan m t served)) ∙ shows.stage;
     state = sym (stands_agrees m h g (behind + 1) t.inside.slot.state.width 0 agree (state_stands shape code plan m t served)) ∙ shows.state;
     beat = sym (stands_agrees m h g (behind + 2) 1 0 agree (beat_stands shape code plan m t served)) ∙ shows.beat;
     variables = λ x ty declared.
@@ -120,7 +121,7 @@ module _ (shape : Shape) (code : ThreadCode) (plan : Planned) (m : Module) (t : 
       subst (λ n. x < n) served.spreads.count (slice_get_within shape.spreads x s.0 s.1)
 
   pub keeps_in_so : (h g : Reading) (q : Slot) (b : Block) (p : BlockPlan) → Agree m h g → RunsAt shape.globals shape.spreads code plan q.stage b p
-      → ShowsInBlock shape.globals code (places_of banks code plan) b p h q → ShowsInBlock shape.globals code (places_of banks code plan) b p g q
+      → ShowsInBlock shape.globals code (places_of (inputs_of shape) code plan) b p h q → ShowsInBlock shape.globals code (places_of (inputs_of shape) code plan) b p g q
   keeps_in_so h g q b p agree runs shows = record {
     shown = keeps_so h g q agree shows.shown;
     alive = λ k n alive.

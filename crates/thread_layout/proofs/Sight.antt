@@ -1,5 +1,5 @@
 -- What a reading of a thread's module shows of the slot, and when it leaves the state.
-use Rattle.std.proofs.Common.{◌≡◌, ◌≢◌, ℕ, suc, ◌+◌, ◌%◌, ◌<◌, ◌≤◌, ◌^◌, nat_eq, Bool, not, if◌then◌else◌, List, [], length, map, slice_get, slice_index, Some, ℤ, pos}
+use Rattle.std.proofs.Common.{◌≡◌, ◌≢◌, ℕ, ◌+◌, ◌%◌, ◌<◌, ◌≤◌, ◌^◌, nat_eq, Bool, not, ◌||◌, if◌then◌else◌, List, [], length, map, slice_get, slice_index, Some, ℤ, pos}
 use Rattle.std.proofs.Common.{refl, sym, ap, subst, ◌∙◌, arith}
 use Rattle.std.proofs.lemmas.Option.{slice_get_within}
 use Rattle.hls_ints.specs.Residues.{residue_of, bit_of}
@@ -36,8 +36,10 @@ use Rattle.block_datapath.specs.Chains.{next_number}
 use Rattle.block_datapath.specs.Leave.{IsInStage}
 use Rattle.block_datapath.specs.Units.{HasUnits}
 use Rattle.thread_slots.specs.declared.shape.Shape.{Shape}
-use Rattle.thread_slots.specs.Links.{AreBits, IsStill}
-use Rattle.thread_requests.specs.Fields.{SeesVariables}
+use Rattle.thread_slots.specs.declared.chains.Chains.{Chains}
+use Rattle.thread_slots.specs.Links.{AreBits, IsStill, ShowSame}
+use Rattle.thread_states.proofs.Linking.{wait_off}
+use Rattle.thread_asks.specs.Fields.{SeesVariables}
 use Rattle.thread_slots.specs.Slots.{KnowsStage}
 use Rattle.thread_states.specs.Stages.{HasWidths, DoesStage}
 use Rattle.netlist.specs.declared.netlist.Memory.{Memory}
@@ -46,46 +48,52 @@ use Rattle.thread_layout.specs.Memories.{memory_for}
 use Rattle.thread_states.specs.Cells.{StoresFirst}
 use Rattle.thread_layout.proofs.Remembering.{memory_listed}
 use Rattle.std.proofs.lemmas.List.{length-replicate, length-map}
-use Rattle.thread_requests.specs.Asking.{AsksAt}
+use Rattle.thread_asks.specs.Asking.{AsksAt}
 use Rattle.thread_slots.specs.Bits.{HasBit, HaveBits}
 use Rattle.thread_states.specs.Control.{Steers}
-use Rattle.thread_layout.specs.Modules.{IsModule}
+use Rattle.thread_layout.specs.Modules.{caller_of, IsModule}
 use Rattle.thread_states.specs.Actions.{actions_of}
-use Rattle.thread_layout.specs.Thread.{input_count, places_of, ports_of, IsServed}
+use Rattle.thread_layout.specs.Thread.{cores_of, inputs_of, places_of, ports_of, IsServed}
 use Rattle.thread_layout.proofs.Edges.{edge_stores, edge_stays, edge_keeps, edge_words, stage_next, state_next, beat_next, variable_next, kept_next, granted_next}
 use Rattle.thread_slots.proofs.Gating.{index_there}
-use Rattle.thread_layout.proofs.Placed.{zero_typed, stands_wide, stands_fits, wide_bit, from_control, from_inside, from_start, from_heard, enable_at, enable_stands, grant_at}
+use Rattle.thread_layout.proofs.Placed.{no_argument, first_stage, from_rest, zero_typed, stands_wide, stands_fits, wide_bit}
+use Rattle.thread_layout.proofs.Placed.{from_control, from_inside, from_start, from_words_heard, enable_at, enable_stands, grant_at}
 use Rattle.thread_layout.proofs.Placed.{grant_stands, stage_at, stage_stands, state_at, state_stands, beat_at, beat_stands, variable_held, kept_held, kept_within, variables_at}
 use Rattle.thread_layout.proofs.Placed.{kept_at, granted_at, mark_held, word_held, opens_count}
 use Rattle.operator_words.proofs.Typed.{residue_of-zero}
 
 module _ (shape : Shape) (code : ThreadCode) (plan : Planned) (m : Module) (t : IsModule shape code plan m) (served : IsServed shape code plan) where
+  -- the links of all stages and of the rest
+  pub rested_bits : AreBits t.laid.with_rest t.laid.rested
+  rested_bits = t.laid.walks.bits t.laid.begins.bits
+
+  -- and the last one
   pub chains_bits : AreBits t.with_inside t.inside.chains
-  chains_bits = t.laid.walks.bits t.laid.begins.bits
+  chains_bits = (wait_off t.laid.with_rest t.with_inside t.laid.rested t.inside.chains t.inside.early.lost t.laid.waits).bits rested_bits
 
   abbrev banks : ℕ
   banks = bank_total shape.spreads
 
   abbrev behind : ℕ
-  behind = input_count banks
+  behind = inputs_of shape
 
   pub does : (l : ℕ) (s : Stage) → slice_get code.stages l ≡ Some s
-      → DoesStage shape.globals code t.inside.slot l s (slice_get plan.stages l) t.with_inside t.laid.start t.inside.chains
+      → DoesStage shape.globals code t.inside.slot t.laid.acts l s (slice_get plan.stages l) t.laid.with_rest t.laid.start t.laid.rested
   does = t.laid.walks.does t.laid.begins.bits (t.laid.begins.variables ∙ t.laid.slot.variables_count) t.laid.begins.kept
 
   -- what stage l asks
   pub asks_so : (l : ℕ) (s : Stage) → slice_get code.stages l ≡ Some s
-      → AsksAt shape.globals shape.spreads code t.inside.slot shape.printer l s (slice_get plan.stages l) t.laid.early.with_asks t.laid.early.start t.inside.early.requests
+      → AsksAt shape.globals shape.spreads code t.inside.slot (caller_of shape) l s (slice_get plan.stages l) t.laid.early.with_asks t.laid.early.start t.inside.early.requests
   asks_so l s listed =
       subst
-      (λ (z : List Spread). AsksAt shape.globals z code t.inside.slot shape.printer l s (slice_get plan.stages l) t.laid.early.with_asks t.laid.early.start t.inside.early.requests)
+      (λ (z : List Spread). AsksAt shape.globals z code t.inside.slot (caller_of shape) l s (slice_get plan.stages l) t.laid.early.with_asks t.laid.early.start t.inside.early.requests)
       t.laid.slot.spreads_are (t.laid.early.asks.does t.laid.early.begins.bits l s listed)
 
   pub variables_count : length t.inside.chains.variables ≡ length t.inside.slot.variables
-  variables_count = t.laid.walks.many.variables ∙ t.laid.begins.variables
+  variables_count = ap (λ (c : Chains). length c.variables) t.laid.waits.same ∙ t.laid.walks.many.variables ∙ t.laid.begins.variables
 
   pub kept_count : length t.inside.chains.kept ≡ length t.inside.slot.kept
-  kept_count = t.laid.walks.many.kept ∙ t.laid.begins.kept
+  kept_count = ap (λ (c : Chains). length c.kept) t.laid.waits.same ∙ t.laid.walks.many.kept ∙ t.laid.begins.kept
 
   -- ---- memories
 
@@ -103,24 +111,33 @@ module _ (shape : Shape) (code : ThreadCode) (plan : Planned) (m : Module) (t : 
     pub still : IsStill r t.inside.slot t.laid.start
     still = t.laid.begins.still m r (from_start shape code plan m t served) o
 
+    -- where no core is asked that is not there the last link shows what those before it do
+    pub shown_last : r.signal t.inside.early.lost ≡ 0 → ShowSame r t.laid.rested t.inside.chains
+    shown_last none =
+        (wait_off t.laid.with_rest t.with_inside t.laid.rested t.inside.chains t.inside.early.lost t.laid.waits).off m r (from_inside shape code plan m t served) o rested_bits none
+
+    pub waits_last : (v u : Bool) → r.signal t.laid.rested.waits ≡ bit_of v → r.signal t.inside.early.lost ≡ bit_of u → r.signal t.inside.chains.waits ≡ bit_of (v || u)
+    waits_last v u e f =
+        t.laid.waits.bit.shows m r v u (from_inside shape code plan m t served) o (rested_bits.waits m (from_rest shape code plan m t served)) e f
+
     pub knows : KnowsStage code t.inside.slot m r
     knows = record {
-      wide = ap (width m) (stage_at shape code plan m t served) ∙ stands_wide m behind t.inside.slot.stage.width (Register 0)
+      wide = ap (width m) (stage_at shape code plan m t served) ∙ stands_wide m behind t.inside.slot.stage.width (Register (first_stage shape code plan m t served))
           (stage_stands shape code plan m t served);
       room = t.laid.slot.stage_room;
       fits =
           subst (λ (x : ℕ). r.signal x < 2 ^ t.inside.slot.stage.width) (sym (stage_at shape code plan m t served))
-          (stands_fits m r behind t.inside.slot.stage.width (Register 0) o (stage_stands shape code plan m t served));
+          (stands_fits m r behind t.inside.slot.stage.width (Register (first_stage shape code plan m t served)) o (stage_stands shape code plan m t served));
     }
 
-    pub stage_shown : (q : Slot) → ShowsData shape.globals code (places_of banks code plan) r q → r.signal t.inside.slot.stage.register ≡ q.stage
+    pub stage_shown : (q : Slot) → ShowsData shape.globals code (places_of (inputs_of shape) code plan) r q → r.signal t.inside.slot.stage.register ≡ q.stage
     stage_shown q shows = ap r.signal (stage_at shape code plan m t served) ∙ shows.stage
 
     pub state_wide : width m t.inside.slot.state.register ≡ t.inside.slot.state.width
     state_wide = ap (width m) (state_at shape code plan m t served) ∙ stands_wide m (behind + 1) t.inside.slot.state.width (Register 0)
         (state_stands shape code plan m t served)
 
-    pub sees_variables : (q : Slot) → ShowsData shape.globals code (places_of banks code plan) r q → SeesVariables code t.inside.slot m r q.variables
+    pub sees_variables : (q : Slot) → ShowsData shape.globals code (places_of (inputs_of shape) code plan) r q → SeesVariables code t.inside.slot m r q.variables
     sees_variables q shows x ty declared =
         let v = variable_held shape code plan m t served x ty declared in
         record {
@@ -137,7 +154,7 @@ module _ (shape : Shape) (code : ThreadCode) (plan : Planned) (m : Module) (t : 
     pub enabled : (b : Bool) × (r.signal 1 ≡ bit_of b)
     enabled = wide_bit m r 1 o (stands_wide m 1 1 Input (enable_stands shape code plan m t served))
 
-    pub heard : (k : ℕ) → k < suc banks → (b : Bool) × (r.signal (2 + k) ≡ bit_of b)
+    pub heard : (k : ℕ) → k < cores_of shape → (b : Bool) × (r.signal (2 + k) ≡ bit_of b)
     heard k less = wide_bit m r (2 + k) o (stands_wide m (2 + k) 1 Input (grant_stands shape code plan m t served k less))
 
     waits_wide : width m t.inside.chains.waits ≡ 1
@@ -154,12 +171,12 @@ module _ (shape : Shape) (code : ThreadCode) (plan : Planned) (m : Module) (t : 
 
     -- what control reads
     pub steered : (raised grants : ℕ → Bool) (waits enabled : Bool) → HaveBits m r t.inside.early.opens (length t.inside.early.opens) raised
-        → ((k : ℕ) → k < suc banks → r.signal (2 + k) ≡ bit_of (grants k)) → r.signal t.inside.chains.waits ≡ bit_of waits → r.signal 1 ≡ bit_of enabled
+        → ((k : ℕ) → k < cores_of shape → r.signal (2 + k) ≡ bit_of (grants k)) → r.signal t.inside.chains.waits ≡ bit_of waits → r.signal 1 ≡ bit_of enabled
         → Steers m r t.inside.inputs t.inside.chains t.inside.early.opens raised grants waits enabled
     steered raised grants waits enabled opened granted waiting on = record {
       has_opens = opened;
       has_grants = λ k less.
-          let inside : k < suc banks = subst (λ n. k < n) (opens_count shape code plan m t served) less in
+          let inside : k < cores_of shape = subst (λ n. k < n) (opens_count shape code plan m t served) less in
           let at = grant_at shape code plan m t served k inside in
           record {
             wide = ap (width m) at ∙ stands_wide m (2 + k) 1 Input (grant_stands shape code plan m t served k inside);
@@ -272,7 +289,7 @@ module _ (shape : Shape) (code : ThreadCode) (plan : Planned) (m : Module) (t : 
     -- ---- within a block
 
     module _ (q : Slot) (b : Block) (p : BlockPlan) (runs : RunsAt shape.globals shape.spreads code plan q.stage b p) (below : q.state < p.states)
-        (shows : ShowsInBlock shape.globals code (places_of banks code plan) b p r q) where
+        (shows : ShowsInBlock shape.globals code (places_of (inputs_of shape) code plan) b p r q) where
       pub is_right : IsRight shape.globals code t.inside.slot b p
       is_right = record {
         typed = runs.typed;
@@ -347,7 +364,7 @@ module _ (shape : Shape) (code : ThreadCode) (plan : Planned) (m : Module) (t : 
       -- shared units show what their operations give
       pub shared_so : (wire : ℕ → ℤ) → HasUnits t.inside.slot.units b p m r q wire
       shared_so wire =
-          (t.laid.wired served.site_low served.site_high served.spreads refl).shares shape.globals m r q b p wire
+          (t.laid.wired served.site_low served.site_high served.spreads refl (no_argument shape code plan m t served)).shares shape.globals m r q b p wire
           (from_inside shape code plan m t served) o
           (record {
             listed = runs.listed;
@@ -367,7 +384,7 @@ module _ (shape : Shape) (code : ThreadCode) (plan : Planned) (m : Module) (t : 
 
       -- where a core is needed what is heard is what the slot has of the words of banks
       pub told_so : r.signal t.inside.early.need ≡ 1 → (grant : ℕ → Bool) →
-          HearsBanks shape.globals shape.spreads code plan m (places_of banks code plan) (ports_of shape m) r q b p grant
+          HearsBanks shape.globals shape.spreads code plan m (places_of (inputs_of shape) code plan) (ports_of shape m) r q b p grant
           → HasTold shape.globals t.inside.slot m r (λ l. q.words (bank_of shape.spreads l))
       told_so needed grant hears = record {
         fits = fits_told;
@@ -382,9 +399,9 @@ module _ (shape : Shape) (code : ThreadCode) (plan : Planned) (m : Module) (t : 
               held = w.held;
               listed = w.listed;
               says = w.wide;
-              wide = w.heard.wide m (from_heard shape code plan m t served) ∙ w.own;
+              wide = w.heard.wide m (from_words_heard shape code plan m t served) ∙ w.own;
               shows =
-                  w.heard.shows m r (from_heard shape code plan m t served) o ∙ ap (λ n. if nat_eq n 0 then 0 else r.signal w.told.register) needed
+                  w.heard.shows m r (from_words_heard shape code plan m t served) o ∙ ap (λ n. if nat_eq n 0 then 0 else r.signal w.told.register) needed
                   ∙ ap r.signal w.at ∙ hears.words x k s ty there declared less ∙ ap (λ n. residue_of (width_of ty) (q.words n)) (sym bank);
               typed = subst (λ n. HasType ty (q.words n)) (sym bank) (hears.typed x k s ty there declared less);
             };
@@ -403,9 +420,9 @@ module _ (shape : Shape) (code : ThreadCode) (plan : Planned) (m : Module) (t : 
               held = w.held;
               listed = w.listed;
               says = w.wide;
-              wide = w.heard.wide m (from_heard shape code plan m t served) ∙ w.own;
+              wide = w.heard.wide m (from_words_heard shape code plan m t served) ∙ w.own;
               shows =
-                  w.heard.shows m r (from_heard shape code plan m t served) o ∙ ap (λ n. if nat_eq n 0 then 0 else r.signal w.told.register) none
+                  w.heard.shows m r (from_words_heard shape code plan m t served) o ∙ ap (λ n. if nat_eq n 0 then 0 else r.signal w.told.register) none
                   ∙ sym (residue_of-zero (width_of ty));
               typed = zero_typed ty.width ty.signed;
             };

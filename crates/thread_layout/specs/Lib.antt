@@ -2,4 +2,5 @@ pub mod Leaf
 pub mod Memories
 pub mod Modules
 pub mod Parts
+pub mod Telling
 pub mod Thread

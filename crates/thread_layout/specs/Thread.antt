@@ -1,12 +1,13 @@
 -- Where what stands in the module of a thread, and the codes that it serves.
-use Rattle.std.specs.Prelude.{◌≡◌, ℕ, suc, ◌+◌, ◌*◌, ◌<◌, ◌≤◌, ◌^◌, true, List, [], ◌∷◌, ◌++◌, length, map, replicate, take, Some, slice_get}
+use Rattle.std.specs.Prelude.{◌≡◌, ℕ, suc, ◌+◌, ◌<◌, ◌≤◌, ◌^◌, Bool, false, nat_eq, List, [], ◌∷◌, ◌++◌, length, map, replicate, take, Option, Some, None, slice_get}
 use Rattle.hls_ints.specs.Types.{IntegerType, width_of}
 use Rattle.bank_partition.specs.declared.banks.Spread.{Spread}
 use Rattle.block_ir.specs.declared.block.Operation.{Operation}
 use Rattle.block_ir.specs.declared.block.Block.{Block}
 use Rattle.block_ir.specs.declared.code.ActOperand.{ActOperand}
 use Rattle.block_ir.specs.declared.code.Array.{Array}
-use Rattle.block_ir.specs.declared.code.Act.TheVariants.{Print}
+use Rattle.block_ir.specs.declared.code.Act.{Act}
+use Rattle.block_ir.specs.declared.code.Act.TheVariants.{Print, Return}
 use Rattle.block_ir.specs.declared.code.Stage.TheVariants as stage
 use Rattle.block_ir.specs.declared.code.ThreadCode.{ThreadCode}
 use Rattle.block_ir.specs.declared.plan.BlockPlan.{BlockPlan}
@@ -17,43 +18,70 @@ use Rattle.netlist.specs.declared.netlist.Module.{Module}
 use Rattle.thread_promise.specs.Slots.{Places}
 use Rattle.thread_promise.specs.Globals.{IsSmallPower, bank_total}
 use Rattle.thread_promise.specs.Promise.{Ports}
+use Rattle.block_ir.specs.Asked.{Service, Mutexes, Barriers, Ids, Prints, Numbers, printer_core, Request as Call, request_of}
 use Rattle.thread_slots.specs.declared.shape.Printer.{Printer}
+use Rattle.thread_slots.specs.declared.shape.Served.{Served}
+use Rattle.thread_slots.specs.declared.shape.Service.{Service as Kind}
+use Rattle.thread_slots.specs.Services.{service_of, services, numbers_with, core_count, news_widths, number_width, value_count}
 use Rattle.thread_slots.specs.declared.shape.Shape.{Shape}
 use Rattle.circuit.specs.Interfaces.{first_of}
 use Rattle.core_ports.specs.Ports.{CorePort, asks_of, ask_place, thread_outputs}
 use Rattle.thread_requests.specs.Early.{spread_out}
-use Rattle.thread_requests.specs.Fields.{IsTypedActOperand}
+use Rattle.thread_asks.specs.Fields.{IsTypedActOperand}
+use Rattle.thread_states.specs.Acts.{IsTypedArgument}
 
 -- ---- where what stands
 
--- how many banks there are, and how many inputs: the clock, the enable, a grant of each bank and of the printer, the word of each bank
-abbrev pub input_count : ℕ → ℕ
-input_count banks = 3 + 2 * banks
+-- how many cores of each kind there are, and how many in all
+abbrev pub numbers_of : Shape → Numbers
+numbers_of shape = numbers_with (bank_total shape.spreads) shape.served
+
+abbrev pub cores_of : Shape → ℕ
+cores_of shape = core_count (bank_total shape.spreads) shape.served
+
+-- how many inputs there are: the clock, the enable, a grant of each core, the word of each bank, and what the cores tell that acts ask
+abbrev pub inputs_of : Shape → ℕ
+inputs_of shape = 2 + cores_of shape + (bank_total shape.spreads + length (news_widths shape.served))
 
 -- behind the inputs the registers: of the slot, of the variables, of values, and a bit for each global
 abbrev pub places_of : ℕ → ThreadCode → Planned → Places
-places_of banks code plan = record {
-  stage = input_count banks;
-  state = input_count banks + 1;
-  beat = input_count banks + 2;
-  variable = λ x. input_count banks + 3 + x;
-  kept = λ x. input_count banks + 3 + length code.variables + x;
-  granted = λ x. input_count banks + 3 + length code.variables + plan.registers + x;
+places_of inputs code plan = record {
+  stage = inputs;
+  state = inputs + 1;
+  beat = inputs + 2;
+  variable = λ x. inputs + 3 + x;
+  kept = λ x. inputs + 3 + length code.variables + x;
+  granted = λ x. inputs + 3 + length code.variables + plan.registers + x;
 }
+
+-- core k is the one that is asked
+abbrev pub is_core : Option ℕ → ℕ → Bool
+is_core None k = false
+is_core (Some n) k = nat_eq k n
 
 -- ---- ports
 
 abbrev pub bank_port : ℕ → CorePort
 bank_port w = record { asks = 1 ∷ 1 ∷ 64 ∷ w ∷ []; told = w ∷ [] }
 
-abbrev pub printer_port : Printer → CorePort
-printer_port printer = record { asks = 1 ∷ printer.site_width ∷ replicate printer.values 64; told = [] }
+-- what a core tells that acts ask
+abbrev pub told_by : Service → List ℕ
+told_by Mutexes = []
+told_by Barriers = 1 ∷ []
+told_by Ids = 1 ∷ 64 ∷ []
+told_by Prints = []
 
--- THE CORES that a thread asks: the banks of the globals, in order, and last the printer
+abbrev pub service_port : Served → Service → CorePort
+service_port served s = record { asks = 1 ∷ number_width served s ∷ replicate (value_count served s) 64; told = told_by s }
+
+abbrev pub act_port : Served → Kind → CorePort
+act_port served k = service_port served (service_of k)
+
+-- THE CORES that a thread asks: the banks of the globals, in order, and behind them those that acts ask
 abbrev pub core_ports : Shape → List CorePort
-core_ports shape = map bank_port (spread_out shape.spreads (map width_of shape.globals)) ++ printer_port shape.printer ∷ []
+core_ports shape = map bank_port (spread_out shape.spreads (map width_of shape.globals)) ++ map (act_port shape.served) (services shape.served)
 
--- the outputs stand last: what each core is asked, whether one is needed, and whether main has ended
+-- the outputs stand last: what each core is asked, whether one is needed, and whether the thread is at its end
 abbrev pub first_output : Shape → Module → ℕ
 first_output shape m = first_of m (thread_outputs (core_ports shape))
 
@@ -72,16 +100,16 @@ ports_of shape m = record {
   enable = 1;
   bank = λ n. record {
     grant = 2 + n;
-    word = 3 + bank_total shape.spreads + n;
+    word = 2 + cores_of shape + n;
     ask = port_at shape m n 0;
     writes = port_at shape m n 1;
     address = port_at shape m n 2;
     value = port_at shape m n 3;
   };
-  grant = 2 + bank_total shape.spreads;
-  ask = port_at shape m (bank_total shape.spreads) 0;
-  site = port_at shape m (bank_total shape.spreads) 1;
-  value = λ j. port_at shape m (bank_total shape.spreads) (suc (suc j));
+  grant = 2 + printer_core (numbers_of shape);
+  ask = port_at shape m (printer_core (numbers_of shape)) 0;
+  site = port_at shape m (printer_core (numbers_of shape)) 1;
+  value = λ j. port_at shape m (printer_core (numbers_of shape)) (suc (suc j));
   need = need_at shape m;
   done = done_at shape m;
 }
@@ -106,13 +134,19 @@ pub record AreRightSpreads (globals : List IntegerType) (spreads : List Spread) 
   pub apart : (x y k l : ℕ) (s t : Spread) → slice_get spreads x ≡ Some s → slice_get spreads y ≡ Some t → k < s.count → l < t.count → s.first + k ≡ t.first + l → x ≡ y
   pub all : (n : ℕ) → n < bank_total spreads → (x : ℕ) × (s : Spread) × (slice_get spreads x ≡ Some s) × (s.first ≤ n) × (n < s.first + s.count)
 
--- the code of main, planned with enough registers, with a printer that can print what it prints
+-- the code of a thread, planned with enough registers, whose acts lead to stages, and with a printer that can print what it prints; another thread than main
+-- has its argument in a variable of 64 bits
 pub record IsServed (shape : Shape) (code : ThreadCode) (plan : Planned) : Type 0 where
-  pub main : shape.is_main ≡ true
+  pub argument : shape.is_main ≡ false → IsTypedArgument code.argument code.variables
   pub spreads : AreRightSpreads shape.globals shape.spreads
   pub arrays : (a : ℕ) (array : Array) → slice_get code.arrays a ≡ Some array → (1 ≤ array.length) × (array.length < 2 ^ 31)
   pub registers : (l k x : ℕ) (b : Block) (p : BlockPlan) (o : Operation) → slice_get code.stages l ≡ Some (stage.Run b) → slice_get plan.stages l ≡ Some (planned.Run p) →
       slice_get b.operations k ≡ Some o → register_at p.registers k ≡ Some x → x < plan.registers
-  pub site_low : 1 ≤ shape.printer.site_width
-  pub site_high : shape.printer.site_width ≤ 64
-  pub prints : (l site next : ℕ) (values : List ActOperand) → slice_get code.stages l ≡ Some (stage.Act (Print site values) next) → IsPrintable code shape.printer site values next
+  pub site_low : 1 ≤ shape.served.printer.site_width
+  pub site_high : shape.served.printer.site_width ≤ 64
+  pub prints : (l site next : ℕ) (values : List ActOperand) → slice_get code.stages l ≡ Some (stage.Act (Print site values) next) → IsPrintable code shape.served.printer site values next
+  -- acts lead to stages
+  pub leads : (l : ℕ) (a : Act) (next : ℕ) → slice_get code.stages l ≡ Some (stage.Act a next) → (a ≡ Return → ⊥) → next ≤ length code.stages
+  -- what acts name and hand over is of the types that it says
+  pub typed : (l : ℕ) (a : Act) (next : ℕ) (call : Call) → slice_get code.stages l ≡ Some (stage.Act a next) → request_of shape.is_main a ≡ Some call → (j : ℕ) (v : ActOperand) →
+      slice_get call.operands j ≡ Some v → IsTypedActOperand code v

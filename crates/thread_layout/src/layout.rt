@@ -6,12 +6,14 @@ ghost use Rattle.block_ir.specs.declared.plan.Planned.{Planned as PlannedCode};
 ghost use Rattle.block_datapath.specs.declared.registers.Held.{Held as HeldOf};
 ghost use Rattle.thread_requests.specs.Early.{LaysEarlyWired};
 ghost use Rattle.thread_slots.specs.Slots.{LaysAll};
-ghost use Rattle.thread_slots.specs.Wired.{Behind, IsSlotRegister};
+ghost use Rattle.thread_slots.specs.Wired.{Behind, IsInnerInput, IsSlotRegister};
+ghost use Rattle.thread_slots.specs.Services.{services, news_widths};
 ghost use Rattle.thread_layout.specs.Memories.{memory_for, memories_from};
 ghost use Rattle.thread_states.specs.Actions.{actions_of};
-ghost use Rattle.thread_layout.specs.Modules.{LaysInside, Closes, IsModule};
-ghost use Rattle.thread_layout.specs.Parts.{LaysGround, LaysSlotOf, LaysHeard, LaysWalk, inside_of};
+ghost use Rattle.thread_layout.specs.Modules.{LaysInside, Closes, IsModule, caller_of};
+ghost use Rattle.thread_layout.specs.Parts.{LaysPorts, LaysGround, LaysSlotOf, LaysHeard, LaysWalk, inside_of};
 
+use crate::telling::lay_told;
 use block_datapath::registers::{Held, Registers};
 use block_ir::code::{Array, ThreadCode};
 use block_ir::plan::Planned;
@@ -20,17 +22,20 @@ use netlist::netlist::{Action, Memory, Module};
 use operator_wires::wires::{Role, Wires};
 use sqlite_items::Items;
 use std::alloc::{AllocError, Global};
+use thread_asks::asking::Caller;
 use thread_requests::early::{Early, lay_early, word_widths};
 use thread_requests::outputs::lay_outputs;
 use thread_slots::chains::{Chains, places};
 use thread_slots::hearing::hear;
-use thread_slots::inputs::{Inputs, lay_inputs, lay_words};
-use thread_slots::shape::Shape;
+use thread_slots::inputs::{Inputs, lay_inputs, lay_words, told_widths};
+use thread_slots::shape::{Served, Shape};
 use thread_slots::slots::{kept_widths, lay_all, lay_registers};
 use thread_slots::stores::Store;
+use thread_slots::told::Told;
 use thread_states::actions::actions;
 use thread_states::control::{Edge, control};
-use thread_states::stages::{take_end, take_stages};
+use thread_states::resting::take_end;
+use thread_states::stages::take_stages;
 use unit_datapath::units::lay_units;
 use verilog_tree::name::Identifier;
 
@@ -85,6 +90,8 @@ fn edge_actions(alloc: Global, inside: &Inside, edge: &Edge) -> Result<Items<Act
 #[derive(Drop)]
 pub struct Inside {
     pub inputs: Inputs,
+    /// What is heard of the cores that acts ask.
+    pub news: Items<Held>,
     /// The registers, what is heard of banks, and the results of shared units.
     pub slot: Registers,
     /// Of each global whether its access has been granted in this state.
@@ -94,10 +101,22 @@ pub struct Inside {
     pub stores: Items<Store>,
 }
 
+/// The inputs.
+#[derive(Drop)]
+pub struct Ports {
+    pub inputs: Inputs,
+    /// The word that each bank tells.
+    pub words: Items<Held>,
+    /// What the cores tell that acts ask.
+    pub news: Items<Held>,
+}
+
 /// Inputs and registers.
 #[derive(Drop)]
 pub struct Ground {
     pub inputs: Inputs,
+    /// What the cores tell that acts ask.
+    pub news: Items<Held>,
     pub slot: Registers,
     /// Of each global whether its access has been granted in this state.
     pub granted: Items<Held>,
@@ -120,17 +139,21 @@ fn lay_inside(
 {
     let mut ground = lay_ground(wires, shape, code, planned)?;
     let early = lay_asked(wires, shape, code, planned, &ground)?;
-    lay_heard(wires, &mut ground.slot, code, planned, early.need)?;
-    let globals = shape.globals.as_slice();
-    let walked = walk(wires, &ground.slot, code, globals, planned)?;
-    Ok(put_together(ground, early, walked))
+    let told = ground.news.as_slice();
+    let news = lay_heard(wires, &mut ground.slot, told, code, planned, early.need)?;
+    let named = early.barriers.as_slice();
+    let own = news.as_slice();
+    let acts = lay_told(wires, shape.served, named, own)?;
+    let walked = walk(wires, shape, &ground.slot, code, planned, acts, early.lost)?;
+    Ok(put_together(ground, early, news, walked))
 }
 
-fn put_together(ground: Ground, early: Early, walked: Walked) -> Inside
-    ensures { result ≡ inside_of ground early walked }
+fn put_together(ground: Ground, early: Early, news: Items<Held>, walked: Walked) -> Inside
+    ensures { result ≡ inside_of ground early news walked }
 {
     Inside {
         inputs: ground.inputs,
+        news,
         slot: ground.slot,
         granted: ground.granted,
         early,
@@ -148,17 +171,52 @@ fn lay_ground(
 ) -> Result<Ground, AllocError>
     ensures { IfOk result (LaysGround shape.now code.now planned.now wires.old.signals wires.new.signals) }
 {
-    let globals = shape.globals.as_slice();
-    let widths = word_widths(wires.alloc, shape.spreads.as_slice(), globals)?;
-    let inputs = lay_inputs(wires, widths.len())?;
-    let words = lay_words(wires, widths.as_slice())?;
+    let Ports {
+        inputs,
+        words,
+        news,
+    } = lay_ports(wires, shape)?;
     let slot = lay_slot(wires, shape, code, planned, words)?;
-    let granted = lay_granted(wires, globals.len())?;
+    let granted = lay_granted(wires, shape.globals.len())?;
     Ok(Ground {
         inputs,
+        news,
         slot,
         granted,
     })
+}
+
+/// The clock, the enable, the grants of all cores, and what they tell.
+fn lay_ports(wires: &mut Wires, shape: &Shape) -> Result<Ports, AllocError>
+    ensures { IfOk result (LaysPorts shape.now wires.old.signals wires.new.signals) }
+{
+    let globals = shape.globals.as_slice();
+    let widths = word_widths(wires.alloc, shape.spreads.as_slice(), globals)?;
+    let others = act_count(wires.alloc, shape.served)?;
+    let inputs = lay_inputs(wires, widths.len(), others)?;
+    let words = lay_words(wires, widths.as_slice())?;
+    let news = lay_news(wires, shape.served)?;
+    Ok(Ports {
+        inputs,
+        words,
+        news,
+    })
+}
+
+/// How many cores there are that acts ask.
+fn act_count(alloc: Global, served: Served) -> Result<usize, AllocError>
+    ensures { IfOk result (λ count. count ≡ length (services served)) }
+{
+    let services = served.services(alloc)?;
+    Ok(services.len())
+}
+
+fn lay_news(wires: &mut Wires, served: Served) -> Result<Items<Held>, AllocError>
+    ensures lays { IfOk result (LaysAll source.Input wires.old.signals wires.new.signals (news_widths served) (length (news_widths served))) }
+    ensures wired { IfOk result (λ news. Behind IsInnerInput wires.old.signals wires.new.signals) }
+{
+    let widths = told_widths(wires.alloc, served)?;
+    lay_words(wires, widths.as_slice())
 }
 
 /// The registers of the slot, which read these words.
@@ -178,21 +236,24 @@ fn lay_slot(
     lay_registers(wires, code, planned, main, kept.as_slice(), words, own)
 }
 
-/// What is heard of banks where a core is needed takes the place of the inputs on which they tell it; and the units.
+/// What is heard of banks where a core is needed takes the place of the inputs on which they tell it; and the units. Answers
+/// what is heard of the other cores, on inputs of their own.
 fn lay_heard(
     wires: &mut Wires,
     slot: &mut Registers,
+    told: &[Held],
     code: &ThreadCode,
     planned: &Planned,
     need: usize,
-) -> Result<(), AllocError>
-    ensures { OnOk result (LaysHeard code.now planned.now need wires.old.signals wires.new.signals slot.old slot.new) }
+) -> Result<Items<Held>, AllocError>
+    ensures { IfOk result (LaysHeard code.now planned.now need told.now wires.old.signals wires.new.signals slot.old slot.new) }
 {
     let heard = hear(wires, need, slot.words.as_slice())?;
+    let news = hear(wires, need, told)?;
     let units = lay_units(wires, slot, code, planned)?;
     slot.words = heard;
     slot.units = units;
-    Ok(())
+    Ok(news)
 }
 
 /// A register of one bit for each global.
@@ -218,7 +279,7 @@ fn lay_asked(
     ground: &Ground,
 ) -> Result<Early, AllocError>
     ensures { IfOk result (LaysEarlyWired shape.now.globals code.now ground.now.slot (map (λ (h : HeldOf). h.register) ground.now.granted)
-        shape.now.printer planned.now wires.old.signals wires.new.signals) }
+        (caller_of shape.now) planned.now wires.old.signals wires.new.signals) }
 {
     let marks = places(wires.alloc, ground.granted.as_slice())?;
     let globals = shape.globals.as_slice();
@@ -228,20 +289,26 @@ fn lay_asked(
         marks.as_slice(),
         code,
         globals,
-        shape.printer,
+        Caller {
+            is_main: shape.is_main,
+            served: shape.served,
+        },
         planned,
     )
 }
 
-/// The wires of all stages and of the end, where nothing is stored before.
+/// The wires of all stages and of the rest, where nothing is stored before. Where a core is asked that is not there the thread
+/// waits.
 fn walk(
     wires: &mut Wires,
+    shape: &Shape,
     registers: &Registers,
     code: &ThreadCode,
-    globals: &[CType],
     planned: &Planned,
+    told: Told,
+    lost: usize,
 ) -> Result<Walked, AllocError>
-    ensures { IfOk result (LaysWalk globals.now code.now registers.now planned.now wires.old.signals wires.new.signals) }
+    ensures { IfOk result (LaysWalk shape.now.globals shape.now.is_main code.now registers.now planned.now told lost wires.old.signals wires.new.signals) }
 {
     let mut chains = Chains::begin(wires, registers)?;
     let mut stores = Items::new(wires.alloc);
@@ -251,10 +318,12 @@ fn walk(
         &mut chains,
         &mut stores,
         code,
-        globals,
+        shape.globals.as_slice(),
         planned,
+        told,
     )?;
-    take_end(wires, registers, &mut chains, code)?;
+    take_end(wires, registers, &mut chains, code, shape.is_main, told)?;
+    chains.wait(wires, lost)?;
     Ok(Walked { chains, stores })
 }
 
@@ -276,7 +345,7 @@ fn close(wires: &mut Wires, shape: &Shape, inside: &Inside) -> Result<Edge, Allo
     )?;
     lay_outputs(
         wires,
-        shape.printer,
+        shape.served,
         slot.words.as_slice(),
         edge.asks.as_slice(),
         &early.requests,

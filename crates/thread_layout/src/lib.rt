@@ -1,20 +1,23 @@
 //! The module of a thread, put together of its parts.
 #![tactic(auto)]
 
-// Ports. Inputs: `clk`, `en`, for each core that the thread asks whether it grants, and the word that each bank tells. Outputs:
-// for each core whether it is asked and for what (its fields), then `need` and `done`. The cores are the banks of the globals,
-// in order, and last the printer.
+// Ports. Inputs: `clk`, `en`, for each core that the thread asks whether it grants, the word that each bank tells, for each
+// barrier whether it holds the thread, and of the core of the thread ids whether the thread is to run, and its argument.
+// Outputs: for each core whether it is asked and for what (its fields), then `need` and `done`. The cores are the banks of the
+// globals, in order, the mutexes, the barriers, the core of the thread ids if there is one, and the printer.
 //
-// Registers, which are the slot. `stage`, the number of the stage, where the number past the last one stands for "main
-// has ended" or "the thread has not begun"; `state`, the state within the stage; `beat`, turned by every move; one for
-// each variable, as wide as its type; one for each register of the plan, as wide as the widest value that it ever keeps
-// (narrower ones stand in its low bits); and one bit for each global, which remembers a grant: a plan that keeps the orders
-// has at most one access of a global in a state. A local array is a memory.
+// Registers, which are the slot. `stage`, the number of the stage, where of n stages number n stands for "main has ended" or
+// "the thread has not begun, or is over", and n + 1 + l for "the barrier wait at stage l is granted, and the thread meets
+// others"; `state`, the state within the stage; `beat`, turned by every move; one for each variable, as wide as its type; one
+// for each register of the plan, as wide as the widest value that it ever keeps (narrower ones stand in its low bits); and one
+// bit for each global, which remembers a grant: a plan that keeps the orders has at most one access of a global in a state. A
+// local array is a memory.
 //
 // Wires. A stage has `at`, that it is this stage. A block of operations has the wires that `block_datapath` lays.
 //
 // What is asked comes first: wires that read registers alone. A bank is open where an access of this state names it and its
-// global's bit is not set; each core that is open is asked where the thread is enabled.
+// global's bit is not set; the core of an object is open where the act of this stage names it, by the table of acts; each core
+// that is open is asked where the thread is enabled.
 //
 // What banks tell is heard where a core is needed: for each bank a wire shows its word there, and 0 elsewhere. No other wire
 // reads an input on which a word is told, so what a cycle does that needs no core hangs on registers alone.
@@ -37,3 +40,4 @@
 // `thread_runs`, `thread_sound`, `thread_steady`.
 
 pub mod layout;
+mod telling;

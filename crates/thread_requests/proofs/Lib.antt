@@ -1,8 +1,6 @@
-mod Asks
-mod FieldValues
-pub mod Needs
+mod Named
+pub mod Opening
 pub mod OutputPorts
-mod Spreading
-mod Taken
-mod Wanted
-mod Wiring
+pub mod Spreading
+pub mod Wanted
+pub mod Wiring

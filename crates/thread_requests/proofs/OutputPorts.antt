@@ -1,8 +1,8 @@
 -- The output ports.
-use Rattle.std.proofs.Common.{◌≡◌, ◌≢◌, ℕ, zero, suc, ◌+◌, ◌<◌, true, false, List, [], ◌∷◌, ◌++◌, length, take, slice_get, Some, sym, ap, subst, ◌∙◌, arith, append_assoc}
+use Rattle.std.proofs.Common.{◌≡◌, ◌≢◌, ℕ, zero, suc, ◌+◌, ◌<◌, ◌≤◌, true, false, List, [], ◌∷◌, ◌++◌, length, take, slice_get, Some, refl, sym, ap, subst, ◌∙◌, arith, append_assoc}
 use Rattle.std.proofs.Common.{⊎_elim, add-one}
 use Rattle.std.specs.Prelude.{slice_index}
-use Rattle.std.proofs.lemmas.List.{append-nil}
+use Rattle.std.proofs.lemmas.List.{append-nil, get_or_past}
 use Rattle.interleaving.proofs.Update.{same_or_not}
 use Rattle.netlist.specs.declared.netlist.Value.TheVariants.{Copy}
 use Rattle.netlist.specs.declared.netlist.Source.TheVariants.{Assigned}
@@ -15,10 +15,14 @@ use Rattle.block_datapath.specs.declared.registers.Held.{Held}
 use Rattle.block_datapath.specs.declared.requests.BankRequests.{BankRequests}
 use Rattle.block_datapath.proofs.Walking.{got_last}
 use Rattle.thread_slots.specs.declared.requests.Requests.{Requests}
+use Rattle.thread_slots.specs.declared.shape.Served.{Served}
+use Rattle.thread_slots.specs.declared.shape.Service.{Service as Kind}
+use Rattle.thread_slots.specs.Requests.{group}
+use Rattle.thread_slots.specs.Services.{service_of, services, number_width}
 use Rattle.thread_slots.specs.Wired.{field_width}
 use Rattle.thread_requests.specs.declared.outputs.Row.{Row}
 use Rattle.thread_requests.specs.Outputs.{CopiesAt, LaysRows, LaysDone, LaysOutputs, AreNumbered}
-use Rattle.thread_requests.specs.Outputs.{joined, request_row, field_row, bank_rows, rows_at, rows_from, fields_from, rows_of}
+use Rattle.thread_requests.specs.Outputs.{joined, request_row, field_row, bank_rows, rows_at, rows_from, fields_from, act_rows, acts_from, rows_of}
 use Rattle.thread_slots.proofs.Laying.{stands_last, stands_grow, stands_long, stands_later}
 
 -- ---- rows are put together
@@ -53,27 +57,63 @@ banks_more old before after asks banks words n h ask writes address value e list
     ∙ ap (λ k. old ++ joined (rows_from asks banks 0 (take k words))) (sym (add-one n))
 
 -- one more field
-fields_next : (site_width : ℕ) (fields : List ℕ) (from n x : ℕ) → slice_get fields n ≡ Some x
-    → fields_from site_width from (take (suc n) fields) ≡ fields_from site_width from (take n fields) ++ field_row (field_width site_width (from + n)) x ∷ []
-fields_next site_width [] from n x listed = absurd cc
-fields_next site_width (y ∷ fields) from zero x listed =
+fields_next : (first : ℕ) (fields : List ℕ) (from n x : ℕ) → slice_get fields n ≡ Some x
+    → fields_from first from (take (suc n) fields) ≡ fields_from first from (take n fields) ++ field_row (field_width first (from + n)) x ∷ []
+fields_next first [] from n x listed = absurd cc
+fields_next first (y ∷ fields) from zero x listed =
     let same : y ≡ x = cc in
-    ap (λ z. field_row (field_width site_width from) z ∷ []) same
-    ∙ ap (λ k. field_row (field_width site_width k) x ∷ []) (let at : from ≡ from + 0 = omega arith in at)
-fields_next site_width (y ∷ fields) from (suc n) x listed =
-    ap (λ l. field_row (field_width site_width from) y ∷ l) (fields_next site_width fields (suc from) n x listed)
-    ∙ ap (λ k. field_row (field_width site_width from) y ∷ (fields_from site_width (suc from) (take n fields) ++ field_row (field_width site_width k) x ∷ []))
+    ap (λ z. field_row (field_width first from) z ∷ []) same
+    ∙ ap (λ k. field_row (field_width first k) x ∷ []) (let at : from ≡ from + 0 = omega arith in at)
+fields_next first (y ∷ fields) from (suc n) x listed =
+    ap (λ l. field_row (field_width first from) y ∷ l) (fields_next first fields (suc from) n x listed)
+    ∙ ap (λ k. field_row (field_width first from) y ∷ (fields_from first (suc from) (take n fields) ++ field_row (field_width first k) x ∷ []))
     (let at : suc from + n ≡ from + suc n = omega arith in at)
 
-pub fields_more : (old before after : List Row) (site_width : ℕ) (fields : List ℕ) (n w x : ℕ) → before ≡ old ++ fields_from site_width 0 (take n fields)
-    → slice_get fields n ≡ Some x → w ≡ field_width site_width n → after ≡ before ++ field_row w x ∷ []
-    → after ≡ old ++ fields_from site_width 0 (take (n + 1) fields)
-fields_more old before after site_width fields n w x e listed wide made =
-    made ∙ ap (λ l. l ++ field_row w x ∷ []) e ∙ ap (λ k. (old ++ fields_from site_width 0 (take n fields)) ++ field_row k x ∷ []) wide
-    ∙ append_assoc old (fields_from site_width 0 (take n fields)) (field_row (field_width site_width n) x ∷ [])
-    ∙ ap (λ k. old ++ (fields_from site_width 0 (take n fields) ++ field_row (field_width site_width k) x ∷ [])) (let at : n ≡ 0 + n = omega arith in at)
-    ∙ ap (λ l. old ++ l) (sym (fields_next site_width fields 0 n x listed))
-    ∙ ap (λ k. old ++ fields_from site_width 0 (take k fields)) (sym (add-one n))
+pub fields_more : (old before after : List Row) (first : ℕ) (fields : List ℕ) (n w x : ℕ) → before ≡ old ++ fields_from first 0 (take n fields)
+    → slice_get fields n ≡ Some x → w ≡ field_width first n → after ≡ before ++ field_row w x ∷ []
+    → after ≡ old ++ fields_from first 0 (take (n + 1) fields)
+fields_more old before after first fields n w x e listed wide made =
+    made ∙ ap (λ l. l ++ field_row w x ∷ []) e ∙ ap (λ k. (old ++ fields_from first 0 (take n fields)) ++ field_row k x ∷ []) wide
+    ∙ append_assoc old (fields_from first 0 (take n fields)) (field_row (field_width first n) x ∷ [])
+    ∙ ap (λ k. old ++ (fields_from first 0 (take n fields) ++ field_row (field_width first k) x ∷ [])) (let at : n ≡ 0 + n = omega arith in at)
+    ∙ ap (λ l. old ++ l) (sym (fields_next first fields 0 n x listed))
+    ∙ ap (λ k. old ++ fields_from first 0 (take k fields)) (sym (add-one n))
+
+-- one more core that acts ask
+acts_next : (served : Served) (asks : List ℕ) (requests : Requests) (kinds : List Kind) (from n : ℕ) (k : Kind) → slice_get kinds n ≡ Some k
+    → joined (acts_from served asks requests from (take (suc n) kinds))
+    ≡ joined (acts_from served asks requests from (take n kinds)) ++ act_rows served (slice_index asks (from + n)) requests (service_of k)
+acts_next served asks requests [] from n k listed = absurd cc
+acts_next served asks requests (g ∷ kinds) from zero k listed =
+    let same : g ≡ k = cc in
+    append-nil (act_rows served (slice_index asks from) requests (service_of g))
+    ∙ ap (λ (z : Kind). act_rows served (slice_index asks from) requests (service_of z)) same
+    ∙ ap (λ j. act_rows served (slice_index asks j) requests (service_of k)) (let at : from ≡ from + 0 = omega arith in at)
+acts_next served asks requests (g ∷ kinds) from (suc n) k listed =
+    let own = act_rows served (slice_index asks from) requests (service_of g) in
+    let rest = joined (acts_from served asks requests (suc from) (take n kinds)) in
+    ap (λ l. own ++ l) (acts_next served asks requests kinds (suc from) n k listed)
+    ∙ sym (append_assoc own rest (act_rows served (slice_index asks (suc from + n)) requests (service_of k)))
+    ∙ ap (λ j. (own ++ rest) ++ act_rows served (slice_index asks j) requests (service_of k)) (let at : suc from + n ≡ from + suc n = omega arith in at)
+
+pub acts_more : (old before after : List Row) (served : Served) (asks : List ℕ) (requests : Requests) (banks : ℕ) (kinds : List Kind) (n : ℕ) (k : Kind) (ask : ℕ)
+    → before ≡ old ++ joined (acts_from served asks requests banks (take n kinds)) → slice_get kinds n ≡ Some k → ask ≡ slice_index asks (banks + n)
+    → after ≡ before ++ act_rows served ask requests (service_of k) → after ≡ old ++ joined (acts_from served asks requests banks (take (n + 1) kinds))
+acts_more old before after served asks requests banks kinds n k ask e listed ask_is made =
+    let first = joined (acts_from served asks requests banks (take n kinds)) in
+    let own = act_rows served (slice_index asks (banks + n)) requests (service_of k) in
+    made ∙ ap (λ l. l ++ act_rows served ask requests (service_of k)) e ∙ ap (λ j. (old ++ first) ++ act_rows served j requests (service_of k)) ask_is
+    ∙ append_assoc old first own ∙ ap (λ l. old ++ l) (sym (acts_next served asks requests kinds banks n k listed))
+    ∙ ap (λ j. old ++ joined (acts_from served asks requests banks (take j kinds))) (sym (add-one n))
+
+-- the rows of cores behind others
+pub joined_then : (xs ys : List (List Row)) → joined (xs ++ ys) ≡ joined xs ++ joined ys
+joined_then [] ys = refl
+joined_then (x ∷ xs) ys = ap (λ l. x ++ l) (joined_then xs ys) ∙ sym (append_assoc x (joined xs) (joined ys))
+
+-- past the end there is nothing
+pub past_index : (asks : List ℕ) (n : ℕ) → length asks ≤ n → slice_index asks n ≡ 0
+past_index asks n le = get_or_past asks n 0 le
 
 -- four rows one after the other
 pub four_added : (x a b c d : List Row) (p q r s : Row) → a ≡ x ++ p ∷ [] → b ≡ a ++ q ∷ [] → c ≡ b ++ r ∷ [] → d ≡ c ++ s ∷ [] → d ≡ x ++ p ∷ q ∷ r ∷ s ∷ []
@@ -82,11 +122,6 @@ four_added x a b c d p q r s one two three four =
   where
     regroup : (((x ++ p ∷ []) ++ q ∷ []) ++ r ∷ []) ++ s ∷ [] ≡ x ++ p ∷ q ∷ r ∷ s ∷ []
     regroup = simp append_assoc
-
--- the rows of one core more
-pub joined_last : (xs : List (List Row)) (x : List Row) → joined (xs ++ x ∷ []) ≡ joined xs ++ x
-joined_last [] x = append-nil x
-joined_last (y ∷ xs) x = ap (λ l. y ++ l) (joined_last xs x) ∙ sym (append_assoc y (joined xs) x)
 
 -- ---- rows are laid
 
@@ -115,11 +150,11 @@ rows_more a b c rows n place row t here u =
 
 -- ---- all outputs
 
-pub outputs_laid : (a b c d : List Signal) (site_width needs done place : ℕ) (words : List Held) (asks : List ℕ) (requests : Requests)
-    → LaysRows a b (joined (rows_of site_width words asks requests)) (length (joined (rows_of site_width words asks requests)))
+pub outputs_laid : (a b c d : List Signal) (served : Served) (needs done place : ℕ) (words : List Held) (asks : List ℕ) (requests : Requests)
+    → LaysRows a b (joined (rows_of served words asks requests)) (length (joined (rows_of served words asks requests)))
     → Stands b c 1 (Assigned (Copy needs)) place → Lays b c Need 1 true (Assigned (Copy needs)) place → LaysDone c d done
-    → LaysOutputs site_width a d words asks requests needs done
-outputs_laid a b c d site_width needs done place words asks requests t u put v =
+    → LaysOutputs served a d words asks requests needs done
+outputs_laid a b c d served needs done place words asks requests t u put v =
     let more = stands_grow b c 1 place (Assigned (Copy needs)) u in
     let c_long = stands_long b c 1 place (Assigned (Copy needs)) u in
     let d_long = v.long in
@@ -140,24 +175,41 @@ outputs_laid a b c d site_width needs done place words asks requests t u put v =
 
 -- ---- the names of rows tell their places
 
-fields_numbered : (site_width n : ℕ) (fields : List ℕ) (k : ℕ) (row : Row) → slice_get (fields_from site_width n fields ++ []) k ≡ Some row → is_single row.role ≡ false
-fields_numbered site_width n [] k row e = absurd cc
-fields_numbered site_width n (x ∷ fields) zero row e = let same : field_row (field_width site_width n) x ≡ row = cc in ap (λ (z : Row). is_single z.role) (sym same)
-fields_numbered site_width n (x ∷ fields) (suc k) row e = fields_numbered site_width (suc n) fields k row e
+-- of two lists of such rows
+numbered_then : (xs ys : List Row) → AreNumbered xs → AreNumbered ys → AreNumbered (xs ++ ys)
+numbered_then [] ys t u k row e = u k row e
+numbered_then (x ∷ xs) ys t u zero row e = t zero row e
+numbered_then (x ∷ xs) ys t u (suc k) row e = numbered_then xs ys (λ j own there. t (suc j) own there) u k row e
 
-numbered : (asks : List ℕ) (banks : BankRequests) (site_width last : ℕ) (fields : List ℕ) (n : ℕ) (words : List Held)
-    → AreNumbered (joined (rows_from asks banks n words ++ (request_row last ∷ fields_from site_width 0 fields) ∷ []))
-numbered asks banks site_width last fields n [] zero row e = let same : request_row last ≡ row = cc in ap (λ (z : Row). is_single z.role) (sym same)
-numbered asks banks site_width last fields n [] (suc k) row e = fields_numbered site_width 0 fields k row e
-numbered asks banks site_width last fields n (h ∷ words) zero row e =
-    let same : request_row (slice_index asks n) ≡ row = cc in ap (λ (z : Row). is_single z.role) (sym same)
-numbered asks banks site_width last fields n (h ∷ words) (suc zero) row e =
-    let same : field_row 1 (slice_index banks.writes n) ≡ row = cc in ap (λ (z : Row). is_single z.role) (sym same)
-numbered asks banks site_width last fields n (h ∷ words) (suc (suc zero)) row e =
-    let same : field_row 64 (slice_index banks.addresses n) ≡ row = cc in ap (λ (z : Row). is_single z.role) (sym same)
-numbered asks banks site_width last fields n (h ∷ words) (suc (suc (suc zero))) row e =
-    let same : field_row h.width (slice_index banks.values n) ≡ row = cc in ap (λ (z : Row). is_single z.role) (sym same)
-numbered asks banks site_width last fields n (h ∷ words) (suc (suc (suc (suc k)))) row e = numbered asks banks site_width last fields (suc n) words k row e
+numbered_first : (x : Row) (xs : List Row) → is_single x.role ≡ false → AreNumbered xs → AreNumbered (x ∷ xs)
+numbered_first x xs e t zero row there = let same : x ≡ row = cc in ap (λ (z : Row). is_single z.role) (sym same) ∙ e
+numbered_first x xs e t (suc k) row there = t k row there
 
-pub rows_numbered : (site_width : ℕ) (words : List Held) (asks : List ℕ) (requests : Requests) → AreNumbered (joined (rows_of site_width words asks requests))
-rows_numbered site_width words asks requests = numbered asks requests.banks site_width (slice_index asks (length words)) requests.fields 0 words
+fields_numbered : (first n : ℕ) (fields : List ℕ) → AreNumbered (fields_from first n fields)
+fields_numbered first n [] = λ k row e. absurd cc
+fields_numbered first n (x ∷ fields) = numbered_first (field_row (field_width first n) x) (fields_from first (suc n) fields) refl (fields_numbered first (suc n) fields)
+
+acts_numbered : (served : Served) (asks : List ℕ) (requests : Requests) (n : ℕ) (kinds : List Kind) → AreNumbered (joined (acts_from served asks requests n kinds))
+acts_numbered served asks requests n [] = λ k row e. absurd cc
+acts_numbered served asks requests n (g ∷ kinds) =
+    numbered_then (act_rows served (slice_index asks n) requests (service_of g)) (joined (acts_from served asks requests (suc n) kinds))
+    (numbered_first (request_row (slice_index asks n)) (fields_from (number_width served (service_of g)) 0 (group requests (service_of g)).fields) refl
+    (fields_numbered (number_width served (service_of g)) 0 (group requests (service_of g)).fields))
+    (acts_numbered served asks requests (suc n) kinds)
+
+banks_numbered : (asks : List ℕ) (banks : BankRequests) (n : ℕ) (words : List Held) → AreNumbered (joined (rows_from asks banks n words))
+banks_numbered asks banks n [] = λ k row e. absurd cc
+banks_numbered asks banks n (h ∷ words) =
+    let value = field_row h.width (slice_index banks.values n) in
+    let address = field_row 64 (slice_index banks.addresses n) in
+    let writes = field_row 1 (slice_index banks.writes n) in
+    numbered_then (rows_at asks banks n h.width) (joined (rows_from asks banks (suc n) words))
+    (numbered_first (request_row (slice_index asks n)) (writes ∷ address ∷ value ∷ []) refl (numbered_first writes (address ∷ value ∷ []) refl
+    (numbered_first address (value ∷ []) refl (numbered_first value [] refl (λ k row e. absurd cc)))))
+    (banks_numbered asks banks (suc n) words)
+
+pub rows_numbered : (served : Served) (words : List Held) (asks : List ℕ) (requests : Requests) → AreNumbered (joined (rows_of served words asks requests))
+rows_numbered served words asks requests =
+    subst AreNumbered (sym (joined_then (rows_from asks requests.banks 0 words) (acts_from served asks requests (length words) (services served))))
+    (numbered_then (joined (rows_from asks requests.banks 0 words)) (joined (acts_from served asks requests (length words) (services served)))
+    (banks_numbered asks requests.banks 0 words) (acts_numbered served asks requests (length words) (services served)))

@@ -14,18 +14,21 @@ use Rattle.block_datapath.specs.declared.registers.Registers.{Registers}
 use Rattle.block_datapath.specs.declared.requests.BankRequests.{BankRequests}
 use Rattle.block_datapath.specs.Wired.{HasWidthAt}
 use Rattle.block_datapath.specs.Requests.{AreBankChains}
-use Rattle.thread_slots.specs.declared.shape.Printer.{Printer}
+use Rattle.block_ir.specs.Asked.{Service, Mutexes, Barriers, Ids, Prints}
+use Rattle.thread_slots.specs.Requests.{group}
+use Rattle.thread_asks.specs.declared.asking.Caller.{Caller}
+use Rattle.thread_requests.specs.declared.early.Acts.{Acts}
+use Rattle.thread_requests.proofs.Opening.{stand_joined}
 use Rattle.thread_slots.specs.declared.requests.Requests.{Requests}
 use Rattle.thread_requests.specs.declared.early.Early.{Early}
-use Rattle.thread_requests.specs.Outputs.{HasFieldWidths}
-use Rattle.thread_slots.specs.Wired.{field_width}
-use Rattle.thread_requests.specs.Asking.{AsksAllWired}
-use Rattle.thread_requests.specs.Needing.{NeedsMore, FitStages, IsNeedOfFirst}
+use Rattle.thread_asks.specs.Asking.{AsksAllWired}
+use Rattle.thread_needs.specs.Needing.{NeedsMore, FitStages, IsNeedOfFirst}
 use Rattle.thread_slots.specs.Bits.{NotOf, BothOf, MakesBits, MakesAny, AreBitsOf, AddsNots, AddsBoths, AddsAny}
-use Rattle.thread_requests.specs.Early.{held_width, spread_out, LaysEarlyWired}
-use Rattle.thread_slots.specs.Requests.{BeginsAsking, BeginsLinked}
+use Rattle.thread_asks.specs.Met.{AllNamed}
+use Rattle.thread_requests.specs.Early.{BeginsLinkedOf, held_width, spread_out, wants_of, OpensActs, IsLost, LaysEarlyWired}
+use Rattle.thread_slots.specs.Requests.{BeginsAsking}
 use Rattle.thread_slots.proofs.Gating.{of_bits_later}
-use Rattle.thread_requests.proofs.Asks.{ask_links_after}
+use Rattle.thread_asks.proofs.Asks.{ask_links_after}
 use Rattle.thread_slots.proofs.Requesting.{begins_linked}
 
 some_at : {X : Type 0} (xs : List X) (i : ℕ) → i < length xs → (x : X) × (slice_get xs i ≡ Some x)
@@ -43,63 +46,70 @@ wants_stand base a bits wide own banks t ones k y there =
     let h = some_at bits k (subst (λ n. k < n) t.wants.count less) in
     subst (λ w. IsEarlier a base y w) (ones k h.0 h.1) (t.wants.each k y h.0 h.1 there)
 
--- the printer's request behind those of banks
-opens_stand : (base : Base) (a : List Signal) (banks all : List ℕ) (wants : ℕ) → all ≡ banks ++ wants ∷ [] → AreBitsOf base a banks → IsEarlier a base wants 1
-    → AreBitsOf base a all
-opens_stand base a banks all wants same t u k y there = by banks k (ap (λ l. slice_get l k) (sym same) ∙ there) t
+-- the bits that tell whether cores are asked that acts ask, behind those of banks
+all_wants_stand : (base : Base) (a : List Signal) (c : Requests) → AreBitsOf base a c.banks.wants → ((s : Service) → IsEarlier a base (group c s).wants 1)
+    → AreBitsOf base a (wants_of c)
+all_wants_stand base a c banks acts = stand_joined base a c.banks.wants (c.mutex.wants ∷ c.barrier.wants ∷ c.ids.wants ∷ c.print.wants ∷ []) banks four
   where
-    by : (banks : List ℕ) (k : ℕ) → slice_get (banks ++ wants ∷ []) k ≡ Some y → AreBitsOf base a banks → IsEarlier a base y 1
-    by [] zero e t = let one : wants ≡ y = cc in subst (λ z. IsEarlier a base z 1) one u
-    by [] (suc k) e t = absurd cc
-    by (x ∷ banks) zero e t = t zero y e
-    by (x ∷ banks) (suc k) e t = by banks k e (λ j z there. t (suc j) z there)
+    four : AreBitsOf base a (c.mutex.wants ∷ c.barrier.wants ∷ c.ids.wants ∷ c.print.wants ∷ [])
+    four zero x e = let same : c.mutex.wants ≡ x = cc in subst (λ z. IsEarlier a base z 1) same (acts Mutexes)
+    four (suc zero) x e = let same : c.barrier.wants ≡ x = cc in subst (λ z. IsEarlier a base z 1) same (acts Barriers)
+    four (suc (suc zero)) x e = let same : c.ids.wants ≡ x = cc in subst (λ z. IsEarlier a base z 1) same (acts Ids)
+    four (suc (suc (suc zero))) x e = let same : c.print.wants ≡ x = cc in subst (λ z. IsEarlier a base z 1) same (acts Prints)
+    four (suc (suc (suc (suc k)))) x e = absurd cc
 
--- s1: nobody is asked, s2: all stages ask, s3: where a core is needed besides, s4: what is not granted, s5: what is open, s6: what is needed
-pub early_made : (globals : List IntegerType) (code : ThreadCode) (registers : Registers) (granted : List ℕ) (printer : Printer) (plan : Planned)
-    (s0 s1 s2 s3 s4 s5 s6 : List Signal)
-    (early : Early) (fields free bank_opens asked : List ℕ) (held : ℕ) (start : Requests) → HasFieldWidths printer fields
-    → ((k w : ℕ) → slice_get fields k ≡ Some w → w ≡ field_width printer.site_width k)
-    → BeginsAsking s0 s1 fields (map held_width registers.words) start → BeginsLinked s0 s1 fields (map held_width registers.words) start
-    → AsksAllWired globals registers.spreads code registers printer plan s1 s2 start early.requests early.done
+-- s1: nobody is asked, s2: all stages ask, s3: where a core is needed besides, s4: what is not granted, s5: which banks are open, s6: which cores are that acts ask,
+-- s7: what is lost, s8: what is needed
+pub early_made : (globals : List IntegerType) (code : ThreadCode) (registers : Registers) (granted : List ℕ) (caller : Caller) (plan : Planned)
+    (s0 s1 s2 s3 s4 s5 s6 s7 s8 : List Signal)
+    (early : Early) (free bank_opens : List ℕ) (acts : Acts) (held : ℕ) (start : Requests)
+    → BeginsAsking s0 s1 caller.served (map held_width registers.words) start → AllNamed code registers (length code.stages) s1 start.barrier.object
+    → BeginsLinkedOf code registers caller.served (map held_width registers.words) s0 s1 start
+    → AsksAllWired globals registers.spreads code registers caller plan s1 s2 start early.requests early.done
     → NeedsMore registers (FitStages registers code plan) (IsNeedOfFirst registers code plan (length code.stages)) s2 s3 early.done held
     → MakesBits s3 s4 (length (spread_out registers.spreads granted)) free (NotOf (spread_out registers.spreads granted)) →
     AddsNots s3 s4 (spread_out registers.spreads granted) free
     → MakesBits s4 s5 (length early.requests.banks.wants) bank_opens (BothOf early.requests.banks.wants free) → AddsBoths s4 s5 early.requests.banks.wants free bank_opens
-    → early.opens ≡ bank_opens ++ early.requests.wants ∷ [] → asked ≡ early.requests.banks.wants ++ early.requests.wants ∷ []
-    → MakesAny s5 s6 held asked (λ k. true) (length asked) early.need → AddsAny s5 s6 held asked early.need
-    → LaysEarlyWired globals code registers granted printer plan s0 s6 early
-early_made globals code registers granted printer plan s0 s1 s2 s3 s4 s5 s6 early fields free bank_opens asked held start widths each begins begins_linked asks holds frees
-    frees_linked opens opens_linked open_is asked_is needs needs_linked = record {
+    → OpensActs caller.served early.requests s5 s6 acts → IsLost early.requests acts.opens s6 s7 early.lost
+    → early.opens ≡ bank_opens ++ acts.opens → early.barriers ≡ acts.barriers
+    → MakesAny s7 s8 held (wants_of early.requests) (λ k. true) (length (wants_of early.requests)) early.need → AddsAny s7 s8 held (wants_of early.requests) early.need
+    → LaysEarlyWired globals code registers granted caller plan s0 s8 early
+early_made globals code registers granted caller plan s0 s1 s2 s3 s4 s5 s6 s7 s8 early free bank_opens acts held start begins met begins_linked asks holds frees
+    frees_linked opens opens_linked opened lost open_is barriers_are needs needs_linked = record {
       lays = record {
         grows =
-            grows_then s0 s1 s6 begins.grows
-            (grows_then s1 s2 s6 asks.asks.grows
-            (grows_then s2 s3 s6 holds.grows (grows_then s3 s4 s6 frees.grows (grows_then s4 s5 s6 opens.grows needs.grows))));
-        fields = fields;
+            grows_then s0 s1 s8 begins.grows
+            (grows_then s1 s2 s8 asks.asks.grows
+            (grows_then s2 s3 s8 holds.grows (grows_then s3 s4 s8 frees.grows (grows_then s4 s5 s8 opens.grows (grows_then s5 s6 s8 opened.grows
+            (grows_then s6 s7 s8 lost.grows needs.grows))))));
         free = free;
         bank_opens = bank_opens;
+        acts = acts;
         start = start;
         with_start = s1;
         held = held;
-        asked = asked;
         with_asks = s2;
         with_needs = s3;
         with_free = s4;
         with_open = s5;
-        widths = widths;
+        with_acts = s6;
+        with_lost = s7;
         begins = begins;
+        met = met;
         asks = asks.asks;
         holds = holds;
         frees = frees;
         opens = opens;
+        opens_acts = opened;
+        loses = lost;
         open_is = open_is;
-        asked_is = asked_is;
+        barriers_are = barriers_are;
         needs = needs;
       };
       wired = λ low high base bits wide own fits slots marks_stand marks_count have one two three fit.
           let t0 =
-          begins_linked base code registers printer.site_width globals registers.spreads bits wide own slots low high
-          each fit one two three have in
+          begins_linked base globals registers.spreads bits wide own slots low high
+          fit one two three have in
           let t1 = asks.wired fits base bits wide own t0.linked in
           let links = t1.0.linked in
           let w2 = wires_then base s0 s1 s2 t0.wires t1.0.wires in
@@ -115,19 +125,31 @@ early_made globals code registers granted printer plan s0 s1 s2 s3 s4 s5 s6 earl
           let t4 = opens_linked base (of_bits_later base s2 s4 early.requests.banks.wants to_4 wants_2) t3.stand free_count in
           let w5 = wires_then base s0 s4 s5 w4 t4.wires in
           let to_5 = grows_then s2 s4 s5 to_4 t4.wires.grows in
+          let wants_5 : (s : Service) → IsEarlier s5 base (group early.requests s).wants 1 =
+          λ s. stands_after s2 s5 base (group early.requests s).wants 1 to_5 (links.requests s).wants in
+          let acts_6 = opened.wired base wants_5 (λ s. stands_after s2 s5 base (group early.requests s).object 64 to_5 (links.requests s).object) in
+          let w6 = wires_then base s0 s5 s6 w5 acts_6.wires in
+          let wants_6 : (s : Service) → IsEarlier s6 base (group early.requests s).wants 1 =
+          λ s. stands_after s5 s6 base (group early.requests s).wants 1 acts_6.wires.grows (wants_5 s) in
+          let lost_7 = lost.wired base wants_6 acts_6.opens in
+          let w7 = wires_then base s0 s6 s7 w6 lost_7.wires in
+          let to_7 = grows_then s5 s6 s7 acts_6.wires.grows lost_7.wires.grows in
           let asked_stand =
-          opens_stand base s5 early.requests.banks.wants asked early.requests.wants asked_is (of_bits_later base s2 s5 early.requests.banks.wants to_5 wants_2)
-          (stands_after s2 s5 base early.requests.wants 1 to_5 links.wants) in
-          let t5 = needs_linked base asked_stand (stands_after s3 s5 base held 1 (grows_then s3 s4 s5 t3.wires.grows t4.wires.grows) t2.stands) in
-          let to_6 = grows_then s2 s5 s6 to_5 t5.wires.grows in
+          all_wants_stand base s7 early.requests (of_bits_later base s2 s7 early.requests.banks.wants (grows_then s2 s5 s7 to_5 to_7) wants_2)
+          (λ s. stands_after s5 s7 base (group early.requests s).wants 1 to_7 (wants_5 s)) in
+          let t5 = needs_linked base asked_stand (stands_after s3 s7 base held 1 (grows_then s3 s4 s7 t3.wires.grows (grows_then s4 s5 s7 t4.wires.grows to_7)) t2.stands) in
+          let to_8 = grows_then s2 s7 s8 (grows_then s2 s5 s7 to_5 to_7) t5.wires.grows in
+          let from_6 = grows_then s6 s7 s8 lost_7.wires.grows t5.wires.grows in
           record {
-            wires = wires_then base s0 s5 s6 w5 t5.wires;
-            linked = ask_links_after globals registers.spreads code registers base printer.site_width bits wide own s2 s6 early.requests to_6 links;
-            opens =
-                opens_stand base s6 bank_opens early.opens early.requests.wants open_is (of_bits_later base s5 s6 bank_opens t5.wires.grows t4.stand)
-                (stands_after s2 s6 base early.requests.wants 1 to_6 links.wants);
+            wires = wires_then base s0 s7 s8 w7 t5.wires;
+            linked = ask_links_after globals registers.spreads code registers base caller.served bits wide own s2 s8 early.requests to_8 links;
+            opens = subst (AreBitsOf base s8) (sym open_is)
+                (stand_joined base s8 bank_opens acts.opens (of_bits_later base s5 s8 bank_opens (grows_then s5 s6 s8 acts_6.wires.grows from_6) t4.stand)
+                (of_bits_later base s6 s8 acts.opens from_6 acts_6.opens));
+            barriers = subst (AreBitsOf base s8) (sym barriers_are) (of_bits_later base s6 s8 acts.barriers from_6 acts_6.barriers);
+            lost = stands_after s7 s8 base early.lost 1 t5.wires.grows lost_7.stands;
             need = t5.stands;
-            done = stands_after s2 s6 base early.done 1 to_6 t1.1;
+            done = stands_after s2 s8 base early.done 1 to_8 t1.1;
           };
     }
   where

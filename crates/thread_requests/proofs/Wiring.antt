@@ -8,7 +8,7 @@ use Rattle.operator_wires.specs.declared.wires.Role.TheVariants.{Need, Done}
 use Rattle.operator_wires.specs.Gives.{Grows}
 use Rattle.operator_wires.specs.Built.{is_single, name_at, Lays}
 use Rattle.thread_slots.specs.Wired.{Behind, IsNamedOutput}
-use Rattle.thread_slots.proofs.Wiring.{name_tells, behind_laid, behind_then, laid_grows}
+use Rattle.thread_slots.proofs.Wiring.{name_tells, name_differs, behind_laid, behind_then, laid_grows}
 
 -- ---- signals behind others
 
@@ -20,7 +20,12 @@ laid_long a b role w place out d t = ap length t.is ∙ length-append a (t.signa
 pub output_behind : (n : ℕ) (a b : List Signal) (role : Role) (w place : ℕ) (d : Source) → Lays a b role w true d place
     → (length a < 2 ^ 64 → (inputs : ℕ) → place_of n inputs (name_at role (length a)) ≡ Some (length a)) → Behind (IsNamedOutput n) a b
 output_behind n a b role w place d t tells =
-    behind_laid (IsNamedOutput n) a b role w place true d t (record { spelled = (role, t.named); named = λ inputs small. ap (place_of n inputs) t.named ∙ tells small inputs; flag = t.flag })
+    behind_laid (IsNamedOutput n) a b role w place true d t
+    (record {
+      unlike = λ small j few e. name_differs role (length a) j (sym t.named ∙ e);
+      named = λ inputs small. ap (place_of n inputs) t.named ∙ tells small inputs;
+      flag = t.flag;
+    })
 
 pub output_numbered : (n : ℕ) (a b : List Signal) (role : Role) (w place : ℕ) (d : Source) → Lays a b role w true d place → is_single role ≡ false → Behind (IsNamedOutput n) a b
 output_numbered n a b role w place d t many = output_behind n a b role w place d t (λ small inputs. name_tells role n inputs (length a) many small)

@@ -1,25 +1,36 @@
 -- What a thread asks of cores in a state: of all stages, and which requests have not been granted.
-use Rattle.std.specs.Prelude.{◌≡◌, ℕ, ◌≤◌, true, List, [], ◌∷◌, ◌++◌, length, map, replicate, slice_get, Option, Some, None}
+use Rattle.std.specs.Prelude.{◌≡◌, ℕ, ◌+◌, ◌-◌, ◌<◌, ◌≤◌, ◌^◌, Bool, true, not, ◌&&◌, ◌||◌, nat_eq, nat_lt, if◌then◌else◌, List, [], ◌∷◌, ◌++◌, length, map, replicate}
+use Rattle.std.specs.Prelude.{slice_get, Option, Some, None}
 use Rattle.hls_ints.specs.Types.{IntegerType}
 use Rattle.bank_partition.specs.declared.banks.Spread.{Spread}
 use Rattle.block_ir.specs.declared.code.ThreadCode.{ThreadCode}
 use Rattle.block_ir.specs.declared.plan.Planned.{Planned}
 use Rattle.netlist.specs.declared.netlist.Signal.{Signal}
 use Rattle.operator_wires.specs.Gives.{Grows}
-use Rattle.operator_wires.specs.Built.{Base, IsEarlier, AreWires}
+use Rattle.operator_wires.specs.Built.{Base, IsEarlier, AreWires, Adds}
 use Rattle.block_datapath.specs.declared.registers.Held.{Held}
 use Rattle.block_datapath.specs.declared.registers.Registers.{Registers}
 use Rattle.block_datapath.specs.Requests.{HaveWidths}
 use Rattle.block_datapath.specs.Accesses.{HaveBankWidths}
-use Rattle.thread_slots.specs.declared.shape.Printer.{Printer}
+use Rattle.hls_ints.specs.Residues.{bit_of}
+use Rattle.block_ir.specs.Asked.{Service, Mutexes, Barriers, Ids, Prints}
+use Rattle.netlist.specs.declared.netlist.Module.{Module}
+use Rattle.verilog_meaning.specs.Readings.{Reading, width}
+use Rattle.circuit.specs.Modules.{Obeys}
+use Rattle.planned_block.specs.Advance.{any_below}
+use Rattle.thread_slots.specs.declared.shape.Served.{Served}
+use Rattle.thread_slots.specs.declared.requests.Request.{Request}
 use Rattle.thread_slots.specs.declared.requests.Requests.{Requests}
+use Rattle.thread_asks.specs.declared.asking.Caller.{Caller}
+use Rattle.thread_requests.specs.declared.early.Acts.{Acts}
+use Rattle.thread_requests.specs.declared.early.Objects.{Objects}
 use Rattle.thread_requests.specs.declared.early.Early.{Early}
-use Rattle.thread_requests.specs.Outputs.{HasFieldWidths}
-use Rattle.thread_requests.specs.Asking.{AsksAll}
-use Rattle.thread_slots.specs.Requests.{AreAskLinks, BeginsAsking, BeginsLinked}
-use Rattle.thread_requests.specs.Needing.{NeedsMore, FitStages, IsNeedOfFirst}
-use Rattle.thread_slots.specs.Bits.{NotOf, BothOf, MakesBits, MakesAny, AreBitsOf, AddsNots, AddsBoths}
-use Rattle.thread_slots.specs.Wired.{AreSlots, FitStates, field_width}
+use Rattle.thread_asks.specs.Met.{NamesMet, AllNamed}
+use Rattle.thread_asks.specs.Asking.{AsksAll}
+use Rattle.thread_slots.specs.Requests.{group, AreAskLinks, BeginsAsking, KeepsAskLinks}
+use Rattle.thread_needs.specs.Needing.{NeedsMore, FitStages, IsNeedOfFirst}
+use Rattle.thread_slots.specs.Bits.{HasBit, HaveBits, NotOf, BothOf, WithOf, NumberOf, MakesBits, MakesAny, AreBitsOf, AddsNots, AddsBoths, AddsWiths, AddsNumbers}
+use Rattle.thread_slots.specs.Wired.{AreSlots, FitStates}
 
 abbrev pub held_width : Held → ℕ
 held_width h = h.width
@@ -34,13 +45,78 @@ spread_out [] values = []
 spread_out (s ∷ spreads) [] = []
 spread_out (s ∷ spreads) (v ∷ values) = replicate s.count v ++ spread_out spreads values
 
--- nobody is asked: requests with fields for this printer and words as wide as these
-pub record BeginsRequests (printer : Printer) (words : List Held) (old new : List Signal) (c : Requests) : Type 0 where
-  pub fields : List ℕ
-  pub count : HasFieldWidths printer fields
-  pub each : (k w : ℕ) → slice_get fields k ≡ Some w → w ≡ field_width printer.site_width k
-  pub begins : BeginsAsking old new fields (map held_width words) c
-  pub wired : BeginsLinked old new fields (map held_width words) c
+-- what is wanted: of banks, and of those that acts ask, kind by kind
+abbrev pub wants_of : Requests → List ℕ
+wants_of c = c.banks.wants ++ c.mutex.wants ∷ c.barrier.wants ∷ c.ids.wants ∷ c.print.wants ∷ []
+
+-- the first links of this code stand
+abbrev pub BeginsLinkedOf : ThreadCode → Registers → Served → List ℕ → List Signal → List Signal → Requests → Type 0
+BeginsLinkedOf code registers served words old new c =
+    (base : Base) (globals : List IntegerType) (spreads : List Spread) (bits wide own : List Held) → AreSlots base old code registers →
+    1 ≤ served.printer.site_width → served.printer.site_width ≤ 64 → ((x w : ℕ) → slice_get words x ≡ Some w → (1 ≤ w) × (w ≤ 64)) →
+    HaveWidths bits (replicate (length words) 1) → HaveWidths wide (replicate (length words) 64) → HaveWidths own words → HaveBankWidths globals spreads bits wide own →
+    KeepsAskLinks base code registers served globals spreads bits wide own old new c
+
+-- nobody is asked: requests with words as wide as these
+pub record BeginsRequests (code : ThreadCode) (registers : Registers) (served : Served) (old new : List Signal) (c : Requests) : Type 0 where
+  pub with_begin : List Signal
+  pub begins : BeginsAsking old new served (map held_width registers.words) c
+  pub met : NamesMet code registers (length code.stages) with_begin new c.barrier.object
+  pub wired : BeginsLinkedOf code registers served (map held_width registers.words) old new c
+
+-- ---- which of the cores that acts ask are open
+
+-- of two groups of bits, the first of which has n
+abbrev pub joined_bits : ℕ → (ℕ → Bool) → (ℕ → Bool) → ℕ → Bool
+joined_bits n f g k = if nat_lt k n then f k else g (k - n)
+
+-- core k, by what is wanted of each kind, and of which object
+abbrev pub act_open : Served → (Service → Bool) → (Service → ℕ) → ℕ → Bool
+act_open served wants object =
+    joined_bits served.mutexes (λ k. nat_eq (object Mutexes) k && wants Mutexes)
+    (joined_bits served.barriers (λ k. nat_eq (object Barriers) k && wants Barriers) (joined_bits (bit_of served.ids) (λ k. wants Ids) (λ k. wants Prints)))
+
+abbrev pub act_count : Served → ℕ
+act_count served = served.mutexes + (served.barriers + (bit_of served.ids + 1))
+
+-- a request's object has 64 bits
+pub record HasObject (m : Module) (r : Reading) (q : Request) : Type 0 where
+  pub wide : width m q.object ≡ 64
+  pub fits : r.signal q.object < 2 ^ 64
+
+-- of each of so many objects whether it is named, and whether it is wanted
+pub record OpensObjects (q : Request) (count : ℕ) (old new : List Signal) (o : Objects) : Type 0 where
+  pub with_names : List Signal
+  pub small : count < 2 ^ 64
+  pub names : MakesBits old with_names count o.names (NumberOf q.object)
+  pub names_wired : AddsNumbers old with_names q.object o.names
+  pub opens : MakesBits with_names new (length o.names) o.opens (WithOf o.names q.wants)
+  pub opens_wired : AddsWiths with_names new o.names q.wants o.opens
+
+pub record ActsStand (base : Base) (old new : List Signal) (acts : Acts) : Type 0 where
+  pub wires : AreWires base old new
+  pub opens : AreBitsOf base new acts.opens
+  pub barriers : AreBitsOf base new acts.barriers
+
+-- OF EACH CORE that acts ask whether it is open
+pub record OpensActs (served : Served) (requests : Requests) (old new : List Signal) (acts : Acts) : Type 0 where
+  pub grows : Grows old new
+  pub count : length acts.opens ≡ act_count served
+  pub barriers_count : length acts.barriers ≡ served.barriers
+  pub shows : (m : Module) (r : Reading) (wants : Service → Bool) → Grows new m.signals → Obeys m r → ((s : Service) → HasBit m r (group requests s).wants (wants s)) →
+      ((s : Service) → HasObject m r (group requests s)) → HaveBits m r acts.opens (act_count served) (act_open served wants (λ s. r.signal (group requests s).object))
+  pub names : (m : Module) (r : Reading) → Grows new m.signals → Obeys m r → HasObject m r requests.barrier →
+      HaveBits m r acts.barriers served.barriers (λ k. nat_eq (r.signal requests.barrier.object) k)
+  pub wired : (base : Base) → ((s : Service) → IsEarlier old base (group requests s).wants 1) → ((s : Service) → IsEarlier old base (group requests s).object 64) →
+      ActsStand base old new acts
+
+-- whether a core is wanted that is not there: of these none is open
+pub record IsLost (requests : Requests) (opens : List ℕ) (old new : List Signal) (lost : ℕ) : Type 0 where
+  pub grows : Grows old new
+  pub shows : (m : Module) (r : Reading) (wants : Service → Bool) (opened : ℕ → Bool) → Grows new m.signals → Obeys m r →
+      ((s : Service) → HasBit m r (group requests s).wants (wants s)) → HaveBits m r opens (length opens) opened →
+      HasBit m r lost (((wants Mutexes || wants Barriers) || wants Ids) && not (any_below (λ k. true && opened k) (length opens)))
+  pub wired : (base : Base) → ((s : Service) → IsEarlier old base (group requests s).wants 1) → AreBitsOf base old opens → Adds base old new 1 lost
 
 -- which banks are open: those that are wanted, and whose global's access has not been granted
 pub record OpensBanks (spreads : List Spread) (granted wants : List ℕ) (old new : List Signal) (opens : List ℕ) : Type 0 where
@@ -52,47 +128,52 @@ pub record OpensBanks (spreads : List Spread) (granted wants : List ℕ) (old ne
   pub wired : AddsBoths with_free new wants free opens
 
 -- what stands on a base behind the inputs
-pub record AreEarly (base : Base) (old new : List Signal) (early : Early) (code : ThreadCode) (registers : Registers) (site_width : ℕ) (globals : List IntegerType)
+pub record AreEarly (base : Base) (old new : List Signal) (early : Early) (code : ThreadCode) (registers : Registers) (served : Served) (globals : List IntegerType)
     (bits wide own : List Held) :
     Type 0 where
   pub wires : AreWires base old new
-  pub linked : AreAskLinks base code registers site_width globals registers.spreads bits wide own new early.requests
+  pub linked : AreAskLinks base code registers served globals registers.spreads bits wide own new early.requests
   pub opens : AreBitsOf base new early.opens
+  pub barriers : AreBitsOf base new early.barriers
+  pub lost : IsEarlier new base early.lost 1
   pub need : IsEarlier new base early.need 1
   pub done : IsEarlier new base early.done 1
 
-pub record LaysEarly (globals : List IntegerType) (code : ThreadCode) (registers : Registers) (granted : List ℕ) (printer : Printer) (plan : Planned) (old new : List Signal)
+pub record LaysEarly (globals : List IntegerType) (code : ThreadCode) (registers : Registers) (granted : List ℕ) (caller : Caller) (plan : Planned) (old new : List Signal)
     (early : Early) : Type 0 where
   pub grows : Grows old new
-  pub fields : List ℕ
   pub free : List ℕ
   pub bank_opens : List ℕ
+  pub acts : Acts
   pub start : Requests
   pub with_start : List Signal
   pub held : ℕ
-  pub asked : List ℕ
   pub with_asks : List Signal
   pub with_needs : List Signal
   pub with_free : List Signal
   pub with_open : List Signal
-  pub widths : HasFieldWidths printer fields
-  pub begins : BeginsAsking old with_start fields (map held_width registers.words) start
-  pub asks : AsksAll globals registers.spreads code registers printer plan with_start with_asks start early.requests early.done
+  pub with_acts : List Signal
+  pub with_lost : List Signal
+  pub begins : BeginsAsking old with_start caller.served (map held_width registers.words) start
+  pub met : AllNamed code registers (length code.stages) with_start start.barrier.object
+  pub asks : AsksAll globals registers.spreads code registers caller plan with_start with_asks start early.requests early.done
   pub holds : NeedsMore registers (FitStages registers code plan) (IsNeedOfFirst registers code plan (length code.stages)) with_asks with_needs early.done
       held
   pub frees : MakesBits with_needs with_free (length (spread_out registers.spreads granted)) free (NotOf (spread_out registers.spreads granted))
   pub opens : MakesBits with_free with_open (length early.requests.banks.wants) bank_opens (BothOf early.requests.banks.wants free)
-  pub open_is : early.opens ≡ bank_opens ++ early.requests.wants ∷ []
-  pub asked_is : asked ≡ early.requests.banks.wants ++ early.requests.wants ∷ []
-  pub needs : MakesAny with_open new held asked (λ k. true) (length asked) early.need
+  pub opens_acts : OpensActs caller.served early.requests with_open with_acts acts
+  pub loses : IsLost early.requests acts.opens with_acts with_lost early.lost
+  pub open_is : early.opens ≡ bank_opens ++ acts.opens
+  pub barriers_are : early.barriers ≡ acts.barriers
+  pub needs : MakesAny with_lost new held (wants_of early.requests) (λ k. true) (length (wants_of early.requests)) early.need
 
 -- and it stands
-pub record LaysEarlyWired (globals : List IntegerType) (code : ThreadCode) (registers : Registers) (granted : List ℕ) (printer : Printer) (plan : Planned)
+pub record LaysEarlyWired (globals : List IntegerType) (code : ThreadCode) (registers : Registers) (granted : List ℕ) (caller : Caller) (plan : Planned)
     (old new : List Signal)
     (early : Early) : Type 0 where
-  pub lays : LaysEarly globals code registers granted printer plan old new early
-  pub wired : 1 ≤ printer.site_width → printer.site_width ≤ 64 → (base : Base) (bits wide own : List Held) → FitStates registers plan →
+  pub lays : LaysEarly globals code registers granted caller plan old new early
+  pub wired : 1 ≤ caller.served.printer.site_width → caller.served.printer.site_width ≤ 64 → (base : Base) (bits wide own : List Held) → FitStates registers plan →
       AreSlots base old code registers → AreBitsOf base old (spread_out registers.spreads granted) → length (spread_out registers.spreads granted) ≡ length registers.words →
       HaveBankWidths globals registers.spreads bits wide own → HaveWidths bits (replicate (length (map held_width registers.words)) 1) →
       HaveWidths wide (replicate (length (map held_width registers.words)) 64) → HaveWidths own (map held_width registers.words) →
-      ((x w : ℕ) → slice_get (map held_width registers.words) x ≡ Some w → (1 ≤ w) × (w ≤ 64)) → AreEarly base old new early code registers printer.site_width globals bits wide own
+      ((x w : ℕ) → slice_get (map held_width registers.words) x ≡ Some w → (1 ≤ w) × (w ≤ 64)) → AreEarly base old new early code registers caller.served globals bits wide own

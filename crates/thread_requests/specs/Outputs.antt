@@ -9,15 +9,15 @@ use Rattle.operator_wires.specs.Built.{is_single}
 use Rattle.operator_wires.specs.Gives.{Grows}
 use Rattle.block_datapath.specs.declared.registers.Held.{Held}
 use Rattle.block_datapath.specs.declared.requests.BankRequests.{BankRequests}
-use Rattle.thread_slots.specs.declared.shape.Printer.{Printer}
+use Rattle.block_ir.specs.Asked.{Service}
+use Rattle.thread_slots.specs.declared.shape.Served.{Served}
+use Rattle.thread_slots.specs.declared.shape.Service.{Service as Kind}
+use Rattle.thread_slots.specs.Requests.{group}
+use Rattle.thread_slots.specs.Services.{service_of, services, number_width}
 use Rattle.thread_slots.specs.declared.requests.Requests.{Requests}
 use Rattle.thread_slots.specs.Slots.{StandsAt}
 use Rattle.thread_slots.specs.Wired.{field_width}
 use Rattle.thread_requests.specs.declared.outputs.Row.{Row}
-
--- a field for the site and one for each value
-abbrev pub HasFieldWidths : Printer → List ℕ → Type 0
-HasFieldWidths printer widths = length widths ≡ printer.values + 1
 
 -- a copy of a signal at a place
 abbrev pub CopiesAt : List Signal → ℕ → ℕ → ℕ → Type 0
@@ -48,15 +48,23 @@ abbrev pub rows_from : List ℕ → BankRequests → ℕ → List Held → List 
 rows_from asks banks n [] = []
 rows_from asks banks n (h ∷ words) = rows_at asks banks n h.width ∷ rows_from asks banks (suc n) words
 
--- the fields of a request from number n on
+-- the fields of a request from number n on, the first of which is so wide
 abbrev pub fields_from : ℕ → ℕ → List ℕ → List Row
-fields_from site_width n [] = []
-fields_from site_width n (x ∷ fields) = field_row (field_width site_width n) x ∷ fields_from site_width (suc n) fields
+fields_from first n [] = []
+fields_from first n (x ∷ fields) = field_row (field_width first n) x ∷ fields_from first (suc n) fields
 
--- CORE BY CORE: what banks are asked, and what the printer is
-abbrev pub rows_of : ℕ → List Held → List ℕ → Requests → List (List Row)
-rows_of site_width words asks requests =
-    rows_from asks requests.banks 0 words ++ (request_row (slice_index asks (length words)) ∷ fields_from site_width 0 requests.fields) ∷ []
+-- a core that acts ask
+abbrev pub act_rows : Served → ℕ → Requests → Service → List Row
+act_rows served ask requests s = request_row ask ∷ fields_from (number_width served s) 0 (group requests s).fields
+
+-- such cores of these kinds, from core number n on
+abbrev pub acts_from : Served → List ℕ → Requests → ℕ → List Kind → List (List Row)
+acts_from served asks requests n [] = []
+acts_from served asks requests n (k ∷ kinds) = act_rows served (slice_index asks n) requests (service_of k) ∷ acts_from served asks requests (suc n) kinds
+
+-- CORE BY CORE: what banks are asked, and what those are that acts ask
+abbrev pub rows_of : Served → List Held → List ℕ → Requests → List (List Row)
+rows_of served words asks requests = rows_from asks requests.banks 0 words ++ acts_from served asks requests (length words) (services served)
 
 -- one behind the other
 abbrev pub joined : List (List Row) → List Row
@@ -88,9 +96,9 @@ pub record IsNeedOutput (signals : List Signal) (place : ℕ) : Type 0 where
   pub flag : signal.is_output ≡ true
 
 -- ALL OUTPUTS: what cores are asked, whether one is needed, and whether the thread is at its end
-pub record LaysOutputs (site_width : ℕ) (old new : List Signal) (words : List Held) (asks : List ℕ) (requests : Requests) (needs done : ℕ) : Type 0 where
+pub record LaysOutputs (served : Served) (old new : List Signal) (words : List Held) (asks : List ℕ) (requests : Requests) (needs done : ℕ) : Type 0 where
   pub with_rows : List Signal
-  pub rows : LaysRows old with_rows (joined (rows_of site_width words asks requests)) (length (joined (rows_of site_width words asks requests)))
+  pub rows : LaysRows old with_rows (joined (rows_of served words asks requests)) (length (joined (rows_of served words asks requests)))
   pub grows : Grows with_rows new
   pub long : length new ≡ length with_rows + 2
   pub need : CopiesAt new (length with_rows) 1 needs

@@ -3,11 +3,9 @@
 ghost use Rattle.std.specs.Prelude.{◌≡◌, ◌∷◌, [], ◌++◌, true, length, map, option_map, slice_get, IfOk};
 ghost use Rattle.hls_ints.specs.Types.{width_of};
 ghost use Rattle.thread_slots.specs.Bits.{MakesAny, AddsAny};
-ghost use Rattle.thread_requests.specs.Early.{BeginsRequests, OpensBanks, LaysEarlyWired, copies_of, held_width, spread_out};
+ghost use Rattle.thread_slots.specs.Services.{if_ids};
+ghost use Rattle.thread_requests.specs.Early.{BeginsRequests, OpensBanks, OpensActs, OpensObjects, IsLost, LaysEarlyWired, copies_of, held_width, spread_out, wants_of};
 
-use crate::asking::ask_stages;
-use crate::needing::need_stages;
-use crate::outputs::field_widths;
 use bank_partition::banks::Spread;
 use block_datapath::registers::{Held, Registers};
 use block_ir::code::ThreadCode;
@@ -16,20 +14,53 @@ use hls_ints::CType;
 use operator_wires::wires::Wires;
 use sqlite_items::Items;
 use std::alloc::{AllocError, Global};
-use thread_slots::bits::{any_of, both_each, not_each};
-use thread_slots::requests::Requests;
-use thread_slots::shape::Printer;
+use thread_asks::asking::{Caller, ask_stages};
+use thread_asks::met::name_met;
+use thread_needs::needing::need_stages;
+use thread_slots::bits::{any_of, both_each, both_with, is_each, not_each};
+use thread_slots::requests::{Request, Requests};
+use thread_slots::shape::Served;
 
 /// What is asked in a state.
 #[derive(Drop)]
 pub struct Early {
     pub requests: Requests,
-    /// Of each bank, and last of the printer, whether it is to be asked: it has not granted yet.
+    /// Of each core whether it is to be asked: of a bank, that it has not granted yet; then of those that acts ask.
     pub opens: Items<usize>,
+    /// Of each barrier whether it is named.
+    pub barriers: Items<usize>,
+    /// Whether a core is asked that is not there.
+    pub lost: usize,
     /// Whether a core is needed: one is asked, or tells a word that is taken, or the thread waits.
     pub need: usize,
     /// Whether the slot is at the end.
     pub done: usize,
+}
+
+/// The cores that acts ask.
+#[derive(Drop)]
+pub struct Acts {
+    /// Of each whether it is to be asked.
+    pub opens: Items<usize>,
+    /// Of each barrier whether it is named.
+    pub barriers: Items<usize>,
+}
+
+/// The cores of one kind, one for each object.
+#[derive(Drop)]
+pub struct Objects {
+    /// Of each whether it is named.
+    pub names: Items<usize>,
+    /// And whether it is to be asked.
+    pub opens: Items<usize>,
+}
+
+impl Objects {
+    fn into_opens(self) -> Items<usize>
+        ensures { result ≡ self.opens }
+    {
+        self.opens
+    }
 }
 
 /// The wires of what all stages ask. A bit of each global tells whether its access has been granted in this state.
@@ -39,13 +70,13 @@ pub fn lay_early(
     granted: &[usize],
     code: &ThreadCode,
     globals: &[CType],
-    printer: Printer,
+    caller: Caller,
     planned: &Planned,
 ) -> Result<Early, AllocError>
-    ensures { IfOk result (LaysEarlyWired globals.now code.now registers.now granted.now printer planned.now wires.old.signals wires.new.signals) }
+    ensures { IfOk result (LaysEarlyWired globals.now code.now registers.now granted.now caller planned.now wires.old.signals wires.new.signals) }
 {
     let spreads = registers.spreads.as_slice();
-    let mut requests = begin_requests(wires, registers, printer)?;
+    let mut requests = begin_requests(wires, registers, code, caller.served)?;
     let done = ask_stages(
         wires,
         registers,
@@ -53,33 +84,95 @@ pub fn lay_early(
         code,
         globals,
         spreads,
-        printer,
+        caller,
         planned,
     )?;
     let held = need_stages(wires, registers, code, planned, done)?;
     let wants = requests.banks.wants.as_slice();
     let mut opens = open_banks(wires, spreads, granted, wants)?;
-    let need = any_needed(wires, held, wants, requests.wants)?;
-    opens.push(requests.wants)?;
+    let Acts {
+        opens: others,
+        barriers,
+    } = open_acts(wires, &requests, caller.served)?;
+    let lost = lay_lost(wires, &requests, others.as_slice())?;
+    let need = any_needed(wires, held, &requests)?;
+    opens.append(others)?;
     Ok(Early {
         requests,
         opens,
+        barriers,
+        lost,
         need,
         done,
     })
 }
 
-/// Nobody is asked.
+/// Nobody is asked. At the meeting of a wait the barrier is named at which the thread meets others.
 fn begin_requests(
     wires: &mut Wires,
     registers: &Registers,
-    printer: Printer,
+    code: &ThreadCode,
+    served: Served,
 ) -> Result<Requests, AllocError>
-    ensures { IfOk result (BeginsRequests printer registers.now.words wires.old.signals wires.new.signals) }
+    ensures { IfOk result (BeginsRequests code.now registers.now served wires.old.signals wires.new.signals) }
 {
-    let fields = field_widths(wires.alloc, printer)?;
     let words = held_widths(wires.alloc, registers.words.as_slice())?;
-    Requests::begin(wires, fields.as_slice(), words.as_slice())
+    let mut requests = Requests::begin(wires, served, words.as_slice())?;
+    let met = name_met(wires, registers, code)?;
+    requests.barrier.object = met;
+    Ok(requests)
+}
+
+/// Of each core that acts ask whether it is to be asked.
+fn open_acts(wires: &mut Wires, requests: &Requests, served: Served) -> Result<Acts, AllocError>
+    ensures { IfOk result (OpensActs served requests.now wires.old.signals wires.new.signals) }
+{
+    let mutexes = open_objects(wires, &requests.mutex, served.mutexes)?;
+    let Objects {
+        names: barriers,
+        opens: more,
+    } = open_objects(wires, &requests.barrier, served.barriers)?;
+    let opens = join_opens(mutexes.into_opens(), more, served.ids, requests)?;
+    Ok(Acts { opens, barriers })
+}
+
+/// Of each core whether it is to be asked: of the mutexes, the barriers, the core of the thread ids, and the printer.
+fn join_opens(
+    mutexes: Items<usize>,
+    barriers: Items<usize>,
+    ids: bool,
+    requests: &Requests,
+) -> Result<Items<usize>, AllocError>
+    ensures { IfOk result (λ opens. opens ≡ mutexes ++ (barriers ++ (if_ids ids (requests.now.ids.wants ∷ []) ++ requests.now.print.wants ∷ []))) }
+{
+    let mut opens = mutexes;
+    opens.append(barriers)?;
+    if ids {
+        opens.push(requests.ids.wants)?;
+    }
+    opens.push(requests.print.wants)?;
+    Ok(opens)
+}
+
+/// Of each object whether a request names it, and whether its core is to be asked.
+fn open_objects(wires: &mut Wires, request: &Request, count: usize) -> Result<Objects, AllocError>
+    ensures { IfOk result (OpensObjects request.now count wires.old.signals wires.new.signals) }
+{
+    let names = is_each(wires, request.object, count)?;
+    let opens = both_with(wires, names.as_slice(), request.wants)?;
+    Ok(Objects { names, opens })
+}
+
+/// Whether an object is asked, or the core of the thread ids, and none of these cores is to be asked.
+fn lay_lost(wires: &mut Wires, requests: &Requests, opens: &[usize]) -> Result<usize, AllocError>
+    ensures { IfOk result (IsLost requests.now opens.now wires.old.signals wires.new.signals) }
+{
+    let objects = wires.either(requests.mutex.wants, requests.barrier.wants)?;
+    let wanted = wires.either(objects, requests.ids.wants)?;
+    let never = wires.constant(1, 0)?;
+    let open = any_of(wires, never, opens)?;
+    let shut = wires.not(1, open)?;
+    wires.both(wanted, shut)
 }
 
 /// For each bank whether it is to be asked: it is wanted, and its global's access has not been granted.
@@ -96,19 +189,29 @@ fn open_banks(
     both_each(wires, wants, free.as_slice())
 }
 
-/// Whether a first bit is set, or a bank or the printer is wanted.
-fn any_needed(
-    wires: &mut Wires,
-    first: usize,
-    wants: &[usize],
-    prints: usize,
-) -> Result<usize, AllocError>
-    ensures shows { IfOk result (MakesAny wires.old.signals wires.new.signals first (wants.now ++ prints ∷ []) (λ k. true) (length (wants.now ++ prints ∷ []))) }
-    ensures wired { IfOk result (AddsAny wires.old.signals wires.new.signals first (wants.now ++ prints ∷ [])) }
+/// Whether a first bit is set, or a core is wanted.
+fn any_needed(wires: &mut Wires, first: usize, requests: &Requests) -> Result<usize, AllocError>
+    ensures shows { IfOk result (MakesAny wires.old.signals wires.new.signals first (wants_of requests.now) (λ k. true) (length (wants_of requests.now))) }
+    ensures wired { IfOk result (AddsAny wires.old.signals wires.new.signals first (wants_of requests.now)) }
 {
-    let mut asked = Items::from_slice(wires.alloc, wants)?;
-    asked.push(prints)?;
+    let asked = all_wants(wires.alloc, requests)?;
     any_of(wires, first, asked.as_slice())
+}
+
+/// Whether each core is wanted: the banks, then those that acts ask, kind by kind.
+fn all_wants(alloc: Global, requests: &Requests) -> Result<Items<usize>, AllocError>
+    ensures { IfOk result (λ wants. wants ≡ wants_of requests.now) }
+{
+    let acts = [
+        requests.mutex.wants,
+        requests.barrier.wants,
+        requests.ids.wants,
+        requests.print.wants,
+    ];
+    let more = Items::from_slice(alloc, &acts)?;
+    let mut wants = Items::from_slice(alloc, requests.banks.wants.as_slice())?;
+    wants.append(more)?;
+    Ok(wants)
 }
 
 fn held_widths(alloc: Global, words: &[Held]) -> Result<Items<u64>, AllocError>

@@ -2,26 +2,17 @@
 
 ghost use Rattle.std.specs.Prelude.{◌≡◌, ◌∷◌, [], ◌++◌, ℕ, ◌+◌, ◌≤◌, ◌^◌, Some, slice_get, slice_index, length, IfOk, OnOk};
 ghost use Rattle.thread_slots.specs.Wired.{Behind, IsNamedOutput, field_width};
-ghost use Rattle.thread_requests.specs.Outputs.{HasFieldWidths, LaysRows, LaysDone, LaysOutputs, AreNumbered};
-ghost use Rattle.thread_requests.specs.Outputs.{joined, row_of, request_row, bank_rows, rows_from, fields_from, rows_of};
+ghost use Rattle.thread_slots.specs.Services.{service_of};
+ghost use Rattle.thread_requests.specs.Outputs.{LaysRows, LaysDone, LaysOutputs, AreNumbered};
+ghost use Rattle.thread_requests.specs.Outputs.{joined, row_of, request_row, bank_rows, rows_from, fields_from, act_rows, acts_from, rows_of};
 
 use block_datapath::registers::Held;
 use block_datapath::requests::BankRequests;
 use operator_wires::wires::{Role, Wires};
 use sqlite_items::Items;
 use std::alloc::{AllocError, Global};
-use thread_slots::requests::Requests;
-use thread_slots::shape::Printer;
-
-/// The widths of the fields of a request: of the site's number, then of each value.
-pub fn field_widths(alloc: Global, printer: Printer) -> Result<Items<u64>, AllocError>
-    ensures count { IfOk result (HasFieldWidths printer) }
-    ensures each { IfOk result (λ widths. (k w : ℕ) → slice_get widths k ≡ Some w → w ≡ field_width printer.site_width k) }
-{
-    let mut widths = Items::from_slice(alloc, &[printer.site_width])?;
-    widths.append(Items::from_vec(vec![in alloc; 64; printer.values]?))?;
-    Ok(widths)
-}
+use thread_slots::requests::{Request, Requests};
+use thread_slots::shape::{Served, Service};
 
 /// An output port: what it is for, its width, and the signal that it copies.
 #[derive(Clone, Copy)]
@@ -31,22 +22,22 @@ pub struct Row {
     pub source: usize,
 }
 
-/// The requests at banks, with words as wide as these inputs, and at the printer; whether a core is needed, and whether
-/// the thread is at its end.
+/// The requests at banks, with words as wide as these inputs, and at the cores that acts ask; whether a core is needed, and
+/// whether the thread is at its end.
 pub fn lay_outputs(
     wires: &mut Wires,
-    printer: Printer,
+    served: Served,
     words: &[Held],
     asks: &[usize],
     requests: &Requests,
     needs: usize,
     done: usize,
 ) -> Result<(), AllocError>
-    ensures lays { OnOk result (LaysOutputs printer.site_width wires.old.signals wires.new.signals words.now asks.now requests.now needs done) }
+    ensures lays { OnOk result (LaysOutputs served wires.old.signals wires.new.signals words.now asks.now requests.now needs done) }
     ensures named { OnOk result (Behind (IsNamedOutput (length wires.new.signals)) wires.old.signals wires.new.signals) }
     ensures few { OnOk result (length wires.new.signals ≤ 2 ^ 64) }
 {
-    let rows = request_rows(wires.alloc, printer, words, asks, requests)?;
+    let rows = request_rows(wires.alloc, served, words, asks, requests)?;
     lay_rows(wires, rows.as_slice())?;
     wires.output(Role::Need, 1, needs)?;
     lay_done(wires, done)
@@ -72,22 +63,68 @@ fn lay_rows(wires: &mut Wires, rows: &[Row]) -> Result<(), AllocError>
     Ok(())
 }
 
-/// What cores are asked, one behind the other: the banks, and last the printer.
+/// What cores are asked, one behind the other: the banks, then those that acts ask.
 fn request_rows(
     alloc: Global,
-    printer: Printer,
+    served: Served,
     words: &[Held],
     asks: &[usize],
     requests: &Requests,
 ) -> Result<Items<Row>, AllocError>
-    ensures { IfOk result (λ rows. rows ≡ joined (rows_of printer.site_width words.now asks.now requests.now)) }
+    ensures { IfOk result (λ rows. rows ≡ joined (rows_of served words.now asks.now requests.now)) }
 {
+    let services = served.services(alloc)?;
     let mut rows = Items::new(alloc);
     add_banks(&mut rows, words, asks, &requests.banks)?;
-    let last = place_at(asks, words.len());
-    let fields = requests.fields.as_slice();
-    add_request(&mut rows, printer.site_width, last, fields)?;
+    let kinds = services.as_slice();
+    add_acts(&mut rows, served, kinds, asks, words.len(), requests)?;
     Ok(rows)
+}
+
+/// The cores that acts ask, of these kinds, behind so many banks.
+fn add_acts(
+    rows: &mut Items<Row>,
+    served: Served,
+    services: &[Service],
+    asks: &[usize],
+    banks: usize,
+    requests: &Requests,
+) -> Result<(), AllocError>
+    ensures { OnOk result (rows.new ≡ rows.old ++ joined (acts_from served asks.now requests.now banks services.now)) }
+{
+    for (number, service) in services.iter().enumerate() {
+        let ask = ask_behind(asks, banks, number);
+        add_act(rows, served, *service, ask, requests)?;
+    }
+    Ok(())
+}
+
+fn ask_behind(asks: &[usize], banks: usize, number: usize) -> usize
+    ensures { result ≡ slice_index asks.now (banks + number) }
+{
+    match banks.checked_add(number) {
+        Some(at) => place_at(asks, at),
+        None => 0,
+    }
+}
+
+/// What a core of this kind is asked.
+fn add_act(
+    rows: &mut Items<Row>,
+    served: Served,
+    service: Service,
+    ask: usize,
+    requests: &Requests,
+) -> Result<(), AllocError>
+    ensures { OnOk result (rows.new ≡ rows.old ++ act_rows served ask requests.now (service_of service)) }
+{
+    let site_width = served.printer.site_width;
+    match service {
+        Service::Mutexes => add_request(rows, 2, ask, &requests.mutex),
+        Service::Barriers => add_request(rows, 2, ask, &requests.barrier),
+        Service::Ids => add_request(rows, 2, ask, &requests.ids),
+        Service::Prints => add_request(rows, site_width, ask, &requests.print),
+    }
 }
 
 fn add_banks(
@@ -134,21 +171,22 @@ fn add_bank(
 /// Whether a core is asked, and the fields of the request.
 fn add_request(
     rows: &mut Items<Row>,
-    site_width: u64,
+    first: u64,
     ask: usize,
-    fields: &[usize],
+    request: &Request,
 ) -> Result<(), AllocError>
-    ensures { OnOk result (rows.new ≡ rows.old ++ request_row ask ∷ fields_from site_width 0 fields.now) }
+    ensures { OnOk result (rows.new ≡ rows.old ++ request_row ask ∷ fields_from first 0 request.now.fields) }
 {
     add(rows, Role::Ask, 1, ask)?;
-    add_fields(rows, site_width, fields)
+    add_fields(rows, first, request.fields.as_slice())
 }
 
-fn add_fields(rows: &mut Items<Row>, site_width: u64, fields: &[usize]) -> Result<(), AllocError>
-    ensures { OnOk result (rows.new ≡ rows.old ++ fields_from site_width 0 fields.now) }
+/// The fields of a request, the first of which is so wide.
+fn add_fields(rows: &mut Items<Row>, first: u64, fields: &[usize]) -> Result<(), AllocError>
+    ensures { OnOk result (rows.new ≡ rows.old ++ fields_from first 0 fields.now) }
 {
     for (number, field) in fields.iter().enumerate() {
-        let width = width_of_field(site_width, number);
+        let width = width_of_field(first, number);
         add(rows, Role::Field, width, *field)?;
     }
     Ok(())
@@ -164,8 +202,8 @@ fn add(rows: &mut Items<Row>, role: Role, width: u64, source: usize) -> Result<(
     })
 }
 
-fn width_of_field(site_width: u64, number: usize) -> u64
-    ensures { result ≡ field_width site_width number }
+fn width_of_field(first: u64, number: usize) -> u64
+    ensures { result ≡ field_width first number }
 {
-    if number == 0 { site_width } else { 64 }
+    if number == 0 { first } else { 64 }
 }

@@ -1,12 +1,13 @@
 -- What a thread's module does at an act and past the last stage.
-use Rattle.std.proofs.Common.{◌≡◌, ℕ, zero, suc, ◌+◌, ◌-◌, ◌*◌, ◌%◌, ◌<◌, ◌≤◌, ◌^◌, Bool, true, false, not, ◌&&◌, ◌||◌, nat_eq, nat_lt, if◌then◌else◌, List, length, map}
-use Rattle.std.proofs.Common.{slice_get, slice_index, Option, Some, None, pos, refl, sym, ap, subst, ◌∙◌, arith, min}
+use Rattle.std.proofs.Common.{◌≡◌, ℕ, zero, suc, ◌+◌, ◌-◌, ◌%◌, ◌<◌, ◌≤◌, ◌^◌, Bool, true, false, not, ◌&&◌, ◌||◌, nat_eq, nat_lt, if◌then◌else◌, List, length, map}
+use Rattle.std.proofs.Common.{slice_get, Option, Some, None, ℤ, pos, refl, sym, ap, subst, ◌∙◌, arith, min}
 use Rattle.std.proofs.Math.Nat.{mod-eq_of_lt}
 use Rattle.std.proofs.lemmas.Option.{slice_get_within, get_or_from_slice_get}
 use Rattle.interleaving.specs.Memory.{Location}
 use Rattle.hls_ints.specs.Residues.{residue_of, bit_of}
 use Rattle.hls_ints.specs.Types.{IntegerType, HasType, width_of}
 use Rattle.block_ir.specs.declared.code.ActOperand.{ActOperand}
+use Rattle.block_ir.specs.declared.code.ActOperand.TheVariants.{Constant, Variable}
 use Rattle.block_ir.specs.declared.code.Act.{Act}
 use Rattle.block_ir.specs.declared.code.Act.TheVariants.{Print, Return}
 use Rattle.block_ir.specs.declared.code.Array.{Array}
@@ -21,32 +22,44 @@ use Rattle.circuit.specs.Modules.{Obeys}
 use Rattle.operator_wires.specs.Words.{resized_word}
 use Rattle.thread_promise.specs.Globals.{bank_total}
 use Rattle.thread_promise.specs.Slots.{element_at, ShowsData}
-use Rattle.thread_promise.specs.Promise.{operand_of_act, is_print, is_run, went_on}
+use Rattle.thread_promise.specs.Promise.{operand_of_act, is_run, went_on}
 use Rattle.block_datapath.specs.Chains.{next_number}
-use Rattle.thread_slots.specs.declared.shape.Printer.{Printer}
 use Rattle.thread_slots.specs.declared.shape.Shape.{Shape}
 use Rattle.thread_slots.specs.declared.stores.Store.{Store}
 use Rattle.thread_slots.specs.Cells.{store_action, AreOff}
-use Rattle.thread_requests.specs.Asking.{AsksPrint}
+use Rattle.block_ir.specs.Asked.{act_value, Service, Prints, Request as Call, request_of, printer_core}
+use Rattle.thread_promise.specs.Moves.{asked_in, core_asked}
+use Rattle.thread_slots.specs.Requests.{group}
+use Rattle.thread_slots.specs.Services.{service_of, number_width, value_count}
+use Rattle.thread_asks.specs.Fields.{IsTypedActOperand}
+use Rattle.thread_asks.specs.Asking.{call_of, values_of}
 use Rattle.thread_slots.specs.Wired.{field_width}
-use Rattle.thread_states.specs.Stages.{LeavesAct}
+use Rattle.thread_states.specs.Acts.{LeavesFor}
 use Rattle.thread_layout.specs.Modules.{IsModule}
-use Rattle.thread_layout.specs.Thread.{places_of, port_at, done_at, IsPrintable, IsServed}
-use Rattle.thread_runs.proofs.Leaving.{act_leave, act_moved, printer_asked}
-use Rattle.thread_layout.proofs.Placed.{stands_copies, from_inside, fields_count, ask_copied, field_stands, done_stands, got_any}
+use Rattle.thread_layout.specs.Thread.{numbers_of, cores_of, inputs_of, is_core, places_of, port_at, done_at, IsPrintable, IsServed}
+use Rattle.thread_runs.proofs.Leaving.{IsTarget, same_number, act_leave, act_moved}
+use Rattle.thread_runs.proofs.Unasked.{asked_as}
+use Rattle.thread_layout.proofs.Cores.{HasKind, kind_there}
+use Rattle.thread_layout.proofs.Placed.{stands_copies, from_inside, from_rest, fields_count, field_stands, done_stands, got_any}
 use Rattle.thread_slots.proofs.Putting.{off_stores}
 use Rattle.thread_layout.proofs.Raising.{from_asks}
-use Rattle.thread_layout.proofs.Quiet.{quiet_bit, print_bit, printed}
+use Rattle.thread_states.proofs.Acting.{leaves_later}
+use Rattle.thread_layout.proofs.Losing.{found_not_lost, unasked_not_lost}
+use Rattle.thread_layout.proofs.Quiet.{ask_now, target, called}
 use Rattle.thread_layout.proofs.Resting.{agrees_off, left_moves, marks_left}
 use Rattle.thread_layout.proofs.Shown.{keeps_so}
-use Rattle.thread_layout.proofs.Sight.{stored, all_stored, next_words, does, still, knows, stage_shown, sees_variables, enabled, heard, next_stage, next_state, next_beat}
+use Rattle.thread_layout.proofs.Sight.{shown_last, waits_last, stored, all_stored, next_words, does, still, knows, stage_shown, sees_variables, enabled, next_stage, next_state, next_beat}
 use Rattle.thread_layout.proofs.Sight.{next_variable, next_mark}
 
 and_false : (t : Bool) → (t && false) ≡ false
 and_false true = refl
 and_false false = refl
 
--- a site's number fits the port of the site
+same_operand : (variables : ℕ → ℤ) (v : ActOperand) → act_value variables v ≡ operand_of_act variables v
+same_operand variables (Constant ty n) = refl
+same_operand variables (Variable x ty) = refl
+
+-- a number fits its port
 cut : (w n : ℕ) → n < 2 ^ w → n % 2 ^ (w - 1 + 1) ≡ n
 cut zero n less = mod-eq_of_lt (let one : n < 1 = less in omega arith)
 cut (suc w) n less = let same : suc w - 1 + 1 ≡ suc w = omega arith in ap (λ k. n % 2 ^ k) same ∙ mod-eq_of_lt less
@@ -55,19 +68,19 @@ site_kept : (low : Bool) (w n : ℕ) → nat_lt w 32 ≡ low → n < 2 ^ w → r
 site_kept true w n e less = rw e (cut w n less)
 site_kept false w n e less = let f = and_false (nat_lt 32 w) in rw (e, f) refl
 
-off_without_grant : (e : Bool) → bit_of (e && not (false || (true && not ((true && e) && false)))) ≡ 0
+pub off_without_grant : (e : Bool) → bit_of (e && not (false || (true && not ((true && e) && false)))) ≡ 0
 off_without_grant true = refl
 off_without_grant false = refl
 
-off_waiting : (e a g : Bool) → bit_of (e && not (true || (a && not ((a && e) && g)))) ≡ 0
+pub off_waiting : (e a g : Bool) → bit_of (e && not (true || (a && not ((a && e) && g)))) ≡ 0
 off_waiting true a g = refl
 off_waiting false a g = refl
 
-off_moved : (e : Bool) → bit_of ((e && not (false || (true && not ((true && e) && false)))) || ((true && e) && false)) ≡ 0
+pub off_moved : (e : Bool) → bit_of ((e && not (false || (true && not ((true && e) && false)))) || ((true && e) && false)) ≡ 0
 off_moved true = refl
 off_moved false = refl
 
-still_waiting : (e g : Bool) → bit_of ((e && not (true || (false && not ((false && e) && g)))) || ((false && e) && g)) ≡ 0
+pub still_waiting : (e g : Bool) → bit_of ((e && not (true || (false && not ((false && e) && g)))) || ((false && e) && g)) ≡ 0
 still_waiting true g = refl
 still_waiting false g = refl
 
@@ -76,7 +89,7 @@ module _ (shape : Shape) (code : ThreadCode) (plan : Planned) (m : Module) (t : 
   banks = bank_total shape.spreads
 
   abbrev Shows : Reading → Slot → Type 0
-  Shows = ShowsData shape.globals code (places_of banks code plan)
+  Shows = ShowsData shape.globals code (places_of (inputs_of shape) code plan)
 
   pub stays_off : (r : Reading) (q : Slot) → Obeys m r → Shows r q → r.signal t.edge.leave ≡ 0 → r.signal t.edge.moved ≡ 0 → Shows (next_reading m r) q
   stays_off r q o shows off still = keeps_so shape code plan m t served r (next_reading m r) q (agrees_off shape code plan m t served r o off still) shows
@@ -131,9 +144,9 @@ module _ (shape : Shape) (code : ThreadCode) (plan : Planned) (m : Module) (t : 
       }
 
   -- an act that is left
-  act_left : (r : Reading) (q : Slot) (target : ℕ) (o : Obeys m r) → Shows r q → AreOff r (stored shape code plan m t served).added → r.signal 1 ≡ 1 →
+  pub act_left : (r : Reading) (q : Slot) (target : ℕ) (o : Obeys m r) → Shows r q → AreOff r (stored shape code plan m t served).added → r.signal 1 ≡ 1 →
       r.signal t.edge.leave ≡ 1 →
-      LeavesAct code t.inside.slot target r t.laid.start t.inside.chains
+      LeavesFor target false r t.laid.start t.inside.chains
       → Shows (next_reading m r) (went_on target q)
   act_left r q target o shows off enable on left =
       shows_next r q (went_on target q) true o shows enable on left.is_last left.stage refl refl
@@ -142,96 +155,132 @@ module _ (shape : Shape) (code : ThreadCode) (plan : Planned) (m : Module) (t : 
       left.variables x ∙ (still shape code plan m t served r o).variables x v.held v.listed ∙ v.shows)
       shows.typed (arrays_stay r q (went_on target q) o shows off (λ l. refl))
 
-  -- ---- what the printer is asked
+  -- ---- what a core is asked that acts ask
 
   run_of : (r : Reading) (q : Slot) (a : Act) (next : ℕ) → slice_get code.stages q.stage ≡ Some (stage.Act a next) → is_run (slice_get code.stages q.stage) ≡ false
   run_of r q a next listed = ap is_run listed
 
-  field_is : (r : Reading) (k : ℕ) → Obeys m r → k < shape.printer.values + 1 → r.signal (port_at shape m banks (suc k)) ≡ next_number r t.inside.early.requests.fields k
-  field_is r k o less =
-      let found = got_any t.inside.early.requests.fields k (subst (λ (n : ℕ). k < n) (sym (fields_count shape code plan m t served)) less) in
-      stands_copies m r (port_at shape m banks (suc k)) (field_width shape.printer.site_width k) found.0 o (field_stands shape code plan m t served k found.0 found.1)
-      ∙ ap r.signal (sym (get_or_from_slice_get t.inside.early.requests.fields k found.0 0 found.1))
+  module _ (s : Service) (k : ℕ) (own : HasKind banks shape.served s k) where
+    field_is : (r : Reading) (j : ℕ) → Obeys m r → j < suc (value_count shape.served s) → r.signal (port_at shape m k (suc j)) ≡ next_number r (group t.inside.early.requests s).fields j
+    field_is r j o less =
+        let fields = (group t.inside.early.requests (service_of own.kind)).fields in
+        let long : length fields ≡ suc (value_count shape.served s) =
+        fields_count shape code plan m t served (service_of own.kind) ∙ ap (λ z. suc (value_count shape.served z)) own.is in
+        let found = got_any fields j (subst (λ (n : ℕ). j < n) (sym long) less) in
+        ap (λ z. r.signal (port_at shape m z (suc j))) own.at
+        ∙ stands_copies m r (port_at shape m (banks + own.number) (suc j)) (field_width (number_width shape.served (service_of own.kind)) j) found.0 o
+        (field_stands shape code plan m t served own.number own.kind own.listed j found.0 found.1)
+        ∙ ap r.signal (sym (get_or_from_slice_get fields j found.0 0 found.1))
+        ∙ ap (λ z. next_number r (group t.inside.early.requests z).fields j) own.is
+
+  -- an act that asks core k
+  module _ (r : Reading) (q : Slot) (a : Act) (next : ℕ) (call : Call) (k : ℕ) (o : Obeys m r) (shows : Shows r q)
+      (listed : slice_get code.stages q.stage ≡ Some (stage.Act a next)) (is_call : request_of shape.is_main a ≡ Some call) (own : HasKind banks shape.served call.service k) where
+    start_fields : length (group t.laid.early.start call.service).fields ≡ suc (value_count shape.served call.service)
+    start_fields = t.laid.early.begins.counts call.service
+
+    pub number_is : call.number < 2 ^ number_width shape.served call.service → r.signal (port_at shape m k 1) ≡ call.number
+    number_is fits =
+        let some : 0 < suc (value_count shape.served call.service) = omega arith in
+        field_is call.service k own r 0 o some
+        ∙ (called shape code plan m t served r q o shows a next call listed is_call).number_is (subst (λ (n : ℕ). 0 < n) (sym start_fields) some)
+        ∙ site_kept (nat_lt (number_width shape.served call.service) 32) (number_width shape.served call.service) call.number refl fits
+
+    pub value_is : (j : ℕ) (v : ActOperand) → slice_get (values_of call.service call.operands) j ≡ Some v → IsTypedActOperand code v → j < value_count shape.served call.service
+        → r.signal (port_at shape m k (suc (suc j))) ≡ residue_of 64 (act_value q.variables v)
+    value_is j v there typed few =
+        let less : suc j < suc (value_count shape.served call.service) = omega arith in
+        field_is call.service k own r (suc j) o less
+        ∙ (called shape code plan m t served r q o shows a next call listed is_call).values_are j v there typed (subst (λ (n : ℕ). suc j < n) (sym start_fields) less)
 
   -- a printf
   module _ (r : Reading) (q : Slot) (site next : ℕ) (values : List ActOperand) (o : Obeys m r) (shows : Shows r q)
       (listed : slice_get code.stages q.stage ≡ Some (stage.Act (Print site values) next)) where
-    can : IsPrintable code shape.printer site values next
+    can : IsPrintable code shape.served.printer site values next
     can = served.prints q.stage site next values listed
 
-    asked : AsksPrint shape.globals shape.spreads code t.inside.slot shape.printer site values r q.variables t.laid.early.start t.inside.early.requests
-    asked = printed shape code plan m t served r q o shows site next values listed
+    abbrev printer : ℕ
+    printer = printer_core (numbers_of shape)
 
-    leaves : LeavesAct code t.inside.slot (min next (length code.stages)) r t.laid.start t.inside.chains
+    own : HasKind banks shape.served Prints printer
+    own = kind_there banks shape.served Prints 0 printer refl
+
+    leaves : LeavesFor (min next (length code.stages)) false r t.laid.start t.inside.chains
     leaves =
-        (does shape code plan m t served q.stage (stage.Act (Print site values) next) listed).prints site next values refl m r
-        (from_inside shape code plan m t served) o (knows shape code plan m t served r o) (still shape code plan m t served r o)
-        (stage_shown shape code plan m t served r o q shows)
+        leaves_later (min next (length code.stages)) false r t.laid.start t.laid.rested t.inside.chains
+        (shown_last shape code plan m t served r o
+        (found_not_lost shape code plan m t served r q o shows printer (ap (λ s. core_asked (numbers_of shape) (asked_in shape.is_main s q.variables)) listed)
+        (let z : banks ≤ printer = omega arith in z) (let z : printer < cores_of shape = omega arith in z)))
+        ((does shape code plan m t served q.stage (stage.Act (Print site values) next) listed).acts (Print site values) next refl m r
+        (from_rest shape code plan m t served) o (knows shape code plan m t served r o) (still shape code plan m t served r o)
+        (stage_shown shape code plan m t served r o q shows))
 
-    start_fields : length t.laid.early.start.fields ≡ shape.printer.values + 1
-    start_fields = sym t.laid.early.asks.many.fields ∙ fields_count shape code plan m t served
+    site_is : r.signal (port_at shape m printer 1) ≡ site
+    site_is = number_is r q (Print site values) next (call_of Prints site values) printer o shows listed refl own can.site_fits
 
-    site_is : r.signal (port_at shape m banks 1) ≡ site
-    site_is =
-        let some : 0 < shape.printer.values + 1 = omega arith in
-        field_is r 0 o some ∙ asked.site_is (subst (λ (n : ℕ). 0 < n) (sym start_fields) some)
-        ∙ site_kept (nat_lt shape.printer.site_width 32) shape.printer.site_width site refl can.site_fits
-
-    values_are : (j : ℕ) (v : ActOperand) → slice_get values j ≡ Some v → r.signal (port_at shape m banks (suc (suc j)))
+    values_are : (j : ℕ) (v : ActOperand) → slice_get values j ≡ Some v → r.signal (port_at shape m printer (suc (suc j)))
         ≡ residue_of 64 (operand_of_act q.variables v)
     values_are j v there =
         let few = can.few in
         let inside = slice_get_within values j v there in
-        let less : suc j < shape.printer.values + 1 = omega arith in
-        field_is r (suc j) o less ∙ asked.values_are j v there (can.typed j v there) (subst (λ (n : ℕ). suc j < n) (sym start_fields) less)
+        value_is r q (Print site values) next (call_of Prints site values) printer o shows listed refl own j v there (can.typed j v there) (omega arith)
+        ∙ ap (residue_of 64) (same_operand q.variables v)
+
+    -- it is asked, and grants
+    aims : (g : Bool) → r.signal (2 + printer) ≡ bit_of g → IsTarget shape code plan m t served r (Some printer) true g
+    aims g e = (refl, (let z : banks ≤ printer = omega arith in z), (let z : printer < cores_of shape = omega arith in z), e)
+
+    asked_it : target shape code plan m t served r q o shows ≡ Some printer
+    asked_it = ap (λ s. core_asked (numbers_of shape) (asked_in shape.is_main s q.variables)) listed
 
     not_so : is_run (slice_get code.stages q.stage) ≡ false
     not_so = run_of r q (Print site values) next listed
 
-    goes_on : r.signal 1 ≡ 1 → r.signal (2 + banks) ≡ 1 → Shows (next_reading m r) (went_on next q)
+    goes_on : r.signal 1 ≡ 1 → r.signal (2 + printer) ≡ 1 → Shows (next_reading m r) (went_on next q)
     goes_on on grant =
         let le = can.leads in
-        let target : min next (length code.stages) ≡ next = omega arith in
-        let leave = act_leave shape code plan m t served r q o shows not_so false true true true
-        (print_bit shape code plan m t served r q o shows site next values listed) leaves.waits on grant in
-        subst (λ (n : ℕ). Shows (next_reading m r) (went_on n q)) target
+        let same : min next (length code.stages) ≡ next = omega arith in
+        let leave = act_leave shape code plan m t served r q o shows not_so false true true true (Some printer) asked_it (aims true grant) leaves.waits on in
+        subst (λ (n : ℕ). Shows (next_reading m r) (went_on n q)) same
         (act_left r q (min next (length code.stages)) o shows (act_off r q (Print site values) next o shows listed) on leave leaves)
 
-    waits_on : r.signal (2 + banks) ≡ 0 → Shows (next_reading m r) q
+    waits_on : r.signal (2 + printer) ≡ 0 → Shows (next_reading m r) q
     waits_on none =
         let e = enabled shape code plan m t served r o in
-        let bit = print_bit shape code plan m t served r q o shows site next values listed in
-        stays_off r q o shows (act_leave shape code plan m t served r q o shows not_so false true e.0 false bit leaves.waits e.1 none ∙ off_without_grant e.0)
-        (act_moved shape code plan m t served r q o shows not_so false true e.0 false bit leaves.waits e.1 none ∙ off_moved e.0)
+        stays_off r q o shows
+        (act_leave shape code plan m t served r q o shows not_so false true e.0 false (Some printer) asked_it (aims false none) leaves.waits e.1 ∙ off_without_grant e.0)
+        (act_moved shape code plan m t served r q o shows not_so false true e.0 false (Some printer) asked_it (aims false none) leaves.waits e.1 ∙ off_moved e.0)
 
-    pub prints_so : (r.signal (port_at shape m banks 0) ≡ r.signal 1) × (r.signal (port_at shape m banks 1) ≡ site)
-        × ((j : ℕ) (v : ActOperand) → slice_get values j ≡ Some v → r.signal (port_at shape m banks (suc (suc j)))
+    pub prints_so : (r.signal (port_at shape m printer 0) ≡ r.signal 1) × (r.signal (port_at shape m printer 1) ≡ site)
+        × ((j : ℕ) (v : ActOperand) → slice_get values j ≡ Some v → r.signal (port_at shape m printer (suc (suc j)))
         ≡ residue_of 64 (operand_of_act q.variables v))
-        × (r.signal 1 ≡ 1 → r.signal (2 + banks) ≡ 1 → Shows (next_reading m r) (went_on next q)) × (r.signal (2 + banks) ≡ 0 → Shows (next_reading m r) q)
+        × (r.signal 1 ≡ 1 → r.signal (2 + printer) ≡ 1 → Shows (next_reading m r) (went_on next q)) × (r.signal (2 + printer) ≡ 0 → Shows (next_reading m r) q)
     prints_so =
-        let e = enabled shape code plan m t served r o in
-        let g = heard shape code plan m t served r o banks (omega arith) in (
-          ask_copied shape code plan m t served r banks o (omega arith)
-              ∙ printer_asked shape code plan m t served r q o shows not_so false true e.0 g.0
-              (print_bit shape code plan m t served r q o shows site next values listed) leaves.waits e.1 g.1
-              ∙ sym e.1,
+        let e = enabled shape code plan m t served r o in (
+          asked_as shape code plan m t served r q printer o shows not_so (omega arith) e.0 e.1
+              ∙ ap (λ c. bit_of (is_core c printer && e.0)) asked_it ∙ ap (λ z. bit_of (z && e.0)) (same_number printer) ∙ sym e.1,
           site_is,
           values_are,
           goes_on,
           waits_on,
         )
 
-  pub returns_so : (r : Reading) (q : Slot) (next : ℕ) → Obeys m r → Shows r q → slice_get code.stages q.stage ≡ Some (stage.Act Return next) → r.signal 1 ≡ 1
+  pub returns_so : shape.is_main ≡ true → (r : Reading) (q : Slot) (next : ℕ) → Obeys m r → Shows r q → slice_get code.stages q.stage ≡ Some (stage.Act Return next) → r.signal 1 ≡ 1
       → Shows (next_reading m r) (went_on (length code.stages) q)
-  returns_so r q next o shows listed on =
+  returns_so main r q next o shows listed on =
+      let asks_none : ask_now shape code plan m t served r q o shows ≡ None =
+      ap (λ s. asked_in shape.is_main s q.variables) listed ∙ ap (λ b. asked_in b (Some (stage.Act Return next)) q.variables) main in
       let left =
-      (does shape code plan m t served q.stage (stage.Act Return next) listed).returns next refl m r (from_inside shape code plan m t served) o
-      (knows shape code plan m t served r o) (still shape code plan m t served r o) (stage_shown shape code plan m t served r o q shows)
+      leaves_later (length code.stages) false r t.laid.start t.laid.rested t.inside.chains
+      (shown_last shape code plan m t served r o (unasked_not_lost shape code plan m t served r q o shows asks_none))
+      ((does shape code plan m t served q.stage (stage.Act Return next) listed).acts Return next refl m r (from_rest shape code plan m t served) o
+      (knows shape code plan m t served r o) (still shape code plan m t served r o) (stage_shown shape code plan m t served r o q shows))
       in
-      let g = heard shape code plan m t served r o banks (omega arith) in
-      let bit = quiet_bit shape code plan m t served r q o shows (ap is_print listed) in
+      let nobody : target shape code plan m t served r q o shows ≡ None =
+      ap (λ s. core_asked (numbers_of shape) (asked_in shape.is_main s q.variables)) listed
+      ∙ ap (λ b. core_asked (numbers_of shape) (asked_in b (Some (stage.Act Return next)) q.variables)) main in
       act_left r q (length code.stages) o shows (act_off r q Return next o shows listed) on
-      (act_leave shape code plan m t served r q o shows (run_of r q Return next listed) false false true g.0 bit left.waits on g.1) left
+      (act_leave shape code plan m t served r q o shows (run_of r q Return next listed) false false true false None nobody refl left.waits on) left
 
   pub done_so : (r : Reading) (q : Slot) → Obeys m r → Shows r q → r.signal (done_at shape m)
       ≡ bit_of (nat_eq q.stage (length code.stages))
@@ -248,16 +297,18 @@ module _ (shape : Shape) (code : ThreadCode) (plan : Planned) (m : Module) (t : 
       by None e = e
       by (Some s) e = absurd (let less = slice_get_within code.stages q.stage s e in omega arith)
 
-  pub ends_so : (r : Reading) (q : Slot) → Obeys m r → Shows r q → q.stage ≡ length code.stages → Shows (next_reading m r) q
-  ends_so r q o shows at =
+  pub ends_so : shape.is_main ≡ true → (r : Reading) (q : Slot) → Obeys m r → Shows r q → q.stage ≡ length code.stages → Shows (next_reading m r) q
+  ends_so main r q o shows at =
       let here = stage_shown shape code plan m t served r o q shows ∙ at in
-      let waits =
-      t.laid.walks.ends m r (from_inside shape code plan m t served) o t.laid.begins.bits (knows shape code plan m t served r o)
-      (still shape code plan m t served r o) here
-      in
       let none = none_there q at in
+      let waits =
+      waits_last shape code plan m t served r o true false
+      (t.laid.walks.stays main m r (from_rest shape code plan m t served) o t.laid.begins.bits (knows shape code plan m t served r o)
+      (still shape code plan m t served r o) here)
+      (unasked_not_lost shape code plan m t served r q o shows (ap (λ s. asked_in shape.is_main s q.variables) none))
+      in
       let e = enabled shape code plan m t served r o in
-      let g = heard shape code plan m t served r o banks (omega arith) in
-      let bit = quiet_bit shape code plan m t served r q o shows (ap is_print none) in
-      stays_off r q o shows (act_leave shape code plan m t served r q o shows (ap is_run none) true false e.0 g.0 bit waits e.1 g.1 ∙ off_waiting e.0 false g.0)
-      (act_moved shape code plan m t served r q o shows (ap is_run none) true false e.0 g.0 bit waits e.1 g.1 ∙ still_waiting e.0 g.0)
+      let nobody : target shape code plan m t served r q o shows ≡ None = ap (λ s. core_asked (numbers_of shape) (asked_in shape.is_main s q.variables)) none in
+      stays_off r q o shows
+      (act_leave shape code plan m t served r q o shows (ap is_run none) true false e.0 false None nobody refl waits e.1 ∙ off_waiting e.0 false false)
+      (act_moved shape code plan m t served r q o shows (ap is_run none) true false e.0 false None nobody refl waits e.1 ∙ still_waiting e.0 false)

@@ -1,5 +1,5 @@
 -- The module of a thread runs its code.
-use Rattle.std.proofs.Common.{◌≡◌, ◌≢◌, ℕ, suc, ◌+◌, ◌%◌, ◌<◌, ◌≤◌, ◌^◌, Bool, true, false, ◌||◌, nat_eq, if◌then◌else◌, List, length, map, ℤ, pos, refl, sym, ap, subst, ◌∙◌}
+use Rattle.std.proofs.Common.{◌≡◌, ◌≢◌, ℕ, suc, ◌+◌, ◌%◌, ◌<◌, ◌≤◌, ◌^◌, Bool, true, false, ◌||◌, nat_eq, if◌then◌else◌, List, length, map, Some, ℤ, pos, refl, sym, ap, subst, ◌∙◌}
 use Rattle.std.proofs.Common.{arith}
 use Rattle.std.proofs.Math.Nat.{mod-eq_of_lt}
 use Rattle.std.proofs.lemmas.Option.{slice_get_within}
@@ -20,31 +20,32 @@ use Rattle.planned_block.proofs.Bits.{same_is}
 use Rattle.planned_block.proofs.Total.{wires_wired, registers_right}
 use Rattle.planned_view.specs.View.{planned_view, plan_view}
 use Rattle.netlist.specs.declared.netlist.Module.{Module}
-use Rattle.verilog_meaning.specs.Readings.{Reading, next_reading, word_after}
+use Rattle.verilog_meaning.specs.Readings.{Reading, initial_reading, next_reading, word_after}
 use Rattle.circuit.specs.Modules.{Obeys}
 use Rattle.thread_promise.specs.Globals.{bank_total, bank_of}
 use Rattle.thread_promise.specs.Types.{value_type}
 use Rattle.thread_promise.specs.Slots.{element_at, IsAlive, ShowsData, ShowsInBlock}
-use Rattle.thread_promise.specs.Promise.{IsInside, HearsBanks, RunsCode}
+use Rattle.thread_promise.specs.Moves.{first_slot}
+use Rattle.thread_promise.specs.Promise.{is_run, IsInside, HearsBanks, RunsCode}
 use Rattle.block_datapath.specs.Leave.{IsInStage}
 use Rattle.block_datapath.specs.Operations.{SeesSlot, IsFed}
-use Rattle.thread_slots.specs.declared.shape.Printer.{Printer}
 use Rattle.thread_slots.specs.declared.shape.Shape.{Shape}
 use Rattle.thread_slots.specs.declared.stores.Store.{Store}
 use Rattle.thread_slots.specs.Cells.{store_action}
 use Rattle.thread_layout.specs.Modules.{IsModule}
 use Rattle.thread_states.specs.Stages.{LeavesState}
-use Rattle.thread_layout.specs.Thread.{input_count, places_of, ports_of, IsServed}
+use Rattle.thread_layout.specs.Thread.{inputs_of, places_of, ports_of, IsServed}
 use Rattle.thread_runs.proofs.Cells.{cells, next_arrays}
+use Rattle.thread_layout.proofs.Losing.{block_not_lost}
 use Rattle.thread_layout.proofs.Meeting.{any_found}
 use Rattle.thread_layout.proofs.Moving.{block_leave, block_moved, block_mark}
 use Rattle.thread_layout.proofs.Needed.{need_wide, taken_needs}
-use Rattle.thread_layout.proofs.Placed.{wide_bit, from_inside, beat_at, granted_at}
+use Rattle.thread_layout.proofs.Placed.{wide_bit, from_rest, from_inside, beat_at, granted_at}
 use Rattle.thread_runs.proofs.Printing.{HoldsArrays, shows_next, prints_so, returns_so, ends_so, done_so}
 use Rattle.thread_layout.proofs.Requested.{indices, targets, printing, asks_so, asks_none_so}
 use Rattle.thread_layout.proofs.Resting.{agrees_off, rests_so}
 use Rattle.thread_layout.proofs.Shown.{starts_so, keeps_so, keeps_in_so, global_within}
-use Rattle.thread_layout.proofs.Sight.{stored, all_stored, does, still, knows, stays_but, words_stay, next_beat, next_mark, next_kept, is_right, kept_of, has_widths, sees_slot}
+use Rattle.thread_layout.proofs.Sight.{shown_last, stored, all_stored, does, still, knows, stays_but, words_stay, next_beat, next_mark, next_kept, is_right, kept_of, has_widths, sees_slot}
 use Rattle.thread_layout.proofs.Sight.{in_stage, shared_so, told_so, told_nothing}
 use Rattle.thread_runs.proofs.Unasked.{asks_outside_so, quiet_so}
 
@@ -60,13 +61,13 @@ module _ (shape : Shape) (code : ThreadCode) (plan : Planned) (m : Module) (t : 
   banks = bank_total shape.spreads
 
   abbrev behind : ℕ
-  behind = input_count banks
+  behind = inputs_of shape
 
   abbrev Shows : Reading → Slot → Type 0
-  Shows = ShowsData shape.globals code (places_of banks code plan)
+  Shows = ShowsData shape.globals code (places_of (inputs_of shape) code plan)
 
   abbrev ShowsBlock : Block → BlockPlan → Reading → Slot → Type 0
-  ShowsBlock = ShowsInBlock shape.globals code (places_of banks code plan)
+  ShowsBlock = ShowsInBlock shape.globals code (places_of (inputs_of shape) code plan)
 
   -- a register of the slot but the beat, while the state stays
   kept_still : (r : Reading) (k : ℕ) → Obeys m r → r.signal t.edge.leave ≡ 0 → k < behind + 3 + length code.variables + plan.registers → k ≢ behind + 2
@@ -83,8 +84,8 @@ module _ (shape : Shape) (code : ThreadCode) (plan : Planned) (m : Module) (t : 
   -- ---- blocks
 
   module _ (memory : Memory ℤ) (grant : ℕ → Bool) (r : Reading) (q : Slot) (b : Block) (p : BlockPlan) (o : Obeys m r)
-      (inside : IsInside shape.globals shape.spreads code plan m (places_of banks code plan) (ports_of shape m) r q b p)
-      (hears : HearsBanks shape.globals shape.spreads code plan m (places_of banks code plan) (ports_of shape m) r q b p grant) (on : r.signal 1 ≡ 1) where
+      (inside : IsInside shape.globals shape.spreads code plan m (places_of (inputs_of shape) code plan) (ports_of shape m) r q b p)
+      (hears : HearsBanks shape.globals shape.spreads code plan m (places_of (inputs_of shape) code plan) (ports_of shape m) r q b p grant) (on : r.signal 1 ≡ 1) where
     abbrev bank : Location → ℕ
     bank = bank_of shape.spreads
 
@@ -170,16 +171,21 @@ module _ (shape : Shape) (code : ThreadCode) (plan : Planned) (m : Module) (t : 
     made =
         let left =
         (does shape code plan m t served q.stage (stage.Run b) inside.runs.listed).runs b p refl inside.runs.planned_so bank m r heard_slot wire
-        (from_inside shape code plan m t served) o (still shape code plan m t served r o)
+        (from_rest shape code plan m t served) o (still shape code plan m t served r o)
         (is_right shape code plan m t served r o q b p inside.runs inside.state inside.shown) heard_stage heard_sees
         fed.1 (has_widths shape code plan m t served r o q b p inside.runs inside.state inside.shown) (knows shape code plan m t served r o) in
+        let shown =
+        shown_last shape code plan m t served r o
+        (block_not_lost shape code plan m t served r q o inside.shown.shown (ap is_run inside.runs.listed)) in
         record {
-          is_last = left.is_last;
-          stage = left.stage;
-          variables = left.variables;
+          is_last = shown.is_last (nat_eq (suc q.state) p.states) left.is_last;
+          stage = shown.stage ∙ left.stage;
+          variables = λ x ty declared. shown.variables x ∙ left.variables x ty declared;
           typed = left.typed;
-          kept = λ after is. left.kept after (record { written = is.written; kept = is.kept });
-          waits = left.waits;
+          kept = λ after is next at k x u.
+              let own = left.kept after (record { written = is.written; kept = is.kept }) next at k x u in
+              (ap (λ v. v % 2 ^ width_of (value_type shape.globals code u.operation)) (shown.kept x) ∙ own.0, own.1);
+          waits = shown.waits false left.waits;
         }
 
     leave_is : r.signal t.edge.leave ≡ bit_of (is_ready (planned_view b) (plan_view b p) q grant)
@@ -334,13 +340,13 @@ module _ (shape : Shape) (code : ThreadCode) (plan : Planned) (m : Module) (t : 
     by_ready false true e f = let shown = remembered e f in (λ within. shown, shown.shown)
     by_ready false false e f = let shown = rested e f in (λ within. shown, shown.shown)
 
-    moves_so : Goal (is_ready (planned_view b) (plan_view b p) q grant) (advance bank (planned_view b) (plan_view b p) q memory grant)
+    pub moves_so : Goal (is_ready (planned_view b) (plan_view b p) q grant) (advance bank (planned_view b) (plan_view b p) q memory grant)
     moves_so = by_ready (is_ready (planned_view b) (plan_view b p) q grant) (is_answered (planned_view b) (plan_view b p) q grant) refl refl
 
-  -- THE PROMISE
-  pub runs_code : RunsCode shape.globals shape.spreads code plan m (places_of banks code plan) (ports_of shape m)
-  runs_code = record {
-    starts = starts_so shape code plan m t served;
+  -- THE PROMISE of main
+  pub runs_code : shape.is_main ≡ true → RunsCode shape.globals shape.spreads code plan m (places_of (inputs_of shape) code plan) (ports_of shape m)
+  runs_code main = record {
+    starts = subst (λ (b : Bool). Shows (initial_reading (Some m)) (first_slot b 0 (length code.stages))) main (starts_so shape code plan m t served 0);
     keeps = keeps_so shape code plan m t served;
     keeps_in_block = keeps_in_so shape code plan m t served;
     rests = rests_so shape code plan m t served;
@@ -350,7 +356,7 @@ module _ (shape : Shape) (code : ThreadCode) (plan : Planned) (m : Module) (t : 
     moves = moves_so;
     prints = prints_so shape code plan m t served;
     quiet = quiet_so shape code plan m t served;
-    returns = returns_so shape code plan m t served;
-    ends = ends_so shape code plan m t served;
+    returns = returns_so shape code plan m t served main;
+    ends = ends_so shape code plan m t served main;
     done = done_so shape code plan m t served;
   }

@@ -1,6 +1,7 @@
--- Cores that are not asked: banks outside of blocks, and the printer but at a printf.
-use Rattle.std.proofs.Common.{◌≡◌, ℕ, suc, ◌<◌, Bool, false, not, ◌&&◌, nat_eq, if◌then◌else◌, length, slice_get, slice_index, sym, ap, subst, ◌∙◌, arith}
-use Rattle.std.proofs.lemmas.Option.{slice_get_within}
+-- Cores that are not asked: banks outside of blocks, and of those that acts ask all but the one of the act.
+use Rattle.std.proofs.Common.{◌≡◌, ◌≢◌, ℕ, ◌<◌, ◌≤◌, Bool, true, false, ◌&&◌, slice_get, Option, Some, None, refl, sym, ap, ◌∙◌, arith}
+use Rattle.block_ir.specs.Asked.{printer_core}
+use Rattle.thread_promise.specs.Moves.{asked_in, core_asked}
 use Rattle.hls_ints.specs.Residues.{bit_of}
 use Rattle.block_ir.specs.declared.code.ThreadCode.{ThreadCode}
 use Rattle.block_ir.specs.declared.plan.Planned.{Planned}
@@ -10,14 +11,13 @@ use Rattle.verilog_meaning.specs.Readings.{Reading}
 use Rattle.circuit.specs.Modules.{Obeys}
 use Rattle.thread_promise.specs.Globals.{bank_total}
 use Rattle.thread_promise.specs.Promise.{is_print, is_run}
-use Rattle.thread_slots.specs.declared.shape.Printer.{Printer}
 use Rattle.thread_slots.specs.declared.shape.Shape.{Shape}
 use Rattle.thread_layout.specs.Modules.{IsModule}
-use Rattle.thread_layout.specs.Thread.{port_at, IsServed}
-use Rattle.thread_runs.proofs.Leaving.{bank_unasked}
-use Rattle.thread_layout.proofs.Opened.{raised_by, marked_now, mark_bit, open_bits, want_wide, print_wide, is_not_less, bit_told}
-use Rattle.thread_layout.proofs.Placed.{wide_bit, from_control, opens_count, ask_copied}
-use Rattle.thread_layout.proofs.Quiet.{quiet_bit}
+use Rattle.thread_layout.specs.Thread.{numbers_of, cores_of, is_core, port_at, IsServed}
+use Rattle.thread_runs.proofs.Leaving.{IsTarget, other_number, core_asks}
+use Rattle.thread_runs.proofs.Targets.{target_within, not_printer}
+use Rattle.thread_layout.proofs.Placed.{ask_copied}
+use Rattle.thread_runs.proofs.Targets.{block_quiet}
 use Rattle.thread_layout.proofs.Shown.{Shows}
 use Rattle.thread_layout.proofs.Sight.{enabled, enable_bit, heard, waiting}
 
@@ -25,35 +25,62 @@ module _ (shape : Shape) (code : ThreadCode) (plan : Planned) (m : Module) (t : 
   abbrev banks : ℕ
   banks = bank_total shape.spreads
 
+  -- whatever the core is that is asked
+  aim : (r : Reading) (q : Slot) → Obeys m r → (c : Option ℕ) → core_asked (numbers_of shape) (asked_in shape.is_main (slice_get code.stages q.stage) q.variables) ≡ c
+      → (a : Bool) × (g : Bool) × IsTarget shape code plan m t served r c a g
+  aim r q o None e = (false, false, refl)
+  aim r q o (Some c) e =
+      let inside = target_within shape.is_main (slice_get code.stages q.stage) q.variables banks shape.served c e in
+      let g = heard shape code plan m t served r o c inside.1 in
+      (true, g.0, (refl, inside.0, inside.1, g.1))
+
+  -- a core is asked as it is the one of the stage
+  pub asked_as : (r : Reading) (q : Slot) (n : ℕ) → Obeys m r → Shows shape code plan m t served r q → is_run (slice_get code.stages q.stage) ≡ false → n < cores_of shape
+      → (e : Bool) → r.signal 1 ≡ bit_of e
+      → r.signal (port_at shape m n 0)
+      ≡ bit_of (is_core (core_asked (numbers_of shape) (asked_in shape.is_main (slice_get code.stages q.stage) q.variables)) n && e)
+  asked_as r q n o shows not_so less e on =
+      let w = waiting shape code plan m t served r o in
+      let c = core_asked (numbers_of shape) (asked_in shape.is_main (slice_get code.stages q.stage) q.variables) in
+      let aims = aim r q o c refl in
+      ask_copied shape code plan m t served r n o less
+      ∙ core_asks shape code plan m t served r q o shows not_so w.0 aims.0 e aims.1 c refl aims.2 w.1 on n less
+
   pub asks_outside_so : (r : Reading) (q : Slot) (n : ℕ) → Obeys m r → Shows shape code plan m t served r q → is_run (slice_get code.stages q.stage) ≡ false → n < banks
       → r.signal (port_at shape m n 0) ≡ 0
   asks_outside_so r q n o shows not_so less =
-      let w = waiting shape code plan m t served r o in
       let e = enabled shape code plan m t served r o in
-      let g = heard shape code plan m t served r o banks (omega arith) in
-      let wide = print_wide shape code plan m t served in
-      let a = wide_bit m r t.inside.early.requests.wants o wide in
-      ask_copied shape code plan m t served r n o (let inside : n < suc banks = omega arith in inside)
-      ∙ bank_unasked shape code plan m t served r q o shows not_so w.0 a.0 e.0 g.0 (record { wide = wide; shows = a.1 }) w.1 e.1 g.1 n less
+      let c = core_asked (numbers_of shape) (asked_in shape.is_main (slice_get code.stages q.stage) q.variables) in
+      asked_as r q n o shows not_so (omega arith) e.0 e.1 ∙ ap (λ z. bit_of (z && e.0)) (before c refl)
+    where
+      before : (c : Option ℕ) → core_asked (numbers_of shape) (asked_in shape.is_main (slice_get code.stages q.stage) q.variables) ≡ c → is_core c n ≡ false
+      before None is = refl
+      before (Some c) is =
+          let inside = target_within shape.is_main (slice_get code.stages q.stage) q.variables banks shape.served c is in
+          let past = inside.0 in
+          other_number n c (λ same. absurd (omega arith))
 
-  -- the printer is asked as it is wanted
+  -- no other core of acts is asked, and in a block none is
+  pub asks_alone_so : (r : Reading) (q : Slot) (k : ℕ) → Obeys m r → Shows shape code plan m t served r q → banks ≤ k → k < cores_of shape
+      → core_asked (numbers_of shape) (asked_in shape.is_main (slice_get code.stages q.stage) q.variables) ≢ Some k → r.signal (port_at shape m k 0) ≡ 0
+  asks_alone_so r q k o shows past less other = by (is_run (slice_get code.stages q.stage)) refl
+    where
+      e : (b : Bool) × (r.signal 1 ≡ bit_of b)
+      e = enabled shape code plan m t served r o
+
+      not_it : (c : Option ℕ) → c ≢ Some k → is_core c k ≡ false
+      not_it None ne = refl
+      not_it (Some c) ne = other_number k c (λ same. ne (ap Some (sym same)))
+
+      by : (run : Bool) → is_run (slice_get code.stages q.stage) ≡ run → r.signal (port_at shape m k 0) ≡ 0
+      by true is =
+          ask_copied shape code plan m t served r k o less
+          ∙ block_quiet shape code plan m t served r q o shows is k past less e.0 (enable_bit shape code plan m t served r o e.0 e.1)
+      by false is = asked_as r q k o shows is less e.0 e.1 ∙ ap (λ z. bit_of (z && e.0)) (not_it _ other)
+
+  -- the printer of a code of main is asked at a printf alone
   pub quiet_so : (r : Reading) (q : Slot) → Obeys m r → Shows shape code plan m t served r q → is_print (slice_get code.stages q.stage) ≡ false
-      → r.signal (port_at shape m banks 0) ≡ 0
+      → r.signal (port_at shape m (printer_core (numbers_of shape)) 0) ≡ 0
   quiet_so r q o shows not_so =
-      let e = enabled shape code plan m t served r o in
-      let wants_now : ℕ → Bool = λ n. nat_eq (r.signal (slice_index t.inside.early.requests.banks.wants n)) 1 in
-      let opened =
-      open_bits shape code plan m t served r o wants_now (marked_now shape code plan m t served r) false
-      (λ n less.
-      let wide = want_wide shape code plan m t served n less in
-      let bit = wide_bit m r (slice_index t.inside.early.requests.banks.wants n) o wide in
-      record { wide = wide; shows = bit_told (r.signal (slice_index t.inside.early.requests.banks.wants n)) bit.0 bit.1 })
-      (λ n less. mark_bit shape code plan m t served r n o less) (quiet_bit shape code plan m t served r q o shows not_so) in
-      let on = enable_bit shape code plan m t served r o e.0 e.1 in
-      let count = opens_count shape code plan m t served in
-      let asked =
-      t.closed.controls.asks m r (raised_by shape code plan m t served wants_now (marked_now shape code plan m t served r) false) e.0
-      (from_control shape code plan m t served) o (λ n less. opened n (subst (λ k. n < k) count less)) on banks (subst (λ k. banks < k) (sym count) (omega arith)) in
-      ask_copied shape code plan m t served r banks o (omega arith)
-      ∙ asked.shows
-      ∙ ap (λ c. bit_of ((if c then wants_now banks && not (marked_now shape code plan m t served r banks) else false) && e.0)) (is_not_less banks)
+      asks_alone_so r q (printer_core (numbers_of shape)) o shows (omega arith) (omega arith)
+      (not_printer shape.is_main (slice_get code.stages q.stage) q.variables (numbers_of shape) not_so)

@@ -4,7 +4,7 @@ use Rattle.std.proofs.Common.{subst, ◌∙◌, arith, ⊎_elim, length-append}
 use Rattle.std.proofs.lemmas.Option.{get_or_from_slice_get}
 use Rattle.interleaving.proofs.Update.{same_or_not}
 use Rattle.hls_ints.specs.Residues.{bit_of}
-use Rattle.hls_ints.specs.Words.{word_and, word_inclusive_or, word_complement}
+use Rattle.hls_ints.specs.Words.{word_and, word_inclusive_or, word_complement, word_equal}
 use Rattle.verilog_tree.specs.declared.tree.BinaryOperator.TheVariants.{And}
 use Rattle.netlist.specs.declared.netlist.Value.TheVariants.{Binary}
 use Rattle.netlist.specs.declared.netlist.Source.TheVariants.{Assigned}
@@ -18,9 +18,10 @@ use Rattle.operator_wires.specs.Built.{Base, Lays, IsEarlier, Adds}
 use Rattle.operator_wires.proofs.Giving.{grows_refl, grows_then}
 use Rattle.operator_wires.proofs.Building.{stands_after, wires_none, wires_then}
 use Rattle.planned_block.specs.Advance.{any_below}
+use Rattle.block_datapath.proofs.Chaining.{equal_small}
 use Rattle.block_datapath.proofs.Walking.{got_last}
 use Rattle.thread_slots.specs.Slots.{StandsAt}
-use Rattle.thread_slots.specs.Bits.{HasBit, NotOf, BothOf, WithOf, MakesBits, LaysWith, MakesAny, EitherIf, AreBitsOf, AddsBits, AddsNots, AddsBoths, AddsAny, EitherAdds}
+use Rattle.thread_slots.specs.Bits.{HasBit, NotOf, BothOf, WithOf, NumberOf, MakesBits, LaysWith, MakesAny, EitherIf, AreBitsOf, AddsBits, AddsNots, AddsBoths, AddsAny, EitherAdds}
 use Rattle.thread_slots.proofs.Laying.{stands_last, stands_grow, stands_long, stands_later}
 
 -- ---- one bit
@@ -140,6 +141,15 @@ with_more a b c bits n x other place outs after t listed u same =
     (λ m r v g o made.
     subst (λ z. HasBit m r place z) (sym made.is)
     (has_both b c place x other u m r made.one made.two g o (subst (λ p. HasBit m r p made.one) (index_got bits n x listed) made.has_one) made.has_two))
+    same
+
+pub number_more : (a b c : List Signal) (of n place : ℕ) (outs after : List ℕ) → MakesBits a b n outs (NumberOf of)
+    → Gives b c place 1 (λ m r. word_equal (width m of) (r.signal of) n) → after ≡ outs ++ place ∷ [] → MakesBits a c (n + 1) after (NumberOf of)
+number_more a b c of n place outs after t u same =
+    bits_more (NumberOf of) a b c n place outs after t u.grows
+    (λ m r v g o made.
+    subst (λ z. HasBit m r place z) (sym made.is)
+    (record { wide = u.wide m g; shows = u.shows m r g o ∙ equal_small (width m of) 64 (r.signal of) n made.wide made.fits made.small }))
     same
 
 -- ---- where they stand

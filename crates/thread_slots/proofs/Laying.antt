@@ -21,6 +21,8 @@ use Rattle.thread_promise.specs.Types.{value_type}
 use Rattle.block_datapath.specs.declared.registers.Held.{Held}
 use Rattle.block_datapath.specs.declared.registers.Registers.{Registers}
 use Rattle.block_datapath.proofs.Walking.{got_before, got_last}
+use Rattle.std.specs.Prelude.{string_bytes}
+use Rattle.thread_slots.specs.Naming.{register_name, LaysNamed, IsNamedAt, AreNamed}
 use Rattle.thread_slots.specs.Slots.{StandsAt, LaysRegister, StandFrom, LaysAll, IsHeldAt, LaysSlot, Widens, HasRoomAt, KeepsOperations}
 
 -- ---- places
@@ -89,16 +91,49 @@ held_at a b c w initial place h t g e = record {
       (stands_later b c (length a) w (source.Register initial) g (stands_last a b w h.register (source.Register initial) t.stands)));
 }
 
+-- ---- names
+
+named_last : (a b : List Signal) (name : List ℕ) (w : ℕ) (h : Held) → LaysNamed a b name w h → IsNamedAt b (length a) name
+named_last a b name w h t = record { signal = t.signal; listed = ap (λ l. slice_get l (length a)) t.is ∙ got_last a t.signal; named = t.named }
+
+named_later : (a b : List Signal) (place : ℕ) (name : List ℕ) → Grows a b → IsNamedAt a place name → IsNamedAt b place name
+named_later a b place name g t = record { signal = t.signal; listed = listed a b place t.signal g t.listed; named = t.named }
+
+pub are_named_later : (a b : List Signal) (from : ℕ) (names : List (List ℕ)) (n : ℕ) → Grows a b → AreNamed a from names n → AreNamed b from names n
+are_named_later a b from names n g t k less = named_later a b (from + k) (register_name names k (from + k)) g (t k less)
+
+pub named_stands : (a b : List Signal) (name : List ℕ) (w : ℕ) (h : Held) → LaysNamed a b name w h → Stands a b w (source.Register 0) h.register
+named_stands a b name w h t = record { last = t.last; signal = t.signal; is = t.is; wide = t.wide; drives = t.drives }
+
+pub named_none : (a : List Signal) (from : ℕ) (names : List (List ℕ)) → AreNamed a from names 0
+named_none a from names k less = absurd (omega arith)
+
+pub named_more : (a b c : List Signal) (names : List (List ℕ)) (n w : ℕ) (h : Held) → length b ≡ length a + n → AreNamed b (length a) names n →
+    LaysNamed b c (register_name names n (length b)) w h → AreNamed c (length a) names (n + 1)
+named_more a b c names n w h long t u k less =
+    ⊎_elim
+    (λ (same : k ≡ n).
+    let at : length b ≡ length a + k = long ∙ ap (λ i. length a + i) (sym same) in
+    subst (λ x. IsNamedAt c x (register_name names k x)) at
+    (subst (λ i. IsNamedAt c (length b) (register_name names i (length b))) (sym same) (named_last b c (register_name names n (length b)) w h u)))
+    (λ (ne : k ≢ n).
+    named_later b c (length a + k) (register_name names k (length a + k)) (stands_grow b c w h.register (source.Register 0) (named_stands b c (register_name names n (length b)) w h u))
+    (t k (let z : k < n = omega arith in z)))
+    (same_or_not k n)
+
+-- ---- the slot
+
 pub slot_laid : (a b c d e f : List Signal) (code : ThreadCode) (plan : Planned) (first end most stage_width state_width : ℕ) (widths kept_widths : List ℕ)
     (types : List IntegerType)
     (plans : List StagePlan) (words : List Held) (spreads : List Spread) (registers : Registers) → registers.words ≡ words → registers.spreads ≡ spreads → plans ≡ plan.stages →
     types ≡ code.variables → widths ≡ map width_of types → end ≡ length code.stages
-    → end < 2 ^ stage_width → most ≤ 2 ^ state_width → most < 2 ^ 64 → ((l : ℕ) (p : BlockPlan) → slice_get plans l ≡ Some (planned.Run p) → p.states ≤ most)
+    → end + end < 2 ^ stage_width → most ≤ 2 ^ state_width → most < 2 ^ 64 → ((l : ℕ) (p : BlockPlan) → slice_get plans l ≡ Some (planned.Run p) → p.states ≤ most)
     → LaysRegister a b stage_width first registers.stage → LaysRegister b c state_width 0 registers.state → Stands c d 1 (source.Register 0) registers.beat
-    → LaysAll (source.Register 0) d e widths (length widths) registers.variables → LaysAll (source.Register 0) e f kept_widths (length kept_widths) registers.kept
+    → LaysAll (source.Register 0) d e widths (length widths) registers.variables → AreNamed e (length d) (map string_bytes code.names) (length widths)
+    → LaysAll (source.Register 0) e f kept_widths (length kept_widths) registers.kept
     → LaysSlot code plan first kept_widths words spreads a f registers
 slot_laid a b c d e f code plan first end most stage_width state_width widths kept_widths types plans words spreads registers words_are spreads_are plans_are types_are widths_are
-    end_is room state_room fits states s t u v w =
+    end_is room state_room fits states s t u v named w =
     let b_long = stands_long a b stage_width registers.stage.register (source.Register first) s.stands in
     let c_long = stands_long b c state_width registers.state.register (source.Register 0) t.stands in
     let d_long = stands_long c d 1 registers.beat (source.Register 0) u in
@@ -128,11 +163,15 @@ slot_laid a b c d e f code plan first end most stage_width state_width widths ke
           (subst (λ (l : List ℕ). StandFrom (source.Register 0) f (length a + 3) l registers.variables (length widths)) list
           (subst (λ (x : ℕ). StandFrom (source.Register 0) f x widths registers.variables (length widths)) at_variables
           (stand_later (source.Register 0) e f (length d) widths registers.variables (length widths) w.grows v.each)));
+      variables_named =
+          subst (λ (n : ℕ). AreNamed f (length a + 3) (map string_bytes code.names) n) count
+          (subst (λ (x : ℕ). AreNamed f x (map string_bytes code.names) (length widths)) at_variables
+          (are_named_later e f (length d) (map string_bytes code.names) (length widths) w.grows named));
       kept_count = w.count;
       words_are = words_are;
       spreads_are = spreads_are;
       kept = subst (λ (x : ℕ). StandFrom (source.Register 0) f x kept_widths registers.kept (length kept_widths)) at_kept w.each;
-      stage_room = subst (λ (n : ℕ). length code.stages < 2 ^ n) (sym s.width) (subst (λ (n : ℕ). n < 2 ^ stage_width) end_is room);
+      stage_room = subst (λ (n : ℕ). length code.stages + length code.stages < 2 ^ n) (sym s.width) (subst (λ (n : ℕ). n + n < 2 ^ stage_width) end_is room);
       state_room = λ l p listed. subst (λ (n : ℕ). p.states ≤ 2 ^ n) (sym t.width) (let h = held_states l p listed in omega arith);
       states_fit = λ l p listed. (let h = held_states l p listed in omega arith);
     }

@@ -1,6 +1,6 @@
 -- Chains through the stages of acts: their links stand.
 use Rattle.std.proofs.Common.{◌≡◌, ℕ, ◌+◌, ◌<◌, ◌≤◌, ◌^◌, List, length, Some, sym, ap, subst, ◌∙◌, arith}
-use Rattle.std.specs.Prelude.{Result, Ok, Err, OnOk, slice_get}
+use Rattle.std.specs.Prelude.{Result, Ok, Err, IfOk, OnOk, slice_get}
 use Rattle.std.proofs.lemmas.Option.{slice_get_within}
 use Rattle.circuit.specs.Rows.{spread}
 use Rattle.circuit.proofs.Growth.{length-spread, slice_get-spread}
@@ -16,6 +16,10 @@ use Rattle.thread_slots.specs.Wired.{field_width, AreSlots}
 pub on_two : {A E : Type 0} (x : Result A E) (P Q R : Type 0) → (P → Q → R) → OnOk x P → OnOk x Q → OnOk x R
 on_two (Ok a) P Q R h p q = h p q
 on_two (Err e) P Q R h p q = tt
+
+pub of_two : {A E : Type 0} (x : Result A E) (P Q R : A → Type 0) → ((a : A) → P a → Q a → R a) → IfOk x P → IfOk x Q → IfOk x R
+of_two (Ok a) P Q R h p q = h a p q
+of_two (Err e) P Q R h p q = tt
 
 -- ---- what is asked of wires
 

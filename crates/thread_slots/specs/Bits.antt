@@ -1,5 +1,5 @@
 -- Lists of bits.
-use Rattle.std.specs.Prelude.{◌≡◌, ℕ, ◌+◌, ◌-◌, ◌<◌, Bool, not, ◌&&◌, ◌||◌, nat_le, nat_lt, List, length, Some, slice_get, slice_index}
+use Rattle.std.specs.Prelude.{◌≡◌, ℕ, ◌+◌, ◌-◌, ◌<◌, ◌^◌, Bool, not, ◌&&◌, ◌||◌, nat_eq, nat_le, nat_lt, List, length, Some, slice_get, slice_index}
 use Rattle.hls_ints.specs.Residues.{bit_of}
 use Rattle.bank_partition.specs.declared.banks.Spread.{Spread}
 use Rattle.verilog_tree.specs.declared.tree.BinaryOperator.TheVariants.{And}
@@ -44,6 +44,12 @@ pub record WithOf (bits : List ℕ) (other : ℕ) (m : Module) (r : Reading) (k 
   pub has_one : HasBit m r (slice_index bits k) one
   pub has_two : HasBit m r other two
   pub is : t ≡ (one && two)
+
+pub record NumberOf (of : ℕ) (m : Module) (r : Reading) (k : ℕ) (t : Bool) : Type 0 where
+  pub wide : width m of ≡ 64
+  pub small : k < 2 ^ 64
+  pub fits : r.signal of < 2 ^ 64
+  pub is : t ≡ nat_eq (r.signal of) k
 
 -- n signals are put behind others, each of which shows what it is made of
 pub record MakesBits (old new : List Signal) (n : ℕ) (outs : List ℕ) (Made : Module → Reading → ℕ → Bool → Type 0) : Type 0 where
@@ -94,6 +100,9 @@ module _ (old new : List Signal) where
 
   abbrev pub AddsWiths : List ℕ → ℕ → List ℕ → Type 0
   AddsWiths bits other outs = (base : Base) → AreBitsOf base old bits → IsEarlier old base other 1 → AddsBits base old new outs
+
+  abbrev pub AddsNumbers : ℕ → List ℕ → Type 0
+  AddsNumbers of outs = (base : Base) → IsEarlier old base of 64 → AddsBits base old new outs
 
   abbrev pub AddsAny : ℕ → List ℕ → ℕ → Type 0
   AddsAny first bits out = (base : Base) → AreBitsOf base old bits → IsEarlier old base first 1 → Adds base old new 1 out

@@ -1,23 +1,13 @@
 -- The stages in which a thread waits forever.
-use Rattle.std.specs.Prelude.{Bool, true, false, not, Option, Some, None}
-use Rattle.block_ir.specs.declared.code.Act.{Act}
-use Rattle.block_ir.specs.declared.code.Act.TheVariants.{Print, Return}
+use Rattle.std.specs.Prelude.{Bool, true, false, Option, Some, None}
 use Rattle.block_ir.specs.declared.code.Stage.{Stage}
 use Rattle.block_ir.specs.declared.code.Stage.TheVariants as stage
 use Rattle.block_ir.specs.declared.plan.StagePlan.{StagePlan}
 use Rattle.block_ir.specs.declared.plan.StagePlan.TheVariants as planned
 
--- ---- where
-
--- a thread goes on from a printf and from a return; at any other act it waits forever
-abbrev pub goes_on : Act → Bool
-goes_on (Print site values) = true
-goes_on Return = true
-goes_on _ = false
-
--- so it does at a block without a plan of one
+-- a block without a plan of one
 abbrev pub is_idle : Stage → Option StagePlan → Bool
 is_idle (stage.Run b) (Some (planned.Run p)) = false
 is_idle (stage.Run b) (Some planned.Act) = true
 is_idle (stage.Run b) None = true
-is_idle (stage.Act a next) plan = not (goes_on a)
+is_idle (stage.Act a next) plan = false

@@ -4,7 +4,10 @@ pub mod Hearing
 pub mod Idle
 pub mod Inputs
 pub mod Links
+pub mod Naming
+pub mod Numbers
 pub mod Requests
+pub mod Services
 pub mod Slots
 pub mod Stores
 pub mod Wired

@@ -1,5 +1,5 @@
 -- The registers of a slot: where they stand, and how wide they are.
-use Rattle.std.specs.Prelude.{◌≡◌, ℕ, ◌+◌, ◌<◌, ◌≤◌, ◌^◌, List, length, map, Option, Some, slice_get}
+use Rattle.std.specs.Prelude.{◌≡◌, ℕ, ◌+◌, ◌<◌, ◌≤◌, ◌^◌, List, length, map, Option, Some, slice_get, string_bytes}
 use Rattle.hls_ints.specs.Types.{IntegerType, width_of}
 use Rattle.bank_partition.specs.declared.banks.Spread.{Spread}
 use Rattle.block_ir.specs.declared.block.Operation.{Operation}
@@ -21,6 +21,7 @@ use Rattle.block_datapath.specs.declared.registers.Held.{Held}
 use Rattle.block_datapath.specs.declared.registers.Registers.{Registers}
 use Rattle.netlist.specs.declared.netlist.Module.{Module}
 use Rattle.verilog_meaning.specs.Readings.{Reading, width}
+use Rattle.thread_slots.specs.Naming.{AreNamed}
 
 -- a signal of this width stands at a place, driven so
 pub record StandsAt (signals : List Signal) (place w : ℕ) (driver : Source) : Type 0 where
@@ -63,12 +64,14 @@ pub record LaysSlot (code : ThreadCode) (plan : Planned) (first : ℕ) (kept_wid
   pub beat_stands : StandsAt new (length old + 2) 1 (source.Register 0)
   pub variables_count : length registers.variables ≡ length code.variables
   pub variables : StandFrom (source.Register 0) new (length old + 3) (map width_of code.variables) registers.variables (length code.variables)
+  -- called after the locals of C
+  pub variables_named : AreNamed new (length old + 3) (map string_bytes code.names) (length code.variables)
   pub kept_count : length registers.kept ≡ length kept_widths
   pub kept : StandFrom (source.Register 0) new (length old + 3 + length code.variables) kept_widths registers.kept (length kept_widths)
   pub words_are : registers.words ≡ words
   pub spreads_are : registers.spreads ≡ spreads
-  -- the stage and the state have room for all that there are
-  pub stage_room : length code.stages < 2 ^ registers.stage.width
+  -- the stage and the state have room for all that there are, and for a meeting of each stage
+  pub stage_room : length code.stages + length code.stages < 2 ^ registers.stage.width
   pub state_room : (l : ℕ) (p : BlockPlan) → slice_get plan.stages l ≡ Some (planned.Run p) → p.states ≤ 2 ^ registers.state.width
   pub states_fit : (l : ℕ) (p : BlockPlan) → slice_get plan.stages l ≡ Some (planned.Run p) → p.states < 2 ^ 64
 
@@ -105,8 +108,8 @@ module _ (globals : List IntegerType) (code : ThreadCode) where
 
 -- ---- one stage
 
--- the register of the stage is as wide as it says, and has room for each stage and the end
+-- the register of the stage is as wide as it says, and has room for each stage, the end, and a meeting of each stage
 pub record KnowsStage (code : ThreadCode) (registers : Registers) (m : Module) (r : Reading) : Type 0 where
   pub wide : width m registers.stage.register ≡ registers.stage.width
-  pub room : length code.stages < 2 ^ registers.stage.width
+  pub room : length code.stages + length code.stages < 2 ^ registers.stage.width
   pub fits : r.signal registers.stage.register < 2 ^ registers.stage.width

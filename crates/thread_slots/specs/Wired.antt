@@ -1,5 +1,5 @@
 -- The output ports: one behind the other, each a copy.
-use Rattle.std.specs.Prelude.{ℕ, nat_eq, if◌then◌else◌, ◌≡◌, ◌<◌, ◌≤◌, ◌^◌, true, false, List, length, Some, slice_get}
+use Rattle.std.specs.Prelude.{ℕ, ◌+◌, nat_eq, if◌then◌else◌, ◌≡◌, ◌<◌, ◌≤◌, ◌^◌, true, false, List, length, Some, slice_get, codes}
 use Rattle.hls_ints.specs.Types.{IntegerType, width_of}
 use Rattle.block_ir.specs.declared.code.ThreadCode.{ThreadCode}
 use Rattle.block_ir.specs.declared.plan.BlockPlan.{BlockPlan}
@@ -7,9 +7,9 @@ use Rattle.block_ir.specs.declared.plan.StagePlan.TheVariants as planned
 use Rattle.block_ir.specs.declared.plan.Planned.{Planned}
 use Rattle.netlist.specs.declared.netlist.Source.TheVariants.{Input, Register}
 use Rattle.netlist.specs.declared.netlist.Signal.{Signal}
+use Rattle.verilog_meaning.specs.Names.{numbered}
 use Rattle.module_sound.specs.Names.{place_of}
-use Rattle.operator_wires.specs.declared.wires.Role.{Role}
-use Rattle.operator_wires.specs.Built.{Base, name_at, IsEarlier, AreWires, StandsAs}
+use Rattle.operator_wires.specs.Built.{Base, IsEarlier, AreWires, StandsAs}
 use Rattle.block_datapath.specs.declared.registers.Held.{Held}
 use Rattle.block_datapath.specs.declared.registers.Registers.{Registers}
 use Rattle.block_datapath.specs.declared.operands.Given.{Given}
@@ -29,13 +29,13 @@ AreFit widths = (x w : ℕ) → slice_get widths x ≡ Some w → (1 ≤ w) × (
 
 -- ---- inputs, registers, outputs
 
--- the name is that of a signal at the place
-abbrev pub IsSpelled : ℕ → Signal → Type 0
-IsSpelled x s = (role : Role) × (s.name ≡ name_at role x)
+-- the name is no memory's
+abbrev pub IsNoMemory : ℕ → Signal → Type 0
+IsNoMemory x s = x < 2 ^ 64 → (j : ℕ) → j < 2 ^ 64 → s.name ≡ numbered (codes "array") j → ⊥
 
 -- an input under a name that tells its place
 pub record IsInnerInput (x : ℕ) (s : Signal) : Type 0 where
-  pub spelled : IsSpelled x s
+  pub unlike : IsNoMemory x s
   pub named : (n inputs : ℕ) → x < 2 ^ 64 → place_of n inputs s.name ≡ Some x
   pub inner : s.is_output ≡ false
   pub low : 1 ≤ s.width
@@ -44,7 +44,7 @@ pub record IsInnerInput (x : ℕ) (s : Signal) : Type 0 where
 
 -- a register under a name that tells its place behind so many inputs
 pub record IsSlotRegister (inputs x : ℕ) (s : Signal) : Type 0 where
-  pub spelled : IsSpelled x s
+  pub unlike : IsNoMemory x s
   pub named : (n : ℕ) → x < 2 ^ 64 → place_of n inputs s.name ≡ Some x
   pub inner : s.is_output ≡ false
   pub low : 1 ≤ s.width
@@ -55,7 +55,7 @@ pub record IsSlotRegister (inputs x : ℕ) (s : Signal) : Type 0 where
 
 -- an output under a name that tells its place among n signals
 pub record IsNamedOutput (n x : ℕ) (s : Signal) : Type 0 where
-  pub spelled : IsSpelled x s
+  pub unlike : IsNoMemory x s
   pub named : (inputs : ℕ) → x < 2 ^ 64 → place_of n inputs s.name ≡ Some x
   pub flag : s.is_output ≡ true
 
@@ -86,7 +86,7 @@ module _ (base : Base) (signals : List Signal) where
     pub kept : StandAll registers.kept
     pub typed : (x : ℕ) (h : Held) (ty : IntegerType) → slice_get registers.variables x ≡ Some h → slice_get code.variables x ≡ Some ty → h.width ≡ width_of ty
     pub count : length registers.variables ≡ length code.variables
-    pub room : length code.stages < 2 ^ registers.stage.width
+    pub room : length code.stages + length code.stages < 2 ^ registers.stage.width
     pub arrays : HasMemories base code
     -- and inputs of banks, where they may be read
     pub words : (n : ℕ) (h : Held) → slice_get registers.words n ≡ Some h → base.first ≤ h.register → IsEarlier signals base h.register h.width

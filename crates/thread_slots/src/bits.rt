@@ -1,7 +1,8 @@
 // Lists of bits.
 
 ghost use Rattle.std.specs.Prelude.{◌≡◌, true, length, slice_index, IfOk};
-ghost use Rattle.thread_slots.specs.Bits.{NotOf, BothOf, WithOf, MakesBits, LaysWith, AddsNots, AddsBoths, AddsWiths, MakesAny, AddsAny, EitherIf, EitherAdds, is_in};
+ghost use Rattle.thread_slots.specs.Bits.{NotOf, BothOf, WithOf, NumberOf, MakesBits, LaysWith, MakesAny, EitherIf, is_in};
+ghost use Rattle.thread_slots.specs.Bits.{AddsNots, AddsBoths, AddsWiths, AddsNumbers, AddsAny, EitherAdds};
 
 use bank_partition::banks::Spread;
 use operator_wires::wires::Wires;
@@ -57,6 +58,19 @@ pub fn both_with(
     let mut outs = Items::new(wires.alloc);
     for bit in bits {
         let out = wires.both(*bit, other)?;
+        outs.push(out)?;
+    }
+    Ok(outs)
+}
+
+/// For each of the first numbers whether a signal of 64 bits shows it.
+pub fn is_each(wires: &mut Wires, of: usize, count: usize) -> Result<Items<usize>, AllocError>
+    ensures shows { IfOk result (λ outs. MakesBits wires.old.signals wires.new.signals count outs (NumberOf of)) }
+    ensures wired { IfOk result (AddsNumbers wires.old.signals wires.new.signals of) }
+{
+    let mut outs = Items::new(wires.alloc);
+    for number in 0..count {
+        let out = wires.is_number(64, of, number as u64)?;
         outs.push(out)?;
     }
     Ok(outs)

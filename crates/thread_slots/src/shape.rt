@@ -1,9 +1,24 @@
 // What surrounds the module of a thread: its place in the net.
 
+ghost use Rattle.std.specs.Prelude.{◌≡◌, IfOk};
+ghost use Rattle.thread_slots.specs.Services.{services as services_of};
+
 use bank_partition::banks::Spread;
 use hls_ints::CType;
 use sqlite_items::Items;
+use std::alloc::{AllocError, Global};
 use verilog_tree::name::Identifier;
+
+/// The kinds of cores that acts ask.
+#[derive(Clone, Copy)]
+pub enum Service {
+    Mutexes,
+    Barriers,
+    /// The core of the thread ids.
+    Ids,
+    /// The core that writes the output.
+    Prints,
+}
 
 /// The core that writes the output.
 #[derive(Clone, Copy)]
@@ -12,6 +27,34 @@ pub struct Printer {
     pub site_width: u64,
     /// How many values it takes with a site, each of 64 bits.
     pub values: usize,
+}
+
+/// The cores that acts ask.
+#[derive(Clone, Copy)]
+pub struct Served {
+    /// How many mutexes there are.
+    pub mutexes: usize,
+    /// How many barriers there are.
+    pub barriers: usize,
+    /// Whether there is a core of the thread ids.
+    pub ids: bool,
+    pub printer: Printer,
+}
+
+impl Served {
+    /// Of each core that acts ask its kind, in the order of the cores.
+    pub fn services(self, alloc: Global) -> Result<Items<Service>, AllocError>
+        ensures { IfOk result (λ services. services ≡ services_of self) }
+    {
+        let mut services = Items::from_vec(vec![in alloc; Service::Mutexes; self.mutexes]?);
+        let barriers = Items::from_vec(vec![in alloc; Service::Barriers; self.barriers]?);
+        services.append(barriers)?;
+        if self.ids {
+            services.push(Service::Ids)?;
+        }
+        services.push(Service::Prints)?;
+        Ok(services)
+    }
 }
 
 /// The thread's name and kind, and the cores that it asks.
@@ -25,6 +68,6 @@ pub struct Shape {
     pub globals: Items<CType>,
     /// Where the banks of each global stand among all banks.
     pub spreads: Items<Spread>,
-    /// The core that writes what the thread prints.
-    pub printer: Printer,
+    /// The cores that acts ask.
+    pub served: Served,
 }

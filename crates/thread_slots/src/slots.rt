@@ -1,6 +1,6 @@
 // The registers of a slot, and how wide they are.
 
-ghost use Rattle.std.specs.Prelude.{◌≡◌, ℕ, ◌+◌, ◌^◌, ◌<◌, ◌≤◌, false, [], map, length, slice_get, Some, IfOk, if◌then◌else◌};
+ghost use Rattle.std.specs.Prelude.{◌≡◌, ℕ, ◌+◌, ◌^◌, ◌<◌, ◌≤◌, false, [], map, length, slice_get, string_bytes, Some, IfOk, if◌then◌else◌};
 ghost use Rattle.hls_ints.specs.Types.{width_of as type_width};
 ghost use Rattle.planned_view.specs.View.{register_at};
 ghost use Rattle.block_ir.specs.declared.plan.BlockPlan.{BlockPlan};
@@ -9,8 +9,10 @@ ghost use Rattle.block_ir.specs.declared.plan.StagePlan.TheVariants as planned;
 ghost use Rattle.netlist.specs.declared.netlist.Source.TheVariants as source;
 ghost use Rattle.operator_wires.specs.Built.{is_single};
 ghost use Rattle.thread_slots.specs.Wired.{Behind, AreFit, IsSlotRegister};
+ghost use Rattle.thread_slots.specs.Naming.{register_name, LaysNamed, AreNamed};
 ghost use Rattle.thread_slots.specs.Slots.{LaysRegister, LaysAll, LaysSlot, Widens, HasRoomAt, KeepsOperations, WidensStage, AreKeptWidths};
 
+use crate::names::register_name;
 use bank_partition::banks::Spread;
 use block_datapath::operations::{register_of, value_type};
 use block_datapath::registers::{Held, Registers};
@@ -18,6 +20,7 @@ use block_ir::block::{Block, Operation};
 use block_ir::code::{Stage, ThreadCode};
 use block_ir::plan::{BlockPlan, Planned, StagePlan};
 use hls_ints::CType;
+use netlist::netlist::{Signal, Source};
 use operator_wires::wires::{Role, Wires};
 use sqlite_items::Items;
 use std::alloc::{AllocError, Global};
@@ -72,7 +75,8 @@ pub fn lay_registers(
     ensures wired { IfOk result (λ registers. AreFit kept_widths.now → Behind (IsSlotRegister (length wires.old.signals)) wires.old.signals wires.new.signals) }
 {
     let end = code.stages.len() as u64;
-    let width = width_of(end);
+    let most = most_numbers(end)?;
+    let width = width_of(most);
     let first = first_stage(is_main, end);
     let stage = lay_register(wires, Role::Stage, width, first)?;
     let states = most_states(planned.stages.as_slice());
@@ -80,7 +84,8 @@ pub fn lay_registers(
     let state = lay_register(wires, Role::State, state_width, 0)?;
     let beat = wires.register(Role::Beat, 1, 0)?;
     let widths = variable_widths(wires.alloc, code.variables.as_slice())?;
-    let variables = lay_all(wires, Role::Variable, widths.as_slice())?;
+    let names = code.names.as_slice();
+    let variables = lay_variables(wires, widths.as_slice(), names)?;
     let kept = lay_all(wires, Role::Kept, kept_widths)?;
     let units = Items::new(wires.alloc);
     Ok(Registers {
@@ -93,6 +98,13 @@ pub fn lay_registers(
         spreads,
         units,
     })
+}
+
+/// The greatest number of a stage: of so many, the rest, and a meeting of each.
+fn most_numbers(stages: u64) -> Result<u64, AllocError>
+    ensures { IfOk result (λ most. most ≡ stages + stages) }
+{
+    stages.checked_add(stages).ok_or(AllocError)
 }
 
 /// A width for the numbers of so many states.
@@ -131,6 +143,43 @@ pub fn lay_all(wires: &mut Wires, role: Role, widths: &[u64]) -> Result<Items<He
         registers.push(held)?;
     }
     Ok(registers)
+}
+
+/// A register for the value of each variable, named after the C local that it is.
+fn lay_variables(
+    wires: &mut Wires,
+    widths: &[u64],
+    names: &[String],
+) -> Result<Items<Held>, AllocError>
+    ensures lays { IfOk result (LaysAll (source.Register 0) wires.old.signals wires.new.signals widths.now (length widths.now)) }
+    ensures named { IfOk result (λ registers. AreNamed wires.new.signals (length wires.old.signals) (map string_bytes names.now) (length widths.now)) }
+    ensures wired { IfOk result (λ registers. (inputs : ℕ) → AreFit widths.now → Behind (IsSlotRegister inputs) wires.old.signals wires.new.signals) }
+{
+    let mut registers = Items::new(wires.alloc);
+    for (number, width) in widths.iter().enumerate() {
+        let held = lay_variable(wires, names, number, *width)?;
+        registers.push(held)?;
+    }
+    Ok(registers)
+}
+
+fn lay_variable(
+    wires: &mut Wires,
+    names: &[String],
+    number: usize,
+    width: u64,
+) -> Result<Held, AllocError>
+    ensures { IfOk result (LaysNamed wires.old.signals wires.new.signals (register_name (map string_bytes names.now) number (length wires.old.signals)) width) }
+{
+    let register = wires.signals.len();
+    let name = register_name(wires.alloc, names, number, register)?;
+    wires.signals.push(Signal {
+        name,
+        width,
+        is_output: false,
+        source: Source::Register(0),
+    })?;
+    Ok(Held { register, width })
 }
 
 fn variable_widths(alloc: Global, types: &[CType]) -> Result<Items<u64>, AllocError>

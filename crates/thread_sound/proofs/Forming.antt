@@ -1,5 +1,5 @@
 -- The module of a thread is checked by how it is made: its signals are graded, and stand at the places of their kinds.
-use Rattle.std.proofs.Common.{◌≡◌, ℕ, zero, suc, ◌+◌, ◌-◌, ◌*◌, ◌/◌, ◌%◌, ◌<◌, ◌≤◌, ◌^◌, min, Bool, true, false, List, [], ◌∷◌, ◌++◌, length, map, Some, refl, sym, ap, subst}
+use Rattle.std.proofs.Common.{◌≡◌, ℕ, zero, suc, ◌+◌, ◌-◌, ◌<◌, ◌≤◌, ◌^◌, min, Bool, true, false, List, [], ◌∷◌, ◌++◌, length, map, Some, refl, sym, ap, subst}
 use Rattle.std.proofs.Common.{◌∙◌, arith, ⊎_elim, append_assoc, length-append}
 use Rattle.std.specs.Prelude.{slice_get, slice_index}
 use Rattle.std.proofs.lemmas.Option.{slice_get_within, get_or_from_slice_get}
@@ -34,7 +34,9 @@ use Rattle.operator_wires.proofs.Building.{within, longer, front, stands_after}
 use Rattle.block_datapath.specs.declared.registers.Held.{Held}
 use Rattle.block_datapath.specs.Wired.{HasWidthAt, AreChains}
 use Rattle.block_datapath.specs.Requests.{AreAsMany}
-use Rattle.thread_slots.specs.declared.shape.Printer.{Printer}
+use Rattle.thread_slots.specs.declared.shape.Service.{Service as CoreKind}
+use Rattle.thread_slots.specs.Requests.{group}
+use Rattle.thread_slots.specs.Services.{service_of, services, number_width}
 use Rattle.thread_slots.specs.declared.shape.Shape.{Shape}
 use Rattle.thread_slots.specs.Bits.{AreBitsOf}
 use Rattle.thread_slots.specs.Slots.{StandsAt}
@@ -42,23 +44,24 @@ use Rattle.thread_requests.specs.Early.{held_width}
 use Rattle.core_ports.specs.Ports.{asks_of, thread_outputs}
 use Rattle.thread_requests.specs.declared.outputs.Row.{Row}
 use Rattle.thread_requests.specs.Outputs.{CopiesAt, rows_at, fields_from}
-use Rattle.thread_slots.specs.Wired.{field_width, IsSpelled, IsInnerInput, IsSlotRegister}
+use Rattle.thread_slots.specs.Wired.{field_width, IsNoMemory, IsInnerInput, IsSlotRegister}
 use Rattle.thread_states.specs.Actions.{set_action, sets_from}
 use Rattle.thread_slots.specs.Cells.{store_action}
 use Rattle.thread_layout.specs.Modules.{marks_of, IsWiredInside, IsModule}
-use Rattle.thread_layout.specs.Thread.{input_count, core_ports, first_output, port_at, need_at, done_at, IsServed}
-use Rattle.thread_layout.specs.Memories.{memories_from, early_base, heard_base, control_base}
+use Rattle.thread_layout.specs.Thread.{cores_of, inputs_of, core_ports, first_output, port_at, need_at, done_at, IsServed}
+use Rattle.thread_layout.specs.Memories.{memories_from, base_behind, control_base}
 use Rattle.thread_states.specs.Wired.{IsSteered, WiresControl}
 use Rattle.thread_sound.specs.Leaf.{IsChecked}
 use Rattle.thread_slots.proofs.Gating.{index_there}
 use Rattle.thread_slots.proofs.Laying.{stands_later}
-use Rattle.thread_slots.proofs.Wiring.{name_tells}
+use Rattle.thread_slots.proofs.Wiring.{name_tells, name_differs}
 use Rattle.thread_layout.proofs.Opened.{wired}
 use Rattle.thread_layout.proofs.Resting.{mark_at}
 use Rattle.thread_layout.proofs.Placed.{from_inside, from_control, from_heard, from_early, from_slot, from_inputs, from_ports, inputs_long, registers_long, cores, words_count}
-use Rattle.thread_layout.proofs.Placed.{opens_count, got_any, enable_at, enable_stands, grant_at, grant_stands, stage_at, stage_stands, state_at, state_stands, beat_at}
+use Rattle.thread_layout.proofs.Placed.{opens_count, first_stage, got_any, enable_at, enable_stands, grant_at, grant_stands, stage_at, stage_stands, state_at, state_stands, beat_at}
 use Rattle.thread_layout.proofs.Placed.{beat_stands, variable_held, kept_held, mark_held, variables_at, kept_at, granted_at, before_outputs, bank_outputs}
-use Rattle.thread_layout.proofs.Placed.{HasBankOutputs, ask_stands, field_stands, need_stands, done_stands, all_long, ports_count, rows, widths_are, bank_listed, printer_rows, printer_listed}
+use Rattle.thread_layout.proofs.Placed.{HasBankOutputs, ask_stands, field_stands, need_stands, done_stands, all_long, ports_count, rows, widths_are, bank_listed, act_listed, own_act_rows, ports_long}
+use Rattle.thread_layout.proofs.Cores.{services_count}
 use Rattle.thread_layout.proofs.Rowing.{HaveWidths, row_width, own_asks, row_found, place_of_rows, all_count}
 use Rattle.thread_sound.proofs.Grading.{none_read, level, input_level, slot_level, stage_level, asks_level, control_level, asked_level, told_level, most_level, grades}
 use Rattle.thread_sound.proofs.Grading.{grade_listed, earlier_operand, wire_graded, wire_ranges}
@@ -77,14 +80,14 @@ mapped_from : (hs : List Held) (k x : ℕ) → slice_get (map (λ (h : Held). h.
 mapped_from hs k x e = let less = slice_get_within (map (λ (h : Held). h.register) hs) k x e in let count = length-map hs (λ (h : Held). h.register) in omega arith
 
 module _ (shape : Shape) (code : ThreadCode) (plan : Planned) (m : Module) (t : IsModule shape code plan m) (served : IsServed shape code plan) where
-  inner : IsWiredInside code plan shape t.laid.with_inputs t.laid.with_slot t.laid.with_early t.laid.with_heard t.with_inside t.inside
+  inner : IsWiredInside code plan shape t.laid.with_ports t.laid.with_inputs t.laid.with_slot t.laid.with_early t.laid.with_heard t.with_inside t.inside
   inner = wired shape code plan m t served
 
   abbrev banks : ℕ
   banks = bank_total shape.spreads
 
   abbrev behind : ℕ
-  behind = input_count banks
+  behind = inputs_of shape
 
   abbrev inside_to : Grows t.with_inside m.signals
   inside_to = from_inside shape code plan m t served
@@ -103,13 +106,13 @@ module _ (shape : Shape) (code : ThreadCode) (plan : Planned) (m : Module) (t : 
 
   -- what wires stand on
   abbrev before : Base
-  before = early_base (length t.inside.slot.words) code
+  before = base_behind (length t.laid.with_inputs) code
 
   abbrev hearing : Base
-  hearing = heard_base (length t.inside.slot.words) code
+  hearing = base_behind (length t.laid.with_ports) code
 
   abbrev stages : Base
-  stages = early_base (length t.inside.slot.words) code
+  stages = base_behind (length t.laid.with_inputs) code
 
   -- where parts begin
   abbrev n : ℕ
@@ -125,7 +128,7 @@ module _ (shape : Shape) (code : ThreadCode) (plan : Planned) (m : Module) (t : 
   d = length t.with_inside
 
   abbrev a : ℕ
-  a = d + suc banks
+  a = d + cores_of shape
 
   abbrev e : ℕ
   e = length t.closed.with_control
@@ -136,6 +139,15 @@ module _ (shape : Shape) (code : ThreadCode) (plan : Planned) (m : Module) (t : 
 
   counted : length t.inside.slot.words ≡ banks
   counted = words_count shape code plan m t served
+
+  inputs_first : length t.laid.with_inputs ≡ behind
+  inputs_first = inputs_long shape code plan m t served
+
+  some_inputs : 0 < length t.laid.with_inputs
+  some_inputs = let one = inputs_first in omega arith
+
+  ports_first : length t.laid.with_ports ≡ 2 + cores_of shape
+  ports_first = ports_long shape code plan m t served
 
   slot_count : length t.laid.with_slot ≡ behind + 3 + length code.variables + plan.registers + length shape.globals
   slot_count = let more = t.laid.granted.long in let rest = registers_long shape code plan m t served in omega arith
@@ -182,11 +194,12 @@ module _ (shape : Shape) (code : ThreadCode) (plan : Planned) (m : Module) (t : 
   }
 
   from_stages : (y w : ℕ) → IsEarlier t.with_inside stages y w → IsEarlier t.with_inside control_base y w
-  from_stages y w = lowered stages t.with_inside y w (omega arith)
+  from_stages y w = lowered stages t.with_inside y w (let one = inputs_first in let some : 1 ≤ length t.laid.with_inputs = omega arith in some)
 
   from_early_wire : (y w : ℕ) → IsEarlier t.laid.with_early before y w → IsEarlier t.with_inside control_base y w
   from_early_wire y w r = stands_after t.laid.with_early t.with_inside control_base y w
-      (grows_then t.laid.with_early t.laid.with_heard t.with_inside inner.heard.grows inner.wires.grows) (lowered before t.laid.with_early y w (omega arith) r)
+      (grows_then t.laid.with_early t.laid.with_heard t.with_inside inner.heard.grows inner.wires.grows) (lowered before t.laid.with_early y w
+      (let one = inputs_first in let some : 1 ≤ length t.laid.with_inputs = omega arith in some) r)
 
   inputs_inside : behind ≤ d
   inputs_inside = let one = inputs_before in let two = early_before in omega arith
@@ -194,13 +207,13 @@ module _ (shape : Shape) (code : ThreadCode) (plan : Planned) (m : Module) (t : 
   grants_stand : AreBitsOf control_base t.with_inside t.inside.inputs.grants
   grants_stand k x there =
       let less = slice_get_within t.inside.inputs.grants k x there in
-      let count : length t.inside.inputs.grants ≡ suc banks = grants_count in
-      let under : k < suc banks = omega arith in
+      let count : length t.inside.inputs.grants ≡ cores_of shape = grants_count in
+      let under : k < cores_of shape = omega arith in
       let at : 2 + k ≡ x = sym (grant_at shape code plan m t served k under) ∙ get_or_from_slice_get t.inside.inputs.grants k x 0 there in
       subst (λ z. IsEarlier t.with_inside control_base z 1) at
       (at_inside (2 + k) 1 Input (grant_stands shape code plan m t served k under) (omega arith) (let one = inputs_inside in omega arith) (omega arith) (omega arith))
     where
-      grants_count : length t.inside.inputs.grants ≡ suc banks
+      grants_count : length t.inside.inputs.grants ≡ cores_of shape
       grants_count = t.laid.inputs.count ∙ cores shape code plan m t served
 
   marks_stand : AreBitsOf control_base t.with_inside (marks_of t.inside)
@@ -241,7 +254,7 @@ module _ (shape : Shape) (code : ThreadCode) (plan : Planned) (m : Module) (t : 
   asks_before = let one = longer controls.with_asks t.closed.with_control controls.later in let two = asks_end in omega arith
 
   -- whether core k is asked
-  asks_at : (k : ℕ) → k < suc banks → slice_index t.edge.asks k ≡ d + k
+  asks_at : (k : ℕ) → k < cores_of shape → slice_index t.edge.asks k ≡ d + k
   asks_at k less = controls.first.places k (subst (λ z. k < z) (sym (opens_count shape code plan m t served)) less)
 
   -- ---- grades
@@ -299,10 +312,11 @@ module _ (shape : Shape) (code : ThreadCode) (plan : Planned) (m : Module) (t : 
   slot_operand : (x y w g : ℕ) → IsEarlier t.laid.with_early before y w → l ≤ x → IsOperand m (grades m grade) x g y w
   slot_operand x y w g r le =
       let inside = within t.laid.with_early before y w r in
-      let after = r.after in
-      let words = counted in
+      let after : length t.laid.with_inputs ≤ y = r.after in
+      let first = inputs_first in
+      let some : 0 < length t.laid.with_inputs = omega arith in
       let zero_is = grade_slot y (omega arith) inside in
-      earlier_operand m grade t.laid.with_early early_to before x y w g (omega arith) r (omega arith) (omega arith)
+      earlier_operand m grade t.laid.with_early early_to before x y w g some r (omega arith) (omega arith)
 
   -- ---- outputs
 
@@ -315,10 +329,10 @@ module _ (shape : Shape) (code : ThreadCode) (plan : Planned) (m : Module) (t : 
     high : wide ≤ 64
     operand : IsOperand m (grades m grade) x (grade x) of wide
 
-  asks_copy : (x k : ℕ) → k < suc banks → e ≤ x → x < e + asked → CopiesAt m.signals x 1 (slice_index t.edge.asks k) → IsCopy x
+  asks_copy : (x k : ℕ) → k < cores_of shape → e ≤ x → x < e + asked → CopiesAt m.signals x 1 (slice_index t.edge.asks k) → IsCopy x
   asks_copy x k less le under stands =
       let at = asks_at k less in
-      let count : length t.edge.asks ≡ suc banks = controls.first.count ∙ opens_count shape code plan m t served in
+      let count : length t.edge.asks ≡ cores_of shape = controls.first.count ∙ opens_count shape code plan m t served in
       let there = index_there t.edge.asks k (subst (λ z. k < z) (sym count) less) in
       let here = controls.asks k (slice_index t.edge.asks k) there in
       let one_is = grade_asks (slice_index t.edge.asks k) (omega arith) (omega arith) in
@@ -393,19 +407,23 @@ module _ (shape : Shape) (code : ThreadCode) (plan : Planned) (m : Module) (t : 
       (subst (λ z. HasWidthAt inner.own z (width_of ty.0)) number
       (λ h there. inner.early.linked.widths.own one.0 i one.1 spread_is some h there ∙ ap (λ z. width_of (or_int z)) ty.1)) four at low under
 
-  -- number j of the ports of the printer
-  printer_copy : (x j : ℕ) → j < suc (length t.inside.early.requests.fields) → x ≡ port_at shape m banks j → e ≤ x → x < e + asked → IsCopy x
-  printer_copy x zero less at le under =
-      asks_copy x banks (omega arith) le under (subst (λ z. CopiesAt m.signals z 1 (slice_index t.edge.asks banks)) (sym at) (ask_stands shape code plan m t served banks (omega arith)))
-  printer_copy x (suc k) less at le under =
-      let found = got_any t.inside.early.requests.fields k (omega arith) in
-      slot_copy x found.0 (field_width shape.printer.site_width k) le
-      (subst (λ z. CopiesAt m.signals z (field_width shape.printer.site_width k) found.0) (sym at) (field_stands shape code plan m t served k found.0 found.1))
-      (inner.early.linked.fields k found.0 found.1)
+  -- number j of the ports of core i of those that acts ask
+  act_copy : (x i j : ℕ) (k : CoreKind) → slice_get (services shape.served) i ≡ Some k → j < suc (length (group t.inside.early.requests (service_of k)).fields)
+      → x ≡ port_at shape m (banks + i) j → e ≤ x → x < e + asked → IsCopy x
+  act_copy x i zero k own less at le under =
+      let count = services_count shape.served in
+      let inside = slice_get_within (services shape.served) i k own in
+      asks_copy x (banks + i) (omega arith) le under
+      (subst (λ z. CopiesAt m.signals z 1 (slice_index t.edge.asks (banks + i))) (sym at) (ask_stands shape code plan m t served (banks + i) (omega arith)))
+  act_copy x i (suc j) k own less at le under =
+      let found = got_any (group t.inside.early.requests (service_of k)).fields j (omega arith) in
+      let w = field_width (number_width shape.served (service_of k)) j in
+      slot_copy x found.0 w le (subst (λ z. CopiesAt m.signals z w found.0) (sym at) (field_stands shape code plan m t served i k own j found.0 found.1))
+      ((inner.early.linked.requests (service_of k)).fields j found.0 found.1)
 
-  fields_long : (site_width from : ℕ) (fields : List ℕ) → length (fields_from site_width from fields) ≡ length fields
-  fields_long site_width from [] = refl
-  fields_long site_width from (x ∷ fields) = ap suc (fields_long site_width (suc from) fields)
+  fields_long : (first from : ℕ) (fields : List ℕ) → length (fields_from first from fields) ≡ length fields
+  fields_long first from [] = refl
+  fields_long first from (x ∷ fields) = ap suc (fields_long first (suc from) fields)
 
   abbrev own_rows : List (List Row)
   own_rows = rows shape code plan m t served
@@ -420,7 +438,7 @@ module _ (shape : Shape) (code : ThreadCode) (plan : Planned) (m : Module) (t : 
       let count = all_count own_rows (core_ports shape) own_widths in
       let found = row_found own_rows (x - e) (omega arith) in
       let part = slice_get_within found.own found.part found.row found.there in
-      let core : found.core < suc banks =
+      let core : found.core < cores_of shape =
       (let one = slice_get_within own_rows found.core found.own found.listed in
       let two : length own_rows ≡ length (core_ports shape) =
       sym (length-map own_rows (map row_width)) ∙ ap length own_widths ∙ length-map (core_ports shape) own_asks in
@@ -436,13 +454,16 @@ module _ (shape : Shape) (code : ThreadCode) (plan : Planned) (m : Module) (t : 
       let four : length found.own ≡ 4 = ap length same in
       bank_copy x found.core found.part bank (omega arith) at le under)
       (λ (past : banks ≤ found.core).
-      let last : found.core ≡ banks = omega arith in
-      let its = printer_listed shape code plan m t served in
-      let mine : slice_get own_rows banks ≡ Some found.own = ap (slice_get own_rows) (sym last) ∙ found.listed in
-      let same : found.own ≡ printer_rows shape code plan m t served = cc in
-      let long : length found.own ≡ suc (length t.inside.early.requests.fields) =
-      ap length same ∙ ap suc (fields_long shape.printer.site_width 0 t.inside.early.requests.fields) in
-      printer_copy x found.part (omega arith) (at ∙ ap (λ k. port_at shape m k found.part) last) le under)
+      let count = services_count shape.served in
+      let i : ℕ = found.core - banks in
+      let kind = got_any (services shape.served) i (omega arith) in
+      let here : banks + i ≡ found.core = omega arith in
+      let its = act_listed shape code plan m t served i kind.0 kind.1 in
+      let mine : slice_get own_rows (banks + i) ≡ Some found.own = ap (slice_get own_rows) here ∙ found.listed in
+      let same : found.own ≡ own_act_rows shape code plan m t served i kind.0 kind.1 = cc in
+      let long : length found.own ≡ suc (length (group t.inside.early.requests (service_of kind.0)).fields) =
+      ap length same ∙ ap suc (fields_long (number_width shape.served (service_of kind.0)) 0 (group t.inside.early.requests (service_of kind.0)).fields) in
+      act_copy x i found.part kind.0 kind.1 (omega arith) (at ∙ ap (λ k. port_at shape m k found.part) (sym here)) le under)
       (cases_lt found.core banks)
 
   need_copy : (x : ℕ) → x ≡ need_at shape m → IsCopy x
@@ -520,7 +541,7 @@ module _ (shape : Shape) (code : ThreadCode) (plan : Planned) (m : Module) (t : 
 
   heard_graded : (x : ℕ) (s : Signal) → slice_get m.signals x ≡ Some s → l ≤ x → x < u → Graded x 2 s
   heard_graded x s there le less =
-      wire_graded m grade t.laid.with_heard heard_to hearing behind x 2 s (omega arith) inside_read
+      wire_graded m grade t.laid.with_heard heard_to hearing behind x 2 s (let first = ports_first in let some : 0 < length t.laid.with_ports = omega arith in some) inside_read
       (λ y after under. grade_most y (let one = asks_before in let two = heard_before in omega arith)) (heard_wire x s there le less)
 
   stage_wire : (x : ℕ) (s : Signal) → slice_get m.signals x ≡ Some s → u ≤ x → x < d → IsWire t.with_inside stages x s
@@ -528,7 +549,7 @@ module _ (shape : Shape) (code : ThreadCode) (plan : Planned) (m : Module) (t : 
 
   stage_graded : (x : ℕ) (s : Signal) → slice_get m.signals x ≡ Some s → u ≤ x → x < d → Graded x 2 s
   stage_graded x s there le less =
-      wire_graded m grade t.with_inside inside_to stages behind x 2 s (omega arith) inside_read (λ y after under. grade_most y (let one = asks_before in omega arith))
+      wire_graded m grade t.with_inside inside_to stages behind x 2 s some_inputs inside_read (λ y after under. grade_most y (let one = asks_before in omega arith))
       (stage_wire x s there le less)
 
   early_wire : (x : ℕ) (s : Signal) → slice_get m.signals x ≡ Some s → length t.laid.with_slot ≤ x → x < l → IsWire t.laid.with_early before x s
@@ -536,9 +557,11 @@ module _ (shape : Shape) (code : ThreadCode) (plan : Planned) (m : Module) (t : 
 
   early_graded : (x : ℕ) (s : Signal) → slice_get m.signals x ≡ Some s → length t.laid.with_slot ≤ x → x < l → Graded x 0 s
   early_graded x s there le less =
-      let words = counted in
-      wire_graded m grade t.laid.with_early early_to before behind x 0 s (omega arith) inside_read
-      (λ y after under. (let zero_is = grade_slot y (omega arith) (omega arith) in omega arith)) (early_wire x s there le less)
+      let first = inputs_first in
+      wire_graded m grade t.laid.with_early early_to before behind x 0 s some_inputs inside_read
+      (λ y after under.
+      (let past : length t.laid.with_inputs ≤ y = after in
+      let zero_is = grade_slot y (omega arith) (omega arith) in omega arith)) (early_wire x s there le less)
 
   register_is : (x : ℕ) (s : Signal) → slice_get m.signals x ≡ Some s → behind ≤ x → x < length t.laid.with_slot → IsSlotRegister behind x s
   register_is x s there le less =
@@ -616,7 +639,8 @@ module _ (shape : Shape) (code : ThreadCode) (plan : Planned) (m : Module) (t : 
   firsts_right : EachOf (ActsRight m) firsts
   firsts_right = (
     set_ok t.inside.slot.stage.register t.inside.chains.stage t.inside.slot.stage.width
-        (register_has m t.inside.slot.stage behind t.inside.slot.stage.width 0 (stage_at shape code plan m t served) refl (stage_stands shape code plan m t served))
+        (register_has m t.inside.slot.stage behind t.inside.slot.stage.width (first_stage shape code plan m t served) (stage_at shape code plan m t served) refl
+        (stage_stands shape code plan m t served))
         (inside_later t.inside.chains.stage t.inside.slot.stage.width inner.linked.stage),
     (
       set_ok t.inside.slot.state.register t.edge.state t.inside.slot.state.width
@@ -674,7 +698,7 @@ module _ (shape : Shape) (code : ThreadCode) (plan : Planned) (m : Module) (t : 
 
   all_stores_right : EachOf (ActsRight m) store_sets
   all_stores_right =
-      stores_right m t.closed.with_control t.with_inside stages (omega arith) control_to inside_to t.edge.leave controls.leave inside_read t.inside.stores inner.stores
+      stores_right m t.closed.with_control t.with_inside stages some_inputs control_to inside_to t.edge.leave controls.leave inside_read t.inside.stores inner.stores
 
   acts : EachOf (ActsRight m) m.actions
   acts =
@@ -786,15 +810,15 @@ module _ (shape : Shape) (code : ThreadCode) (plan : Planned) (m : Module) (t : 
   abbrev Kind : ℕ → Bool → Source → Type 0
   Kind x out source = IsKindAt m behind (first_output shape m) x out source
 
-  -- it is spelled as a signal, too
+  -- it stands at its place, and its name is no memory's
   abbrev IsPut : ℕ → Signal → Type 0
-  IsPut x s = IsPlacedSignal m behind (first_output shape m) x s × IsSpelled x s
+  IsPut x s = IsPlacedSignal m behind (first_output shape m) x s × IsNoMemory x s
 
-  placed_by : (x : ℕ) (s : Signal) (out : Bool) (source : Source) → place_of n behind s.name ≡ Some x → IsSpelled x s → s.is_output ≡ out → s.source ≡ source → Kind x out source
+  placed_by : (x : ℕ) (s : Signal) (out : Bool) (source : Source) → place_of n behind s.name ≡ Some x → IsNoMemory x s → s.is_output ≡ out → s.source ≡ source → Kind x out source
       → IsPut x s
-  placed_by x s out source named spelled flag drives kind = (
+  placed_by x s out source named unlike flag drives kind = (
     record { named = named; kind = subst (λ (b : Bool). Kind x b s.source) (sym flag) (subst (λ (z : Source). Kind x out z) (sym drives) kind) },
-    spelled,
+    unlike,
   )
 
   small : (x : ℕ) (s : Signal) → slice_get m.signals x ≡ Some s → x < 2 ^ 64
@@ -803,7 +827,7 @@ module _ (shape : Shape) (code : ThreadCode) (plan : Planned) (m : Module) (t : 
   input_placed : (x : ℕ) (s : Signal) → x < behind → slice_get m.signals x ≡ Some s → IsPut x s
   input_placed x s less there =
       let r = input_is x s less there in
-      placed_by x s false Input (r.named n behind (small x s there)) r.spelled r.inner r.drives (less, refl)
+      placed_by x s false Input (r.named n behind (small x s there)) r.unlike r.inner r.drives (less, refl)
 
   register_placed : (x : ℕ) (s : Signal) → slice_get m.signals x ≡ Some s → behind ≤ x → x < length t.laid.with_slot → IsPut x s
   register_placed x s there le less =
@@ -812,14 +836,15 @@ module _ (shape : Shape) (code : ThreadCode) (plan : Planned) (m : Module) (t : 
       let two = early_before in
       let three = asks_before in
       let out = outputs_at in
-      placed_by x s false (Register r.initial) (r.named n (small x s there)) r.spelled r.inner r.drives
+      placed_by x s false (Register r.initial) (r.named n (small x s there)) r.unlike r.inner r.drives
       (le, (let z : x < first_output shape m = omega arith in z), refl, sets x le less)
 
   wire_placed : (b : List Signal) (base : Base) (x : ℕ) (s : Signal) → Grows b m.signals → IsWire b base x s → slice_get m.signals x ≡ Some s → behind ≤ x →
       x < first_output shape m
       → IsPut x s
   wire_placed b base x s g w there le less =
-      placed_by x s false (Assigned w.right) (ap (place_of n behind) w.named ∙ name_tells Wire n behind x refl (small x s there)) (Wire, w.named) w.inner w.drives
+      placed_by x s false (Assigned w.right) (ap (place_of n behind) w.named ∙ name_tells Wire n behind x refl (small x s there))
+      (λ fits j few e. name_differs Wire x j (sym w.named ∙ e)) w.inner w.drives
       (le, (λ above. absurd (omega arith)), (λ below. refl), wire_ranges m grade b g base x s w)
 
   output_placed : (x : ℕ) (s : Signal) → slice_get m.signals x ≡ Some s → e ≤ x → IsPut x s
@@ -832,7 +857,7 @@ module _ (shape : Shape) (code : ThreadCode) (plan : Planned) (m : Module) (t : 
       let one = inputs_inside in
       let two = asks_before in
       let at = outputs_at in
-      placed_by x s true (Assigned (Copy c.of)) (named.named behind (small x s there)) named.spelled named.flag drives
+      placed_by x s true (Assigned (Copy c.of)) (named.named behind (small x s there)) named.unlike named.flag drives
       ((let z : behind ≤ x = omega arith in z), (λ above. refl), (λ below. absurd (omega arith)), tt)
 
   placed : (x : ℕ) (s : Signal) → slice_get m.signals x ≡ Some s → IsPut x s
@@ -900,7 +925,8 @@ module _ (shape : Shape) (code : ThreadCode) (plan : Planned) (m : Module) (t : 
       }
 
   memories_are : AreRightMemories m
-  memories_are = right_memories m code.arrays t.memories t.few_memories (λ a array at. (served.arrays a array at).0) (λ x s there. (placed x s there).1)
+  memories_are = right_memories m code.arrays t.memories t.few_memories (λ a array at. (served.arrays a array at).0)
+      (λ x s there. (placed x s there).1 (small x s there))
 
   pub checked_is : IsChecked shape m
   checked_is = record {

@@ -1,5 +1,5 @@
 -- A checked module is a leaf.
-use Rattle.std.proofs.Common.{◌≡◌, ℕ, zero, suc, ◌+◌, ◌-◌, ◌*◌, ◌<◌, ◌≤◌, Bool, true, false, nat_eq, nat_le, nat_lt, if◌then◌else◌, List, [], ◌∷◌, ◌++◌, length, map, take, slice_get, slice_index}
+use Rattle.std.proofs.Common.{◌≡◌, ℕ, zero, suc, ◌+◌, ◌-◌, ◌<◌, ◌≤◌, Bool, true, false, nat_eq, nat_le, nat_lt, if◌then◌else◌, List, [], ◌∷◌, ◌++◌, length, map, take, slice_get, slice_index}
 use Rattle.std.proofs.Common.{Some, min, refl, sym, ap, subst, ◌∙◌, arith, ⊎_elim, ◌≢◌, length-append}
 use Rattle.std.proofs.lemmas.Bool.{cases_lt}
 use Rattle.std.proofs.lemmas.Bool.Decides.{nat_tests}
@@ -19,18 +19,21 @@ use Rattle.circuit.specs.Modules.{HasInput, FitsAction, FitsMemory, Reads, IsSou
 use Rattle.circuit.proofs.Tables.{fits_among}
 use Rattle.hls_ints.specs.Types.{width_of}
 use Rattle.leaf_machine.specs.Settled.{IsUnclocked}
-use Rattle.core_ports.specs.Ports.{CorePort, asks_of, ask_place, thread_outputs}
+use Rattle.core_ports.specs.Ports.{CorePort, asks_of, ask_place, told_of, told_place, thread_outputs}
 use Rattle.thread_requests.specs.Early.{spread_out}
 use Rattle.leaf_machine.specs.Leaves.{Heard, Clock, Enable, Grant, Told, IsHeard, HasHeard, IsClockless, IsEarly, AnswersAreLate, IsSlotBit}
 use Rattle.module_sound.specs.Grades.{IsOperand, IsGradedSource, AreGrades, ActsRight, IsPort, IsSlotPort}
 use Rattle.block_ir.specs.declared.code.ThreadCode.{ThreadCode}
 use Rattle.block_ir.specs.declared.plan.Planned.{Planned}
-use Rattle.thread_slots.specs.declared.shape.Printer.{Printer}
+use Rattle.std.proofs.lemmas.List.{length-map}
+use Rattle.thread_slots.specs.Services.{services, news_widths}
+use Rattle.thread_layout.proofs.Cores.{services_count}
+use Rattle.thread_sound.proofs.Telling.{told_is, place_within, told_by, told_all}
 use Rattle.thread_slots.specs.declared.shape.Shape.{Shape}
 use Rattle.thread_layout.specs.Modules.{IsModule}
 use Rattle.thread_promise.specs.Globals.{bank_total}
-use Rattle.thread_layout.specs.Thread.{input_count, bank_port, printer_port, core_ports, first_output, port_at, need_at, done_at, IsServed}
-use Rattle.thread_layout.specs.Leaf.{input_at, leaf_of}
+use Rattle.thread_layout.specs.Thread.{cores_of, inputs_of, bank_port, act_port, core_ports, first_output, port_at, need_at, done_at, IsServed}
+use Rattle.thread_layout.specs.Leaf.{told_from, input_at, leaf_of}
 use Rattle.thread_sound.specs.Leaf.{parts_of, tells_of, IsChecked, IsLeafOf}
 use Rattle.module_sound.proofs.Sounding.{placed_is_sound}
 use Rattle.operator_wires.proofs.Giving.{listed}
@@ -177,85 +180,100 @@ part_place (p ∷ ports) (suc k) j part =
     let next : ask_place (p ∷ ports) (suc k) ≡ length p.asks + ask_place ports k = length-append p.asks (asks_of (take k ports)) in
     omega arith
 
--- banks tell one number, and the printer none
-told_core : (printer : Printer) (words : List ℕ) (k j : ℕ) → j < tells_of (map bank_port words ++ printer_port printer ∷ []) k → (k < length words) × (j ≡ 0)
-told_core printer [] zero j part = absurd (omega arith)
-told_core printer [] (suc k) j part = absurd (omega arith)
-told_core printer (w ∷ words) zero j part = (omega arith, omega arith)
-told_core printer (w ∷ words) (suc k) j part = let rest = told_core printer words k j part in (let less = rest.0 in omega arith, rest.1)
-
-told_one : (printer : Printer) (words : List ℕ) (k : ℕ) → k < length words → tells_of (map bank_port words ++ printer_port printer ∷ []) k ≡ 1
-told_one printer [] k less = absurd (omega arith)
-told_one printer (w ∷ words) zero less = refl
-told_one printer (w ∷ words) (suc k) less = told_one printer words k (omega arith)
-
 module _ (shape : Shape) (m : Module) (counted : length (spread_out shape.spreads (map width_of shape.globals)) ≡ bank_total shape.spreads) where
-  abbrev banks : ℕ
-  banks = bank_total shape.spreads
+  abbrev ports : List CorePort
+  ports = core_ports shape
 
   abbrev inputs : ℕ
-  inputs = input_count banks
+  inputs = inputs_of shape
 
   abbrev parts : ℕ → ℕ
-  parts = parts_of (core_ports shape)
+  parts = parts_of ports
 
   abbrev told : ℕ → ℕ
-  told = tells_of (core_ports shape)
+  told = tells_of ports
+
+  pub ports_many : length ports ≡ cores_of shape
+  ports_many =
+      length-append (map bank_port (spread_out shape.spreads (map width_of shape.globals))) (map (act_port shape.served) (services shape.served))
+      ∙ ap (λ n. n + length (map (act_port shape.served) (services shape.served))) (length-map (spread_out shape.spreads (map width_of shape.globals)) bank_port)
+      ∙ ap (λ n. length (spread_out shape.spreads (map width_of shape.globals)) + n) (length-map (services shape.served) (act_port shape.served))
+      ∙ (let one = counted in let two = services_count shape.served in
+      let all : length (spread_out shape.spreads (map width_of shape.globals)) + length (services shape.served) ≡ cores_of shape = omega arith in all)
+
+  pub told_many : inputs ≡ 2 + length ports + length (told_of ports)
+  told_many =
+      let all : length (told_of ports) ≡ length (spread_out shape.spreads (map width_of shape.globals)) + length (news_widths shape.served) =
+      ap length (told_all (spread_out shape.spreads (map width_of shape.globals)) shape.served)
+      ∙ length-append (spread_out shape.spreads (map width_of shape.globals)) (news_widths shape.served) in
+      let one = counted in
+      let two = ports_many in
+      omega arith
 
   abbrev Heard_at : ℕ → Heard → Type 0
-  Heard_at x h = IsHeard m inputs (leaf_of shape m) (suc banks) parts told x h
+  Heard_at x h = IsHeard m inputs (leaf_of shape m) (cores_of shape) parts told x h
+
+  abbrev behind_grants : ℕ → Heard
+  behind_grants x = if nat_lt x (2 + length ports) then Grant (x - 2) else told_from 0 ports (x - (2 + length ports))
 
   -- an input is what its place says
-  heard_ported : (x : ℕ) → x < inputs → Heard_at x (input_at banks x)
+  heard_ported : (x : ℕ) → x < inputs → Heard_at x (input_at ports x)
   heard_ported x less = first (nat_eq x 0) refl
     where
-      third : (c : Bool) → nat_lt x (3 + banks) ≡ c → x ≢ 0 → x ≢ 1 → Heard_at x (if c then Grant (x - 2) else Told (x - (3 + banks)) 0)
+      third : (c : Bool) → nat_lt x (2 + length ports) ≡ c → x ≢ 0 → x ≢ 1 → Heard_at x (if c then Grant (x - 2) else told_from 0 ports (x - (2 + length ports)))
       third true e zero_not one_not =
-          let below = is_below x (3 + banks) e in
-          let core : x - 2 < suc banks = omega arith in
-          (core, below_is (x - 2) (suc banks) core, (let z : x ≡ 2 + (x - 2) = omega arith in z))
+          let below = is_below x (2 + length ports) e in
+          let many = ports_many in
+          let core : x - 2 < length ports = omega arith in
+          (omega arith, below_is (x - 2) (length ports) core, (let z : x ≡ 2 + (x - 2) = omega arith in z))
       third false e zero_not one_not =
-          let past = is_above x (3 + banks) e in
-          let core : x - (3 + banks) < suc banks = omega arith in
-          let bank : x - (3 + banks) < banks = omega arith in
-          let one : 1 ≡ told (x - (3 + banks)) =
-          sym (told_one shape.printer (spread_out shape.spreads (map width_of shape.globals)) (x - (3 + banks)) (omega arith)) in
-          (core, below_is (x - (3 + banks)) (suc banks) core, subst (λ n. 0 < n) one (omega arith), (let z : x ≡ 3 + banks + (x - (3 + banks)) = omega arith in z))
+          let past = is_above x (2 + length ports) e in
+          let many = ports_many in
+          let all = told_many in
+          let own = told_by ports 0 (x - (2 + length ports)) (omega arith) in
+          let within = own.within in
+          let at = own.at in
+          let plain : 0 + own.core ≡ own.core = omega arith in
+          subst (Heard_at x) (sym (own.is ∙ ap (λ k. Told k own.part) plain))
+          (omega arith, below_is own.core (length ports) within, own.tells, (let z : x ≡ 2 + length ports + (told_place ports own.core + own.part) = omega arith in z))
 
-      second : (c : Bool) → nat_eq x 1 ≡ c → x ≢ 0 → Heard_at x (if c then Enable else (if nat_lt x (3 + banks) then Grant (x - 2) else Told (x - (3 + banks)) 0))
+      second : (c : Bool) → nat_eq x 1 ≡ c → x ≢ 0 → Heard_at x (if c then Enable else behind_grants x)
       second true e zero_not = is_number x 1 e
-      second false e zero_not = third (nat_lt x (3 + banks)) refl zero_not (is_other x 1 e)
+      second false e zero_not = third (nat_lt x (2 + length ports)) refl zero_not (is_other x 1 e)
 
-      first : (c : Bool) → nat_eq x 0 ≡ c
-          → Heard_at x (if c then Clock else (if nat_eq x 1 then Enable else (if nat_lt x (3 + banks) then Grant (x - 2) else Told (x - (3 + banks)) 0)))
+      first : (c : Bool) → nat_eq x 0 ≡ c → Heard_at x (if c then Clock else (if nat_eq x 1 then Enable else behind_grants x))
       first true e = is_number x 0 e
       first false e = second (nat_eq x 1) refl (is_other x 0 e)
 
-  past_enable : (x : ℕ) → 2 ≤ x → input_at banks x ≡ (if nat_lt x (3 + banks) then Grant (x - 2) else Told (x - (3 + banks)) 0)
+  past_enable : (x : ℕ) → 2 ≤ x → input_at ports x ≡ behind_grants x
   past_enable x le =
-      ap (λ (c : Bool). if c then Clock else (if nat_eq x 1 then Enable else (if nat_lt x (3 + banks) then Grant (x - 2) else Told (x - (3 + banks)) 0)))
-      (other_is x 0 (λ e. absurd (omega arith)))
-      ∙ ap (λ (c : Bool). if c then Enable else (if nat_lt x (3 + banks) then Grant (x - 2) else Told (x - (3 + banks)) 0)) (other_is x 1 (λ e. absurd (omega arith)))
+      ap (λ (c : Bool). if c then Clock else (if nat_eq x 1 then Enable else behind_grants x)) (other_is x 0 (λ e. absurd (omega arith)))
+      ∙ ap (λ (c : Bool). if c then Enable else behind_grants x) (other_is x 1 (λ e. absurd (omega arith)))
 
-  grant_heard : (k : ℕ) → k < suc banks → HasHeard m inputs (leaf_of shape m) (suc banks) parts told (2 + k) (Grant k)
-  grant_heard k less = record {
-    input = omega arith;
-    is =
-        past_enable (2 + k) (omega arith)
-        ∙ ap (λ (c : Bool). if c then Grant (2 + k - 2) else Told (2 + k - (3 + banks)) 0) (below_is (2 + k) (3 + banks) (omega arith))
-        ∙ ap Grant (let z : 2 + k - 2 ≡ k = omega arith in z);
-  }
-
-  told_heard : (k j : ℕ) → j < told k → HasHeard m inputs (leaf_of shape m) (suc banks) parts told (3 + banks + k) (Told k j)
-  told_heard k j part =
-      let core = told_core shape.printer (spread_out shape.spreads (map width_of shape.globals)) k j part in
-      let bank = core.0 in
+  grant_heard : (k : ℕ) → k < cores_of shape → HasHeard m inputs (leaf_of shape m) (cores_of shape) parts told (2 + k) (Grant k)
+  grant_heard k less =
+      let many = ports_many in
       record {
         input = omega arith;
         is =
-            past_enable (3 + banks + k) (omega arith)
-            ∙ ap (λ (c : Bool). if c then Grant (3 + banks + k - 2) else Told (3 + banks + k - (3 + banks)) 0) (above_is (3 + banks + k) (3 + banks) (omega arith))
-            ∙ ap (λ n. Told n 0) (let z : 3 + banks + k - (3 + banks) ≡ k = omega arith in z) ∙ ap (Told k) (sym core.1);
+            past_enable (2 + k) (omega arith)
+            ∙ ap (λ (c : Bool). if c then Grant (2 + k - 2) else told_from 0 ports (2 + k - (2 + length ports))) (below_is (2 + k) (2 + length ports) (omega arith))
+            ∙ ap Grant (let z : 2 + k - 2 ≡ k = omega arith in z);
+      }
+
+  told_heard : (k j : ℕ) → j < told k → HasHeard m inputs (leaf_of shape m) (cores_of shape) parts told (2 + length ports + (told_place ports k + j)) (Told k j)
+  told_heard k j part =
+      let all = told_many in
+      let own = place_within ports k j part in
+      let two = own.1 in
+      let x : ℕ = 2 + length ports + (told_place ports k + j) in
+      record {
+        input = omega arith;
+        is =
+            past_enable x (omega arith)
+            ∙ ap (λ (c : Bool). if c then Grant (x - 2) else told_from 0 ports (x - (2 + length ports))) (above_is x (2 + length ports) (omega arith))
+            ∙ ap (told_from 0 ports) (let z : x - (2 + length ports) ≡ told_place ports k + j = omega arith in z) ∙ told_is ports 0 k j part
+            ∙ ap (λ n. Told n j) (let z : 0 + k ≡ k = omega arith in z);
       }
 
 module _ (shape : Shape) (code : ThreadCode) (plan : Planned) (m : Module) (t : IsModule shape code plan m) (served : IsServed shape code plan)
@@ -264,7 +282,7 @@ module _ (shape : Shape) (code : ThreadCode) (plan : Planned) (m : Module) (t : 
   all_banks = bank_total shape.spreads
 
   abbrev count : ℕ
-  count = input_count all_banks
+  count = inputs_of shape
 
   abbrev first : ℕ
   first = first_output shape m
@@ -285,17 +303,17 @@ module _ (shape : Shape) (code : ThreadCode) (plan : Planned) (m : Module) (t : 
   late_at n x le less e =
       late_input m count checked.grades checked.are checked.ports.acts t.alone firsts checked.begun n x less (ap (nat_le n) (two_least x le) ∙ e)
 
-  answers : (n : ℕ) → nat_le n 2 ≡ true → AnswersAreLate m count (leaf_of shape m) (suc all_banks) (parts_of (core_ports shape)) (tells_of (core_ports shape)) (late n)
+  answers : (n : ℕ) → nat_le n 2 ≡ true → AnswersAreLate m count (leaf_of shape m) (cores_of shape) (parts_of (core_ports shape)) (tells_of (core_ports shape)) (late n)
   answers n e = record {
     leaf = graded_leaf m count checked.grades checked.are checked.ports.acts t.alone firsts checked.begun n;
     grants = λ k less uses. late_at n (2 + k) (omega arith) (omega arith) e;
     tells = λ k j less uses part.
-        let bank = (told_core shape.printer (spread_out shape.spreads (map width_of shape.globals)) k j part).0 in
-        let counted = words_counted in
-        late_at n (3 + all_banks + k) (omega arith) (omega arith) e;
+        let place = (place_within (core_ports shape) k j part).1 in
+        let all = told_many shape m words_counted in
+        late_at n (2 + length (core_ports shape) + (told_place (core_ports shape) k + j)) (omega arith) (omega arith) e;
   }
 
-  slot_bit : (place : ℕ) → IsSlotPort m checked.grades place → IsSlotBit m count (leaf_of shape m) (suc all_banks) (parts_of (core_ports shape))
+  slot_bit : (place : ℕ) → IsSlotPort m checked.grades place → IsSlotBit m count (leaf_of shape m) (cores_of shape) (parts_of (core_ports shape))
       (tells_of (core_ports shape)) place
   slot_bit place s = record {
     late = late 1;

@@ -1,5 +1,5 @@
 -- Memories of the local arrays.
-use Rattle.std.proofs.Common.{◌≡◌, ◌≢◌, ℕ, zero, suc, ◌+◌, ◌<◌, ◌≤◌, ◌^◌, List, [], ◌∷◌, length, map, Some, refl, sym, ap, subst, ◌∙◌, arith}
+use Rattle.std.proofs.Common.{◌≡◌, ℕ, zero, suc, ◌+◌, ◌<◌, ◌≤◌, ◌^◌, List, [], ◌∷◌, length, map, Some, refl, sym, ap, subst, ◌∙◌, arith}
 use Rattle.std.specs.Prelude.{slice_get, replicate, codes}
 use Rattle.std.proofs.lemmas.List.{length-replicate}
 use Rattle.std.proofs.lemmas.Option.{slice_get_within}
@@ -15,13 +15,9 @@ use Rattle.circuit.specs.Rows.{EachOf}
 use Rattle.circuit.specs.Modules.{FitsMemory}
 use Rattle.module_sound.specs.Names.{place_of}
 use Rattle.module_sound.specs.Sounds.{IsRightMemory, AreRightMemories}
-use Rattle.operator_wires.specs.declared.wires.Role.{Role}
-use Rattle.operator_wires.specs.declared.wires.Role.TheVariants.{Clock, Enable, Need, Done, Beat, Grant, Told, Ask, Field, Stage, State, Granted, Variable, Kept, Wire}
-use Rattle.operator_wires.specs.Built.{name_at}
 use Rattle.operator_wires.proofs.Wording.{at_least, at_most, some}
 use Rattle.thread_layout.specs.Memories.{memory_for, memories_from}
-use Rattle.thread_slots.specs.Wired.{IsSpelled}
-use Rattle.thread_slots.proofs.Wiring.{digits_tell}
+use Rattle.thread_slots.proofs.Digits.{digits_tell}
 
 -- ---- one memory for each array
 
@@ -32,32 +28,6 @@ memory_found n zero (x ∷ arrays) c e = let same : memory_for n x ≡ c = cc in
 memory_found n (suc k) (x ∷ arrays) c e = let f = memory_found (suc n) k arrays c e in let z : suc n + k ≡ n + suc k = omega arith in (f.0, f.1, f.2 ∙ ap (λ i. memory_for i f.0) z)
 
 -- ---- they are right
-
--- names differ where a letter does
-letters_differ : (k p q : ℕ) (a b : Name) → slice_get a k ≡ Some p → slice_get b k ≡ Some q → p ≢ q → a ≡ b → ⊥
-letters_differ k p q a b s t ne e = ne (let h : Some p ≡ Some q = sym s ∙ ap (λ (l : Name). slice_get l k) e ∙ t in cc)
-
--- no name begins with a but that of what is asked, whose next letter is no r
-first_differs : (role : Role) (x j p : ℕ) → slice_get (name_at role x) 0 ≡ Some p → p ≢ 97 → name_at role x ≡ numbered (codes "array") j → ⊥
-first_differs role x j p s ne e = letters_differ 0 p 97 (name_at role x) (numbered (codes "array") j) s refl ne e
-
--- no signal has the name of a memory
-pub name_differs : (role : Role) (x j : ℕ) → name_at role x ≡ numbered (codes "array") j → ⊥
-name_differs Clock x j e = first_differs Clock x j 99 refl (omega arith) e
-name_differs Enable x j e = first_differs Enable x j 101 refl (omega arith) e
-name_differs Need x j e = first_differs Need x j 110 refl (omega arith) e
-name_differs Done x j e = first_differs Done x j 100 refl (omega arith) e
-name_differs Beat x j e = first_differs Beat x j 98 refl (omega arith) e
-name_differs Grant x j e = first_differs Grant x j 103 refl (omega arith) e
-name_differs Told x j e = first_differs Told x j 116 refl (omega arith) e
-name_differs Ask x j e = letters_differ 1 115 114 (name_at Ask x) (numbered (codes "array") j) refl refl (omega arith) e
-name_differs Field x j e = first_differs Field x j 102 refl (omega arith) e
-name_differs Stage x j e = first_differs Stage x j 115 refl (omega arith) e
-name_differs State x j e = first_differs State x j 115 refl (omega arith) e
-name_differs Granted x j e = first_differs Granted x j 103 refl (omega arith) e
-name_differs Variable x j e = first_differs Variable x j 118 refl (omega arith) e
-name_differs Kept x j e = first_differs Kept x j 107 refl (omega arith) e
-name_differs Wire x j e = first_differs Wire x j 119 refl (omega arith) e
 
 array_tells : (n inputs j : ℕ) → j < 2 ^ 64 → place_of n inputs (numbered (codes "array") j) ≡ Some j
 array_tells n inputs j small = digits_tell j small
@@ -73,7 +43,7 @@ named_at (c ∷ ms) (suc i) x e = named_at ms i x e
 
 module _ (m : Module) (arrays : List Array) (are : m.memories ≡ memories_from 0 arrays) (few : length arrays ≤ 2 ^ 64)
     (some_words : (a : ℕ) (array : Array) → slice_get arrays a ≡ Some array → 1 ≤ array.length)
-    (spelled : (x : ℕ) (s : Signal) → slice_get m.signals x ≡ Some s → IsSpelled x s) where
+    (other : (x : ℕ) (s : Signal) → slice_get m.signals x ≡ Some s → (j : ℕ) → j < 2 ^ 64 → s.name ≡ numbered (codes "array") j → ⊥) where
   memory_is : (j : ℕ) (c : Memory) → slice_get m.memories j ≡ Some c → (a : Array) × (slice_get arrays j ≡ Some a) × (c ≡ memory_for j a)
   memory_is j c listed =
       let f = memory_found 0 j arrays c (ap (λ (l : List Memory). slice_get l j) (sym are) ∙ listed) in
@@ -91,7 +61,7 @@ module _ (m : Module) (arrays : List Array) (are : m.memories ≡ memories_from 
         };
         begins = zeros_fit (width_of a.ty) a.length;
         unclocked = refl;
-        other = λ x s there same. let p = spelled x s there in name_differs p.0 x j (sym p.1 ∙ same);
+        other = λ x s there same. other x s there j (let less = slice_get_within arrays j a listed in omega arith) same;
       })
 
   apart : AreApart (memory_names m)

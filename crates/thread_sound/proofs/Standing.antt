@@ -1,5 +1,5 @@
 -- The module in a table of modules: its ports.
-use Rattle.std.proofs.Common.{◌≡◌, ℕ, zero, suc, ◌+◌, ◌-◌, ◌*◌, ◌<◌, ◌≤◌, ◌⊎◌, nat_lt, true, false, List, [], ◌∷◌, ◌++◌, length, map, take, slice_get, Option, Some, refl, sym, ap, subst, ◌∙◌, arith}
+use Rattle.std.proofs.Common.{◌≡◌, ℕ, zero, suc, ◌+◌, ◌-◌, ◌<◌, ◌≤◌, ◌⊎◌, nat_lt, true, false, List, [], ◌∷◌, ◌++◌, length, map, slice_get, Some, refl, sym, ap, subst, ◌∙◌, arith}
 use Rattle.std.proofs.Common.{inl, inr, ⊎_elim, length-append}
 use Rattle.std.specs.Prelude.{replicate, option_map}
 use Rattle.std.proofs.lemmas.Bool.{cases_lt}
@@ -17,20 +17,21 @@ use Rattle.netlist.specs.declared.netlist.Module.{Module}
 use Rattle.circuit.specs.Rows.{EachOf}
 use Rattle.circuit.specs.Modules.{Has}
 use Rattle.leaf_machine.specs.Standing.{IsSilent}
-use Rattle.core_ports.specs.Ports.{CorePort, asks_of, told_of, told_place, thread_inputs, thread_outputs, IsRoutineModule}
+use Rattle.core_ports.specs.Ports.{asks_of, told_of, thread_inputs, thread_outputs, IsRoutineModule}
 use Rattle.module_sound.specs.Grades.{ActsRight}
 use Rattle.thread_promise.specs.Globals.{bank_total}
-use Rattle.thread_slots.specs.declared.shape.Printer.{Printer}
+use Rattle.thread_slots.specs.Services.{news_widths}
+use Rattle.thread_sound.proofs.Telling.{told_all}
 use Rattle.thread_slots.specs.declared.shape.Shape.{Shape}
 use Rattle.thread_slots.specs.Slots.{StandsAt}
 use Rattle.thread_requests.specs.Early.{spread_out}
 use Rattle.thread_requests.specs.Outputs.{joined}
 use Rattle.thread_layout.specs.Leaf.{leaf_of}
 use Rattle.thread_layout.specs.Modules.{IsModule}
-use Rattle.thread_layout.specs.Thread.{input_count, bank_port, printer_port, core_ports, first_output, need_at, done_at, IsServed}
+use Rattle.thread_layout.specs.Thread.{cores_of, inputs_of, core_ports, first_output, need_at, done_at, IsServed}
 use Rattle.thread_sound.specs.Leaf.{IsLeafOf}
 use Rattle.thread_slots.proofs.Laying.{stands_later}
-use Rattle.thread_layout.proofs.Placed.{rows, widths_are, ports_count, row_copies, all_long, enable_stands, grant_stands, need_stands, done_stands, from_ports, from_inputs}
+use Rattle.thread_layout.proofs.Placed.{rows, widths_are, ports_count, row_copies, all_long, enable_stands, grant_stands, need_stands, done_stands, from_ports, from_words, from_inputs}
 use Rattle.thread_layout.proofs.Placed.{ports_long, bank_count, got_any}
 use Rattle.thread_layout.proofs.Rowing.{row_width, all_widths, all_count, further}
 
@@ -54,24 +55,11 @@ front_of [] ys j less = absurd (omega arith)
 front_of (x ∷ xs) ys zero less = refl
 front_of (x ∷ xs) ys (suc j) less = front_of xs ys j (omega arith)
 
--- banks tell words, and the printer nothing
-told_words : (printer : Printer) (words : List ℕ) → told_of (map bank_port words ++ printer_port printer ∷ []) ≡ words
-told_words printer [] = refl
-told_words printer (w ∷ words) = ap (λ l. w ∷ l) (told_words printer words)
-
-told_at : (printer : Printer) (words : List ℕ) (k j : ℕ) (p : CorePort) → slice_get (map bank_port words ++ printer_port printer ∷ []) k ≡ Some p → j < length p.told
-    → told_place (map bank_port words ++ printer_port printer ∷ []) k + j ≡ k
-told_at printer [] zero j p e less = let same : printer_port printer ≡ p = cc in absurd (let none : length p.told ≡ 0 = ap (λ (z : CorePort). length z.told) (sym same) in omega arith)
-told_at printer [] (suc k) j p e less = absurd cc
-told_at printer (w ∷ words) zero j p e less =
-    let same : bank_port w ≡ p = cc in
-    let one : length p.told ≡ 1 = ap (λ (z : CorePort). length z.told) (sym same) in
-    let first : told_place (map bank_port (w ∷ words) ++ printer_port printer ∷ []) 0 ≡ 0 = refl in
-    omega arith
-told_at printer (w ∷ words) (suc k) j p e less =
-    let rest = told_at printer words k j p e less in
-    let next : told_place (map bank_port (w ∷ words) ++ printer_port printer ∷ []) (suc k) ≡ suc (told_place (map bank_port words ++ printer_port printer ∷ []) k) = refl in
-    omega arith
+split : (xs ys : List ℕ) (i w : ℕ) → slice_get (xs ++ ys) i ≡ Some w → ((i < length xs) × (slice_get xs i ≡ Some w)) ⊎ ((j : ℕ) × (i ≡ length xs + j) × (slice_get ys j ≡ Some w))
+split [] ys i w e = inr (i, (let q : i ≡ 0 + i = omega arith in q), e)
+split (x ∷ xs) ys zero w e = inl ((let l : 0 < suc (length xs) = omega arith in l), e)
+split (x ∷ xs) ys (suc i) w e =
+    ⊎_elim (λ t. inl ((let l = t.0 in omega (arith, l)), t.1)) (λ t. inr (t.0, (let q = t.1 in omega (arith, q)), t.2)) (split xs ys i w e)
 
 module _ (shape : Shape) (code : ThreadCode) (plan : Planned) (m : Module) (t : IsModule shape code plan m) (served : IsServed shape code plan) where
   abbrev banks : ℕ
@@ -88,16 +76,31 @@ module _ (shape : Shape) (code : ThreadCode) (plan : Planned) (m : Module) (t : 
   clock_has : Has m 0 1
   clock_has = has_of 0 1 Input (stands_later t.laid.with_ports m.signals 0 1 Input (from_ports shape code plan m t served) t.laid.inputs.clock)
 
-  grant_has : (k : ℕ) → k < suc banks → Has m (2 + k) 1
+  grant_has : (k : ℕ) → k < cores_of shape → Has m (2 + k) 1
   grant_has k less = has_of (2 + k) 1 Input (grant_stands shape code plan m t served k less)
 
-  word_has : (n w : ℕ) → slice_get words n ≡ Some w → Has m (3 + banks + n) w
+  word_has : (n w : ℕ) → slice_get words n ≡ Some w → Has m (2 + cores_of shape + n) w
   word_has n w there =
       let f = t.laid.words.each n w (slice_get_within words n w there) there in
-      let place : length t.laid.with_ports + n ≡ 3 + banks + n = (let e = ports_long shape code plan m t served in omega arith) in
-      has_of (3 + banks + n) w Input
+      let place : length t.laid.with_ports + n ≡ 2 + cores_of shape + n = (let e = ports_long shape code plan m t served in omega arith) in
+      has_of (2 + cores_of shape + n) w Input
       (subst (λ (k : ℕ). StandsAt m.signals k w Input) place
-      (stands_later t.laid.with_inputs m.signals (length t.laid.with_ports + n) w Input (from_inputs shape code plan m t served) f.4))
+      (stands_later t.laid.with_words m.signals (length t.laid.with_ports + n) w Input (from_words shape code plan m t served) f.4))
+
+  news_has : (n w : ℕ) → slice_get (news_widths shape.served) n ≡ Some w → Has m (2 + cores_of shape + (length words + n)) w
+  news_has n w there =
+      let f = t.laid.news_stand.each n w (slice_get_within (news_widths shape.served) n w there) there in
+      let long = t.laid.words.long in
+      let ports = ports_long shape code plan m t served in
+      let place : length t.laid.with_words + n ≡ 2 + cores_of shape + (length words + n) = omega arith in
+      has_of (2 + cores_of shape + (length words + n)) w Input
+      (subst (λ (k : ℕ). StandsAt m.signals k w Input) place
+      (stands_later t.laid.with_inputs m.signals (length t.laid.with_words + n) w Input (from_inputs shape code plan m t served) f.4))
+
+  told_has : (n w : ℕ) → slice_get (told_of (core_ports shape)) n ≡ Some w → Has m (2 + cores_of shape + n) w
+  told_has n w there =
+      ⊎_elim (λ g. word_has n w g.1) (λ g. subst (λ k. Has m (2 + cores_of shape + k) w) (sym g.1) (news_has g.0 w g.2))
+      (split words (news_widths shape.served) n w (ap (λ l. slice_get l n) (sym (told_all words shape.served)) ∙ there))
 
   at_input : (x w : ℕ) → slice_get (thread_inputs (core_ports shape)) x ≡ Some w → Has m x w
   at_input zero w e = subst (Has m 0) (same_Some 1 w e) clock_has
@@ -111,17 +114,19 @@ module _ (shape : Shape) (code : ThreadCode) (plan : Planned) (m : Module) (t : 
       subst (Has m (suc (suc y))) (sym g.1) (subst (λ n. Has m n 1) at (grant_has y (omega arith))))
       (λ g.
       let place = g.1 in
-      let at : 3 + banks + g.0 ≡ suc (suc y) = omega arith in
-      subst (λ n. Has m n w) at (word_has g.0 w (ap (λ l. slice_get l g.0) (sym (told_words shape.printer words)) ∙ g.2)))
+      let at : 2 + cores_of shape + g.0 ≡ suc (suc y) = omega arith in
+      subst (λ n. Has m n w) at (told_has g.0 w g.2))
       (among (length (core_ports shape)) 1 (told_of (core_ports shape)) y w e)
 
-  inputs_long : input_count banks ≡ length (thread_inputs (core_ports shape))
+  inputs_long : inputs_of shape ≡ length (thread_inputs (core_ports shape))
   inputs_long =
       let one : ℕ = 1 in
       let all = length-append (replicate (length (core_ports shape)) one) (told_of (core_ports shape)) in
       let grants = length-replicate (length (core_ports shape)) one in
       let count = ports_count shape code plan m t served in
-      let told : length (told_of (core_ports shape)) ≡ banks = ap length (told_words shape.printer words) ∙ bank_count shape code plan m t served in
+      let told : length (told_of (core_ports shape)) ≡ length words + length (news_widths shape.served) =
+      ap length (told_all words shape.served) ∙ length-append words (news_widths shape.served) in
+      let banked : length words ≡ banks = bank_count shape code plan m t served in
       omega arith
 
   -- ---- outputs
@@ -157,7 +162,7 @@ module _ (shape : Shape) (code : ThreadCode) (plan : Planned) (m : Module) (t : 
 
   -- ---- the module
 
-  pub routine_is : is_clk shape.name ≡ false → IsLeafOf shape m → IsRoutineModule shape.name (core_ports shape) m (input_count banks) (leaf_of shape m)
+  pub routine_is : is_clk shape.name ≡ false → IsLeafOf shape m → IsRoutineModule shape.name (core_ports shape) m (inputs_of shape) (leaf_of shape m)
   routine_is plain leaf = record {
     named = t.named;
     stands = record {
@@ -173,11 +178,10 @@ module _ (shape : Shape) (code : ThreadCode) (plan : Planned) (m : Module) (t : 
     };
     silent = silent_each m m.actions leaf.acts;
     inputs_are = inputs_long;
-    uses = λ k less. (let count = ports_count shape code plan m t served in below_is k (suc banks) (omega arith));
+    uses = λ k less. below_is k (length (core_ports shape)) less;
     enable = refl;
     grant = λ k less. refl;
-    told = λ k j p listed less.
-        (let at = told_at shape.printer words k j p listed less in let count = ports_count shape code plan m t served in omega arith);
+    told = λ k j p listed less. refl;
     ask = λ k j p listed less. refl;
     need = refl;
     done = refl;

@@ -10,10 +10,9 @@ use Rattle.core_ports.specs.Ports.{CorePort, asks_of, thread_outputs}
 use Rattle.module_sound.specs.Grades.{AreGrades, ActsRight, IsPort, IsSlotPort}
 use Rattle.module_sound.specs.Kinds.{IsPlaced}
 use Rattle.module_sound.specs.Sounds.{AreRightMemories, BeginsWithClock, IsSoundAlone}
-use Rattle.thread_promise.specs.Globals.{bank_total}
 use Rattle.thread_slots.specs.declared.shape.Shape.{Shape}
 use Rattle.thread_layout.specs.Modules.{IsModule}
-use Rattle.thread_layout.specs.Thread.{input_count, core_ports, first_output, need_at, done_at, IsServed}
+use Rattle.thread_layout.specs.Thread.{cores_of, inputs_of, core_ports, first_output, need_at, done_at, IsServed}
 use Rattle.thread_layout.specs.Leaf.{leaf_of}
 
 -- how many numbers core k is asked with, and how many it tells
@@ -30,7 +29,7 @@ tells_of (p ∷ ports) (suc k) = tells_of ports k
 -- the statements fit, signals stand at the places of their kinds, no answer reaches what cores are asked, and the slot alone tells the rest
 pub record HasPorts (shape : Shape) (m : Module) (grades : List ℕ) : Type 0 where
   pub acts : EachOf (ActsRight m) m.actions
-  pub placed : IsPlaced m (input_count (bank_total shape.spreads)) (first_output shape m)
+  pub placed : IsPlaced m (inputs_of shape) (first_output shape m)
   pub begins : BeginsWithClock m
   pub asks : (j : ℕ) → j < length (asks_of (core_ports shape)) → IsPort m grades 1 (first_output shape m + j)
   pub need : IsSlotPort m grades (need_at shape m)
@@ -41,16 +40,16 @@ pub record IsChecked (shape : Shape) (m : Module) : Type 0 where
   pub memories : AreRightMemories m
   pub begun : EachOf FitsMemory m.memories
   pub grades : List ℕ
-  pub are : AreGrades m (input_count (bank_total shape.spreads)) (length m.signals) grades
+  pub are : AreGrades m (inputs_of shape) (length m.signals) grades
   pub ports : HasPorts shape m grades
 
--- a thread's module, of the banks, which tell words, and the printer, which tells nothing
+-- a thread's module
 pub record IsLeafOf (shape : Shape) (m : Module) : Type 0 where
-  pub thread : IsThreadLeaf m (input_count (bank_total shape.spreads)) (leaf_of shape m) (suc (bank_total shape.spreads)) (parts_of (core_ports shape)) (tells_of (core_ports shape))
-  pub done : IsSlotBit m (input_count (bank_total shape.spreads)) (leaf_of shape m) (suc (bank_total shape.spreads)) (parts_of (core_ports shape)) (tells_of (core_ports shape))
+  pub thread : IsThreadLeaf m (inputs_of shape) (leaf_of shape m) (cores_of shape) (parts_of (core_ports shape)) (tells_of (core_ports shape))
+  pub done : IsSlotBit m (inputs_of shape) (leaf_of shape m) (cores_of shape) (parts_of (core_ports shape)) (tells_of (core_ports shape))
       (done_at shape m)
   -- a text can tell it, and is well formed
-  pub alone : IsSoundAlone m (input_count (bank_total shape.spreads)) (first_output shape m)
+  pub alone : IsSoundAlone m (inputs_of shape) (first_output shape m)
   -- each statement sets a register to a number of its width
   pub acts : EachOf (ActsRight m) m.actions
   -- no output hangs on an answer

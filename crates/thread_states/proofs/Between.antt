@@ -1,5 +1,5 @@
 -- What stands for a whole thread, as a block needs it, and the other way round.
-use Rattle.std.proofs.Common.{◌≡◌, ℕ, ◌<◌, ◌≤◌, ◌^◌, List, length}
+use Rattle.std.proofs.Common.{◌≡◌, ℕ, ◌<◌, ◌≤◌, ◌^◌, List, length, arith}
 use Rattle.block_ir.specs.declared.code.ThreadCode.{ThreadCode}
 use Rattle.block_ir.specs.declared.plan.BlockPlan.{BlockPlan}
 use Rattle.netlist.specs.declared.netlist.Signal.{Signal}
@@ -13,7 +13,7 @@ use Rattle.thread_states.proofs.Taken.{LinksBlock}
 
 module _ (base : Base) (a : List Signal) (code : ThreadCode) (registers : Registers) (slots : AreSlots base a code registers) where
   pub stage_fits : (l : ℕ) (p : BlockPlan) → CanRead base code registers → l < 2 ^ registers.stage.width → p.states ≤ 2 ^ registers.state.width → FitsStage base code registers l p
-  stage_fits l p reads room states = record { reads = reads; stage = room; stages = slots.room; states = states }
+  stage_fits l p reads room states = record { reads = reads; stage = room; stages = (let few = slots.room in omega arith); states = states }
 
 pub chains_of : (base : Base) (a : List Signal) (registers : List Held) (links : List ℕ) → length links ≡ length registers → LinkAll base a registers links →
     AreChains a base registers links

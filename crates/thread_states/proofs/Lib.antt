@@ -1,9 +1,10 @@
-mod Acting
+pub mod Acting
 mod Between
 pub mod Blocks
 mod Closing
-mod Linking
-mod Steering
+pub mod Linking
+mod Setting
 pub mod Stepping
 pub mod Storing
+mod Steering
 mod Taken

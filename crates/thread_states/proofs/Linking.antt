@@ -12,7 +12,7 @@ use Rattle.block_datapath.specs.Chains.{next_number, TellsStage}
 use Rattle.planned_block.proofs.Bits.{other_is}
 use Rattle.thread_slots.specs.declared.chains.Chains.{Chains}
 use Rattle.thread_slots.specs.Links.{AreBits, LeadsTo, WaitsAt, IsStill, ShowSame, AreAsMany}
-use Rattle.thread_states.specs.Stages.{StepsOver}
+use Rattle.thread_states.specs.Acts.{StepsOver}
 
 -- ---- bits
 

@@ -1,5 +1,5 @@
 -- One stage after the other.
-use Rattle.std.proofs.Common.{◌≡◌, ◌≢◌, ℕ, suc, ◌+◌, ◌%◌, ◌^◌, ◌<◌, ◌≤◌, Bool, true, false, not, nat_eq, if◌then◌else◌, List, length, slice_get, Option, Some, None, min, refl}
+use Rattle.std.proofs.Common.{◌≡◌, ◌≢◌, ℕ, suc, ◌+◌, ◌%◌, ◌^◌, ◌<◌, ◌≤◌, Bool, true, false, nat_eq, if◌then◌else◌, List, length, slice_get, Option, Some, None, min, refl}
 use Rattle.std.proofs.Common.{sym, ap, subst, ◌∙◌, arith, ⊎_elim}
 use Rattle.std.proofs.lemmas.Option.{slice_get_within}
 use Rattle.interleaving.proofs.Update.{same_or_not}
@@ -7,7 +7,7 @@ use Rattle.hls_ints.specs.Residues.{bit_of}
 use Rattle.hls_ints.specs.Types.{IntegerType, width_of}
 use Rattle.block_ir.specs.declared.block.Block.{Block}
 use Rattle.block_ir.specs.declared.code.Act.{Act}
-use Rattle.block_ir.specs.declared.code.Act.TheVariants.{Print, Return}
+use Rattle.block_ir.specs.declared.code.Act.TheVariants.{BarrierWait}
 use Rattle.block_ir.specs.declared.code.ActOperand.{ActOperand}
 use Rattle.block_ir.specs.declared.code.Stage.{Stage}
 use Rattle.block_ir.specs.declared.code.Stage.TheVariants as stage
@@ -23,20 +23,25 @@ use Rattle.circuit.specs.Modules.{Obeys}
 use Rattle.operator_wires.specs.Gives.{Grows}
 use Rattle.operator_wires.proofs.Giving.{grows_refl, grows_then}
 use Rattle.thread_promise.specs.Types.{value_type}
+use Rattle.thread_promise.specs.Moves.{meeting, stage_after, is_variable}
 use Rattle.block_datapath.specs.declared.registers.Registers.{Registers}
 use Rattle.block_datapath.specs.declared.leaving_block.Left.{Left}
 use Rattle.block_datapath.specs.Chains.{next_number}
-use Rattle.block_datapath.specs.Leave.{HasRoom, LeavesBlock}
+use Rattle.block_datapath.specs.Leave.{HasStage, HasRoom, LeavesBlock}
 use Rattle.thread_slots.specs.declared.chains.Chains.{Chains}
-use Rattle.operator_wires.proofs.Building.{wires_none, wires_then}
+use Rattle.operator_wires.proofs.Building.{stands_after, wires_none, wires_then}
 use Rattle.thread_slots.specs.Links.{AreBits, LeadsTo, ShowSame}
+use Rattle.thread_slots.specs.Numbers.{is_wait, numbers}
 use Rattle.thread_states.specs.Wired.{StepIsWired}
 use Rattle.thread_slots.specs.Slots.{KnowsStage}
-use Rattle.thread_states.specs.Stages.{StepsOver, Idles, EndsAt, LeavesAct, TakesReturn, TakesPrint, Runs, RunsBlock, DoesStage, TakesStage, WalksFirst, WalksAll}
+use Rattle.thread_slots.specs.declared.told.Told.{Told}
+use Rattle.thread_states.specs.Acts.{StepsOver, Idles, LeavesFor, TakesAct, EndsAt}
+use Rattle.thread_states.specs.Stages.{Runs, RunsBlock, DoesStage, TakesStage, WalksFirst, WalksAll}
 use Rattle.thread_slots.specs.Idle.{is_idle}
-use Rattle.thread_slots.proofs.Idling.{act_stays}
+use Rattle.thread_states.proofs.Acting.{stage_stepped, leaves_later, leaves_from}
 use Rattle.thread_states.proofs.Linking.{lead_off, bits_later, same_refl, same_then, still_later, many_refl, many_then}
 use Rattle.thread_slots.proofs.Linking.{same_everywhere, has_stage}
+use Rattle.thread_slots.proofs.Numbering.{own_number, meeting_number, number_not_rest, numbers_apart, rest_apart}
 
 -- ---- a block
 
@@ -128,115 +133,99 @@ planned_of b (Some (planned.Run p)) e = (p, refl)
 planned_of b (Some planned.Act) e = absurd cc
 planned_of b None e = absurd cc
 
-module _ (globals : List IntegerType) (code : ThreadCode) (registers : Registers) (l : ℕ) (old new : List Signal) (before after : Chains) where
+module _ (globals : List IntegerType) (code : ThreadCode) (registers : Registers) (told : Told) (l : ℕ) (old new : List Signal) (before after : Chains) where
   pub run_taken : (b : Block) (p : BlockPlan) (plan : StagePlan) → plan ≡ planned.Run p → RunsBlock globals code registers l b p old new before after
-      → TakesStage globals code registers l (stage.Run b) (Some plan) old new before after
+      → TakesStage globals code registers told l (stage.Run b) (Some plan) old new before after
   run_taken b p plan same t = record {
-    step = t.step;
-    does = λ bits variables kept le. record {
+    step = stage_stepped code registers l (stage.Run b) old new before after t.step;
+    does = λ bits variables kept less. record {
       runs = λ c u e f.
           let one : b ≡ c = cc in
           let two : p ≡ u = cc in
           subst (λ (z : Block). Runs globals code registers l new before after z u) one (subst (λ (z : BlockPlan). Runs globals code registers l new before after b z) two
           (t.runs bits variables kept));
-      prints = λ site next values e. absurd cc;
-      returns = λ next e. absurd cc;
+      acts = λ x next e. absurd cc;
+      meets = λ barrier next e. absurd cc;
       goes = λ no m r g o knows still here. t.goes r still;
     };
-    wired = subst (λ (z : StagePlan). l ≤ length code.stages → StepIsWired code registers (Some z) old new before after) (sym same) t.wired;
+    wired = λ less base bar fits linked. t.wired (omega arith) base (λ u e. fits u (ap Some same ∙ e)) linked;
   }
 
   -- a block without a plan of a block
   pub idle_taken : (b : Block) (plan : Option StagePlan) → ((p : BlockPlan) → plan ≡ Some (planned.Run p) → ⊥) → Idles registers l old new before after
-      → TakesStage globals code registers l (stage.Run b) plan old new before after
+      → TakesStage globals code registers told l (stage.Run b) plan old new before after
   idle_taken b plan none t = record {
-    step = t.step;
-    does = λ bits variables kept le. record {
+    step = stage_stepped code registers l (stage.Run b) old new before after t.step;
+    does = λ bits variables kept less. record {
       runs = λ c u e f. absurd (none u f);
-      prints = λ site next values e. absurd cc;
-      returns = λ next e. absurd cc;
+      acts = λ x next e. absurd cc;
+      meets = λ barrier next e. absurd cc;
       goes = λ no. absurd (none (planned_of b plan no).0 (planned_of b plan no).1);
     };
-    wired = λ le base fits linked. t.wired base code linked le;
+    wired = λ less base bar fits linked. let room = linked.slots.room in t.wired base code linked (omega arith);
   }
 
-  -- an act that is neither a printf nor a return
-  pub other_taken : (a : Act) (next : ℕ) (plan : Option StagePlan) → ((site : ℕ) (values : List ActOperand) → a ≡ Print site values → ⊥) → (a ≡ Return → ⊥)
-      → Idles registers l old new before after → TakesStage globals code registers l (stage.Act a next) plan old new before after
-  other_taken a next plan no_print no_return t = record {
+  pub act_taken : (a : Act) (next : ℕ) (plan : Option StagePlan) → TakesAct code registers told l a next old new before after
+      → TakesStage globals code registers told l (stage.Act a next) plan old new before after
+  act_taken a next plan t = record {
     step = t.step;
-    does = λ bits variables kept le. record {
+    does = λ bits variables kept less. record {
       runs = λ c u e. absurd cc;
-      prints = λ site to values e. absurd (no_print site values cc);
-      returns = λ to e. absurd (no_return cc);
-      goes = λ no. absurd (let clash : true ≡ false = ap not (sym (act_stays a no_print no_return)) ∙ no in cc);
-    };
-    wired = λ le base fits linked. t.wired base code linked le;
-  }
-
-  pub return_taken : (a : Act) (next : ℕ) (plan : Option StagePlan) → a ≡ Return → TakesReturn code registers l old new before after
-      → TakesStage globals code registers l (stage.Act a next) plan old new before after
-  return_taken a next plan same t = record {
-    step = t.step;
-    does = λ bits variables kept le. record {
-      runs = λ c u e. absurd cc;
-      prints = λ site to values e. absurd cc;
-      returns = λ to e m r g o knows still here. t.returns bits m r g o knows still le here;
-      goes = λ no m r g o knows still here. (t.returns bits m r g o knows still le here).waits;
-    };
-    wired = λ le base fits linked. t.wired base linked le;
-  }
-
-  pub print_taken : (a : Act) (next : ℕ) (plan : Option StagePlan) (site : ℕ) (values : List ActOperand) → a ≡ Print site values →
-      TakesPrint code registers l next old new before after
-      → TakesStage globals code registers l (stage.Act a next) plan old new before after
-  print_taken a next plan site values same t = record {
-    step = t.step;
-    does = λ bits variables kept le. record {
-      runs = λ c u e. absurd cc;
-      prints = λ other to list_of e m r g o knows still here.
+      acts = λ x to e m r g o knows still here.
+          let one : a ≡ x = cc in
           let two : next ≡ to = cc in
-          subst (λ (z : ℕ). LeavesAct code registers (min z (length code.stages)) r before after) two (t.prints bits m r g o knows still le here);
-      returns = λ to e. absurd cc;
-      goes = λ no m r g o knows still here. (t.prints bits m r g o knows still le here).waits;
+          subst (λ (z : Act). LeavesFor (stage_after (length code.stages) l z (min to (length code.stages))) false r before after) one
+          (subst (λ (z : ℕ). LeavesFor (stage_after (length code.stages) l a (min z (length code.stages))) false r before after) two
+          (t.acts bits less m r g o knows still here));
+      meets = λ barrier to e m r v g o knows still here bar.
+          let one : a ≡ BarrierWait barrier = cc in
+          let two : next ≡ to = cc in
+          subst (λ (z : ℕ). LeavesFor (min z (length code.stages)) v r before after) two (t.meets barrier one bits less m r v g o knows still here bar);
+      goes = λ no m r g o knows still here. (t.acts bits less m r g o knows still here).waits;
     };
-    wired = λ le base fits linked. t.wired plan le base fits linked;
+    wired = λ less base bar fits linked. t.wired base linked bar less;
   }
 
 -- ---- one more stage
 
-module _ (globals : List IntegerType) (code : ThreadCode) (registers : Registers) where
+module _ (globals : List IntegerType) (code : ThreadCode) (registers : Registers) (told : Told) where
+  abbrev end : ℕ
+  end = length code.stages
+
+  -- in readings of stage l links show the same as others
+  abbrev SameAt : ℕ → Stage → List Signal → Chains → Chains → Type 0
+  SameAt l s new x y =
+      (m : Module) (r : Reading) → Grows new m.signals → Obeys m r → KnowsStage code registers m r → numbers end l s (r.signal registers.stage.register) ≡ true → ShowSame r x y
+
+  own : (l : ℕ) (s : Stage) (r : Reading) → r.signal registers.stage.register ≡ l → numbers end l s (r.signal registers.stage.register) ≡ true
+  own l s r here = ap (numbers end l s) here ∙ own_number end l s
+
+  met : (l : ℕ) (s : Stage) (barrier : ActOperand) (next : ℕ) (r : Reading) → s ≡ stage.Act (BarrierWait barrier) next → r.signal registers.stage.register ≡ meeting end l
+      → numbers end l s (r.signal registers.stage.register) ≡ true
+  met l s barrier next r e here =
+      ap (numbers end l s) here ∙ meeting_number end l s (ap (λ (z : Stage). is_wait z) e)
+
   -- from links before it that show the same
-  started : (l : ℕ) (s : Stage) (plan : Option StagePlan) (new : List Signal) (start middle c : Chains)
-      → ((m : Module) (r : Reading) → Grows new m.signals → Obeys m r → KnowsStage code registers m r → r.signal registers.stage.register ≡ l → ShowSame r start middle)
-      → DoesStage globals code registers l s plan new middle c → DoesStage globals code registers l s plan new start c
+  started : (l : ℕ) (s : Stage) (plan : Option StagePlan) (new : List Signal) (start middle c : Chains) → SameAt l s new start middle
+      → DoesStage globals code registers told l s plan new middle c → DoesStage globals code registers told l s plan new start c
   started l s plan new start middle c same t = record {
     runs = λ b p e f bank m r q wire g o still right inside sees wired widths knows.
-        t.runs b p e f bank m r q wire g o (still_later r registers start middle (same m r g o knows inside.stage) still) right inside sees wired widths knows;
-    prints = λ site next values e m r g o knows still here.
-        let shown = same m r g o knows here in
-        act_started l r start middle c shown _ (t.prints site next values e m r g o knows (still_later r registers start middle shown still) here);
-    returns = λ next e m r g o knows still here.
-        let shown = same m r g o knows here in
-        act_started l r start middle c shown _ (t.returns next e m r g o knows (still_later r registers start middle shown still) here);
-    goes = λ no m r g o knows still here. t.goes no m r g o knows (still_later r registers start middle (same m r g o knows here) still) here;
+        t.runs b p e f bank m r q wire g o (still_later r registers start middle (same m r g o knows (own l s r inside.stage)) still) right inside sees wired widths knows;
+    acts = λ a next e m r g o knows still here.
+        let shown = same m r g o knows (own l s r here) in
+        leaves_from (stage_after end l a (min next end)) false r start middle c shown (t.acts a next e m r g o knows (still_later r registers start middle shown still) here);
+    meets = λ barrier next e m r v g o knows still here bar.
+        let shown = same m r g o knows (met l s barrier next r e here) in
+        leaves_from (min next end) v r start middle c shown (t.meets barrier next e m r v g o knows (still_later r registers start middle shown still) here bar);
+    goes = λ no m r g o knows still here. t.goes no m r g o knows (still_later r registers start middle (same m r g o knows (own l s r here)) still) here;
   }
-    where
-      act_started : (l : ℕ) (r : Reading) (start middle c : Chains) → ShowSame r start middle → (target : ℕ) → LeavesAct code registers target r middle c →
-          LeavesAct code registers target r start c
-      act_started l r start middle c shown target made = record {
-        is_last = made.is_last;
-        stage = made.stage;
-        variables = λ x. made.variables x ∙ shown.variables x;
-        waits = made.waits;
-      }
 
-  -- with links of another stage behind it
-  lifted : (l n : ℕ) (s : Stage) (plan : Option StagePlan) (old new : List Signal) (start middle c : Chains) → l ≢ n → n ≤ length code.stages → AreBits old middle
-      → StepsOver registers n old new middle c → DoesStage globals code registers l s plan old start middle → DoesStage globals code registers l s plan new start c
-  lifted l n s plan old new start middle c ne le bits step t = record {
+  -- with links behind it that show the same
+  lifted : (l : ℕ) (s : Stage) (plan : Option StagePlan) (old new : List Signal) (start middle c : Chains) → Grows old new → SameAt l s new middle c
+      → DoesStage globals code registers told l s plan old start middle → DoesStage globals code registers told l s plan new start c
+  lifted l s plan old new start middle c more same t = record {
     runs = λ b p e f bank m r q wire g o still right inside sees wired widths knows.
-        let shown = same m r g o knows inside.stage in
+        let shown = same m r g o knows (own l s r inside.stage) in
         let made = t.runs b p e f bank m r q wire (back m g) o still right inside sees wired widths knows in
         record {
           is_last = shown.is_last (nat_eq (suc q.state) p.states) made.is_last;
@@ -248,94 +237,111 @@ module _ (globals : List IntegerType) (code : ThreadCode) (registers : Registers
           typed = made.typed;
           waits = shown.waits false made.waits;
         };
-    prints = λ site next values e m r g o knows still here. act_lifted m r (same m r g o knows here) _
-        (t.prints site next values e m r (back m g) o knows still here);
-    returns = λ next e m r g o knows still here. act_lifted m r (same m r g o knows here) _ (t.returns next e m r (back m g) o knows still here);
-    goes = λ no m r g o knows still here. (same m r g o knows here).waits false (t.goes no m r (back m g) o knows still here);
+    acts = λ a next e m r g o knows still here.
+        leaves_later (stage_after end l a (min next end)) false r start middle c (same m r g o knows (own l s r here)) (t.acts a next e m r (back m g) o knows still here);
+    meets = λ barrier next e m r v g o knows still here bar.
+        leaves_later (min next end) v r start middle c (same m r g o knows (met l s barrier next r e here)) (t.meets barrier next e m r v (back m g) o knows still here bar);
+    goes = λ no m r g o knows still here. (same m r g o knows (own l s r here)).waits false (t.goes no m r (back m g) o knows still here);
   }
     where
       back : (m : Module) → Grows new m.signals → Grows old m.signals
-      back m g = grows_then old new m.signals step.grows g
-
-      same : (m : Module) (r : Reading) → Grows new m.signals → Obeys m r → KnowsStage code registers m r → r.signal registers.stage.register ≡ l → ShowSame r middle c
-      same m r g o knows here = step.rests m r g o bits (has_stage code registers n m r knows le) (λ e. ne (sym here ∙ e))
-
-      act_lifted : (m : Module) (r : Reading) → ShowSame r middle c → (target : ℕ) → LeavesAct code registers target r start middle → LeavesAct code registers target r start c
-      act_lifted m r shown target made = record {
-        is_last = shown.is_last true made.is_last;
-        stage = shown.stage ∙ made.stage;
-        variables = λ x. shown.variables x ∙ made.variables x;
-        waits = shown.waits false made.waits;
-      }
+      back m g = grows_then old new m.signals more g
 
   module _ (plan : Planned) (a : List Signal) (start : Chains) where
-    pub walks_none : WalksFirst globals code registers plan a a start start 0
+    pub walks_none : WalksFirst globals code registers told plan a a start start 0
     walks_none = record {
       grows = grows_refl a;
       many = many_refl start;
       bits = λ e. e;
       still = λ m r g o e knows none. same_refl r start;
       does = λ e variables kept k s lt. absurd (omega arith);
-      wired = λ base fits linked le. record { wires = wires_none base a; linked = linked };
+      wired = λ base fits bar linked le. record { wires = wires_none base a; linked = linked };
     }
 
-    pub walks_more : (b c : List Signal) (middle after : Chains) (n : ℕ) (s : Stage) → WalksFirst globals code registers plan a b start middle n →
+    pub walks_more : (b c : List Signal) (middle after : Chains) (n : ℕ) (s : Stage) → WalksFirst globals code registers told plan a b start middle n →
         slice_get code.stages n ≡ Some s
-        → TakesStage globals code registers n s (slice_get plan.stages n) b c middle after → WalksFirst globals code registers plan a c start after (n + 1)
+        → TakesStage globals code registers told n s (slice_get plan.stages n) b c middle after → WalksFirst globals code registers told plan a c start after (n + 1)
     walks_more b c middle after n s t listed u = record {
       grows = grows_then a b c t.grows u.step.grows;
       many = many_then start middle after t.many u.step.many;
       bits = λ e. u.step.bits (t.bits e);
       still = λ m r g o e knows none.
-          same_then r start middle after (t.still m r (back m g) o e knows (λ k less. none k (omega arith)))
-          (u.step.rests m r g o (t.bits e) (has_stage code registers n m r knows inside) (none n (omega arith)));
+          same_then r start middle after (t.still m r (back m g) o e knows (λ k x less there. none k x (omega arith) there))
+          (u.step.rests m r g o (t.bits e) knows inside (none n s (omega arith) listed));
       does = λ e variables kept k x lt there. ⊎_elim
           (λ (same : k ≡ n).
           let one : s ≡ x = (let h = ap (slice_get code.stages) same in cc) in
           let made = u.does (t.bits e) (t.many.variables ∙ variables) (t.many.kept ∙ kept) inside in
-          subst (λ (z : ℕ). DoesStage globals code registers z x (slice_get plan.stages z) c start after) (sym same)
-          (subst (λ (z : Stage). DoesStage globals code registers n z (slice_get plan.stages n) c start after) one
+          subst (λ (z : ℕ). DoesStage globals code registers told z x (slice_get plan.stages z) c start after) (sym same)
+          (subst (λ (z : Stage). DoesStage globals code registers told n z (slice_get plan.stages n) c start after) one
           (started n s (slice_get plan.stages n) c start middle after
-          (λ m r g o knows here. t.still m r (back m g) o e knows (λ k less. λ is. absurd (let z : k ≡ n = sym is ∙ here in omega arith))) made)))
+          (λ m r g o knows at. t.still m r (back m g) o e knows
+          (λ k y less there. numbers_apart end k n (r.signal registers.stage.register) y s (λ is. absurd (omega arith)) (let i = inside in omega arith) inside at)) made)))
           (λ (ne : k ≢ n).
-          lifted k n x (slice_get plan.stages k) b c start middle after ne inside (t.bits e) u.step
+          lifted k x (slice_get plan.stages k) b c start middle after u.step.grows
+          (λ m r g o knows at.
+          u.step.rests m r g o (t.bits e) knows inside
+          (numbers_apart end n k (r.signal registers.stage.register) s x ne inside (slice_get_within code.stages k x there) at))
           (t.does e variables kept k x (let less : k < n = omega arith in less) there))
           (same_or_not k n);
-      wired = λ base fits linked le.
-          let before = t.wired base fits linked inside in
-          let last = u.wired inside base (fits n) before.linked in
+      wired = λ base fits bar linked le.
+          let before = t.wired base fits bar linked (omega arith) in
+          let last = u.wired inside base (stands_after a b base told.barred 1 t.grows bar) (fits n) before.linked in
           record { wires = wires_then base a b c before.wires last.wires; linked = last.linked };
     }
       where
         back : (m : Module) → Grows c m.signals → Grows b m.signals
         back m g = grows_then b c m.signals u.step.grows g
 
-        inside : n ≤ length code.stages
-        inside = let less = slice_get_within code.stages n s listed in omega arith
+        inside : n < length code.stages
+        inside = slice_get_within code.stages n s listed
 
-    pub walked : (b c : List Signal) (middle after : Chains) (done : ℕ) → WalksFirst globals code registers plan a b start middle (length code.stages)
-        → EndsAt code registers b c middle after done → WalksAll globals code registers plan a c start after done
-    walked b c middle after done t u = record {
-      grows = grows_then a b c t.grows u.idles.step.grows;
-      many = many_then start middle after t.many u.idles.step.many;
-      bits = λ e. u.idles.step.bits (t.bits e);
+    pub walked : (main : Bool) (b c : List Signal) (middle after : Chains) → WalksFirst globals code registers told plan a b start middle (length code.stages)
+        → EndsAt code registers main told b c middle after → WalksAll globals code registers told main plan a c start after
+    walked main b c middle after t u = record {
+      grows = grows_then a b c t.grows u.step.grows;
+      many = many_then start middle after t.many u.step.many;
+      bits = λ e. u.step.bits (t.bits e);
       does = λ e variables kept k s listed.
           let less = slice_get_within code.stages k s listed in
-          lifted k (length code.stages) s (slice_get plan.stages k) b c start middle after (λ same. absurd (omega arith)) (omega arith) (t.bits e) u.idles.step
+          lifted k s (slice_get plan.stages k) b c start middle after u.step.grows
+          (λ m r g o knows at. u.step.rests m r g o (t.bits e) (has_end m r knows) (number_not_rest end k (r.signal registers.stage.register) s less at))
           (t.does e variables kept k s less listed);
-      ends = λ m r g o e knows still here.
-          u.idles.waits m r g o (t.bits e) (has_stage code registers (length code.stages) m r knows (omega arith)) here
-          ((t.still m r (back m g) o e knows (λ k less is. absurd (let z : k ≡ length code.stages = sym is ∙ here in omega arith))).waits false still.waits);
-      past = λ m r g o e knows still none.
-          (u.idles.step.rests m r g o (t.bits e) (has_stage code registers (length code.stages) m r knows (omega arith)) (none (length code.stages) (omega arith))).waits false
-          ((t.still m r (back m g) o e knows (λ k less. none k (omega arith))).waits false still.waits);
-      done_wide = u.told.wide;
-      done_is = λ m r g o knows. u.told.shows m r g o knows.wide knows.room knows.fits;
-      wired = λ base fits linked.
-          let before = t.wired base fits linked (omega arith) in
-          let last = u.idles.wired base code before.linked (omega arith) in
-          (record { wires = wires_then base a b c before.wires last.wires; linked = last.linked }, u.wired base before.linked);
+      stays = λ is m r g o e knows still here.
+          u.stays is (t.bits e) m r g o knows here ((shown m r g o e knows here).waits false still.waits);
+      begins = λ is m r v g o e knows still here runs.
+          let same = shown m r g o e knows here in
+          let made = u.begins is (t.bits e) m r v g o knows (still_later r registers start middle same still) here runs in
+          record {
+            is_last = made.is_last;
+            stage = made.stage;
+            variables = λ x less.
+                made.variables x (subst (λ (z : ℕ). x < z) (sym t.many.variables) less)
+                ∙ ap (λ z. if is_variable code.argument x then r.signal told.argument else z) (same.variables x);
+            waits = made.waits;
+          };
+      past = λ m r g o e knows still none other.
+          (u.step.rests m r g o (t.bits e) (has_end m r knows) other).waits false
+          ((t.still m r (back m g) o e knows (λ k s less listed. none k s listed)).waits false still.waits);
+      wired = λ base fits stand typed linked.
+          let before = t.wired base fits stand.barred linked (omega arith) in
+          let last =
+          u.wired base before.linked
+          (record {
+            barred = stands_after a b base told.barred 1 t.grows stand.barred;
+            runs = stands_after a b base told.runs 1 t.grows stand.runs;
+            argument = stands_after a b base told.argument 64 t.grows stand.argument;
+          }) typed in
+          record { wires = wires_then base a b c before.wires last.wires; linked = last.linked };
     }
       where
         back : (m : Module) → Grows c m.signals → Grows b m.signals
-        back m g = grows_then b c m.signals u.idles.step.grows g
+        back m g = grows_then b c m.signals u.step.grows g
+
+        has_end : (m : Module) (r : Reading) → KnowsStage code registers m r → HasStage registers end m r
+        has_end m r knows = has_stage code registers end m r knows (omega arith)
+
+        shown : (m : Module) (r : Reading) → Grows c m.signals → Obeys m r → AreBits a start → KnowsStage code registers m r → r.signal registers.stage.register ≡ end →
+            ShowSame r start middle
+        shown m r g o e knows here =
+            t.still m r (back m g) o e knows (λ k s less listed. ap (numbers end k s) here ∙ rest_apart end k s less)

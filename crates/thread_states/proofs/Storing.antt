@@ -16,6 +16,7 @@ use Rattle.block_datapath.specs.Wired.{CanRead}
 use Rattle.block_datapath.specs.declared.leaving_block.Left.{Left}
 use Rattle.thread_slots.specs.declared.chains.Chains.{Chains}
 use Rattle.thread_slots.specs.declared.stores.Store.{Store}
+use Rattle.thread_slots.specs.declared.told.Told.{Told}
 use Rattle.thread_slots.specs.Wired.{LinkAll, AreSlots, ValuesStand}
 use Rattle.thread_states.specs.Stages.{WalksFirst}
 use Rattle.thread_slots.specs.Stores.{AddsStores}
@@ -47,21 +48,21 @@ run_stored code registers l p s0 s1 s2 s3 chains first second left values before
     let u = stores base slots_1 (subst (λ (vs : List Given). ValuesStand base s1 vs) (sym same) t.values) t.at t.states in
     stores_later base s2 s3 after more (u.right (stores_later base s0 s1 before t.wires.grows right))
 
-pub walk_begun : (code : ThreadCode) (registers : Registers) (plan : Planned) (a : List Signal) (chains : Chains) (stores : List Store)
-    → StagesKeepStores code registers plan 0 a a chains stores stores
-walk_begun code registers plan a chains stores base fits linked le right = right
+pub walk_begun : (code : ThreadCode) (registers : Registers) (plan : Planned) (barred : ℕ) (a : List Signal) (chains : Chains) (stores : List Store)
+    → StagesKeepStores code registers plan barred 0 a a chains stores stores
+walk_begun code registers plan barred a chains stores base fits bar linked le right = right
 
-pub walk_stored : (globals : List IntegerType) (code : ThreadCode) (registers : Registers) (plan : Planned) (a b c : List Signal) (start middle : Chains)
+pub walk_stored : (globals : List IntegerType) (code : ThreadCode) (registers : Registers) (told : Told) (plan : Planned) (a b c : List Signal) (start middle : Chains)
     (n : ℕ)
-    (before between after : List Store) → WalksFirst globals code registers plan a b start middle n →
-    StagesKeepStores code registers plan n a b start before between
-    → StageKeepsStores code registers n (slice_get plan.stages n) b c middle between after → StagesKeepStores code registers plan (n + 1) a c start before after
-walk_stored globals code registers plan a b c start middle n before between after walks t u base fits linked le right =
-    let here = walks.wired base fits linked (omega arith) in
-    u base (λ p e. fits n p e) here.linked (omega arith) (t base fits linked (omega arith) right)
+    (before between after : List Store) → WalksFirst globals code registers told plan a b start middle n →
+    StagesKeepStores code registers plan told.barred n a b start before between
+    → StageKeepsStores code registers n (slice_get plan.stages n) b c middle between after → StagesKeepStores code registers plan told.barred (n + 1) a c start before after
+walk_stored globals code registers told plan a b c start middle n before between after walks t u base fits bar linked le right =
+    let here = walks.wired base fits bar linked (omega arith) in
+    u base (λ p e. fits n p e) here.linked (omega arith) (t base fits bar linked (omega arith) right)
 
-pub walk_ended : (code : ThreadCode) (registers : Registers) (plan : Planned) (n : ℕ) (a b c : List Signal) (chains : Chains)
+pub walk_ended : (code : ThreadCode) (registers : Registers) (plan : Planned) (barred n : ℕ) (a b c : List Signal) (chains : Chains)
     (before after : List Store) → Grows b c
-    → StagesKeepStores code registers plan n a b chains before after → StagesKeepStores code registers plan n a c chains before after
-walk_ended code registers plan n a b c chains before after g t base fits linked le right =
-    stores_later base b c after g (t base fits linked le right)
+    → StagesKeepStores code registers plan barred n a b chains before after → StagesKeepStores code registers plan barred n a c chains before after
+walk_ended code registers plan barred n a b c chains before after g t base fits bar linked le right =
+    stores_later base b c after g (t base fits bar linked le right)

@@ -1,11 +1,10 @@
 -- Chains through the stages of acts: their links stand.
-use Rattle.std.proofs.Common.{◌≡◌, ℕ, ◌<◌, ◌≤◌, ◌^◌, List, length, Option, Some, refl, sym, subst, ◌∙◌, arith}
+use Rattle.std.proofs.Common.{◌≡◌, ℕ, ◌<◌, ◌≤◌, ◌^◌, List, length, Some, refl, sym, subst, ◌∙◌}
 use Rattle.block_ir.specs.declared.code.ThreadCode.{ThreadCode}
 use Rattle.block_ir.specs.declared.plan.BlockPlan.{BlockPlan}
-use Rattle.block_ir.specs.declared.plan.StagePlan.{StagePlan}
 use Rattle.block_ir.specs.declared.plan.StagePlan.TheVariants as planned
 use Rattle.netlist.specs.declared.netlist.Signal.{Signal}
-use Rattle.operator_wires.specs.Built.{Base, IsEarlier, AreWires, Adds}
+use Rattle.operator_wires.specs.Built.{Base, IsEarlier, AreWires}
 use Rattle.operator_wires.proofs.Building.{stands_after, wires_then}
 use Rattle.block_datapath.specs.declared.registers.Registers.{Registers}
 use Rattle.block_datapath.specs.Wired.{CanRead}
@@ -14,13 +13,9 @@ use Rattle.thread_slots.specs.declared.chains.Chains.{Chains}
 use Rattle.thread_slots.specs.Wired.{LinkAll, ValuesStand, AreSlots, AreLinked, KeepsLinks}
 use Rattle.thread_states.specs.Wired.{StepIsWired}
 use Rattle.thread_slots.proofs.Linked.{slots_later, linked_later, keeps_then}
-use Rattle.thread_slots.proofs.Taken.{stage_below, Told}
+use Rattle.thread_slots.proofs.Taken.{stage_below}
 
 -- ---- what is asked of wires
-
-abbrev pub Numbered : List Signal → List Signal → ThreadCode → Registers → ℕ → Type 0
-Numbered a b code registers target =
-    (base : Base) → IsEarlier a base registers.stage.register registers.stage.width → length code.stages < 2 ^ registers.stage.width → Adds base a b registers.stage.width target
 
 -- chains keep their links, where a condition stands
 abbrev pub Keeps : List Signal → List Signal → Chains → Chains → ℕ → Type 0
@@ -32,41 +27,6 @@ abbrev pub Leads : List Signal → List Signal → Registers → Chains → Chai
 Leads a b registers before after last target =
     (base : Base) (code : ThreadCode) → AreLinked base a code registers before → IsEarlier a base last 1 → IsEarlier a base target registers.stage.width
     → KeepsLinks base a b code registers after
-
--- ---- stages of acts
-
-pub idle_linked : (a b c : List Signal) (registers : Registers) (l at : ℕ) (before after : Chains) → Told a b registers l at → Keeps b c before after at
-    → (base : Base) (code : ThreadCode) → AreLinked base a code registers before → l ≤ length code.stages → KeepsLinks base a c code registers after
-idle_linked a b c registers l at before after told waits base code linked le =
-    let t = told base linked.slots.stage (stage_below base a code registers l linked.slots le) in
-    keeps_then base a b c code registers after t.wires
-    (waits base code registers (linked_later base a b t.wires.grows code registers before linked) t.stands)
-
--- the bit of the end stands too
-pub end_linked : (a b c : List Signal) (code : ThreadCode) (registers : Registers) (l at : ℕ) (before after : Chains) → l ≡ length code.stages → Told a b registers l at
-    → Keeps b c before after at → (base : Base) → AreLinked base a code registers before → IsEarlier c base at 1
-end_linked a b c code registers l at before after same told waits base linked =
-    let t = told base linked.slots.stage (stage_below base a code registers l linked.slots (omega arith)) in
-    let u = waits base code registers (linked_later base a b t.wires.grows code registers before linked) t.stands in
-    stands_after b c base at 1 u.wires.grows t.stands
-
-pub return_linked : (a b c e : List Signal) (code : ThreadCode) (registers : Registers) (l at target : ℕ) (before after : Chains) → Told a b registers l at →
-    Numbered b c code registers target
-    → Leads c e registers before after at target → (base : Base) → AreLinked base a code registers before → l ≤ length code.stages
-    → KeepsLinks base a e code registers after
-return_linked a b c e code registers l at target before after told numbered leads base linked le =
-    let t = told base linked.slots.stage (stage_below base a code registers l linked.slots le) in
-    let slots_b = slots_later base a b t.wires.grows code registers linked.slots in
-    let u = numbered base slots_b.stage slots_b.room in
-    let wires = wires_then base a b c t.wires u.wires in
-    keeps_then base a c e code registers after wires
-    (leads base code (linked_later base a c wires.grows code registers before linked) (stands_after b c base at 1 u.wires.grows t.stands) u.stands)
-
-pub print_linked : (a b c e : List Signal) (code : ThreadCode) (registers : Registers) (l at target : ℕ) (before after : Chains) → Told a b registers l at
-    → Numbered b c code registers target → Leads c e registers before after at target → (plan : Option StagePlan) → l ≤ length code.stages →
-    StepIsWired code registers plan a e before after
-print_linked a b c e code registers l at target before after told numbered leads plan le base fits linked =
-    return_linked a b c e code registers l at target before after told numbered leads base linked le
 
 -- ---- blocks
 

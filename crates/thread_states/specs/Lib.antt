@@ -1,4 +1,5 @@
 pub mod Actions
+pub mod Acts
 pub mod Cells
 pub mod Control
 pub mod Stages

@@ -1,12 +1,13 @@
--- What the wires of a stage show: nothing in a reading of another stage, and in one of this stage what the state leaves.
-use Rattle.std.specs.Prelude.{◌≡◌, ◌≢◌, ℕ, suc, ◌<◌, ◌≤◌, ◌%◌, ◌^◌, nat_eq, false, if◌then◌else◌, min, List, length, Option, Some, slice_get, ℤ}
+-- What the wires of a stage show: nothing in a reading of another stage, and in one of this stage what the state leaves; and what those of all stages do.
+use Rattle.std.specs.Prelude.{◌≡◌, ◌≢◌, ℕ, suc, ◌<◌, ◌≤◌, ◌%◌, ◌^◌, nat_eq, Bool, true, false, if◌then◌else◌, min, List, length, Option, Some, slice_get, ℤ}
 use Rattle.interleaving.specs.Memory.{Location}
 use Rattle.hls_ints.specs.Residues.{residue_of, bit_of}
 use Rattle.hls_ints.specs.Types.{IntegerType, HasType, width_of}
 use Rattle.block_ir.specs.declared.block.Operation.{Operation}
 use Rattle.block_ir.specs.declared.block.Block.{Block}
 use Rattle.block_ir.specs.declared.code.ActOperand.{ActOperand}
-use Rattle.block_ir.specs.declared.code.Act.TheVariants.{Print, Return}
+use Rattle.block_ir.specs.declared.code.Act.{Act}
+use Rattle.block_ir.specs.declared.code.Act.TheVariants.{BarrierWait}
 use Rattle.block_ir.specs.declared.code.Stage.{Stage}
 use Rattle.block_ir.specs.declared.code.Stage.TheVariants as stage
 use Rattle.block_ir.specs.declared.code.ThreadCode.{ThreadCode}
@@ -19,7 +20,7 @@ use Rattle.planned_block.specs.Slot.{Slot, operand_now, RegistersAfter}
 use Rattle.planned_view.specs.View.{planned_view, plan_view}
 use Rattle.netlist.specs.declared.netlist.Signal.{Signal}
 use Rattle.netlist.specs.declared.netlist.Module.{Module}
-use Rattle.verilog_meaning.specs.Readings.{Reading, width}
+use Rattle.verilog_meaning.specs.Readings.{Reading}
 use Rattle.circuit.specs.Modules.{Obeys}
 use Rattle.operator_wires.specs.Gives.{Grows}
 use Rattle.thread_promise.specs.Types.{value_type}
@@ -27,8 +28,8 @@ use Rattle.thread_promise.specs.Slots.{IsAlive}
 use Rattle.block_datapath.specs.declared.registers.Held.{Held}
 use Rattle.block_datapath.specs.declared.registers.Registers.{Registers}
 use Rattle.block_datapath.specs.Operations.{SeesSlot, IsRight, IsFed}
-use Rattle.block_datapath.specs.Chains.{next_number, TellsStage}
-use Rattle.block_datapath.specs.Leave.{HasStage, IsInStage}
+use Rattle.block_datapath.specs.Chains.{next_number}
+use Rattle.block_datapath.specs.Leave.{IsInStage}
 use Rattle.thread_slots.specs.declared.chains.Chains.{Chains}
 use Rattle.operator_wires.specs.Built.{Base, IsEarlier}
 use Rattle.thread_slots.specs.Idle.{is_idle}
@@ -36,53 +37,11 @@ use Rattle.thread_slots.specs.Links.{AreBits, IsStill, ShowSame, AreAsMany}
 use Rattle.thread_slots.specs.Wired.{AreLinked, KeepsLinks, FitStates}
 use Rattle.thread_states.specs.Wired.{StepIsWired}
 use Rattle.thread_slots.specs.Slots.{KnowsStage}
-
--- ---- one stage
-
--- stage l adds to the chains: in a reading of another stage they show what they showed
-pub record StepsOver (registers : Registers) (l : ℕ) (old new : List Signal) (before after : Chains) : Type 0 where
-  pub grows : Grows old new
-  pub many : AreAsMany before after
-  pub bits : AreBits old before → AreBits new after
-  pub rests : (m : Module) (r : Reading) → Grows new m.signals → Obeys m r → AreBits old before → HasStage registers l m r → r.signal registers.stage.register ≢ l →
-      ShowSame r before after
-
--- a stage in which the thread waits forever
-pub record Idles (registers : Registers) (l : ℕ) (old new : List Signal) (before after : Chains) : Type 0 where
-  pub step : StepsOver registers l old new before after
-  pub waits : (m : Module) (r : Reading) → Grows new m.signals → Obeys m r → AreBits old before → HasStage registers l m r → r.signal registers.stage.register ≡ l →
-      r.signal before.waits ≡ 0 →
-      r.signal after.waits ≡ 1
-  pub wired : (base : Base) (code : ThreadCode) → AreLinked base old code registers before → l ≤ length code.stages
-      → KeepsLinks base old new code registers after
-
--- the last stage, past all others, and the bit that tells it
-pub record EndsAt (code : ThreadCode) (registers : Registers) (old new : List Signal) (before after : Chains) (at : ℕ) : Type 0 where
-  pub idles : Idles registers (length code.stages) old new before after
-  pub told : TellsStage old new registers (length code.stages) at
-  pub wired : (base : Base) → AreLinked base old code registers before → IsEarlier new base at 1
-
-module _ (code : ThreadCode) (registers : Registers) where
-  -- an act: it takes one state, which leads to a stage, and changes no variable
-  pub record LeavesAct (target : ℕ) (r : Reading) (start c : Chains) : Type 0 where
-    pub is_last : r.signal c.is_last ≡ 1
-    pub stage : r.signal c.stage ≡ target
-    pub variables : (x : ℕ) → next_number r c.variables x ≡ next_number r start.variables x
-    pub waits : r.signal c.waits ≡ 0
-
-  pub record TakesReturn (l : ℕ) (old new : List Signal) (before after : Chains) : Type 0 where
-    pub step : StepsOver registers l old new before after
-    pub returns : AreBits old before → (m : Module) (r : Reading) → Grows new m.signals → Obeys m r → KnowsStage code registers m r → IsStill r registers before →
-        l ≤ length code.stages
-        → r.signal registers.stage.register ≡ l → LeavesAct (length code.stages) r before after
-    pub wired : (base : Base) → AreLinked base old code registers before → l ≤ length code.stages → KeepsLinks base old new code registers after
-
-  -- a printf leads on
-  pub record TakesPrint (l next : ℕ) (old new : List Signal) (before after : Chains) : Type 0 where
-    pub step : StepsOver registers l old new before after
-    pub prints : AreBits old before → (m : Module) (r : Reading) → Grows new m.signals → Obeys m r → KnowsStage code registers m r
-        → IsStill r registers before → l ≤ length code.stages → r.signal registers.stage.register ≡ l → LeavesAct (min next (length code.stages)) r before after
-    pub wired : (plan : Option StagePlan) → l ≤ length code.stages → StepIsWired code registers plan old new before after
+use Rattle.thread_slots.specs.Bits.{HasBit}
+use Rattle.thread_slots.specs.Numbers.{numbers}
+use Rattle.thread_slots.specs.declared.told.Told.{Told}
+use Rattle.thread_promise.specs.Moves.{meeting, stage_after}
+use Rattle.thread_states.specs.Acts.{StepsOver, LeavesFor, AreTold, StepsStage, IsTypedArgument, SetsOut}
 
 module _ (globals : List IntegerType) (code : ThreadCode) (registers : Registers) where
   -- registers have room for the values that a plan keeps there
@@ -120,29 +79,29 @@ module _ (globals : List IntegerType) (code : ThreadCode) (registers : Registers
     pub goes : (r : Reading) → IsStill r registers before → r.signal after.waits ≡ 0
     pub wired : l ≤ length code.stages → StepIsWired code registers (Some (planned.Run p)) old new before after
 
+module _ (globals : List IntegerType) (code : ThreadCode) (registers : Registers) (told : Told) where
   -- what stage l does, in a reading of it: from links that are still to those behind it
   pub record DoesStage (l : ℕ) (s : Stage) (plan : Option StagePlan) (new : List Signal) (start c : Chains) : Type 0 where
-    pub runs : (b : Block) (p : BlockPlan) → s ≡ stage.Run b → plan ≡ Some (planned.Run p) → Runs l new start c b p
-    pub prints : (site next : ℕ) (values : List ActOperand) → s ≡ stage.Act (Print site values) next → (m : Module) (r : Reading) →
-        Grows new m.signals → Obeys m r → KnowsStage code registers m r → IsStill r registers start → r.signal registers.stage.register ≡ l →
-        LeavesAct code registers (min next (length code.stages)) r start c
-    pub returns : (next : ℕ) → s ≡ stage.Act Return next → (m : Module) (r : Reading) → Grows new m.signals → Obeys m r → KnowsStage code registers m r →
-        IsStill r registers start →
-        r.signal registers.stage.register ≡ l → LeavesAct code registers (length code.stages) r start c
+    pub runs : (b : Block) (p : BlockPlan) → s ≡ stage.Run b → plan ≡ Some (planned.Run p) → Runs globals code registers l new start c b p
+    pub acts : (a : Act) (next : ℕ) → s ≡ stage.Act a next → (m : Module) (r : Reading) → Grows new m.signals → Obeys m r → KnowsStage code registers m r →
+        IsStill r registers start → r.signal registers.stage.register ≡ l →
+        LeavesFor (stage_after (length code.stages) l a (min next (length code.stages))) false r start c
+    -- where it meets others it goes on, unless it is barred
+    pub meets : (barrier : ActOperand) (next : ℕ) → s ≡ stage.Act (BarrierWait barrier) next → (m : Module) (r : Reading) (t : Bool) → Grows new m.signals → Obeys m r →
+        KnowsStage code registers m r → IsStill r registers start → r.signal registers.stage.register ≡ meeting (length code.stages) l → HasBit m r told.barred t →
+        LeavesFor (min next (length code.stages)) t r start c
     -- whoever is not idle does not wait
     pub goes : is_idle s plan ≡ false → (m : Module) (r : Reading) → Grows new m.signals → Obeys m r → KnowsStage code registers m r →
         IsStill r registers start → r.signal registers.stage.register ≡ l → r.signal c.waits ≡ 0
 
   -- A STAGE
   pub record TakesStage (l : ℕ) (s : Stage) (plan : Option StagePlan) (old new : List Signal) (before after : Chains) : Type 0 where
-    pub step : StepsOver registers l old new before after
-    pub does : AreBits old before → length before.variables ≡ length code.variables → length before.kept ≡ length registers.kept → l ≤ length code.stages
+    pub step : StepsStage code registers l s old new before after
+    pub does : AreBits old before → length before.variables ≡ length code.variables → length before.kept ≡ length registers.kept → l < length code.stages
         → DoesStage l s plan new before after
-    pub wired : l ≤ length code.stages → StepIsWired code registers plan old new before after
-
-  -- an act is taken, whatever its plan
-  abbrev pub TakesAct : ℕ → Stage → List Signal → List Signal → Chains → Chains → Type 0
-  TakesAct l s old new before after = (plan : Option StagePlan) → TakesStage l s plan old new before after
+    pub wired : l < length code.stages → (base : Base) → IsEarlier old base told.barred 1 →
+        ((p : BlockPlan) → plan ≡ Some (planned.Run p) → p.states ≤ 2 ^ registers.state.width) → AreLinked base old code registers before →
+        KeepsLinks base old new code registers after
 
   -- THE FIRST n STAGES
   pub record WalksFirst (plan : Planned) (old new : List Signal) (start c : Chains) (n : ℕ) : Type 0 where
@@ -150,32 +109,32 @@ module _ (globals : List IntegerType) (code : ThreadCode) (registers : Registers
     pub many : AreAsMany start c
     pub bits : AreBits old start → AreBits new c
     pub still : (m : Module) (r : Reading) → Grows new m.signals → Obeys m r → AreBits old start → KnowsStage code registers m r →
-        ((k : ℕ) → k < n → r.signal registers.stage.register ≢ k)
+        ((k : ℕ) (s : Stage) → k < n → slice_get code.stages k ≡ Some s → numbers (length code.stages) k s (r.signal registers.stage.register) ≡ false)
         → ShowSame r start c
     pub does : AreBits old start → length start.variables ≡ length code.variables → length start.kept ≡ length registers.kept → (k : ℕ) (s : Stage) → k < n →
         slice_get code.stages k ≡ Some s →
         DoesStage k s (slice_get plan.stages k) new start c
-    pub wired : (base : Base) → FitStates registers plan →
+    pub wired : (base : Base) → FitStates registers plan → IsEarlier old base told.barred 1 →
         AreLinked base old code registers start
         → n ≤ length code.stages → KeepsLinks base old new code registers c
 
-  -- ALL STAGES, and the end: nothing is done there, and the bit `done` tells it
-  pub record WalksAll (plan : Planned) (old new : List Signal) (start c : Chains) (done : ℕ) : Type 0 where
+  -- ALL STAGES, and the rest
+  pub record WalksAll (main : Bool) (plan : Planned) (old new : List Signal) (start c : Chains) : Type 0 where
     pub grows : Grows old new
     pub many : AreAsMany start c
     pub bits : AreBits old start → AreBits new c
     pub does : AreBits old start → length start.variables ≡ length code.variables → length start.kept ≡ length registers.kept → (k : ℕ) (s : Stage) →
         slice_get code.stages k ≡ Some s →
         DoesStage k s (slice_get plan.stages k) new start c
-    -- at the end the thread waits
-    pub ends : (m : Module) (r : Reading) → Grows new m.signals → Obeys m r → AreBits old start → KnowsStage code registers m r → IsStill r registers start →
+    -- at rest main waits
+    pub stays : main ≡ true → (m : Module) (r : Reading) → Grows new m.signals → Obeys m r → AreBits old start → KnowsStage code registers m r → IsStill r registers start →
         r.signal registers.stage.register ≡ length code.stages → r.signal c.waits ≡ 1
-    -- and at no number past it
+    -- and another thread sets out where it runs
+    pub begins : main ≡ false → (m : Module) (r : Reading) (t : Bool) → Grows new m.signals → Obeys m r → AreBits old start → KnowsStage code registers m r →
+        IsStill r registers start → r.signal registers.stage.register ≡ length code.stages → HasBit m r told.runs t → SetsOut code.argument told t r start c
+    -- nothing waits at any other number that is none of a stage
     pub past : (m : Module) (r : Reading) → Grows new m.signals → Obeys m r → AreBits old start → KnowsStage code registers m r → IsStill r registers start →
-        ((k : ℕ) → k ≤ length code.stages → r.signal registers.stage.register ≢ k) → r.signal c.waits ≡ 0
-    pub done_wide : (m : Module) → Grows new m.signals → width m done ≡ 1
-    pub done_is : (m : Module) (r : Reading) → Grows new m.signals → Obeys m r → KnowsStage code registers m r →
-        r.signal done ≡ bit_of (nat_eq (r.signal registers.stage.register) (length code.stages))
-    pub wired : (base : Base) → FitStates registers plan →
-        AreLinked base old code registers start
-        → KeepsLinks base old new code registers c × IsEarlier new base done 1
+        ((k : ℕ) (s : Stage) → slice_get code.stages k ≡ Some s → numbers (length code.stages) k s (r.signal registers.stage.register) ≡ false) →
+        r.signal registers.stage.register ≢ length code.stages → r.signal c.waits ≡ 0
+    pub wired : (base : Base) → FitStates registers plan → AreTold base old told → (main ≡ false → IsTypedArgument code.argument code.variables) →
+        AreLinked base old code registers start → KeepsLinks base old new code registers c

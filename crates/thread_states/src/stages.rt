@@ -1,16 +1,16 @@
 // The wires of all stages, one after the other.
 
-ghost use Rattle.std.specs.Prelude.{length, slice_get, Option, Some, IfOk, OnOk};
+ghost use Rattle.std.specs.Prelude.{length, slice_get, Some, OnOk};
 ghost use Rattle.block_ir.specs.declared.code.Stage.TheVariants as taken;
 ghost use Rattle.block_ir.specs.declared.plan.StagePlan.TheVariants as stage_plan;
+ghost use Rattle.thread_slots.specs.declared.told.Told.{Told as ToldWires};
 ghost use Rattle.thread_states.specs.Cells.{StoresBlock, StoresStage, StoresFirst};
 ghost use Rattle.thread_states.specs.Stores.{StageKeepsStores, StagesKeepStores};
-ghost use Rattle.thread_states.specs.Stages.{RunsBlock, TakesStage, WalksFirst, EndsAt};
+ghost use Rattle.thread_states.specs.Stages.{RunsBlock, TakesStage, WalksFirst};
 
 use crate::acts::{idle, take_act};
 use block_datapath::leaving_block::leave_block;
 use block_datapath::registers::Registers;
-use block_datapath::states::at_stage;
 use block_ir::block::Block;
 use block_ir::code::{Stage, ThreadCode};
 use block_ir::plan::{BlockPlan, Planned, StagePlan};
@@ -20,6 +20,7 @@ use sqlite_items::Items;
 use std::alloc::AllocError;
 use thread_slots::chains::Chains;
 use thread_slots::stores::{Store, store_all};
+use thread_slots::told::Told;
 
 /// The wires of all stages.
 pub fn take_stages(
@@ -30,34 +31,20 @@ pub fn take_stages(
     code: &ThreadCode,
     globals: &[CType],
     planned: &Planned,
+    told: Told,
 ) -> Result<(), AllocError>
-    ensures walks { OnOk result (WalksFirst globals.now code.now registers.now planned.now wires.old.signals wires.new.signals chains.old chains.new
+    ensures walks { OnOk result (WalksFirst globals.now code.now registers.now told planned.now wires.old.signals wires.new.signals chains.old chains.new
         (length code.now.stages)) }
     ensures puts { OnOk result (StoresFirst globals.now code.now registers.now planned.now wires.old.signals wires.new.signals stores.old stores.new (length code.now.stages)) }
-    ensures stores { OnOk result (StagesKeepStores code.now registers.now planned.now
+    ensures stores { OnOk result (StagesKeepStores code.now registers.now planned.now told.barred
         (length code.now.stages) wires.old.signals wires.new.signals chains.old stores.old stores.new) }
 {
     for (number, stage) in code.stages.as_slice().iter().enumerate() {
         take_stage(
-            wires, registers, chains, stores, code, globals, planned, number, stage,
+            wires, registers, chains, stores, code, globals, planned, number, stage, told,
         )?;
     }
     Ok(())
-}
-
-/// The stage past the last one, in which main has ended, and another thread has not begun. Answers whether the slot is
-/// there.
-pub fn take_end(
-    wires: &mut Wires,
-    registers: &Registers,
-    chains: &mut Chains,
-    code: &ThreadCode,
-) -> Result<usize, AllocError>
-    ensures { IfOk result (EndsAt code.now registers.now wires.old.signals wires.new.signals chains.old chains.new) }
-{
-    let at = at_stage(wires, registers, code.stages.len() as u64)?;
-    chains.wait(wires, at)?;
-    Ok(at)
 }
 
 fn take_stage(
@@ -70,8 +57,9 @@ fn take_stage(
     planned: &Planned,
     number: usize,
     stage: &Stage,
+    told: Told,
 ) -> Result<(), AllocError>
-    ensures takes { OnOk result (TakesStage globals.now code.now registers.now number stage.now
+    ensures takes { OnOk result (TakesStage globals.now code.now registers.now told number stage.now
         (slice_get planned.now.stages number) wires.old.signals wires.new.signals chains.old chains.new) }
     ensures puts { OnOk result (StoresStage globals.now code.now registers.now number stage.now
         (slice_get planned.now.stages number) wires.old.signals wires.new.signals stores.old stores.new) }
@@ -83,9 +71,11 @@ fn take_stage(
             Some(plan) => take_block(
                 wires, registers, chains, stores, code, globals, number, block, plan,
             ),
-            None => idle(wires, registers, chains, number),
+            None => idle(wires, registers, chains, number as u64),
         },
-        Stage::Act { act, next } => take_act(wires, registers, chains, code, number, act, *next),
+        Stage::Act { act, next } => take_act(
+            wires, registers, chains, code, number, act, *next, told,
+        ),
     }
 }
 
@@ -101,7 +91,7 @@ fn take_block(
     block: &Block,
     plan: &StagePlan,
 ) -> Result<(), AllocError>
-    ensures takes { OnOk result (TakesStage globals.now code.now registers.now number (taken.Run block.now)
+    ensures takes { OnOk result ((told : ToldWires) → TakesStage globals.now code.now registers.now told number (taken.Run block.now)
         (Some plan.now) wires.old.signals wires.new.signals chains.old chains.new) }
     ensures puts { OnOk result (StoresStage globals.now code.now registers.now number (taken.Run block.now)
         (Some plan.now) wires.old.signals wires.new.signals stores.old stores.new) }
@@ -111,7 +101,7 @@ fn take_block(
         StagePlan::Run(plan) => run(
             wires, registers, chains, stores, code, globals, number, block, plan,
         ),
-        StagePlan::Act => idle(wires, registers, chains, number),
+        StagePlan::Act => idle(wires, registers, chains, number as u64),
     }
 }
 

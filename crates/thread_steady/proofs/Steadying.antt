@@ -1,12 +1,14 @@
 -- The module of main keeps to itself.
-use Rattle.std.proofs.Common.{◌≡◌, ◌≢◌, ℕ, suc, ◌+◌, ◌-◌, ◌*◌, ◌%◌, ◌<◌, ◌≤◌, ◌^◌, nat_eq, nat_lt, Bool, true, false, not, ◌&&◌, ◌||◌, if◌then◌else◌, List, [], ◌∷◌, ◌++◌, length}
+use Rattle.std.proofs.Common.{◌≡◌, ◌≢◌, ℕ, ◌+◌, ◌-◌, ◌%◌, ◌<◌, ◌≤◌, ◌^◌, nat_eq, Bool, true, false, not, ◌&&◌, ◌||◌, if◌then◌else◌, List, [], ◌∷◌, ◌++◌, length}
 use Rattle.std.proofs.Common.{map, slice_get, slice_index, Option, Some, None, refl, sym, ap, subst, ◌∙◌, arith, ⊎_elim}
 use Rattle.std.proofs.lemmas.Bool.{cases_lt}
 use Rattle.std.proofs.lemmas.Bool.Decides.{nat_tests}
 use Rattle.std.proofs.lemmas.Option.{slice_get_within, get_or_from_slice_get}
 use Rattle.hls_ints.specs.Residues.{bit_of}
 use Rattle.block_ir.specs.declared.block.Block.{Block}
+use Rattle.block_ir.specs.declared.code.Act.TheVariants.{Return}
 use Rattle.block_ir.specs.declared.code.Stage.{Stage}
+use Rattle.block_ir.specs.declared.code.Stage.TheVariants as stage
 use Rattle.block_ir.specs.declared.code.ThreadCode.{ThreadCode}
 use Rattle.block_ir.specs.declared.plan.BlockPlan.{BlockPlan}
 use Rattle.block_ir.specs.declared.plan.Planned.{Planned}
@@ -23,40 +25,48 @@ use Rattle.verilog_meaning.specs.Readings.{Reading, width, next_reading}
 use Rattle.circuit.specs.Rows.{EachOf}
 use Rattle.circuit.specs.Modules.{Obeys, Agree}
 use Rattle.leaf_machine.specs.Leaves.{leaf_thread, leaf_places}
-use Rattle.leaf_machine.specs.Steady.{KeepsToItself, IsSteadyMain}
+use Rattle.leaf_machine.specs.Steady.{KeepsToItself, IsSteadyThread}
 use Rattle.operator_wires.specs.Gives.{Grows}
 use Rattle.operator_wires.specs.Built.{IsEarlier}
 use Rattle.operator_wires.proofs.Building.{within}
 use Rattle.operator_wires.proofs.Giving.{grows_then, listed}
 use Rattle.thread_promise.specs.Globals.{bank_total}
-use Rattle.thread_promise.specs.Promise.{IsInside, is_print, is_run}
+use Rattle.thread_promise.specs.Promise.{IsInside, is_run}
 use Rattle.block_datapath.specs.declared.registers.Held.{Held}
 use Rattle.block_datapath.specs.Requests.{Asked}
-use Rattle.thread_slots.specs.declared.shape.Printer.{Printer}
 use Rattle.thread_slots.specs.declared.shape.Shape.{Shape}
 use Rattle.thread_states.specs.Actions.{set_action, sets_from}
 use Rattle.thread_slots.specs.Cells.{store_action}
-use Rattle.thread_requests.specs.Asking.{AskSame}
+use Rattle.block_ir.specs.Asked.{Service}
+use Rattle.thread_slots.specs.Requests.{group}
+use Rattle.thread_asks.specs.Asking.{is_asked, AskSame}
 use Rattle.thread_slots.specs.Bits.{HasBit}
 use Rattle.thread_states.specs.Control.{got, unmet, is_left}
 use Rattle.thread_layout.specs.Leaf.{leaf_of}
-use Rattle.thread_layout.specs.Memories.{early_base}
+use Rattle.thread_layout.specs.Memories.{base_behind}
 use Rattle.thread_layout.specs.Modules.{IsModule, IsWiredInside}
+use Rattle.thread_promise.specs.Moves.{meeting}
 use Rattle.thread_slots.specs.Idle.{is_idle}
+use Rattle.thread_slots.specs.Numbers.{is_wait, numbers}
+use Rattle.thread_slots.proofs.Numbering.{number_is}
 use Rattle.thread_steady.specs.Steady.{NeedsNoMore, IsSteadyServed}
-use Rattle.thread_layout.specs.Thread.{input_count, port_at, need_at, done_at, places_of, ports_of, IsServed}
+use Rattle.thread_layout.specs.Thread.{cores_of, inputs_of, port_at, need_at, done_at, places_of, ports_of, IsServed}
 use Rattle.thread_steady.proofs.Alike.{ActsAlike, wires_alike, wire_alike, next_alike, set_acts, sets_alike, stores_alike}
+use Rattle.thread_layout.proofs.Losing.{quiet_not_lost}
 use Rattle.thread_layout.proofs.Moving.{asker}
-use Rattle.thread_layout.proofs.Needed.{asked_now, asked_bank, asked_printer, unneeded_asks, idle_needs_so, end_needs, return_needs, closed_needs, some_below, none_below}
-use Rattle.thread_layout.proofs.Opened.{marked_now, mark_bit, open_bits, want_wide, print_wide, wired, start_many, start_less, bit_told}
-use Rattle.thread_layout.proofs.Placed.{wide_bit, stands_wide, got_any, stands_copies, stands_agrees, from_control, from_inside, from_heard, from_early, from_slot, opens_count}
-use Rattle.thread_layout.proofs.Placed.{words_count, ask_copied, need_stands, done_stands, before_need, beat_at, beat_stands, inputs_long}
-use Rattle.thread_layout.proofs.Quiet.{bank_bit, quiet_bit}
+use Rattle.thread_layout.proofs.Needed.{asked_now, asked_bank, asked_kind, service_off, unneeded_asks, idle_needs_so, meeting_needs, end_needs, return_needs, closed_needs, some_below, none_below}
+use Rattle.thread_layout.proofs.Opened.{raised_by, acts_by, no_service, all_count, marked_now, mark_bit, open_bits, want_wide, wired, start_many, start_less, bit_told}
+use Rattle.thread_layout.proofs.Cores.{none_open}
+use Rattle.thread_requests.proofs.Opening.{joined_front, joined_back}
+use Rattle.thread_layout.proofs.Placed.{wide_bit, stands_wide, got_any, stands_copies, stands_agrees, from_control}
+use Rattle.thread_layout.proofs.Placed.{from_inside, from_rest, from_heard, from_words_heard, from_early, from_slot, opens_count}
+use Rattle.thread_layout.proofs.Placed.{ask_copied, need_stands, done_stands, before_need, beat_at, beat_stands, inputs_long}
+use Rattle.thread_layout.proofs.Quiet.{bank_bit, service_shown}
 use Rattle.thread_layout.proofs.Raising.{from_asks, wanted, wanted_bit}
 use Rattle.thread_layout.proofs.Requested.{indices, targets, printing}
 use Rattle.thread_layout.proofs.Resting.{raised_now, grants_now, opens_now, steers_now, agrees_off, rests_so, marks_left}
 use Rattle.thread_layout.proofs.Remembering.{each_append}
-use Rattle.thread_layout.proofs.Sight.{still, knows, enabled, waiting, state_wide, enable_bit, next_beat, chains_bits, stage_shown}
+use Rattle.thread_layout.proofs.Sight.{waits_last, still, knows, enabled, waiting, state_wide, enable_bit, next_beat, chains_bits, stage_shown}
 
 -- ---- bits
 
@@ -100,19 +110,19 @@ module _ (shape : Shape) (code : ThreadCode) (plan : Planned) (m : Module) (t : 
   banks = bank_total shape.spreads
 
   abbrev behind : ℕ
-  behind = input_count banks
+  behind = inputs_of shape
 
   abbrev firsts : List Action
   firsts =
       set_action t.edge.leave t.inside.slot.stage.register t.inside.chains.stage ∷ set_action t.edge.leave t.inside.slot.state.register t.edge.state
       ∷ set_action t.edge.moved t.inside.slot.beat t.edge.beat ∷ []
 
-  inner : IsWiredInside code plan shape t.laid.with_inputs t.laid.with_slot t.laid.with_early t.laid.with_heard t.with_inside t.inside
+  inner : IsWiredInside code plan shape t.laid.with_ports t.laid.with_inputs t.laid.with_slot t.laid.with_early t.laid.with_heard t.with_inside t.inside
   inner = wired shape code plan m t served
 
   -- ---- outputs
 
-  ask_shown : (r : Reading) (k : ℕ) → Obeys m r → k < suc banks → r.signal (port_at shape m k 0) ≡ r.signal (slice_index t.edge.asks k)
+  ask_shown : (r : Reading) (k : ℕ) → Obeys m r → k < cores_of shape → r.signal (port_at shape m k 0) ≡ r.signal (slice_index t.edge.asks k)
   ask_shown = ask_copied shape code plan m t served
 
   need_copied : (r : Reading) → Obeys m r → r.signal (need_at shape m) ≡ r.signal t.inside.early.need
@@ -137,16 +147,16 @@ module _ (shape : Shape) (code : ThreadCode) (plan : Planned) (m : Module) (t : 
     waits = (waiting shape code plan m t served r o).0
 
     -- what is asked, by cores
-    asks_bit : (e : Bool) → r.signal 1 ≡ bit_of e → (k : ℕ) → k < suc banks → r.signal (slice_index t.edge.asks k) ≡ bit_of (raised k && e)
+    asks_bit : (e : Bool) → r.signal 1 ≡ bit_of e → (k : ℕ) → k < cores_of shape → r.signal (slice_index t.edge.asks k) ≡ bit_of (raised k && e)
     asks_bit e on k less =
         (t.closed.controls.asks m r raised e (from_control shape code plan m t served) o (opens_now shape code plan m t served r o)
         (enable_bit shape code plan m t served r o e on) k (subst (λ n. k < n) (sym (opens_count shape code plan m t served)) less)).shows
 
     abbrev Quiet : Type 0
-    Quiet = (n : ℕ) → n < suc banks → asked_now shape code plan m t served r o n ≡ false
+    Quiet = (n : ℕ) → n < banks + 4 → asked_now shape code plan m t served r o n ≡ false
 
     -- where none is wanted none is open
-    raised_none : Quiet → (n : ℕ) → n < suc banks → raised n ≡ false
+    raised_none : Quiet → (n : ℕ) → n < cores_of shape → raised n ≡ false
     raised_none quiet n less =
         let wants : (k : ℕ) → k < banks → HasBit m r (slice_index t.inside.early.requests.banks.wants k) false =
         λ k below.
@@ -158,22 +168,23 @@ module _ (shape : Shape) (code : ThreadCode) (plan : Planned) (m : Module) (t : 
               bit_told (r.signal (slice_index t.inside.early.requests.banks.wants k)) bit.0 bit.1
               ∙ ap (λ z. bit_of (nat_eq (r.signal z) 1)) (sym (asked_bank shape code plan m t served k below)) ∙ ap bit_of (quiet k (omega arith));
         } in
-        let printer_wide = print_wide shape code plan m t served in
-        let printer_bit = wide_bit m r t.inside.early.requests.wants o printer_wide in
-        let prints : HasBit m r t.inside.early.requests.wants false = record {
-          wide = printer_wide;
-          shows =
-              bit_told (r.signal t.inside.early.requests.wants) printer_bit.0 printer_bit.1
-              ∙ ap (λ z. bit_of (nat_eq (r.signal z) 1)) (sym (asked_printer shape code plan m t served)) ∙ ap bit_of (quiet banks (omega arith));
-        } in
+        let none = no_service shape code plan m t served in
         let opened =
-        open_bits shape code plan m t served r o (λ k. false) (marked_now shape code plan m t served r) false wants
-        (λ k below. mark_bit shape code plan m t served r k o below) prints n less in
-        ap (λ z. nat_eq z 1) (opened.shows ∙ ap bit_of (shut (nat_lt n banks)))
+        open_bits shape code plan m t served r o (λ k. false) (marked_now shape code plan m t served r) none wants
+        (λ k below. mark_bit shape code plan m t served r k o below) (service_off shape code plan m t served r o quiet) n
+        (subst (λ z. n < z) (sym (all_count shape code plan m t served)) less) in
+        ap (λ z. nat_eq z 1) (opened.shows ∙ ap bit_of shut)
       where
-        shut : (c : Bool) → (if c then false && not (marked_now shape code plan m t served r n) else false) ≡ false
-        shut true = refl
-        shut false = refl
+        shut : raised_by shape code plan m t served (λ k. false) (marked_now shape code plan m t served r)
+            (acts_by shape code plan m t served r (no_service shape code plan m t served)) n ≡ false
+        shut =
+            ⊎_elim
+            (λ (bank : n < banks).
+            joined_front banks (λ k. false && not (marked_now shape code plan m t served r k)) (acts_by shape code plan m t served r (no_service shape code plan m t served)) n bank)
+            (λ (past : banks ≤ n).
+            joined_back banks (λ k. false && not (marked_now shape code plan m t served r k)) (acts_by shape code plan m t served r (no_service shape code plan m t served)) n past
+            ∙ none_open shape.served (λ s. r.signal (group t.inside.early.requests s).object) (n - banks))
+            (cases_lt n banks)
 
     -- the state is left
     left_is : (e : Bool) → r.signal 1 ≡ bit_of e → r.signal t.edge.leave ≡ bit_of (is_left raised grants e waits (length t.inside.early.opens))
@@ -185,7 +196,7 @@ module _ (shape : Shape) (code : ThreadCode) (plan : Planned) (m : Module) (t : 
     moved_is e on =
         (t.closed.controls.moved m r raised grants waits e (from_control shape code plan m t served) o (steers_now shape code plan m t served r o e on)).shows
 
-    within_opens : (k : ℕ) → k < length t.inside.early.opens → k < suc banks
+    within_opens : (k : ℕ) → k < length t.inside.early.opens → k < cores_of shape
     within_opens k less = subst (λ n. k < n) (opens_count shape code plan m t served) less
 
     none_unmet : Quiet → (e : Bool) → any_below (unmet raised grants e) (length t.inside.early.opens) ≡ false
@@ -236,35 +247,41 @@ module _ (shape : Shape) (code : ThreadCode) (plan : Planned) (m : Module) (t : 
 
     -- ---- where no core is needed
 
+    not_lost : Quiet → r.signal t.inside.early.lost ≡ 0
+    not_lost quiet = quiet_not_lost shape code plan m t served r o (service_off shape code plan m t served r o quiet)
+
     module _ (none : r.signal t.inside.early.need ≡ 0) where
       quiet_here : Quiet
       quiet_here = unneeded_asks shape code plan m t served r o none
 
       -- the thread does not wait
       waits_not : r.signal t.inside.chains.waits ≡ 0
-      waits_not = by (slice_get code.stages now) refl
+      waits_not = waits_last shape code plan m t served r o false false (by (slice_get code.stages now) refl) (not_lost quiet_here)
         where
+          -- at no stage it is at no number of one, since where it meets others it needs a core
+          none_of : (k : ℕ) (s : Stage) → slice_get code.stages k ≡ Some s → slice_get code.stages now ≡ None → (c : Bool) → numbers (length code.stages) k s now ≡ c
+              → numbers (length code.stages) k s now ≡ false
+          none_of k s there listed false e = e
+          none_of k s there listed true e =
+              ⊎_elim
+              (λ (own : now ≡ k). absurd (let nothing : slice_get code.stages k ≡ None = ap (slice_get code.stages) (sym own) ∙ listed in cc))
+              (λ (met : (is_wait s ≡ true) × (now ≡ meeting (length code.stages) k)).
+              absurd (let clash : 0 ≡ 1 = sym none ∙ meeting_needs shape code plan m t served r o k s there met.0 met.1 in cc))
+              (number_is (length code.stages) k now s e)
+
           by_idle : (s : Stage) → slice_get code.stages now ≡ Some s → (c : Bool) → is_idle s (slice_get plan.stages now) ≡ c →
-              r.signal t.inside.chains.waits ≡ 0
+              r.signal t.laid.rested.waits ≡ 0
           by_idle s listed true e = absurd (let clash : 0 ≡ 1 = sym none ∙ idle_needs_so shape code plan m t served r o s listed e in cc)
           by_idle s listed false e =
               (t.laid.walks.does t.laid.begins.bits (t.laid.begins.variables ∙ t.laid.slot.variables_count) t.laid.begins.kept now s listed).goes e m r
-              (from_inside shape code plan m t served) o (knows shape code plan m t served r o) (still shape code plan m t served r o) refl
+              (from_rest shape code plan m t served) o (knows shape code plan m t served r o) (still shape code plan m t served r o) refl
 
-          by : (s : Option Stage) → slice_get code.stages now ≡ s → r.signal t.inside.chains.waits ≡ 0
+          by : (s : Option Stage) → slice_get code.stages now ≡ s → r.signal t.laid.rested.waits ≡ 0
           by (Some s) listed = by_idle s listed (is_idle s (slice_get plan.stages now)) refl
           by None listed =
-              t.laid.walks.past m r (from_inside shape code plan m t served) o t.laid.begins.bits (knows shape code plan m t served r o)
-              (still shape code plan m t served r o)
-              (λ k le is.
-              ⊎_elim
-              (λ (less : k < length code.stages).
-              let found = got_any code.stages k less in
-              absurd (let there : slice_get code.stages k ≡ None = ap (slice_get code.stages) (sym is) ∙ listed in let own = found.1 in cc))
-              (λ (ge : length code.stages ≤ k).
-              let end : now ≡ length code.stages = omega arith in
-              absurd (let clash : 0 ≡ 1 = sym none ∙ end_needs shape code plan m t served r o end in cc))
-              (cases_lt k (length code.stages)))
+              t.laid.walks.past m r (from_rest shape code plan m t served) o t.laid.begins.bits (knows shape code plan m t served r o)
+              (still shape code plan m t served r o) (λ k s there. none_of k s there listed (numbers (length code.stages) k s now) refl)
+              (λ end. absurd (let clash : 0 ≡ 1 = sym none ∙ end_needs shape code plan m t served r o end in cc))
 
       waits_false : waits ≡ false
       waits_false = is_false waits (sym (waiting shape code plan m t served r o).1 ∙ waits_not)
@@ -279,7 +296,7 @@ module _ (shape : Shape) (code : ThreadCode) (plan : Planned) (m : Module) (t : 
 
     -- ---- at the end
 
-    module _ (end : now ≡ length code.stages) where
+    module _ (main : shape.is_main ≡ true) (end : now ≡ length code.stages) where
       past_all : (k : ℕ) → k < length code.stages → now ≢ k
       past_all k less is = absurd (let same : length code.stages ≡ k = sym end ∙ is in omega arith)
 
@@ -300,18 +317,18 @@ module _ (shape : Shape) (code : ThreadCode) (plan : Planned) (m : Module) (t : 
           (asks_still.banks n banks (start_many shape code plan m t served) h
           ∙ t.laid.early.begins.nothing m r n start_grows o (start_less shape code plan m t served n h))))
           (λ (h : banks ≤ n).
-          let same : n ≡ banks = omega arith in
-          ap (asked_now shape code plan m t served r o) same
-          ∙ ap (λ z. nat_eq (r.signal z) 1) (asked_printer shape code plan m t served)
-          ∙ ap (λ z. nat_eq z 1) (asks_still.wants false (t.laid.early.begins.silent m r start_grows o)))
+          let kind = asked_kind shape code plan m t served n h less in
+          ap (λ z. nat_eq (r.signal z) 1) kind.1
+          ∙ ap (λ z. nat_eq z 1) ((asks_still.requests kind.0).wants false (t.laid.early.begins.silent kind.0 m r start_grows o)))
           (cases_lt n banks)
 
       waits_end : waits ≡ true
       waits_end =
           is_true waits
           (sym (waiting shape code plan m t served r o).1
-          ∙ t.laid.walks.ends m r (from_inside shape code plan m t served) o t.laid.begins.bits (knows shape code plan m t served r o)
-          (still shape code plan m t served r o) end)
+          ∙ waits_last shape code plan m t served r o true false
+          (t.laid.walks.stays main m r (from_rest shape code plan m t served) o t.laid.begins.bits (knows shape code plan m t served r o)
+          (still shape code plan m t served r o) end) (not_lost quiet_end))
 
       stays_end : Agree m r (next_reading m r)
       stays_end =
@@ -332,18 +349,18 @@ module _ (shape : Shape) (code : ThreadCode) (plan : Planned) (m : Module) (t : 
         agree.registers x s.0 (listed t.laid.with_slot m.signals x s.0 (from_slot shape code plan m t served) s.1)
         (subst (λ (d : Source). IsRegister d) (sym is.drives) tt)
 
-    base_first : (early_base (length t.inside.slot.words) code).first ≡ behind
-    base_first = let count = words_count shape code plan m t served in omega arith
+    base_first : length t.laid.with_inputs ≡ behind
+    base_first = inputs_long shape code plan m t served
 
     early_alike : (x : ℕ) → behind ≤ x → x < length t.laid.with_early → r.signal x ≡ q.signal x
     early_alike x le less =
-        wires_alike m r q one two agree (early_base (length t.inside.slot.words) code) t.laid.with_slot t.laid.with_early inner.early.wires
+        wires_alike m r q one two agree (base_behind (length t.laid.with_inputs) code) t.laid.with_slot t.laid.with_early inner.early.wires
         (from_early shape code plan m t served) (λ y after below. slot_alike y (let f = base_first in omega arith) below) x (let f = base_first in omega arith) less
 
     need_alike : r.signal t.inside.early.need ≡ q.signal t.inside.early.need
     need_alike =
         early_alike t.inside.early.need (let after = inner.early.need.after in let f = base_first in omega arith)
-        (within t.laid.with_early (early_base (length t.inside.slot.words) code) t.inside.early.need 1 inner.early.need)
+        (within t.laid.with_early (base_behind (length t.laid.with_inputs) code) t.inside.early.need 1 inner.early.need)
 
     module _ (none : r.signal t.inside.early.need ≡ 0) where
       none_too : q.signal t.inside.early.need ≡ 0
@@ -353,13 +370,19 @@ module _ (shape : Shape) (code : ThreadCode) (plan : Planned) (m : Module) (t : 
       heard_alike x le less =
           ⊎_elim (λ (h : x < length t.laid.with_early). early_alike x le h)
           (λ (h : length t.laid.with_early ≤ x).
-          t.laid.hears.silent m r x (from_heard shape code plan m t served) one h less none
-          ∙ sym (t.laid.hears.silent m q x (from_heard shape code plan m t served) two h less none_too))
+          ⊎_elim
+          (λ (bank : x < length t.laid.with_words_heard).
+          t.laid.hears.silent m r x (from_words_heard shape code plan m t served) one h bank none
+          ∙ sym (t.laid.hears.silent m q x (from_words_heard shape code plan m t served) two h bank none_too))
+          (λ (past : length t.laid.with_words_heard ≤ x).
+          t.laid.hears_news.silent m r x (from_heard shape code plan m t served) one past less none
+          ∙ sym (t.laid.hears_news.silent m q x (from_heard shape code plan m t served) two past less none_too))
+          (cases_lt x (length t.laid.with_words_heard)))
           (cases_lt x (length t.laid.with_early))
 
-      inside_alike : (y w : ℕ) → IsEarlier t.with_inside (early_base (length t.inside.slot.words) code) y w → r.signal y ≡ q.signal y
+      inside_alike : (y w : ℕ) → IsEarlier t.with_inside (base_behind (length t.laid.with_inputs) code) y w → r.signal y ≡ q.signal y
       inside_alike =
-          wire_alike m r q one two agree (early_base (length t.inside.slot.words) code) t.laid.with_heard t.with_inside inner.wires
+          wire_alike m r q one two agree (base_behind (length t.laid.with_inputs) code) t.laid.with_heard t.with_inside inner.wires
           (from_inside shape code plan m t served) (λ x after below. heard_alike x (let f = base_first in omega arith) below)
 
       module _ (on : r.signal 1 ≡ 1) (on_too : q.signal 1 ≡ 1) where
@@ -435,7 +458,7 @@ module _ (shape : Shape) (code : ThreadCode) (plan : Planned) (m : Module) (t : 
 
   -- ---- THE MODULE KEEPS TO ITSELF
 
-  keeps : KeepsToItself (leaf_thread m (leaf_of shape m)) (leaf_places m (leaf_of shape m)) (suc banks) m
+  keeps : KeepsToItself (leaf_thread m (leaf_of shape m)) (leaf_places m (leaf_of shape m)) (cores_of shape) m
   keeps = record {
     shown = λ r. (r, agree_refl m r);
     rests = λ r o off. rests_so shape code plan m t served r o off;
@@ -465,30 +488,27 @@ module _ (shape : Shape) (code : ThreadCode) (plan : Planned) (m : Module) (t : 
         ∙ ap bit_of (or_true _));
   }
 
-  ended : (r : Reading) → Obeys m r → r.signal (done_at shape m) ≡ 1 → Agree m r (next_reading m r)
-  ended r o done =
-      stays_end r o
-      (number_is (r.signal t.inside.slot.stage.register) (length code.stages)
+  ended : shape.is_main ≡ true → (r : Reading) → Obeys m r → r.signal (done_at shape m) ≡ 1 → Agree m r (next_reading m r)
+  ended main r o done =
+      stays_end r o main
+      (is_number (r.signal t.inside.slot.stage.register) (length code.stages)
       (is_true (nat_eq (r.signal t.inside.slot.stage.register) (length code.stages))
       (sym
       (t.laid.early.asks.done_is m r (from_asks shape code plan m t served) o (knows shape code plan m t served r o))
       ∙ sym (done_copied r o) ∙ done)))
     where
-      number_is : (x n : ℕ) → nat_eq x n ≡ true → x ≡ n
-      number_is x n e = grind (arith, nat_tests)
+      is_number : (x n : ℕ) → nat_eq x n ≡ true → x ≡ n
+      is_number x n e = grind (arith, nat_tests)
 
-  steady_main : IsSteadyMain (suc banks) m (leaf_of shape m)
-  steady_main =
+  steady_thread : IsSteadyThread (cores_of shape) m (leaf_of shape m)
+  steady_thread =
       let put = t.closed.outputs.need_put in
       let at = before_need shape code plan m t served in
       record {
-        thread = record {
-          keeps = keeps;
-          need = put.signal;
-          is = record { listed = ap (slice_get m.signals) (sym at) ∙ put.listed; named = put.named };
-          out = put.flag;
-        };
-        ended = ended;
+        keeps = keeps;
+        need = put.signal;
+        is = record { listed = ap (slice_get m.signals) (sym at) ∙ put.listed; named = put.named };
+        out = put.flag;
       }
 
   -- ---- AND NEEDS NO MORE
@@ -496,36 +516,40 @@ module _ (shape : Shape) (code : ThreadCode) (plan : Planned) (m : Module) (t : 
   little : NeedsNoMore shape code plan m
   little = record {
     closed = λ r q b p o inside closed. need_copied r o ∙ closed_needs shape code plan m t served r o q b p inside closed (quiet_closed r q b p o inside closed);
-    returns = λ r q next o shows listed.
+    returns = λ main r q next o shows listed.
         let here = stage_shown shape code plan m t served r o q shows in
         need_copied r o
         ∙ return_needs shape code plan m t served r o next (ap (slice_get code.stages) here ∙ listed)
         (quiet_of r o
         (λ n less. (bank_bit shape code plan m t served r q o shows (ap is_run listed) n less).shows)
-        (quiet_bit shape code plan m t served r q o shows (ap is_print listed)).shows);
+        (λ k. service_shown shape code plan m t served r q o shows k ∙ ap bit_of (not_asked q next main k listed)));
   }
     where
+      not_asked : (q : Slot) (next : ℕ) → shape.is_main ≡ true → (k : Service) → slice_get code.stages q.stage ≡ Some (stage.Act Return next) →
+          is_asked shape.is_main (slice_get code.stages q.stage) k ≡ false
+      not_asked q next main k listed =
+          ap (λ s. is_asked shape.is_main s k) listed ∙ ap (λ b. is_asked b (Some (stage.Act Return next)) k) main
+
       quiet_of : (r : Reading) (o : Obeys m r) → ((n : ℕ) → n < banks → r.signal (slice_index t.inside.early.requests.banks.wants n) ≡ 0) →
-          r.signal t.inside.early.requests.wants ≡ 0
+          ((k : Service) → r.signal (group t.inside.early.requests k).wants ≡ 0)
           → Quiet r o
-      quiet_of r o bank_is printer_is n less =
+      quiet_of r o bank_is kind_is n less =
           ⊎_elim
           (λ (h : n < banks). ap (λ z. nat_eq (r.signal z) 1) (asked_bank shape code plan m t served n h) ∙ ap (λ z. nat_eq z 1) (bank_is n h))
           (λ (h : banks ≤ n).
-          let same : n ≡ banks = omega arith in
-          ap (asked_now shape code plan m t served r o) same
-          ∙ ap (λ z. nat_eq (r.signal z) 1) (asked_printer shape code plan m t served) ∙ ap (λ z. nat_eq z 1) printer_is)
+          let kind = asked_kind shape code plan m t served n h less in
+          ap (λ z. nat_eq (r.signal z) 1) kind.1 ∙ ap (λ z. nat_eq z 1) (kind_is kind.0))
           (cases_lt n banks)
 
       quiet_closed : (r : Reading) (q : Slot) (b : Block) (p : BlockPlan) (o : Obeys m r)
-          (inside : IsInside shape.globals shape.spreads code plan m (places_of banks code plan) (ports_of shape m) r q b p) →
+          (inside : IsInside shape.globals shape.spreads code plan m (places_of (inputs_of shape) code plan) (ports_of shape m) r q b p) →
           IsClosed (planned_view b) (plan_view b p) q → Quiet r o
       quiet_closed r q b p o inside closed =
           quiet_of r o
           (λ n less.
           (wanted_bit shape code plan m t served r q b p o inside n less).shows
           ∙ ap bit_of (unwanted n less (wanted shape code plan m t served r q b p o inside n) refl))
-          (printing shape code plan m t served r q b p o inside).shows
+          (λ k. (printing shape code plan m t served r q b p o inside k).shows)
         where
           unwanted : (n : ℕ) → n < banks → (c : Bool) → wanted shape code plan m t served r q b p o inside n ≡ c →
               wanted shape code plan m t served r q b p o inside n ≡ false
@@ -538,4 +562,4 @@ module _ (shape : Shape) (code : ThreadCode) (plan : Planned) (m : Module) (t : 
               cc)
 
   pub steady_is : IsSteadyServed shape code plan m
-  steady_is = record { steady = steady_main; little = little; beat = beat_left }
+  steady_is = record { steady = steady_thread; ended = ended; little = little; beat = beat_left }

@@ -1,6 +1,6 @@
--- The module of main keeps to itself: what it does while it needs no core hangs on nothing outside. And it needs one where it asks one, takes a word or waits, and
+-- The module of a thread keeps to itself: what it does while it needs no core hangs on nothing outside. And it needs one where it asks one, takes a word or waits, and
 -- nowhere else.
-use Rattle.std.specs.Prelude.{◌≡◌, ℕ, suc, Some, slice_get}
+use Rattle.std.specs.Prelude.{◌≡◌, true, ℕ, Some, slice_get}
 use Rattle.block_ir.specs.declared.block.Block.{Block}
 use Rattle.block_ir.specs.declared.code.Act.TheVariants.{Return}
 use Rattle.block_ir.specs.declared.code.Stage.TheVariants as stage
@@ -13,32 +13,33 @@ use Rattle.planned_view.specs.View.{planned_view, plan_view}
 use Rattle.netlist.specs.declared.netlist.Module.{Module}
 use Rattle.verilog_meaning.specs.Readings.{Reading, next_reading}
 use Rattle.circuit.specs.Modules.{Obeys, Agree}
-use Rattle.leaf_machine.specs.Steady.{IsSteadyMain}
-use Rattle.thread_promise.specs.Globals.{bank_total}
+use Rattle.leaf_machine.specs.Steady.{IsSteadyThread}
 use Rattle.thread_promise.specs.Slots.{ShowsData}
 use Rattle.thread_promise.specs.Promise.{IsInside}
 use Rattle.thread_slots.specs.declared.shape.Shape.{Shape}
 use Rattle.thread_layout.specs.Leaf.{leaf_of}
 use Rattle.thread_layout.specs.Modules.{IsModule}
-use Rattle.thread_layout.specs.Thread.{places_of, ports_of, IsServed}
+use Rattle.thread_layout.specs.Thread.{cores_of, inputs_of, places_of, ports_of, IsServed}
 
--- in a state of a block in which no access starts and no word is taken, and at a return, no core is needed
+-- in a state of a block in which no access starts and no word is taken, and at main's return, no core is needed
 pub record NeedsNoMore (shape : Shape) (code : ThreadCode) (plan : Planned) (m : Module) : Type 0 where
   pub closed : (r : Reading) (q : Slot) (b : Block) (p : BlockPlan) → Obeys m r →
-      IsInside shape.globals shape.spreads code plan m (places_of (bank_total shape.spreads) code plan) (ports_of shape m) r q b p →
+      IsInside shape.globals shape.spreads code plan m (places_of (inputs_of shape) code plan) (ports_of shape m) r q b p →
       IsClosed (planned_view b) (plan_view b p) q → r.signal (ports_of shape m).need ≡ 0
-  pub returns : (r : Reading) (q : Slot) (next : ℕ) → Obeys m r → ShowsData shape.globals code (places_of (bank_total shape.spreads) code plan) r q →
+  pub returns : shape.is_main ≡ true → (r : Reading) (q : Slot) (next : ℕ) → Obeys m r → ShowsData shape.globals code (places_of (inputs_of shape) code plan) r q →
       slice_get code.stages q.stage ≡ Some (stage.Act Return next) → r.signal (ports_of shape m).need ≡ 0
 
 -- an edge that leaves the beat leaves each register and each word of a memory
 abbrev pub TurnsBeat : Shape → ThreadCode → Planned → Module → Type 0
 TurnsBeat shape code plan m =
     (r : Reading) → Obeys m r →
-    (next_reading m r).signal (places_of (bank_total shape.spreads) code plan).beat ≡ r.signal (places_of (bank_total shape.spreads) code plan).beat →
+    (next_reading m r).signal (places_of (inputs_of shape) code plan).beat ≡ r.signal (places_of (inputs_of shape) code plan).beat →
     Agree m r (next_reading m r)
 
 pub record IsSteadyServed (shape : Shape) (code : ThreadCode) (plan : Planned) (m : Module) : Type 0 where
-  pub steady : IsSteadyMain (suc (bank_total shape.spreads)) m (leaf_of shape m)
+  pub steady : IsSteadyThread (cores_of shape) m (leaf_of shape m)
+  -- main stays where it has ended
+  pub ended : shape.is_main ≡ true → (r : Reading) → Obeys m r → r.signal (leaf_of shape m).done ≡ 1 → Agree m r (next_reading m r)
   pub little : NeedsNoMore shape code plan m
   pub beat : TurnsBeat shape code plan m
 

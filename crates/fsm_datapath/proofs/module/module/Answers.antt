@@ -1,12 +1,15 @@
 use Rattle.operator_wires.proofs.Making.{of_ok}
 use Rattle.thread_layout.specs.Modules.{IsModule}
-use Rattle.thread_runs.specs.Runs.{RunsServedCode}
+use Rattle.thread_runs.specs.Runs.{RunsServedCode, ServesCode}
 use Rattle.thread_runs.proofs.Promising.{runs_code}
+use Rattle.thread_runs.proofs.Serving.{serves_code}
 use Rattle.thread_sound.specs.Routine.{IsRoutineOfServedCode}
 use Rattle.thread_sound.specs.Leaf.{IsLeafOfServedCode}
 use Rattle.thread_sound.proofs.Standing.{routine_is}
 use Rattle.thread_sound.proofs.Forming.{checked_is}
 use Rattle.thread_sound.proofs.Leafing.{leaf_is}
+use Rattle.thread_sound.specs.Naming.{NamesServedVariables}
+use Rattle.thread_sound.proofs.Naming.{laid_out_is_named}
 use Rattle.thread_steady.specs.Steady.{IsSteadyServedCode}
 use Rattle.thread_steady.proofs.Steadying.{steady_is}
 use Rattle.fsm_datapath.proofs.module.module.Goals as goal
@@ -14,7 +17,12 @@ use Rattle.fsm_datapath.proofs.module.module.Goals as goal
 pub returns-clause-runs : goal.returns-clause-runs
 returns-clause-runs c =
     of_ok c.assembled.result (IsModule c.args.shape.now c.args.code.now c.args.planned.now) (RunsServedCode c.args.shape.now c.args.code.now c.args.planned.now)
-    (λ m t served. runs_code c.args.shape.now c.args.code.now c.args.planned.now m t served) c.assembled.ensures
+    (λ m t main served. runs_code c.args.shape.now c.args.code.now c.args.planned.now m t served main) c.assembled.ensures
+
+pub returns-clause-serves : goal.returns-clause-serves
+returns-clause-serves c =
+    of_ok c.assembled.result (IsModule c.args.shape.now c.args.code.now c.args.planned.now) (ServesCode c.args.shape.now c.args.code.now c.args.planned.now)
+    (λ m t served routine. serves_code c.args.shape.now c.args.code.now c.args.planned.now m t served routine) c.assembled.ensures
 
 pub returns-clause-leaf : goal.returns-clause-leaf
 returns-clause-leaf c =
@@ -27,6 +35,11 @@ returns-clause-routine c =
     of_ok c.assembled.result (IsModule c.args.shape.now c.args.code.now c.args.planned.now) (IsRoutineOfServedCode c.args.shape.now c.args.code.now c.args.planned.now)
     (λ m t plain served. routine_is c.args.shape.now c.args.code.now c.args.planned.now m t served plain
     (leaf_is c.args.shape.now c.args.code.now c.args.planned.now m t served (checked_is c.args.shape.now c.args.code.now c.args.planned.now m t served))) c.assembled.ensures
+
+pub returns-clause-named : goal.returns-clause-named
+returns-clause-named c =
+    of_ok c.assembled.result (IsModule c.args.shape.now c.args.code.now c.args.planned.now) (NamesServedVariables c.args.shape.now c.args.code.now c.args.planned.now)
+    (λ m t served. laid_out_is_named c.args.shape.now c.args.code.now c.args.planned.now m t served) c.assembled.ensures
 
 pub returns-clause-steady : goal.returns-clause-steady
 returns-clause-steady c =

@@ -22,9 +22,9 @@ returns c =
           subst (λ (z : List ℕ). Controls old mid inside.slot inside.inputs inside.chains inside.early.opens z edge) marks
           (subst (λ (z : List ℕ). Controls old mid inside.slot inside.inputs inside.chains z c.as_slice-2.result.now edge) opens c.in_ok-edge.ensures.controls);
       outputs =
-          subst (λ (z : List Held). LaysOutputs c.args.shape.now.printer.site_width mid new z edge.asks inside.early.requests inside.early.need inside.early.done)
+          subst (λ (z : List Held). LaysOutputs c.args.shape.now.served mid new z edge.asks inside.early.requests inside.early.need inside.early.done)
           c.as_slice-3.ensures
-          (subst (λ (z : List ℕ). LaysOutputs c.args.shape.now.printer.site_width mid new c.as_slice-3.result.now z inside.early.requests inside.early.need
+          (subst (λ (z : List ℕ). LaysOutputs c.args.shape.now.served mid new c.as_slice-3.result.now z inside.early.requests inside.early.need
           inside.early.done)
           c.as_slice-4.ensures c.in_ok-lay_outputs.ensures.lays);
       wired =

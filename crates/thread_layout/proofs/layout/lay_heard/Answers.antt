@@ -9,9 +9,12 @@ returns c =
     let b = c.hear.new.wires.signals in
     let words = c.as_slice.ensures in
     record {
-      with_heard = b;
+      with_words_heard = b;
+      with_heard = c.hear-2.new.wires.signals;
       same = refl;
       hears = subst (λ (z : List Held). HearsWords a b c.args.need z (length z) c.in_ok-heard.heard) words c.in_ok-heard.ensures.shows;
       wired = subst (λ (z : List Held). AddsHeard a b c.args.need z c.in_ok-heard.heard) words c.in_ok-heard.ensures.wired;
+      hears_news = c.in_ok-news.ensures.shows;
+      news_wired = c.in_ok-news.ensures.wired;
       units = c.in_ok-units.ensures;
     }

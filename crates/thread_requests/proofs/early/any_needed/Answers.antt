@@ -1,16 +1,14 @@
-use Rattle.std.proofs.Common.{◌≡◌, List, ℕ, [], ◌∷◌, ◌++◌, true, length, ap, subst, ◌∙◌}
+use Rattle.std.proofs.Common.{List, ℕ, true, length, subst, ◌∙◌}
 use Rattle.std.specs.Prelude.{IfOk}
 use Rattle.thread_slots.specs.Bits.{MakesAny, AddsAny}
 use Rattle.thread_requests.proofs.early.any_needed.Goals as goal
 
 pub returns-clause-shows : goal.returns-clause-shows
 returns-clause-shows c =
-    let asked : c.as_slice.result.now ≡ c.args.wants.now ++ c.args.prints ∷ [] =
-    c.as_slice.ensures ∙ c.in_ok-push.ensures.ok ∙ ap (λ (z : List ℕ). z ++ c.args.prints ∷ []) c.in_ok-asked.ensures in
-    subst (λ (z : List ℕ). IfOk c.any_of.result (MakesAny c.args.wires.now.signals c.any_of.new.wires.signals c.args.first z (λ k. true) (length z))) asked c.any_of.ensures.shows
+    subst (λ (z : List ℕ). IfOk c.any_of.result (MakesAny c.args.wires.now.signals c.any_of.new.wires.signals c.args.first z (λ k. true) (length z)))
+    (c.as_slice.ensures ∙ c.in_ok-asked.ensures) c.any_of.ensures.shows
 
 pub returns-clause-wired : goal.returns-clause-wired
 returns-clause-wired c =
-    let asked : c.as_slice.result.now ≡ c.args.wants.now ++ c.args.prints ∷ [] =
-    c.as_slice.ensures ∙ c.in_ok-push.ensures.ok ∙ ap (λ (z : List ℕ). z ++ c.args.prints ∷ []) c.in_ok-asked.ensures in
-    subst (λ (z : List ℕ). IfOk c.any_of.result (AddsAny c.args.wires.now.signals c.any_of.new.wires.signals c.args.first z)) asked c.any_of.ensures.wired
+    subst (λ (z : List ℕ). IfOk c.any_of.result (AddsAny c.args.wires.now.signals c.any_of.new.wires.signals c.args.first z))
+    (c.as_slice.ensures ∙ c.in_ok-asked.ensures) c.any_of.ensures.wired

@@ -5,8 +5,8 @@ use Rattle.thread_requests.proofs.outputs.add_request.Goals as goal
 
 pub returns : goal.returns
 returns c =
-    on_ok c.add_fields.result (c.add_fields.new.rows ≡ c.add.new.rows ++ fields_from c.args.site_width 0 c.args.fields.now)
-    (c.add_fields.new.rows ≡ c.args.rows.now ++ request_row c.args.ask ∷ fields_from c.args.site_width 0 c.args.fields.now)
-    (λ e. e ∙ ap (λ l. l ++ fields_from c.args.site_width 0 c.args.fields.now) c.in_ok-add.ensures
-    ∙ append_assoc c.args.rows.now (request_row c.args.ask ∷ []) (fields_from c.args.site_width 0 c.args.fields.now))
+    on_ok c.add_fields.result (c.add_fields.new.rows ≡ c.add.new.rows ++ fields_from c.args.first 0 c.as_slice.result.now)
+    (c.add_fields.new.rows ≡ c.args.rows.now ++ request_row c.args.ask ∷ fields_from c.args.first 0 c.args.request.now.fields)
+    (λ e. e ∙ ap (λ l. c.add.new.rows ++ fields_from c.args.first 0 l) c.as_slice.ensures ∙ ap (λ l. l ++ fields_from c.args.first 0 c.args.request.now.fields) c.in_ok-add.ensures
+    ∙ append_assoc c.args.rows.now (request_row c.args.ask ∷ []) (fields_from c.args.first 0 c.args.request.now.fields))
     c.add_fields.ensures

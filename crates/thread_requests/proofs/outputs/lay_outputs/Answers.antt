@@ -12,8 +12,8 @@ pub returns-clause-lays : goal.returns-clause-lays
 returns-clause-lays c =
     let rows = c.as_slice.ensures ∙ c.in_ok-rows.ensures in
     on_ok c.lay_done.result (LaysDone c.output.new.self.signals c.lay_done.new.wires.signals c.args.done)
-    (LaysOutputs c.args.printer.site_width c.args.wires.now.signals c.lay_done.new.wires.signals c.args.words.now c.args.asks.now c.args.requests.now c.args.needs c.args.done)
-    (outputs_laid c.args.wires.now.signals c.lay_rows.new.wires.signals c.output.new.self.signals c.lay_done.new.wires.signals c.args.printer.site_width c.args.needs c.args.done _
+    (LaysOutputs c.args.served c.args.wires.now.signals c.lay_done.new.wires.signals c.args.words.now c.args.asks.now c.args.requests.now c.args.needs c.args.done)
+    (outputs_laid c.args.wires.now.signals c.lay_rows.new.wires.signals c.output.new.self.signals c.lay_done.new.wires.signals c.args.served c.args.needs c.args.done _
     c.args.words.now c.args.asks.now c.args.requests.now
     (subst (λ (z : List Row). LaysRows c.args.wires.now.signals c.lay_rows.new.wires.signals z (length z)) rows c.in_ok-lay_rows.ensures.lays)
     c.in_ok-output.ensures.stands c.in_ok-output.ensures.laid)
@@ -23,7 +23,7 @@ pub returns-clause-named : goal.returns-clause-named
 returns-clause-named c =
     let rows = c.as_slice.ensures ∙ c.in_ok-rows.ensures in
     let many : AreNumbered c.as_slice.result.now =
-    subst AreNumbered (sym rows) (rows_numbered c.args.printer.site_width c.args.words.now c.args.asks.now c.args.requests.now) in
+    subst AreNumbered (sym rows) (rows_numbered c.args.served c.args.words.now c.args.asks.now c.args.requests.now) in
     on_two c.lay_done.result (LaysDone c.output.new.self.signals c.lay_done.new.wires.signals c.args.done)
     (Behind (IsNamedOutput (length c.output.new.self.signals + 1)) c.output.new.self.signals c.lay_done.new.wires.signals)
     (Behind (IsNamedOutput (length c.lay_done.new.wires.signals)) c.args.wires.now.signals c.lay_done.new.wires.signals)

@@ -1,46 +1,50 @@
-use Rattle.std.proofs.Common.{List}
+use Rattle.std.proofs.Common.{◌≡◌, ℕ, min, length, sym, ap, subst, ◌∙◌, arith}
 use Rattle.block_datapath.proofs.Chaining.{on_ok}
-use Rattle.hls_ints.specs.Types.{IntegerType}
-use Rattle.block_ir.specs.declared.code.Stage.TheVariants as taken
-use Rattle.thread_states.specs.Stages.{Idles, TakesReturn, TakesPrint, TakesAct}
-use Rattle.thread_states.proofs.Stepping.{print_taken, return_taken, other_taken}
+use Rattle.block_ir.specs.declared.code.Act.{Act}
+use Rattle.thread_promise.specs.Moves.{stage_after}
+use Rattle.thread_states.specs.Acts.{LeadsFrom, TakesWait, TakesAct}
+use Rattle.thread_states.proofs.Acting.{lead_taken, wait_taken, goes_on}
 use Rattle.thread_states.proofs.acts.take_act.Goals as goal
 
-pub returns-in-Print : goal.returns-in-Print
-returns-in-Print c =
-    on_ok c.take_print.result
-    (TakesPrint c.args.code.now c.args.registers.now c.args.stage c.args.next c.args.wires.now.signals c.take_print.new.wires.signals c.args.chains.now
-    c.take_print.new.chains)
-    ((globals : List IntegerType) → TakesAct globals c.args.code.now c.args.registers.now c.args.stage
-    (taken.Act c.args.act.now c.args.next) c.args.wires.now.signals
-    c.take_print.new.wires.signals c.args.chains.now c.take_print.new.chains)
-    (λ t globals plan.
-    print_taken globals c.args.code.now c.args.registers.now c.args.stage c.args.wires.now.signals c.take_print.new.wires.signals c.args.chains.now
-    c.take_print.new.chains
-    c.args.act.now c.args.next plan c.in-Print.site c.in-Print.values c.in-Print.is t)
-    c.take_print.ensures
+pub returns-in-BarrierWait : goal.returns-in-BarrierWait
+returns-in-BarrierWait c =
+    let n = length c.args.code.now.stages in
+    let same : c.min-following.result ≡ min c.args.next n = c.min-following.ensures ∙ ap (min c.args.next) c.len-rest.ensures in
+    on_ok c.take_wait.result
+    (TakesWait c.args.code.now c.args.registers.now c.args.told.barred c.args.stage c.min-following.result c.args.wires.now.signals c.take_wait.new.wires.signals
+    c.args.chains.now c.take_wait.new.chains)
+    (TakesAct c.args.code.now c.args.registers.now c.args.told c.args.stage c.args.act.now c.args.next c.args.wires.now.signals c.take_wait.new.wires.signals c.args.chains.now
+    c.take_wait.new.chains)
+    (λ t.
+    wait_taken c.args.code.now c.args.registers.now c.args.told c.args.stage c.args.act.now c.args.next c.args.wires.now.signals c.take_wait.new.wires.signals c.args.chains.now
+    c.take_wait.new.chains c.in-BarrierWait.barrier c.in-BarrierWait.is
+    (subst (λ (k : ℕ). TakesWait c.args.code.now c.args.registers.now c.args.told.barred c.args.stage k c.args.wires.now.signals c.take_wait.new.wires.signals
+    c.args.chains.now c.take_wait.new.chains) same t))
+    c.take_wait.ensures
 
 pub returns-in-Return : goal.returns-in-Return
 returns-in-Return c =
-    on_ok c.take_return.result
-    (TakesReturn c.args.code.now c.args.registers.now c.args.stage c.args.wires.now.signals c.take_return.new.wires.signals c.args.chains.now c.take_return.new.chains)
-    ((globals : List IntegerType) → TakesAct globals c.args.code.now c.args.registers.now c.args.stage
-    (taken.Act c.args.act.now c.args.next) c.args.wires.now.signals
-    c.take_return.new.wires.signals c.args.chains.now c.take_return.new.chains)
-    (λ t globals plan.
-    return_taken globals c.args.code.now c.args.registers.now c.args.stage c.args.wires.now.signals c.take_return.new.wires.signals c.args.chains.now
-    c.take_return.new.chains
-    c.args.act.now c.args.next plan c.in-Return.is t)
-    c.take_return.ensures
+    let n = length c.args.code.now.stages in
+    on_ok c.lead_to.result
+    (LeadsFrom c.args.registers.now c.args.stage c.len-rest.result c.args.wires.now.signals c.lead_to.new.wires.signals c.args.chains.now c.lead_to.new.chains)
+    (TakesAct c.args.code.now c.args.registers.now c.args.told c.args.stage c.args.act.now c.args.next c.args.wires.now.signals c.lead_to.new.wires.signals c.args.chains.now
+    c.lead_to.new.chains)
+    (λ t.
+    lead_taken c.args.code.now c.args.registers.now c.args.told c.args.stage c.args.act.now c.args.next c.args.wires.now.signals c.lead_to.new.wires.signals c.args.chains.now
+    c.lead_to.new.chains c.len-rest.result (λ barrier e. absurd (let is = c.in-Return.is in cc))
+    (ap (λ (a : Act). stage_after n c.args.stage a (min c.args.next n)) c.in-Return.is ∙ sym c.len-rest.ensures) (let same = c.len-rest.ensures in omega arith) t)
+    c.lead_to.ensures
 
 pub returns-in_default : goal.returns-in_default
 returns-in_default c =
-    on_ok c.idle.result (Idles c.args.registers.now c.args.stage c.args.wires.now.signals c.idle.new.wires.signals c.args.chains.now c.idle.new.chains)
-    ((globals : List IntegerType) → TakesAct globals c.args.code.now c.args.registers.now c.args.stage
-    (taken.Act c.args.act.now c.args.next) c.args.wires.now.signals
-    c.idle.new.wires.signals c.args.chains.now c.idle.new.chains)
-    (λ t globals plan.
-    other_taken globals c.args.code.now c.args.registers.now c.args.stage c.args.wires.now.signals c.idle.new.wires.signals c.args.chains.now c.idle.new.chains
-    c.args.act.now
-    c.args.next plan c.in_default.not-Print c.in_default.not-Return t)
-    c.idle.ensures
+    let n = length c.args.code.now.stages in
+    let same : c.min-following.result ≡ min c.args.next n = c.min-following.ensures ∙ ap (min c.args.next) c.len-rest.ensures in
+    on_ok c.lead_to-in_default.result
+    (LeadsFrom c.args.registers.now c.args.stage c.min-following.result c.args.wires.now.signals c.lead_to-in_default.new.wires.signals c.args.chains.now c.lead_to-in_default.new.chains)
+    (TakesAct c.args.code.now c.args.registers.now c.args.told c.args.stage c.args.act.now c.args.next c.args.wires.now.signals c.lead_to-in_default.new.wires.signals c.args.chains.now
+    c.lead_to-in_default.new.chains)
+    (λ t.
+    lead_taken c.args.code.now c.args.registers.now c.args.told c.args.stage c.args.act.now c.args.next c.args.wires.now.signals c.lead_to-in_default.new.wires.signals c.args.chains.now
+    c.lead_to-in_default.new.chains c.min-following.result c.in_default.not-BarrierWait
+    (goes_on n c.args.stage c.args.act.now (min c.args.next n) c.in_default.not-BarrierWait c.in_default.not-Return ∙ sym same) (omega arith) t)
+    c.lead_to-in_default.ensures

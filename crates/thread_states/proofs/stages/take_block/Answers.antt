@@ -1,4 +1,4 @@
-use Rattle.std.proofs.Common.{Option, Some, sym, subst}
+use Rattle.std.proofs.Common.{Some, sym, subst}
 use Rattle.std.specs.Prelude.{OnOk}
 use Rattle.block_ir.specs.declared.plan.StagePlan.{StagePlan}
 use Rattle.thread_states.specs.Cells.{StoresBlock, StoresStage}
@@ -7,7 +7,9 @@ use Rattle.thread_states.specs.Stores.{StageKeepsStores}
 use Rattle.thread_states.proofs.Storing.{stage_kept}
 use Rattle.block_datapath.proofs.Chaining.{on_ok}
 use Rattle.block_ir.specs.declared.code.Stage.TheVariants as taken
-use Rattle.thread_states.specs.Stages.{RunsBlock, Idles, TakesStage}
+use Rattle.thread_slots.specs.declared.told.Told.{Told}
+use Rattle.thread_states.specs.Acts.{Idles}
+use Rattle.thread_states.specs.Stages.{RunsBlock, TakesStage}
 use Rattle.thread_states.proofs.Stepping.{run_taken, idle_taken}
 use Rattle.thread_states.proofs.stages.take_block.Goals as goal
 
@@ -16,11 +18,11 @@ returns-in-Run-clause-takes c =
     on_ok c.run.result
     (RunsBlock c.args.globals.now c.args.code.now c.args.registers.now c.args.number c.args.block.now c.in-Run.plan c.args.wires.now.signals c.run.new.wires.signals
     c.args.chains.now c.run.new.chains)
-    (TakesStage c.args.globals.now c.args.code.now c.args.registers.now c.args.number (taken.Run c.args.block.now)
+    ((told : Told) → TakesStage c.args.globals.now c.args.code.now c.args.registers.now told c.args.number (taken.Run c.args.block.now)
     (Some c.args.plan.now) c.args.wires.now.signals
     c.run.new.wires.signals c.args.chains.now c.run.new.chains)
-    (λ t.
-    run_taken c.args.globals.now c.args.code.now c.args.registers.now c.args.number c.args.wires.now.signals c.run.new.wires.signals c.args.chains.now c.run.new.chains
+    (λ t told.
+    run_taken c.args.globals.now c.args.code.now c.args.registers.now told c.args.number c.args.wires.now.signals c.run.new.wires.signals c.args.chains.now c.run.new.chains
     c.args.block.now
     c.in-Run.plan c.args.plan.now c.in-Run.is t)
     c.run.ensures.runs
@@ -29,11 +31,11 @@ pub returns-in-Act-clause-takes : goal.returns-in-Act-clause-takes
 returns-in-Act-clause-takes c =
     on_ok c.idle.result
     (Idles c.args.registers.now c.args.number c.args.wires.now.signals c.idle.new.wires.signals c.args.chains.now c.idle.new.chains)
-    (TakesStage c.args.globals.now c.args.code.now c.args.registers.now c.args.number (taken.Run c.args.block.now)
+    ((told : Told) → TakesStage c.args.globals.now c.args.code.now c.args.registers.now told c.args.number (taken.Run c.args.block.now)
     (Some c.args.plan.now) c.args.wires.now.signals
     c.idle.new.wires.signals c.args.chains.now c.idle.new.chains)
-    (λ t.
-    idle_taken c.args.globals.now c.args.code.now c.args.registers.now c.args.number c.args.wires.now.signals c.idle.new.wires.signals c.args.chains.now c.idle.new.chains
+    (λ t told.
+    idle_taken c.args.globals.now c.args.code.now c.args.registers.now told c.args.number c.args.wires.now.signals c.idle.new.wires.signals c.args.chains.now c.idle.new.chains
     c.args.block.now
     (Some c.args.plan.now) (λ p e. let is = c.in-Act.is in absurd cc) t)
     c.idle.ensures

@@ -1,5 +1,4 @@
-use Rattle.std.proofs.Common.{◌≡◌, List, [], Option, Some, None, sym, subst}
-use Rattle.hls_ints.specs.Types.{IntegerType}
+use Rattle.std.proofs.Common.{◌≡◌, Option, Some, sym, subst}
 use Rattle.block_ir.specs.declared.code.Stage.TheVariants as taken
 use Rattle.thread_states.specs.Cells.{StoresStage}
 use Rattle.thread_states.proofs.Blocks.{stage_of_none}
@@ -9,19 +8,21 @@ use Rattle.std.specs.Prelude.{OnOk, slice_get}
 use Rattle.block_ir.specs.declared.code.Stage.{Stage}
 use Rattle.block_ir.specs.declared.plan.StagePlan.{StagePlan}
 use Rattle.block_datapath.proofs.Chaining.{on_ok}
-use Rattle.thread_states.specs.Stages.{Idles, TakesStage, TakesAct}
-use Rattle.thread_states.proofs.Stepping.{idle_taken}
+use Rattle.thread_slots.specs.declared.told.Told.{Told}
+use Rattle.thread_states.specs.Acts.{Idles, TakesAct}
+use Rattle.thread_states.specs.Stages.{TakesStage}
+use Rattle.thread_states.proofs.Stepping.{idle_taken, act_taken}
 use Rattle.thread_states.proofs.stages.take_stage.Goals as goal
 
 pub returns-in-None-clause-takes : goal.returns-in-None-clause-takes
 returns-in-None-clause-takes c =
     on_ok c.idle.result (Idles c.args.registers.now c.args.number c.args.wires.now.signals c.idle.new.wires.signals c.args.chains.now c.idle.new.chains)
-    (TakesStage c.args.globals.now c.args.code.now c.args.registers.now c.args.number c.args.stage.now (slice_get c.args.planned.now.stages c.args.number)
+    (TakesStage c.args.globals.now c.args.code.now c.args.registers.now c.args.told c.args.number c.args.stage.now (slice_get c.args.planned.now.stages c.args.number)
     c.args.wires.now.signals c.idle.new.wires.signals c.args.chains.now c.idle.new.chains)
     (λ t.
-    subst (λ (s : Stage). TakesStage c.args.globals.now c.args.code.now c.args.registers.now c.args.number s (slice_get c.args.planned.now.stages c.args.number)
+    subst (λ (s : Stage). TakesStage c.args.globals.now c.args.code.now c.args.registers.now c.args.told c.args.number s (slice_get c.args.planned.now.stages c.args.number)
     c.args.wires.now.signals c.idle.new.wires.signals c.args.chains.now c.idle.new.chains) (sym c.in-Run.is)
-    (idle_taken c.args.globals.now c.args.code.now c.args.registers.now c.args.number c.args.wires.now.signals c.idle.new.wires.signals c.args.chains.now
+    (idle_taken c.args.globals.now c.args.code.now c.args.registers.now c.args.told c.args.number c.args.wires.now.signals c.idle.new.wires.signals c.args.chains.now
     c.idle.new.chains
     c.in-Run.block (slice_get c.args.planned.now.stages c.args.number) (λ p e. absurd (let none = c.in-None.ensures.value in cc)) t))
     c.idle.ensures
@@ -38,19 +39,47 @@ returns-in-None-clause-stores c =
     c.args.stores.now t.step.grows)
     c.idle.ensures
 
+pub returns-in-Act-clause-takes : goal.returns-in-Act-clause-takes
+returns-in-Act-clause-takes c =
+    on_ok c.take_act.result
+    (TakesAct c.args.code.now c.args.registers.now c.args.told c.args.number c.in-Act.act c.in-Act.next c.args.wires.now.signals c.take_act.new.wires.signals c.args.chains.now
+    c.take_act.new.chains)
+    (TakesStage c.args.globals.now c.args.code.now c.args.registers.now c.args.told c.args.number c.args.stage.now (slice_get c.args.planned.now.stages c.args.number)
+    c.args.wires.now.signals c.take_act.new.wires.signals c.args.chains.now c.take_act.new.chains)
+    (λ t.
+    subst (λ (s : Stage). TakesStage c.args.globals.now c.args.code.now c.args.registers.now c.args.told c.args.number s (slice_get c.args.planned.now.stages c.args.number)
+    c.args.wires.now.signals c.take_act.new.wires.signals c.args.chains.now c.take_act.new.chains) (sym c.in-Act.is)
+    (act_taken c.args.globals.now c.args.code.now c.args.registers.now c.args.told c.args.number c.args.wires.now.signals c.take_act.new.wires.signals c.args.chains.now
+    c.take_act.new.chains c.in-Act.act c.in-Act.next (slice_get c.args.planned.now.stages c.args.number) t))
+    c.take_act.ensures
+
+pub returns-in-Some-clause-takes : goal.returns-in-Some-clause-takes
+returns-in-Some-clause-takes c =
+    let found : Some c.in-Some.plan.now ≡ slice_get c.args.planned.now.stages c.args.number = (let value = c.in-Some.ensures.value in cc) in
+    on_ok c.take_block.result
+    ((told : Told) → TakesStage c.args.globals.now c.args.code.now c.args.registers.now told c.args.number (taken.Run c.in-Run.block) (Some c.in-Some.plan.now)
+    c.args.wires.now.signals c.take_block.new.wires.signals c.args.chains.now c.take_block.new.chains)
+    (TakesStage c.args.globals.now c.args.code.now c.args.registers.now c.args.told c.args.number c.args.stage.now (slice_get c.args.planned.now.stages c.args.number)
+    c.args.wires.now.signals c.take_block.new.wires.signals c.args.chains.now c.take_block.new.chains)
+    (λ t.
+    subst (λ (s : Stage). TakesStage c.args.globals.now c.args.code.now c.args.registers.now c.args.told c.args.number s (slice_get c.args.planned.now.stages c.args.number)
+    c.args.wires.now.signals c.take_block.new.wires.signals c.args.chains.now c.take_block.new.chains) (sym c.in-Run.is)
+    (subst (λ (p : Option StagePlan). TakesStage c.args.globals.now c.args.code.now c.args.registers.now c.args.told c.args.number (taken.Run c.in-Run.block) p
+    c.args.wires.now.signals c.take_block.new.wires.signals c.args.chains.now c.take_block.new.chains) found (t c.args.told)))
+    c.take_block.ensures.takes
+
 pub returns-in-Act-clause-stores : goal.returns-in-Act-clause-stores
 returns-in-Act-clause-stores c =
     on_ok c.take_act.result
-    ((globals : List IntegerType) → TakesAct globals c.args.code.now c.args.registers.now c.args.number
-    (taken.Act c.in-Act.act c.in-Act.next) c.args.wires.now.signals
-    c.take_act.new.wires.signals c.args.chains.now c.take_act.new.chains)
+    (TakesAct c.args.code.now c.args.registers.now c.args.told c.args.number c.in-Act.act c.in-Act.next c.args.wires.now.signals c.take_act.new.wires.signals c.args.chains.now
+    c.take_act.new.chains)
     (StageKeepsStores c.args.code.now c.args.registers.now c.args.number (slice_get c.args.planned.now.stages c.args.number) c.args.wires.now.signals c.take_act.new.wires.signals
     c.args.chains.now
     c.args.stores.now c.args.stores.now)
     (λ t.
     stage_kept c.args.code.now c.args.registers.now c.args.number (slice_get c.args.planned.now.stages c.args.number) c.args.wires.now.signals c.take_act.new.wires.signals
     c.args.chains.now
-    c.args.stores.now (t [] None).step.grows)
+    c.args.stores.now t.step.grows)
     c.take_act.ensures
 
 pub returns-in-None-clause-puts : goal.returns-in-None-clause-puts
@@ -67,15 +96,14 @@ returns-in-None-clause-puts c =
 pub returns-in-Act-clause-puts : goal.returns-in-Act-clause-puts
 returns-in-Act-clause-puts c =
     on_ok c.take_act.result
-    ((globals : List IntegerType) → TakesAct globals c.args.code.now c.args.registers.now c.args.number
-    (taken.Act c.in-Act.act c.in-Act.next) c.args.wires.now.signals
-    c.take_act.new.wires.signals c.args.chains.now c.take_act.new.chains)
+    (TakesAct c.args.code.now c.args.registers.now c.args.told c.args.number c.in-Act.act c.in-Act.next c.args.wires.now.signals c.take_act.new.wires.signals c.args.chains.now
+    c.take_act.new.chains)
     (StoresStage c.args.globals.now c.args.code.now c.args.registers.now c.args.number c.args.stage.now (slice_get c.args.planned.now.stages c.args.number) c.args.wires.now.signals
     c.take_act.new.wires.signals c.args.stores.now c.args.stores.now)
     (λ t.
     stage_of_none c.args.globals.now c.args.code.now c.args.registers.now c.args.number c.args.stage.now
     (slice_get c.args.planned.now.stages c.args.number) c.args.wires.now.signals
-    c.take_act.new.wires.signals c.args.stores.now (t [] None).step.grows (λ x p e f. absurd (let is = c.in-Act.is in cc)))
+    c.take_act.new.wires.signals c.args.stores.now t.step.grows (λ x p e f. absurd (let is = c.in-Act.is in cc)))
     c.take_act.ensures
 
 pub returns-in-Some-clause-stores : goal.returns-in-Some-clause-stores

@@ -9,7 +9,7 @@ use Rattle.thread_states.proofs.stages.take_stages.Goals as goal
 pub loop-number-preserved : goal.loop-number-preserved
 loop-number-preserved c = record {
   walks =
-      walks_more c.args.globals.now c.args.code.now c.args.registers.now c.args.planned.now c.args.wires.now.signals c.args.chains.now c.loop-number.wires.signals
+      walks_more c.args.globals.now c.args.code.now c.args.registers.now c.args.told c.args.planned.now c.args.wires.now.signals c.args.chains.now c.loop-number.wires.signals
       c.take_stage.new.wires.signals c.loop-number.chains c.take_stage.new.chains c.loop-number.number c.stage-item.result c.loop-number.invariant.walks
       (item_is c.as_slice-stage-items.result.now c.args.code.now.stages c.loop-number.number c.stage-item.result c.loop-number-test.true c.stage-item.is
       c.as_slice-stage-items.ensures)
@@ -22,7 +22,7 @@ loop-number-preserved c = record {
       c.as_slice-stage-items.ensures)
       c.in_ok-take_stage.ensures.puts;
   stores =
-      walk_stored c.args.globals.now c.args.code.now c.args.registers.now c.args.planned.now c.args.wires.now.signals c.loop-number.wires.signals
+      walk_stored c.args.globals.now c.args.code.now c.args.registers.now c.args.told c.args.planned.now c.args.wires.now.signals c.loop-number.wires.signals
       c.take_stage.new.wires.signals
       c.args.chains.now c.loop-number.chains c.loop-number.number c.args.stores.now c.loop-number.stores c.take_stage.new.stores c.loop-number.invariant.walks
       c.loop-number.invariant.stores
@@ -31,15 +31,15 @@ loop-number-preserved c = record {
 
 pub loop-number-init : goal.loop-number-init
 loop-number-init c = record {
-  walks = walks_none c.args.globals.now c.args.code.now c.args.registers.now c.args.planned.now c.args.wires.now.signals c.args.chains.now;
+  walks = walks_none c.args.globals.now c.args.code.now c.args.registers.now c.args.told c.args.planned.now c.args.wires.now.signals c.args.chains.now;
   puts = stages_none c.args.globals.now c.args.code.now c.args.registers.now c.args.planned.now c.args.wires.now.signals c.args.stores.now;
-  stores = walk_begun c.args.code.now c.args.registers.now c.args.planned.now c.args.wires.now.signals c.args.chains.now c.args.stores.now;
+  stores = walk_begun c.args.code.now c.args.registers.now c.args.planned.now c.args.told.barred c.args.wires.now.signals c.args.chains.now c.args.stores.now;
 }
 
 pub returns-clause-stores : goal.returns-clause-stores
 returns-clause-stores c =
     let same : length c.as_slice-stage-items.result.now ≡ length c.args.code.now.stages = ap length c.as_slice-stage-items.ensures in
     let all : c.loop-number.number ≡ length c.args.code.now.stages = omega arith in
-    subst (λ n. StagesKeepStores c.args.code.now c.args.registers.now c.args.planned.now n c.args.wires.now.signals c.loop-number.wires.signals c.args.chains.now
+    subst (λ n. StagesKeepStores c.args.code.now c.args.registers.now c.args.planned.now c.args.told.barred n c.args.wires.now.signals c.loop-number.wires.signals c.args.chains.now
     c.args.stores.now
     c.loop-number.stores) all c.loop-number.invariant.stores

@@ -1,14 +1,28 @@
+use Rattle.thread_slots.specs.declared.requests.Requests.{Requests}
 use Rattle.thread_slots.proofs.Requesting.{begins_asking, begins_linked}
 use Rattle.thread_slots.proofs.requests.Requests.begin.Goals as goal
 
 pub returns-clause-begins : goal.returns-clause-begins
 returns-clause-begins c =
-    begins_asking c.args.wires.now.signals c.constant.new.self.signals c.zeros.new.wires.signals c.begin.new.wires.signals c.args.fields.now c.args.words.now
-    (record { wants = c.in_ok-wants.wants; fields = c.in_ok-fields.fields; banks = c.in_ok-banks.banks }) c.in_ok-wants.ensures.shows c.in_ok-fields.ensures.shows
-    c.in_ok-banks.ensures.shows
+    let x : Requests = record {
+      mutex = c.in_ok-mutex.mutex;
+      barrier = c.in_ok-barrier.barrier;
+      ids = c.in_ok-ids.ids;
+      print = c.in_ok-print.print;
+      banks = c.in_ok-banks.banks;
+    } in
+    begins_asking c.args.wires.now.signals c.begin.new.wires.signals c.begin-2.new.wires.signals c.begin-3.new.wires.signals c.begin-4.new.wires.signals
+    c.begin-5.new.wires.signals c.args.served c.args.words.now x c.in_ok-mutex.ensures c.in_ok-barrier.ensures c.in_ok-ids.ensures c.in_ok-print.ensures c.in_ok-banks.ensures.shows
 
 pub returns-clause-wired : goal.returns-clause-wired
 returns-clause-wired c =
-    begins_linked c.args.wires.now.signals c.constant.new.self.signals c.zeros.new.wires.signals c.begin.new.wires.signals c.args.fields.now c.args.words.now
-    (record { wants = c.in_ok-wants.wants; fields = c.in_ok-fields.fields; banks = c.in_ok-banks.banks }) c.in_ok-wants.ensures.wired c.in_ok-fields.ensures.wired
-    c.in_ok-banks.ensures.wired c.in_ok-fields.ensures.shows.count
+    let x : Requests = record {
+      mutex = c.in_ok-mutex.mutex;
+      barrier = c.in_ok-barrier.barrier;
+      ids = c.in_ok-ids.ids;
+      print = c.in_ok-print.print;
+      banks = c.in_ok-banks.banks;
+    } in
+    begins_linked c.args.wires.now.signals c.begin.new.wires.signals c.begin-2.new.wires.signals c.begin-3.new.wires.signals c.begin-4.new.wires.signals
+    c.begin-5.new.wires.signals c.args.served c.args.words.now x c.in_ok-mutex.ensures c.in_ok-barrier.ensures c.in_ok-ids.ensures c.in_ok-print.ensures c.in_ok-banks.ensures.shows
+    c.in_ok-banks.ensures.wired

@@ -1,0 +1,4 @@
+pub mod Asks
+pub mod FieldValues
+mod Naming
+pub mod Taken

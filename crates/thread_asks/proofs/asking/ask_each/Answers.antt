@@ -1,0 +1,26 @@
+use Rattle.std.proofs.Common.{◌≡◌, ℕ, length, ap, subst, arith}
+use Rattle.block_datapath.proofs.Walking.{item_is}
+use Rattle.thread_asks.specs.Asking.{AsksFirst}
+use Rattle.thread_asks.proofs.Asks.{asks_none, asks_more}
+use Rattle.thread_asks.proofs.asking.ask_each.Goals as goal
+
+pub loop-number-preserved : goal.loop-number-preserved
+loop-number-preserved c =
+    asks_more c.args.globals.now c.args.spreads.now c.args.code.now c.args.registers.now c.args.caller c.args.planned.now c.args.wires.now.signals c.args.requests.now
+    c.loop-number.wires.signals
+    c.ask_stage.new.wires.signals c.loop-number.requests c.ask_stage.new.requests c.loop-number.number c.stage-item.result c.loop-number.invariant
+    (item_is c.as_slice-stage-items.result.now c.args.code.now.stages c.loop-number.number c.stage-item.result c.loop-number-test.true c.stage-item.is
+    c.as_slice-stage-items.ensures)
+    c.in_ok-ask_stage.ensures
+
+pub loop-number-init : goal.loop-number-init
+loop-number-init c = asks_none c.args.globals.now c.args.spreads.now c.args.code.now c.args.registers.now c.args.caller c.args.planned.now c.args.wires.now.signals
+    c.args.requests.now
+
+pub returns : goal.returns
+returns c =
+    let same : length c.as_slice-stage-items.result.now ≡ length c.args.code.now.stages = ap length c.as_slice-stage-items.ensures in
+    let all : c.loop-number.number ≡ length c.args.code.now.stages = omega arith in
+    subst (λ (n : ℕ). AsksFirst c.args.globals.now c.args.spreads.now c.args.code.now c.args.registers.now c.args.caller c.args.planned.now c.args.wires.now.signals
+    c.loop-number.wires.signals
+    c.args.requests.now c.loop-number.requests n) all c.loop-number.invariant

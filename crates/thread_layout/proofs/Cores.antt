@@ -1,0 +1,306 @@
+-- Which of the cores that acts ask is open: the one that is asked.
+use Rattle.std.proofs.Common.{◌≡◌, ℕ, zero, suc, ◌+◌, ◌-◌, ◌<◌, ◌≤◌, Bool, true, false, ◌&&◌, nat_eq, nat_lt, if◌then◌else◌, Some, None, refl, sym, ap, ◌∙◌, arith, ⊎_elim}
+use Rattle.std.proofs.Common.{List, [], ◌∷◌, ◌++◌, length, length-append}
+use Rattle.std.specs.Prelude.{replicate, slice_get}
+use Rattle.std.proofs.lemmas.List.{length-replicate}
+use Rattle.std.proofs.lemmas.Option.{slice_get_within}
+use Rattle.std.proofs.lemmas.Bool.{cases_lt}
+use Rattle.std.proofs.lemmas.Bool.Decides.{nat_tests}
+use Rattle.hls_ints.specs.Residues.{bit_of}
+use Rattle.block_ir.specs.Asked.{Service, Mutexes, Barriers, Ids, Prints, Numbers, core_in}
+use Rattle.thread_slots.specs.declared.shape.Served.{Served}
+use Rattle.thread_slots.specs.declared.shape.Service.{Service as Kind}
+use Rattle.thread_slots.specs.declared.shape.Service.TheVariants as kind
+use Rattle.thread_slots.specs.Services.{service_of, services, if_ids, numbers_with, core_count}
+use Rattle.thread_asks.specs.Asking.{same_service}
+use Rattle.thread_requests.specs.Early.{joined_bits, act_count, act_open}
+use Rattle.thread_requests.proofs.Opening.{joined_front, joined_back}
+use Rattle.thread_layout.specs.Thread.{is_core}
+use Rattle.thread_layout.proofs.Rowing.{in_front, further}
+
+-- ---- bits
+
+and_no : (t : Bool) → (t && false) ≡ false
+and_no true = refl
+and_no false = refl
+
+and_yes : (t : Bool) → (t && true) ≡ t
+and_yes true = refl
+and_yes false = refl
+
+shifted : (b c k : ℕ) → nat_eq c k ≡ nat_eq (b + k) (b + c)
+shifted b c k = grind (arith, nat_tests)
+
+apart : (x y : ℕ) → x < y → nat_eq x y ≡ false
+apart x y less = grind (arith, nat_tests)
+
+is_below : (x y : ℕ) → nat_lt x y ≡ true → x < y
+is_below x y e = grind (arith, nat_tests)
+
+apart_back : (x y : ℕ) → y < x → nat_eq x y ≡ false
+apart_back x y less = grind (arith, nat_tests)
+
+equal : (x y : ℕ) → x ≡ y → nat_eq x y ≡ true
+equal x y e = grind (arith, nat_tests)
+
+less_is : (x y : ℕ) → x < y → nat_lt x y ≡ true
+less_is x y less = grind (arith, nat_tests)
+
+past_is : (x y : ℕ) → y ≤ x → nat_lt x y ≡ false
+past_is x y le = grind (arith, nat_tests)
+
+-- ---- core k of those that acts ask
+
+module _ (served : Served) (wants : Service → Bool) (object : Service → ℕ) (k : ℕ) where
+  abbrev M : ℕ
+  M = served.mutexes
+
+  abbrev B : ℕ
+  B = served.barriers
+
+  abbrev J : ℕ
+  J = bit_of served.ids
+
+  abbrev print_bits : ℕ → Bool
+  print_bits = joined_bits J (λ i. wants Ids) (λ i. wants Prints)
+
+  abbrev barrier_bits : ℕ → Bool
+  barrier_bits = joined_bits B (λ i. nat_eq (object Barriers) i && wants Barriers) print_bits
+
+  at_mutex : k < M → act_open served wants object k ≡ (nat_eq (object Mutexes) k && wants Mutexes)
+  at_mutex less = joined_front M (λ i. nat_eq (object Mutexes) i && wants Mutexes) barrier_bits k less
+
+  past_mutexes : M ≤ k → act_open served wants object k ≡ barrier_bits (k - M)
+  past_mutexes le = joined_back M (λ i. nat_eq (object Mutexes) i && wants Mutexes) barrier_bits k le
+
+  at_barrier : M ≤ k → k - M < B → act_open served wants object k ≡ (nat_eq (object Barriers) (k - M) && wants Barriers)
+  at_barrier le less = past_mutexes le ∙ joined_front B (λ i. nat_eq (object Barriers) i && wants Barriers) print_bits (k - M) less
+
+  past_barriers : M ≤ k → B ≤ k - M → act_open served wants object k ≡ print_bits (k - M - B)
+  past_barriers le past = past_mutexes le ∙ joined_back B (λ i. nat_eq (object Barriers) i && wants Barriers) print_bits (k - M) past
+
+  at_ids : M ≤ k → B ≤ k - M → k - M - B < J → act_open served wants object k ≡ wants Ids
+  at_ids le past less = past_barriers le past ∙ joined_front J (λ i. wants Ids) (λ i. wants Prints) (k - M - B) less
+
+  at_printer : M ≤ k → B ≤ k - M → J ≤ k - M - B → act_open served wants object k ≡ wants Prints
+  at_printer le past last = past_barriers le past ∙ joined_back J (λ i. wants Ids) (λ i. wants Prints) (k - M - B) last
+
+  -- of four kinds
+  by_kind : (P : Type 0) → (k < M → P) → (M ≤ k → k - M < B → P) → (M ≤ k → B ≤ k - M → k - M - B < J → P) → (M ≤ k → B ≤ k - M → J ≤ k - M - B → P) → P
+  by_kind P one two three four =
+      ⊎_elim one
+      (λ (le : M ≤ k). ⊎_elim (two le)
+      (λ (past : B ≤ k - M). ⊎_elim (three le past) (λ (last : J ≤ k - M - B). four le past last) (cases_lt (k - M - B) J))
+      (cases_lt (k - M) B))
+      (cases_lt k M)
+
+-- nothing is open where nothing is wanted
+pub none_open : (served : Served) (object : Service → ℕ) (k : ℕ) → act_open served (λ s. false) object k ≡ false
+none_open served object k =
+    by_kind served (λ s. false) object k (act_open served (λ s. false) object k ≡ false)
+    (λ less. at_mutex served (λ s. false) object k less ∙ and_no (nat_eq (object Mutexes) k))
+    (λ le less. at_barrier served (λ s. false) object k le less ∙ and_no (nat_eq (object Barriers) (k - served.mutexes)))
+    (λ le past less. at_ids served (λ s. false) object k le past less) (λ le past last. at_printer served (λ s. false) object k le past last)
+
+module _ (banks : ℕ) (served : Served) (object : Service → ℕ) (k c : ℕ) (inside : k < act_count served) where
+  abbrev N : Numbers
+  N = numbers_with banks served
+
+  mutex_open : object Mutexes ≡ c → act_open served (same_service Mutexes) object k ≡ is_core (core_in N Mutexes c) (banks + k)
+  mutex_open e =
+      by_kind served (same_service Mutexes) object k (act_open served (same_service Mutexes) object k ≡ is_core (core_in N Mutexes c) (banks + k))
+      (λ less. at_mutex served (same_service Mutexes) object k less ∙ and_yes (nat_eq (object Mutexes) k) ∙ ap (λ z. nat_eq z k) e
+      ∙ ⊎_elim (λ (in_range : c < served.mutexes). shifted banks c k ∙ ap (λ b. is_core (if b then Some (banks + c) else None) (banks + k)) (sym (less_is c served.mutexes in_range)))
+      (λ (past : served.mutexes ≤ c).
+      apart_back c k (omega arith) ∙ ap (λ b. is_core (if b then Some (banks + c) else None) (banks + k)) (sym (past_is c served.mutexes past)))
+      (cases_lt c served.mutexes))
+      (λ le less. at_barrier served (same_service Mutexes) object k le less ∙ and_no (nat_eq (object Barriers) (k - served.mutexes)) ∙ sym (off le))
+      (λ le past less. at_ids served (same_service Mutexes) object k le past less ∙ sym (off le))
+      (λ le past last. at_printer served (same_service Mutexes) object k le past last ∙ sym (off le))
+    where
+      off : served.mutexes ≤ k → is_core (core_in N Mutexes c) (banks + k) ≡ false
+      off le =
+          ⊎_elim
+          (λ (in_range : c < served.mutexes). ap (λ b. is_core (if b then Some (banks + c) else None) (banks + k)) (less_is c served.mutexes in_range)
+          ∙ apart_back (banks + k) (banks + c) (omega arith))
+          (λ (past : served.mutexes ≤ c). ap (λ b. is_core (if b then Some (banks + c) else None) (banks + k)) (past_is c served.mutexes past))
+          (cases_lt c served.mutexes)
+
+  abbrev barrier_or : Bool → Bool
+  barrier_or b = is_core (if b then Some (banks + served.mutexes + c) else None) (banks + k)
+
+  barrier_open : object Barriers ≡ c → act_open served (same_service Barriers) object k ≡ is_core (core_in N Barriers c) (banks + k)
+  barrier_open e =
+      by_kind served (same_service Barriers) object k (act_open served (same_service Barriers) object k ≡ is_core (core_in N Barriers c) (banks + k))
+      (λ less. at_mutex served (same_service Barriers) object k less ∙ and_no (nat_eq (object Mutexes) k) ∙ sym (before less))
+      (λ le less. at_barrier served (same_service Barriers) object k le less ∙ and_yes (nat_eq (object Barriers) (k - served.mutexes))
+      ∙ ap (λ z. nat_eq z (k - served.mutexes)) e
+      ∙ ⊎_elim
+      (λ (in_range : c < served.barriers).
+      shifted (banks + served.mutexes) c (k - served.mutexes)
+      ∙ ap (λ z. nat_eq z (banks + served.mutexes + c)) (let z : banks + served.mutexes + (k - served.mutexes) ≡ banks + k = omega arith in z)
+      ∙ ap barrier_or (sym (less_is c served.barriers in_range)))
+      (λ (past : served.barriers ≤ c). apart_back c (k - served.mutexes) (omega arith) ∙ ap barrier_or (sym (past_is c served.barriers past)))
+      (cases_lt c served.barriers))
+      (λ le past less. at_ids served (same_service Barriers) object k le past less ∙ sym (behind le past))
+      (λ le past last. at_printer served (same_service Barriers) object k le past last ∙ sym (behind le past))
+    where
+      before : k < served.mutexes → is_core (core_in N Barriers c) (banks + k) ≡ false
+      before less =
+          ⊎_elim
+          (λ (in_range : c < served.barriers). ap barrier_or (less_is c served.barriers in_range) ∙ apart (banks + k) (banks + served.mutexes + c) (omega arith))
+          (λ (past : served.barriers ≤ c). ap barrier_or (past_is c served.barriers past)) (cases_lt c served.barriers)
+
+      behind : served.mutexes ≤ k → served.barriers ≤ k - served.mutexes → is_core (core_in N Barriers c) (banks + k) ≡ false
+      behind le over =
+          ⊎_elim
+          (λ (in_range : c < served.barriers). ap barrier_or (less_is c served.barriers in_range) ∙ apart_back (banks + k) (banks + served.mutexes + c) (omega arith))
+          (λ (past : served.barriers ≤ c). ap barrier_or (past_is c served.barriers past)) (cases_lt c served.barriers)
+
+  abbrev ids_or : Bool → Bool
+  ids_or b = is_core (if b then Some (banks + served.mutexes + served.barriers) else None) (banks + k)
+
+  ids_open : act_open served (same_service Ids) object k ≡ is_core (core_in N Ids c) (banks + k)
+  ids_open =
+      by_kind served (same_service Ids) object k (act_open served (same_service Ids) object k ≡ is_core (core_in N Ids c) (banks + k))
+      (λ less. at_mutex served (same_service Ids) object k less ∙ and_no (nat_eq (object Mutexes) k)
+      ∙ sym (other served.ids (apart (banks + k) (banks + served.mutexes + served.barriers) (omega arith))))
+      (λ le less. at_barrier served (same_service Ids) object k le less ∙ and_no (nat_eq (object Barriers) (k - served.mutexes))
+      ∙ sym (other served.ids (apart (banks + k) (banks + served.mutexes + served.barriers) (omega arith))))
+      (λ le past less. at_ids served (same_service Ids) object k le past less ∙ sym (there served.ids less le past inside))
+      (λ le past last. at_printer served (same_service Ids) object k le past last ∙ sym (last_one served.ids le past last))
+    where
+      other : (b : Bool) → nat_eq (banks + k) (banks + served.mutexes + served.barriers) ≡ false → ids_or b ≡ false
+      other true e = e
+      other false e = refl
+
+      there : (b : Bool) → k - served.mutexes - served.barriers < bit_of b → served.mutexes ≤ k → served.barriers ≤ k - served.mutexes → k < act_count served → ids_or b ≡ true
+      there true less le past in_all = equal (banks + k) (banks + served.mutexes + served.barriers) (omega arith)
+      there false less le past in_all = absurd (omega arith)
+
+      last_one : (b : Bool) → served.mutexes ≤ k → served.barriers ≤ k - served.mutexes → bit_of b ≤ k - served.mutexes - served.barriers → ids_or b ≡ false
+      last_one true le past last = apart_back (banks + k) (banks + served.mutexes + served.barriers) (omega arith)
+      last_one false le past last = refl
+
+  abbrev printer_at : ℕ
+  printer_at = banks + served.mutexes + served.barriers + bit_of served.ids
+
+  printer_open : act_open served (same_service Prints) object k ≡ is_core (core_in N Prints c) (banks + k)
+  printer_open =
+      by_kind served (same_service Prints) object k (act_open served (same_service Prints) object k ≡ is_core (core_in N Prints c) (banks + k))
+      (λ less. at_mutex served (same_service Prints) object k less ∙ and_no (nat_eq (object Mutexes) k) ∙ sym (apart (banks + k) printer_at (omega arith)))
+      (λ le less. at_barrier served (same_service Prints) object k le less ∙ and_no (nat_eq (object Barriers) (k - served.mutexes)) ∙ sym (apart (banks + k) printer_at (omega arith)))
+      (λ le past less. at_ids served (same_service Prints) object k le past less ∙ sym (apart (banks + k) printer_at (omega arith)))
+      (λ le past last. at_printer served (same_service Prints) object k le past last ∙ sym (equal (banks + k) printer_at (omega arith)))
+
+  -- CORE k IS OPEN as it is the one that is asked
+  pub asked_open : (s : Service) → (s ≡ Mutexes → object Mutexes ≡ c) → (s ≡ Barriers → object Barriers ≡ c)
+      → act_open served (same_service s) object k ≡ is_core (core_in N s c) (banks + k)
+  asked_open Mutexes e f = mutex_open (e refl)
+  asked_open Barriers e f = barrier_open (f refl)
+  asked_open Ids e f = ids_open
+  asked_open Prints e f = printer_open
+
+-- how many cores there are that acts ask
+ids_count : (ids : Bool) → length {A = Kind} (if_ids ids (kind.Ids ∷ [])) ≡ bit_of ids
+ids_count true = refl
+ids_count false = refl
+
+pub services_count : (served : Served) → length (services served) ≡ act_count served
+services_count served =
+    length-append (replicate served.mutexes kind.Mutexes) (replicate served.barriers kind.Barriers ++ (if_ids served.ids (kind.Ids ∷ []) ++ kind.Prints ∷ []))
+    ∙ ap (λ n. n + length (replicate served.barriers kind.Barriers ++ (if_ids served.ids (kind.Ids ∷ []) ++ kind.Prints ∷ []))) (length-replicate served.mutexes kind.Mutexes)
+    ∙ ap (λ n. served.mutexes + n) (length-append (replicate served.barriers kind.Barriers) (if_ids served.ids (kind.Ids ∷ []) ++ kind.Prints ∷ [])
+    ∙ ap (λ n. n + length (if_ids served.ids (kind.Ids ∷ []) ++ kind.Prints ∷ [])) (length-replicate served.barriers kind.Barriers)
+    ∙ ap (λ n. served.barriers + n) (length-append (if_ids served.ids (kind.Ids ∷ [])) (kind.Prints ∷ []) ∙ ap (λ n. n + 1) (ids_count served.ids)))
+
+-- ---- which kind of core that is
+
+repeated : {X : Type 0} (n : ℕ) (x : X) (k : ℕ) → k < n → slice_get (replicate n x) k ≡ Some x
+repeated zero x k less = absurd (omega arith)
+repeated (suc n) x zero less = refl
+repeated (suc n) x (suc k) less = repeated n x k (omega arith)
+
+further_by : {X : Type 0} (xs ys : List X) (n j : ℕ) → length xs ≡ n → slice_get (xs ++ ys) (n + j) ≡ slice_get ys j
+further_by xs ys n j e = ap (λ k. slice_get (xs ++ ys) (k + j)) (sym e) ∙ further xs ys j
+
+pub record HasKind (banks : ℕ) (served : Served) (s : Service) (k : ℕ) : Type 0 where
+  pub number : ℕ
+  pub kind : Kind
+  pub listed : slice_get (services served) number ≡ Some kind
+  pub is : service_of kind ≡ s
+  pub at : k ≡ banks + number
+
+module _ (banks : ℕ) (served : Served) where
+  behind_mutexes : (j : ℕ) → slice_get (services served) (served.mutexes + j)
+      ≡ slice_get (replicate served.barriers kind.Barriers ++ (if_ids served.ids (kind.Ids ∷ []) ++ kind.Prints ∷ [])) j
+  behind_mutexes j = further_by (replicate served.mutexes kind.Mutexes) _ served.mutexes j (length-replicate served.mutexes kind.Mutexes)
+
+  behind_barriers : (j : ℕ) → slice_get (services served) (served.mutexes + (served.barriers + j)) ≡ slice_get (if_ids served.ids (kind.Ids ∷ []) ++ kind.Prints ∷ []) j
+  behind_barriers j =
+      behind_mutexes (served.barriers + j) ∙ further_by (replicate served.barriers kind.Barriers) _ served.barriers j (length-replicate served.barriers kind.Barriers)
+
+  pub kind_there : (s : Service) (c k : ℕ) → core_in (numbers_with banks served) s c ≡ Some k → HasKind banks served s k
+  kind_there Mutexes c k e = by (nat_lt c served.mutexes) refl e
+    where
+      by : (b : Bool) → nat_lt c served.mutexes ≡ b → (if b then Some (banks + c) else None) ≡ Some k → HasKind banks served Mutexes k
+      by true is e =
+          let less : c < served.mutexes = is_below c served.mutexes is in
+          let same : banks + c ≡ k = cc in
+          record {
+            number = c;
+            kind = kind.Mutexes;
+            listed = in_front (replicate served.mutexes kind.Mutexes) _ c kind.Mutexes (repeated served.mutexes kind.Mutexes c less);
+            is = refl;
+            at = sym same;
+          }
+      by false is e = absurd cc
+  kind_there Barriers c k e = by (nat_lt c served.barriers) refl e
+    where
+      by : (b : Bool) → nat_lt c served.barriers ≡ b → (if b then Some (banks + served.mutexes + c) else None) ≡ Some k → HasKind banks served Barriers k
+      by true is e =
+          let less : c < served.barriers = is_below c served.barriers is in
+          let same : banks + served.mutexes + c ≡ k = cc in
+          record {
+            number = served.mutexes + c;
+            kind = kind.Barriers;
+            listed = behind_mutexes c ∙ in_front (replicate served.barriers kind.Barriers) _ c kind.Barriers (repeated served.barriers kind.Barriers c less);
+            is = refl;
+            at = sym same ∙ (let z : banks + served.mutexes + c ≡ banks + (served.mutexes + c) = omega arith in z);
+          }
+      by false is e = absurd cc
+  kind_there Ids c k e = by served.ids refl e
+    where
+      by : (b : Bool) → served.ids ≡ b → (if b then Some (banks + served.mutexes + served.barriers) else None) ≡ Some k → HasKind banks served Ids k
+      by true is e =
+          let same : banks + served.mutexes + served.barriers ≡ k = cc in
+          record {
+            number = served.mutexes + (served.barriers + 0);
+            kind = kind.Ids;
+            listed = behind_barriers 0 ∙ ap (λ b. slice_get (if_ids b (kind.Ids ∷ []) ++ kind.Prints ∷ []) 0) is;
+            is = refl;
+            at = sym same ∙ (let z : banks + served.mutexes + served.barriers ≡ banks + (served.mutexes + (served.barriers + 0)) = omega arith in z);
+          }
+      by false is e = absurd cc
+  kind_there Prints c k e =
+      let same : banks + served.mutexes + served.barriers + bit_of served.ids ≡ k = cc in
+      record {
+        number = served.mutexes + (served.barriers + bit_of served.ids);
+        kind = kind.Prints;
+        listed = behind_barriers (bit_of served.ids) ∙ last_kind served.ids;
+        is = refl;
+        at = sym same ∙ (let z : banks + served.mutexes + served.barriers + bit_of served.ids ≡ banks + (served.mutexes + (served.barriers + bit_of served.ids)) = omega arith in z);
+      }
+    where
+      last_kind : (b : Bool) → slice_get (if_ids b (kind.Ids ∷ []) ++ kind.Prints ∷ []) (bit_of b) ≡ Some kind.Prints
+      last_kind true = refl
+      last_kind false = refl
+
+  -- it is one of those that acts ask
+  pub core_within : (s : Service) (c k : ℕ) → core_in (numbers_with banks served) s c ≡ Some k → (banks ≤ k) × (k < core_count banks served)
+  core_within s c k e =
+      let own = kind_there s c k e in
+      let at = own.at in
+      let less = slice_get_within (services served) own.number own.kind own.listed in
+      let count = services_count served in
+      (omega arith, omega arith)

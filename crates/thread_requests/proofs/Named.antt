@@ -1,0 +1,81 @@
+-- Nobody is asked, and at a meeting a barrier is named.
+use Rattle.std.proofs.Common.{◌≡◌, ℕ, suc, List, length, arith}
+use Rattle.block_ir.specs.declared.code.ThreadCode.{ThreadCode}
+use Rattle.block_ir.specs.Asked.{Service, Mutexes, Barriers, Ids, Prints}
+use Rattle.netlist.specs.declared.netlist.Signal.{Signal}
+use Rattle.netlist.specs.declared.netlist.Module.{Module}
+use Rattle.verilog_meaning.specs.Readings.{Reading, width}
+use Rattle.circuit.specs.Modules.{Obeys}
+use Rattle.operator_wires.specs.Gives.{Grows}
+use Rattle.operator_wires.specs.Built.{Base, IsEarlier}
+use Rattle.operator_wires.proofs.Giving.{grows_then}
+use Rattle.operator_wires.proofs.Building.{wires_then}
+use Rattle.block_datapath.specs.declared.registers.Registers.{Registers}
+use Rattle.thread_slots.specs.declared.shape.Served.{Served}
+use Rattle.thread_slots.specs.declared.requests.Requests.{Requests}
+use Rattle.thread_slots.specs.Requests.{group, BeginsAsking, BeginsLinked, RequestStands}
+use Rattle.thread_slots.specs.Services.{number_width, value_count}
+use Rattle.thread_asks.specs.Met.{NamesMet}
+use Rattle.thread_asks.proofs.Asks.{ask_links_after}
+use Rattle.thread_requests.specs.Early.{BeginsLinkedOf}
+
+-- requests that name this barrier
+abbrev pub naming : Requests → ℕ → Requests
+naming c met = record c { barrier = record c.barrier { object = met } }
+
+pub begins_met : (code : ThreadCode) (registers : Registers) (served : Served) (words : List ℕ) (a b d : List Signal) (c : Requests) (met n : ℕ)
+    → BeginsAsking a b served words c → NamesMet code registers n b d met → BeginsAsking a d served words (naming c met)
+begins_met code registers served words a b d c met n t u = record {
+  grows = grows_then a b d t.grows u.grows;
+  bits = bits;
+  counts = counts;
+  many = t.many;
+  silent = silent;
+  nothing = λ m r j g o less. t.nothing m r j (back m g) o less;
+}
+  where
+    back : (m : Module) → Grows d m.signals → Grows b m.signals
+    back m g = grows_then b d m.signals u.grows g
+
+    bits : (s : Service) (m : Module) → Grows d m.signals → width m (group (naming c met) s).wants ≡ 1
+    bits Mutexes m g = t.bits Mutexes m (back m g)
+    bits Barriers m g = t.bits Barriers m (back m g)
+    bits Ids m g = t.bits Ids m (back m g)
+    bits Prints m g = t.bits Prints m (back m g)
+
+    counts : (s : Service) → length (group (naming c met) s).fields ≡ suc (value_count served s)
+    counts Mutexes = t.counts Mutexes
+    counts Barriers = t.counts Barriers
+    counts Ids = t.counts Ids
+    counts Prints = t.counts Prints
+
+    silent : (s : Service) (m : Module) (r : Reading) → Grows d m.signals → Obeys m r → r.signal (group (naming c met) s).wants ≡ 0
+    silent Mutexes m r g o = t.silent Mutexes m r (back m g) o
+    silent Barriers m r g o = t.silent Barriers m r (back m g) o
+    silent Ids m r g o = t.silent Ids m r (back m g) o
+    silent Prints m r g o = t.silent Prints m r (back m g) o
+
+pub linked_met : (code : ThreadCode) (registers : Registers) (served : Served) (words : List ℕ) (a b d : List Signal) (c : Requests) (met : ℕ)
+    → BeginsLinked a b served words c → NamesMet code registers (length code.stages) b d met → BeginsLinkedOf code registers served words a d (naming c met)
+linked_met code registers served words a b d c met t u base globals spreads bits wide own slots low high fit one two three have =
+    let first = t base code registers globals spreads bits wide own slots low high fit one two three have in
+    let named = u.wired (omega arith) base first.linked.slots in
+    let later = ask_links_after globals spreads code registers base served bits wide own b d c named.wires.grows first.linked in
+    record {
+      wires = wires_then base a b d first.wires named.wires;
+      linked = record {
+        slots = later.slots;
+        site_low = later.site_low;
+        site_high = later.site_high;
+        requests = requests base later.requests named.stands;
+        banks = later.banks;
+        widths = later.widths;
+      };
+    }
+  where
+    requests : (base : Base) → ((s : Service) → RequestStands base d (number_width served s) (group c s)) → IsEarlier d base met 64 → (s : Service)
+        → RequestStands base d (number_width served s) (group (naming c met) s)
+    requests base stand there Mutexes = stand Mutexes
+    requests base stand there Barriers = let own = stand Barriers in record { wants = own.wants; object = there; fields = own.fields }
+    requests base stand there Ids = stand Ids
+    requests base stand there Prints = stand Prints

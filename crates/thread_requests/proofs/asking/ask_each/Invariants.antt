@@ -1,6 +1,0 @@
-use Rattle.thread_requests.specs.Asking.{AsksFirst}
-use Rattle.thread_requests.proofs.asking.ask_each.Given as goal
-
-abbrev pub invariant-loop-number : goal.invariant-loop-number
-invariant-loop-number l =
-    AsksFirst l.globals l.spreads l.code l.registers l.printer l.planned l.fn.wires.signals l.wires.signals l.fn.requests l.requests l.number

@@ -1,0 +1,23 @@
+use Rattle.std.proofs.Common.{ℕ, subst}
+use Rattle.block_datapath.proofs.Chaining.{on_ok}
+use Rattle.thread_states.specs.Acts.{LeadsFrom, LeadsUnless, TakesWait}
+use Rattle.thread_states.proofs.acts.take_wait.Goals as goal
+
+pub returns : goal.returns
+returns c =
+    on_ok c.lead_unless.result
+    (LeadsUnless c.args.registers.now c.in_ok-number.number c.args.following c.args.barred c.lead_to.new.wires.signals c.lead_unless.new.wires.signals c.lead_to.new.chains
+    c.lead_unless.new.chains)
+    (TakesWait c.args.code.now c.args.registers.now c.args.barred c.args.stage c.args.following c.args.wires.now.signals c.lead_unless.new.wires.signals c.args.chains.now
+    c.lead_unless.new.chains)
+    (λ t. record {
+      with_own = c.lead_to.new.wires.signals;
+      own = c.lead_to.new.chains;
+      waits =
+          subst (λ (k : ℕ). LeadsFrom c.args.registers.now c.args.stage k c.args.wires.now.signals c.lead_to.new.wires.signals c.args.chains.now c.lead_to.new.chains)
+          c.in_ok-number.ensures c.in_ok-lead_to.ensures;
+      meets =
+          subst (λ (k : ℕ). LeadsUnless c.args.registers.now k c.args.following c.args.barred c.lead_to.new.wires.signals c.lead_unless.new.wires.signals c.lead_to.new.chains
+          c.lead_unless.new.chains) c.in_ok-number.ensures t;
+    })
+    c.lead_unless.ensures

@@ -1,0 +1,87 @@
+// The wires of the rest, past all stages.
+
+ghost use Rattle.std.specs.Prelude.{Some, OnOk};
+ghost use Rattle.thread_states.specs.Acts.{TakesArgument, LeavesRest, EndsAt};
+
+use crate::acts::{idle, lead_unless};
+use block_datapath::registers::{Registers, set_next};
+use block_datapath::states::at_stage;
+use block_ir::code::ThreadCode;
+use operator_wires::wires::Wires;
+use sqlite_items::Items;
+use std::alloc::AllocError;
+use thread_slots::chains::Chains;
+use thread_slots::told::Told;
+
+/// The stage past the last one, in which main has ended, and another thread has not begun, or has ended. Main stays there; another
+/// thread sets out at the first stage where it is told that it runs, with the argument that it is told.
+pub fn take_end(
+    wires: &mut Wires,
+    registers: &Registers,
+    chains: &mut Chains,
+    code: &ThreadCode,
+    is_main: bool,
+    told: Told,
+) -> Result<(), AllocError>
+    ensures { OnOk result (EndsAt code.now registers.now is_main told wires.old.signals wires.new.signals chains.old chains.new) }
+{
+    if is_main {
+        idle(wires, registers, chains, code.stages.len() as u64)
+    } else {
+        begin(wires, registers, chains, code, told)
+    }
+}
+
+fn begin(
+    wires: &mut Wires,
+    registers: &Registers,
+    chains: &mut Chains,
+    code: &ThreadCode,
+    told: Told,
+) -> Result<(), AllocError>
+    ensures { OnOk result (LeavesRest code.now registers.now told wires.old.signals wires.new.signals chains.old chains.new) }
+{
+    let rest = code.stages.len() as u64;
+    let idle = wires.not(1, told.runs)?;
+    lead_unless(wires, registers, chains, rest, 0, idle)?;
+    let variables = &mut chains.variables;
+    take_argument(
+        wires,
+        registers,
+        variables,
+        code.argument,
+        rest,
+        told.argument,
+    )
+}
+
+/// At a number of the stage the variable for the argument, if there is one, gets what a signal shows.
+fn take_argument(
+    wires: &mut Wires,
+    registers: &Registers,
+    variables: &mut Items<usize>,
+    variable: Option<u32>,
+    number: u64,
+    argument: usize,
+) -> Result<(), AllocError>
+    ensures { OnOk result (TakesArgument registers.now variable number argument wires.old.signals wires.new.signals variables.old variables.new) }
+{
+    match variable {
+        Some(variable) => set_argument(wires, registers, variables, variable, number, argument),
+        None => Ok(()),
+    }
+}
+
+fn set_argument(
+    wires: &mut Wires,
+    registers: &Registers,
+    variables: &mut Items<usize>,
+    variable: u32,
+    number: u64,
+    argument: usize,
+) -> Result<(), AllocError>
+    ensures { OnOk result (TakesArgument registers.now (Some variable) number argument wires.old.signals wires.new.signals variables.old variables.new) }
+{
+    let at = at_stage(wires, registers, number)?;
+    set_next(wires, variables, variable as usize, 64, at, argument)
+}
