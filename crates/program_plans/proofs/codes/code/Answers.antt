@@ -1,0 +1,16 @@
+use Rattle.std.proofs.Common.{ℕ, ◌*◌, ◌≤◌, arith}
+use Rattle.c_program.specs.Plain.{program_of}
+use Rattle.c_program.specs.Weight.{weight}
+use Rattle.program_plans.proofs.codes.code.Goals as goal
+
+few : (w n : ℕ) → w ≤ n → 4 * w ≤ 4 * n
+few w n le = omega (arith, le)
+
+pub returns-clause-code : goal.returns-clause-code
+returns-clause-code c =
+    let capped = c.requires.weight in
+    let size = few c.args.weight (weight (program_of c.args.program.now)) (omega (arith, capped)) in
+    record {
+      lowered = c.in_ok-merged.ensures.lowered (program_of c.args.program.now) c.args.function size c.in_ok-code.ensures.typed c.in_ok-code.ensures.lowered;
+      typed = c.in_ok-merged.ensures.typed (program_of c.args.program.now) c.args.function size c.in_ok-code.ensures.typed;
+    }

@@ -1,0 +1,5 @@
+use Rattle.program_plans.proofs.Planning.{planned_are_routines}
+use Rattle.program_plans.proofs.law.planned_are_routines.Goals as goal
+
+pub returns : goal.returns
+returns c = planned_are_routines c.planned_is_right.ensures

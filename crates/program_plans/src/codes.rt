@@ -1,0 +1,75 @@
+// The codes of thread functions.
+
+ghost use Rattle.std.specs.Prelude.{◌≡◌, ◌*◌, Contains, None, IfOk};
+ghost use Rattle.c_limits.specs.Counts.{first_passed};
+ghost use Rattle.c_program.specs.Counting.{capped};
+ghost use Rattle.c_program.specs.Plain.{program_of};
+ghost use Rattle.c_program.specs.Resolved.{IsResolved};
+ghost use Rattle.c_program.specs.Weight.{thread_functions, weight as weight_of};
+ghost use Rattle.code_following.specs.Typed.{IsThreadCode};
+ghost use Rattle.block_merge.specs.Maximal.{IsMaximal};
+ghost use Rattle.program_plans.specs.Steps.{AreCodes};
+
+use block_ir::code::ThreadCode;
+use block_merge::merge;
+use c_program::threads::weight;
+use c_program::tree::Program;
+use ir_lower::functions::lower_function;
+use sqlite_items::Items;
+use std::alloc::{AllocError, Global};
+use straight_code::fault::LoweringFault;
+
+/// The code of a thread function, as it is lowered.
+fn lowered(alloc: Global, program: &Program, function: usize) -> Result<ThreadCode, AllocError>
+    requires resolved { IsResolved (program_of program.now) }
+    requires limits { first_passed (program_of program.now) ≡ None }
+    requires runs { Contains (thread_functions (program_of program.now)) function }
+    ensures { IfOk result (IsThreadCode (program_of program.now) function) }
+{
+    match lower_function(alloc, program, function) {
+        Ok(code) => Ok(code),
+        Err(LoweringFault::Memory) => Err(AllocError),
+        // (within the limits no code is too large)
+        Err(LoweringFault::TooLarge) => unreachable!(),
+    }
+}
+
+/// The code of a thread function of a program of this weight, with maximal blocks: they have at most four operations for each unit
+/// of the weight.
+fn code(
+    alloc: Global,
+    program: &Program,
+    function: usize,
+    weight: u32,
+) -> Result<ThreadCode, AllocError>
+    requires resolved { IsResolved (program_of program.now) }
+    requires limits { first_passed (program_of program.now) ≡ None }
+    requires runs { Contains (thread_functions (program_of program.now)) function }
+    requires weight { weight ≡ capped (weight_of (program_of program.now)) }
+    ensures code { IfOk result (IsThreadCode (program_of program.now) function) }
+    ensures maximal { IfOk result (IsMaximal (4 * weight)) }
+{
+    let code = lowered(alloc, program, function)?;
+    let merged = merge(alloc, code, 4 * weight as usize)?;
+    Ok(merged)
+}
+
+/// The codes of a program's thread functions, in their order, with maximal blocks.
+pub fn codes(
+    alloc: Global,
+    program: &Program,
+    functions: &[usize],
+) -> Result<Items<ThreadCode>, AllocError>
+    requires resolved { IsResolved (program_of program.now) }
+    requires limits { first_passed (program_of program.now) ≡ None }
+    requires threads { functions.now ≡ thread_functions (program_of program.now) }
+    ensures { IfOk result (AreCodes (program_of program.now) functions.now) }
+{
+    let weight = weight(alloc, program)?;
+    let mut codes = Items::new(alloc);
+    for function in functions {
+        let code = code(alloc, program, *function, weight)?;
+        codes.push(code)?;
+    }
+    Ok(codes)
+}

@@ -1,0 +1,133 @@
+-- The modules of threads as they are laid out are what a program's parts ask of them.
+use Rattle.std.proofs.Common.{◌≡◌, ℕ, suc, ◌+◌, ◌<◌, Bool, true, false, if◌then◌else◌, List, [], ◌∷◌, ◌++◌, length, map, replicate, refl, sym, ap, ◌∙◌, subst, arith, length-append}
+use Rattle.std.proofs.lemmas.List.{length-map, length-replicate}
+use Rattle.hls_ints.specs.Residues.{bit_of}
+use Rattle.c_program.specs.Tree.{Program}
+use Rattle.bank_partition.specs.declared.banks.Spread.{Spread}
+use Rattle.block_refine.specs.Routines.{RoutineCode}
+use Rattle.netlist.specs.declared.netlist.Module.{Module}
+use Rattle.block_ir.specs.Asked.{Numbers, printer_core}
+use Rattle.leaf_machine.specs.Leaves.{Heard, Clock, Enable, Grant, Told, LeafPorts, IsHeard, IsPorted, AnswersAreLate, IsSlotBit, IsThreadLeaf}
+use Rattle.leaf_machine.specs.Steady.{IsSteadyThread, IsSteadyMain}
+use Rattle.core_ports.specs.Ports.{CorePort, IsRoutineModule}
+use Rattle.core_family.specs.Family.{Bank, Mutex, Prints, machine_at, port_of}
+use Rattle.placed_cores.specs.declared.wanted.Wanted.{Wanted}
+use Rattle.placed_cores.specs.Placing as placing
+use Rattle.thread_promise.specs.Globals.{bank_total}
+use Rattle.thread_promise.specs.Serving.{RunsCode}
+use Rattle.bank_memory.specs.Partition.{globals_of}
+use Rattle.bank_memory.proofs.Partitioned.{total}
+use Rattle.thread_sound.specs.Leaf.{parts_of, tells_of}
+use Rattle.thread_slots.specs.Services.{numbers_with}
+use Rattle.thread_slots.specs.declared.shape.Shape.{Shape}
+use Rattle.verilog_tree.specs.Scope.{is_clk}
+use Rattle.thread_layout.specs.Thread.{core_ports, cores_of, inputs_of, places_of, IsServed}
+use Rattle.thread_layout.specs.Leaf.{leaf_of}
+use Rattle.table_refine.specs.Wired.{promised_ports}
+use Rattle.program_cores.specs.Cores.{AreCoresOf}
+use Rattle.program_parts.specs.Parts.{core_count, numbers_of, IsBody}
+use Rattle.thread_bodies.specs.Bodies.{served_by, shape_of, laid_body, IsLaid, LaidAreBodies, LaidMainStays}
+use Rattle.thread_bodies.proofs.Ports.{parts_fit, told_fit, ports_are}
+
+-- ---- cores with as many parts and told numbers are the same to a leaf
+
+module _ (m : Module) (inputs : ℕ) (ports : LeafPorts) (cores : ℕ) (p q t u : ℕ → ℕ) (same_parts : (k : ℕ) → k < cores → q k ≡ p k) (same_told : (k : ℕ) → k < cores → u k ≡ t k) where
+  heard : (x : ℕ) (h : Heard) → IsHeard m inputs ports cores p t x h → IsHeard m inputs ports cores q u x h
+  heard x Clock h = h
+  heard x Enable h = h
+  heard x (Grant k) h = h
+  heard x (Told k j) h = (h.0, h.1, (let e = same_told k h.0 in let l = h.2 in omega (arith, e, l)), h.3)
+
+  ported : IsPorted m inputs ports cores p t → IsPorted m inputs ports cores q u
+  ported h = record {
+    all = λ x l. heard x (ports.heard x) (h.all x l);
+    enable = record { input = h.enable.input; is = h.enable.is };
+    grants = λ k l uses. let g = h.grants k l uses in record { input = g.input; is = g.is };
+    tells = λ k j l uses b. let e = same_told k l in let g = h.tells k j l uses (omega (arith, e, b)) in record { input = g.input; is = g.is };
+  }
+
+  answered : (late : ℕ → Bool) → AnswersAreLate m inputs ports cores p t late → AnswersAreLate m inputs ports cores q u late
+  answered late h = record {
+    leaf = h.leaf;
+    grants = h.grants;
+    tells = λ k j l uses b. let e = same_told k l in h.tells k j l uses (omega (arith, e, b));
+  }
+
+  slot_bit : (x : ℕ) → IsSlotBit m inputs ports cores p t x → IsSlotBit m inputs ports cores q u x
+  slot_bit x h = record { late = h.late; answered = answered h.late h.answered; enable = h.enable; bit = h.bit }
+
+  thread_leaf : IsThreadLeaf m inputs ports cores p t → IsThreadLeaf m inputs ports cores q u
+  thread_leaf h = record {
+    ported = ported h.ported;
+    clockless = h.clockless;
+    late = h.late;
+    answered = answered h.late h.answered;
+    asks = λ k j l uses b. let e = same_parts k l in h.asks k j l uses (omega (arith, e, b));
+    need = slot_bit ports.need h.need;
+    silent = h.silent;
+  }
+
+-- how many cores there are
+cores_count : (w : Wanted) → core_count w ≡ suc (printer_core (numbers_of w))
+cores_count w =
+    let one = length-append (map Bank w.banks) (map Mutex w.mutexes ++ (replicate w.barriers (placing.barrier w) ++ (placing.forks_shapes w ++ (Prints w.printer ∷ [])))) in
+    let two = length-append (map Mutex w.mutexes) (replicate w.barriers (placing.barrier w) ++ (placing.forks_shapes w ++ (Prints w.printer ∷ []))) in
+    let three = length-append (replicate w.barriers (placing.barrier w)) (placing.forks_shapes w ++ (Prints w.printer ∷ [])) in
+    let banks = length-map w.banks Bank in
+    let mutexes = length-map w.mutexes Mutex in
+    let barriers = length-replicate w.barriers (placing.barrier w) in
+    let last = last_count w.ids in
+    omega (arith, one, two, three, banks, mutexes, barriers, last)
+  where
+    last_count : (on : Bool) → length ((if on then placing.forks w ∷ [] else []) ++ (Prints w.printer ∷ [])) ≡ bit_of on + 1
+    last_count true = refl
+    last_count false = refl
+
+module _ (P : Program) (spreads : List Spread) (w : Wanted) (cores : AreCoresOf P spreads w) where
+  same_numbers : numbers_with (bank_total spreads) (served_by w) ≡ numbers_of w
+  same_numbers = ap (λ n. numbers_with n (served_by w)) (total P w.threads spreads w.banks cores.banked)
+
+  -- as many cores as the shape has
+  pub same_count : (main : Bool) (name : List ℕ) → cores_of (shape_of P spreads w main name) ≡ core_count w
+  same_count main name = ap (λ (n : Numbers). suc (printer_core n)) same_numbers ∙ sym (cores_count w)
+
+  module _ (main : Bool) (name : List ℕ) (c : RoutineCode) (m : Module) (other : is_clk name ≡ false) (served : IsServed (shape_of P spreads w main name) c.code c.plan)
+      (laid : IsLaid (shape_of P spreads w main name) c m) where
+    abbrev shape : Shape
+    shape = shape_of P spreads w main name
+
+    ports : core_ports shape ≡ map port_of (placing.cores_of w)
+    ports = ports_are P spreads w cores.banked served.spreads main name
+
+    count : cores_of shape ≡ core_count w
+    count = same_count main name
+
+    parts_same : (k : ℕ) → k < cores_of shape → (machine_at (placing.cores_of w) k).parts ≡ parts_of (core_ports shape) k
+    parts_same k l = parts_fit (placing.cores_of w) k (let n = count in omega (arith, n, l)) ∙ ap (λ (ps : List CorePort). parts_of ps k) (sym ports)
+
+    told_same : (k : ℕ) → k < cores_of shape → (machine_at (placing.cores_of w) k).told ≡ tells_of (core_ports shape) k
+    told_same k l = told_fit (placing.cores_of w) k (let n = count in omega (arith, n, l)) ∙ ap (λ (ps : List CorePort). tells_of ps k) (sym ports)
+
+    is_body : IsBody P spreads w main c name (laid_body shape c m)
+    is_body = record {
+      routine = subst (λ (ps : List CorePort). IsRoutineModule name ps m (inputs_of shape) (leaf_of shape m)) ports (laid.routine other served);
+      leaf = subst (λ n. IsThreadLeaf m (inputs_of shape) (leaf_of shape m) n (λ k. (machine_at (placing.cores_of w) k).parts) (λ k. (machine_at (placing.cores_of w) k).told)) count
+          (thread_leaf m (inputs_of shape) (leaf_of shape m) (cores_of shape) (parts_of (core_ports shape)) (λ k. (machine_at (placing.cores_of w) k).parts)
+          (tells_of (core_ports shape)) (λ k. (machine_at (placing.cores_of w) k).told) parts_same told_same (laid.leaf served).thread);
+      done = subst (λ n. IsSlotBit m (inputs_of shape) (leaf_of shape m) n (λ k. (machine_at (placing.cores_of w) k).parts) (λ k. (machine_at (placing.cores_of w) k).told)
+          (leaf_of shape m).done) count
+          (slot_bit m (inputs_of shape) (leaf_of shape m) (cores_of shape) (parts_of (core_ports shape)) (λ k. (machine_at (placing.cores_of w) k).parts)
+          (tells_of (core_ports shape)) (λ k. (machine_at (placing.cores_of w) k).told) parts_same told_same (leaf_of shape m).done (laid.leaf served).done);
+      runs = λ f. subst (λ (n : Numbers). RunsCode (globals_of P) spreads n main f c.code c.plan m (places_of (inputs_of shape) c.code c.plan) (promised_ports (leaf_of shape m)))
+          same_numbers (laid.serves served f);
+      beats = (laid.steady served).beat;
+      steady = subst (λ n. IsSteadyThread n m (leaf_of shape m)) count (laid.steady served).steady;
+    }
+
+pub laid_are_bodies : LaidAreBodies
+laid_are_bodies P spreads w main name c m cores other served laid = is_body P spreads w cores main name c m other served laid
+
+pub laid_main_stays : LaidMainStays
+laid_main_stays P spreads w name c m cores served laid =
+    let steady = laid.steady served in
+    subst (λ n. IsSteadyMain n m (leaf_of (shape_of P spreads w true name) m)) (same_count P spreads w cores true name) (record { thread = steady.steady; ended = steady.ended refl })

@@ -1,0 +1,19 @@
+//! The modules of a program's threads, as they are laid out beside its cores.
+#![tactic(auto)]
+
+mod threads;
+
+ghost use Rattle.thread_bodies.specs.Bodies.{CodesAreServed, LaidAreBodies, LaidMainStays};
+
+pub use threads::modules;
+
+/// A module that is laid out for a thread, with ports for all cores of a program, is what the program's parts ask of it.
+pub fn laid_are_bodies()
+    ensures bodies { LaidAreBodies }
+    ensures main { LaidMainStays }
+{}
+
+/// The typed code of a thread function, by a right plan, is one that `module` lays out beside the cores of a program.
+pub fn codes_are_served()
+    ensures { CodesAreServed }
+{}
