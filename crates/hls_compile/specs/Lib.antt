@@ -1,5 +1,3 @@
+pub mod Banks
 pub mod Compiled
-pub mod Parts
 pub mod Plans
-pub mod Sites
-pub mod Stops

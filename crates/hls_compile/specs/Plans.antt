@@ -1,39 +1,39 @@
--- The plans of the thread functions of a program, and the modules that run their codes by them.
-use Rattle.std.specs.Prelude.{◌≡◌, List, [], ◌∷◌, Some, codes, string_bytes}
+-- The plans of the thread functions of a program, and the modules of a net that run their codes by them.
+use Rattle.std.specs.Prelude.{◌≡◌, ℕ, nat_eq, List, Some, slice_get}
 use Rattle.c_program.specs.Tree.{Program}
-use Rattle.block_ir.specs.declared.code.ThreadCode.{ThreadCode}
-use Rattle.block_ir.specs.declared.plan.Planned.{Planned}
-use Rattle.code_following.specs.Following.{IsLowered}
-use Rattle.code_following.specs.Typed.{IsTypedCode}
+use Rattle.c_program.specs.Weight.{thread_functions}
 use Rattle.bank_partition.specs.declared.banks.Spread.{Spread}
 use Rattle.bank_partition.specs.Shapes.{spreads_from}
+use Rattle.global_naming.specs.Naming.{AreCounts}
 use Rattle.netlist.specs.declared.netlist.Module.{Module}
 use Rattle.netlist.specs.declared.netlist.Netlist.{Netlist}
 use Rattle.verilog_meaning.specs.Names.{module_named}
-use Rattle.least_plan.specs.Planned.{IsPlanned}
+use Rattle.placed_cores.specs.declared.wanted.Wanted.{Wanted}
+use Rattle.program_cores.specs.Cores.{AreCoresOf}
+use Rattle.thread_numbers.specs.Numbers.{function_module}
 use Rattle.thread_layout.specs.Thread.{IsServed}
-use Rattle.hls_compile.specs.declared.plans.PlannedFunction.{PlannedFunction}
-use Rattle.hls_compile.specs.Parts.{main_shape, IsMadeOf}
+use Rattle.program_plans.specs.declared.PlannedFunction.{PlannedFunction}
+use Rattle.program_plans.specs.Plans.{routine_of, ArePlanned}
+use Rattle.thread_bodies.specs.Bodies.{shape_of, IsLaid}
 
--- the banks of the globals, where main is the one thread
-abbrev pub main_spreads : Program → List Spread
-main_spreads P = spreads_from [] 0 0 P.globals
+-- beside these banks and cores, the module `fn_NAME` of the net, NAME being that of the thread function f, runs the function's code by its plan
+pub record RunsPlanned (P : Program) (spreads : List Spread) (w : Wanted) (n : Netlist) (f : ℕ) (p : PlannedFunction) : Type 0 where
+  pub module_ : Module
+  pub listed : module_named n.modules (function_module P f) ≡ Some module_
+  pub served : IsServed (shape_of P spreads w (nat_eq f P.main) (function_module P f)) p.code p.plan
+  pub laid : IsLaid (shape_of P spreads w (nat_eq f P.main) (function_module P f)) (routine_of p) module_
 
--- the module `fn_main` of the net runs the code by the plan
-pub record RunsMain (P : Program) (n : Netlist) (code : ThreadCode) (plan : Planned) : Type 0 where
-  pub of_main : Module
-  pub listed : module_named n.modules (codes "fn_main") ≡ Some of_main
-  pub served : IsServed (main_shape P (main_spreads P)) code plan
-  pub made : IsMadeOf P (main_spreads P) code plan of_main
+-- the globals have banks by the numbers of hardware threads that name them, and beside these and the cores of the program each thread function has such a
+-- module
+pub record RunPlanned (P : Program) (n : Netlist) (plans : List PlannedFunction) : Type 0 where
+  pub counts : List ℕ
+  pub counted : AreCounts P counts
+  pub cores : Wanted
+  pub are_cores : AreCoresOf P (spreads_from counts 0 0 P.globals) cores
+  pub each : (k f : ℕ) (p : PlannedFunction) → slice_get (thread_functions P) k ≡ Some f → slice_get plans k ≡ Some p →
+      RunsPlanned P (spreads_from counts 0 0 P.globals) cores n f p
 
--- main: its code does what main does, the calls in it inlined; the plan is the one plan of this code; and the net runs the code by the plan
-pub record IsPlannedMain (P : Program) (n : Netlist) (f : PlannedFunction) : Type 0 where
-  pub named : string_bytes f.name ≡ codes "main"
-  pub lowered : IsLowered P P.main f.code
-  pub typed : IsTypedCode P P.main f.code
-  pub planned : IsPlanned f.code f.plan
-  pub runs : RunsMain P n f.code f.plan
-
--- THE PLANS: main is the one thread function
-abbrev pub ArePlans : Program → Netlist → List PlannedFunction → Type 0
-ArePlans P n plans = (f : PlannedFunction) × (plans ≡ f ∷ []) × IsPlannedMain P n f
+-- THE PLANS: of each thread function, main first, the name, the code, with the calls in it inlined, and the one plan of this code; and the net runs them
+pub record ArePlans (P : Program) (n : Netlist) (plans : List PlannedFunction) : Type 0 where
+  pub planned : ArePlanned P plans
+  pub run : RunPlanned P n plans

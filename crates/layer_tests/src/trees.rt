@@ -40,26 +40,6 @@ pub fn assign(alloc: Global, right: RightSide) -> Result<Box<Statement>, AllocEr
     on_heap(alloc, Statement::Assign(0, place, right))
 }
 
-/// `x = value;`
-pub fn assign_number(alloc: Global, value: i128) -> Result<Box<Statement>, AllocError> {
-    let right = Box::new(alloc, number(value))?;
-    assign(alloc, RightSide::Value(right))
-}
-
-/// `return 0;`
-pub fn return_zero(alloc: Global) -> Result<Box<Statement>, AllocError> {
-    let zero = Box::new(alloc, number(0))?;
-    on_heap(alloc, Statement::Return(0, Some(RightSide::Value(zero))))
-}
-
-pub fn before(
-    alloc: Global,
-    first: Box<Statement>,
-    rest: Box<Statement>,
-) -> Result<Box<Statement>, AllocError> {
-    on_heap(alloc, Statement::Sequence(first, rest))
-}
-
 /// A call of a function with one argument.
 pub fn call(alloc: Global, function: u32, argument: Expression) -> Result<RightSide, AllocError> {
     let mut arguments = Vec::new(alloc);

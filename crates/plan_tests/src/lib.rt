@@ -1,6 +1,6 @@
 //! Tests of the layers of the planner and of what is laid out by its plans: starts, packed rows, the table of a block, its units and
-//! registers, the plan of a code, plans side by side, and the module of a thread. They stand in a crate of their own, since a crate
-//! with tests is proved twice.
+//! registers, the plan of a code, plans side by side, those of a program, and the module of a thread. They stand in a crate of
+//! their own, since a crate with tests is proved twice.
 #![tactic(auto)]
 
 #[cfg(test)]
@@ -9,6 +9,8 @@ mod bindings;
 mod packings;
 #[cfg(test)]
 mod plans;
+#[cfg(test)]
+mod programs;
 #[cfg(test)]
 mod schedules;
 #[cfg(test)]

@@ -10,7 +10,7 @@ use netlist::netlist::Module;
 use sqlite_items::Items;
 use std::alloc::{AllocError, Global};
 use std::test::Fail;
-use thread_slots::shape::{Printer, Shape};
+use thread_slots::shape::{Printer, Served, Shape};
 use verilog_tree::name::Identifier;
 
 /// `x = x * 7;`
@@ -70,16 +70,21 @@ fn planned(alloc: Global) -> Result<Planned, AllocError> {
 }
 
 fn shape(alloc: Global) -> Result<Shape, AllocError> {
-    let printer = Printer {
-        site_width: 4,
-        values: 2,
+    let served = Served {
+        mutexes: 0,
+        barriers: 0,
+        ids: false,
+        printer: Printer {
+            site_width: 4,
+            values: 2,
+        },
     };
     Ok(Shape {
         name: Identifier::from_text(alloc, "fn_main")?,
         is_main: true,
         globals: Items::new(alloc),
         spreads: Items::new(alloc),
-        printer,
+        served,
     })
 }
 
@@ -91,14 +96,15 @@ fn built(alloc: Global) -> Result<Module, AllocError> {
 }
 
 /// Inputs stand first: the clock, whether it is enabled, and whether the printer grants. Then the registers: a stage of
-/// four, a state of two, the beat and the variable. Whether it is asked, the site and both values, need and done stand last.
+/// seven numbers, of which three are those of meetings, a state of two, the beat and the variable. Whether the printer is
+/// asked, the site and both values, need and done stand last.
 #[test]
 fn ports_and_registers(rt: HostRuntime) -> Result<(), Fail> {
     let built = built(rt.alloc())?;
     assert!(rt; built.name.as_str() == "fn_main");
     let signals = built.signals.as_slice();
     assert!(rt; signals.iter().filter(|s| s.is_output).count() == 6);
-    for (place, width) in [(3, 2), (4, 1), (6, 32)] {
+    for (place, width) in [(3, 3), (4, 1), (6, 32)] {
         assert!(rt; matches!(signals.get(place), Some(register) if register.width == width));
     }
     for (place, name) in [

@@ -1,0 +1,63 @@
+// The hardware of a program.
+
+ghost use Rattle.std.specs.Prelude.{◌≡◌, None, IfOk};
+ghost use Rattle.c_limits.specs.Counts.{first_passed};
+ghost use Rattle.c_program.specs.Plain.{program_of};
+ghost use Rattle.c_program.specs.Resolved.{IsResolved};
+ghost use Rattle.program_parts.specs.Parts.{IsGoodText};
+ghost use Rattle.program_plans.specs.Plans.{ArePlanned};
+ghost use Rattle.thread_numbers.specs.Numbers.{module_numbers};
+ghost use Rattle.hls_compile.specs.Banks.{AreBanksOf};
+ghost use Rattle.hls_compile.specs.Plans.{RunPlanned};
+
+use bank_partition::banks::{Banks, partition};
+use c_program::threads::thread_functions;
+use c_program::tree::Program;
+use global_naming::naming::naming_threads;
+use program_cores::wanted;
+use program_plans::PlannedFunction;
+use sqlite_items::Items;
+use std::alloc::{AllocError, Global};
+use table_text::{Written, verilog};
+use thread_bodies::modules;
+use thread_numbers::module_numbers;
+
+/// The banks of the globals, by the numbers of hardware threads that name them.
+fn banks(alloc: Global, program: &Program) -> Result<Banks, AllocError>
+    requires resolved { IsResolved (program_of program.now) }
+    requires limits { first_passed (program_of program.now) ≡ None }
+    ensures { IfOk result (AreBanksOf (program_of program.now)) }
+{
+    let threads = naming_threads(alloc, program)?;
+    let banks = partition(alloc, program, threads.as_slice())?;
+    Ok(banks)
+}
+
+/// For each hardware thread the number of its module.
+fn numbers(alloc: Global, program: &Program) -> Result<Items<usize>, AllocError>
+    ensures { IfOk result (λ numbers. numbers ≡ module_numbers (program_of program.now)) }
+{
+    let functions = thread_functions(alloc, program)?;
+    let numbers = module_numbers(alloc, program, functions.as_slice())?;
+    Ok(numbers)
+}
+
+/// The net of a resolved program within the limits, by the plans of its thread functions, and its Verilog.
+pub fn written(
+    alloc: Global,
+    program: &Program,
+    plans: &[PlannedFunction],
+) -> Result<Written, AllocError>
+    requires resolved { IsResolved (program_of program.now) }
+    requires limits { first_passed (program_of program.now) ≡ None }
+    requires planned { ArePlanned (program_of program.now) plans.now }
+    ensures good { IfOk result (λ w. IsGoodText (program_of program.now) w.net w.text) }
+    ensures run { IfOk result (λ w. RunPlanned (program_of program.now) w.net plans.now) }
+{
+    let banks = banks(alloc, program)?;
+    let wanted = wanted(alloc, program, &banks)?;
+    let modules = modules(alloc, program, banks.spreads.as_slice(), &wanted, plans)?;
+    let numbers = numbers(alloc, program)?;
+    let written = verilog(alloc, numbers, modules, &wanted)?;
+    Ok(written)
+}

@@ -1,0 +1,7 @@
+use Rattle.c_program.specs.Plain.{program_of}
+use Rattle.accepted_program.proofs.Laws.{resolved_law}
+use Rattle.plan_tests.proofs.programs.plans_of.Goals as goal
+
+pub plan_functions-requires-clause-resolved : goal.plan_functions-requires-clause-resolved
+plan_functions-requires-clause-resolved g c κs within =
+    resolved_law c.as_bytes.result.now (program_of c.in_ok-accepted.accepted.program) c.in_ok-accepted.accepted.weight c.in_ok-accepted.ensures.ok

@@ -1,3 +1,0 @@
-pub mod Layouts
-pub mod Table
-pub mod Whole
