@@ -24,22 +24,22 @@ in_each P law r st top e =
 pub settles_alike : SettlesAlike
 settles_alike = in_each (λ modules top. (h : Valuation) (c : Choice) (v w : Valuation) → IsSettled modules top h c v → IsSettled modules top h c w
     → (path : Path) (m : Module) (x : ℕ) (s : Signal) → IsAt modules top path m x s → (v path).signal x ≡ (w path).signal x)
-    (λ modules top rank is statements. settles modules top rank is statements)
+    (λ modules top rank is statements. settles modules top rank is)
 
 pub cycle_once : CycleOnce
 cycle_once = in_each (λ modules top. (h g k : Valuation) (c : Choice) (out more : List ℕ) → Cycle modules top h c g out → Cycle modules top h c k more
     → IsSameIn modules top [] g k × (out ≡ more))
-    (λ modules top rank is statements. once modules top rank is statements)
+    (λ modules top rank is. once modules top (settles modules top rank is))
 
 pub cycle_alike : CycleAlike
 cycle_alike = in_each (λ modules top. (h l g k : Valuation) (c : Choice) (out more : List ℕ) → IsSameIn modules top [] h l → Cycle modules top h c g out → Cycle modules top l c k more
     → IsSameIn modules top [] g k × (out ≡ more))
-    (λ modules top rank is statements. alike modules top rank is statements)
+    (λ modules top rank is. alike modules top (settles modules top rank is))
 
 pub runs_once : RunsOnce
 runs_once = in_each (λ modules top. (choices : List Choice) (h l g k : Valuation) (out more : List ℕ) → IsSameIn modules top [] h l → Runs modules top h choices g out
     → Runs modules top l choices k more → IsSameIn modules top [] g k × (out ≡ more))
-    (λ modules top rank is statements. runs_alike modules top rank is statements)
+    (λ modules top rank is. runs_alike modules top (settles modules top rank is))
 
 pub shows_once : ShowsOnce
 shows_once r st top e h l c v w same a b path m x s at =

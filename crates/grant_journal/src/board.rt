@@ -76,7 +76,7 @@ impl<'a, J: Case> Board<'a, J> {
             most,
             of: _,
         } = self;
-        if let Some(verdict) = judge(sim, trial, journal.as_slice().len(), *most) {
+        if let Some(verdict) = judge(sim, trial, prefer, journal.as_slice().len(), *most) {
             return Next::Ended(verdict);
         }
         Next::Thread(preferred(sim, trial, prefer))
@@ -116,7 +116,7 @@ impl<'a, J: Case> Board<'a, J> {
             most,
             of: _,
         } = self;
-        if let Some(verdict) = judge(sim, trial, journal.as_slice().len(), *most) {
+        if let Some(verdict) = judge(sim, trial, thread, journal.as_slice().len(), *most) {
             return Ok(Answer::Ended(verdict));
         }
         if !sim.same_slot(thread, start.sim()) {

@@ -17,7 +17,8 @@ use Rattle.hardware_threads.specs.Run.{IsRan}
 named : (modules : List Module) (P : Module → Type 0) → InTop modules P → (top : Module) → top_of modules ≡ Some top → P top
 named modules P o top e = subst P (same_Some o.top top (sym o.is_top ∙ e)) o.holds
 
-pub ran : (modules : List Module) (count most : ℕ) (journal : List Entry) (output : List ℕ) (v : Verdict) → IsOver modules count most journal v → IsFinished modules count most journal output
+pub ran : (modules : List Module) (count most : ℕ) (journal : List Entry) (output : List ℕ) (v : Verdict) → IsOver modules count most journal v
+    → IsFinished modules count most journal output
     → IsRan modules count most journal output v
 ran modules count most journal output v over fin =
     let top = (fin.ends).top in
@@ -34,8 +35,8 @@ ran modules count most journal output v over fin =
       };
     }
 
-pub ran_at : (modules : List Module) (count most : ℕ) (old new journal : List Entry) (output : List ℕ) (v : Verdict) → IsOver modules count most old v ×
-    (new ≡ old) → journal ≡ new → IsFinished modules count most new output
+pub ran_at : (modules : List Module) (count most : ℕ) (old new journal : List Entry) (output : List ℕ) (v : Verdict) → IsOver modules count most old v × (new ≡ old)
+    → journal ≡ new → IsFinished modules count most new output
     → IsRan modules count most journal output v
 ran_at modules count most old new journal output v over e fin =
     subst (λ (j : List Entry). IsRan modules count most j output v) (sym e)

@@ -184,10 +184,12 @@ fn work_beside<'a, J: Case + Send + Sync, R: Threads + Wait + Sync, G: Gate + Sy
         thread::join(
             rt,
             ||
-                requires { IsSync R.row × IsSync G.row × IsSend J.row × IsSync J.row × Frame J.modules J.threads J.layout × (first + length left.now ≤ J.threads) × (first + length left.now ≤ 64) }
+                requires { IsSync R.row × IsSync G.row × IsSend J.row × IsSync J.row × Frame J.modules J.threads J.layout
+                    × (first + length left.now ≤ J.threads) × (first + length left.now ≤ 64) }
             { work_beside(rt, shared, gate, first, left) },
             ||
-                requires { IsSync R.row × IsSync G.row × IsSend J.row × IsSync J.row × Frame J.modules J.threads J.layout × (next + length right.now ≤ J.threads) × (next + length right.now ≤ 64) }
+                requires { IsSync R.row × IsSync G.row × IsSend J.row × IsSync J.row × Frame J.modules J.threads J.layout
+                    × (next + length right.now ≤ J.threads) × (next + length right.now ≤ 64) }
             { work_beside(rt, shared, gate, next, right) },
         );
     }

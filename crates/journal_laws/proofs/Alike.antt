@@ -16,7 +16,7 @@ use Rattle.slot_sim.proofs.Moving.{state_in}
 use Rattle.journal_laws.specs.declared.verdict.Verdict.{Verdict}
 use Rattle.journal_laws.specs.declared.verdict.Verdict.TheVariants as verdicts
 use Rattle.journal_laws.specs.Journal.{CanMove, GoesOn, Ends, Judged}
-use Rattle.journal_laws.specs.Steps.{OfTop, IsFirstFound, IsPreferred}
+use Rattle.journal_laws.specs.Steps.{OfTop, IsFirstFound, IsMover, IsPreferred}
 use Rattle.journal_laws.proofs.Moving.{changes_from}
 use Rattle.journal_laws.proofs.Judging.{can_move, moving, not_shown, is_shown, stuck_none, cannot_stuck}
 
@@ -108,9 +108,9 @@ module _ (r s : Running) (net : IsSameNet r s) (state : IsSameState r s) (prefer
         comes;
   }
 
-  pub preferred_never : IsFirstFound s 0 prefer None → (i : ℕ) × (i < threads_of r.modules) × Moving (threads_of r.modules) i r → ⊥
-  preferred_never f m =
-      ⊎_elim (λ l. f m.0 (omega arith) l (moving_on r s net state m.0 m.2)) (λ l. none m.0 l (let h = m.1 in omega (arith, h, e)) m.2) (below_or m.0 prefer)
+  pub mover_wrapped : (o : Option ℕ) → prefer ≤ threads_of r.modules → IsFirstFound s 0 prefer o → IsMover r prefer o
+  mover_wrapped None within f = λ k l m. ⊎_elim (λ low. f k (omega arith) low (moving_on r s net state k m)) (λ high. none k high (omega (arith, l, e)) m) (below_or k prefer)
+  mover_wrapped (Some i) within f = preferred_wrapped i within f
 
 -- ---- the verdict
 

@@ -36,6 +36,11 @@ pub record IsPreferred (r : Running) (prefer i : ℕ) : Type 0 where
   pub moves : Moving (threads_of r.modules) i r
   pub none : (k : ℕ) → k < threads_of r.modules → ComesFirst prefer i k → Moving (threads_of r.modules) k r → ⊥
 
+-- what a search from a preferred one on, cyclically, finds
+abbrev pub IsMover : Running → ℕ → Option ℕ → Type 0
+IsMover r prefer None = (k : ℕ) → k < threads_of r.modules → Moving (threads_of r.modules) k r → ⊥
+IsMover r prefer (Some i) = IsPreferred r prefer i
+
 -- the next cycle of thread i is open, and changes its slot
 abbrev pub CanOpen : ℕ → Running → Type 0
 CanOpen i r = TellsNeed (threads_of r.modules) i r true × Moving (threads_of r.modules) i r

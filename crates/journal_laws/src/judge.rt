@@ -6,7 +6,7 @@ ghost use Rattle.sim_layout.specs.Running.{IsSameNet, IsSameState};
 ghost use Rattle.slot_sim.specs.Slots.{IsThreadedIn, Moving};
 ghost use Rattle.sim_layout.specs.Running.{state_of};
 ghost use Rattle.journal_laws.specs.Journal.{Judged};
-ghost use Rattle.journal_laws.specs.Steps.{OfTop, IsFirstFound, IsPreferred};
+ghost use Rattle.journal_laws.specs.Steps.{OfTop, IsFirstFound, IsMover, IsPreferred};
 
 use crate::verdict::Verdict;
 use slot_sim::running::SlotSim;
@@ -35,6 +35,23 @@ pub fn first_mover<'a>(
     None
 }
 
+/// The first thread from `prefer` on, cyclically, that can move, or none where none can. The state stays.
+pub fn mover<'a>(sim: &mut SlotSim<'a>, trial: &mut SlotSim<'a>, prefer: usize) -> Option<usize>
+    requires prefer { prefer ≤ threads_of sim.old.modules }
+    requires threaded { IsThreadedIn sim.old.modules (threads_of sim.old.modules) }
+    requires net { IsSameNet sim.old trial.old }
+    ensures net { IsSameNet sim.old sim.new }
+    ensures trial { IsSameNet trial.old trial.new }
+    ensures found { IsMover sim.old prefer result }
+    ensures state { IsSameState sim.old sim.new }
+{
+    let threads = sim.threads();
+    if let Some(thread) = first_mover(sim, trial, prefer, threads) {
+        return Some(thread);
+    }
+    first_mover(sim, trial, 0, prefer)
+}
+
 /// The first thread from `prefer` on, cyclically, that can move, where one can. The state stays.
 pub fn preferred<'a>(sim: &mut SlotSim<'a>, trial: &mut SlotSim<'a>, prefer: usize) -> usize
     requires prefer { prefer ≤ threads_of sim.old.modules }
@@ -46,23 +63,22 @@ pub fn preferred<'a>(sim: &mut SlotSim<'a>, trial: &mut SlotSim<'a>, prefer: usi
     ensures first { IsPreferred sim.old prefer result }
     ensures state { IsSameState sim.old sim.new }
 {
-    let threads = sim.threads();
-    if let Some(thread) = first_mover(sim, trial, prefer, threads) {
-        return thread;
-    }
-    match first_mover(sim, trial, 0, prefer) {
+    match mover(sim, trial, prefer) {
         Some(thread) => thread,
         None => unreachable!(),
     }
 }
 
-/// The verdict on a state after so many of at most `most` entries, or none. The state stays.
+/// The verdict on a state after so many of at most `most` entries, or none. A thread that can move is looked for from `prefer` on. The
+/// state stays.
 pub fn judge<'a>(
     sim: &mut SlotSim<'a>,
     trial: &mut SlotSim<'a>,
+    prefer: usize,
     entries: usize,
     most: usize,
 ) -> Option<Verdict>
+    requires prefer { prefer ≤ threads_of sim.old.modules }
     requires threaded { IsThreadedIn sim.old.modules (threads_of sim.old.modules) }
     requires net { IsSameNet sim.old trial.old }
     ensures net { IsSameNet sim.old sim.new }
@@ -70,12 +86,12 @@ pub fn judge<'a>(
     ensures verdict { OfTop sim.old (λ modules top count. Judged modules top count (state_of sim.old) entries most result) }
     ensures state { IsSameState sim.old sim.new }
 {
-    let threads = sim.threads();
-    let mover = first_mover(sim, trial, 0, threads);
+    let _ = sim.threads();
+    let found = mover(sim, trial, prefer);
     if sim.done() {
         return Some(Verdict::Done);
     }
-    let Some(_) = mover else {
+    let Some(_) = found else {
         return Some(Verdict::Stuck);
     };
     if entries == most {

@@ -65,18 +65,21 @@ module _ (old r : Running) (st : Stands old) (e : Entry) (net : IsSameNet old r)
 
   pub no_open : OfTop r (λ ms top n. CannotRedo ms top n e.thread true (needed e.opened) (state_of r)) → OfTop old (λ ms top n. IsNoEntry ms top n e (state_of old))
   no_open cannot =
-      let o = of_top (λ ms top n. CannotRedo ms top n e.thread true (needed e.opened) (state_of r)) old (of_net (λ ms top n. CannotRedo ms top n e.thread true
-      (needed e.opened) (state_of r)) old r net cannot) top done.is_top in
+      let o = of_top (λ ms top n. CannotRedo ms top n e.thread true (needed e.opened) (state_of r)) old
+      (of_net (λ ms top n. CannotRedo ms top n e.thread true (needed e.opened) (state_of r)) old r net cannot) top done.is_top in
       record {
         top = top;
         is_top = done.is_top;
         holds = λ g l.
             let same : IsSame ms top n (state_of r) l.between =
-            moves_once old st top done.is_top n 0 e.thread e.closed (state_of old) (state_of old) (state_of r) l.between (same_refl ms top (state_of old)) (done.holds).moves l.closed in
-            o g (moves_from ms top n e.thread 1 (needed e.opened) (state_of r) l.between g same (subst (λ (k : ℕ). Moves ms top n 1 e.thread k l.between g) (needed_is ms top n e.opened) l.open_));
+            moves_once old st top done.is_top n 0 e.thread e.closed (state_of old) (state_of old) (state_of r) l.between (same_refl ms top (state_of old))
+            (done.holds).moves l.closed in
+            o g (moves_from ms top n e.thread 1 (needed e.opened) (state_of r) l.between g same
+            (subst (λ (k : ℕ). Moves ms top n 1 e.thread k l.between g) (needed_is ms top n e.opened) l.open_));
       }
 
-  pub entry_done : (new : Running) (after : List ℕ) (cycles : ℕ) → AreDone r new e.thread true (needed e.opened) now after → e.thread < n → e.closed ≤ 4096 → (0 < e.closed) ⊎ (e.opened ≡ true)
+  pub entry_done : (new : Running) (after : List ℕ) (cycles : ℕ) → AreDone r new e.thread true (needed e.opened) now after → e.thread < n → e.closed ≤ 4096
+      → (0 < e.closed) ⊎ (e.opened ≡ true)
       → cycles ≡ e.closed + needed e.opened → OfTop old (λ ms top n. IsEntryRedone ms top n e (state_of old) (state_of new) before after cycles)
   entry_done new after cycles opened below few some many =
       let P : Type 0 = AreRedone ms top n e.thread true (needed e.opened) (state_of r) (state_of new) now after in
@@ -96,24 +99,26 @@ module _ (old r : Running) (st : Stands old) (e : Entry) (net : IsSameNet old r)
           legal = record { thread = below; most = few; some = one; between = state_of r; closed = d.moves; open_ = open_ };
           bytes = d.bytes ++ x.bytes;
           runs = subst (λ (cs : List Choice). Runs ms top (state_of old) cs (state_of new) (d.bytes ++ x.bytes)) choices
-              (runs_append ms top (times ms top n e.closed (alone e.thread)) (times ms top n (needed e.opened) (alone e.thread)) (state_of old) (state_of r)
-              (state_of new) d.bytes x.bytes d.runs x.runs);
+              (runs_append ms top (times ms top n e.closed (alone e.thread)) (times ms top n (needed e.opened) (alone e.thread)) (state_of old) (state_of r) (state_of new)
+              d.bytes x.bytes d.runs x.runs);
           appended = x.appended ∙ ap (λ z. z ++ x.bytes) d.appended ∙ append_assoc before d.bytes x.bytes;
           many = many ∙ sums e.closed e.opened ∙ sym (long_times ms top n (if e.opened then e.closed + 1 else e.closed) (alone e.thread));
         };
       }
 
 -- entries that are not legal at sight
-pub no_entry : (old : Running) → Stands old → (e : Entry) → ((g : Valuation) (top : Module) → IsLegalEntry old.modules top (threads_of old.modules) (state_of old)
-    (entry old.modules top (threads_of old.modules) e) g → ⊥)
+pub no_entry : (old : Running) → Stands old → (e : Entry) → ((g : Valuation) (top : Module)
+    → IsLegalEntry old.modules top (threads_of old.modules) (state_of old) (entry old.modules top (threads_of old.modules) e) g → ⊥)
     → OfTop old (λ ms top n. IsNoEntry ms top n e (state_of old))
 no_entry old st e never = record { top = st.top; is_top = st.is_top; holds = λ g l. never g st.top l }
 
-pub no_closed : (old : Running) (e : Entry) → OfTop old (λ ms top n. CannotRedo ms top n e.thread false e.closed (state_of old)) → OfTop old (λ ms top n. IsNoEntry ms top n e (state_of old))
+pub no_closed : (old : Running) (e : Entry) → OfTop old (λ ms top n. CannotRedo ms top n e.thread false e.closed (state_of old))
+    → OfTop old (λ ms top n. IsNoEntry ms top n e (state_of old))
 no_closed old e cannot = record { top = cannot.top; is_top = cannot.is_top; holds = λ g l. cannot.holds l.between l.closed }
 
 -- an entry has no more than 4,097 cycles
-pub few_cycles : (r : Running) (e : Entry) (h g : Valuation) (before after : List ℕ) (cycles : ℕ) → OfTop r (λ ms top n. IsEntryRedone ms top n e h g before after cycles) → cycles ≤ 4097
+pub few_cycles : (r : Running) (e : Entry) (h g : Valuation) (before after : List ℕ) (cycles : ℕ) → OfTop r (λ ms top n. IsEntryRedone ms top n e h g before after cycles)
+    → cycles ≤ 4097
 few_cycles r e h g before after cycles o =
     let x = o.holds in
     let most = (x.legal).most in

@@ -26,8 +26,8 @@ use Rattle.journal_replay.specs.Replays.{needed, MayStep, AreRedone, CannotRedo}
 
 -- ---- what need tells, either way
 
-pub need_at : (r : Running) (n i : ℕ) → IsThreadedIn r.modules n → i < n → (top : Module) → top_of r.modules ≡ Some top → (g : Valuation)
-    (out : List ℕ) → Cycle r.modules top (state_of r) (alone i) g out
+pub need_at : (r : Running) (n i : ℕ) → IsThreadedIn r.modules n → i < n → (top : Module) → top_of r.modules ≡ Some top → (g : Valuation) (out : List ℕ)
+    → Cycle r.modules top (state_of r) (alone i) g out
     → (b : Bool) → TellsNeed n i r b → Needs r.modules top n (state_of r) (alone i) i (needed b)
 need_at r n i threaded below top e g out cycle true tells = need_told r top e n i tells
 need_at r n i threaded below top e g out cycle false tells = need_closed r n i threaded below top e g out cycle tells
@@ -101,7 +101,8 @@ none_done old st i b out = record {
   };
 }
 
-module _ (old r : Running) (st : Stands old) (i : ℕ) (b : Bool) (k : ℕ) (threaded : IsThreadedIn old.modules (threads_of old.modules)) (below : i < threads_of old.modules) (net : IsSameNet old r)
+module _ (old r : Running) (st : Stands old) (i : ℕ) (b : Bool) (k : ℕ) (threaded : IsThreadedIn old.modules (threads_of old.modules)) (below : i < threads_of old.modules)
+    (net : IsSameNet old r)
     (before now : List ℕ) (done : AreDone old r i b k before now) where
   abbrev top : Module
   top = done.top
@@ -125,15 +126,16 @@ module _ (old r : Running) (st : Stands old) (i : ℕ) (b : Bool) (k : ℕ) (thr
   under P = subst (λ (x : List Module). P x top (threads_of x)) (sym net.modules)
 
   -- one more
-  pub done_more : MayStep i b r → (s : Running) → IsSameNet r s → IsSameState r s → (new : Running) (after : List ℕ) → IsCycleOf (alone i) s new now after → AreDone old new i b (k + 1) before after
+  pub done_more : MayStep i b r → (s : Running) → IsSameNet r s → IsSameState r s → (new : Running) (after : List ℕ) → IsCycleOf (alone i) s new now after
+      → AreDone old new i b (k + 1) before after
   done_more may s sn ss new after c =
       let l = state_of new in
       let x = of_top (λ ms top n. (bytes : List ℕ) × Cycle ms top g (alone i) l bytes × (after ≡ now ++ bytes)) r (cycle_back r s sn ss i new now after c) top at in
       let cycle : Cycle ms top g (alone i) l x.0 = over (λ ms top n. Cycle ms top g (alone i) l x.0) x.1 in
       let needs : Needs ms top n g (alone i) i (needed b) =
       over (λ ms top n. Needs ms top n g (alone i) i (needed b))
-      (need_at r (threads_of r.modules) i (subst (λ (y : List Module). IsThreadedIn y (threads_of y)) (sym net.modules) threaded) (subst (λ
-      (y : List Module). i < threads_of y) (sym net.modules) below)
+      (need_at r (threads_of r.modules) i (subst (λ (y : List Module). IsThreadedIn y (threads_of y)) (sym net.modules) threaded)
+      (subst (λ (y : List Module). i < threads_of y) (sym net.modules) below)
       top at l x.0 x.1 b may.need) in
       let shows : ShowsDone ms top g (all_enabled n []) 0 =
       over (λ ms top n. ShowsDone ms top g (all_enabled n []) 0) (not_shown r top at (threads_of r.modules) may.running) in
@@ -145,7 +147,8 @@ module _ (old r : Running) (st : Stands old) (i : ℕ) (b : Bool) (k : ℕ) (thr
         top = top;
         is_top = done.is_top;
         holds = record {
-          moves = subst (λ (j : ℕ). Moves ms top n (needed b) i j (state_of old) l) count (moves_more ms top n i (needed b) k (state_of old) g l x.0 d.moves needs shows cycle changes);
+          moves = subst (λ (j : ℕ). Moves ms top n (needed b) i j (state_of old) l) count (moves_more ms top n i (needed b) k (state_of old) g l x.0 d.moves needs shows
+              cycle changes);
           bytes = d.bytes ++ x.0;
           runs = subst (λ (cs : List Choice). Runs ms top (state_of old) cs l (d.bytes ++ x.0)) (times_more ms top n k (alone i) ∙ ap (λ j. times ms top n j (alone i)) count)
               (runs_on ms top (times ms top n k (alone i)) (state_of old) g l (alone i) d.bytes x.0 d.runs cycle);
@@ -160,7 +163,8 @@ module _ (old r : Running) (st : Stands old) (i : ℕ) (b : Bool) (k : ℕ) (thr
     is_top = done.is_top;
     holds = λ z m.
         let s = moves_split ms top n (needed b) i k (suc (count - (k + 1))) count (state_of old) z (omega (arith, l)) m in
-        let same : IsSame ms top n g s.0 = moves_once old st top done.is_top n (needed b) i k (state_of old) (state_of old) g s.0 (same_refl ms top (state_of old)) (done.holds).moves s.1 in
+        let same : IsSame ms top n g s.0 = moves_once old st top done.is_top n (needed b) i k (state_of old) (state_of old) g s.0 (same_refl ms top (state_of old))
+        (done.holds).moves s.1 in
         let first = moves_from ms top n i (needed b) (suc (count - (k + 1))) g s.0 z same s.2 in
         stuck (record {
           need = tells_at r (threads_of r.modules) i top at b (under (λ ms top n. Needs ms top n g (alone i) i (needed b)) first.2);

@@ -28,8 +28,8 @@ none_so_far first modules opened =
     subst (λ (ms : List Module). IsSameIn ms opened.top [] (initial_state ms opened.top) (state_of first)) (sym opened.net) opened.begins in
     record { top = opened.top; is_top = ap top_of opened.net ∙ opened.is_top; holds = record { legal = begins; reached = (begins, refl); many = refl } }
 
-module _ (first r : Running) (net : IsSameNet first r) (journal : List Entry) (number : ℕ) (output : List ℕ) (cycles : ℕ) (so : AreSoFar first r
-    (take number journal) output cycles) (within : number < length journal) (d : Entry) where
+module _ (first r : Running) (net : IsSameNet first r) (journal : List Entry) (number : ℕ) (output : List ℕ) (cycles : ℕ)
+    (so : AreSoFar first r (take number journal) output cycles) (within : number < length journal) (d : Entry) where
   abbrev e : Entry
   e = get_or journal number d
 
@@ -49,7 +49,8 @@ module _ (first r : Running) (net : IsSameNet first r) (journal : List Entry) (n
             (reaches_more ms top n front e (state_of r) (state_of new) output x.bytes s.reached x.runs);
         many = (let a = s.many in
             let b = x.many in
-            let c : length (choices ms top n (front ++ e ∷ [])) ≡ length (choices ms top n front ++ entry_choices ms top n (entry ms top n e)) = ap length (choices_more ms top n front e) in
+            let c : length (choices ms top n (front ++ e ∷ [])) ≡ length (choices ms top n front ++ entry_choices ms top n (entry ms top n e)) =
+            ap length (choices_more ms top n front e) in
             omega (arith, a, b, c, length-append (choices ms top n front) (entry_choices ms top n (entry ms top n e))));
       } in
       record {
@@ -58,8 +59,8 @@ module _ (first r : Running) (net : IsSameNet first r) (journal : List Entry) (n
         holds = subst (λ (j : List Entry). AreReplayed ms top n j (state_of new) after (cycles + more)) (sym (take_more journal number d within)) now;
       }
 
-  pub bad_entry : (modules : List Module) → first.modules ≡ modules → OfTop r (λ ms top n. IsNoEntry ms top n e (state_of r)) → InTop modules (λ top. Replays modules top
-      (threads_of modules) journal (BadEntry number))
+  pub bad_entry : (modules : List Module) → first.modules ≡ modules → OfTop r (λ ms top n. IsNoEntry ms top n e (state_of r))
+      → InTop modules (λ top. Replays modules top (threads_of modules) journal (BadEntry number))
   bad_entry modules is never =
       let ms = first.modules in
       let n = threads_of first.modules in
@@ -72,10 +73,11 @@ module _ (first r : Running) (net : IsSameNet first r) (journal : List Entry) (n
         holds = subst (λ (x : List Module). Replays x top (threads_of x) journal (BadEntry number)) is here;
       }
 
-pub replayed : (first r : Running) → IsSameNet first r → (modules : List Module) → first.modules ≡ modules → (journal : List Entry) (output : List ℕ)
-    (cycles : ℕ) → AreSoFar first r journal output cycles → (v : Verdict)
+pub replayed : (first r : Running) → IsSameNet first r → (modules : List Module) → first.modules ≡ modules → (journal : List Entry) (output : List ℕ) (cycles : ℕ)
+    → AreSoFar first r journal output cycles → (v : Verdict)
     → OfTop r (λ ms top n. Judged ms top n (state_of r) (length journal) (length journal) (Some v))
-    → InTop modules (λ top. (h : Valuation) × AreReplayed modules top (threads_of modules) journal h output cycles × Ends modules top (threads_of modules) h (length journal) (length journal) v)
+    → InTop modules (λ top. (h : Valuation) × AreReplayed modules top (threads_of modules) journal h output cycles
+    × Ends modules top (threads_of modules) h (length journal) (length journal) v)
 replayed first r net modules is journal output cycles so v judged =
     let top = so.top in
     let x = of_top (λ ms top n. Judged ms top n (state_of r) (length journal) (length journal) (Some v)) first
@@ -83,7 +85,8 @@ replayed first r net modules is journal output cycles so v judged =
     record {
       top = top;
       is_top = sym (ap top_of is) ∙ so.is_top;
-      holds = subst (λ (ms : List Module). (h : Valuation) × AreReplayed ms top (threads_of ms) journal h output cycles × Ends ms top (threads_of ms) h (length journal) (length journal) v) is
+      holds = subst (λ (ms : List Module). (h : Valuation) × AreReplayed ms top (threads_of ms) journal h output cycles
+          × Ends ms top (threads_of ms) h (length journal) (length journal) v) is
           (state_of r, so.holds, x);
     }
 

@@ -48,7 +48,7 @@ fn replay_on(
             None => return Ok(Redone::BadEntry(number)),
         }
     }
-    match judge(sim, &mut trial, journal.len(), journal.len()) {
+    match judge(sim, &mut trial, 0, journal.len(), journal.len()) {
         Some(verdict) => Ok(Redone::Replayed {
             output,
             cycles,

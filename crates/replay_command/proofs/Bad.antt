@@ -29,7 +29,8 @@ module _ (modules : List Module) (threads : ℕ) (entries : List Entry) (bad : O
     pub not_legal : (index : ℕ) → r ≡ redone.BadEntry index → IsFirstBad modules threads entries bad index
     not_legal index e = inl (subst Gives e here)
 
-    pub misspelt : (output : List ℕ) (cycles : ℕ) (v : Verdict) → r ≡ redone.Replayed output cycles v → (index : ℕ) → bad ≡ Some index → IsFirstBad modules threads entries bad index
+    pub misspelt : (output : List ℕ) (cycles : ℕ) (v : Verdict) → r ≡ redone.Replayed output cycles v → (index : ℕ) → bad ≡ Some index
+        → IsFirstBad modules threads entries bad index
     misspelt output cycles v e index at =
         let x : Gives (redone.Replayed output cycles v) = subst Gives e here in
         let legal : AreLegal modules threads entries = record { top = x.top; is_top = x.is_top; holds = (x.holds.0, (x.holds.1).legal) } in inr (at, legal)

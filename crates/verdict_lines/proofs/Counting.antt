@@ -16,5 +16,5 @@ are_its_choices modules top n [] = refl
 are_its_choices modules top n (e ∷ journal) =
     let rest = are_its_choices modules top n journal in
     let first = long_times modules top n (entry_cycles e) (alone e.thread) in
-    length-append (times modules top n (entry_cycles e) (alone e.thread)) (choices modules top n journal) ∙ ap (λ k. k + length
-    (choices modules top n journal)) first ∙ ap (λ k. entry_cycles e + k) rest
+    length-append (times modules top n (entry_cycles e) (alone e.thread)) (choices modules top n journal) ∙ ap (λ k. k + length (choices modules top n journal)) first
+    ∙ ap (λ k. entry_cycles e + k) rest

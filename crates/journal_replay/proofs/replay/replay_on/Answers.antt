@@ -32,7 +32,8 @@ loop-number-preserved c =
     record {
       net = net_trans first r c.redo.new.sim v.net m.net;
       trial = net_trans c.in_ok-trial.trial c.loop-number.trial c.redo.new.trial v.trial m.trial;
-      so = more_so_far first r v.net c.args.journal.now c.loop-number.number c.loop-number.output c.loop-number.cycles v.so c.loop-number-test.true _ c.redo.new.sim c.redo.new.output more done;
+      so = more_so_far first r v.net c.args.journal.now c.loop-number.number c.loop-number.output c.loop-number.cycles v.so c.loop-number-test.true _ c.redo.new.sim
+          c.redo.new.output more done;
       few = omega (arith, few, here);
     }
 
@@ -45,5 +46,6 @@ returns c =
     let v = c.loop-number.invariant in
     let past = c.loop-number-test.false in
     replayed c.args.sim.now c.loop-number.sim v.net c.args.modules.now c.requires.begins.net c.args.journal.now c.loop-number.output c.loop-number.cycles
-    (subst (λ (j : List Entry). AreSoFar c.args.sim.now c.loop-number.sim j c.loop-number.output c.loop-number.cycles) (take_all c.loop-number.number c.args.journal.now (omega (arith, past))) v.so)
+    (subst (λ (j : List Entry). AreSoFar c.args.sim.now c.loop-number.sim j c.loop-number.output c.loop-number.cycles)
+    (take_all c.loop-number.number c.args.journal.now (omega (arith, past))) v.so)
     c.in-Some-judge.verdict c.in-Some-judge.ensures.verdict

@@ -30,7 +30,8 @@ returns-clause-redone c =
     let b = c.threads.ensures.threads in
     let f = c.if-entry-gt4096.false in
     let o = c.open_count-open.ensures in
-    entry_done c.args.sim.now r c.threads.ensures.stands e y.net c.args.output.now c.redo_steps.new.output (said _ _ _ c.if-not-branch.false y.redone) new c.redo_steps-2.new.output _
+    entry_done c.args.sim.now r c.threads.ensures.stands e y.net c.args.output.now c.redo_steps.new.output (said _ _ _ c.if-not-branch.false y.redone) new
+    c.redo_steps-2.new.output _
     (subst (λ (k : ℕ). OfTop r (λ ms top n. AreRedone ms top n e.thread true k (state_of r) (state_of new) c.redo_steps.new.output c.redo_steps-2.new.output)) o
     (said _ _ _ c.if-not-branch-2.false z.redone))
     (omega (arith, a, b)) (omega (arith, f)) c.if-not-has_cycle.ensures (omega (arith, o))

@@ -9,12 +9,17 @@ use Rattle.journal_laws.specs.declared.verdict.Answer.TheVariants as answers
 use Rattle.journal_laws.specs.Steps.{InTop}
 use Rattle.journal_laws.proofs.Entering.{same_top}
 use Rattle.grant_journal.specs.Boards.{IsPrinting, Keeps}
-use Rattle.grant_journal.proofs.Framed.{net_between, threaded_in, below}
+use Rattle.grant_journal.proofs.Framed.{net_between, threaded_in, below, within}
 use Rattle.grant_journal.proofs.Keeping.{keeps_on}
 use Rattle.grant_journal.proofs.Offering.{judged_as}
 use Rattle.grant_journal.proofs.Commits.{given_ended, given_stale, given_waits, given_committed, given_as, printing, printing_as}
 use Rattle.grant_journal.proofs.Commits.{keeps_entered, free, running, copy_on, waiting_of, making_of, same_of, opening_of}
 use Rattle.grant_journal.proofs.board.Board.commit.Goals as goal
+
+pub judge-requires-clause-prefer : goal.judge-requires-clause-prefer
+judge-requires-clause-prefer g c =
+    let k = c.self.invariant.1 in
+    within g.J.Case.modules g.J.Case.threads g.J.Case.layout k.frame c.self.inside.sim k.net c.args.thread (let l = c.requires.thread in omega (arith, l))
 
 pub judge-requires-clause-threaded : goal.judge-requires-clause-threaded
 judge-requires-clause-threaded g c =

@@ -9,6 +9,10 @@ use Rattle.grant_journal.proofs.Keeping.{keeps_on}
 use Rattle.grant_journal.proofs.Offering.{judged_as, offered_as, offered_end, mover_on}
 use Rattle.grant_journal.proofs.board.Board.next.Goals as goal
 
+pub judge-requires-clause-prefer : goal.judge-requires-clause-prefer
+judge-requires-clause-prefer g c =
+    let k = c.self.invariant.1 in within g.J.Case.modules g.J.Case.threads g.J.Case.layout k.frame c.self.inside.sim k.net c.args.prefer c.requires
+
 pub judge-requires-clause-threaded : goal.judge-requires-clause-threaded
 judge-requires-clause-threaded g c =
     let k = c.self.invariant.1 in threaded_in g.J.Case.modules g.J.Case.threads g.J.Case.layout k.frame c.self.inside.sim k.net
