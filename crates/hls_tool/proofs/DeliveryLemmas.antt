@@ -1,8 +1,8 @@
 use Rattle.std.proofs.Common.{ℕ, List, Option, refl, inl}
 use Rattle.hls_words.specs.declared.task.Task.{Task}
-use Rattle.hls_tool.specs.declared.status.Status.{Status}
-use Rattle.hls_tool.specs.declared.status.Status.TheVariants as status
-use Rattle.hls_tool.specs.Answers.{Due, OwesAt}
+use Rattle.hls_status.specs.declared.status.Status.{Status}
+use Rattle.hls_status.specs.declared.status.Status.TheVariants as status
+use Rattle.hls_commands.specs.Answers.{Due, OwesAt}
 use Rattle.hls_tool.specs.Delivery.{Ends, MayBeOwed, Passage, TookAll}
 
 -- a call whose sinks took all ends with the status that it owes
@@ -13,7 +13,9 @@ whole-Ends status.Usage due line out err may took = (refl, took)
 whole-Ends status.ReadFault due line out err may took = (refl, took)
 whole-Ends (status.WriteFault n m) due line out err may took = absurd may
 whole-Ends status.Memory due line out err may took = (refl, took.0, inl took.1)
-whole-Ends (status.NotBuilt c) due line out err may took = (refl, took)
+whole-Ends status.Entries due line out err may took = (refl, took)
+whole-Ends status.Stuck due line out err may took = (refl, took)
+whole-Ends (status.BadEntry index) due line out err may took = (refl, took)
 whole-Ends (status.Walked end) due line out err may took = (refl, took)
 whole-Ends (status.Cycles cycles) due line out err may took = (refl, took)
 
@@ -25,6 +27,8 @@ may_be_owed task left rose d status.Usage h = tt
 may_be_owed task left rose d status.ReadFault h = tt
 may_be_owed task left rose d (status.WriteFault n m) h = h
 may_be_owed task left rose d status.Memory h = h.out
-may_be_owed task left rose d (status.NotBuilt c) h = tt
+may_be_owed task left rose d status.Entries h = tt
+may_be_owed task left rose d status.Stuck h = tt
+may_be_owed task left rose d (status.BadEntry index) h = tt
 may_be_owed task left rose d (status.Walked end) h = tt
 may_be_owed task left rose d (status.Cycles cycles) h = tt

@@ -1,6 +1,5 @@
 pub mod DeliveryLemmas
-pub mod RefusalLemmas
-pub mod RunLemmas
 pub mod RefusedLemmas
 pub mod CompleteLemmas
 pub mod WalkLemmas
+pub mod TextLemmas

@@ -1,18 +1,23 @@
 -- A call whose source gives a text with a refusal answers this refusal.
-use Rattle.std.proofs.Common.{◌≡◌, ℕ, List, Option, Some, None, sym, subst}
+use Rattle.std.proofs.Common.{◌≡◌, ℕ, ◌<◌, ◌≤◌, true, false, List, length, Option, Some, None, refl, sym, subst, ◌∙◌, ⊎_elim, arith}
+use Rattle.std.specs.Prelude.{◌⊎◌}
 use Rattle.hls_words.specs.declared.task.Task.{Task}
-use Rattle.hls_words.specs.declared.task.Task.TheVariants.{Build, Step, Walk}
+use Rattle.hls_words.specs.declared.task.Task.TheVariants.{Build, Step, Run, Replay, Walk}
 use Rattle.c_program.specs.Tree.{Program}
 use Rattle.c_accepted.specs.declared.refusal.Refusal.{Refusal}
 use Rattle.c_accepted.specs.declared.refusal.Refusal.TheVariants as refusal
 use Rattle.c_accepted.specs.Profile.{IsAccepted, IsRefused}
 use Rattle.c_profile.proofs.Stages.{refused_once, never_both}
-use Rattle.hls_tool.specs.declared.status.Outcome.{Outcome}
-use Rattle.hls_tool.specs.declared.status.Status.{Status}
-use Rattle.hls_tool.specs.declared.status.Status.TheVariants as status
-use Rattle.hls_tool.specs.Answers.{Due, Gave, Halts, IsRefusedBy, OwesAt, RunsOut, Succeeds}
+use Rattle.journal_text.specs.declared.entry.Entry.{Entry}
+use Rattle.hls_tool.specs.declared.outcome.Outcome.{Outcome}
+use Rattle.hls_status.specs.declared.status.Status.{Status}
+use Rattle.hls_status.specs.declared.status.Status.TheVariants as status
+use Rattle.hls_commands.specs.Answers.{Due, Gave, GaveJournal, IsRefusedBy, IsRefusedFor, IsReplayRefused, OwesAt}
+use Rattle.hls_commands.specs.Answers.{most_replayed}
 use Rattle.hls_tool.specs.Call.{Answered, TellsRefusal}
 use Rattle.hls_tool.specs.Delivery.{Ends, Passage}
+use Rattle.hls_tool.proofs.CompleteLemmas.{refused_text}
+use Rattle.hls_tool.proofs.TextLemmas.{one_text}
 
 module _ (text : List ℕ) (r : Refusal) (refused : IsRefused text r) where
   is_not_accepted : (given : List ℕ) (P : Program) (w : ℕ) → given ≡ text → IsAccepted given P w → ⊥
@@ -30,51 +35,148 @@ module _ (text : List ℕ) (r : Refusal) (refused : IsRefused text r) where
   is_refused_by (refusal.LimitAt passed at) h = same_refusal (refusal.LimitAt passed at) h
   is_refused_by (refusal.Limit passed) h = same_refusal (refusal.Limit passed) h
 
-  never_succeeds : (task : Option Task) (d : Due) → Succeeds task (Some text) d → ⊥
-  never_succeeds None d h = h
-  never_succeeds (Some (Build jobs)) d h = is_not_accepted h.text h.program h.weight h.gave h.compiled.accepted
-  never_succeeds (Some (Step most)) d h = is_not_accepted h.1.text h.1.program h.1.weight h.1.gave h.1.compiled.accepted
-  never_succeeds (Some (Walk turns)) d h = is_not_accepted h.text h.program h.weight h.gave h.accepted
+  -- nothing else is owed for a task that takes the whole text
+  others : (task : Option Task) (rose : Type 0) (d : Due) (s : Status) → (task ≡ Some Replay → ⊥) → OwesAt task (Some text) rose d s → TellsRefusal r s
+  others None rose d status.Ok unlike h = h
+  others None rose d (status.Refused s) unlike h = absurd (let e : false ≡ true = h.0 in cc)
+  others None rose d status.Usage unlike h = tt
+  others None rose d status.ReadFault unlike h = tt
+  others None rose d (status.WriteFault n m) unlike h = tt
+  others None rose d status.Memory unlike h = tt
+  others None rose d status.Entries unlike h = h
+  others None rose d status.Stuck unlike h = h
+  others None rose d (status.BadEntry index) unlike h = h
+  others None rose d (status.Walked end) unlike h = h
+  others None rose d (status.Cycles cycles) unlike h = h
+  others (Some (Build jobs)) rose d status.Ok unlike h = is_not_accepted h.text h.program h.weight h.gave h.compiled.accepted
+  others (Some (Build jobs)) rose d (status.Refused s) unlike h = is_refused_by s h.1
+  others (Some (Build jobs)) rose d status.Usage unlike h = tt
+  others (Some (Build jobs)) rose d status.ReadFault unlike h = tt
+  others (Some (Build jobs)) rose d (status.WriteFault n m) unlike h = tt
+  others (Some (Build jobs)) rose d status.Memory unlike h = tt
+  others (Some (Build jobs)) rose d status.Entries unlike h = h
+  others (Some (Build jobs)) rose d status.Stuck unlike h = h
+  others (Some (Build jobs)) rose d (status.BadEntry index) unlike h = h
+  others (Some (Build jobs)) rose d (status.Walked end) unlike h = h
+  others (Some (Build jobs)) rose d (status.Cycles cycles) unlike h = h
+  others (Some (Step most vcd)) rose d status.Ok unlike h = is_not_accepted h.1.text h.1.program h.1.weight h.1.gave h.1.compiled.accepted
+  others (Some (Step most vcd)) rose d (status.Refused s) unlike h = is_refused_by s h.1
+  others (Some (Step most vcd)) rose d status.Usage unlike h = tt
+  others (Some (Step most vcd)) rose d status.ReadFault unlike h = tt
+  others (Some (Step most vcd)) rose d (status.WriteFault n m) unlike h = tt
+  others (Some (Step most vcd)) rose d status.Memory unlike h = tt
+  others (Some (Step most vcd)) rose d status.Entries unlike h = h
+  others (Some (Step most vcd)) rose d status.Stuck unlike h = h
+  others (Some (Step most vcd)) rose d (status.BadEntry index) unlike h = h
+  others (Some (Step most vcd)) rose d (status.Walked end) unlike h = h
+  others (Some (Step most vcd)) rose d (status.Cycles cycles) unlike h = is_not_accepted h.text h.program h.weight h.gave h.compiled.accepted
+  others (Some (Run most listed)) rose d status.Ok unlike h = is_not_accepted h.text h.program h.weight h.gave h.compiled.accepted
+  others (Some (Run most listed)) rose d (status.Refused s) unlike h = is_refused_by s h.1
+  others (Some (Run most listed)) rose d status.Usage unlike h = tt
+  others (Some (Run most listed)) rose d status.ReadFault unlike h = tt
+  others (Some (Run most listed)) rose d (status.WriteFault n m) unlike h = tt
+  others (Some (Run most listed)) rose d status.Memory unlike h = tt
+  others (Some (Run most listed)) rose d status.Entries unlike h = is_not_accepted h.text h.program h.weight h.gave h.compiled.accepted
+  others (Some (Run most listed)) rose d status.Stuck unlike h = is_not_accepted h.text h.program h.weight h.gave h.compiled.accepted
+  others (Some (Run most listed)) rose d (status.BadEntry index) unlike h = h
+  others (Some (Run most listed)) rose d (status.Walked end) unlike h = h
+  others (Some (Run most listed)) rose d (status.Cycles cycles) unlike h = h
+  others (Some (Walk turns)) rose d status.Ok unlike h = is_not_accepted h.text h.program h.weight h.gave h.accepted
+  others (Some (Walk turns)) rose d (status.Refused s) unlike h = is_refused_by s h.1
+  others (Some (Walk turns)) rose d status.Usage unlike h = tt
+  others (Some (Walk turns)) rose d status.ReadFault unlike h = tt
+  others (Some (Walk turns)) rose d (status.WriteFault n m) unlike h = tt
+  others (Some (Walk turns)) rose d status.Memory unlike h = tt
+  others (Some (Walk turns)) rose d status.Entries unlike h = h
+  others (Some (Walk turns)) rose d status.Stuck unlike h = h
+  others (Some (Walk turns)) rose d (status.BadEntry index) unlike h = h
+  others (Some (Walk turns)) rose d (status.Walked end) unlike h = is_not_accepted h.text h.program h.weight h.gave h.accepted
+  others (Some (Walk turns)) rose d (status.Cycles cycles) unlike h = h
+  others (Some Replay) rose d status.Ok unlike h = absurd (unlike refl)
+  others (Some Replay) rose d (status.Refused s) unlike h = absurd (unlike refl)
+  others (Some Replay) rose d status.Usage unlike h = absurd (unlike refl)
+  others (Some Replay) rose d status.ReadFault unlike h = absurd (unlike refl)
+  others (Some Replay) rose d (status.WriteFault n m) unlike h = absurd (unlike refl)
+  others (Some Replay) rose d status.Memory unlike h = absurd (unlike refl)
+  others (Some Replay) rose d status.Entries unlike h = absurd (unlike refl)
+  others (Some Replay) rose d status.Stuck unlike h = absurd (unlike refl)
+  others (Some Replay) rose d (status.BadEntry index) unlike h = absurd (unlike refl)
+  others (Some Replay) rose d (status.Walked end) unlike h = absurd (unlike refl)
+  others (Some Replay) rose d (status.Cycles cycles) unlike h = absurd (unlike refl)
 
-  never_halts : (task : Option Task) (d : Due) (s : Status) → Halts task (Some text) d s → ⊥
-  never_halts None d s h = h
-  never_halts (Some (Build jobs)) d s h = h
-  never_halts (Some (Step most)) d s h = h
-  never_halts (Some (Walk turns)) d s h = is_not_accepted h.text h.program h.weight h.gave h.accepted
+-- ---- a replay
 
-  never_runs_out : (task : Option Task) (d : Due) (cycles : ℕ) → RunsOut task (Some text) d cycles → ⊥
-  never_runs_out None d cycles h = h
-  never_runs_out (Some (Build jobs)) d cycles h = h
-  never_runs_out (Some (Step most)) d cycles h = is_not_accepted h.text h.program h.weight h.gave h.compiled.accepted
-  never_runs_out (Some (Walk turns)) d cycles h = h
+-- a journal and a text that are too long together
+module _ (whole : List ℕ) (r : Refusal) (long : r ≡ refusal.TooLong) (more : most_replayed < length whole) where
+  never_short : (entries : List Entry) (bad : Option ℕ) (text : List ℕ) → GaveJournal (Some whole) entries bad text → ⊥
+  never_short entries bad text g = let s = subst (λ (w : List ℕ). length w ≤ most_replayed) g.gave g.short in omega (arith, s, more)
 
-  owes_refusal : (task : Option Task) (rose : Type 0) (d : Due) (s : Status) → OwesAt task (Some text) rose d s → TellsRefusal r s
-  owes_refusal task rose d status.Ok h = never_succeeds task d h
-  owes_refusal task rose d (status.Refused s) h = is_refused_by s h.1
-  owes_refusal task rose d (status.NotBuilt c) h = is_not_accepted h.1.0 h.1.2.program h.1.2.weight h.1.1 h.1.2.accepted
-  owes_refusal task rose d status.Usage h = tt
-  owes_refusal task rose d status.ReadFault h = tt
-  owes_refusal task rose d (status.WriteFault n m) h = tt
-  owes_refusal task rose d status.Memory h = tt
-  owes_refusal task rose d (status.Walked end) h = never_halts task d (status.Walked end) h
-  owes_refusal task rose d (status.Cycles cycles) h = never_runs_out task d cycles h
+  too_long_together : (rose : Type 0) (d : Due) (s : Status) → OwesAt (Some Replay) (Some whole) rose d s → TellsRefusal r s
+  too_long_together rose d status.Ok h = never_short d.journal None h.text h.gave
+  too_long_together rose d (status.Refused s) h = ⊎_elim (λ both. both.0 ∙ sym long) (λ other. absurd (never_short other.1.0 other.1.1 other.0 other.1.2)) h.1
+  too_long_together rose d status.Usage h = tt
+  too_long_together rose d status.ReadFault h = tt
+  too_long_together rose d (status.WriteFault n m) h = tt
+  too_long_together rose d status.Memory h = tt
+  too_long_together rose d status.Entries h = never_short d.journal None h.text h.gave
+  too_long_together rose d status.Stuck h = never_short d.journal None h.text h.gave
+  too_long_together rose d (status.BadEntry index) h = never_short h.entries h.bad h.text h.gave
+  too_long_together rose d (status.Walked end) h = h
+  too_long_together rose d (status.Cycles cycles) h = h
 
-  ends_so : (owed : Status) (due line : List ℕ) (out err : Passage) (s : Status) → Ends owed due line out err s → TellsRefusal r owed → TellsRefusal r s
-  ends_so owed due line out err status.Ok h k = subst (TellsRefusal r) (sym h.0) k
-  ends_so owed due line out err (status.Refused s) h k = subst (TellsRefusal r) (sym h.0) k
-  ends_so owed due line out err (status.NotBuilt c) h k = subst (TellsRefusal r) (sym h.0) k
-  ends_so owed due line out err status.Usage h k = tt
-  ends_so owed due line out err status.ReadFault h k = tt
-  ends_so owed due line out err (status.WriteFault n m) h k = tt
-  ends_so owed due line out err status.Memory h k = tt
-  ends_so owed due line out err (status.Walked end) h k = subst (TellsRefusal r) (sym h.0) k
-  ends_so owed due line out err (status.Cycles cycles) h k = subst (TellsRefusal r) (sym h.0) k
+-- a text behind a journal
+module _ (whole : List ℕ) (first : List Entry) (a : Option ℕ) (text : List ℕ) (gave : GaveJournal (Some whole) first a text) (r : Refusal) (refused : IsRefused text r) where
+  never_accepted : (entries : List Entry) (bad : Option ℕ) (given : List ℕ) (P : Program) (w : ℕ) → GaveJournal (Some whole) entries bad given → IsAccepted given P w → ⊥
+  never_accepted entries bad given P w g h =
+      never_both text P w r (subst (λ (t : List ℕ). IsAccepted t P w) (one_text whole entries first bad a given text g gave) h) refused
 
-  answers_refusal : (task : Option Task) (rose : Type 0) (out err : Passage) (outcome : Outcome) → Answered task (Some text) rose out err outcome → TellsRefusal r outcome.status
-  answers_refusal task rose out err outcome h =
-      ends_so h.owed.status h.owed.out h.owed.err out err outcome.status h.ends (owes_refusal task rose h.owed h.owed.status h.owes)
+  is_short : length whole ≤ most_replayed
+  is_short = subst (λ (w : List ℕ). length w ≤ most_replayed) gave.gave gave.short
 
-pub tells_refusal : (task : Option Task) (left : Option (List ℕ)) (rose : Type 0) (out err : Passage) (outcome : Outcome) (text : List ℕ) (r : Refusal) →
-    Answered task left rose out err outcome → left ≡ Some text → IsRefused text r → TellsRefusal r outcome.status
-tells_refusal task left rose out err outcome text r h same refused =
-    answers_refusal text r refused task rose out err outcome (subst (λ l. Answered task l rose out err outcome) same h)
+  replay_refused : (s : Refusal) → IsReplayRefused (Some whole) s → s ≡ r
+  replay_refused s h =
+      ⊎_elim (λ both. let more = both.1 in absurd (omega (arith, more, is_short)))
+      (λ other. refused_once text s r (subst (λ (t : List ℕ). IsRefused t s) (one_text whole other.1.0 first other.1.1 a other.0 text other.1.2 gave) other.2) refused) h
+
+  refused_behind : (rose : Type 0) (d : Due) (s : Status) → OwesAt (Some Replay) (Some whole) rose d s → TellsRefusal r s
+  refused_behind rose d status.Ok h = never_accepted d.journal None h.text h.program h.weight h.gave h.compiled.accepted
+  refused_behind rose d (status.Refused s) h = replay_refused s h.1
+  refused_behind rose d status.Usage h = tt
+  refused_behind rose d status.ReadFault h = tt
+  refused_behind rose d (status.WriteFault n m) h = tt
+  refused_behind rose d status.Memory h = tt
+  refused_behind rose d status.Entries h = never_accepted d.journal None h.text h.program h.weight h.gave h.compiled.accepted
+  refused_behind rose d status.Stuck h = never_accepted d.journal None h.text h.program h.weight h.gave h.compiled.accepted
+  refused_behind rose d (status.BadEntry index) h = never_accepted h.entries h.bad h.text h.program h.weight h.gave h.compiled.accepted
+  refused_behind rose d (status.Walked end) h = h
+  refused_behind rose d (status.Cycles cycles) h = h
+
+owes_refusal : (whole : List ℕ) (r : Refusal) (task : Option Task) (rose : Type 0) (d : Due) (s : Status) → IsRefusedFor task (Some whole) r → OwesAt task (Some whole) rose d s → TellsRefusal r s
+owes_refusal whole r None rose d s is h = others whole r (refused_text whole r is) None rose d s (λ e. absurd (let f : None ≡ Some Replay = e in cc)) h
+owes_refusal whole r (Some (Build jobs)) rose d s is h = others whole r (refused_text whole r is) (Some (Build jobs)) rose d s (λ e. absurd (let f : Some (Build jobs) ≡ Some Replay = e in cc)) h
+owes_refusal whole r (Some (Step most vcd)) rose d s is h =
+    others whole r (refused_text whole r is) (Some (Step most vcd)) rose d s (λ e. absurd (let f : Some (Step most vcd) ≡ Some Replay = e in cc)) h
+owes_refusal whole r (Some (Run most listed)) rose d s is h =
+    others whole r (refused_text whole r is) (Some (Run most listed)) rose d s (λ e. absurd (let f : Some (Run most listed) ≡ Some Replay = e in cc)) h
+owes_refusal whole r (Some (Walk turns)) rose d s is h = others whole r (refused_text whole r is) (Some (Walk turns)) rose d s (λ e. absurd (let f : Some (Walk turns) ≡ Some Replay = e in cc)) h
+owes_refusal whole r (Some Replay) rose d s is h =
+    ⊎_elim (λ long. too_long_together whole r long.0 long.1 rose d s h) (λ other. refused_behind whole other.1.0 other.1.1 other.0 other.1.2 r other.2 rose d s h) is
+
+ends_so : (r : Refusal) (owed : Status) (due line : List ℕ) (out err : Passage) (s : Status) → Ends owed due line out err s → TellsRefusal r owed → TellsRefusal r s
+ends_so r owed due line out err status.Ok h k = subst (TellsRefusal r) (sym h.0) k
+ends_so r owed due line out err (status.Refused s) h k = subst (TellsRefusal r) (sym h.0) k
+ends_so r owed due line out err status.Usage h k = tt
+ends_so r owed due line out err status.ReadFault h k = tt
+ends_so r owed due line out err (status.WriteFault n m) h k = tt
+ends_so r owed due line out err status.Memory h k = tt
+ends_so r owed due line out err status.Entries h k = subst (TellsRefusal r) (sym h.0) k
+ends_so r owed due line out err status.Stuck h k = subst (TellsRefusal r) (sym h.0) k
+ends_so r owed due line out err (status.BadEntry index) h k = subst (TellsRefusal r) (sym h.0) k
+ends_so r owed due line out err (status.Walked end) h k = subst (TellsRefusal r) (sym h.0) k
+ends_so r owed due line out err (status.Cycles cycles) h k = subst (TellsRefusal r) (sym h.0) k
+
+pub tells_refusal : (task : Option Task) (left : Option (List ℕ)) (rose : Type 0) (out err : Passage) (outcome : Outcome) (whole : List ℕ) (r : Refusal) →
+    Answered task left rose out err outcome → left ≡ Some whole → IsRefusedFor task (Some whole) r → TellsRefusal r outcome.status
+tells_refusal task left rose out err outcome whole r h same refused =
+    ends_so r h.owed.status h.owed.out h.owed.err out err outcome.status h.ends
+    (owes_refusal whole r task rose h.owed h.owed.status refused (subst (λ l. OwesAt task l rose h.owed h.owed.status) same h.owes))

@@ -10,10 +10,10 @@ use Rattle.c_interpreter.specs.Walk.{IsWalk}
 use Rattle.c_interpreter.proofs.Ends.{one_end}
 use Rattle.c_accepted.specs.Profile.{IsAccepted}
 use Rattle.c_profile.proofs.Stages.{accepted_once}
-use Rattle.hls_tool.specs.declared.status.Outcome.{Outcome}
-use Rattle.hls_tool.specs.declared.status.Status.{Status}
-use Rattle.hls_tool.specs.declared.status.Status.TheVariants as status
-use Rattle.hls_tool.specs.Answers.{Due, IsWalked, OwesAt, status_of}
+use Rattle.hls_tool.specs.declared.outcome.Outcome.{Outcome}
+use Rattle.hls_status.specs.declared.status.Status.{Status}
+use Rattle.hls_status.specs.declared.status.Status.TheVariants as status
+use Rattle.hls_commands.specs.Answers.{Due, IsWalked, OwesAt, status_of}
 use Rattle.hls_tool.specs.Call.{Answered, AsksFor, TellsEnd}
 use Rattle.hls_tool.specs.Delivery.{Ends, Passage}
 use Rattle.hls_tool.proofs.CompleteLemmas.{never_refused, owed_for}
@@ -29,22 +29,26 @@ module _ (turns : List Turn) (text : List ℕ) (P : Program) (w : ℕ) (accepted
   owes_end : (rose : Type 0) (d : Due) (s : Status) → OwesAt (Some (Walk turns)) (Some text) rose d s → TellsEnd end s
   owes_end rose d status.Ok h = end_of d status.Ok h
   owes_end rose d (status.Refused r) h = absurd (never_refused text P w accepted r h.1)
-  owes_end rose d (status.NotBuilt c) h = absurd h.0
   owes_end rose d status.Usage h = absurd (let e : Some (Walk turns) ≡ None = h.0 in cc)
   owes_end rose d status.ReadFault h = tt
   owes_end rose d (status.WriteFault n m) h = absurd h
   owes_end rose d status.Memory h = tt
+  owes_end rose d status.Entries h = absurd h
+  owes_end rose d status.Stuck h = absurd h
+  owes_end rose d (status.BadEntry index) h = absurd h
   owes_end rose d (status.Walked e) h = end_of d (status.Walked e) h
   owes_end rose d (status.Cycles cycles) h = absurd h
 
 ends_so : (end : WalkEnds) (owed : Status) (due line : List ℕ) (out err : Passage) (s : Status) → Ends owed due line out err s → TellsEnd end owed → TellsEnd end s
 ends_so end owed due line out err status.Ok h k = subst (TellsEnd end) (sym h.0) k
 ends_so end owed due line out err (status.Refused r) h k = subst (TellsEnd end) (sym h.0) k
-ends_so end owed due line out err (status.NotBuilt c) h k = subst (TellsEnd end) (sym h.0) k
 ends_so end owed due line out err status.Usage h k = subst (TellsEnd end) (sym h.0) k
 ends_so end owed due line out err status.ReadFault h k = tt
 ends_so end owed due line out err (status.WriteFault n m) h k = tt
 ends_so end owed due line out err status.Memory h k = tt
+ends_so end owed due line out err status.Entries h k = subst (TellsEnd end) (sym h.0) k
+ends_so end owed due line out err status.Stuck h k = subst (TellsEnd end) (sym h.0) k
+ends_so end owed due line out err (status.BadEntry index) h k = subst (TellsEnd end) (sym h.0) k
 ends_so end owed due line out err (status.Walked e) h k = subst (TellsEnd end) (sym h.0) k
 ends_so end owed due line out err (status.Cycles cycles) h k = subst (TellsEnd end) (sym h.0) k
 
@@ -53,4 +57,5 @@ pub tells_end : (task : Option Task) (left : Option (List ℕ)) (rose : Type 0) 
     TellsEnd end outcome.status
 tells_end task left rose out err outcome turns P h asked end output walk =
     ends_so end h.owed.status h.owed.out h.owed.err out err outcome.status h.ends
-    (owes_end turns asked.text P asked.weight asked.accepted end output walk rose h.owed h.owed.status (owed_for task left rose out err outcome (Walk turns) P h asked))
+    (owes_end turns asked.text P asked.weight asked.accepted end output walk rose h.owed h.owed.status
+    (subst (λ (x : List ℕ). OwesAt (Some (Walk turns)) (Some x) rose h.owed h.owed.status) (sym asked.gives) (owed_for task left rose out err outcome (Walk turns) P h asked)))

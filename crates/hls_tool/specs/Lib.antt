@@ -1,5 +1,2 @@
-pub mod Lines
-pub mod Answers
 pub mod Delivery
 pub mod Call
-pub mod Inside

@@ -2,38 +2,44 @@ ghost use Rattle.std.specs.Prelude.{◌≡◌, ◌⊎◌, None, Some, map, strin
 ghost use Rattle.hls_io.specs.Causes.{Rose};
 ghost use Rattle.hls_words.specs.Line.{task_of};
 ghost use Rattle.hls_words.specs.declared.task.Task.TheVariants.{Walk};
-ghost use Rattle.c_accepted.specs.Profile.{IsRefused};
-ghost use Rattle.hls_tool.specs.Call.{Answered, AsksFor, Completes, IsDoneFor, IsWriteFault, TellsEnd, TellsRefusal};
+ghost use Rattle.hls_tool.specs.Call.{Answered, AsksFor, Completes, IsWriteFault, TellsEnd, TellsRefusal};
 ghost use Rattle.turns.specs.Turns.{threads_of};
+ghost use Rattle.journal_laws.specs.declared.verdict.Verdict.TheVariants.{Entries, Stuck};
 ghost use Rattle.c_interpreter.specs.Walk.{IsWalk};
 ghost use Rattle.hls_tool.specs.Delivery.{passage};
-ghost use Rattle.hls_tool.specs.Answers.{HasRunOut, IsRefusedBy, IsUnbuiltBy, IsWalkEnd, LeavesOut};
+ghost use Rattle.hls_commands.specs.Answers.{HasRunOut, IsBadEntryOf, IsRefusedFor, IsVerdict, IsWalkEnd};
 
-use crate::commands::answer;
 use crate::deliver::deliver;
-use crate::{Outcome, Status};
+use crate::outcome::Outcome;
+use hardware_threads::gate::Gate;
+use hls_commands::commands::answer;
 use hls_io::{Sink, Source};
+use hls_status::status::Status;
 use std::alloc::Global;
+use std::sync::Wait;
 use std::thread::Threads;
 
 /// Does all that the program does.
-pub fn hls<R: Threads + Sync, S: Source, O: Sink, E: Sink>(
+pub fn hls<R: Threads + Wait + Sync, S: Source, O: Sink, E: Sink, G: Gate + Sync>(
     rt: &R,
     alloc: Global,
     words: &[String],
     source: &mut S,
     out: &mut O,
     err: &mut E,
+    gate: &G,
 ) -> Outcome
     ensures usage { result.status ≡ Status.Usage → task_of (map string_bytes words.now) ≡ None }
     ensures read_fault { result.status ≡ Status.ReadFault → Rose (S.faults source.old) (S.faults source.new) }
-    ensures refused { (r : _) → result.status ≡ Status.Refused r → IsRefusedBy (S.left source.old) r }
-    ensures refuses { (text : _) (r : _) → S.left source.old ≡ Some text → IsRefused text r → TellsRefusal r result.status }
+    ensures refused { (r : _) → result.status ≡ Status.Refused r → IsRefusedFor (task_of (map string_bytes words.now)) (S.left source.old) r }
+    ensures refuses { (whole : _) (r : _) → S.left source.old ≡ Some whole → IsRefusedFor (task_of (map string_bytes words.now)) (Some whole) r → TellsRefusal r result.status }
     ensures write_fault { IsWriteFault result.status → Rose (O.faults out.old) (O.faults out.new) ⊎ Rose (E.faults err.old) (E.faults err.new) }
-    ensures unbuilt { (c : _) → result.status ≡ Status.NotBuilt c → LeavesOut (task_of (map string_bytes words.now)) × IsUnbuiltBy (S.left source.old) c }
     ensures cycles { (n : _) → result.status ≡ Status.Cycles n → HasRunOut (task_of (map string_bytes words.now)) (S.left source.old) n }
+    ensures entries { result.status ≡ Status.Entries → IsVerdict (task_of (map string_bytes words.now)) (S.left source.old) Entries }
+    ensures stuck { result.status ≡ Status.Stuck → IsVerdict (task_of (map string_bytes words.now)) (S.left source.old) Stuck }
+    ensures bad_entry { (index : _) → result.status ≡ Status.BadEntry index → IsBadEntryOf (task_of (map string_bytes words.now)) (S.left source.old) index }
     ensures walked { (end : _) → result.status ≡ Status.Walked end → IsWalkEnd (task_of (map string_bytes words.now)) (S.left source.old) end }
-    ensures completes { (task : _) (P : _) → AsksFor task (task_of (map string_bytes words.now)) (S.left source.old) P → IsDoneFor task P
+    ensures completes { (task : _) (P : _) → AsksFor task (task_of (map string_bytes words.now)) (S.left source.old) P
         → (Rose (S.faults source.old) (S.faults source.new) → ⊥) → (Rose (O.faults out.old) (O.faults out.new) → ⊥)
         → (Rose (E.faults err.old) (E.faults err.new) → ⊥) → Completes task result.status }
     ensures tells_end { (turns : _) (P : _) (end : _) (output : _) → AsksFor (Walk turns) (task_of (map string_bytes words.now)) (S.left source.old) P
@@ -43,6 +49,6 @@ pub fn hls<R: Threads + Sync, S: Source, O: Sink, E: Sink>(
         (passage (O.held out.old) (O.held out.new) (O.faults out.old) (O.faults out.new))
         (passage (E.held err.old) (E.held err.new) (E.faults err.old) (E.faults err.new)) result }
 {
-    let answer = answer(rt, alloc, words, source);
+    let answer = answer(rt, alloc, words, source, gate);
     deliver(answer, out, err)
 }

@@ -1,34 +1,12 @@
 ghost use Rattle.std.specs.Prelude.{◌≡◌, ◌≤◌};
-ghost use Rattle.hls_tool.specs.Inside.{due_of, out_bytes, line_bytes};
+ghost use Rattle.hls_commands.specs.Inside.{due_of};
 ghost use Rattle.hls_tool.specs.Delivery.{Ends, MayBeOwed, TellsMemory, passage};
 
-use crate::answer::{Answer, Line, Out};
-use crate::lines::{MEMORY, WRITE_FAULT};
-use crate::{Outcome, Status};
-use hls_io::{Bytes, Sink, write_all};
-
-impl Out {
-    fn as_slice<'a>(&'a self, text: &'a Bytes) -> &'a [u8]
-        ensures { result.now ≡ out_bytes text.now self.now }
-    {
-        match self {
-            Out::Nothing => &[],
-            Out::Text => text.as_slice(),
-            Out::Printed(bytes) => bytes.as_slice(),
-        }
-    }
-}
-
-impl Line {
-    fn as_slice(&self) -> &[u8]
-        ensures { result.now ≡ line_bytes self.now }
-    {
-        match self {
-            Line::Fixed(bytes) => *bytes,
-            Line::Made(text) => text.as_bytes(),
-        }
-    }
-}
+use crate::outcome::Outcome;
+use hls_commands::answer::Answer;
+use hls_io::{Sink, write_all};
+use hls_status::lines::{MEMORY, WRITE_FAULT};
+use hls_status::status::Status;
 
 /// Writes to out, then to err, and says how the call ends.
 fn send<O: Sink, E: Sink>(owed: Status, due: &[u8], line: &[u8], out: &mut O, err: &mut E) -> Status
@@ -65,6 +43,7 @@ pub fn deliver<O: Sink, E: Sink>(answer: Answer, out: &mut O, err: &mut E) -> Ou
         (passage (O.held out.old) (O.held out.new) (O.faults out.old) (O.faults out.new))
         (passage (E.held err.old) (E.held err.new) (E.faults err.old) (E.faults err.new)) result.status }
     ensures text { result.text ≡ answer.text }
+    ensures journal { result.journal ≡ answer.journal }
     ensures out_later { O.faults out.old ≤ O.faults out.new }
     ensures err_later { E.faults err.old ≤ E.faults err.new }
 {
@@ -73,6 +52,7 @@ pub fn deliver<O: Sink, E: Sink>(answer: Answer, out: &mut O, err: &mut E) -> Ou
     Outcome {
         status,
         text: answer.text,
+        journal: answer.journal,
     }
 }
 

@@ -1,13 +1,11 @@
 //! The tool as one call: the words, the source, the sinks, and the answer.
 #![tactic(auto)]
 
-mod answer;
 mod call;
-mod commands;
 mod deliver;
-mod lines;
-mod status;
+mod outcome;
 
 pub use call::hls;
 pub use deliver::tell_memory;
-pub use status::{Outcome, Status, WalkEnd};
+pub use hls_status::status::{Status, WalkEnd};
+pub use outcome::Outcome;

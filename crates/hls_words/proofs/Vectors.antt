@@ -1,9 +1,9 @@
 -- Worked examples of the command line: what it takes, and what it doesn't.
 use Rattle.std.proofs.Common.{◌≡◌, ℕ, List, [], ◌∷◌, refl, codes}
-use Rattle.std.specs.Prelude.{Some, None}
+use Rattle.std.specs.Prelude.{Some, None, true, false}
 use Rattle.clap.proofs.OnLiterals.{clap_on_literals}
 use Rattle.turns.specs.Turns.{turn}
-use Rattle.hls_words.specs.declared.task.Task.TheVariants.{Build, Step, Walk}
+use Rattle.hls_words.specs.declared.task.Task.TheVariants.{Build, Step, Run, Replay, Walk}
 use Rattle.hls_words.specs.Line.{command_line, task_of}
 
 builds : task_of (codes "hls" ∷ codes "build" ∷ []) ≡ Some (Build 1)
@@ -111,23 +111,23 @@ jobs_of_a_walk = refl
 
 -- ---- numbers of cycles
 
-steps : task_of (codes "hls" ∷ codes "step" ∷ codes "--cycles" ∷ codes "3136" ∷ []) ≡ Some (Step 3136)
+steps : task_of (codes "hls" ∷ codes "step" ∷ codes "--cycles" ∷ codes "3136" ∷ []) ≡ Some (Step 3136 false)
 unfolding clap_on_literals command_line
 steps = refl
 
-steps_none : task_of (codes "hls" ∷ codes "step" ∷ codes "--cycles=0" ∷ []) ≡ Some (Step 0)
+steps_none : task_of (codes "hls" ∷ codes "step" ∷ codes "--cycles=0" ∷ []) ≡ Some (Step 0 false)
 unfolding clap_on_literals command_line
 steps_none = refl
 
-minus_zero : task_of (codes "hls" ∷ codes "step" ∷ codes "--cycles=-0" ∷ []) ≡ Some (Step 0)
+minus_zero : task_of (codes "hls" ∷ codes "step" ∷ codes "--cycles=-0" ∷ []) ≡ Some (Step 0 false)
 unfolding clap_on_literals command_line
 minus_zero = refl
 
-plus : task_of (codes "hls" ∷ codes "step" ∷ codes "--cycles=+0010" ∷ []) ≡ Some (Step 10)
+plus : task_of (codes "hls" ∷ codes "step" ∷ codes "--cycles=+0010" ∷ []) ≡ Some (Step 10 false)
 unfolding clap_on_literals command_line
 plus = refl
 
-most_steps : task_of (codes "hls" ∷ codes "step" ∷ codes "--cycles=4294967295" ∷ []) ≡ Some (Step 4294967295)
+most_steps : task_of (codes "hls" ∷ codes "step" ∷ codes "--cycles=4294967295" ∷ []) ≡ Some (Step 4294967295 false)
 unfolding clap_on_literals command_line
 most_steps = refl
 
@@ -147,6 +147,40 @@ cycles_twice : task_of (codes "hls" ∷ codes "step" ∷ codes "--cycles=1" ∷ 
 unfolding clap_on_literals command_line
 cycles_twice = refl
 
+-- ---- entries of a run
+
+runs : task_of (codes "hls" ∷ codes "run" ∷ []) ≡ Some (Run 100000 false)
+unfolding clap_on_literals command_line
+runs = refl
+
+runs_listed : task_of (codes "hls" ∷ codes "run" ∷ codes "--journal" ∷ codes "--entries" ∷ codes "5" ∷ []) ≡ Some (Run 5 true)
+unfolding clap_on_literals command_line
+runs_listed = refl
+
+most_entries : task_of (codes "hls" ∷ codes "run" ∷ codes "--entries=1000000" ∷ []) ≡ Some (Run 1000000 false)
+unfolding clap_on_literals command_line
+most_entries = refl
+
+one_entry_more : task_of (codes "hls" ∷ codes "run" ∷ codes "--entries=1000001" ∷ []) ≡ None
+unfolding clap_on_literals command_line
+one_entry_more = refl
+
+no_entries : task_of (codes "hls" ∷ codes "run" ∷ codes "--entries=0" ∷ []) ≡ None
+unfolding clap_on_literals command_line
+no_entries = refl
+
+journal_twice : task_of (codes "hls" ∷ codes "run" ∷ codes "--journal" ∷ codes "--journal" ∷ []) ≡ None
+unfolding clap_on_literals command_line
+journal_twice = refl
+
+replays : task_of (codes "hls" ∷ codes "replay" ∷ []) ≡ Some Replay
+unfolding clap_on_literals command_line
+replays = refl
+
+replay_of_a_word : task_of (codes "hls" ∷ codes "replay" ∷ codes "journal" ∷ []) ≡ None
+unfolding clap_on_literals command_line
+replay_of_a_word = refl
+
 -- turns of a walk
 walks : task_of (codes "hls" ∷ codes "walk" ∷ codes "--threads" ∷ codes "0*11,1" ∷ []) ≡ Some (Walk (turn 0 11 ∷ turn 1 1 ∷ []))
 unfolding clap_on_literals command_line
@@ -159,3 +193,23 @@ walks_without_turns = refl
 no_turn : task_of (codes "hls" ∷ codes "walk" ∷ codes "--threads=0*0" ∷ []) ≡ None
 unfolding clap_on_literals command_line
 no_turn = refl
+
+dumped : task_of (codes "hls" ∷ codes "step" ∷ codes "--cycles" ∷ codes "100000" ∷ codes "--vcd" ∷ []) ≡ Some (Step 100000 true)
+unfolding clap_on_literals command_line
+dumped = refl
+
+dumped_first : task_of (codes "hls" ∷ codes "step" ∷ codes "--vcd" ∷ codes "--cycles=9" ∷ []) ≡ Some (Step 9 true)
+unfolding clap_on_literals command_line
+dumped_first = refl
+
+dumped_too_long : task_of (codes "hls" ∷ codes "step" ∷ codes "--cycles" ∷ codes "100001" ∷ codes "--vcd" ∷ []) ≡ None
+unfolding clap_on_literals command_line
+dumped_too_long = refl
+
+dumped_with_value : task_of (codes "hls" ∷ codes "step" ∷ codes "--cycles=9" ∷ codes "--vcd=true" ∷ []) ≡ None
+unfolding clap_on_literals command_line
+dumped_with_value = refl
+
+build_dumps_none : task_of (codes "hls" ∷ codes "build" ∷ codes "--vcd" ∷ []) ≡ None
+unfolding clap_on_literals command_line
+build_dumps_none = refl

@@ -1,6 +1,6 @@
 -- The command line as a definition in clap's own data, and what its words ask for. Source: clap's builder, `Command`
 -- and `Arg`. A further command is a line of `commands` and one of `task_in`.
-use Rattle.std.specs.Prelude.{◌&&◌, ℕ, ◌^◌, true, pos, List, [], ◌∷◌, codes, Option, Some, None, if◌then◌else◌, nat_lt, nat_le, option_and_then, option_map, is_some}
+use Rattle.std.specs.Prelude.{◌&&◌, ℕ, ◌^◌, Bool, true, false, pos, List, [], ◌∷◌, codes, Option, Some, None, if◌then◌else◌, nat_lt, nat_le, option_and_then, option_map, is_some}
 use Rattle.std.specs.Str.{bytes_eq}
 use Rattle.std.specs.Str.Parse.{digits_value, without_leading_plus}
 use Rattle.clap.specs.ValueTests.{is_numeral}
@@ -8,6 +8,7 @@ use Rattle.clap.specs.Faults.{fault_of}
 use Rattle.clap.specs.Kinds.{Kinds}
 use Rattle.clap.specs.Simple.{App, new_app, new_rule, on_top, subcommand_of, with_rule, with_subcommand}
 use Rattle.clap.specs.Walk.{Row, Rule, Text, first_of, one_of}
+use Rattle.clap.specs.declared.builder.action.ArgAction.TheVariants.{SetTrue}
 use Rattle.clap.specs.declared.builder.value_parser.ValueParser.TheVariants.{Signed}
 use Rattle.turns.specs.declared.Turn.{Turn}
 use Rattle.turns.specs.Turns.{turns_of}
@@ -29,10 +30,23 @@ required rule = record rule { required = true }
 abbrev pub build_line : App
 build_line = with_rule (new_app (codes "build")) (number_rule (codes "jobs") 1 16)
 
--- step --cycles n
+-- `--NAME`, which reads as `true` where it is given, and else as `false`
+abbrev pub flag_rule : Text → Rule
+flag_rule name = record (new_rule name) { long = Some name; action = Some SetTrue }
+
+-- step --cycles n, with `--vcd` or without
 abbrev pub step_line : App
 step_line =
-    with_rule (new_app (codes "step")) (required (number_rule (codes "cycles") 0 4294967295))
+    with_rule (with_rule (new_app (codes "step")) (required (number_rule (codes "cycles") 0 4294967295)))
+    (flag_rule (codes "vcd"))
+
+-- run, with `--entries n` or without, and with `--journal` or without
+abbrev pub run_line : App
+run_line = with_rule (with_rule (new_app (codes "run")) (number_rule (codes "entries") 1 1000000)) (flag_rule (codes "journal"))
+
+-- replay
+abbrev pub replay_line : App
+replay_line = new_app (codes "replay")
 
 -- `--NAME TEXT`
 abbrev pub text_rule : Text → Rule
@@ -43,7 +57,7 @@ abbrev pub walk_line : App
 walk_line = with_rule (new_app (codes "walk")) (required (text_rule (codes "threads")))
 
 abbrev pub commands : List App
-commands = build_line ∷ step_line ∷ walk_line ∷ []
+commands = build_line ∷ step_line ∷ run_line ∷ replay_line ∷ walk_line ∷ []
 
 -- the program without its commands, of which one has to be given
 abbrev pub program_line : App
@@ -78,9 +92,22 @@ abbrev pub build_in : List Row → Option Task
 build_in rows = option_map (λ n. task.Build n)
     (number_in 1 16 (Some 1) (one_of (codes "jobs") rows))
 
+-- whether a flag is given
+abbrev pub is_set : Option Text → Bool
+is_set None = false
+is_set (Some text) = bytes_eq text (codes "true")
+
+-- a dump is of 100,000 cycles at most
+abbrev pub step_of : Bool → ℕ → Option Task
+step_of vcd n = if vcd && nat_lt 100000 n then None else Some (task.Step n vcd)
+
 abbrev pub step_in : List Row → Option Task
-step_in rows = option_map (λ n. task.Step n)
+step_in rows = option_and_then (step_of (is_set (first_of (codes "vcd") rows)))
     (number_in 0 4294967295 None (one_of (codes "cycles") rows))
+
+abbrev pub run_in : List Row → Option Task
+run_in rows = option_map (λ n. task.Run n (is_set (first_of (codes "journal") rows)))
+    (number_in 1 1000000 (Some 100000) (one_of (codes "entries") rows))
 
 abbrev pub turns_in : Option Text → Option (List Turn)
 turns_in None = None
@@ -94,8 +121,10 @@ abbrev pub task_in : Text → List Row → Option Task
 task_in name rows =
     if bytes_eq name (codes "build") then build_in rows
     else (if bytes_eq name (codes "step") then step_in rows
+    else (if bytes_eq name (codes "run") then run_in rows
+    else (if bytes_eq name (codes "replay") then Some task.Replay
     else (if bytes_eq name (codes "walk") then walk_in rows
-    else None))
+    else None))))
 
 -- x where clap finds no fault
 abbrev pub unless_fails : Kinds → Option Task → Option Task

@@ -3,17 +3,27 @@ ghost use Rattle.clap.specs.Words.{app_of, rule_of, rows_of, one_of, first_of, f
 ghost use Rattle.clap.specs.declared.builder.command.Command.TheViews.{out-Command as fields_of};
 ghost use Rattle.clap.specs.declared.error.kind.ErrorKind.TheVariants.{OutOfMemory};
 ghost use Rattle.hls_words.specs.Line.{build_in, build_line, command_line, in_range, number_in, number_of, number_rule, required};
-ghost use Rattle.hls_words.specs.Line.{step_in, step_line, task_in, task_of, text_rule, turns_in, walk_in, walk_line};
+ghost use Rattle.hls_words.specs.Line.{flag_rule, is_set, replay_line, run_in, run_line, step_in, step_line, task_in, task_of};
+ghost use Rattle.hls_words.specs.Line.{text_rule, turns_in, walk_in, walk_line};
 
 use crate::{Task, WordsError};
 use clap::error::ErrorKind;
-use clap::{Arg, ArgMatches, Command, Error, value_parser};
+use clap::{Arg, ArgAction, ArgMatches, Command, Error, value_parser};
 use sqlite_items::Items;
 use std::alloc::{AllocError, Global};
 use turns::{Turn, turns};
 
 /// The most threads that a build may take.
 const MOST_JOBS: u32 = 16;
+
+/// The most entries of a run's journal.
+const MOST_ENTRIES: u32 = 1_000_000;
+
+/// How many where the words do not say.
+const USUAL_ENTRIES: u32 = 100_000;
+
+/// The most cycles of a dump.
+const MOST_DUMPED: u32 = 100_000;
 
 /// `--NAME n`, n from low to high.
 fn number_option<'a>(alloc: Global, name: &'a str, low: u32, high: u32) -> Arg<'a>
@@ -33,6 +43,14 @@ fn required_number<'a>(alloc: Global, name: &'a str, low: u32, high: u32) -> Arg
     number_option(alloc, name, low, high).required(true)
 }
 
+/// `--NAME`.
+fn flag_option<'a>(alloc: Global, name: &'a str) -> Arg<'a>
+    ensures rule { rule_of result ≡ flag_rule name.entry.now }
+    ensures local { result.global ≡ false }
+{
+    Arg::new(alloc, name).long(name).action(ArgAction::SetTrue)
+}
+
 fn build_command<'a>(alloc: Global) -> Result<Command<'a>, AllocError>
     ensures { IfOk result (λ c. (app_of c ≡ build_line) × ((fields_of c).has_globals ≡ false)) }
 {
@@ -44,7 +62,22 @@ fn step_command<'a>(alloc: Global) -> Result<Command<'a>, AllocError>
     ensures { IfOk result (λ c. (app_of c ≡ step_line) × ((fields_of c).has_globals ≡ false)) }
 {
     let cycles = required_number(alloc, "cycles", 0, u32::MAX);
-    Command::new(alloc, "step").arg(cycles)
+    let vcd = flag_option(alloc, "vcd");
+    Command::new(alloc, "step").arg(cycles)?.arg(vcd)
+}
+
+fn run_command<'a>(alloc: Global) -> Result<Command<'a>, AllocError>
+    ensures { IfOk result (λ c. (app_of c ≡ run_line) × ((fields_of c).has_globals ≡ false)) }
+{
+    let entries = number_option(alloc, "entries", 1, MOST_ENTRIES);
+    let journal = flag_option(alloc, "journal");
+    Command::new(alloc, "run").arg(entries)?.arg(journal)
+}
+
+fn replay_command<'a>(alloc: Global) -> Command<'a>
+    ensures { (app_of result ≡ replay_line) × ((fields_of result).has_globals ≡ false) }
+{
+    Command::new(alloc, "replay")
 }
 
 /// `--NAME TEXT`, which has to be given.
@@ -77,7 +110,9 @@ fn whole_command<'a>(alloc: Global) -> Result<Command<'a>, AllocError>
     let program = Command::new(alloc, "hls").subcommand_required(true);
     let build = with_command(program, build_command(alloc)?)?;
     let step = with_command(build, step_command(alloc)?)?;
-    with_command(step, walk_command(alloc)?)
+    let run = with_command(step, run_command(alloc)?)?;
+    let replay = with_command(run, replay_command(alloc))?;
+    with_command(replay, walk_command(alloc)?)
 }
 
 fn is_given(matches: &ArgMatches<'_>, id: &str) -> bool
@@ -125,17 +160,39 @@ fn build_task(matches: &ArgMatches<'_>) -> Option<Task>
     Some(Task::Build { jobs })
 }
 
+/// Whether a flag is set.
+fn is_set(matches: &ArgMatches<'_>, id: &str) -> bool
+    ensures { result ≡ is_set (first_of id.now (rows_of (found_of matches.now))) }
+{
+    match text(matches, id) {
+        Some(text) => text == "true",
+        None => false,
+    }
+}
+
 fn step_task(matches: &ArgMatches<'_>) -> Option<Task>
     ensures { result ≡ step_in (rows_of (found_of matches.now)) }
 {
     let cycles = number(matches, "cycles", 0, u32::MAX, None)?;
-    Some(Task::Step { cycles })
+    let vcd = is_set(matches, "vcd");
+    if vcd && cycles > MOST_DUMPED {
+        return None;
+    }
+    Some(Task::Step { cycles, vcd })
 }
 
 fn text<'a>(matches: &ArgMatches<'a>, id: &str) -> Option<&'a str>
     ensures { option_map (λ t. t.now) result ≡ first_of id.now (rows_of (found_of matches.now)) }
 {
     matches.get_str(id)
+}
+
+fn run_task(matches: &ArgMatches<'_>) -> Option<Task>
+    ensures { result ≡ run_in (rows_of (found_of matches.now)) }
+{
+    let journal = is_set(matches, "journal");
+    let entries = number(matches, "entries", 1, MOST_ENTRIES, Some(USUAL_ENTRIES))?;
+    Some(Task::Run { entries, journal })
 }
 
 /// The turns that a text lists, where it is there.
@@ -162,6 +219,8 @@ fn task(alloc: Global, name: &str, matches: &ArgMatches<'_>) -> Result<Option<Ta
     match name {
         "build" => Ok(build_task(matches)),
         "step" => Ok(step_task(matches)),
+        "run" => Ok(run_task(matches)),
+        "replay" => Ok(Some(Task::Replay)),
         "walk" => walk_task(alloc, matches),
         _ => Ok(None),
     }

@@ -7,8 +7,12 @@ use turns::Turn;
 pub enum Task {
     /// Write the Verilog text of the C text; so many threads at most make it.
     Build { jobs: u32 },
-    /// Run the Verilog for so many cycles at most.
-    Step { cycles: u32 },
+    /// Run the Verilog for so many cycles at most. With `vcd` a value change dump takes the place of what was printed.
+    Step { cycles: u32, vcd: bool },
+    /// Run the Verilog by a worker for each thread, for so many entries at most, and list the journal where asked.
+    Run { entries: u32, journal: bool },
+    /// Do the journal that the text begins with again.
+    Replay,
     /// Take C steps of threads, in these turns.
     Walk(Items<Turn>),
 }

@@ -1,4 +1,4 @@
-use Rattle.hls_tool.specs.Inside.{due_of}
+use Rattle.hls_commands.specs.Inside.{due_of}
 use Rattle.hls_tool.proofs.RefusedLemmas.{tells_refusal}
 use Rattle.hls_tool.proofs.CompleteLemmas.{completes}
 use Rattle.hls_tool.proofs.DeliveryLemmas.{may_be_owed}
@@ -11,13 +11,14 @@ returns-clause-answered g c = record {
   owes = c.answer-answer.ensures.owes;
   ends = c.deliver.ensures.ends;
   text = c.deliver.ensures.text;
+  journal = c.deliver.ensures.journal;
 }
 
 pub returns-clause-refuses : goal.returns-clause-refuses
-returns-clause-refuses g c = λ text r left refused. tells_refusal _ _ _ _ _ _ text r (returns-clause-answered g c) left refused
+returns-clause-refuses g c = λ whole r left refused. tells_refusal _ _ _ _ _ _ whole r (returns-clause-answered g c) left refused
 
 pub returns-clause-completes : goal.returns-clause-completes
-returns-clause-completes g c = λ task P asked is calm out err. completes _ _ _ _ _ _ task P (returns-clause-answered g c) asked is calm out err
+returns-clause-completes g c = λ task P asked calm out err. completes _ _ _ _ _ _ task P (returns-clause-answered g c) asked calm out err
 
 pub returns-clause-tells_end : goal.returns-clause-tells_end
 returns-clause-tells_end g c = λ turns P end output asked walk. tells_end _ _ _ _ _ _ turns P (returns-clause-answered g c) asked end output walk

@@ -10,5 +10,7 @@ returns c =
     let program_is : app_of c.subcommand_required-program.result ≡ program_line = search rules in
     let first = c.in_ok-build.ensures ∙ ap₂ with_subcommand program_is (ap (λ (a : App). a.top) c.in_ok-build_command.ensures.0) in
     let second = c.in_ok-step.ensures ∙ ap₂ with_subcommand first (ap (λ (a : App). a.top) c.in_ok-step_command.ensures.0) in
-    IfOk-weaker c.with_command-3.result _ _
-    (λ last h. h ∙ ap₂ with_subcommand second (ap (λ (a : App). a.top) c.in_ok-walk_command.ensures.0)) c.with_command-3.ensures
+    let third = c.in_ok-run.ensures ∙ ap₂ with_subcommand second (ap (λ (a : App). a.top) c.in_ok-run_command.ensures.0) in
+    let fourth = c.in_ok-replay.ensures ∙ ap₂ with_subcommand third (ap (λ (a : App). a.top) c.replay_command.ensures.0) in
+    IfOk-weaker c.with_command-5.result _ _
+    (λ last h. h ∙ ap₂ with_subcommand fourth (ap (λ (a : App). a.top) c.in_ok-walk_command.ensures.0)) c.with_command-5.ensures

@@ -1,0 +1,252 @@
+-- What a call owes for the task that its words ask for and the text that its source gives.
+use Rattle.std.specs.Prelude.{◌≡◌, ◌⊎◌, ℕ, ◌<◌, ◌≤◌, Bool, true, false, List, [], ◌++◌, length, drop, Option, Some, None, IfSome, IsSome}
+use Rattle.hls_words.specs.declared.task.Task.{Task}
+use Rattle.hls_words.specs.declared.task.Task.TheVariants.{Build, Step, Run, Replay, Walk}
+use Rattle.turns.specs.declared.Turn.{Turn}
+use Rattle.turns.specs.Turns.{threads_of}
+use Rattle.c_program.specs.Tree.{Program}
+use Rattle.c_program.specs.Weight.{thread_count}
+use Rattle.c_interpreter.specs.declared.walk.WalkEnd.{WalkEnd as Ends}
+use Rattle.c_interpreter.specs.declared.walk.WalkEnd.TheVariants as ends
+use Rattle.c_interpreter.specs.Walk.{IsWalk}
+use Rattle.c_accepted.specs.declared.refusal.Refusal.{Refusal}
+use Rattle.c_accepted.specs.declared.refusal.Refusal.TheVariants as refusal
+use Rattle.c_accepted.specs.Profile.{most_bytes, IsAccepted, IsRefused}
+use Rattle.netlist.specs.declared.netlist.Module.{Module}
+use Rattle.netlist.specs.declared.netlist.Netlist.{Netlist}
+use Rattle.hls_compile.specs.Compiled.{IsCompiled}
+use Rattle.round_robin.specs.Round.{IsRound}
+use Rattle.vcd_trace.specs.Trace.{IsTraced}
+use Rattle.journal_text.specs.declared.entry.Entry.{Entry}
+use Rattle.journal_text.specs.Texts.{IsParted}
+use Rattle.journal_laws.specs.declared.verdict.Verdict.{Verdict}
+use Rattle.journal_laws.specs.declared.verdict.Verdict.TheVariants as verdicts
+use Rattle.hardware_threads.specs.Run.{IsRan}
+use Rattle.verdict_lines.specs.Lines.{listed_lines, summary, bad_entry_line}
+use Rattle.replay_command.specs.Replays.{AreRun, IsFirstBad}
+use Rattle.hls_status.specs.declared.status.Status.{Status}
+use Rattle.hls_status.specs.declared.status.Status.TheVariants as status
+use Rattle.hls_status.specs.declared.status.WalkEnd.{WalkEnd}
+use Rattle.hls_status.specs.declared.status.WalkEnd.TheVariants as walked
+use Rattle.hls_status.specs.Lines.{built_line, cycles_line, memory_line, read_fault_line, refusal_line, usage_line, walk_line}
+
+-- what a call owes: its status, the Verilog, the journal, the bytes for out and the lines for err
+pub record Due : Type 0 where
+  pub status : Status
+  pub text : List ℕ
+  pub journal : List Entry
+  pub out : List ℕ
+  pub err : List ℕ
+
+-- no text, no journal, nothing for out, and this line
+pub record IsPlain (d : Due) (line : List ℕ) : Type 0 where
+  pub text : d.text ≡ []
+  pub journal : d.journal ≡ []
+  pub out : d.out ≡ []
+  pub err : d.err ≡ line
+
+-- ---- the text read
+
+-- the source gave this text to its end, where it tells
+abbrev pub Gave : Option (List ℕ) → List ℕ → Type 0
+Gave left text = IfSome left (λ bytes. text ≡ bytes)
+
+-- the source gave a text with this refusal, or one that is too long, of which the rest was not read
+abbrev pub IsRefusedBy : Option (List ℕ) → Refusal → Type 0
+IsRefusedBy left refusal.TooLong = IfSome left (λ bytes. most_bytes < length bytes)
+IsRefusedBy left r = (text : List ℕ) × Gave left text × IsRefused text r
+
+-- the most bytes of a text that begins with a journal
+abbrev pub most_replayed : ℕ
+most_replayed = 16777216
+
+-- the source gave a text that begins with a journal, of these entries before the first that is misspelt, and behind it is the C text
+pub record GaveJournal (left : Option (List ℕ)) (entries : List Entry) (bad : Option ℕ) (text : List ℕ) : Type 0 where
+  pub whole : List ℕ
+  pub gave : Gave left whole
+  pub short : length whole ≤ most_replayed
+  pub rest : ℕ
+  pub parted : IsParted whole entries bad rest
+  pub behind : text ≡ drop rest whole
+
+-- the source gave this C text to a task: all that it has, or what follows the journal
+abbrev pub GaveTo : Option Task → Option (List ℕ) → List ℕ → Type 0
+GaveTo (Some Replay) left text = (entries : List Entry) × (bad : Option ℕ) × GaveJournal left entries bad text
+GaveTo other left text = Gave left text
+
+-- a journal and a text that are too long together, or a text with this refusal behind a journal
+abbrev pub IsReplayRefused : Option (List ℕ) → Refusal → Type 0
+IsReplayRefused left r =
+    ((r ≡ refusal.TooLong) × IfSome left (λ bytes. most_replayed < length bytes)) ⊎ ((text : List ℕ) × GaveTo (Some Replay) left text × IsRefused text r)
+
+-- the text that the source gave to the task has this refusal
+abbrev pub IsRefusedFor : Option Task → Option (List ℕ) → Refusal → Type 0
+IsRefusedFor (Some Replay) left r = IsReplayRefused left r
+IsRefusedFor other left r = IsRefusedBy left r
+
+-- ---- what each command owes
+
+-- the text is accepted as a program of this weight, and its Verilog, good Verilog of the program, goes to out
+pub record IsBuilt (left : Option (List ℕ)) (d : Due) : Type 0 where
+  pub text : List ℕ
+  pub program : Program
+  pub weight : ℕ
+  pub net : Netlist
+  pub gave : Gave left text
+  pub compiled : IsCompiled text program weight net d.text
+  pub unlisted : d.journal ≡ []
+  pub out : d.out ≡ d.text
+  pub err : d.err ≡ built_line (thread_count program) weight (length d.text)
+
+-- main returned, or the walk ended before
+abbrev pub status_of : Ends → Status
+status_of (ends.Ended steps) = status.Ok
+status_of (ends.Listed steps) = status.Walked (walked.Listed steps)
+status_of (ends.Blocked index thread cause) = status.Walked (walked.Blocked index thread cause)
+status_of (ends.Undefined index offset cause) = status.Walked (walked.Undefined index offset cause)
+
+-- the text is accepted as a program, the listed threads took steps of it up to this end, and what was printed goes to out
+pub record IsWalked (turns : List Turn) (left : Option (List ℕ)) (d : Due) (s : Status) : Type 0 where
+  pub text : List ℕ
+  pub program : Program
+  pub weight : ℕ
+  pub gave : Gave left text
+  pub accepted : IsAccepted text program weight
+  pub end : Ends
+  pub walked : IsWalk program (threads_of turns) end d.out
+  pub status : s ≡ status_of end
+  pub plain : d.text ≡ []
+  pub unlisted : d.journal ≡ []
+  pub err : d.err ≡ walk_line end
+
+-- what goes to out: what the net writes, or its dump
+abbrev pub RunsAs : Bool → List Module → ℕ → ℕ → ℕ → Bool → List ℕ → Type 0
+RunsAs true modules threads most cycles done out = IsTraced modules threads most cycles done out
+RunsAs false modules threads most cycles done out = IsRound modules threads most cycles done out
+
+-- the text is accepted as a program; of the net that its good Verilog reads as, so many cycles ran under the choices of `top_rr`,
+-- the fewest after which done is shown, or else so many as were asked for; and what was written goes to out, or the dump in its place
+pub record IsRun (most : ℕ) (vcd : Bool) (left : Option (List ℕ)) (d : Due) (cycles : ℕ) (done : Bool) : Type 0 where
+  pub text : List ℕ
+  pub program : Program
+  pub weight : ℕ
+  pub net : Netlist
+  pub gave : Gave left text
+  pub compiled : IsCompiled text program weight net d.text
+  pub unlisted : d.journal ≡ []
+  pub ran : RunsAs vcd net.modules (thread_count program) most cycles done d.out
+  pub err : d.err ≡ cycles_line done cycles
+
+-- done is shown, or not
+abbrev pub run_status : Bool → ℕ → Status
+run_status true cycles = status.Ok
+run_status false cycles = status.Cycles cycles
+
+abbrev pub IsStepped : ℕ → Bool → Option (List ℕ) → Due → Status → Type 0
+IsStepped most vcd left d s = (cycles : ℕ) × (done : Bool) × IsRun most vcd left d cycles done × (s ≡ run_status done cycles)
+
+-- the text is accepted as a program; of the net that its good Verilog reads as, a run made this journal of at most so many entries, which
+-- are legal and full; what its choices print goes to out, and this is the verdict on the state that they lead to
+pub record IsRunBy (most : ℕ) (listed : Bool) (left : Option (List ℕ)) (d : Due) (v : Verdict) : Type 0 where
+  pub text : List ℕ
+  pub program : Program
+  pub weight : ℕ
+  pub net : Netlist
+  pub gave : Gave left text
+  pub compiled : IsCompiled text program weight net d.text
+  pub ran : IsRan net.modules (thread_count program) most d.journal d.out v
+  pub err : d.err ≡ listed_lines listed d.journal ++ summary d.journal v
+
+-- the text behind the journal is accepted as a program, the entries of the journal are legal on the net that its good Verilog reads as,
+-- what their choices print goes to out, and this is the verdict on the state that they lead to
+pub record IsReplayed (left : Option (List ℕ)) (d : Due) (v : Verdict) : Type 0 where
+  pub text : List ℕ
+  pub program : Program
+  pub weight : ℕ
+  pub net : Netlist
+  pub gave : GaveJournal left d.journal None text
+  pub compiled : IsCompiled text program weight net d.text
+  pub run : AreRun net.modules (thread_count program) d.journal d.out v
+  pub err : d.err ≡ summary d.journal v
+
+-- the text behind the journal is accepted as a program, and on the net that its good Verilog reads as this is the first entry that is not
+-- legal, or misspelt
+pub record HasBadEntry (left : Option (List ℕ)) (d : Due) (index : ℕ) : Type 0 where
+  pub text : List ℕ
+  pub program : Program
+  pub weight : ℕ
+  pub net : Netlist
+  pub entries : List Entry
+  pub bad : Option ℕ
+  pub gave : GaveJournal left entries bad text
+  pub compiled : IsCompiled text program weight net d.text
+  pub first : IsFirstBad net.modules (thread_count program) entries bad index
+  pub unlisted : d.journal ≡ []
+  pub out : d.out ≡ []
+  pub err : d.err ≡ bad_entry_line index
+
+-- the verdict on the journal of a run or a replay
+abbrev pub IsJudged : Option Task → Option (List ℕ) → Due → Verdict → Type 0
+IsJudged (Some (Run most listed)) left d v = IsRunBy most listed left d v
+IsJudged (Some Replay) left d v = IsReplayed left d v
+IsJudged other left d v = ⊥
+
+abbrev pub verdict_status : Verdict → Status
+verdict_status verdicts.Done = status.Ok
+verdict_status verdicts.Stuck = status.Stuck
+verdict_status verdicts.Entries = status.Entries
+
+abbrev pub HasBad : Option Task → Option (List ℕ) → Due → ℕ → Type 0
+HasBad (Some Replay) left d index = HasBadEntry left d index
+HasBad other left d index = ⊥
+
+abbrev pub IsVerdict : Option Task → Option (List ℕ) → Verdict → Type 0
+IsVerdict task left v = (d : Due) × IsJudged task left d v
+
+abbrev pub IsBadEntryOf : Option Task → Option (List ℕ) → ℕ → Type 0
+IsBadEntryOf task left index = (d : Due) × HasBad task left d index
+
+-- the task did all that it asks for
+abbrev pub Succeeds : Option Task → Option (List ℕ) → Due → Type 0
+Succeeds None left d = ⊥
+Succeeds (Some (Build jobs)) left d = IsBuilt left d
+Succeeds (Some (Step most vcd)) left d = (cycles : ℕ) × IsRun most vcd left d cycles true
+Succeeds (Some (Run most listed)) left d = IsRunBy most listed left d verdicts.Done
+Succeeds (Some Replay) left d = IsReplayed left d verdicts.Done
+Succeeds (Some (Walk turns)) left d = IsWalked turns left d status.Ok
+
+-- a walk ended so, before main returned
+abbrev pub Halts : Option Task → Option (List ℕ) → Due → Status → Type 0
+Halts (Some (Walk turns)) left d s = IsWalked turns left d s
+Halts other left d s = ⊥
+
+-- all cycles that the words ask for ran, and done is not shown
+abbrev pub RunsOut : Option Task → Option (List ℕ) → Due → ℕ → Type 0
+RunsOut (Some (Step most vcd)) left d cycles = IsRun most vcd left d cycles false
+RunsOut other left d cycles = ⊥
+
+abbrev pub HasRunOut : Option Task → Option (List ℕ) → ℕ → Type 0
+HasRunOut task left cycles = (d : Due) × RunsOut task left d cycles
+
+-- the words ask for a walk, and the program of the text comes to this end by it
+abbrev pub IsWalkEnd : Option Task → Option (List ℕ) → WalkEnd → Type 0
+IsWalkEnd task left end = (d : Due) × Halts task left d (status.Walked end)
+
+-- ---- one line for each status
+
+-- `task` is what the words ask for, `left` what the source has, and `rose` that its count of faults rose
+abbrev pub OwesAt : Option Task → Option (List ℕ) → Type 0 → Due → Status → Type 0
+OwesAt task left rose d status.Ok = Succeeds task left d
+OwesAt task left rose d (status.Refused r) = IsSome task × IsRefusedFor task left r × IsPlain d (refusal_line r)
+OwesAt task left rose d status.Usage = (task ≡ None) × IsPlain d usage_line
+OwesAt task left rose d status.ReadFault = IsSome task × rose × IsPlain d read_fault_line
+OwesAt task left rose d (status.WriteFault out err) = ⊥
+OwesAt task left rose d status.Memory = IsPlain d memory_line
+OwesAt task left rose d status.Entries = IsJudged task left d verdicts.Entries
+OwesAt task left rose d status.Stuck = IsJudged task left d verdicts.Stuck
+OwesAt task left rose d (status.BadEntry index) = HasBad task left d index
+OwesAt task left rose d (status.Walked end) = Halts task left d (status.Walked end)
+OwesAt task left rose d (status.Cycles cycles) = RunsOut task left d cycles
+
+abbrev pub Owes : Option Task → Option (List ℕ) → Type 0 → Due → Type 0
+Owes task left rose d = OwesAt task left rose d d.status

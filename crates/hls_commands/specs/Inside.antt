@@ -1,0 +1,76 @@
+-- How the code holds what it owes, and the parts of a command.
+use Rattle.std.specs.Prelude.{◌≡◌, ◌⊎◌, ℕ, List, [], string_bytes, Option, ⊤}
+use Rattle.hls_words.specs.declared.task.Task.{Task}
+use Rattle.hls_compile.specs.declared.CompileError.{CompileError}
+use Rattle.hls_compile.specs.declared.CompileError.TheVariants as error
+use Rattle.journal_laws.specs.declared.verdict.Verdict.{Verdict}
+use Rattle.replay_command.specs.declared.replay.ReplayAnswer.{ReplayAnswer}
+use Rattle.replay_command.specs.declared.replay.ReplayAnswer.TheVariants.{Replayed, BadEntry}
+use Rattle.hls_status.specs.declared.status.Status.{Status}
+use Rattle.hls_status.specs.declared.status.Status.TheVariants as status
+use Rattle.hls_commands.specs.declared.commands.Stop.{Stop}
+use Rattle.hls_commands.specs.declared.commands.Stop.TheVariants as stop
+use Rattle.hls_commands.specs.declared.answer.Answer.{Answer}
+use Rattle.hls_commands.specs.declared.answer.Out.{Out}
+use Rattle.hls_commands.specs.declared.answer.Out.TheVariants as to_out
+use Rattle.hls_commands.specs.declared.answer.Line.{Line}
+use Rattle.hls_commands.specs.declared.answer.Line.TheVariants as line
+use Rattle.hls_commands.specs.Answers.{Due, HasBadEntry, IsPlain, IsRefusedFor, IsReplayed, verdict_status}
+use Rattle.hls_status.specs.Lines.{memory_line, read_fault_line, refusal_line}
+
+-- ---- the bytes that an answer owes
+
+abbrev pub out_bytes : List ℕ → Out → List ℕ
+out_bytes text to_out.Nothing = []
+out_bytes text to_out.Text = text
+out_bytes text (to_out.Printed bytes) = bytes
+
+abbrev pub line_bytes : Line → List ℕ
+line_bytes (line.Fixed bytes) = bytes.now
+line_bytes (line.Made text) = string_bytes text
+line_bytes (line.Lines bytes) = bytes
+
+abbrev pub due_of : Answer → Due
+due_of a = record {
+  status = a.status;
+  text = a.text;
+  journal = a.journal;
+  out = out_bytes a.text a.out;
+  err = line_bytes a.line;
+}
+
+-- ---- the parts of a command
+
+-- a command that stops early has a cause
+abbrev pub StopsBy : Option Task → Option (List ℕ) → Type 0 → Stop → Type 0
+StopsBy task left rose stop.ReadFault = rose
+StopsBy task left rose (stop.Refused r) = IsRefusedFor task left r
+StopsBy task left rose stop.Memory = ⊤
+
+-- why a text has no Verilog
+abbrev pub stop_of : CompileError → Stop
+stop_of (error.Refused r) = stop.Refused r
+stop_of error.Memory = stop.Memory
+
+-- the answer to a stop; want of memory may stand in its place
+abbrev pub StopStatus : Stop → Due → Status → Type 0
+StopStatus s a status.Memory = IsPlain a memory_line
+StopStatus s a status.ReadFault = (s ≡ stop.ReadFault) × IsPlain a read_fault_line
+StopStatus s a (status.Refused r) = (s ≡ stop.Refused r) × IsPlain a (refusal_line r)
+StopStatus s a _ = ⊥
+
+abbrev pub AnswersStop : Stop → Due → Type 0
+AnswersStop s a = StopStatus s a a.status
+
+-- ---- replays
+
+-- the answer of a replay whose net has this text
+abbrev pub IsAnswerOf : List ℕ → ReplayAnswer → Due → Status → Type 0
+IsAnswerOf text (Replayed v output journal line) d s =
+    (s ≡ verdict_status v) × (d.text ≡ text) × (d.journal ≡ journal) × (d.out ≡ output) × (d.err ≡ string_bytes line)
+IsAnswerOf text (BadEntry index line) d s =
+    (s ≡ status.BadEntry index) × (d.text ≡ text) × (d.journal ≡ []) × (d.out ≡ []) × (d.err ≡ string_bytes line)
+
+abbrev pub IsReplayOrBad : Option (List ℕ) → Due → Status → Type 0
+IsReplayOrBad left d s =
+    ((v : Verdict) × IsReplayed left d v × (s ≡ verdict_status v)) ⊎ ((index : ℕ) × HasBadEntry left d index × (s ≡ status.BadEntry index))

@@ -1,0 +1,6 @@
+//! What each command of the tool owes, before a byte is written.
+#![tactic(auto)]
+
+pub mod answer;
+pub mod commands;
+pub mod runs;

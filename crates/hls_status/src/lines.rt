@@ -1,0 +1,194 @@
+// The lines on err.
+
+ghost use Rattle.std.specs.Prelude.{◌≡◌, IfOk, string_bytes};
+ghost use Rattle.hls_status.specs.Lines as lines;
+
+use c_interpreter::walk::WalkEnd;
+use c_limits::Passed;
+use c_profile::Refusal;
+use c_types::Rule;
+use hls_ints::ArithmeticFault;
+use std::alloc::{AllocError, Global};
+use thread_semantics::{BlockedCause, UndefinedCause};
+
+pub const USAGE: &[u8] = b"hls: usage\n";
+
+pub const READ_FAULT: &[u8] = b"hls: read fault\n";
+
+pub const WRITE_FAULT: &[u8] = b"hls: write fault\n";
+
+pub const MEMORY: &[u8] = b"hls: out of memory\n";
+
+/// What a rule says.
+fn words_of(rule: Rule) -> &'static str
+    ensures { result.now ≡ lines.words_of rule }
+{
+    match rule {
+        Rule::Unknown => "unknown name",
+        Rule::Twice => "declared twice",
+        Rule::Kind => "wrong kind",
+        Rule::Arguments => "argument count",
+        Rule::Recursive => "recursion",
+        Rule::Threads => "thread rule",
+        Rule::Place => "out of place",
+        Rule::Constant => "constant out of range",
+        Rule::Format => "format",
+    }
+}
+
+fn refused_at(alloc: Global, number: u8, offset: usize, words: &str) -> Result<String, AllocError>
+    ensures { IfOk result (λ s. string_bytes s ≡ lines.refused_at number offset words.now) }
+{
+    format!(in alloc; "hls: refused E{number} at byte {offset}: {words}\n")
+}
+
+fn limit_words(alloc: Global, passed: Passed) -> Result<String, AllocError>
+    ensures { IfOk result (λ s. string_bytes s ≡ lines.limit_words passed) }
+{
+    let name = passed.limit.name();
+    let count = passed.count;
+    let most = passed.limit.most();
+    format!(in alloc; "{name} {count}, at most {most}")
+}
+
+fn limit_line(alloc: Global, passed: Passed) -> Result<String, AllocError>
+    ensures { IfOk result (λ s. string_bytes s ≡ lines.limit_line passed) }
+{
+    let words = limit_words(alloc, passed)?;
+    format!(in alloc; "hls: refused E12: {words}\n")
+}
+
+fn limit_line_at(alloc: Global, passed: Passed, offset: usize) -> Result<String, AllocError>
+    ensures { IfOk result (λ s. string_bytes s ≡ lines.refused_at 12 offset (lines.limit_words passed)) }
+{
+    let words = limit_words(alloc, passed)?;
+    refused_at(alloc, 12, offset, &words)
+}
+
+/// The line of a refusal.
+pub fn refusal_line(alloc: Global, refusal: Refusal) -> Result<String, AllocError>
+    ensures { IfOk result (λ s. string_bytes s ≡ lines.refusal_line refusal) }
+{
+    match refusal {
+        Refusal::TooLong => String::from_str(alloc, "hls: refused E1: longer than 65536 bytes\n"),
+        Refusal::NoToken { offset } => refused_at(alloc, 2, offset, "no token"),
+        Refusal::Syntax { offset } => refused_at(alloc, 3, offset, "syntax"),
+        Refusal::Broken { rule, offset } => {
+            refused_at(alloc, rule.number(), offset, words_of(rule))
+        }
+        Refusal::NoMain => String::from_str(alloc, "hls: refused E14: no main\n"),
+        Refusal::LimitAt { passed, offset } => limit_line_at(alloc, passed, offset),
+        Refusal::Limit(passed) => limit_line(alloc, passed),
+    }
+}
+
+/// The line of a build.
+pub fn built_line(
+    alloc: Global,
+    threads: u128,
+    weight: u32,
+    bytes: usize,
+) -> Result<String, AllocError>
+    ensures { IfOk result (λ s. string_bytes s ≡ lines.built_line threads weight bytes) }
+{
+    format!(in alloc; "hls: built, {threads} threads, weight {weight}, {bytes} bytes\n")
+}
+
+fn arithmetic_words(fault: ArithmeticFault) -> &'static str
+    ensures { result.now ≡ lines.arithmetic_words fault }
+{
+    match fault {
+        ArithmeticFault::Overflow => "overflow",
+        ArithmeticFault::Divisor => "divisor",
+        ArithmeticFault::Shift => "shift",
+    }
+}
+
+/// Why a step is undefined.
+fn undefined_words(cause: UndefinedCause) -> &'static str
+    ensures { result.now ≡ lines.undefined_words cause }
+{
+    match cause {
+        UndefinedCause::Arithmetic(fault) => arithmetic_words(fault),
+        UndefinedCause::Index => "index",
+        UndefinedCause::Unwritten => "unwritten",
+        UndefinedCause::NoValue => "no value",
+        UndefinedCause::ThreadId => "thread id",
+        UndefinedCause::Mutex => "mutex",
+        UndefinedCause::Barrier => "barrier",
+        UndefinedCause::LiveThread => "live thread",
+    }
+}
+
+/// What a thread waits for.
+fn blocked_words(cause: BlockedCause) -> &'static str
+    ensures { result.now ≡ lines.blocked_words cause }
+{
+    match cause {
+        BlockedCause::Join => "join",
+        BlockedCause::Mutex => "mutex",
+        BlockedCause::Barrier => "barrier",
+        BlockedCause::NotRunning => "not running",
+    }
+}
+
+/// The line of a run of so many cycles.
+pub fn cycles_line(alloc: Global, is_done: bool, cycles: u32) -> Result<String, AllocError>
+    ensures { IfOk result (λ s. string_bytes s ≡ lines.cycles_line is_done cycles) }
+{
+    if is_done {
+        format!(in alloc; "hls: done, {cycles} cycles\n")
+    } else {
+        format!(in alloc; "hls: not done, {cycles} cycles\n")
+    }
+}
+
+fn steps_line(alloc: Global, word: &str, steps: u128) -> Result<String, AllocError>
+    ensures { IfOk result (λ s. string_bytes s ≡ lines.steps_line word.now steps) }
+{
+    format!(in alloc; "hls: {word}, {steps} steps\n")
+}
+
+fn blocked_line(
+    alloc: Global,
+    index: u128,
+    thread: u32,
+    cause: BlockedCause,
+) -> Result<String, AllocError>
+    ensures { IfOk result (λ s. string_bytes s ≡ lines.blocked_line index thread cause) }
+{
+    let words = blocked_words(cause);
+    format!(in alloc; "hls: blocked at step {index}, thread {thread}: {words}\n")
+}
+
+fn undefined_line(
+    alloc: Global,
+    index: u128,
+    offset: u32,
+    cause: UndefinedCause,
+) -> Result<String, AllocError>
+    ensures { IfOk result (λ s. string_bytes s ≡ lines.undefined_line index offset cause) }
+{
+    let words = undefined_words(cause);
+    format!(in alloc; "hls: undefined at step {index}, byte {offset}: {words}\n")
+}
+
+/// The line of a walk.
+pub fn walk_line(alloc: Global, end: WalkEnd) -> Result<String, AllocError>
+    ensures { IfOk result (λ s. string_bytes s ≡ lines.walk_line end) }
+{
+    match end {
+        WalkEnd::Ended { steps } => steps_line(alloc, "ended", steps),
+        WalkEnd::Listed { steps } => steps_line(alloc, "listed", steps),
+        WalkEnd::Blocked {
+            index,
+            thread,
+            cause,
+        } => blocked_line(alloc, index, thread, cause),
+        WalkEnd::Undefined {
+            index,
+            offset,
+            cause,
+        } => undefined_line(alloc, index, offset, cause),
+    }
+}

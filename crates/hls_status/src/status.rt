@@ -1,0 +1,72 @@
+ghost use Rattle.std.specs.Prelude.{◌≡◌};
+ghost use Rattle.hls_status.specs.Lines.{status_number};
+
+use c_profile::Refusal;
+use thread_semantics::{BlockedCause, UndefinedCause};
+
+/// How a walk ended whose steps did not end main. Steps are counted from 0.
+#[derive(Clone, Copy, Debug, PartialEq, Eq)]
+pub enum WalkEnd {
+    /// All listed steps are taken.
+    Listed {
+        steps: u128,
+    },
+    /// The step of that index is blocked.
+    Blocked {
+        index: u128,
+        thread: u32,
+        cause: BlockedCause,
+    },
+    /// The step of that index is undefined, by the statement, operand or brace at an offset.
+    Undefined {
+        index: u128,
+        offset: u32,
+        cause: UndefinedCause,
+    },
+}
+
+/// How a call ended.
+#[derive(Clone, Copy, Debug, PartialEq, Eq)]
+pub enum Status {
+    Ok,
+    /// The text is not of the profile.
+    Refused(Refusal),
+    /// The words are not of the command line.
+    Usage,
+    /// A read failed.
+    ReadFault,
+    /// A write failed; how many of the due bytes each sink took.
+    WriteFault { out: usize, err: usize },
+    Memory,
+    /// A run or a replay has as many entries as it may have; done is not shown, and a thread can move.
+    Entries,
+    /// In a run or a replay done is not shown, and no cycle of one thread changes anything.
+    Stuck,
+    /// The entry of that index is the first of a replay's journal that is not legal, or misspelt.
+    BadEntry { index: usize },
+    /// Main has not returned in the steps of the walk.
+    Walked(WalkEnd),
+    /// So many cycles ran, and done is not shown.
+    Cycles { cycles: u32 },
+}
+
+impl Status {
+    /// The program's exit status.
+    pub fn number(self) -> u8
+        ensures { result ≡ status_number self }
+    {
+        match self {
+            Status::Ok => 0,
+            Status::Refused(_) => 1,
+            Status::Usage => 2,
+            Status::ReadFault => 3,
+            Status::WriteFault { .. } => 4,
+            Status::Memory => 5,
+            Status::Entries => 6,
+            Status::Stuck => 7,
+            Status::BadEntry { .. } => 8,
+            Status::Cycles { .. } => 9,
+            Status::Walked(_) => 10,
+        }
+    }
+}
