@@ -35,7 +35,10 @@ fn takes_the_commands(rt: HostRuntime) -> Result<(), Fail> {
     assert!(rt;
         matches!(
             parse(alloc, words.as_slice()),
-            Ok(Task::Step { cycles: 3136 })
+            Ok(Task::Step {
+                cycles: 3136,
+                vcd: false
+            })
         )
     );
     for line in [
@@ -87,7 +90,7 @@ fn reads_the_number_of_jobs(rt: HostRuntime) -> Result<(), Fail> {
 fn cycles_of(alloc: Global, line: &str) -> Result<Option<u32>, AllocError> {
     let words = words_of(alloc, line)?;
     match parse(alloc, words.as_slice()) {
-        Ok(Task::Step { cycles }) => Ok(Some(cycles)),
+        Ok(Task::Step { cycles, .. }) => Ok(Some(cycles)),
         _ => Ok(None),
     }
 }
@@ -100,6 +103,8 @@ fn reads_the_number_of_cycles(rt: HostRuntime) -> Result<(), Fail> {
         ("hls step --cycles=3136", Some(3136)),
         ("hls step --cycles=4294967295", Some(u32::MAX)),
         ("hls step --cycles=4294967296", None),
+        ("hls step --cycles 100000 --vcd", Some(100_000)),
+        ("hls step --cycles 100001 --vcd", None),
     ] {
         assert!(rt; cycles_of(alloc, line)? == want, "at {line}");
     }

@@ -1,3 +1,4 @@
 mod Texts
+pub mod Dumped
 pub mod Opens
 pub mod Shift

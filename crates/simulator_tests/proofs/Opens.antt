@@ -16,12 +16,12 @@ use Rattle.open_well_formed.proofs.Texts.{openable_text}
 use Rattle.simulator_tests.specs.Nets as nets
 use Rattle.simulator_tests.proofs.Texts as texts
 
-abbrev first : List ℕ → ℕ
+abbrev pub first : List ℕ → ℕ
 first [] = 0
 first (b ∷ bytes) = b
 
 -- a name that begins with another letter is no pref
-other_name : (p q : Port) (k : ℕ) → Some q ≡ Some p → (first q.name ≡ 112 → ⊥) → p.name ≡ numbered (codes "pref") k → ⊥
+pub other_name : (p q : Port) (k : ℕ) → Some q ≡ Some p → (first q.name ≡ 112 → ⊥) → p.name ≡ numbered (codes "pref") k → ⊥
 other_name p q k e other named = other (ap (λ (r : Port). first r.name) (same_Some q p e) ∙ ap first named)
 
 -- ---- the loop
@@ -79,7 +79,7 @@ counter_has =
     }
 
 -- the actions of a statement of a module with these signals and memories, under no condition
-abbrev acts : List Name → List Name → Statement → List Action
+abbrev pub acts : List Name → List Name → Statement → List Action
 acts signals memories x = statement_actions signals memories x []
 
 abbrev bank_signals : List Name

@@ -29,13 +29,13 @@ use Rattle.netlist_text.proofs.Actions.{fold_set, fold_store, fold_write}
 abbrev pub port : Direction → Option ℕ → Name → Port
 port d high name = record { direction = d; high = high; name = name }
 
-abbrev constant : ℕ → ℕ → Constant
+abbrev pub constant : ℕ → ℕ → Constant
 constant width value = record { width = width; value = value }
 
-abbrev wire : Option ℕ → Name → Item
+abbrev pub wire : Option ℕ → Name → Item
 wire high name = i.Wire (record { high = high; name = name })
 
-abbrev assign : Name → Expression → Item
+abbrev pub assign : Name → Expression → Item
 assign target value = i.Assign (record { target = target; value = value })
 
 -- ---- a loop

@@ -1,4 +1,4 @@
--- The nets of the tests: one has a loop, the other counts and has a global of two banks.
+-- The nets of the tests: one has a loop, one counts and has a global of two banks, one has a register alone.
 use Rattle.std.specs.Prelude.{ℕ, true, false, List, [], ◌∷◌, codes}
 use Rattle.verilog_tree.specs.declared.tree.BinaryOperator.TheVariants.{Add}
 use Rattle.netlist.specs.declared.netlist.Value.{Value}
@@ -91,3 +91,20 @@ counter_top = record {
 
 abbrev pub counter : List Module
 counter = bank ∷ counter_top ∷ []
+
+-- ---- a register that counts: assign c_2 = 2'd1; assign n_1 = q_0 + c_2; assign done = q_0[1]; and at each edge q_0 <= n_1;
+
+abbrev pub dumped_signals : List Signal
+dumped_signals =
+    signal (codes "clk") 1 Input ∷ signal (codes "en") 1 Input
+    ∷ signal (codes "q_0") 2 (Register 0) ∷ signal (codes "n_1") 2 (Assigned (Binary Add 2 4)) ∷ signal (codes "c_2") 2 (Assigned (Constant 1))
+    ∷ done (Select 2 1 1) ∷ []
+
+abbrev pub follow : Action
+follow = act (Set 2 3)
+
+abbrev pub dumped_top : Module
+dumped_top = record { name = codes "top"; signals = dumped_signals; memories = []; actions = follow ∷ []; instances = [] }
+
+abbrev pub dumped : List Module
+dumped = dumped_top ∷ []

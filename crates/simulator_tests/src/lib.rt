@@ -1,7 +1,11 @@
-//! Tests of the simulator: a value by the standard, and two nets that are written out by hand. They stand in a crate of their own,
+//! Tests of the simulator: a value by the standard, and three nets that are written out by hand. They stand in a crate of their own,
 //! since a crate with tests is proved twice.
 #![tactic(auto)]
 
+#[cfg(test)]
+mod dumps;
+#[cfg(test)]
+mod journals;
 #[cfg(test)]
 mod nets;
 #[cfg(test)]

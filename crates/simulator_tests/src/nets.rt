@@ -1,6 +1,6 @@
-// The two nets. Each is the netlist of a well-formed text, so that it can be opened.
+// The three nets. Each is the netlist of a well-formed text, so that it can be opened.
 
-ghost use Rattle.std.specs.Prelude.{◌≡◌, true, IfOk};
+ghost use Rattle.std.specs.Prelude.{◌≡◌, ◌∷◌, [], true, IfOk};
 ghost use Rattle.verilog_tree.specs.Spelling.{is_name};
 ghost use Rattle.simulator_tests.specs.Nets as net;
 
@@ -219,5 +219,57 @@ pub fn counter(alloc: Global) -> Result<Items<Module>, AllocError>
     let mut modules = Items::new(alloc);
     modules.push(bank(alloc)?)?;
     modules.push(counter_top(alloc)?)?;
+    Ok(modules)
+}
+
+// ---- a register that counts
+
+fn dumped_signals(alloc: Global) -> Result<Items<Signal>, AllocError>
+    ensures { IfOk result (λ signals. signals ≡ net.dumped_signals) }
+{
+    let sum = Source::Assigned(Value::Binary {
+        operator: BinaryOperator::Add,
+        left: 2,
+        right: 4,
+    });
+    let bit = Value::Select {
+        of: 2,
+        high: 1,
+        low: 1,
+    };
+    let mut signals = Items::new(alloc);
+    signals.push(signal(alloc, "clk", 1, Source::Input)?)?;
+    signals.push(signal(alloc, "en", 1, Source::Input)?)?;
+    signals.push(signal(alloc, "q_0", 2, Source::Register(0))?)?;
+    signals.push(signal(alloc, "n_1", 2, sum)?)?;
+    signals.push(signal(alloc, "c_2", 2, Source::Assigned(Value::Constant(1)))?)?;
+    signals.push(done(alloc, bit)?)?;
+    Ok(signals)
+}
+
+fn dumped_actions(alloc: Global) -> Result<Items<Action>, AllocError>
+    ensures { IfOk result (λ actions. actions ≡ net.follow ∷ []) }
+{
+    let set = Effect::Set {
+        register: 2,
+        source: 3,
+    };
+    let mut actions = Items::new(alloc);
+    actions.push(act(alloc, set))?;
+    Ok(actions)
+}
+
+/// `q_0`, of two bits, counts from 0, and `done` is its higher bit.
+pub fn dumped(alloc: Global) -> Result<Items<Module>, AllocError>
+    ensures { IfOk result (λ modules. modules ≡ net.dumped) }
+{
+    let mut modules = Items::new(alloc);
+    modules.push(Module {
+        name: Identifier::from_text(alloc, "top")?,
+        signals: dumped_signals(alloc)?,
+        memories: Items::new(alloc),
+        actions: dumped_actions(alloc)?,
+        instances: Items::new(alloc),
+    })?;
     Ok(modules)
 }

@@ -46,6 +46,21 @@ fn a_cycle_takes_its_choice(rt: HostRuntime) -> Result<(), Fail> {
     Ok(())
 }
 
+/// A copy goes its own way.
+#[test]
+#[tactic(auto, using(crate::proofs::Opens::counter_opens))]
+fn a_copy_leaves_its_original(rt: HostRuntime) -> Result<(), Fail> {
+    let modules = counter(rt.alloc())?;
+    let mut sim = Sim::open(rt.alloc(), modules.as_slice())?;
+    let mut copy = sim.copy()?;
+    let mut out = Bytes::new(rt.alloc());
+    let cycles = copy.lockstep(20, &mut out)?;
+    assert!(rt; cycles == 2);
+    assert!(rt; copy.done());
+    assert!(rt; !sim.done());
+    Ok(())
+}
+
 /// Element j is word j / 2 of bank j modulo 2. The first edge makes word 1 of both banks 1.
 #[test]
 #[tactic(auto, using(crate::proofs::Opens::counter_opens))]

@@ -1,13 +1,16 @@
 // What is built.
 
 use crate::call::{Row, each, told};
-use crate::programs::{COUNTING, FILLED, MAIN};
+use crate::programs::{
+    ADDING, COUNTING, CREATING, FILLED, LEAVING, MAIN, MEETING, NESTING, PRINTING, SUMMING, WAITING,
+};
 use hls_tool::Status;
 use std::alloc::{AllocError, Global};
+use std::sync::Wait;
 use std::test::Fail;
 use std::thread::Threads;
 
-const BUILT: [Row; 6] = [
+const BUILT: [Row; 15] = [
     (
         MAIN,
         &["hls", "build"],
@@ -50,6 +53,69 @@ const BUILT: [Row; 6] = [
         "module ",
         "hls: built, 1 threads, weight 2, ",
     ),
+    (
+        SUMMING,
+        &["hls", "build"],
+        0,
+        "module ",
+        "hls: built, 3 threads, weight 33, ",
+    ),
+    (
+        MEETING,
+        &["hls", "build"],
+        0,
+        "module ",
+        "hls: built, 3 threads, weight 38, ",
+    ),
+    (
+        CREATING,
+        &["hls", "build"],
+        0,
+        "module ",
+        "hls: built, 2 threads, weight 19, ",
+    ),
+    (
+        PRINTING,
+        &["hls", "build"],
+        0,
+        "module ",
+        "hls: built, 3 threads, weight 25, ",
+    ),
+    (
+        WAITING,
+        &["hls", "build"],
+        0,
+        "module ",
+        "hls: built, 2 threads, weight 8, ",
+    ),
+    (
+        ADDING,
+        &["hls", "build"],
+        0,
+        "module ",
+        "hls: built, 4 threads, weight 24, ",
+    ),
+    (
+        LEAVING,
+        &["hls", "build"],
+        0,
+        "module ",
+        "hls: built, 2 threads, weight 5, ",
+    ),
+    (
+        NESTING,
+        &["hls", "build"],
+        0,
+        "module ",
+        "hls: built, 3 threads, weight 16, ",
+    ),
+    (
+        "pthread_t t[63]; int main(void){return 0;}",
+        &["hls", "build"],
+        0,
+        "module ",
+        "hls: built, 64 threads, weight 2, ",
+    ),
 ];
 
 #[test]
@@ -59,7 +125,7 @@ fn builds(rt: HostRuntime) -> Result<(), Fail> {
 }
 
 /// Whether a build by so many jobs writes this net.
-fn is_built<R: Threads + Sync>(
+fn is_built<R: Threads + Wait + Sync>(
     rt: &R,
     alloc: Global,
     text: &str,
@@ -73,7 +139,7 @@ fn is_built<R: Threads + Sync>(
 
 #[test]
 fn builds_the_same_by_every_number_of_jobs(rt: HostRuntime) -> Result<(), Fail> {
-    for text in [MAIN, COUNTING, FILLED] {
+    for text in [MAIN, COUNTING, FILLED, ADDING] {
         let (_, plain, _) = told(&rt, rt.alloc(), text, &["hls", "build"])?;
         for jobs in ["1", "2", "16"] {
             assert!(rt;

@@ -1,15 +1,17 @@
 // Calls of the tool.
 
+use hardware_threads::gate::OpenGate;
 use hls_io::{MemSink, MemSource, Sink, Source};
 use hls_tool::{Outcome, Status, hls};
 use std::alloc::{AllocError, Global};
 use std::process::Abort;
+use std::sync::Wait;
 use std::thread::Threads;
 
 /// The most bytes that a sink for a text takes.
-pub const ROOM: usize = 100_000;
+pub const ROOM: usize = 300_000;
 
-pub fn call<R: Threads + Sync, S: Source, O: Sink, E: Sink>(
+pub fn call<R: Threads + Wait + Sync, S: Source, O: Sink, E: Sink>(
     rt: &R,
     alloc: Global,
     words: &[&str],
@@ -21,11 +23,12 @@ pub fn call<R: Threads + Sync, S: Source, O: Sink, E: Sink>(
         .iter()
         .map(|word| word.to_string(alloc))
         .try_collect(alloc)?;
-    Ok(hls(rt, alloc, words.as_slice(), source, out, err))
+    let words = words.as_slice();
+    Ok(hls(rt, alloc, words, source, out, err, &OpenGate))
 }
 
 /// What a call on the text answers, and the bytes that it writes to each sink.
-pub fn told<'a, R: Threads + Sync>(
+pub fn told<'a, R: Threads + Wait + Sync>(
     rt: &R,
     alloc: Global,
     text: &'a str,
@@ -57,7 +60,7 @@ fn is_as(held: &[u8], expected: &str) -> bool {
 }
 
 /// Asserts each row.
-pub fn each<R: Threads + Sync + Abort>(
+pub fn each<R: Threads + Wait + Sync + Abort>(
     rt: &R,
     alloc: Global,
     rows: &[Row],

@@ -3,7 +3,6 @@
 use crate::call::{ROOM, call};
 use crate::programs::MAIN;
 use c_profile::Refusal;
-use hls_compile::Construct;
 use hls_io::{MemSink, MemSource, SureSink, SureSource};
 use hls_tool::{Status, tell_memory};
 use std::test::Fail;
@@ -77,14 +76,16 @@ fn tells_that_memory_is_wanting(rt: HostRuntime) -> Result<(), Fail> {
     Ok(())
 }
 
-const NUMBERS: [(Status, u8); 8] = [
+const NUMBERS: [(Status, u8); 10] = [
     (Status::Ok, 0),
     (Status::Refused(Refusal::NoMain), 1),
-    (Status::NotBuilt(Construct::Threads), 1),
     (Status::Usage, 2),
     (Status::ReadFault, 3),
     (Status::WriteFault { out: 0, err: 0 }, 4),
     (Status::Memory, 5),
+    (Status::Entries, 6),
+    (Status::Stuck, 7),
+    (Status::BadEntry { index: 0 }, 8),
     (Status::Cycles { cycles: 0 }, 9),
 ];
 

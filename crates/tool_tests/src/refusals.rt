@@ -6,7 +6,7 @@ use hls_io::{MemSink, SureSink, SureSource};
 use hls_tool::Status;
 use std::test::Fail;
 
-const REFUSED: [Row; 32] = [
+const REFUSED: [Row; 31] = [
     (
         "",
         &["hls", "build"],
@@ -224,13 +224,6 @@ const REFUSED: [Row; 32] = [
         1,
         "",
         "hls: refused E12 at byte 85: nesting 65, at most 64\n",
-    ),
-    (
-        "pthread_t t[15]; int main(void){return 0;}",
-        &["hls", "build"],
-        1,
-        "",
-        "hls: refused: not built yet: pthread objects and calls\n",
     ),
 ];
 

@@ -1,10 +1,12 @@
 // What steps of the hardware print.
 
-use crate::call::{Row, each};
-use crate::programs::{COUNTING, FILLED};
+use crate::call::{Row, each, told};
+use crate::programs::{
+    ADDING, COUNTING, CREATING, FILLED, FIRST, INTEGERS, MEETING, NESTING, PRINTING, SHORT_CIRCUIT,
+    SUMMING,
+};
+use hls_tool::Status;
 use std::test::Fail;
-
-const FIRST: &str = "int main(void){int x = 6; x = x * 7; printf(\"%d\\n\", x); return 0;}";
 
 const SQUARES: &str =
     "int main(void){int a[4]; int i; for (i = 0; i < 4; i++) a[i] = i * i; printf(\"%d\\n\", a[2] + a[3]); return 0;}";
@@ -13,10 +15,6 @@ const SQUARES: &str =
 const CALLED: &str =
     "char low(char c){return c + 1;} int twice(int a){if (a > 300) return 2 * a; a = low(a); return a;} \
     int main(void){int x; x = twice(382); printf(\"%d\\n\", x); x = twice(255); printf(\"%d\\n\", x); low(x); return 0;}";
-
-/// The right operand of `&&`, an index past the array, is not evaluated.
-const SHORT_CIRCUIT: &str =
-    "int g[4]; int main(void){int i = 4; if (i < 4 && g[i]) i = 9; printf(\"%d\\n\", i); return 0;}";
 
 /// Globals that are named like words of Verilog, of three widths, several in one expression (6.3.1.3: 200 as a char is -56).
 const SWAPPED: &str =
@@ -27,15 +25,7 @@ const SWAPPED: &str =
 const REGISTERED: &str =
     "int g; int main(void){int a; g = 6; a = g; g = a + 1; printf(\"%d\\n\", g); return 0;}";
 
-/// What C99 says of the integer types, each a line: a sum below 0 without sign, quotients towards 0, a narrow type, a shift of a negative value,
-/// operands of two types, the ends of the widest types.
-const INTEGERS: &str =
-    "int main(void){unsigned x = 0; x = x - 1; printf(\"%u\\n\", x); int a = -7, b = 2; printf(\"%d %d\\n\", a / b, a % b); char c = 200; \
-    printf(\"%d\\n\", c); short s = 70000; unsigned char u = 300; printf(\"%d %u\\n\", s, u); a = -8; printf(\"%d\\n\", a >> 1); unsigned one = 1; \
-    if (a < one) printf(\"1\\n\"); else printf(\"0\\n\"); long long l = 9223372036854775807; unsigned long long v = 18446744073709551615ULL; \
-    printf(\"%lld %llu\\n\", l, v); return 0;}";
-
-const STEPS: [Row; 12] = [
+const STEPS: [Row; 17] = [
     (
         FIRST,
         &["hls", "step", "--cycles", "3136"],
@@ -114,6 +104,41 @@ const STEPS: [Row; 12] = [
         "hls: done, ",
     ),
     (
+        SUMMING,
+        &["hls", "step", "--cycles", "10000000"],
+        0,
+        "200\n",
+        "hls: done, ",
+    ),
+    (
+        MEETING,
+        &["hls", "step", "--cycles", "10000000"],
+        0,
+        "1\n2\n3\n",
+        "hls: done, ",
+    ),
+    (
+        CREATING,
+        &["hls", "step", "--cycles", "10000000"],
+        0,
+        "10\n",
+        "hls: done, ",
+    ),
+    (
+        ADDING,
+        &["hls", "step", "--cycles", "10000000"],
+        0,
+        "3\n",
+        "hls: done, ",
+    ),
+    (
+        NESTING,
+        &["hls", "step", "--cycles", "10000000"],
+        0,
+        "12\n",
+        "hls: done, ",
+    ),
+    (
         "int x;",
         &["hls", "step", "--cycles", "9"],
         1,
@@ -125,5 +150,15 @@ const STEPS: [Row; 12] = [
 #[test]
 fn steps(rt: HostRuntime) -> Result<(), Fail> {
     each(&rt, rt.alloc(), &STEPS)?;
+    Ok(())
+}
+
+#[test]
+fn prints_what_one_interleaving_prints(rt: HostRuntime) -> Result<(), Fail> {
+    let words = ["hls", "step", "--cycles", "10000000"];
+    let (status, out, _) = told(&rt, rt.alloc(), PRINTING, &words)?;
+    let is_one = out.held() == b"a\nb\n".as_slice() || out.held() == b"b\na\n".as_slice();
+    assert!(rt; status == Status::Ok);
+    assert!(rt; is_one);
     Ok(())
 }

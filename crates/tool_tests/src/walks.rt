@@ -1,36 +1,17 @@
 // What walks along lists of turns print.
 
 use crate::call::{Row, each};
-use crate::programs::{COUNTING, MAIN};
+use crate::programs::{
+    ADDING, COUNTING, CREATING, LEAVING, MAIN, MEETING, NESTING, SUMMING, WAITING,
+};
 use std::test::Fail;
-
-const WAITING: &str =
-    "pthread_t t; pthread_barrier_t b; void *w(void *arg){pthread_barrier_wait(&b); return NULL;} int main(void){pthread_barrier_init(&b, NULL, 2); \
-    pthread_create(&t, NULL, w, NULL); pthread_join(t, NULL); return 0;}";
-
-const ADDING: &str =
-    "pthread_t t[3]; pthread_mutex_t m = PTHREAD_MUTEX_INITIALIZER; int s; void *w(void *arg){pthread_mutex_lock(&m); s = s + 1; pthread_mutex_unlock(&m); \
-    return NULL;} int main(void){int i; for (i = 0; i < 3; i++) pthread_create(&t[i], NULL, w, NULL); for (i = 0; i < 3; i++) pthread_join(t[i], NULL); \
-    printf(\"%d\\n\", s); return 0;}";
 
 const RACING: &str =
     "pthread_t t[2]; pthread_mutex_t m; int sum; void *w(void *arg){int i; for (i = 0; i < 100; i++){sum = sum + 1;} return NULL;} int \
     main(void){pthread_mutex_init(&m, NULL); int i; for (i = 0; i < 2; i++) pthread_create(&t[i], NULL, w, (void *)(long)i); for (i = 0; i < 2; i++) \
     pthread_join(t[i], NULL); printf(\"%d\\n\", sum); return 0;}";
 
-/// Two threads add to one global, each addition under a mutex.
-const SUMMING: &str =
-    "pthread_t t[2]; pthread_mutex_t m; int sum; void *w(void *arg){int i; for (i = 0; i < 100; i++){pthread_mutex_lock(&m); sum = sum + 1; \
-    pthread_mutex_unlock(&m);} return NULL;} int main(void){pthread_mutex_init(&m, NULL); int i; for (i = 0; i < 2; i++) \
-    pthread_create(&t[i], NULL, w, (void *)(long)i); for (i = 0; i < 2; i++) pthread_join(t[i], NULL); printf(\"%d\\n\", sum); return 0;}";
-
-/// A thread that main creates creates one itself, and joins it.
-const NESTING: &str =
-    "pthread_t a; pthread_t b; int x; void *g(void *p){x = x + 1; return NULL;} void *f(void *p){x = 5; pthread_create(&b, NULL, g, NULL); \
-    pthread_join(b, NULL); x = x * 2; return NULL;} int main(void){pthread_create(&a, NULL, f, NULL); pthread_join(a, NULL); printf(\"%d\\n\", x); \
-    return 0;}";
-
-const WALKS: [Row; 20] = [
+const WALKS: [Row; 22] = [
     (
         MAIN,
         &["hls", "walk", "--threads", "0"],
@@ -88,7 +69,7 @@ const WALKS: [Row; 20] = [
         "hls: blocked at step 0, thread 3: not running\n",
     ),
     (
-        "pthread_t t; void *w(void *arg){return NULL;} int main(void){pthread_create(&t, NULL, w, NULL); return 0;}",
+        LEAVING,
         &["hls", "walk", "--threads", "0*3"],
         10,
         "",
@@ -121,6 +102,30 @@ const WALKS: [Row; 20] = [
         0,
         "200\n",
         "hls: ended, 1434 steps\n",
+    ),
+    (
+        MEETING,
+        &[
+            "hls",
+            "walk",
+            "--threads",
+            "0*13,1*8,2*12,1*9,2*10,1*9,2*10,1*6,2*3,0*11",
+        ],
+        0,
+        "1\n2\n3\n",
+        "hls: ended, 91 steps\n",
+    ),
+    (
+        CREATING,
+        &[
+            "hls",
+            "walk",
+            "--threads",
+            "0*5,1*2,0*6,1*2,0*6,1*2,0*6,1*2,0*7",
+        ],
+        0,
+        "10\n",
+        "hls: ended, 38 steps\n",
     ),
     (
         "int x; int main(void){int x = 1; {int x = 2; x++;} return x;}",

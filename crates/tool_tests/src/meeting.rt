@@ -1,0 +1,117 @@
+// Workers that run side by side.
+
+use crate::programs::{ADDING, COUNTING, PRINTING, SIXTY_THREE};
+use hardware_threads::gate::Gate;
+use hls_io::{MemSink, MemSource, SureSink};
+use hls_tool::{Status, hls};
+use std::alloc::{AllocError, Global};
+use std::sync::Wait;
+use std::sync::atomic::{AtomicBool, AtomicU64, Ordering};
+use std::test::Fail;
+use std::thread;
+use std::thread::Threads;
+
+/// How often a worker looks for the flags of the others.
+const TURNS: u64 = 1_000_000_000;
+
+/// A gate at which each worker raises a flag, at its first `before_closed` and at its first `after_closed`, and waits there for the flags of
+/// all.
+#[derive(Drop)]
+struct Meeting {
+    all: u64,
+    before: AtomicU64,
+    after: AtomicU64,
+    is_late: AtomicBool,
+}
+
+impl Meeting {
+    fn of(workers: u32) -> Meeting {
+        let all = if workers < 64 {
+            (1u64 << workers) - 1
+        } else {
+            u64::MAX
+        };
+        Meeting {
+            all,
+            before: AtomicU64::new(0),
+            after: AtomicU64::new(0),
+            is_late: AtomicBool::new(false),
+        }
+    }
+
+    fn meet(&self, flags: &AtomicU64, worker: u32) {
+        if worker >= 64 {
+            return;
+        }
+        let flag = 1u64 << worker;
+        if flags.fetch_or(flag, Ordering::SeqCst) & flag != 0 {
+            return;
+        }
+        for _ in 0..TURNS {
+            if flags.load(Ordering::SeqCst) == self.all {
+                return;
+            }
+            thread::yield_now();
+        }
+        self.is_late.store(true, Ordering::SeqCst);
+    }
+}
+
+impl Gate for Meeting {
+    fn before_closed(&self, worker: u32) {
+        self.meet(&self.before, worker);
+    }
+
+    fn after_closed(&self, worker: u32) {
+        self.meet(&self.after, worker);
+    }
+}
+
+/// Whether all workers of a run of the text meet at both flags; the run ends with this status.
+fn all_meet<R: Threads + Wait + Sync>(
+    rt: &R,
+    alloc: Global,
+    text: &str,
+    workers: u32,
+    words: &[&str],
+    status: Status,
+) -> Result<bool, AllocError> {
+    let gate = Meeting::of(workers);
+    let words: Vec<String> = words
+        .iter()
+        .map(|word| word.to_string(alloc))
+        .try_collect(alloc)?;
+    let mut source = MemSource::new(text.as_bytes(), 4096, &[]);
+    let mut out = MemSink::new(alloc, 1000, 4096, &[])?;
+    let mut err = SureSink::new();
+    let words = words.as_slice();
+    let outcome = hls(rt, alloc, words, &mut source, &mut out, &mut err, &gate);
+    Ok(
+        outcome.status == status
+            && !gate.is_late.load(Ordering::SeqCst)
+            && gate.before.load(Ordering::SeqCst) == gate.all
+            && gate.after.load(Ordering::SeqCst) == gate.all,
+    )
+}
+
+/// Programs, and how many workers run them: one for each hardware thread.
+const MEETINGS: [(&str, u32); 3] = [(COUNTING, 1), (PRINTING, 3), (ADDING, 4)];
+
+#[test]
+fn workers_meet(rt: HostRuntime) -> Result<(), Fail> {
+    let alloc = rt.alloc();
+    for (text, workers) in &MEETINGS {
+        let met = all_meet(&rt, alloc, text, *workers, &["hls", "run"], Status::Ok)?;
+        assert!(rt; met, "at {text}");
+    }
+    Ok(())
+}
+
+/// As many workers as there can be. All have met before the first entry is made; of the run no more than its beginning is asked for.
+#[test]
+fn sixty_four_workers_meet(rt: HostRuntime) -> Result<(), Fail> {
+    let words = ["hls", "run", "--entries", "1"];
+    let met = all_meet(&rt, rt.alloc(), SIXTY_THREE, 64, &words, Status::Entries)?;
+    assert!(rt; met);
+    Ok(())
+}
