@@ -1,0 +1,173 @@
+// How many tokens the parts of a net have.
+
+ghost use Rattle.std.specs.Prelude.{◌≡◌, ◌+◌, ◌-◌, length, IfOk};
+ghost use Rattle.verilog_tree.specs.Grammar as g;
+ghost use Rattle.token_places.specs.Before.{port_and_comma};
+
+use std::alloc::AllocError;
+use verilog_tree::tree::{
+    Connection, Expression, InitialConstant, Item, Port, Statement, WriteArgument,
+};
+
+/// The sum, or want of memory where it does not fit, which comes of no text that fits.
+pub(crate) fn sum(a: usize, b: usize) -> Result<usize, AllocError>
+    ensures { IfOk result (λ n. n ≡ a + b) }
+{
+    a.checked_add(b).ok_or(AllocError)
+}
+
+/// How many tokens names with commas between them have, of which there are so many.
+fn of_names(count: usize) -> Result<usize, AllocError>
+    ensures { IfOk result (λ n. n ≡ count + (count - 1)) }
+{
+    sum(count, count.saturating_sub(1))
+}
+
+fn of_range(high: Option<u64>) -> usize
+    ensures { result ≡ length (g.range high) }
+{
+    match high {
+        None => 0,
+        Some(_) => 5,
+    }
+}
+
+#[tactic(auto, using(crate::proofs::Counting::concatenation_length))]
+fn of_expression(value: &Expression) -> Result<usize, AllocError>
+    ensures { IfOk result (λ n. n ≡ length (g.expression value.now)) }
+{
+    match value {
+        Expression::Copy(_) => Ok(1),
+        Expression::BitwiseNot(_) => Ok(2),
+        Expression::Constant(_) | Expression::Binary { .. } => Ok(3),
+        Expression::BitSelect { .. } => Ok(4),
+        Expression::Conditional { .. } => Ok(5),
+        Expression::PartSelect { .. } | Expression::ArithmeticShiftRight { .. } => Ok(6),
+        Expression::SignedLess { .. } => Ok(9),
+        Expression::Division { .. } => Ok(15),
+        Expression::MemoryRead { .. } => Ok(16),
+        Expression::SignedDivision { .. } => Ok(21),
+        Expression::Concatenation(parts) => sum(2, of_names(parts.len())?),
+        Expression::Replication { .. } => Ok(6),
+    }
+}
+
+/// The tokens of a port and a comma.
+#[tactic(auto, using(crate::proofs::Counting::port_length))]
+fn of_port(port: &Port) -> usize
+    ensures { result ≡ length (port_and_comma port.now) }
+{
+    4 + of_range(port.high)
+}
+
+/// The tokens of these ports, with a comma behind each.
+pub(crate) fn of_ports(ports: &[Port]) -> Result<usize, AllocError>
+    ensures { IfOk result (λ n. n ≡ length (g.all port_and_comma ports.now)) }
+{
+    let mut count = 0;
+    for port in ports {
+        count = sum(count, of_port(port))?;
+    }
+    Ok(count)
+}
+
+fn of_argument(argument: &WriteArgument) -> usize
+    ensures { result ≡ length (g.argument argument.now) }
+{
+    match argument {
+        WriteArgument::Unsigned(_) => 1,
+        WriteArgument::Signed(_) => 4,
+    }
+}
+
+fn of_arguments(arguments: &[WriteArgument]) -> Result<usize, AllocError>
+    ensures { IfOk result (λ n. n ≡ length (g.more g.argument arguments.now)) }
+{
+    let mut count = 0;
+    for argument in arguments {
+        count = sum(count, 1 + of_argument(argument))?;
+    }
+    Ok(count)
+}
+
+#[cycle(counts)]
+#[tactic(auto, using(crate::proofs::Counting::set_length, crate::proofs::Counting::store_length, crate::proofs::Counting::if_length, crate::proofs::Counting::write_length))]
+fn of_statement(statement: &Statement) -> Result<usize, AllocError>
+    ensures { IfOk result (λ n. n ≡ length (g.statement statement.now)) }
+{
+    match statement {
+        Statement::Set { .. } => Ok(4),
+        Statement::Store { .. } => Ok(7),
+        Statement::If { condition: _, body } => sum(6, of_statements(body.as_slice())?),
+        Statement::Write { text: _, arguments } => sum(5, of_arguments(arguments.as_slice())?),
+    }
+}
+
+#[cycle(counts)]
+fn of_statements(statements: &[Statement]) -> Result<usize, AllocError>
+    ensures { IfOk result (λ n. n ≡ length (g.all g.statement statements.now)) }
+{
+    let mut count = 0;
+    for statement in statements {
+        count = sum(count, of_statement(statement)?)?;
+    }
+    Ok(count)
+}
+
+#[tactic(auto, using(crate::proofs::Counting::initial_length))]
+fn of_initial(constant: &InitialConstant) -> usize
+    ensures { result ≡ length (g.initial_constant constant.now) }
+{
+    match constant.word {
+        None => 6,
+        Some(_) => 9,
+    }
+}
+
+fn of_initials(constants: &[InitialConstant]) -> Result<usize, AllocError>
+    ensures { IfOk result (λ n. n ≡ length (g.all g.initial_constant constants.now)) }
+{
+    let mut count = 0;
+    for constant in constants {
+        count = sum(count, of_initial(constant))?;
+    }
+    Ok(count)
+}
+
+/// The tokens of connections, of which each has five, with commas between them.
+#[tactic(auto, using(crate::proofs::Counting::connections_length))]
+fn of_connections(connections: &[Connection]) -> Result<usize, AllocError>
+    ensures { IfOk result (λ n. n ≡ length (g.commas g.connection connections.now)) }
+{
+    let mut count = 0;
+    for _connection in connections {
+        count = sum(count, 6)?;
+    }
+    Ok(count.saturating_sub(1))
+}
+
+#[tactic(auto, using(crate::proofs::Counting::item_lengths))]
+fn of_item(item: &Item) -> Result<usize, AllocError>
+    ensures { IfOk result (λ n. n ≡ length (g.item item.now)) }
+{
+    match item {
+        Item::Wire(x) => Ok(3 + of_range(x.high)),
+        Item::Register(x) => Ok(3 + of_range(x.high)),
+        Item::Memory(_) => Ok(13),
+        Item::Assign(x) => sum(4, of_expression(&x.value)?),
+        Item::Initial(x) => sum(3, of_initials(x.constants.as_slice())?),
+        Item::Always(x) => sum(8, of_statements(x.body.as_slice())?),
+        Item::Instance(x) => sum(5, of_connections(x.connections.as_slice())?),
+    }
+}
+
+/// The tokens of these items.
+pub(crate) fn of_items(items: &[Item]) -> Result<usize, AllocError>
+    ensures { IfOk result (λ n. n ≡ length (g.all g.item items.now)) }
+{
+    let mut count = 0;
+    for item in items {
+        count = sum(count, of_item(item)?)?;
+    }
+    Ok(count)
+}

@@ -1,0 +1,342 @@
+// A cursor over tokens.
+
+ghost use Rattle.std.specs.Prelude.{List, ◌≡◌, length};
+ghost use Rattle.verilog_tree.specs.declared.token.Token.{Token};
+ghost use Rattle.grammar.specs.Readers.{sees};
+ghost use Rattle.grammar.specs.Steps.{Steps};
+ghost use Rattle.verilog_rules.specs.Reading as spec;
+ghost use Rattle.verilog_rules.specs.Signs as signs;
+
+use grammar::Fault;
+use std::marker::Model;
+use verilog_rules::sign::Sign;
+use verilog_tree::name::{Identifier, Quoted};
+use verilog_tree::token::{Mark, Token, Word};
+use verilog_tree::tree::{BinaryOperator, Direction, DivisionOperator};
+
+#[tactic(auto, unfolding(verilog_rules::specs::Signs::same_word))]
+fn same_word(a: Word, b: Word) -> bool
+    ensures { result ≡ signs.same_word a b }
+{
+    a == b
+}
+
+#[tactic(auto, unfolding(verilog_rules::specs::Signs::same_mark))]
+fn same_mark(a: Mark, b: Mark) -> bool
+    ensures { result ≡ signs.same_mark a b }
+{
+    a == b
+}
+
+/// Whether the token is of the sign.
+fn is(sign: Sign, token: &Token) -> bool
+    ensures { result ≡ signs.is sign token.now }
+{
+    match (sign, token) {
+        (Sign::Word(word), Token::Word(found)) => same_word(word, *found),
+        (Sign::Mark(mark), Token::Mark(found)) => same_mark(mark, *found),
+        (Sign::Zero, Token::Number(number)) => *number == 0,
+        (Sign::Clock, Token::Name(name)) => name.as_str() == "clk",
+        _ => false,
+    }
+}
+
+fn is_name(token: &Token) -> bool
+    ensures { result ≡ signs.is_name token.now }
+{
+    matches!(token, Token::Name(_))
+}
+
+fn is_number(token: &Token) -> bool
+    ensures { result ≡ signs.is_number token.now }
+{
+    matches!(token, Token::Number(_))
+}
+
+fn operator_of(mark: Mark) -> Option<BinaryOperator>
+    ensures { result ≡ signs.operator_of mark }
+{
+    match mark {
+        Mark::Plus => Some(BinaryOperator::Add),
+        Mark::Minus => Some(BinaryOperator::Subtract),
+        Mark::Star => Some(BinaryOperator::Multiply),
+        Mark::And => Some(BinaryOperator::And),
+        Mark::Or => Some(BinaryOperator::Or),
+        Mark::Xor => Some(BinaryOperator::Xor),
+        Mark::EqualEqual => Some(BinaryOperator::Equal),
+        Mark::Less => Some(BinaryOperator::Less),
+        Mark::ShiftLeft => Some(BinaryOperator::ShiftLeft),
+        Mark::ShiftRight => Some(BinaryOperator::ShiftRight),
+        _ => None,
+    }
+}
+
+fn operator_at(token: &Token) -> Option<BinaryOperator>
+    ensures { result ≡ signs.operator_at token.now }
+{
+    match token {
+        Token::Mark(mark) => operator_of(*mark),
+        _ => None,
+    }
+}
+
+fn division_of(mark: Mark) -> Option<DivisionOperator>
+    ensures { result ≡ signs.division_of mark }
+{
+    match mark {
+        Mark::Slash => Some(DivisionOperator::Quotient),
+        Mark::Percent => Some(DivisionOperator::Remainder),
+        _ => None,
+    }
+}
+
+fn division_at(token: &Token) -> Option<DivisionOperator>
+    ensures { result ≡ signs.division_at token.now }
+{
+    match token {
+        Token::Mark(mark) => division_of(*mark),
+        _ => None,
+    }
+}
+
+fn direction_of(word: Word) -> Option<Direction>
+    ensures { result ≡ signs.direction_of word }
+{
+    match word {
+        Word::Input => Some(Direction::Input),
+        Word::Output => Some(Direction::Output),
+        _ => None,
+    }
+}
+
+fn direction_at(token: &Token) -> Option<Direction>
+    ensures { result ≡ signs.direction_at token.now }
+{
+    match token {
+        Token::Word(word) => direction_of(*word),
+        _ => None,
+    }
+}
+
+fn begins_statement(token: &Token) -> bool
+    ensures { result ≡ spec.begins_statement token.now }
+{
+    is(Sign::Word(Word::If), token) || is_name(token) || is(Sign::Mark(Mark::Write), token)
+}
+
+fn begins_item(token: &Token) -> bool
+    ensures { result ≡ spec.begins_item token.now }
+{
+    is(Sign::Word(Word::Wire), token)
+        || is(Sign::Word(Word::Reg), token)
+        || is(Sign::Word(Word::Assign), token)
+        || is(Sign::Word(Word::Initial), token)
+        || is(Sign::Word(Word::Always), token)
+        || is_name(token)
+}
+
+/// The tokens that are not read yet. Contracts see them.
+#[derive(Drop)]
+pub struct Cursor<'a> {
+    rest: &'a [Token],
+}
+
+impl<'a> Model for Cursor<'a> {
+    ghost Value = { List Token };
+
+    ghost view = { λ c. c.rest.now };
+}
+
+/// A fact of the next token.
+impl<'a> Cursor<'a> {
+    pub fn new(tokens: &'a [Token]) -> Cursor<'a>
+        ensures { result ≡ tokens.now }
+    {
+        Cursor { rest: tokens }
+    }
+
+    /// How many tokens are left.
+    pub fn left(&self) -> usize
+        ensures { result ≡ length self.now }
+    {
+        self.rest.len()
+    }
+
+    pub fn sees(&self, sign: Sign) -> bool
+        ensures { result ≡ sees (signs.is sign) self.now }
+    {
+        match self.rest {
+            [token, ..] => is(sign, token),
+            [] => false,
+        }
+    }
+
+    pub fn sees_mark(&self, mark: Mark) -> bool
+        ensures { result ≡ sees (signs.is (Sign.Mark mark)) self.now }
+    {
+        self.sees(Sign::Mark(mark))
+    }
+
+    pub fn sees_word(&self, word: Word) -> bool
+        ensures { result ≡ sees (signs.is (Sign.Word word)) self.now }
+    {
+        self.sees(Sign::Word(word))
+    }
+
+    pub fn sees_name(&self) -> bool
+        ensures { result ≡ sees signs.is_name self.now }
+    {
+        match self.rest {
+            [token, ..] => is_name(token),
+            [] => false,
+        }
+    }
+
+    pub fn sees_number(&self) -> bool
+        ensures { result ≡ sees signs.is_number self.now }
+    {
+        match self.rest {
+            [token, ..] => is_number(token),
+            [] => false,
+        }
+    }
+
+    pub fn sees_operator(&self) -> bool
+        ensures { result ≡ sees signs.is_operator self.now }
+    {
+        match self.rest {
+            [token, ..] => operator_at(token).is_some(),
+            [] => false,
+        }
+    }
+
+    pub fn begins_statement(&self) -> bool
+        ensures { result ≡ sees spec.begins_statement self.now }
+    {
+        match self.rest {
+            [token, ..] => begins_statement(token),
+            [] => false,
+        }
+    }
+
+    pub fn begins_item(&self) -> bool
+        ensures { result ≡ sees spec.begins_item self.now }
+    {
+        match self.rest {
+            [token, ..] => begins_item(token),
+            [] => false,
+        }
+    }
+}
+
+/// Taking a token.
+impl<'a> Cursor<'a> {
+    #[tactic(auto, unfolding(verilog_rules::specs::Reading::expect))]
+    pub fn expect(&mut self, sign: Sign) -> Result<(), Fault>
+        ensures { Steps (spec.expect sign self.old) result self.new }
+    {
+        match self.rest {
+            [token, rest @ ..] if is(sign, token) => {
+                self.rest = rest;
+                Ok(())
+            }
+            _ => Err(Fault::Syntax),
+        }
+    }
+
+    pub fn mark(&mut self, mark: Mark) -> Result<(), Fault>
+        ensures { Steps (spec.expect (Sign.Mark mark) self.old) result self.new }
+    {
+        self.expect(Sign::Mark(mark))
+    }
+
+    pub fn word(&mut self, word: Word) -> Result<(), Fault>
+        ensures { Steps (spec.expect (Sign.Word word) self.old) result self.new }
+    {
+        self.expect(Sign::Word(word))
+    }
+
+    #[tactic(auto, unfolding(verilog_rules::specs::Reading::read_name))]
+    pub fn name(&mut self) -> Result<Identifier, Fault>
+        ensures { Steps (spec.read_name self.old) result self.new }
+    {
+        let [token, rest @ ..] = self.rest else {
+            return Err(Fault::Syntax);
+        };
+        let Token::Name(name) = token else {
+            return Err(Fault::Syntax);
+        };
+        self.rest = rest;
+        Ok(name.clone()?)
+    }
+
+    #[tactic(auto, unfolding(verilog_rules::specs::Reading::read_number))]
+    pub fn number(&mut self) -> Result<u64, Fault>
+        ensures { Steps (spec.read_number self.old) result self.new }
+    {
+        let [token, rest @ ..] = self.rest else {
+            return Err(Fault::Syntax);
+        };
+        let Token::Number(number) = token else {
+            return Err(Fault::Syntax);
+        };
+        self.rest = rest;
+        Ok(*number)
+    }
+
+    #[tactic(auto, unfolding(verilog_rules::specs::Reading::read_quoted))]
+    pub fn quoted(&mut self) -> Result<Quoted, Fault>
+        ensures { Steps (spec.read_quoted self.old) result self.new }
+    {
+        let [token, rest @ ..] = self.rest else {
+            return Err(Fault::Syntax);
+        };
+        let Token::Quoted(text) = token else {
+            return Err(Fault::Syntax);
+        };
+        self.rest = rest;
+        Ok(text.clone()?)
+    }
+
+    #[tactic(auto, unfolding(verilog_rules::specs::Reading::read_operator))]
+    pub fn operator(&mut self) -> Result<BinaryOperator, Fault>
+        ensures { Steps (spec.read_operator self.old) result self.new }
+    {
+        let [token, rest @ ..] = self.rest else {
+            return Err(Fault::Syntax);
+        };
+        let Some(operator) = operator_at(token) else {
+            return Err(Fault::Syntax);
+        };
+        self.rest = rest;
+        Ok(operator)
+    }
+
+    #[tactic(auto, unfolding(verilog_rules::specs::Reading::read_division))]
+    pub fn division(&mut self) -> Result<DivisionOperator, Fault>
+        ensures { Steps (spec.read_division self.old) result self.new }
+    {
+        let [token, rest @ ..] = self.rest else {
+            return Err(Fault::Syntax);
+        };
+        let Some(operator) = division_at(token) else {
+            return Err(Fault::Syntax);
+        };
+        self.rest = rest;
+        Ok(operator)
+    }
+
+    #[tactic(auto, unfolding(verilog_rules::specs::Reading::read_direction))]
+    pub fn direction(&mut self) -> Result<Direction, Fault>
+        ensures { Steps (spec.read_direction self.old) result self.new }
+    {
+        let [token, rest @ ..] = self.rest else {
+            return Err(Fault::Syntax);
+        };
+        let Some(direction) = direction_at(token) else {
+            return Err(Fault::Syntax);
+        };
+        self.rest = rest;
+        Ok(direction)
+    }
+}

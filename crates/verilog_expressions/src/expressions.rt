@@ -1,0 +1,386 @@
+// Ranges, constants and the right sides of assigns.
+
+ghost use Rattle.grammar.specs.Steps.{Steps};
+ghost use Rattle.verilog_rules.specs.Reading as spec;
+
+use grammar::Fault;
+use sqlite_items::Items;
+use std::alloc::Global;
+use verilog_cursor::cursor::Cursor;
+use verilog_rules::sign::Sign;
+use verilog_tree::name::Identifier;
+use verilog_tree::token::Mark;
+use verilog_tree::tree::{Constant, Expression};
+
+#[tactic(auto, unfolding(verilog_rules::specs::Reading::read_range))]
+fn range(cursor: &mut Cursor<'_>) -> Result<u64, Fault>
+    ensures { Steps (spec.read_range cursor.old) result cursor.new }
+{
+    cursor.mark(Mark::OpenSquare)?;
+    let high = cursor.number()?;
+    cursor.mark(Mark::Colon)?;
+    cursor.expect(Sign::Zero)?;
+    cursor.mark(Mark::CloseSquare)?;
+    Ok(high)
+}
+
+#[tactic(auto, unfolding(verilog_rules::specs::Reading::read_optional_range))]
+pub fn optional_range(cursor: &mut Cursor<'_>) -> Result<Option<u64>, Fault>
+    ensures { Steps (spec.read_optional_range cursor.old) result cursor.new }
+{
+    if cursor.sees_mark(Mark::OpenSquare) {
+        Ok(Some(range(cursor)?))
+    } else {
+        Ok(None)
+    }
+}
+
+#[tactic(auto, unfolding(verilog_rules::specs::Reading::read_constant))]
+pub fn constant(cursor: &mut Cursor<'_>) -> Result<Constant, Fault>
+    ensures { Steps (spec.read_constant cursor.old) result cursor.new }
+{
+    let width = cursor.number()?;
+    cursor.mark(Mark::Decimal)?;
+    let value = cursor.number()?;
+    Ok(Constant { width, value })
+}
+
+/// `$signed(name)`
+#[tactic(auto, unfolding(verilog_rules::specs::Reading::read_signed))]
+pub fn signed(cursor: &mut Cursor<'_>) -> Result<Identifier, Fault>
+    ensures { Steps (spec.read_signed cursor.old) result cursor.new }
+{
+    cursor.mark(Mark::Signed)?;
+    cursor.mark(Mark::OpenRound)?;
+    let name = cursor.name()?;
+    cursor.mark(Mark::CloseRound)?;
+    Ok(name)
+}
+
+#[tactic(auto, unfolding(verilog_rules::specs::Reading::read_constant_expression))]
+fn constant_expression(cursor: &mut Cursor<'_>) -> Result<Expression, Fault>
+    ensures { Steps (spec.read_constant_expression cursor.old) result cursor.new }
+{
+    let constant = constant(cursor)?;
+    Ok(Expression::Constant(constant))
+}
+
+#[tactic(auto, unfolding(verilog_rules::specs::Reading::read_bitwise_not))]
+fn bitwise_not(cursor: &mut Cursor<'_>) -> Result<Expression, Fault>
+    ensures { Steps (spec.read_bitwise_not cursor.old) result cursor.new }
+{
+    cursor.mark(Mark::Tilde)?;
+    let of = cursor.name()?;
+    Ok(Expression::BitwiseNot(of))
+}
+
+#[tactic(auto, unfolding(verilog_rules::specs::Reading::read_binary))]
+fn binary(cursor: &mut Cursor<'_>, left: Identifier) -> Result<Expression, Fault>
+    ensures { Steps (spec.read_binary left cursor.old) result cursor.new }
+{
+    let operator = cursor.operator()?;
+    let right = cursor.name()?;
+    Ok(Expression::Binary {
+        operator,
+        left,
+        right,
+    })
+}
+
+#[tactic(auto, unfolding(verilog_rules::specs::Reading::read_conditional))]
+fn conditional(cursor: &mut Cursor<'_>, condition: Identifier) -> Result<Expression, Fault>
+    ensures { Steps (spec.read_conditional condition cursor.old) result cursor.new }
+{
+    cursor.mark(Mark::Question)?;
+    let if_true = cursor.name()?;
+    cursor.mark(Mark::Colon)?;
+    let if_false = cursor.name()?;
+    Ok(Expression::Conditional {
+        condition,
+        if_true,
+        if_false,
+    })
+}
+
+#[tactic(auto, unfolding(verilog_rules::specs::Reading::read_bit_end))]
+fn bit_end(cursor: &mut Cursor<'_>, of: Identifier, bit: u64) -> Result<Expression, Fault>
+    ensures { Steps (spec.read_bit_end of bit cursor.old) result cursor.new }
+{
+    cursor.mark(Mark::CloseSquare)?;
+    Ok(Expression::BitSelect { of, bit })
+}
+
+#[tactic(auto, unfolding(verilog_rules::specs::Reading::read_part_end))]
+fn part_end(cursor: &mut Cursor<'_>, of: Identifier, high: u64) -> Result<Expression, Fault>
+    ensures { Steps (spec.read_part_end of high cursor.old) result cursor.new }
+{
+    cursor.mark(Mark::Colon)?;
+    let low = cursor.number()?;
+    cursor.mark(Mark::CloseSquare)?;
+    Ok(Expression::PartSelect { of, high, low })
+}
+
+#[tactic(auto, unfolding(verilog_rules::specs::Reading::read_select))]
+fn select(cursor: &mut Cursor<'_>, of: Identifier) -> Result<Expression, Fault>
+    ensures { Steps (spec.read_select of cursor.old) result cursor.new }
+{
+    cursor.mark(Mark::OpenSquare)?;
+    let high = cursor.number()?;
+    if cursor.sees_mark(Mark::CloseSquare) {
+        bit_end(cursor, of, high)
+    } else {
+        part_end(cursor, of, high)
+    }
+}
+
+#[tactic(auto, unfolding(verilog_rules::specs::Reading::read_behind_name))]
+fn behind_name(cursor: &mut Cursor<'_>, name: Identifier) -> Result<Expression, Fault>
+    ensures { Steps (spec.read_behind_name name cursor.old) result cursor.new }
+{
+    if cursor.sees_operator() {
+        binary(cursor, name)
+    } else if cursor.sees_mark(Mark::Question) {
+        conditional(cursor, name)
+    } else if cursor.sees_mark(Mark::OpenSquare) {
+        select(cursor, name)
+    } else {
+        Ok(Expression::Copy(name))
+    }
+}
+
+#[tactic(auto, unfolding(verilog_rules::specs::Reading::read_named))]
+fn named(cursor: &mut Cursor<'_>) -> Result<Expression, Fault>
+    ensures { Steps (spec.read_named cursor.old) result cursor.new }
+{
+    let name = cursor.name()?;
+    behind_name(cursor, name)
+}
+
+#[tactic(auto, unfolding(verilog_rules::specs::Reading::read_signed_less))]
+fn signed_less(cursor: &mut Cursor<'_>, left: Identifier) -> Result<Expression, Fault>
+    ensures { Steps (spec.read_signed_less left cursor.old) result cursor.new }
+{
+    cursor.mark(Mark::Less)?;
+    let right = signed(cursor)?;
+    Ok(Expression::SignedLess { left, right })
+}
+
+#[tactic(auto, unfolding(verilog_rules::specs::Reading::read_arithmetic_shift))]
+fn arithmetic_shift(cursor: &mut Cursor<'_>, left: Identifier) -> Result<Expression, Fault>
+    ensures { Steps (spec.read_arithmetic_shift left cursor.old) result cursor.new }
+{
+    cursor.mark(Mark::ArithmeticShiftRight)?;
+    let right = cursor.name()?;
+    Ok(Expression::ArithmeticShiftRight { left, right })
+}
+
+#[tactic(auto, unfolding(verilog_rules::specs::Reading::read_of_signed))]
+fn of_signed(cursor: &mut Cursor<'_>) -> Result<Expression, Fault>
+    ensures { Steps (spec.read_of_signed cursor.old) result cursor.new }
+{
+    let left = signed(cursor)?;
+    if cursor.sees_mark(Mark::Less) {
+        signed_less(cursor, left)
+    } else {
+        arithmetic_shift(cursor, left)
+    }
+}
+
+/// A guarded division from the base of its guarded constant on.
+#[tactic(auto, unfolding(verilog_rules::specs::Reading::read_division_end))]
+fn division_end(
+    cursor: &mut Cursor<'_>,
+    tested: Identifier,
+    zero: Constant,
+    width: u64,
+) -> Result<Expression, Fault>
+    ensures { Steps (spec.read_division_end tested zero width cursor.old) result cursor.new }
+{
+    cursor.mark(Mark::Decimal)?;
+    let value = cursor.number()?;
+    cursor.mark(Mark::Colon)?;
+    let left = cursor.name()?;
+    let operator = cursor.division()?;
+    let right = cursor.name()?;
+    Ok(Expression::Division {
+        tested,
+        zero,
+        guarded: Constant { width, value },
+        operator,
+        left,
+        right,
+    })
+}
+
+/// The same of signed names.
+#[tactic(auto, unfolding(verilog_rules::specs::Reading::read_signed_division_end))]
+fn signed_division_end(
+    cursor: &mut Cursor<'_>,
+    tested: Identifier,
+    zero: Constant,
+    width: u64,
+) -> Result<Expression, Fault>
+    ensures { Steps (spec.read_signed_division_end tested zero width cursor.old) result cursor.new }
+{
+    cursor.mark(Mark::SignedDecimal)?;
+    let value = cursor.number()?;
+    cursor.mark(Mark::Colon)?;
+    let left = signed(cursor)?;
+    let operator = cursor.division()?;
+    let right = signed(cursor)?;
+    Ok(Expression::SignedDivision {
+        tested,
+        zero,
+        guarded: Constant { width, value },
+        operator,
+        left,
+        right,
+    })
+}
+
+/// The constant of a guard, `)` and `?`.
+#[tactic(auto, unfolding(verilog_rules::specs::Reading::read_bound))]
+fn bound(cursor: &mut Cursor<'_>) -> Result<Constant, Fault>
+    ensures { Steps (spec.read_bound cursor.old) result cursor.new }
+{
+    let bound = constant(cursor)?;
+    cursor.mark(Mark::CloseRound)?;
+    cursor.mark(Mark::Question)?;
+    Ok(bound)
+}
+
+#[tactic(auto, unfolding(verilog_rules::specs::Reading::read_guarded_division))]
+fn guarded_division(cursor: &mut Cursor<'_>, tested: Identifier) -> Result<Expression, Fault>
+    ensures { Steps (spec.read_guarded_division tested cursor.old) result cursor.new }
+{
+    cursor.mark(Mark::EqualEqual)?;
+    let zero = bound(cursor)?;
+    let width = cursor.number()?;
+    if cursor.sees_mark(Mark::Decimal) {
+        division_end(cursor, tested, zero, width)
+    } else {
+        signed_division_end(cursor, tested, zero, width)
+    }
+}
+
+#[tactic(auto, unfolding(verilog_rules::specs::Reading::read_guarded_read))]
+fn guarded_read(cursor: &mut Cursor<'_>, tested: Identifier) -> Result<Expression, Fault>
+    ensures { Steps (spec.read_guarded_read tested cursor.old) result cursor.new }
+{
+    cursor.mark(Mark::Less)?;
+    let bound = bound(cursor)?;
+    let memory = cursor.name()?;
+    cursor.mark(Mark::OpenSquare)?;
+    let address = cursor.name()?;
+    cursor.mark(Mark::CloseSquare)?;
+    cursor.mark(Mark::Colon)?;
+    let guarded = constant(cursor)?;
+    Ok(Expression::MemoryRead {
+        tested,
+        bound,
+        memory,
+        address,
+        guarded,
+    })
+}
+
+#[tactic(auto, unfolding(verilog_rules::specs::Reading::read_guarded))]
+fn guarded(cursor: &mut Cursor<'_>) -> Result<Expression, Fault>
+    ensures { Steps (spec.read_guarded cursor.old) result cursor.new }
+{
+    cursor.mark(Mark::OpenRound)?;
+    let tested = cursor.name()?;
+    if cursor.sees_mark(Mark::EqualEqual) {
+        guarded_division(cursor, tested)
+    } else {
+        guarded_read(cursor, tested)
+    }
+}
+
+#[tactic(auto, unfolding(verilog_rules::specs::Reading::read_next))]
+fn next_name(cursor: &mut Cursor<'_>) -> Result<Identifier, Fault>
+    ensures { Steps (spec.read_next spec.read_name cursor.old) result cursor.new }
+{
+    cursor.mark(Mark::Comma)?;
+    cursor.name()
+}
+
+/// The names behind the first one.
+fn more_names(
+    alloc: Global,
+    cursor: &mut Cursor<'_>,
+    first: Identifier,
+) -> Result<Items<Identifier>, Fault>
+    ensures { Steps (spec.read_more spec.read_name first cursor.old) result cursor.new }
+{
+    let mut found = Items::new(alloc);
+    found.push(first)?;
+    for _turn in 0..cursor.left() {
+        if !cursor.sees_mark(Mark::Comma) {
+            return Ok(found);
+        }
+        found.push(next_name(cursor)?)?;
+    }
+    Ok(found)
+}
+
+#[tactic(auto, unfolding(verilog_rules::specs::Reading::read_listed))]
+fn names(alloc: Global, cursor: &mut Cursor<'_>) -> Result<Items<Identifier>, Fault>
+    ensures { Steps (spec.read_listed spec.read_name cursor.old) result cursor.new }
+{
+    let first = cursor.name()?;
+    more_names(alloc, cursor, first)
+}
+
+#[tactic(auto, unfolding(verilog_rules::specs::Reading::read_concatenation))]
+fn concatenation(alloc: Global, cursor: &mut Cursor<'_>) -> Result<Expression, Fault>
+    ensures { Steps (spec.read_concatenation cursor.old) result cursor.new }
+{
+    let parts = names(alloc, cursor)?;
+    cursor.mark(Mark::CloseCurly)?;
+    Ok(Expression::Concatenation(parts))
+}
+
+#[tactic(auto, unfolding(verilog_rules::specs::Reading::read_replication))]
+fn replication(cursor: &mut Cursor<'_>) -> Result<Expression, Fault>
+    ensures { Steps (spec.read_replication cursor.old) result cursor.new }
+{
+    let count = cursor.number()?;
+    cursor.mark(Mark::OpenCurly)?;
+    let of = cursor.name()?;
+    cursor.mark(Mark::CloseCurly)?;
+    cursor.mark(Mark::CloseCurly)?;
+    Ok(Expression::Replication { count, of })
+}
+
+#[tactic(auto, unfolding(verilog_rules::specs::Reading::read_braced))]
+fn braced(alloc: Global, cursor: &mut Cursor<'_>) -> Result<Expression, Fault>
+    ensures { Steps (spec.read_braced cursor.old) result cursor.new }
+{
+    cursor.mark(Mark::OpenCurly)?;
+    if cursor.sees_name() {
+        concatenation(alloc, cursor)
+    } else {
+        replication(cursor)
+    }
+}
+
+/// The right side of an assign.
+#[tactic(auto, unfolding(verilog_rules::specs::Reading::read_expression))]
+pub fn expression(alloc: Global, cursor: &mut Cursor<'_>) -> Result<Expression, Fault>
+    ensures { Steps (spec.read_expression cursor.old) result cursor.new }
+{
+    if cursor.sees_name() {
+        named(cursor)
+    } else if cursor.sees_number() {
+        constant_expression(cursor)
+    } else if cursor.sees_mark(Mark::Tilde) {
+        bitwise_not(cursor)
+    } else if cursor.sees_mark(Mark::Signed) {
+        of_signed(cursor)
+    } else if cursor.sees_mark(Mark::OpenRound) {
+        guarded(cursor)
+    } else {
+        braced(alloc, cursor)
+    }
+}

@@ -1,0 +1,5 @@
+mod Counting
+mod Marking
+mod Running
+mod Facing
+mod Lexing

@@ -1,0 +1,126 @@
+// The token at the front of a text.
+
+ghost use Rattle.std.specs.Prelude.{◌≡◌, false, true, take, drop, string_bytes, IfOk};
+ghost use Rattle.verilog_tree.specs.Spelling.{is_quoted};
+ghost use Rattle.verilog_tree.specs.Tokens as tokens;
+ghost use Rattle.verilog_lexer.specs.Runs as spec;
+
+use crate::marks::{mark_at, word_of};
+use crate::number::number_of;
+use crate::runs::{Run, is_letter, quoted_len, run_len};
+use std::alloc::{AllocError, Global};
+use verilog_tree::name::{Identifier, Quoted};
+use verilog_tree::token::Token;
+
+/// The first `len` bytes, or all where there are fewer.
+fn front(text: &[u8], len: usize) -> &[u8]
+    ensures { result.now ≡ take len text.now }
+{
+    text.get(..len).unwrap_or(text)
+}
+
+/// A copy of the bytes as a text. Bytes that are no text, which names and strings never are, are answered as want of memory.
+fn text_of(alloc: Global, bytes: &[u8]) -> Result<String, AllocError>
+    ensures { IfOk result (λ s. string_bytes s ≡ bytes.now) }
+{
+    match std::str::from_utf8(bytes) {
+        Ok(text) => String::from_str(alloc, text),
+        Err(_) => Err(AllocError),
+    }
+}
+
+/// The word of the grammar or the name that is spelled so.
+#[tactic(auto, using(crate::proofs::Running::name_valid))]
+fn word_or_name(alloc: Global, bytes: &[u8]) -> Result<Token, AllocError>
+    requires { spec.IsNamed bytes.now }
+    ensures { IfOk result (λ token. token ≡ tokens.word_or_name bytes.now) }
+{
+    match word_of(bytes) {
+        Some(word) => Ok(Token::Word(word)),
+        None => {
+            let text = text_of(alloc, bytes)?;
+            Ok(Token::Name(Identifier::from_string(text)))
+        }
+    }
+}
+
+#[tactic(auto, using(crate::proofs::Facing::name_taken, crate::proofs::Facing::name_token))]
+fn name_token(alloc: Global, text: &[u8]) -> Result<(Token, usize), AllocError>
+    requires { spec.BeginsName text.now }
+    ensures { IfOk result (λ found. spec.IsToken text.now found.0 found.1) }
+{
+    let len = run_len(Run::Name, text);
+    let token = word_or_name(alloc, front(text, len))?;
+    Ok((token, len))
+}
+
+#[tactic(auto, using(crate::proofs::Facing::number_token, crate::proofs::Facing::no_number))]
+fn number_token(text: &[u8]) -> Option<(Token, usize)>
+    requires { spec.BeginsDigit text.now }
+    ensures { spec.IsFront text.now result }
+{
+    let len = run_len(Run::Digits, text);
+    match number_of(front(text, len)) {
+        Some(number) => Some((Token::Number(number), len)),
+        None => None,
+    }
+}
+
+/// A string with this between its quotes.
+fn quoted(alloc: Global, inside: &[u8]) -> Result<Quoted, AllocError>
+    requires { is_quoted false inside.now ≡ true }
+    ensures { IfOk result (λ quoted. quoted ≡ inside.now) }
+{
+    let text = text_of(alloc, inside)?;
+    Ok(Quoted::from_string(text))
+}
+
+/// The string at the front of the text, by what stands behind its first quote.
+#[tactic(auto, using(crate::proofs::Facing::quoted_taken, crate::proofs::Facing::quoted_token, crate::proofs::Facing::no_quoted))]
+fn quoted_token(
+    alloc: Global,
+    text: &[u8],
+    behind: &[u8],
+) -> Result<Option<(Token, usize)>, AllocError>
+    requires begins { spec.BeginsQuote text.now }
+    requires behind { behind.now ≡ drop 1 text.now }
+    ensures { IfOk result (spec.IsFront text.now) }
+{
+    match quoted_len(behind) {
+        Some(len) => {
+            let inside = quoted(alloc, front(behind, len))?;
+            Ok(Some((Token::Quoted(inside), len + 2)))
+        }
+        None => Ok(None),
+    }
+}
+
+#[tactic(auto, using(crate::proofs::Facing::mark_token, crate::proofs::Facing::no_mark))]
+fn mark_token(text: &[u8]) -> Option<(Token, usize)>
+    requires { spec.BeginsMark text.now }
+    ensures { spec.IsFront text.now result }
+{
+    match mark_at(text) {
+        Some((mark, len)) => Some((Token::Mark(mark), len)),
+        None => None,
+    }
+}
+
+/// The token at the front of the text, and how many bytes it has.
+#[tactic(auto, using(crate::proofs::Facing::front_steps))]
+pub(crate) fn front_token(alloc: Global, text: &[u8]) -> Result<Option<(Token, usize)>, AllocError>
+    ensures { IfOk result (spec.IsFront text.now) }
+{
+    let [b, behind @ ..] = text else {
+        return Ok(None);
+    };
+    if is_letter(*b) {
+        Ok(Some(name_token(alloc, text)?))
+    } else if b.is_ascii_digit() {
+        Ok(number_token(text))
+    } else if *b == b'"' {
+        quoted_token(alloc, text, behind)
+    } else {
+        Ok(mark_token(text))
+    }
+}

@@ -1,0 +1,10 @@
+pub mod Singles
+pub mod Shapes
+pub mod Expressions
+pub mod Statements
+pub mod Modules
+pub mod Means
+pub mod Spelled
+pub mod SpelledItems
+pub mod SpelledModules
+pub mod Nets

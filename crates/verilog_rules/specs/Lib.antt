@@ -1,0 +1,5 @@
+pub mod Signs
+pub mod Phrases
+pub mod Reading
+pub mod Laws
+pub mod Leads
