@@ -1,29 +1,40 @@
-"""Random programs of the profile, without undefined steps, each from a seed. With threads the output is the same whatever the interleaving:
-each thread works on its own elements, shares sums under a mutex, and meets the others at a barrier; main alone prints."""
+"""Random programs of one thread of the profile, without undefined steps, each from a seed."""
 import random
 
 UNSIGNED = ["unsigned char", "unsigned short", "unsigned", "unsigned long"]
 SIGNED = ["char", "short", "int", "long"]
+WORDS = ["clk", "en", "need", "done", "beat", "stage", "state", "reg", "wire", "module", "begin", "initial", "always", "assign", "input", "output",
+         "array", "array_0", "array_3", "argument", "top", "top_rr", "t_0", "u_x_0", "bank_x_0", "idle", "arbiter", "mutex", "barrier", "forkjoin", "printer",
+         "fn_main", "pref_0", "posedge", "x", "x_1", "x_12", "_", "_1", "unit", "word"]
 FORMATS = {"int": "%d", "unsigned": "%u", "long": "%ld", "unsigned long": "%lu"}
 
 
 class Scope:
-    """What stands in sight: scalars with their types, arrays with their types and lengths, which may be written, and loop variables."""
+    """What stands in sight: scalars with their types, arrays with their types, lengths and where one is a part, its first index; and which of them are not written."""
 
     def __init__(self, outer=None):
         self.scalars = dict(outer.scalars) if outer else {}
         self.arrays = dict(outer.arrays) if outer else {}
         self.fixed = set(outer.fixed) if outer else set()
+        self.own = set()
+
+    def hide(self, name):
+        for names in (self.scalars, self.arrays):
+            names.pop(name, None)
+        self.fixed.discard(name)
 
 
 class Writer:
-    def __init__(self, seed, threads=False):
+    def __init__(self, seed):
         self.draw = random.Random(seed)
+        self.words = list(WORDS)
         self.lines, self.count, self.functions, self.sites, self.room, self.inside = [], 0, [], 0, 60, 0
-        self.threads = threads
 
     def name(self, stem):
+        """A fresh name; some are words of Verilog or names of a written net."""
         self.count += 1
+        if self.words and self.draw.random() < 0.06:
+            return self.words.pop(self.draw.randrange(len(self.words)))
         return f"{stem}{self.count}"
 
     # ---- expressions: the type that an operator works in is forced by casts, so nothing overflows
@@ -40,11 +51,10 @@ class Writer:
         return self.draw.choice([str(value), f"{value}u", hex(value), f"{value}ul"])
 
     def index(self, scope, array):
-        length = scope.arrays[array][1]
+        _, length, *first = scope.arrays[array]
         loops = [it for it in sorted(scope.fixed) if scope.scalars.get(it)]
-        if loops and self.draw.random() < 0.5:
-            return f"(unsigned){self.draw.choice(loops)} % {length}u"
-        return f"(unsigned)({self.leaf_scalar(scope)}) % {length}u"
+        chosen = self.draw.choice(loops) if loops and self.draw.random() < 0.5 else f"({self.leaf_scalar(scope)})"
+        return "".join(f"{it} + " for it in first) + f"(unsigned){chosen} % {length}u"
 
     def leaf_scalar(self, scope):
         return self.draw.choice(sorted(scope.scalars)) if scope.scalars else str(self.draw.randrange(100))
@@ -93,8 +103,9 @@ class Writer:
 
     def target(self, scope):
         free = [it for it in sorted(scope.scalars) if it not in scope.fixed]
-        if scope.arrays and (not free or self.draw.random() < 0.4):
-            array = self.draw.choice(sorted(scope.arrays))
+        arrays = [it for it in sorted(scope.arrays) if it not in scope.fixed]
+        if arrays and (not free or self.draw.random() < 0.4):
+            array = self.draw.choice(arrays)
             return f"{array}[{self.index(scope, array)}]", scope.arrays[array][0]
         name = self.draw.choice(free) if free else None
         return (name, scope.scalars[name]) if name else (None, None)
@@ -138,7 +149,10 @@ class Writer:
 
     def declare(self, scope, depth, length=None):
         kind = self.draw.choice(UNSIGNED + SIGNED)
-        name = self.name("v")
+        outer = [it for it in sorted({*scope.scalars, *scope.arrays}) if it.isidentifier() and it != "id" and it not in scope.own] if depth > 1 else []
+        name = self.draw.choice(outer) if outer and self.draw.random() < 0.08 else self.name("v")
+        scope.own.add(name)
+        scope.hide(name)
         if length or self.draw.random() < 0.2:
             length = length or self.draw.choice([2, 4, 5, 8])
             index = self.name("i")
@@ -219,7 +233,7 @@ class Writer:
                 self.put(0, f"{kind} {name} = {self.draw.randrange(128)};")
                 scope.scalars[name] = kind
 
-    def sequential(self):
+    def program(self):
         scope = Scope()
         self.globals(scope)
         for _ in range(self.draw.randrange(3)):
@@ -236,56 +250,7 @@ class Writer:
         self.put(1, "return 0;")
         self.put(0, "}")
 
-    def threaded(self):
-        threads = self.draw.randrange(2, 5)
-        phases = self.draw.random() < 0.5
-        self.put(0, f"pthread_t t[{threads}];")
-        self.put(0, "pthread_mutex_t m;")
-        if phases:
-            self.put(0, "pthread_barrier_t b;")
-        self.put(0, "unsigned long s;")
-        self.put(0, f"unsigned g[{threads}];")
-        self.put(0, f"unsigned h[{threads}];")
-        self.function(Scope())
-        self.put(0, "void *work(void *arg) {")
-        self.put(1, "long id = (long)arg;")
-        self.put(1, "unsigned r = (unsigned)id + 1u;")
-        scope = Scope()
-        scope.scalars.update({"r": "unsigned", "id": "long"})
-        scope.fixed.add("id")
-        self.room = 12
-        self.block(scope, 1, 0, self.draw.randrange(2, 5), False)
-        self.put(1, "g[id] = r;")
-        if phases:
-            self.put(1, "pthread_barrier_wait(&b);")
-            self.put(1, f"r = r ^ g[(id + {self.draw.randrange(1, threads)}) % {threads}];")
-            self.put(1, "h[id] = r;")
-            self.put(1, "pthread_barrier_wait(&b);")
-        self.put(1, f"for (int k = 0; k < {self.draw.randrange(1, 4)}; k++) {{")
-        self.put(2, "pthread_mutex_lock(&m);")
-        self.put(2, f"s = s {self.draw.choice('+^')} ({self.unsigned(scope, 1)});")
-        self.put(2, "pthread_mutex_unlock(&m);")
-        self.put(1, "}")
-        self.put(1, "return NULL;")
-        self.put(0, "}")
-        self.put(0, "int main(void) {")
-        self.put(1, "int i;")
-        self.put(1, "pthread_mutex_init(&m, NULL);")
-        if phases:
-            self.put(1, f"pthread_barrier_init(&b, NULL, {threads});")
-        self.put(1, f"for (i = 0; i < {threads}; i++) pthread_create(&t[i], NULL, work, (void *)(long)i);")
-        self.put(1, f"for (i = 0; i < {threads}; i++) pthread_join(t[i], NULL);")
-        self.put(1, f'for (i = 0; i < {threads}; i++) printf("%u %u\\n", g[i], h[i]);')
-        self.put(1, 'printf("%lu\\n", s);')
-        self.put(1, "return 0;")
-        self.put(0, "}")
-
     def text(self):
         self.put(0, "#include <stdio.h>")
-        self.put(0, "#include <pthread.h>")
-        self.threaded() if self.threads else self.sequential()
+        self.program()
         return "\n".join(self.lines) + "\n"
-
-
-def program(seed, threads=False):
-    return Writer(seed, threads).text()
