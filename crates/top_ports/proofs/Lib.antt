@@ -1,0 +1,3 @@
+pub mod Names
+pub mod Wanted
+pub mod Turning

@@ -1,0 +1,4 @@
+pub mod Faulting
+pub mod Placing
+pub mod Standing
+pub mod Answering

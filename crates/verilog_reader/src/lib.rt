@@ -1,0 +1,4 @@
+//! A Verilog text as a net that a simulator runs, or the offset at which it is none.
+#![tactic(auto)]
+
+pub mod read;
