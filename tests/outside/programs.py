@@ -128,6 +128,11 @@ class Writer:
             self.put(depth, f"{name} = {self.value(scope)};")
 
     def call(self, scope, depth, name):
+        # an index that hangs on a global may be evaluated before the call or behind it (C99 6.5.16): here it is the first of those that are allowed
+        array, bracket, _ = name.partition("[")
+        if bracket:
+            _, _, *first = scope.arrays[array]
+            name = f"{array}[{first[0] if first else 0}]"
         function, parameters, returns = self.draw.choice(self.functions)
         arguments = ", ".join(self.value(scope, 1) for _ in parameters)
         self.put(depth, f"{name} = {function}({arguments});" if returns else f"{function}({arguments});")
