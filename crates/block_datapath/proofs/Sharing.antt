@@ -1,12 +1,13 @@
 -- Results of shared units: each stands in one of the lists, and works at the type of its operation.
-use Rattle.std.proofs.Common.{◌≡◌, ℕ, suc, Bool, true, false, if◌then◌else◌, List, [], ◌∷◌, slice_get, Some, refl, ◌∙◌}
+use Rattle.std.proofs.Common.{◌≡◌, ℕ, suc, Bool, true, false, if◌then◌else◌, List, [], ◌∷◌, slice_get, Option, Some, None, refl, ap, sym, ◌∙◌}
 use Rattle.hls_ints.specs.Types.{IntegerType, width_of}
 use Rattle.c_program.specs.declared.tree.BinaryOperator.{BinaryOperator}
 use Rattle.c_program.specs.declared.tree.BinaryOperator.TheVariants.{Multiply, Divide, Remainder}
 use Rattle.operator_words.specs.Shown.{binary_result}
 use Rattle.planned_block.proofs.Bits.{both_true, is_same}
 use Rattle.block_datapath.specs.declared.registers.UnitResults.{UnitResults}
-use Rattle.block_datapath.specs.Units.{same_operator, same_type, unit_type, is_for, unit_place}
+use Rattle.block_ir.specs.declared.operand.Operand.{Operand}
+use Rattle.block_datapath.specs.Units.{same_operator, same_type, unit_type, is_for, unit_place, has_constant, shared_place}
 
 -- what has units gives values of the type at which it works
 gives_own : (a b : BinaryOperator) (ty : IntegerType) → same_operator a b ≡ true → binary_result b ty ≡ ty
@@ -50,3 +51,13 @@ module _ (us : List UnitResults) (operator : BinaryOperator) (ty : IntegerType) 
   wide_as t =
       let same = (both_true (same_operator t.results.operator operator) (same_type t.results.ty (unit_type operator ty)) t.serves).1 in
       is_same (width_of t.results.ty) (width_of (unit_type operator ty)) (both_true _ _ same).0 ∙ width_own operator ty
+
+-- WHAT IS SHARED: where an operation shares a unit, its operands are no constants, and its result stands there
+pub shared_at : (us : List UnitResults) (operator : BinaryOperator) (ty : IntegerType) (a b : Operand) (n place : ℕ) → shared_place us operator ty a b n ≡ Some place →
+    (has_constant a b ≡ false) × (unit_place us operator ty n ≡ Some place)
+shared_at us operator ty a b n place e = by_test (has_constant a b) refl
+  where
+    by_test : (t : Bool) → has_constant a b ≡ t → (has_constant a b ≡ false) × (unit_place us operator ty n ≡ Some place)
+    by_test true f =
+        absurd (let none : None ≡ Some place = sym (ap (λ (t : Bool). if t then None else unit_place us operator ty n) f) ∙ e in cc)
+    by_test false f = (f, sym (ap (λ (t : Bool). if t then None else unit_place us operator ty n) f) ∙ e)

@@ -34,7 +34,7 @@ use Rattle.thread_promise.specs.Globals.{IsAccess}
 use Rattle.thread_promise.specs.Types.{value_type, IsTypedSource, IsTypedOperand, IsTypedOperation}
 use Rattle.block_datapath.specs.Seen.{IsKept, IsValue, SeesSource}
 use Rattle.block_datapath.specs.Units.{word_at}
-use Rattle.block_datapath.proofs.Sharing.{result_own}
+use Rattle.block_datapath.proofs.Sharing.{result_own, shared_at}
 use Rattle.block_datapath.specs.Operations.{operation_value, SeesOperands, HasResult, GivesOperation, IsSized, SeesSlot, IsFed, IsRight, IsShown, ShowsFirst}
 
 -- ---- the view of a list of operations
@@ -210,7 +210,8 @@ module _ (globals : List IntegerType) (code : ThreadCode) (registers : Registers
         let to : q.state ≤ last_state (planned_view b) (plan_view b p) n = omega arith in
         subst (λ (k : IntegerType). IsWord m r (word_at place k) k
         (operation_value q.variables (value_now (planned_view b) (plan_view b p) q wire) q.arrays (λ l. q.words (bank l)) (Binary operator ty a c)))
-        (sym (result_own registers.units operator ty (slice_index p.units n) place e)) (wired.units n place operator ty a c listed from to e)
+        (sym (result_own registers.units operator ty (slice_index p.units n) place (shared_at registers.units operator ty a c (slice_index p.units n) place e).1))
+        (wired.units n place operator ty a c listed from to e)
     result_here (ReadGlobal x count i) listed lt at place e = absurd cc
     result_here (WriteGlobal x count i a) listed lt at place e = absurd cc
     result_here (ReadArray x count i) listed lt at place e = absurd cc

@@ -40,10 +40,10 @@ use Rattle.thread_promise.specs.Slots.{element_at}
 use Rattle.block_ir.specs.declared.plan.BlockPlan.{BlockPlan}
 use Rattle.planned_block.specs.Plan.{further_states}
 use Rattle.planned_view.specs.View.{operation_view, register_at}
-use Rattle.block_datapath.specs.Units.{unit_place}
+use Rattle.block_datapath.specs.Units.{shared_place}
 use Rattle.block_datapath.specs.Operations.{seen_value, operation_value, HasArrays, IsOutside, result_place, Addresses, ReadsArray, ShowsOperation, GivesOperation}
 use Rattle.block_datapath.proofs.Seeing.{own_word}
-use Rattle.block_datapath.proofs.Sharing.{result_own}
+use Rattle.block_datapath.proofs.Sharing.{result_own, shared_at}
 
 -- whatever the globals are, and in whatever state it starts or ends
 abbrev pub AtAnyStart : List Signal → List Signal → ThreadCode → Registers → List Given → ℕ → Operation → Word → Type 0
@@ -53,7 +53,7 @@ AtAnyStart a b code registers values last operation out =
 -- where its unit is not shared
 abbrev pub AtOwn : List Signal → List Signal → ThreadCode → Registers → List Given → ℕ → BinaryOperator → IntegerType → Operand → Operand → Word → Type 0
 AtOwn a b code registers values last operator ty left right out =
-    (globals : List IntegerType) (unit start : ℕ) → unit_place registers.units operator ty unit ≡ None →
+    (globals : List IntegerType) (unit start : ℕ) → shared_place registers.units operator ty left right unit ≡ None →
     ShowsOperation a b globals code registers values unit start last (Binary operator ty left right) out
 
 -- and on this unit
@@ -97,10 +97,10 @@ binary_given x a b c d code registers values last operator ty left right first s
 
 -- the result of a unit that is shared
 pub shared_given : (a : List Signal) (code : ThreadCode) (registers : Registers) (values : List Given) (unit last : ℕ) (operator : BinaryOperator) (ty : IntegerType)
-    (left right : Operand) (place : ℕ) (out : Word) → unit_place registers.units operator ty unit ≡ Some place → out.place ≡ place → out.width ≡ width_of ty →
+    (left right : Operand) (place : ℕ) (out : Word) → shared_place registers.units operator ty left right unit ≡ Some place → out.place ≡ place → out.width ≡ width_of ty →
     out.signed ≡ ty.signed → OnUnit a a code registers values unit last (Binary operator ty left right) out
 shared_given a code registers values unit last operator ty left right place out found at says sign globals start =
-    let own = result_own registers.units operator ty unit place found in
+    let own = result_own registers.units operator ty unit place (shared_at registers.units operator ty left right unit place found).1 in
     record {
       grows = grows_refl a;
       shared = λ other e. (refl, at ∙ (let same : place ≡ other = cc in same));
@@ -117,7 +117,7 @@ shared_given a code registers values unit last operator ty left right place out 
 
 -- by the place that was looked for
 pub on_unit : {E : Type 0} (x : Result Word E) (a b : List Signal) (code : ThreadCode) (registers : Registers) (values : List Given) (unit last : ℕ)
-    (operator : BinaryOperator) (ty : IntegerType) (left right : Operand) → unit_place registers.units operator ty unit ≡ None →
+    (operator : BinaryOperator) (ty : IntegerType) (left right : Operand) → shared_place registers.units operator ty left right unit ≡ None →
     IfOk x (AtOwn a b code registers values last operator ty left right) → IfOk x (OnUnit a b code registers values unit last (Binary operator ty left right))
 on_unit x a b code registers values unit last operator ty left right none made =
     of_ok x (AtOwn a b code registers values last operator ty left right) (OnUnit a b code registers values unit last (Binary operator ty left right))

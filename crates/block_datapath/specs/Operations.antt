@@ -32,7 +32,7 @@ use Rattle.block_datapath.specs.declared.operands.Given.{Given}
 use Rattle.thread_promise.specs.Types.{value_type, IsOfLength, IsTypedBlock}
 use Rattle.thread_promise.specs.Globals.{IsSmallPower, IsAccess}
 use Rattle.block_datapath.specs.Seen.{IsVariable, IsKept, SeesSource}
-use Rattle.block_datapath.specs.Units.{unit_place, word_at, HasUnits}
+use Rattle.block_datapath.specs.Units.{shared_place, word_at, HasUnits}
 use Rattle.thread_promise.specs.Slots.{element_at, IsAlive}
 
 -- the value of an operand, where the variables and the values of operations are these
@@ -111,7 +111,7 @@ IsSized globals code registers (WriteArray x n i a) = IsOfLength code x n
 -- where the result of an operation on unit n stands, if that is shared
 abbrev pub result_place : List UnitResults → ℕ → Operation → Option ℕ
 result_place units n (Unary operator ty a) = None
-result_place units n (Binary operator ty a b) = unit_place units operator ty n
+result_place units n (Binary operator ty a b) = shared_place units operator ty a b n
 result_place units n (ReadGlobal x count i) = None
 result_place units n (WriteGlobal x count i a) = None
 result_place units n (ReadArray x count i) = None

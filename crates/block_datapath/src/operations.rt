@@ -8,13 +8,13 @@ ghost use Rattle.planned_view.specs.View.{register_at};
 ghost use Rattle.thread_promise.specs.Types.{value_type, or_int, element_type};
 ghost use Rattle.block_datapath.specs.Operations.{Addresses, ReadsArray, ShowsOperation, GivesOperation, ShowsFirst};
 ghost use Rattle.block_ir.specs.declared.block.Operation.TheVariants as operation;
-ghost use Rattle.block_datapath.specs.Units.{unit_place};
+ghost use Rattle.block_datapath.specs.Units.{shared_place};
 
 use crate::operands::{Given, operand_word};
 use crate::registers::Registers;
 use crate::timing::further_states;
 use crate::told::told_value;
-use crate::units::unit_place;
+use crate::units::shared_place;
 use block_ir::block::{Block, Operation};
 use block_ir::code::{Array, ThreadCode};
 use block_ir::operand::Operand;
@@ -241,8 +241,8 @@ fn unary_value(
     wires.unary(operator, ty, word)
 }
 
-/// The value of an operator: the result of the unit of that number, if it is shared, and else that of an operator of its
-/// own.
+/// The value of an operator: the result of the unit of that number, if it shares one, and else that of an operator of
+/// its own.
 fn shared_value(
     wires: &mut Wires,
     registers: &Registers,
@@ -259,7 +259,7 @@ fn shared_value(
         unit start last (operation.Binary operator ty left.now right.now) out) }
     ensures wired { IfOk result (IsSourced wires.old.signals wires.new.signals code.now.variables registers.now values.now (binary_result operator ty)) }
 {
-    match unit_place(registers.units.as_slice(), operator, ty, unit) {
+    match shared_place(registers.units.as_slice(), operator, ty, left, right, unit) {
         Some(place) => Ok(Word::of_type(place, ty)),
         None => binary_value(
             wires, registers, code, values, last, operator, ty, left, right,
@@ -278,7 +278,7 @@ fn binary_value(
     left: &Operand,
     right: &Operand,
 ) -> Result<Word, AllocError>
-    ensures shows { IfOk result (λ out. (globals : List IntegerType) (unit start : ℕ) → unit_place registers.now.units operator ty unit ≡ None →
+    ensures shows { IfOk result (λ out. (globals : List IntegerType) (unit start : ℕ) → shared_place registers.now.units operator ty left.now right.now unit ≡ None →
         ShowsOperation wires.old.signals wires.new.signals globals code.now registers.now values.now unit start last (operation.Binary operator ty left.now right.now) out) }
     ensures wired { IfOk result (IsSourced wires.old.signals wires.new.signals code.now.variables registers.now values.now (binary_result operator ty)) }
 {

@@ -1,9 +1,10 @@
 // The functional units that operations share.
 
 ghost use Rattle.std.specs.Prelude.{◌≡◌, false, slice_get};
-ghost use Rattle.block_datapath.specs.Units.{same_operator, same_type, unit_type, is_for, unit_place};
+ghost use Rattle.block_datapath.specs.Units.{same_operator, same_type, unit_type, is_for, unit_place, is_constant, has_constant, shared_place};
 
 use crate::registers::UnitResults;
+use block_ir::operand::{Operand, Source};
 use c_program::tree::BinaryOperator;
 use hls_ints::CType;
 
@@ -27,8 +28,40 @@ fn unsigned(ty: CType) -> CType
     }
 }
 
+/// Whether one of two operands is a constant. An operation on them has an operator of its own, which a synthesizer can
+/// fold: behind the multiplexers of a shared unit it would not see the constant.
+pub fn has_constant(left: &Operand, right: &Operand) -> bool
+    ensures { result ≡ has_constant left.now right.now }
+{
+    is_constant(left.source) || is_constant(right.source)
+}
+
+fn is_constant(source: Source) -> bool
+    ensures { result ≡ is_constant source }
+{
+    matches!(source, Source::Constant(..))
+}
+
+/// Where the result of the unit stands that an operation on two operands shares, if it shares one.
+pub fn shared_place(
+    units: &[UnitResults],
+    operator: BinaryOperator,
+    ty: CType,
+    left: &Operand,
+    right: &Operand,
+    number: usize,
+) -> Option<usize>
+    ensures { result ≡ shared_place units.now operator ty left.now right.now number }
+{
+    if has_constant(left, right) {
+        None
+    } else {
+        unit_place(units, operator, ty, number)
+    }
+}
+
 /// Where the result of a unit stands, of the units of an operator at a type that of this number, if it is shared.
-pub fn unit_place(
+fn unit_place(
     units: &[UnitResults],
     operator: BinaryOperator,
     ty: CType,

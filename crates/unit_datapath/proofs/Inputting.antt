@@ -1,19 +1,20 @@
 -- The multiplexers of the operands of units: how they begin, and a link of one.
 use Rattle.std.proofs.Common.{◌≡◌, ◌≢◌, ℕ, zero, suc, ◌<◌, ◌≤◌, nat_eq, Bool, true, false, ◌&&◌, if◌then◌else◌}
-use Rattle.std.proofs.Common.{List, [], ◌∷◌, length, replicate, slice_get, Some, refl, sym, ap, subst, ◌∙◌, arith}
+use Rattle.std.proofs.Common.{List, [], ◌∷◌, length, replicate, slice_get, slice_index, slice_set, Option, Some, refl, sym, ap, subst, ◌∙◌, arith, ⊎_elim}
 use Rattle.netlist.specs.declared.netlist.Signal.{Signal}
 use Rattle.netlist.specs.declared.netlist.Module.{Module}
+use Rattle.interleaving.proofs.Update.{same_or_not}
 use Rattle.planned_block.proofs.Bits.{same_is, other_is}
 use Rattle.operator_wires.specs.Gives.{Grows}
 use Rattle.operator_wires.specs.Built.{Base, IsEarlier}
-use Rattle.operator_wires.proofs.Giving.{grows_then}
-use Rattle.operator_wires.proofs.Building.{stands_after, wires_then, longer}
+use Rattle.operator_wires.proofs.Giving.{grows_refl, grows_then}
+use Rattle.operator_wires.proofs.Building.{stands_after, wires_none, wires_then, longer}
 use Rattle.block_datapath.specs.declared.registers.Held.{Held}
 use Rattle.block_datapath.specs.Chains.{next_number, is_set, SetsNext}
 use Rattle.block_datapath.specs.Wired.{AreChains, HasWidthAt, IsLinked}
 use Rattle.block_datapath.specs.Requests.{HaveWidths, ShowsZeros, AreZeroChains}
 use Rattle.unit_datapath.specs.declared.inputs.UnitInputs.{UnitInputs}
-use Rattle.unit_datapath.specs.Inputs.{ArePlaces, AreInputs, BeginsInputs, LinksUnit}
+use Rattle.unit_datapath.specs.Inputs.{is_begun, IsBegun, SameInputs, ArePlaces, AreInputs, BeginsInputs, LinksUnit}
 
 -- ---- so many registers of one width
 
@@ -66,14 +67,72 @@ places_after a b base w n places g t = record { count = t.count; each = λ x y e
 pub inputs_after : (a b : List Signal) (base : Base) (w n : ℕ) (c : UnitInputs) → Grows a b → AreInputs a base w n c → AreInputs b base w n c
 inputs_after a b base w n c g t = record { lefts = places_after a b base w n c.lefts g t.lefts; rights = places_after a b base w n c.rights g t.rights }
 
+-- ---- one of a list is set
+
+pub set_past : {A : Type 0} (xs : List A) (j : ℕ) (v : A) → length xs ≤ j → slice_set xs j v ≡ xs
+set_past [] j v past = refl
+set_past (x ∷ xs) zero v past = absurd (omega arith)
+set_past {A = A} (x ∷ xs) (suc j) v past = ap (λ (ys : List A). x ∷ ys) (set_past xs j v (omega arith))
+
+set_long : {A : Type 0} (xs : List A) (j : ℕ) (v : A) → length (slice_set xs j v) ≡ length xs
+set_long [] j v = refl
+set_long (x ∷ xs) zero v = refl
+set_long (x ∷ xs) (suc j) v = ap suc (set_long xs j v)
+
+set_same : {A : Type 0} (xs : List A) (j : ℕ) (v : A) → j < length xs → slice_get (slice_set xs j v) j ≡ Some v
+set_same [] j v less = absurd (omega arith)
+set_same (x ∷ xs) zero v less = refl
+set_same (x ∷ xs) (suc j) v less = set_same xs j v (omega arith)
+
+set_other : {A : Type 0} (xs : List A) (j x : ℕ) (v : A) → x ≢ j → slice_get (slice_set xs j v) x ≡ slice_get xs x
+set_other [] j x v ne = refl
+set_other (y ∷ xs) zero zero v ne = absurd (ne refl)
+set_other (y ∷ xs) zero (suc x) v ne = refl
+set_other (y ∷ xs) (suc j) zero v ne = refl
+set_other (y ∷ xs) (suc j) (suc x) v ne = set_other xs j x v (λ same. ne (ap suc same))
+
+index_same : (xs : List ℕ) (j v : ℕ) → j < length xs → slice_index (slice_set xs j v) j ≡ v
+index_same [] j v less = absurd (omega arith)
+index_same (x ∷ xs) zero v less = refl
+index_same (x ∷ xs) (suc j) v less = index_same xs j v (omega arith)
+
+index_other : (xs : List ℕ) (j x v : ℕ) → x ≢ j → slice_index (slice_set xs j v) x ≡ slice_index xs x
+index_other [] j x v ne = refl
+index_other (y ∷ xs) zero zero v ne = absurd (ne refl)
+index_other (y ∷ xs) zero (suc x) v ne = refl
+index_other (y ∷ xs) (suc j) zero v ne = refl
+index_other (y ∷ xs) (suc j) (suc x) v ne = index_other xs j x v (λ same. ne (ap suc same))
+
+places_set : (signals : List Signal) (base : Base) (w n : ℕ) (places : List ℕ) (j place : ℕ) → ArePlaces signals base w n places → IsEarlier signals base place w →
+    ArePlaces signals base w n (slice_set places j place)
+places_set signals base w n places j place t is = record {
+  count = set_long places j place ∙ t.count;
+  each = λ x y e.
+      ⊎_elim
+      (λ (same : x ≡ j).
+      let here : x < length places = subst (λ (k : ℕ). x < k) (set_long places j place) (within (slice_set places j place) x y e) in
+      let less : j < length places = subst (λ (k : ℕ). k < length places) same here in
+      let own = set_same places j place less in
+      let at : slice_get (slice_set places j place) j ≡ Some y = subst (λ (k : ℕ). slice_get (slice_set places j place) k ≡ Some y) same e in
+      let is_place : place ≡ y = cc in
+      subst (λ (k : ℕ). IsEarlier signals base k w) is_place is)
+      (λ (ne : x ≢ j). t.each x y (sym (set_other places j x place ne) ∙ e))
+      (same_or_not x j);
+}
+
 -- ---- the beginning
 
-pub begun : (a b c : List Signal) (n w : ℕ) (widths others : List ℕ) (inputs : UnitInputs) → widths ≡ replicate n w → others ≡ replicate n w →
+pub begun : (a b c : List Signal) (n w : ℕ) (widths others : List ℕ) (inputs : UnitInputs) → inputs.begun ≡ replicate n false →
+    widths ≡ replicate n w → others ≡ replicate n w →
     ShowsZeros a b (length widths) inputs.lefts → AreZeroChains a b widths inputs.lefts → ShowsZeros b c (length others) inputs.rights → AreZeroChains b c others inputs.rights →
     BeginsInputs a c n w inputs
-begun a b c n w widths others inputs same alike t tw u uw = record {
+begun a b c n w widths others inputs none same alike t tw u uw = record {
   grows = grows_then a b c t.grows u.grows;
-  many = record { lefts = t.count ∙ ap length same ∙ many_long n w; rights = u.count ∙ ap length alike ∙ many_long n w };
+  many = record {
+    begun = ap length none ∙ many_long n false;
+    lefts = t.count ∙ ap length same ∙ many_long n w;
+    rights = u.count ∙ ap length alike ∙ many_long n w;
+  };
   wired = λ base low some most.
       let first = tw base (replicate n (of_width w)) low (fits widths same some most) (subst (HaveWidths (replicate n (of_width w))) (sym same) (widths_are n w)) in
       let more = longer a b first.wires.grows in
@@ -115,22 +174,24 @@ left_out x n u v w other = by_one u refl
     by_one true e = never (nat_eq x n) (other_is x n (other e))
     by_one false e = ap (λ (z : Bool). if nat_eq x n && z then v else w) e ∙ none (nat_eq x n)
 
-pub unit_linked : (a b c : List Signal) (before after : UnitInputs) (unit w here left right : ℕ) → SetsNext a b before.lefts after.lefts unit here left →
+pub unit_linked : (a b c : List Signal) (before after : UnitInputs) (unit w here left right : ℕ) → after.begun ≡ before.begun → SetsNext a b before.lefts after.lefts unit here left →
     IsLinked a b unit w here left before.lefts after.lefts → SetsNext b c before.rights after.rights unit here right → IsLinked b c unit w here right before.rights after.rights →
-    LinksUnit a c before after unit w here left right
-unit_linked a b c before after unit w here left right t tw u uw = record {
+    IsBegun before unit → LinksUnit a c before after unit w here left right
+unit_linked a b c before after unit w here left right kept t tw u uw there = record {
   grows = grows_then a b c t.grows u.grows;
-  many = λ n is. record { lefts = t.count ∙ is.lefts; rights = u.count ∙ is.rights };
+  many = λ n is. record { begun = ap length kept ∙ is.begun; lefts = t.count ∙ is.lefts; rights = u.count ∙ is.rights };
   set = λ m r n g o is less set. (
+    ap (λ (l : List Bool). is_begun (slice_get l unit)) kept ∙ there,
     t.shows m r unit (back m g) o (subst (λ (k : ℕ). unit < k) (sym is.lefts) less)
         ∙ taken (nat_eq unit unit) (is_set r here) (r.signal left) (next_number r before.lefts unit) (same_is unit unit refl) set,
     u.shows m r unit g o (subst (λ (k : ℕ). unit < k) (sym is.rights) less)
         ∙ taken (nat_eq unit unit) (is_set r here) (r.signal right) (next_number r before.rights unit) (same_is unit unit refl) set,
   );
   rests = λ m r x n g o is less other. record {
-    left = t.shows m r x (back m g) o (subst (λ (k : ℕ). x < k) (sym is.lefts) less)
+    begun = λ on. ap (λ (l : List Bool). is_begun (slice_get l x)) kept ∙ on;
+    left = λ on. t.shows m r x (back m g) o (subst (λ (k : ℕ). x < k) (sym is.lefts) less)
         ∙ left_out x unit (is_set r here) (r.signal left) (next_number r before.lefts x) other;
-    right = u.shows m r x g o (subst (λ (k : ℕ). x < k) (sym is.rights) less)
+    right = λ on. u.shows m r x g o (subst (λ (k : ℕ). x < k) (sym is.rights) less)
         ∙ left_out x unit (is_set r here) (r.signal right) (next_number r before.rights x) other;
   };
   wired = λ base n is bit first second.
@@ -149,3 +210,37 @@ unit_linked a b c before after unit w here left right t tw u uw = record {
   where
     back : (m : Module) → Grows c m.signals → Grows b m.signals
     back m g = grows_then b c m.signals u.grows g
+
+-- a unit that is not begun begins with the operands of its first operation, whatever the bit shows
+pub unit_begun : (a : List Signal) (before after : UnitInputs) (unit w here left right : ℕ) → after.begun ≡ slice_set before.begun unit true →
+    after.lefts ≡ slice_set before.lefts unit left → after.rights ≡ slice_set before.rights unit right → is_begun (slice_get before.begun unit) ≡ false →
+    LinksUnit a a before after unit w here left right
+unit_begun a before after unit w here left right marks lefts rights off = record {
+  grows = grows_refl a;
+  many = λ n is. record {
+    begun = ap length marks ∙ set_long before.begun unit true ∙ is.begun;
+    lefts = ap length lefts ∙ set_long before.lefts unit left ∙ is.lefts;
+    rights = ap length rights ∙ set_long before.rights unit right ∙ is.rights;
+  };
+  set = λ m r n g o is less set. (
+    ap (λ (l : List Bool). is_begun (slice_get l unit)) marks
+        ∙ ap is_begun (set_same before.begun unit true (subst (λ (k : ℕ). unit < k) (sym is.begun) less)),
+    ap (λ (l : List ℕ). next_number r l unit) lefts ∙ ap r.signal (index_same before.lefts unit left (subst (λ (k : ℕ). unit < k) (sym is.lefts) less)),
+    ap (λ (l : List ℕ). next_number r l unit) rights ∙ ap r.signal (index_same before.rights unit right (subst (λ (k : ℕ). unit < k) (sym is.rights) less)),
+  );
+  rests = λ m r x n g o is less other. record {
+    begun = λ on. ap (λ (l : List Bool). is_begun (slice_get l x)) marks ∙ ap is_begun (set_other before.begun unit x true (apart x on)) ∙ on;
+    left = λ on. ap (λ (l : List ℕ). next_number r l x) lefts ∙ ap r.signal (index_other before.lefts unit x left (apart x on));
+    right = λ on. ap (λ (l : List ℕ). next_number r l x) rights ∙ ap r.signal (index_other before.rights unit x right (apart x on));
+  };
+  wired = λ base n is bit first second. record {
+    wires = wires_none base a;
+    inputs = record {
+      lefts = subst (λ (l : List ℕ). ArePlaces a base w n l) (sym lefts) (places_set a base w n before.lefts unit left is.lefts first);
+      rights = subst (λ (l : List ℕ). ArePlaces a base w n l) (sym rights) (places_set a base w n before.rights unit right is.rights second);
+    };
+  };
+}
+  where
+    apart : (x : ℕ) → IsBegun before x → x ≢ unit
+    apart x on same = (let off_here : is_begun (slice_get before.begun x) ≡ false = ap (λ (k : ℕ). is_begun (slice_get before.begun k)) same ∙ off in cc)

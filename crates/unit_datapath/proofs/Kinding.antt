@@ -13,9 +13,10 @@ use Rattle.op_graph.specs.declared.node.Kind.TheVariants.{Multiply, Divide}
 use Rattle.op_graph.specs.Graph.{node_of, nodes_from, nodes_of, no_node, kind_at, same_kind, operator_kind}
 use Rattle.planned_block.specs.Plan.{is_simple}
 use Rattle.planned_view.specs.View.{binary_kind}
-use Rattle.block_datapath.specs.Units.{same_type, unit_type}
+use Rattle.block_ir.specs.declared.operand.Operand.{Operand}
+use Rattle.block_datapath.specs.Units.{same_type, unit_type, has_constant}
 use Rattle.unit_datapath.specs.declared.kinds.UnitKind.{UnitKind}
-use Rattle.unit_datapath.specs.Kinds.{is_of, is_work}
+use Rattle.unit_datapath.specs.Kinds.{is_of, is_shared, is_work}
 
 -- ---- bits
 
@@ -87,9 +88,15 @@ operator_is kind operator.And ty e = absurd cc
 operator_is kind operator.ExclusiveOr ty e = absurd cc
 operator_is kind operator.InclusiveOr ty e = absurd cc
 
+pub shared_of : (kind : UnitKind) (o : BinaryOperator) (ty : IntegerType) (a b : Operand) → is_shared kind o ty a b ≡ true → is_of kind o ty ≡ true
+shared_of kind o ty a b e = (and_parts (is_of kind o ty) (not (has_constant a b)) e).0
+
+pub shared_from : (kind : UnitKind) (o : BinaryOperator) (ty : IntegerType) (a b : Operand) → is_of kind o ty ≡ true → has_constant a b ≡ false → is_shared kind o ty a b ≡ true
+shared_from kind o ty a b e f = and_from (is_of kind o ty) (not (has_constant a b)) e (ap not f)
+
 work_is : (kind : UnitKind) (o : Operation) → is_work kind o ≡ true → (node_of 0 o).kind ≡ node_kind kind
 work_is kind (Unary o ty a) e = absurd cc
-work_is kind (Binary o ty a b) e = operator_is kind o ty e
+work_is kind (Binary o ty a b) e = operator_is kind o ty (shared_of kind o ty a b e)
 work_is kind (ReadGlobal x n i) e = absurd cc
 work_is kind (WriteGlobal x n i a) e = absurd cc
 work_is kind (ReadArray x n i) e = absurd cc

@@ -28,6 +28,7 @@ use Rattle.operator_wires.proofs.Wording.{at_least, at_most}
 use Rattle.block_datapath.specs.declared.registers.Registers.{Registers}
 use Rattle.block_datapath.specs.declared.registers.UnitResults.{UnitResults}
 use Rattle.block_datapath.specs.Units.{is_for, unit_type, unit_place, same_operator, same_type, word_at, HasUnits}
+use Rattle.block_datapath.proofs.Sharing.{shared_at}
 use Rattle.block_datapath.proofs.Wiring.{registers_after, room}
 use Rattle.unit_datapath.specs.declared.kinds.UnitKind.{UnitKind}
 use Rattle.unit_datapath.specs.declared.inputs.UnitInputs.{UnitInputs}
@@ -38,6 +39,7 @@ use Rattle.unit_datapath.specs.Results.{HasWidth, AddsPlaces, ShowsResults}
 use Rattle.unit_datapath.specs.Units.{CanHaveUnits, UnitsStand, IsInCode, LaysInputs, ShowsUnits, LaysUnits, IsLaid}
 use Rattle.unit_datapath.proofs.Inputting.{inputs_after}
 use Rattle.unit_datapath.proofs.Resulting.{index_there}
+use Rattle.unit_datapath.proofs.Kinding.{shared_from}
 use Rattle.unit_datapath.proofs.Valuing.{type_is, operator_is, made_of_kind, unit_value, kind_result}
 
 -- ---- widths
@@ -98,7 +100,7 @@ module _ (code : ThreadCode) (registers : Registers) (plan : Planned) where
       (can : CanHaveUnits base a code registers plan) where
     entry_shown : (d e : List Signal) (operator : BinaryOperator) (n : ℕ) (u : UnitResults) → Grows b d → n ≤ count → is_of kind operator kind.ty ≡ true → u.operator ≡ operator →
         u.ty ≡ kind.ty → ShowsResults d e c operator kind.ty n u.places → ShowsUnits code registers plan e u
-    entry_shown d e operator n u more few of_kind same_o same_t results globals m r q block p wire k place own ty left right g o at there from to made got =
+    entry_shown d e operator n u more few of_kind same_o same_t results globals m r q block p wire k place own ty left right g o at there from to free made got =
         let one : same_operator operator own ≡ true =
         subst (λ (z : BinaryOperator). same_operator z own ≡ true) same_o (and_parts (same_operator u.operator own) (same_type u.ty (unit_type own ty)) made).0 in
         let two : same_type kind.ty (unit_type own ty) ≡ true =
@@ -110,7 +112,15 @@ module _ (code : ThreadCode) (registers : Registers) (plan : Planned) where
         let inside : slice_index p.units k < n = subst (λ (z : ℕ). slice_index p.units k < z) results.count (slice_get_within u.places (slice_index p.units k) place got) in
         let less : slice_index p.units k < count = omega (arith, inside, few) in
         let work : IsAtWork kind block p q k left right =
-        record { operator = own; ty = ty; listed = there; of_kind = made_of_kind kind own ty self kind_of_own two; from = from; to = to } in
+        record {
+          operator = own;
+          ty = ty;
+          listed = there;
+          shared = shared_from kind own ty left right (made_of_kind kind own ty self kind_of_own two) free;
+          from = from;
+          to = to;
+        }
+        in
         let to_d = grows_then d e m.signals results.grows g in
         let to_b = grows_then b d m.signals more to_d in
         let first : ℤ = operand_now (planned_view block) (plan_view block p) q wire (operand_view left) in
@@ -132,8 +142,8 @@ module _ (code : ThreadCode) (registers : Registers) (plan : Planned) where
     pub stands : (base : Base) → CanHaveUnits base a code registers plan → UnitsStand new base results
 
   shown_later : (d e : List Signal) (u : UnitResults) → Grows d e → ShowsUnits code registers plan d u → ShowsUnits code registers plan e u
-  shown_later d e u more t globals m r q b p wire k place own ty left right g o at there from to made got =
-      t globals m r q b p wire k place own ty left right (grows_then d e m.signals more g) o at there from to made got
+  shown_later d e u more t globals m r q b p wire k place own ty left right g o at there from to free made got =
+      t globals m r q b p wire k place own ty left right (grows_then d e m.signals more g) o at there from to free made got
 
   pub from_none : (a b : List Signal) → LaysFrom a b b []
   from_none a b = record {
@@ -236,5 +246,6 @@ pub units_seen : (code : ThreadCode) (registers : Registers) (plan : Planned) (a
     Grows b m.signals →
     Obeys m r → IsInCode code registers plan globals m r q block p → HasUnits results block p m r q wire
 units_seen code registers plan a b results t base can globals m r q block p wire g o at k place operator ty left right there from to got =
-    let found = place_found results operator ty (slice_index p.units k) place got in
-    t.shown base can found.0 found.1 found.2 globals m r q block p wire k place operator ty left right g o at there from to found.3 found.4
+    let shares = shared_at results operator ty left right (slice_index p.units k) place got in
+    let found = place_found results operator ty (slice_index p.units k) place shares.1 in
+    t.shown base can found.0 found.1 found.2 globals m r q block p wire k place operator ty left right g o at there from to shares.0 found.3 found.4

@@ -50,25 +50,29 @@ use Rattle.block_datapath.proofs.Walking.{listed_view, within_view, uses_source}
 use Rattle.block_datapath.proofs.Wiring.{registers_after}
 use Rattle.unit_datapath.specs.declared.kinds.UnitKind.{UnitKind}
 use Rattle.unit_datapath.specs.declared.inputs.UnitInputs.{UnitInputs}
-use Rattle.unit_datapath.specs.Kinds.{is_of, is_work}
+use Rattle.unit_datapath.specs.Kinds.{is_shared, is_work}
 use Rattle.unit_datapath.specs.Words.{IsRegistered, ShowsUnitWord}
 use Rattle.unit_datapath.specs.States.{is_within, TellsWork}
 use Rattle.unit_datapath.specs.Inputs.{AreAsMany, SameInputs, GetsOperands, LinksUnit}
 use Rattle.unit_datapath.specs.Links.{CanWork, IsWithin, LinksOperands, further_of, LinksOperation, IsWorkRight}
 use Rattle.unit_datapath.specs.Links.{IsAtWork, GetsWork, LinksFirst, LinksBlock, LinksStage, LinksStages, HasWork}
 use Rattle.unit_datapath.proofs.Inputting.{inputs_after}
-use Rattle.unit_datapath.proofs.Kinding.{kinds_share, slow_kind}
+use Rattle.unit_datapath.proofs.Kinding.{kinds_share, slow_kind, shared_of}
 
 -- ---- inputs that stay
 
 pub same_refl : (r : Reading) (c : UnitInputs) (x : ℕ) → SameInputs r c c x
-same_refl r c x = record { left = refl; right = refl }
+same_refl r c x = record { begun = λ is. is; left = λ is. refl; right = λ is. refl }
 
 pub same_then : (r : Reading) (a b c : UnitInputs) (x : ℕ) → SameInputs r a b x → SameInputs r b c x → SameInputs r a c x
-same_then r a b c x t u = record { left = u.left ∙ t.left; right = u.right ∙ t.right }
+same_then r a b c x t u = record {
+  begun = λ is. u.begun (t.begun is);
+  left = λ is. u.left (t.begun is) ∙ t.left is;
+  right = λ is. u.right (t.begun is) ∙ t.right is;
+}
 
 gets_after : (r : Reading) (a b : UnitInputs) (x : ℕ) (ty : IntegerType) (v w : ℤ) → GetsOperands r a x ty v w → SameInputs r a b x → GetsOperands r b x ty v w
-gets_after r a b x ty v w t u = record { left = u.left ∙ t.left; right = u.right ∙ t.right }
+gets_after r a b x ty v w t u = record { begun = u.begun t.begun; left = u.left t.begun ∙ t.left; right = u.right t.begun ∙ t.right }
 
 -- ---- an operation
 
@@ -92,8 +96,9 @@ operands_linked code types registers p ty k end further start unit w left right 
       let one = u.shows m r variables given (to_c m g) o is_left in
       let two = v.shows m r variables given (to_d m g) o is_right in
       record {
-        left = both.0 ∙ one.shows ∙ residue_of-wrapped ty (operand_value variables given (operand_view left));
-        right = both.1 ∙ two.shows ∙ residue_of-wrapped ty (operand_value variables given (operand_view right));
+        begun = both.0;
+        left = both.1 ∙ one.shows ∙ residue_of-wrapped ty (operand_value variables given (operand_view left));
+        right = both.2 ∙ two.shows ∙ residue_of-wrapped ty (operand_value variables given (operand_view right));
       };
   rests = λ m r s x n g o can is less other.
       link.rests m r x n g o is less (λ on. other (is_within_so (slice_index p.starts k) further s (sym (set m r s g o can) ∙ on)));
@@ -143,15 +148,15 @@ operands_linked code types registers p ty k end further start unit w left right 
 
 module _ (code : ThreadCode) (registers : Registers) (kind : UnitKind) (p : BlockPlan) (end : Moment) (k : ℕ) where
   pub operation_linked : (o : Operation) (operator : BinaryOperator) (ty : IntegerType) (left right : Operand) (further : ℕ) (a b : List Signal) (before after : UnitInputs) →
-      o ≡ Binary operator ty left right → further ≡ further_of o → is_of kind operator ty ≡ true →
+      o ≡ Binary operator ty left right → further ≡ further_of o → is_shared kind operator ty left right ≡ true →
       LinksOperands code registers p kind.ty k end further left right a b before after →
       LinksOperation code registers kind p end k o a b before after
-  operation_linked o operator ty left right further a b before after is long of_kind t0 =
+  operation_linked o operator ty left right further a b before after is long shared t0 =
       let t = subst (λ (n : ℕ). LinksOperands code registers p kind.ty k end n left right a b before after) long t0 in
       record {
         grows = t.grows;
         many = t.many;
-        works = λ operator2 ty2 left2 right2 m r s n variables given same of2 g ob can within is_left is_right as_many less.
+        works = λ operator2 ty2 left2 right2 m r s n variables given same shared2 g ob can within is_left is_right as_many less.
             let one : left ≡ left2 = (let e : Binary operator ty left right ≡ Binary operator2 ty2 left2 right2 = sym is ∙ same in cc) in
             let two : right ≡ right2 = (let e : Binary operator ty left right ≡ Binary operator2 ty2 left2 right2 = sym is ∙ same in cc) in
             subst (λ (z : Operand). GetsOperands r after (slice_index p.units k) kind.ty (operand_value variables given (operand_view z))
@@ -162,7 +167,7 @@ module _ (code : ThreadCode) (registers : Registers) (kind : UnitKind) (p : Bloc
             (subst (λ (z : Operand). IsRegistered m r registers code.variables p variables given z.source) (sym one) is_left)
             (subst (λ (z : Operand). IsRegistered m r registers code.variables p variables given z.source) (sym two) is_right) as_many less));
         rests = λ m r s x n g ob can as_many less other.
-            t.rests m r s x n g ob can as_many less (λ within. other (ap (is_work kind) is ∙ of_kind) within);
+            t.rests m r s x n g ob can as_many less (λ within. other (ap (is_work kind) is ∙ shared) within);
         away = t.away;
         wired = t.wired;
       }
@@ -173,8 +178,8 @@ module _ (code : ThreadCode) (registers : Registers) (kind : UnitKind) (p : Bloc
       subst (λ (z : UnitInputs). LinksOperation code registers kind p end k o a a before z) (sym same) (record {
         grows = grows_refl a;
         many = λ n is. is;
-        works = λ operator ty left right m r s n variables given e of_kind g ob can within is_left is_right as_many less.
-            absurd (let yes : is_work kind o ≡ true = ap (is_work kind) e ∙ of_kind in cc);
+        works = λ operator ty left right m r s n variables given e shared g ob can within is_left is_right as_many less.
+            absurd (let yes : is_work kind o ≡ true = ap (is_work kind) e ∙ shared in cc);
         rests = λ m r s x n g ob can as_many less other. same_refl r before x;
         away = λ m r x n g ob one off as_many less. same_refl r before x;
         wired = λ base n slots at room is. record { wires = wires_none base a; inputs = is };
@@ -283,7 +288,7 @@ module _ (code : ThreadCode) (registers : Registers) (kind : UnitKind) (b : Bloc
           let below = within_view b.operations k (Binary at.operator at.ty left right) at.listed in
           let view = listed_view b.operations k (Binary at.operator at.ty left right) at.listed in
           let slow : is_simple (operation_at (planned_view b) k).kind ≡ false = ap (λ (z : PlannedOperation). is_simple z.kind) view ∙ slow_kind kind at.operator at.ty
-          (binary_total at.operator at.ty) at.of_kind in
+          (binary_total at.operator at.ty) (shared_of kind at.operator at.ty left right at.shared) in
           let typed = ok.block.typed.operations k (Binary at.operator at.ty left right) at.listed in
           let held = operand_held globals code registers b p ok m r q wire sees k below slow at.from at.to in
           let uses_left : (j : ℕ) → UsesIn (operand_view left) j → Uses (operation_at (planned_view b) k) j = λ j u. subst (λ (z : PlannedOperation). Uses z j) (sym view)
@@ -297,7 +302,7 @@ module _ (code : ThreadCode) (registers : Registers) (kind : UnitKind) (b : Bloc
             subst (λ (z : ℕ). q.state ≤ z) (listed_last count x listed) (subst (λ (z : ℕ). q.state ≤ last_state (planned_view b) (plan_view b p) z) same at.to),
           ) in
           subst (λ (z : ℕ). GetsWork code registers kind r b p q wire after z left right) (sym same)
-          (u.works at.operator at.ty left right m r q.state n q.variables (value_now (planned_view b) (plan_view b p) q wire) is at.of_kind g ob
+          (u.works at.operator at.ty left right m r q.state n q.variables (value_now (planned_view b) (plan_view b p) q wire) is at.shared g ob
           (can globals m r q ok moment states) within one two
           (t.many n as_many) (subst (λ (z : ℕ). slice_index p.units z < n) same few))
 
@@ -317,7 +322,7 @@ module _ (code : ThreadCode) (registers : Registers) (kind : UnitKind) (b : Bloc
               is_work kind x ≡ true →
               IsWithin (slice_index p.starts count) (further_of x) q.state → slice_index p.units k ≡ slice_index p.units count → ⊥
           apart globals q k left right ok sooner at work within same =
-              let shared = kinds_share kind b.operations k count (Binary at.operator at.ty left right) x at.listed listed at.of_kind work in
+              let shared = kinds_share kind b.operations k count (Binary at.operator at.ty left right) x at.listed listed at.shared work in
               let last = listed_last count x listed in
               let from = at.from in
               let to = at.to in
@@ -418,7 +423,7 @@ module _ (code : ThreadCode) (registers : Registers) (kind : UnitKind) where
             let there : slice_get b.operations k ≡ Some (Binary work.operator work.ty left right) =
             subst (λ (z : Block). slice_get z.operations k ≡ Some (Binary work.operator work.ty left right)) (sym same_block) work.listed in
             absurd (let none = idle refl k (Binary work.operator work.ty left right) (slice_get_within b.operations k (Binary work.operator work.ty left right) there) there in
-            let yes = work.of_kind in cc);
+            let yes = work.shared in cc);
         rests = λ m r x n g ob has other as_many less. same_refl r before x;
         wired = λ base n slots low room is. record { wires = wires_none base a; inputs = is };
       })

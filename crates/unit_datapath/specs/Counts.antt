@@ -1,5 +1,5 @@
 -- How many units there are for an operator and a type: as many as the numbers of its operations ask for.
-use Rattle.std.specs.Prelude.{◌≡◌, ℕ, suc, ◌<◌, ◌⊎◌, Bool, true, false, ◌&&◌, Option, Some, slice_get, slice_index}
+use Rattle.std.specs.Prelude.{◌≡◌, ℕ, suc, ◌<◌, ◌⊎◌, Bool, true, false, not, ◌&&◌, Option, Some, slice_get, slice_index}
 use Rattle.hls_ints.specs.Types.{IntegerType}
 use Rattle.c_program.specs.declared.tree.BinaryOperator.{BinaryOperator}
 use Rattle.block_ir.specs.declared.block.Operation.{Operation}
@@ -12,17 +12,17 @@ use Rattle.block_ir.specs.declared.plan.BlockPlan.{BlockPlan}
 use Rattle.block_ir.specs.declared.plan.StagePlan.{StagePlan}
 use Rattle.block_ir.specs.declared.plan.StagePlan.TheVariants as planned
 use Rattle.block_ir.specs.declared.plan.Planned.{Planned}
-use Rattle.block_datapath.specs.Units.{same_operator, same_type, unit_type}
+use Rattle.block_datapath.specs.Units.{same_operator, same_type, unit_type, has_constant}
 
 -- one more than the greatest of these numbers, or 0 if there is none
 pub record IsCountOf (P : ℕ → Type 0) (count : ℕ) : Type 0 where
   pub above : (n : ℕ) → P n → n < count
   pub least : (count ≡ 0) ⊎ ((n : ℕ) × P n × (count ≡ suc n))
 
--- units of an operator and a type make what the operation gives
+-- units of an operator and a type make what the operation gives: one with a constant shares none
 abbrev pub is_made : BinaryOperator → IntegerType → Operation → Bool
 is_made operator unit (Unary own ty a) = false
-is_made operator unit (Binary own ty a b) = same_operator operator own && same_type unit (unit_type own ty)
+is_made operator unit (Binary own ty a b) = same_operator operator own && same_type unit (unit_type own ty) && not (has_constant a b)
 is_made operator unit (ReadGlobal x n i) = false
 is_made operator unit (WriteGlobal x n i a) = false
 is_made operator unit (ReadArray x n i) = false

@@ -33,7 +33,7 @@ use Rattle.block_datapath.specs.Leave.{HasStage, IsInStage}
 use Rattle.block_datapath.specs.Wired.{AreRegisters}
 use Rattle.unit_datapath.specs.declared.kinds.UnitKind.{UnitKind}
 use Rattle.unit_datapath.specs.declared.inputs.UnitInputs.{UnitInputs}
-use Rattle.unit_datapath.specs.Kinds.{is_of, is_work}
+use Rattle.unit_datapath.specs.Kinds.{is_shared, is_work}
 use Rattle.unit_datapath.specs.Words.{IsRegistered}
 use Rattle.unit_datapath.specs.Inputs.{AreAsMany, SameInputs, GetsOperands, AreInputs, AddsInputs}
 
@@ -72,13 +72,13 @@ abbrev pub further_of : Operation → ℕ
 further_of o = further_states (operation_view o).kind
 
 module _ (code : ThreadCode) (registers : Registers) (kind : UnitKind) where
-  -- the same, if the operation is of the kind
+  -- the same, if the operation shares a unit of the kind
   pub record LinksOperation (p : BlockPlan) (end : Moment) (k : ℕ) (o : Operation) (old new : List Signal) (before after : UnitInputs) : Type 0 where
     pub grows : Grows old new
     pub many : (n : ℕ) → AreAsMany n before → AreAsMany n after
     pub works : (operator : BinaryOperator) (ty : IntegerType) (left right : Operand) (m : Module) (r : Reading) (s n : ℕ) (variables given : ℕ → ℤ) →
         o ≡ Binary operator ty left right →
-        is_of kind operator ty ≡ true → Grows new m.signals → Obeys m r → CanWork m r registers end (slice_index p.starts k) (further_of o) s →
+        is_shared kind operator ty left right ≡ true → Grows new m.signals → Obeys m r → CanWork m r registers end (slice_index p.starts k) (further_of o) s →
         IsWithin (slice_index p.starts k) (further_of o) s → IsRegistered m r registers code.variables p variables given left.source →
         IsRegistered m r registers code.variables p variables given right.source → AreAsMany n before → slice_index p.units k < n →
         GetsOperands r after (slice_index p.units k) kind.ty (operand_value variables given (operand_view left)) (operand_value variables given (operand_view right))
@@ -97,12 +97,12 @@ pub record IsWorkRight (globals : List IntegerType) (code : ThreadCode) (b : Blo
   pub block : IsAskRight globals code b p
   pub units : AreUnitsApart b p
 
--- operation k of a block is of the kind, and at work in a state of the slot
+-- operation k of a block shares a unit of the kind, and is at work in a state of the slot
 pub record IsAtWork (kind : UnitKind) (b : Block) (p : BlockPlan) (q : Slot) (k : ℕ) (left right : Operand) : Type 0 where
   pub operator : BinaryOperator
   pub ty : IntegerType
   pub listed : slice_get b.operations k ≡ Some (Binary operator ty left right)
-  pub of_kind : is_of kind operator ty ≡ true
+  pub shared : is_shared kind operator ty left right ≡ true
   pub from : slice_index p.starts k ≤ q.state
   pub to : q.state ≤ last_state (planned_view b) (plan_view b p) k
 

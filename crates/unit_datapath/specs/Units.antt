@@ -1,5 +1,5 @@
 -- THE FUNCTIONAL UNITS OF A THREAD: each shows, in each state in which an operation that has it works, what the operation gives.
-use Rattle.std.specs.Prelude.{◌≡◌, ℕ, ◌^◌, ◌<◌, ◌≤◌, true, ◌⊎◌, List, [], ◌∷◌, ◌++◌, length, Some, slice_get, slice_index, ℤ}
+use Rattle.std.specs.Prelude.{◌≡◌, ℕ, ◌^◌, ◌<◌, ◌≤◌, true, false, ◌⊎◌, List, [], ◌∷◌, ◌++◌, length, Some, slice_get, slice_index, ℤ}
 use Rattle.hls_ints.specs.Types.{IntegerType, width_of}
 use Rattle.c_program.specs.declared.tree.BinaryOperator.{BinaryOperator}
 use Rattle.c_program.specs.declared.tree.BinaryOperator.TheVariants.{Multiply, Divide, Remainder}
@@ -27,7 +27,7 @@ use Rattle.block_datapath.specs.declared.registers.UnitResults.{UnitResults}
 use Rattle.block_datapath.specs.Operations.{SeesSlot}
 use Rattle.block_datapath.specs.Leave.{IsInStage}
 use Rattle.block_datapath.specs.Wired.{AreRegisters}
-use Rattle.block_datapath.specs.Units.{is_for, same_operator, unit_type, unit_place, word_at, HasUnits}
+use Rattle.block_datapath.specs.Units.{is_for, same_operator, unit_type, unit_place, has_constant, word_at, HasUnits}
 use Rattle.unit_datapath.specs.declared.kinds.UnitKind.{UnitKind}
 use Rattle.unit_datapath.specs.declared.units.UnitCounts.{UnitCounts}
 use Rattle.unit_datapath.specs.declared.inputs.UnitInputs.{UnitInputs}
@@ -107,7 +107,7 @@ module _ (code : ThreadCode) (registers : Registers) (plan : Planned) where
   ShowsUnits new u =
       (globals : List IntegerType) (m : Module) (r : Reading) (q : Slot) (b : Block) (p : BlockPlan) (wire : ℕ → ℤ) (k place : ℕ) (operator : BinaryOperator) (ty : IntegerType)
       (left right : Operand) → Grows new m.signals → Obeys m r → IsInCode globals m r q b p → slice_get b.operations k ≡ Some (Binary operator ty left right) →
-      slice_index p.starts k ≤ q.state → q.state ≤ last_state (planned_view b) (plan_view b p) k → is_for operator ty u ≡ true →
+      slice_index p.starts k ≤ q.state → q.state ≤ last_state (planned_view b) (plan_view b p) k → has_constant left right ≡ false → is_for operator ty u ≡ true →
       slice_get u.places (slice_index p.units k) ≡ Some place →
       IsWord m r (word_at place ty) ty
       (binary_total operator ty (operand_now (planned_view b) (plan_view b p) q wire (operand_view left))

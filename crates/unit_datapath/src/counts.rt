@@ -1,20 +1,22 @@
 // How many units there are for an operator.
 
-ghost use Rattle.std.specs.Prelude.{◌≡◌, ◌≤◌, ◌⊎◌, ◌&&◌, length, slice_get, Some};
+ghost use Rattle.std.specs.Prelude.{◌≡◌, ◌≤◌, ◌⊎◌, ◌&&◌, not, length, slice_get, Some};
 ghost use Rattle.block_ir.specs.declared.code.Stage.TheVariants as taken;
-ghost use Rattle.block_datapath.specs.Units.{same_operator, same_type, unit_type};
+ghost use Rattle.block_datapath.specs.Units.{same_operator, same_type, unit_type, has_constant};
 ghost use Rattle.unit_datapath.specs.Counts.{IsCountOf, OperationHas, BlockHas, StageHas, CodeHas};
 
 use crate::kinds::{is_type, same_operator};
 use block_datapath::operations::unit_of;
+use block_datapath::units::has_constant;
 use block_ir::block::{Block, Operation};
 use block_ir::code::{Stage, ThreadCode};
+use block_ir::operand::Operand;
 use block_ir::plan::{BlockPlan, Planned, StagePlan};
 use c_program::tree::BinaryOperator;
 use hls_ints::CType;
 
-/// One more than the greatest number of a unit that an operation has which makes this operator in the type of its units,
-/// or 0 if there is none.
+/// One more than the greatest number of a unit that an operation shares which makes this operator in the type of its
+/// units, or 0 if there is none.
 pub fn unit_count(
     code: &ThreadCode,
     planned: &Planned,
@@ -91,9 +93,10 @@ fn operation_count(
         Operation::Binary {
             operator: own,
             ty: own_type,
-            ..
+            left,
+            right,
         } => {
-            if is_made(operator, ty, *own, *own_type) {
+            if is_made(operator, ty, *own, *own_type, left, right) {
                 unit_of(plan, number) as usize + 1
             } else {
                 0
@@ -107,11 +110,18 @@ fn operation_count(
     }
 }
 
-/// Whether units of an operator and a type make what another operator gives in a type.
-fn is_made(operator: BinaryOperator, unit: CType, own: BinaryOperator, ty: CType) -> bool
-    ensures { result ≡ (same_operator operator own && same_type unit (unit_type own ty)) }
+/// Whether units of an operator and a type make what another operator gives in a type on two operands.
+fn is_made(
+    operator: BinaryOperator,
+    unit: CType,
+    own: BinaryOperator,
+    ty: CType,
+    left: &Operand,
+    right: &Operand,
+) -> bool
+    ensures { result ≡ (same_operator operator own && same_type unit (unit_type own ty) && not (has_constant left.now right.now)) }
 {
-    same_operator(operator, own) && is_unit_type(unit, own, ty)
+    same_operator(operator, own) && is_unit_type(unit, own, ty) && !has_constant(left, right)
 }
 
 fn is_unit_type(unit: CType, own: BinaryOperator, ty: CType) -> bool

@@ -1,12 +1,14 @@
 // Kinds of functional units.
 
-ghost use Rattle.std.specs.Prelude.{◌≡◌, ◌&&◌, nat_eq};
+ghost use Rattle.std.specs.Prelude.{◌≡◌, ◌&&◌, nat_eq, not};
 ghost use Rattle.std.specs.Bool.{beq};
 ghost use Rattle.hls_ints.specs.Types.{width_of};
-ghost use Rattle.block_datapath.specs.Units.{same_operator};
-ghost use Rattle.unit_datapath.specs.Kinds.{is_of, is_work};
+ghost use Rattle.block_datapath.specs.Units.{same_operator, has_constant};
+ghost use Rattle.unit_datapath.specs.Kinds.{is_of, is_shared, is_work};
 
+use block_datapath::units::has_constant;
 use block_ir::block::Operation;
+use block_ir::operand::Operand;
 use c_program::tree::BinaryOperator;
 use hls_ints::CType;
 
@@ -35,12 +37,30 @@ pub fn is_type(ty: CType, width: u32, signed: bool) -> bool
     ty.bits() == width && ty.is_signed() == signed
 }
 
-/// Whether an operation is of the kind.
+/// Whether an operation on two operands shares a unit of the kind.
+pub fn is_shared(
+    kind: &UnitKind,
+    operator: BinaryOperator,
+    ty: CType,
+    left: &Operand,
+    right: &Operand,
+) -> bool
+    ensures { result ≡ is_shared kind.now operator ty left.now right.now }
+{
+    is_of(kind, operator, ty) && !has_constant(left, right)
+}
+
+/// Whether an operation shares a unit of the kind.
 pub fn is_work(kind: &UnitKind, operation: &Operation) -> bool
     ensures { result ≡ is_work kind.now operation.now }
 {
     match operation {
-        Operation::Binary { operator, ty, .. } => is_of(kind, *operator, *ty),
+        Operation::Binary {
+            operator,
+            ty,
+            left,
+            right,
+        } => is_shared(kind, *operator, *ty, left, right),
         Operation::Unary { .. } => false,
         Operation::ReadGlobal { .. } => false,
         Operation::WriteGlobal { .. } => false,

@@ -4,10 +4,11 @@
 // Products, quotients and remainders have units, and each kind of them, as multipliers of 32 bits or dividers of 64 bits
 // with a sign, its own. The plan of a block gives each operation the number of its unit. No two operations of one kind
 // and number are at work in one state, and their operands stand in registers while they work. So a unit is one operator
-// behind two multiplexers: chains of conditionals with a link for each operation, under "this stage, and a state in which
-// the operation works". Its result is right in each of these states.
+// behind two multiplexers: chains that begin with the operands of the first operation, and have a link for each later one,
+// under "this stage, and a state in which the operation works". Its result is right in each of these states. An operation
+// with a constant keeps its number and shares no unit: it has an operator of its own, which a synthesizer can fold.
 //
-// - kinds: which operations are of a kind;
+// - kinds: which operations are of a kind, and share its units;
 // - counts: how many units of a kind there are, for an operator;
 // - words: operands as registers hold them;
 // - states: whether an operation is at work;

@@ -6,7 +6,7 @@ ghost use Rattle.block_ir.specs.declared.plan.StagePlan.TheVariants as stage_pla
 ghost use Rattle.unit_datapath.specs.Links.{LinksOperands, LinksOperation, LinksFirst, LinksBlock, LinksStage, LinksStages, HasWork};
 
 use crate::inputs::{UnitInputs, link_unit};
-use crate::kinds::{UnitKind, is_of, is_work};
+use crate::kinds::{UnitKind, is_shared, is_work};
 use crate::states::at_work;
 use crate::words::unit_word;
 use block_datapath::leaving_block::end_of;
@@ -22,7 +22,7 @@ use hls_ints::CType;
 use operator_wires::wires::Wires;
 use std::alloc::AllocError;
 
-/// The operands of each operation of the kind, for its unit, while it works.
+/// The operands of each operation that shares a unit of the kind, for its unit, while it works.
 pub fn link_stages(
     wires: &mut Wires,
     inputs: &mut UnitInputs,
@@ -103,7 +103,7 @@ fn link_planned(
     }
 }
 
-/// Whether an operation of the block is of the kind.
+/// Whether an operation of the block shares a unit of the kind.
 fn has_work(kind: &UnitKind, block: &Block) -> bool
     ensures { HasWork kind.now block.now (length block.now.operations) result }
 {
@@ -160,7 +160,7 @@ fn link_all(
     Ok(())
 }
 
-/// An operation, if it is of the kind.
+/// An operation, if it shares a unit of the kind.
 fn link_operation(
     wires: &mut Wires,
     inputs: &mut UnitInputs,
@@ -182,7 +182,7 @@ fn link_operation(
             left,
             right,
         } => {
-            if is_of(kind, *operator, *ty) {
+            if is_shared(kind, *operator, *ty, left, right) {
                 link_operands(
                     wires, inputs, registers, code, plan, kind.ty, number, end, further, left,
                     right,

@@ -1,20 +1,20 @@
-use Rattle.block_datapath.specs.Chains.{SetsNext}
-use Rattle.block_datapath.specs.Wired.{IsLinked}
-use Rattle.unit_datapath.specs.declared.inputs.UnitInputs.{UnitInputs}
-use Rattle.unit_datapath.specs.Inputs.{LinksUnit}
-use Rattle.unit_datapath.proofs.Answering.{on_two}
-use Rattle.unit_datapath.proofs.Inputting.{unit_linked}
+use Rattle.std.proofs.Common.{◌∙◌, sym, ap, List, Bool}
+use Rattle.std.specs.Prelude.{slice_get}
+use Rattle.block_datapath.proofs.Chaining.{on_ok}
+use Rattle.unit_datapath.specs.Inputs.{is_begun, LinksUnit, LinksBegun}
+use Rattle.unit_datapath.proofs.Inputting.{unit_begun}
 use Rattle.unit_datapath.proofs.inputs.link_unit.Goals as goal
 
-pub returns : goal.returns
-returns c =
-    let after : UnitInputs = record { lefts = c.set_next.new.nexts; rights = c.set_next-2.new.nexts } in
-    on_two c.set_next-2.result
-    (SetsNext c.set_next.new.wires.signals c.set_next-2.new.wires.signals c.args.inputs.now.rights c.set_next-2.new.nexts c.args.unit c.args.here c.args.right)
-    (IsLinked c.set_next.new.wires.signals c.set_next-2.new.wires.signals c.args.unit c.args.width c.args.here c.args.right c.args.inputs.now.rights c.set_next-2.new.nexts)
-    (LinksUnit c.args.wires.now.signals c.set_next-2.new.wires.signals c.args.inputs.now after c.args.unit c.args.width c.args.here c.args.left c.args.right)
-    (λ t u.
-    unit_linked c.args.wires.now.signals c.set_next.new.wires.signals c.set_next-2.new.wires.signals c.args.inputs.now after c.args.unit c.args.width c.args.here c.args.left
-    c.args.right
-    c.in_ok-set_next.ensures.shows c.in_ok-set_next.ensures.wired t u)
-    c.set_next-2.ensures.shows c.set_next-2.ensures.wired
+pub returns-then-is_begun : goal.returns-then-is_begun
+returns-then-is_begun c =
+    on_ok c.link_begun.result
+    (LinksBegun c.args.wires.now.signals c.link_begun.new.wires.signals c.args.inputs.now c.link_begun.new.inputs c.args.unit c.args.width c.args.here c.args.left c.args.right)
+    (LinksUnit c.args.wires.now.signals c.link_begun.new.wires.signals c.args.inputs.now c.link_begun.new.inputs c.args.unit c.args.width c.args.here c.args.left c.args.right)
+    (λ t. t (ap (λ (l : List Bool). is_begun (slice_get l c.args.unit)) (sym c.as_slice.ensures) ∙ sym c.is_begun.ensures ∙ c.if-is_begun.true))
+    c.link_begun.ensures
+
+pub returns-else-is_begun : goal.returns-else-is_begun
+returns-else-is_begun c =
+    unit_begun c.args.wires.now.signals c.args.inputs.now c.begin_unit.new.inputs c.args.unit c.args.width c.args.here c.args.left c.args.right c.begin_unit.ensures.begun
+    c.begin_unit.ensures.lefts c.begin_unit.ensures.rights
+    (ap (λ (l : List Bool). is_begun (slice_get l c.args.unit)) (sym c.as_slice.ensures) ∙ sym c.is_begun.ensures ∙ c.if-is_begun.false)

@@ -5,8 +5,8 @@ use Rattle.unit_datapath.specs.Links.{LinksOperands, LinksOperation}
 use Rattle.unit_datapath.proofs.Linking.{operation_linked, nothing_linked}
 use Rattle.unit_datapath.proofs.links.link_operation.Goals as goal
 
-pub returns-then-is_of : goal.returns-then-is_of
-returns-then-is_of c =
+pub returns-then-is_shared : goal.returns-then-is_shared
+returns-then-is_shared c =
     on_ok c.link_operands.result
     (LinksOperands c.args.code.now c.args.registers.now c.args.plan.now c.args.kind.now.ty c.args.number c.args.end c.further_states-further.result c.in-Binary.left
     c.in-Binary.right
@@ -18,14 +18,14 @@ returns-then-is_of c =
     operation_linked c.args.code.now c.args.registers.now c.args.kind.now c.args.plan.now c.args.end c.args.number c.args.operation.now c.in-Binary.operator c.in-Binary.ty
     c.in-Binary.left
     c.in-Binary.right c.further_states-further.result c.args.wires.now.signals c.link_operands.new.wires.signals c.args.inputs.now c.link_operands.new.inputs c.in-Binary.is
-    c.further_states-further.ensures.value (sym c.is_of.ensures ∙ c.if-is_of.true) t)
+    c.further_states-further.ensures.value (sym c.is_shared.ensures ∙ c.if-is_shared.true) t)
     c.link_operands.ensures
 
-pub returns-else-is_of : goal.returns-else-is_of
-returns-else-is_of c =
+pub returns-else-is_shared : goal.returns-else-is_shared
+returns-else-is_shared c =
     nothing_linked c.args.code.now c.args.registers.now c.args.kind.now c.args.plan.now c.args.end c.args.number c.args.operation.now c.args.wires.now.signals c.args.inputs.now
     c.args.inputs.now refl
-    (ap (is_work c.args.kind.now) c.in-Binary.is ∙ sym c.is_of.ensures ∙ c.if-is_of.false)
+    (ap (is_work c.args.kind.now) c.in-Binary.is ∙ sym c.is_shared.ensures ∙ c.if-is_shared.false)
 
 pub returns-in-Unary : goal.returns-in-Unary
 returns-in-Unary c =
