@@ -1,5 +1,5 @@
 -- The inside of a module, as its parts make it.
-use Rattle.std.proofs.Common.{◌≡◌, ℕ, false, zero, suc, ◌+◌, ◌<◌, ◌≤◌, if◌then◌else◌, List, [], ◌∷◌, length, map, Option, Some, refl, sym, ap, subst, ◌∙◌, arith}
+use Rattle.std.proofs.Common.{◌≡◌, ℕ, false, suc, ◌+◌, ◌<◌, ◌≤◌, if◌then◌else◌, List, [], ◌∷◌, length, map, take, Option, Some, refl, sym, ap, subst, ◌∙◌, arith}
 use Rattle.std.specs.Prelude.{slice_get, option_map, replicate}
 use Rattle.std.proofs.lemmas.List.{length-map, length-replicate}
 use Rattle.std.proofs.lemmas.Option.{slice_get_within, slice_get-map}
@@ -54,12 +54,8 @@ use Rattle.thread_layout.proofs.Remembering.{has_memories}
 use Rattle.thread_slots.proofs.Gating.{of_bits_later}
 use Rattle.thread_slots.proofs.Wiring.{behind_then, types_fit}
 use Rattle.thread_layout.proofs.Tellings.{bar_wide, run_wide, argument_wide, hears_news}
-use Rattle.thread_layout.proofs.Spreading.{spread_there, spread_count, spread_from}
-
-some_at : {X : Type 0} (xs : List X) (i : ℕ) → i < length xs → (x : X) × (slice_get xs i ≡ Some x)
-some_at [] i h = absurd (omega arith)
-some_at (x ∷ xs) zero h = (x, refl)
-some_at (x ∷ xs) (suc i) h = some_at xs i (omega arith)
+use Rattle.thread_requests.proofs.Asking.{some_at, held_of, have_widths, replicated, equal_width}
+use Rattle.thread_requests.proofs.Spreading.{spread_there, spread_count, spread_from}
 
 none_listed : {X : Type 0} (xs : List X) (x : ℕ) (u : X) → xs ≡ [] → slice_get xs x ≡ Some u → ⊥
 none_listed [] x u e listed = absurd cc
@@ -168,29 +164,6 @@ widths_same b c widths words t =
 
 -- ---- lists of registers with these widths, for chains of banks
 
-abbrev held_of : ℕ → Held
-held_of w = record { register = 0; width = w }
-
-have_widths : (widths : List ℕ) → HaveWidths (map held_of widths) widths
-have_widths widths = record {
-  count = length-map widths held_of;
-  each = λ x w h there listed.
-      let at : slice_get (map held_of widths) x ≡ Some (held_of w) = slice_get-map held_of widths x ∙ ap (option_map held_of) listed in
-      let same : held_of w ≡ h = cc in
-      ap held_width (sym same);
-}
-
-replicated : (n w x y : ℕ) → slice_get (replicate n w) x ≡ Some y → y ≡ w
-replicated zero w x y e = absurd cc
-replicated (suc n) w zero y e = let same : w ≡ y = cc in sym same
-replicated (suc n) w (suc x) y e = replicated n w x y e
-
-equal_width : (n w k : ℕ) (h : Held) → slice_get (map held_of (replicate n w)) k ≡ Some h → h.width ≡ w
-equal_width n w k h e =
-    let less : k < length (replicate n w) = subst (λ z. k < z) (length-map (replicate n w) held_of) (slice_get_within (map held_of (replicate n w)) k h e) in
-    let y = some_at (replicate n w) k less in
-    (have_widths (replicate n w)).each k y.0 h e y.1 ∙ replicated n w k y.0 y.1
-
 pub bank_widths : (globals : List IntegerType) (spreads : List Spread) (n : ℕ) → AreRightSpreads globals spreads
     → HaveBankWidths globals spreads (map held_of (replicate n 1)) (map held_of (replicate n 64)) (map held_of (spread_out spreads (map width_of globals)))
 bank_widths globals spreads n right = record {
@@ -293,7 +266,14 @@ inside_wired shape code plan b k c d e f n u v w g x h first kept ones acts star
     let asked =
     early.wired low high base (map held_of (replicate many 1)) (map held_of (replicate many 64))
     (map held_of (map held_width told.words))
-    slot.state_room early_slots marks_stand marks_count
+    slot.state_room
+    (record {
+      count = ap length spreads_are ∙ right.count;
+      firsts = λ x s listed.
+          right.firsts x s (ap (λ l. slice_get l x) (sym spreads_are) ∙ listed) ∙ ap (λ (l : List Spread). bank_total (take x l)) (sym spreads_are);
+      words = count ∙ spread_count shape.spreads (map width_of shape.globals) (length-map shape.globals width_of ∙ sym right.count) ∙ ap bank_total (sym spreads_are);
+    })
+    early_slots marks_stand marks_count
     (subst (λ (z : List ℕ). HaveBankWidths shape.globals told.spreads (map held_of (replicate many 1)) (map held_of (replicate many 64)) (map held_of z)) (sym widths)
     (subst (λ (z : List Spread). HaveBankWidths shape.globals z (map held_of (replicate many 1)) (map held_of (replicate many 64))
     (map held_of (spread_out shape.spreads (map width_of shape.globals))))
@@ -440,7 +420,6 @@ inside_laid shape code plan a e f v w h ground slot early news acts walked t ask
     let late_early : LaysEarly shape.globals code slot (map (λ (q : Held). q.register) ground.granted) (caller_of shape) plan e f early =
     subst (λ (z : Registers). LaysEarly shape.globals code z (map (λ (q : Held). q.register) ground.granted) (caller_of shape) plan e f early) (sym heard.same)
     (early_reworded shape.globals code told slot.words slot.units (caller_of shape) (map (λ (q : Held). q.register) ground.granted) plan e f early
-    (heard_widths told.words slot.words f heard.with_words_heard early.need heard.hears)
     asked.lays) in
     let fit : AreFit (spread_out shape.spreads (map width_of shape.globals)) = spread_fits shape.spreads shape.globals in
     let ones_granted : LaysAll (Register 0) t.with_registers e (replicate (length shape.globals) 1) (length (replicate (length shape.globals) 1)) ground.granted =

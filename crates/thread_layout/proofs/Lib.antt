@@ -18,5 +18,4 @@ pub mod Rowing
 pub mod Shown
 pub mod Sight
 mod Slotting
-pub mod Spreading
 pub mod Tellings

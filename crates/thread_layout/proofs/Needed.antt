@@ -46,7 +46,7 @@ use Rattle.thread_requests.specs.Early.{wants_of}
 use Rattle.block_ir.specs.Asked.{Service, Mutexes, Barriers, Ids, Prints}
 use Rattle.thread_slots.specs.Requests.{group}
 use Rattle.thread_layout.proofs.Placed.{from_early, wide_bit, got_any}
-use Rattle.thread_layout.proofs.Raising.{from_asks, from_needs}
+use Rattle.thread_layout.proofs.Raising.{from_whole, from_needs}
 use Rattle.thread_layout.proofs.Sight.{knows, in_stage}
 
 -- ---- bits
@@ -253,8 +253,8 @@ module _ (shape : Shape) (code : ThreadCode) (plan : Planned) (m : Module) (t : 
 
     end_bit : HasBit m r t.inside.early.done (nat_eq now (length code.stages))
     end_bit = record {
-      wide = t.laid.early.asks.done_wide m (from_asks shape code plan m t served);
-      shows = t.laid.early.asks.done_is m r (from_asks shape code plan m t served) o (knows shape code plan m t served r o);
+      wide = t.laid.early.asked.asks.done_wide m (from_whole shape code plan m t served);
+      shows = t.laid.early.asked.asks.done_is m r (from_whole shape code plan m t served) o (knows shape code plan m t served r o);
     }
 
     -- NEED, of what is known of the stages
@@ -288,7 +288,7 @@ module _ (shape : Shape) (code : ThreadCode) (plan : Planned) (m : Module) (t : 
     held_bit : (c : Bool) × (r.signal t.laid.early.held ≡ bit_of c)
     held_bit =
         wide_bit m r t.laid.early.held o
-        (t.laid.early.holds.wide m (from_needs shape code plan m t served) (t.laid.early.asks.done_wide m (from_asks shape code plan m t served)))
+        (t.laid.early.holds.wide m (from_needs shape code plan m t served) (t.laid.early.asked.asks.done_wide m (from_whole shape code plan m t served)))
 
     -- where no core is needed none is asked
     pub unneeded_asks : r.signal t.inside.early.need ≡ 0 → (n : ℕ) → n < wants_all → asked_now n ≡ false
@@ -296,7 +296,7 @@ module _ (shape : Shape) (code : ThreadCode) (plan : Planned) (m : Module) (t : 
         let need =
         t.laid.early.needs.shows m r held_bit.0 asked_now (from_early shape code plan m t served) o
         (record {
-          wide = t.laid.early.holds.wide m (from_needs shape code plan m t served) (t.laid.early.asks.done_wide m (from_asks shape code plan m t served));
+          wide = t.laid.early.holds.wide m (from_needs shape code plan m t served) (t.laid.early.asked.asks.done_wide m (from_whole shape code plan m t served));
           shows = held_bit.1;
         }) asked_bits in
         let off : (held_bit.0 || any_below (λ k. true && asked_now k) (length asked)) ≡ false = bit_false _ (sym need.shows ∙ none) in

@@ -5,6 +5,7 @@ use Rattle.std.proofs.lemmas.Bool.Decides.{nat_tests}
 use Rattle.std.proofs.lemmas.List.{length-map}
 use Rattle.std.proofs.lemmas.Option.{slice_get_within, get_or_from_slice_get}
 use Rattle.hls_ints.specs.Residues.{bit_of}
+use Rattle.hls_ints.specs.Types.{width_of}
 use Rattle.bank_partition.specs.declared.banks.Spread.{Spread}
 use Rattle.thread_promise.specs.Globals.{bank_total}
 use Rattle.block_ir.specs.declared.code.ThreadCode.{ThreadCode}
@@ -21,15 +22,15 @@ use Rattle.block_datapath.specs.declared.registers.Held.{Held}
 use Rattle.block_datapath.specs.Requests.{AreAsMany}
 use Rattle.thread_slots.specs.declared.shape.Shape.{Shape}
 use Rattle.thread_slots.specs.Bits.{HasBit, HaveBits}
-use Rattle.thread_requests.specs.Early.{held_width, spread_out, act_count, act_open, joined_bits, HasObject}
+use Rattle.thread_requests.specs.Early.{spread_out, act_count, act_open, joined_bits, HasObject}
 use Rattle.thread_layout.specs.Modules.{marks_of, IsModule, IsWiredInside}
 use Rattle.thread_layout.specs.Thread.{inputs_of, cores_of, IsServed}
 use Rattle.block_ir.specs.Asked.{Service}
 use Rattle.thread_slots.specs.Requests.{group}
 use Rattle.thread_slots.proofs.Gating.{index_there}
 use Rattle.thread_requests.proofs.Opening.{have_joined}
-use Rattle.thread_layout.proofs.Placed.{no_argument, from_early, wide_bit, words_count, mark_held, stands_wide}
-use Rattle.thread_layout.proofs.Spreading.{spread_there, spread_count}
+use Rattle.thread_layout.proofs.Placed.{no_argument, from_early, wide_bit, banks_many, mark_held, stands_wide}
+use Rattle.thread_requests.proofs.Spreading.{spread_there, spread_count}
 
 -- ---- lists
 
@@ -59,21 +60,14 @@ module _ (shape : Shape) (code : ThreadCode) (plan : Planned) (m : Module) (t : 
   wired = t.laid.wired served.site_low served.site_high served.spreads refl (no_argument shape code plan m t served)
 
   pub wants_count : length t.inside.early.requests.banks.wants ≡ banks
-  wants_count = wired.early.linked.banks.wants.count ∙ bits_count
-    where
-      bits_count : length wired.bits ≡ banks
-      bits_count =
-          sym wired.early.linked.banks.wants.count
-          ∙ (t.laid.early.asks.many.banks (length (map held_width t.inside.slot.words)) t.laid.early.begins.many).wants
-          ∙ length-map t.inside.slot.words held_width ∙ words_count shape code plan m t served
+  wants_count = (banks_many shape code plan m t served).wants
 
-  -- the links begin with one for each bank
-  pub start_many : AreAsMany banks t.laid.early.start.banks
-  start_many =
-      subst (λ k. AreAsMany k t.laid.early.start.banks) (length-map t.inside.slot.words held_width ∙ words_count shape code plan m t served) t.laid.early.begins.many
+  -- the links begin with one for each global
+  pub start_many : AreAsMany (length shape.globals) t.laid.early.asked.start.banks
+  start_many = subst (λ k. AreAsMany k t.laid.early.asked.start.banks) (length-map shape.globals width_of) t.laid.early.asked.begins.many
 
-  pub start_less : (n : ℕ) → n < banks → n < length (map held_width t.inside.slot.words)
-  start_less n less = subst (λ k. n < k) (sym (length-map t.inside.slot.words held_width ∙ words_count shape code plan m t served)) less
+  pub start_less : (x : ℕ) → x < length shape.globals → x < length (map width_of shape.globals)
+  start_less x less = subst (λ k. x < k) (sym (length-map shape.globals width_of)) less
 
   -- bits of banks, and of those that acts ask
   pub want_wide : (n : ℕ) → n < banks → width m (slice_index t.inside.early.requests.banks.wants n) ≡ 1

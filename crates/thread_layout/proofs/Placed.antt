@@ -43,7 +43,10 @@ use Rattle.thread_slots.proofs.Laying.{stands_later}
 use Rattle.thread_layout.proofs.Insides.{heard_widths, widths_same}
 use Rattle.thread_layout.proofs.Rowing.{HaveWidths, own_asks, joined_there, place_of_rows, all_count, rows_widths, acts_widths, bank_there, act_there, field_there}
 use Rattle.thread_layout.proofs.Cores.{services_count}
-use Rattle.thread_layout.proofs.Spreading.{spread_there, spread_count}
+use Rattle.block_datapath.specs.Requests.{AreAsMany}
+use Rattle.thread_slots.specs.declared.requests.Request.{Request}
+use Rattle.thread_requests.proofs.Asking.{group_kept}
+use Rattle.thread_requests.proofs.Spreading.{spread_there, spread_count}
 
 -- ---- a signal that stands at a place
 
@@ -177,11 +180,19 @@ module _ (shape : Shape) (code : ThreadCode) (plan : Planned) (m : Module) (t : 
   pub inputs_long : length t.laid.with_inputs ≡ behind
   inputs_long = let one = t.laid.words.long in let more = t.laid.news_stand.long in let two = ports_long in let three = bank_count in omega arith
 
+  -- what is asked of each global, and of each bank
+  pub whole_many : AreAsMany (length t.inside.slot.spreads) t.laid.early.asked.whole
+  whole_many =
+      subst (λ n. AreAsMany n t.laid.early.asked.whole) (length-map shape.globals width_of ∙ sym served.spreads.count ∙ ap length (sym t.laid.slot.spreads_are))
+      (t.laid.early.asked.asks.many.banks (length (map width_of shape.globals)) t.laid.early.asked.begins.many)
+
+  pub banks_many : AreAsMany banks t.inside.early.requests.banks
+  banks_many = subst (λ l. AreAsMany (bank_total l) t.inside.early.requests.banks) t.laid.slot.spreads_are (t.laid.early.asked.spreads.many whole_many)
+
   -- as many requests as cores
   pub opens_count : length t.inside.early.opens ≡ cores_of shape
   opens_count =
-      let wanted : length t.inside.early.requests.banks.wants ≡ banks =
-      (t.laid.early.asks.many.banks (length (map held_width t.inside.slot.words)) t.laid.early.begins.many).wants ∙ length-map t.inside.slot.words held_width ∙ words_count in
+      let wanted : length t.inside.early.requests.banks.wants ≡ banks = banks_many.wants in
       let own : length t.laid.early.bank_opens ≡ banks = t.laid.early.opens.count ∙ wanted in
       let acts : length t.laid.early.acts.opens ≡ act_count shape.served = t.laid.early.opens_acts.count in
       ap length t.laid.early.open_is ∙ length-append t.laid.early.bank_opens t.laid.early.acts.opens
@@ -370,7 +381,9 @@ module _ (shape : Shape) (code : ThreadCode) (plan : Planned) (m : Module) (t : 
 
   -- outputs
   pub fields_count : (s : Service) → length (group t.inside.early.requests s).fields ≡ suc (value_count shape.served s)
-  fields_count s = t.laid.early.asks.many.fields s ∙ t.laid.early.begins.counts s
+  fields_count s =
+      ap (λ (q : Request). length q.fields) (sym (group_kept t.inside.early.requests t.laid.early.asked.whole s)) ∙ t.laid.early.asked.asks.many.fields s
+      ∙ t.laid.early.asked.begins.counts s
 
   -- what cores are asked
   abbrev pub rows : List (List Row)

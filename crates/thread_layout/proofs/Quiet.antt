@@ -28,11 +28,14 @@ use Rattle.thread_asks.proofs.Asks.{decide, same_self}
 use Rattle.thread_slots.specs.Bits.{HasBit}
 use Rattle.thread_layout.specs.Modules.{IsModule}
 use Rattle.thread_layout.specs.Thread.{numbers_of, is_core, IsServed}
-use Rattle.thread_requests.specs.Early.{act_count, act_open}
+use Rattle.block_datapath.specs.declared.requests.BankRequests.{BankRequests}
+use Rattle.thread_slots.specs.declared.requests.Request.{Request}
+use Rattle.thread_requests.specs.Early.{act_count, act_open, with_banks}
+use Rattle.thread_requests.proofs.Asking.{group_kept}
 use Rattle.thread_layout.proofs.Cores.{none_open, asked_open}
 use Rattle.thread_layout.proofs.Opened.{want_wide, ask_wide, acts_by, start_many, start_less}
 use Rattle.thread_layout.proofs.Placed.{got_any}
-use Rattle.thread_layout.proofs.Raising.{from_asks}
+use Rattle.thread_layout.proofs.Raising.{from_whole, none_wanted}
 use Rattle.thread_layout.proofs.Shown.{Shows}
 use Rattle.thread_layout.proofs.Sight.{asks_so, knows, stage_shown, sees_variables}
 
@@ -83,52 +86,62 @@ module _ (shape : Shape) (code : ThreadCode) (plan : Planned) (m : Module) (t : 
   abbrev banks : ℕ
   banks = bank_total shape.spreads
 
-  pub from_start : Grows t.laid.early.with_start m.signals
-  from_start = grows_then t.laid.early.with_start t.laid.early.with_asks m.signals t.laid.early.asks.grows (from_asks shape code plan m t served)
+  pub from_start : Grows t.laid.early.asked.with_start m.signals
+  from_start = grows_then t.laid.early.asked.with_start t.laid.early.asked.with_whole m.signals t.laid.early.asked.asks.grows (from_whole shape code plan m t served)
 
   module _ (r : Reading) (q : Slot) (o : Obeys m r) (shows : Shows shape code plan m t served r q) where
-    nothing : (n : ℕ) → n < banks → bank_asked_at r t.laid.early.start.banks n ≡ nothing_asked
-    nothing n less = t.laid.early.begins.nothing m r n from_start o (start_less shape code plan m t served n less)
+    abbrev whole : BankRequests
+    whole = t.laid.early.asked.whole
 
-    silent : (k : Service) → r.signal (group t.laid.early.start k).wants ≡ 0
-    silent k = t.laid.early.begins.silent k m r from_start o
+    nothing : (x : ℕ) → x < length shape.globals → bank_asked_at r t.laid.early.asked.start.banks x ≡ nothing_asked
+    nothing x less = t.laid.early.asked.begins.nothing m r x from_start o (start_less shape code plan m t served x less)
+
+    silent : (k : Service) → r.signal (group t.laid.early.asked.start k).wants ≡ 0
+    silent k = t.laid.early.asked.begins.silent k m r from_start o
+
+    kept : (k : Service) → group (with_banks t.inside.early.requests whole) k ≡ group t.inside.early.requests k
+    kept k = group_kept t.inside.early.requests whole k
 
     -- past the last stage the same is asked as at the start
     past : (l : ℕ) → length code.stages ≤ q.stage → l < length code.stages → r.signal t.inside.slot.stage.register ≡ l → ⊥
     past l le less is = absurd (let same : q.stage ≡ l = sym (stage_shown shape code plan m t served r o q shows) ∙ is in omega arith)
 
-    pub bank_silent : (s : Option Stage) → slice_get code.stages q.stage ≡ s → is_run s ≡ false → (n : ℕ) → n < banks → bank_asked_at r t.inside.early.requests.banks n ≡ nothing_asked
-    bank_silent None e not_so n less =
+    global_silent : (s : Option Stage) → slice_get code.stages q.stage ≡ s → is_run s ≡ false → (x : ℕ) → x < length shape.globals → bank_asked_at r whole x ≡ nothing_asked
+    global_silent None e not_so x less =
         let le = none_past code.stages q.stage e in
-        (t.laid.early.asks.beyond m r (from_asks shape code plan m t served) o t.laid.early.begins.bits (knows shape code plan m t served r o)
-        (λ k below is. past k le below is)).banks n banks (start_many shape code plan m t served) less
-        ∙ nothing n less
-    bank_silent (Some s) e not_so n less =
-        (asks_so shape code plan m t served q.stage s e).silent not_so m r n banks (from_asks shape code plan m t served) o
+        (t.laid.early.asked.asks.beyond m r (from_whole shape code plan m t served) o t.laid.early.asked.begins.bits (knows shape code plan m t served r o)
+        (λ k below is. past k le below is)).banks x (length shape.globals) (start_many shape code plan m t served) less
+        ∙ nothing x less
+    global_silent (Some s) e not_so x less =
+        (asks_so shape code plan m t served q.stage s e).silent not_so m r x (length shape.globals) (from_whole shape code plan m t served) o
         (knows shape code plan m t served r o)
         (stage_shown shape code plan m t served r o q shows) (start_many shape code plan m t served) less
-        ∙ nothing n less
+        ∙ nothing x less
 
     pub bank_bit : is_run (slice_get code.stages q.stage) ≡ false → (n : ℕ) → n < banks → HasBit m r (slice_index t.inside.early.requests.banks.wants n) false
     bank_bit not_so n less = record {
       wide = want_wide shape code plan m t served n less;
-      shows = ap (λ (a : BankAsked). a.wants) (bank_silent (slice_get code.stages q.stage) refl not_so n less);
+      shows = none_wanted shape code plan m t served r o (λ x within. ap (λ (a : BankAsked). a.wants) (global_silent (slice_get code.stages q.stage) refl not_so x within)) n less;
     }
 
     -- a stage that does not ask cores of this kind
     unasked : (s : Stage) (k : Service) → slice_get code.stages q.stage ≡ Some s → is_asked shape.is_main (Some s) k ≡ false → r.signal (group t.inside.early.requests k).wants ≡ 0
     unasked s k e off =
-        (asks_so shape code plan m t served q.stage s e).quiet k off m r (from_asks shape code plan m t served) o (knows shape code plan m t served r o)
+        ap (λ (c : Request). r.signal c.wants) (sym (kept k))
+        ∙ (asks_so shape code plan m t served q.stage s e).quiet k off m r (from_whole shape code plan m t served) o (knows shape code plan m t served r o)
         (stage_shown shape code plan m t served r o q shows) (silent k)
 
     -- an act that asks
     module _ (a : Act) (next : ℕ) (call : Call) (listed : slice_get code.stages q.stage ≡ Some (stage.Act a next)) (is_call : request_of shape.is_main a ≡ Some call) where
       pub called : ShowsCall code t.inside.slot (number_width shape.served call.service) call.number (object_of call.service call.operands) (values_of call.service call.operands) r
-          q.variables (length (group t.laid.early.start call.service).fields) (group t.inside.early.requests call.service)
+          q.variables (length (group t.laid.early.asked.start call.service).fields) (group t.inside.early.requests call.service)
       called =
-          (asks_so shape code plan m t served q.stage (stage.Act a next) listed).asks a next call refl is_call m r q.variables
-          (from_asks shape code plan m t served) o (knows shape code plan m t served r o) (stage_shown shape code plan m t served r o q shows) (silent call.service)
-          (sees_variables shape code plan m t served r o q shows)
+          subst
+          (λ (c : Request). ShowsCall code t.inside.slot (number_width shape.served call.service) call.number (object_of call.service call.operands)
+          (values_of call.service call.operands) r q.variables (length (group t.laid.early.asked.start call.service).fields) c) (kept call.service)
+          ((asks_so shape code plan m t served q.stage (stage.Act a next) listed).asks a next call refl is_call m r q.variables
+          (from_whole shape code plan m t served) o (knows shape code plan m t served r o) (stage_shown shape code plan m t served r o q shows) (silent call.service)
+          (sees_variables shape code plan m t served r o q shows))
 
     -- whether cores of this kind are asked
     pub service_shown : (k : Service) → r.signal (group t.inside.early.requests k).wants ≡ bit_of (is_asked shape.is_main (slice_get code.stages q.stage) k)
@@ -145,7 +158,8 @@ module _ (shape : Shape) (code : ThreadCode) (plan : Planned) (m : Module) (t : 
         by : (s : Option Stage) → slice_get code.stages q.stage ≡ s → r.signal (group t.inside.early.requests k).wants ≡ bit_of (is_asked shape.is_main s k)
         by None e =
             let le = none_past code.stages q.stage e in
-            ((t.laid.early.asks.beyond m r (from_asks shape code plan m t served) o t.laid.early.begins.bits (knows shape code plan m t served r o)
+            ap (λ (c : Request). r.signal c.wants) (sym (kept k))
+            ∙ ((t.laid.early.asked.asks.beyond m r (from_whole shape code plan m t served) o t.laid.early.asked.begins.bits (knows shape code plan m t served r o)
             (λ l below is. past l le below is)).requests k).wants false (silent k)
         by (Some (stage.Run b)) e = unasked (stage.Run b) k e refl
         by (Some (stage.Act a next)) e = by_call a next (request_of shape.is_main a) e refl

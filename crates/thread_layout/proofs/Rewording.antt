@@ -1,5 +1,5 @@
 -- What is asked does not hang on where words are told, nor on units: of registers with other words and units it is the same.
-use Rattle.std.proofs.Common.{◌≡◌, ℕ, List, length, map, Option, Some, slice_get, ℤ, refl, sym, subst}
+use Rattle.std.proofs.Common.{◌≡◌, ℕ, List, length, Option, Some, slice_get, ℤ, refl}
 use Rattle.hls_ints.specs.Types.{IntegerType}
 use Rattle.bank_partition.specs.declared.banks.Spread.{Spread}
 use Rattle.block_ir.specs.declared.block.Block.{Block}
@@ -25,8 +25,7 @@ use Rattle.thread_asks.specs.declared.asking.Caller.{Caller}
 use Rattle.thread_slots.specs.declared.requests.Requests.{Requests}
 use Rattle.thread_requests.specs.declared.early.Early.{Early}
 use Rattle.thread_asks.specs.Asking.{AsksAt}
-use Rattle.thread_requests.specs.Early.{held_width, LaysEarly}
-use Rattle.thread_slots.specs.Requests.{BeginsAsking}
+use Rattle.thread_requests.specs.Early.{with_banks, AsksGlobals, LaysEarly}
 use Rattle.thread_layout.specs.Modules.{worded}
 use Rattle.thread_needs.specs.Needing.{NeedsMore, FitStages, IsNeedOfFirst}
 use Rattle.thread_slots.specs.Slots.{LaysSlot, KnowsStage}
@@ -61,6 +60,7 @@ slot_reworded code plan first kept_widths told words units spreads a b registers
   state = t.state;
   beat = t.beat;
   beat_stands = t.beat_stands;
+  beat_named = t.beat_named;
   variables_count = t.variables_count;
   variables_named = t.variables_named;
   variables = t.variables;
@@ -159,43 +159,54 @@ module _ (globals : List IntegerType) (code : ThreadCode) (registers : Registers
     silent = λ no m r j many g o knows here as_many less. t.silent no m r j many g o (knows_back code registers words units m r knows) here as_many less;
   }
 
-  pub early_reworded : (granted : List ℕ) (plan : Planned) (a b : List Signal) (early : Early) → map held_width words ≡ map held_width registers.words
-      → LaysEarly globals code registers granted caller plan a b early → LaysEarly globals code (worded registers words units) granted caller plan a b early
-  early_reworded granted plan a b early same t =
+  globals_reworded : (plan : Planned) (a b : List Signal) (c : Requests) (done : ℕ) → AsksGlobals globals code registers caller plan a b c done
+      → AsksGlobals globals code (worded registers words units) caller plan a b c done
+  globals_reworded plan a b c done t =
       let asks = t.asks in
       record {
-        grows = t.grows;
-        free = t.free;
-        bank_opens = t.bank_opens;
-        acts = t.acts;
         start = t.start;
         with_start = t.with_start;
-        held = t.held;
-        with_asks = t.with_asks;
-        with_needs = t.with_needs;
-        with_free = t.with_free;
-        with_open = t.with_open;
-        with_acts = t.with_acts;
-        with_lost = t.with_lost;
+        whole = t.whole;
+        with_whole = t.with_whole;
+        one_each = t.one_each;
+        are_one_each = t.are_one_each;
+        begins = t.begins;
         met = λ k s less listed barrier next e m r variables g o knows here seen typed.
             t.met k s less listed barrier next e m r variables g o (knows_back code registers words units m r knows) here
             (sees_back code registers words units m r variables seen) typed;
-        begins = subst (λ (z : List ℕ). BeginsAsking a t.with_start caller.served z t.start) (sym same) t.begins;
         asks = record {
           grows = asks.grows;
           many = asks.many;
           bits = asks.bits;
-          does = λ e k s listed. asks_at_reworded registers.spreads k s (slice_get plan.stages k) t.with_asks t.start early.requests (asks.does e k s listed);
+          does = λ e k s listed. asks_at_reworded t.one_each k s (slice_get plan.stages k) t.with_whole t.start (with_banks c t.whole) (asks.does e k s listed);
           beyond = λ m r g o e knows none. asks.beyond m r g o e (knows_back code registers words units m r knows) none;
           done_wide = asks.done_wide;
           done_is = λ m r g o knows. asks.done_is m r g o (knows_back code registers words units m r knows);
         };
-        holds = needs_reworded code registers words units plan t.with_asks t.with_needs early.done t.held t.holds;
-        frees = t.frees;
-        opens = t.opens;
-        opens_acts = t.opens_acts;
-        loses = t.loses;
-        open_is = t.open_is;
-        barriers_are = t.barriers_are;
-        needs = t.needs;
+        spreads = t.spreads;
       }
+
+  pub early_reworded : (granted : List ℕ) (plan : Planned) (a b : List Signal) (early : Early) → LaysEarly globals code registers granted caller plan a b early
+      → LaysEarly globals code (worded registers words units) granted caller plan a b early
+  early_reworded granted plan a b early t = record {
+    grows = t.grows;
+    free = t.free;
+    bank_opens = t.bank_opens;
+    acts = t.acts;
+    held = t.held;
+    with_asks = t.with_asks;
+    with_needs = t.with_needs;
+    with_free = t.with_free;
+    with_open = t.with_open;
+    with_acts = t.with_acts;
+    with_lost = t.with_lost;
+    asked = globals_reworded plan a t.with_asks early.requests early.done t.asked;
+    holds = needs_reworded code registers words units plan t.with_asks t.with_needs early.done t.held t.holds;
+    frees = t.frees;
+    opens = t.opens;
+    opens_acts = t.opens_acts;
+    loses = t.loses;
+    open_is = t.open_is;
+    barriers_are = t.barriers_are;
+    needs = t.needs;
+  }

@@ -49,6 +49,7 @@ use Rattle.thread_states.specs.Cells.{StoresFirst}
 use Rattle.thread_layout.proofs.Remembering.{memory_listed}
 use Rattle.std.proofs.lemmas.List.{length-replicate, length-map}
 use Rattle.thread_asks.specs.Asking.{AsksAt}
+use Rattle.thread_requests.specs.Early.{with_banks}
 use Rattle.thread_slots.specs.Bits.{HasBit, HaveBits}
 use Rattle.thread_states.specs.Control.{Steers}
 use Rattle.thread_layout.specs.Modules.{caller_of, IsModule}
@@ -83,11 +84,9 @@ module _ (shape : Shape) (code : ThreadCode) (plan : Planned) (m : Module) (t : 
 
   -- what stage l asks
   pub asks_so : (l : ℕ) (s : Stage) → slice_get code.stages l ≡ Some s
-      → AsksAt shape.globals shape.spreads code t.inside.slot (caller_of shape) l s (slice_get plan.stages l) t.laid.early.with_asks t.laid.early.start t.inside.early.requests
-  asks_so l s listed =
-      subst
-      (λ (z : List Spread). AsksAt shape.globals z code t.inside.slot (caller_of shape) l s (slice_get plan.stages l) t.laid.early.with_asks t.laid.early.start t.inside.early.requests)
-      t.laid.slot.spreads_are (t.laid.early.asks.does t.laid.early.begins.bits l s listed)
+      → AsksAt shape.globals t.laid.early.asked.one_each code t.inside.slot (caller_of shape) l s (slice_get plan.stages l) t.laid.early.asked.with_whole
+      t.laid.early.asked.start (with_banks t.inside.early.requests t.laid.early.asked.whole)
+  asks_so l s listed = t.laid.early.asked.asks.does t.laid.early.asked.begins.bits l s listed
 
   pub variables_count : length t.inside.chains.variables ≡ length t.inside.slot.variables
   variables_count = ap (λ (c : Chains). length c.variables) t.laid.waits.same ∙ t.laid.walks.many.variables ∙ t.laid.begins.variables

@@ -1,11 +1,13 @@
 -- What is asked in a state: the parts of it, one after the other.
 use Rattle.std.proofs.Common.{◌≡◌, ℕ, zero, suc, ◌<◌, true, List, [], ◌∷◌, ◌++◌, length, map, Some, refl, sym, ap, subst, ◌∙◌, arith}
 use Rattle.std.specs.Prelude.{replicate, slice_get}
+use Rattle.std.proofs.lemmas.List.{length-map}
 use Rattle.std.proofs.lemmas.Option.{slice_get_within}
 use Rattle.hls_ints.specs.Types.{IntegerType}
 use Rattle.block_ir.specs.declared.code.ThreadCode.{ThreadCode}
 use Rattle.block_ir.specs.declared.plan.Planned.{Planned}
 use Rattle.netlist.specs.declared.netlist.Signal.{Signal}
+use Rattle.operator_wires.specs.Gives.{Grows}
 use Rattle.operator_wires.specs.Built.{Base, IsEarlier}
 use Rattle.operator_wires.proofs.Giving.{grows_then}
 use Rattle.operator_wires.proofs.Building.{stands_after, wires_then}
@@ -19,22 +21,14 @@ use Rattle.thread_slots.specs.Requests.{group}
 use Rattle.thread_asks.specs.declared.asking.Caller.{Caller}
 use Rattle.thread_requests.specs.declared.early.Acts.{Acts}
 use Rattle.thread_requests.proofs.Opening.{stand_joined}
+use Rattle.thread_requests.proofs.Asking.{some_at}
 use Rattle.thread_slots.specs.declared.requests.Requests.{Requests}
 use Rattle.thread_requests.specs.declared.early.Early.{Early}
-use Rattle.thread_asks.specs.Asking.{AsksAllWired}
 use Rattle.thread_needs.specs.Needing.{NeedsMore, FitStages, IsNeedOfFirst}
 use Rattle.thread_slots.specs.Bits.{NotOf, BothOf, MakesBits, MakesAny, AreBitsOf, AddsNots, AddsBoths, AddsAny}
-use Rattle.thread_asks.specs.Met.{AllNamed}
-use Rattle.thread_requests.specs.Early.{BeginsLinkedOf, held_width, spread_out, wants_of, OpensActs, IsLost, LaysEarlyWired}
-use Rattle.thread_slots.specs.Requests.{BeginsAsking}
+use Rattle.thread_requests.specs.Early.{held_width, spread_out, wants_of, AsksGlobals, AsksBanks, OpensActs, IsLost, LaysEarlyWired}
 use Rattle.thread_slots.proofs.Gating.{of_bits_later}
 use Rattle.thread_asks.proofs.Asks.{ask_links_after}
-use Rattle.thread_slots.proofs.Requesting.{begins_linked}
-
-some_at : {X : Type 0} (xs : List X) (i : ℕ) → i < length xs → (x : X) × (slice_get xs i ≡ Some x)
-some_at [] i h = absurd (omega arith)
-some_at (x ∷ xs) zero h = (x, refl)
-some_at (x ∷ xs) (suc i) h = some_at xs i (omega arith)
 
 -- ---- all of it
 
@@ -58,14 +52,17 @@ all_wants_stand base a c banks acts = stand_joined base a c.banks.wants (c.mutex
     four (suc (suc (suc zero))) x e = let same : c.print.wants ≡ x = cc in subst (λ z. IsEarlier a base z 1) same (acts Prints)
     four (suc (suc (suc (suc k)))) x e = absurd cc
 
--- s1: nobody is asked, s2: all stages ask, s3: where a core is needed besides, s4: what is not granted, s5: which banks are open, s6: which cores are that acts ask,
+globals_grow : (globals : List IntegerType) (code : ThreadCode) (registers : Registers) (caller : Caller) (plan : Planned) (a d : List Signal) (c : Requests) (done : ℕ)
+    → AsksGlobals globals code registers caller plan a d c done → Grows a d
+globals_grow globals code registers caller plan a d c done t =
+    grows_then a t.with_start d t.begins.grows (grows_then t.with_start t.with_whole d t.asks.grows t.spreads.grows)
+
+-- s2: all stages ask, s3: where a core is needed besides, s4: what is not granted, s5: which banks are open, s6: which cores are that acts ask,
 -- s7: what is lost, s8: what is needed
 pub early_made : (globals : List IntegerType) (code : ThreadCode) (registers : Registers) (granted : List ℕ) (caller : Caller) (plan : Planned)
-    (s0 s1 s2 s3 s4 s5 s6 s7 s8 : List Signal)
-    (early : Early) (free bank_opens : List ℕ) (acts : Acts) (held : ℕ) (start : Requests)
-    → BeginsAsking s0 s1 caller.served (map held_width registers.words) start → AllNamed code registers (length code.stages) s1 start.barrier.object
-    → BeginsLinkedOf code registers caller.served (map held_width registers.words) s0 s1 start
-    → AsksAllWired globals registers.spreads code registers caller plan s1 s2 start early.requests early.done
+    (s0 s2 s3 s4 s5 s6 s7 s8 : List Signal)
+    (early : Early) (free bank_opens : List ℕ) (acts : Acts) (held : ℕ)
+    → AsksBanks globals code registers caller plan s0 s2 early.requests early.done
     → NeedsMore registers (FitStages registers code plan) (IsNeedOfFirst registers code plan (length code.stages)) s2 s3 early.done held
     → MakesBits s3 s4 (length (spread_out registers.spreads granted)) free (NotOf (spread_out registers.spreads granted)) →
     AddsNots s3 s4 (spread_out registers.spreads granted) free
@@ -74,19 +71,16 @@ pub early_made : (globals : List IntegerType) (code : ThreadCode) (registers : R
     → early.opens ≡ bank_opens ++ acts.opens → early.barriers ≡ acts.barriers
     → MakesAny s7 s8 held (wants_of early.requests) (λ k. true) (length (wants_of early.requests)) early.need → AddsAny s7 s8 held (wants_of early.requests) early.need
     → LaysEarlyWired globals code registers granted caller plan s0 s8 early
-early_made globals code registers granted caller plan s0 s1 s2 s3 s4 s5 s6 s7 s8 early free bank_opens acts held start begins met begins_linked asks holds frees
-    frees_linked opens opens_linked opened lost open_is barriers_are needs needs_linked = record {
+early_made globals code registers granted caller plan s0 s2 s3 s4 s5 s6 s7 s8 early free bank_opens acts held asks holds frees frees_linked
+    opens opens_linked opened lost open_is barriers_are needs needs_linked = record {
       lays = record {
         grows =
-            grows_then s0 s1 s8 begins.grows
-            (grows_then s1 s2 s8 asks.asks.grows
+            grows_then s0 s2 s8 (globals_grow globals code registers caller plan s0 s2 early.requests early.done asks.asks)
             (grows_then s2 s3 s8 holds.grows (grows_then s3 s4 s8 frees.grows (grows_then s4 s5 s8 opens.grows (grows_then s5 s6 s8 opened.grows
-            (grows_then s6 s7 s8 lost.grows needs.grows))))));
+            (grows_then s6 s7 s8 lost.grows needs.grows)))));
         free = free;
         bank_opens = bank_opens;
         acts = acts;
-        start = start;
-        with_start = s1;
         held = held;
         with_asks = s2;
         with_needs = s3;
@@ -94,9 +88,7 @@ early_made globals code registers granted caller plan s0 s1 s2 s3 s4 s5 s6 s7 s8
         with_open = s5;
         with_acts = s6;
         with_lost = s7;
-        begins = begins;
-        met = met;
-        asks = asks.asks;
+        asked = asks.asks;
         holds = holds;
         frees = frees;
         opens = opens;
@@ -106,13 +98,11 @@ early_made globals code registers granted caller plan s0 s1 s2 s3 s4 s5 s6 s7 s8
         barriers_are = barriers_are;
         needs = needs;
       };
-      wired = λ low high base bits wide own fits slots marks_stand marks_count have one two three fit.
-          let t0 =
-          begins_linked base globals registers.spreads bits wide own slots low high
-          fit one two three have in
-          let t1 = asks.wired fits base bits wide own t0.linked in
+      wired = λ low high base bits wide own fits fit_spreads slots marks_stand marks_count have one two three fit.
+          let t1 = asks.wired low high fits fit_spreads base bits wide own slots have (one.count ∙ counted registers.words 1) (two.count ∙ counted registers.words 64)
+          (three.count ∙ length-map registers.words held_width) in
           let links = t1.0.linked in
-          let w2 = wires_then base s0 s1 s2 t0.wires t1.0.wires in
+          let w2 = t1.0.wires in
           let t2 = holds.wired base links.slots.stage links.slots.state (record { stages = links.slots.room; states = fits }) t1.1 in
           let w3 = wires_then base s0 s2 s3 w2 t2.wires in
           let t3 = frees_linked base (of_bits_later base s0 s3 (spread_out registers.spreads granted) w3.grows marks_stand) in
@@ -120,7 +110,7 @@ early_made globals code registers granted caller plan s0 s1 s2 s3 s4 s5 s6 s7 s8
           let wants_2 = wants_stand base s2 bits wide own early.requests.banks links.banks have.bits in
           let wants_count : length early.requests.banks.wants ≡ length bits = links.banks.wants.count in
           let free_count : length early.requests.banks.wants ≡ length free =
-          wants_count ∙ one.count ∙ counted registers.words ∙ sym marks_count ∙ sym frees.count in
+          wants_count ∙ one.count ∙ counted registers.words 1 ∙ sym marks_count ∙ sym frees.count in
           let to_4 = grows_then s2 s3 s4 t2.wires.grows t3.wires.grows in
           let t4 = opens_linked base (of_bits_later base s2 s4 early.requests.banks.wants to_4 wants_2) t3.stand free_count in
           let w5 = wires_then base s0 s4 s5 w4 t4.wires in
@@ -153,6 +143,6 @@ early_made globals code registers granted caller plan s0 s1 s2 s3 s4 s5 s6 s7 s8
           };
     }
   where
-    counted : (words : List Held) → length {A = ℕ} (replicate (length (map held_width words)) 1) ≡ length words
-    counted [] = refl
-    counted (h ∷ words) = ap suc (counted words)
+    counted : (words : List Held) (w : ℕ) → length {A = ℕ} (replicate (length (map held_width words)) w) ≡ length words
+    counted [] w = refl
+    counted (h ∷ words) w = ap suc (counted words w)

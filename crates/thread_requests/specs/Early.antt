@@ -1,7 +1,7 @@
 -- What a thread asks of cores in a state: of all stages, and which requests have not been granted.
-use Rattle.std.specs.Prelude.{◌≡◌, ℕ, ◌+◌, ◌-◌, ◌<◌, ◌≤◌, ◌^◌, Bool, true, not, ◌&&◌, ◌||◌, nat_eq, nat_lt, if◌then◌else◌, List, [], ◌∷◌, ◌++◌, length, map, replicate}
+use Rattle.std.specs.Prelude.{◌≡◌, ℕ, ◌+◌, ◌-◌, ◌<◌, ◌≤◌, ◌^◌, Bool, true, not, ◌&&◌, ◌||◌, nat_eq, nat_lt, if◌then◌else◌, List, [], ◌∷◌, ◌++◌, length, map, take, replicate}
 use Rattle.std.specs.Prelude.{slice_get, Option, Some, None}
-use Rattle.hls_ints.specs.Types.{IntegerType}
+use Rattle.hls_ints.specs.Types.{IntegerType, width_of}
 use Rattle.bank_partition.specs.declared.banks.Spread.{Spread}
 use Rattle.block_ir.specs.declared.code.ThreadCode.{ThreadCode}
 use Rattle.block_ir.specs.declared.plan.Planned.{Planned}
@@ -10,6 +10,8 @@ use Rattle.operator_wires.specs.Gives.{Grows}
 use Rattle.operator_wires.specs.Built.{Base, IsEarlier, AreWires, Adds}
 use Rattle.block_datapath.specs.declared.registers.Held.{Held}
 use Rattle.block_datapath.specs.declared.registers.Registers.{Registers}
+use Rattle.thread_promise.specs.Globals.{bank_total}
+use Rattle.block_datapath.specs.declared.requests.BankRequests.{BankRequests}
 use Rattle.block_datapath.specs.Requests.{HaveWidths}
 use Rattle.block_datapath.specs.Accesses.{HaveBankWidths}
 use Rattle.hls_ints.specs.Residues.{bit_of}
@@ -22,6 +24,7 @@ use Rattle.thread_slots.specs.declared.shape.Served.{Served}
 use Rattle.thread_slots.specs.declared.requests.Request.{Request}
 use Rattle.thread_slots.specs.declared.requests.Requests.{Requests}
 use Rattle.thread_asks.specs.declared.asking.Caller.{Caller}
+use Rattle.thread_requests.specs.Banks.{AreOneEach, SpreadsRequests}
 use Rattle.thread_requests.specs.declared.early.Acts.{Acts}
 use Rattle.thread_requests.specs.declared.early.Objects.{Objects}
 use Rattle.thread_requests.specs.declared.early.Early.{Early}
@@ -58,11 +61,46 @@ BeginsLinkedOf code registers served words old new c =
     KeepsAskLinks base code registers served globals spreads bits wide own old new c
 
 -- nobody is asked: requests with words as wide as these
-pub record BeginsRequests (code : ThreadCode) (registers : Registers) (served : Served) (old new : List Signal) (c : Requests) : Type 0 where
+pub record BeginsRequests (code : ThreadCode) (registers : Registers) (served : Served) (words : List ℕ) (old new : List Signal) (c : Requests) : Type 0 where
   pub with_begin : List Signal
-  pub begins : BeginsAsking old new served (map held_width registers.words) c
+  pub begins : BeginsAsking old new served words c
   pub met : NamesMet code registers (length code.stages) with_begin new c.barrier.object
-  pub wired : BeginsLinkedOf code registers served (map held_width registers.words) old new c
+  pub wired : BeginsLinkedOf code registers served words old new c
+
+-- ---- what all stages ask
+
+-- the same is asked of those that acts ask, and this of banks
+abbrev pub with_banks : Requests → BankRequests → Requests
+with_banks c banks = record c { banks = banks }
+
+-- links are laid for globals, each as if it stood in one bank, and spread to the banks behind them
+pub record AsksGlobals (globals : List IntegerType) (code : ThreadCode) (registers : Registers) (caller : Caller) (plan : Planned) (old new : List Signal) (c : Requests)
+    (done : ℕ) : Type 0 where
+  pub start : Requests
+  pub with_start : List Signal
+  pub whole : BankRequests
+  pub with_whole : List Signal
+  pub one_each : List Spread
+  pub are_one_each : AreOneEach (length globals) one_each
+  pub begins : BeginsAsking old with_start caller.served (map width_of globals) start
+  pub met : AllNamed code registers (length code.stages) with_start start.barrier.object
+  pub asks : AsksAll globals one_each code registers caller plan with_start with_whole start (with_banks c whole) done
+  pub spreads : SpreadsRequests registers.spreads with_whole new whole c.banks
+
+-- the banks of each global stand behind those before it, and there is an input for each bank
+pub record FitSpreads (globals : List IntegerType) (registers : Registers) : Type 0 where
+  pub count : length registers.spreads ≡ length globals
+  pub firsts : (x : ℕ) (s : Spread) → slice_get registers.spreads x ≡ Some s → s.first ≡ bank_total (take x registers.spreads)
+  pub words : length registers.words ≡ bank_total registers.spreads
+
+-- and they stand
+pub record AsksBanks (globals : List IntegerType) (code : ThreadCode) (registers : Registers) (caller : Caller) (plan : Planned) (old new : List Signal) (c : Requests)
+    (done : ℕ) : Type 0 where
+  pub asks : AsksGlobals globals code registers caller plan old new c done
+  pub wired : 1 ≤ caller.served.printer.site_width → caller.served.printer.site_width ≤ 64 → FitStates registers plan → FitSpreads globals registers →
+      (base : Base) (bits wide own : List Held) → AreSlots base old code registers → HaveBankWidths globals registers.spreads bits wide own →
+      length bits ≡ length registers.words → length wide ≡ length registers.words → length own ≡ length registers.words →
+      KeepsAskLinks base code registers caller.served globals registers.spreads bits wide own old new c × IsEarlier new base done 1
 
 -- ---- which of the cores that acts ask are open
 
@@ -145,8 +183,6 @@ pub record LaysEarly (globals : List IntegerType) (code : ThreadCode) (registers
   pub free : List ℕ
   pub bank_opens : List ℕ
   pub acts : Acts
-  pub start : Requests
-  pub with_start : List Signal
   pub held : ℕ
   pub with_asks : List Signal
   pub with_needs : List Signal
@@ -154,9 +190,7 @@ pub record LaysEarly (globals : List IntegerType) (code : ThreadCode) (registers
   pub with_open : List Signal
   pub with_acts : List Signal
   pub with_lost : List Signal
-  pub begins : BeginsAsking old with_start caller.served (map held_width registers.words) start
-  pub met : AllNamed code registers (length code.stages) with_start start.barrier.object
-  pub asks : AsksAll globals registers.spreads code registers caller plan with_start with_asks start early.requests early.done
+  pub asked : AsksGlobals globals code registers caller plan old with_asks early.requests early.done
   pub holds : NeedsMore registers (FitStages registers code plan) (IsNeedOfFirst registers code plan (length code.stages)) with_asks with_needs early.done
       held
   pub frees : MakesBits with_needs with_free (length (spread_out registers.spreads granted)) free (NotOf (spread_out registers.spreads granted))
@@ -173,7 +207,8 @@ pub record LaysEarlyWired (globals : List IntegerType) (code : ThreadCode) (regi
     (early : Early) : Type 0 where
   pub lays : LaysEarly globals code registers granted caller plan old new early
   pub wired : 1 ≤ caller.served.printer.site_width → caller.served.printer.site_width ≤ 64 → (base : Base) (bits wide own : List Held) → FitStates registers plan →
-      AreSlots base old code registers → AreBitsOf base old (spread_out registers.spreads granted) → length (spread_out registers.spreads granted) ≡ length registers.words →
+      FitSpreads globals registers → AreSlots base old code registers → AreBitsOf base old (spread_out registers.spreads granted) →
+      length (spread_out registers.spreads granted) ≡ length registers.words →
       HaveBankWidths globals registers.spreads bits wide own → HaveWidths bits (replicate (length (map held_width registers.words)) 1) →
       HaveWidths wide (replicate (length (map held_width registers.words)) 64) → HaveWidths own (map held_width registers.words) →
       ((x w : ℕ) → slice_get (map held_width registers.words) x ≡ Some w → (1 ≤ w) × (w ≤ 64)) → AreEarly base old new early code registers caller.served globals bits wide own

@@ -4,10 +4,11 @@ ghost use Rattle.std.specs.Prelude.{◌≡◌, ◌∷◌, [], ◌++◌, true, le
 ghost use Rattle.hls_ints.specs.Types.{width_of};
 ghost use Rattle.thread_slots.specs.Bits.{MakesAny, AddsAny};
 ghost use Rattle.thread_slots.specs.Services.{if_ids};
-ghost use Rattle.thread_requests.specs.Early.{BeginsRequests, OpensBanks, OpensActs, OpensObjects, IsLost, LaysEarlyWired, copies_of, held_width, spread_out, wants_of};
+ghost use Rattle.thread_requests.specs.Early.{BeginsRequests, AsksBanks, OpensBanks, OpensActs, OpensObjects, IsLost, LaysEarlyWired, copies_of, spread_out, wants_of};
 
+use crate::banks::{one_bank_each, spread_places, spread_requests};
 use bank_partition::banks::Spread;
-use block_datapath::registers::{Held, Registers};
+use block_datapath::registers::Registers;
 use block_ir::code::ThreadCode;
 use block_ir::plan::Planned;
 use hls_ints::CType;
@@ -35,6 +36,14 @@ pub struct Early {
     pub need: usize,
     /// Whether the slot is at the end.
     pub done: usize,
+}
+
+/// What all stages ask.
+#[derive(Drop)]
+struct Asked {
+    requests: Requests,
+    /// Whether the slot is at the end.
+    done: usize,
 }
 
 /// The cores that acts ask.
@@ -76,17 +85,7 @@ pub fn lay_early(
     ensures { IfOk result (LaysEarlyWired globals.now code.now registers.now granted.now caller planned.now wires.old.signals wires.new.signals) }
 {
     let spreads = registers.spreads.as_slice();
-    let mut requests = begin_requests(wires, registers, code, caller.served)?;
-    let done = ask_stages(
-        wires,
-        registers,
-        &mut requests,
-        code,
-        globals,
-        spreads,
-        caller,
-        planned,
-    )?;
+    let Asked { requests, done } = ask_banks(wires, registers, code, globals, caller, planned)?;
     let held = need_stages(wires, registers, code, planned, done)?;
     let wants = requests.banks.wants.as_slice();
     let mut opens = open_banks(wires, spreads, granted, wants)?;
@@ -107,16 +106,46 @@ pub fn lay_early(
     })
 }
 
-/// Nobody is asked. At the meeting of a wait the barrier is named at which the thread meets others.
+/// What all stages ask, bank by bank.
+fn ask_banks(
+    wires: &mut Wires,
+    registers: &Registers,
+    code: &ThreadCode,
+    globals: &[CType],
+    caller: Caller,
+    planned: &Planned,
+) -> Result<Asked, AllocError>
+    ensures { IfOk result (λ asked. AsksBanks globals.now code.now registers.now caller planned.now wires.old.signals wires.new.signals asked.requests asked.done) }
+{
+    let whole = one_bank_each(wires.alloc, globals.len())?;
+    let mut requests = begin_requests(wires, registers, code, globals, caller.served)?;
+    let done = ask_stages(
+        wires,
+        registers,
+        &mut requests,
+        code,
+        globals,
+        whole.as_slice(),
+        caller,
+        planned,
+    )?;
+    let banks = spread_requests(wires, registers.spreads.as_slice(), &requests.banks)?;
+    requests.banks = banks;
+    Ok(Asked { requests, done })
+}
+
+/// Nobody is asked, of globals as wide as their types. At the meeting of a wait the barrier is named at which the thread meets
+/// others.
 fn begin_requests(
     wires: &mut Wires,
     registers: &Registers,
     code: &ThreadCode,
+    globals: &[CType],
     served: Served,
 ) -> Result<Requests, AllocError>
-    ensures { IfOk result (BeginsRequests code.now registers.now served wires.old.signals wires.new.signals) }
+    ensures { IfOk result (BeginsRequests code.now registers.now served (map width_of globals.now) wires.old.signals wires.new.signals) }
 {
-    let words = held_widths(wires.alloc, registers.words.as_slice())?;
+    let words = global_widths(wires.alloc, globals)?;
     let mut requests = Requests::begin(wires, served, words.as_slice())?;
     let met = name_met(wires, registers, code)?;
     requests.barrier.object = met;
@@ -184,7 +213,7 @@ fn open_banks(
 ) -> Result<Items<usize>, AllocError>
     ensures { IfOk result (OpensBanks spreads.now granted.now wants.now wires.old.signals wires.new.signals) }
 {
-    let marks = marks(wires.alloc, spreads, granted)?;
+    let marks = spread_places(wires.alloc, spreads, granted)?;
     let free = not_each(wires, marks.as_slice())?;
     both_each(wires, wants, free.as_slice())
 }
@@ -214,35 +243,14 @@ fn all_wants(alloc: Global, requests: &Requests) -> Result<Items<usize>, AllocEr
     Ok(wants)
 }
 
-fn held_widths(alloc: Global, words: &[Held]) -> Result<Items<u64>, AllocError>
-    ensures { IfOk result (λ widths. widths ≡ map held_width words.now) }
+fn global_widths(alloc: Global, globals: &[CType]) -> Result<Items<u64>, AllocError>
+    ensures { IfOk result (λ widths. widths ≡ map width_of globals.now) }
 {
     let mut widths = Items::new(alloc);
-    for word in words {
-        widths.push(word.width)?;
+    for ty in globals {
+        widths.push(u64::from(ty.bits()))?;
     }
     Ok(widths)
-}
-
-/// For each bank the bit of its global.
-fn marks(alloc: Global, spreads: &[Spread], granted: &[usize]) -> Result<Items<usize>, AllocError>
-    ensures { IfOk result (λ marks. marks ≡ spread_out spreads.now granted.now) }
-{
-    let mut marks = Items::new(alloc);
-    for (number, spread) in spreads.iter().enumerate() {
-        let copies = mark_copies(alloc, mark_at(granted, number), spread.count)?;
-        marks.append(copies)?;
-    }
-    Ok(marks)
-}
-
-fn mark_copies(alloc: Global, mark: Option<usize>, count: u64) -> Result<Items<usize>, AllocError>
-    ensures { IfOk result (λ copies. copies ≡ copies_of count mark) }
-{
-    match mark {
-        Some(mark) => Ok(Items::from_vec(vec![in alloc; mark; count as usize]?)),
-        None => Ok(Items::new(alloc)),
-    }
 }
 
 /// For each bank the width of its words: that of its global's elements.
@@ -271,12 +279,6 @@ fn width_copies(alloc: Global, ty: Option<CType>, count: u64) -> Result<Items<u6
         }
         None => Ok(Items::new(alloc)),
     }
-}
-
-fn mark_at(granted: &[usize], number: usize) -> Option<usize>
-    ensures { result ≡ slice_get granted.now number }
-{
-    granted.get(number).copied()
 }
 
 fn type_at(globals: &[CType], number: usize) -> Option<CType>

@@ -145,7 +145,8 @@ fn add_banks(
     Ok(())
 }
 
-fn place_at(places: &[usize], number: usize) -> usize
+/// The place of a number, or 0.
+pub fn place_at(places: &[usize], number: usize) -> usize
     ensures { result ≡ slice_index places.now number }
 {
     places.get(number).copied().unwrap_or(0)

@@ -42,7 +42,7 @@ use Rattle.thread_runs.proofs.Unasked.{asked_as}
 use Rattle.thread_layout.proofs.Cores.{HasKind, kind_there}
 use Rattle.thread_layout.proofs.Placed.{stands_copies, from_inside, from_rest, fields_count, field_stands, done_stands, got_any}
 use Rattle.thread_slots.proofs.Putting.{off_stores}
-use Rattle.thread_layout.proofs.Raising.{from_asks}
+use Rattle.thread_layout.proofs.Raising.{from_whole}
 use Rattle.thread_states.proofs.Acting.{leaves_later}
 use Rattle.thread_layout.proofs.Losing.{found_not_lost, unasked_not_lost}
 use Rattle.thread_layout.proofs.Quiet.{ask_now, target, called}
@@ -176,8 +176,8 @@ module _ (shape : Shape) (code : ThreadCode) (plan : Planned) (m : Module) (t : 
   -- an act that asks core k
   module _ (r : Reading) (q : Slot) (a : Act) (next : ℕ) (call : Call) (k : ℕ) (o : Obeys m r) (shows : Shows r q)
       (listed : slice_get code.stages q.stage ≡ Some (stage.Act a next)) (is_call : request_of shape.is_main a ≡ Some call) (own : HasKind banks shape.served call.service k) where
-    start_fields : length (group t.laid.early.start call.service).fields ≡ suc (value_count shape.served call.service)
-    start_fields = t.laid.early.begins.counts call.service
+    start_fields : length (group t.laid.early.asked.start call.service).fields ≡ suc (value_count shape.served call.service)
+    start_fields = t.laid.early.asked.begins.counts call.service
 
     pub number_is : call.number < 2 ^ number_width shape.served call.service → r.signal (port_at shape m k 1) ≡ call.number
     number_is fits =
@@ -286,7 +286,7 @@ module _ (shape : Shape) (code : ThreadCode) (plan : Planned) (m : Module) (t : 
       ≡ bit_of (nat_eq q.stage (length code.stages))
   done_so r q o shows =
       stands_copies m r (done_at shape m) 1 t.inside.early.done o (done_stands shape code plan m t served)
-      ∙ t.laid.early.asks.done_is m r (from_asks shape code plan m t served) o (knows shape code plan m t served r o)
+      ∙ t.laid.early.asked.asks.done_is m r (from_whole shape code plan m t served) o (knows shape code plan m t served r o)
       ∙ ap (λ n. bit_of (nat_eq n (length code.stages))) (stage_shown shape code plan m t served r o q shows)
 
   -- past the last stage nothing follows

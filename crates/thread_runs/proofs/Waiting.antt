@@ -41,7 +41,7 @@ use Rattle.thread_layout.proofs.News.{news_input, bar_told, ids_told, HasNews, n
 use Rattle.thread_layout.proofs.Opened.{from_acts, has_object}
 use Rattle.thread_layout.proofs.Placed.{stands_fits, from_inside, from_rest, from_told}
 use Rattle.thread_layout.proofs.Quiet.{ask_now, target, from_start as first_later}
-use Rattle.thread_layout.proofs.Raising.{from_asks}
+use Rattle.thread_layout.proofs.Raising.{from_whole}
 use Rattle.thread_layout.proofs.Shown.{Shows}
 use Rattle.thread_layout.proofs.Sight.{shown_last, waits_last, stored, does, still, knows, stage_shown, sees_variables, enabled}
 use Rattle.thread_layout.proofs.Tellings.{bar_wide, run_wide, argument_wide}
@@ -139,9 +139,9 @@ module _ (shape : Shape) (code : ThreadCode) (plan : Planned) (m : Module) (t : 
     -- the barrier is named
     named : r.signal t.inside.early.requests.barrier.object ≡ n
     named =
-        ((t.laid.early.asks.beyond m r (from_asks shape code plan m t served) o t.laid.early.begins.bits (knows shape code plan m t served r o)
+        ((t.laid.early.asked.asks.beyond m r (from_whole shape code plan m t served) o t.laid.early.asked.begins.bits (knows shape code plan m t served r o)
         (λ k less is. absurd (let same : meeting rest l ≡ k = sym meets_here ∙ is in omega arith))).requests Barriers).object
-        ∙ t.laid.early.met l (stage.Act (BarrierWait b) next) below listed b next refl m r q.variables
+        ∙ t.laid.early.asked.met l (stage.Act (BarrierWait b) next) below listed b next refl m r q.variables
         (first_later shape code plan m t served) o (knows shape code plan m t served r o) meets_here (sees_variables shape code plan m t served r o q shows)
         (served.typed l (BarrierWait b) next (call_of Barriers 1 (b ∷ [])) listed refl 0 b refl)
         ∙ names

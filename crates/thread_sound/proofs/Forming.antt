@@ -40,7 +40,6 @@ use Rattle.thread_slots.specs.Services.{service_of, services, number_width}
 use Rattle.thread_slots.specs.declared.shape.Shape.{Shape}
 use Rattle.thread_slots.specs.Bits.{AreBitsOf}
 use Rattle.thread_slots.specs.Slots.{StandsAt}
-use Rattle.thread_requests.specs.Early.{held_width}
 use Rattle.core_ports.specs.Ports.{asks_of, thread_outputs}
 use Rattle.thread_requests.specs.declared.outputs.Row.{Row}
 use Rattle.thread_requests.specs.Outputs.{CopiesAt, rows_at, fields_from}
@@ -57,7 +56,7 @@ use Rattle.thread_slots.proofs.Laying.{stands_later}
 use Rattle.thread_slots.proofs.Wiring.{name_tells, name_differs}
 use Rattle.thread_layout.proofs.Opened.{wired}
 use Rattle.thread_layout.proofs.Resting.{mark_at}
-use Rattle.thread_layout.proofs.Placed.{from_inside, from_control, from_heard, from_early, from_slot, from_inputs, from_ports, inputs_long, registers_long, cores, words_count}
+use Rattle.thread_layout.proofs.Placed.{from_inside, from_control, from_heard, from_early, from_slot, from_inputs, from_ports, inputs_long, registers_long, cores, words_count, banks_many}
 use Rattle.thread_layout.proofs.Placed.{opens_count, first_stage, got_any, enable_at, enable_stands, grant_at, grant_stands, stage_at, stage_stands, state_at, state_stands, beat_at}
 use Rattle.thread_layout.proofs.Placed.{beat_stands, variable_held, kept_held, mark_held, variables_at, kept_at, granted_at, before_outputs, bank_outputs}
 use Rattle.thread_layout.proofs.Placed.{HasBankOutputs, ask_stands, field_stands, need_stands, done_stands, all_long, ports_count, rows, widths_are, bank_listed, act_listed, own_act_rows, ports_long}
@@ -365,9 +364,7 @@ module _ (shape : Shape) (code : ThreadCode) (plan : Planned) (m : Module) (t : 
       subst (λ z. IsEarlier t.laid.with_early before (slice_index ys k) z) (wide h.0 h.1) (chains.each k (slice_index ys k) h.0 h.1 (index_there ys k less))
 
   chain_counts : AreAsMany banks t.inside.early.requests.banks
-  chain_counts =
-      subst (λ z. AreAsMany z t.inside.early.requests.banks) (length-map t.inside.slot.words held_width ∙ counted)
-      (t.laid.early.asks.many.banks (length (map held_width t.inside.slot.words)) t.laid.early.begins.many)
+  chain_counts = banks_many shape code plan m t served
 
   -- number j of the ports of bank k, whose words have this width
   bank_part : (x k j w : ℕ) → k < banks → HasBankOutputs m.signals (port_at shape m k) t.edge.asks t.inside.early.requests.banks k w → HasWidthAt inner.own k w → j < 4

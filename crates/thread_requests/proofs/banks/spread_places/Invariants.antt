@@ -1,6 +1,6 @@
 use Rattle.std.proofs.Common.{◌≡◌, take}
 use Rattle.thread_requests.specs.Early.{spread_out}
-use Rattle.thread_requests.proofs.early.marks.Given as goal
+use Rattle.thread_requests.proofs.banks.spread_places.Given as goal
 
 abbrev pub invariant-loop-number : goal.invariant-loop-number
-invariant-loop-number l = l.marks ≡ spread_out (take l.number l.spreads) l.granted
+invariant-loop-number l = l.all ≡ spread_out (take l.number l.spreads) l.places
