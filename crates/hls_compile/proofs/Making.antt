@@ -32,7 +32,7 @@ use Rattle.thread_bodies.specs.Modules.{AreLaid, name_of, module_shape, bodies_o
 use Rattle.thread_bodies.proofs.Served.{codes_are_served}
 use Rattle.hls_compile.specs.Banks.{AreBanksOf}
 use Rattle.hls_compile.specs.Plans.{RunsPlanned, RunPlanned}
-use Rattle.hls_compile.proofs.Found.{first_named}
+use Rattle.program_parts.proofs.Found.{first_named}
 
 -- a program within the limits has few threads
 pub few_threads : (P : Program) → first_passed P ≡ None → thread_count P ≤ 64

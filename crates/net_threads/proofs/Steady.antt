@@ -184,7 +184,7 @@ module _ (t : Table) (modules : ℕ → Module) (leaves : ℕ → LeafPorts) (n 
       whole.once.once k whole.printer.place there.0 whole.printer.core there.1 whole.printer.listed
       (two_printers there.0 whole.printer.core p whole.printer.shape (sym there.2) whole.printer.is)
 
-  is_steady : IsSteady (threads layout) (cores layout) thread_machines core_machines (places_of t modules leaves) n.modules top
+  pub is_steady : IsSteady (threads layout) (cores layout) thread_machines core_machines (places_of t modules leaves) n.modules top
   is_steady = record {
     net = is.net;
     some = some_thread;

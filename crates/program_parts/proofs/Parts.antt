@@ -1,5 +1,5 @@
 -- What is made of a program is what its machine is built of, and the text that is written of it is good.
-use Rattle.std.proofs.Common.{◌≡◌, ℕ, zero, suc, ◌<◌, ◌≤◌, Bool, true, false, nat_eq, List, [], ◌∷◌, length, map, get_or, Option, Some, None, codes}
+use Rattle.std.proofs.Common.{◌≡◌, ℕ, zero, suc, ◌<◌, ◌≤◌, Bool, true, false, nat_eq, List, [], ◌∷◌, ◌++◌, length, map, get_or, Option, Some, None, codes}
 use Rattle.std.proofs.Common.{refl, sym, ap, ◌∙◌, subst, inl, inr, ⊎_elim, arith}
 use Rattle.std.specs.Prelude.{slice_get, slice_index}
 use Rattle.std.proofs.lemmas.Bool.{cases_lt}
@@ -7,7 +7,7 @@ use Rattle.std.proofs.lemmas.Bool.Decides.{nat_tests}
 use Rattle.std.proofs.lemmas.List.{length-map}
 use Rattle.std.proofs.lemmas.Option.{none-some, same_Some, slice_get-get_or, slice_get_within}
 use Rattle.hls_ints.specs.Residues.{bit_of}
-use Rattle.lists.proofs.Places.{get_there}
+use Rattle.lists.proofs.Places.{get_there, get_front}
 use Rattle.c_program.specs.Tree.{Program}
 use Rattle.c_program.specs.Resolved.{IsResolved}
 use Rattle.c_program.specs.Weight.{thread_count, thread_functions, hardware_routines}
@@ -16,9 +16,8 @@ use Rattle.bank_partition.specs.declared.banks.Spread.{Spread}
 use Rattle.block_refine.specs.Routines.{RoutineCode}
 use Rattle.netlist.specs.declared.netlist.Module.{Module}
 use Rattle.netlist.specs.declared.netlist.Netlist.{Netlist}
-use Rattle.verilog_meaning.specs.Readings.{Reading, next_reading}
-use Rattle.verilog_meaning.specs.Threads.{IsThreaded}
-use Rattle.circuit.specs.Modules.{Obeys, Agree}
+use Rattle.verilog_meaning.specs.Cycles.{module_at}
+use Rattle.verilog_meaning.specs.Threads.{slot, IsThreaded}
 use Rattle.leaf_machine.specs.Leaves.{IsSlotBit, IsThreadLeaf}
 use Rattle.leaf_machine.specs.Steady.{IsSteadyThread, IsSteadyMain}
 use Rattle.core_ports.specs.Ports.{CorePort, IsRoutineModule}
@@ -26,9 +25,13 @@ use Rattle.core_family.specs.Family.{CoreShape, machine_at, port_of}
 use Rattle.net_tables.specs.Tables.{PlacedCore, Table, IsArbiterModule, shapes_of}
 use Rattle.net_tables.specs.Tables as table
 use Rattle.net_tables.specs.Whole.{IsThreadName, IsWholeTable, AreThreads}
+use Rattle.net_tables.specs.Nets.{IsNetOfTable}
 use Rattle.net_tables.proofs.Netting.{tables_are_nets}
 use Rattle.net_threads.specs.Threads.{AreSteady}
 use Rattle.net_threads.proofs.Steady.{net_of_table_is_threaded}
+use Rattle.net_grants.specs.Grants.{IsGranting}
+use Rattle.net_grants.specs.Laws.{TurnsBeat}
+use Rattle.net_grants.proofs.Tables.{net_of_table_grants}
 use Rattle.placed_cores.specs.declared.wanted.Wanted.{Wanted}
 use Rattle.placed_cores.specs.Placing.{cores_of, placed}
 use Rattle.placed_cores.proofs.Placing.{cores_are_placed}
@@ -51,9 +54,11 @@ use Rattle.table_net.proofs.Wholes.{laid_tables_are_whole}
 use Rattle.table_net.proofs.Good.{each_thread_stands, laid_tables_are_good, placed_tables_are_laid}
 use Rattle.program_cores.specs.Cores.{AreCoresOf}
 use Rattle.thread_numbers.specs.Numbers.{place_in, module_numbers, has_idle, function_module}
-use Rattle.program_parts.specs.Parts.{ThreadBody, no_code, code_at, codes_of, body_of, parts_of, core_count, ports_of, numbers_of, IsBody, AreBodies, IsGoodText, PartsAreGood}
+use Rattle.program_parts.specs.Parts.{ThreadBody, no_code, code_at, codes_of, body_of, parts_of, core_count, ports_of, numbers_of, IsBody, AreBodies}
+use Rattle.program_parts.specs.Parts.{thread_module, HaveModules, IsGoodText, PartsAreGood}
 use Rattle.thread_numbers.proofs.Numbers as numbers
 use Rattle.program_parts.proofs.Names.{same_function, not_idle, function_named, idle_named}
+use Rattle.program_parts.proofs.Found.{first_named}
 
 -- ---- lists
 
@@ -118,6 +123,7 @@ module _ (P : Program) (spreads : List Spread) (w : Wanted) (made : List Routine
     is_code : codes_of P spreads w made bodies (routine_of P i) ≡ code
     name : List ℕ
     named : IsThreadName name
+    is_name : (o : Option ℕ) → slice_get HR i ≡ Some o → name ≡ thread_module P o
     body : IsBody P spreads w (nat_eq i 0) code name (bodies number)
 
   runner_by : (i : ℕ) (o : Option (Option ℕ)) → slice_get HR i ≡ o → i < thread_count P → Runner i
@@ -134,6 +140,7 @@ module _ (P : Program) (spreads : List Spread) (w : Wanted) (made : List Routine
         is_code = ap (codes_of P spreads w made bodies) is ∙ code_there made (place_in FS f) c.0 c.1;
         name = function_module P f;
         named = function_named P f;
+        is_name = λ o d. ap (thread_module P) (same_Some (Some f) o (sym e ∙ d));
         body = subst (λ b. IsBody P spreads w b c.0 (function_module P f) (bodies (place_in FS f))) (numbers.is_first P R i (Some f) e)
             (are.each (place_in FS f) f c.0 place c.1);
       }
@@ -150,6 +157,7 @@ module _ (P : Program) (spreads : List Spread) (w : Wanted) (made : List Routine
         is_code = ap (codes_of P spreads w made bodies) is ∙ none_code (length P.functions) (numbers.no_place P R);
         name = codes "idle";
         named = idle_named;
+        is_name = λ o d. ap (thread_module P) (same_Some None o (sym e ∙ d));
         body = subst (λ b. IsBody P spreads w b no_code (codes "idle") (bodies (length FS))) (numbers.idle_not_first P R i e)
             (subst (λ k. IsBody P spreads w false no_code (codes "idle") (bodies k)) same (are.idle on));
       }
@@ -189,10 +197,13 @@ module _ (P : Program) (spreads : List Spread) (w : Wanted) (made : List Routine
       }
 
   abbrev Turns : ThreadBody → Type 0
-  Turns b = (r : Reading) → Obeys b.body r → (next_reading b.body r).signal b.places.beat ≡ r.signal b.places.beat → Agree b.body r (next_reading b.body r)
+  Turns b = TurnsBeat b.body b.places.beat
+
+  turning : (i : ℕ) → i < w.threads → TurnsBeat (K.modules i) (K.places i).beat
+  turning i l = of_thread i l Turns (runner i l).body.beats
 
   turns : TurnsBeats K
-  turns i r l obeys same = of_thread i l Turns (runner i l).body.beats r obeys same
+  turns i r l obeys same = (turning i l).turns r obeys same
 
   -- ---- the table
 
@@ -358,6 +369,41 @@ module _ (P : Program) (spreads : List Spread) (w : Wanted) (made : List Routine
           (subst (λ k. IsSteadyMain (core_count w) (bodies k).body (bodies k).leaf) (sym first_number) are.main));
     }
 
+    -- ---- the module of each thread
+
+    abbrev top : Module
+    top = is.written.wired.top
+
+    net : IsNetOfTable t K.modules K.leaves n top
+    net = tables_are_nets t K.modules K.leaves n whole stand is.written.wired
+
+    in_net : (number : ℕ) (m : Module) → slice_get routines number ≡ Some m → slice_get n.modules number ≡ Some m
+    in_net number m e =
+        let given : List Module = routines ++ is.arbiter ∷ is.kinds in
+        ap (λ (ms : List Module). slice_get ms number) is.written.wired.are
+        ∙ get_front (given ++ top ∷ []) (is.written.wired.round ∷ []) number m
+        (get_front given (top ∷ []) number m (get_front routines (is.arbiter ∷ is.kinds) number m e))
+
+    have : HaveModules P n top
+    have i o e =
+        let l : i < w.threads = (let b = slice_get_within HR i o e in let c = routines_count P in let s = cores.threads in omega (arith, b, c, s)) in
+        let r = runner i l in
+        let own = (bodies r.number).body in
+        let there = routine_there r.number r.below in
+        let slot_number : i < length t.threads = (let c = threads_count in omega (arith, c, l)) in (
+          own,
+          first_named n.modules r.number own (thread_module P o) (in_net r.number own there) (r.body.routine.named ∙ r.is_name o e)
+              (λ j other less d same.
+              let m = get_there routines j (let b = r.below in omega (arith, b, less)) in
+              let one : m.0 ≡ other = same_Some m.0 other (sym (in_net j m.0 m.1) ∙ d) in
+              let place : j ≡ r.number = have_threads.apart j r.number m.0 own m.1 there
+              (ap (λ (x : Module). x.name) one ∙ same ∙ sym (r.body.routine.named ∙ r.is_name o e)) in
+              absurd (let no : 1 ≤ 0 = omega (arith, less, place) in omega (arith, no))),
+          subst (λ (k : ℕ). module_at n.modules top (slot n.modules top k i) ≡ Some own) (numbers.count P R)
+              (ap (module_at n.modules top) (net.slots i slot_number) ∙ net.runs i slot_number
+              ∙ ap Some (of_thread i l (λ (b : ThreadBody). b.body ≡ own) refl)),
+        )
+
     good : IsGoodText P n text
     good =
         let law = laid_tables_are_good P K t n is.net text is_built turns laid is.written in
@@ -365,11 +411,13 @@ module _ (P : Program) (spreads : List Spread) (w : Wanted) (made : List Routine
           good = law.good;
           net = subst (λ k. IsNetOf k n text) cores.threads law.net;
           threaded = record {
-            top = is.written.wired.top;
-            is_top = (tables_are_nets t K.modules K.leaves n whole stand is.written.wired).is_top;
-            threaded = subst (λ k. IsThreaded n.modules is.written.wired.top k) (numbers.count P R)
-                (net_of_table_is_threaded t K.modules K.leaves n whole stand steady is.written.wired);
+            top = top;
+            is_top = net.is_top;
+            threaded = subst (λ k. IsThreaded n.modules top k) (numbers.count P R) (net_of_table_is_threaded t K.modules K.leaves n whole stand steady is.written.wired);
+            granting = subst (λ k. IsGranting n.modules top k) (numbers.count P R)
+                (net_of_table_grants t K.modules K.leaves (λ i. (K.places i).beat) n whole stand steady (λ i l. turning i (in_table i l)) is.written.wired);
           };
+          modules = have;
         }
 
 pub parts_are_good : PartsAreGood

@@ -1,18 +1,17 @@
 -- The parts of a program's hardware, of what is made of the program: the codes of its thread functions with their plans, a module for each of them, and
 -- the cores.
-use Rattle.std.specs.Prelude.{◌≡◌, ℕ, zero, suc, ◌+◌, Bool, true, false, nat_eq, List, [], ◌∷◌, length, map, Some, None, slice_get, slice_index, codes}
+use Rattle.std.specs.Prelude.{◌≡◌, ℕ, zero, suc, ◌+◌, Bool, true, false, nat_eq, List, [], ◌∷◌, length, map, Option, Some, None, slice_get, slice_index, codes}
 use Rattle.hls_ints.specs.Residues.{bit_of}
 use Rattle.c_program.specs.Tree.{Program}
 use Rattle.c_program.specs.Resolved.{IsResolved}
-use Rattle.c_program.specs.Weight.{thread_count, thread_functions}
+use Rattle.c_program.specs.Weight.{thread_count, thread_functions, hardware_routines}
 use Rattle.bank_partition.specs.declared.banks.Spread.{Spread}
 use Rattle.block_refine.specs.Routines.{RoutineCode, Codes}
 use Rattle.netlist.specs.declared.netlist.Module.{Module}
 use Rattle.netlist.specs.declared.netlist.Netlist.{Netlist}
-use Rattle.verilog_meaning.specs.Names.{top_of}
-use Rattle.verilog_meaning.specs.Readings.{Reading, next_reading}
-use Rattle.verilog_meaning.specs.Threads.{IsThreaded}
-use Rattle.circuit.specs.Modules.{Obeys, Agree}
+use Rattle.verilog_meaning.specs.Names.{module_named, top_of}
+use Rattle.verilog_meaning.specs.Cycles.{module_at}
+use Rattle.verilog_meaning.specs.Threads.{slot, IsThreaded}
 use Rattle.leaf_machine.specs.Leaves.{LeafPorts, IsThreadLeaf, IsSlotBit}
 use Rattle.leaf_machine.specs.Steady.{IsSteadyThread, IsSteadyMain}
 use Rattle.core_ports.specs.Ports.{CorePort, IsRoutineModule}
@@ -27,6 +26,8 @@ use Rattle.net_cycle.specs.Built.{Parts}
 use Rattle.table_refine.specs.Wired.{promised_ports}
 use Rattle.routine_plans.specs.Plans.{IsRoutine}
 use Rattle.good_verilog.specs.GoodVerilog.{IsGoodVerilog}
+use Rattle.net_grants.specs.Grants.{IsGranting}
+use Rattle.net_grants.specs.Laws.{TurnsBeat}
 use Rattle.table_text.specs.Written.{IsTextOf}
 use Rattle.table_net.specs.Texts.{IsNetOf}
 use Rattle.program_cores.specs.Cores.{AreCoresOf}
@@ -96,7 +97,7 @@ pub record IsBody (P : Program) (spreads : List Spread) (w : Wanted) (main : Boo
   pub leaf : IsThreadLeaf b.body b.inputs b.leaf (core_count w) (λ k. (machine_at (cores_of w) k).parts) (λ k. (machine_at (cores_of w) k).told)
   pub done : IsSlotBit b.body b.inputs b.leaf (core_count w) (λ k. (machine_at (cores_of w) k).parts) (λ k. (machine_at (cores_of w) k).told) b.leaf.done
   pub runs : (f : ℕ) → RunsCode (globals_of P) spreads (numbers_of w) main f c.code c.plan b.body b.places (promised_ports b.leaf)
-  pub beats : (r : Reading) → Obeys b.body r → (next_reading b.body r).signal b.places.beat ≡ r.signal b.places.beat → Agree b.body r (next_reading b.body r)
+  pub beats : TurnsBeat b.body b.places.beat
   pub steady : IsSteadyThread (core_count w) b.body b.leaf
 
 -- the code of each thread function, in their order, by a right plan, and a module for each; and one for threads without a function, where there are such
@@ -112,16 +113,30 @@ pub record AreBodies (P : Program) (spreads : List Spread) (w : Wanted) (made : 
 
 -- ---- the whole
 
--- a netlist of so many threads is threaded: what their modules do while they need no core hangs on nothing outside them
+-- a netlist of so many threads is threaded: what their modules do while they need no core hangs on nothing outside them; and in each of its cycles a core
+-- changes only where it grants a thread, which needs it, and whose slot changes
 pub record IsThreadedNet (n : Netlist) (threads : ℕ) : Type 0 where
   pub top : Module
   pub is_top : top_of n.modules ≡ Some top
   pub threaded : IsThreaded n.modules top threads
+  pub granting : IsGranting n.modules top threads
+
+-- the module of a thread that runs a function, or none
+abbrev pub thread_module : Program → Option ℕ → List ℕ
+thread_module P None = codes "idle"
+thread_module P (Some f) = function_module P f
+
+-- each thread's instance is one of the module of its function, or of `idle`
+abbrev pub HaveModules : Program → Netlist → Module → Type 0
+HaveModules P n top =
+    (i : ℕ) (o : Option ℕ) → slice_get (hardware_routines P) i ≡ Some o →
+    (m : Module) × (module_named n.modules (thread_module P o) ≡ Some m) × (module_at n.modules top (slot n.modules top (thread_count P) i) ≡ Some m)
 
 pub record IsGoodText (P : Program) (n : Netlist) (text : List ℕ) : Type 0 where
   pub good : IsGoodVerilog P text
   pub net : IsNetOf (thread_count P) n text
   pub threaded : IsThreadedNet n (thread_count P)
+  pub modules : HaveModules P n threaded.top
 
 -- PARTS ARE GOOD: the text that is written of a program's modules and cores is good Verilog of it, and reads as a threaded net
 abbrev pub PartsAreGood : Type 0

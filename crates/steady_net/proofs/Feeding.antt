@@ -91,7 +91,7 @@ module _ (threads cores : ℕ) (T : ℕ → ThreadMachine) (C : ℕ → CoreMach
         fed (p.arbiter_at k) ((p.arbiter k).ask i) a.0 (Port (p.core_at k) ((p.core k).offer i)) a.1 (a.2.ask_inputs i b) (net.offers k i l b)
         ∙ q.2.offers (v (p.core_at k ∷ [])) s (obeys modules top h v c settled (p.core_at k ∷ []) q.0 q.1) shown i b
 
-    grant_is : (i : ℕ) → i < threads → (v (p.arbiter_at k ∷ [])).signal ((p.arbiter k).grant i) ≡ bits.bit_of (is_granted winner i)
+    pub grant_is : (i : ℕ) → i < threads → (v (p.arbiter_at k ∷ [])).signal ((p.arbiter k).grant i) ≡ bits.bit_of (is_granted winner i)
     grant_is i b =
         let a = net.arbiters_stand k l in
         a.2.grants (v (p.arbiter_at k ∷ [])) may_win (obeys modules top h v c settled (p.arbiter_at k ∷ []) a.0 a.1) offer_is i b

@@ -46,7 +46,7 @@ module _ (threads cores : ℕ) (T : ℕ → ThreadMachine) (C : ℕ → CoreMach
         (t.2.keeps (h path) (w path) q.0 (own_holds threads cores T C p modules top steady i b h w d two) q.1)
         (own_enable threads cores T C p modules top steady i b h w d two too) k j l u low)
 
-    part_alike : (k i j : ℕ) (l : k < cores) (b : i < threads) → j < (C k).parts → bit_of c.mask i ≡ 1 → bit_of d.mask i ≡ 1 →
+    pub part_alike : (k i j : ℕ) (l : k < cores) (b : i < threads) → j < (C k).parts → bit_of c.mask i ≡ 1 → bit_of d.mask i ≡ 1 →
         IsAskedBy threads cores T C p modules top k i j →
         (v (p.core_at k ∷ [])).signal ((p.core k).ask j i) ≡ (w (p.core_at k ∷ [])).signal ((p.core k).ask j i)
     part_alike k i j l b low on too (inl f) =
@@ -61,7 +61,7 @@ module _ (threads cores : ℕ) (T : ℕ → ThreadMachine) (C : ℕ → CoreMach
         ∙ sym (fed threads cores T C p modules top steady.net h w d two (p.core_at k) ((p.core k).ask j i) q.0 (Assigned (Constant 0)) q.1 (q.2.ask_inputs j i low b) f.1)
 
     -- so it may be granted the same
-    may_alike : (k i : ℕ) (l : k < cores) (b : i < threads) → bit_of c.mask i ≡ 1 → bit_of d.mask i ≡ 1 →
+    pub may_alike : (k i : ℕ) (l : k < cores) (b : i < threads) → bit_of c.mask i ≡ 1 → bit_of d.mask i ≡ 1 →
         may threads cores T C p modules top steady h v c one k l i ≡ may threads cores T C p modules top steady h w d two k l i
     may_alike k i l b on too =
         ap ((C k).eligible (core_state threads cores T C p modules top steady h v c one k l) i)

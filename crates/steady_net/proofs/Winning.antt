@@ -94,7 +94,7 @@ module _ (threads cores : ℕ) (T : ℕ → ThreadMachine) (C : ℕ → CoreMach
 
   -- ---- who is granted
 
-  wins : (k w : ℕ) (l : k < cores) → granted k l ≡ Some w → Wins k w
+  pub wins : (k w : ℕ) (l : k < cores) → granted k l ≡ Some w → Wins k w
   wins k w l e =
       let g = granted_below threads ((v (p.arbiter_at k ∷ [])).signal (p.arbiter k).preferred) (may k l) w e in
       let a = asks_if k w l g.0 g.1 in

@@ -120,7 +120,9 @@ module _ (P : Program) (spreads : List Spread) (w : Wanted) (cores : AreCoresOf 
           (tells_of (core_ports shape)) (λ k. (machine_at (placing.cores_of w) k).told) parts_same told_same (leaf_of shape m).done (laid.leaf served).done);
       runs = λ f. subst (λ (n : Numbers). RunsCode (globals_of P) spreads n main f c.code c.plan m (places_of (inputs_of shape) c.code c.plan) (promised_ports (leaf_of shape m)))
           same_numbers (laid.serves served f);
-      beats = (laid.steady served).beat;
+      beats =
+          let s = (laid.steady served).stands in
+          record { signal = s.signal; is = s.is; register = s.register; one_bit = s.one_bit; turns = (laid.steady served).beat };
       steady = subst (λ n. IsSteadyThread n m (leaf_of shape m)) count (laid.steady served).steady;
     }
 

@@ -21,7 +21,7 @@ use Rattle.thread_slots.specs.declared.shape.Service.{Service as Kind}
 use Rattle.thread_slots.specs.declared.shape.Service.TheVariants as kind
 use Rattle.thread_sound.specs.Leaf.{parts_of, tells_of}
 use Rattle.thread_layout.specs.Thread.{AreRightSpreads, bank_port, act_port, core_ports}
-use Rattle.thread_layout.proofs.Spreading.{spread_there, spread_count}
+use Rattle.thread_requests.proofs.Spreading.{spread_there, spread_count}
 use Rattle.thread_requests.specs.Early.{spread_out}
 use Rattle.thread_bodies.specs.Bodies.{served_by, shape_of}
 

@@ -15,13 +15,15 @@ use Rattle.planned_view.specs.View.{register_at}
 use Rattle.netlist.specs.declared.netlist.Signal.{Signal}
 use Rattle.netlist.specs.declared.netlist.Source.{Source}
 use Rattle.netlist.specs.declared.netlist.Source.TheVariants as source
+use Rattle.operator_wires.specs.declared.wires.Role.TheVariants.{Beat}
+use Rattle.operator_wires.specs.Built.{Lays}
 use Rattle.operator_wires.specs.Gives.{Grows, Stands}
 use Rattle.operator_wires.proofs.Giving.{grows_refl, grows_then, listed}
 use Rattle.thread_promise.specs.Types.{value_type}
 use Rattle.block_datapath.specs.declared.registers.Held.{Held}
 use Rattle.block_datapath.specs.declared.registers.Registers.{Registers}
 use Rattle.block_datapath.proofs.Walking.{got_before, got_last}
-use Rattle.std.specs.Prelude.{string_bytes}
+use Rattle.std.specs.Prelude.{false, codes, string_bytes}
 use Rattle.thread_slots.specs.Naming.{register_name, LaysNamed, IsNamedAt, AreNamed}
 use Rattle.thread_slots.specs.Slots.{StandsAt, LaysRegister, StandFrom, LaysAll, IsHeldAt, LaysSlot, Widens, HasRoomAt, KeepsOperations}
 
@@ -96,6 +98,10 @@ held_at a b c w initial place h t g e = record {
 named_last : (a b : List Signal) (name : List ℕ) (w : ℕ) (h : Held) → LaysNamed a b name w h → IsNamedAt b (length a) name
 named_last a b name w h t = record { signal = t.signal; listed = ap (λ l. slice_get l (length a)) t.is ∙ got_last a t.signal; named = t.named }
 
+-- the beat
+beat_last : (a b : List Signal) (place : ℕ) → Lays a b Beat 1 false (source.Register 0) place → IsNamedAt b (length a) (codes "beat")
+beat_last a b place t = record { signal = t.signal; listed = ap (λ l. slice_get l (length a)) t.is ∙ got_last a t.signal; named = t.named }
+
 named_later : (a b : List Signal) (place : ℕ) (name : List ℕ) → Grows a b → IsNamedAt a place name → IsNamedAt b place name
 named_later a b place name g t = record { signal = t.signal; listed = listed a b place t.signal g t.listed; named = t.named }
 
@@ -129,11 +135,12 @@ pub slot_laid : (a b c d e f : List Signal) (code : ThreadCode) (plan : Planned)
     types ≡ code.variables → widths ≡ map width_of types → end ≡ length code.stages
     → end + end < 2 ^ stage_width → most ≤ 2 ^ state_width → most < 2 ^ 64 → ((l : ℕ) (p : BlockPlan) → slice_get plans l ≡ Some (planned.Run p) → p.states ≤ most)
     → LaysRegister a b stage_width first registers.stage → LaysRegister b c state_width 0 registers.state → Stands c d 1 (source.Register 0) registers.beat
+    → Lays c d Beat 1 false (source.Register 0) registers.beat
     → LaysAll (source.Register 0) d e widths (length widths) registers.variables → AreNamed e (length d) (map string_bytes code.names) (length widths)
     → LaysAll (source.Register 0) e f kept_widths (length kept_widths) registers.kept
     → LaysSlot code plan first kept_widths words spreads a f registers
 slot_laid a b c d e f code plan first end most stage_width state_width widths kept_widths types plans words spreads registers words_are spreads_are plans_are types_are widths_are
-    end_is room state_room fits states s t u v named w =
+    end_is room state_room fits states s t u called v named w =
     let b_long = stands_long a b stage_width registers.stage.register (source.Register first) s.stands in
     let c_long = stands_long b c state_width registers.state.register (source.Register 0) t.stands in
     let d_long = stands_long c d 1 registers.beat (source.Register 0) u in
@@ -157,6 +164,8 @@ slot_laid a b c d e f code plan first end most stage_width state_width widths ke
       beat_stands =
           subst (λ (x : ℕ). StandsAt f x 1 (source.Register 0)) at_beat
           (stands_later d f (length c) 1 (source.Register 0) from_d (stands_last c d 1 registers.beat (source.Register 0) u));
+      beat_named =
+          subst (λ (x : ℕ). IsNamedAt f x (codes "beat")) at_beat (named_later d f (length c) (codes "beat") from_d (beat_last c d registers.beat called));
       variables_count = v.count ∙ count;
       variables =
           subst (λ (n : ℕ). StandFrom (source.Register 0) f (length a + 3) (map width_of code.variables) registers.variables n) count

@@ -1,5 +1,5 @@
 -- The registers of a slot: where they stand, and how wide they are.
-use Rattle.std.specs.Prelude.{◌≡◌, ℕ, ◌+◌, ◌<◌, ◌≤◌, ◌^◌, List, length, map, Option, Some, slice_get, string_bytes}
+use Rattle.std.specs.Prelude.{◌≡◌, ℕ, ◌+◌, ◌<◌, ◌≤◌, ◌^◌, List, length, map, Option, Some, slice_get, string_bytes, codes}
 use Rattle.hls_ints.specs.Types.{IntegerType, width_of}
 use Rattle.bank_partition.specs.declared.banks.Spread.{Spread}
 use Rattle.block_ir.specs.declared.block.Operation.{Operation}
@@ -21,7 +21,7 @@ use Rattle.block_datapath.specs.declared.registers.Held.{Held}
 use Rattle.block_datapath.specs.declared.registers.Registers.{Registers}
 use Rattle.netlist.specs.declared.netlist.Module.{Module}
 use Rattle.verilog_meaning.specs.Readings.{Reading, width}
-use Rattle.thread_slots.specs.Naming.{AreNamed}
+use Rattle.thread_slots.specs.Naming.{IsNamedAt, AreNamed}
 
 -- a signal of this width stands at a place, driven so
 pub record StandsAt (signals : List Signal) (place w : ℕ) (driver : Source) : Type 0 where
@@ -62,6 +62,7 @@ pub record LaysSlot (code : ThreadCode) (plan : Planned) (first : ℕ) (kept_wid
   pub state : IsHeldAt new registers.state (length old + 1) 0
   pub beat : registers.beat ≡ length old + 2
   pub beat_stands : StandsAt new (length old + 2) 1 (source.Register 0)
+  pub beat_named : IsNamedAt new (length old + 2) (codes "beat")
   pub variables_count : length registers.variables ≡ length code.variables
   pub variables : StandFrom (source.Register 0) new (length old + 3) (map width_of code.variables) registers.variables (length code.variables)
   -- called after the locals of C

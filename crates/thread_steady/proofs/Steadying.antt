@@ -3,7 +3,7 @@ use Rattle.std.proofs.Common.{◌≡◌, ◌≢◌, ℕ, ◌+◌, ◌-◌, ◌%�
 use Rattle.std.proofs.Common.{map, slice_get, slice_index, Option, Some, None, refl, sym, ap, subst, ◌∙◌, arith, ⊎_elim}
 use Rattle.std.proofs.lemmas.Bool.{cases_lt}
 use Rattle.std.proofs.lemmas.Bool.Decides.{nat_tests}
-use Rattle.std.proofs.lemmas.Option.{slice_get_within, get_or_from_slice_get}
+use Rattle.std.proofs.lemmas.Option.{same_Some, slice_get_within, get_or_from_slice_get}
 use Rattle.hls_ints.specs.Residues.{bit_of}
 use Rattle.block_ir.specs.declared.block.Block.{Block}
 use Rattle.block_ir.specs.declared.code.Act.TheVariants.{Return}
@@ -18,6 +18,7 @@ use Rattle.planned_block.specs.Closed.{IsClosed}
 use Rattle.planned_view.specs.View.{planned_view, plan_view}
 use Rattle.netlist.specs.declared.netlist.Source.{Source}
 use Rattle.netlist.specs.declared.netlist.Source.TheVariants.{Register}
+use Rattle.netlist.specs.declared.netlist.Signal.{Signal}
 use Rattle.netlist.specs.declared.netlist.Action.{Action}
 use Rattle.netlist.specs.declared.netlist.Module.{Module}
 use Rattle.verilog_meaning.specs.Cycles.{IsRegister}
@@ -49,7 +50,7 @@ use Rattle.thread_promise.specs.Moves.{meeting}
 use Rattle.thread_slots.specs.Idle.{is_idle}
 use Rattle.thread_slots.specs.Numbers.{is_wait, numbers}
 use Rattle.thread_slots.proofs.Numbering.{number_is}
-use Rattle.thread_steady.specs.Steady.{NeedsNoMore, IsSteadyServed}
+use Rattle.thread_steady.specs.Steady.{NeedsNoMore, IsBeat, IsSteadyServed}
 use Rattle.thread_layout.specs.Thread.{cores_of, inputs_of, port_at, need_at, done_at, places_of, ports_of, IsServed}
 use Rattle.thread_steady.proofs.Alike.{ActsAlike, wires_alike, wire_alike, next_alike, set_acts, sets_alike, stores_alike}
 use Rattle.thread_layout.proofs.Losing.{quiet_not_lost}
@@ -58,11 +59,14 @@ use Rattle.thread_layout.proofs.Needed.{asked_now, asked_bank, asked_kind, servi
 use Rattle.thread_layout.proofs.Opened.{raised_by, acts_by, no_service, all_count, marked_now, mark_bit, open_bits, want_wide, wired, start_many, start_less, bit_told}
 use Rattle.thread_layout.proofs.Cores.{none_open}
 use Rattle.thread_requests.proofs.Opening.{joined_front, joined_back}
+use Rattle.thread_slots.specs.declared.requests.Request.{Request}
+use Rattle.thread_requests.specs.Early.{with_banks}
+use Rattle.thread_requests.proofs.Asking.{group_kept}
 use Rattle.thread_layout.proofs.Placed.{wide_bit, stands_wide, got_any, stands_copies, stands_agrees, from_control}
-use Rattle.thread_layout.proofs.Placed.{from_inside, from_rest, from_heard, from_words_heard, from_early, from_slot, opens_count}
+use Rattle.thread_layout.proofs.Placed.{from_inside, from_rest, from_heard, from_words_heard, from_early, from_slot, from_registers, opens_count}
 use Rattle.thread_layout.proofs.Placed.{ask_copied, need_stands, done_stands, before_need, beat_at, beat_stands, inputs_long}
 use Rattle.thread_layout.proofs.Quiet.{bank_bit, service_shown}
-use Rattle.thread_layout.proofs.Raising.{from_asks, wanted, wanted_bit}
+use Rattle.thread_layout.proofs.Raising.{from_whole, none_wanted, wanted, wanted_bit}
 use Rattle.thread_layout.proofs.Requested.{indices, targets, printing}
 use Rattle.thread_layout.proofs.Resting.{raised_now, grants_now, opens_now, steers_now, agrees_off, rests_so, marks_left}
 use Rattle.thread_layout.proofs.Remembering.{each_append}
@@ -300,12 +304,12 @@ module _ (shape : Shape) (code : ThreadCode) (plan : Planned) (m : Module) (t : 
       past_all : (k : ℕ) → k < length code.stages → now ≢ k
       past_all k less is = absurd (let same : length code.stages ≡ k = sym end ∙ is in omega arith)
 
-      start_grows : Grows t.laid.early.with_start m.signals
-      start_grows = grows_then t.laid.early.with_start t.laid.early.with_asks m.signals t.laid.early.asks.grows (from_asks shape code plan m t served)
+      start_grows : Grows t.laid.early.asked.with_start m.signals
+      start_grows = grows_then t.laid.early.asked.with_start t.laid.early.asked.with_whole m.signals t.laid.early.asked.asks.grows (from_whole shape code plan m t served)
 
-      asks_still : AskSame r t.laid.early.start t.inside.early.requests
+      asks_still : AskSame r t.laid.early.asked.start (with_banks t.inside.early.requests t.laid.early.asked.whole)
       asks_still =
-          t.laid.early.asks.beyond m r (from_asks shape code plan m t served) o t.laid.early.begins.bits (knows shape code plan m t served r o) past_all
+          t.laid.early.asked.asks.beyond m r (from_whole shape code plan m t served) o t.laid.early.asked.begins.bits (knows shape code plan m t served r o) past_all
 
       quiet_end : Quiet
       quiet_end n less =
@@ -313,13 +317,17 @@ module _ (shape : Shape) (code : ThreadCode) (plan : Planned) (m : Module) (t : 
           (λ (h : n < banks).
           ap (λ z. nat_eq (r.signal z) 1) (asked_bank shape code plan m t served n h)
           ∙ ap (λ z. nat_eq z 1)
-          (ap (λ (a : Asked). a.wants)
-          (asks_still.banks n banks (start_many shape code plan m t served) h
-          ∙ t.laid.early.begins.nothing m r n start_grows o (start_less shape code plan m t served n h))))
+          (none_wanted shape code plan m t served r o
+          (λ x within.
+          ap (λ (a : Asked). a.wants)
+          (asks_still.banks x (length shape.globals) (start_many shape code plan m t served) within
+          ∙ t.laid.early.asked.begins.nothing m r x start_grows o (start_less shape code plan m t served x within)))
+          n h))
           (λ (h : banks ≤ n).
           let kind = asked_kind shape code plan m t served n h less in
           ap (λ z. nat_eq (r.signal z) 1) kind.1
-          ∙ ap (λ z. nat_eq z 1) ((asks_still.requests kind.0).wants false (t.laid.early.begins.silent kind.0 m r start_grows o)))
+          ∙ ap (λ (z : Request). nat_eq (r.signal z.wants) 1) (sym (group_kept t.inside.early.requests t.laid.early.asked.whole kind.0))
+          ∙ ap (λ z. nat_eq z 1) ((asks_still.requests kind.0).wants false (t.laid.early.asked.begins.silent kind.0 m r start_grows o)))
           (cases_lt n banks)
 
       waits_end : waits ≡ true
@@ -494,7 +502,7 @@ module _ (shape : Shape) (code : ThreadCode) (plan : Planned) (m : Module) (t : 
       (is_number (r.signal t.inside.slot.stage.register) (length code.stages)
       (is_true (nat_eq (r.signal t.inside.slot.stage.register) (length code.stages))
       (sym
-      (t.laid.early.asks.done_is m r (from_asks shape code plan m t served) o (knows shape code plan m t served r o))
+      (t.laid.early.asked.asks.done_is m r (from_whole shape code plan m t served) o (knows shape code plan m t served r o))
       ∙ sym (done_copied r o) ∙ done)))
     where
       is_number : (x n : ℕ) → nat_eq x n ≡ true → x ≡ n
@@ -561,5 +569,23 @@ module _ (shape : Shape) (code : ThreadCode) (plan : Planned) (m : Module) (t : 
               let clash : true ≡ false = sym k.2 ∙ closed.asks_none k.0 k.1 in
               cc)
 
+  -- ---- ITS BEAT
+
+  beat_there : IsBeat m (behind + 2)
+  beat_there =
+      let s = beat_stands shape code plan m t served in
+      let z = t.laid.slot.beat_named in
+      let place = length t.laid.with_inputs + 2 in
+      let there : slice_get m.signals (behind + 2) ≡ Some z.signal =
+      ap (λ (n : ℕ). slice_get m.signals (n + 2)) (sym (inputs_long shape code plan m t served))
+      ∙ listed t.laid.with_registers m.signals place z.signal (from_registers shape code plan m t served) z.listed in
+      let same : z.signal ≡ s.signal = same_Some z.signal s.signal (sym there ∙ s.listed) in
+      record {
+        signal = s.signal;
+        is = record { listed = s.listed; named = ap (λ (x : Signal). x.name) (sym same) ∙ z.named };
+        register = subst (λ (d : Source). IsRegister d) (sym s.drives) tt;
+        one_bit = s.wide;
+      }
+
   pub steady_is : IsSteadyServed shape code plan m
-  steady_is = record { steady = steady_thread; ended = ended; little = little; beat = beat_left }
+  steady_is = record { steady = steady_thread; ended = ended; little = little; beat = beat_left; stands = beat_there }

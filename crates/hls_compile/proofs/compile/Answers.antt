@@ -9,4 +9,5 @@ returns-clause-ok g c = record {
   good = c.in_ok-built.ensures.good.good;
   net = c.in_ok-built.ensures.good.net;
   threaded = c.in_ok-built.ensures.good.threaded;
+  modules = c.in_ok-built.ensures.good.modules;
 }

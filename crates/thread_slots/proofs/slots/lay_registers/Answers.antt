@@ -44,7 +44,7 @@ returns-clause-slot c =
     refl refl c.as_slice.ensures c.as_slice-2.ensures (c.as_slice-3.ensures ∙ c.in_ok-widths.ensures) c.len-end.ensures
     (subst (λ (n : ℕ). n < 2 ^ c.width_of-width.result) c.in_ok-most.ensures c.width_of-width.ensures.room)
     c.state_width-state_width.ensures.room c.state_width-state_width.ensures.fits c.most_states-states.ensures
-    c.in_ok-stage.ensures.lays c.in_ok-state.ensures.lays c.in_ok-beat.ensures.stands c.in_ok-variables.ensures.lays
+    c.in_ok-stage.ensures.lays c.in_ok-state.ensures.lays c.in_ok-beat.ensures.stands c.in_ok-beat.ensures.laid c.in_ok-variables.ensures.lays
     (subst (λ (z : List (List ℕ)). AreNamed c.lay_variables.new.wires.signals (length c.register.new.self.signals) z (length c.as_slice-3.result.now))
     (ap (map string_bytes) c.as_slice-names.ensures) c.in_ok-variables.ensures.named) c.in_ok-kept.ensures.lays)
 

@@ -1,0 +1,4 @@
+pub mod Granting
+pub mod Apart
+pub mod Beating
+pub mod Tables
