@@ -14,38 +14,37 @@ use Rattle.journal_laws.specs.declared.verdict.Verdict.{Verdict}
 use Rattle.journal_laws.specs.declared.verdict.Answer.{Answer}
 use Rattle.journal_laws.specs.declared.verdict.Answer.TheVariants as answers
 use Rattle.journal_laws.specs.declared.verdict.Next.TheVariants as nexts
-use Rattle.journal_laws.specs.Journal.{GoesOn, Judged, CanMove}
-use Rattle.journal_laws.specs.Steps.{InTop, OfTop, OpensTo, IsCopyRun, Enters, IsEntered, IsWaiting, IsPreferred}
-use Rattle.journal_laws.proofs.Judging.{can_move, moving}
+use Rattle.journal_laws.specs.Journal.{GoesOn, Judged}
+use Rattle.journal_laws.specs.Steps.{InTop, OfTop, OpensTo, IsCopyRun, Enters, IsEntered, IsWaiting}
 use Rattle.journal_laws.proofs.Alike.{of_top, goes_from}
 use Rattle.journal_laws.proofs.Entering.{same_top}
-use Rattle.grant_journal.specs.Boards.{Frame, Keeps, Held, HasSlot, StandsAt, IsSlotOf, IsGiven, IsPrinting, IsOffered}
-use Rattle.grant_journal.proofs.Framed.{below, told, tells, at_net, at_frame, top_is, above, slot_told, slot_tells, unframed}
+use Rattle.grant_journal.specs.Boards.{Frame, Keeps, Held, HasSlot, StandsAt, IsSlotOf, IsGiven, IsPrinting}
+use Rattle.grant_journal.proofs.Framed.{told, tells, at_frame, top_is, slot_told, slot_tells, unframed}
 use Rattle.grant_journal.proofs.Keeping.{keeps_on, led_more, keeps_more}
 
-pub verdict : (modules : List Module) (count most : ℕ) (layout old trial : Running) (journal : List Entry) (room : ℕ) (output : List ℕ)
-    (k : Keeps modules count most layout old trial journal room output)
+pub verdict : (modules : List Module) (count most : ℕ) (layout old : Running) (journal : List Entry) (room : ℕ) (output : List ℕ)
+    (k : Keeps modules count most layout old journal room output)
     (v : Option Verdict) → OfTop old (λ ms top n. Judged ms top n (state_of old) (length journal) most v) → Judged modules (k.frame).top count (state_of old) (length journal) most v
-verdict modules count most layout old trial journal room output k v judged =
+verdict modules count most layout old journal room output k v judged =
     told modules count layout k.frame old k.net (λ ms top n. Judged ms top n (state_of old) (length journal) most v) judged
 
 -- the run is over
-pub given_ended : (modules : List Module) (count most : ℕ) (layout old trial : Running) (journal : List Entry) (room : ℕ)
-    (output : List ℕ) → Keeps modules count most layout old trial journal room output
+pub given_ended : (modules : List Module) (count most : ℕ) (layout old : Running) (journal : List Entry) (room : ℕ)
+    (output : List ℕ) → Keeps modules count most layout old journal room output
     → (v : Verdict) → OfTop old (λ ms top n. Judged ms top n (state_of old) (length journal) most (Some v)) → (thread : ℕ) (start : Held) (closed : ℕ) (local : Held)
     → IsGiven modules count most thread start closed journal local journal local (answers.Ended v)
-given_ended modules count most layout old trial journal room output k v judged thread start closed local = record {
+given_ended modules count most layout old journal room output k v judged thread start closed local = record {
   top = (k.frame).top;
   is_top = (k.frame).is_top;
-  holds = ((state_of old, (k.led, verdict modules count most layout old trial journal room output k (Some v) judged)), refl, refl);
+  holds = ((state_of old, (k.led, verdict modules count most layout old journal room output k (Some v) judged)), refl, refl);
 }
 
 -- it goes on, in a simulator that stands in the same state
-module _ (modules : List Module) (count most : ℕ) (layout old trial : Running) (journal : List Entry) (room : ℕ) (output : List ℕ) (k : Keeps modules count most layout old trial journal room output)
-    (judged : OfTop old (λ ms top n. Judged ms top n (state_of old) (length journal) most None)) (sim tried : Running) (net : IsSameNet old sim)
-    (trial_net : IsSameNet trial tried) (state : IsSameState old sim) where
-  pub now : Keeps modules count most layout sim tried journal room output
-  now = keeps_on modules count most layout old trial journal room output k sim tried net trial_net (same_top old sim state)
+module _ (modules : List Module) (count most : ℕ) (layout old : Running) (journal : List Entry) (room : ℕ) (output : List ℕ) (k : Keeps modules count most layout old journal room output)
+    (judged : OfTop old (λ ms top n. Judged ms top n (state_of old) (length journal) most None)) (sim : Running) (net : IsSameNet old sim)
+    (state : IsSameState old sim) where
+  pub now : Keeps modules count most layout sim journal room output
+  now = keeps_on modules count most layout old journal room output k sim net (same_top old sim state)
 
   abbrev f : Frame modules count layout
   f = now.frame
@@ -76,23 +75,6 @@ module _ (modules : List Module) (count most : ℕ) (layout old trial : Running)
       (subst (λ (z : Running). OfTop sim (λ ms top n. IsCopyRun ms top n i closed (state_of a) (state_of z))) (sym e)
       (tells modules count layout f sim now.net (λ ms top n. IsCopyRun ms top n i closed (state_of a) (state_of b))
       (unframed modules count layout f (λ ms top n. IsCopyRun ms top n i closed (state_of a) (state_of b)) o)))
-
-  pub offered : (prefer i : ℕ) → IsPreferred sim prefer i → IsOffered modules count most journal prefer (nexts.Thread i)
-  offered prefer i p = record {
-    top = f.top;
-    is_top = f.is_top;
-    holds = (
-      state_of sim,
-      stands,
-      record {
-        within = above modules count layout f sim now.net i p.within;
-        moves = at_frame modules count layout f sim now.net (λ ms top n. CanMove ms top n (state_of sim) i)
-            (can_move sim f.top (top_is modules count layout f sim now.net) (threads_of sim.modules) i p.moves);
-        none = λ j l first m. p.none j (below modules count layout f sim now.net j l) first
-            (moving sim f.top (top_is modules count layout f sim now.net) (threads_of sim.modules) j (at_net modules count layout f sim now.net (λ ms top n. CanMove ms top n (state_of sim) j) m));
-      },
-    );
-  }
 
   module _ (thread : ℕ) (start : Held) (starts : start.thread ≡ thread) where
     pub given_stale : (IsSameSlotOf (threads_of sim.modules) thread sim start.run → ⊥) → (closed : ℕ) (local left : Held) → IsSlotOf modules count thread sim left
@@ -127,16 +109,16 @@ module _ (modules : List Module) (count most : ℕ) (layout old trial : Running)
           let x = told modules count layout f sim now.net (λ ms top n. (bytes : List ℕ) × OpensTo ms top n thread (state_of sim) (state_of local.run) bytes × (0 < length bytes)) o in
           record { top = f.top; is_top = f.is_top; holds = record { before = state_of sim; stands = stands; same = has; bytes = x.0; opens = x.1; something = x.2 } }
 
-      module _ (closed : ℕ) (local : Held) (new made_on : Running) (e : Entry) (new_net : IsSameNet sim new) (made_net : IsSameNet tried made_on) (written : List ℕ)
+      module _ (closed : ℕ) (local : Held) (new : Running) (e : Entry) (new_net : IsSameNet sim new) (written : List ℕ)
           (o : OfTop sim (λ ms top n. (bytes : List ℕ) × (written ≡ output ++ bytes) × IsEntered ms top n thread closed (state_of sim) (state_of local.run)
           (state_of new) bytes e)) (grown : List Entry) (added : grown ≡ journal ++ e ∷ []) where
         abbrev x : (bytes : List ℕ) × (written ≡ output ++ bytes) × IsEntered modules f.top count thread closed (state_of sim) (state_of local.run) (state_of new) bytes e
         x = told modules count layout f sim now.net
             (λ ms top n. (bytes : List ℕ) × (written ≡ output ++ bytes) × IsEntered ms top n thread closed (state_of sim) (state_of local.run) (state_of new) bytes e) o
 
-        pub keeps_entered : (wide : ℕ) → room ≤ wide → Keeps modules count most layout new made_on grown wide written
+        pub keeps_entered : (wide : ℕ) → room ≤ wide → Keeps modules count most layout new grown wide written
         keeps_entered wide wider =
-            keeps_more modules count most layout sim tried journal room output now new made_on new_net made_net e x.0 written grown wide
+            keeps_more modules count most layout sim journal room output now new new_net e x.0 written grown wide
             (tells modules count layout f sim now.net (λ ms top n. Enters ms top n e (state_of sim) (state_of new) x.0) (x.2).enters) x.1 added free wider
 
         pub given_committed : (left : Held) → IsSlotOf modules count thread new left → IsGiven modules count most thread start closed journal local grown left answers.Committed
@@ -152,7 +134,7 @@ module _ (modules : List Module) (count most : ℕ) (layout old trial : Running)
             only = (x.2).only;
             added = added ∙ ap (λ (d : Entry). journal ++ d ∷ []) (x.2).is;
             after = state_of new;
-            led = led_more modules count most layout sim tried journal room output now new made_on new_net made_net e x.0 grown
+            led = led_more modules count most layout sim journal room output now new new_net e x.0 grown
                 (tells modules count layout f sim now.net (λ ms top n. Enters ms top n e (state_of sim) (state_of new) x.0) (x.2).enters) added;
             slot_left = unframed modules count layout f (λ ms top n. HasSlot ms top n thread (state_of new) left) is;
           };

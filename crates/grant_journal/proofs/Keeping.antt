@@ -15,19 +15,18 @@ use Rattle.journal_laws.proofs.Growing.{journal_more, journal_to, reaches_more, 
 use Rattle.grant_journal.specs.Boards.{Frame, Keeps}
 use Rattle.grant_journal.proofs.Framed.{told}
 
-module _ (modules : List Module) (count most : ℕ) (layout sim trial : Running) (journal : List Entry) (room : ℕ) (output : List ℕ)
-    (k : Keeps modules count most layout sim trial journal room output) where
+module _ (modules : List Module) (count most : ℕ) (layout sim : Running) (journal : List Entry) (room : ℕ) (output : List ℕ)
+    (k : Keeps modules count most layout sim journal room output) where
   abbrev f : Frame modules count layout
   f = k.frame
 
-  module _ (new : Running) (tried : Running) (net : IsSameNet sim new) (trial_net : IsSameNet trial tried) where
+  module _ (new : Running) (net : IsSameNet sim new) where
     -- the state stays
-    pub keeps_on : OfTop sim (λ ms top n. IsSame ms top n (state_of sim) (state_of new)) → Keeps modules count most layout new tried journal room output
+    pub keeps_on : OfTop sim (λ ms top n. IsSame ms top n (state_of sim) (state_of new)) → Keeps modules count most layout new journal room output
     keeps_on state =
         let same : IsSame modules f.top count (state_of sim) (state_of new) = told modules count layout f sim k.net (λ ms top n. IsSame ms top n (state_of sim) (state_of new)) state in record {
           frame = f;
           net = net_trans layout sim new k.net net;
-          trial_net = net_trans layout trial tried k.trial_net trial_net;
           led = journal_to modules f.top count journal (initial_state modules f.top) (state_of sim) (state_of new) k.led same;
           reached = reaches_to modules f.top count journal (state_of sim) (state_of new) output k.reached same;
           within = k.within;
@@ -44,37 +43,35 @@ module _ (modules : List Module) (count most : ℕ) (layout sim trial : Running)
 
     -- an entry more
     pub keeps_more : (e : Entry) (bytes written : List ℕ) (grown : List Entry) (wide : ℕ) → OfTop sim (λ ms top n. Enters ms top n e (state_of sim) (state_of new) bytes) → written ≡ output ++ bytes
-        → grown ≡ journal ++ e ∷ [] → (length journal ≡ most → ⊥) → room ≤ wide → Keeps modules count most layout new tried grown wide written
+        → grown ≡ journal ++ e ∷ [] → (length journal ≡ most → ⊥) → room ≤ wide → Keeps modules count most layout new grown wide written
     keeps_more e bytes written grown wide enters w g free wider =
         let h = state_of sim in
         let l = state_of new in
         let step : Enters modules f.top count e h l bytes = told modules count layout f sim k.net (λ ms top n. Enters ms top n e h l bytes) enters in
-        let made : Keeps modules count most layout new tried (journal ++ e ∷ []) wide (output ++ bytes) = record {
+        let made : Keeps modules count most layout new (journal ++ e ∷ []) wide (output ++ bytes) = record {
           frame = f;
           net = net_trans layout sim new k.net net;
-          trial_net = net_trans layout trial tried k.trial_net trial_net;
           led = journal_more modules f.top count journal e (initial_state modules f.top) h l k.led step.legal step.full;
           reached = reaches_more modules f.top count journal e h l output bytes k.reached step.runs;
           within = (let w = k.within in omega (arith, w, free, length-append journal (e ∷ [])));
           roomy = (let y = k.roomy in omega (arith, y, wider));
         } in
-        subst (λ (j : List Entry). Keeps modules count most layout new tried j wide written) (sym g)
-        (subst (λ (o : List ℕ). Keeps modules count most layout new tried (journal ++ e ∷ []) wide o) (sym w) made)
+        subst (λ (j : List Entry). Keeps modules count most layout new j wide written) (sym g)
+        (subst (λ (o : List ℕ). Keeps modules count most layout new (journal ++ e ∷ []) wide o) (sym w) made)
 
 -- a board that begins
-pub keeps_none : (modules : List Module) (count most : ℕ) (layout first trial : Running) (journal : List Entry) (room : ℕ)
-    (output : List ℕ) → Frame modules count layout → IsSameNet layout first → IsSameNet layout trial
-    → IsOpened modules first → journal ≡ [] → output ≡ [] → most ≤ room → Keeps modules count most layout first trial journal room output
-keeps_none modules count most layout first trial journal room output f net trial_net begins j o roomy =
+pub keeps_none : (modules : List Module) (count most : ℕ) (layout first : Running) (journal : List Entry) (room : ℕ)
+    (output : List ℕ) → Frame modules count layout → IsSameNet layout first
+    → IsOpened modules first → journal ≡ [] → output ≡ [] → most ≤ room → Keeps modules count most layout first journal room output
+keeps_none modules count most layout first journal room output f net begins j o roomy =
     let same : IsSame modules f.top count (initial_state modules f.top) (state_of first) =
     subst (λ (t : Module). IsSame modules t count (initial_state modules t) (state_of first)) (same_Some begins.top f.top (sym begins.is_top ∙ f.is_top)) begins.begins in
-    let none : Keeps modules count most layout first trial [] room [] = record {
+    let none : Keeps modules count most layout first [] room [] = record {
       frame = f;
       net = net;
-      trial_net = trial_net;
       led = same;
       reached = (same, refl);
       within = omega arith;
       roomy = roomy;
     } in
-    subst (λ (x : List Entry). Keeps modules count most layout first trial x room output) (sym j) (subst (λ (x : List ℕ). Keeps modules count most layout first trial [] room x) (sym o) none)
+    subst (λ (x : List Entry). Keeps modules count most layout first x room output) (sym j) (subst (λ (x : List ℕ). Keeps modules count most layout first [] room x) (sym o) none)

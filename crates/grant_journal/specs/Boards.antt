@@ -25,11 +25,10 @@ pub record Frame (modules : List Module) (count : ℕ) (layout : Running) : Type
   pub many : threads_of modules ≡ count
   pub same : layout.modules ≡ modules
 
--- a board's simulators are of its net, its state is the end of its journal, its output what was printed on the way, and it has room for all entries
-pub record Keeps (modules : List Module) (count most : ℕ) (layout sim trial : Running) (journal : List Entry) (room : ℕ) (output : List ℕ) : Type 0 where
+-- a board's simulator is of its net, its state is the end of its journal, its output what was printed on the way, and it has room for all entries
+pub record Keeps (modules : List Module) (count most : ℕ) (layout sim : Running) (journal : List Entry) (room : ℕ) (output : List ℕ) : Type 0 where
   pub frame : Frame modules count layout
   pub net : IsSameNet layout sim
-  pub trial_net : IsSameNet layout trial
   pub led : LeadsTo modules frame.top count journal (state_of sim)
   pub reached : Reaches modules frame.top (choices modules frame.top count journal) (state_of sim) output
   pub within : length journal ≤ most

@@ -10,7 +10,7 @@ ghost use Rattle.grant_journal.specs.Boards.{Frame, IsSlotAt, RunsOn, IsGiven, I
 use crate::local::{Case, Local};
 use hls_io::Bytes;
 use journal_laws::enter::enter;
-use journal_laws::judge::{judge, preferred};
+use journal_laws::judge::judge;
 use journal_laws::verdict::{Answer, Next, Verdict};
 use journal_text::entry::Entry;
 use slot_sim::running::SlotSim;
@@ -22,7 +22,6 @@ use std::marker::{Model, PhantomData};
 #[derive(Drop)]
 pub struct Board<'a, J: Case> {
     sim: SlotSim<'a>,
-    trial: SlotSim<'a>,
     journal: Vec<Entry>,
     output: Bytes,
     most: usize,
@@ -38,7 +37,7 @@ impl<'a, J: Case> Model for Board<'a, J> {
 
     ghost view = { λ b. b.journal.items };
 
-    ghost invariant = { λ b. (b.most ≡ J.most) × Keeps J.modules J.threads J.most J.layout b.sim b.trial b.journal.items (vec_capacity b.journal) b.output };
+    ghost invariant = { λ b. (b.most ≡ J.most) × Keeps J.modules J.threads J.most J.layout b.sim b.journal.items (vec_capacity b.journal) b.output };
 }
 
 impl<'a, J: Case> Board<'a, J> {
@@ -50,11 +49,9 @@ impl<'a, J: Case> Board<'a, J> {
         requires entries { entries ≡ J.most }
         ensures { IfOk result (λ b. b ≡ []) }
     {
-        let trial = first.copy()?;
         let journal = Vec::with_capacity(alloc, entries)?;
         Ok(Board {
             sim: first,
-            trial,
             journal,
             output: Bytes::new(alloc),
             most: entries,
@@ -70,16 +67,12 @@ impl<'a, J: Case> Board<'a, J> {
     {
         let Board {
             sim,
-            trial,
             journal,
             output: _,
             most,
             of: _,
         } = self;
-        if let Some(verdict) = judge(sim, trial, prefer, journal.as_slice().len(), *most) {
-            return Next::Ended(verdict);
-        }
-        Next::Thread(preferred(sim, trial, prefer))
+        judge(sim, prefer, journal.as_slice().len(), *most)
     }
 
     /// Copies the slot of a thread.
@@ -110,20 +103,19 @@ impl<'a, J: Case> Board<'a, J> {
     {
         let Board {
             sim,
-            trial,
             journal,
             output,
             most,
             of: _,
         } = self;
-        if let Some(verdict) = judge(sim, trial, thread, journal.as_slice().len(), *most) {
+        if let Next::Ended(verdict) = judge(sim, thread, journal.as_slice().len(), *most) {
             return Ok(Answer::Ended(verdict));
         }
         if !sim.same_slot(thread, start.sim()) {
             local.hold(thread, sim);
             return Ok(Answer::Stale);
         }
-        let entered = enter(sim, trial, output, thread, closed, start.sim(), local.sim())?;
+        let entered = enter(sim, output, thread, closed, start.sim(), local.sim())?;
         let Some(entry) = entered else {
             return Ok(Answer::Waits);
         };
@@ -166,7 +158,6 @@ impl<'a, J: Case> Board<'a, J> {
         let _ = self.sim.threads();
         let Board {
             sim: _,
-            trial: _,
             journal,
             output,
             most: _,

@@ -1,5 +1,5 @@
 -- A slot put in, taken back, and the entry that is made of it.
-use Rattle.std.specs.Prelude.{◌≡◌, ℕ, ◌<◌, ◌≤◌, ◌⊎◌, Bool, true, false, MatchBool, List, [], ◌++◌, length, Some, refl}
+use Rattle.std.specs.Prelude.{◌≡◌, ℕ, ◌<◌, ◌≤◌, ◌⊎◌, Bool, true, false, List, [], ◌++◌, length, Some, refl}
 use Rattle.std.proofs.Common.{ap, sym, ◌∙◌, subst, ⊎_elim}
 use Rattle.std.proofs.lemmas.Option.{same_Some}
 use Rattle.std.proofs.lemmas.List.{append-nil}
@@ -11,28 +11,18 @@ use Rattle.sim_layout.specs.Rounds.{threads_of}
 use Rattle.sim_layout.specs.Running.{Running, Stands, state_of, IsSameNet, IsSameState, IsCycleOf, Prints}
 use Rattle.cycle_once.proofs.Standing.{cycle_once}
 use Rattle.cycle_sim.proofs.Same.{same_trans, cycle_moved}
-use Rattle.slot_sim.specs.Slots.{IsThreadedIn, TellsNeed, Moving, IsSameSlotOf, IsTaken}
+use Rattle.slot_sim.specs.Slots.{IsThreadedIn, IsSameSlotOf, IsTaken}
 use Rattle.slot_sim.specs.Threaded.{IsSameBut}
 use Rattle.slot_sim.proofs.Moving.{state_in}
 use Rattle.slot_sim.proofs.Sames.{to_at, but_trans, taken_is_same}
-use Rattle.slot_sim.proofs.Trials.{need_is_told, needs_move}
+use Rattle.slot_sim.proofs.Trials.{needs_move}
 use Rattle.journal_text.specs.declared.entry.Entry.{Entry}
 use Rattle.journal_laws.specs.Journal.{made, CanMove}
 use Rattle.journal_laws.specs.Steps.{OfTop, CanOpen, OpensTo, Opens, IsCopyRun, IsEntered, IsWaiting, IsPutIn, IsPutPrinting}
 use Rattle.journal_laws.proofs.Moving.{but_sym, slot_within, slot_sym, slot_trans}
 use Rattle.journal_laws.proofs.Judging.{can_move, moving, need_told, need_tells}
-use Rattle.journal_laws.proofs.Alike.{moving_back, moving_on, can_move_from, of_top}
+use Rattle.journal_laws.proofs.Alike.{can_move_from, of_top}
 use Rattle.journal_laws.proofs.Committing as committing
-
--- ---- whether an open cycle is next and changes the slot
-
-pub not_open : (r : Running) (i : ℕ) → IsThreadedIn r.modules (threads_of r.modules) → i < threads_of r.modules → TellsNeed (threads_of r.modules) i r false → CanOpen i r → ⊥
-not_open r i threaded below tells can = let e : false ≡ true = need_is_told r (threads_of r.modules) i false true threaded below tells can.0 in absurd cc
-
-pub open_told : (r s : Running) → IsSameNet r s → IsSameState r s → (i : ℕ) (b : Bool) → TellsNeed (threads_of r.modules) i r true
-    → MatchBool b (Moving (threads_of s.modules) i s) (Moving (threads_of s.modules) i s → ⊥) → MatchBool b (CanOpen i r) (CanOpen i r → ⊥)
-open_told r s net state i true tells m = (tells, moving_back r s net state i m)
-open_told r s net state i false tells m = λ can. m (moving_on r s net state i can.1)
 
 -- ---- what a later simulator's cycle is of an earlier one
 

@@ -7,9 +7,16 @@ use Rattle.verilog_meaning.specs.Threads.{alone, all_enabled, IsSameSlot, IsJour
 use Rattle.journal_text.specs.declared.entry.Entry.{Entry}
 use Rattle.journal_laws.specs.declared.verdict.Verdict.{Verdict}
 use Rattle.journal_laws.specs.declared.verdict.Verdict.TheVariants as verdicts
+use Rattle.journal_laws.specs.declared.verdict.Next.{Next}
+use Rattle.journal_laws.specs.declared.verdict.Next.TheVariants as nexts
 
 abbrev pub made : ℕ → ℕ → Bool → Entry
 made i closed opened = record { thread = i; closed = closed; opened = opened }
+
+-- why a run is over, where it is
+abbrev pub ended : Next → Option Verdict
+ended (nexts.Thread i) = None
+ended (nexts.Ended v) = Some v
 
 module _ (modules : List Module) (top : Module) (count : ℕ) where
   abbrev pub entry : Entry → threads.Entry modules top count

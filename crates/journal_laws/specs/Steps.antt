@@ -6,9 +6,11 @@ use Rattle.verilog_meaning.specs.Cycles.{Valuation, IsState, Cycle, Runs}
 use Rattle.verilog_meaning.specs.Threads.{slot, alone, IsSame, IsSameSlot, Needs, IsLegalEntry, IsFullEntry, entry_choices}
 use Rattle.sim_layout.specs.Running.{Running, state_of}
 use Rattle.sim_layout.specs.Rounds.{threads_of}
-use Rattle.slot_sim.specs.Slots.{Moving, TellsNeed, IsTaken}
+use Rattle.slot_sim.specs.Slots.{Moving, Opening, IsTaken}
 use Rattle.slot_sim.specs.Threaded.{IsSameBut, Advances}
 use Rattle.journal_text.specs.declared.entry.Entry.{Entry}
+use Rattle.journal_laws.specs.declared.verdict.Next.{Next}
+use Rattle.journal_laws.specs.declared.verdict.Next.TheVariants as nexts
 use Rattle.journal_laws.specs.Journal.{entry, made}
 
 -- it holds of the net's outermost module
@@ -41,9 +43,14 @@ abbrev pub IsMover : Running → ℕ → Option ℕ → Type 0
 IsMover r prefer None = (k : ℕ) → k < threads_of r.modules → Moving (threads_of r.modules) k r → ⊥
 IsMover r prefer (Some i) = IsPreferred r prefer i
 
+-- a thread that is run next is the first from a preferred one on, cyclically, that can move
+abbrev pub IsOffer : Running → ℕ → Next → Type 0
+IsOffer r prefer (nexts.Thread i) = IsPreferred r prefer i
+IsOffer r prefer (nexts.Ended v) = Unit {0}
+
 -- the next cycle of thread i is open, and changes its slot
 abbrev pub CanOpen : ℕ → Running → Type 0
-CanOpen i r = TellsNeed (threads_of r.modules) i r true × Moving (threads_of r.modules) i r
+CanOpen i r = Opening (threads_of r.modules) i r
 
 module _ (modules : List Module) (top : Module) (count : ℕ) where
   -- with slot i of another state put into a state, the next cycle of thread i is open, changes the slot and writes out

@@ -6,7 +6,7 @@ ghost use Rattle.verilog_meaning.specs.Threads.{all_enabled};
 ghost use Rattle.sim_layout.specs.Rounds.{threads_of};
 ghost use Rattle.sim_layout.specs.Running.{state_of, IsSameNet, IsSameState};
 ghost use Rattle.slot_sim.specs.Slots.{IsThreadedIn, IsSameSlotOf};
-ghost use Rattle.journal_laws.specs.Steps.{OfTop, CanOpen, OpensTo, IsCopyRun, IsEntered, IsWaiting, IsPutIn, IsPutPrinting};
+ghost use Rattle.journal_laws.specs.Steps.{OfTop, OpensTo, IsCopyRun, IsEntered, IsWaiting, IsPutIn, IsPutPrinting};
 
 use hls_io::Bytes;
 use journal_text::entry::Entry;
@@ -20,27 +20,10 @@ pub fn has_cycle(closed: u32, opened: bool) -> bool
     closed != 0 || opened
 }
 
-/// Whether the next cycle of a thread alone is open and changes its slot. The state stays.
-pub fn can_open<'a>(sim: &mut SlotSim<'a>, trial: &mut SlotSim<'a>, thread: usize) -> bool
-    requires thread { thread < threads_of sim.old.modules }
-    requires threaded { IsThreadedIn sim.old.modules (threads_of sim.old.modules) }
-    requires net { IsSameNet sim.old trial.old }
-    ensures net { IsSameNet sim.old sim.new }
-    ensures trial { IsSameNet trial.old trial.new }
-    ensures opens { MatchBool result (CanOpen thread sim.old) (CanOpen thread sim.old → ⊥) }
-    ensures state { IsSameState sim.old sim.new }
-{
-    if !sim.need(thread) {
-        return false;
-    }
-    sim.moves(thread, trial)
-}
-
 /// Puts the slot of a thread in, and does its open cycle where that one is next and changes the slot. Says whether it did. At `Err`,
 /// which comes only where that cycle writes something, the slot is as it was.
 fn put_in<'a>(
     sim: &mut SlotSim<'a>,
-    trial: &mut SlotSim<'a>,
     output: &mut Bytes,
     thread: usize,
     start: &SlotSim<'a>,
@@ -48,17 +31,16 @@ fn put_in<'a>(
 ) -> Result<bool, AllocError>
     requires thread { thread < threads_of sim.old.modules }
     requires threaded { IsThreadedIn sim.old.modules (threads_of sim.old.modules) }
-    requires net { IsSameNet sim.old trial.old × IsSameNet sim.old start.now × IsSameNet sim.old local.now }
+    requires net { IsSameNet sim.old start.now × IsSameNet sim.old local.now }
     requires start { IsSameSlotOf (threads_of sim.old.modules) thread sim.old start.now }
     ensures net { IsSameNet sim.old sim.new }
-    ensures trial { IsSameNet trial.old trial.new }
     ensures put { IfOk result (IsPutIn thread sim.old local.now sim.new output.old output.new) }
     ensures prints { OnErr result (IsPutPrinting thread sim.old local.now) }
     ensures state { OnErr result (IsSameState sim.old sim.new) }
     ensures bytes { OnErr result (output.new ≡ output.old) }
 {
     sim.copy_slot_from(thread, local);
-    if !can_open(sim, trial, thread) {
+    if !sim.opens(thread) {
         return Ok(false);
     }
     match sim.cycle(thread, output) {
@@ -75,7 +57,6 @@ fn put_in<'a>(
 /// state and the output are as they were.
 pub fn enter<'a>(
     sim: &mut SlotSim<'a>,
-    trial: &mut SlotSim<'a>,
     output: &mut Bytes,
     thread: usize,
     closed: u32,
@@ -84,13 +65,12 @@ pub fn enter<'a>(
 ) -> Result<Option<Entry>, AllocError>
     requires thread { thread < threads_of sim.old.modules }
     requires threaded { IsThreadedIn sim.old.modules (threads_of sim.old.modules) }
-    requires net { IsSameNet sim.old trial.old × IsSameNet sim.old start.now × IsSameNet sim.old local.now }
+    requires net { IsSameNet sim.old start.now × IsSameNet sim.old local.now }
     requires running { OfTop sim.old (λ modules top count. ShowsDone modules top (state_of sim.old) (all_enabled count []) 0) }
     requires most { closed ≤ 4096 }
     requires start { IsSameSlotOf (threads_of sim.old.modules) thread sim.old start.now }
     requires run { OfTop sim.old (λ modules top count. IsCopyRun modules top count thread closed (state_of start.now) (state_of local.now)) }
     ensures net { IsSameNet sim.old sim.new }
-    ensures trial { IsSameNet trial.old trial.new }
     ensures entered { IfOk result (λ r. MatchOption r
         (OfTop sim.old (λ modules top count. IsWaiting modules top count thread closed (state_of sim.old) (state_of local.now) (state_of sim.new)) × (output.new ≡ output.old))
         (λ e. OfTop sim.old (λ modules top count. (bytes : List ℕ) × (output.new ≡ output.old ++ bytes)
@@ -101,7 +81,7 @@ pub fn enter<'a>(
     ensures bytes { OnErr result (output.new ≡ output.old) }
 {
     let _ = sim.threads();
-    let opened = put_in(sim, trial, output, thread, start, local)?;
+    let opened = put_in(sim, output, thread, start, local)?;
     if !has_cycle(closed, opened) {
         return Ok(None);
     }

@@ -10,7 +10,7 @@ ghost use Rattle.journal_replay.specs.Replays.{Replays};
 use crate::steps::redo;
 use hls_io::Bytes;
 use journal_laws::judge::judge;
-use journal_laws::verdict::Verdict;
+use journal_laws::verdict::{Next, Verdict};
 use journal_text::entry::Entry;
 use netlist::netlist::Module;
 use slot_sim::running::SlotSim;
@@ -39,22 +39,21 @@ fn replay_on(
     requires threaded { IsThreadedIn modules.now (threads_of modules.now) }
     ensures { IfOk result (λ r. InTop modules.now (λ top. Replays modules.now top (threads_of modules.now) journal.now r)) }
 {
-    let mut trial = sim.copy()?;
     let mut output = Bytes::new(alloc);
     let mut cycles = 0u128;
     for number in 0..journal.len() {
-        match redo(sim, &mut trial, &mut output, journal[number])? {
+        match redo(sim, &mut output, journal[number])? {
             Some(more) => cycles += more as u128,
             None => return Ok(Redone::BadEntry(number)),
         }
     }
-    match judge(sim, &mut trial, 0, journal.len(), journal.len()) {
-        Some(verdict) => Ok(Redone::Replayed {
+    match judge(sim, 0, journal.len(), journal.len()) {
+        Next::Ended(verdict) => Ok(Redone::Replayed {
             output,
             cycles,
             verdict,
         }),
-        None => unreachable!(),
+        Next::Thread(_) => unreachable!(),
     }
 }
 

@@ -15,17 +15,10 @@ use std::alloc::AllocError;
 
 /// Whether the next cycle of a thread alone is open or closed as wanted, changes its slot, and does not begin where done is shown. The
 /// state stays.
-fn may_step<'a>(
-    sim: &mut SlotSim<'a>,
-    trial: &mut SlotSim<'a>,
-    thread: usize,
-    is_open: bool,
-) -> bool
+fn may_step(sim: &mut SlotSim, thread: usize, is_open: bool) -> bool
     requires thread { thread < threads_of sim.old.modules }
     requires threaded { IsThreadedIn sim.old.modules (threads_of sim.old.modules) }
-    requires net { IsSameNet sim.old trial.old }
     ensures net { IsSameNet sim.old sim.new }
-    ensures trial { IsSameNet trial.old trial.new }
     ensures may { MatchBool result (MayStep thread is_open sim.old) (MayStep thread is_open sim.old → ⊥) }
     ensures state { IsSameState sim.old sim.new }
 {
@@ -36,13 +29,12 @@ fn may_step<'a>(
     if sim.done() {
         return false;
     }
-    sim.moves(thread, trial)
+    sim.moves(thread)
 }
 
 /// Does so many open or closed cycles of a thread alone again, where it may.
-fn redo_steps<'a>(
-    sim: &mut SlotSim<'a>,
-    trial: &mut SlotSim<'a>,
+fn redo_steps(
+    sim: &mut SlotSim,
     output: &mut Bytes,
     thread: usize,
     count: u64,
@@ -50,16 +42,14 @@ fn redo_steps<'a>(
 ) -> Result<bool, AllocError>
     requires thread { thread < threads_of sim.old.modules }
     requires threaded { IsThreadedIn sim.old.modules (threads_of sim.old.modules) }
-    requires net { IsSameNet sim.old trial.old }
     ensures net { OnOk result (IsSameNet sim.old sim.new) }
-    ensures trial { OnOk result (IsSameNet trial.old trial.new) }
     ensures redone { IfOk result (λ b. MatchBool b
         (OfTop sim.old (λ modules top n. AreRedone modules top n thread is_open count (state_of sim.old) (state_of sim.new) output.old output.new))
         (OfTop sim.old (λ modules top n. CannotRedo modules top n thread is_open count (state_of sim.old)))) }
 {
     let _ = sim.threads();
     for _turn in 0..count {
-        if !may_step(sim, trial, thread, is_open) {
+        if !may_step(sim, thread, is_open) {
             return Ok(false);
         }
         sim.cycle(thread, output)?;
@@ -75,16 +65,9 @@ fn open_count(opened: bool) -> u64
 }
 
 /// Does an entry again, where it is legal, and says how many cycles it has.
-pub fn redo<'a>(
-    sim: &mut SlotSim<'a>,
-    trial: &mut SlotSim<'a>,
-    output: &mut Bytes,
-    entry: Entry,
-) -> Result<Option<u64>, AllocError>
+pub fn redo(sim: &mut SlotSim, output: &mut Bytes, entry: Entry) -> Result<Option<u64>, AllocError>
     requires threaded { IsThreadedIn sim.old.modules (threads_of sim.old.modules) }
-    requires net { IsSameNet sim.old trial.old }
     ensures net { OnOk result (IsSameNet sim.old sim.new) }
-    ensures trial { OnOk result (IsSameNet trial.old trial.new) }
     ensures redone { IfOk result (λ r. MatchOption r
         (OfTop sim.old (λ modules top n. IsNoEntry modules top n entry (state_of sim.old)))
         (λ cycles. OfTop sim.old (λ modules top n. IsEntryRedone modules top n entry (state_of sim.old) (state_of sim.new) output.old output.new cycles))) }
@@ -99,11 +82,11 @@ pub fn redo<'a>(
         return Ok(None);
     }
     let thread = entry.thread as usize;
-    if !redo_steps(sim, trial, output, thread, entry.closed, false)? {
+    if !redo_steps(sim, output, thread, entry.closed, false)? {
         return Ok(None);
     }
     let open = open_count(entry.opened);
-    if !redo_steps(sim, trial, output, thread, open, true)? {
+    if !redo_steps(sim, output, thread, open, true)? {
         return Ok(None);
     }
     Ok(Some(entry.closed + open))

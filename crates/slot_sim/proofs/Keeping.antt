@@ -4,16 +4,16 @@ use Rattle.std.proofs.Common.{ap, sym, ◌∙◌, subst, ⊎_elim, arith}
 use Rattle.std.proofs.lemmas.Option.{same_Some, slice_get_within}
 use Rattle.netlist.specs.declared.netlist.Module.{Module}
 use Rattle.verilog_meaning.specs.Names.{top_of}
-use Rattle.verilog_meaning.specs.Cycles.{Choice, IsSameIn}
+use Rattle.verilog_meaning.specs.Cycles.{Choice}
 use Rattle.verilog_meaning.specs.Threads.{slot, alone, IsSameSlot, HasThread}
 use Rattle.sim_values.specs.declared.edge.Part.{Part}
 use Rattle.sim_values.proofs.Trees.{get_front, get_back, front_or_back}
 use Rattle.sim_layout.specs.Rounds.{threads_of}
-use Rattle.sim_layout.specs.Running.{Running, Stands, flat, state_of, choice_of, Fits, IsSameNet, IsSameState}
+use Rattle.sim_layout.specs.Running.{Running, Stands, flat, state_of, choice_of, Fits, IsSameNet}
 use Rattle.slot_sim.specs.declared.slot.Slot.{Slot}
-use Rattle.slot_sim.specs.Members.{AreMembers, AreMembersOf}
+use Rattle.slot_sim.specs.Members.{AreMembers}
 use Rattle.slot_sim.specs.Same.{parts_same}
-use Rattle.slot_sim.specs.Slots.{IsThreadedIn, IsSameSlotOf, IsTaken, IsNeedPlace, HasThreadOf, IsSlot, IsSlotCopy, AreSlots, AreCopied, IsLaidBy}
+use Rattle.slot_sim.specs.Slots.{IsThreadedIn, IsSameSlotOf, IsTaken, IsNeedPlace, HasThreadOf, IsSlot, IsSlotCopy, AreSlots, AreCopied}
 use Rattle.slot_sim.proofs.Trials.{alone_fits}
 use Rattle.slot_sim.proofs.Slotted.{with_taken, taken_there, kept_there}
 use Rattle.slot_sim.proofs.Comparing.{parts_told, parts_shown}
@@ -75,23 +75,11 @@ copy_stands modules parts i s c is at = record {
     choices_are e =
         ap (λ (m : ℕ). choice m c.alone.prefs) (is.enables ∙ e) ∙ ap (choice (2 ^ i)) is.prefs
 
-pub laid_copied : (modules : List Module) (parts : List Part) (whole all : List ℕ) (slots copies : List Slot) → all ≡ whole → AreCopied slots copies → IsLaidBy modules parts whole slots
-    → IsLaidBy modules parts all copies
-laid_copied modules parts whole all slots copies same are is =
-    subst (λ (l : List ℕ). IsLaidBy modules parts l copies) (sym same)
-    (record {
-      top = is.top;
-      is_top = is.is_top;
-      all = is.all;
-      slots_are = record {
-        long = are.0 ∙ is.slots_are.long;
-        each = λ i c at. let s = are.1 i c at in copy_stands modules parts i s.0 c s.2 (is.slots_are.each i s.0 s.1);
-      };
-    })
-
-pub laid_first : (r : Running) (top : Module) (whole : List ℕ) (slots : List Slot) → top_of r.modules ≡ Some top → AreMembersOf r 0 whole → AreSlots r.modules r.parts slots
-    → IsLaidBy r.modules r.parts whole slots
-laid_first r top whole slots e members are = record { top = top; is_top = e; all = members top e [] top refl refl; slots_are = are }
+pub slots_copied : (modules : List Module) (parts : List Part) (slots copies : List Slot) → AreCopied slots copies → AreSlots modules parts slots → AreSlots modules parts copies
+slots_copied modules parts slots copies are is = record {
+  long = are.0 ∙ is.long;
+  each = λ i c at. let s = are.1 i c at in copy_stands modules parts i s.0 c s.2 (is.each i s.0 s.1);
+}
 
 -- ---- what the calls give
 
@@ -102,7 +90,7 @@ module _ (r : Running) (st : Stands r) (i : ℕ) (s : Slot) (is : IsSlot i r.mod
   same_top : is.top ≡ st.top
   same_top = same_Some is.top st.top (sym is.is_top ∙ st.is_top)
 
-  members : AreMembers r.modules st.top r.parts (slot r.modules st.top (threads_of r.modules) i) s.members.items
+  pub members : AreMembers r.modules st.top r.parts (slot r.modules st.top (threads_of r.modules) i) s.members.items
   members = subst (λ (t : Module). AreMembers r.modules t r.parts (slot r.modules t (threads_of r.modules) i) s.members.items) same_top is.members
 
   pub fits_alone : i < threads_of r.modules → Fits r (choice_of s.alone)
@@ -134,22 +122,6 @@ module _ (r : Running) (st : Stands r) (i : ℕ) (s : Slot) (is : IsSlot i r.mod
           taken = taken_there r o st net (slot r.modules st.top (threads_of r.modules) i) s.members.items members;
           kept = kept_there r o st net (slot r.modules st.top (threads_of r.modules) i) s.members.items members;
         })
-
--- the state of another simulator
-pub state_taken : (r o n : Running) (whole : List ℕ) (slots : List Slot) → Stands r → IsSameNet r o → IsLaidBy r.modules r.parts whole slots → n ≡ with_taken r o whole
-    → IsSameNet r n × IsSameState o n
-state_taken r o n whole slots st net is e =
-    subst (λ (m : Running). IsSameNet r m × IsSameState o m) (sym e) (
-      record { modules = refl; parts = refl; steps = refl; starts = refl; prefs = refl; done = refl },
-      record {
-        top = st.top;
-        is_top = ap top_of net.modules ∙ st.is_top;
-        same = subst (λ (ms : List Module). IsSameIn ms st.top [] (state_of o) (state_of (with_taken r o whole))) (sym net.modules) (taken_there r o st net [] whole all);
-      },
-    )
-  where
-    all : AreMembers r.modules st.top r.parts [] whole
-    all = subst (λ (t : Module). AreMembers r.modules t r.parts [] whole) (same_Some is.top st.top (sym is.is_top ∙ st.is_top)) is.all
 
 -- ---- one of the slots
 

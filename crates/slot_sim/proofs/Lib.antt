@@ -12,4 +12,6 @@ pub mod Slotted
 pub mod Placing
 pub mod Comparing
 pub mod Keeping
+pub mod Changes
+pub mod Altering
 pub mod Moving

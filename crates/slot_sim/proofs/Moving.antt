@@ -1,19 +1,22 @@
--- Whether a thread moves: it does where its next cycle is closed, and else one cycle in another simulator tells it.
-use Rattle.std.specs.Prelude.{◌≡◌, ℕ, ◌^◌, ◌<◌, Bool, true, false, not, MatchBool, nat_eq, List, [], Some, refl}
+-- Whether a thread moves: it does where its next cycle is closed, and else where the edge changes its slot.
+use Rattle.std.specs.Prelude.{◌≡◌, ℕ, ◌^◌, ◌<◌, Bool, true, false, MatchBool, nat_eq, List, [], Some, refl}
 use Rattle.std.proofs.Common.{ap, sym, ◌∙◌, subst, arith}
 use Rattle.std.proofs.lemmas.Bool.Decides.{nat_tests}
 use Rattle.std.proofs.lemmas.Option.{same_Some}
 use Rattle.netlist.specs.declared.netlist.Module.{Module}
 use Rattle.verilog_meaning.specs.Names.{top_of}
-use Rattle.verilog_meaning.specs.Cycles.{Valuation, IsAt, IsSameIn, Cycle}
-use Rattle.verilog_meaning.specs.Threads.{slot, alone, IsSameSlot, HasThread, IsThreaded, Needs}
+use Rattle.verilog_meaning.specs.Cycles.{Choice, IsAt, IsSameIn, Cycle}
+use Rattle.verilog_meaning.specs.Threads.{slot, alone, HasThread, IsThreaded, Needs}
 use Rattle.sim_layout.specs.Rounds.{threads_of}
-use Rattle.sim_layout.specs.Running.{Running, Stands, state_of, IsSameNet, IsSameState, IsCycleOf, settled_run, advanced}
-use Rattle.cycle_sim.proofs.Same.{same_trans, cycle_moved}
-use Rattle.slot_sim.specs.Slots.{IsThreadedIn, TellsNeed, Moving, IsSameSlotOf}
+use Rattle.sim_layout.specs.Running.{Running, Stands, flat, state_of, choice_of, IsSettledRun, IsSameState, settled_run, advanced}
+use Rattle.slot_sim.specs.declared.slot.Slot.{Slot}
+use Rattle.slot_sim.specs.Changing.{parts_change}
+use Rattle.slot_sim.specs.Slots.{IsThreadedIn, TellsNeed, Moving, Opening, IsSlot}
+use Rattle.slot_sim.proofs.Altering.{differs, stays}
 use Rattle.slot_sim.proofs.Bits.{set_here, alone_is_choice}
-use Rattle.slot_sim.proofs.Sames.{in_refl, in_sym, in_trans, within}
-use Rattle.slot_sim.proofs.Trials.{moves_by_trial}
+use Rattle.slot_sim.proofs.Keeping.{members}
+use Rattle.slot_sim.proofs.Sames.{in_refl}
+use Rattle.slot_sim.proofs.Trials.{alone_fits, need_is_told, moves_by_trial}
 use Rattle.slot_sim.proofs.Going.{is_state, goes_on}
 
 -- ---- a closed cycle
@@ -72,58 +75,12 @@ module _ (r : Running) (st : Stands r) (threads i : ℕ) (threaded : IsThreadedI
         (subst (λ n. Needs r.modules tells.top threads (state_of r) (alone i) i n) closed needs);
   }
 
--- ---- a trial
+-- ---- the state of another simulator
 
 pub state_in : (a b : Running) (modules : List Module) (top : Module) → a.modules ≡ modules → top_of modules ≡ Some top → IsSameState a b → IsSameIn modules top [] (state_of a) (state_of b)
 state_in a b modules top e is same =
     subst (λ (ms : List Module). IsSameIn ms top [] (state_of a) (state_of b)) e
     (subst (λ (t : Module). IsSameIn a.modules t [] (state_of a) (state_of b)) (same_Some same.top top (sym same.is_top ∙ ap top_of e ∙ is)) same.same)
-
-module _ (r s t n : Running) (st : Stands r) (threads i : ℕ) (net : IsSameNet r s) (same : IsSameState r s) (trial_modules : t.modules ≡ r.modules) (copied : IsSameState s t)
-    (ran : (out : List ℕ) × IsCycleOf (alone i) t n [] out) where
-  begins : IsSameIn r.modules st.top [] (state_of r) (state_of t)
-  begins =
-      same_trans r.modules st.top (state_of r) (state_of s) (state_of t) (state_in r s r.modules st.top refl st.is_top same) (state_in s t r.modules st.top net.modules st.is_top copied)
-
-  cycle_there : Cycle t.modules (ran.1).top (state_of t) (alone i) (state_of n) (ran.1).bytes
-  cycle_there = (ran.1).cycle
-
-  tried : Cycle r.modules st.top (state_of r) (alone i) (state_of n) (ran.1).bytes
-  tried =
-      cycle_moved r.modules st.top (state_of r) (state_of t) begins (alone i) (state_of n) (ran.1).bytes
-      (subst (λ (ms : List Module). Cycle ms st.top (state_of t) (alone i) (state_of n) (ran.1).bytes) trial_modules
-      (subst (λ (m : Module). Cycle t.modules m (state_of t) (alone i) (state_of n) (ran.1).bytes)
-      (same_Some (ran.1).top st.top (sym (ran.1).is_top ∙ ap top_of trial_modules ∙ st.is_top)) cycle_there))
-
-  abbrev Slot : Valuation → Valuation → Type 0
-  Slot h g = IsSameSlot r.modules st.top threads i h g
-
-  told : (Slot (state_of r) (state_of n) → ⊥) → Moving threads i r
-  told = (moves_by_trial r st threads i st.top st.is_top (state_of n) (ran.1).bytes tried).0
-
-  refuted : Slot (state_of r) (state_of n) → Moving threads i r → ⊥
-  refuted = (moves_by_trial r st threads i st.top st.is_top (state_of n) (ran.1).bytes tried).1
-
-  first_same : IsSameSlot r.modules st.top threads i (state_of r) (state_of s)
-  first_same = within r.modules st.top (slot r.modules st.top threads i) (state_of r) (state_of s) (state_in r s r.modules st.top refl st.is_top same)
-
-  pub stays_put : IsSameSlotOf threads i s n → Moving threads i r → ⊥
-  stays_put is =
-      let there : IsSameSlot r.modules st.top threads i (state_of s) (state_of n) =
-      subst (λ (ms : List Module). IsSameSlot ms st.top threads i (state_of s) (state_of n)) net.modules
-      (subst (λ (m : Module). IsSameSlot s.modules m threads i (state_of s) (state_of n)) (same_Some is.top st.top (sym is.is_top ∙ ap top_of net.modules ∙ st.is_top)) is.same) in
-      refuted (in_trans r.modules st.top (slot r.modules st.top threads i) (state_of r) (state_of s) (state_of n) first_same there)
-
-  pub moves_on : (IsSameSlotOf threads i s n → ⊥) → Moving threads i r
-  moves_on differs = told (λ is.
-      let back : IsSameSlot r.modules st.top threads i (state_of s) (state_of n) =
-      in_trans r.modules st.top (slot r.modules st.top threads i) (state_of s) (state_of r) (state_of n) (in_sym r.modules st.top (slot r.modules st.top threads i)
-      (state_of r) (state_of s) first_same) is in
-      differs (record {
-        top = st.top;
-        is_top = ap top_of net.modules ∙ st.is_top;
-        same = subst (λ (ms : List Module). IsSameSlot ms st.top threads i (state_of s) (state_of n)) (sym net.modules) back;
-      }))
 
 -- ---- by cases on what a call tells
 
@@ -131,14 +88,43 @@ pub match_bool : (b : Bool) {A B : Type 0} → (b ≡ true → A) → (b ≡ fal
 match_bool true f g = f refl
 match_bool false f g = g refl
 
-pub match_not : (b : Bool) {A B : Type 0} → (b ≡ false → A) → (b ≡ true → B) → MatchBool (not b) A B
-match_not true f g = g refl
-match_not false f g = f refl
+-- ---- the edge from settled words
 
-pub when_true : (b : Bool) (A B : Type 0) → MatchBool b A B → b ≡ true → A
-when_true true A B m e = m
-when_true false A B m e = absurd cc
+module _ (r n : Running) (i : ℕ) (s : Slot) (is : IsSlot i r.modules r.parts s) (l : i < threads_of r.modules) (under : IsSettledRun (choice_of s.alone) r n) where
+  abbrev count : ℕ
+  count = threads_of r.modules
 
-pub when_false : (b : Bool) (A B : Type 0) → MatchBool b A B → b ≡ false → B
-when_false true A B m e = absurd cc
-when_false false A B m e = m
+  abbrev st : Stands r
+  st = under.stands
+
+  run : n ≡ settled_run (alone i) r
+  run = under.is ∙ ap (λ (c : Choice). settled_run c r) is.alone_is
+
+  cycle_there : (out : List ℕ) × Cycle r.modules st.top (state_of r) (alone i) (state_of (advanced (settled_run (alone i) r))) out
+  cycle_there = goes_on r st st.top st.is_top i l
+
+  told : (b : Bool) → b ≡ parts_change n.modules n.parts (flat n) s.members.items → parts_change r.modules r.parts (flat (settled_run (alone i) r)) s.members.items ≡ b
+  told b e = sym (e ∙ ap (λ (m : Running). parts_change m.modules m.parts (flat m) s.members.items) run)
+
+  moves_at : (b : Bool) → b ≡ parts_change n.modules n.parts (flat n) s.members.items → b ≡ true → Moving (threads_of r.modules) i r
+  moves_at b e t =
+      (moves_by_trial r st (threads_of r.modules) i st.top st.is_top (state_of (advanced (settled_run (alone i) r))) cycle_there.0 cycle_there.1).0
+      (differs r st (alone i) (alone_fits r st i l) (slot r.modules st.top (threads_of r.modules) i) s.members.items (members r st i s is) (told b e ∙ t))
+
+  stays_at : (b : Bool) → b ≡ parts_change n.modules n.parts (flat n) s.members.items → b ≡ false → Moving (threads_of r.modules) i r → ⊥
+  stays_at b e f =
+      (moves_by_trial r st (threads_of r.modules) i st.top st.is_top (state_of (advanced (settled_run (alone i) r))) cycle_there.0 cycle_there.1).1
+      (stays r st (alone i) (alone_fits r st i l) (slot r.modules st.top (threads_of r.modules) i) s.members.items (members r st i s is) (told b e ∙ f))
+
+  pub moving_told : (b : Bool) → b ≡ parts_change n.modules n.parts (flat n) s.members.items → MatchBool b (Moving (threads_of r.modules) i r) (Moving (threads_of r.modules) i r → ⊥)
+  moving_told b e = match_bool b (moves_at b e) (stays_at b e)
+
+  pub opening_told : (b : Bool) → b ≡ parts_change n.modules n.parts (flat n) s.members.items → TellsNeed (threads_of r.modules) i r true
+      → MatchBool b (Opening (threads_of r.modules) i r) (Opening (threads_of r.modules) i r → ⊥)
+  opening_told b e need = match_bool b (λ t. (need, moves_at b e t)) (λ f o. stays_at b e f o.1)
+
+-- a closed cycle is not open
+pub not_opening : (r : Running) (threads i : ℕ) → IsThreadedIn r.modules threads → i < threads → TellsNeed threads i r false → Opening threads i r → ⊥
+not_opening r threads i threaded l closed o =
+    let clash : false ≡ true = need_is_told r threads i false true threaded l closed o.0 in
+    absurd cc

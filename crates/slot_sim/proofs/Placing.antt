@@ -1,21 +1,20 @@
 -- Where the slot of a thread stands in a simulator, and what moves it to one that is laid out in the same way.
 use Rattle.std.specs.Prelude.{◌≡◌, ℕ, suc, ◌+◌, Bool, true, false, List, [], ◌∷◌, Option, slice_get, codes, not, if◌then◌else◌, refl}
 use Rattle.std.specs.Str.{bytes_eq}
-use Rattle.std.proofs.Common.{ap, sym, ◌∙◌, subst, cond, arith}
+use Rattle.std.proofs.Common.{ap, sym, ◌∙◌, cond, arith}
 use Rattle.netlist.specs.declared.netlist.Signal.{Signal}
 use Rattle.netlist.specs.declared.netlist.Instance.{Instance}
 use Rattle.netlist.specs.declared.netlist.Module.{Module}
 use Rattle.verilog_meaning.specs.Names.{numbered}
 use Rattle.verilog_meaning.specs.Threads.{instance_named, slot, alone}
-use Rattle.sim_values.specs.declared.edge.Part.{Part}
 use Rattle.sim_values.specs.Stands.{children_of, kind_of, spot_of, place_of}
 use Rattle.sim_values.specs.Tree.{instances_of}
 use Rattle.sim_layout.specs.Wires.{signals_of}
 use Rattle.sim_layout.specs.Rounds.{threads_of}
-use Rattle.sim_layout.specs.Running.{Running, Stands, choice_of, IsSameNet}
+use Rattle.sim_layout.specs.Running.{Running, Stands, choice_of}
 use Rattle.slot_sim.specs.declared.slot.Slot.{Slot}
 use Rattle.slot_sim.specs.Members.{AreMembersOf}
-use Rattle.slot_sim.specs.Slots.{HasThreadOf, IsNeedNumber, LacksNeed, IsSlot, IsLaidBy, place_named}
+use Rattle.slot_sim.specs.Slots.{HasThreadOf, IsNeedNumber, LacksNeed, IsSlot, place_named}
 
 named_place : (ns : List Instance) (name : List ℕ) → instance_named ns name ≡ place_named name ns
 named_place [] name = refl
@@ -74,7 +73,3 @@ module _ (r : Running) (st : Stands r) (i : ℕ) (has : HasThreadOf r.modules i)
         };
         alone_is = single;
       }
-
-pub laid_kept : (r n : Running) (whole : List ℕ) (slots : List Slot) → IsSameNet r n → IsLaidBy r.modules r.parts whole slots → IsLaidBy n.modules n.parts whole slots
-laid_kept r n whole slots net is =
-    subst (λ (ms : List Module). IsLaidBy ms n.parts whole slots) (sym net.modules) (subst (λ (ps : List Part). IsLaidBy r.modules ps whole slots) (sym net.parts) is)

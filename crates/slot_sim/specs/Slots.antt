@@ -1,5 +1,5 @@
 -- What the slot calls of a simulator tell and do.
-use Rattle.std.specs.Prelude.{◌≡◌, ℕ, Bool, nat_eq, List, [], length, Some, slice_get, codes}
+use Rattle.std.specs.Prelude.{◌≡◌, ℕ, Bool, true, nat_eq, List, [], length, Some, slice_get, codes}
 use Rattle.std.specs.List.{position_or_len}
 use Rattle.std.specs.Str.{bytes_eq}
 use Rattle.netlist.specs.declared.netlist.Instance.{Instance}
@@ -72,13 +72,6 @@ pub record AreSlots (modules : List Module) (parts : List Part) (slots : List Sl
   pub long : length slots ≡ threads_of modules
   pub each : (i : ℕ) (s : Slot) → slice_get slots i ≡ Some s → IsSlot i modules parts s
 
--- and the places of all parts
-pub record IsLaidBy (modules : List Module) (parts : List Part) (whole : List ℕ) (slots : List Slot) : Type 0 where
-  pub top : Module
-  pub is_top : top_of modules ≡ Some top
-  pub all : AreMembers modules top parts [] whole
-  pub slots_are : AreSlots modules parts slots
-
 module _ (threads i : ℕ) where
   -- whether the next cycle of thread i alone is open
   pub record TellsNeed (r : Running) (b : Bool) : Type 0 where
@@ -96,6 +89,10 @@ module _ (threads i : ℕ) where
     pub out : List ℕ
     pub cycle : Cycle r.modules top (state_of r) (alone i) next out
     pub changes : IsSameSlot r.modules top threads i (state_of r) next → ⊥
+
+  -- it is open, and changes its slot
+  abbrev pub Opening : Running → Type 0
+  Opening r = TellsNeed r true × Moving r
 
   -- slot i of two simulators of one net is the same
   pub record IsSameSlotOf (r other : Running) : Type 0 where

@@ -1,6 +1,7 @@
 //! A net of threads at work, a slot at a time.
 #![tactic(auto)]
 
+pub mod changing;
 pub mod members;
 pub mod need;
 pub mod running;

@@ -5,9 +5,9 @@ ghost use Rattle.verilog_meaning.specs.Threads.{alone, all_enabled};
 ghost use Rattle.sim_layout.specs.Rounds.{threads_of};
 ghost use Rattle.sim_layout.specs.Running.{Stands, choice_of, Fits, IsSameNet, IsSameState, IsCycleOf, Prints, TellsDone};
 ghost use Rattle.cycle_sim.specs.Opened.{IsOpenable, IsOpened, IsCause};
-ghost use Rattle.slot_sim.specs.Slots.{IsThreadedIn, TellsNeed, Moving, IsSameSlotOf, IsTaken, IsSlot, AreSlots, AreCopied};
+ghost use Rattle.slot_sim.specs.Slots.{IsThreadedIn, TellsNeed, Moving, Opening, IsSameSlotOf, IsTaken, IsSlot, AreSlots, AreCopied};
 
-use crate::members::members_of;
+use crate::changing::changes_parts;
 use crate::need::tells_need;
 use crate::same::same_parts;
 use crate::slot::Slot;
@@ -22,20 +22,19 @@ use std::marker::Model;
 #[derive(Drop)]
 pub struct SlotSim<'a> {
     sim: Sim<'a>,
-    whole: Vec<usize>,
     slots: Vec<Slot>,
     alloc: Global,
 }
 
 impl<'a> Model for SlotSim<'a> {
     ghost use Rattle.sim_layout.specs.Running.{Running};
-    ghost use Rattle.slot_sim.specs.Slots.{IsLaidBy};
+    ghost use Rattle.slot_sim.specs.Slots.{AreSlots};
 
     ghost Value = { Running };
 
     ghost view = { λ s. s.sim };
 
-    ghost invariant = { λ s. IsLaidBy s.sim.modules s.sim.parts s.whole.items s.slots.items };
+    ghost invariant = { λ s. AreSlots s.sim.modules s.sim.parts s.slots.items };
 }
 
 /// Where each of the threads stands.
@@ -50,12 +49,6 @@ fn slots_of(alloc: Global, sim: &Sim, threads: usize) -> Result<Vec<Slot>, Alloc
         slots.push(Slot::open(alloc, sim, thread)?)?;
     }
     Ok(slots)
-}
-
-fn copied_places(alloc: Global, places: &[usize]) -> Result<Vec<usize>, AllocError>
-    ensures { IfOk result (λ copy. copy.items ≡ places.now) }
-{
-    places.to_vec(alloc)
 }
 
 fn copied_slots(alloc: Global, slots: &[Slot]) -> Result<Vec<Slot>, AllocError>
@@ -92,14 +85,8 @@ impl<'a> SlotSim<'a> {
         ensures cause { IfErr result (IsCause modules.entry.now) }
     {
         let sim = Sim::open(alloc, modules)?;
-        let whole = members_of(alloc, &sim, 0)?;
         let slots = slots_of(alloc, &sim, threads)?;
-        Ok(SlotSim {
-            sim,
-            whole,
-            slots,
-            alloc,
-        })
+        Ok(SlotSim { sim, slots, alloc })
     }
 
     /// A simulator of the same net in the same state.
@@ -108,7 +95,6 @@ impl<'a> SlotSim<'a> {
     {
         Ok(SlotSim {
             sim: self.sim.copy()?,
-            whole: copied_places(self.alloc, self.whole.as_slice())?,
             slots: copied_slots(self.alloc, self.slots.as_slice())?,
             alloc: self.alloc,
         })
@@ -132,7 +118,6 @@ impl<'a> SlotSim<'a> {
     {
         let SlotSim {
             sim,
-            whole: _,
             slots,
             alloc: _,
         } = self;
@@ -158,7 +143,6 @@ impl<'a> SlotSim<'a> {
     {
         let SlotSim {
             sim,
-            whole: _,
             slots,
             alloc: _,
         } = self;
@@ -166,40 +150,44 @@ impl<'a> SlotSim<'a> {
         take_parts(sim, &other.sim, slot.members.as_slice());
     }
 
-    /// Takes over the state of another simulator of the net.
-    pub fn set(&mut self, other: &SlotSim<'a>)
-        requires { IsSameNet self.old other.now }
-        ensures net { IsSameNet self.old self.new }
-        ensures state { IsSameState other.now self.new }
-    {
-        let SlotSim {
-            sim,
-            whole,
-            slots: _,
-            alloc: _,
-        } = self;
-        let _ = sim.parts();
-        take_parts(sim, &other.sim, whole.as_slice());
-    }
-
-    /// Whether the next cycle of a thread alone changes its slot. The state stays. `trial` is another simulator of the net, whose state
-    /// is lost.
-    pub fn moves(&mut self, thread: usize, trial: &mut SlotSim<'a>) -> bool
+    /// Whether the next cycle of a thread alone changes its slot. The state stays.
+    pub fn moves(&mut self, thread: usize) -> bool
         requires thread { thread < threads_of self.old.modules }
         requires threaded { IsThreadedIn self.old.modules (threads_of self.old.modules) }
-        requires net { IsSameNet self.old trial.old }
         ensures net { IsSameNet self.old self.new }
-        ensures trial { IsSameNet trial.old trial.new }
         ensures moves { MatchBool result (Moving (threads_of self.old.modules) thread self.old) (Moving (threads_of self.old.modules) thread self.old → ⊥) }
         ensures state { IsSameState self.old self.new }
     {
-        let _ = self.sim.parts();
-        if !self.need(thread) {
+        let SlotSim {
+            sim,
+            slots,
+            alloc: _,
+        } = self;
+        let slot = slot_of(sim, slots.as_slice(), thread);
+        if !tells_need(sim, &slot.alone, slot.need) {
             return true;
         }
-        trial.set(&*self);
-        trial.pass(thread);
-        !self.same_slot(thread, &*trial)
+        changes_parts(sim, slot.members.as_slice())
+    }
+
+    /// Whether the next cycle of a thread alone is open and changes its slot. The state stays.
+    pub fn opens(&mut self, thread: usize) -> bool
+        requires thread { thread < threads_of self.old.modules }
+        requires threaded { IsThreadedIn self.old.modules (threads_of self.old.modules) }
+        ensures net { IsSameNet self.old self.new }
+        ensures opens { MatchBool result (Opening (threads_of self.old.modules) thread self.old) (Opening (threads_of self.old.modules) thread self.old → ⊥) }
+        ensures state { IsSameState self.old self.new }
+    {
+        let SlotSim {
+            sim,
+            slots,
+            alloc: _,
+        } = self;
+        let slot = slot_of(sim, slots.as_slice(), thread);
+        if !tells_need(sim, &slot.alone, slot.need) {
+            return false;
+        }
+        changes_parts(sim, slot.members.as_slice())
     }
 
     /// One cycle of a thread alone. What it writes is appended to `out`. Memory is wanting only where it writes something; at `Err`
@@ -214,7 +202,6 @@ impl<'a> SlotSim<'a> {
     {
         let SlotSim {
             sim,
-            whole: _,
             slots,
             alloc: _,
         } = self;
@@ -230,7 +217,6 @@ impl<'a> SlotSim<'a> {
     {
         let SlotSim {
             sim,
-            whole: _,
             slots,
             alloc: _,
         } = self;

@@ -22,7 +22,6 @@ pub loop-thread-preserved : goal.loop-thread-preserved
 loop-thread-preserved c =
     let v = c.loop-thread.invariant in record {
       net = net_trans c.args.sim.now c.loop-thread.sim c.moves.new.self v.net c.if-moves.ensures.net;
-      trial = net_trans c.args.trial.now c.loop-thread.trial c.moves.new.trial v.trial c.if-moves.ensures.trial;
       state = state_trans c.args.sim.now c.loop-thread.sim c.moves.new.self v.net v.state c.if-moves.ensures.state;
       none = none_more c.args.sim.now c.loop-thread.sim v.net v.state c.args.from c.loop-thread.thread v.none c.if-moves.ensures.moves;
     }

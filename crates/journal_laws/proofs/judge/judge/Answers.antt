@@ -4,7 +4,7 @@ use Rattle.journal_laws.proofs.judge.judge.Goals as goal
 pub returns-then-done-clause-verdict : goal.returns-then-done-clause-verdict
 returns-then-done-clause-verdict c =
     let f = c.mover-found.ensures in
-    judged_done c.args.sim.now c.mover-found.new.sim c.threads.ensures.stands f.net f.state c.requires.threaded c.args.entries c.args.most c.if-done.ensures.done
+    judged_done c.args.sim.now c.mover-found.new.sim f.stands f.net f.state c.requires.threaded c.args.entries c.args.most c.if-done.ensures.done
 
 pub returns-then-done-clause-state : goal.returns-then-done-clause-state
 returns-then-done-clause-state c =
@@ -13,7 +13,7 @@ returns-then-done-clause-state c =
 pub returns-in_default-clause-verdict : goal.returns-in_default-clause-verdict
 returns-in_default-clause-verdict c =
     let f = c.mover-found.ensures in
-    judged_stuck c.args.sim.now c.mover-found.new.sim c.threads.ensures.stands f.net f.state c.requires.threaded c.args.entries c.args.most c.if-done.ensures.done
+    judged_stuck c.args.sim.now c.mover-found.new.sim f.stands f.net f.state c.requires.threaded c.args.entries c.args.most c.if-done.ensures.done
     (λ k low l m. c.in_default.ensures.found k l m)
 
 pub returns-in_default-clause-state : goal.returns-in_default-clause-state
@@ -23,8 +23,8 @@ returns-in_default-clause-state c =
 pub returns-then-entries-most-clause-verdict : goal.returns-then-entries-most-clause-verdict
 returns-then-entries-most-clause-verdict c =
     let f = c.mover-found.ensures in
-    let i = c.in-Some.field-0 in
-    judged_entries c.args.sim.now c.mover-found.new.sim c.threads.ensures.stands f.net f.state c.requires.threaded c.args.entries c.args.most i c.if-done.ensures.done
+    let i = c.in-Some.thread in
+    judged_entries c.args.sim.now c.mover-found.new.sim f.stands f.net f.state c.requires.threaded c.args.entries c.args.most i c.if-done.ensures.done
     c.in-Some.ensures.found.within c.in-Some.ensures.found.moves c.if-entries-most.true
 
 pub returns-then-entries-most-clause-state : goal.returns-then-entries-most-clause-state
@@ -34,8 +34,8 @@ returns-then-entries-most-clause-state c =
 pub returns-clause-verdict : goal.returns-clause-verdict
 returns-clause-verdict c =
     let f = c.mover-found.ensures in
-    let i = c.in-Some.field-0 in
-    judged_none c.args.sim.now c.mover-found.new.sim c.threads.ensures.stands f.net f.state c.requires.threaded c.args.entries c.args.most i c.if-done.ensures.done
+    let i = c.in-Some.thread in
+    judged_none c.args.sim.now c.mover-found.new.sim f.stands f.net f.state c.requires.threaded c.args.entries c.args.most i c.if-done.ensures.done
     c.in-Some.ensures.found.within c.in-Some.ensures.found.moves c.if-entries-most.false
 
 pub returns-clause-state : goal.returns-clause-state

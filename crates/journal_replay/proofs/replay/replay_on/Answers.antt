@@ -9,9 +9,8 @@ use Rattle.journal_replay.proofs.Entries.{none_said, some_said, few_cycles}
 use Rattle.journal_replay.proofs.Replaying.{AreSoFar, more_so_far, bad_entry, replayed}
 use Rattle.journal_replay.proofs.replay.replay_on.Goals as goal
 
-pub redo-requires-clause-threaded : goal.redo-requires-clause-threaded
-redo-requires-clause-threaded c =
-    subst (λ (ms : List Module). IsThreadedIn ms (threads_of ms)) (sym (c.loop-number.invariant.net.modules ∙ c.requires.begins.net)) c.requires.threaded
+pub redo-requires : goal.redo-requires
+redo-requires c = record { threaded = subst (λ (ms : List Module). IsThreadedIn ms (threads_of ms)) (sym (c.loop-number.invariant.net.modules ∙ c.requires.begins.net)) c.requires.threaded }
 
 pub returns-in-None : goal.returns-in-None
 returns-in-None c =
@@ -31,7 +30,6 @@ loop-number-preserved c =
     let here = few_cycles r _ _ _ _ _ more done in
     record {
       net = net_trans first r c.redo.new.sim v.net m.net;
-      trial = net_trans c.in_ok-trial.trial c.loop-number.trial c.redo.new.trial v.trial m.trial;
       so = more_so_far first r v.net c.args.journal.now c.loop-number.number c.loop-number.output c.loop-number.cycles v.so c.loop-number-test.true _ c.redo.new.sim
           c.redo.new.output more done;
       few = omega (arith, few, here);
@@ -48,4 +46,4 @@ returns c =
     replayed c.args.sim.now c.loop-number.sim v.net c.args.modules.now c.requires.begins.net c.args.journal.now c.loop-number.output c.loop-number.cycles
     (subst (λ (j : List Entry). AreSoFar c.args.sim.now c.loop-number.sim j c.loop-number.output c.loop-number.cycles)
     (take_all c.loop-number.number c.args.journal.now (omega (arith, past))) v.so)
-    c.in-Some-judge.verdict c.in-Some-judge.ensures.verdict
+    c.in-Ended.verdict c.in-Ended.ensures.verdict

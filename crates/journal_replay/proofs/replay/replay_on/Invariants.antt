@@ -6,7 +6,6 @@ use Rattle.journal_replay.proofs.replay.replay_on.Given as goal
 abbrev pub invariant-loop-number : goal.invariant-loop-number
 invariant-loop-number l = record {
   net : IsSameNet l.initial.sim l.sim;
-  trial : IsSameNet l.initial.trial l.trial;
   so : AreSoFar l.initial.sim l.sim (take l.number l.journal) l.output l.cycles;
   few : l.cycles ≤ l.number * 4097;
 }

@@ -27,7 +27,6 @@ loop-turn-preserved c =
     let new = c.cycle.new.self in
     record {
       net = net_trans old s new (net_trans old r s v.net m.net) y.net;
-      trial = net_trans c.args.trial.now c.loop-turn.trial c.may_step.new.trial v.trial m.trial;
       done = done_more old r c.threads.ensures.stands c.args.thread c.args.is_open c.loop-turn._turn c.requires.threaded c.requires.thread v.net c.args.output.now
           c.loop-turn.output v.done m.may s m.net m.state new
           c.cycle.new.out y.ok;

@@ -25,28 +25,24 @@ pub judge-requires-clause-threaded : goal.judge-requires-clause-threaded
 judge-requires-clause-threaded g c =
     let k = c.self.invariant.1 in threaded_in g.J.Case.modules g.J.Case.threads g.J.Case.layout k.frame c.self.inside.sim k.net
 
-pub judge-requires-clause-net : goal.judge-requires-clause-net
-judge-requires-clause-net g c = let k = c.self.invariant.1 in net_between g.J.Case.layout c.self.inside.sim c.self.inside.trial k.net k.trial_net
-
 pub invariant_of-self : goal.invariant_of-self
 invariant_of-self g c =
     let b = c.self.inside in
     let j = c.judge.ensures in (
       c.self.invariant.0,
-      keeps_on g.J.Case.modules g.J.Case.threads g.J.Case.most g.J.Case.layout b.sim b.trial b.journal.items (vec_capacity b.journal) b.output c.self.invariant.1
-          c.judge.new.sim c.judge.new.trial j.net
-          j.trial (same_top b.sim c.judge.new.sim j.state),
+      keeps_on g.J.Case.modules g.J.Case.threads g.J.Case.most g.J.Case.layout b.sim b.journal.items (vec_capacity b.journal) b.output c.self.invariant.1
+          c.judge.new.sim j.net (same_top b.sim c.judge.new.sim j.state),
     )
 
-pub returns-in-Some-clause-given : goal.returns-in-Some-clause-given
-returns-in-Some-clause-given g c =
+pub returns-in-Ended-clause-given : goal.returns-in-Ended-clause-given
+returns-in-Ended-clause-given g c =
     let b = c.self.inside in
     let v : b.journal.items ≡ c.args.self.now = (let h = c.self.view_is in cc) in
     given_as g.J.Case.modules g.J.Case.threads g.J.Case.most c.args.thread c.args.start.now c.args.closed b.journal.items c.args.self.now c.args.local.now b.journal.items c.args.local.now
-    (answers.Ended c.in-Some.verdict) v
-    (given_ended g.J.Case.modules g.J.Case.threads g.J.Case.most g.J.Case.layout b.sim b.trial b.journal.items (vec_capacity b.journal) b.output c.self.invariant.1 c.in-Some.verdict
-    (judged_as b.sim (length c.as_slice.result.now) b.most (Some c.in-Some.verdict) (length b.journal.items) g.J.Case.most
-    (ap length c.as_slice.ensures.value) c.self.invariant.0 c.in-Some.ensures.verdict)
+    (answers.Ended c.in-Ended.verdict) v
+    (given_ended g.J.Case.modules g.J.Case.threads g.J.Case.most g.J.Case.layout b.sim b.journal.items (vec_capacity b.journal) b.output c.self.invariant.1 c.in-Ended.verdict
+    (judged_as b.sim (length c.as_slice.result.now) b.most (Some c.in-Ended.verdict) (length b.journal.items) g.J.Case.most
+    (ap length c.as_slice.ensures.value) c.self.invariant.0 c.in-Ended.ensures.verdict)
     c.args.thread c.args.start.now c.args.closed c.args.local.now)
 
 pub same_slot-requires-clause-thread : goal.same_slot-requires-clause-thread
@@ -72,9 +68,8 @@ invariant_of-self-then-not-same_slot g c =
     let b = c.self.inside in
     let j = c.judge.ensures in (
       c.self.invariant.0,
-      keeps_on g.J.Case.modules g.J.Case.threads g.J.Case.most g.J.Case.layout b.sim b.trial b.journal.items (vec_capacity b.journal) b.output c.self.invariant.1
-          c.judge.new.sim c.judge.new.trial j.net
-          j.trial (same_top b.sim c.judge.new.sim j.state),
+      keeps_on g.J.Case.modules g.J.Case.threads g.J.Case.most g.J.Case.layout b.sim b.journal.items (vec_capacity b.journal) b.output c.self.invariant.1
+          c.judge.new.sim j.net (same_top b.sim c.judge.new.sim j.state),
     )
 
 pub returns-then-not-same_slot-clause-given : goal.returns-then-not-same_slot-clause-given
@@ -84,9 +79,9 @@ returns-then-not-same_slot-clause-given g c =
     let v : b.journal.items ≡ c.args.self.now = (let h = c.self.view_is in cc) in
     given_as g.J.Case.modules g.J.Case.threads g.J.Case.most c.args.thread c.args.start.now c.args.closed b.journal.items c.args.self.now c.args.local.now
     b.journal.items c.hold.new.self answers.Stale v
-    (given_stale g.J.Case.modules g.J.Case.threads g.J.Case.most g.J.Case.layout b.sim b.trial b.journal.items (vec_capacity b.journal) b.output c.self.invariant.1
+    (given_stale g.J.Case.modules g.J.Case.threads g.J.Case.most g.J.Case.layout b.sim b.journal.items (vec_capacity b.journal) b.output c.self.invariant.1
     (judged_as b.sim (length c.as_slice.result.now) b.most None (length b.journal.items) g.J.Case.most (ap length c.as_slice.ensures.value) c.self.invariant.0 c.in_default.ensures.verdict)
-    c.judge.new.sim c.judge.new.trial j.net j.trial j.state c.args.thread c.args.start.now c.requires.run.starts
+    c.judge.new.sim j.net j.state c.args.thread c.args.start.now c.requires.run.starts
     (subst (λ (r : Running). IsSameSlotOf (threads_of c.judge.new.sim.modules) c.args.thread c.judge.new.sim r → ⊥) c.sim.ensures.run c.if-not-same_slot.ensures)
     c.args.closed c.args.local.now c.hold.new.self c.hold.ensures)
 
@@ -105,7 +100,6 @@ pub enter-requires-clause-net : goal.enter-requires-clause-net
 enter-requires-clause-net g c =
     let k = c.self.invariant.1 in
     let n = net_trans g.J.Case.layout c.self.inside.sim c.judge.new.sim k.net c.judge.ensures.net in (
-      net_between g.J.Case.layout c.judge.new.sim c.judge.new.trial n (net_trans g.J.Case.layout c.self.inside.trial c.judge.new.trial k.trial_net c.judge.ensures.trial),
       subst (λ (r : Running). IsSameNet c.judge.new.sim r) (sym c.sim-2.ensures.run) (net_between g.J.Case.layout c.judge.new.sim c.args.start.now.run n c.sim-2.ensures.net),
       subst (λ (r : Running). IsSameNet c.judge.new.sim r) (sym c.sim-3.ensures.run) (net_between g.J.Case.layout c.judge.new.sim c.args.local.now.run n c.sim-3.ensures.net),
     )
@@ -114,9 +108,9 @@ pub enter-requires-clause-running : goal.enter-requires-clause-running
 enter-requires-clause-running g c =
     let b = c.self.inside in
     let j = c.judge.ensures in
-    running g.J.Case.modules g.J.Case.threads g.J.Case.most g.J.Case.layout b.sim b.trial b.journal.items (vec_capacity b.journal) b.output c.self.invariant.1
+    running g.J.Case.modules g.J.Case.threads g.J.Case.most g.J.Case.layout b.sim b.journal.items (vec_capacity b.journal) b.output c.self.invariant.1
     (judged_as b.sim (length c.as_slice.result.now) b.most None (length b.journal.items) g.J.Case.most (ap length c.as_slice.ensures.value) c.self.invariant.0 c.in_default.ensures.verdict)
-    c.judge.new.sim c.judge.new.trial j.net j.trial j.state
+    c.judge.new.sim j.net j.state
 
 pub enter-requires-clause-most : goal.enter-requires-clause-most
 enter-requires-clause-most g c = c.requires.most
@@ -129,9 +123,9 @@ pub enter-requires-clause-run : goal.enter-requires-clause-run
 enter-requires-clause-run g c =
     let b = c.self.inside in
     let j = c.judge.ensures in
-    copy_on g.J.Case.modules g.J.Case.threads g.J.Case.most g.J.Case.layout b.sim b.trial b.journal.items (vec_capacity b.journal) b.output c.self.invariant.1
+    copy_on g.J.Case.modules g.J.Case.threads g.J.Case.most g.J.Case.layout b.sim b.journal.items (vec_capacity b.journal) b.output c.self.invariant.1
     (judged_as b.sim (length c.as_slice.result.now) b.most None (length b.journal.items) g.J.Case.most (ap length c.as_slice.ensures.value) c.self.invariant.0 c.in_default.ensures.verdict)
-    c.judge.new.sim c.judge.new.trial j.net j.trial j.state c.args.thread c.args.closed c.args.start.now.run c.args.local.now.run c.sim-2.result.now
+    c.judge.new.sim j.net j.state c.args.thread c.args.closed c.args.start.now.run c.args.local.now.run c.sim-2.result.now
     c.sim-3.result.now c.sim-2.ensures.run c.sim-3.ensures.run
     c.requires.run.run
 
@@ -142,13 +136,12 @@ invariant_of-self-in_err-entered g c =
     let x = c.in_err-entered.ensures in (
       c.self.invariant.0,
       subst
-          (λ (o : List ℕ). Keeps g.J.Case.modules g.J.Case.threads g.J.Case.most g.J.Case.layout c.enter.new.sim c.enter.new.trial b.journal.items (vec_capacity b.journal) o)
+          (λ (o : List ℕ). Keeps g.J.Case.modules g.J.Case.threads g.J.Case.most g.J.Case.layout c.enter.new.sim b.journal.items (vec_capacity b.journal) o)
           (sym x.bytes)
-          (keeps_on g.J.Case.modules g.J.Case.threads g.J.Case.most g.J.Case.layout c.judge.new.sim c.judge.new.trial b.journal.items (vec_capacity b.journal) b.output
-          (keeps_on g.J.Case.modules g.J.Case.threads g.J.Case.most g.J.Case.layout b.sim b.trial b.journal.items (vec_capacity b.journal) b.output
-          c.self.invariant.1 c.judge.new.sim c.judge.new.trial j.net
-          j.trial (same_top b.sim c.judge.new.sim j.state))
-          c.enter.new.sim c.enter.new.trial x.net x.trial (same_top c.judge.new.sim c.enter.new.sim x.state)),
+          (keeps_on g.J.Case.modules g.J.Case.threads g.J.Case.most g.J.Case.layout c.judge.new.sim b.journal.items (vec_capacity b.journal) b.output
+          (keeps_on g.J.Case.modules g.J.Case.threads g.J.Case.most g.J.Case.layout b.sim b.journal.items (vec_capacity b.journal) b.output
+          c.self.invariant.1 c.judge.new.sim j.net (same_top b.sim c.judge.new.sim j.state))
+          c.enter.new.sim x.net (same_top c.judge.new.sim c.enter.new.sim x.state)),
     )
 
 pub returns-in_err-entered-clause-given : goal.returns-in_err-entered-clause-given
@@ -161,9 +154,9 @@ returns-in_err-entered-clause-prints g c =
     let v : b.journal.items ≡ c.args.self.now = (let h = c.self.view_is in cc) in
     on_err c.from_residual.result (InTop g.J.Case.modules (λ top. IsPrinting g.J.Case.modules top g.J.Case.threads g.J.Case.most c.args.thread c.args.start.now c.args.self.now c.args.local.now))
     (printing_as g.J.Case.modules g.J.Case.threads g.J.Case.most c.args.thread c.args.start.now b.journal.items c.args.self.now c.args.local.now v
-    (printing g.J.Case.modules g.J.Case.threads g.J.Case.most g.J.Case.layout b.sim b.trial b.journal.items (vec_capacity b.journal) b.output c.self.invariant.1
+    (printing g.J.Case.modules g.J.Case.threads g.J.Case.most g.J.Case.layout b.sim b.journal.items (vec_capacity b.journal) b.output c.self.invariant.1
     (judged_as b.sim (length c.as_slice.result.now) b.most None (length b.journal.items) g.J.Case.most (ap length c.as_slice.ensures.value) c.self.invariant.0 c.in_default.ensures.verdict)
-    c.judge.new.sim c.judge.new.trial j.net j.trial j.state c.args.thread c.args.start.now c.requires.run.starts
+    c.judge.new.sim j.net j.state c.args.thread c.args.start.now c.requires.run.starts
     (subst (λ (r : Running). IsSameSlotOf (threads_of c.judge.new.sim.modules) c.args.thread c.judge.new.sim r) c.sim.ensures.run c.if-not-same_slot.ensures) c.args.local.now
     (opening_of c.judge.new.sim c.sim-3.result.now c.args.local.now.run c.args.thread c.sim-3.ensures.run c.in_err-entered.ensures.prints)))
 
@@ -184,13 +177,12 @@ invariant_of-self-in_default-entered g c =
     c.enter.new.output c.in_ok-entered.entered x.entered c.in_default-entered.is in (
       c.self.invariant.0,
       subst
-          (λ (o : List ℕ). Keeps g.J.Case.modules g.J.Case.threads g.J.Case.most g.J.Case.layout c.enter.new.sim c.enter.new.trial b.journal.items (vec_capacity b.journal) o)
+          (λ (o : List ℕ). Keeps g.J.Case.modules g.J.Case.threads g.J.Case.most g.J.Case.layout c.enter.new.sim b.journal.items (vec_capacity b.journal) o)
           (sym w.1)
-          (keeps_on g.J.Case.modules g.J.Case.threads g.J.Case.most g.J.Case.layout c.judge.new.sim c.judge.new.trial b.journal.items (vec_capacity b.journal) b.output
-          (keeps_on g.J.Case.modules g.J.Case.threads g.J.Case.most g.J.Case.layout b.sim b.trial b.journal.items (vec_capacity b.journal) b.output
-          c.self.invariant.1 c.judge.new.sim c.judge.new.trial j.net
-          j.trial (same_top b.sim c.judge.new.sim j.state))
-          c.enter.new.sim c.enter.new.trial x.net x.trial
+          (keeps_on g.J.Case.modules g.J.Case.threads g.J.Case.most g.J.Case.layout c.judge.new.sim b.journal.items (vec_capacity b.journal) b.output
+          (keeps_on g.J.Case.modules g.J.Case.threads g.J.Case.most g.J.Case.layout b.sim b.journal.items (vec_capacity b.journal) b.output
+          c.self.invariant.1 c.judge.new.sim j.net (same_top b.sim c.judge.new.sim j.state))
+          c.enter.new.sim x.net
           (same_of c.judge.new.sim c.enter.new.sim c.sim-3.result.now c.args.local.now.run c.sim-3.ensures.run c.args.thread c.args.closed b.output c.enter.new.output w)),
     )
 
@@ -204,9 +196,9 @@ returns-in_default-entered-clause-given g c =
     c.enter.new.output c.in_ok-entered.entered x.entered c.in_default-entered.is in
     given_as g.J.Case.modules g.J.Case.threads g.J.Case.most c.args.thread c.args.start.now c.args.closed b.journal.items c.args.self.now c.args.local.now
     b.journal.items c.args.local.now answers.Waits v
-    (given_waits g.J.Case.modules g.J.Case.threads g.J.Case.most g.J.Case.layout b.sim b.trial b.journal.items (vec_capacity b.journal) b.output c.self.invariant.1
+    (given_waits g.J.Case.modules g.J.Case.threads g.J.Case.most g.J.Case.layout b.sim b.journal.items (vec_capacity b.journal) b.output c.self.invariant.1
     (judged_as b.sim (length c.as_slice.result.now) b.most None (length b.journal.items) g.J.Case.most (ap length c.as_slice.ensures.value) c.self.invariant.0 c.in_default.ensures.verdict)
-    c.judge.new.sim c.judge.new.trial j.net j.trial j.state c.args.thread c.args.start.now c.requires.run.starts
+    c.judge.new.sim j.net j.state c.args.thread c.args.start.now c.requires.run.starts
     (subst (λ (r : Running). IsSameSlotOf (threads_of c.judge.new.sim.modules) c.args.thread c.judge.new.sim r) c.sim.ensures.run c.if-not-same_slot.ensures)
     c.args.closed c.args.local.now c.enter.new.sim w.0)
 
@@ -218,9 +210,9 @@ push_reserved-requires g c =
     let in_bounds : length b.journal.items ≤ g.J.Case.most = k.within in
     let roomy : g.J.Case.most ≤ vec_capacity b.journal = k.roomy in
     let room =
-    free g.J.Case.modules g.J.Case.threads g.J.Case.most g.J.Case.layout b.sim b.trial b.journal.items (vec_capacity b.journal) b.output k
+    free g.J.Case.modules g.J.Case.threads g.J.Case.most g.J.Case.layout b.sim b.journal.items (vec_capacity b.journal) b.output k
     (judged_as b.sim (length c.as_slice.result.now) b.most None (length b.journal.items) g.J.Case.most (ap length c.as_slice.ensures.value) c.self.invariant.0 c.in_default.ensures.verdict)
-    c.judge.new.sim c.judge.new.trial j.net j.trial j.state in
+    c.judge.new.sim j.net j.state in
     let long = c.as_slice.ensures.len in
     let same = ap length c.as_slice.ensures.value in omega (arith, in_bounds, roomy, room, long, same)
 
@@ -239,14 +231,14 @@ invariant_of-self-2 g c =
     let x = c.in_ok-entered.ensures in
     let made = making_of c.judge.new.sim c.enter.new.sim c.sim-3.result.now c.args.local.now.run c.sim-3.ensures.run c.args.thread c.args.closed b.output
     c.enter.new.output c.in_ok-entered.entered x.entered
-    c.in-Some-entered.entry c.in-Some-entered.is in (
+    c.in-Some.entry c.in-Some.is in (
       c.self.invariant.0,
-      keeps_entered g.J.Case.modules g.J.Case.threads g.J.Case.most g.J.Case.layout b.sim b.trial b.journal.items (vec_capacity b.journal) b.output c.self.invariant.1
+      keeps_entered g.J.Case.modules g.J.Case.threads g.J.Case.most g.J.Case.layout b.sim b.journal.items (vec_capacity b.journal) b.output c.self.invariant.1
           (judged_as b.sim (length c.as_slice.result.now) b.most None (length b.journal.items) g.J.Case.most (ap length c.as_slice.ensures.value) c.self.invariant.0 c.in_default.ensures.verdict)
-          c.judge.new.sim c.judge.new.trial j.net j.trial j.state c.args.thread c.args.start.now c.requires.run.starts
+          c.judge.new.sim j.net j.state c.args.thread c.args.start.now c.requires.run.starts
           (subst (λ (r : Running). IsSameSlotOf (threads_of c.judge.new.sim.modules) c.args.thread c.judge.new.sim r) c.sim.ensures.run c.if-not-same_slot.ensures)
           c.args.closed c.args.local.now c.enter.new.sim
-          c.enter.new.trial c.in-Some-entered.entry x.net x.trial c.enter.new.output made c.push_reserved.new.self.items c.push_reserved.ensures.items (vec_capacity c.push_reserved.new.self)
+          c.in-Some.entry x.net c.enter.new.output made c.push_reserved.new.self.items c.push_reserved.ensures.items (vec_capacity c.push_reserved.new.self)
           (let e = c.push_reserved.ensures.capacity in omega (arith, e)),
     )
 
@@ -258,13 +250,13 @@ returns-clause-given g c =
     let v : b.journal.items ≡ c.args.self.now = (let h = c.self.view_is in cc) in
     let made = making_of c.judge.new.sim c.enter.new.sim c.sim-3.result.now c.args.local.now.run c.sim-3.ensures.run c.args.thread c.args.closed b.output
     c.enter.new.output c.in_ok-entered.entered x.entered
-    c.in-Some-entered.entry c.in-Some-entered.is in
+    c.in-Some.entry c.in-Some.is in
     given_as g.J.Case.modules g.J.Case.threads g.J.Case.most c.args.thread c.args.start.now c.args.closed b.journal.items c.args.self.now c.args.local.now
     c.push_reserved.new.self.items c.hold-2.new.self
     answers.Committed v
-    (given_committed g.J.Case.modules g.J.Case.threads g.J.Case.most g.J.Case.layout b.sim b.trial b.journal.items (vec_capacity b.journal) b.output c.self.invariant.1
+    (given_committed g.J.Case.modules g.J.Case.threads g.J.Case.most g.J.Case.layout b.sim b.journal.items (vec_capacity b.journal) b.output c.self.invariant.1
     (judged_as b.sim (length c.as_slice.result.now) b.most None (length b.journal.items) g.J.Case.most (ap length c.as_slice.ensures.value) c.self.invariant.0 c.in_default.ensures.verdict)
-    c.judge.new.sim c.judge.new.trial j.net j.trial j.state c.args.thread c.args.start.now c.requires.run.starts
+    c.judge.new.sim j.net j.state c.args.thread c.args.start.now c.requires.run.starts
     (subst (λ (r : Running). IsSameSlotOf (threads_of c.judge.new.sim.modules) c.args.thread c.judge.new.sim r) c.sim.ensures.run c.if-not-same_slot.ensures)
     c.args.closed c.args.local.now c.enter.new.sim
-    c.enter.new.trial c.in-Some-entered.entry x.net x.trial c.enter.new.output made c.push_reserved.new.self.items c.push_reserved.ensures.items c.hold-2.new.self c.hold-2.ensures)
+    c.in-Some.entry x.net c.enter.new.output made c.push_reserved.new.self.items c.push_reserved.ensures.items c.hold-2.new.self c.hold-2.ensures)

@@ -6,6 +6,6 @@ pub returns : goal.returns
 returns g c =
     let b = c.self.inside in
     let v : b.journal.items ≡ c.args.self.now = (let h = c.self.view_is in cc) in
-    slot_at g.J.Case.modules g.J.Case.threads g.J.Case.most g.J.Case.layout b.sim b.trial b.journal.items (vec_capacity b.journal) b.output c.self.invariant.1
+    slot_at g.J.Case.modules g.J.Case.threads g.J.Case.most g.J.Case.layout b.sim b.journal.items (vec_capacity b.journal) b.output c.self.invariant.1
     c.args.thread c.hold.new.self c.hold.ensures
     c.args.self.now v

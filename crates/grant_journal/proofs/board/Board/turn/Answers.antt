@@ -50,7 +50,7 @@ unreachable-requires g c =
     let k = c.self.invariant.1 in
     let v : b.journal.items ≡ c.args.self.now = (let h = c.self.view_is in cc) in
     let one =
-    one_state g.J.Case.modules g.J.Case.threads g.J.Case.most g.J.Case.layout b.sim b.trial b.journal.items (vec_capacity b.journal) b.output k c.threads.ensures.stands in
+    one_state g.J.Case.modules g.J.Case.threads g.J.Case.most g.J.Case.layout b.sim b.journal.items (vec_capacity b.journal) b.output k c.threads.ensures.stands in
     goes_through g.J.Case.modules g.J.Case.threads g.J.Case.most g.J.Case.layout k.frame c.args.self.now i c.closed-closed.result c.copy_slot.new.local c.set.new.self c.closed-closed.new.self
     (subst (λ (j : List Entry). IsSlotAt g.J.Case.modules g.J.Case.threads j i c.copy_slot.new.local) c.in-Thread.ensures.journal c.copy_slot.ensures) c.set.ensures c.closed-closed.ensures.run
     (subst

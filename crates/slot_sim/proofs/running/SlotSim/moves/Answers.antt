@@ -1,35 +1,32 @@
-use Rattle.std.proofs.Common.{◌≡◌, ℕ, refl, ap, ◌∙◌, subst}
+use Rattle.std.proofs.Common.{◌≡◌, ◌<◌, ℕ, List, refl, ap, sym, ◌∙◌, subst}
 use Rattle.std.specs.Prelude.{MatchBool}
 use Rattle.sim_layout.specs.Rounds.{threads_of}
-use Rattle.sim_layout.specs.Running.{Running, Stands}
-use Rattle.slot_sim.specs.Slots.{IsSameSlotOf}
-use Rattle.slot_sim.proofs.Moving.{closed_moving, stays_put, moves_on, match_not, when_true, when_false}
+use Rattle.sim_layout.specs.Running.{Running, flat}
+use Rattle.slot_sim.specs.Changing.{parts_change}
+use Rattle.slot_sim.specs.Slots.{IsThreadedIn, Moving}
+use Rattle.slot_sim.proofs.Moving.{closed_moving, moving_told}
 use Rattle.slot_sim.proofs.running.SlotSim.moves.Goals as goal
 
-pub returns-then-not-need-clause-moves : goal.returns-then-not-need-clause-moves
-returns-then-not-need-clause-moves c =
-    let r : Running = c.args.self.now in
+pub returns-then-not-tells_need-clause-moves : goal.returns-then-not-tells_need-clause-moves
+returns-then-not-tells_need-clause-moves c =
+    let r : Running = c.self.inside.sim in
     let i = c.args.thread in
-    let v : c.self.inside.sim ≡ r = (let h = c.self.view_is in cc) in
-    let st : Stands r = subst Stands v c.parts.ensures.stands in
-    closed_moving r st (threads_of r.modules) i c.requires.threaded refl c.requires.thread c.if-not-need.ensures.need
+    let is = c.slot_of-slot.ensures.slot in
+    let v : c.args.self.now ≡ r = (let h = c.self.view_is in cc) in
+    subst (λ (x : Running). Moving (threads_of x.modules) i x) (sym v)
+    (closed_moving r c.slot_of-slot.ensures.stands (threads_of r.modules) i (subst (λ (x : Running). IsThreadedIn x.modules (threads_of x.modules)) v c.requires.threaded) refl
+    (subst (λ (x : Running). i < threads_of x.modules) v c.requires.thread)
+    (c.if-not-tells_need.ensures.need (threads_of r.modules) i is.alone_is is.need))
 
 pub returns-clause-moves : goal.returns-clause-moves
 returns-clause-moves c =
-    let r : Running = c.args.self.now in
-    let s : Running = c.need.new.self in
-    let t : Running = c.set.new.self in
-    let n : Running = c.pass.new.self in
+    let r : Running = c.self.inside.sim in
     let i = c.args.thread in
-    let b = c.same_slot.result in
-    let v : c.self.inside.sim ≡ r = (let h = c.self.view_is in cc) in
-    let st : Stands r = subst Stands v c.parts.ensures.stands in
-    let net = c.if-not-need.ensures.net in
-    let state = c.if-not-need.ensures.state in
-    let trial : t.modules ≡ r.modules = c.set.ensures.net.modules ∙ c.requires.net.modules in
-    let Same : Type 0 = IsSameSlotOf (threads_of r.modules) i s n in
-    let told : MatchBool b (IsSameSlotOf (threads_of r.modules) i s n) (IsSameSlotOf (threads_of r.modules) i s n → ⊥) =
-    subst (λ (k : ℕ). MatchBool b (IsSameSlotOf k i s n) (IsSameSlotOf k i s n → ⊥)) (ap threads_of net.modules) c.same_slot.ensures in
-    match_not b
-    (λ e. moves_on r s t n st (threads_of r.modules) i net state trial c.set.ensures.state c.pass.ensures.cycle (when_false b Same (Same → ⊥) told e))
-    (λ e. stays_put r s t n st (threads_of r.modules) i net state trial c.set.ensures.state c.pass.ensures.cycle (when_true b Same (Same → ⊥) told e))
+    let n : Running = c.tells_need.new.sim in
+    let b = c.changes_parts.result in
+    let s = c.slot_of-slot.result.now in
+    let v : c.args.self.now ≡ r = (let h = c.self.view_is in cc) in
+    let e : b ≡ parts_change n.modules n.parts (flat n) s.members.items =
+    c.changes_parts.ensures ∙ ap (λ (l : List ℕ). parts_change n.modules n.parts (flat n) l) c.as_slice-2.ensures.value in
+    subst (λ (x : Running). MatchBool b (Moving (threads_of x.modules) i x) (Moving (threads_of x.modules) i x → ⊥)) (sym v)
+    (moving_told r n i s c.slot_of-slot.ensures.slot (subst (λ (x : Running). i < threads_of x.modules) v c.requires.thread) c.if-not-tells_need.ensures.settled b e)
