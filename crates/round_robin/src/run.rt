@@ -1,6 +1,9 @@
 // The run, until done is shown or all cycles have run.
 
-ghost use Rattle.std.specs.Prelude.{IfOk, IfErr};
+ghost use Rattle.std.specs.Prelude.{◌≡◌, Some, IfOk, IfErr};
+ghost use Rattle.netlist.specs.declared.netlist.Module as netlist_module;
+ghost use Rattle.verilog_meaning.specs.Names.{top_of};
+ghost use Rattle.verilog_meaning.specs.Threads.{Place, Depends};
 ghost use Rattle.cycle_sim.specs.Opened.{IsOpenable, IsCause};
 ghost use Rattle.sim_layout.specs.Rounds.{threads_of};
 ghost use Rattle.round_robin.specs.Round.{IsBegun, IsRound};
@@ -40,10 +43,12 @@ fn turn(alloc: Global, sim: &mut Sim<'_>, cycles: u32) -> Result<Ran, AllocError
     })
 }
 
-/// Runs a net until done is shown, and for so many cycles at most. An error has its cause in the net, or memory is wanting.
+/// Runs a net until done is shown, and for so many cycles at most. It runs only where no signal depends on itself: an error has its cause in the net,
+/// or memory is wanting.
 pub fn run(alloc: Global, modules: &[Module], cycles: u32) -> Result<Ran, OpenError>
     requires { IsOpenable modules.now }
     ensures ok { IfOk result (λ r. IsRound modules.now (threads_of modules.now) cycles r.cycles r.is_done r.printed) }
+    ensures loopless { IfOk result (λ _. (top : netlist_module.Module) → top_of modules.now ≡ Some top → (p : Place) → Depends modules.now top p p → ⊥) }
     ensures cause { IfErr result (IsCause modules.now) }
 {
     let mut sim = Sim::open(alloc, modules)?;

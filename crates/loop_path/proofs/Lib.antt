@@ -1,0 +1,4 @@
+pub mod Depending
+pub mod Nesting
+pub mod Putting
+pub mod Looking

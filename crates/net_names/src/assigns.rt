@@ -1,0 +1,91 @@
+// The assigns of a module, found by their targets.
+
+ghost use Rattle.std.specs.Prelude.{◌≡◌, ◌++◌, option_map, option_copied, map, OnOk, IfOk};
+ghost use Rattle.std.specs.List.{flat_map};
+ghost use Rattle.netlist.specs.NetlistOf as spec;
+ghost use Rattle.net_names.specs.Found.{behind, targets_of};
+ghost use Rattle.net_names.specs.Tables.{names_of};
+
+use crate::names::add_name;
+use crate::places::Places;
+use sqlite_items::Items;
+use std::alloc::{AllocError, Global};
+use std::marker::Model;
+use verilog_tree::name::Identifier;
+use verilog_tree::tree::{Assign, Expression, Item};
+
+/// The assigns of a module. Contracts see them in the text's order.
+#[derive(Drop)]
+pub struct Assigns<'n> {
+    targets: Places<'n>,
+    list: Items<&'n Assign>,
+}
+
+impl<'n> Model for Assigns<'n> {
+    ghost use Rattle.std.specs.Prelude.{◌≡◌, List};
+    ghost use Rattle.verilog_tree.specs.declared.tree.Assign.{Assign};
+    ghost use Rattle.net_names.specs.Found.{behind, targets_of};
+
+    ghost Value = { List Assign };
+
+    ghost view = { λ a. behind a.list };
+
+    ghost invariant = { λ a. a.targets ≡ targets_of (behind a.list) };
+}
+
+fn add_assign<'n>(assigns: &mut Items<&'n Assign>, item: &'n Item) -> Result<(), AllocError>
+    ensures { OnOk result (behind assigns.new ≡ behind assigns.old ++ spec.some (spec.assign_item item.now)) }
+{
+    match item {
+        Item::Assign(assign) => assigns.push(assign),
+        _ => Ok(()),
+    }
+}
+
+fn all_assigns<'n>(alloc: Global, items: &'n [Item]) -> Result<Items<&'n Assign>, AllocError>
+    ensures { IfOk result (λ assigns. behind assigns ≡ flat_map (λ x. spec.some (spec.assign_item x)) items.now) }
+{
+    let mut assigns = Items::new(alloc);
+    for item in items {
+        add_assign(&mut assigns, item)?;
+    }
+    Ok(assigns)
+}
+
+fn targets<'n>(alloc: Global, assigns: &[&'n Assign]) -> Result<Places<'n>, AllocError>
+    ensures { IfOk result (λ places. places ≡ targets_of (behind assigns.now)) }
+{
+    let mut names = Items::new(alloc);
+    for assign in assigns {
+        add_name(&mut names, &assign.target)?;
+    }
+    Places::of(alloc, names)
+}
+
+fn value_of<'n>(assign: Option<&'n Assign>) -> Option<&'n Expression>
+    ensures { option_copied result ≡ option_map (λ a. a.value) (option_copied assign.entry) }
+{
+    match assign {
+        Some(assign) => Some(&assign.value),
+        None => None,
+    }
+}
+
+impl<'n> Assigns<'n> {
+    /// The assigns among these items.
+    pub fn of(alloc: Global, items: &'n [Item]) -> Result<Assigns<'n>, AllocError>
+        ensures { IfOk result (λ a. a ≡ flat_map (λ x. spec.some (spec.assign_item x)) items.now) }
+    {
+        let list = all_assigns(alloc, items)?;
+        let targets = targets(alloc, list.as_slice())?;
+        Ok(Assigns { targets, list })
+    }
+
+    /// The right side that is assigned to a name first.
+    pub fn get(&self, name: &Identifier) -> Option<&'n Expression>
+        ensures { option_copied result ≡ spec.assigned self.now name.now }
+    {
+        let at = self.targets.of_name(name);
+        value_of(self.list.get(at).copied())
+    }
+}

@@ -1,0 +1,146 @@
+// The initial constants of a module, found by register or by word of a memory.
+
+ghost use Rattle.std.specs.Prelude.{◌≡◌, ◌++◌, [], IfOk, OnOk};
+ghost use Rattle.std.specs.List.{flat_map};
+ghost use Rattle.netlist.specs.NetlistOf as spec;
+ghost use Rattle.net_names.specs.Found.{behind};
+ghost use Rattle.net_names.specs.Tables.{AreConstants, inserted, named, noted, same_place, place_of};
+
+use indexmap::IndexMap;
+use sqlite_items::Items;
+use std::alloc::{AllocError, Global};
+use std::marker::Model;
+use verilog_tree::name::Identifier;
+use verilog_tree::tree::{InitialConstant, Item};
+
+/// Registers and words of memories, each with its number.
+#[derive(Drop)]
+struct Words<'n> {
+    numbers: IndexMap<(&'n [u8], Option<u64>), u64>,
+}
+
+impl<'n> Model for Words<'n> {
+    ghost use Rattle.std.specs.Prelude.{ℕ, List, map};
+    ghost use Rattle.net_names.specs.Tables.{Place, plain_place};
+
+    ghost Value = { List (Place × ℕ) };
+
+    ghost view = { λ w. map plain_place w.numbers.entries };
+}
+
+impl<'n> Words<'n> {
+    fn new(alloc: Global) -> Words<'n>
+        ensures { result ≡ [] }
+    {
+        Words {
+            numbers: IndexMap::new(alloc),
+        }
+    }
+
+    fn get(&self, name: &[u8], word: Option<u64>) -> Option<u64>
+        ensures { result ≡ named same_place self.now (name.now, word) }
+    {
+        self.numbers.get(&(name, word)).copied()
+    }
+
+    fn insert(&mut self, name: &'n [u8], word: Option<u64>, number: u64) -> Result<(), AllocError>
+        ensures { OnOk result (self.new ≡ inserted same_place self.old (name.now, word) number) }
+    {
+        self.numbers.insert((name, word), number)?;
+        Ok(())
+    }
+
+    /// Notes a constant, unless its place has one.
+    fn note(&mut self, constant: &'n InitialConstant) -> Result<(), AllocError>
+        ensures { OnOk result (self.new ≡ noted same_place self.old (place_of constant.now) constant.now.value.value) }
+    {
+        let name = constant.name.as_str().as_bytes();
+        if self.get(name, constant.word).is_some() {
+            return Ok(());
+        }
+        self.insert(name, constant.word, constant.value.value)
+    }
+}
+
+/// The initial constants of a module. Contracts see them in the text's order.
+#[derive(Drop)]
+pub struct Initials<'n> {
+    list: Items<&'n InitialConstant>,
+    words: Words<'n>,
+}
+
+impl<'n> Model for Initials<'n> {
+    ghost use Rattle.std.specs.Prelude.{List};
+    ghost use Rattle.verilog_tree.specs.declared.tree.InitialConstant.{InitialConstant};
+    ghost use Rattle.net_names.specs.Found.{behind};
+    ghost use Rattle.net_names.specs.Tables.{AreConstants};
+
+    ghost Value = { List InitialConstant };
+
+    ghost view = { λ c. behind c.list };
+
+    ghost invariant = { λ c. AreConstants c.words (behind c.list) };
+}
+
+fn constants_of(item: &Item) -> &[InitialConstant]
+    ensures { result.now ≡ spec.initial_constants item.now }
+{
+    match item {
+        Item::Initial(x) => x.constants.as_slice(),
+        _ => &[],
+    }
+}
+
+fn add_constants<'n>(
+    list: &mut Items<&'n InitialConstant>,
+    constants: &'n [InitialConstant],
+) -> Result<(), AllocError>
+    ensures { OnOk result (behind list.new ≡ behind list.old ++ constants.now) }
+{
+    for constant in constants {
+        list.push(constant)?;
+    }
+    Ok(())
+}
+
+fn all_constants<'n>(
+    alloc: Global,
+    items: &'n [Item],
+) -> Result<Items<&'n InitialConstant>, AllocError>
+    ensures { IfOk result (λ list. behind list ≡ flat_map spec.initial_constants items.now) }
+{
+    let mut list = Items::new(alloc);
+    for item in items {
+        add_constants(&mut list, constants_of(item))?;
+    }
+    Ok(list)
+}
+
+fn numbered<'n>(alloc: Global, list: &[&'n InitialConstant]) -> Result<Words<'n>, AllocError>
+    ensures { IfOk result (λ words. AreConstants words (behind list.now)) }
+{
+    let mut words = Words::new(alloc);
+    for constant in list {
+        words.note(constant)?;
+    }
+    Ok(words)
+}
+
+impl<'n> Initials<'n> {
+    /// The constants of these items.
+    pub fn of(alloc: Global, items: &'n [Item]) -> Result<Initials<'n>, AllocError>
+        ensures { IfOk result (λ c. c ≡ flat_map spec.initial_constants items.now) }
+    {
+        let list = all_constants(alloc, items)?;
+        let words = numbered(alloc, list.as_slice())?;
+        Ok(Initials { list, words })
+    }
+
+    /// The first constant of a register, or of a word of a memory, and 0 where it has none.
+    pub fn number(&self, name: &Identifier, word: Option<u64>) -> u64
+        ensures { result ≡ spec.initial_of self.now name.now word }
+    {
+        let bytes = name.as_str().as_bytes();
+        self.words.get(bytes, word).unwrap_or(0)
+    }
+}

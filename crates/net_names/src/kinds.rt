@@ -1,0 +1,153 @@
+// The modules of a net, found by their names.
+
+ghost use Rattle.std.specs.Prelude.{◌≡◌, ◌≤◌, true, take, map, unwrap_or, option_map, slice_get, IfOk, length};
+ghost use Rattle.netlist.specs.NetlistOf as spec;
+ghost use Rattle.net_names.specs.Names as declared;
+ghost use Rattle.net_names.specs.Kinds.{IsKind};
+
+use crate::names::{add_name, is_side};
+use crate::places::Places;
+use sqlite_items::{Items, at};
+use std::alloc::{AllocError, Global};
+use std::marker::Model;
+use verilog_tree::name::Identifier;
+use verilog_tree::tree::{Item, Module, Port};
+
+/// A module, and how many signals stand before its outputs.
+#[derive(Clone, Copy)]
+pub struct Kind<'n> {
+    pub module: &'n Module,
+    pub first_output: usize,
+}
+
+/// The modules of a net. Contracts see them in the text's order.
+#[derive(Drop)]
+pub struct Kinds<'n> {
+    names: Places<'n>,
+    modules: &'n [Module],
+    first_outputs: Items<usize>,
+}
+
+impl<'n> Model for Kinds<'n> {
+    ghost use Rattle.std.specs.Prelude.{◌≡◌, List, map};
+    ghost use Rattle.verilog_tree.specs.declared.tree.Module.{Module};
+    ghost use Rattle.netlist.specs.NetlistOf.{module_names};
+    ghost use Rattle.net_names.specs.Names.{first_output};
+    ghost use Rattle.std.specs.Coded.{codes};
+    ghost use Rattle.verilog_tree.specs.contracts.tree.Statement as statement;
+
+    ghost Value = { List Module };
+
+    ghost coded = { Prim.hlevel (codes, statement.the_row.coded) };
+
+    ghost view = { λ k. k.modules.now };
+
+    ghost invariant = { λ k. (k.names ≡ module_names k.modules.now) × (k.first_outputs ≡ map first_output k.modules.now) };
+}
+
+fn names<'n>(alloc: Global, modules: &'n [Module]) -> Result<Places<'n>, AllocError>
+    ensures { IfOk result (λ places. places ≡ spec.module_names modules.now) }
+{
+    let mut names = Items::new(alloc);
+    for module in modules {
+        add_name(&mut names, &module.name)?;
+    }
+    Places::of(alloc, names)
+}
+
+fn input_count(ports: &[Port]) -> usize
+    ensures { result ≡ length (declared.side_names true ports.now) }
+{
+    let mut count = 0;
+    for port in ports {
+        if is_side(port, true) {
+            count += 1;
+        }
+    }
+    count
+}
+
+fn is_signal(item: &Item) -> bool
+    ensures { result ≡ declared.is_signal item.now }
+{
+    matches!(item, Item::Wire(_) | Item::Register(_))
+}
+
+fn signal_count(items: &[Item]) -> usize
+    ensures { result ≡ length (declared.item_names items.now) }
+{
+    let mut count = 0;
+    for item in items {
+        if is_signal(item) {
+            count += 1;
+        }
+    }
+    count
+}
+
+fn first_output(module: &Module) -> Result<usize, AllocError>
+    ensures { IfOk result (λ first. first ≡ declared.first_output module.now) }
+{
+    let inputs = input_count(module.ports.as_slice());
+    let signals = signal_count(module.items.as_slice());
+    inputs.checked_add(signals).ok_or(AllocError)
+}
+
+fn first_outputs(alloc: Global, modules: &[Module]) -> Result<Items<usize>, AllocError>
+    ensures { IfOk result (λ firsts. firsts ≡ map declared.first_output modules.now) }
+{
+    let mut firsts = Items::new(alloc);
+    for module in modules {
+        firsts.push(first_output(module)?)?;
+    }
+    Ok(firsts)
+}
+
+impl<'n> Kinds<'n> {
+    /// These modules.
+    pub fn of(alloc: Global, modules: &'n [Module]) -> Result<Kinds<'n>, AllocError>
+        ensures { IfOk result (λ k. k ≡ modules.now) }
+    {
+        let names = names(alloc, modules)?;
+        let first_outputs = first_outputs(alloc, modules)?;
+        Ok(Kinds {
+            names,
+            modules,
+            first_outputs,
+        })
+    }
+
+    /// The first place of a name among the modules before one, and that one's where it is none of theirs.
+    pub fn place(&self, before: usize, name: &Identifier) -> usize
+        requires { before ≤ length self.now }
+        ensures place { result ≡ spec.place (spec.module_names (take before self.now)) name.now }
+        ensures within { result ≤ before }
+    {
+        self.names.of_name(name).min(before)
+    }
+
+    /// How many signals stand before the outputs of the module at a place.
+    fn first_output(&self, place: usize) -> usize
+        ensures { result ≡ unwrap_or (option_map declared.first_output (slice_get self.now place)) 0 }
+    {
+        self.first_outputs.get(place).copied().unwrap_or(0)
+    }
+
+    /// The first module of a name among those before one.
+    pub fn get(&self, before: usize, name: &Identifier) -> Option<Kind<'n>>
+        requires { before ≤ length self.now }
+        ensures { IsKind self.now before name.now result }
+    {
+        let place = self.place(before, name);
+        if place == before {
+            return None;
+        }
+        match at(self.modules, place) {
+            Some(module) => Some(Kind {
+                module,
+                first_output: self.first_output(place),
+            }),
+            None => None,
+        }
+    }
+}

@@ -1,0 +1,176 @@
+// The signals of a module that outputs of its instances drive.
+
+ghost use Rattle.std.specs.Prelude.{◌≡◌, ◌≤◌, ◌+◌, ◌++◌, ◌∷◌, [], false, length, OnOk, IfOk};
+ghost use Rattle.std.specs.List.{flat_map};
+ghost use Rattle.netlist.specs.NetlistOf as spec;
+ghost use Rattle.net_names.specs.Found.{behind};
+ghost use Rattle.net_names.specs.Ties as tied;
+
+use crate::connections::Connections;
+use crate::kinds::Kinds;
+use crate::names::is_side;
+use crate::places::Places;
+use netlist::netlist::Source;
+use sqlite_items::Items;
+use std::alloc::{AllocError, Global};
+use std::marker::Model;
+use verilog_tree::name::Identifier;
+use verilog_tree::tree::{Instance, Item, Port};
+
+/// The name of a signal, and the instance and the port that it is tied to.
+#[derive(Clone, Copy)]
+pub struct Tie<'n> {
+    pub name: &'n [u8],
+    pub instance: usize,
+    pub port: usize,
+}
+
+/// The signals that are tied to outputs. Contracts see them in the order of the instances.
+#[derive(Drop)]
+pub struct Ties<'n> {
+    names: Places<'n>,
+    list: Items<Tie<'n>>,
+}
+
+impl<'n> Model for Ties<'n> {
+    ghost use Rattle.std.specs.Prelude.{◌≡◌, List};
+    ghost use Rattle.net_names.specs.Ties.{Tied, ties_of, tied_names};
+
+    ghost Value = { List Tied };
+
+    ghost view = { λ t. ties_of t.list };
+
+    ghost invariant = { λ t. t.names ≡ tied_names (ties_of t.list) };
+}
+
+/// The number behind one.
+fn next(number: usize) -> Result<usize, AllocError>
+    ensures { IfOk result (λ n. n ≡ number + 1) }
+{
+    number.checked_add(1).ok_or(AllocError)
+}
+
+/// Adds what is tied to the outputs among the ports of an instance, of which the first has a number.
+fn add_ports<'n>(
+    ties: &mut Items<Tie<'n>>,
+    connections: &Connections<'n>,
+    instance: usize,
+    ports: &[Port],
+    first: usize,
+) -> Result<(), AllocError>
+    ensures { OnOk result (tied.ties_of ties.new ≡ tied.ties_of ties.old ++ tied.port_ties connections.now instance ports.now first) }
+{
+    let mut number = first;
+    for port in ports {
+        if is_side(port, false) {
+            let name = connections.signal(&port.name);
+            ties.push(Tie {
+                name,
+                instance,
+                port: number,
+            })?;
+            number = next(number)?;
+        }
+    }
+    Ok(())
+}
+
+/// Adds what is tied to the outputs of an instance, which has a number in its module.
+fn add_instance<'n>(
+    alloc: Global,
+    kinds: &Kinds<'n>,
+    before: usize,
+    ties: &mut Items<Tie<'n>>,
+    number: usize,
+    instance: &'n Instance,
+) -> Result<(), AllocError>
+    requires { before ≤ length kinds.now }
+    ensures { OnOk result (tied.ties_of ties.new ≡ tied.ties_of ties.old ++ tied.instance_ties kinds.now before number instance.now) }
+{
+    match kinds.get(before, &instance.module_name) {
+        None => Ok(()),
+        Some(kind) => {
+            let connections = Connections::of(alloc, instance.connections.as_slice())?;
+            let ports = kind.module.ports.as_slice();
+            add_ports(ties, &connections, number, ports, kind.first_output)?;
+            Ok(())
+        }
+    }
+}
+
+/// Adds the item, where it is an instance.
+fn add_item<'n>(instances: &mut Items<&'n Instance>, item: &'n Item) -> Result<(), AllocError>
+    ensures { OnOk result (behind instances.new ≡ behind instances.old ++ spec.some (spec.instance_item item.now)) }
+{
+    match item {
+        Item::Instance(instance) => instances.push(instance),
+        _ => Ok(()),
+    }
+}
+
+fn instances_of<'n>(alloc: Global, items: &'n [Item]) -> Result<Items<&'n Instance>, AllocError>
+    ensures { IfOk result (λ list. behind list ≡ flat_map (λ x. spec.some (spec.instance_item x)) items.now) }
+{
+    let mut instances = Items::new(alloc);
+    for item in items {
+        add_item(&mut instances, item)?;
+    }
+    Ok(instances)
+}
+
+fn all_ties<'n>(
+    alloc: Global,
+    kinds: &Kinds<'n>,
+    before: usize,
+    instances: &[&'n Instance],
+) -> Result<Items<Tie<'n>>, AllocError>
+    requires { before ≤ length kinds.now }
+    ensures { IfOk result (λ ties. tied.ties_of ties ≡ tied.all_ties kinds.now before (behind instances.now) 0) }
+{
+    let mut ties = Items::new(alloc);
+    for number in 0..instances.len() {
+        add_instance(alloc, kinds, before, &mut ties, number, instances[number])?;
+    }
+    Ok(ties)
+}
+
+fn names<'n>(alloc: Global, ties: &[Tie<'n>]) -> Result<Places<'n>, AllocError>
+    ensures { IfOk result (λ places. places ≡ tied.tied_names (tied.ties_of ties.now)) }
+{
+    let mut names = Items::new(alloc);
+    for tie in ties {
+        names.push(tie.name)?;
+    }
+    Places::of(alloc, names)
+}
+
+impl<'n> Ties<'n> {
+    /// What is tied to the outputs of the instances among these items, of the modules before one.
+    pub fn of(
+        alloc: Global,
+        kinds: &Kinds<'n>,
+        before: usize,
+        items: &'n [Item],
+    ) -> Result<Ties<'n>, AllocError>
+        requires { before ≤ length kinds.now }
+        ensures { IfOk result (λ t. t ≡ tied.all_ties kinds.now before (flat_map (λ x. spec.some (spec.instance_item x)) items.now) 0) }
+    {
+        let instances = instances_of(alloc, items)?;
+        let list = all_ties(alloc, kinds, before, instances.as_slice())?;
+        let names = names(alloc, list.as_slice())?;
+        Ok(Ties { names, list })
+    }
+
+    /// The port that is tied to a name first.
+    pub fn source(&self, name: &Identifier) -> Source
+        ensures { result ≡ tied.tied_source self.now name.now }
+    {
+        match self.list.get(self.names.of_name(name)) {
+            Some(tie) => Source::Port {
+                instance: tie.instance,
+                port: tie.port,
+            },
+            None => Source::Input,
+        }
+    }
+}
