@@ -1,3 +1,4 @@
 pub mod RefusalLemmas
 pub mod RunLemmas
+pub mod SimLemmas
 pub mod Owing

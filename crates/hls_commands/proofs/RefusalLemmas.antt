@@ -78,3 +78,5 @@ stop_owes task left rose d s some by status.Stuck is = absurd is
 stop_owes task left rose d s some by (status.BadEntry index) is = absurd is
 stop_owes task left rose d s some by (status.Walked end) is = absurd is
 stop_owes task left rose d s some by (status.Cycles cycles) is = absurd is
+stop_owes task left rose d s some by (status.NotNet offset) is = absurd is
+stop_owes task left rose d s some by (status.Loop signal) is = absurd is

@@ -1,7 +1,7 @@
 -- What a call owes for the task that its words ask for and the text that its source gives.
-use Rattle.std.specs.Prelude.{◌≡◌, ◌⊎◌, ℕ, ◌<◌, ◌≤◌, Bool, true, false, List, [], ◌++◌, length, drop, Option, Some, None, IfSome, IsSome}
+use Rattle.std.specs.Prelude.{◌≡◌, ◌⊎◌, ℕ, ◌<◌, ◌≤◌, Bool, true, false, List, [], ◌++◌, length, drop, Option, Some, None, IfSome, IsSome, string_bytes}
 use Rattle.hls_words.specs.declared.task.Task.{Task}
-use Rattle.hls_words.specs.declared.task.Task.TheVariants.{Build, Step, Run, Replay, Walk}
+use Rattle.hls_words.specs.declared.task.Task.TheVariants.{Build, Step, Run, Replay, Walk, Sim}
 use Rattle.turns.specs.declared.Turn.{Turn}
 use Rattle.turns.specs.Turns.{threads_of}
 use Rattle.c_program.specs.Tree.{Program}
@@ -12,10 +12,16 @@ use Rattle.c_interpreter.specs.Walk.{IsWalk}
 use Rattle.c_accepted.specs.declared.refusal.Refusal.{Refusal}
 use Rattle.c_accepted.specs.declared.refusal.Refusal.TheVariants as refusal
 use Rattle.c_accepted.specs.Profile.{most_bytes, IsAccepted, IsRefused}
+use Rattle.verilog_tree.specs.declared.tree.Net.{Net}
 use Rattle.netlist.specs.declared.netlist.Module.{Module}
 use Rattle.netlist.specs.declared.netlist.Netlist.{Netlist}
+use Rattle.netlist.specs.NetlistOf.{netlist_of}
 use Rattle.hls_compile.specs.Compiled.{IsCompiled}
+use Rattle.sim_layout.specs.Rounds.{threads_of as enabled_of}
 use Rattle.round_robin.specs.Round.{IsRound}
+use Rattle.verilog_reader.specs.Faults.{IsFault, IsRead}
+use Rattle.loop_path.specs.First.{IsLoopless}
+use Rattle.loop_path.specs.Dotted.{IsLoopPath}
 use Rattle.vcd_trace.specs.Trace.{IsTraced}
 use Rattle.journal_text.specs.declared.entry.Entry.{Entry}
 use Rattle.journal_text.specs.Texts.{IsParted}
@@ -28,7 +34,7 @@ use Rattle.hls_status.specs.declared.status.Status.{Status}
 use Rattle.hls_status.specs.declared.status.Status.TheVariants as status
 use Rattle.hls_status.specs.declared.status.WalkEnd.{WalkEnd}
 use Rattle.hls_status.specs.declared.status.WalkEnd.TheVariants as walked
-use Rattle.hls_status.specs.Lines.{built_line, cycles_line, memory_line, read_fault_line, refusal_line, usage_line, walk_line}
+use Rattle.hls_status.specs.Lines.{built_line, cycles_line, loop_line, memory_line, not_net_line, read_fault_line, refusal_line, usage_line, walk_line}
 
 -- what a call owes: its status, the Verilog, the journal, the bytes for out and the lines for err
 pub record Due : Type 0 where
@@ -69,8 +75,18 @@ pub record GaveJournal (left : Option (List ℕ)) (entries : List Entry) (bad : 
   pub parted : IsParted whole entries bad rest
   pub behind : text ≡ drop rest whole
 
--- the source gave this C text to a task: all that it has, or what follows the journal
+-- the most bytes of a Verilog text
+abbrev pub most_simulated : ℕ
+most_simulated = 16777216
+
+-- the source gave this Verilog text to its end, where it tells, and it is not too long
+pub record GaveVerilog (left : Option (List ℕ)) (text : List ℕ) : Type 0 where
+  pub gave : Gave left text
+  pub short : length text ≤ most_simulated
+
+-- the source gave this C text to a task: all that it has, or what follows the journal; a simulation takes none
 abbrev pub GaveTo : Option Task → Option (List ℕ) → List ℕ → Type 0
+GaveTo (Some (Sim most)) left text = ⊥
 GaveTo (Some Replay) left text = (entries : List Entry) × (bad : Option ℕ) × GaveJournal left entries bad text
 GaveTo other left text = Gave left text
 
@@ -81,6 +97,7 @@ IsReplayRefused left r =
 
 -- the text that the source gave to the task has this refusal
 abbrev pub IsRefusedFor : Option Task → Option (List ℕ) → Refusal → Type 0
+IsRefusedFor (Some (Sim most)) left r = ⊥
 IsRefusedFor (Some Replay) left r = IsReplayRefused left r
 IsRefusedFor other left r = IsRefusedBy left r
 
@@ -206,6 +223,43 @@ IsVerdict task left v = (d : Due) × IsJudged task left d v
 abbrev pub IsBadEntryOf : Option Task → Option (List ℕ) → ℕ → Type 0
 IsBadEntryOf task left index = (d : Due) × HasBad task left d index
 
+-- ---- Verilog texts
+
+-- the text spells a net that a simulator runs, of which no signal depends on itself; so many cycles of it ran under the choices of `top_rr`,
+-- the fewest after which done is shown, or else so many as were asked for; and what was written goes to out
+pub record IsSimulated (most : ℕ) (left : Option (List ℕ)) (d : Due) (cycles : ℕ) (done : Bool) : Type 0 where
+  pub text : List ℕ
+  pub net : Net
+  pub gave : GaveVerilog left text
+  pub read : IsRead text net
+  pub loopless : IsLoopless (netlist_of net).modules
+  pub ran : IsRound (netlist_of net).modules (enabled_of (netlist_of net).modules) most cycles done d.out
+  pub unwritten : d.text ≡ []
+  pub unlisted : d.journal ≡ []
+  pub err : d.err ≡ cycles_line done cycles
+
+-- a text that is too long, or one of which no net is read, and the offset that tells so
+abbrev pub IsNotNet : Option (List ℕ) → ℕ → Type 0
+IsNotNet left offset =
+    ((offset ≡ most_simulated) × IfSome left (λ bytes. most_simulated < length bytes))
+    ⊎ ((text : List ℕ) × GaveVerilog left text × IsFault text offset × ((n : Net) → IsRead text n → ⊥))
+
+-- the text spells a net that a simulator would run, and the signal of this path is its first that depends on itself
+pub record HasLoop (left : Option (List ℕ)) (path : List ℕ) : Type 0 where
+  pub text : List ℕ
+  pub net : Net
+  pub gave : GaveVerilog left text
+  pub read : IsRead text net
+  pub first : IsLoopPath (netlist_of net).modules path
+
+abbrev pub IsNotNetOf : Option Task → Option (List ℕ) → ℕ → Type 0
+IsNotNetOf (Some (Sim most)) left offset = IsNotNet left offset
+IsNotNetOf other left offset = ⊥
+
+abbrev pub HasLoopOf : Option Task → Option (List ℕ) → List ℕ → Type 0
+HasLoopOf (Some (Sim most)) left path = HasLoop left path
+HasLoopOf other left path = ⊥
+
 -- the task did all that it asks for
 abbrev pub Succeeds : Option Task → Option (List ℕ) → Due → Type 0
 Succeeds None left d = ⊥
@@ -214,6 +268,7 @@ Succeeds (Some (Step most vcd)) left d = (cycles : ℕ) × IsRun most vcd left d
 Succeeds (Some (Run most listed)) left d = IsRunBy most listed left d verdicts.Done
 Succeeds (Some Replay) left d = IsReplayed left d verdicts.Done
 Succeeds (Some (Walk turns)) left d = IsWalked turns left d status.Ok
+Succeeds (Some (Sim most)) left d = (cycles : ℕ) × IsSimulated most left d cycles true
 
 -- a walk ended so, before main returned
 abbrev pub Halts : Option Task → Option (List ℕ) → Due → Status → Type 0
@@ -223,6 +278,7 @@ Halts other left d s = ⊥
 -- all cycles that the words ask for ran, and done is not shown
 abbrev pub RunsOut : Option Task → Option (List ℕ) → Due → ℕ → Type 0
 RunsOut (Some (Step most vcd)) left d cycles = IsRun most vcd left d cycles false
+RunsOut (Some (Sim most)) left d cycles = IsSimulated most left d cycles false
 RunsOut other left d cycles = ⊥
 
 abbrev pub HasRunOut : Option Task → Option (List ℕ) → ℕ → Type 0
@@ -247,6 +303,8 @@ OwesAt task left rose d status.Stuck = IsJudged task left d verdicts.Stuck
 OwesAt task left rose d (status.BadEntry index) = HasBad task left d index
 OwesAt task left rose d (status.Walked end) = Halts task left d (status.Walked end)
 OwesAt task left rose d (status.Cycles cycles) = RunsOut task left d cycles
+OwesAt task left rose d (status.NotNet offset) = IsNotNetOf task left offset × IsPlain d (not_net_line offset)
+OwesAt task left rose d (status.Loop signal) = HasLoopOf task left (string_bytes signal) × IsPlain d (loop_line (string_bytes signal))
 
 abbrev pub Owes : Option Task → Option (List ℕ) → Type 0 → Due → Type 0
 Owes task left rose d = OwesAt task left rose d d.status

@@ -1,11 +1,12 @@
 -- How the code holds what it owes, and the parts of a command.
-use Rattle.std.specs.Prelude.{◌≡◌, ◌⊎◌, ℕ, List, [], string_bytes, Option, ⊤}
+use Rattle.std.specs.Prelude.{◌≡◌, ◌⊎◌, ℕ, true, false, List, [], string_bytes, Option, ⊤}
 use Rattle.hls_words.specs.declared.task.Task.{Task}
 use Rattle.hls_compile.specs.declared.CompileError.{CompileError}
 use Rattle.hls_compile.specs.declared.CompileError.TheVariants as error
 use Rattle.journal_laws.specs.declared.verdict.Verdict.{Verdict}
 use Rattle.replay_command.specs.declared.replay.ReplayAnswer.{ReplayAnswer}
 use Rattle.replay_command.specs.declared.replay.ReplayAnswer.TheVariants.{Replayed, BadEntry}
+use Rattle.round_robin.specs.declared.run.Ran.{Ran}
 use Rattle.hls_status.specs.declared.status.Status.{Status}
 use Rattle.hls_status.specs.declared.status.Status.TheVariants as status
 use Rattle.hls_commands.specs.declared.commands.Stop.{Stop}
@@ -15,8 +16,8 @@ use Rattle.hls_commands.specs.declared.answer.Out.{Out}
 use Rattle.hls_commands.specs.declared.answer.Out.TheVariants as to_out
 use Rattle.hls_commands.specs.declared.answer.Line.{Line}
 use Rattle.hls_commands.specs.declared.answer.Line.TheVariants as line
-use Rattle.hls_commands.specs.Answers.{Due, HasBadEntry, IsPlain, IsRefusedFor, IsReplayed, verdict_status}
-use Rattle.hls_status.specs.Lines.{memory_line, read_fault_line, refusal_line}
+use Rattle.hls_commands.specs.Answers.{Due, Gave, HasBadEntry, HasLoop, IsNotNet, IsPlain, IsRefusedFor, IsReplayed, IsSimulated, verdict_status}
+use Rattle.hls_status.specs.Lines.{cycles_line, loop_line, memory_line, not_net_line, read_fault_line, refusal_line}
 
 -- ---- the bytes that an answer owes
 
@@ -74,3 +75,24 @@ IsAnswerOf text (BadEntry index line) d s =
 abbrev pub IsReplayOrBad : Option (List ℕ) → Due → Status → Type 0
 IsReplayOrBad left d s =
     ((v : Verdict) × IsReplayed left d v × (s ≡ verdict_status v)) ⊎ ((index : ℕ) × HasBadEntry left d index × (s ≡ status.BadEntry index))
+
+-- ---- Verilog texts
+
+-- no text, no journal, what a run wrote for out, and the line of its cycles
+pub record IsPrinted (ran : Ran) (d : Due) : Type 0 where
+  pub text : d.text ≡ []
+  pub journal : d.journal ≡ []
+  pub out : d.out ≡ ran.printed
+  pub err : d.err ≡ cycles_line ran.is_done ran.cycles
+
+-- what a simulation owes that reads its text without a fault
+abbrev pub SimOwes : ℕ → Option (List ℕ) → Due → Status → Type 0
+SimOwes most left d status.Ok = (cycles : ℕ) × IsSimulated most left d cycles true
+SimOwes most left d (status.Cycles cycles) = IsSimulated most left d cycles false
+SimOwes most left d (status.NotNet offset) = IsNotNet left offset × IsPlain d (not_net_line offset)
+SimOwes most left d (status.Loop signal) = HasLoop left (string_bytes signal) × IsPlain d (loop_line (string_bytes signal))
+SimOwes most left d s = ⊥
+
+-- the same of a text that a source gives
+abbrev pub SimOwesFor : ℕ → List ℕ → Due → Status → Type 0
+SimOwesFor most text d s = (left : Option (List ℕ)) → Gave left text → SimOwes most left d s

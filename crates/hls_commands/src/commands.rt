@@ -15,6 +15,7 @@ ghost use Rattle.cycle_sim.specs.declared.sim.OpenError.TheVariants as causes;
 
 use crate::answer::{Answer, Line, Out};
 use crate::runs::{replay_journal, run_workers};
+use crate::sims::simulate;
 use c_interpreter::walk::{WalkEnd as Ends, walk};
 use c_profile::{Accepted, ProfileError, Refusal, accept};
 use c_program::threads::thread_count;
@@ -58,7 +59,8 @@ impl From<AllocError> for Stop {
 /// The most bytes of a text.
 const MOST_BYTES: usize = 65_536;
 
-fn plain(alloc: Global, status: Status, line: Line) -> Answer
+/// Nothing for out, and a line for err.
+pub fn plain(alloc: Global, status: Status, line: Line) -> Answer
     ensures status { result.status ≡ status }
     ensures plain { IsPlain (due_of result) (line_bytes line) }
 {
@@ -244,7 +246,7 @@ fn ran_as(alloc: Global, built: &Compiled, cycles: u32, vcd: bool) -> Result<Ran
 }
 
 /// The status of a run.
-fn run_status(ran: &Ran) -> Status
+pub fn run_status(ran: &Ran) -> Status
     ensures { result ≡ run_status ran.now.is_done ran.now.cycles }
 {
     if ran.is_done {
@@ -319,6 +321,7 @@ fn run_task<R: Threads + Wait + Sync, S: Source, G: Gate + Sync>(
         Task::Run { entries, journal } => run_workers(rt, alloc, source, entries, journal, gate),
         Task::Replay => replay_journal(rt, alloc, source),
         Task::Walk(turns) => walk_turns(alloc, source, turns.as_slice()),
+        Task::Sim { cycles } => simulate(alloc, source, cycles),
     };
     match done {
         Ok(answer) => answer,

@@ -4,3 +4,4 @@
 pub mod answer;
 pub mod commands;
 pub mod runs;
+pub mod sims;

@@ -30,6 +30,8 @@ status_number status.Stuck = 7
 status_number (status.BadEntry index) = 8
 status_number (status.Cycles cycles) = 9
 status_number (status.Walked end) = 10
+status_number (status.NotNet offset) = 11
+status_number (status.Loop signal) = 11
 
 abbrev pub usage_line : List ℕ
 usage_line = codes "hls: usage\n"
@@ -86,6 +88,14 @@ built_line threads weight bytes =
 abbrev pub cycles_line : Bool → ℕ → List ℕ
 cycles_line true cycles = codes "hls: done, " ++ (decimal cycles ++ codes " cycles\n")
 cycles_line false cycles = codes "hls: not done, " ++ (decimal cycles ++ codes " cycles\n")
+
+-- ---- Verilog texts
+
+abbrev pub not_net_line : ℕ → List ℕ
+not_net_line offset = codes "hls: not a net at byte " ++ (decimal offset ++ codes "\n")
+
+abbrev pub loop_line : List ℕ → List ℕ
+loop_line signal = codes "hls: loop at " ++ (signal ++ codes "\n")
 
 -- ---- walks
 

@@ -143,6 +143,20 @@ pub fn cycles_line(alloc: Global, is_done: bool, cycles: u32) -> Result<String, 
     }
 }
 
+/// The line of a Verilog text that spells no net at an offset.
+pub fn not_net_line(alloc: Global, offset: usize) -> Result<String, AllocError>
+    ensures { IfOk result (λ s. string_bytes s ≡ lines.not_net_line offset) }
+{
+    format!(in alloc; "hls: not a net at byte {offset}\n")
+}
+
+/// The line of a net of which the signal of this path depends on itself.
+pub fn loop_line(alloc: Global, signal: &str) -> Result<String, AllocError>
+    ensures { IfOk result (λ s. string_bytes s ≡ lines.loop_line signal.now) }
+{
+    format!(in alloc; "hls: loop at {signal}\n")
+}
+
 fn steps_line(alloc: Global, word: &str, steps: u128) -> Result<String, AllocError>
     ensures { IfOk result (λ s. string_bytes s ≡ lines.steps_line word.now steps) }
 {

@@ -26,7 +26,7 @@ pub enum WalkEnd {
 }
 
 /// How a call ended.
-#[derive(Clone, Copy, Debug, PartialEq, Eq)]
+#[derive(Debug, PartialEq, Eq, Drop)]
 pub enum Status {
     Ok,
     /// The text is not of the profile.
@@ -48,12 +48,17 @@ pub enum Status {
     Walked(WalkEnd),
     /// So many cycles ran, and done is not shown.
     Cycles { cycles: u32 },
+    /// A Verilog text spells no net that a simulator runs: the offset of the first token at which no sentence goes on, else of the first part
+    /// that breaks a rule, else of what `top` lacks; or the most bytes that are read, where the text is longer.
+    NotNet { offset: usize },
+    /// A signal of a Verilog text depends on itself: the path of the first, below `top`, with dots between the names.
+    Loop { signal: String },
 }
 
 impl Status {
     /// The program's exit status.
-    pub fn number(self) -> u8
-        ensures { result ≡ status_number self }
+    pub fn number(&self) -> u8
+        ensures { result ≡ status_number self.now }
     {
         match self {
             Status::Ok => 0,
@@ -67,6 +72,8 @@ impl Status {
             Status::BadEntry { .. } => 8,
             Status::Cycles { .. } => 9,
             Status::Walked(_) => 10,
+            Status::NotNet { .. } => 11,
+            Status::Loop { .. } => 11,
         }
     }
 }

@@ -18,6 +18,8 @@ whole-Ends status.Stuck due line out err may took = (refl, took)
 whole-Ends (status.BadEntry index) due line out err may took = (refl, took)
 whole-Ends (status.Walked end) due line out err may took = (refl, took)
 whole-Ends (status.Cycles cycles) due line out err may took = (refl, took)
+whole-Ends (status.NotNet offset) due line out err may took = (refl, took)
+whole-Ends (status.Loop signal) due line out err may took = (refl, took)
 
 -- what is owed for a task may be owed
 pub may_be_owed : (task : Option Task) (left : Option (List ℕ)) (rose : Type 0) (d : Due) (s : Status) → OwesAt task left rose d s → MayBeOwed s d.out
@@ -32,3 +34,5 @@ may_be_owed task left rose d status.Stuck h = tt
 may_be_owed task left rose d (status.BadEntry index) h = tt
 may_be_owed task left rose d (status.Walked end) h = tt
 may_be_owed task left rose d (status.Cycles cycles) h = tt
+may_be_owed task left rose d (status.NotNet offset) h = tt
+may_be_owed task left rose d (status.Loop signal) h = tt

@@ -3,3 +3,5 @@ pub mod RefusedLemmas
 pub mod CompleteLemmas
 pub mod WalkLemmas
 pub mod TextLemmas
+pub mod SimLemmas
+pub mod StepLemmas

@@ -1,8 +1,8 @@
 -- A call whose source gives a text with a refusal answers this refusal.
 use Rattle.std.proofs.Common.{◌≡◌, ℕ, ◌<◌, ◌≤◌, true, false, List, length, Option, Some, None, refl, sym, subst, ◌∙◌, ⊎_elim, arith}
-use Rattle.std.specs.Prelude.{◌⊎◌}
+use Rattle.std.specs.Prelude.{◌⊎◌, ⊤}
 use Rattle.hls_words.specs.declared.task.Task.{Task}
-use Rattle.hls_words.specs.declared.task.Task.TheVariants.{Build, Step, Run, Replay, Walk}
+use Rattle.hls_words.specs.declared.task.Task.TheVariants.{Build, Step, Run, Replay, Walk, Sim}
 use Rattle.c_program.specs.Tree.{Program}
 use Rattle.c_accepted.specs.declared.refusal.Refusal.{Refusal}
 use Rattle.c_accepted.specs.declared.refusal.Refusal.TheVariants as refusal
@@ -18,6 +18,12 @@ use Rattle.hls_tool.specs.Call.{Answered, TellsRefusal}
 use Rattle.hls_tool.specs.Delivery.{Ends, Passage}
 use Rattle.hls_tool.proofs.CompleteLemmas.{refused_text}
 use Rattle.hls_tool.proofs.TextLemmas.{one_text}
+
+-- the tasks whose C text is all that the source gives
+abbrev TakesWhole : Option Task → Type 0
+TakesWhole (Some Replay) = ⊥
+TakesWhole (Some (Sim most)) = ⊥
+TakesWhole other = ⊤
 
 module _ (text : List ℕ) (r : Refusal) (refused : IsRefused text r) where
   is_not_accepted : (given : List ℕ) (P : Program) (w : ℕ) → given ≡ text → IsAccepted given P w → ⊥
@@ -36,73 +42,74 @@ module _ (text : List ℕ) (r : Refusal) (refused : IsRefused text r) where
   is_refused_by (refusal.Limit passed) h = same_refusal (refusal.Limit passed) h
 
   -- nothing else is owed for a task that takes the whole text
-  others : (task : Option Task) (rose : Type 0) (d : Due) (s : Status) → (task ≡ Some Replay → ⊥) → OwesAt task (Some text) rose d s → TellsRefusal r s
-  others None rose d status.Ok unlike h = h
-  others None rose d (status.Refused s) unlike h = absurd (let e : false ≡ true = h.0 in cc)
-  others None rose d status.Usage unlike h = tt
-  others None rose d status.ReadFault unlike h = tt
-  others None rose d (status.WriteFault n m) unlike h = tt
-  others None rose d status.Memory unlike h = tt
-  others None rose d status.Entries unlike h = h
-  others None rose d status.Stuck unlike h = h
-  others None rose d (status.BadEntry index) unlike h = h
-  others None rose d (status.Walked end) unlike h = h
-  others None rose d (status.Cycles cycles) unlike h = h
-  others (Some (Build jobs)) rose d status.Ok unlike h = is_not_accepted h.text h.program h.weight h.gave h.compiled.accepted
-  others (Some (Build jobs)) rose d (status.Refused s) unlike h = is_refused_by s h.1
-  others (Some (Build jobs)) rose d status.Usage unlike h = tt
-  others (Some (Build jobs)) rose d status.ReadFault unlike h = tt
-  others (Some (Build jobs)) rose d (status.WriteFault n m) unlike h = tt
-  others (Some (Build jobs)) rose d status.Memory unlike h = tt
-  others (Some (Build jobs)) rose d status.Entries unlike h = h
-  others (Some (Build jobs)) rose d status.Stuck unlike h = h
-  others (Some (Build jobs)) rose d (status.BadEntry index) unlike h = h
-  others (Some (Build jobs)) rose d (status.Walked end) unlike h = h
-  others (Some (Build jobs)) rose d (status.Cycles cycles) unlike h = h
-  others (Some (Step most vcd)) rose d status.Ok unlike h = is_not_accepted h.1.text h.1.program h.1.weight h.1.gave h.1.compiled.accepted
-  others (Some (Step most vcd)) rose d (status.Refused s) unlike h = is_refused_by s h.1
-  others (Some (Step most vcd)) rose d status.Usage unlike h = tt
-  others (Some (Step most vcd)) rose d status.ReadFault unlike h = tt
-  others (Some (Step most vcd)) rose d (status.WriteFault n m) unlike h = tt
-  others (Some (Step most vcd)) rose d status.Memory unlike h = tt
-  others (Some (Step most vcd)) rose d status.Entries unlike h = h
-  others (Some (Step most vcd)) rose d status.Stuck unlike h = h
-  others (Some (Step most vcd)) rose d (status.BadEntry index) unlike h = h
-  others (Some (Step most vcd)) rose d (status.Walked end) unlike h = h
-  others (Some (Step most vcd)) rose d (status.Cycles cycles) unlike h = is_not_accepted h.text h.program h.weight h.gave h.compiled.accepted
-  others (Some (Run most listed)) rose d status.Ok unlike h = is_not_accepted h.text h.program h.weight h.gave h.compiled.accepted
-  others (Some (Run most listed)) rose d (status.Refused s) unlike h = is_refused_by s h.1
-  others (Some (Run most listed)) rose d status.Usage unlike h = tt
-  others (Some (Run most listed)) rose d status.ReadFault unlike h = tt
-  others (Some (Run most listed)) rose d (status.WriteFault n m) unlike h = tt
-  others (Some (Run most listed)) rose d status.Memory unlike h = tt
-  others (Some (Run most listed)) rose d status.Entries unlike h = is_not_accepted h.text h.program h.weight h.gave h.compiled.accepted
-  others (Some (Run most listed)) rose d status.Stuck unlike h = is_not_accepted h.text h.program h.weight h.gave h.compiled.accepted
-  others (Some (Run most listed)) rose d (status.BadEntry index) unlike h = h
-  others (Some (Run most listed)) rose d (status.Walked end) unlike h = h
-  others (Some (Run most listed)) rose d (status.Cycles cycles) unlike h = h
-  others (Some (Walk turns)) rose d status.Ok unlike h = is_not_accepted h.text h.program h.weight h.gave h.accepted
-  others (Some (Walk turns)) rose d (status.Refused s) unlike h = is_refused_by s h.1
-  others (Some (Walk turns)) rose d status.Usage unlike h = tt
-  others (Some (Walk turns)) rose d status.ReadFault unlike h = tt
-  others (Some (Walk turns)) rose d (status.WriteFault n m) unlike h = tt
-  others (Some (Walk turns)) rose d status.Memory unlike h = tt
-  others (Some (Walk turns)) rose d status.Entries unlike h = h
-  others (Some (Walk turns)) rose d status.Stuck unlike h = h
-  others (Some (Walk turns)) rose d (status.BadEntry index) unlike h = h
-  others (Some (Walk turns)) rose d (status.Walked end) unlike h = is_not_accepted h.text h.program h.weight h.gave h.accepted
-  others (Some (Walk turns)) rose d (status.Cycles cycles) unlike h = h
-  others (Some Replay) rose d status.Ok unlike h = absurd (unlike refl)
-  others (Some Replay) rose d (status.Refused s) unlike h = absurd (unlike refl)
-  others (Some Replay) rose d status.Usage unlike h = absurd (unlike refl)
-  others (Some Replay) rose d status.ReadFault unlike h = absurd (unlike refl)
-  others (Some Replay) rose d (status.WriteFault n m) unlike h = absurd (unlike refl)
-  others (Some Replay) rose d status.Memory unlike h = absurd (unlike refl)
-  others (Some Replay) rose d status.Entries unlike h = absurd (unlike refl)
-  others (Some Replay) rose d status.Stuck unlike h = absurd (unlike refl)
-  others (Some Replay) rose d (status.BadEntry index) unlike h = absurd (unlike refl)
-  others (Some Replay) rose d (status.Walked end) unlike h = absurd (unlike refl)
-  others (Some Replay) rose d (status.Cycles cycles) unlike h = absurd (unlike refl)
+  others : (task : Option Task) (rose : Type 0) (d : Due) (s : Status) → TakesWhole task → OwesAt task (Some text) rose d s → TellsRefusal r s
+  others None rose d status.Ok takes h = h
+  others None rose d (status.Refused s) takes h = absurd (let e : false ≡ true = h.0 in cc)
+  others None rose d status.Usage takes h = tt
+  others None rose d status.ReadFault takes h = tt
+  others None rose d (status.WriteFault n m) takes h = tt
+  others None rose d status.Memory takes h = tt
+  others None rose d status.Entries takes h = h
+  others None rose d status.Stuck takes h = h
+  others None rose d (status.BadEntry index) takes h = h
+  others None rose d (status.Walked end) takes h = h
+  others None rose d (status.Cycles cycles) takes h = h
+  others None rose d (status.NotNet offset) takes h = h.0
+  others None rose d (status.Loop signal) takes h = h.0
+  others (Some (Build jobs)) rose d status.Ok takes h = is_not_accepted h.text h.program h.weight h.gave h.compiled.accepted
+  others (Some (Build jobs)) rose d (status.Refused s) takes h = is_refused_by s h.1
+  others (Some (Build jobs)) rose d status.Usage takes h = tt
+  others (Some (Build jobs)) rose d status.ReadFault takes h = tt
+  others (Some (Build jobs)) rose d (status.WriteFault n m) takes h = tt
+  others (Some (Build jobs)) rose d status.Memory takes h = tt
+  others (Some (Build jobs)) rose d status.Entries takes h = h
+  others (Some (Build jobs)) rose d status.Stuck takes h = h
+  others (Some (Build jobs)) rose d (status.BadEntry index) takes h = h
+  others (Some (Build jobs)) rose d (status.Walked end) takes h = h
+  others (Some (Build jobs)) rose d (status.Cycles cycles) takes h = h
+  others (Some (Build jobs)) rose d (status.NotNet offset) takes h = h.0
+  others (Some (Build jobs)) rose d (status.Loop signal) takes h = h.0
+  others (Some (Step most vcd)) rose d status.Ok takes h = is_not_accepted h.1.text h.1.program h.1.weight h.1.gave h.1.compiled.accepted
+  others (Some (Step most vcd)) rose d (status.Refused s) takes h = is_refused_by s h.1
+  others (Some (Step most vcd)) rose d status.Usage takes h = tt
+  others (Some (Step most vcd)) rose d status.ReadFault takes h = tt
+  others (Some (Step most vcd)) rose d (status.WriteFault n m) takes h = tt
+  others (Some (Step most vcd)) rose d status.Memory takes h = tt
+  others (Some (Step most vcd)) rose d status.Entries takes h = h
+  others (Some (Step most vcd)) rose d status.Stuck takes h = h
+  others (Some (Step most vcd)) rose d (status.BadEntry index) takes h = h
+  others (Some (Step most vcd)) rose d (status.Walked end) takes h = h
+  others (Some (Step most vcd)) rose d (status.Cycles cycles) takes h = is_not_accepted h.text h.program h.weight h.gave h.compiled.accepted
+  others (Some (Step most vcd)) rose d (status.NotNet offset) takes h = h.0
+  others (Some (Step most vcd)) rose d (status.Loop signal) takes h = h.0
+  others (Some (Run most listed)) rose d status.Ok takes h = is_not_accepted h.text h.program h.weight h.gave h.compiled.accepted
+  others (Some (Run most listed)) rose d (status.Refused s) takes h = is_refused_by s h.1
+  others (Some (Run most listed)) rose d status.Usage takes h = tt
+  others (Some (Run most listed)) rose d status.ReadFault takes h = tt
+  others (Some (Run most listed)) rose d (status.WriteFault n m) takes h = tt
+  others (Some (Run most listed)) rose d status.Memory takes h = tt
+  others (Some (Run most listed)) rose d status.Entries takes h = is_not_accepted h.text h.program h.weight h.gave h.compiled.accepted
+  others (Some (Run most listed)) rose d status.Stuck takes h = is_not_accepted h.text h.program h.weight h.gave h.compiled.accepted
+  others (Some (Run most listed)) rose d (status.BadEntry index) takes h = h
+  others (Some (Run most listed)) rose d (status.Walked end) takes h = h
+  others (Some (Run most listed)) rose d (status.Cycles cycles) takes h = h
+  others (Some (Run most listed)) rose d (status.NotNet offset) takes h = h.0
+  others (Some (Run most listed)) rose d (status.Loop signal) takes h = h.0
+  others (Some (Walk turns)) rose d status.Ok takes h = is_not_accepted h.text h.program h.weight h.gave h.accepted
+  others (Some (Walk turns)) rose d (status.Refused s) takes h = is_refused_by s h.1
+  others (Some (Walk turns)) rose d status.Usage takes h = tt
+  others (Some (Walk turns)) rose d status.ReadFault takes h = tt
+  others (Some (Walk turns)) rose d (status.WriteFault n m) takes h = tt
+  others (Some (Walk turns)) rose d status.Memory takes h = tt
+  others (Some (Walk turns)) rose d status.Entries takes h = h
+  others (Some (Walk turns)) rose d status.Stuck takes h = h
+  others (Some (Walk turns)) rose d (status.BadEntry index) takes h = h
+  others (Some (Walk turns)) rose d (status.Walked end) takes h = is_not_accepted h.text h.program h.weight h.gave h.accepted
+  others (Some (Walk turns)) rose d (status.Cycles cycles) takes h = h
+  others (Some (Walk turns)) rose d (status.NotNet offset) takes h = h.0
+  others (Some (Walk turns)) rose d (status.Loop signal) takes h = h.0
+  others (Some Replay) rose d s takes h = absurd takes
+  others (Some (Sim most)) rose d s takes h = absurd takes
 
 -- ---- a replay
 
@@ -123,6 +130,8 @@ module _ (whole : List ℕ) (r : Refusal) (long : r ≡ refusal.TooLong) (more :
   too_long_together rose d (status.BadEntry index) h = never_short h.entries h.bad h.text h.gave
   too_long_together rose d (status.Walked end) h = h
   too_long_together rose d (status.Cycles cycles) h = h
+  too_long_together rose d (status.NotNet offset) h = h.0
+  too_long_together rose d (status.Loop signal) h = h.0
 
 -- a text behind a journal
 module _ (whole : List ℕ) (first : List Entry) (a : Option ℕ) (text : List ℕ) (gave : GaveJournal (Some whole) first a text) (r : Refusal) (refused : IsRefused text r) where
@@ -150,15 +159,18 @@ module _ (whole : List ℕ) (first : List Entry) (a : Option ℕ) (text : List �
   refused_behind rose d (status.BadEntry index) h = never_accepted h.entries h.bad h.text h.program h.weight h.gave h.compiled.accepted
   refused_behind rose d (status.Walked end) h = h
   refused_behind rose d (status.Cycles cycles) h = h
+  refused_behind rose d (status.NotNet offset) h = h.0
+  refused_behind rose d (status.Loop signal) h = h.0
 
 owes_refusal : (whole : List ℕ) (r : Refusal) (task : Option Task) (rose : Type 0) (d : Due) (s : Status) → IsRefusedFor task (Some whole) r → OwesAt task (Some whole) rose d s → TellsRefusal r s
-owes_refusal whole r None rose d s is h = others whole r (refused_text whole r is) None rose d s (λ e. absurd (let f : None ≡ Some Replay = e in cc)) h
-owes_refusal whole r (Some (Build jobs)) rose d s is h = others whole r (refused_text whole r is) (Some (Build jobs)) rose d s (λ e. absurd (let f : Some (Build jobs) ≡ Some Replay = e in cc)) h
+owes_refusal whole r None rose d s is h = others whole r (refused_text whole r is) None rose d s tt h
+owes_refusal whole r (Some (Build jobs)) rose d s is h = others whole r (refused_text whole r is) (Some (Build jobs)) rose d s tt h
 owes_refusal whole r (Some (Step most vcd)) rose d s is h =
-    others whole r (refused_text whole r is) (Some (Step most vcd)) rose d s (λ e. absurd (let f : Some (Step most vcd) ≡ Some Replay = e in cc)) h
+    others whole r (refused_text whole r is) (Some (Step most vcd)) rose d s tt h
 owes_refusal whole r (Some (Run most listed)) rose d s is h =
-    others whole r (refused_text whole r is) (Some (Run most listed)) rose d s (λ e. absurd (let f : Some (Run most listed) ≡ Some Replay = e in cc)) h
-owes_refusal whole r (Some (Walk turns)) rose d s is h = others whole r (refused_text whole r is) (Some (Walk turns)) rose d s (λ e. absurd (let f : Some (Walk turns) ≡ Some Replay = e in cc)) h
+    others whole r (refused_text whole r is) (Some (Run most listed)) rose d s tt h
+owes_refusal whole r (Some (Walk turns)) rose d s is h = others whole r (refused_text whole r is) (Some (Walk turns)) rose d s tt h
+owes_refusal whole r (Some (Sim most)) rose d s is h = absurd is
 owes_refusal whole r (Some Replay) rose d s is h =
     ⊎_elim (λ long. too_long_together whole r long.0 long.1 rose d s h) (λ other. refused_behind whole other.1.0 other.1.1 other.0 other.1.2 r other.2 rose d s h) is
 
@@ -174,6 +186,8 @@ ends_so r owed due line out err status.Stuck h k = subst (TellsRefusal r) (sym h
 ends_so r owed due line out err (status.BadEntry index) h k = subst (TellsRefusal r) (sym h.0) k
 ends_so r owed due line out err (status.Walked end) h k = subst (TellsRefusal r) (sym h.0) k
 ends_so r owed due line out err (status.Cycles cycles) h k = subst (TellsRefusal r) (sym h.0) k
+ends_so r owed due line out err (status.NotNet offset) h k = subst (TellsRefusal r) (sym h.0) k
+ends_so r owed due line out err (status.Loop signal) h k = subst (TellsRefusal r) (sym h.0) k
 
 pub tells_refusal : (task : Option Task) (left : Option (List ℕ)) (rose : Type 0) (out err : Passage) (outcome : Outcome) (whole : List ℕ) (r : Refusal) →
     Answered task left rose out err outcome → left ≡ Some whole → IsRefusedFor task (Some whole) r → TellsRefusal r outcome.status

@@ -1,7 +1,12 @@
 -- What a call of the tool says of its answer.
-use Rattle.std.specs.Prelude.{◌≡◌, ℕ, List, Option, Some, ⊤}
+use Rattle.std.specs.Prelude.{◌≡◌, ◌⊎◌, ℕ, ◌<◌, ◌≤◌, List, length, Option, Some, ⊤, string_bytes}
 use Rattle.hls_words.specs.declared.task.Task.{Task}
-use Rattle.hls_words.specs.declared.task.Task.TheVariants.{Build, Step, Run, Replay, Walk}
+use Rattle.hls_words.specs.declared.task.Task.TheVariants.{Build, Step, Run, Replay, Walk, Sim}
+use Rattle.verilog_tree.specs.declared.tree.Net.{Net}
+use Rattle.netlist.specs.NetlistOf.{netlist_of}
+use Rattle.verilog_reader.specs.Faults.{IsRead}
+use Rattle.loop_path.specs.First.{IsLoopless}
+use Rattle.loop_path.specs.Dotted.{IsLoopPath}
 use Rattle.c_program.specs.Tree.{Program}
 use Rattle.c_interpreter.specs.declared.walk.WalkEnd.{WalkEnd as Ends}
 use Rattle.c_accepted.specs.Profile.{IsAccepted}
@@ -9,8 +14,8 @@ use Rattle.c_accepted.specs.declared.refusal.Refusal.{Refusal}
 use Rattle.hls_tool.specs.declared.outcome.Outcome.{Outcome}
 use Rattle.hls_status.specs.declared.status.Status.{Status}
 use Rattle.hls_status.specs.declared.status.Status.TheVariants as status
-use Rattle.hls_commands.specs.Answers.{Due, GaveTo, Owes, status_of}
-use Rattle.hls_tool.specs.Delivery.{Ends as Delivered, Passage}
+use Rattle.hls_commands.specs.Answers.{Due, GaveTo, Owes, most_simulated, status_of}
+use Rattle.hls_tool.specs.Delivery.{Ends as Delivered, Passage, TookAll}
 
 -- the call owed an answer to its task, this is how that answer went out, and text and journal are those of the answer, also where a write failed
 pub record Answered (task : Option Task) (left : Option (List ℕ)) (rose : Type 0) (out err : Passage) (outcome : Outcome) : Type 0 where
@@ -66,3 +71,46 @@ TellsEnd end status.Memory = ⊤
 TellsEnd end status.ReadFault = ⊤
 TellsEnd end (status.WriteFault n m) = ⊤
 TellsEnd end s = s ≡ status_of end
+
+-- ---- Verilog texts
+
+-- the words ask for a simulation of so many cycles at most, and the source gives this text
+pub record AsksToSimulate (most : ℕ) (task : Option Task) (left : Option (List ℕ)) (text : List ℕ) : Type 0 where
+  pub asks : task ≡ Some (Sim most)
+  pub tells : left ≡ Some text
+
+-- the text is too long, or no net is read of it
+abbrev pub SpellsNone : List ℕ → Type 0
+SpellsNone text = (most_simulated < length text) ⊎ ((n : Net) → IsRead text n → ⊥)
+
+-- the text is not too long, and this net is read of it
+pub record Spells (text : List ℕ) (n : Net) : Type 0 where
+  pub short : length text ≤ most_simulated
+  pub read : IsRead text n
+
+-- of the net that the text spells no signal depends on itself
+abbrev pub SpellsLoopless : List ℕ → Type 0
+SpellsLoopless text = (n : Net) × Spells text n × IsLoopless (netlist_of n).modules
+
+-- of the net that the text spells the signal of this path is the first that depends on itself
+abbrev pub SpellsLoop : List ℕ → List ℕ → Type 0
+SpellsLoop text path = (n : Net) × Spells text n × IsLoopPath (netlist_of n).modules path
+
+-- how a simulation of the text ends, but for a fault of the source or of a sink, and want of memory. The three cases exclude one another, so
+-- each status comes exactly where its case holds
+abbrev pub TellsSimulation : List ℕ → Status → Type 0
+TellsSimulation text status.Ok = SpellsLoopless text
+TellsSimulation text (status.Cycles cycles) = SpellsLoopless text
+TellsSimulation text (status.NotNet offset) = SpellsNone text
+TellsSimulation text (status.Loop signal) = SpellsLoop text (string_bytes signal)
+TellsSimulation text status.ReadFault = ⊤
+TellsSimulation text (status.WriteFault n m) = ⊤
+TellsSimulation text status.Memory = ⊤
+TellsSimulation text s = ⊥
+
+-- this status, and both sinks took what another answer owes to them; but for a fault of the source or of a sink, and want of memory
+abbrev pub AnswersAs : Due → Status → Passage → Passage → Status → Type 0
+AnswersAs d owed out err status.ReadFault = ⊤
+AnswersAs d owed out err (status.WriteFault n m) = ⊤
+AnswersAs d owed out err status.Memory = ⊤
+AnswersAs d owed out err s = (s ≡ owed) × TookAll d.out d.err out err

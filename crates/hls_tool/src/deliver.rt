@@ -1,12 +1,23 @@
 ghost use Rattle.std.specs.Prelude.{◌≡◌, ◌≤◌};
 ghost use Rattle.hls_commands.specs.Inside.{due_of};
-ghost use Rattle.hls_tool.specs.Delivery.{Ends, MayBeOwed, TellsMemory, passage};
+ghost use Rattle.hls_tool.specs.Delivery.{Ends, MayBeOwed, TellsMemory, TookFault, passage};
 
 use crate::outcome::Outcome;
 use hls_commands::answer::Answer;
 use hls_io::{Sink, write_all};
 use hls_status::lines::{MEMORY, WRITE_FAULT};
 use hls_status::status::Status;
+
+/// Writes the line for a write fault, and says how much of it err took.
+fn fault_told<E: Sink>(err: &mut E) -> usize
+    ensures took { TookFault result (passage (E.held err.old) (E.held err.new) (E.faults err.old) (E.faults err.new)) }
+    ensures later { E.faults err.old ≤ E.faults err.new }
+{
+    match write_all(err, WRITE_FAULT) {
+        Ok(()) => WRITE_FAULT.len(),
+        Err(fault) => fault.written,
+    }
+}
 
 /// Writes to out, then to err, and says how the call ends.
 fn send<O: Sink, E: Sink>(owed: Status, due: &[u8], line: &[u8], out: &mut O, err: &mut E) -> Status
@@ -18,17 +29,13 @@ fn send<O: Sink, E: Sink>(owed: Status, due: &[u8], line: &[u8], out: &mut O, er
     ensures err_later { E.faults err.old ≤ E.faults err.new }
 {
     if let Err(fault) = write_all(out, due) {
-        let line_written = match write_all(err, WRITE_FAULT) {
-            Ok(()) => WRITE_FAULT.len(),
-            Err(second) => second.written,
-        };
         return Status::WriteFault {
             out: fault.written,
-            err: line_written,
+            err: fault_told(err),
         };
     }
     match (write_all(err, line), owed) {
-        (Ok(()), _) => owed,
+        (Ok(()), owed) => owed,
         (Err(_), Status::Memory) => Status::Memory,
         (Err(fault), _) => Status::WriteFault {
             out: due.len(),
@@ -47,12 +54,18 @@ pub fn deliver<O: Sink, E: Sink>(answer: Answer, out: &mut O, err: &mut E) -> Ou
     ensures out_later { O.faults out.old ≤ O.faults out.new }
     ensures err_later { E.faults err.old ≤ E.faults err.new }
 {
-    let due = answer.out.as_slice(&answer.text);
-    let status = send(answer.status, due, answer.line.as_slice(), out, err);
+    let Answer {
+        status,
+        text,
+        journal,
+        out: to_out,
+        line,
+    } = answer;
+    let status = send(status, to_out.as_slice(&text), line.as_slice(), out, err);
     Outcome {
         status,
-        text: answer.text,
-        journal: answer.journal,
+        text,
+        journal,
     }
 }
 

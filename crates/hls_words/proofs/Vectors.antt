@@ -3,7 +3,7 @@ use Rattle.std.proofs.Common.{◌≡◌, ℕ, List, [], ◌∷◌, refl, codes}
 use Rattle.std.specs.Prelude.{Some, None, true, false}
 use Rattle.clap.proofs.OnLiterals.{clap_on_literals}
 use Rattle.turns.specs.Turns.{turn}
-use Rattle.hls_words.specs.declared.task.Task.TheVariants.{Build, Step, Run, Replay, Walk}
+use Rattle.hls_words.specs.declared.task.Task.TheVariants.{Build, Step, Run, Replay, Walk, Sim}
 use Rattle.hls_words.specs.Line.{command_line, task_of}
 
 builds : task_of (codes "hls" ∷ codes "build" ∷ []) ≡ Some (Build 1)
@@ -213,3 +213,25 @@ dumped_with_value = refl
 build_dumps_none : task_of (codes "hls" ∷ codes "build" ∷ codes "--vcd" ∷ []) ≡ None
 unfolding clap_on_literals command_line
 build_dumps_none = refl
+
+-- ---- a Verilog text
+
+simulates : task_of (codes "hls" ∷ codes "sim" ∷ codes "--cycles" ∷ codes "11520" ∷ []) ≡ Some (Sim 11520)
+unfolding clap_on_literals command_line
+simulates = refl
+
+most_simulated : task_of (codes "hls" ∷ codes "sim" ∷ codes "--cycles=4294967295" ∷ []) ≡ Some (Sim 4294967295)
+unfolding clap_on_literals command_line
+most_simulated = refl
+
+one_simulated_more : task_of (codes "hls" ∷ codes "sim" ∷ codes "--cycles=4294967296" ∷ []) ≡ None
+unfolding clap_on_literals command_line
+one_simulated_more = refl
+
+simulates_no_cycles : task_of (codes "hls" ∷ codes "sim" ∷ []) ≡ None
+unfolding clap_on_literals command_line
+simulates_no_cycles = refl
+
+simulates_no_dump : task_of (codes "hls" ∷ codes "sim" ∷ codes "--cycles=9" ∷ codes "--vcd" ∷ []) ≡ None
+unfolding clap_on_literals command_line
+simulates_no_dump = refl

@@ -56,8 +56,12 @@ text_rule name = record (new_rule name) { long = Some name }
 abbrev pub walk_line : App
 walk_line = with_rule (new_app (codes "walk")) (required (text_rule (codes "threads")))
 
+-- sim --cycles n
+abbrev pub sim_line : App
+sim_line = with_rule (new_app (codes "sim")) (required (number_rule (codes "cycles") 0 4294967295))
+
 abbrev pub commands : List App
-commands = build_line ∷ step_line ∷ run_line ∷ replay_line ∷ walk_line ∷ []
+commands = build_line ∷ step_line ∷ run_line ∷ replay_line ∷ walk_line ∷ sim_line ∷ []
 
 -- the program without its commands, of which one has to be given
 abbrev pub program_line : App
@@ -116,6 +120,9 @@ turns_in (Some list) = turns_of list
 abbrev pub walk_in : List Row → Option Task
 walk_in rows = option_map (λ turns. task.Walk turns) (turns_in (first_of (codes "threads") rows))
 
+abbrev pub sim_in : List Row → Option Task
+sim_in rows = option_map (λ n. task.Sim n) (number_in 0 4294967295 None (one_of (codes "cycles") rows))
+
 -- the command of this name with the values given to its options
 abbrev pub task_in : Text → List Row → Option Task
 task_in name rows =
@@ -124,7 +131,8 @@ task_in name rows =
     else (if bytes_eq name (codes "run") then run_in rows
     else (if bytes_eq name (codes "replay") then Some task.Replay
     else (if bytes_eq name (codes "walk") then walk_in rows
-    else None))))
+    else (if bytes_eq name (codes "sim") then sim_in rows
+    else None)))))
 
 -- x where clap finds no fault
 abbrev pub unless_fails : Kinds → Option Task → Option Task

@@ -3,7 +3,7 @@ ghost use Rattle.clap.specs.Words.{app_of, rule_of, rows_of, one_of, first_of, f
 ghost use Rattle.clap.specs.declared.builder.command.Command.TheViews.{out-Command as fields_of};
 ghost use Rattle.clap.specs.declared.error.kind.ErrorKind.TheVariants.{OutOfMemory};
 ghost use Rattle.hls_words.specs.Line.{build_in, build_line, command_line, in_range, number_in, number_of, number_rule, required};
-ghost use Rattle.hls_words.specs.Line.{flag_rule, is_set, replay_line, run_in, run_line, step_in, step_line, task_in, task_of};
+ghost use Rattle.hls_words.specs.Line.{flag_rule, is_set, replay_line, run_in, run_line, sim_in, sim_line, step_in, step_line, task_in, task_of};
 ghost use Rattle.hls_words.specs.Line.{text_rule, turns_in, walk_in, walk_line};
 
 use crate::{Task, WordsError};
@@ -95,6 +95,13 @@ fn walk_command<'a>(alloc: Global) -> Result<Command<'a>, AllocError>
     Command::new(alloc, "walk").arg(threads)
 }
 
+fn sim_command<'a>(alloc: Global) -> Result<Command<'a>, AllocError>
+    ensures { IfOk result (λ c. (app_of c ≡ sim_line) × ((fields_of c).has_globals ≡ false)) }
+{
+    let cycles = required_number(alloc, "cycles", 0, u32::MAX);
+    Command::new(alloc, "sim").arg(cycles)
+}
+
 /// Adds a command that has no global argument.
 fn with_command<'a>(program: Command<'a>, command: Command<'a>) -> Result<Command<'a>, AllocError>
     requires { (fields_of command).has_globals ≡ false }
@@ -112,7 +119,8 @@ fn whole_command<'a>(alloc: Global) -> Result<Command<'a>, AllocError>
     let step = with_command(build, step_command(alloc)?)?;
     let run = with_command(step, run_command(alloc)?)?;
     let replay = with_command(run, replay_command(alloc))?;
-    with_command(replay, walk_command(alloc)?)
+    let walk = with_command(replay, walk_command(alloc)?)?;
+    with_command(walk, sim_command(alloc)?)
 }
 
 fn is_given(matches: &ArgMatches<'_>, id: &str) -> bool
@@ -212,6 +220,13 @@ fn walk_task(alloc: Global, matches: &ArgMatches<'_>) -> Result<Option<Task>, Al
     Ok(turns.map(Task::Walk))
 }
 
+fn sim_task(matches: &ArgMatches<'_>) -> Option<Task>
+    ensures { result ≡ sim_in (rows_of (found_of matches.now)) }
+{
+    let cycles = number(matches, "cycles", 0, u32::MAX, None)?;
+    Some(Task::Sim { cycles })
+}
+
 /// What the command of this name asks for with these values.
 fn task(alloc: Global, name: &str, matches: &ArgMatches<'_>) -> Result<Option<Task>, AllocError>
     ensures { IfOk result (λ r. r ≡ task_in name.now (rows_of (found_of matches.now))) }
@@ -222,6 +237,7 @@ fn task(alloc: Global, name: &str, matches: &ArgMatches<'_>) -> Result<Option<Ta
         "run" => Ok(run_task(matches)),
         "replay" => Ok(Some(Task::Replay)),
         "walk" => walk_task(alloc, matches),
+        "sim" => Ok(sim_task(matches)),
         _ => Ok(None),
     }
 }

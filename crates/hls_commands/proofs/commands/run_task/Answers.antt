@@ -9,10 +9,11 @@ use Rattle.hls_status.specs.declared.status.Status.TheVariants as status
 use Rattle.hls_commands.specs.declared.answer.Answer.{Answer}
 use Rattle.hls_commands.specs.declared.commands.Stop.{Stop}
 use Rattle.hls_commands.specs.Answers.{IsBuilt, IsRunBy, IsStepped, IsWalked, OwesAt, verdict_status}
-use Rattle.hls_commands.specs.Inside.{IsReplayOrBad, due_of}
+use Rattle.hls_commands.specs.Inside.{IsReplayOrBad, SimOwes, due_of}
 use Rattle.hls_commands.proofs.RunLemmas.{stepped_owes, run_owes, replay_owes, walked_owes}
+use Rattle.hls_commands.proofs.SimLemmas.{sim_owes}
 use Rattle.hls_commands.proofs.commands.run_task.Goals as goal
-use Rattle.hls_commands.proofs.commands.run_task.Goals.{in-Build, in-Step, in-Run, in-Replay, in-Walk}
+use Rattle.hls_commands.proofs.commands.run_task.Goals.{in-Build, in-Step, in-Run, in-Replay, in-Walk, in-Sim}
 
 -- what a command that answers has come to
 at_ok : (Is : Answer → Type 0) (r : Result Answer Stop) (a : Answer) → r ≡ Ok a → IfOk r Is → Is a
@@ -38,4 +39,6 @@ returns-in-Ok-clause-owes g c =
       | in-Walk w ↦ owed _ w.in-Walk.is (walked_owes w.in-Walk.turns left rose (due_of a) a.status
           (subst (λ (ts : List Turn). IsWalked ts left (due_of a) a.status) w.as_slice.ensures
           (at_ok (λ (x : Answer). IsWalked w.as_slice.result.now left (due_of x) x.status) w.walk_turns-done.result a (sym w.done-is ∙ c.in-Ok.is) w.walk_turns-done.ensures.ok)))
+      | in-Sim w ↦ owed _ w.in-Sim.is (sim_owes w.in-Sim.cycles left rose (due_of a) a.status
+          (at_ok (λ (x : Answer). SimOwes w.in-Sim.cycles left (due_of x) x.status) w.simulate-done.result a (sym w.done-is ∙ c.in-Ok.is) w.simulate-done.ensures.ok))
     ]

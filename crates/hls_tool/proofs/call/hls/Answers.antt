@@ -3,6 +3,8 @@ use Rattle.hls_tool.proofs.RefusedLemmas.{tells_refusal}
 use Rattle.hls_tool.proofs.CompleteLemmas.{completes}
 use Rattle.hls_tool.proofs.DeliveryLemmas.{may_be_owed}
 use Rattle.hls_tool.proofs.WalkLemmas.{tells_end}
+use Rattle.hls_tool.proofs.SimLemmas.{simulates, tells_loop, tells_not_net}
+use Rattle.hls_tool.proofs.StepLemmas.{as_step}
 use Rattle.hls_tool.proofs.call.hls.Goals as goal
 
 pub returns-clause-answered : goal.returns-clause-answered
@@ -22,6 +24,18 @@ returns-clause-completes g c = λ task P asked calm out err. completes _ _ _ _ _
 
 pub returns-clause-tells_end : goal.returns-clause-tells_end
 returns-clause-tells_end g c = λ turns P end output asked walk. tells_end _ _ _ _ _ _ turns P (returns-clause-answered g c) asked end output walk
+
+pub returns-clause-not_net : goal.returns-clause-not_net
+returns-clause-not_net g c = λ offset e. tells_not_net _ _ _ _ _ _ (returns-clause-answered g c) offset e
+
+pub returns-clause-loops : goal.returns-clause-loops
+returns-clause-loops g c = λ signal e. tells_loop _ _ _ _ _ _ (returns-clause-answered g c) signal e
+
+pub returns-clause-simulates : goal.returns-clause-simulates
+returns-clause-simulates g c = λ most text asked. simulates _ _ _ _ _ _ most text (returns-clause-answered g c) asked
+
+pub returns-clause-as_step : goal.returns-clause-as_step
+returns-clause-as_step g c = λ most c_text d s stepped short asked. as_step most c_text d s stepped short _ _ _ _ _ _ (returns-clause-answered g c) asked
 
 pub deliver-requires : goal.deliver-requires
 deliver-requires g c = may_be_owed _ _ _ (due_of c.answer-answer.result) _ c.answer-answer.ensures.owes

@@ -12,5 +12,6 @@ returns c =
     let second = c.in_ok-step.ensures ∙ ap₂ with_subcommand first (ap (λ (a : App). a.top) c.in_ok-step_command.ensures.0) in
     let third = c.in_ok-run.ensures ∙ ap₂ with_subcommand second (ap (λ (a : App). a.top) c.in_ok-run_command.ensures.0) in
     let fourth = c.in_ok-replay.ensures ∙ ap₂ with_subcommand third (ap (λ (a : App). a.top) c.replay_command.ensures.0) in
-    IfOk-weaker c.with_command-5.result _ _
-    (λ last h. h ∙ ap₂ with_subcommand fourth (ap (λ (a : App). a.top) c.in_ok-walk_command.ensures.0)) c.with_command-5.ensures
+    let fifth = c.in_ok-walk.ensures ∙ ap₂ with_subcommand fourth (ap (λ (a : App). a.top) c.in_ok-walk_command.ensures.0) in
+    IfOk-weaker c.with_command-6.result _ _
+    (λ last h. h ∙ ap₂ with_subcommand fifth (ap (λ (a : App). a.top) c.in_ok-sim_command.ensures.0)) c.with_command-6.ensures
