@@ -1,7 +1,7 @@
 // Units and registers of a small block at its least starts.
 ghost use Rattle.std.specs.Prelude.{◌^◌, ◌<◌, length};
 
-use crate::small::products;
+use crate::small::{PRODUCTS, block};
 use block_ir::block::Block;
 use least_plan::least_starts;
 use op_graph::node::{Kind, nodes};
@@ -36,7 +36,7 @@ fn bind(alloc: Global, block: &Block) -> Result<Bound, AllocError>
 #[test]
 fn three_products(rt: HostRuntime) -> Result<(), Fail> {
     let alloc = rt.alloc();
-    let block = products(alloc)?;
+    let block = block(alloc, &PRODUCTS, Some(3))?;
     assert!(rt; block.operations.len() == 4);
     let bound = bind(alloc, &block)?;
     assert!(rt; bound.starts.as_slice() == [0, 0, 2, 3, 5].as_slice());

@@ -1,44 +1,40 @@
 // Plans of several codes, made side by side.
-use crate::small::{add_binary, code};
-use block_ir::block::{Block, Next};
+use crate::small::Place::{Local, Value};
+use crate::small::Small::Binary;
+use crate::small::{Small, code};
 use block_ir::code::ThreadCode;
-use block_ir::operand::Source;
 use block_ir::plan::{Planned, StagePlan};
-use c_program::tree::BinaryOperator;
-use hls_ints::CType;
+use c_program::tree::BinaryOperator::Multiply;
 use least_plan::plan;
 use parallel_plan::plan_all;
-use sqlite_items::Items;
 use std::alloc::{AllocError, Global};
 use std::test::Fail;
 
-/// The value of the operation before this one, and of the variable before the first one.
-fn before(number: u32) -> Source {
-    match number {
-        0 => Source::Variable(0, CType::INT),
-        _ => Source::Value(number - 1, CType::INT),
-    }
-}
+const FIRST: Small = Binary(Multiply, Local, Local);
 
-/// So many squares, each of the one before it.
-fn squares(alloc: Global, count: u32) -> Result<ThreadCode, AllocError> {
-    let mut operations = Items::new(alloc);
-    for number in 0..count {
-        add_binary(
-            alloc,
-            &mut operations,
-            BinaryOperator::Multiply,
-            before(number),
-            before(number),
-        )?;
+const SECOND: Small = Binary(Multiply, Value(0), Value(0));
+
+const THIRD: Small = Binary(Multiply, Value(1), Value(1));
+
+const FOURTH: Small = Binary(Multiply, Value(2), Value(2));
+
+const FIFTH: Small = Binary(Multiply, Value(3), Value(3));
+
+/// Squares, each of the one before it.
+const SQUARES: [&[Small]; 5] = [
+    &[FIRST, SECOND, THIRD],
+    &[],
+    &[FIRST],
+    &[FIRST, SECOND],
+    &[FIRST, SECOND, THIRD, FOURTH, FIFTH],
+];
+
+fn codes(alloc: Global) -> Result<Vec<ThreadCode>, AllocError> {
+    let mut codes = Vec::new(alloc);
+    for list in &SQUARES {
+        codes.push(code(alloc, list, None)?)?;
     }
-    let block = Block {
-        operations,
-        finals: Items::new(alloc),
-        next: Next::Jump(1),
-        steps: 1,
-    };
-    code(alloc, block)
+    Ok(codes)
 }
 
 fn starts(planned: &Planned) -> &[u64] {
@@ -48,20 +44,21 @@ fn starts(planned: &Planned) -> &[u64] {
     }
 }
 
+/// Whether a code alone has the same plan.
+fn is_planned(alloc: Global, code: &ThreadCode, planned: &Planned) -> Result<bool, AllocError> {
+    let alone = plan(alloc, code)?;
+    Ok(starts(planned) == starts(&alone) && planned.registers == alone.registers)
+}
+
 #[test]
 fn plans_each_code(rt: HostRuntime) -> Result<(), Fail> {
-    let alloc = rt.alloc();
-    let mut codes = Vec::new(alloc);
-    for count in [3, 0, 1, 2, 5] {
-        codes.push(squares(alloc, count)?)?;
-    }
+    let codes = codes(rt.alloc())?;
     for jobs in [0, 1, 2, 3, 16] {
-        let plans = plan_all(&rt, alloc, codes.as_slice(), jobs)?;
+        let plans = plan_all(&rt, rt.alloc(), codes.as_slice(), jobs)?;
         assert!(rt; plans.len() == codes.len(), "at {jobs}");
-        for (code, planned) in codes.iter().zip(plans.as_slice()) {
-            let alone = plan(alloc, code)?;
-            assert!(rt; starts(planned) == starts(&alone), "at {jobs}");
-            assert!(rt; planned.registers == alone.registers, "at {jobs}");
+        for (code, planned) in codes.as_slice().iter().zip(plans.as_slice()) {
+            let is_planned = is_planned(rt.alloc(), code, planned)?;
+            assert!(rt; is_planned, "at {jobs}");
         }
     }
     Ok(())

@@ -7,121 +7,103 @@ use hls_ints::CType;
 use sqlite_items::Items;
 use std::alloc::{AllocError, Global};
 
-pub fn local() -> Source {
-    Source::Variable(0, CType::INT)
+/// What an operation works on: the variable, the value of an operation, or a constant.
+#[derive(Clone, Copy)]
+pub enum Place {
+    Local,
+    Value(u32),
+    Constant(i128),
 }
 
-pub fn value(number: u32) -> Source {
-    Source::Value(number, CType::INT)
+/// An operation: an operator, or an access of a scalar global or of the first element of a local array of four, which
+/// becomes 1.
+#[derive(Clone, Copy)]
+pub enum Small {
+    Binary(BinaryOperator, Place, Place),
+    ReadGlobal(u32),
+    WriteGlobal(u32, Place),
+    ReadArray(u32),
+    WriteArray(u32),
 }
 
-pub fn constant(number: i128) -> Source {
-    Source::Constant(CType::INT, number)
-}
+/// `x = (a * b + c * d) * e;`
+pub const PRODUCTS: [Small; 4] = [
+    Small::Binary(BinaryOperator::Multiply, Place::Local, Place::Local),
+    Small::Binary(BinaryOperator::Multiply, Place::Local, Place::Local),
+    Small::Binary(BinaryOperator::Add, Place::Value(0), Place::Value(1)),
+    Small::Binary(BinaryOperator::Multiply, Place::Value(2), Place::Local),
+];
 
-fn operand(alloc: Global, source: Source) -> Operand {
+fn operand(alloc: Global, place: Place) -> Operand {
+    let source = match place {
+        Place::Local => Source::Variable(0, CType::INT),
+        Place::Value(number) => Source::Value(number, CType::INT),
+        Place::Constant(number) => Source::Constant(CType::INT, number),
+    };
     Operand {
         source,
         conversions: Items::new(alloc),
     }
 }
 
-pub fn add_binary(
-    alloc: Global,
-    operations: &mut Items<Operation>,
-    operator: BinaryOperator,
-    left: Source,
-    right: Source,
-) -> Result<(), AllocError> {
-    operations.push(Operation::Binary {
-        operator,
-        ty: CType::INT,
-        left: operand(alloc, left),
-        right: operand(alloc, right),
-    })
+fn operation(alloc: Global, small: Small) -> Operation {
+    let index = operand(alloc, Place::Constant(0));
+    match small {
+        Small::Binary(operator, left, right) => Operation::Binary {
+            operator,
+            ty: CType::INT,
+            left: operand(alloc, left),
+            right: operand(alloc, right),
+        },
+        Small::ReadGlobal(global) => Operation::ReadGlobal {
+            global,
+            length: 1,
+            index,
+        },
+        Small::WriteGlobal(global, place) => Operation::WriteGlobal {
+            global,
+            length: 1,
+            index,
+            value: operand(alloc, place),
+        },
+        Small::ReadArray(array) => Operation::ReadArray {
+            array,
+            length: 4,
+            index,
+        },
+        Small::WriteArray(array) => Operation::WriteArray {
+            array,
+            length: 4,
+            index,
+            value: operand(alloc, Place::Constant(1)),
+        },
+    }
 }
 
-/// Adds a read of a scalar global.
-pub fn add_global_read(
-    alloc: Global,
-    operations: &mut Items<Operation>,
-    global: u32,
-) -> Result<(), AllocError> {
-    operations.push(Operation::ReadGlobal {
-        global,
-        length: 1,
-        index: operand(alloc, constant(0)),
-    })
+pub fn operations(alloc: Global, list: &[Small]) -> Result<Items<Operation>, AllocError> {
+    let mut operations = Items::new(alloc);
+    for small in list {
+        operations.push(operation(alloc, *small))?;
+    }
+    Ok(operations)
 }
 
-/// Adds a write of a scalar global.
-pub fn add_global_write(
-    alloc: Global,
-    operations: &mut Items<Operation>,
-    global: u32,
-    source: Source,
-) -> Result<(), AllocError> {
-    operations.push(Operation::WriteGlobal {
-        global,
-        length: 1,
-        index: operand(alloc, constant(0)),
-        value: operand(alloc, source),
-    })
-}
-
-pub fn add_array_read(
-    alloc: Global,
-    operations: &mut Items<Operation>,
-    array: u32,
-) -> Result<(), AllocError> {
-    operations.push(Operation::ReadArray {
-        array,
-        length: 4,
-        index: operand(alloc, constant(0)),
-    })
-}
-
-pub fn add_array_write(
-    alloc: Global,
-    operations: &mut Items<Operation>,
-    array: u32,
-) -> Result<(), AllocError> {
-    operations.push(Operation::WriteArray {
-        array,
-        length: 4,
-        index: operand(alloc, constant(0)),
-        value: operand(alloc, constant(1)),
-    })
-}
-
-fn add_final(alloc: Global, finals: &mut Items<Final>, last: u32) -> Result<(), AllocError> {
-    finals.push(Final {
-        variable: 0,
-        value: operand(alloc, value(last)),
-    })
-}
-
-/// The operations, after which variable 0 has the value of one of them.
-pub fn block(alloc: Global, operations: Items<Operation>, last: u32) -> Result<Block, AllocError> {
+/// The operations, after which variable 0 has the value of one of them, or its own.
+pub fn block(alloc: Global, list: &[Small], last: Option<u32>) -> Result<Block, AllocError> {
+    let operations = operations(alloc, list)?;
     let mut finals = Items::new(alloc);
-    add_final(alloc, &mut finals, last)?;
+    if let Some(number) = last {
+        finals.push(Final {
+            variable: 0,
+            value: operand(alloc, Place::Value(number)),
+        })?;
+    }
     Ok(Block {
         operations,
         finals,
         next: Next::Jump(1),
         steps: 1,
     })
-}
-
-/// `x = (a * b + c * d) * e;`
-pub fn products(alloc: Global) -> Result<Block, AllocError> {
-    let mut operations = Items::new(alloc);
-    let all = &mut operations;
-    add_binary(alloc, all, BinaryOperator::Multiply, local(), local())?;
-    add_binary(alloc, all, BinaryOperator::Multiply, local(), local())?;
-    add_binary(alloc, all, BinaryOperator::Add, value(0), value(1))?;
-    add_binary(alloc, all, BinaryOperator::Multiply, value(2), local())?;
-    block(alloc, operations, 3)
 }
 
 pub fn add_return(stages: &mut Items<Stage>) -> Result<(), AllocError> {
@@ -132,9 +114,9 @@ pub fn add_return(stages: &mut Items<Stage>) -> Result<(), AllocError> {
 }
 
 /// The block, and the return of main behind it.
-pub fn code(alloc: Global, block: Block) -> Result<ThreadCode, AllocError> {
+pub fn code(alloc: Global, list: &[Small], last: Option<u32>) -> Result<ThreadCode, AllocError> {
     let mut stages = Items::new(alloc);
-    stages.push(Stage::Run(block))?;
+    stages.push(Stage::Run(block(alloc, list, last)?))?;
     add_return(&mut stages)?;
     with_stages(alloc, stages)
 }

@@ -1,133 +1,145 @@
 // Constraints of small blocks.
-use crate::small::{
-    add_array_read, add_array_write, add_binary, add_global_read, add_global_write, local, value,
-};
-use block_ir::block::Operation;
-use c_program::tree::BinaryOperator;
+use crate::small::Place::{Local, Value};
+use crate::small::Small::{Binary, ReadArray, ReadGlobal, WriteArray, WriteGlobal};
+use crate::small::{Small, operations};
+use c_program::tree::BinaryOperator::{Add, Divide, Multiply};
 use op_graph::node::nodes;
 use op_graph::{constraints, reduced_constraints};
 use schedule_sdc::Constraint;
-use sqlite_items::Items;
 use std::alloc::{AllocError, Global};
 use std::test::Fail;
 
-fn row(from: usize, to: usize, gap: i64) -> Constraint {
-    Constraint { from, to, gap }
-}
-
-fn table(alloc: Global, operations: &Items<Operation>) -> Result<Vec<Constraint>, AllocError> {
+fn table(alloc: Global, list: &[Small]) -> Result<Vec<Constraint>, AllocError> {
+    let operations = operations(alloc, list)?;
     let graph = nodes(alloc, operations.as_slice())?;
     constraints(alloc, graph.as_slice())
 }
 
-fn reduced(alloc: Global, operations: &Items<Operation>) -> Result<Vec<Constraint>, AllocError> {
+fn reduced(alloc: Global, list: &[Small]) -> Result<Vec<Constraint>, AllocError> {
+    let operations = operations(alloc, list)?;
     let graph = nodes(alloc, operations.as_slice())?;
     reduced_constraints(alloc, graph.as_slice())
 }
 
 /// `a + b + c + d`: of three sums two may be handed on in one state.
-#[test]
-fn sums(rt: HostRuntime) -> Result<(), Fail> {
-    let alloc = rt.alloc();
-    let mut operations = Items::new(alloc);
-    let all = &mut operations;
-    add_binary(alloc, all, BinaryOperator::Add, local(), local())?;
-    add_binary(alloc, all, BinaryOperator::Add, value(0), local())?;
-    add_binary(alloc, all, BinaryOperator::Add, value(1), local())?;
-    let list = table(alloc, &operations)?;
-    let rows = [
-        row(0, 1, 0),
-        row(1, 2, 0),
-        row(0, 2, 1),
-        row(0, 3, 1),
-        row(1, 3, 1),
-        row(2, 3, 1),
-    ];
-    assert!(rt; list.as_slice() == rows.as_slice());
-    Ok(())
-}
+const SUMS: [Small; 3] = [
+    Binary(Add, Local, Local),
+    Binary(Add, Value(0), Local),
+    Binary(Add, Value(1), Local),
+];
 
 /// `a * b / c`: a quotient waits for a product.
-#[test]
-fn products(rt: HostRuntime) -> Result<(), Fail> {
-    let alloc = rt.alloc();
-    let mut operations = Items::new(alloc);
-    let all = &mut operations;
-    add_binary(alloc, all, BinaryOperator::Multiply, local(), local())?;
-    add_binary(alloc, all, BinaryOperator::Divide, value(0), local())?;
-    let list = table(alloc, &operations)?;
-    let rows = [row(0, 1, 2), row(0, 2, 2), row(1, 2, 8)];
-    assert!(rt; list.as_slice() == rows.as_slice());
-    Ok(())
-}
+const PRODUCTS: [Small; 2] = [
+    Binary(Multiply, Local, Local),
+    Binary(Divide, Value(0), Local),
+];
 
 /// Two reads, a write and a read of one array: the table has a row for each two accesses one of which writes; the reduced
 /// list has the last write before each, and the first one after each read.
-#[test]
-fn accesses(rt: HostRuntime) -> Result<(), Fail> {
-    let alloc = rt.alloc();
-    let mut operations = Items::new(alloc);
-    let all = &mut operations;
-    add_array_read(alloc, all, 0)?;
-    add_array_read(alloc, all, 0)?;
-    add_array_write(alloc, all, 0)?;
-    add_array_read(alloc, all, 0)?;
-    let list = table(alloc, &operations)?;
-    let rows = [
-        row(0, 2, 1),
-        row(1, 2, 1),
-        row(2, 3, 1),
-        row(0, 4, 1),
-        row(1, 4, 1),
-        row(2, 4, 1),
-        row(3, 4, 1),
-    ];
-    assert!(rt; list.as_slice() == rows.as_slice());
-    let fewer = reduced(alloc, &operations)?;
-    let kept = [
-        row(2, 3, 1),
-        row(1, 2, 1),
-        row(0, 2, 1),
-        row(0, 4, 1),
-        row(1, 4, 1),
-        row(2, 4, 1),
-        row(3, 4, 1),
-    ];
-    assert!(rt; fewer.as_slice() == kept.as_slice());
-    Ok(())
-}
+const ACCESSES: [Small; 4] = [ReadArray(0), ReadArray(0), WriteArray(0), ReadArray(0)];
 
 /// A read, a write and a read of one global, and a read of another one: the write waits until the word read before it is
 /// taken, and two globals are in no order.
+const GLOBALS: [Small; 4] = [
+    ReadGlobal(0),
+    WriteGlobal(0, Local),
+    ReadGlobal(0),
+    ReadGlobal(1),
+];
+
+/// A constraint as where it is from, where it leads, and its gap.
+type Row = (usize, usize, i64);
+
+const TABLES: [(&[Small], &[Row]); 4] = [
+    (
+        &SUMS,
+        &[
+            (0, 1, 0),
+            (1, 2, 0),
+            (0, 2, 1),
+            (0, 3, 1),
+            (1, 3, 1),
+            (2, 3, 1),
+        ],
+    ),
+    (&PRODUCTS, &[(0, 1, 2), (0, 2, 2), (1, 2, 8)]),
+    (
+        &ACCESSES,
+        &[
+            (0, 2, 1),
+            (1, 2, 1),
+            (2, 3, 1),
+            (0, 4, 1),
+            (1, 4, 1),
+            (2, 4, 1),
+            (3, 4, 1),
+        ],
+    ),
+    (
+        &GLOBALS,
+        &[
+            (0, 1, 2),
+            (0, 2, 2),
+            (1, 2, 1),
+            (0, 4, 2),
+            (1, 4, 1),
+            (2, 4, 2),
+            (3, 4, 2),
+        ],
+    ),
+];
+
+const REDUCED: [(&[Small], &[Row]); 2] = [
+    (
+        &ACCESSES,
+        &[
+            (2, 3, 1),
+            (1, 2, 1),
+            (0, 2, 1),
+            (0, 4, 1),
+            (1, 4, 1),
+            (2, 4, 1),
+            (3, 4, 1),
+        ],
+    ),
+    (
+        &GLOBALS,
+        &[
+            (0, 1, 2),
+            (1, 2, 1),
+            (0, 4, 2),
+            (1, 4, 1),
+            (2, 4, 2),
+            (3, 4, 2),
+        ],
+    ),
+];
+
+fn are_rows(list: &[Constraint], rows: &[Row]) -> bool {
+    for (constraint, (from, to, gap)) in list.iter().zip(rows) {
+        if constraint.from != *from || constraint.to != *to || constraint.gap != *gap {
+            return false;
+        }
+    }
+    list.len() == rows.len()
+}
+
 #[test]
-fn globals(rt: HostRuntime) -> Result<(), Fail> {
-    let alloc = rt.alloc();
-    let mut operations = Items::new(alloc);
-    let all = &mut operations;
-    add_global_read(alloc, all, 0)?;
-    add_global_write(alloc, all, 0, local())?;
-    add_global_read(alloc, all, 0)?;
-    add_global_read(alloc, all, 1)?;
-    let list = table(alloc, &operations)?;
-    let rows = [
-        row(0, 1, 2),
-        row(0, 2, 2),
-        row(1, 2, 1),
-        row(0, 4, 2),
-        row(1, 4, 1),
-        row(2, 4, 2),
-        row(3, 4, 2),
-    ];
-    assert!(rt; list.as_slice() == rows.as_slice());
-    let fewer = reduced(alloc, &operations)?;
-    let kept = [
-        row(0, 1, 2),
-        row(1, 2, 1),
-        row(0, 4, 2),
-        row(1, 4, 1),
-        row(2, 4, 2),
-        row(3, 4, 2),
-    ];
-    assert!(rt; fewer.as_slice() == kept.as_slice());
+fn tables(rt: HostRuntime) -> Result<(), Fail> {
+    for (list, rows) in &TABLES {
+        let table = table(rt.alloc(), list)?;
+        let count = rows.len();
+        assert!(rt; are_rows(table.as_slice(), rows), "at {count} rows");
+    }
+    Ok(())
+}
+
+#[test]
+fn reduced_tables(rt: HostRuntime) -> Result<(), Fail> {
+    for (list, rows) in &REDUCED {
+        let reduced = reduced(rt.alloc(), list)?;
+        let count = rows.len();
+        assert!(rt; are_rows(reduced.as_slice(), rows), "at {count} rows");
+    }
     Ok(())
 }

@@ -1,9 +1,10 @@
 // The module of a small thread.
-use crate::small::{add_binary, add_return, block, constant, local, with_stages};
-use block_ir::block::Block;
+use crate::small::Place::{Constant, Local};
+use crate::small::Small::Binary;
+use crate::small::{Small, add_return, block, with_stages};
 use block_ir::code::{Act, ActOperand, Stage, ThreadCode};
 use block_ir::plan::{BlockPlan, Planned, StagePlan};
-use c_program::tree::BinaryOperator;
+use c_program::tree::BinaryOperator::Multiply;
 use fsm_datapath::module::module;
 use hls_ints::CType;
 use netlist::netlist::Module;
@@ -14,18 +15,7 @@ use thread_slots::shape::{Printer, Served, Shape};
 use verilog_tree::name::Identifier;
 
 /// `x = x * 7;`
-fn product(alloc: Global) -> Result<Block, AllocError> {
-    let mut operations = Items::new(alloc);
-    let seven = constant(7);
-    add_binary(
-        alloc,
-        &mut operations,
-        BinaryOperator::Multiply,
-        local(),
-        seven,
-    )?;
-    block(alloc, operations, 0)
-}
+const PRODUCT: [Small; 1] = [Binary(Multiply, Local, Constant(7))];
 
 /// `printf("%d", x);`
 fn add_print(alloc: Global, stages: &mut Items<Stage>) -> Result<(), AllocError> {
@@ -39,7 +29,7 @@ fn add_print(alloc: Global, stages: &mut Items<Stage>) -> Result<(), AllocError>
 /// `x = x * 7; printf("%d", x);`, then a return.
 fn code(alloc: Global) -> Result<ThreadCode, AllocError> {
     let mut stages = Items::new(alloc);
-    stages.push(Stage::Run(product(alloc)?))?;
+    stages.push(Stage::Run(block(alloc, &PRODUCT, Some(0))?))?;
     add_print(alloc, &mut stages)?;
     add_return(&mut stages)?;
     with_stages(alloc, stages)

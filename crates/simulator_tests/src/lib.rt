@@ -1,7 +1,9 @@
-//! Tests of the simulator: a value by the standard, and three nets that are written out by hand. They stand in a crate of their own,
-//! since a crate with tests is proved twice.
+//! Tests of the simulator: a value by the standard, three nets that are written out by hand, and a net that a program is compiled to.
+//! They stand in a crate of their own, since a crate with tests is proved twice.
 #![tactic(auto)]
 
+#[cfg(test)]
+mod choices;
 #[cfg(test)]
 mod dumps;
 #[cfg(test)]

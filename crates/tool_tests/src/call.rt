@@ -1,7 +1,7 @@
 // Calls of the tool.
 
-use hardware_threads::gate::OpenGate;
-use hls_io::{MemSink, MemSource, Sink, Source};
+use hardware_threads::gate::{Gate, OpenGate};
+use hls_io::{MemSink, MemSource};
 use hls_tool::{Outcome, Status, hls};
 use std::alloc::{AllocError, Global};
 use std::process::Abort;
@@ -9,48 +9,86 @@ use std::sync::Wait;
 use std::thread::Threads;
 
 /// The most bytes that a sink for a text takes.
-pub const ROOM: usize = 300_000;
+const ROOM: usize = 300_000;
 
-pub fn call<R: Threads + Wait + Sync, S: Source, O: Sink, E: Sink>(
-    rt: &R,
-    alloc: Global,
-    words: &[&str],
-    source: &mut S,
-    out: &mut O,
-    err: &mut E,
-) -> Result<Outcome, AllocError> {
-    let words: Vec<String> = words
-        .iter()
-        .map(|word| word.to_string(alloc))
-        .try_collect(alloc)?;
-    let words = words.as_slice();
-    Ok(hls(rt, alloc, words, source, out, err, &OpenGate))
+/// The most bytes that a sink for lines takes.
+const LINES: usize = 20_000;
+
+pub const BUILD: &[&str] = &["hls", "build"];
+
+pub const RUN: &[&str] = &["hls", "run"];
+
+pub const REPLAY: &[&str] = &["hls", "replay"];
+
+/// The most bytes that each call of a stream moves, and the numbers of the calls that fail, from 1.
+pub type Moves<'a> = (usize, &'a [u64]);
+
+/// How the source, out and err move.
+#[derive(Clone, Copy)]
+pub struct Streams<'a> {
+    pub reads: Moves<'a>,
+    pub outs: Moves<'a>,
+    pub errs: Moves<'a>,
 }
 
-/// What a call on the text answers, and the bytes that it writes to each sink.
+/// Streams of which no call fails.
+pub const SURE: Streams<'static> = Streams {
+    reads: (4096, &[]),
+    outs: (4096, &[]),
+    errs: (4096, &[]),
+};
+
+/// What a call answers, and what out and err took.
+#[derive(Drop)]
+pub struct Ended<'a> {
+    pub outcome: Outcome,
+    pub out: MemSink<'a>,
+    pub err: MemSink<'a>,
+}
+
+fn words_of(alloc: Global, words: &[&str]) -> Result<Vec<String>, AllocError> {
+    words
+        .iter()
+        .map(|word| word.to_string(alloc))
+        .try_collect(alloc)
+}
+
+/// What a call on the text answers over such streams, where workers stop at the gate.
+pub fn told_at<'a, R: Threads + Wait + Sync, G: Gate + Sync>(
+    rt: &R,
+    alloc: Global,
+    text: &[u8],
+    words: &[&str],
+    streams: &Streams<'a>,
+    gate: &G,
+) -> Result<Box<Ended<'a>>, AllocError> {
+    let (reads, outs, errs) = (streams.reads, streams.outs, streams.errs);
+    let words = words_of(alloc, words)?;
+    let words = words.as_slice();
+    let mut source = MemSource::new(text, reads.0.max(1), reads.1);
+    let mut out = MemSink::new(alloc, ROOM, outs.0.max(1), outs.1)?;
+    let mut err = MemSink::new(alloc, LINES, errs.0.max(1), errs.1)?;
+    let outcome = hls(rt, alloc, words, &mut source, &mut out, &mut err, gate);
+    let ended = Box::new(alloc, Ended { outcome, out, err })?;
+    Ok(ended)
+}
+
 pub fn told<'a, R: Threads + Wait + Sync>(
     rt: &R,
     alloc: Global,
-    text: &'a str,
+    text: &[u8],
     words: &[&str],
-) -> Result<(Status, MemSink<'a>, MemSink<'a>), AllocError> {
-    let mut source = MemSource::new(text.as_bytes(), 4096, &[]);
-    let mut out = MemSink::new(alloc, ROOM, 4096, &[])?;
-    let mut err = MemSink::new(alloc, 1000, 4096, &[])?;
-    let outcome = call(rt, alloc, words, &mut source, &mut out, &mut err)?;
-    Ok((outcome.status, out, err))
+    streams: &Streams<'a>,
+) -> Result<Box<Ended<'a>>, AllocError> {
+    told_at(rt, alloc, text, words, streams, &OpenGate)
 }
 
-/// A text, the words behind it, the number of the status, and what is written to out and to err: the whole where it is
-/// empty or ends a line, else how it begins.
-pub type Row = (
-    &'static str,
-    &'static [&'static str],
-    u8,
-    &'static str,
-    &'static str,
-);
+/// Whether the call ended so, and out and err took just these bytes.
+pub fn is_ended(told: &Ended<'_>, status: Status, out: &[u8], err: &[u8]) -> bool {
+    told.outcome.status == status && told.out.held() == out && told.err.held() == err
+}
 
+/// Whether the bytes are the whole where that is empty or ends a line, else whether they begin so.
 fn is_as(held: &[u8], expected: &str) -> bool {
     if expected.is_empty() || expected.ends_with('\n') {
         held == expected.as_bytes()
@@ -59,17 +97,72 @@ fn is_as(held: &[u8], expected: &str) -> bool {
     }
 }
 
+/// Whether a call ends so, and out and err take just these bytes.
+pub fn is_told<R: Threads + Wait + Sync>(
+    rt: &R,
+    alloc: Global,
+    text: &[u8],
+    words: &[&str],
+    streams: &Streams<'_>,
+    status: Status,
+    out: &[u8],
+    err: &[u8],
+) -> Result<bool, AllocError> {
+    let told = told(rt, alloc, text, words, streams)?;
+    Ok(is_ended(&told, status, out, err))
+}
+
+/// Whether a call has this number, and out and err take what is expected.
+pub fn is_right<R: Threads + Wait + Sync>(
+    rt: &R,
+    alloc: Global,
+    text: &[u8],
+    words: &[&str],
+    streams: &Streams<'_>,
+    number: u8,
+    printed: &str,
+    line: &str,
+) -> Result<bool, AllocError> {
+    let told = told(rt, alloc, text, words, streams)?;
+    Ok(
+        told.outcome.status.number() == number
+            && is_as(told.out.held(), printed)
+            && is_as(told.err.held(), line),
+    )
+}
+
+/// A text, the words behind it, the number of the status, and what is written to out and to err.
+pub type Row = (
+    &'static str,
+    &'static [&'static str],
+    u8,
+    &'static str,
+    &'static str,
+);
+
 /// Asserts each row.
 pub fn each<R: Threads + Wait + Sync + Abort>(
     rt: &R,
     alloc: Global,
     rows: &[Row],
 ) -> Result<(), AllocError> {
-    for (text, words, number, printed, line) in rows {
-        let (status, out, err) = told(rt, alloc, text, words)?;
-        assert!(rt; is_as(err.held(), line), "at {text}");
-        assert!(rt; is_as(out.held(), printed), "at {text}");
-        assert!(rt; status.number() == *number, "at {text}");
+    for (source, words, number, printed, line) in rows {
+        let text = source.as_bytes();
+        let is_right = is_right(rt, alloc, text, words, &SURE, *number, printed, line)?;
+        assert!(rt; is_right, "at {source}");
     }
     Ok(())
+}
+
+/// Whether a call on the text of two threads that print a line each is done, with the lines in one of the two orders.
+pub fn is_either<R: Threads + Wait + Sync>(
+    rt: &R,
+    alloc: Global,
+    text: &str,
+    words: &[&str],
+) -> Result<bool, AllocError> {
+    let told = told(rt, alloc, text.as_bytes(), words, &SURE)?;
+    let out = told.out.held();
+    let is_one = out == b"a\nb\n".as_slice() || out == b"b\na\n".as_slice();
+    Ok(told.outcome.status == Status::Ok && is_one)
 }

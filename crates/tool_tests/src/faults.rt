@@ -1,65 +1,414 @@
-// Faults of sources and sinks, and the number of each status.
+// The table of faults: words, journals, texts that end too early, reads and writes that fail; and the number of each status.
 
-use crate::call::{ROOM, call};
-use crate::programs::MAIN;
+use crate::call::{
+    BUILD, Moves, REPLAY, RUN, Row, SURE, Streams, each, is_ended, is_right, is_told, told,
+};
+use crate::programs::{COUNTING, ENDLESS, MAIN, SUMMING};
+use crate::sims::CLIMBING;
 use c_profile::Refusal;
-use hls_io::{MemSink, MemSource, SureSink, SureSource};
-use hls_tool::{Status, tell_memory};
+use hls_io::MemSink;
+use hls_tool::{Status, WalkEnd, tell_memory};
+use std::alloc::{AllocError, Global};
+use std::sync::Wait;
 use std::test::Fail;
+use std::thread::Threads;
 
+const READ_FAULT: &str = "hls: read fault\n";
+
+const WRITE_FAULT: &[u8] = b"hls: write fault\n";
+
+const USAGE: &str = "hls: usage\n";
+
+const REFUSED: &str = "hls: refused E";
+
+/// A text and the words behind it.
+type Case = (&'static str, &'static [&'static str]);
+
+/// Calls of each command that answer alike each time, with much, with little and with nothing for out.
+const CASES: [Case; 12] = [
+    (MAIN, BUILD),
+    ("int x;", BUILD),
+    (COUNTING, &["hls", "step", "--cycles", "11520"]),
+    (COUNTING, &["hls", "step", "--cycles", "0"]),
+    (COUNTING, &["hls", "step", "--cycles", "9", "--vcd"]),
+    (COUNTING, &["hls", "walk", "--threads", "0*1000000"]),
+    (COUNTING, &["hls", "walk", "--threads", "0*15"]),
+    (COUNTING, RUN),
+    (ENDLESS, &["hls", "run", "--entries", "1", "--journal"]),
+    ("//@ 0 9 -\nint main(void){while (1) ; return 0;}", REPLAY),
+    ("//@ 5 0 -\nint main(void){return 0;}", REPLAY),
+    (CLIMBING, &["hls", "sim", "--cycles", "2"]),
+];
+
+/// Whether a fault of this read is told, where each read takes 16 bytes.
+fn read_fails<R: Threads + Wait + Sync>(
+    rt: &R,
+    alloc: Global,
+    case: &Case,
+    number: u64,
+) -> Result<bool, AllocError> {
+    let fails = [number];
+    let streams = Streams {
+        reads: (16, &fails),
+        ..SURE
+    };
+    let text = case.0.as_bytes();
+    is_right(rt, alloc, text, case.1, &streams, 3, "", READ_FAULT)
+}
+
+/// The last read finds the text's end.
 #[test]
-fn answers_a_fault_of_the_source_or_of_the_words(rt: HostRuntime) -> Result<(), Fail> {
-    let alloc = rt.alloc();
-    let mut source = MemSource::new(MAIN.as_bytes(), 4, &[2]);
-    let mut out = SureSink::new();
-    let mut err = MemSink::new(alloc, 1000, 16, &[])?;
-    let words = ["hls", "build"];
-    let status = call(&rt, alloc, &words, &mut source, &mut out, &mut err)?.status;
-    assert!(rt; status == Status::ReadFault);
-    assert!(rt; err.held() == b"hls: read fault\n".as_slice());
-    let words = ["hls", "step"];
-    let status = call(&rt, alloc, &words, &mut source, &mut out, &mut err)?.status;
-    assert!(rt; status == Status::Usage);
-    assert!(rt; err.held() == b"hls: read fault\nhls: usage\n".as_slice());
+fn tells_a_fault_of_each_read(rt: HostRuntime) -> Result<(), Fail> {
+    for case in &CASES {
+        for number in 0..=case.0.as_bytes().chunks(16).count() as u64 {
+            let is_right = read_fails(&rt, rt.alloc(), case, number.saturating_add(1))?;
+            assert!(rt; is_right, "at read {number}");
+        }
+    }
     Ok(())
 }
 
-#[test]
-fn writes_a_front_of_the_text(rt: HostRuntime) -> Result<(), Fail> {
-    let alloc = rt.alloc();
-    let mut source = MemSource::new(MAIN.as_bytes(), 4, &[]);
-    let mut out = MemSink::new(alloc, ROOM, 16, &[3])?;
-    let words = ["hls", "build"];
-    let outcome = call(
-        &rt,
+/// Whether a fault of this write to out is told, one of the four or fewer in which these bytes go.
+fn out_fails<R: Threads + Wait + Sync>(
+    rt: &R,
+    alloc: Global,
+    case: &Case,
+    number: usize,
+    due: &[u8],
+) -> Result<bool, AllocError> {
+    let piece = due.len() / 4 + 1;
+    let out = number.saturating_mul(piece);
+    if out >= due.len() {
+        return Ok(true);
+    }
+    let fails = [(number as u64).saturating_add(1)];
+    let streams = Streams {
+        outs: (piece, &fails),
+        ..SURE
+    };
+    let (text, front) = (case.0.as_bytes(), &due[..out]);
+    let status = Status::WriteFault { out, err: 17 };
+    is_told(
+        rt,
         alloc,
-        &words,
-        &mut source,
-        &mut out,
-        &mut SureSink::new(),
-    )?;
-    assert!(rt; outcome.status == Status::WriteFault { out: 32, err: 17 });
-    assert!(rt; out.held().len() == 32);
-    assert!(rt; outcome.text.as_slice().starts_with(out.held()));
+        text,
+        case.1,
+        &streams,
+        status,
+        front,
+        WRITE_FAULT,
+    )
+}
+
+/// The same of a write to err, where out has taken all that is due.
+fn err_fails<R: Threads + Wait + Sync>(
+    rt: &R,
+    alloc: Global,
+    case: &Case,
+    number: usize,
+    out: &[u8],
+    due: &[u8],
+) -> Result<bool, AllocError> {
+    let piece = due.len() / 4 + 1;
+    let err = number.saturating_mul(piece);
+    if err >= due.len() {
+        return Ok(true);
+    }
+    let fails = [(number as u64).saturating_add(1)];
+    let streams = Streams {
+        errs: (piece, &fails),
+        ..SURE
+    };
+    let (text, front) = (case.0.as_bytes(), &due[..err]);
+    let status = Status::WriteFault {
+        out: out.len(),
+        err,
+    };
+    is_told(rt, alloc, text, case.1, &streams, status, out, front)
+}
+
+#[test]
+fn tells_a_fault_of_each_write(rt: HostRuntime) -> Result<(), Fail> {
+    for case in &CASES {
+        let due = told(&rt, rt.alloc(), case.0.as_bytes(), case.1, &SURE)?;
+        let (out, err) = (due.out.held(), due.err.held());
+        for number in 0..4 {
+            let is_right = out_fails(&rt, rt.alloc(), case, number, out)?
+                && err_fails(&rt, rt.alloc(), case, number, out, err)?;
+            assert!(rt; is_right, "at write {number}");
+        }
+    }
     Ok(())
 }
 
-/// The calls of out and of err that fail, and how the call ends.
-const TAKEN: [(&[u64], &[u64], Status); 2] = [
-    (&[3], &[], Status::WriteFault { out: 32, err: 17 }),
-    (&[1], &[1], Status::WriteFault { out: 0, err: 0 }),
+/// The calls of out and of err that fail in a build, each taking so many bytes, how many bytes out takes, and what err takes: where out
+/// failed, err owes the line of a write fault.
+type Fault = (Moves<'static>, Moves<'static>, usize, &'static [u8]);
+
+const FAULTS: [Fault; 6] = [
+    ((16, &[3]), (4096, &[]), 32, WRITE_FAULT),
+    ((16, &[1]), (4096, &[1]), 0, b""),
+    ((16, &[3]), (5, &[1]), 32, b""),
+    ((16, &[3]), (5, &[2]), 32, b"hls: "),
+    ((16, &[3]), (5, &[3]), 32, b"hls: write"),
+    ((16, &[3]), (5, &[4]), 32, b"hls: write faul"),
+];
+
+/// Whether such a build is told, of which the text is this one.
+fn is_faulty<R: Threads + Wait + Sync>(
+    rt: &R,
+    alloc: Global,
+    fault: &Fault,
+    source: &str,
+    text: &[u8],
+) -> Result<bool, AllocError> {
+    let streams = Streams {
+        outs: fault.0,
+        errs: fault.1,
+        ..SURE
+    };
+    let told = told(rt, alloc, source.as_bytes(), BUILD, &streams)?;
+    let out = fault.2.min(text.len());
+    let status = Status::WriteFault {
+        out,
+        err: fault.3.len(),
+    };
+    Ok(told.outcome.text.as_slice() == text && is_ended(&told, status, &text[..out], fault.3))
+}
+
+#[test]
+fn tells_what_both_sinks_took(rt: HostRuntime) -> Result<(), Fail> {
+    for source in [MAIN, COUNTING] {
+        let built = told(&rt, rt.alloc(), source.as_bytes(), BUILD, &SURE)?;
+        for fault in &FAULTS {
+            let is_right = is_faulty(&rt, rt.alloc(), fault, source, built.out.held())?;
+            assert!(rt; is_right);
+        }
+    }
+    Ok(())
+}
+
+/// Words of no command.
+const WORDS: [&[&str]; 42] = [
+    &[],
+    &["hls"],
+    &["hls", "compile"],
+    &["hls", "--help"],
+    &["hls", "--version"],
+    &["hls", "Build"],
+    &["hls", "build", "x"],
+    &["hls", "build", "--help"],
+    &["hls", "build", "--jobs"],
+    &["hls", "build", "--jobs", "0"],
+    &["hls", "build", "--jobs", "17"],
+    &["hls", "build", "--jobs", "two"],
+    &["hls", "build", "--cycles", "1"],
+    &["hls", "step"],
+    &["hls", "step", "--cycles"],
+    &["hls", "step", "--cycles", "4294967296"],
+    &["hls", "step", "--cycles", "-1"],
+    &["hls", "step", "--cycles", "1x"],
+    &["hls", "step", "--cycles", "9", "9"],
+    &["hls", "step", "--vcd"],
+    &["hls", "step", "--cycles", "100001", "--vcd"],
+    &["hls", "run", "x"],
+    &["hls", "run", "--entries"],
+    &["hls", "run", "--entries", "-1"],
+    &["hls", "run", "--entries", "0"],
+    &["hls", "run", "--entries", "1000001"],
+    &["hls", "run", "--cycles", "9"],
+    &["hls", "replay", "x"],
+    &["hls", "replay", "--journal"],
+    &["hls", "walk"],
+    &["hls", "walk", "--threads", ""],
+    &["hls", "walk", "--threads", "0,"],
+    &["hls", "walk", "--threads", ",0"],
+    &["hls", "walk", "--threads", "0*"],
+    &["hls", "walk", "--threads", "*1"],
+    &["hls", "walk", "--threads", "0*0"],
+    &["hls", "walk", "--threads", "0*1000001"],
+    &["hls", "walk", "--threads", "0*1000000,0"],
+    &["hls", "walk", "--threads", "4294967296"],
+    &["hls", "walk", "--threads", "0 0"],
+    &["hls", "walk", "--threads", "00000000000"],
+    &["hls", "walk", "--threads", "0*00000000001"],
+];
+
+/// Numbers at their edges.
+const EDGES: [Row; 8] = [
+    (
+        MAIN,
+        &["hls", "build", "--jobs=16"],
+        0,
+        "module ",
+        "hls: built, ",
+    ),
+    (
+        MAIN,
+        &["hls", "step", "--cycles", "0"],
+        9,
+        "",
+        "hls: not done, 0 cycles\n",
+    ),
+    (
+        MAIN,
+        &["hls", "step", "--cycles=4294967295"],
+        0,
+        "",
+        "hls: done, ",
+    ),
+    (
+        MAIN,
+        &["hls", "run", "--entries", "1000000"],
+        0,
+        "",
+        "hls: done, ",
+    ),
+    (
+        MAIN,
+        &["hls", "run", "--journal", "--entries", "1000"],
+        0,
+        "",
+        "//@ 0 ",
+    ),
+    (
+        MAIN,
+        &["hls", "walk", "--threads", "0*1000000"],
+        0,
+        "",
+        "hls: ended, 1 steps\n",
+    ),
+    (
+        MAIN,
+        &["hls", "walk", "--threads", "0000000000*0000000001"],
+        0,
+        "",
+        "hls: ended, 1 steps\n",
+    ),
+    (
+        MAIN,
+        &["hls", "walk", "--threads", "4294967295"],
+        10,
+        "",
+        "hls: blocked at step 0, thread 4294967295: not running\n",
+    ),
 ];
 
 #[test]
-fn counts_what_each_sink_took(rt: HostRuntime) -> Result<(), Fail> {
-    let alloc = rt.alloc();
-    for (out_fails, err_fails, status) in &TAKEN {
-        let mut source = SureSource::new(MAIN.as_bytes(), 4096);
-        let mut out = MemSink::new(alloc, ROOM, 16, out_fails)?;
-        let mut err = MemSink::new(alloc, 1000, 64, err_fails)?;
-        let words = ["hls", "build"];
-        let told = call(&rt, alloc, &words, &mut source, &mut out, &mut err)?.status;
-        assert!(rt; told == *status);
+fn judges_the_words(rt: HostRuntime) -> Result<(), Fail> {
+    for words in &WORDS {
+        let text = MAIN.as_bytes();
+        let is_usage = is_right(&rt, rt.alloc(), text, words, &SURE, 2, "", USAGE)?;
+        let count = words.len();
+        assert!(rt; is_usage, "at {count} words");
+    }
+    each(&rt, rt.alloc(), &EDGES)?;
+    Ok(())
+}
+
+/// The second read of four bytes fails. Words are judged before a byte is read, and a text only where it is read to its end.
+const ORDER: [(Case, u8, &str); 5] = [
+    (("int x", &["hls", "step"]), 2, USAGE),
+    (("int x", BUILD), 3, READ_FAULT),
+    (("int x", RUN), 3, READ_FAULT),
+    (("//@ 5 0 -\nint x", REPLAY), 3, READ_FAULT),
+    ((MAIN, BUILD), 3, READ_FAULT),
+];
+
+#[test]
+fn judges_in_order(rt: HostRuntime) -> Result<(), Fail> {
+    let streams = Streams {
+        reads: (4, &[2]),
+        ..SURE
+    };
+    for ((text, words), number, line) in &ORDER {
+        let text = text.as_bytes();
+        let is_right = is_right(&rt, rt.alloc(), text, words, &streams, *number, "", line)?;
+        assert!(rt; is_right, "at {line}");
+    }
+    Ok(())
+}
+
+/// Journals before a program without an end, whose main never asks a core, and the first entry that is misspelt or not legal.
+const JOURNALS: [(&str, usize); 35] = [
+    ("//@ 5 0 -\n", 0),
+    ("//@ 0 0 -\n", 0),
+    ("//@ 0 0 s\n", 0),
+    ("//@ 0 1 s\n", 0),
+    ("//@ 0 4097 -\n", 0),
+    ("//@ 1 1 -\n", 0),
+    ("//@ 4294967296 1 -\n", 0),
+    ("//@ 00 1 -\n", 0),
+    ("//@ 0 01 -\n", 0),
+    ("//@ 12345678901 1 -\n", 0),
+    ("//@ 0 12345678901 -\n", 0),
+    ("//@\n", 0),
+    ("//@ \n", 0),
+    ("//@ 0\n", 0),
+    ("//@ 0 1\n", 0),
+    ("//@ 0 1 \n", 0),
+    ("//@ 0 1 x\n", 0),
+    ("//@ 0 1 S\n", 0),
+    ("//@ 0 1 -x\n", 0),
+    ("//@ 0 1 - \n", 0),
+    ("//@ 0 1 -\r\n", 0),
+    ("//@0 1 -\n", 0),
+    ("//@  0 1 -\n", 0),
+    ("//@ 0  1 -\n", 0),
+    ("//@\t0 1 -\n", 0),
+    ("//@ +0 1 -\n", 0),
+    ("//@ -1 1 -\n", 0),
+    ("//@ 0x0 1 -\n", 0),
+    ("//@ 0 9 -\n//@ 0 1\n", 1),
+    ("//@ 0 9 -\n//@ 0 1 -\n//@ 1 1 -\n", 2),
+    ("//@ 1 1 -\n//@ 0 1\n", 0),
+    ("//@ 0 1\n//@ 1 1 -\n", 0),
+    ("//@ 0 1 -\n//@ 0 1 x\n//@ 1 1 -\n", 1),
+    ("//@ 0 1 -\n//@ 1 1 -\n//@ 0 1 x\n", 1),
+    (
+        "//@ 0 1 -\n//@ 0 1 -\n//@ 0 1 -\n//@ 0 4097 -\n//@ 0 1 -\n",
+        3,
+    ),
+];
+
+#[test]
+fn tells_the_first_bad_entry(rt: HostRuntime) -> Result<(), Fail> {
+    for (journal, index) in &JOURNALS {
+        let text = format!(in rt.alloc(); "{journal}{ENDLESS}")?;
+        let line = format!(in rt.alloc(); "hls: bad entry {index}\n")?;
+        let (text, line) = (text.as_bytes(), line.as_str());
+        let is_right = is_right(&rt, rt.alloc(), text, REPLAY, &SURE, 8, "", line)?;
+        assert!(rt; is_right, "at {journal}");
+    }
+    Ok(())
+}
+
+/// Each proper beginning of these is refused. One that ends inside of a journal has no program behind it.
+const CUTS: [Case; 5] = [
+    (SUMMING, BUILD),
+    (
+        "int main(void){int i = 4; return i;}",
+        &["hls", "step", "--cycles", "9"],
+    ),
+    (
+        "int main(void){int i = 4; return i;}",
+        &["hls", "walk", "--threads", "0"],
+    ),
+    ("int main(void){int i = 4; return i;}", RUN),
+    (
+        "//@ 0 4096 -\n//@ 0 1 s\nint main(void){while (1) ; return 0;}",
+        REPLAY,
+    ),
+];
+
+#[test]
+fn refuses_each_cut(rt: HostRuntime) -> Result<(), Fail> {
+    for (text, words) in &CUTS {
+        for length in 0..text.len() {
+            let cut = &text.as_bytes()[..length];
+            let is_right = is_right(&rt, rt.alloc(), cut, words, &SURE, 1, "", REFUSED)?;
+            assert!(rt; is_right, "at {length} bytes");
+        }
     }
     Ok(())
 }
@@ -76,22 +425,25 @@ fn tells_that_memory_is_wanting(rt: HostRuntime) -> Result<(), Fail> {
     Ok(())
 }
 
-const NUMBERS: [(Status, u8); 10] = [
-    (Status::Ok, 0),
-    (Status::Refused(Refusal::NoMain), 1),
-    (Status::Usage, 2),
-    (Status::ReadFault, 3),
-    (Status::WriteFault { out: 0, err: 0 }, 4),
-    (Status::Memory, 5),
-    (Status::Entries, 6),
-    (Status::Stuck, 7),
-    (Status::BadEntry { index: 0 }, 8),
-    (Status::Cycles { cycles: 0 }, 9),
-];
-
 #[test]
 fn has_a_number_for_each_status(rt: HostRuntime) {
-    for (status, number) in &NUMBERS {
+    let signal = String::new(rt.alloc());
+    let numbers = [
+        (Status::Ok, 0),
+        (Status::Refused(Refusal::NoMain), 1),
+        (Status::Usage, 2),
+        (Status::ReadFault, 3),
+        (Status::WriteFault { out: 0, err: 0 }, 4),
+        (Status::Memory, 5),
+        (Status::Entries, 6),
+        (Status::Stuck, 7),
+        (Status::BadEntry { index: 0 }, 8),
+        (Status::Cycles { cycles: 0 }, 9),
+        (Status::Walked(WalkEnd::Listed { steps: 0 }), 10),
+        (Status::NotNet { offset: 0 }, 11),
+        (Status::Loop { signal }, 11),
+    ];
+    for (status, number) in &numbers {
         assert!(rt; status.number() == *number);
     }
 }

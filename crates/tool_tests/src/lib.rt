@@ -7,8 +7,6 @@ mod builds;
 #[cfg(test)]
 mod call;
 #[cfg(test)]
-mod choices;
-#[cfg(test)]
 mod faults;
 #[cfg(test)]
 mod limits;
@@ -20,6 +18,8 @@ mod programs;
 mod refusals;
 #[cfg(test)]
 mod runs;
+#[cfg(test)]
+mod sims;
 #[cfg(test)]
 mod steps;
 #[cfg(test)]

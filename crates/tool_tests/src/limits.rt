@@ -1,11 +1,13 @@
 // The limits of a text at their edges, told by a walk of one step.
 
-use crate::call::told;
+use crate::call::{BUILD, REPLAY, RUN, SURE, is_right, told};
 use crate::programs::MAIN;
 use std::alloc::{AllocError, Global};
+use std::sync::Wait;
 use std::test::Fail;
+use std::thread::Threads;
 
-const WALK: [&str; 4] = ["hls", "walk", "--threads", "0"];
+const WALK: &[&str] = &["hls", "walk", "--threads", "0"];
 
 const ENDED: &str = "hls: ended, 1 steps\n";
 
@@ -27,18 +29,105 @@ fn repeating(
     Ok(text)
 }
 
+/// A text of so many bytes: a front, one byte again and again, and a back.
+fn filled(
+    alloc: Global,
+    front: &str,
+    byte: u8,
+    length: usize,
+    back: &str,
+) -> Result<Vec<u8>, AllocError> {
+    let mut text = Vec::new(alloc);
+    text.extend_from_slice(front.as_bytes())?;
+    text.resize(length.saturating_sub(back.len()), byte)?;
+    text.extend_from_slice(back.as_bytes())?;
+    Ok(text)
+}
+
+/// The front, the byte, the length and the back of a text, the words behind it, the number of the status, how out and err begin.
+type Length = (
+    &'static str,
+    u8,
+    usize,
+    &'static str,
+    &'static [&'static str],
+    u8,
+    &'static str,
+    &'static str,
+);
+
+const STEP: &[&str] = &["hls", "step", "--cycles", "0"];
+
+const LONG: &str = "hls: refused E1: longer than 65536 bytes\n";
+
+const BAD: &str = "hls: bad entry 0\n";
+
+const JOURNAL: &str = "//@ 5 0 -\nint main(void){return 0;}";
+
+const BEHIND: &str = "\nint main(void){return 0;}";
+
+const EMPTY: &str = "int main(void){";
+
+const HEAVY: &str = "hls: built, 1 threads, weight 8192, ";
+
+const TOO_HEAVY: &str = "hls: refused E12: weight 8193, at most 8192\n";
+
+/// A text with a journal may have 16,777,216 bytes, of which the program has as many as a text without one.
+const LENGTHS: [Length; 18] = [
+    (MAIN, b' ', 65_536, "", BUILD, 0, "module ", "hls: built, "),
+    (MAIN, b' ', 65_537, "", BUILD, 1, "", LONG),
+    (MAIN, b' ', 65_536, "", STEP, 9, "", "hls: not done, "),
+    (MAIN, b' ', 65_537, "", STEP, 1, "", LONG),
+    (MAIN, b' ', 65_536, "", WALK, 0, "", ENDED),
+    (MAIN, b' ', 65_537, "", WALK, 1, "", LONG),
+    (MAIN, b' ', 65_536, "", RUN, 0, "", "hls: done, "),
+    (MAIN, b' ', 65_537, "", RUN, 1, "", LONG),
+    (MAIN, b' ', 65_536, "", REPLAY, 6, "", "hls: entries, "),
+    (MAIN, b' ', 65_537, "", REPLAY, 1, "", LONG),
+    (JOURNAL, b' ', 65_546, "", REPLAY, 8, "", BAD),
+    (JOURNAL, b' ', 65_547, "", REPLAY, 1, "", LONG),
+    ("//@ ", b'0', 16_777_216, BEHIND, REPLAY, 8, "", BAD),
+    ("//@ ", b'0', 16_777_217, BEHIND, REPLAY, 1, "", LONG),
+    ("", b' ', 16_777_217, "", REPLAY, 1, "", LONG),
+    ("", b' ', 65_537, "", BUILD, 1, "", LONG),
+    (EMPTY, b';', 8_215, "return 0;}", BUILD, 0, "module ", HEAVY),
+    (EMPTY, b';', 8_216, "return 0;}", BUILD, 1, "", TOO_HEAVY),
+];
+
+fn is_kept<R: Threads + Wait + Sync>(
+    rt: &R,
+    alloc: Global,
+    length: &Length,
+) -> Result<bool, AllocError> {
+    let (front, byte, length, back, words, number, printed, line) = *length;
+    let text = filled(alloc, front, byte, length, back)?;
+    let text = text.as_slice();
+    is_right(rt, alloc, text, words, &SURE, number, printed, line)
+}
+
 #[test]
-fn keeps_the_limit_of_bytes(rt: HostRuntime) -> Result<(), Fail> {
-    let alloc = rt.alloc();
-    let most = repeating(alloc, MAIN, "                             ", 2259, "")?;
-    let (_, _, err) = told(&rt, alloc, most.as_str(), &WALK)?;
-    assert!(rt; most.len() == 65_536);
-    assert!(rt; err.held() == ENDED.as_bytes());
+fn keeps_the_limits_of_bytes(rt: HostRuntime) -> Result<(), Fail> {
+    for length in &LENGTHS {
+        let is_kept = is_kept(&rt, rt.alloc(), length)?;
+        let bytes = length.2;
+        assert!(rt; is_kept, "at {bytes} bytes");
+    }
     Ok(())
 }
 
-/// What stands before a part, the part, how often it stands, what stands behind, and what is told.
+/// What stands before a part, the part, how often it stands, what stands behind, and what a walk of one step tells.
 type Limit = (&'static str, &'static str, u32, &'static str, &'static str);
+
+/// Whether a walk of one step tells this line.
+fn is_told<R: Threads + Wait + Sync>(
+    rt: &R,
+    alloc: Global,
+    text: &str,
+    line: &str,
+) -> Result<bool, AllocError> {
+    let told = told(rt, alloc, text.as_bytes(), WALK, &SURE)?;
+    Ok(told.err.held() == line.as_bytes())
+}
 
 const TOKENS: [Limit; 4] = [
     ("", "void f(void);", 2729, MAIN, ENDED),
@@ -145,13 +234,7 @@ const CODE: [Limit; 6] = [
         "hls: refused E12: local elements 16385, at most 16384\n",
     ),
     ("int main(void){", ";", 8190, "return 0;}", ENDED),
-    (
-        "int main(void){",
-        ";",
-        8191,
-        "return 0;}",
-        "hls: refused E12: weight 8193, at most 8192\n",
-    ),
+    ("int main(void){", ";", 8191, "return 0;}", TOO_HEAVY),
 ];
 
 #[test]
@@ -159,8 +242,8 @@ fn keeps_the_limits(rt: HostRuntime) -> Result<(), Fail> {
     for limits in [&TOKENS[..], &OBJECTS[..], &CODE[..]] {
         for (front, part, count, back, line) in limits {
             let text = repeating(rt.alloc(), front, part, *count, back)?;
-            let (_, _, err) = told(&rt, rt.alloc(), text.as_str(), &WALK)?;
-            assert!(rt; err.held() == line.as_bytes(), "at {front}{count}");
+            let is_told = is_told(&rt, rt.alloc(), text.as_str(), line)?;
+            assert!(rt; is_told, "at {front}{count}");
         }
     }
     Ok(())
@@ -200,8 +283,8 @@ const CALLING: [(u32, u32, &str, &str); 3] = [
 fn counts_functions_and_what_is_inlined(rt: HostRuntime) -> Result<(), Fail> {
     for (functions, calls, main, line) in &CALLING {
         let text = calling(rt.alloc(), *functions, *calls, main)?;
-        let (_, _, err) = told(&rt, rt.alloc(), text.as_str(), &WALK)?;
-        assert!(rt; err.held() == line.as_bytes(), "at {functions} functions");
+        let is_told = is_told(&rt, rt.alloc(), text.as_str(), line)?;
+        assert!(rt; is_told, "at {functions} functions");
     }
     Ok(())
 }

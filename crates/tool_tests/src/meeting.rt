@@ -1,9 +1,9 @@
 // Workers that run side by side.
 
+use crate::call::{RUN, SURE, told_at};
 use crate::programs::{ADDING, COUNTING, PRINTING, SIXTY_THREE};
 use hardware_threads::gate::Gate;
-use hls_io::{MemSink, MemSource, SureSink};
-use hls_tool::{Status, hls};
+use hls_tool::Status;
 use std::alloc::{AllocError, Global};
 use std::sync::Wait;
 use std::sync::atomic::{AtomicBool, AtomicU64, Ordering};
@@ -72,22 +72,14 @@ fn all_meet<R: Threads + Wait + Sync>(
     rt: &R,
     alloc: Global,
     text: &str,
-    workers: u32,
     words: &[&str],
+    workers: u32,
     status: Status,
 ) -> Result<bool, AllocError> {
     let gate = Meeting::of(workers);
-    let words: Vec<String> = words
-        .iter()
-        .map(|word| word.to_string(alloc))
-        .try_collect(alloc)?;
-    let mut source = MemSource::new(text.as_bytes(), 4096, &[]);
-    let mut out = MemSink::new(alloc, 1000, 4096, &[])?;
-    let mut err = SureSink::new();
-    let words = words.as_slice();
-    let outcome = hls(rt, alloc, words, &mut source, &mut out, &mut err, &gate);
+    let told = told_at(rt, alloc, text.as_bytes(), words, &SURE, &gate)?;
     Ok(
-        outcome.status == status
+        told.outcome.status == status
             && !gate.is_late.load(Ordering::SeqCst)
             && gate.before.load(Ordering::SeqCst) == gate.all
             && gate.after.load(Ordering::SeqCst) == gate.all,
@@ -99,9 +91,8 @@ const MEETINGS: [(&str, u32); 3] = [(COUNTING, 1), (PRINTING, 3), (ADDING, 4)];
 
 #[test]
 fn workers_meet(rt: HostRuntime) -> Result<(), Fail> {
-    let alloc = rt.alloc();
     for (text, workers) in &MEETINGS {
-        let met = all_meet(&rt, alloc, text, *workers, &["hls", "run"], Status::Ok)?;
+        let met = all_meet(&rt, rt.alloc(), text, RUN, *workers, Status::Ok)?;
         assert!(rt; met, "at {text}");
     }
     Ok(())
@@ -111,7 +102,7 @@ fn workers_meet(rt: HostRuntime) -> Result<(), Fail> {
 #[test]
 fn sixty_four_workers_meet(rt: HostRuntime) -> Result<(), Fail> {
     let words = ["hls", "run", "--entries", "1"];
-    let met = all_meet(&rt, rt.alloc(), SIXTY_THREE, 64, &words, Status::Entries)?;
+    let met = all_meet(&rt, rt.alloc(), SIXTY_THREE, &words, 64, Status::Entries)?;
     assert!(rt; met);
     Ok(())
 }

@@ -1,6 +1,6 @@
 // What steps of the hardware print.
 
-use crate::call::{Row, each, told};
+use crate::call::{Row, SURE, each, is_either, told};
 use crate::programs::{
     ADDING, COUNTING, CREATING, FILLED, FIRST, INTEGERS, MEETING, NESTING, PRINTING, SHORT_CIRCUIT,
     SUMMING,
@@ -25,7 +25,7 @@ const SWAPPED: &str =
 const REGISTERED: &str =
     "int g; int main(void){int a; g = 6; a = g; g = a + 1; printf(\"%d\\n\", g); return 0;}";
 
-const STEPS: [Row; 17] = [
+const STEPS: [Row; 19] = [
     (
         FIRST,
         &["hls", "step", "--cycles", "3136"],
@@ -53,6 +53,20 @@ const STEPS: [Row; 17] = [
         9,
         "",
         "hls: not done, 0 cycles\n",
+    ),
+    (
+        COUNTING,
+        &["hls", "step", "--vcd", "--cycles", "11520"],
+        0,
+        "$timescale 1 ns $end\n$scope module top $end\n$",
+        "hls: done, ",
+    ),
+    (
+        COUNTING,
+        &["hls", "step", "--cycles", "100001", "--vcd"],
+        2,
+        "",
+        "hls: usage\n",
     ),
     (
         SQUARES,
@@ -156,9 +170,20 @@ fn steps(rt: HostRuntime) -> Result<(), Fail> {
 #[test]
 fn prints_what_one_interleaving_prints(rt: HostRuntime) -> Result<(), Fail> {
     let words = ["hls", "step", "--cycles", "10000000"];
-    let (status, out, _) = told(&rt, rt.alloc(), PRINTING, &words)?;
-    let is_one = out.held() == b"a\nb\n".as_slice() || out.held() == b"b\na\n".as_slice();
-    assert!(rt; status == Status::Ok);
-    assert!(rt; is_one);
+    assert!(rt; is_either(&rt, rt.alloc(), PRINTING, &words)?);
+    Ok(())
+}
+
+/// The dump of no cycles ends behind the first values.
+#[test]
+fn dumps_no_cycles(rt: HostRuntime) -> Result<(), Fail> {
+    let words = ["hls", "step", "--cycles", "0", "--vcd"];
+    let told = told(&rt, rt.alloc(), COUNTING.as_bytes(), &words, &SURE)?;
+    let out = told.out.held();
+    let is_right = told.outcome.status == Status::Cycles { cycles: 0 }
+        && out.starts_with(b"$timescale 1 ns $end\n$scope module top $end\n$")
+        && out.ends_with(b"\n$end\n")
+        && told.err.held() == b"hls: not done, 0 cycles\n".as_slice();
+    assert!(rt; is_right);
     Ok(())
 }
