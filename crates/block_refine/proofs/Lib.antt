@@ -1,9 +1,5 @@
 pub mod Steps
-pub mod Stages
-pub mod Laws
-pub mod Acts
 pub mod Words
-pub mod Plans
 pub mod RoutineStages
 pub mod RoutineLaws
 pub mod RoutineActs

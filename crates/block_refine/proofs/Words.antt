@@ -12,7 +12,7 @@ use Rattle.hls_ints.proofs.Conversions.{wrapped-range, wrapped-same, residue_of-
 use Rattle.c_program.specs.Tree.{Piece}
 use Rattle.thread_semantics.specs.Step.{printed}
 use Rattle.block_ir.specs.Asked.{act_value}
-use Rattle.block_refine.specs.Acts.{printed_words, WordsPrint, WordsBeyond}
+use Rattle.block_refine.specs.Acts.{printed_words, WordsPrint}
 
 -- the text of a word
 abbrev text_of : Bool → ℕ → List ℕ
@@ -62,9 +62,3 @@ words_print variables (o ∷ os) (Piece.Conversion ty ∷ pieces) (v ∷ vs) are
     ap₂ (λ (text rest : List ℕ). text ++ rest)
     (value_text ty.signed ty (wrapped ty v) refl (wrapped-range ty v) ∙ ap (text_of ty.signed) (same_word (wrapped ty v) (act_value variables o) are.0))
     (words_print variables os pieces vs are.1)
-
-pub words_beyond : WordsBeyond
-words_beyond [] ws more e = refl
-words_beyond (Piece.Text bytes ∷ pieces) ws more e = ap (λ (rest : List ℕ). bytes ++ rest) (words_beyond pieces ws more e)
-words_beyond (Piece.Conversion ty ∷ pieces) [] more e = absurd (omega arith)
-words_beyond (Piece.Conversion ty ∷ pieces) (w ∷ ws) more e = ap (λ (rest : List ℕ). text_of ty.signed w ++ rest) (words_beyond pieces ws more (omega arith))

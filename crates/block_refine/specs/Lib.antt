@@ -1,5 +1,4 @@
 pub mod Threads
 pub mod Acts
-pub mod Plans
 pub mod Routines
 pub mod RoutineActs

@@ -4,4 +4,3 @@ pub mod Slots
 pub mod Promise
 pub mod Moves
 pub mod Serving
-pub mod Main
