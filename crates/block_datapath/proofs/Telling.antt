@@ -1,5 +1,5 @@
 -- Words that banks tell: lemmas of each function that takes one.
-use Rattle.std.proofs.Common.{◌≡◌, ◌≢◌, ℕ, ◌+◌, ◌%◌, ◌^◌, ◌<◌, nat_eq}
+use Rattle.std.proofs.Common.{◌≡◌, ◌≢◌, ℕ, ◌+◌, ◌%◌, ◌^◌, ◌<◌, ◌≤◌, ◌⊎◌, nat_eq}
 use Rattle.std.proofs.Common.{false, if◌then◌else◌, List, slice_get, Some, None, ℤ, pos, refl, sym, ap, subst, ◌∙◌}
 use Rattle.std.proofs.Common.{arith, ⊎_elim}
 use Rattle.std.specs.Prelude.{Result, IfOk}
@@ -42,6 +42,13 @@ use Rattle.block_datapath.proofs.Wiring.{registers_after, room}
 unchanged : (w n : ℕ) → resized_word false w w n ≡ n
 unchanged w n = rw (not_less_is w w (omega arith)) refl
 
+pub some_count : (n : ℕ) → IsSmallPower n → 1 ≤ n
+some_count n power =
+    ⊎_elim (λ (e : n ≡ 1). omega arith)
+    (λ (rest : (n ≡ 2) ⊎ ((n ≡ 4) ⊎ (n ≡ 8))).
+    ⊎_elim (λ (e : n ≡ 2). omega arith) (λ (last : (n ≡ 4) ⊎ (n ≡ 8)). ⊎_elim (λ (e : n ≡ 4). omega arith) (λ (e : n ≡ 8). omega arith) last) rest)
+    power
+
 module _ (registers : Registers) where
   -- ---- one bank
 
@@ -56,11 +63,13 @@ module _ (registers : Registers) where
             let found = tells.listed in
             let same : tells.held ≡ held = cc in
             let says : held.width ≡ w = subst (λ (h : Held). h.width ≡ w) same tells.says in
-            let wide : width m held.register ≡ w = subst (λ (h : Held). width m h.register ≡ w) same tells.wide in
-            t.shows m r g o (wide ∙ sym says)
-            ∙ ap (λ (k : ℕ). resized_word false k w (r.signal held.register)) says
-            ∙ unchanged w (r.signal held.register)
-            ∙ subst (λ (h : Held). r.signal h.register ≡ number) same tells.shows;
+            let wide : width m held.register ≡ w = subst (λ (h : Held). width m h.register ≡ w) same tells.wide in (
+              t.wide m g (wide ∙ sym says),
+              t.shows m r g o (wide ∙ sym says)
+                  ∙ ap (λ (k : ℕ). resized_word false k w (r.signal held.register)) says
+                  ∙ unchanged w (r.signal held.register)
+                  ∙ subst (λ (h : Held). r.signal h.register ≡ number) same tells.shows,
+            );
       }) made
 
   pub number_missing : {E : Type 0} (x : Result ℕ E) (a b : List Signal) (n w : ℕ) → slice_get registers.words n ≡ None → IfOk x (λ place. Gives a b place w (λ m r. 0))
@@ -82,11 +91,15 @@ module _ (registers : Registers) where
   -- ---- the banks of a global, one after the other
 
   module _ (s : Spread) (w index : ℕ) where
-    pub choice_none : (a b : List Signal) (bits place : ℕ) → Gives a b place w (λ m r. 0) → ChoosesSome a b registers s w index bits 0 place
-    choice_none a b bits place t = record {
+    pub choice_first : (a b : List Signal) (bits bank place : ℕ) → ShowsNumber a b registers bank w place → (s.first + 0 < 2 ^ 64 → bank ≡ s.first + 0) →
+        ChoosesSome a b registers s w index bits 1 place
+    choice_first a b bits bank place t named = record {
       grows = t.grows;
-      wide = t.wide;
-      shows = λ m r number g o wide small fits most below tells. absurd (omega arith);
+      shows = λ m r number g o wide small fits most below tells.
+          let i = r.signal index % 2 ^ bits in
+          let first : i ≡ 0 = omega arith in
+          let at : bank ≡ s.first + i = named (omega arith) ∙ ap (λ (k : ℕ). s.first + k) (sym first) in
+          t.shows m r number g o (subst (λ (k : ℕ). TellsNumber registers m r k w number) (sym at) tells);
     }
 
     pub choice_more : (a b c d e : List Signal) (bits n bank old chosen told place : ℕ) → ChoosesSome a b registers s w index bits n old → TellsBank b c index bits n chosen
@@ -94,41 +107,42 @@ module _ (registers : Registers) where
         → Gives d e place w (λ m r. if nat_eq (r.signal chosen) 0 then r.signal old else r.signal told) → ChoosesSome a e registers s w index bits (n + 1) place
     choice_more a b c d e bits n bank old chosen told place t u v named x = record {
       grows = grows_then a b e t.grows (grows_then b c e u.grows (grows_then c d e v.grows x.grows));
-      wide = x.wide;
       shows = λ m r number g o wide small fits most below tells.
           let to_d = grows_then d e m.signals x.grows g in
           let to_c = grows_then c d m.signals v.grows to_d in
           let to_b = grows_then b c m.signals u.grows to_c in
           let i = r.signal index % 2 ^ bits in
-          let bit : r.signal chosen ≡ bit_of (nat_eq i n) = u.shows m r to_c o wide (omega arith) in
-          x.shows m r g o
-          ∙ ⊎_elim
-          (λ (e : i ≡ n).
-          let on : r.signal chosen ≡ 1 = bit ∙ ap bit_of (same_is i n e) in
-          let at : bank ≡ s.first + i = named (omega arith) ∙ ap (λ (k : ℕ). s.first + k) (sym e) in
-          ap (λ (k : ℕ). if nat_eq k 0 then r.signal old else r.signal told) on
-          ∙ v.shows m r number to_d o (subst (λ (k : ℕ). TellsNumber registers m r k w number) (sym at) tells))
-          (λ (ne : i ≢ n).
-          let off : r.signal chosen ≡ 0 = bit ∙ ap bit_of (other_is i n ne) in
-          ap (λ (k : ℕ). if nat_eq k 0 then r.signal old else r.signal told) off
-          ∙ t.shows m r number to_b o wide (omega arith) fits (omega arith) (omega arith) tells)
-          (same_or_not i n);
+          let bit : r.signal chosen ≡ bit_of (nat_eq i n) = u.shows m r to_c o wide (omega arith) in (
+            x.wide m g,
+            x.shows m r g o
+                ∙ ⊎_elim
+                (λ (e : i ≡ n).
+                let on : r.signal chosen ≡ 1 = bit ∙ ap bit_of (same_is i n e) in
+                let at : bank ≡ s.first + i = named (omega arith) ∙ ap (λ (k : ℕ). s.first + k) (sym e) in
+                ap (λ (k : ℕ). if nat_eq k 0 then r.signal old else r.signal told) on
+                ∙ (v.shows m r number to_d o (subst (λ (k : ℕ). TellsNumber registers m r k w number) (sym at) tells)).1)
+                (λ (ne : i ≢ n).
+                let off : r.signal chosen ≡ 0 = bit ∙ ap bit_of (other_is i n ne) in
+                ap (λ (k : ℕ). if nat_eq k 0 then r.signal old else r.signal told) off
+                ∙ (t.shows m r number to_b o wide (omega arith) fits (omega arith) (omega arith) tells).1)
+                (same_or_not i n),
+          );
     }
 
-    pub choice_all : (a b : List Signal) (bits n place : ℕ) → n ≡ s.count → (IsSmallPower s.count → 2 ^ bits ≡ s.count) → ChoosesSome a b registers s w index bits n place
-        → ChoosesWord a b registers s w index place
+    pub choice_all : (a b : List Signal) (bits n place : ℕ) → (IsSmallPower s.count → n ≡ s.count) → (IsSmallPower s.count → 2 ^ bits ≡ s.count) →
+        ChoosesSome a b registers s w index bits n place → ChoosesWord a b registers s w index place
     choice_all a b bits n place all counts t = record {
       grows = t.grows;
-      wide = t.wide;
       shows = λ m r number g o wide power fits tells.
           let e = counts power in
+          let end = all power in
           let below : r.signal index % 2 ^ bits < 2 ^ bits = mod_below (r.signal index) (2 ^ bits) (pow_pos bits) in
           t.shows m r number g o wide (omega arith) fits (omega arith) (omega arith)
           (subst (λ (k : ℕ). TellsNumber registers m r (s.first + r.signal index % k) w number) (sym e) tells);
     }
 
-    pub choice_begun : (a b : List Signal) (place : ℕ) → ConstantAdds a b w 0 place → IsChosenWord a b registers s w index place
-    choice_begun a b place t base types slot reads at power low high = t base (room a base types registers slot) low high (pow_pos w)
+    pub choice_begun : (a b : List Signal) (place : ℕ) → IsNumberWire a b registers w place → IsChosenWord a b registers s w index place
+    choice_begun a b place t base types slot reads at power low high = t base types slot reads low high
 
     pub choice_wired : (a b c d e : List Signal) (bits n old chosen told place : ℕ) → n < s.count → (IsSmallPower s.count → 2 ^ bits ≡ s.count) →
         IsChosenWord a b registers s w index old
@@ -163,7 +177,7 @@ module _ (registers : Registers) where
         in
         let number = v.shows m r (residue_of (width_of ty) value) g o long.wide power fits
         (subst (λ (k : ℕ). TellsNumber registers m r (s.first + k % s.count) w (residue_of (width_of ty) value)) (sym is_index) here) in
-        record { says = says; sign = sign; wide = ap (width m) at ∙ v.wide m g ∙ is_width; shows = ap r.signal at ∙ number; typed = told.typed };
+        record { says = says; sign = sign; wide = ap (width m) at ∙ number.0 ∙ is_width; shows = ap r.signal at ∙ number.1; typed = told.typed };
   }
 
   pub word_wired : (a b c d : List Signal) (code : ThreadCode) (values : List Given) (x : ℕ) (s : Spread) (ty : IntegerType) (index : Operand) (word wide : Word) (w place : ℕ)

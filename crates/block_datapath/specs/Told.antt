@@ -29,25 +29,24 @@ pub record TellsNumber (registers : Registers) (m : Module) (r : Reading) (n w n
   pub shows : r.signal held.register ≡ number
 
 module _ (old new : List Signal) (registers : Registers) where
-  -- a signal shows what bank n tells
+  -- a signal shows what bank n tells, as wide
   pub record ShowsNumber (n w place : ℕ) : Type 0 where
     pub grows : Grows old new
-    pub shows : (m : Module) (r : Reading) (number : ℕ) → Grows new m.signals → Obeys m r → TellsNumber registers m r n w number → r.signal place ≡ number
+    pub shows : (m : Module) (r : Reading) (number : ℕ) → Grows new m.signals → Obeys m r → TellsNumber registers m r n w number →
+        (width m place ≡ w) × (r.signal place ≡ number)
 
   module _ (s : Spread) (w index : ℕ) where
     -- a signal shows what the bank of an index tells, if it is one of the first n of a global
     pub record ChoosesSome (bits n place : ℕ) : Type 0 where
       pub grows : Grows old new
-      pub wide : (m : Module) → Grows new m.signals → width m place ≡ w
       pub shows : (m : Module) (r : Reading) (number : ℕ) → Grows new m.signals → Obeys m r → width m index ≡ 64 → n < 1 + 2 ^ bits → s.first + s.count < 2 ^ 64 → n ≤ s.count →
-          r.signal index % 2 ^ bits < n → TellsNumber registers m r (s.first + r.signal index % 2 ^ bits) w number → r.signal place ≡ number
+          r.signal index % 2 ^ bits < n → TellsNumber registers m r (s.first + r.signal index % 2 ^ bits) w number → (width m place ≡ w) × (r.signal place ≡ number)
 
     -- and what the bank of an index tells
     pub record ChoosesWord (place : ℕ) : Type 0 where
       pub grows : Grows old new
-      pub wide : (m : Module) → Grows new m.signals → width m place ≡ w
       pub shows : (m : Module) (r : Reading) (number : ℕ) → Grows new m.signals → Obeys m r → width m index ≡ 64 → IsSmallPower s.count → s.first + s.count < 2 ^ 64 →
-          TellsNumber registers m r (s.first + r.signal index % s.count) w number → r.signal place ≡ number
+          TellsNumber registers m r (s.first + r.signal index % s.count) w number → (width m place ≡ w) × (r.signal place ≡ number)
 
   -- a word of the value that the bank of an operand tells
   pub record TakesWord (types : List IntegerType) (values : List Given) (state : ℕ) (s : Spread) (ty : IntegerType) (index : Operand) (out : Word) : Type 0 where

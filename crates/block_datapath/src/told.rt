@@ -68,7 +68,8 @@ fn spread_value(
     Ok(Word::of_type(place, ty))
 }
 
-/// Of the words of a global's banks that of the bank which an index of 64 bits names.
+/// Of the words of a global's banks that of the bank which an index of 64 bits names. That of the first one is told wherever
+/// the index names no other.
 fn chosen_word(
     wires: &mut Wires,
     registers: &Registers,
@@ -80,9 +81,8 @@ fn chosen_word(
     ensures wired { IfOk result (IsChosenWord wires.old.signals wires.new.signals registers.now spread width index) }
 {
     let bits = bank_bits(spread.count);
-    let zero = wires.constant(width, 0)?;
-    let mut word = zero;
-    for number in 0..spread.count {
+    let mut word = word_of_bank(wires, registers, bank_number(spread, 0), width)?;
+    for number in 1..spread.count {
         let chosen = bank_bit(wires, index, bits, number)?;
         let told = word_of_bank(wires, registers, bank_number(spread, number), width)?;
         word = wires.choice(width, chosen, told, word)?;
