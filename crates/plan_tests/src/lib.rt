@@ -1,10 +1,12 @@
 //! Tests of the layers of the planner and of what is laid out by its plans: starts, packed rows, the table of a block, its units and
-//! registers, the plan of a code, plans side by side, those of a program, and the module of a thread. They stand in a crate of
-//! their own, since a crate with tests is proved twice.
+//! registers, stages that are dropped, the plan of a code, plans side by side, those of a program, and the module of a thread. They
+//! stand in a crate of their own, since a crate with tests is proved twice.
 #![tactic(auto)]
 
 #[cfg(test)]
 mod bindings;
+#[cfg(test)]
+mod dropped;
 #[cfg(test)]
 mod packings;
 #[cfg(test)]

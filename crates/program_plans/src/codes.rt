@@ -18,6 +18,7 @@ use ir_lower::functions::lower_function;
 use sqlite_items::Items;
 use std::alloc::{AllocError, Global};
 use straight_code::fault::LoweringFault;
+use used_stages::drop_empty;
 
 /// The code of a thread function, as it is lowered.
 fn lowered(alloc: Global, program: &Program, function: usize) -> Result<ThreadCode, AllocError>
@@ -35,7 +36,7 @@ fn lowered(alloc: Global, program: &Program, function: usize) -> Result<ThreadCo
 }
 
 /// The code of a thread function of a program of this weight, with maximal blocks: they have at most four operations for each unit
-/// of the weight.
+/// of the weight. What merging leaves of blocks that have become parts of others is dropped.
 fn code(
     alloc: Global,
     program: &Program,
@@ -51,7 +52,8 @@ fn code(
 {
     let code = lowered(alloc, program, function)?;
     let merged = merge(alloc, code, 4 * weight as usize)?;
-    Ok(merged)
+    let kept = drop_empty(alloc, merged)?;
+    Ok(kept)
 }
 
 /// The codes of a program's thread functions, in their order, with maximal blocks.

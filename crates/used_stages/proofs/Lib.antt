@@ -1,0 +1,5 @@
+mod Lists
+mod Ways
+mod Marks
+mod Moves
+mod Kept

@@ -1,0 +1,8 @@
+//! The stages of a thread's code that are used: empty ones that nothing leads to are dropped.
+#![tactic(auto)]
+
+mod dropping;
+mod leading;
+mod numbers;
+
+pub use dropping::drop_empty;
