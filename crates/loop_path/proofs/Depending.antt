@@ -21,13 +21,12 @@ use Rattle.sim_values.specs.Order.{source_reads, signal_reads, module_reads, rea
 use Rattle.sim_values.specs.Stands.{place_of, spot_at, kind_at, word_of}
 use Rattle.sim_layout.specs.Wires.{signals_of}
 use Rattle.cycle_sim.specs.LaidOut.{IsLaidOut}
-use Rattle.sim_layout.specs.Leads.{Leads, AreLoopless}
+use Rattle.sim_layout.specs.Leads.{IsLoopOf, Leads, AreLoopless}
 use Rattle.sim_layout.specs.Leads.Leads.{Directly, Through}
 use Rattle.sim_layout.proofs.Leading.{each_among}
 use Rattle.sim_values.proofs.Trees.{rising, instance_of}
 use Rattle.cycle_sim.proofs.Laid.{place_same, found, spot_is, laid, Gives, has_step, gives_target, gives_here, one_signal}
 use Rattle.loop_path.specs.First.{IsLoopAt}
-use Rattle.loop_path.specs.Search.{IsLoopOf}
 
 among_map : (base : ℕ) (xs : List ℕ) (y : ℕ) → IsOneOf y (map (λ x. base + x) xs) → (x : ℕ) × IsOneOf x xs × (y ≡ base + x)
 among_map base [] y i = absurd i

@@ -1,13 +1,13 @@
 -- The path of an instance is found from its place.
-use Rattle.std.specs.Prelude.{◌≡◌, ℕ, ◌+◌, ◌<◌, ◌≤◌, ◌⊎◌, List, [], ◌∷◌, ◌++◌, length, slice_index, Option, Some, None, option_and_then, slice_get, refl}
-use Rattle.std.proofs.Common.{ap, sym, ◌∙◌, subst, inl, inr, ⊎_elim, arith, append_assoc}
+use Rattle.std.specs.Prelude.{◌≡◌, ℕ, ◌+◌, ◌<◌, ◌≤◌, List, [], ◌∷◌, ◌++◌, length, slice_index, Option, Some, option_and_then, slice_get, refl}
+use Rattle.std.proofs.Common.{ap, sym, ◌∙◌, subst, ⊎_elim, arith, append_assoc}
 use Rattle.std.proofs.lemmas.Option.{slice_get_within}
 use Rattle.netlist.specs.declared.netlist.Instance.{Instance}
 use Rattle.netlist.specs.declared.netlist.Module.{Module}
 use Rattle.verilog_meaning.specs.Cycles.{Path, module_at}
 use Rattle.sim_values.specs.Tree.{instances_of, place_in, IsTree}
 use Rattle.sim_values.proofs.Trees.{opened, tree_stands, front_or_back}
-use Rattle.loop_path.specs.Search.{IsOuter, IsOutermost, IsOuterPlace, IsNested}
+use Rattle.loop_path.specs.Search.{IsOuter, IsOutermost, IsOuterPlace, AreBehind, IsNested}
 
 module _ (modules : List Module) (top : ℕ) (kinds children : List ℕ) (t : Module) (tree : IsTree modules top kinds children) (is : slice_get modules top ≡ Some t) where
   -- the instances on a path to one that has a module stand in one another
@@ -30,26 +30,24 @@ module _ (modules : List Module) (top : ℕ) (kinds children : List ℕ) (t : Mo
         nested outer o.0 o.1,
       )
 
--- ---- one instance more is looked at
+-- ---- one instance less is left to look at
 
-pub outer_here : (children : List ℕ) (n place : ℕ) → slice_index children n ≤ place → IsOuterPlace children (n + 1) place (Some n)
-outer_here children n place low = record { within = omega arith; first = low; last = λ k more less. absurd (omega arith) }
+pub outer_here : (children : List ℕ) (n place : ℕ) → n < length children → slice_index children n ≤ place → AreBehind children (n + 1) place → IsOuterPlace children (length children) place (Some n)
+outer_here children n place within low behind = record { within = within; first = low; last = λ k more less. behind k (omega (arith, more)) less }
 
-pub outer_before : (children : List ℕ) (n place : ℕ) (o : Option ℕ) → IsOuterPlace children n place o → place < slice_index children n → IsOuterPlace children (n + 1) place o
-outer_before children n place None none high = λ k less. below_more k (front_or_back k n) less where
-  below_more : (k : ℕ) → (k < n) ⊎ ((i : ℕ) × (k ≡ n + i)) → k < n + 1 → place < slice_index children k
-  below_more k (inl l) less = none k l
-  below_more k (inr e) less = (let z = e.1 in let same : n ≡ k = omega (arith, z, less) in subst (λ j. place < slice_index children j) same high)
-outer_before children n place (Some outer) is high = record {
-  within = (let w = is.within in omega arith);
-  first = is.first;
-  last = λ k more less. later k more
-      (front_or_back k n) less;
-}
-  where
-    later : (k : ℕ) → outer < k → (k < n) ⊎ ((i : ℕ) × (k ≡ n + i)) → k < n + 1 → place < slice_index children k
-    later k more (inl l) less = is.last k more l
-    later k more (inr e) less = (let z = e.1 in let same : n ≡ k = omega (arith, z, less) in subst (λ j. place < slice_index children j) same high)
+pub behind_more : (children : List ℕ) (n place : ℕ) → AreBehind children (n + 1) place → place < slice_index children n → AreBehind children n place
+behind_more children n place behind high k from less = ⊎_elim
+    (λ (later : n < k). behind k (omega (arith, later)) less)
+    (λ back.
+    let i = back.0 in
+    let e = back.1 in
+    let same : n ≡ k = omega (arith, e, from) in
+    subst (λ j. place < slice_index children j) same high)
+    (front_or_back n k)
+
+-- the instance round another stands before it, so none behind that is round it
+pub behind_outer : (children : List ℕ) (inner outer : ℕ) → IsOuter children (length children) inner outer → outer ≤ inner → AreBehind children (outer + 1) outer
+behind_outer children inner outer is before k from less = (let h = is.last k (omega (arith, from)) less in omega (arith, h, before))
 
 -- an instance stands in one other
 pub one_outer : (children : List ℕ) (place a b : ℕ) → IsOuter children (length children) place a → IsOuter children (length children) place b → a ≡ b

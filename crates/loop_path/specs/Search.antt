@@ -1,24 +1,7 @@
--- The part of the first loop, and the path to it.
-use Rattle.std.specs.Prelude.{◌≡◌, ℕ, ◌<◌, ◌≤◌, List, [], ◌∷◌, length, Option, Some, None, slice_get, slice_index}
-use Rattle.netlist.specs.declared.netlist.Module.{Module}
+-- The path to an instance.
+use Rattle.std.specs.Prelude.{ℕ, ◌<◌, ◌≤◌, List, [], ◌∷◌, length, Option, Some, None, slice_index}
 use Rattle.verilog_meaning.specs.Cycles.{Path}
-use Rattle.sim_values.specs.declared.edge.Part.{Part}
-use Rattle.sim_values.specs.declared.settle.Step.{Step}
 use Rattle.sim_values.specs.Tree.{place_in}
-use Rattle.sim_layout.specs.Leads.{IsLoopIn, AreLoopless}
-use Rattle.sim_layout.specs.Wires.{signals_of}
-use Rattle.loop_path.specs.declared.find.Site.{Site}
-
--- signal x of part number q is the first that depends on itself
-pub record IsLoopOf (modules : List Module) (wires : List Step) (parts : List Part) (q x : ℕ) : Type 0 where
-  pub part : Part
-  pub listed : slice_get parts q ≡ Some part
-  pub loops : IsLoopIn modules wires part.spot.base (length (signals_of (slice_get modules part.module))) x
-  pub first : AreLoopless modules wires parts q
-
-abbrev pub IsFirstSite : List Module → List Step → List Part → Option Site → Type 0
-IsFirstSite modules wires parts (Some site) = IsLoopOf modules wires parts site.part site.signal
-IsFirstSite modules wires parts None = AreLoopless modules wires parts (length parts)
 
 -- of so many instances, the one in which the one at a place stands: the last whose first instance stands no later
 pub record IsOuter (children : List ℕ) (count place outer : ℕ) : Type 0 where
@@ -33,6 +16,10 @@ IsOutermost children count place = (k : ℕ) → k < count → place < slice_ind
 abbrev pub IsOuterPlace : List ℕ → ℕ → ℕ → Option ℕ → Type 0
 IsOuterPlace children count place (Some outer) = IsOuter children count place outer
 IsOuterPlace children count place None = IsOutermost children count place
+
+-- those behind so many have their first instance later than a place
+abbrev pub AreBehind : List ℕ → ℕ → ℕ → Type 0
+AreBehind children count place = (k : ℕ) → count ≤ k → k < length children → place < slice_index children k
 
 -- each instance on the path stands in the next one, and the last in none
 abbrev pub IsNested : List ℕ → Path → Type 0

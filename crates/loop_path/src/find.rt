@@ -1,10 +1,9 @@
 // The first signal that depends on itself, with the instance that it stands in.
 
-ghost use Rattle.std.specs.Prelude.{◌≡◌, ◌+◌, ◌<◌, length, slice_get, IfOk, MatchOption};
+ghost use Rattle.std.specs.Prelude.{◌≡◌, ◌≤◌, length, slice_get, IfOk};
 ghost use Rattle.verilog_meaning.specs.Cycles.{Path};
 ghost use Rattle.sim_values.specs.Stands.{spot_of};
 ghost use Rattle.sim_values.specs.Tree.{place_in};
-ghost use Rattle.sim_layout.specs.Leads.{AreInRoom, AreWithin, AreLoopless, IsLoopIn, LoopsNowhere};
 ghost use Rattle.sim_layout.specs.Wires.{AreWires, signals_of};
 ghost use Rattle.cycle_sim.specs.Opened.{IsOpenable, IsTopNumber};
 ghost use Rattle.loop_path.specs.First as spec;
@@ -12,7 +11,7 @@ ghost use Rattle.loop_path.specs.Search as search;
 
 use netlist::netlist::Module;
 use sim_layout::given::roots;
-use sim_layout::loops::first_loop;
+use sim_layout::loops::first_site;
 use sim_layout::place::place;
 use sim_layout::wires::{base_at, module_signals, push_parts};
 use sim_values::edge::Part;
@@ -30,66 +29,36 @@ pub struct Looped {
     pub signal: usize,
 }
 
-/// A signal of a part, by the part's number and its own.
-#[derive(Clone, Copy)]
-struct Site {
-    part: usize,
-    signal: usize,
-}
-
-/// The first signal of a part that depends on itself.
-fn loop_in(
-    alloc: Global,
-    modules: &[Module],
-    part: Part,
-    wires: &[Step],
-    words: usize,
-) -> Result<Option<usize>, AllocError>
-    requires room { AreInRoom modules.now wires.now words }
-    requires within { (x : _) → x < length (signals_of (slice_get modules.now part.module)) → part.spot.base + x < words }
-    ensures { IfOk result (λ o. MatchOption o (LoopsNowhere modules.now wires.now part.spot.base (length (signals_of (slice_get modules.now part.module))))
-        (IsLoopIn modules.now wires.now part.spot.base (length (signals_of (slice_get modules.now part.module))))) }
-{
-    let found = first_loop(alloc, modules, &[part], wires, words)?;
-    match found {
-        Some(found) => Ok(Some(found.signal)),
-        None => Ok(None),
-    }
-}
-
-/// The first signal of the parts that depends on itself.
-#[tactic(auto, using(crate::proofs::Looking::loopless_more))]
-fn first_site(
-    alloc: Global,
-    modules: &[Module],
-    parts: &[Part],
-    wires: &[Step],
-    words: usize,
-) -> Result<Option<Site>, AllocError>
-    requires room { AreInRoom modules.now wires.now words }
-    requires within { AreWithin modules.now parts.now words }
-    ensures { IfOk result (search.IsFirstSite modules.now wires.now parts.now) }
-{
-    for part in 0..parts.len() {
-        if let Some(signal) = loop_in(alloc, modules, parts[part], wires, words)? {
-            return Ok(Some(Site { part, signal }));
-        }
-    }
-    Ok(None)
-}
-
-/// The place of the instance round the one at a place: the last whose first instance stands no later. The outermost has none.
-#[tactic(auto, using(crate::proofs::Nesting::outer_here, crate::proofs::Nesting::outer_before))]
-fn outer_place(children: &[usize], place: usize) -> Option<usize>
+/// The place of the instance round the one at a place, where it is among so many: the last whose first instance stands no later.
+/// The outermost has none.
+#[tactic(auto, using(crate::proofs::Nesting::outer_here, crate::proofs::Nesting::behind_more))]
+fn outer_place(children: &[usize], count: usize, place: usize) -> Option<usize>
+    requires count { count ≤ length children.now }
+    requires behind { search.AreBehind children.now count place }
     ensures { search.IsOuterPlace children.now (length children.now) place result }
 {
-    let mut outer = None;
-    for number in 0..children.len() {
+    for behind in 0..count {
+        let number = count - 1 - behind;
         if children[number] <= place {
-            outer = Some(number);
+            return Some(number);
         }
     }
-    outer
+    None
+}
+
+/// How many instances are to be looked at for the one round `outer`, which is the one round `inner`: none behind it, where it stands before `inner`, as
+/// in a tree.
+#[tactic(auto, using(crate::proofs::Nesting::behind_outer))]
+fn next_count(children: &[usize], outer: usize, inner: usize) -> usize
+    requires { search.IsOuter children.now (length children.now) inner outer }
+    ensures count { result ≤ length children.now }
+    ensures behind { search.AreBehind children.now result outer }
+{
+    if outer <= inner {
+        outer + 1
+    } else {
+        children.len()
+    }
 }
 
 /// The path of the instance at a place.
@@ -98,11 +67,13 @@ fn path_of(alloc: Global, children: &[usize], place: usize) -> Result<Items<usiz
 {
     let mut path = Items::new(alloc);
     let mut inner = place;
+    let mut count = children.len();
     // Each turn but the last adds an instance, of which there are no more than fit in memory.
     for _turn in 0..usize::MAX {
-        match outer_place(children, inner) {
+        match outer_place(children, count, inner) {
             Some(outer) => {
                 path.push(inner - children[outer])?;
+                count = next_count(children, outer, inner);
                 inner = outer;
             }
             None => return Ok(path),

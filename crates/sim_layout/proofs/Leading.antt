@@ -119,7 +119,7 @@ no_loop_there modules wires place apart search closed away d = no_loop modules w
 
 -- ---- one more
 
-below_next : (x k : ℕ) → x < k + 1 → (x < k) ⊎ (x ≡ k)
+pub below_next : (x k : ℕ) → x < k + 1 → (x < k) ⊎ (x ≡ k)
 below_next x k l = ⊎_elim (λ less. inl less) (λ back. inr (let z = back.1 in omega (arith, l, z))) (front_or_back x k)
 
 one_step : (wires : List Step) (k i : ℕ) (s u : Step) → slice_get wires i ≡ Some s → i ≡ k → slice_get wires k ≡ Some u → u ≡ s

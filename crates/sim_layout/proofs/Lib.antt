@@ -4,4 +4,5 @@ pub mod Growing
 pub mod Placing
 pub mod Givens
 pub mod Leading
+pub mod Ranking
 pub mod Something

@@ -1,10 +1,11 @@
 -- Which words lead to one another by the steps that give them their numbers.
-use Rattle.std.specs.Prelude.{◌≡◌, ℕ, ◌+◌, ◌<◌, ◌⊎◌, Bool, List, length, Some, slice_get}
+use Rattle.std.specs.Prelude.{◌≡◌, ℕ, ◌+◌, ◌<◌, ◌⊎◌, Bool, List, length, Option, Some, None, slice_get}
 use Rattle.netlist.specs.declared.netlist.Module.{Module}
 use Rattle.verilog_meaning.specs.Threads.{IsOneOf}
 use Rattle.sim_values.specs.declared.settle.Step.{Step}
 use Rattle.sim_values.specs.declared.edge.Part.{Part}
 use Rattle.sim_layout.specs.declared.loops.Found.{Found}
+use Rattle.sim_layout.specs.declared.loops.Site.{Site}
 use Rattle.sim_values.specs.Flat.{EachOf}
 use Rattle.sim_values.specs.Order.{reads, Takes, IsMarked, IsClear}
 use Rattle.sim_layout.specs.Wires.{signals_of}
@@ -48,6 +49,17 @@ module _ (modules : List Module) (wires : List Step) where
 
   abbrev pub AreLoopless : List Part → ℕ → Type 0
   AreLoopless parts count = (q : ℕ) (p : Part) → q < count → slice_get parts q ≡ Some p → LoopsNowhere p.spot.base (length (signals_of (slice_get modules p.module)))
+
+  -- signal x of part number q is the first that depends on itself
+  pub record IsLoopOf (parts : List Part) (q x : ℕ) : Type 0 where
+    pub part : Part
+    pub listed : slice_get parts q ≡ Some part
+    pub loops : IsLoopIn part.spot.base (length (signals_of (slice_get modules part.module))) x
+    pub first : AreLoopless parts q
+
+  abbrev pub IsFirstSite : List Part → Option Site → Type 0
+  IsFirstSite parts (Some site) = IsLoopOf parts site.part site.signal
+  IsFirstSite parts None = AreLoopless parts (length parts)
 
   pub record IsFirstFound (parts : List Part) (found : Found) : Type 0 where
     pub number : ℕ

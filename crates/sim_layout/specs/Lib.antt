@@ -5,5 +5,6 @@ pub mod Placed
 pub mod Wires
 pub mod Given
 pub mod Leads
+pub mod Ranks
 pub mod Waits
 pub mod Growing

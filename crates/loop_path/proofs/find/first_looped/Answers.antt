@@ -3,11 +3,11 @@ use Rattle.std.specs.Prelude.{slice_get}
 use Rattle.sim_values.specs.declared.settle.Step.{Step}
 use Rattle.sim_values.specs.declared.edge.Part.{Part}
 use Rattle.sim_values.specs.Stands.{spot_of}
-use Rattle.sim_layout.specs.Leads.{AreInRoom, AreWithin, AreLoopless}
+use Rattle.sim_layout.specs.Leads.{AreInRoom, AreWithin, AreLoopless, IsLoopOf}
 use Rattle.sim_layout.specs.Wires.{signals_of, AreWires}
 use Rattle.verilog_meaning.specs.Cycles.{Path}
 use Rattle.sim_values.specs.Tree.{place_in}
-use Rattle.loop_path.specs.Search.{IsLoopOf, IsNested}
+use Rattle.loop_path.specs.Search.{IsNested}
 use Rattle.loop_path.proofs.Looking.{room, within, looped, no_loops}
 use Rattle.loop_path.proofs.find.first_looped.Goals as goal
 

@@ -1,5 +1,6 @@
-use Rattle.loop_path.specs.Search.{IsOuterPlace}
+use Rattle.std.proofs.Common.{◌-◌}
+use Rattle.loop_path.specs.Search.{AreBehind}
 use Rattle.loop_path.proofs.find.outer_place.Given as goal
 
-abbrev pub invariant-loop-number : goal.invariant-loop-number
-invariant-loop-number l = IsOuterPlace l.children l.number l.place l.outer
+abbrev pub invariant-loop-behind : goal.invariant-loop-behind
+invariant-loop-behind l = AreBehind l.children (l.count - l.behind) l.place

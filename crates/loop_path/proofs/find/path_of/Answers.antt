@@ -4,7 +4,7 @@ use Rattle.loop_path.proofs.Nesting.{AreLeft, left_none, left_more}
 use Rattle.loop_path.proofs.find.path_of.Goals as goal
 
 pub returns-in-None : goal.returns-in-None
-returns-in-None c = left_none c.args.children.now c.args.place c.loop-turn.path c.loop-turn.inner c.loop-turn.invariant c.in-None.ensures
+returns-in-None c = left_none c.args.children.now c.args.place c.loop-turn.path c.loop-turn.inner c.loop-turn.invariant.left c.in-None.ensures
 
 pub loop-turn-preserved : goal.loop-turn-preserved
 loop-turn-preserved c =
@@ -15,5 +15,9 @@ loop-turn-preserved c =
     let low = is.first in
     let number = inner - slice_index children outer in
     let sum : slice_index children outer + number ≡ inner = omega (arith, low) in
-    subst (λ (p : List ℕ). AreLeft children c.args.place p outer) (sym c.in_ok-push-in-Some.ensures.ok)
-    (left_more children c.args.place c.loop-turn.path inner outer c.loop-turn.invariant is number sum)
+    record {
+      left = subst (λ (p : List ℕ). AreLeft children c.args.place p outer) (sym c.in_ok-push-in-Some.ensures.ok)
+          (left_more children c.args.place c.loop-turn.path inner outer c.loop-turn.invariant.left is number sum);
+      count = c.next_count-count.ensures.count;
+      behind = c.next_count-count.ensures.behind;
+    }
