@@ -1,190 +1,152 @@
 // The check of a net that counts up to 2, and of the same with one rule broken.
 
-use crate::small::{Name, counting, identifier};
+use crate::small::{COUNTER, parsed};
+use grammar::Fault;
 use net_check::check::check_net;
 use net_check::fault::{ModulePart, NetFault, NetPart};
-use netlist_text::text_of;
 use sqlite_items::Items;
 use std::alloc::{AllocError, Global};
 use std::test::Fail;
-use verilog_tree::name::Quoted;
-use verilog_tree::tree::{
-    Always, Assign, Direction, Expression, Item, Module, Net, Port, Statement, Wire,
-};
+use verilog_tree::name::Identifier;
+use verilog_tree::tree::{Assign, Expression, Item, Module, Net};
 
-/// The counter, with three ports and eight items, alone or with the module that has its instance.
-fn laid(alloc: Global, has_top: bool) -> Result<Net, AllocError> {
-    let netlist = counting(alloc, has_top)?;
-    text_of(alloc, &netlist)
+/// What the check says of the tree of a text.
+fn checked(alloc: Global, text: &str) -> Result<Result<(), NetFault>, Fault> {
+    let net = parsed(alloc, text)?;
+    Ok(check_net(alloc, &net))
 }
 
 fn in_module(number: usize, part: ModulePart) -> Result<(), NetFault> {
     Err(NetFault::BadNet(NetPart::Module { number, part }))
 }
 
+const TOP: &str =
+    "module top(input wire clk, input wire en, output wire done); counter u(.clk(clk), .en(en), .done(done)); endmodule";
+
 /// A net is well formed, but not with two modules of one name, and not without a module.
 #[test]
 fn nets(rt: HostRuntime) -> Result<(), Fail> {
     let alloc = rt.alloc();
-    let mut net = laid(alloc, true)?;
-    assert!(rt; check_net(alloc, &net).is_ok());
-    net.modules.append(laid(alloc, false)?.modules)?;
-    assert!(rt; check_net(alloc, &net) == in_module(2, ModulePart::Head));
-    net.modules = Items::new(alloc);
-    assert!(rt; check_net(alloc, &net) == Err(NetFault::BadNet(NetPart::Modules)));
+    let net = format!(in alloc; "{COUNTER}{TOP}")?;
+    assert!(rt; checked(alloc, net.as_str())?.is_ok());
+    let twice = format!(in alloc; "{COUNTER}{TOP} {COUNTER}")?;
+    assert!(rt; checked(alloc, twice.as_str())? == in_module(2, ModulePart::Head));
+    let none = Net {
+        modules: Items::new(alloc),
+    };
+    assert!(rt; check_net(alloc, &none) == Err(NetFault::BadNet(NetPart::Modules)));
     Ok(())
 }
 
-/// What is done to the counter.
-enum Change {
-    /// The item at this place of the counter stands behind its items.
-    Again(usize),
-    /// So does the instance of the counter.
-    Instance,
-    /// A wire that nothing drives.
-    Wire,
-    /// An assignment of `done` to a name that no signal has.
-    Copy,
-    /// A concatenation without parts.
-    Nothing,
-    /// A `$write`.
-    Write,
-    /// No port.
-    Portless,
-    /// A port behind the others.
-    Port(Direction, Option<u64>, Name),
-    /// An output of one bit in place of all ports.
-    Alone(Name),
-}
+const PORTS: &str = "input wire clk, input wire en, output wire done";
 
-fn add_item(
-    alloc: Global,
-    module: &mut Module,
-    of_top: bool,
-    place: usize,
-) -> Result<(), AllocError> {
-    let mut net = laid(alloc, of_top)?;
-    if let Some(mut last) = net.modules.pop() {
-        if place < last.items.len() {
-            module.items.push(last.items.remove(place))?;
-        }
-    }
-    Ok(())
-}
-
-fn add_wire(alloc: Global, module: &mut Module) -> Result<(), AllocError> {
-    let name = identifier(alloc, &Name::Other)?;
-    module.items.push(Item::Wire(Wire { high: None, name }))
-}
-
-fn add_assign(alloc: Global, module: &mut Module, value: Expression) -> Result<(), AllocError> {
-    let target = identifier(alloc, &Name::Other)?;
-    module.items.push(Item::Assign(Assign { target, value }))
-}
-
-fn add_write(alloc: Global, module: &mut Module) -> Result<(), AllocError> {
-    let text = Quoted::from_text(alloc, "%%\\n")?;
-    let mut body = Items::new(alloc);
-    body.push(Statement::Write {
-        text,
-        arguments: Items::new(alloc),
-    })?;
-    module.items.push(Item::Always(Always { body }))
-}
-
-fn apply(alloc: Global, module: &mut Module, by: &Change) -> Result<(), AllocError> {
-    match by {
-        Change::Again(place) => add_item(alloc, module, false, *place),
-        Change::Instance => add_item(alloc, module, true, 0),
-        Change::Wire => add_wire(alloc, module),
-        Change::Copy => add_assign(
-            alloc,
-            module,
-            Expression::Copy(identifier(alloc, &Name::Done)?),
-        ),
-        Change::Nothing => add_assign(alloc, module, Expression::Concatenation(Items::new(alloc))),
-        Change::Write => add_write(alloc, module),
-        Change::Portless => {
-            module.ports = Items::new(alloc);
-            Ok(())
-        }
-        Change::Port(direction, high, of) => {
-            let name = identifier(alloc, of)?;
-            module.ports.push(Port {
-                direction: *direction,
-                high: *high,
-                name,
-            })
-        }
-        Change::Alone(of) => {
-            let name = identifier(alloc, of)?;
-            module.ports = Items::new(alloc);
-            module.ports.push(Port {
-                direction: Direction::Output,
-                high: None,
-                name,
-            })
-        }
-    }
-}
-
-/// What the check says of the counter after a change.
-fn changed(alloc: Global, by: &Change) -> Result<Result<(), NetFault>, AllocError> {
-    let mut net = laid(alloc, false)?;
-    if let Some(mut counter) = net.modules.pop() {
-        apply(alloc, &mut counter, by)?;
-        net.modules.push(counter)?;
-    }
-    Ok(check_net(alloc, &net))
-}
+/// The eight items of the counter.
+const ITEMS: &str =
+    "reg [1:0] q_0; wire [1:0] n_1; wire [1:0] c_2; assign n_1 = q_0 + c_2; assign c_2 = 2'd1; assign done = q_0[1]; \
+    initial begin q_0 = 2'd0; end always @(posedge clk) begin q_0 <= n_1; end";
 
 const NINTH: ModulePart = ModulePart::Item(8);
 
 const FOURTH: ModulePart = ModulePart::Port(3);
 
-const CHANGES: [(&str, Change, ModulePart); 15] = [
-    ("declared twice", Change::Again(2), NINTH),
-    ("driven twice", Change::Again(5), NINTH),
-    ("given twice", Change::Again(6), NINTH),
-    ("written by two blocks", Change::Again(7), NINTH),
-    ("without a driver", Change::Wire, NINTH),
-    ("of two widths", Change::Copy, NINTH),
-    ("without parts", Change::Nothing, NINTH),
-    ("an instance of the module itself", Change::Instance, NINTH),
+/// A broken rule, the ports, what stands behind the items, and the part that breaks the rule.
+const CHANGES: [(&str, &str, &str, ModulePart); 13] = [
+    ("declared twice", PORTS, "wire [1:0] c_2;", NINTH),
+    ("driven twice", PORTS, "assign done = q_0[1];", NINTH),
+    ("given twice", PORTS, "initial begin q_0 = 2'd0; end", NINTH),
+    (
+        "written by two blocks",
+        PORTS,
+        "always @(posedge clk) begin q_0 <= n_1; end",
+        NINTH,
+    ),
+    ("without a driver", PORTS, "wire other_4;", NINTH),
+    ("not declared", PORTS, "assign other_4 = done;", NINTH),
+    (
+        "an instance of the module itself",
+        PORTS,
+        "counter u(.clk(clk), .en(en), .done(done));",
+        NINTH,
+    ),
     (
         "a port declared twice",
-        Change::Port(Direction::Input, None, Name::Clk),
+        "input wire clk, input wire en, output wire done, input wire clk",
+        "",
         FOURTH,
     ),
     (
         "a port wider than 64 bits",
-        Change::Port(Direction::Input, Some(64), Name::Other),
+        "input wire clk, input wire en, output wire done, input wire [64:0] other_4",
+        "",
         FOURTH,
     ),
     (
         "an output without a driver",
-        Change::Port(Direction::Output, None, Name::Other),
+        "input wire clk, input wire en, output wire done, output wire other_4",
+        "",
         FOURTH,
     ),
     (
         "clk that is an output",
-        Change::Alone(Name::Clk),
+        "output wire clk",
+        "",
         ModulePart::Port(0),
     ),
-    ("without ports", Change::Portless, ModulePart::Head),
-    ("without clk", Change::Alone(Name::Done), ModulePart::Head),
+    ("without clk", "output wire done", "", ModulePart::Head),
     (
         "a $write in a module that is not top and has no instance",
-        Change::Write,
+        PORTS,
+        "always @(posedge clk) begin $write(\"%%\\n\"); end",
         ModulePart::Head,
     ),
 ];
 
 #[test]
 fn broken_rules(rt: HostRuntime) -> Result<(), Fail> {
-    for (rule, by, part) in &CHANGES {
-        let found = changed(rt.alloc(), by)?;
+    for (rule, ports, item, part) in &CHANGES {
+        let text = format!(in rt.alloc(); "module counter({ports}); {ITEMS} {item} endmodule")?;
+        let found = checked(rt.alloc(), text.as_str())?;
         assert!(rt; found == in_module(0, *part), "{rule}");
+    }
+    Ok(())
+}
+
+/// An assignment of a concatenation without parts.
+fn nothing(alloc: Global) -> Result<Item, AllocError> {
+    let target = Identifier::from_text(alloc, "other_4")?;
+    Ok(Item::Assign(Assign {
+        target,
+        value: Expression::Concatenation(Items::new(alloc)),
+    }))
+}
+
+fn without_ports(alloc: Global, counter: Module) -> Module {
+    Module {
+        name: counter.name,
+        ports: Items::new(alloc),
+        items: counter.items,
+    }
+}
+
+/// What the check says of a counter without ports, or with an assignment of nothing behind its items: no text has either.
+fn emptied(alloc: Global, has_ports: bool) -> Result<Result<(), NetFault>, Fault> {
+    let mut net = parsed(alloc, COUNTER)?;
+    if let Some(mut counter) = net.modules.pop() {
+        if has_ports {
+            counter.items.push(nothing(alloc)?)?;
+            net.modules.push(counter)?;
+        } else {
+            net.modules.push(without_ports(alloc, counter))?;
+        }
+    }
+    Ok(check_net(alloc, &net))
+}
+
+#[test]
+fn lists_without_parts(rt: HostRuntime) -> Result<(), Fail> {
+    for (has_ports, part) in [(true, NINTH), (false, ModulePart::Head)] {
+        let found = emptied(rt.alloc(), has_ports)?;
+        assert!(rt; found == in_module(0, part));
     }
     Ok(())
 }

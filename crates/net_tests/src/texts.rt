@@ -1,35 +1,13 @@
 // Netlists laid out, and their texts, compared with texts by hand.
 
-use crate::small::{Name, bank_and_forms, counting, identifier};
-use netlist_text::text_of;
-use sqlite_items::Items;
-use std::alloc::{AllocError, Global};
+use crate::small::{COUNTER, laid, parsed};
 use std::test::Fail;
 use verilog_tree::name::Quoted;
-use verilog_tree::tree::{Always, Direction, Item, Module, Net, Port, Statement, WriteArgument};
 use verilog_writer::write;
 
-const COUNTER: &str = "module counter(input wire clk, input wire en, output wire done);
-  reg [1:0] q_0;
-  wire [1:0] n_1;
-  wire [1:0] c_2;
-  assign n_1 = q_0 + c_2;
-  assign c_2 = 2'd1;
-  assign done = q_0[1];
-  initial begin
-    q_0 = 2'd0;
-  end
-  always @(posedge clk) begin
-    q_0 <= n_1;
-  end
-endmodule
-";
-
-// Three ports, one register, two wires, three assigns, the initial block and the always block.
 #[test]
 fn lays_a_counter_out(rt: HostRuntime) -> Result<(), Fail> {
-    let netlist = counting(rt.alloc(), false)?;
-    let net = text_of(rt.alloc(), &netlist)?;
+    let net = laid(rt.alloc(), COUNTER)?;
     match net.modules.as_slice() {
         [laid] => {
             assert!(rt; laid.name.as_str() == "counter");
@@ -37,8 +15,6 @@ fn lays_a_counter_out(rt: HostRuntime) -> Result<(), Fail> {
         }
         _ => assert!(rt; false),
     }
-    let text = write(rt.alloc(), &net)?;
-    assert!(rt; text.as_slice() == COUNTER.as_bytes());
     Ok(())
 }
 
@@ -74,64 +50,18 @@ module forms(input wire clk, input wire [7:0] x, input wire [7:0] x_0);
 endmodule
 ";
 
+/// What is laid out of a netlist is written as the text that has it.
 #[test]
-fn writes_each_form(rt: HostRuntime) -> Result<(), Fail> {
-    let netlist = bank_and_forms(rt.alloc())?;
-    let net = text_of(rt.alloc(), &netlist)?;
-    let text = write(rt.alloc(), &net)?;
-    assert!(rt; text.as_slice() == EACH_FORM.as_bytes());
+fn writes_what_is_laid_out(rt: HostRuntime) -> Result<(), Fail> {
+    for text in [COUNTER, EACH_FORM] {
+        let net = laid(rt.alloc(), text)?;
+        let written = write(rt.alloc(), &net)?;
+        assert!(rt; written.as_slice() == text.as_bytes());
+    }
     Ok(())
 }
 
-// ---- a block with a condition round two statements
-
-fn add_print(alloc: Global, body: &mut Items<Statement>) -> Result<(), AllocError> {
-    let x = identifier(alloc, &Name::X)?;
-    let mut arguments = Items::new(alloc);
-    arguments.push(WriteArgument::Unsigned(x.clone()?))?;
-    arguments.push(WriteArgument::Signed(x.with_number(alloc, 0)?))?;
-    let text = Quoted::from_text(alloc, "%0d, %0d\\n")?;
-    body.push(Statement::Write { text, arguments })
-}
-
-fn add_store(alloc: Global, body: &mut Items<Statement>) -> Result<(), AllocError> {
-    let memory = identifier(alloc, &Name::Words)?;
-    let address = identifier(alloc, &Name::X)?;
-    let source = identifier(alloc, &Name::Numbered(0))?;
-    body.push(Statement::Store {
-        memory,
-        address,
-        source,
-    })
-}
-
-fn add_if(alloc: Global, block: &mut Items<Statement>) -> Result<(), AllocError> {
-    let mut body = Items::new(alloc);
-    add_print(alloc, &mut body)?;
-    add_store(alloc, &mut body)?;
-    let condition = identifier(alloc, &Name::Numbered(2))?;
-    block.push(Statement::If { condition, body })
-}
-
-fn add_block(alloc: Global, items: &mut Items<Item>) -> Result<(), AllocError> {
-    let mut body = Items::new(alloc);
-    add_if(alloc, &mut body)?;
-    items.push(Item::Always(Always { body }))
-}
-
-fn printing(alloc: Global) -> Result<Module, AllocError> {
-    let mut ports = Items::new(alloc);
-    ports.push(Port {
-        direction: Direction::Input,
-        high: None,
-        name: identifier(alloc, &Name::Clk)?,
-    })?;
-    let mut items = Items::new(alloc);
-    add_block(alloc, &mut items)?;
-    let name = identifier(alloc, &Name::Printing)?;
-    Ok(Module { name, ports, items })
-}
-
+/// A block with a condition round two statements.
 const PRINTING: &str = "module printing(input wire clk);
   always @(posedge clk) begin
     if (x_2) begin
@@ -144,11 +74,16 @@ endmodule
 
 #[test]
 fn writes_a_block(rt: HostRuntime) -> Result<(), Fail> {
-    let mut net = Net {
-        modules: Items::new(rt.alloc()),
-    };
-    net.modules.push(printing(rt.alloc())?)?;
+    let net = parsed(rt.alloc(), PRINTING)?;
     let text = write(rt.alloc(), &net)?;
     assert!(rt; text.as_slice() == PRINTING.as_bytes());
+    Ok(())
+}
+
+/// A string is kept as it stands between its quotes.
+#[test]
+fn a_string_keeps_its_escapes(rt: HostRuntime) -> Result<(), Fail> {
+    let text = Quoted::from_text(rt.alloc(), "%0d, %0d\\n")?;
+    assert!(rt; text.as_str() == "%0d, %0d\\n");
     Ok(())
 }

@@ -20,6 +20,9 @@ pub const RUN: &[&str] = &["hls", "run"];
 
 pub const REPLAY: &[&str] = &["hls", "replay"];
 
+/// As many cycles as one of the Verilog texts needs.
+pub const SIM: &[&str] = &["hls", "sim", "--cycles", "2"];
+
 /// The most bytes that each call of a stream moves, and the numbers of the calls that fail, from 1.
 pub type Moves<'a> = (usize, &'a [u64]);
 

@@ -1,7 +1,7 @@
 // The table of faults: words, journals, texts that end too early, reads and writes that fail; and the number of each status.
 
 use crate::call::{
-    BUILD, Moves, REPLAY, RUN, Row, SURE, Streams, each, is_ended, is_right, is_told, told,
+    BUILD, Moves, REPLAY, RUN, Row, SIM, SURE, Streams, each, is_ended, is_right, is_told, told,
 };
 use crate::programs::{COUNTING, ENDLESS, MAIN, SUMMING};
 use crate::sims::CLIMBING;
@@ -21,6 +21,8 @@ const USAGE: &str = "hls: usage\n";
 
 const REFUSED: &str = "hls: refused E";
 
+const NOT_NET: &str = "hls: not a net at byte ";
+
 /// A text and the words behind it.
 type Case = (&'static str, &'static [&'static str]);
 
@@ -37,7 +39,7 @@ const CASES: [Case; 12] = [
     (ENDLESS, &["hls", "run", "--entries", "1", "--journal"]),
     ("//@ 0 9 -\nint main(void){while (1) ; return 0;}", REPLAY),
     ("//@ 5 0 -\nint main(void){return 0;}", REPLAY),
-    (CLIMBING, &["hls", "sim", "--cycles", "2"]),
+    (CLIMBING, SIM),
 ];
 
 /// Whether a fault of this read is told, where each read takes 16 bytes.
@@ -307,10 +309,13 @@ fn judges_the_words(rt: HostRuntime) -> Result<(), Fail> {
 }
 
 /// The second read of four bytes fails. Words are judged before a byte is read, and a text only where it is read to its end.
-const ORDER: [(Case, u8, &str); 5] = [
+const ORDER: [(Case, u8, &str); 8] = [
     (("int x", &["hls", "step"]), 2, USAGE),
     (("int x", BUILD), 3, READ_FAULT),
     (("int x", RUN), 3, READ_FAULT),
+    (("int x", &["hls", "step", "--cycles", "9"]), 3, READ_FAULT),
+    (("int x", &["hls", "walk", "--threads", "0"]), 3, READ_FAULT),
+    (("modul", SIM), 3, READ_FAULT),
     (("//@ 5 0 -\nint x", REPLAY), 3, READ_FAULT),
     ((MAIN, BUILD), 3, READ_FAULT),
 ];
@@ -383,30 +388,26 @@ fn tells_the_first_bad_entry(rt: HostRuntime) -> Result<(), Fail> {
     Ok(())
 }
 
+const SMALL: &str = "int main(void){int i = 4; return i;}";
+
+const BEHIND: &str = "//@ 0 4096 -\n//@ 0 1 s\nint main(void){while (1) ; return 0;}";
+
 /// Each proper beginning of these is refused. One that ends inside of a journal has no program behind it.
-const CUTS: [Case; 5] = [
-    (SUMMING, BUILD),
-    (
-        "int main(void){int i = 4; return i;}",
-        &["hls", "step", "--cycles", "9"],
-    ),
-    (
-        "int main(void){int i = 4; return i;}",
-        &["hls", "walk", "--threads", "0"],
-    ),
-    ("int main(void){int i = 4; return i;}", RUN),
-    (
-        "//@ 0 4096 -\n//@ 0 1 s\nint main(void){while (1) ; return 0;}",
-        REPLAY,
-    ),
+const CUTS: [(Case, u8, &str); 6] = [
+    ((SUMMING, BUILD), 1, REFUSED),
+    ((SMALL, &["hls", "step", "--cycles", "9"]), 1, REFUSED),
+    ((SMALL, &["hls", "walk", "--threads", "0"]), 1, REFUSED),
+    ((SMALL, RUN), 1, REFUSED),
+    ((BEHIND, REPLAY), 1, REFUSED),
+    ((CLIMBING, SIM), 11, NOT_NET),
 ];
 
 #[test]
 fn refuses_each_cut(rt: HostRuntime) -> Result<(), Fail> {
-    for (text, words) in &CUTS {
+    for ((text, words), number, line) in &CUTS {
         for length in 0..text.len() {
             let cut = &text.as_bytes()[..length];
-            let is_right = is_right(&rt, rt.alloc(), cut, words, &SURE, 1, "", REFUSED)?;
+            let is_right = is_right(&rt, rt.alloc(), cut, words, &SURE, *number, "", line)?;
             assert!(rt; is_right, "at {length} bytes");
         }
     }

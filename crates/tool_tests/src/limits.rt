@@ -1,7 +1,8 @@
 // The limits of a text at their edges, told by a walk of one step.
 
-use crate::call::{BUILD, REPLAY, RUN, SURE, is_right, told};
+use crate::call::{BUILD, REPLAY, RUN, SIM, SURE, is_right, told};
 use crate::programs::MAIN;
+use crate::sims::CLIMBING;
 use std::alloc::{AllocError, Global};
 use std::sync::Wait;
 use std::test::Fail;
@@ -62,6 +63,10 @@ const LONG: &str = "hls: refused E1: longer than 65536 bytes\n";
 
 const BAD: &str = "hls: bad entry 0\n";
 
+const DONE: &str = "hls: done, 2 cycles\n";
+
+const CUT: &str = "hls: not a net at byte 16777216\n";
+
 const JOURNAL: &str = "//@ 5 0 -\nint main(void){return 0;}";
 
 const BEHIND: &str = "\nint main(void){return 0;}";
@@ -72,8 +77,8 @@ const HEAVY: &str = "hls: built, 1 threads, weight 8192, ";
 
 const TOO_HEAVY: &str = "hls: refused E12: weight 8193, at most 8192\n";
 
-/// A text with a journal may have 16,777,216 bytes, of which the program has as many as a text without one.
-const LENGTHS: [Length; 18] = [
+/// A text with a journal may have 16,777,216 bytes, of which the program has as many as a text without one. A Verilog text may have as many.
+const LENGTHS: [Length; 20] = [
     (MAIN, b' ', 65_536, "", BUILD, 0, "module ", "hls: built, "),
     (MAIN, b' ', 65_537, "", BUILD, 1, "", LONG),
     (MAIN, b' ', 65_536, "", STEP, 9, "", "hls: not done, "),
@@ -90,6 +95,8 @@ const LENGTHS: [Length; 18] = [
     ("//@ ", b'0', 16_777_217, BEHIND, REPLAY, 1, "", LONG),
     ("", b' ', 16_777_217, "", REPLAY, 1, "", LONG),
     ("", b' ', 65_537, "", BUILD, 1, "", LONG),
+    (CLIMBING, b' ', 16_777_216, "", SIM, 0, "", DONE),
+    (CLIMBING, b' ', 16_777_217, "", SIM, 11, "", CUT),
     (EMPTY, b';', 8_215, "return 0;}", BUILD, 0, "module ", HEAVY),
     (EMPTY, b';', 8_216, "return 0;}", BUILD, 1, "", TOO_HEAVY),
 ];

@@ -69,8 +69,9 @@ fn runs_long(rt: HostRuntime) -> Result<(), Fail> {
 
 const BAD: &str = "hls: bad entry 0\n";
 
-/// Journals before a program, the first misspelt or not legal; and a refused text, whose offsets count from behind the journal.
-const REPLAYS: [Row; 13] = [
+/// Journals before a program, the first misspelt or not legal; and refused texts, whose offsets count from behind the journal, one of them empty
+/// where the journal has no line feed.
+const REPLAYS: [Row; 14] = [
     (
         "//@ 0 4096 -\n//@ 0 4096 -\n//@ 0 4096 -\n//@ 0 4096 -\n//@ 0 4096 -\nint main(void){while (1) ; return 0;}",
         REPLAY,
@@ -112,6 +113,13 @@ const REPLAYS: [Row; 13] = [
         1,
         "",
         "hls: refused E3 at byte 15: syntax\n",
+    ),
+    (
+        "//@ 0 1 -int main(void){return 0;}",
+        REPLAY,
+        1,
+        "",
+        "hls: refused E3 at byte 0: syntax\n",
     ),
     (
         "//@ 5 0 -\nint x;",

@@ -184,15 +184,3 @@ fn names_the_signal_of_a_loop(rt: HostRuntime) -> Result<(), Fail> {
     assert!(rt; is_right);
     Ok(())
 }
-
-#[test]
-fn refuses_a_long_verilog_text(rt: HostRuntime) -> Result<(), Fail> {
-    let mut spaces = Vec::new(rt.alloc());
-    spaces.resize(16_777_217, b' ')?;
-    let words = ["hls", "sim", "--cycles", "9"];
-    let told = told(&rt, rt.alloc(), spaces.as_slice(), &words, &SURE)?;
-    assert!(rt; told.outcome.status == Status::NotNet { offset: 16_777_216 });
-    assert!(rt; told.out.held().is_empty());
-    assert!(rt; told.err.held() == b"hls: not a net at byte 16777216\n".as_slice());
-    Ok(())
-}
