@@ -1,7 +1,12 @@
 -- What a choice gives the inputs of the outermost module, by their names.
-use Rattle.std.specs.Prelude.{◌≡◌, ℕ, zero, suc, ◌+◌, ◌<◌, ◌⊎◌, true, false, List, [], ◌∷◌, ◌++◌, length, Some, None, slice_get, slice_index, codes, refl}
+use Rattle.std.specs.Prelude.{◌≡◌, ℕ, zero, suc, ◌+◌, ◌<◌, ◌⊎◌, true, false, List, [], ◌∷◌, ◌++◌, length, drop, Some, None, Result, decimal, slice_get, slice_index, codes, refl}
 use Rattle.std.proofs.Common.{ap, sym, ◌∙◌, subst, inl, inr, ⊎_elim, arith}
 use Rattle.std.specs.Str.{bytes_eq}
+use Rattle.std.specs.Str.Parse.{ParsesUnsigned}
+use Rattle.std.specs.Str.Pattern.{LacksTextAt}
+use Rattle.std.specs.Result.{result_ok}
+use Rattle.std.proofs.lemmas.Fmt.{parse-decimal}
+use Rattle.std.proofs.lemmas.Slice.Eq.{bytes_eq-Decides}
 use Rattle.verilog_meaning.specs.Names.{numbered}
 use Rattle.verilog_meaning.specs.Cycles.{pref_number}
 use Rattle.netlist.specs.declared.netlist.Source.{Source}
@@ -11,7 +16,7 @@ use Rattle.sim_values.specs.declared.settle.Feed.{Feed}
 use Rattle.sim_values.specs.declared.settle.Feed.TheVariants.{Zero, Enables, Preferred}
 use Rattle.sim_values.specs.declared.settle.Step.{Step}
 use Rattle.sim_values.specs.Stands.{step}
-use Rattle.sim_layout.specs.Given.{IsInput, IsPrefOf, IsRooted, IsRoot, AreRoots, IsGivenOne, IsGivenFor}
+use Rattle.sim_layout.specs.Given.{IsInput, TellsPref, IsPrefOf, IsRooted, IsRoot, AreRoots, IsGivenOne, IsGivenFor}
 use Rattle.sim_values.proofs.Settles.{if_true, if_false}
 use Rattle.sim_values.proofs.Orders.{get_last, get_more, get_snoc}
 use Rattle.sim_values.proofs.Trees.{front_or_back}
@@ -41,6 +46,19 @@ module _ (name : List ℕ) where
       let here : k + 0 ≡ k = omega arith in
       if_false (bytes_eq name (numbered (codes "pref") k)) p (pref_number name prefs (k + 1)) (subst other here (h 0 (omega arith)))
       ∙ no_pref prefs (k + 1) (λ i l. subst other (let z : k + suc i ≡ k + 1 + i = omega arith in z) (h (suc i) (omega arith)))
+
+-- ---- the number of a name pref_k
+
+-- what the name is followed by are the decimals of k
+digits_are : (name digits : List ℕ) (n k : ℕ) → name ≡ codes "pref_" ++ drop n name → digits ≡ drop n name → name ≡ numbered (codes "pref") k → digits ≡ decimal k
+digits_are name digits n k front rest is = (let e : codes "pref_" ++ drop n name ≡ codes "pref_" ++ decimal k = sym front ∙ is in let same : drop n name ≡ decimal k = cc in rest ∙ same)
+
+pub pref_read : {E : Type 0} (name digits : List ℕ) (n : ℕ) (r : Result ℕ E) → name ≡ codes "pref_" ++ drop n name → digits ≡ drop n name → ParsesUnsigned 64 10 digits r → TellsPref name (result_ok r)
+pref_read name digits n r front rest parsed k small is =
+    ap result_ok (parse-decimal 64 k digits r small small (digits_are name digits n k front rest ((bytes_eq-Decides name (numbered (codes "pref") k)).0 is)) parsed)
+
+pub pref_lacks : (name : List ℕ) → LacksTextAt (codes "pref_") name 0 → TellsPref name None
+pref_lacks name lacks k small is = absurd (lacks (decimal k) ((bytes_eq-Decides name (numbered (codes "pref") k)).0 is))
 
 pub input_en : (most : ℕ) (name : List ℕ) → bytes_eq name (codes "en") ≡ true → IsInput most name Enables
 input_en most name e = record { always = λ modules c f few. sym (if_true (bytes_eq name (codes "en")) c.mask (pref_number name c.prefs 0) e); plain = λ modules. refl }

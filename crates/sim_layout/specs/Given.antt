@@ -1,5 +1,5 @@
 -- What gives the inputs of the outermost module their numbers.
-use Rattle.std.specs.Prelude.{◌≡◌, ℕ, ◌+◌, ◌<◌, true, false, List, [], ◌∷◌, ◌++◌, Option, Some, None, slice_get, codes}
+use Rattle.std.specs.Prelude.{◌≡◌, ℕ, ◌+◌, ◌^◌, ◌<◌, true, false, List, [], ◌∷◌, ◌++◌, Option, Some, None, slice_get, codes}
 use Rattle.std.specs.Str.{bytes_eq}
 use Rattle.netlist.specs.declared.netlist.Source.{Source}
 use Rattle.netlist.specs.declared.netlist.Source.TheVariants.{Input, Register, Assigned, Port}
@@ -13,6 +13,10 @@ use Rattle.sim_values.specs.Stands.{IsGiven, step}
 
 abbrev pub is_pref : List ℕ → ℕ → Type 0
 is_pref name k = bytes_eq name (numbered (codes "pref") k) ≡ true
+
+-- where this is a name pref_k, its number
+abbrev pub TellsPref : List ℕ → Option ℕ → Type 0
+TellsPref name found = (k : ℕ) → k < 2 ^ 64 → is_pref name k → found ≡ Some k
 
 -- the first of so many numbers k for which this is the name pref_k
 abbrev pub IsPrefOf : List ℕ → ℕ → Option ℕ → Type 0

@@ -1,9 +1,10 @@
 // What gives the inputs of the outermost module their numbers: the clock is 0, `en` is the mask of the choice, and
 // `pref_k` is its preferred thread of arbiter k.
 
-ghost use Rattle.std.specs.Prelude.{◌≡◌, IfOk, OnOk};
+ghost use Rattle.std.specs.Prelude.{◌≡◌, codes, IfOk, OnOk};
+ghost use Rattle.verilog_meaning.specs.Names.{numbered};
 ghost use Rattle.std.specs.Str.{bytes_eq};
-ghost use Rattle.sim_layout.specs.Given.{IsInput, IsPrefOf, IsGivenOne, IsGivenFor, AreRooted, AreRoots};
+ghost use Rattle.sim_layout.specs.Given.{IsInput, TellsPref, IsPrefOf, IsGivenOne, IsGivenFor, AreRooted, AreRoots};
 
 use crate::wires::further;
 use netlist::netlist::{Signal, Source};
@@ -17,18 +18,37 @@ fn is_named(name: &Identifier, text: &str) -> bool
     name.as_str() == text
 }
 
+/// The number k of a name `pref_k`. Of other names it is any number or none.
+fn pref_number(name: &Identifier) -> Option<usize>
+    ensures { TellsPref name.now result }
+{
+    match name.as_str().strip_prefix("pref_") {
+        Some(digits) => digits.parse().ok(),
+        None => None,
+    }
+}
+
+/// Whether a name is `pref_k`, for a number k.
+fn is_pref(alloc: Global, name: &Identifier, number: usize) -> Result<bool, AllocError>
+    ensures { IfOk result (λ b. b ≡ bytes_eq name.now (numbered (codes "pref") number)) }
+{
+    let stem = Identifier::from_text(alloc, "pref")?;
+    let pref = stem.with_number(alloc, number as u64)?;
+    Ok(is_named(name, pref.as_str()))
+}
+
 /// The number of the arbiter whose preferred thread an input of this name is, among so many.
 fn pref_of(alloc: Global, name: &Identifier, prefs: usize) -> Result<Option<usize>, AllocError>
     ensures { IfOk result (λ found. IsPrefOf name.now prefs found) }
 {
-    let stem = Identifier::from_text(alloc, "pref")?;
-    for number in 0..prefs {
-        let other = stem.with_number(alloc, number as u64)?;
-        if is_named(name, other.as_str()) {
-            return Ok(Some(number));
-        }
+    let Some(number) = pref_number(name) else {
+        return Ok(None);
+    };
+    if number < prefs && is_pref(alloc, name, number)? {
+        Ok(Some(number))
+    } else {
+        Ok(None)
     }
-    Ok(None)
 }
 
 /// What gives an input of this name its number.
