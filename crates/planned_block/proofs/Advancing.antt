@@ -1,9 +1,9 @@
 -- A module that advances turns, where it moves.
 use Rattle.std.specs.Prelude.{◌⊎◌, ℤ, Bool, true, false, ◌&&◌, ◌||◌, not, if◌then◌else◌}
 use Rattle.std.proofs.Common.{inr, ◌≡◌, ◌≢◌, ℕ, zero, suc, ◌+◌, ◌<◌, ◌≤◌, List, [], ◌++◌, refl, sym, ap, ◌∙◌, subst, ⊎_elim, inl, arith}
+use Rattle.std.proofs.lemmas.Bool.{cases_eq, or_right, or_parts}
 use Rattle.interleaving.specs.Memory.{Location, Memory, Access, Touches, AgreeOn}
 use Rattle.interleaving.proofs.Accesses.{touches_left, touches_right, touches_either}
-use Rattle.interleaving.proofs.Update.{same_or_not}
 use Rattle.planned_block.specs.Block.{Block, operation_at, size, element}
 use Rattle.planned_block.specs.Plan.{Plan}
 use Rattle.planned_block.specs.Run.{bank_access}
@@ -15,7 +15,7 @@ all_tells : (f : ℕ → Bool) (n k : ℕ) → all_below f n ≡ true → k < n 
 all_tells f zero k e lt = absurd (omega arith)
 all_tells f (suc n) k e lt =
     let t = both_true (all_below f n) (f n) e in
-    ⊎_elim (λ (s : k ≡ n). ap f s ∙ t.1) (λ (ne : k ≢ n). all_tells f n k t.0 (omega arith)) (same_or_not k n)
+    ⊎_elim (λ (s : k ≡ n). ap f s ∙ t.1) (λ (ne : k ≢ n). all_tells f n k t.0 (omega arith)) (cases_eq k n)
 
 pub any_tells : (f : ℕ → Bool) (n : ℕ) → any_below f n ≡ true → (k : ℕ) × (k < n) × (f k ≡ true)
 any_tells f zero e = absurd cc
@@ -28,15 +28,7 @@ any_tells f (suc n) e = by_last (f n) refl (any_below f n) refl (any_tells f n)
 
 none_tells : (f : ℕ → Bool) (n k : ℕ) → any_below f n ≡ false → k < n → f k ≡ false
 none_tells f zero k e lt = absurd (omega arith)
-none_tells f (suc n) k e lt = ⊎_elim (λ (s : k ≡ n). ap f s ∙ right (any_below f n) (f n) e) (λ (ne : k ≢ n). none_tells f n k (left (any_below f n) (f n) e) (omega arith)) (same_or_not k n)
-  where
-    left : (a c : Bool) → (a || c) ≡ false → a ≡ false
-    left true c z = z
-    left false c z = refl
-
-    right : (a c : Bool) → (a || c) ≡ false → c ≡ false
-    right true c z = absurd cc
-    right false c z = z
+none_tells f (suc n) k e lt = ⊎_elim (λ (s : k ≡ n). ap f s ∙ (or_parts (any_below f n) (f n) e).1) (λ (ne : k ≢ n). none_tells f n k ((or_parts (any_below f n) (f n) e).0) (omega arith)) (cases_eq k n)
 
 pub all_true : (f : ℕ → Bool) (n : ℕ) → ((k : ℕ) → k < n → f k ≡ true) → all_below f n ≡ true
 all_true f zero each = refl
@@ -62,11 +54,7 @@ not_all f (suc n) e = by_last (f n) refl (λ r. not_all f n r)
 
 pub some_tells : (f : ℕ → Bool) (n k : ℕ) → k < n → f k ≡ true → any_below f n ≡ true
 some_tells f zero k lt e = absurd (omega arith)
-some_tells f (suc n) k lt e = ⊎_elim (λ (s : k ≡ n). right (any_below f n) (f n) (sym (ap f s) ∙ e)) (λ (ne : k ≢ n). ap (λ c. c || f n) (some_tells f n k (omega arith) e)) (same_or_not k n)
-  where
-    right : (a c : Bool) → c ≡ true → (a || c) ≡ true
-    right true c t = refl
-    right false c t = t
+some_tells f (suc n) k lt e = ⊎_elim (λ (s : k ≡ n). or_right (any_below f n) (f n) (sym (ap f s) ∙ e)) (λ (ne : k ≢ n). ap (λ c. c || f n) (some_tells f n k (omega arith) e)) (cases_eq k n)
 
 module _ (bank : Location → ℕ) (b : Block) (p : Plan) where
   -- a state is ready, or has a request that waits
@@ -133,7 +121,7 @@ among f made (suc count) n k l le lt e t =
     touches_left (if f n then made n else []) (accesses_where f made count (suc n)) l
     (subst (λ (c : Bool). Touches l (if c then made n else [])) (sym (ap f same ∙ e)) (subst (λ j. Touches l (made j)) (sym same) t)))
     (λ (ne : n ≢ k). touches_right (if f n then made n else []) (accesses_where f made count (suc n)) l (among f made count (suc n) k l (omega arith) (omega arith) e t))
-    (same_or_not n k)
+    (cases_eq n k)
 
 -- what those touch one of them touches
 pub touched_by_one : (f : ℕ → Bool) (made : ℕ → List (Access ℤ)) (count n : ℕ) (l : Location) → Touches l (accesses_where f made count n) → (k : ℕ) × (f k ≡ true) × Touches l (made k)

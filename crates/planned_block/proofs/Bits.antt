@@ -1,6 +1,8 @@
 -- Facts on tests.
-use Rattle.std.specs.Prelude.{◌⊎◌, nat_eq, nat_lt, ◌&&◌, Bool, true, false, ◌||◌}
+use Rattle.std.specs.Prelude.{nat_eq, nat_lt, ◌&&◌, Bool, true, false, ◌||◌}
 use Rattle.std.proofs.Common.{◌≡◌, ◌≢◌, ℕ, suc, ◌<◌, ◌≤◌, refl, sym, ap, ◌∙◌, ⊎_elim, arith}
+use Rattle.std.proofs.Math.Bool.{and-false}
+use Rattle.std.proofs.lemmas.Bool.{cases_eq}
 -- std's facts on tests, under the names that proofs on blocks have for them
 pub use Rattle.std.proofs.lemmas.Bool.{and_parts as both_true, eqb-true as is_same, eq-eqb as same_is, ne_eqb as other_is}
 pub use Rattle.std.proofs.lemmas.Bool.{lt-ltb as less_is, le-ltb as not_less_is, cases_lt as less_or_not}
@@ -18,21 +20,10 @@ bits_stay false false g false t = refl
 
 -- the bits of a state that is left
 pub bits_go : (a s : ℕ) (g h : Bool) → (a ≡ s → (g || h) ≡ true) → (h ≡ true → a ≡ s) → ((nat_lt a s || (nat_eq a s && g)) || h) ≡ (nat_lt a (suc s) || (nat_eq a (suc s) && false))
-bits_go a s g h all now = ⊎_elim before (λ le. ⊎_elim here (λ ne. beyond h refl le ne) (same_or a s)) (less_or_not a s)
+bits_go a s g h all now = ⊎_elim before (λ le. ⊎_elim here (λ ne. beyond h refl le ne) (cases_eq a s)) (less_or_not a s)
   where
-    same_or : (a s : ℕ) → (a ≡ s) ⊎ (a ≢ s)
-    same_or a s = grind arith
-
-    and_false : (b : Bool) → (b && false) ≡ false
-    and_false true = refl
-    and_false false = refl
-
-    or_false : (b : Bool) → (b || false) ≡ b
-    or_false true = refl
-    or_false false = refl
-
     right : (nat_eq a (suc s) && false) ≡ false
-    right = and_false (nat_eq a (suc s))
+    right = and-false (nat_eq a (suc s))
 
     before : a < s → ((nat_lt a s || (nat_eq a s && g)) || h) ≡ (nat_lt a (suc s) || (nat_eq a (suc s) && false))
     before lt = ap (λ b. (b || (nat_eq a s && g)) || h) (less_is a s lt) ∙ sym (ap (λ b. b || (nat_eq a (suc s) && false)) (less_is a (suc s) (omega arith)))

@@ -1,6 +1,7 @@
 -- The law of a planned block, for any cycles.
-use Rattle.std.specs.Prelude.{nat_eq, nat_lt, ◌&&◌, ℤ, Bool, true, false, ◌||◌}
+use Rattle.std.specs.Prelude.{nat_eq, nat_lt, ◌&&◌, ℤ, Bool, false, ◌||◌}
 use Rattle.std.proofs.Common.{inr, ◌≡◌, ℕ, ◌<◌, List, [], ◌∷◌, ◌++◌, refl, sym, ap, ◌∙◌, subst, ⊎_elim, arith, append_assoc, append-nil}
+use Rattle.std.proofs.Math.Bool.{and-false}
 use Rattle.interleaving.specs.Memory.{Location, Memory, Access, memory_after, AgreeOn}
 use Rattle.interleaving.specs.AnyOrder.{Event, accesses_in, Remains}
 use Rattle.interleaving.proofs.AnyOrder.{remains_none, remains_all}
@@ -16,11 +17,7 @@ use Rattle.planned_block.proofs.Passing.{stays, goes_on, leaves, accesses_right,
 use Rattle.planned_block.proofs.Running.{is_run, run_accesses, run_arrays, run_memory}
 
 none_granted : (a s : ℕ) (g : Bool) → s ≡ 0 → g ≡ false → (nat_lt a s || (nat_eq a s && g)) ≡ false
-none_granted a s g z e = ap (λ c. c || (nat_eq a s && g)) (not_less_is a s (omega arith)) ∙ ap (λ h. nat_eq a s && h) e ∙ and_false (nat_eq a s)
-  where
-    and_false : (c : Bool) → (c && false) ≡ false
-    and_false true = refl
-    and_false false = refl
+none_granted a s g z e = ap (λ c. c || (nat_eq a s && g)) (not_less_is a s (omega arith)) ∙ ap (λ h. nat_eq a s && h) e ∙ and-false (nat_eq a s)
 
 -- a block at its start is in flight, with nothing made
 pub at_start : (bank : Location → ℕ) (b : Block) (p : Plan) → IsOrdered b → (q : Slot) (m : Memory ℤ) → q.state ≡ 0 → ((k : ℕ) → q.granted k ≡ false) → 0 < p.states →

@@ -4,11 +4,11 @@ use Rattle.std.proofs.Common.{inr, ◌≡◌, ◌≢◌, ℕ, zero, suc, ◌+◌
 use Rattle.std.proofs.Math.Path.{fun_ext}
 use Rattle.std.proofs.lemmas.Bool.Decides.{nat_tests}
 use mathlib.Core.Bool.{or-false}
+use Rattle.std.proofs.lemmas.Bool.{cases_eq}
 use Rattle.interleaving.specs.Memory.{Location, Memory, Access, memory_after, Touches, AreApart, AgreeOn}
 use Rattle.interleaving.specs.AnyOrder.{Event, ReadEvent, accesses_in, ReadsRight, Remains}
 use Rattle.interleaving.proofs.Accesses.{memory_after-append}
 use Rattle.interleaving.proofs.AnyOrder.{accesses_in-append, remains_none}
-use Rattle.interleaving.proofs.Update.{same_or_not}
 use Rattle.planned_block.specs.Block.{Operand, Kind, Simple, Multiply, Divide, BankRead, BankWrite, ArrayRead, ArrayWrite, Final, Next, Jump, Branch}
 use Rattle.planned_block.specs.Block.{Block, operation_at, size, operand_value, UsesIn, IsUsedAtEnd, finished, leads_to, is_zero, element, IsAmong}
 use Rattle.planned_block.specs.Plan.{Plan, last_state, further_states, KeepsOrders, target_of, OfGlobal, gap_after}
@@ -211,7 +211,7 @@ module _ (bank : Location → ℕ) (banks : AreBanks bank) (b : Block) (p : Plan
           (λ (less : j < k). let o = keeps.banks j k x false false less lt tj tk in ⊎_elim (λ z. absurd (omega arith)) (λ z. absurd (omega arith)) s)
           (λ (le : k ≤ j). let less : k < j = omega arith in let o = keeps.banks k j x false false less below tk tj in ⊎_elim (λ z. absurd (omega arith)) (λ z. absurd (omega arith)) s)
           (less_or_not j k))
-          (same_or_not j k))
+          (cases_eq j k))
 
       not_granted_before : (k : ℕ) → suc (p.start k) ≡ q.state → (g : Bool) → t.grants k ≡ g → t.grants k ≡ false
       not_granted_before k s true g = let e = state_of k g in absurd (omega arith)
@@ -290,9 +290,9 @@ module _ (bank : Location → ℕ) (banks : AreBanks bank) (b : Block) (p : Plan
               (λ (z : p.until j ≤ last_state b p k). absurd (omega arith))
               (λ (z : p.until k ≤ last_state b p j). absurd (omega arith))
               (keeps.apart j k r below lt other e' e))
-              (same_or_not j k))
+              (cases_eq j k))
               ∙ f.registers k r lt (omega arith) (omega arith) e)
-              (same_or_not (last_state b p k) q.state);
+              (cases_eq (last_state b p k) q.state);
           word_granted = λ k x lt e s c. absurd cc;
           word_taken = λ k x lt e s. word_now k x lt e (omega arith) (granted k lt (asks_read k x e (omega arith)));
         }

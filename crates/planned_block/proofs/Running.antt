@@ -1,11 +1,11 @@
 -- The operations one after another give a run of the block.
 use Rattle.std.specs.Prelude.{ℤ, pos, Bool, if◌then◌else◌, Some}
 use Rattle.std.proofs.Common.{inr, ◌≡◌, ◌≢◌, ℕ, zero, suc, ◌+◌, ◌<◌, ◌≤◌, ◌++◌, refl, sym, ap, ◌∙◌, subst, ⊎_elim, inl, arith, append_assoc, append-nil}
+use Rattle.std.proofs.lemmas.Bool.{cases_eq}
 use Rattle.interleaving.specs.Memory.{Memory, memory_after}
 use Rattle.interleaving.specs.AnyOrder.{accesses_in, ReadsRight}
 use Rattle.interleaving.proofs.Accesses.{memory_after-append}
 use Rattle.interleaving.proofs.AnyOrder.{accesses_in-append, right_join}
-use Rattle.interleaving.proofs.Update.{same_or_not}
 use Rattle.planned_block.specs.Block.{Operand, Constant, Variable, Value, Through, Kind, Simple, Multiply, Divide, BankRead, BankWrite, ArrayRead, ArrayWrite}
 use Rattle.planned_block.specs.Block.{Block, operation_at, size, operand_value, UsesIn, IsOrdered}
 use Rattle.planned_block.specs.Run.{bank_access, array_access, computes, Running, started, value_of, run_operation}
@@ -103,7 +103,7 @@ module _ (b : Block) (variables : ℕ → ℤ) (ordered : IsOrdered b) where
             (sym now ∙ is_computed o.kind f s.arrays s.memory l rr (subst (λ i. computes (operation_at b i).kind ≡ Some f) x c) ∙ ap (λ y. f y rr) both.0
             ∙ ap (λ y. f (operand_value variables fin.values o.left) y) both.1))
             (λ (ne : k ≢ n). rest.value k f (omega arith) (omega arith) c)
-            (same_or_not k n);
+            (cases_eq k n);
         bank = right_join (bank_events_at b variables fin.values n) (events_from (bank_events_at b variables fin.values) r (suc n)) s.memory
             (subst (ReadsRight s.memory) bank_now (bank_is_right o.kind s.memory s.arrays l rr (fin.values n) now))
             (subst (λ a. ReadsRight (memory_after a s.memory) (events_from (bank_events_at b variables fin.values) r (suc n))) bank_made rest.bank);

@@ -1,12 +1,14 @@
 -- Events of a run, some of which are done at once, in an order that keeps those of one place.
 use Rattle.std.specs.Prelude.{◌⊎◌, Bool, true, false, ◌||◌, if◌then◌else◌, ℤ}
 use Rattle.std.proofs.Common.{inr, ◌≡◌, ◌≢◌, ℕ, zero, suc, ◌+◌, ◌<◌, ◌≤◌, List, [], ◌∷◌, ◌++◌, refl, sym, ap, ◌∙◌, subst, ⊎_elim, inl, arith, append_assoc, append-nil}
+use Rattle.std.proofs.lemmas.Bool.{cases_eq, or_parts}
+use Rattle.std.proofs.Math.Bool.{or-false}
 use Rattle.interleaving.specs.Memory.{Location, Memory, Access, memory_after, Touches, AreApart}
 use Rattle.interleaving.specs.AnyOrder.{Event, accesses_in, ReadsRight, Remains}
 use Rattle.interleaving.proofs.Accesses.{touches_left, touches_right}
 use Rattle.interleaving.proofs.Apart.{apart_swap, apart_join}
 use Rattle.interleaving.proofs.AnyOrder.{accesses_in-append, remains_one}
-use Rattle.interleaving.proofs.Update.{at, at_same, at_other, same_or_not}
+use Rattle.interleaving.proofs.Update.{at, at_same, at_other}
 use Rattle.planned_block.specs.InFlight.{events_but}
 use Rattle.planned_block.specs.Run.{events_from}
 
@@ -54,7 +56,7 @@ module _ (ev : ℕ → List (Event ℤ)) where
 
   splits : (d : ℕ → Bool) (k r n : ℕ) → n ≤ k → k < n + r → d k ≡ false → Splits d k r n
   splits d k zero n le lt e = absurd (omega arith)
-  splits d k (suc r) n le lt e = ⊎_elim here (λ ne. there ne (d n) refl (splits d k r (suc n) (omega arith) (omega arith) e)) (same_or_not n k)
+  splits d k (suc r) n le lt e = ⊎_elim here (λ ne. there ne (d n) refl (splits d k r (suc n) (omega arith) (omega arith) e)) (cases_eq n k)
     where
       here : n ≡ k → Splits d k (suc r) n
       here same =
@@ -138,14 +140,6 @@ module _ (ev : ℕ → List (Event ℤ)) where
       turned true e c = absurd cc
       turned false e c = refl
 
-      both : (a b : Bool) → (a || b) ≡ false → a ≡ false
-      both true b e = e
-      both false b e = refl
-
-      or_false : (a : Bool) → (a || false) ≡ a
-      or_false true = refl
-      or_false false = refl
-
       sweep_on : (r n : ℕ) (d : ℕ → Bool) (done : List (Access ℤ)) → n + r ≡ N → Remains m all done (events_but ev d N 0) → ((k : ℕ) → n ≤ k → d k ≡ old k) →
           ((k : ℕ) → k < n → d k ≡ (old k || go k)) → Remains m all (done ++ accesses_in (events_where ev go r n)) (events_but ev (λ k. old k || go k) N 0)
       sweep_on zero n d done e l above below =
@@ -158,13 +152,13 @@ module _ (ev : ℕ → List (Event ℤ)) where
               Remains m all (done ++ accesses_in (events_where ev go (suc r) n)) (events_but ev (λ k. old k || go k) N 0)
           now true q on =
               let off = fresh n q in
-              let more = (left_more done d n l (omega arith) (above n (omega arith) ∙ off) (λ j lt z. clear j n lt (omega arith) q (both (old j) (go j) (sym (below j lt) ∙ z)))).1 in
+              let more = (left_more done d n l (omega arith) (above n (omega arith) ∙ off) (λ j lt z. clear j n lt (omega arith) q (or_parts (old j) (go j) (sym (below j lt) ∙ z)).0)).1 in
               let got = on (at d n true) (done ++ accesses_in (ev n)) more
               (λ k le. at_other d n k true (λ (x : k ≡ n). absurd (omega arith)) ∙ above k (omega arith))
               (λ k lt. ⊎_elim
               (λ (x : k ≡ n). ap (at d n true) x ∙ at_same d n true ∙ sym (ap (λ j. old j || go j) x ∙ turned (old n) off (go n) ∙ q))
               (λ ne. at_other d n k true ne ∙ below k (omega arith))
-              (same_or_not k n)) in
+              (cases_eq k n)) in
               subst (λ x. Remains m all x (events_but ev (λ k. old k || go k) N 0))
               (append_assoc done (accesses_in (ev n)) (accesses_in (events_where ev go r (suc n)))
               ∙ ap (λ x. done ++ x) (sym (accesses_in-append (ev n) (events_where ev go r (suc n))))
@@ -174,9 +168,9 @@ module _ (ev : ℕ → List (Event ℤ)) where
               let got = on d done l
               (λ k le. above k (omega arith))
               (λ k lt. ⊎_elim
-              (λ (x : k ≡ n). above k (omega arith) ∙ sym (ap (λ (b : Bool). old k || b) (ap go x ∙ q) ∙ or_false (old k)))
+              (λ (x : k ≡ n). above k (omega arith) ∙ sym (ap (λ (b : Bool). old k || b) (ap go x ∙ q) ∙ or-false (old k)))
               (λ ne. below k (omega arith))
-              (same_or_not k n)) in
+              (cases_eq k n)) in
               subst (λ x. Remains m all x (events_but ev (λ k. old k || go k) N 0)) (ap (λ (b : Bool). done ++ accesses_in ((if b then ev n else []) ++ events_where ev go r (suc n))) (sym q)) got
 
       pub sweep : (done : List (Access ℤ)) → Remains m all done (events_but ev old N 0) → Remains m all (done ++ accesses_in (events_where ev go N 0)) (events_but ev (λ k. old k || go k) N 0)

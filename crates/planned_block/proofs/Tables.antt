@@ -2,8 +2,8 @@
 use Rattle.std.specs.Prelude.{◌⊎◌, nat_lt, Bool, true, false, ◌||◌, if◌then◌else◌, Some, None}
 use Rattle.std.proofs.Common.{inr, ◌≡◌, ◌≢◌, ℕ, zero, suc, ◌+◌, ◌-◌, ◌<◌, ◌≤◌, List, [], ◌∷◌, refl, sym, ap, ◌∙◌, subst, ⊎_elim, inl, arith}
 use Rattle.std.proofs.lemmas.Bool.Decides.{nat_tests}
-use Rattle.std.proofs.lemmas.Bool.{or_left, or_right}
-use Rattle.interleaving.proofs.Update.{same_or_not}
+use Rattle.std.proofs.lemmas.Bool.{or_left, or_right, cases_eq}
+use Rattle.std.proofs.lemmas.Option.{cond_some}
 use Rattle.planned_block.specs.Block.{Operand, Constant, Variable, Value, Through, Kind, Simple, Multiply, Divide, BankRead, BankWrite, ArrayRead, ArrayWrite}
 use Rattle.planned_block.specs.Block.{Final, Block, operation_at, size, Uses, UsesIn, IsAmong, IsUsedAtEnd, IsOrdered}
 use Rattle.planned_block.specs.Plan.{Plan, further_states, last_state, is_simple, target_of, OfGlobal, gap_after, KeepsOrders}
@@ -33,7 +33,7 @@ greater_right a c = grind (arith, nat_tests)
 
 user_is_before : (b : Block) (p : Plan) (j k n : ℕ) → k < n → Uses (operation_at b k) j → last_state b p k ≤ last_user b p j n
 user_is_before b p j k zero lt u = absurd (omega arith)
-user_is_before b p j k (suc n) lt u = ⊎_elim here (λ ne. there ne (user_is_before b p j k n (omega arith) u)) (same_or_not k n)
+user_is_before b p j k (suc n) lt u = ⊎_elim here (λ ne. there ne (user_is_before b p j k n (omega arith) u)) (cases_eq k n)
   where
     now : ℕ
     now = if uses_in (operation_at b n).left j || uses_in (operation_at b n).right j then last_state b p n else 0
@@ -106,7 +106,7 @@ keeps_orders b p o t pack = record {
 sum_steps : (b : Block) (i j : ℕ) → i < j → latencies_before b i + latency (operation_at b i).kind ≤ latencies_before b j
 sum_steps b i zero lt = absurd (omega arith)
 sum_steps b i (suc j) lt = ⊎_elim (λ (e : i ≡ j). let same : latencies_before b i + latency (operation_at b i).kind ≡ latencies_before b j + latency (operation_at b j).kind =
-    ap (λ k. latencies_before b k + latency (operation_at b k).kind) e in omega arith) (λ (ne : i ≢ j). let rest = sum_steps b i j (omega arith) in omega arith) (same_or_not i j)
+    ap (λ k. latencies_before b k + latency (operation_at b k).kind) e in omega arith) (λ (ne : i ≢ j). let rest = sum_steps b i j (omega arith) in omega arith) (cases_eq i j)
 
 gap_fits : (kind : Kind) (x : ℕ) (v : Bool) → target_of kind ≡ OfGlobal x v → gap_after v ≤ latency kind
 gap_fits (Simple f) x v e = absurd cc
@@ -137,14 +137,10 @@ sequential_packed b = record {
   until = λ k lt. refl;
   has = λ k lt less. (k, ap (λ (c : Bool). if c then Some k else None) (less_is (last_state b (sequential b) k) ((sequential b).until k) less));
   short = λ k x lt e. of_bit k x (nat_lt (last_state b (sequential b) k) ((sequential b).until k)) refl e;
-  apart = λ j k x lj lk ne ej ek. absurd (ne (own j x (nat_lt (last_state b (sequential b) j) ((sequential b).until j)) ej
-      ∙ sym (own k x (nat_lt (last_state b (sequential b) k) ((sequential b).until k)) ek)));
+  apart = λ j k x lj lk ne ej ek. absurd (ne ((cond_some (nat_lt (last_state b (sequential b) j) ((sequential b).until j)) j x ej).1
+      ∙ sym ((cond_some (nat_lt (last_state b (sequential b) k) ((sequential b).until k)) k x ek).1)));
 }
   where
-    own : (k x : ℕ) (c : Bool) → (if c then Some k else None) ≡ Some x → k ≡ x
-    own k x true e = cc
-    own k x false e = absurd cc
-
     of_bit : (k x : ℕ) (c : Bool) → nat_lt (last_state b (sequential b) k) ((sequential b).until k) ≡ c → (if c then Some k else None) ≡ Some x →
         last_state b (sequential b) k < (sequential b).until k
     of_bit k x true t e = grind (arith, nat_tests)

@@ -1,9 +1,8 @@
 -- The next slot as a function is a next slot of the relation; in a closed state it hangs on the slot alone.
 use Rattle.std.specs.Prelude.{◌⊎◌, nat_eq, ℤ, Bool, true, false, ◌&&◌, ◌||◌, not, if◌then◌else◌, Option, Some, None}
 use Rattle.std.proofs.Common.{inr, ◌≡◌, ◌≢◌, ℕ, zero, suc, ◌+◌, ◌<◌, ◌≤◌, List, [], ◌++◌, refl, sym, ap, ◌∙◌, subst, ⊎_elim, inl, arith}
-use Rattle.std.proofs.lemmas.Bool.{false_from_ne_true}
+use Rattle.std.proofs.lemmas.Bool.{false_from_ne_true, cases_eq}
 use Rattle.interleaving.specs.Memory.{Location, Memory, Access, memory_after}
-use Rattle.interleaving.proofs.Update.{same_or_not}
 use Rattle.planned_block.specs.Block.{Operand, Constant, Variable, Value, Through, Kind, Simple, Multiply, Divide, BankRead, BankWrite, ArrayRead, ArrayWrite}
 use Rattle.planned_block.specs.Block.{Block, operation_at, size, element, Uses, UsesIn, IsUsedAtEnd}
 use Rattle.planned_block.specs.Plan.{Plan, KeepsOrders, last_state, target_of, OfGlobal}
@@ -132,7 +131,7 @@ module _ (bank : Location → ℕ) (b : Block) (p : Plan) (keeps : KeepsOrders b
         (λ (less : j < k). let o = keeps.banks j k rk.global false false less lk tj (ap target_of rk.kind) in absurd (omega arith))
         (λ (less : k < j). let o = keeps.banks k j rk.global false false less lj (ap target_of rk.kind) tj in absurd (omega arith))
         (apart j k ne))
-        (same_or_not j k)
+        (cases_eq j k)
       where
         apart : (j k : ℕ) → j ≢ k → (j < k) ⊎ (k < j)
         apart j k ne = grind arith
@@ -179,7 +178,7 @@ module _ (bank : Location → ℕ) (b : Block) (p : Plan) (keeps : KeepsOrders b
           let a = keeps.short j r lj ej in
           let c = keeps.short k r lk ek in
           ⊎_elim (λ z. absurd (omega arith)) (λ z. absurd (omega arith)) (keeps.apart j k r lj lk ne ej ek))
-          (same_or_not j k)
+          (cases_eq j k)
 
   left_or_on : (q : Slot) → q.state < p.states → (words : ℕ → ℤ) →
       GoesOn b p q (wires bank b p q) words (state_left bank b p q words) ⊎ Leaves b p q (wires bank b p q) (state_left bank b p q words)

@@ -1,6 +1,7 @@
 -- What the events of an operation touch.
 use Rattle.std.specs.Prelude.{◌⊎◌, Bool, true, false, ◌||◌, ℤ}
 use Rattle.std.proofs.Common.{inr, ◌≡◌, ℕ, refl, sym, ap, ◌∙◌, subst, inl}
+use Rattle.std.proofs.Math.Bool.{or-true}
 use Rattle.interleaving.specs.Memory.{Location, Touches, Writes, AreApart}
 use Rattle.interleaving.specs.AnyOrder.{ReadEvent, WriteEvent, accesses_in}
 use Rattle.interleaving.proofs.Accesses.{touched}
@@ -101,9 +102,5 @@ array_apart j k l r v l' r' v' never = record {
   second = λ q t w.
       let a = array_touches j l r v q t in
       let b = array_writes k l' r' v' q w in
-      never a.0 a.1 true a.2 (subst (λ y. target_of k ≡ OfArray y true) (sym b.2 ∙ a.3) b.1) (or_true a.1);
+      never a.0 a.1 true a.2 (subst (λ y. target_of k ≡ OfArray y true) (sym b.2 ∙ a.3) b.1) (or-true a.1);
 }
-  where
-    or_true : (a : Bool) → (a || true) ≡ true
-    or_true true = refl
-    or_true false = refl

@@ -1,8 +1,8 @@
 -- What the wires of a state show.
 use Rattle.std.specs.Prelude.{nat_eq, ℤ, pos, Bool, true, false, if◌then◌else◌, Some}
 use Rattle.std.proofs.Common.{inr, ◌≡◌, ◌≢◌, ℕ, zero, suc, ◌+◌, ◌<◌, ◌≤◌, refl, sym, ap, ◌∙◌, ⊎_elim, inl, arith}
+use Rattle.std.proofs.lemmas.Bool.{cases_eq}
 use Rattle.interleaving.specs.Memory.{Location}
-use Rattle.interleaving.proofs.Update.{same_or_not}
 use Rattle.planned_block.specs.Block.{Operand, Constant, Variable, Value, Through, Kind, Simple, Multiply, Divide, BankRead, BankWrite, ArrayRead, ArrayWrite}
 use Rattle.planned_block.specs.Block.{Block, operation_at, size, operand_value, element, Uses, UsesIn, IsUsedAtEnd}
 use Rattle.planned_block.specs.Plan.{Plan, last_state, further_states, KeepsOrders}
@@ -23,7 +23,7 @@ module _ (bank : Location → ℕ) (b : Block) (p : Plan) (keeps : KeepsOrders b
   module _ (values : ℕ → ℤ) (q : Slot) (holds : Holds values q) (wire : ℕ → ℤ) where
     -- a value that is used in this state is on its wire or in its register
     value_right : (j : ℕ) → j < size b → last_state b p j ≤ q.state → q.state ≤ p.until j → (last_state b p j ≡ q.state → wire j ≡ values j) → value_now b p q wire j ≡ values j
-    value_right j lt le used here = ⊎_elim now before (same_or_not (last_state b p j) q.state)
+    value_right j lt le used here = ⊎_elim now before (cases_eq (last_state b p j) q.state)
       where
         now : last_state b p j ≡ q.state → value_now b p q wire j ≡ values j
         now e =

@@ -1,7 +1,7 @@
 -- Counts of requests to come.
 use Rattle.std.specs.Prelude.{nat_eq, nat_lt, ◌&&◌, Bool, true, false, ◌||◌, not, if◌then◌else◌}
 use Rattle.std.proofs.Common.{◌≡◌, ◌≢◌, ℕ, zero, suc, ◌<◌, ◌≤◌, refl, sym, ap, ◌∙◌, ⊎_elim, arith}
-use Rattle.interleaving.proofs.Update.{same_or_not}
+use Rattle.std.proofs.lemmas.Bool.{cases_eq}
 use Rattle.planned_hardware.specs.Hardware.{count_below}
 use Rattle.planned_block.proofs.Bits.{both_true, is_same, less_is, not_less_is, less_or_not}
 
@@ -20,7 +20,7 @@ count_le f g (suc n) each =
 
 pub count_less : (f g : ℕ → Bool) (k n : ℕ) → k < n → f k ≡ false → g k ≡ true → ((k : ℕ) → k < n → f k ≡ true → g k ≡ true) → count_below f n < count_below g n
 count_less f g k zero lt e t each = absurd (omega arith)
-count_less f g k (suc n) lt e t each = ⊎_elim here (λ ne. there ne (count_less f g k n (omega arith) e t (λ j l z. each j (omega arith) z))) (same_or_not k n)
+count_less f g k (suc n) lt e t each = ⊎_elim here (λ ne. there ne (count_less f g k n (omega arith) e t (λ j l z. each j (omega arith) z))) (cases_eq k n)
   where
     rest : count_below f n ≤ count_below g n
     rest = count_le f g n (λ j l z. each j (omega arith) z)

@@ -2,6 +2,7 @@
 use Rattle.std.specs.Prelude.{nat_eq, nat_lt, ◌&&◌, ℤ, Bool, true, false, ◌||◌, not}
 use Rattle.std.proofs.Common.{inr, ◌≡◌, ℕ, suc, ◌+◌, ◌*◌, ◌<◌, ◌≤◌, List, [], ◌∷◌, ◌++◌, length, refl, sym, ap, ◌∙◌, subst, ⊎_elim, inl, arith}
 use Rattle.std.proofs.Math.Path.{fun_ext}
+use Rattle.std.proofs.Math.Bool.{and-false, or-true}
 use Rattle.interleaving.specs.Memory.{Location, Memory, Access, memory_after, Writes, AgreeOn}
 use Rattle.interleaving.specs.Source.{Source, Move, accesses_of, end_of}
 use Rattle.interleaving.specs.Hardware.{Hardware, IsPlanned, FliesOrLands}
@@ -27,18 +28,10 @@ module _ (code : Code) where
       (λ k lt t. (both_true (is_request (operation_at (block_of code q) k).kind) (not (was_granted (block_of code q) (plan_of code q) q k)) t).0) in
       omega arith
 
-  or_true : (a : Bool) → (a || true) ≡ true
-  or_true true = refl
-  or_true false = refl
-
-  and_false : (a : Bool) → (a && false) ≡ false
-  and_false true = refl
-  and_false false = refl
-
   closes : (before now had has request : Bool) → has ≡ true → now ≡ true → (request && not (before || (now && (had || has)))) ≡ false
   closes before now had has request h n =
-      ap (λ z. request && not (before || (z && (had || has)))) n ∙ ap (λ z. request && not (before || z)) (ap (λ z. had || z) h ∙ or_true had)
-      ∙ ap (λ z. request && not z) (or_true before) ∙ and_false request
+      ap (λ z. request && not (before || (z && (had || has)))) n ∙ ap (λ z. request && not (before || z)) (ap (λ z. had || z) h ∙ or-true had)
+      ∙ ap (λ z. request && not z) (or-true before) ∙ and-false request
 
   -- each grant leaves one request less
   stay_less : (bank : Location → ℕ) (q : Slot) (now : Memory ℤ) (es : List (Access ℤ)) (t : Works bank (block_of code q) (plan_of code q) q now es) →
