@@ -1,6 +1,7 @@
 -- What the loop keeps: the tokens so far are those of the pieces before the rest.
 use Rattle.std.proofs.Common.{◌≡◌, ℕ, ◌+◌, ◌-◌, ◌<◌, ◌≤◌, List, [], ◌∷◌, ◌++◌, length, drop, Some, None, true, false, refl, sym, ap, ◌∙◌, subst, length-append, arith}
 use Rattle.std.specs.Prelude.{Ok, Err}
+use Rattle.std.proofs.lemmas.List.{nil_from_length}
 use Rattle.c_token.specs.declared.token.Token.{Token}
 use Rattle.c_token.specs.Spelling.{Bytes}
 use Rattle.c_lexer.specs.declared.meaning.Action.{Action}
@@ -128,10 +129,6 @@ no_first at s p z more none e is =
     let first = piece_cut at s (p.bytes ++ more) p (piece_found at s p more is) in
     absurd (omega (arith, none, ap length e, first.some, first.within))
 
-pub empty_list : (z : Bytes) → length z ≡ 0 → z ≡ []
-empty_list [] e = refl
-empty_list (b ∷ z) e = absurd (omega (arith, e))
-
 pub unfinished : (text : Bytes) (ts : List Token) (s : State) (rest : Bytes) (k : ℕ)
     → Done text ts s rest → length rest ≡ 0 → may_end s.mode ≡ false → k ≡ fault_place s.mode (length text) rest → Lexed text (Err (Bad k))
 unfinished text ts s rest k done none more h =
@@ -149,5 +146,5 @@ finished text ts us s rest done none may h =
       state = s;
       rest = rest;
       reaches = done.reaches;
-      ends = (empty_list rest none, may, h ∙ ap (with_end text) done.are);
+      ends = (nil_from_length rest none, may, h ∙ ap (with_end text) done.are);
     }

@@ -1,9 +1,9 @@
 -- A text is cut at the first byte of a kind, and the fields of an entry have none inside.
-use Rattle.std.specs.Prelude.{◌≡◌, ◌≢◌, ℕ, ◌+◌, ◌%◌, ◌^◌, ◌<◌, Bool, true, false, nat_eq, List, [], ◌∷◌, ◌++◌, Some, None, decimal, if◌then◌else◌, refl}
+use Rattle.std.specs.Prelude.{◌≡◌, ℕ, ◌+◌, ◌%◌, ◌^◌, ◌<◌, Bool, true, false, nat_eq, List, [], ◌∷◌, ◌++◌, Some, None, decimal, if◌then◌else◌, refl}
 use Rattle.std.proofs.Common.{ap, sym, ◌∙◌, subst, arith}
-use Rattle.std.proofs.lemmas.Bool.Decides.{nat_tests}
 use Rattle.std.proofs.lemmas.Fmt.{decimal_by_steps}
 use Rattle.std.proofs.lemmas.Option.{same_Some}
+use Rattle.std.proofs.lemmas.Bool.{eqb-true, eq-eqb, ne_eqb}
 use Rattle.journal_text.specs.declared.entry.Entry.{Entry}
 use Rattle.journal_text.specs.Numbers.{IsNumber}
 use Rattle.journal_text.specs.Lines.{mark, upto, past, IsFree, ArePieces, AreFields}
@@ -20,22 +20,13 @@ decimal_free b n low small =
     (λ m ds l f. free_append b ds ((48 + m % 10) ∷ []) f ((λ e. absurd (omega (arith, low, e))), tt))
     n small
 
-other : (c b : ℕ) → c ≢ b → nat_eq c b ≡ false
-other c b e = grind (arith, nat_tests)
-
-same : (b : ℕ) → nat_eq b b ≡ true
-same b = grind (arith, nat_tests)
-
 pub upto_first : (b : ℕ) (xs ys : List ℕ) → IsFree b xs → upto b (xs ++ (b ∷ ys)) ≡ xs
-upto_first b [] ys f = ap (λ t. if t then [] else b ∷ upto b ys) (same b)
-upto_first b (x ∷ xs) ys f = ap (λ t. if t then [] else x ∷ upto b (xs ++ (b ∷ ys))) (other x b f.0) ∙ ap (λ l. x ∷ l) (upto_first b xs ys f.1)
+upto_first b [] ys f = ap (λ t. if t then [] else b ∷ upto b ys) (eq-eqb b b refl)
+upto_first b (x ∷ xs) ys f = ap (λ t. if t then [] else x ∷ upto b (xs ++ (b ∷ ys))) (ne_eqb x b f.0) ∙ ap (λ l. x ∷ l) (upto_first b xs ys f.1)
 
 pub past_first : (b : ℕ) (xs ys : List ℕ) → IsFree b xs → past b (xs ++ (b ∷ ys)) ≡ Some ys
-past_first b [] ys f = ap (λ t. if t then Some ys else past b ys) (same b)
-past_first b (x ∷ xs) ys f = ap (λ t. if t then Some (xs ++ (b ∷ ys)) else past b (xs ++ (b ∷ ys))) (other x b f.0) ∙ past_first b xs ys f.1
-
-equal : (c b : ℕ) → nat_eq c b ≡ true → c ≡ b
-equal c b e = grind (arith, nat_tests)
+past_first b [] ys f = ap (λ t. if t then Some ys else past b ys) (eq-eqb b b refl)
+past_first b (x ∷ xs) ys f = ap (λ t. if t then Some (xs ++ (b ∷ ys)) else past b (xs ++ (b ∷ ys))) (ne_eqb x b f.0) ∙ past_first b xs ys f.1
 
 -- a text that has such a byte is what stands before it, that byte, and what stands behind it
 pub cut : (b : ℕ) (text ys : List ℕ) → past b text ≡ Some ys → text ≡ upto b text ++ (b ∷ ys)
@@ -44,7 +35,7 @@ cut b (c ∷ cs) ys e = by (λ f. cut b cs ys f) (nat_eq c b) refl e
   where
     by : (past b cs ≡ Some ys → cs ≡ upto b cs ++ (b ∷ ys)) → (t : Bool) → nat_eq c b ≡ t → (if t then Some cs else past b cs) ≡ Some ys
         → c ∷ cs ≡ (if t then [] else c ∷ upto b cs) ++ (b ∷ ys)
-    by rest true is f = ap (λ l. c ∷ l) (same_Some cs ys f) ∙ ap (λ z. z ∷ ys) (equal c b is)
+    by rest true is f = ap (λ l. c ∷ l) (same_Some cs ys f) ∙ ap (λ z. z ∷ ys) (eqb-true c b is)
     by rest false is f = ap (λ l. c ∷ l) (rest f)
 
 -- ---- the fields of an entry

@@ -1,14 +1,11 @@
 -- What stands inside a line, and the entry that it spells.
 use Rattle.std.specs.Prelude.{◌≡◌, ◌≢◌, ℕ, ◌^◌, ◌<◌, Bool, true, false, nat_eq, List, [], ◌∷◌, ◌++◌, Some, None, codes, decimal, if◌then◌else◌, refl}
 use Rattle.std.proofs.Common.{ap, sym, ◌∙◌, arith}
-use Rattle.std.proofs.lemmas.Bool.Decides.{nat_tests}
 use Rattle.std.proofs.lemmas.Option.{same_Some}
+use Rattle.std.proofs.lemmas.Bool.{eqb-false}
 use Rattle.journal_text.specs.declared.entry.Entry.{Entry}
 use Rattle.journal_text.specs.Lines.{mark, fields, upto, past, IsFree, IsInside, IsShort, Spells, AreFields}
 use Rattle.journal_text.proofs.Cutting.{free_append, decimal_free, upto_first, past_first, cut}
-
-unequal : (c b : ℕ) → nat_eq c b ≡ false → c ≡ b → ⊥
-unequal c b e same = (let t : false ≡ true = sym e ∙ grind (arith, nat_tests) in absurd cc)
 
 upto_free : (b : ℕ) (text : List ℕ) → IsFree b (upto b text)
 upto_free b [] = tt
@@ -16,7 +13,7 @@ upto_free b (c ∷ cs) = by (upto_free b cs) (nat_eq c b) refl
   where
     by : IsFree b (upto b cs) → (t : Bool) → nat_eq c b ≡ t → IsFree b (if t then [] else c ∷ upto b cs)
     by rest true e = tt
-    by rest false e = (unequal c b e, rest)
+    by rest false e = (eqb-false c b e, rest)
 
 head_free : IsFree 32 (47 ∷ 47 ∷ 64 ∷ [])
 head_free =

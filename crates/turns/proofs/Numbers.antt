@@ -1,7 +1,7 @@
 -- Numbers of lists as Rust reads them.
 use Rattle.std.proofs.Common.{◌≡◌, ℕ, ◌<◌, ◌^◌, Bool, List, true, false, refl, sym, ap, ◌∙◌, [], ◌∷◌, length, subst, arith}
 use Rattle.std.specs.Prelude.{Some, None, Result, Ok, Err, nat_lt, nat_le, nat_eq, slice_index, ◌&&◌, if◌then◌else◌}
-use Rattle.std.proofs.lemmas.Bool.{ltb-true, lt-ltb, eqb-true, and_parts}
+use Rattle.std.proofs.lemmas.Bool.{ltb-true, lt-ltb, eqb-true, and_parts, cond-true}
 use Rattle.std.specs.List.{list_all}
 use Rattle.std.specs.Char.{digit_value}
 use Rattle.std.specs.Str.Parse.{AllDigits, IsNumeral, ParsesUnsigned, digits_value, without_leading_plus}
@@ -25,10 +25,6 @@ passed ds e =
     let parts = and_parts _ _ e in
     let numeral = and_parts _ _ parts.0 in
     ((ltb-true _ _ numeral.0, passed_all _ numeral.1), ltb-true _ _ parts.1)
-
-pub picked : (b : Bool) (n : ℕ) → b ≡ true → Some n ≡ (if b then Some n else None)
-picked true n holds = refl
-picked false n holds = cc
 
 pub dropped : (b : Bool) (n : ℕ) → ¬ (b ≡ true) → None ≡ (if b then Some n else None)
 dropped true n fails = absurd (fails refl)
@@ -69,5 +65,5 @@ pub short_is_read : (t : List ℕ) → nat_eq (slice_index t 0) 43 ≡ false →
 short_is_read t e short = rw e (middle_holds (is_decimal t) _ _ _ short)
 
 pub reads : (t : List ℕ) (r : Result ℕ ParseIntError) → ParsesUnsigned 32 10 t r → result_ok r ≡ read_number t
-reads t (Ok v) h = ap (λ (n : ℕ). Some n) h.1 ∙ picked _ _ (passes (without_leading_plus t) h.0.0 h.0.1)
+reads t (Ok v) h = ap (λ (n : ℕ). Some n) h.1 ∙ sym (cond-true _ (Some _) None (passes (without_leading_plus t) h.0.0 h.0.1))
 reads t (Err e) h = dropped _ _ (λ passing. h (passed (without_leading_plus t) passing))

@@ -7,10 +7,9 @@ use Rattle.std.specs.Str.{bytes_eq}
 use Rattle.std.specs.Str.Parse.{AllDigits, digits_value}
 use Rattle.std.proofs.lemmas.Fmt.{digits_is_IsNumeral, decimal_is_IsNumeral, decimal_injective}
 use Rattle.std.proofs.lemmas.Str.Parse.{digit_from_value}
-use Rattle.std.proofs.lemmas.Bool.{false_from_ne_true}
+use Rattle.std.proofs.lemmas.Bool.{false_from_ne_true, ne_eqb}
 use Rattle.std.proofs.lemmas.List.Elements.{All-from_recursion}
 use Rattle.std.proofs.lemmas.Slice.Eq.{bytes_eq-Decides}
-use Rattle.vcd_text.proofs.Ids.{nat_eq_false}
 use Rattle.vcd_text.proofs.Injective.{id_same}
 use Rattle.vcd_text.specs.Dump.{id_digits, id_of, value}
 use Rattle.vcd_text.specs.Recover.{before_blank, behind_blank, told, time_line}
@@ -29,9 +28,6 @@ pub plain_append : (xs ys : List ℕ) → Plain xs → Plain ys → Plain (xs ++
 plain_append [] ys p q = q
 plain_append (x ∷ xs) ys p q = (p.0, plain_append xs ys p.1 q)
 
-apart : (b c : ℕ) → (b ≡ c → ⊥) → (b == c) ≡ false
-apart b c ne = nat_eq_false b c ne
-
 plain_if : (b : Bool) (bytes : List ℕ) → Plain bytes → Plain (if b then [] else bytes)
 plain_if true bytes plain = tt
 plain_if false bytes plain = plain
@@ -39,13 +35,13 @@ plain_if false bytes plain = plain
 pub plain_id : (most number : ℕ) → Plain (id_digits most number)
 plain_id zero number = tt
 plain_id (suc most) number =
-    (apart (33 + number % 94) 10 (λ e. omega (arith, e)), plain_if (number / 94 == 0) (id_digits most (number / 94)) (plain_id most (number / 94)))
+    (ne_eqb (33 + number % 94) 10 (λ e. omega (arith, e)), plain_if (number / 94 == 0) (id_digits most (number / 94)) (plain_id most (number / 94)))
 
 pub plain_digits : (radix : ℕ) (ds : List ℕ) → radix ≤ 10 → AllDigits radix ds → Plain ds
 plain_digits radix [] few h = tt
 plain_digits radix (c ∷ ds) few h =
     let within = digit_from_value c (omega (arith, h.0)) in
-    (apart c 10 (λ e. omega (arith, within.0, e)), plain_digits radix ds few h.1)
+    (ne_eqb c 10 (λ e. omega (arith, within.0, e)), plain_digits radix ds few h.1)
 
 -- ---- what stands before and behind the blank
 
@@ -53,14 +49,14 @@ pub before_is : (ds rest : List ℕ) → AllDigits 2 ds → before_blank (ds ++ 
 before_is [] rest h = refl
 before_is (c ∷ ds) rest h =
     let within = digit_from_value c (omega (arith, h.0)) in
-    ap (λ (b : Bool). if b then [] else c ∷ before_blank (ds ++ 32 ∷ rest)) (apart c 32 (λ e. omega (arith, within.0, e)))
+    ap (λ (b : Bool). if b then [] else c ∷ before_blank (ds ++ 32 ∷ rest)) (ne_eqb c 32 (λ e. omega (arith, within.0, e)))
     ∙ ap (λ (l : List ℕ). c ∷ l) (before_is ds rest h.1)
 
 pub behind_is : (ds rest : List ℕ) → AllDigits 2 ds → behind_blank (ds ++ 32 ∷ rest) ≡ rest
 behind_is [] rest h = refl
 behind_is (c ∷ ds) rest h =
     let within = digit_from_value c (omega (arith, h.0)) in
-    ap (λ (b : Bool). if b then ds ++ 32 ∷ rest else behind_blank (ds ++ 32 ∷ rest)) (apart c 32 (λ e. omega (arith, within.0, e)))
+    ap (λ (b : Bool). if b then ds ++ 32 ∷ rest else behind_blank (ds ++ 32 ∷ rest)) (ne_eqb c 32 (λ e. omega (arith, within.0, e)))
     ∙ behind_is ds rest h.1
 
 -- ---- identifiers and times

@@ -1,14 +1,12 @@
 -- An identifier, digit by digit.
-use Rattle.std.proofs.Common.{◌≡◌, ◌++◌, ◌∷◌, [], ◌+◌, ◌-◌, ◌/◌, ◌%◌, ◌<◌, ℕ, suc, List, ap, sym, ◌∙◌, append_assoc, arith, Bool, false, nat_eq}
+use Rattle.std.proofs.Common.{◌≡◌, ◌++◌, ◌∷◌, [], ◌+◌, ◌-◌, ◌/◌, ◌%◌, ◌<◌, ℕ, suc, List, ap, sym, ◌∙◌, append_assoc, arith, Bool}
 use Rattle.std.specs.Prelude.{if◌then◌else◌}
+use Rattle.std.proofs.lemmas.Bool.{ne_eqb}
 use Rattle.vcd_text.specs.Dump.{id_digits}
-
-pub nat_eq_false : (x y : ℕ) → (x ≡ y → ⊥) → nat_eq x y ≡ false
-nat_eq_false x y ne = grind arith
 
 -- a digit and those behind it
 digits_on : (most n : ℕ) → (n / 94 ≡ 0 → ⊥) → id_digits (suc most) n ≡ (33 + n % 94) ∷ id_digits most (n / 94)
-digits_on most n more = ap (λ (b : Bool). (33 + n % 94) ∷ (if b then [] else id_digits most (n / 94))) (nat_eq_false (n / 94) 0 more)
+digits_on most n more = ap (λ (b : Bool). (33 + n % 94) ∷ (if b then [] else id_digits most (n / 94))) (ne_eqb (n / 94) 0 more)
 
 -- a digit that is written stands in front of those that are left
 pub goes_on :

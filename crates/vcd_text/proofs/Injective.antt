@@ -1,8 +1,8 @@
 -- Two registers have two identifiers.
 use Rattle.std.proofs.Common.{◌≡◌, ◌∷◌, [], ◌*◌, ◌/◌, ◌%◌, ◌^◌, ◌<◌, ℕ, zero, suc, List, ap, sym, ◌∙◌, subst, refl, Bool, arith}
 use Rattle.std.proofs.Math.Nat.{pow-succ'}
-use Rattle.vcd_text.proofs.Ids.{nat_eq_false}
 use Rattle.std.specs.Prelude.{if◌then◌else◌, ◌==◌}
+use Rattle.std.proofs.lemmas.Bool.{ne_eqb}
 use Rattle.vcd_text.specs.Dump.{id_digits}
 
 abbrev head : List ℕ → ℕ
@@ -29,7 +29,7 @@ abbrev pub Tells : ℕ → Type 0
 Tells most = (m n : ℕ) → m < 94 ^ most → n < 94 ^ most → id_digits most m ≡ id_digits most n → m ≡ n
 
 opened : (most a : ℕ) → (if suc a == 0 then [] else id_digits most (suc a)) ≡ id_digits most (suc a)
-opened most a = ap (λ (b : Bool). if b then [] else id_digits most (suc a)) (nat_eq_false (suc a) 0 (λ z. omega (arith, z)))
+opened most a = ap (λ (b : Bool). if b then [] else id_digits most (suc a)) (ne_eqb (suc a) 0 (λ z. omega (arith, z)))
 
 others :
     (most : ℕ) → Tells most → (a b : ℕ) → a < 94 ^ most → b < 94 ^ most →

@@ -5,9 +5,9 @@ use Rattle.std.proofs.Math.Nat.{pow-le-pow_right}
 use Rattle.std.specs.Prelude.{if◌then◌else◌, ◌==◌, decimal, codes, slice_index}
 use Rattle.std.specs.List.{All}
 use Rattle.std.proofs.lemmas.List.Elements.{All-cons, All-head, All-tail}
+use Rattle.std.proofs.lemmas.Bool.{ne_eqb, eq-eqb}
 use Rattle.vcd_text.specs.Dump.{id_of, change, change_at, changed_at, joined, time, first_frame, frame, AreValues}
 use Rattle.vcd_text.specs.Recover.{told, later, time_line, unlines, frames, IsHeadLine, Recovers}
-use Rattle.vcd_text.proofs.Ids.{nat_eq_false}
 use Rattle.vcd_text.proofs.Bytes.{is_line, plain_time, same_time, other_time, Says, change_line, told_of, change_says}
 use Rattle.vcd_text.proofs.Lines.{read, line_read, goes_past}
 
@@ -37,9 +37,6 @@ said stop id line rest last o says =
 
 less_of : (j k : ℕ) → nat_eq j k ≡ false → k < suc j → k < j
 less_of j k e lt = let ne : j ≡ k → ⊥ = λ same. grind (arith, e, same) in omega (arith, lt, ne)
-
-same_number : (k : ℕ) → nat_eq k k ≡ true
-same_number k = grind arith
 
 -- ---- one frame
 
@@ -100,13 +97,13 @@ module _ (stop : List ℕ) (widths : List ℕ) (r : ℕ) (narrow : All (λ w. w 
 
       own_step : (b : Bool) (last : Option ℕ) → (slice_index before r == slice_index now r) ≡ b → last ≡ Some (slice_index before r) → step_by b r last ≡ Some (slice_index now r)
       own_step true last e is = let same : slice_index before r ≡ slice_index now r = grind (arith, e) in is ∙ ap (λ (v : ℕ). Some v) same
-      own_step false last e is = ap (λ (c : Bool). later last (if c then Some (slice_index now r) else None)) (same_number r)
+      own_step false last e is = ap (λ (c : Bool). later last (if c then Some (slice_index now r) else None)) (eq-eqb r r refl)
 
       none_tell : (count : ℕ) (last : Option ℕ) → count ≤ r → turned some_step count last ≡ last
       unfolding some_step
       none_tell zero last le = refl
       none_tell (suc count) last le =
-          other_step (slice_index before count == slice_index now count) count (turned some_step count last) (nat_eq_false count r (λ e. omega (arith, le, e)))
+          other_step (slice_index before count == slice_index now count) count (turned some_step count last) (ne_eqb count r (λ e. omega (arith, le, e)))
           ∙ none_tell count last (omega (arith, le))
 
       some_by : (count : ℕ) (last : Option ℕ) (b : Bool) → nat_eq count r ≡ b → r < suc count → last ≡ Some (slice_index before r) →

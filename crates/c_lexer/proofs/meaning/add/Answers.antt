@@ -2,7 +2,8 @@ use Rattle.std.proofs.Common.{◌≡◌, false, sym, ap, ◌∙◌, map, List, �
 use Rattle.std.specs.Prelude.{cond}
 use Rattle.std.specs.List.{list_any}
 use Rattle.std.specs.Str.{bytes_eq}
-use Rattle.c_lexer.proofs.Places.{any-map, pushed}
+use Rattle.std.proofs.lemmas.List.{map_push}
+use Rattle.c_lexer.proofs.Places.{any-map}
 use Rattle.c_lexer.proofs.meaning.add.Goals as goal
 
 pub returns : goal.returns
@@ -11,4 +12,4 @@ returns c =
     sym (any-map (λ k. k.now) (bytes_eq c.args.name.now) c.args.names.now.keys) ∙ c.requires in
     ap (map (λ k. k.now)) c.in_ok-insert.ensures.keys
     ∙ ap (λ b. map (λ (k : Bor (List ℕ)). k.now) (cond b c.args.names.now.keys (c.args.names.now.keys ++ (c.args.name ∷ [])))) fresh
-    ∙ pushed (λ k. k.now) c.args.name c.args.names.now.keys
+    ∙ map_push (λ k. k.now) c.args.names.now.keys c.args.name
