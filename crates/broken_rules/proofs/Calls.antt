@@ -3,6 +3,7 @@ use Rattle.std.proofs.Common.{◌≡◌, refl, sym, subst, ap, ◌∙◌, inl, i
 use Rattle.std.specs.Prelude.{not, nat_eq, if◌then◌else◌}
 use Rattle.std.proofs.lemmas.Bool.Decides.{nat_tests}
 use Rattle.std.proofs.lemmas.Option.{same_Some, none-some}
+use Rattle.std.proofs.lemmas.List.{append-nil}
 use Rattle.c_tree.specs.declared.expression.Name.{Name}
 use Rattle.c_tree.specs.declared.expression.Form.{out-Form}
 use Rattle.c_tree.specs.declared.expression.Expression.{Expression as ExpressionTree, out-Expression}
@@ -30,7 +31,7 @@ use Rattle.c_calls.specs.Calls as k
 use Rattle.broken_rules.specs.Sight.{Where}
 use Rattle.broken_rules.specs.Parts as p
 use Rattle.broken_rules.specs.Parts.{Part, Parts, all_of, of_each}
-use Rattle.broken_rules.proofs.Ledgers.{Ledger, Entered, Good, good_pure, good_then, good_before, good_none, append_nothing, nothing_new}
+use Rattle.broken_rules.proofs.Ledgers.{Ledger, Entered, Good, good_pure, good_then, good_before, good_none, nothing_new}
 use Rattle.broken_rules.proofs.Events.{Events, Creates}
 use Rattle.broken_rules.proofs.Unrolled.{expression_is, call_is, form_of}
 use Rattle.broken_rules.proofs.Values.{good_argument, good_arguments, good_value}
@@ -58,7 +59,7 @@ module _ (L : Ledger) (s : Scope) (w : Where) (events : Events L s w) where
   others b X list is = subst (λ t. Good L (k.looked_call s list) (if t then X else p.arguments_parts w list)) (sym is) (looked_call list)
 
   last : (ps : Parts) → {A : Type 0} {v : Finds A} → Good L v ps → Good L v (ps ++ [])
-  last ps {A} {v} h = subst (λ qs. Good L v qs) (sym (append_nothing ps)) h
+  last ps {A} {v} h = subst (λ qs. Good L v qs) (sym (append-nil ps)) h
 
   -- ---- pthread_create, where creates are no entry
 

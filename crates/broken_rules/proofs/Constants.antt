@@ -4,6 +4,8 @@ use Rattle.std.proofs.lemmas.Bool.{leb-true, le-leb}
 use Rattle.std.specs.Prelude.{◌⊎◌, nat_le, ℤ, pos, negsuc, ◌≤ℤ◌, min, Contains}
 use Rattle.std.proofs.lemmas.Int.{ints}
 use Rattle.std.proofs.lemmas.List.Elements.{Contains-append_left, Contains-append_right, Contains-append_cases, Contains-push_cases}
+use Rattle.std.proofs.Math.IntN.{pos-ne-negsuc}
+use Rattle.lists.proofs.Places.{in_none}
 use Rattle.c_token.specs.declared.constant.Constant.TheVariants as constant
 use Rattle.c_tree.specs.declared.expression.Name.{Name}
 use Rattle.c_tree.specs.declared.expression.Expression.{Expression as ExpressionTree, out-Expression}
@@ -34,11 +36,8 @@ module _ {A : Type 0} (Is : A → Type 0) where
   any_contains (x ∷ xs) (inl h) = (x, Contains-append_left (x ∷ []) xs x (0, omega arith, refl), h)
   any_contains (x ∷ xs) (inr h) = let m = any_contains xs h in (m.0, Contains-append_right (x ∷ []) xs m.0 m.1, m.2)
 
-  nothing_there : (x : A) → Contains {X = A} [] x → ⊥
-  nothing_there x c = absurd (omega (arith, c.1))
-
   pushed : (y x : A) → Contains {X = A} [] x ⊎ (y ≡ x) → y ≡ x
-  pushed y x (inl c) = absurd (nothing_there x c)
+  pushed y x (inl c) = absurd (in_none x c)
   pushed y x (inr e) = e
 
   there : (y x : A) (xs : List A) → (Contains xs x → Any Is xs) → Is x → Contains (y ∷ []) x ⊎ Contains xs x → Any Is (y ∷ xs)
@@ -46,7 +45,7 @@ module _ {A : Type 0} (Is : A → Type 0) where
   there y x xs rest h (inr c) = inr (rest c)
 
   pub contains_any : (xs : List A) (x : A) → Contains xs x → Is x → Any Is xs
-  contains_any [] x c h = absurd (nothing_there x c)
+  contains_any [] x c h = absurd (in_none x c)
   contains_any (y ∷ xs) x c h = there y x xs (λ k. contains_any xs x k h) h (Contains-append_cases (y ∷ []) xs x c)
 
 -- ---- lengths
@@ -79,9 +78,6 @@ no_value x n h = cc
 pos_same : (m n : ℕ) → pos m ≡ pos n → m ≡ n
 pos_same m n e = cc
 
-not_pos : (m n : ℕ) → negsuc m ≡ pos n → ⊥
-not_pos m n e = cc
-
 unknown_length : {x : Typed} → is.Unknown ≡ is.Constant x → ⊥
 unknown_length h = cc
 
@@ -91,7 +87,7 @@ not_length h = cc
 sized : (z : ℤ) (n : ℕ) → z ≡ pos n → 0 < n → positive z ≡ Some (min n 0xffff_ffff_ffff_ffff)
 sized (pos zero) n e lt = absurd (omega (arith, pos_same zero n e))
 sized (pos (suc m)) n e lt = ap (λ k. Some (min k 0xffff_ffff_ffff_ffff)) (pos_same (suc m) n e)
-sized (negsuc m) n e lt = absurd (not_pos m n e)
+sized (negsuc m) n e lt = absurd (pos-ne-negsuc n m (sym e))
 
 constant_same : (x y : Typed) → is.Constant x ≡ is.Constant y → x ≡ y
 constant_same x y h = cc
@@ -108,7 +104,7 @@ listed_by : (tree : TranslationUnit) (size v : ExpressionTree) (index : ℕ) (x 
 listed_by tree size v index x e stands (pos zero) is h =
     Breaks.TooManyForOne size index v stands (λ n l. below_none l.number (sym is ∙ number_of e l) l.positive) (leb-true 1 index h)
 listed_by tree size v index x e stands (negsuc m) is h =
-    Breaks.TooManyForOne size index v stands (λ n l. not_pos m l.number (sym is ∙ number_of e l)) (leb-true 1 index h)
+    Breaks.TooManyForOne size index v stands (λ n l. pos-ne-negsuc l.number m (sym (sym is ∙ number_of e l))) (leb-true 1 index h)
 listed_by tree size v index x e stands (pos (suc m)) is h =
     let n = min (suc m) 0xffff_ffff_ffff_ffff in
     Breaks.TooMany size n index v stands (record { x = x; constant = e; number = suc m; value = is; positive = omega arith; most = refl }) (leb-true n index h)

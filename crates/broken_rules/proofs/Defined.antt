@@ -1,11 +1,14 @@
 -- The number that the resolver notes for a name is that of the first definition of a function of the name.
-use Rattle.std.proofs.Common.{◌≡◌, refl, sym, subst, ap, ◌∙◌, inl, inr, ℕ, zero, suc, ◌<◌, ◌≤◌, Bool, true, false, List, [], ◌∷◌, ◌++◌, length, Option, Some, None}
+use Rattle.std.proofs.Common.{◌≡◌, refl, sym, subst, ap, ◌∙◌, inl, inr, ℕ, suc, ◌<◌, ◌≤◌, Bool, true, false, List, [], ◌∷◌, ◌++◌, length, Option, Some, None}
 use Rattle.std.proofs.Common.{append-nil, append_assoc, arith}
 use Rattle.std.specs.Prelude.{◌⊎◌, ◌+◌, min, fold, is_some, if◌then◌else◌, slice_get}
 use Rattle.std.specs.Str.{bytes_eq}
 use Rattle.std.proofs.lemmas.Slice.Eq.{bytes_eq-Decides}
-use Rattle.std.proofs.lemmas.Bool.{cases_lt}
+use Rattle.std.proofs.lemmas.Bool.{cases_lt, true≢false}
 use Rattle.std.proofs.lemmas.Option.{same_Some, none-some, slice_get_within}
+use Rattle.std.proofs.lemmas.List.Sums.{fold-append}
+use Rattle.std.proofs.lemmas.List.{length-append}
+use Rattle.lists.proofs.Places.{none_of, get_last, get_front, get_pushed}
 use Rattle.c_tree.specs.declared.statement.Block.{Block}
 use Rattle.c_tree.specs.declared.declaration.Function.{Function}
 use Rattle.c_tree.specs.declared.declaration.ExternalDeclaration.{ExternalDeclaration}
@@ -17,14 +20,10 @@ use Rattle.c_resolution.specs.Texts as t
 use Rattle.broken_rules.specs.Breaks.{IsNamed, IsDefinition, definitions, definition_in, definition_by}
 use Rattle.broken_rules.specs.Laws.{IsOfFew}
 use Rattle.broken_rules.proofs.Sights.{named_inserted}
-use Rattle.broken_rules.proofs.Numbers.{length_both}
 use Rattle.broken_rules.proofs.Unknown.{noted_by}
 
 abbrev most : ℕ
 most = 0xffff_ffff
-
-no_truth : true ≡ false → ⊥
-no_truth h = cc
 
 -- ---- the definitions one after another
 
@@ -39,35 +38,16 @@ one_noted : (d : t.Noted) (x : ExternalDeclaration) → t.with_declaration d x �
 one_noted d (external.Function f) = body_noted d f f.body
 one_noted d (external.Objects o) = refl
 
-fold_both : (d : t.Noted) (xs ys : List Function) → fold note d (xs ++ ys) ≡ fold note (fold note d xs) ys
-fold_both d [] ys = refl
-fold_both d (f ∷ xs) ys = fold_both (note d f) xs ys
-
 all_noted : (list : List ExternalDeclaration) (d : t.Noted) → noted_by d list ≡ fold note d (definitions list)
 all_noted [] d = refl
 all_noted (x ∷ list) d =
-    ap (λ (z : t.Noted). noted_by z list) (one_noted d x) ∙ all_noted list (fold note d (definition_in x)) ∙ sym (fold_both d (definition_in x) (definitions list))
+    ap (λ (z : t.Noted). noted_by z list) (one_noted d x) ∙ all_noted list (fold note d (definition_in x)) ∙ sym (fold-append note d (definition_in x) (definitions list))
 
 -- ---- one more definition
 
 shifted : (A B C : Type 0) (n m : ℕ) → A ⊎ ((n ≡ m) × B) → A ⊎ ((suc n ≡ suc m) × B)
 shifted A B C n m (inl h) = inl h
 shifted A B C n m (inr h) = inr (ap suc h.0, h.1)
-
-pushed : (list : List Function) (f : Function) (k : ℕ) (g : Function) → slice_get (list ++ f ∷ []) k ≡ Some g → (slice_get list k ≡ Some g) ⊎ ((k ≡ length list) × (f ≡ g))
-pushed [] f zero g e = inr (refl, same_Some f g e)
-pushed [] f (suc k) g e = absurd (none-some g e)
-pushed (x ∷ list) f zero g e = inl e
-pushed (x ∷ list) f (suc k) g e = shifted (slice_get list k ≡ Some g) (f ≡ g) (f ≡ g) k (length list) (pushed list f k g e)
-
-stays : (list more : List Function) (k : ℕ) (g : Function) → slice_get list k ≡ Some g → slice_get (list ++ more) k ≡ Some g
-stays [] more k g is = absurd (none-some g is)
-stays (x ∷ list) more zero g is = is
-stays (x ∷ list) more (suc k) g is = stays list more k g is
-
-last_is : (list : List Function) (f : Function) → slice_get (list ++ f ∷ []) (length list) ≡ Some f
-last_is [] f = refl
-last_is (x ∷ list) f = last_is list f
 
 -- the first function of the name
 record IsFirst (list : List Function) (key : List ℕ) (n : ℕ) : Type 0 where
@@ -90,9 +70,9 @@ not_before list f g k n lt below (inr h) = let same = h.0 in absurd (omega arith
 still_first : (list : List Function) (f : Function) (key : List ℕ) (n : ℕ) → IsFirst list key n → IsFirst (list ++ f ∷ []) key n
 still_first list f key n h = record {
   f = h.f;
-  found = stays list (f ∷ []) n h.f h.found;
+  found = get_front list (f ∷ []) n h.f h.found;
   named = h.named;
-  first = λ k g lt e. h.first k g lt (not_before list f g k n lt (slice_get_within list n h.f h.found) (pushed list f k g e));
+  first = λ k g lt e. h.first k g lt (not_before list f g k n lt (slice_get_within list n h.f h.found) (get_pushed list f k g e));
 }
 
 none_by : (list : List Function) (f g : Function) (key : List ℕ) (k : ℕ) → IsNone list key → (IsNamed key f → ⊥) → (slice_get list k ≡ Some g) ⊎ ((k ≡ length list) × (f ≡ g)) →
@@ -101,7 +81,7 @@ none_by list f g key k none other (inl h) named = none k g h named
 none_by list f g key k none other (inr h) named = other (subst (IsNamed key) (sym h.1) named)
 
 still_none : (list : List Function) (f : Function) (key : List ℕ) → IsNone list key → (IsNamed key f → ⊥) → IsNone (list ++ f ∷ []) key
-still_none list f key none other k g e = none_by list f g key k none other (pushed list f k g e)
+still_none list f key none other k g e = none_by list f g key k none other (get_pushed list f k g e)
 
 inside : (list : List Function) (f g : Function) (k : ℕ) → k < length list → (slice_get list k ≡ Some g) ⊎ ((k ≡ length list) × (f ≡ g)) → slice_get list k ≡ Some g
 inside list f g k lt (inl h) = h
@@ -110,9 +90,9 @@ inside list f g k lt (inr h) = let same = h.0 in absurd (omega arith)
 new_first : (list : List Function) (f : Function) (key : List ℕ) → IsNone list key → IsNamed key f → IsFirst (list ++ f ∷ []) key (length list)
 new_first list f key none named = record {
   f = f;
-  found = last_is list f;
+  found = get_last list f;
   named = named;
-  first = λ k g lt e. none k g (inside list f g k lt (pushed list f k g e));
+  first = λ k g lt e. none k g (inside list f g k lt (get_pushed list f k g e));
 }
 
 -- a name that is noted already
@@ -125,16 +105,12 @@ new_says : (list : List Function) (f : Function) (key : List ℕ) (m : ℕ) (o :
 new_says list f key m (Some n) b e same h = still_first list f key n h
 new_says list f key m None true e same h =
     subst (λ k. IsFirst (list ++ f ∷ []) key k) (sym same) (new_first list f key h (sym ((bytes_eq-Decides key f.name.bytes).0 e)))
-new_says list f key m None false e same h = still_none list f key h (λ named. no_truth (sym ((bytes_eq-Decides key f.name.bytes).1 (sym named)) ∙ e))
-
-none_of : {A : Type 0} (o : Option A) → is_some o ≡ false → o ≡ None
-none_of None h = refl
-none_of (Some a) h = absurd (no_truth h)
+new_says list f key m None false e same h = still_none list f key h (λ named. true≢false (sym ((bytes_eq-Decides key f.name.bytes).1 (sym named)) ∙ e))
 
 says_by : (list : List Function) (f : Function) (names : List (List ℕ × ℕ)) (m : ℕ) (b : Bool) → is_some (named_in names f.name.bytes) ≡ b → m ≡ length list →
     ((key : List ℕ) → Says list key (named_in names key)) → (key : List ℕ) → Says (list ++ f ∷ []) key (named_in (if b then names else inserted names f.name.bytes m) key)
 says_by list f names m true e same h key =
-    old_says list f key (named_in names key) (λ none named. no_truth (sym e ∙ ap (λ k. is_some (named_in names k)) named ∙ ap is_some none)) (h key)
+    old_says list f key (named_in names key) (λ none named. true≢false (sym e ∙ ap (λ k. is_some (named_in names k)) named ∙ ap is_some none)) (h key)
 says_by list f names m false e same h key =
     subst (Says (list ++ f ∷ []) key) (sym (named_inserted names f.name.bytes key m (none_of (named_in names f.name.bytes) e)))
     (new_says list f key m (named_in names key) (bytes_eq key f.name.bytes) refl same (h key))
@@ -150,7 +126,7 @@ step : (d : t.Noted) (list : List Function) (f : Function) → length list ≤ m
 step d list f le h =
     let next = h.next in
     record {
-      next = next_is d.1 (length list) (length (list ++ f ∷ [])) h.next (omega (arith, length_both list (f ∷ [])));
+      next = next_is d.1 (length list) (length (list ++ f ∷ [])) h.next (omega (arith, length-append list (f ∷ [])));
       says = says_by list f d.0 d.1 (is_some (named_in d.0 f.name.bytes)) refl (omega arith) h.says;
     }
 
@@ -158,7 +134,7 @@ all : (rest list : List Function) (d : t.Noted) → length list + length rest �
 all [] list d le h = subst (IsNoted d) (sym (append-nil list)) h
 all (f ∷ rest) list d le h =
     subst (IsNoted (fold note (note d f) rest)) (append_assoc list (f ∷ []) rest)
-    (all rest (list ++ f ∷ []) (note d f) (omega (arith, length_both list (f ∷ []))) (step d list f (omega arith) h))
+    (all rest (list ++ f ∷ []) (note d f) (omega (arith, length-append list (f ∷ []))) (step d list f (omega arith) h))
 
 nothing_noted : IsNoted ([], 0) []
 nothing_noted = record { next = omega arith; says = λ key k g e named. none-some g e }

@@ -4,6 +4,7 @@ use Rattle.std.proofs.lemmas.Bool.{true≢false, eqb-true, eqb-false, ne_eqb}
 use Rattle.std.proofs.Common.{Option, Some, None, add-zero, zero-add, add_assoc, cond, arith}
 use Rattle.std.specs.Prelude.{nat_eq, count_by, fold, if◌then◌else◌, option_and_then, option_map}
 use Rattle.std.proofs.lemmas.Option.{same_Some, none-some}
+use Rattle.std.proofs.lemmas.List.Sums.{fold-append}
 use Rattle.c_program.specs.Tree.{Piece}
 use Rattle.c_program.specs.Resolved.{is_conversion}
 use Rattle.c_rules.specs.declared.specifiers.BasicType.{BasicType}
@@ -94,12 +95,8 @@ counted_from n (x ∷ xs) =
     let c = cond (is_conversion x) 1 0 in
     counted_from (n + c) xs ∙ add_assoc n c (fold counted 0 xs) ∙ ap (λ k. n + k) (sym (counted_from (0 + c) xs ∙ ap (λ k. k + fold counted 0 xs) (zero-add c)))
 
-counted_append : (n : ℕ) (xs ys : List Piece) → fold counted n (xs ++ ys) ≡ fold counted (fold counted n xs) ys
-counted_append n [] ys = refl
-counted_append n (x ∷ xs) ys = counted_append (counted n x) xs ys
-
 count_append : (xs ys : List Piece) → conversions (xs ++ ys) ≡ conversions xs + conversions ys
-count_append xs ys = counted_append 0 xs ys ∙ counted_from (conversions xs) ys
+count_append xs ys = fold-append counted 0 xs ys ∙ counted_from (conversions xs) ys
 
 flushed_count : (pieces : List Piece) (text : List ℕ) → conversions (f.flushed pieces text) ≡ conversions pieces
 flushed_count pieces [] = refl

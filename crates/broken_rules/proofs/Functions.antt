@@ -2,6 +2,8 @@
 use Rattle.std.proofs.Common.{◌≡◌, refl, sym, subst, ap, ◌∙◌, ℕ, suc, Bool, true, false, List, [], ◌∷◌, ◌++◌, Option, Some, None, length}
 use Rattle.std.specs.Prelude.{if◌then◌else◌, not, is_some}
 use Rattle.std.specs.List.{flat_map}
+use Rattle.std.proofs.lemmas.List.{append-nil}
+use Rattle.lists.proofs.Places.{length_more}
 use Rattle.c_tree.specs.declared.expression.Name.{Name}
 use Rattle.c_tree.specs.declared.statement.Block.{Block}
 use Rattle.c_tree.specs.declared.declaration.Function.{Function}
@@ -32,17 +34,13 @@ use Rattle.c_resolution.specs.Texts as t
 use Rattle.broken_rules.specs.Sight.{Declared, Names, Where, behind, inside}
 use Rattle.broken_rules.specs.Parts as p
 use Rattle.broken_rules.specs.Parts.{Part, Parts}
-use Rattle.broken_rules.proofs.Ledgers.{Ledger, Good, Writes, given, left, turn, after_one, nothing_new, writes_both, writes_with, append_nothing}
+use Rattle.broken_rules.proofs.Ledgers.{Ledger, Good, Writes, given, left, turn, after_one, nothing_new, writes_both, writes_with}
 use Rattle.broken_rules.proofs.Events.{Events}
 use Rattle.broken_rules.proofs.Locals.{new_local, refused_usual}
 use Rattle.broken_rules.proofs.Statements.{block}
 use Rattle.broken_rules.proofs.Globals.{Files, Filed, file_then, file_going, going_tables, then_tables, objects}
 use Rattle.broken_rules.proofs.Walks.{Scoping, open_behind, Right, Goes_right, IsUsual, IsParameter, within, right_pure, right_then, right_before}
 use Rattle.broken_rules.proofs.Walks.{right_finding, right_finding_is, right_scoping, right_as, behind_both}
-
-length-more : {A : Type 0} (xs : List A) (a : A) → length (xs ++ a ∷ []) ≡ suc (length xs)
-length-more [] a = refl
-length-more (x ∷ xs) a = ap suc (length-more xs a)
 
 -- ---- what a function gives stays
 
@@ -336,7 +334,7 @@ module _ (L : Ledger) (S : Scoping L) where
       record {
         writes = nothing_new L x.found;
         agrees = agrees;
-        counts = length-more x.tables.functions (y.defined f returns body c b x.scope.locals x.scope.local_names) ∙ ap suc count;
+        counts = length_more x.tables.functions (y.defined f returns body c b x.scope.locals x.scope.local_names) ∙ ap suc count;
       },
       tt,
     )
@@ -364,7 +362,7 @@ module _ (L : Ledger) (S : Scoping L) where
         (suc n) (file_going L S (items body) (λ _. Unit {0}) bs (within params in_body) (within E in_body) n ((block L S body).is params in_body))
         (λ b _. ending_is returns body c b E) (file (y.entered (place_in_tree n) x.scope) x.found x.tables) entered count in
         let whole : Filed L S.Agrees x (inner n) bs (within E named) (suc n) = record {
-          writes = subst (λ ps. Writes L x.found (left (inner n)).found ps) (append_nothing bs) h.0.writes;
+          writes = subst (λ ps. Writes L x.found (left (inner n)).found ps) (append-nil bs) h.0.writes;
           agrees = h.0.agrees;
           counts = h.0.counts;
         } in
@@ -402,7 +400,7 @@ module _ (L : Ledger) (S : Scoping L) where
         let c = body_is (y.return_type h) f.body x agrees count gives in
         let k = closing_is c.end m (left o) c.filed.agrees c.filed.counts in
         subst (λ (z : Outcome File (Unit {0})). Filed L S.Agrees x z bs named m) (sym (turn o (λ _. closing))) (record {
-          writes = subst (λ ps. Writes L x.found (left (closing (left o))).found ps) (append_nothing bs) (writes_both L bs [] c.filed.writes k.0.writes);
+          writes = subst (λ ps. Writes L x.found (left (closing (left o))).found ps) (append-nil bs) (writes_both L bs [] c.filed.writes k.0.writes);
           agrees = k.0.agrees;
           counts = k.0.counts;
         })

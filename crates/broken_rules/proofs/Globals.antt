@@ -2,6 +2,8 @@
 use Rattle.std.proofs.Common.{◌≡◌, refl, sym, subst, ap, ◌∙◌, ℕ, suc, Bool, true, false, List, [], ◌∷◌, ◌++◌, Option, Some, None, length, append_assoc, ℤ}
 use Rattle.std.proofs.lemmas.Bool.{false≢true}
 use Rattle.std.specs.Prelude.{unwrap_or, if◌then◌else◌, not, ◌&&◌, nat_le}
+use Rattle.std.proofs.lemmas.List.{append-nil}
+use Rattle.lists.proofs.Places.{length_more}
 use Rattle.hls_ints.specs.Types.{IntegerType}
 use Rattle.c_tree.specs.declared.expression.Name.{Name}
 use Rattle.c_tree.specs.declared.expression.Specifiers.{Specifiers}
@@ -36,15 +38,11 @@ use Rattle.broken_rules.specs.Sight.{Declared, Names, Where, behind}
 use Rattle.broken_rules.specs.Parts as p
 use Rattle.broken_rules.specs.Parts.{Part, Parts, of_any, of_each}
 use Rattle.broken_rules.proofs.Ledgers.{Ledger, Good, Writes, given, left, turn, after_one, good_pure, good_then, good_before, good_visited}
-use Rattle.broken_rules.proofs.Ledgers.{nothing_new, writes_both, append_nothing}
+use Rattle.broken_rules.proofs.Ledgers.{nothing_new, writes_both}
 use Rattle.broken_rules.proofs.Events.{Events, length_given, length_by}
 use Rattle.broken_rules.proofs.Values.{good_value}
 use Rattle.broken_rules.proofs.Locals.{optional_length}
 use Rattle.broken_rules.proofs.Walks.{Scoping, Right, Goes_right, Adds, is_thread, is_thread_base, right_then, right_finding, right_finding_is, behind_both}
-
-length-more : {A : Type 0} (xs : List A) (a : A) → length (xs ++ a ∷ []) ≡ suc (length xs)
-length-more [] a = refl
-length-more (x ∷ xs) a = ap suc (length-more xs a)
 
 given_pure : {A B : Type 0} (p : Finds A) (f : A → B) (found : Findings) → given ((p >>= (λ x. pure (f x))) found) ≡ f (given (p found))
 given_pure p f found = ap (λ o. given o) (turn (p found) (λ x. pure (f x)))
@@ -80,7 +78,7 @@ module _ (L : Ledger) (s : Scope) (w : Where) (events : Events L s w) where
   given_next ty n values v found =
       let f = λ (x : ℤ). values ++ x ∷ [] in
       let behind_test = left (finds_if (nat_le n (length values)) rule.Constant (out-Expression v).offset found) in
-      ap length (given_pure (g.initial_value ty v s) f behind_test) ∙ length-more values (given (g.initial_value ty v s behind_test))
+      ap length (given_pure (g.initial_value ty v s) f behind_test) ∙ length_more values (given (g.initial_value ty v s behind_test))
 
   values_from : (ty : IntegerType) (size : ExpressionTree) (n : ℕ) → n ≡ length_given (constancy size) → (list : List ExpressionTree) (values : List ℤ) (index : ℕ) →
       length values ≡ index → Good L (through (g.next_value ty n s) values list) (p.listed_parts w size index list)
@@ -319,7 +317,7 @@ module _ (L : Ledger) (S : Scoping L) where
         let values = λ (s : Scope). g.initial d.name v d.initializer s in
         file_then (going (l.declare d.name (meaning.Variable v))) (λ _. going (finding values) >>= (λ x. tabling (g.with_variable d.name v x))) (λ _. Unit {0}) (λ _. Unit {0})
         (Part.Declares w d.name (Declared.OfObject words pointer d) ∷ []) ps w there there n n n (named (meaning.Variable v) means)
-        (λ _ _. subst (λ qs. Files there n (going (finding values) >>= (λ x. tabling (g.with_variable d.name v x))) (λ _. Unit {0}) qs there n) (append_nothing ps)
+        (λ _ _. subst (λ qs. Files there n (going (finding values) >>= (λ x. tabling (g.with_variable d.name v x))) (λ _. Unit {0}) qs there n) (append-nil ps)
         (file_then (going (finding values)) (λ x. tabling (g.with_variable d.name v x)) (λ _. Unit {0}) (λ _. Unit {0}) ps [] there there there n n n
         (file_going (finding values) (λ _. Unit {0}) ps there there n
         (right_finding L S values ps there (λ s agrees. initial L s there (S.events s there agrees) d.name v d.length d.initializer size)))
@@ -337,7 +335,7 @@ module _ (L : Ledger) (S : Scoping L) where
         let given_one = λ (s : Scope). g.is_initialised o d.name d.initializer s in
         file_then (going (l.declare d.name (meaning.Object o))) (λ _. going (finding given_one) >>= (λ x. tabling (g.with_object o x))) (λ _. Unit {0}) (λ _. Unit {0})
         (Part.Declares w d.name (Declared.OfObject words pointer d) ∷ []) ps w there there n n n (named (meaning.Object o) means)
-        (λ _ _. subst (λ qs. Files there n (going (finding given_one) >>= (λ x. tabling (g.with_object o x))) (λ _. Unit {0}) qs there n) (append_nothing ps)
+        (λ _ _. subst (λ qs. Files there n (going (finding given_one) >>= (λ x. tabling (g.with_object o x))) (λ _. Unit {0}) qs there n) (append-nil ps)
         (file_then (going (finding given_one)) (λ x. tabling (g.with_object o x)) (λ _. Unit {0}) (λ _. Unit {0}) ps [] there there there n n n
         (file_going (finding given_one) (λ _. Unit {0}) ps there there n
         (right_finding L S given_one ps there (λ s agrees. is_initialised L s there (S.events s there agrees) o d.name d.length d.initializer)))
@@ -391,7 +389,7 @@ module _ (L : Ledger) (S : Scoping L) where
   next_object words pointer d w n later x held agrees count =
       let v = behind (p.object_names words pointer d) w in
       let ps = p.object_parts_by w words pointer d in
-      subst (λ qs. Filed L S.Agrees x (g.next_object (spelled_by words) pointer d x) qs v n × (given (g.next_object (spelled_by words) pointer d x) ≡ false)) (append_nothing ps)
+      subst (λ qs. Filed L S.Agrees x (g.next_object (spelled_by words) pointer d x) qs v n × (given (g.next_object (spelled_by words) pointer d x) ≡ false)) (append-nil ps)
       (file_then_at (g.global (spelled_by words) pointer d) (λ _. pure false) (λ _. Unit {0}) (λ b. b ≡ false) ps [] v v n n x (global words pointer d w n later x held agrees
       count)
       (λ _ _ y agrees count. (record { writes = nothing_new L y.found; agrees = agrees; counts = count }, refl)))

@@ -2,6 +2,7 @@
 use Rattle.std.proofs.Common.{◌≡◌, refl, sym, subst, ap, inl, inr, Bool, true, false, List, [], ◌∷◌, ◌++◌, map, Option, Some, None}
 use Rattle.std.specs.Prelude.{◌⊎◌, fold, if◌then◌else◌}
 use Rattle.std.specs.List.{AllByRecursion}
+use Rattle.std.proofs.lemmas.List.{append-nil}
 use Rattle.c_rules.specs.declared.findings.Findings.{Findings}
 use Rattle.c_rules.specs.Walks.{Outcome, Walk, Finds, pure, and_then, optional, through, each, visited, ◌>>=◌}
 use Rattle.broken_rules.specs.Parts.{Part, Parts, all_of, if_any, of_each}
@@ -47,10 +48,6 @@ module _ {A : Type 0} (Is : A → Type 0) where
   any_split [] ys h = inr h
   any_split (x ∷ xs) ys (inl h) = inl (inl h)
   any_split (x ∷ xs) ys (inr h) = later x xs ys (any_split xs ys h)
-
-pub append_nothing : (ps : Parts) → ps ++ [] ≡ ps
-append_nothing [] = refl
-append_nothing (p ∷ ps) = ap (λ qs. p ∷ qs) (append_nothing ps)
 
 -- ---- ledgers
 
@@ -138,7 +135,7 @@ module _ (L : Ledger) where
 
   -- what comes behind finds nothing
   pub good_before : {A B : Type 0} (p : Finds A) (q : A → Finds B) (ps : Parts) → Good p ps → ((a : A) → Good (q a) []) → Good (p >>= q) ps
-  good_before p q ps h k = subst (λ qs. Good (p >>= q) qs) (append_nothing ps) (good_then p q ps [] h k)
+  good_before p q ps h k = subst (λ qs. Good (p >>= q) qs) (append-nil ps) (good_then p q ps [] h k)
 
   pub good_either : {A : Type 0} (b : Bool) (v w : Finds A) (ps : Parts) → Good v ps → Good w ps → Good (if b then v else w) ps
   good_either true v w ps h k = h

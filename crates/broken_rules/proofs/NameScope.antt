@@ -1,7 +1,8 @@
 -- Unknown names in a whole text.
 use Rattle.std.proofs.Common.{◌≡◌, refl, sym, subst, ap, ◌∙◌, ℕ, Bool, true, false, List, [], ◌∷◌, ◌++◌, length, Option, Some, None, append-nil}
-use Rattle.std.proofs.lemmas.Bool.{false≢true}
+use Rattle.std.proofs.lemmas.Bool.{false≢true, or_parts}
 use Rattle.std.specs.Prelude.{pos, ◌||◌, ◌&&◌, is_some, not, if◌then◌else◌, slice_get}
+use Rattle.lists.proofs.Places.{get_last, none_of}
 use Rattle.hls_ints.specs.Types.{IntegerType, wrapped}
 use Rattle.c_token.specs.declared.constant.Constant.{Constant}
 use Rattle.c_token.specs.declared.constant.Constant.TheVariants as constant
@@ -179,14 +180,6 @@ module _ (D : List (List ℕ × ℕ)) where
   some_or true c h e = absurd (false≢true (sym e))
   some_or false c h e = h
 
-  none_or : (b c : Bool) → (b || c) ≡ false → c ≡ false
-  none_or true c h = absurd (false≢true (sym h))
-  none_or false c h = h
-
-  none_is : {A : Type 0} (o : Option A) → is_some o ≡ false → o ≡ None
-  none_is None h = refl
-  none_is (Some x) h = absurd (false≢true (sym h))
-
   none_some : {A : Type 0} (o : Option A) → o ≡ None → is_some o ≡ false
   none_some o h = ap is_some h
 
@@ -213,7 +206,7 @@ module _ (D : List (List ℕ × ℕ)) where
     agrees = record {
       defined = agrees.defined;
       scopes = new_scopes D x.scope.headers x.scope.inner x.scope.outer w.scopes name.bytes d o
-          (none_is (named_in x.scope.inner name.bytes) (none_or (is_some (function_named name.bytes)) (is_some (named_in x.scope.inner name.bytes)) free))
+          (none_of (named_in x.scope.inner name.bytes) (or_parts (is_some (function_named name.bytes)) (is_some (named_in x.scope.inner name.bytes)) free).1)
           (meant_in x.scope.headers d o means) agrees.scopes;
     };
     value = tt;
@@ -244,10 +237,6 @@ module _ (D : List (List ℕ × ℕ)) where
     old_agrees x z w f.name.bytes (Declared.OfFunction f) still.same taken agrees,
   )
 
-  last_header : (headers : List Header) (h : Header) → slice_get (headers ++ h ∷ []) (length headers) ≡ Some h
-  last_header [] h = refl
-  last_header (x ∷ headers) h = last_header headers h
-
   over_is : (x : State) (w : Where) (f : Function) (h : Header) (second : Bool) → Agrees D x.scope w → h ≡ header_in D f → (o : Option Meaning) →
       named_in x.scope.inner f.name.bytes ≡ o →
       Writes L x.found (left (y.declare_over h f.name second o x)).found (Part.Declares w f.name (Declared.OfFunction f) ∷ [])
@@ -257,7 +246,7 @@ module _ (D : List (List ℕ × ℕ)) where
     record {
       defined = agrees.defined;
       scopes = new_scopes D (x.scope.headers ++ h ∷ []) x.scope.inner x.scope.outer w.scopes f.name.bytes (Declared.OfFunction f) (meaning.Function (length x.scope.headers)) e
-          (last_header x.scope.headers h ∙ ap (λ z. Some z) is) (scopes_more D x.scope.headers (h ∷ []) x.scope.inner x.scope.outer w.scopes agrees.scopes);
+          (get_last x.scope.headers h ∙ ap (λ z. Some z) is) (scopes_more D x.scope.headers (h ∷ []) x.scope.inner x.scope.outer w.scopes agrees.scopes);
     },
   )
   over_is x w f h second agrees is (Some (meaning.Function n)) e =

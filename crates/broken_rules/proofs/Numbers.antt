@@ -1,11 +1,13 @@
 -- The numbers of the functions that a text defines.
 use Rattle.std.proofs.Common.{◌≡◌, refl, sym, subst, ap, ◌∙◌, inl, inr, ℕ, suc, ◌<◌, ◌≤◌, Bool, true, false, List, [], ◌∷◌, ◌++◌, length, Option, Some, None, arith}
-use Rattle.std.proofs.lemmas.Bool.{true≢false}
+use Rattle.std.proofs.lemmas.Bool.{true≢false, eq-eqb}
 use Rattle.std.specs.Prelude.{◌⊎◌, ◌+◌, min, is_some, nat_eq, if◌then◌else◌}
 use Rattle.std.specs.Str.{bytes_eq}
 use Rattle.std.proofs.lemmas.Slice.Eq.{bytes_eq-Decides}
 use Rattle.std.proofs.lemmas.Bool.Decides.{nat_tests}
-use Rattle.std.proofs.lemmas.Option.{same_Some, none-some}
+use Rattle.std.proofs.lemmas.Option.{none-some, cond_some}
+use Rattle.std.proofs.lemmas.List.{length-append}
+use Rattle.lists.proofs.Places.{none_of}
 use Rattle.c_tree.specs.declared.statement.Block.{Block}
 use Rattle.c_tree.specs.declared.declaration.Function.{Function}
 use Rattle.c_tree.specs.declared.declaration.ExternalDeclaration.{ExternalDeclaration}
@@ -31,18 +33,10 @@ or_value : {A : Type 0} (x z : Option A) (v : A) → or_else x z ≡ Some v → 
 or_value (Some a) z v h = inl h
 or_value None z v h = inr h
 
-one_value : (b : Bool) (n v : ℕ) → (if b then Some n else None) ≡ Some v → n ≡ v
-one_value true n v h = same_Some n v h
-one_value false n v h = absurd (none-some v h)
-
-none_of : {A : Type 0} (o : Option A) → is_some o ≡ false → o ≡ None
-none_of None h = refl
-none_of (Some a) h = absurd (true≢false h)
-
 value_below : (names : List (List ℕ × ℕ)) (key name : List ℕ) (m n v : ℕ) → m ≡ min n most → ((v : ℕ) → named_in names key ≡ Some v → v < n) →
     (named_in names key ≡ Some v) ⊎ ((if bytes_eq key name then Some m else None) ≡ Some v) → v < suc n
 value_below names key name m n v e h (inl k) = let lt = h v k in omega arith
-value_below names key name m n v e h (inr k) = let same = one_value (bytes_eq key name) m v k in omega arith
+value_below names key name m n v e h (inr k) = let same = (cond_some (bytes_eq key name) m v k).1 in omega arith
 
 noted_below : (names : List (List ℕ × ℕ)) (name : List ℕ) (m n : ℕ) (b : Bool) → is_some (named_in names name) ≡ b → m ≡ min n most →
     ((key : List ℕ) (v : ℕ) → named_in names key ≡ Some v → v < n) → (key : List ℕ) (v : ℕ) → named_in (if b then names else inserted names name m) key ≡ Some v → v < suc n
@@ -65,14 +59,10 @@ step_below : (d : t.Noted) (x : ExternalDeclaration) (n : ℕ) → Below d n →
 step_below d (external.Objects o) n h = subst (Below d) (omega arith) h
 step_below d (external.Function f) n h = body_below d f n f.body h
 
-pub length_both : {A : Type 0} (xs ys : List A) → length (xs ++ ys) ≡ length xs + length ys
-length_both [] ys = omega arith
-length_both (x ∷ xs) ys = omega (arith, length_both xs ys)
-
 all_below : (list : List ExternalDeclaration) (d : t.Noted) (n : ℕ) → Below d n → Below (noted_by d list) (length (definitions list) + n)
 all_below [] d n h = subst (Below d) (omega arith) h
 all_below (x ∷ list) d n h =
-    subst (Below (noted_by (t.with_declaration d x) list)) (omega (arith, length_both (definition_in x) (definitions list)))
+    subst (Below (noted_by (t.with_declaration d x) list)) (omega (arith, length-append (definition_in x) (definitions list)))
     (all_below list (t.with_declaration d x) (length (definition_in x) + n) (step_below d x n h))
 
 nothing_below : Below ([], 0) 0
@@ -125,9 +115,6 @@ some_value : {A : Type 0} (o : Option A) → is_some o ≡ true → (v : A) × (
 some_value (Some a) h = (a, refl)
 some_value None h = absurd (true≢false (sym h))
 
-equal_self : (m : ℕ) → nat_eq m m ≡ true
-equal_self m = grind (arith, nat_tests)
-
 less_apart : (v n : ℕ) → v < n → nat_eq v n ≡ false
 less_apart v n lt = grind (arith, nat_tests)
 
@@ -154,7 +141,7 @@ module _ (before : List ExternalDeclaration) (f : Function) (rest : List Externa
   first_number body none =
       let free : is_some (named_in so_far.0 f.name.bytes) ≡ false = is_free (is_some (named_in so_far.0 f.name.bytes)) refl none in
       let here = all_stays rest (t.with_declaration so_far (external.Function f)) f.name.bytes so_far.1 (body_here so_far f f.body body free) in
-      ap (λ o. same_number o (place_in_tree n)) (ap (λ l. named_in l f.name.bytes) whole ∙ here) ∙ ap (λ k. nat_eq k (place_in_tree n)) below.0 ∙ equal_self (min n most)
+      ap (λ o. same_number o (place_in_tree n)) (ap (λ l. named_in l f.name.bytes) whole ∙ here) ∙ ap (λ k. nat_eq k (place_in_tree n)) below.0 ∙ eq-eqb (min n most) (min n most) refl
 
   -- a second one has another
   pub second_number : n ≤ most → Defines (definitions before) f.name.bytes → same_number (named_in (t.definitions text) f.name.bytes) (place_in_tree n) ≡ false

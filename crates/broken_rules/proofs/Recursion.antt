@@ -1,9 +1,10 @@
 -- The rule on recursion: the first fault of a text, where it defines fewer than 2 ^ 32 functions.
-use Rattle.std.proofs.Common.{◌≡◌, refl, sym, subst, ap, ◌∙◌, inl, inr, ℕ, ◌<◌, Bool, true, false, List, [], ◌∷◌, ◌++◌, map, length, Option, Some, None, arith}
+use Rattle.std.proofs.Common.{◌≡◌, refl, sym, subst, ap, ◌∙◌, inl, inr, ℕ, ◌<◌, Bool, true, false, List, [], ◌∷◌, ◌++◌, map, length, Option, Some, None}
 use Rattle.std.specs.Prelude.{◌⊎◌, Contains, fold, nat_eq, if◌then◌else◌, slice_get}
-use Rattle.std.proofs.lemmas.Bool.Decides.{nat_tests}
 use Rattle.std.proofs.lemmas.Option.{same_Some, none-some}
 use Rattle.std.proofs.lemmas.List.Elements.{Contains-append_left, Contains-append_right, Contains-append_cases, Contains-push, Contains-push_cases}
+use Rattle.std.proofs.lemmas.Bool.{eqb-true, eq-eqb, true≢false}
+use Rattle.lists.proofs.Places.{in_none}
 use Rattle.call_graph.specs.Graphs as graphs
 use Rattle.call_graph.specs.Reaching.{Leads}
 use Rattle.c_tree.specs.declared.declaration.TranslationUnit.{TranslationUnit}
@@ -31,20 +32,14 @@ use Rattle.broken_rules.proofs.Defined.{noted_defined, defined_noted, defined_be
 abbrev fault_at : ℕ → Fault
 fault_at at = record { rule = rule.Recursive; offset = at }
 
-nothing_there : {A : Type 0} (x : A) → Contains {X = A} [] x → ⊥
-nothing_there x c = absurd (omega (arith, c.1))
-
 -- ---- elements of lists
 
 module _ {A : Type 0} where
   at_head : (x : A) (xs : List A) → Contains (x ∷ xs) x
   at_head x xs = Contains-append_left (x ∷ []) xs x (Contains-push [] x)
 
-  in_tail : (x y : A) (xs : List A) → Contains xs y → Contains (x ∷ xs) y
-  in_tail x y xs c = Contains-append_right (x ∷ []) xs y c
-
   only_one : (x y : A) → Contains {X = A} [] y ⊎ (x ≡ y) → x ≡ y
-  only_one x y (inl c) = absurd (nothing_there y c)
+  only_one x y (inl c) = absurd (in_none y c)
   only_one x y (inr e) = e
 
   head_or : (x y : A) (xs : List A) → Contains (x ∷ []) y ⊎ Contains xs y → (x ≡ y) ⊎ Contains xs y
@@ -56,15 +51,6 @@ module _ {A : Type 0} where
 
 -- ---- sites as a graph
 
-no_truth : true ≡ false → ⊥
-no_truth h = cc
-
-equal_self : (m : ℕ) → nat_eq m m ≡ true
-equal_self m = grind (arith, nat_tests)
-
-equal_is : (m n : ℕ) → nat_eq m n ≡ true → m ≡ n
-equal_is m n h = grind (arith, nat_tests)
-
 -- one of the sites is of a call by the one of the other
 record IsCalled (sites : List CallSite) (g h : ℕ) : Type 0 where
   s : CallSite
@@ -75,7 +61,7 @@ record IsCalled (sites : List CallSite) (g h : ℕ) : Type 0 where
 called_here : (found : List ℕ) (s : CallSite) (sites : List CallSite) (g h : ℕ) → nat_eq s.caller g ≡ true → Contains found h ⊎ (s.callee ≡ h) →
     Contains found h ⊎ IsCalled (s ∷ sites) g h
 called_here found s sites g h is (inl c) = inl c
-called_here found s sites g h is (inr e) = inr (record { s = s; there = at_head s sites; caller = equal_is s.caller g is; callee = e })
+called_here found s sites g h is (inr e) = inr (record { s = s; there = at_head s sites; caller = eqb-true s.caller g is; callee = e })
 
 one_callee : (found : List ℕ) (s : CallSite) (sites : List CallSite) (g h : ℕ) (b : Bool) → nat_eq s.caller g ≡ b → Contains (if b then found ++ s.callee ∷ [] else found) h →
     Contains found h ⊎ IsCalled (s ∷ sites) g h
@@ -85,14 +71,14 @@ one_callee found s sites g h false is c = inl c
 more_callees : (found : List ℕ) (s : CallSite) (sites : List CallSite) (g h : ℕ) → Contains (graphs.with_call g found (call_of s)) h ⊎ IsCalled sites g h →
     Contains found h ⊎ IsCalled (s ∷ sites) g h
 more_callees found s sites g h (inl c) = one_callee found s sites g h (nat_eq s.caller g) refl c
-more_callees found s sites g h (inr k) = inr (record { s = k.s; there = in_tail s k.s sites k.there; caller = k.caller; callee = k.callee })
+more_callees found s sites g h (inr k) = inr (record { s = k.s; there = Contains-append_right (s ∷ []) sites k.s k.there; caller = k.caller; callee = k.callee })
 
 callee_from : (sites : List CallSite) (found : List ℕ) (g h : ℕ) → Contains (fold (graphs.with_call g) found (map call_of sites)) h → Contains found h ⊎ IsCalled sites g h
 callee_from [] found g h c = inl c
 callee_from (s ∷ sites) found g h c = more_callees found s sites g h (callee_from sites (graphs.with_call g found (call_of s)) g h c)
 
 called_by : (sites : List CallSite) (g h : ℕ) → Contains {X = ℕ} [] h ⊎ IsCalled sites g h → IsCalled sites g h
-called_by sites g h (inl c) = absurd (nothing_there h c)
+called_by sites g h (inl c) = absurd (in_none h c)
 called_by sites g h (inr k) = k
 
 one_keeps : (found : List ℕ) (s : CallSite) (h : ℕ) (b : Bool) → Contains found h → Contains (if b then found ++ s.callee ∷ [] else found) h
@@ -105,10 +91,10 @@ callee_keeps (s ∷ sites) found g h c = callee_keeps sites (graphs.with_call g 
 
 one_new : (found : List ℕ) (s : CallSite) (b : Bool) → nat_eq s.caller s.caller ≡ b → Contains (if b then found ++ s.callee ∷ [] else found) s.callee
 one_new found s true is = Contains-push found s.callee
-one_new found s false is = absurd (no_truth (sym (equal_self s.caller) ∙ is))
+one_new found s false is = absurd (true≢false (sym (eq-eqb s.caller s.caller refl) ∙ is))
 
 callee_to : (sites : List CallSite) (found : List ℕ) (s : CallSite) → Contains sites s → Contains (fold (graphs.with_call s.caller) found (map call_of sites)) s.callee
-callee_to [] found s c = absurd (nothing_there s c)
+callee_to [] found s c = absurd (in_none s c)
 callee_to (y ∷ sites) found s c =
     let rest = graphs.with_call s.caller found (call_of y) in
     elim (head_cases y s sites c) [
@@ -136,7 +122,7 @@ cycle_more : (leads : ℕ → ℕ → Bool) (s : CallSite) (sites : List CallSit
 cycle_more leads s sites a f (inl e) =
     let b = leads s.callee s.caller in
     cycle_here leads s sites a f b refl (first_of_two a (fault_if b rule.Recursive s.offset) f e)
-cycle_more leads s sites a f (inr k) = inr (record { s = k.s; there = in_tail s k.s sites k.there; back = k.back; is = k.is })
+cycle_more leads s sites a f (inr k) = inr (record { s = k.s; there = Contains-append_right (s ∷ []) sites k.s k.there; back = k.back; is = k.is })
 
 cycle_from : (leads : ℕ → ℕ → Bool) (sites : List CallSite) (a : Option Fault) (f : Fault) → fold (with_call leads) a sites ≡ Some f → (a ≡ Some f) ⊎ IsCycle leads sites f
 cycle_from leads [] a f h = inl h
@@ -144,7 +130,7 @@ cycle_from leads (s ∷ sites) a f h = cycle_more leads s sites a f (cycle_from 
 
 cycle_reached : (leads : ℕ → ℕ → Bool) (sites : List CallSite) (a : Option Fault) (s : CallSite) → Contains sites s → leads s.callee s.caller ≡ true →
     IsReached (fault_at s.offset) (fold (with_call leads) a sites)
-cycle_reached leads [] a s c back = absurd (nothing_there s c)
+cycle_reached leads [] a s c back = absurd (in_none s c)
 cycle_reached leads (y ∷ sites) a s c back =
     let x = fault_at s.offset in
     elim (head_cases y s sites c) [
@@ -214,7 +200,7 @@ module _ (tree : TranslationUnit) (few : IsOfFew tree) where
 
   in_parts : (s : CallSite) → Contains {X = CallSite} [] s ⊎ (Unit {0} → Entered (site_ledger (D tree few)) (parts tree) (Some s)) →
       Entered (site_ledger (D tree few)) (parts tree) (Some s)
-  in_parts s (inl c) = absurd (nothing_there s c)
+  in_parts s (inl c) = absurd (in_none s c)
   in_parts s (inr h) = h tt
 
   site_calls : (s : CallSite) → Contains sites s → CallsAt tree s.caller s.callee s.offset

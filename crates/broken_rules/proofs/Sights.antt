@@ -1,10 +1,11 @@
 -- How the names of a scope agree with the declarations in sight.
-use Rattle.std.proofs.Common.{◌≡◌, refl, sym, subst, ap, ◌∙◌, ℕ, zero, suc, Bool, true, false, List, [], ◌∷◌, ◌++◌, length, Option, Some, None, arith}
+use Rattle.std.proofs.Common.{◌≡◌, refl, sym, subst, ap, ◌∙◌, ℕ, Bool, true, false, List, [], ◌∷◌, ◌++◌, length, Option, Some, None, arith}
 use Rattle.std.proofs.lemmas.Bool.{false≢true}
 use Rattle.std.specs.Prelude.{◌-◌, is_some, fold, remove, slice_get, if◌then◌else◌}
 use Rattle.std.specs.Str.{bytes_eq}
 use Rattle.std.proofs.lemmas.Slice.Eq.{bytes_eq-Decides}
 use Rattle.std.proofs.lemmas.Option.{same_Some, none-some}
+use Rattle.lists.proofs.Places.{length_more, get_last, get_front}
 use Rattle.c_tree.specs.declared.expression.Name.{Name}
 use Rattle.c_tree.specs.declared.declaration.Function.{Function}
 use Rattle.c_rules.specs.declared.names.Meaning.{Meaning}
@@ -120,13 +121,8 @@ module _ (D : List (List ℕ × ℕ)) where
 
   -- ---- more headers
 
-  at_front : {A : Type 0} (xs more : List A) (k : ℕ) (a : A) → slice_get xs k ≡ Some a → slice_get (xs ++ more) k ≡ Some a
-  at_front [] more k a is = absurd (none-some a is)
-  at_front (x ∷ xs) more zero a is = is
-  at_front (x ∷ xs) more (suc k) a is = at_front xs more k a is
-
   means_more : (headers more : List Header) (d : Declared) (m : Meaning) → MeansIn headers d m → MeansIn (headers ++ more) d m
-  means_more headers more (Declared.OfFunction f) (meaning.Function k) h = at_front headers more k (header_in f) h
+  means_more headers more (Declared.OfFunction f) (meaning.Function k) h = get_front headers more k (header_in f) h
   means_more headers more (Declared.OfFunction f) (meaning.Variable v) h = h
   means_more headers more (Declared.OfFunction f) (meaning.Object o) h = h
   means_more headers more (Declared.OfFunction f) meaning.Argument h = h
@@ -169,20 +165,12 @@ module _ (D : List (List ℕ × ℕ)) where
   unfolding opened
   opened_agrees s w h = record { defined = h.defined; scopes = (record { same = λ key own. tt }, pushed s.headers s.inner s.outer w.scopes h.scopes) }
 
-  last_of : {A : Type 0} (xs : List A) (a : A) → slice_get (xs ++ a ∷ []) (length xs) ≡ Some a
-  last_of [] a = refl
-  last_of (x ∷ xs) a = last_of xs a
-
   remove_last : {A : Type 0} (xs : List A) (a : A) → remove (xs ++ a ∷ []) (length xs) ≡ xs
   remove_last [] a = refl
   remove_last (x ∷ xs) a = ap (λ l. x ∷ l) (remove_last xs a)
 
-  length-more : {A : Type 0} (xs : List A) (a : A) → length (xs ++ a ∷ []) ≡ suc (length xs)
-  length-more [] a = refl
-  length-more (x ∷ xs) a = ap suc (length-more xs a)
-
   last_place : {A : Type 0} (xs : List A) (a : A) → length (xs ++ a ∷ []) - 1 ≡ length xs
-  last_place xs a = omega (arith, length-more xs a)
+  last_place xs a = omega (arith, length_more xs a)
 
   closed_scopes : (s : Scope) (front : List n.Names) (level : n.Names) (o : Option n.Names) (w : Where) → s.definitions ≡ D → o ≡ Some level →
       remove s.outer (length s.outer - 1) ≡ front → Scopes s.headers level front w.scopes → Agrees (closed_to o s) w
@@ -197,7 +185,7 @@ module _ (D : List (List ℕ × ℕ)) where
   unfolding closed
   closed_by s w scope outer opening defined h =
       let front = h.front in
-      let is = ap (λ l. slice_get l (length l - 1)) h.are ∙ ap (λ k. slice_get (front ++ h.level ∷ []) k) (last_place front h.level) ∙ last_of front h.level in
+      let is = ap (λ l. slice_get l (length l - 1)) h.are ∙ ap (λ k. slice_get (front ++ h.level ∷ []) k) (last_place front h.level) ∙ get_last front h.level in
       let gone = ap (λ l. remove l (length l - 1)) h.are ∙ ap (λ k. remove (front ++ h.level ∷ []) k) (last_place front h.level) ∙ remove_last front h.level in
       closed_scopes s front h.level (slice_get s.outer (length s.outer - 1)) w defined is gone
       (subst (λ scopes. Scopes s.headers h.level front scopes) (sym opening) (h.last, h.rest))
@@ -209,9 +197,6 @@ module _ (D : List (List ℕ × ℕ)) where
 
   abbrev with_name : Name → Declared → List Names → List Names
   with_name name d scopes = with_names ((name.bytes, d) ∷ []) scopes
-
-  equal : (key name : List ℕ) → bytes_eq key name ≡ true → key ≡ name
-  equal key name h = (bytes_eq-Decides key name).0 h
 
   -- a new name
   new_level : (headers : List Header) (decls : Names) (names : n.Names) (name : List ℕ) (d : Declared) (m : Meaning) → named_in names name ≡ None → MeansIn headers d m →
@@ -231,7 +216,7 @@ module _ (D : List (List ℕ × ℕ)) where
     same = λ key own.
         subst (λ x. Same headers x (named_in names key)) (sym (named_append decls ((name, d) ∷ []) key))
         (same_taken headers (bytes_eq key name) d (named_in decls key) (named_in names key)
-        (λ e. let same = equal key name e in
+        (λ e. let same = (bytes_eq-Decides key name).0 e in
         ap (λ k. is_some (named_in names k)) same ∙ taken (ap function_named (sym same) ∙ own)) (h.same key own));
   }
 

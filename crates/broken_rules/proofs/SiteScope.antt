@@ -2,6 +2,7 @@
 use Rattle.std.proofs.Common.{◌≡◌, refl, sym, subst, ap, ◌∙◌, ℕ, suc, ◌<◌, ◌≤◌, Bool, true, false, List, [], ◌∷◌, ◌++◌, length, Option, Some, None, append_assoc, arith}
 use Rattle.std.specs.Prelude.{◌+◌, ◌^◌, not, is_some, if◌then◌else◌}
 use Rattle.std.specs.List.{flat_map}
+use Rattle.std.proofs.lemmas.List.{length-append}
 use Rattle.c_tree.specs.declared.expression.Expression.{out-Expression}
 use Rattle.c_tree.specs.declared.declaration.Function.{Function}
 use Rattle.c_tree.specs.declared.declaration.ExternalDeclaration.{ExternalDeclaration}
@@ -32,7 +33,6 @@ use Rattle.broken_rules.proofs.Calls.{no_creates}
 use Rattle.broken_rules.proofs.Functions.{text_is, declaration_is, declaration_holds}
 use Rattle.broken_rules.proofs.NameScope as n
 use Rattle.broken_rules.proofs.NameScope.{IsMeant}
-use Rattle.broken_rules.proofs.Numbers.{length_both}
 use Rattle.broken_rules.proofs.Quiets as q
 use Rattle.broken_rules.proofs.Sites as u
 use Rattle.broken_rules.proofs.Sites.{site_ledger, Stands, number_in, broken, quiet, quiet_two, quiet_three}
@@ -51,14 +51,14 @@ number_is (external.Function f) n = one_number f n (is_some f.body)
 number_is (external.Objects o) n = omega arith
 
 more_definitions : (xs : List ExternalDeclaration) (d : ExternalDeclaration) → length (definitions (xs ++ d ∷ [])) ≡ length (definitions xs) + length (definition_in d)
-more_definitions [] d = omega (arith, length_both (definition_in d) [])
+more_definitions [] d = omega (arith, length-append (definition_in d) [])
 more_definitions (x ∷ xs) d =
-    omega (arith, length_both (definition_in x) (definitions (xs ++ d ∷ [])), length_both (definition_in x) (definitions xs), more_definitions xs d)
+    omega (arith, length-append (definition_in x) (definitions (xs ++ d ∷ [])), length-append (definition_in x) (definitions xs), more_definitions xs d)
 
 definitions_both : (xs ys : List ExternalDeclaration) → length (definitions (xs ++ ys)) ≡ length (definitions xs) + length (definitions ys)
 definitions_both [] ys = omega arith
 definitions_both (x ∷ xs) ys =
-    omega (arith, length_both (definition_in x) (definitions (xs ++ ys)), length_both (definition_in x) (definitions xs), definitions_both xs ys)
+    omega (arith, length-append (definition_in x) (definitions (xs ++ ys)), length-append (definition_in x) (definitions xs), definitions_both xs ys)
 
 module _ (L : Ledger) (S : Scoping L) where
   -- so many functions are there behind the last declaration
@@ -73,7 +73,7 @@ module _ (L : Ledger) (S : Scoping L) where
       let more = declaration_holds L S d w n list here later x held agrees count in
       ap (λ (z : Outcome File (Unit {0})). length (left z).tables.functions) (after_one (λ _ d. t.declaration d) unit d list x)
       ∙ counts list (given o) (behind (names_of d) w) (number_behind d n) (S.next w n d list here) (left o) more first.agrees first.counts
-      ∙ omega (arith, number_is d n, length_both (definition_in d) (definitions list))
+      ∙ omega (arith, number_is d n, length-append (definition_in d) (definitions list))
 
 -- ---- calls
 

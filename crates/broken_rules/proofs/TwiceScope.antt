@@ -1,7 +1,7 @@
 -- Names that are declared twice, in a whole text.
 use Rattle.std.proofs.Common.{◌≡◌, refl, sym, subst, ap, ◌∙◌, ℕ, Bool, true, false, List, [], ◌∷◌, length, Option, Some, None, inl, inr}
-use Rattle.std.proofs.lemmas.Bool.{false≢true, or_cases}
-use Rattle.std.specs.Prelude.{pos, ◌||◌, ◌&&◌, Contains, is_some, not, if◌then◌else◌, slice_get, ◌⊎◌}
+use Rattle.std.proofs.lemmas.Bool.{false≢true, or_cases, and_right, or_parts}
+use Rattle.std.specs.Prelude.{pos, ◌&&◌, Contains, is_some, not, if◌then◌else◌, slice_get, ◌⊎◌}
 use Rattle.hls_ints.specs.Types.{IntegerType, wrapped}
 use Rattle.c_token.specs.declared.constant.Constant.{Constant}
 use Rattle.c_token.specs.declared.constant.Constant.TheVariants as constant
@@ -23,6 +23,7 @@ use Rattle.c_rules.specs.Constants.{constancy, constant_value}
 use Rattle.c_rules.specs.Levels.{named_in}
 use Rattle.c_rules.specs.Library.{function_named}
 use Rattle.std.proofs.lemmas.Option.{same_Some, none-some}
+use Rattle.lists.proofs.Places.{none_of}
 use Rattle.c_rules.specs.Names.{look_up, is_taken, declaring}
 use Rattle.c_rules.specs.Specifiers.{spelled_by}
 use Rattle.c_rules.specs.Walks.{Outcome, Finds, pure, finds, finds_if, ◌>>◌}
@@ -121,18 +122,6 @@ events s w = record {
   listed = λ size v n index is. q.quiet (Part.Listed size index v) (λ x k. k) (q.other_if _ rule.Constant (out-Expression v).offset (λ j. j));
 }
 
-none_first : (b c : Bool) → (b || c) ≡ false → b ≡ false
-none_first true c h = h
-none_first false c h = refl
-
-none_second : (b c : Bool) → (b || c) ≡ false → c ≡ false
-none_second true c h = absurd (false≢true (sym h))
-none_second false c h = h
-
-none_is : {A : Type 0} (o : Option A) → is_some o ≡ false → o ≡ None
-none_is None h = refl
-none_is (Some x) h = absurd (false≢true (sym h))
-
 some_is : {A : Type 0} (o : Option A) → is_some o ≡ true → (x : A) × (o ≡ Some x)
 some_is (Some x) h = (x, refl)
 some_is None h = absurd (false≢true h)
@@ -191,10 +180,6 @@ module _ (D : List (List ℕ × ℕ)) where
   no_function_is (Declared.OfVariable words d) m h = refl
   no_function_is (Declared.OfObject words pointer d) m h = refl
 
-  and_false : (b c : Bool) → c ≡ false → (b && c) ≡ false
-  and_false true c h = h
-  and_false false c h = refl
-
   taken_by : (s : Scope) (w : Where) (name : Name) (d : Declared) (m : Meaning) → Agrees D s w → IsMeant D d m →
       (is_some (function_named name.bytes) ≡ true) ⊎ (function_named name.bytes ≡ None) → (is_some (function_named name.bytes) ≡ true) ⊎ (is_some (named_in s.inner
       name.bytes) ≡ true) →
@@ -204,7 +189,7 @@ module _ (D : List (List ℕ × ℕ)) where
   taken_by s w name d m agrees means (inr own) (inr k) =
       let o = some_is (named_in s.inner name.bytes) k in
       let e = same_some s.headers (named_in (innermost w.scopes) name.bytes) (named_in s.inner name.bytes) (inner_same s w name.bytes own agrees) o.0 o.1 in
-      inr (inl (record { earlier = e.0; first = e.1; no_functions = and_false (is_function e.0) (is_function d) (no_function_is d m means) }))
+      inr (inl (record { earlier = e.0; first = e.1; no_functions = and_right (is_function e.0) (is_function d) (no_function_is d m means) }))
 
   -- a name that is free
   free_by : (s : Scope) (w : Where) (name : Name) (d : Declared) → Agrees D s w → function_named name.bytes ≡ None → named_in s.inner name.bytes ≡ None → IsTwice w name d → ⊥
@@ -221,8 +206,8 @@ module _ (D : List (List ℕ × ℕ)) where
       (twice_still x w name d (taken_by x.scope w name d o agrees means (library_or (function_named name.bytes))
       (or_cases (is_some (function_named name.bytes)) (is_some (named_in x.scope.inner name.bytes)) taken))).0
   declared_by x w name d o agrees means false free =
-      let own = none_is (function_named name.bytes) (none_first (is_some (function_named name.bytes)) (is_some (named_in x.scope.inner name.bytes)) free) in
-      let none = none_is (named_in x.scope.inner name.bytes) (none_second (is_some (function_named name.bytes)) (is_some (named_in x.scope.inner name.bytes)) free) in
+      let own = none_of (function_named name.bytes) (or_parts (is_some (function_named name.bytes)) (is_some (named_in x.scope.inner name.bytes)) free).0 in
+      let none = none_of (named_in x.scope.inner name.bytes) (or_parts (is_some (function_named name.bytes)) (is_some (named_in x.scope.inner name.bytes)) free).1 in
       writes_with twice_ledger (Part.Declares w name d) (λ z k. free_by x.scope w name d agrees own none k.0) (nothing_new twice_ledger x.found)
 
   pub declares : (x : State) (w : Where) (name : Name) (d : Declared) (o : Meaning) → Agrees D x.scope w → IsMeant D d o →
@@ -330,7 +315,7 @@ module _ (D : List (List ℕ × ℕ)) where
       (Declared.OfFunction f) ∷ [])
   function_by x w f h second agrees by true e = (twice_still x w f.name (Declared.OfFunction f) (inl e)).0
   function_by x w f h second agrees by false e =
-      over_is x w f h second agrees (none_is (function_named f.name.bytes) e) by (named_in x.scope.inner f.name.bytes) refl
+      over_is x w f h second agrees (none_of (function_named f.name.bytes) e) by (named_in x.scope.inner f.name.bytes) refl
 
   pub function_declared : (x : State) (w : Where) (f : Function) (h : Header) (second : Bool) → Agrees D x.scope w → IsSecondBy w f second →
       Writing x (left (y.declare_function h f.name second x)) (Part.Declares w f.name (Declared.OfFunction f) ∷ [])

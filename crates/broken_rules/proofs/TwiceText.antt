@@ -1,6 +1,6 @@
 -- Names that are declared twice: the first fault of a text, where it defines fewer than 2 ^ 32 functions.
 use Rattle.std.proofs.Common.{◌≡◌, refl, sym, subst, ap, ◌∙◌, ℕ, Bool, true, false, List, [], ◌∷◌, ◌++◌, length, Option, Some, append-nil, inl, inr}
-use Rattle.std.proofs.lemmas.Bool.{false≢true}
+use Rattle.std.proofs.lemmas.Bool.{false≢true, and_parts}
 use Rattle.std.specs.Prelude.{◌&&◌, Contains, is_some, not, if◌then◌else◌, ◌⊎◌}
 use Rattle.c_tree.specs.declared.expression.Name.{Name}
 use Rattle.c_tree.specs.declared.declaration.Function.{Function}
@@ -31,6 +31,8 @@ use Rattle.std.proofs.Common.{suc, ◌<◌, ◌≤◌, append_assoc, append-nil,
 use Rattle.std.specs.Prelude.{◌+◌, ◌^◌}
 use Rattle.std.specs.List.{flat_map}
 use Rattle.std.proofs.lemmas.List.Elements.{Contains-append_left, Contains-append_right, Contains-append_cases, Contains-push_cases}
+use Rattle.std.proofs.lemmas.List.{length-append}
+use Rattle.lists.proofs.Places.{in_none}
 use Rattle.c_tree.specs.declared.declaration.ExternalDeclaration.{ExternalDeclaration}
 use Rattle.c_tree.specs.declared.declaration.ExternalDeclaration.TheVariants as external
 use Rattle.c_tree.specs.declared.declaration.GlobalDeclarator.{GlobalDeclarator}
@@ -45,7 +47,7 @@ use Rattle.broken_rules.proofs.Constants.{any_contains, contains_any}
 use Rattle.broken_rules.proofs.Ledgers.{Entered}
 use Rattle.broken_rules.proofs.NameScope as n
 use Rattle.broken_rules.proofs.Unknown.{Defines, noted_by, all_here, all_back, from_nothing, any_split, any_left, any_right}
-use Rattle.broken_rules.proofs.Numbers.{first_number, second_number, length_both}
+use Rattle.broken_rules.proofs.Numbers.{first_number, second_number}
 use Rattle.broken_rules.proofs.TwiceScope as h
 use Rattle.broken_rules.proofs.TwiceScope.{IsSecondBy}
 
@@ -85,11 +87,8 @@ all_definers : (list : List ExternalDeclaration) (key : List ℕ) → Defines (d
 all_definers [] key h = absurd h
 all_definers (x ∷ list) key h = either x list key (any_split (definition_in x) (definitions list) key h) (λ k. all_definers list key k)
 
-nothing_there : {A : Type 0} (x : A) → Contains {X = A} [] x → ⊥
-nothing_there x c = absurd (omega (arith, c.1))
-
 only_name : (a c : Named) → Contains {X = Named} [] c ⊎ (a ≡ c) → a ≡ c
-only_name a c (inl k) = absurd (nothing_there c k)
+only_name a c (inl k) = absurd (in_none c k)
 only_name a c (inr e) = e
 
 same_function : (f g : Function) → Declared.OfFunction f ≡ Declared.OfFunction g → f ≡ g
@@ -118,7 +117,7 @@ no_objects : (words : Words) (pointer : Bool) (list : List GlobalDeclarator) (ke
   key,
   Declared.OfFunction g,
 ) → ⊥
-no_objects words pointer [] key g c = nothing_there (key, Declared.OfFunction g) c
+no_objects words pointer [] key g c = in_none (key, Declared.OfFunction g) c
 no_objects words pointer (d ∷ list) key g c =
     objects_by words pointer d list key g (Contains-append_cases ((d.name.bytes, Declared.OfObject words pointer d) ∷ []) (objects_names words false list) (
       key,
@@ -144,7 +143,7 @@ defines_by x list key g body (inr c) more = any_right (definition_in x) (definit
 
 all_defines : (list : List ExternalDeclaration) (key : List ℕ) (g : Function) → is_some g.body ≡ true → Contains (flat_map names_of list) (key, Declared.OfFunction g) →
     Defines (definitions list) key
-all_defines [] key g body c = absurd (nothing_there (key, Declared.OfFunction g) c)
+all_defines [] key g body c = absurd (in_none (key, Declared.OfFunction g) c)
 all_defines (x ∷ list) key g body c =
     defines_by x list key g body (Contains-append_cases (names_of x) (flat_map names_of list) (key, Declared.OfFunction g) c) (λ k. all_defines list key g body k)
 
@@ -157,7 +156,7 @@ flat_append (x ∷ xs) d = ap (λ l. names_of x ++ l) (flat_append xs d) ∙ sym
 definitions_append : (xs ys : List ExternalDeclaration) → length (definitions (xs ++ ys)) ≡ length (definitions xs) + length (definitions ys)
 definitions_append [] ys = omega arith
 definitions_append (x ∷ xs) ys =
-    omega (arith, length_both (definition_in x) (definitions (xs ++ ys)), length_both (definition_in x) (definitions xs), definitions_append xs ys)
+    omega (arith, length-append (definition_in x) (definitions (xs ++ ys)), length-append (definition_in x) (definitions xs), definitions_append xs ys)
 
 one_number : (f : Function) (n : ℕ) (b : Bool) → (if b then suc n else n) ≡ n + length (definition_by f b ++ [])
 one_number f n true = omega arith
@@ -203,10 +202,6 @@ module _ (tree : TranslationUnit) (few : IsOfFew tree) where
   abbrev Second : Function → Header → ℕ → Bool
   Second f h n = y.is_second f h n
 
-  first_and : (b c : Bool) → (b && c) ≡ true → b ≡ true
-  first_and true c h = refl
-  first_and false c h = h
-
   second_and : (b c : Bool) → (b && not c) ≡ true → c ≡ true → ⊥
   second_and true true h e = false≢true h
   second_and false c h e = false≢true h
@@ -239,7 +234,7 @@ module _ (tree : TranslationUnit) (few : IsOfFew tree) where
       let numbers = ap (λ (z : Header). y.same_number z.definition (place_in_tree n)) is in
       record {
         is = λ t.
-            let body = first_and (is_some f.body) (not (y.same_number h.definition (place_in_tree n))) t in
+            let body = (and_parts (is_some f.body) (not (y.same_number h.definition (place_in_tree n))) t).0 in
             let some = forced (Defines (definitions B) f.name.bytes) (decided B f.name.bytes (is_some (named_in (noted_by ([], 0) B).0 f.name.bytes)) refl)
             (λ none. second_and (is_some f.body) (y.same_number h.definition (place_in_tree n)) t
             (numbers ∙ first_number B f rest tree.declarations here.text n here.count body none)) in

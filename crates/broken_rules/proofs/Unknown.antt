@@ -5,6 +5,7 @@ use Rattle.std.specs.Prelude.{◌⊎◌, fold, Contains, is_some, if◌then◌el
 use Rattle.std.specs.Str.{bytes_eq}
 use Rattle.std.proofs.lemmas.Slice.Eq.{bytes_eq-Decides}
 use Rattle.std.proofs.lemmas.Option.{none-some}
+use Rattle.lists.proofs.Places.{none_of}
 use Rattle.c_tree.specs.declared.expression.Name.{Name}
 use Rattle.c_tree.specs.declared.statement.Block.{Block}
 use Rattle.c_tree.specs.declared.declaration.Function.{Function}
@@ -48,20 +49,16 @@ from_or : {A : Type 0} (x z : Option A) → is_some (or_else x z) ≡ true → (
 from_or (Some a) z h = inl refl
 from_or None z h = inr h
 
-is_none : {A : Type 0} (o : Option A) → is_some o ≡ false → o ≡ None
-is_none None h = refl
-is_none (Some a) h = absurd (true≢false h)
-
 noted_kept : (names : List (List ℕ × ℕ)) (name key : List ℕ) (n : ℕ) (b : Bool) → is_some (named_in names name) ≡ b → IsHere names key →
     IsHere (if b then names else inserted names name n) key
 noted_kept names name key n true e h = h
 noted_kept names name key n false e h =
-    ap is_some (named_inserted names name key n (is_none (named_in names name) e)) ∙ here_or (named_in names key) (if bytes_eq key name then Some n else None) h
+    ap is_some (named_inserted names name key n (none_of (named_in names name) e)) ∙ here_or (named_in names key) (if bytes_eq key name then Some n else None) h
 
 noted_new : (names : List (List ℕ × ℕ)) (name : List ℕ) (n : ℕ) (b : Bool) → is_some (named_in names name) ≡ b → IsHere (if b then names else inserted names name n) name
 noted_new names name n true e = e
 noted_new names name n false e =
-    ap is_some (named_inserted names name name n (is_none (named_in names name) e))
+    ap is_some (named_inserted names name name n (none_of (named_in names name) e))
     ∙ or_here (named_in names name) (if bytes_eq name name then Some n else None) (ap (λ c. is_some (if c then Some n else None)) ((bytes_eq-Decides name name).1 refl))
 
 one_here : (key name : List ℕ) (n : ℕ) (c : Bool) → bytes_eq key name ≡ c → is_some (if c then Some n else None) ≡ true → name ≡ key
@@ -78,7 +75,7 @@ noted_back : (names : List (List ℕ × ℕ)) (name key : List ℕ) (n : ℕ) (b
 noted_back names name key n true e h = inl h
 noted_back names name key n false e h =
     back_by names name key n (from_or (named_in names key) (if bytes_eq key name then Some n else None)
-    (sym (ap is_some (named_inserted names name key n (is_none (named_in names name) e))) ∙ h))
+    (sym (ap is_some (named_inserted names name key n (none_of (named_in names name) e))) ∙ h))
 
 -- some definition is of a function of the name
 abbrev pub Defines : List Function → List ℕ → Type 0

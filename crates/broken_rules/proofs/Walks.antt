@@ -2,6 +2,7 @@
 use Rattle.std.proofs.Common.{◌≡◌, refl, sym, subst, ap, ℕ, Bool, true, false, List, [], ◌∷◌, ◌++◌, Option, Some, None, append_assoc}
 use Rattle.std.specs.Prelude.{not, ◌&&◌}
 use Rattle.std.specs.List.{AllByRecursion}
+use Rattle.std.proofs.lemmas.List.{append-nil}
 use Rattle.c_tree.specs.declared.expression.Name.{Name}
 use Rattle.c_tree.specs.declared.expression.Specifiers.{Specifiers}
 use Rattle.c_tree.specs.declared.declaration.Declarator.{Declarator}
@@ -31,7 +32,7 @@ use Rattle.c_resolution.specs.Globals.{global_meaning}
 use Rattle.c_resolution.specs.Functions as y
 use Rattle.broken_rules.specs.Sight.{Declared, Names, Where, behind, inside, with_names}
 use Rattle.broken_rules.specs.Parts.{Part, Parts, names_of, number_behind, function_names, object_names}
-use Rattle.broken_rules.proofs.Ledgers.{Ledger, Good, Writes, given, left, turn, after_one, nothing_new, writes_both, append_nothing}
+use Rattle.broken_rules.proofs.Ledgers.{Ledger, Good, Writes, given, left, turn, after_one, nothing_new, writes_both}
 use Rattle.broken_rules.proofs.Events.{Events, Creates}
 
 -- the place with a scope of its own
@@ -161,7 +162,7 @@ module _ (L : Ledger) (S : Scoping L) where
   -- what comes behind writes nothing
   pub right_before : {A B : Type 0} (p : Goes A) (q : A → Goes B) (Is : A → Type 0) (Next : B → Type 0) (ps : Parts) (w v u : Where) → Goes_right w p Is ps v →
       ((a : A) → Is a → Goes_right v (q a) Next [] u) → Goes_right w (p >>= q) Next ps u
-  right_before p q Is Next ps w v u h k = subst (λ rs. Goes_right w (p >>= q) Next rs u) (append_nothing ps) (right_then p q Is Next ps [] w v u h k)
+  right_before p q Is Next ps w v u h k = subst (λ rs. Goes_right w (p >>= q) Next rs u) (append-nil ps) (right_then p q Is Next ps [] w v u h k)
 
   in_scope_right : {A : Type 0} (x : State) (w : Where) (parts : Parts) (o : Outcome Findings A) → S.Agrees x.scope w → Writes L x.found (left o) parts →
       Right L S.Agrees x (in_scope x.scope o) (λ _. Unit {0}) parts w

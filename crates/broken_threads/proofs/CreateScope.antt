@@ -1,10 +1,13 @@
 -- Creates, in a whole text.
 use Rattle.std.proofs.Common.{◌≡◌, refl, sym, subst, ap, ◌∙◌, ℕ, zero, suc, ◌<◌, Bool, true, false, List, [], ◌∷◌, ◌++◌, length, Option, Some, None, append_assoc, append-nil, arith}
-use Rattle.std.specs.Prelude.{◌-◌, ◌&&◌, ◌||◌, not, is_some, if◌then◌else◌, slice_get, remove}
+use Rattle.std.specs.Prelude.{◌-◌, ◌&&◌, not, is_some, if◌then◌else◌, slice_get, remove}
 use Rattle.std.specs.List.{flat_map}
 use Rattle.std.specs.Str.{bytes_eq}
 use Rattle.std.proofs.lemmas.Slice.Eq.{bytes_eq-Decides}
-use Rattle.std.proofs.lemmas.Option.{none-some}
+use Rattle.std.proofs.lemmas.Option.{none-some, same_Some}
+use Rattle.std.proofs.lemmas.List.{length-append}
+use Rattle.std.proofs.lemmas.Bool.{or_parts, false≢true}
+use Rattle.lists.proofs.Places.{none_of}
 use Rattle.c_tree.specs.declared.expression.Name.{Name}
 use Rattle.c_tree.specs.declared.expression.Specifiers.{Specifiers}
 use Rattle.c_tree.specs.declared.expression.Expression.{out-Expression}
@@ -48,7 +51,6 @@ use Rattle.broken_rules.proofs.Ledgers.{Ledger, Writes, given, left, after_one, 
 use Rattle.broken_rules.proofs.Events.{Events}
 use Rattle.broken_rules.proofs.Walks.{Scoping, IsUsual, IsParameter, Adds, is_thread, is_thread_base}
 use Rattle.broken_rules.proofs.Functions.{text_is, declaration_is, declaration_holds}
-use Rattle.broken_rules.proofs.Numbers.{length_both}
 use Rattle.broken_rules.proofs.Sights.{Agrees, named_inserted}
 use Rattle.broken_rules.proofs.NameScope as n
 use Rattle.broken_rules.proofs.NameScope.{IsMeant}
@@ -57,21 +59,6 @@ use Rattle.broken_rules.proofs.Quiets as q
 use Rattle.broken_threads.proofs.Numbering.{is_thread_declared, thread_by, threads_of, first_index, threads_both, first_new, new_below}
 use Rattle.broken_threads.proofs.Creations as c
 use Rattle.broken_threads.proofs.Creations.{cap, create_ledger, Stands, Level, Levels, Numbered, Num, num_none, num_or}
-
-no_truth : false ≡ true → ⊥
-no_truth h = cc
-
-none_is : {A : Type 0} (o : Option A) → is_some o ≡ false → o ≡ None
-none_is None h = refl
-none_is (Some x) h = absurd (no_truth (sym h))
-
-none_first : (b c : Bool) → (b || c) ≡ false → b ≡ false
-none_first true c h = absurd (no_truth (sym h))
-none_first false c h = refl
-
-none_second : (b c : Bool) → (b || c) ≡ false → c ≡ false
-none_second true c h = absurd (no_truth (sym h))
-none_second false c h = h
 
 -- ---- thread objects that no create names
 
@@ -103,7 +90,7 @@ same_object : (x y : Object) → meaning.Object x ≡ meaning.Object y → x ≡
 same_object x y h = cc
 
 no_kind : (x : Object) (v : Object) → x ≡ v → same_kind Thread x.kind ≡ false → same_kind Thread v.kind ≡ true → ⊥
-no_kind x v e out is = no_truth (sym out ∙ ap (λ (z : Object). same_kind Thread z.kind) e ∙ is)
+no_kind x v e out is = false≢true (sym out ∙ ap (λ (z : Object). same_kind Thread z.kind) e ∙ is)
 
 -- the number of a thread object that is declared
 thread_is : (tables : Tables) (words : Spelled) (size : Option ℕ) (b : Bool) (kind : BaseType) (v : Object) →
@@ -136,7 +123,7 @@ module _ (T : List (List ℕ)) (all : Names) where
       let more = ap length added.1 in
       let split : length (threads_of (scope ++ one key d)) ≡ length (threads_of scope ++ key ∷ []) =
       ap length (threads_both scope (one key d)) ∙ ap (λ b. length (threads_of scope ++ (thread_by b key ++ []))) e in
-      omega (arith, length_both old ((record { length = added.0; routine = None }) ∷ []), length_both (threads_of scope) (key ∷ []))
+      omega (arith, length-append old ((record { length = added.0; routine = None }) ∷ []), length-append (threads_of scope) (key ∷ []))
   counted false old new scope key d e added count =
       ap length added ∙ count ∙ sym (ap length (threads_both scope (one key d)) ∙ ap (λ b. length (threads_of scope ++ (thread_by b key ++ []))) e
       ∙ ap length (append-nil (threads_of scope)))
@@ -198,7 +185,7 @@ module _ (D : List (List ℕ × ℕ)) (T : List (List ℕ)) where
 
   levels_get : (xs : List names.Names) (i : ℕ) (x : names.Names) → Levels D T xs → slice_get xs i ≡ Some x → Level D T x
   levels_get [] i x h e = absurd (none-some x e)
-  levels_get (z ∷ xs) zero x h e = subst (Level D T) (c.same_some z x e) h.0
+  levels_get (z ∷ xs) zero x h e = subst (Level D T) (same_Some z x e) h.0
   levels_get (z ∷ xs) (suc i) x h e = levels_get xs i x h.1 e
 
   levels_remove : (xs : List names.Names) (i : ℕ) → Levels D T xs → Levels D T (remove xs i)
@@ -236,8 +223,8 @@ module _ (D : List (List ℕ × ℕ)) (T : List (List ℕ)) where
   free_name : (s : Scope) (name : List ℕ) → is_taken s name ≡ false → (function_named name ≡ None) × (named_in s.inner name ≡ None)
   unfolding is_taken
   free_name s name h = (
-    none_is (function_named name) (none_first (is_some (function_named name)) (is_some (named_in s.inner name)) h),
-    none_is (named_in s.inner name) (none_second (is_some (function_named name)) (is_some (named_in s.inner name)) h),
+    none_of (function_named name) (or_parts (is_some (function_named name)) (is_some (named_in s.inner name)) h).0,
+    none_of (named_in s.inner name) (or_parts (is_some (function_named name)) (is_some (named_in s.inner name)) h).1,
   )
 
   declare_by : (x : State) (name : Name) (m : Meaning) (b : Bool) → is_taken x.scope name.bytes ≡ b → Numbered D T x.scope → (b ≡ false → Num D T (Some m) name.bytes) →
@@ -253,7 +240,7 @@ module _ (D : List (List ℕ × ℕ)) (T : List (List ℕ)) where
   declare_numbers x name m h num = declare_by x name m (is_taken x.scope name.bytes) refl h num
 
   function_num : (number : ℕ) (key : List ℕ) → Num D T (Some (meaning.Function number)) key
-  function_num number key v e kind = absurd (no_function v number (c.same_some (meaning.Function number) (meaning.Object v) e))
+  function_num number key v e kind = absurd (no_function v number (same_Some (meaning.Function number) (meaning.Object v) e))
 
   scope_kept : {A : Type 0} (s : Scope) (o : Outcome Findings A) → Numbered D T s → Numbered D T (left (in_scope s o)).scope
   scope_kept s (Outcome.Gives x found) h = h
@@ -282,7 +269,7 @@ module _ (D : List (List ℕ × ℕ)) (T : List (List ℕ)) where
       Num D T (Some m) name.bytes
   placed_num s w name m all agrees placing free v e kind =
       let f = free_name s name.bytes free in
-      let next = placing v (c.same_some m (meaning.Object v) e) kind in
+      let next = placing v (same_Some m (meaning.Object v) e) kind in
       let none = same_none D s.headers (named_in (innermost w.scopes) name.bytes) (named_in s.inner name.bytes) (inner_same D s w name.bytes f.0 agrees) f.1 in
       let at = first_new (innermost w.scopes) name.bytes next.rest none in (
         next.number ∙ ap place_in_tree (sym at) ∙ ap (λ l. place_in_tree (first_index l name.bytes)) next.text,

@@ -4,6 +4,7 @@ use Rattle.std.proofs.Common.{append_assoc, append-nil, arith}
 use Rattle.std.specs.Prelude.{fold, is_none, nat_eq, if◌then◌else◌, option_map, slice_get}
 use Rattle.std.proofs.lemmas.Bool.Decides.{nat_tests}
 use Rattle.std.proofs.lemmas.Option.{same_Some, none-some}
+use Rattle.std.proofs.lemmas.Bool.{eq-eqb, false≢true}
 use Rattle.c_tree.specs.declared.expression.Name.{Name}
 use Rattle.c_tree.specs.declared.expression.Place.{Place as PlaceTree, out-Place}
 use Rattle.c_tree.specs.declared.expression.Argument.{Argument as ArgumentTree, out-Argument}
@@ -48,15 +49,6 @@ use Rattle.broken_threads.proofs.Numbering.{first_index}
 -- the number that stands for a misused object
 abbrev pub cap : ℕ
 cap = 0xffff_ffff
-
-pub same_some : {A : Type 0} (x y : A) → Some x ≡ Some y → x ≡ y
-same_some x y h = same_Some x y h
-
-no_truth : false ≡ true → ⊥
-no_truth h = cc
-
-equal_self : (m : ℕ) → nat_eq m m ≡ true
-equal_self m = grind (arith, nat_tests)
 
 apart : (m n : ℕ) → m < n → nat_eq m n ≡ false
 apart m n lt = grind (arith, nat_tests)
@@ -378,12 +370,12 @@ module _ (D : List (List ℕ × ℕ)) (T : List (List ℕ)) where
         Numbers (number_by (if t then Some o else None)) (if u then Some (first_index T key) else None)
     one_object o key true true e same num = let h = num o refl e in (number_is o.number (first_index T key) h.0 h.1, h.1)
     one_object o key false false e same num = refl
-    one_object o key true false e same num = absurd (no_truth (sym same))
-    one_object o key false true e same num = absurd (no_truth same)
+    one_object o key true false e same num = absurd (false≢true (sym same))
+    one_object o key false true e same num = absurd (false≢true same)
 
     other_object : (key : List ℕ) (u : Bool) → false ≡ u → Numbers cap (if u then Some (first_index T key) else None)
     other_object key false e = refl
-    other_object key true e = absurd (no_truth e)
+    other_object key true e = absurd (false≢true e)
 
     usual : (m : Meaning) → IsUsual m → a.object_of Thread (known.Declared m) ≡ None
     usual (meaning.Variable v) h = refl
@@ -503,7 +495,7 @@ module _ (D : List (List ℕ × ℕ)) (T : List (List ℕ)) where
         from = λ part h. absurd h;
         keeps = λ part h. h;
         finds = λ part h. absurd h;
-        order = one_more found.creations (creation t r at) true (ap (λ k. nat_eq k cap) e ∙ equal_self cap);
+        order = one_more found.creations (creation t r at) true (ap (λ k. nat_eq k cap) e ∙ eq-eqb cap cap refl);
       };
     }
 

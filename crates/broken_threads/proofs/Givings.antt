@@ -1,8 +1,10 @@
 -- Which faults the creates of a text show together: a second routine for one thread object.
 use Rattle.std.proofs.Common.{◌≡◌, refl, sym, subst, ap, ◌∙◌, inl, inr, ℕ, zero, suc, ◌<◌, ◌≤◌, Bool, true, false, List, [], ◌∷◌, ◌++◌, length, Option, Some, None, append_assoc, append-nil, arith}
 use Rattle.std.specs.Prelude.{◌≢◌, ◌⊎◌, fold, nat_eq, if◌then◌else◌, slice_get, slice_set}
-use Rattle.std.proofs.lemmas.Bool.Decides.{nat_tests}
 use Rattle.std.proofs.lemmas.Option.{same_Some, none-some, slice_get_past}
+use Rattle.std.proofs.lemmas.List.{length-set}
+use Rattle.std.proofs.lemmas.Bool.{ne_eqb, eqb-false, eqb-true}
+use Rattle.lists.proofs.Places.{get_there, set_elsewhere, set_there}
 use Rattle.c_program.specs.declared.tree.ThreadObject.{ThreadObject}
 use Rattle.c_rules.specs.declared.fault.Fault.{Fault}
 use Rattle.c_rules.specs.declared.findings.Creation.{Creation}
@@ -15,39 +17,7 @@ use Rattle.broken_threads.specs.Laws.{fault_at}
 use Rattle.broken_threads.proofs.Creations.{cap, real, real_one}
 use Rattle.broken_threads.proofs.CreateScope.{AllFree}
 
-no_truth : false ≡ true → ⊥
-no_truth h = cc
-
-equal : (m n : ℕ) → nat_eq m n ≡ true → m ≡ n
-equal m n h = grind (arith, nat_tests)
-
-equal_self : (m : ℕ) → nat_eq m m ≡ true
-equal_self m = grind (arith, nat_tests)
-
-not_equal : (m n : ℕ) → nat_eq m n ≡ false → m ≡ n → ⊥
-not_equal m n h e = grind (arith, nat_tests)
-
-differ : (m n : ℕ) → m ≢ n → nat_eq m n ≡ false
-differ m n h = grind (arith, nat_tests)
-
 -- ---- tables of thread objects
-
-set_there : (list : List ThreadObject) (k : ℕ) (a b : ThreadObject) → slice_get list k ≡ Some a → slice_get (slice_set list k b) k ≡ Some b
-set_there [] k a b h = absurd (none-some a h)
-set_there (x ∷ list) zero a b h = refl
-set_there (x ∷ list) (suc k) a b h = set_there list k a b h
-
-set_elsewhere : (list : List ThreadObject) (k n : ℕ) (b : ThreadObject) → (k ≡ n → ⊥) → slice_get (slice_set list k b) n ≡ slice_get list n
-set_elsewhere [] k n b h = refl
-set_elsewhere (x ∷ list) zero zero b h = absurd (h refl)
-set_elsewhere (x ∷ list) zero (suc n) b h = refl
-set_elsewhere (x ∷ list) (suc k) zero b h = refl
-set_elsewhere (x ∷ list) (suc k) (suc n) b h = set_elsewhere list k n b (λ e. h (ap suc e))
-
-set_count : (list : List ThreadObject) (k : ℕ) (b : ThreadObject) → length (slice_set list k b) ≡ length list
-set_count [] k b = refl
-set_count (x ∷ list) zero b = refl
-set_count (x ∷ list) (suc k) b = ap suc (set_count list k b)
 
 abbrev routine_in : Option ThreadObject → Option ℕ
 routine_in None = None
@@ -62,15 +32,10 @@ free_at [] h n = refl
 free_at (x ∷ threads) h zero = h.0
 free_at (x ∷ threads) h (suc n) = free_at threads h.1 n
 
-inside_get : (threads : List ThreadObject) (n : ℕ) → n < length threads → (o : ThreadObject) × (slice_get threads n ≡ Some o)
-inside_get [] n lt = absurd (omega arith)
-inside_get (x ∷ threads) zero lt = (x, refl)
-inside_get (x ∷ threads) (suc n) lt = inside_get threads n (omega arith)
-
 -- ---- one create
 
 given_count_at : (c : Creation) (object : ThreadObject) (o : Option ℕ) (threads : List ThreadObject) → length (r.given_to c object o threads).0 ≡ length threads
-given_count_at c object None threads = set_count threads c.thread (record { length = object.length; routine = Some c.routine })
+given_count_at c object None threads = length-set threads c.thread (record { length = object.length; routine = Some c.routine })
 given_count_at c object (Some m) threads = refl
 
 given_count_by : (c : Creation) (o : Option ThreadObject) (threads : List ThreadObject) → length (r.given_at c o threads).0 ≡ length threads
@@ -93,7 +58,7 @@ no_object g c le =
 real_by : (b : Bool) (c : Creation) (cs : List Creation) (g : Given) → nat_eq c.thread cap ≡ b → length g.0 < cap →
     ((z : Given) → length z.0 < cap → fold next_given z cs ≡ fold next_given z (real cs)) → fold next_given g (c ∷ cs) ≡ fold next_given g (real_one b c ++ real cs)
 real_by true c cs g e lt later =
-    let same = equal c.thread cap e in
+    let same = eqb-true c.thread cap e in
     ap (λ z. fold next_given z cs) (no_object g c (omega arith)) ∙ later g lt
 real_by false c cs g e lt later =
     let same : length (next_given g c).0 ≡ length g.0 = given_count c g.0 in
@@ -134,12 +99,12 @@ new_at : (threads : List ThreadObject) (P : List Creation) (c : Creation) (objec
     slice_get threads c.thread ≡ Some object → object.routine ≡ None → new.routine ≡ Some c.routine → Knows threads P →
     routine_at (slice_set threads c.thread new) n ≡ first_in (P ++ c ∷ []) n
 new_at threads P c object new n true e at none is knows =
-    let same = equal c.thread n e in
+    let same = eqb-true c.thread n e in
     let empty = sym (knows n) ∙ ap (routine_at threads) (sym same) ∙ ap routine_in at ∙ none in
     ap (routine_at (slice_set threads c.thread new)) (sym same) ∙ ap routine_in (set_there threads c.thread object new at) ∙ is
     ∙ sym (more_by P c n true e ∙ ap (λ o. or_else o (Some c.routine)) empty)
 new_at threads P c object new n false e at none is knows =
-    ap routine_in (set_elsewhere threads c.thread n new (not_equal c.thread n e)) ∙ knows n ∙ sym (more_by P c n false e ∙ or_none (first_in P n))
+    ap routine_in (set_elsewhere threads c.thread n new (eqb-false c.thread n e)) ∙ knows n ∙ sym (more_by P c n false e ∙ or_none (first_in P n))
 
 or_some : (x z : Option ℕ) (m : ℕ) → x ≡ Some m → or_else x z ≡ x
 or_some (Some k) z m e = refl
@@ -148,7 +113,7 @@ or_some None z m e = absurd (none-some m e)
 old_at : (threads : List ThreadObject) (P : List Creation) (c : Creation) (m n : ℕ) (b : Bool) → nat_eq c.thread n ≡ b → routine_at threads c.thread ≡ Some m → Knows threads P →
     routine_at threads n ≡ first_in (P ++ c ∷ []) n
 old_at threads P c m n true e at knows =
-    let same = equal c.thread n e in
+    let same = eqb-true c.thread n e in
     knows n ∙ sym (more_by P c n true e ∙ or_some (first_in P n) (Some c.routine) m (sym (knows n) ∙ ap (routine_at threads) (sym same) ∙ at))
 old_at threads P c m n false e at knows = knows n ∙ sym (more_by P c n false e ∙ or_none (first_in P n))
 
@@ -163,7 +128,7 @@ pub record Step (c : Creation) (threads : List ThreadObject) (P : List Creation)
 second_from : (c : Creation) (m : ℕ) (b : Bool) → nat_eq m c.routine ≡ b → (f : Fault) → (if b then None else Some (fault_at c.offset)) ≡ Some f →
     (m ≢ c.routine) × (fault_at c.offset ≡ f)
 second_from c m true e f h = absurd (none-some f h)
-second_from c m false e f h = (not_equal m c.routine e, same_Some (fault_at c.offset) f h)
+second_from c m false e f h = (eqb-false m c.routine e, same_Some (fault_at c.offset) f h)
 
 step_at : (c : Creation) (object : ThreadObject) (o : Option ℕ) (threads : List ThreadObject) (P : List Creation) → slice_get threads c.thread ≡ Some object → object.routine ≡ o →
     Knows threads P → Step c threads P (r.given_to c object o threads)
@@ -179,7 +144,7 @@ step_at c object (Some m) threads P at is knows =
       from = λ f e. let h = second_from c m (nat_eq m c.routine) refl f e in (m, sym (knows c.thread) ∙ there, h.0, h.1);
       back = λ k e out.
           let same = same_Some m k (sym there ∙ knows c.thread ∙ e) in
-          ap (λ b. if b then None else Some (fault_at c.offset)) (differ m c.routine (λ h. out (sym same ∙ h)));
+          ap (λ b. if b then None else Some (fault_at c.offset)) (ne_eqb m c.routine (λ h. out (sym same ∙ h)));
     }
 
 step_by : (c : Creation) (threads : List ThreadObject) (P : List Creation) (object : ThreadObject) → slice_get threads c.thread ≡ Some object → Knows threads P →
@@ -188,7 +153,7 @@ step_by c threads P object at knows =
     subst (λ o. Step c threads P (r.given_at c o threads)) (sym at) (step_at c object object.routine threads P at refl knows)
 
 step : (c : Creation) (threads : List ThreadObject) (P : List Creation) → c.thread < length threads → Knows threads P → Step c threads P (r.given c threads)
-step c threads P lt knows = let o = inside_get threads c.thread lt in step_by c threads P o.0 o.1 knows
+step c threads P lt knows = let o = get_there threads c.thread lt in step_by c threads P o.0 o.1 knows
 
 -- ---- all creates
 

@@ -2,6 +2,7 @@
 use Rattle.std.proofs.Common.{◌≡◌, refl, sym, subst, ap, ◌∙◌, inl, inr, ℕ, Bool, true, false, List, [], ◌∷◌, Option, Some, None}
 use Rattle.std.specs.Prelude.{◌⊎◌, ◌||◌, not, is_none, slice_get}
 use Rattle.std.proofs.lemmas.Option.{same_Some, none-some}
+use Rattle.std.proofs.lemmas.Bool.{not-false, or_parts, both_ways, not-true, false≢true}
 use Rattle.c_tree.specs.declared.expression.Name.{Name}
 use Rattle.c_tree.specs.declared.declaration.Function.{Function}
 use Rattle.c_tree.specs.declared.declaration.Parameter.{Parameter}
@@ -33,9 +34,6 @@ use Rattle.broken_rules.proofs.Naming.{no_parameter, not_function}
 use Rattle.broken_threads.proofs.Headers.{main_is, main_back, routine_is, routine_back, pointer_is, pointer_back}
 use Rattle.broken_threads.proofs.Uses as q
 use Rattle.broken_threads.proofs.Uses.{IsRun, IsExit, IsPointer, BreaksAt, MayExit, use_ledger}
-
-no_truth : false ≡ true → ⊥
-no_truth h = cc
 
 not_library : (f : LibraryFunction) (m : Meaning) → known.Library f ≡ known.Declared m → ⊥
 not_library f m h = cc
@@ -70,28 +68,8 @@ BodyIs D s None = s.function ≡ None
 BodyIs D s (Some body) = IsInside D s body.1
 
 either : (b c : Bool) → (b || c) ≡ true → b ≡ false → c ≡ true
-either true c h e = absurd (no_truth (sym e))
+either true c h e = absurd (false≢true (sym e))
 either false c h e = h
-
-neither_first : (b c : Bool) → (b || c) ≡ false → b ≡ false
-neither_first true c h = absurd (no_truth (sym h))
-neither_first false c h = refl
-
-neither_second : (b c : Bool) → (b || c) ≡ false → c ≡ false
-neither_second true c h = absurd (no_truth (sym h))
-neither_second false c h = h
-
-not_false : (b : Bool) → not b ≡ false → b ≡ true
-not_false true h = refl
-not_false false h = absurd (no_truth (sym h))
-
-not_both : (b : Bool) → not b ≡ true → b ≡ true → ⊥
-not_both true h e = no_truth h
-not_both false h e = no_truth e
-
-true_or : (b c : Bool) → b ≡ true → (b || c) ≡ true
-true_or true c h = refl
-true_or false c h = absurd (no_truth h)
 
 module _ (D : List (List ℕ × ℕ)) where
   abbrev L : Ledger
@@ -100,12 +78,12 @@ module _ (D : List (List ℕ × ℕ)) where
   elsewhere_is : (s : Scope) (o : Option (ℕ × Function)) → BodyIs D s o → (is_none s.function || not (gives_pointer s.gives)) ≡ true → IsElsewhere o
   elsewhere_is s None h e = tt
   elsewhere_is s (Some body) h e =
-      λ r. not_both (gives_pointer s.gives) (either (is_none s.function) (not (gives_pointer s.gives)) e h.some) (ap gives_pointer h.gives ∙ pointer_back D body.1 r)
+      λ r. both_ways (gives_pointer s.gives) (not-true (gives_pointer s.gives) (either (is_none s.function) (not (gives_pointer s.gives)) e h.some)) (ap gives_pointer h.gives ∙ pointer_back D body.1 r)
 
   not_elsewhere : (s : Scope) (o : Option (ℕ × Function)) → BodyIs D s o → (is_none s.function || not (gives_pointer s.gives)) ≡ false → IsElsewhere o → ⊥
-  not_elsewhere s None h e out = no_truth (sym (neither_first (is_none s.function) (not (gives_pointer s.gives)) e) ∙ ap is_none h)
+  not_elsewhere s None h e out = false≢true (sym (or_parts (is_none s.function) (not (gives_pointer s.gives)) e).0 ∙ ap is_none h)
   not_elsewhere s (Some body) h e out =
-      let gives = not_false (gives_pointer s.gives) (neither_second (is_none s.function) (not (gives_pointer s.gives)) e) in
+      let gives = not-false (gives_pointer s.gives) (or_parts (is_none s.function) (not (gives_pointer s.gives)) e).1 in
       out (pointer_is D body.1 (sym (ap gives_pointer h.gives) ∙ gives))
 
   pub record Stands (s : Scope) (w : Where) : Type 0 where
@@ -162,7 +140,7 @@ module _ (D : List (List ℕ × ℕ)) where
 
   pointer_means : (b : Bool) (m : Meaning) → IsParameter b m → b ≡ true → m ≡ meaning.Argument
   pointer_means true m h e = h
-  pointer_means false m h e = absurd (no_truth e)
+  pointer_means false m h e = absurd (false≢true e)
 
   argument_by : (s : Scope) (w : Where) (name : Name) → Sees D s w name.bytes → IsPointer w name → look_up s name.bytes ≡ known.Declared meaning.Argument
   argument_by s w name (Sees.OfLibrary g named looks) u = absurd (none-some g (sym u.means.own ∙ named))
@@ -191,7 +169,7 @@ module _ (D : List (List ℕ × ℕ)) where
 
   -- a name of something else is not read as such a parameter
   no_read : (s : Scope) (w : Where) (name : Name) → Agrees D s w → is_argument (look_up s name.bytes) ≡ false → (x : Fault) → BreaksAt (Part.Read w name) x → ⊥
-  no_read s w name agrees out x b = no_truth (sym out ∙ ap is_argument (argument_by s w name (sees D s w name.bytes agrees) b.0))
+  no_read s w name agrees out x b = false≢true (sym out ∙ ap is_argument (argument_by s w name (sees D s w name.bytes agrees) b.0))
 
   quiet_read : (s : Scope) (w : Where) (name : Name) → Agrees D s w → (x : Known) → look_up s name.bytes ≡ x → is_argument x ≡ false →
       Good L (e.named_value x name.offset None) (Part.Use w name ∷ Part.Read w name ∷ [])
@@ -235,8 +213,8 @@ module _ (D : List (List ℕ × ℕ)) where
   may_run f false c h k e = inr (routine_is D f (k ∙ e))
 
   no_run : (f : Function) → ((header_in D f).is_main || is_start_routine (header_in D f)) ≡ false → IsMain f ⊎ IsStartRoutine f → ⊥
-  no_run f e (inl m) = no_truth (sym (neither_first (header_in D f).is_main (is_start_routine (header_in D f)) e) ∙ main_back D f m)
-  no_run f e (inr r) = no_truth (sym (neither_second (header_in D f).is_main (is_start_routine (header_in D f)) e) ∙ routine_back D f r)
+  no_run f e (inl m) = false≢true (sym (or_parts (header_in D f).is_main (is_start_routine (header_in D f)) e).0 ∙ main_back D f m)
+  no_run f e (inr r) = false≢true (sym (or_parts (header_in D f).is_main (is_start_routine (header_in D f)) e).1 ∙ routine_back D f r)
 
   not_run : (w : Where) (name : Name) (f : Function) → StandsFor w name (Declared.OfFunction f) → ((header_in D f).is_main || is_start_routine (header_in D f)) ≡ false →
       IsRun w name ⊎ IsExit w name → ⊥

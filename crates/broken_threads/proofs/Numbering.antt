@@ -4,10 +4,10 @@ use Rattle.std.specs.Prelude.{if◌then◌else◌, slice_get}
 use Rattle.std.specs.Str.{bytes_eq}
 use Rattle.std.proofs.lemmas.Slice.Eq.{bytes_eq-Decides}
 use Rattle.std.proofs.lemmas.Option.{same_Some, none-some}
+use Rattle.std.proofs.lemmas.List.{length-append}
 use Rattle.c_rules.specs.Levels.{named_in}
 use Rattle.broken_rules.specs.Sight.{Declared, Names}
 use Rattle.broken_rules.proofs.Walks.{is_thread}
-use Rattle.broken_rules.proofs.Numbers.{length_both}
 
 -- whether a name is declared as a thread object at file scope
 abbrev pub is_thread_declared : Declared → Bool
@@ -50,7 +50,7 @@ first_new (d ∷ names) key rest none =
 
 pub new_below : (names : Names) (key : List ℕ) (rest : List (List ℕ)) → named_in names key ≡ None →
     first_index (threads_of names ++ key ∷ rest) key < length (threads_of names ++ key ∷ rest)
-new_below names key rest none = omega (arith, first_new names key rest none, length_both (threads_of names) (key ∷ rest))
+new_below names key rest none = omega (arith, first_new names key rest none, length-append (threads_of names) (key ∷ rest))
 
 -- ---- the name of a number
 

@@ -2,8 +2,10 @@
 use Rattle.std.proofs.Common.{◌≡◌, refl, sym, subst, ap, ◌∙◌, inl, inr, ℕ, zero, suc, ◌<◌, ◌≤◌, Bool, true, false, List, [], ◌∷◌, ◌++◌, length, Option, Some, None, arith}
 use Rattle.std.specs.Prelude.{◌≢◌, ◌⊎◌, ◌&&◌, fold, not, is_some, nat_eq, if◌then◌else◌, slice_get}
 use Rattle.std.specs.List.{flat_map}
-use Rattle.std.proofs.lemmas.Bool.Decides.{nat_tests}
-use Rattle.std.proofs.lemmas.Option.{same_Some, none-some, slice_get_within}
+use Rattle.std.proofs.lemmas.Option.{same_Some, none-some, slice_get_within, cond_some}
+use Rattle.std.proofs.lemmas.List.{length-append}
+use Rattle.std.proofs.lemmas.Bool.{ne_eqb, eq-eqb, eqb-true, false≢true}
+use Rattle.lists.proofs.Places.{get_front, get_middle}
 use Rattle.c_tree.specs.declared.expression.Name.{Name}
 use Rattle.c_tree.specs.declared.expression.Specifiers.{Specifiers}
 use Rattle.c_tree.specs.declared.declaration.Function.{Function}
@@ -30,7 +32,6 @@ use Rattle.broken_rules.proofs.Orders.{IsReached}
 use Rattle.broken_rules.proofs.Ledgers.{Entered}
 use Rattle.broken_rules.proofs.Walks.{is_thread, is_thread_base}
 use Rattle.broken_rules.proofs.Defined.{noted_defined, defined_noted}
-use Rattle.broken_rules.proofs.Numbers.{length_both}
 use Rattle.broken_threads.specs.Laws.{fault_at, fault_of_creates, IsOfFewNames}
 use Rattle.broken_threads.proofs.Numbering.{is_thread_declared, thread_by, threads_of, first_index, one_name}
 use Rattle.broken_threads.proofs.Creations as c
@@ -39,18 +40,6 @@ use Rattle.broken_threads.proofs.Creations.{sites, site_of, object_number, threa
 use Rattle.broken_threads.proofs.CreateScope as s
 use Rattle.broken_threads.proofs.CreateScope.{all_names, text_threads, text_creates, text_tables}
 use Rattle.broken_threads.proofs.Givings.{real_given, first_in, free_at, AllBelow, Second, faults_from, faults_reached}
-
-no_truth : false ≡ true → ⊥
-no_truth h = cc
-
-same_number : (m n : ℕ) → nat_eq m n ≡ true → m ≡ n
-same_number m n h = grind (arith, nat_tests)
-
-equal_self : (m : ℕ) → nat_eq m m ≡ true
-equal_self m = grind (arith, nat_tests)
-
-differ : (m n : ℕ) → m ≢ n → nat_eq m n ≡ false
-differ m n h = grind (arith, nat_tests)
 
 -- ---- how many names there are
 
@@ -65,7 +54,7 @@ one_definition (external.Objects o) = omega arith
 fewer_definitions : (list : List ExternalDeclaration) → length (definitions list) ≤ length (flat_map names_of list)
 fewer_definitions [] = omega arith
 fewer_definitions (d ∷ list) =
-    omega (arith, one_definition d, fewer_definitions list, length_both (definition_in d) (definitions list), length_both (names_of d) (flat_map names_of list))
+    omega (arith, one_definition d, fewer_definitions list, length-append (definition_in d) (definitions list), length-append (names_of d) (flat_map names_of list))
 
 by_thread : (b : Bool) (key : List ℕ) → length (thread_by b key) ≤ 1
 by_thread true key = omega arith
@@ -74,21 +63,21 @@ by_thread false key = omega arith
 fewer_threads : (names : Names) → length (threads_of names) ≤ length names
 fewer_threads [] = omega arith
 fewer_threads (d ∷ names) =
-    omega (arith, by_thread (is_thread_declared d.1) d.0, fewer_threads names, length_both (thread_by (is_thread_declared d.1) d.0) (threads_of names))
+    omega (arith, by_thread (is_thread_declared d.1) d.0, fewer_threads names, length-append (thread_by (is_thread_declared d.1) d.0) (threads_of names))
 
 -- ---- thread objects
 
 two : (b t : Bool) → (not b && t) ≡ true → (b ≡ false) × (t ≡ true)
-two true t h = absurd (no_truth h)
+two true t h = absurd (false≢true h)
 two false t h = (refl, h)
 
 two_back : (b t : Bool) → b ≡ false → t ≡ true → (not b && t) ≡ true
-two_back true t h k = absurd (no_truth (sym h))
+two_back true t h k = absurd (false≢true (sym h))
 two_back false t h k = k
 
 thread_base : (b : BaseType) → is_thread_base b ≡ true → b ≡ base.Thread
 thread_base base.Thread h = refl
-thread_base other h = absurd (no_truth h)
+thread_base other h = absurd (false≢true h)
 
 is_object : (words : Specifiers) (pointer : Bool) (d : GlobalDeclarator) → is_thread words pointer ≡ true → IsThreadObject (Declared.OfObject words pointer d)
 is_object words pointer d h = let t = two pointer (is_thread_base (base_of words.words)) h in (t.0, thread_base (base_of words.words) t.1)
@@ -101,10 +90,6 @@ made_is (Some t) (Some m) at x e =
     let same = same_Some (creation t m at) x e in
     (ap (λ (z : Creation). Some z.thread) same, ap (λ (z : Creation). Some z.routine) same, ap (λ (z : Creation). z.offset) same)
 
-if_some : (b : Bool) (m k : ℕ) → (if b then Some m else None) ≡ Some k → b ≡ true
-if_some true m k e = refl
-if_some false m k e = absurd (none-some k e)
-
 module _ (D : List (List ℕ × ℕ)) (T : List (List ℕ)) where
   record IsObject (own : Option LibraryFunction) (declared : Option Declared) : Type 0 where
     pub own_is : own ≡ None
@@ -116,7 +101,7 @@ module _ (D : List (List ℕ × ℕ)) (T : List (List ℕ)) where
   object_is (Some f) declared key k e = absurd (none-some k e)
   object_is None None key k e = absurd (none-some k e)
   object_is None (Some (Declared.OfObject words pointer d)) key k e =
-      record { own_is = refl; d = Declared.OfObject words pointer d; is = refl; object = is_object words pointer d (if_some (is_thread words pointer) (first_index T key) k e) }
+      record { own_is = refl; d = Declared.OfObject words pointer d; is = refl; object = is_object words pointer d (cond_some (is_thread words pointer) (first_index T key) k e).0 }
   object_is None (Some (Declared.OfFunction f)) key k e = absurd (none-some k e)
   object_is None (Some (Declared.OfParameter v)) key k e = absurd (none-some k e)
   object_is None (Some (Declared.OfVariable words d)) key k e = absurd (none-some k e)
@@ -227,7 +212,7 @@ module _ (D : List (List ℕ × ℕ)) (T : List (List ℕ)) where
 
   other_thread : (o : Option Creation) (x : Creation) (n : ℕ) → o ≡ Some x → nat_eq x.thread n ≡ false → (z : Creation) → o ≡ Some z → z.thread ≡ n → ⊥
   other_thread o x n e out z k same =
-      no_truth (sym out ∙ ap (λ (v : Creation). nat_eq v.thread n) (same_Some x z (sym e ∙ k)) ∙ ap (λ t. nat_eq t n) same ∙ equal_self n)
+      false≢true (sym out ∙ ap (λ (v : Creation). nat_eq v.thread n) (same_Some x z (sym e ∙ k)) ∙ ap (λ t. nat_eq t n) same ∙ eq-eqb n n refl)
 
   first_if : (part : Part) (ps : Parts) (x : Creation) (n m : ℕ) (b : Bool) → nat_eq x.thread n ≡ b → site_of D T part ≡ Some x →
       (if b then Some x.routine else first_in (sites D T ps) n) ≡ Some m → (first_in (sites D T ps) n ≡ Some m → IsFirst ps n m) → IsFirst (part ∷ ps) n m
@@ -237,7 +222,7 @@ module _ (D : List (List ℕ × ℕ)) (T : List (List ℕ)) where
     x = x;
     at = refl;
     site = e;
-    thread = same_number x.thread n t;
+    thread = eqb-true x.thread n t;
     routine = same_Some x.routine m h;
     first = λ j q z lt at site same. absurd (omega arith);
   }
@@ -256,7 +241,7 @@ module _ (D : List (List ℕ × ℕ)) (T : List (List ℕ)) where
   skipped : (o : Option Creation) (cs : List Creation) (x : Creation) → ((z : Creation) → o ≡ Some z → z.thread ≡ x.thread → ⊥) →
       first_in (of_option o ++ cs) x.thread ≡ first_in cs x.thread
   skipped None cs x out = refl
-  skipped (Some z) cs x out = ap (λ b. if b then Some z.routine else first_in cs x.thread) (differ z.thread x.thread (λ e. out z refl e))
+  skipped (Some z) cs x out = ap (λ b. if b then Some z.routine else first_in cs x.thread) (ne_eqb z.thread x.thread (λ e. out z refl e))
 
   first_back : (ps : Parts) (i : ℕ) (part : Part) (x : Creation) → slice_get ps i ≡ Some part → site_of D T part ≡ Some x →
       ((j : ℕ) (q : Part) (z : Creation) → j < i → slice_get ps j ≡ Some q → site_of D T q ≡ Some z → z.thread ≡ x.thread → ⊥) →
@@ -264,7 +249,7 @@ module _ (D : List (List ℕ × ℕ)) (T : List (List ℕ)) where
   first_back [] i part x at site none = absurd (none-some part at)
   first_back (q ∷ ps) zero part x at site none =
       ap (λ o. first_in (of_option o ++ sites D T ps) x.thread) (ap (site_of D T) (same_Some q part at) ∙ site)
-      ∙ ap (λ b. if b then Some x.routine else first_in (sites D T ps) x.thread) (equal_self x.thread)
+      ∙ ap (λ b. if b then Some x.routine else first_in (sites D T ps) x.thread) (eq-eqb x.thread x.thread refl)
   first_back (q ∷ ps) (suc i) part x at site none =
       skipped (site_of D T q) (sites D T ps) x (λ z k same. none 0 q z (omega arith) refl k same)
       ∙ first_back ps i part x at site (λ j v z lt k s same. none (suc j) v z (omega arith) k s same)
@@ -302,15 +287,6 @@ module _ (D : List (List ℕ × ℕ)) (T : List (List ℕ)) where
   all_below (part ∷ ps) h = below_by part (site_of D T part) (sites D T ps) refl (λ k. h part (inl (refl, k))) (all_below ps (λ x k. h x (inr k)))
 
 -- ---- lists that are cut
-
-get_front : {A : Type 0} (xs ys : List A) (i : ℕ) (x : A) → slice_get xs i ≡ Some x → slice_get (xs ++ ys) i ≡ Some x
-get_front [] ys i x e = absurd (none-some x e)
-get_front (z ∷ xs) ys zero x e = e
-get_front (z ∷ xs) ys (suc i) x e = get_front xs ys i x e
-
-get_here : {A : Type 0} (xs ys : List A) (x : A) → slice_get (xs ++ x ∷ ys) (length xs) ≡ Some x
-get_here [] ys x = refl
-get_here (z ∷ xs) ys x = get_here xs ys x
 
 back_front : {A : Type 0} (xs ys : List A) (i : ℕ) (x : A) → i < length xs → slice_get (xs ++ ys) i ≡ Some x → slice_get xs i ≡ Some x
 back_front [] ys i x lt e = absurd (omega arith)
@@ -459,7 +435,7 @@ module _ (tree : TranslationUnit) (few : IsOfFewNames tree) where
   second_breaks f h =
       let cut_at = split D T (parts tree) h.before h.c h.rest h.text in
       let j = length cut_at.front in
-      let here = subst (λ l. slice_get l j ≡ Some cut_at.part) (sym cut_at.text) (get_here cut_at.front cut_at.rest cut_at.part) in
+      let here = subst (λ l. slice_get l j ≡ Some cut_at.part) (sym cut_at.text) (get_middle cut_at.front cut_at.rest cut_at.part) in
       let later = create_at j cut_at.part h.c here cut_at.site in
       let one = first_part D T cut_at.front h.c.thread h.m (ap (λ l. first_in l h.c.thread) cut_at.sites_are ∙ h.earlier) in
       let at_front = λ (i : ℕ) (q : Part) (e : slice_get cut_at.front i ≡ Some q).
@@ -476,11 +452,8 @@ module _ (tree : TranslationUnit) (few : IsOfFewNames tree) where
       (noted k later.object q place creates) (sym later.number))
       later.creates lt (λ e. h.other (sym one.routine ∙ e)))
 
-  no_fault : (f : Fault) → None ≡ Some f → ⊥
-  no_fault f e = none-some f e
-
   from_start : (f : Fault) → (start.1 ≡ Some f) ⊎ Second [] (sites D T (parts tree)) f → Second [] (sites D T (parts tree)) f
-  from_start f (inl e) = absurd (no_fault f e)
+  from_start f (inl e) = absurd (none-some f e)
   from_start f (inr h) = h
 
   pub second_sound : (at : ℕ) → fault_of_creates tree ≡ Some (fault_at at) → Breaks tree rule.Threads at

@@ -2,6 +2,7 @@
 use Rattle.std.proofs.Common.{◌≡◌, refl, sym, subst, ap, ◌∙◌, ℕ, Bool, true, false, List, [], ◌∷◌, length, Option, Some, None}
 use Rattle.std.specs.Prelude.{◌-◌, pos, is_none, is_some, not, if◌then◌else◌, slice_get}
 use Rattle.std.proofs.lemmas.Option.{none-some}
+use Rattle.std.proofs.lemmas.Bool.{false≢true}
 use Rattle.hls_ints.specs.Types.{IntegerType, wrapped}
 use Rattle.c_token.specs.declared.constant.Constant.{Constant}
 use Rattle.c_token.specs.declared.constant.Constant.TheVariants as constant
@@ -55,9 +56,6 @@ use Rattle.broken_threads.proofs.Uses.{BreaksAt, use_ledger}
 use Rattle.broken_threads.proofs.Naming as m
 use Rattle.broken_threads.proofs.Naming.{BodyIs, Stands}
 
-no_truth : false ≡ true → ⊥
-no_truth h = cc
-
 others : (r : Rule) (at : ℕ) → IsOther r → Good use_ledger (finds r at) []
 others rule.Kind at h = q.other rule.Kind at (λ j. j)
 others rule.Arguments at h = q.other rule.Arguments at (λ j. j)
@@ -101,12 +99,12 @@ type_is : (b : BaseType) → l.is_object_type b ≡ true → IsThreadType b
 type_is base.Thread h = tt
 type_is base.Mutex h = tt
 type_is base.Barrier h = tt
-type_is other h = absurd (no_truth h)
+type_is other h = absurd (false≢true h)
 
 no_type : (b : BaseType) → l.is_object_type b ≡ false → IsThreadType b → ⊥
-no_type base.Thread h k = no_truth (sym h)
-no_type base.Mutex h k = no_truth (sym h)
-no_type base.Barrier h k = no_truth (sym h)
+no_type base.Thread h k = false≢true (sym h)
+no_type base.Mutex h k = false≢true (sym h)
+no_type base.Barrier h k = false≢true (sym h)
 no_type other h k = k
 
 plain_type : (static : Bool) (b : BaseType) (ty : BasicType) → plain static b ≡ Some ty → IsThreadType b → ⊥
@@ -141,7 +139,7 @@ module _ (D : List (List ℕ × ℕ)) where
   events s w stands = record {
     other = others;
     constant = constant_is;
-    used = λ name index. q.quiet (Part.Use w name) (λ x k. k) (q.named_value (look_up s name.bytes) name.offset (Some index) (λ h. absurd (no_truth (sym h))));
+    used = λ name index. q.quiet (Part.Use w name) (λ x k. k) (q.named_value (look_up s name.bytes) name.offset (Some index) (λ h. absurd (false≢true (sym h))));
     read = λ name. m.read_by D s w name stands.agrees (look_up s name.bytes) refl;
     converted = λ name out. q.quiet (Part.Use w name) (λ x k. k) (q.named_value (look_up s name.bytes) name.offset None (λ _. out));
     argument = λ name h x k. k;

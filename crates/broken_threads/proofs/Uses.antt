@@ -1,6 +1,7 @@
 -- Uses of objects, functions and parameters that break the thread rule: what the single findings of a walk write of them.
 use Rattle.std.proofs.Common.{◌≡◌, refl, sym, subst, inl, inr, ℕ, Bool, true, false, [], ◌∷◌, length, Option, Some, None}
 use Rattle.std.specs.Prelude.{◌⊎◌, not, is_none, is_some, ◌||◌, ◌&&◌, nat_eq, if◌then◌else◌, option_map}
+use Rattle.std.proofs.lemmas.Bool.{false≢true}
 use Rattle.c_tree.specs.declared.expression.Name.{Name}
 use Rattle.c_tree.specs.declared.declaration.Function.{Function}
 use Rattle.c_tree.specs.declared.declaration.Parameter.{Parameter}
@@ -197,9 +198,6 @@ others_place s library.BarrierWait at out = good_pure use_ledger tt
 
 -- ---- names that are used
 
-no_truth : false ≡ true → ⊥
-no_truth h = cc
-
 refused : (r : Rule) (at : ℕ) → (IsJudged r → ⊥) → Plain (e.refused r at) []
 refused r at out = good_before use_ledger (finds r at) (λ _. pure e.nothing) [] (other r at out) (λ _. good_pure use_ledger e.nothing)
 
@@ -222,7 +220,7 @@ other_any None at out = record { writes = λ found. nothing_new use_ledger found
 misuse_is : (x : Known) (indexed : Bool) → (indexed ≡ false → is_argument x ≡ false) → IfAny (λ r. IsJudged r → ⊥) (e.misuse x indexed)
 misuse_is known.Unknown indexed h = λ j. j
 misuse_is (known.Declared meaning.Argument) true h = λ j. j
-misuse_is (known.Declared meaning.Argument) false h = absurd (no_truth (sym (h refl)))
+misuse_is (known.Declared meaning.Argument) false h = absurd (false≢true (sym (h refl)))
 misuse_is (known.Declared meaning.Unusable) indexed h = tt
 misuse_is (known.Declared (meaning.Function n)) indexed h = λ j. j
 misuse_is (known.Declared (meaning.Variable v)) indexed h = λ j. j

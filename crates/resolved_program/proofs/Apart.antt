@@ -1,11 +1,12 @@
 -- Names that differ wherever their places differ.
-use Rattle.std.proofs.Common.{◌≡◌, refl, ℕ, suc, Bool, true, false, List, [], ◌∷◌, map, Some, arith}
+use Rattle.std.proofs.Common.{◌≡◌, refl, ℕ, suc, Bool, true, false, List, [], ◌∷◌, map, Some, sym}
 use Rattle.std.specs.Prelude.{slice_get, nat_eq}
 use Rattle.std.specs.List.{AllByRecursion, IsDistinct}
 use Rattle.std.specs.Str.{bytes_eq}
 use Rattle.std.specs.Cmp.Lexicographic.{pointwise}
 use Rattle.std.proofs.lemmas.Map.Keys.{IsDistinct-cons}
 use Rattle.std.proofs.lemmas.Slice.Eq.{bytes_eq-Decides}
+use Rattle.std.proofs.Math.Nat.{suc_inj, suc-ne-zero}
 
 -- what holds at each place holds of all
 pub all_from : {A : Type 0} (Is : A → Type 0) (list : List A) → ((k : ℕ) (a : A) → slice_get list k ≡ Some a → Is a) → AllByRecursion Is list
@@ -24,17 +25,11 @@ unlike_all : {A : Type 0} (name : A → List ℕ) (x : List ℕ) (list : List A)
 unlike_all name x [] h = tt
 unlike_all name x (a ∷ list) h = (unlike x (name a) (h 0 a refl), unlike_all name x list (λ k b at. h (suc k) b at))
 
-no_successor : (k : ℕ) → 0 ≡ suc k → ⊥
-no_successor k h = absurd (omega arith)
-
-one_less : (m n : ℕ) → suc m ≡ suc n → m ≡ n
-one_less m n h = omega arith
-
 pub distinct : {A : Type 0} (name : A → List ℕ) (list : List A) →
     ((i j : ℕ) (a b : A) → slice_get list i ≡ Some a → slice_get list j ≡ Some b → name a ≡ name b → i ≡ j) → IsDistinct (pointwise nat_eq) (map name list)
 unfolding IsDistinct
 distinct name [] h = tt
 distinct name (x ∷ list) h =
     IsDistinct-cons (pointwise nat_eq) (name x) (map name list)
-    (unlike_all name (name x) list (λ k a at same. no_successor k (h 0 (suc k) x a refl at same)))
-    (distinct name list (λ i j a b at_i at_j same. one_less i j (h (suc i) (suc j) a b at_i at_j same)))
+    (unlike_all name (name x) list (λ k a at same. suc-ne-zero k (sym (h 0 (suc k) x a refl at same))))
+    (distinct name list (λ i j a b at_i at_j same. suc_inj (h (suc i) (suc j) a b at_i at_j same)))

@@ -23,7 +23,7 @@ use Rattle.c_rules.specs.declared.names.Known.{Known}
 use Rattle.c_rules.specs.declared.names.Known.TheVariants as known
 use Rattle.c_rules.specs.Names.{look_up, is_start_routine, is_void_pointer, is_void_base, is_pointer_alone}
 use Rattle.c_resolution.specs.Functions.{return_by, return_type}
-use Rattle.std.proofs.lemmas.Bool.{and_parts}
+use Rattle.std.proofs.lemmas.Bool.{and_parts, not-false}
 use Rattle.c_rules.specs.Walks.{pure, finds, finds_if, finds_any, ◌>>◌}
 use Rattle.c_expressions.specs.Expressions.{index, argument, variable_of}
 use Rattle.c_calls.specs.Arguments as a
@@ -186,10 +186,6 @@ module _ (whole : Findings) (P : Program) (number : ℕ) (f : Function) (s : Sco
       let definition = header.definition d is in
       (definition.code, definition.found, definition.returns ∙ routine_returns h starts)
 
-  not-not : (b : Bool) → not b ≡ false → b ≡ true
-  not-not true h = refl
-  not-not false h = cc
-
   routine_shows : {Earlier : Type 0} (h : Header) (name_at at : ℕ) → (Earlier → IsHeader P h) →
       Shows whole Earlier (IfAny (λ (r : ℕ × ℕ). IsPointerAt P r.0)) (a.routine h name_at at)
   unfolding a.routine
@@ -200,7 +196,7 @@ module _ (whole : Findings) (P : Program) (number : ℕ) (f : Function) (s : Sco
       (λ _. shows_then (finds_if (is_none h.definition) rule.Unknown name_at) (λ _. pure (option_map (λ number. (number, name_at)) h.definition))
       (shows_if (is_none h.definition) rule.Unknown name_at)
       (λ _. shows_pure (option_map (λ number. (number, name_at)) h.definition)
-      (λ b. routine_with name_at h h.definition refl (not-not (is_start_routine h) b.0.1) (header b.0.0))))
+      (λ b. routine_with name_at h h.definition refl (not-false (is_start_routine h) b.0.1) (header b.0.0))))
 
   routine_from_shows : (x : Argument) (h : Option Header) (name_at at : ℕ) → AreValid (argument_leaves x) → (Now → IfAny (IsHeader P) h) →
       Shows whole Now (IfAny (λ (r : ℕ × ℕ). IsPointerAt P r.0)) (a.routine_from s x h name_at at)

@@ -2,6 +2,7 @@
 use Rattle.std.proofs.Common.{◌≡◌, sym, subst, ◌∙◌, inl, inr, ℕ, ◌<◌, Bool, false, Option, Some, None}
 use Rattle.std.specs.Prelude.{◌⊎◌, slice_get}
 use Rattle.std.specs.List.{AllByRecursion}
+use Rattle.std.proofs.lemmas.Option.{none-some}
 use Rattle.c_tree.specs.declared.declaration.TranslationUnit.{TranslationUnit}
 use Rattle.c_program.specs.declared.tree.ThreadObject.{ThreadObject}
 use Rattle.c_program.specs.Tree.{Program}
@@ -13,7 +14,7 @@ use Rattle.c_resolution.specs.Files.{File}
 use Rattle.resolved_program.specs.Gathered.{IsGathered, IsDeclaredThread}
 use Rattle.resolved_program.specs.Laws.{GatheredIsResolved}
 use Rattle.resolved_program.specs.Orders.{GivesRoutines}
-use Rattle.resolved_program.proofs.Walks.{IfAny, first-none, none-some}
+use Rattle.resolved_program.proofs.Walks.{IfAny, first-none}
 use Rattle.resolved_program.proofs.Arguments.{element_is}
 use Rattle.resolved_program.proofs.Graph.{first-second, calls_none, acyclic}
 use Rattle.resolved_program.proofs.Routines.{Among, all_later, all_given}
@@ -46,7 +47,7 @@ module _ (tree : TranslationUnit) (main : ℕ) (faultless : IsFirstFault tree No
       all_given x.found.creations x.tables.threads None no_given site found.1.0 found.1.1 found.1.2 object at
 
   declared : (o : Option ThreadObject) (before : ThreadObject) → o ≡ Some before → IfAny IsDeclaredThread o → IsDeclaredThread before
-  declared None before is all = absurd (none-some before (sym is))
+  declared None before is all = absurd (none-some before (is))
   declared (Some o) before is all = subst (λ z. IfAny IsDeclaredThread z) is all
 
   thread_is : IsGathered P x.tables.threads x.found → (number : ℕ) (object : ThreadObject) → slice_get P.threads number ≡ Some object → r.IsThreadObject P number object
@@ -61,12 +62,12 @@ module _ (tree : TranslationUnit) (main : ℕ) (faultless : IsFirstFault tree No
     where
       by_create : (before : ThreadObject) → IsDeclaredThread before → (routine : ℕ) → ((before.routine ≡ Some routine) ⊎ Among x.found.creations number routine) →
           r.IsRoutineAt (slice_get P.functions routine)
-      by_create before is routine (inl had) = absurd (none-some routine (sym had ∙ is.no_routine))
+      by_create before is routine (inl had) = absurd (none-some routine (sym (sym had ∙ is.no_routine)))
       by_create before is routine (inr among) = subst (λ n. r.IsRoutineAt (slice_get P.functions n)) (sym among.3) (g.routines among.0 among.1)
 
       created : (before : ThreadObject) → IsDeclaredThread before → (routine : ℕ) → ((before.routine ≡ Some routine) ⊎ Among x.found.creations number routine) →
           r.IsCreated P number routine
-      created before is routine (inl had) = absurd (none-some routine (sym had ∙ is.no_routine))
+      created before is routine (inl had) = absurd (none-some routine (sym (sym had ∙ is.no_routine)))
       created before is routine (inr among) =
           subst (λ n. r.IsCreated P n routine) (sym among.2) (subst (λ n. r.IsCreated P among.0.thread n) (sym among.3) (g.creations among.0 among.1))
 

@@ -1,7 +1,9 @@
 -- Each function of a program so far is in order, where each header of the whole text is one of the program.
-use Rattle.std.proofs.Common.{◌≡◌, refl, sym, subst, ◌∙◌, inl, inr, ℕ, ◌<◌, ◌≤◌, List, [], ◌∷◌, ◌++◌, map, length, Option, Some, None, arith}
+use Rattle.std.proofs.Common.{◌≡◌, refl, sym, subst, ◌∙◌, inl, inr, ℕ, ◌<◌, ◌≤◌, List, [], ◌∷◌, ◌++◌, map, length, Option, Some, None}
 use Rattle.std.specs.Prelude.{◌^◌, slice_get}
 use Rattle.std.specs.List.{AllByRecursion}
+use Rattle.std.proofs.Math.Nat.{le_of_lt}
+use Rattle.lists.proofs.Places.{get_pushed}
 use Rattle.c_tree.specs.declared.statement.Block.{Block}
 use Rattle.c_tree.specs.declared.declaration.Function.{Function as FunctionTree}
 use Rattle.c_program.specs.Tree.{Function, Program}
@@ -19,7 +21,6 @@ use Rattle.resolved_program.proofs.Functions.{defined_at, definition_is}
 use Rattle.resolved_program.proofs.Definitions.{IsDefined}
 use Rattle.resolved_program.proofs.Filed.{headed, function_defined}
 use Rattle.resolved_program.proofs.Ready.{IsFileScope, behind_name}
-use Rattle.resolved_program.proofs.Headed.{at_more}
 use Rattle.resolved_program.proofs.FileHolds.{whole_word}
 use Rattle.resolved_program.proofs.Leaving.{IsFunctionLeft, IsTabled, defined_left}
 
@@ -31,7 +32,7 @@ BodiesHold whole P functions =
 bodies_more : (whole : Findings) (P : Program) (functions : List Function) (code : Function) → BodiesHold whole P functions →
     ((h : Header) × IsDefined whole P (length functions) h code) → BodiesHold whole P (functions ++ code ∷ [])
 bodies_more whole P functions code holds is number other at =
-    elim (at_more functions code other number at) [
+    elim (get_pushed functions code number other at) [
       | inl before ↦ holds number other before
       | inr last ↦
           subst (λ n. (h : Header) × IsDefined whole P n h other) (sym last.0)
@@ -65,9 +66,6 @@ module _ (whole : Findings) (P : Program) (given_routines : GivesRoutines whole 
       BodiesHold whole P x.tables.functions → BodiesHold whole P z.tables.functions
   bodies_keep small holds = by f.body refl
     where
-      less : (n : ℕ) → n < 2 ^ 32 → n ≤ 2 ^ 32
-      less n lt = omega arith
-
       by : (o : Option Block) → f.body ≡ o → BodiesHold whole P z.tables.functions
       by None none =
           let tables = subst (λ o. IsTabled f h o x z) none is_left.tables in
@@ -76,4 +74,4 @@ module _ (whole : Findings) (P : Program) (given_routines : GivesRoutines whole 
           let tables = subst (λ o. IsTabled f h o x z) has is_left.tables in
           let fits = small body has in
           subst (λ (t : Tables). BodiesHold whole P t.functions) (sym tables)
-          (bodies_more whole P x.tables.functions (defined_at f (y.return_type h) body (headed f h x)) holds (h, new_body body has fits.0 (less _ fits.1)))
+          (bodies_more whole P x.tables.functions (defined_at f (y.return_type h) body (headed f h x)) holds (h, new_body body has fits.0 (le_of_lt fits.1)))

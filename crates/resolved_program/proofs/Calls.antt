@@ -1,8 +1,10 @@
 -- What calls give, as statements and as right sides.
-use Rattle.std.proofs.Common.{◌≡◌, refl, sym, ap, subst, ◌∙◌, ℕ, zero, suc, ◌<◌, ◌≤◌, Bool, true, false, List, [], ◌∷◌, map, length, Option, Some, None, eqb-true, leb-true, arith}
-use Rattle.std.specs.Prelude.{◌||◌, ◌&&◌, not, is_none, nat_eq, nat_le, slice_get, slice_index_or, count_by, Contains, ⊤}
+use Rattle.std.proofs.Common.{◌≡◌, refl, sym, ap, subst, ◌∙◌, ℕ, ◌≤◌, Bool, true, false, List, [], ◌∷◌, map, length, Option, Some, None, eqb-true, leb-true, arith}
+use Rattle.std.specs.Prelude.{◌||◌, ◌&&◌, not, is_none, nat_eq, nat_le, slice_get, count_by, Contains, ⊤}
 use Rattle.std.specs.List.{AllByRecursion}
-use Rattle.std.proofs.lemmas.Bool.{and_parts, not-false, or_parts}
+use Rattle.std.proofs.lemmas.Bool.{and_parts, not-false, or_parts, both_ways}
+use Rattle.std.proofs.lemmas.Option.{none-some}
+use Rattle.lists.proofs.Places.{in_one, in_none}
 use Rattle.c_tree.specs.declared.expression.Argument.{Argument, out-Argument}
 use Rattle.c_tree.specs.declared.expression.Argument.TheOpen.{Argument-F, Form-F}
 use Rattle.c_tree.specs.declared.expression.Form.{out-Form}
@@ -36,7 +38,7 @@ use Rattle.c_calls.specs.Calls as c
 use Rattle.c_resolution.specs.Functions.{gives_by, is_unlisted, return_by}
 use Rattle.resolved_program.specs.Leaves.{AreValid, expression_leaves, argument_leaves, call_leaves}
 use Rattle.resolved_program.specs.Orders.{IsHeader, IsOrderly, IsGiven, IsPointerAt, IsFoundCall, IsFoundCreation, IsInOrder, GivesRoutines}
-use Rattle.resolved_program.proofs.Walks.{Shows, shows_pure, shows_then, shows_as, shows_broken, shows_if, shows_creation, shows_visited, none-some, IfAny}
+use Rattle.resolved_program.proofs.Walks.{Shows, shows_pure, shows_then, shows_as, shows_broken, shows_if, shows_creation, shows_visited, IfAny}
 use Rattle.resolved_program.proofs.Known.{Is, IsKnown, look_up_is}
 use Rattle.resolved_program.proofs.Callees.{IsCalled, IsCallOf, IsPlaced, function_name_shows, library_name_shows}
 use Rattle.resolved_program.proofs.Pieces.{pieces_are}
@@ -44,13 +46,6 @@ use Rattle.resolved_program.proofs.Objects.{IsObjectAt}
 use Rattle.resolved_program.proofs.Arguments as p
 use Rattle.resolved_program.proofs.Parts.{ValidLayer, argument_valid, call_valid, form_valid, leaves_in_form}
 use Rattle.resolved_program.proofs.Trees.{value_shows, argument_shows}
-
-pub nothing_in : {A : Type 0} (x : A) → Contains [] x → ⊥
-nothing_in x inside = omega arith
-
-pub none_of : (b : Bool) → b ≡ false → b ≡ true → ⊥
-none_of true h k = cc
-none_of false h k = cc
 
 -- ---- calls of functions of the program
 
@@ -89,7 +84,7 @@ module _ (P : Program) (f : Function) (h : Header) (count : ℕ) (header : IsHea
       record {
         code = d.code;
         found = d.found;
-        not_main = λ main. none_of h.is_main placed.0 (d.main main);
+        not_main = λ main. both_ways h.is_main placed.0 (d.main main);
         not_routine =
             ap r.is_pointer d.returns ∙ no_pointer_by (is_start_routine h) h.returns.base h.returns.is_pointer placed.1;
         count = counted ∙ not_equal count (length h.parameters) called.counted ∙ sym d.parameters;
@@ -108,16 +103,9 @@ module _ (P : Program) (f : Function) (h : Header) (count : ℕ) (header : IsHea
 
 -- ---- lists of at most one
 
-pub only : {A : Type 0} (y x : A) → Contains (y ∷ []) x → y ≡ x
-only y x inside = at inside.0 inside.1 inside.2
-  where
-    at : (k : ℕ) → k < 1 → slice_index_or (y ∷ []) k x ≡ x → y ≡ x
-    at zero lt is = is
-    at (suc k) lt is = absurd (omega arith)
-
 has_routine : (o : Option ThreadObject) (n routine : ℕ) → r.thread_length o ≡ Some n → ((object : ThreadObject) → o ≡ Some object → object.routine ≡ Some routine) →
     r.HasRoutine o routine
-has_routine None n routine is given = none-some n (sym is)
+has_routine None n routine is given = none-some n (is)
 has_routine (Some object) n routine is given = given object refl
 
 object_there : (P : Program) (f : Function) (t : ObjectPlace) → IsObjectAt P f Thread t → (n : ℕ) × (r.thread_length (slice_get P.threads (r.object_of t)) ≡ Some n)
@@ -129,8 +117,8 @@ pub plain_in : (whole : Findings) (P : Program) (number : ℕ) (f : Function) (i
     r.creates_of x ≡ [] → IsInOrder whole P number f in_loop x
 plain_in whole P number f in_loop x is calls creates = record {
   is = is;
-  calls = λ callee inside. absurd (nothing_in callee (subst (λ list. Contains list callee) calls inside));
-  creates = λ thread routine inside. absurd (nothing_in (thread, routine) (subst (λ list. Contains list (thread, routine)) creates inside));
+  calls = λ callee inside. absurd (in_none callee (subst (λ list. Contains list callee) calls inside));
+  creates = λ thread routine inside. absurd (in_none (thread, routine) (subst (λ list. Contains list (thread, routine)) creates inside));
 }
 
 module _ (whole : Findings) (P : Program) (number : ℕ) (f : Function) (s : Scope) (given_routines : GivesRoutines whole P) (in_loop : Bool) where
@@ -167,9 +155,9 @@ module _ (whole : Findings) (P : Program) (number : ℕ) (f : Function) (s : Sco
       let there = object_there P f t object in
       record {
         is = (object, has_routine (slice_get P.threads (r.object_of t)) there.0 routine there.1 (λ o at. given_routines (r.object_of t) routine o found at), is);
-        calls = λ callee inside. absurd (nothing_in callee inside);
+        calls = λ callee inside. absurd (in_none callee inside);
         creates = λ thread given inside.
-            subst (λ (x : ℕ × ℕ). IsPointerAt P x.1 × IsFoundCreation whole x.0 x.1) (only (r.object_of t, routine) (thread, given) inside) (pointer, found);
+            subst (λ (x : ℕ × ℕ). IsPointerAt P x.1 × IsFoundCreation whole x.0 x.1) (in_one (r.object_of t, routine) (thread, given) inside) (pointer, found);
       }
 
   created_shows : (at : ℕ) (t : ObjectPlace) (v : Expression) (routine : Option (ℕ × ℕ)) →
@@ -219,8 +207,8 @@ module _ (whole : Findings) (P : Program) (number : ℕ) (f : Function) (s : Sco
       (shows_as (a.null_argument s outcome) (λ b. b.0) (λ _ _ is. is) (p.null_argument_shows whole P number f s outcome h1))
       (λ _. shows_pure (joined t) (λ b. record {
         is = b.0.1;
-        calls = λ callee inside. absurd (nothing_in callee inside);
-        creates = λ thread routine inside. absurd (nothing_in (thread, routine) inside);
+        calls = λ callee inside. absurd (in_none callee inside);
+        creates = λ thread routine inside. absurd (in_none (thread, routine) inside);
       })))
 
   join_of_shows : (at : ℕ) (list : List Argument) → AllValid list → Shows whole Now InOrder (c.join_of s at list (c.two list))
@@ -432,8 +420,8 @@ module _ (whole : Findings) (P : Program) (number : ℕ) (f : Function) (s : Sco
   called_is at (Some h) count None values header is all counted = empty
   called_is at (Some h) count (Some callee) values header is all counted = record {
     is = is_call P f h count header false callee values (sym is.0) is.1 all counted;
-    calls = λ g inside. subst (λ n. IsFoundCall whole number n) (only callee g inside) is.2;
-    creates = λ thread routine inside. absurd (nothing_in (thread, routine) inside);
+    calls = λ g inside. subst (λ n. IsFoundCall whole number n) (in_one callee g inside) is.2;
+    creates = λ thread routine inside. absurd (in_none (thread, routine) inside);
   }
 
   function_statement_shows : (header at name_at : ℕ) (list : List Argument) → AllValid list → Shows whole Now InOrder (c.function_statement s header at name_at list)
@@ -478,10 +466,10 @@ module _ (whole : Findings) (P : Program) (number : ℕ) (f : Function) (s : Sco
   right_called_is : (h : Option Header) (count : ℕ) (d : Option ℕ) (values : List Expression) → IfAny (IsHeader P) h →
       IsCallOf whole number h count true d → r.AreExpressions P f values → length values ≡ count → IsRight (c.right_called d values)
   right_called_is None count d values header is all counted =
-      subst (λ d. IsRight (c.right_called d values)) (sym is) (p.null_is whole P number f s, λ callee inside. absurd (nothing_in callee inside))
-  right_called_is (Some h) count None values header is all counted = (p.null_is whole P number f s, λ callee inside. absurd (nothing_in callee inside))
+      subst (λ d. IsRight (c.right_called d values)) (sym is) (p.null_is whole P number f s, λ callee inside. absurd (in_none callee inside))
+  right_called_is (Some h) count None values header is all counted = (p.null_is whole P number f s, λ callee inside. absurd (in_none callee inside))
   right_called_is (Some h) count (Some callee) values header is all counted =
-      (is_value_call P f h count header callee values (sym is.0) is.1 all counted, λ g inside. subst (λ n. IsFoundCall whole number n) (only callee g inside) is.2)
+      (is_value_call P f h count header callee values (sym is.0) is.1 all counted, λ g inside. subst (λ n. IsFoundCall whole number n) (in_one callee g inside) is.2)
 
   right_call_shows : (header : ℕ) (x : CallTree) → AreValid (call_leaves x) → Shows whole Now IsRight (c.right_call s header x)
   unfolding c.right_call
@@ -501,11 +489,11 @@ module _ (whole : Findings) (P : Program) (number : ℕ) (f : Function) (s : Sco
   unfolding c.right_value
   right_value_shows e valid =
       shows_then (value s e) (λ x. pure (RightSide.Value x)) (value_shows whole P number f s e valid)
-      (λ x. shows_pure (RightSide.Value x) (λ b. ((b.1, λ callee inside. absurd (nothing_in callee inside)), tt)))
+      (λ x. shows_pure (RightSide.Value x) (λ b. ((b.1, λ callee inside. absurd (in_none callee inside)), tt)))
 
   right_from_shows : (e : ExpressionTree) (q : Option (ℕ × CallTree)) → AreValid (expression_leaves e) → IfAny (λ (q : ℕ × CallTree). AreValid (call_leaves q.1)) q →
       Shows whole Now (λ x. IsRight x × (q ≡ None → IsValueSide x)) (c.right_from s e q)
-  right_from_shows e (Some q) valid called = shows_as (c.right_call s q.0 q.1) (λ b. b) (λ _ _ is. (is, λ none. absurd (none-some q none))) (right_call_shows q.0 q.1 called)
+  right_from_shows e (Some q) valid called = shows_as (c.right_call s q.0 q.1) (λ b. b) (λ _ _ is. (is, λ none. absurd (none-some q (sym none)))) (right_call_shows q.0 q.1 called)
   right_from_shows e None valid called = shows_as (c.right_value s e) (λ b. b) (λ _ _ is. (is.0, λ _. is.1)) (right_value_shows e valid)
 
   with_call_valid : (x : CallTree) (o : Option ℕ) → AreValid (call_leaves x) → IfAny (λ (q : ℕ × CallTree). AreValid (call_leaves q.1)) (c.with_call s x o)

@@ -4,6 +4,7 @@ use Rattle.std.specs.Prelude.{Contains}
 use Rattle.std.proofs.lemmas.Bool.{and_parts}
 use Rattle.std.proofs.lemmas.Option.{slice_get_within}
 use Rattle.std.proofs.lemmas.List.Elements.{Contains-append_cases}
+use Rattle.lists.proofs.Places.{in_one, in_none}
 use Rattle.c_program.specs.declared.tree.ReturnType.{ReturnType}
 use Rattle.c_program.specs.declared.tree.ReturnType.TheVariants as returns_as
 use Rattle.c_program.specs.Tree.{Expression, RightSide, Statement, Function, Program}
@@ -16,7 +17,7 @@ use Rattle.c_rules.specs.Names.{is_start_routine, is_pointer_alone, is_void_poin
 use Rattle.c_rules.specs.Walks.{place_in_tree}
 use Rattle.resolved_program.specs.Gathered.{IsFound}
 use Rattle.resolved_program.proofs.Arguments.{routine_returns}
-use Rattle.resolved_program.proofs.Calls.{nothing_in, only, no_pointer_by}
+use Rattle.resolved_program.proofs.Calls.{no_pointer_by}
 use Rattle.resolved_program.proofs.Definitions.{IsDefined}
 
 -- ---- each function that is called is there
@@ -26,7 +27,7 @@ module _ (P : Program) (f : Function) where
   Inside list = (g : ℕ) → Contains list g → g < length P.functions
 
   none_inside : Inside []
-  none_inside g inside = absurd (nothing_in g inside)
+  none_inside g inside = absurd (in_none g inside)
 
   both_inside : (xs ys : List ℕ) → Inside xs → Inside ys → Inside (xs ++ ys)
   both_inside xs ys h k g inside =
@@ -36,7 +37,7 @@ module _ (P : Program) (f : Function) where
       ]
 
   call_inside : (callee : ℕ) (list : List Expression) → r.IsCall P f callee list → Inside (callee ∷ [])
-  call_inside callee list is g inside = subst (λ n. n < length P.functions) (only callee g inside) (slice_get_within P.functions callee is.code is.found)
+  call_inside callee list is g inside = subst (λ n. n < length P.functions) (in_one callee g inside) (slice_get_within P.functions callee is.code is.found)
 
   right_inside : (x : RightSide) → r.IsRightSide P f x → Inside (calls_of_right x)
   right_inside (RightSide.Value e) is = none_inside

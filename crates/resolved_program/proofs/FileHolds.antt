@@ -3,8 +3,8 @@ use Rattle.std.proofs.Common.{◌≡◌, refl, sym, ap, subst, ◌∙◌, inl, i
 use Rattle.std.proofs.Common.{◌∷◌, ◌++◌, map, length, Option, Some, None, append-nil, arith}
 use Rattle.std.specs.Prelude.{◌⊎◌, ◌^◌, is_some, slice_get}
 use Rattle.std.proofs.lemmas.List.{length-map}
-use Rattle.std.proofs.lemmas.Option.{slice_get_within, same_Some}
-use Rattle.lists.proofs.Places.{get_there, get_front, get_last}
+use Rattle.std.proofs.lemmas.Option.{slice_get_within, same_Some, none-some}
+use Rattle.lists.proofs.Places.{get_there, get_front, get_last, get_pushed, length_more}
 use Rattle.c_tree.specs.declared.statement.Block.{Block}
 use Rattle.c_tree.specs.declared.declaration.Function.{Function as FunctionTree}
 use Rattle.c_tree.specs.declared.declaration.GlobalDeclaration.{GlobalDeclaration}
@@ -21,7 +21,6 @@ use Rattle.c_resolution.specs.Files.{File, Tables}
 use Rattle.c_resolution.specs.Functions as y
 use Rattle.c_resolution.specs.Globals.{text}
 use Rattle.c_resolution.specs.Texts.{definitions}
-use Rattle.resolved_program.proofs.Walks.{none-some, length-more}
 use Rattle.resolved_program.proofs.Locals.{number_is}
 use Rattle.resolved_program.proofs.Ready.{IsFileScope}
 use Rattle.resolved_program.proofs.Functions.{defined_at}
@@ -30,7 +29,7 @@ use Rattle.resolved_program.proofs.Numbers.{names_of, names_in, body_names, defi
 use Rattle.resolved_program.proofs.Firsts.{body_names_more, first_number}
 use Rattle.resolved_program.proofs.Growing.{inserted_there}
 use Rattle.resolved_program.proofs.Spelling.{text_is}
-use Rattle.resolved_program.proofs.Headed.{IsHeaderOf, AreHeaders, at_more, header_is}
+use Rattle.resolved_program.proofs.Headed.{IsHeaderOf, AreHeaders, header_is}
 use Rattle.resolved_program.proofs.Headers.{function_same, return_same}
 use Rattle.resolved_program.proofs.Coded.{IsCode, AreCodes, codes_on, not_second}
 use Rattle.resolved_program.proofs.Leaving.{IsFunctionLeft, IsTabled}
@@ -62,7 +61,7 @@ holds_on P D done o x holds =
 codes_more : (D : List (List ℕ × ℕ)) (names : List (List ℕ)) (t : Scope) (functions : List Function) (code : Function) → AreCodes D names t functions →
     IsCode D names t (length functions) code → AreCodes D names t (functions ++ code ∷ [])
 codes_more D names t functions code are is number other at =
-    elim (at_more functions code other number at) [
+    elim (get_pushed functions code number other at) [
       | inl before ↦ are number other before
       | inr last ↦ subst (λ n. IsCode D names t n other) (sym last.0) (subst (λ c. IsCode D names t (length functions) c) last.1 is)
     ]
@@ -82,7 +81,7 @@ module _ (P : Program) (D : List (List ℕ × ℕ)) (done : List ExternalDeclara
           let code = get_there x.tables.functions n (omega arith) in
           let known = holds.codes n code.0 code.1 in
           let same = same_Some code.0.name name (sym known.body ∙ body) in
-          absurd (none-some (meaning.Function known.place) (sym (sym none ∙ ap (λ k. named_in x.scope.inner k) (sym same) ∙ known.at)))
+          absurd (none-some (meaning.Function known.place) (sym (sym (sym none ∙ ap (λ k. named_in x.scope.inner k) (sym same) ∙ known.at))))
 
 pub whole_word : 2 ^ 32 ≤ 2 ^ 32
 whole_word = omega arith
@@ -211,8 +210,8 @@ module _ (whole : Findings) (P : Program) (D : List (List ℕ × ℕ)) (done res
           let tables = subst (λ o. IsTabled f h o x z) has is_left.tables in
           subst Tabled (sym tables) (
             codes_more D names z.scope x.tables.functions (code body) earlier_codes (is_code body has (small body has)),
-            length-more x.tables.functions (code body) ∙ ap suc holds.count
-                ∙ sym (more ∙ ap (λ b. length (body_names done ++ names_of f b)) has ∙ length-more (body_names done) name),
+            length_more x.tables.functions (code body) ∙ ap suc holds.count
+                ∙ sym (more ∙ ap (λ b. length (body_names done ++ names_of f b)) has ∙ length_more (body_names done) name),
           )
 
   pub function_keeps : ((body : Block) → f.body ≡ Some body → (count < 2 ^ 32) × (length (code body).locals < 2 ^ 32)) → FileHolds P D (done ++ external.Function f ∷ []) z

@@ -1,6 +1,7 @@
 -- The number that a text's definitions give to a name is that of the first body of this name.
 use Rattle.std.proofs.Common.{◌≡◌, refl, sym, ap, ◌∙◌, ℕ, ◌<◌, ◌≤◌, List, [], ◌∷◌, ◌++◌, length, Option, Some, None, append_assoc, append-nil, arith}
 use Rattle.std.specs.Prelude.{◌^◌, fold, is_some, if◌then◌else◌}
+use Rattle.std.proofs.lemmas.List.Sums.{fold-append}
 use Rattle.c_tree.specs.declared.statement.Block.{Block}
 use Rattle.c_tree.specs.declared.declaration.Function.{Function as FunctionTree}
 use Rattle.c_tree.specs.declared.declaration.ExternalDeclaration.{ExternalDeclaration}
@@ -9,10 +10,6 @@ use Rattle.c_rules.specs.Levels.{named_in, inserted}
 use Rattle.c_resolution.specs.Texts as y
 use Rattle.resolved_program.proofs.Numbers.{names_in, body_names, all_noted, least_is}
 use Rattle.resolved_program.proofs.Growing.{inserted_there, inserted_keeps}
-
-fold_on : {A B : Type 0} (f : A → B → A) (a : A) (xs ys : List B) → fold f a (xs ++ ys) ≡ fold f (fold f a xs) ys
-fold_on f a [] ys = refl
-fold_on f a (x ∷ xs) ys = fold_on f (f a x) xs ys
 
 pub body_names_on : (xs ys : List ExternalDeclaration) → body_names (xs ++ ys) ≡ body_names xs ++ body_names ys
 body_names_on [] ys = refl
@@ -60,5 +57,5 @@ first_number done rest f body has small none =
     let at : named_in begun.0 name ≡ Some (length (body_names done)) =
     noted_new (named_in d.0 name) d.0 name d.1 none ∙ ap Some (are.next ∙ least_is (length (body_names done)) small) in
     ap (λ (z : y.Noted). named_in z.0 name)
-    (fold_on y.with_declaration ([], 0) done (external.Function f ∷ rest) ∙ ap (λ b. fold y.with_declaration (y.with_function f d b) rest) has)
+    (fold-append y.with_declaration ([], 0) done (external.Function f ∷ rest) ∙ ap (λ b. fold y.with_declaration (y.with_function f d b) rest) has)
     ∙ all_keep rest begun name (length (body_names done)) at

@@ -2,8 +2,8 @@
 use Rattle.std.proofs.Common.{◌≡◌, refl, sym, ap, subst, ◌∙◌, ℕ, ◌<◌, ◌≤◌, true, List, [], length, Option, Some, None, arith}
 use Rattle.std.specs.Prelude.{◌^◌, codes, slice_get}
 use Rattle.std.specs.List.{AllByRecursion}
-use Rattle.std.proofs.lemmas.Option.{slice_get_within, same_Some}
-use Rattle.lists.proofs.Places.{get_there}
+use Rattle.std.proofs.lemmas.Option.{slice_get_within, same_Some, none-some}
+use Rattle.lists.proofs.Places.{get_there, in_none}
 use Rattle.c_tree.specs.declared.statement.Block.{Block}
 use Rattle.c_tree.specs.declared.declaration.Function.{Function as FunctionTree}
 use Rattle.c_tree.specs.declared.declaration.ExternalDeclaration.{ExternalDeclaration}
@@ -24,8 +24,6 @@ use Rattle.resolved_program.specs.Laws.{IsNumbered}
 use Rattle.resolved_program.specs.Leaves.{AreValid, external_leaves, of_each}
 use Rattle.resolved_program.specs.Gathered.{IsGathered}
 use Rattle.resolved_program.specs.Orders.{left, IsFront, IsDefinition, IsHeader, IsPointerAt, GivesRoutines}
-use Rattle.resolved_program.proofs.Walks.{none-some}
-use Rattle.resolved_program.proofs.Calls.{nothing_in}
 use Rattle.resolved_program.proofs.Steps.{front_length}
 use Rattle.resolved_program.proofs.Functions.{defined_at}
 use Rattle.resolved_program.proofs.Filed.{headed}
@@ -63,17 +61,17 @@ holds_before P L = record {
   scope = record { outer = refl; locals = refl; inner = λ f. tt };
   definitions = refl;
   headers = record {
-    named = λ name n is. absurd (none-some (meaning.Function n) (sym is));
-    names = λ n h is. absurd (none-some h (sym is));
+    named = λ name n is. absurd (none-some (meaning.Function n) (is));
+    names = λ n h is. absurd (none-some h (is));
   };
-  codes = λ number code is. absurd (none-some code (sym is));
+  codes = λ number code is. absurd (none-some code (is));
   count = refl;
 }
 
 objects_before : (L : List ExternalDeclaration) → ObjectsHold (z.before L)
 objects_before L = record {
   globals = tt;
-  names = λ number a is. absurd (none-some a (sym is));
+  names = λ number a is. absurd (none-some a (is));
   others = record { threads = tt; mutexes = tt; barriers = tt };
 }
 
@@ -142,7 +140,7 @@ module _ (L : List ExternalDeclaration) (main : ℕ) (valid : AreValid (of_each 
   }
 
   first : Holds L X
-  first = at_end Holds first_kept (record { file = holds_before P L; objects = objects_before L; creates = λ c inside. absurd (nothing_in c inside) })
+  first = at_end Holds first_kept (record { file = holds_before P L; objects = objects_before L; creates = λ c inside. absurd (in_none c inside) })
 
   -- ---- headers
 
@@ -235,7 +233,7 @@ module _ (L : List ExternalDeclaration) (main : ℕ) (valid : AreValid (of_each 
   }
 
   bodies : BodiesHold X.found P X.tables.functions
-  bodies = (at_end Bodies second_kept (record { file = holds_before P L; bodies = λ number code is. absurd (none-some code (sym is)) })).bodies
+  bodies = (at_end Bodies second_kept (record { file = holds_before P L; bodies = λ number code is. absurd (none-some code (is)) })).bodies
 
   -- ---- all of them
 

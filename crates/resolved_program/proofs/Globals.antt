@@ -3,6 +3,7 @@ use Rattle.std.proofs.Common.{◌≡◌, refl, ℕ, ◌<◌, ◌≤◌, Bool, tr
 use Rattle.std.specs.Prelude.{◌&&◌, nat_le, is_none, unwrap_or, if◌then◌else◌, ⊤}
 use Rattle.std.specs.List.{AllByRecursion}
 use Rattle.std.proofs.lemmas.Bool.{and_parts}
+use Rattle.lists.proofs.Places.{all_back, length_more}
 use Rattle.hls_ints.specs.Types.{IntegerType, Width, bits_8, bits_16, bits_32, bits_64, HasType, wrapped}
 use Rattle.hls_ints.proofs.Conversions.{wrapped-range}
 use Rattle.c_tree.specs.declared.expression.Name.{Name}
@@ -26,8 +27,8 @@ use Rattle.c_expressions.specs.Expressions.{value}
 use Rattle.c_resolution.specs.Locals as l
 use Rattle.c_resolution.specs.Globals as g
 use Rattle.resolved_program.specs.Leaves.{AreValid, expression_leaves, initializer_leaves, of_any, of_each}
-use Rattle.resolved_program.proofs.Walks.{Shows, shows_pure, shows_then, shows_as, shows_broken, shows_if, shows_through, shows_visited, length-more, all_more, IfAny}
-use Rattle.resolved_program.proofs.Trees.{value_shows, all_left, all_right}
+use Rattle.resolved_program.proofs.Walks.{Shows, shows_pure, shows_then, shows_as, shows_broken, shows_if, shows_through, shows_visited, all_more, IfAny}
+use Rattle.resolved_program.proofs.Trees.{value_shows, all_left}
 use Rattle.resolved_program.proofs.Locals.{length_from_shows}
 
 zero_at : (signed : Bool) (w : Width) → HasType (record { width = w; signed = signed }) (pos 0)
@@ -80,7 +81,7 @@ module _ (whole : Findings) (P : Program) (f : Function) (s : Scope) where
   one_more : (ty : IntegerType) (size : ℕ) (values : List ℤ) (x : ℤ) → nat_le size (length values) ≡ false → AllByRecursion (HasType ty) values → HasType ty x →
       AreInitial ty size (values ++ x ∷ [])
   one_more ty size values x fits all is =
-      let e = length-more values x in
+      let e = length_more values x in
       let lt = leb-false size (length values) fits in
       (all_more (HasType ty) values x all is, omega arith)
 
@@ -97,7 +98,7 @@ module _ (whole : Findings) (P : Program) (f : Function) (s : Scope) where
   each_valid : (list : List ExpressionTree) → AreValid (of_each expression_leaves list) → AllByRecursion (λ e. AreValid (expression_leaves e)) list
   each_valid [] valid = tt
   each_valid (e ∷ list) valid =
-      (all_left _ (expression_leaves e) (of_each expression_leaves list) valid, each_valid list (all_right _ (expression_leaves e) (of_each expression_leaves list) valid))
+      (all_left _ (expression_leaves e) (of_each expression_leaves list) valid, each_valid list (all_back _ (expression_leaves e) (of_each expression_leaves list) valid))
 
   initial_values_show : (ty : IntegerType) (size : ℕ) (list : List ExpressionTree) → AreValid (of_each expression_leaves list) →
       Shows whole ⊤ (AreInitial ty size) (g.initial_values ty size list s)
@@ -117,7 +118,7 @@ module _ (whole : Findings) (P : Program) (f : Function) (s : Scope) where
   each_looked (e ∷ list) valid = (
     looked_value_shows e (all_left _ (expression_leaves e) (of_each expression_leaves list) valid),
     each_looked list
-        (all_right _ (expression_leaves e) (of_each expression_leaves list) valid),
+        (all_back _ (expression_leaves e) (of_each expression_leaves list) valid),
   )
 
   initializer_shows : (i : Initializer) → AreValid (initializer_leaves i) → Shows whole ⊤ (λ _. ⊤) (g.looked i s)

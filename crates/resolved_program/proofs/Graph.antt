@@ -1,11 +1,11 @@
 -- What the rule on calls that only the whole text shows gives: no call leads back to its caller.
 use Rattle.std.proofs.Common.{◌≡◌, refl, ap, subst, ◌∙◌, inl, inr, ℕ, zero, suc, ◌<◌, ◌≤◌, Bool, true}
-use Rattle.std.proofs.Common.{false, List, [], ◌∷◌, ◌++◌, map, length, Option, Some, None, eq-eqb, arith}
+use Rattle.std.proofs.Common.{false, List, [], ◌∷◌, ◌++◌, map, length, Option, Some, None, eq-eqb, arith, sym}
 use Rattle.std.specs.Prelude.{◌+◌, ◌-◌, nat_eq, if◌then◌else◌, fold, slice_get, slice_index_or, Contains}
 use Rattle.std.specs.List.{AllByRecursion}
 use Rattle.std.specs.Bool.{Decides}
 use Rattle.std.proofs.lemmas.Bool.{cases_lt, false≢true}
-use Rattle.std.proofs.lemmas.Option.{slice_get_within}
+use Rattle.std.proofs.lemmas.Option.{slice_get_within, none-some}
 use Rattle.std.proofs.lemmas.List.Elements.{Contains-append_left, Contains-append_right}
 use Rattle.call_graph.specs.declared.table.Call.{Call}
 use Rattle.call_graph.specs.Graphs.{with_call}
@@ -19,7 +19,7 @@ use Rattle.c_rules.specs.declared.findings.Findings.{Findings}
 use Rattle.c_rules.specs.Faults.{first}
 use Rattle.c_resolution.specs.CallRules as c
 use Rattle.resolved_program.specs.Gathered.{IsFound}
-use Rattle.resolved_program.proofs.Walks.{first-some, first-none, none-some}
+use Rattle.resolved_program.proofs.Walks.{first-some, first-none}
 
 -- ---- no fault in the whole means none in each part
 
@@ -30,7 +30,7 @@ first-second (Some a) None h = refl
 first-second (Some a) (Some b) h = absurd (first-some (Some a) b h)
 
 fault_if_none : (b : Bool) (rule : Rule) (at : ℕ) → c.fault_if b rule at ≡ None → b ≡ false
-fault_if_none true rule at h = absurd (none-some _ h)
+fault_if_none true rule at h = absurd (none-some _ (sym h))
 fault_if_none false rule at h = refl
 
 pub calls_none : (leads : ℕ → ℕ → Bool) (list : List CallSite) (fault : Option Fault) → fold (c.with_call leads) fault list ≡ None →

@@ -4,13 +4,12 @@ use Rattle.std.proofs.Common.{◌≡◌, refl, sym, ap, ◌∙◌, inl, inr, ℕ
 use Rattle.std.specs.Prelude.{◌⊎◌, if◌then◌else◌, slice_get}
 use Rattle.std.specs.Str.{bytes_eq}
 use Rattle.std.proofs.lemmas.Slice.Eq.{bytes_eq-Decides}
-use Rattle.std.proofs.lemmas.Option.{same_Some}
+use Rattle.std.proofs.lemmas.Option.{same_Some, none-some}
 use Rattle.lists.proofs.Places.{get_front}
 use Rattle.c_rules.specs.declared.names.Meaning.{Meaning}
 use Rattle.c_rules.specs.declared.names.Scope.{Scope}
 use Rattle.c_rules.specs.Levels.{named_in, inserted}
 use Rattle.resolved_program.specs.Orders.{IsFront}
-use Rattle.resolved_program.proofs.Walks.{none-some}
 
 -- names with what they stand for
 abbrev Table : Type 0 → Type 0
@@ -38,12 +37,12 @@ module _ {A : Type 0} where
   kept_by : (b : Bool) (d : List ℕ × A) (more rest : Table A) (name key : List ℕ) (a m : A) → (if b then Some d.1 else named_in more name) ≡ None →
       (named_in more name ≡ None → named_in more key ≡ Some m → named_in rest key ≡ Some m) → named_in (d ∷ more) key ≡ Some m →
       named_in (if b then (d.0, a) ∷ more else d ∷ rest) key ≡ Some m
-  kept_by true d more rest name key a m none later is = absurd (none-some d.1 none)
+  kept_by true d more rest name key a m none later is = absurd (none-some d.1 (sym none))
   kept_by false d more rest name key a m none later is = kept_in (bytes_eq key d.0) d.1 (named_in more key) (named_in rest key) m (later none) is
 
   pub inserted_keeps : (names : Table A) (name key : List ℕ) (a m : A) → named_in names name ≡ None → named_in names key ≡ Some m →
       named_in (inserted names name a) key ≡ Some m
-  inserted_keeps [] name key a m none is = absurd (none-some m (sym is))
+  inserted_keeps [] name key a m none is = absurd (none-some m (is))
   inserted_keeps (d ∷ more) name key a m none is =
       kept_by (bytes_eq name d.0) d more (inserted more name a) name key a m none (inserted_keeps more name key a m) is
 

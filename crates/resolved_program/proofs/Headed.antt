@@ -1,10 +1,9 @@
 -- The headers between two declarations at file scope: each has a name, and is what its declarations say of this name.
-use Rattle.std.proofs.Common.{◌≡◌, refl, sym, ap, subst, ◌∙◌, inl, inr, ℕ, zero, suc, true, false, List, [], ◌∷◌, ◌++◌, length, Some, None}
-use Rattle.std.specs.Prelude.{◌⊎◌, ◌&&◌, codes, slice_get}
+use Rattle.std.proofs.Common.{◌≡◌, refl, sym, ap, subst, ◌∙◌, inl, inr, ℕ, true, false, List, [], ◌∷◌, ◌++◌, length, Some, None}
+use Rattle.std.specs.Prelude.{◌&&◌, codes, slice_get}
 use Rattle.std.specs.Str.{bytes_eq}
 use Rattle.std.proofs.lemmas.Bool.{and_parts}
-use Rattle.std.proofs.lemmas.Option.{same_Some}
-use Rattle.lists.proofs.Places.{get_front, get_last}
+use Rattle.lists.proofs.Places.{get_front, get_last, get_pushed}
 use Rattle.c_rules.specs.declared.names.Meaning.{Meaning}
 use Rattle.c_rules.specs.declared.names.Meaning.TheVariants as meaning
 use Rattle.c_rules.specs.declared.names.DeclaredType.{DeclaredType}
@@ -14,7 +13,6 @@ use Rattle.c_rules.specs.Levels.{named_in, inserted}
 use Rattle.c_rules.specs.Names.{is_int}
 use Rattle.c_resolution.specs.Functions as y
 use Rattle.resolved_program.specs.Orders.{IsFront}
-use Rattle.resolved_program.proofs.Walks.{none-some}
 use Rattle.resolved_program.proofs.Growing.{inserted_there, inserted_keeps, inserted_back, front_same, Grows}
 
 -- what the header of a function of that name says, where the text defines these functions
@@ -35,18 +33,6 @@ number_of other = 0
 
 pub function_number : (a b : ℕ) → meaning.Function a ≡ meaning.Function b → a ≡ b
 function_number a b h = ap number_of h
-
--- ---- the last of a list
-
-pub at_more : {A : Type 0} (xs : List A) (a b : A) (n : ℕ) → slice_get (xs ++ a ∷ []) n ≡ Some b → (slice_get xs n ≡ Some b) ⊎ ((n ≡ length xs) × (a ≡ b))
-at_more [] a b zero is = inr (refl, same_Some a b is)
-at_more [] a b (suc n) is = absurd (none-some b (sym is))
-at_more (x ∷ xs) a b zero is = inl is
-at_more (x ∷ xs) a b (suc n) is =
-    elim (at_more xs a b n is) [
-      | inl before ↦ inl before
-      | inr last ↦ inr (ap suc last.0, last.1)
-    ]
 
 -- ---- what declarations leave of the headers
 
@@ -91,7 +77,7 @@ headers_more D s t name h are none is_of inner headers = record {
             (known.0, ap (λ l. slice_get l n) headers ∙ get_front s.headers (h ∷ []) n known.0 known.1, known.2)
       ];
   names = λ n k is.
-      elim (at_more s.headers h k n (ap (λ l. slice_get l n) (sym headers) ∙ is)) [
+      elim (get_pushed s.headers h n k (ap (λ l. slice_get l n) (sym headers) ∙ is)) [
         | inl before ↦
             let known = are.names n k before in (
               known.0,

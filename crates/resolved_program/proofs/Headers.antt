@@ -1,8 +1,9 @@
 -- Two declarations of one function agree on what the program keeps of them.
-use Rattle.std.proofs.Common.{◌≡◌, refl, ap, ℕ, Bool, true, false, List, [], ◌∷◌, length, eqb-true, suc, rules, arith}
+use Rattle.std.proofs.Common.{◌≡◌, refl, ap, Bool, true, false, List, [], ◌∷◌, length, eqb-true, rules}
 use Rattle.std.specs.Prelude.{◌&&◌, ◌||◌, not, nat_eq}
 use Rattle.std.specs.List.{list_all, zip}
 use Rattle.std.proofs.lemmas.Bool.{and_parts}
+use Rattle.std.proofs.Math.Nat.{suc_inj}
 use denote.Enum.Bare.{sameb, same_true}
 use Rattle.c_rules.specs.contracts.specifiers.BasicType as basic_type
 use Rattle.c_rules.specs.declared.specifiers.BasicType.{BasicType}
@@ -67,9 +68,6 @@ type_same a b h =
     let pointers = pointer_same a.is_pointer b.is_pointer parts.1 in
     λ i. record { base = bases i; is_pointer = pointers i }
 
-pred_same : (m n : ℕ) → suc m ≡ suc n → m ≡ n
-pred_same m n h = omega arith
-
 types_same : (xs zs : List DeclaredType) → length xs ≡ length zs → list_all (λ (p : DeclaredType × DeclaredType). y.same_type p.0 p.1) (zip xs zs) ≡ true → xs ≡ zs
 types_same [] [] count h = refl
 types_same [] (z ∷ zs) count h = cc
@@ -77,7 +75,7 @@ types_same (x ∷ xs) [] count h = cc
 types_same (x ∷ xs) (z ∷ zs) count h =
     let parts = and_parts (y.same_type x z) (list_all (λ (p : DeclaredType × DeclaredType). y.same_type p.0 p.1) (zip xs zs)) h in
     let first = type_same x z parts.0 in
-    let rest = types_same xs zs (pred_same (length xs) (length zs) count) parts.1 in
+    let rest = types_same xs zs (suc_inj count) parts.1 in
     λ i. first i ∷ rest i
 
 -- the same types

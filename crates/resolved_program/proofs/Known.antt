@@ -1,8 +1,9 @@
 -- What a name stands for in a scope that is in order, and what objects, constants and casts give.
-use Rattle.std.proofs.Common.{◌≡◌, refl, ℕ, Bool, true, false, List, [], ◌∷◌, Option, Some, None}
+use Rattle.std.proofs.Common.{◌≡◌, refl, ℕ, Bool, true, false, List, [], ◌∷◌, Option, Some, None, sym}
 use Rattle.std.specs.Prelude.{fold, unwrap_or, is_some, if◌then◌else◌, ⊤}
 use Rattle.std.specs.List.{AllByRecursion}
 use Rattle.std.specs.Str.{bytes_eq}
+use Rattle.std.proofs.lemmas.Option.{none-some}
 use Rattle.hls_ints.specs.Types.{HasType}
 use Rattle.c_token.specs.declared.constant.Constant.{Constant}
 use Rattle.c_token.specs.declared.constant.Constant.TheVariants as constant
@@ -27,7 +28,7 @@ use Rattle.c_rules.specs.Walks.{pure, finds, finds_any}
 use Rattle.c_expressions.specs.Expressions as e
 use Rattle.resolved_program.specs.Leaves.{IsValidConstant}
 use Rattle.resolved_program.specs.Orders.{IsMeant, IsOrderly}
-use Rattle.resolved_program.proofs.Walks.{Shows, shows_pure, shows_then, shows_as, shows_broken, shows_any, none-some, IfAny}
+use Rattle.resolved_program.proofs.Walks.{Shows, shows_pure, shows_then, shows_as, shows_broken, shows_any, IfAny}
 
 -- ---- names
 
@@ -93,14 +94,14 @@ module _ (P : Program) (f : Function) where
   argument_is known.Unknown is h = cc
 
   misuse-some : (k : Known) (indexed : Bool) → e.variable_of k ≡ None → IsKnown P f k → e.misuse k indexed ≡ None → ⊥
-  misuse-some known.Unknown indexed apart is h = none-some rule.Unknown h
-  misuse-some (known.Declared meaning.Argument) false apart is h = none-some rule.Threads h
-  misuse-some (known.Declared meaning.Argument) true apart is h = none-some rule.Kind h
+  misuse-some known.Unknown indexed apart is h = none-some rule.Unknown (sym h)
+  misuse-some (known.Declared meaning.Argument) false apart is h = none-some rule.Threads (sym h)
+  misuse-some (known.Declared meaning.Argument) true apart is h = none-some rule.Kind (sym h)
   misuse-some (known.Declared meaning.Unusable) indexed apart is h = is
-  misuse-some (known.Declared (meaning.Variable v)) indexed apart is h = none-some v apart
-  misuse-some (known.Declared (meaning.Object o)) indexed apart is h = none-some rule.Kind h
-  misuse-some (known.Declared (meaning.Function number)) indexed apart is h = none-some rule.Kind h
-  misuse-some (known.Library function) indexed apart is h = none-some rule.Kind h
+  misuse-some (known.Declared (meaning.Variable v)) indexed apart is h = none-some v (sym apart)
+  misuse-some (known.Declared (meaning.Object o)) indexed apart is h = none-some rule.Kind (sym h)
+  misuse-some (known.Declared (meaning.Function number)) indexed apart is h = none-some rule.Kind (sym h)
+  misuse-some (known.Library function) indexed apart is h = none-some rule.Kind (sym h)
 
   constant_is : (c : Constant) → IsValidConstant c → IfAny (λ (x : Typed). HasType x.ty x.number) (constant_value c)
   constant_is (constant.Typed value ty) is = is

@@ -1,7 +1,8 @@
 -- What a function at file scope leaves: the scope behind its name, and one function more where it has a body.
 use Rattle.std.proofs.Common.{◌≡◌, refl, sym, ap, subst, ◌∙◌, ℕ, ◌≤◌, false, List, [], ◌∷◌, ◌++◌, length, Option, Some, None, append-nil, length-append, arith}
 use Rattle.std.specs.Prelude.{◌^◌, ◌-◌, is_some, slice_get}
-use Rattle.std.proofs.lemmas.Option.{same_Some}
+use Rattle.std.proofs.lemmas.Option.{same_Some, none-some}
+use Rattle.std.proofs.Math.Nat.{le_refl}
 use Rattle.c_tree.specs.declared.statement.Block.{Block}
 use Rattle.c_tree.specs.declared.declaration.Function.{Function as FunctionTree}
 use Rattle.c_program.specs.declared.tree.LocalVariable.{LocalVariable}
@@ -18,7 +19,7 @@ use Rattle.c_resolution.specs.Files.{File, Declares, file, going, with_function}
 use Rattle.c_resolution.specs.Functions as y
 use Rattle.resolved_program.specs.Leaves.{AreValid, block_leaves, of_any}
 use Rattle.resolved_program.specs.Orders.{left, IsFront, IsPartOf, IsAhead, GivesRoutines}
-use Rattle.resolved_program.proofs.Walks.{turn, none-some}
+use Rattle.resolved_program.proofs.Walks.{turn}
 use Rattle.resolved_program.proofs.Moving as m
 use Rattle.resolved_program.proofs.Statements.{block_claim}
 use Rattle.resolved_program.proofs.Parameters.{parameters_add}
@@ -43,9 +44,6 @@ closed_locals : (t : Scope) → (closed t).locals ≡ t.locals
 unfolding closed
 closed_locals t = closed_to_locals (slice_get t.outer (length t.outer - 1)) t
 
-same_le : (n : ℕ) → n ≤ n
-same_le n = omega arith
-
 -- behind a scope within, in which no other scope is open
 closed_keeps : (s t : Scope) → t.outer ≡ s.outer ++ s.inner ∷ [] → t.headers ≡ s.headers → t.definitions ≡ s.definitions → t.locals ≡ [] → Keeps s (closed t)
 unfolding opened
@@ -57,7 +55,7 @@ closed_keeps s t outer headers definitions locals =
       definitions = definitions;
       function = refl;
       gives = refl;
-      loops = same_le t.loops;
+      loops = le_refl t.loops;
     }) in
     record {
       inner = both.1;
@@ -214,7 +212,7 @@ module _ (whole : Findings) (P : Program) (given_routines : GivesRoutines whole 
             more = head.more;
             locals = head.locals;
             count = head.count;
-            fits = λ body has. absurd (none-some body (sym has ∙ none));
+            fits = λ body has. absurd (none-some body (sym (sym has ∙ none)));
             keeps =
                 subst (λ (w : File). Keeps (named f h count begin).scope w.scope) (sym e)
                 (moved_keeps (named f h count begin).scope (headed f h x).scope (head_moves f h x));

@@ -2,6 +2,7 @@
 use Rattle.std.proofs.Common.{◌≡◌, refl, sym, ap, ◌∙◌, ℕ, zero, suc, List, [], ◌∷◌, Option, Some, None, length}
 use Rattle.std.specs.Prelude.{fold, slice_get, slice_set}
 use Rattle.std.proofs.lemmas.Option.{same_Some}
+use Rattle.std.proofs.lemmas.List.{length-set}
 use Rattle.c_program.specs.declared.tree.ThreadObject.{ThreadObject}
 use Rattle.c_program.specs.Resolved.{thread_length}
 use Rattle.c_rules.specs.declared.fault.Fault.{Fault}
@@ -37,13 +38,8 @@ given_lengths (c ∷ list) threads fault n =
 
 -- ---- and their number
 
-set_count : (list : List ThreadObject) (k : ℕ) (b : ThreadObject) → length (slice_set list k b) ≡ length list
-set_count [] k b = refl
-set_count (x ∷ list) zero b = refl
-set_count (x ∷ list) (suc k) b = ap suc (set_count list k b)
-
 to_count : (c : Creation) (object : ThreadObject) (routine : Option ℕ) (threads : List ThreadObject) → length (y.given_to c object routine threads).0 ≡ length threads
-to_count c object None threads = set_count threads c.thread (record { length = object.length; routine = Some c.routine })
+to_count c object None threads = length-set threads c.thread (record { length = object.length; routine = Some c.routine })
 to_count c object (Some routine) threads = refl
 
 at_count : (c : Creation) (o : Option ThreadObject) (threads : List ThreadObject) → length (y.given_at c o threads).0 ≡ length threads

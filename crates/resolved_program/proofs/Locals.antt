@@ -3,6 +3,7 @@ use Rattle.std.proofs.Common.{◌≡◌, refl, ap, ◌∙◌, ℕ, zero, suc, �
 use Rattle.std.specs.Prelude.{◌^◌, min, slice_get, unwrap_or, if◌then◌else◌, ⊤}
 use Rattle.std.specs.List.{AllByRecursion}
 use Rattle.std.proofs.lemmas.Option.{slice_get_within}
+use Rattle.lists.proofs.Places.{all_back}
 use Rattle.c_tree.specs.declared.expression.Name.{Name}
 use Rattle.c_tree.specs.declared.expression.Expression.{Expression as ExpressionTree, out-Expression}
 use Rattle.c_tree.specs.declared.declaration.Declaration.{Declaration}
@@ -33,8 +34,7 @@ use Rattle.resolved_program.specs.Leaves.{AreValid, expression_leaves, declarato
 use Rattle.resolved_program.specs.Orders.{IsMeant, IsOrderly, IsInOrder, GivesRoutines}
 use Rattle.resolved_program.proofs.Walks.{Shows, shows_pure, shows_then, shows_as, shows_broken, shows_if, IfAny}
 use Rattle.resolved_program.proofs.Calls as k
-use Rattle.resolved_program.proofs.Calls.{nothing_in}
-use Rattle.resolved_program.proofs.Trees.{value_shows, all_left, all_right}
+use Rattle.resolved_program.proofs.Trees.{value_shows, all_left}
 use Rattle.resolved_program.proofs.Simple as z
 use Rattle.resolved_program.proofs.Steps.{Does, does_pure, does_then, does_as, does_finding, declare_does, does_through, all_more, next_in, front_before, front_length}
 
@@ -193,7 +193,7 @@ module _ (whole : Findings) (P : Program) (number : ℕ) (f : Function) (given_r
   unfolding y.declarator
   declarator_does words d valid =
       let sized = all_left _ (of_any expression_leaves d.length) (of_any expression_leaves d.initializer) valid in
-      let begun = all_right _ (of_any expression_leaves d.length) (of_any expression_leaves d.initializer) valid in
+      let begun = all_back _ (of_any expression_leaves d.length) (of_any expression_leaves d.initializer) valid in
       let stepping = λ (m : Meaning). finding (y.declared_step d m d.initializer) in
       let declaring = λ (m : Meaning). y.declare d.name m >> stepping m in
       does_then (finding (y.optional_length d.length)) (λ size. y.local words d.name.offset size >>= declaring)
@@ -207,7 +207,7 @@ module _ (whole : Findings) (P : Program) (number : ℕ) (f : Function) (given_r
   each_declarator : (list : List Declarator) → AreValid (of_each declarator_leaves list) → AllByRecursion (λ d. AreValid (declarator_leaves d)) list
   each_declarator [] valid = tt
   each_declarator (d ∷ list) valid =
-      (all_left _ (declarator_leaves d) (of_each declarator_leaves list) valid, each_declarator list (all_right _ (declarator_leaves d) (of_each declarator_leaves list) valid))
+      (all_left _ (declarator_leaves d) (of_each declarator_leaves list) valid, each_declarator list (all_back _ (declarator_leaves d) (of_each declarator_leaves list) valid))
 
   abbrev pub AllInOrder : List Statement → Type 0
   AllInOrder steps = AllByRecursion InOrder steps

@@ -1,7 +1,8 @@
 -- The function main: the header of this name, and what it returns.
-use Rattle.std.proofs.Common.{◌≡◌, refl, sym, ℕ, Bool, true, false, List, [], ◌∷◌, length, Option, Some, None}
+use Rattle.std.proofs.Common.{◌≡◌, refl, ℕ, Bool, true, false, List, [], ◌∷◌, length, Option, Some, None}
 use Rattle.std.specs.Prelude.{not, codes, if◌then◌else◌, slice_get}
 use Rattle.std.proofs.lemmas.Bool.{and_parts, not-true}
+use Rattle.std.proofs.lemmas.Option.{none-some}
 use Rattle.hls_ints.specs.Types.{int_type}
 use Rattle.c_program.specs.declared.tree.ReturnType.TheVariants as returns_as
 use Rattle.c_rules.specs.declared.specifiers.BasicType.TheVariants as basic
@@ -16,7 +17,6 @@ use Rattle.c_rules.specs.Levels.{named_in}
 use Rattle.c_rules.specs.Names.{is_int, is_int_base, is_start_routine}
 use Rattle.c_resolution.specs.Functions as y
 use Rattle.c_resolution.specs.Texts as t
-use Rattle.resolved_program.proofs.Walks.{none-some}
 
 -- a main that is defined has the name main and a header
 pub record IsMainOf (s : Scope) (main : ℕ) : Type 0 where
@@ -29,10 +29,10 @@ pub record IsMainOf (s : Scope) (main : ℕ) : Type 0 where
 
 main_if : (b : Bool) (o : Option ℕ) (main : ℕ) → (if b then o else None) ≡ Some main → (b ≡ true) × (o ≡ Some main)
 main_if true o main h = (refl, h)
-main_if false o main h = absurd (none-some main (sym h))
+main_if false o main h = absurd (none-some main (h))
 
 main_header : (o : Option Header) (main : ℕ) → t.main_of o ≡ Some main → (h : Header) × (o ≡ Some h) × (h.is_main ≡ true) × (h.definition ≡ Some main)
-main_header None main is = absurd (none-some main (sym is))
+main_header None main is = absurd (none-some main (is))
 main_header (Some h) main is =
     let parts = main_if h.is_main h.definition main is in
     (h, refl, parts.0, parts.1)
@@ -41,11 +41,11 @@ main_named : (s : Scope) (o : Option Meaning) (main : ℕ) → named_in s.inner 
 main_named s (Some (meaning.Function n)) main at is =
     let h = main_header (slice_get s.headers n) main is in
     record { place = n; at = at; header = h.0; header_at = h.1; is_main = h.2; definition = h.3 }
-main_named s None main at is = absurd (none-some main (sym is))
-main_named s (Some (meaning.Variable v)) main at is = absurd (none-some main (sym is))
-main_named s (Some meaning.Argument) main at is = absurd (none-some main (sym is))
-main_named s (Some (meaning.Object o)) main at is = absurd (none-some main (sym is))
-main_named s (Some meaning.Unusable) main at is = absurd (none-some main (sym is))
+main_named s None main at is = absurd (none-some main (is))
+main_named s (Some (meaning.Variable v)) main at is = absurd (none-some main (is))
+main_named s (Some meaning.Argument) main at is = absurd (none-some main (is))
+main_named s (Some (meaning.Object o)) main at is = absurd (none-some main (is))
+main_named s (Some meaning.Unusable) main at is = absurd (none-some main (is))
 
 pub main_is : (s : Scope) (main : ℕ) → t.main_number s ≡ Some main → IsMainOf s main
 main_is s main is = main_named s (named_in s.inner (codes "main")) main refl is

@@ -1,8 +1,9 @@
 -- The creates that a part finds are those of the statements that it stands for.
-use Rattle.std.proofs.Common.{◌≡◌, sym, ap, subst, inl, inr, ℕ, zero, suc, ◌<◌, Bool, true, false, List, [], ◌∷◌, ◌++◌, map, length, Option, Some, None, arith}
-use Rattle.std.specs.Prelude.{◌⊎◌, not, is_none, is_some, option_map, if◌then◌else◌, slice_index_or, Contains}
+use Rattle.std.proofs.Common.{sym, ap, subst, inl, inr, ℕ, Bool, true, false, List, [], ◌∷◌, ◌++◌, map, length, Option, Some, None, arith}
+use Rattle.std.specs.Prelude.{◌⊎◌, not, is_none, is_some, option_map, if◌then◌else◌, Contains}
 use Rattle.std.specs.List.{AllByRecursion}
 use Rattle.std.proofs.lemmas.List.Elements.{Contains-append_cases}
+use Rattle.lists.proofs.Places.{in_one}
 use Rattle.c_tree.specs.declared.expression.Argument.{Argument, out-Argument}
 use Rattle.c_tree.specs.declared.expression.Argument.TheOpen.{Argument-F}
 use Rattle.c_tree.specs.declared.expression.Expression.{Expression as ExpressionTree}
@@ -205,13 +206,6 @@ pub makes_either : (b : Bool) (v w : Finds Statement) → MakesIt v → MakesIt 
 makes_either true v w h k = h
 makes_either false v w h k = k
 
-only_site : (y k : Creation) → Contains (y ∷ []) k → y ≡ k
-only_site y k inside = at inside.0 inside.1 inside.2
-  where
-    at : (n : ℕ) → n < 1 → slice_index_or (y ∷ []) n k ≡ k → y ≡ k
-    at zero lt is = is
-    at (suc n) lt is = absurd (omega arith)
-
 -- ---- calls
 
 created_makes : (at : ℕ) (thread : ObjectPlace) (v : Expression) (routine : Option (ℕ × ℕ)) → MakesIt (c.created at thread v routine)
@@ -224,7 +218,7 @@ created_makes at thread v (Some r) =
           elim (Contains-append_cases found.creations (site ∷ []) k inside) [
             | inl before ↦ inl before
             | inr made ↦
-                let is = only_site site k made in
+                let is = in_one site k made in
                 inr (0, omega arith, ap (λ (y : Creation). (y.thread, y.routine)) is)
           ];
       kept = λ found k no_k. absurd no_k;

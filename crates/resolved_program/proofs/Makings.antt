@@ -5,6 +5,7 @@ use Rattle.std.specs.Prelude.{◌+◌, ◌⊎◌, not, nat_eq, fold, if◌then�
 use Rattle.std.specs.List.{AllByRecursion}
 use Rattle.std.proofs.lemmas.List.Elements.{Contains-append_left, Contains-append_right}
 use Rattle.std.proofs.lemmas.Bool.{false≢true, cases_lt}
+use Rattle.lists.proofs.Places.{length_more}
 use denote.Hole.Holds.{Such}
 use Rattle.c_tree.specs.declared.expression.Name.{Name}
 use Rattle.c_tree.specs.declared.expression.Expression.{Expression as ExpressionTree, out-Expression}
@@ -54,7 +55,7 @@ use Rattle.c_resolution.specs.States.{State, Goes, finding, scoping}
 use Rattle.c_resolution.specs.Statements as y
 use Rattle.c_resolution.specs.Statements.{Adds, item_step, statement_step, block_step, item, statement, items}
 use Rattle.resolved_program.specs.Orders.{left, given}
-use Rattle.resolved_program.proofs.Walks.{turn, length-more}
+use Rattle.resolved_program.proofs.Walks.{turn}
 use Rattle.resolved_program.proofs.Steps as s
 use Rattle.resolved_program.proofs.Quiet as q
 use Rattle.resolved_program.proofs.Quiet.{IsQuiet, quiet_then, quiet_pure, quiet_finds, quiet_if}
@@ -342,7 +343,7 @@ joined_count : (done : List Statement) (waiting : Option Statement) (next : Stat
     ≡ suc (length done + (length done + waiting_count waiting))
 unfolding waiting_count
 joined_count done None next = omega arith
-joined_count done (Some x) next = let e = length-more done (y.neighbours x next) in omega arith
+joined_count done (Some x) next = let e = length_more done (y.neighbours x next) in omega arith
 
 folded_count : (list : List Statement) (j : y.Joined) →
     length (fold y.with_next j list).0 + (length (fold y.with_next j list).0 + waiting_count (fold y.with_next j list).1)
@@ -356,7 +357,7 @@ folded_count (x ∷ list) j =
 last_count : (done : List Statement) (waiting : Option Statement) → length (y.with_last done waiting) ≡ length done + waiting_count waiting
 unfolding waiting_count
 last_count done None = omega arith
-last_count done (Some x) = let e = length-more done x in omega arith
+last_count done (Some x) = let e = length_more done x in omega arith
 
 at_most_one : (waiting : Option Statement) → waiting_count waiting ≤ 1
 unfolding waiting_count

@@ -3,7 +3,7 @@
 use Rattle.std.proofs.Common.{◌≡◌, refl, sym, ap, subst, ◌∙◌, ℕ, ◌≤◌, Bool, true, false, List, [], ◌∷◌, ◌++◌, length, Option, Some, None, le_trans, arith}
 use Rattle.std.specs.Prelude.{◌+◌, ◌-◌, min, slice_get, remove, fold, unwrap_or, if◌then◌else◌}
 use Rattle.std.specs.List.{AllByRecursion}
-use Rattle.lists.proofs.Places.{get_last}
+use Rattle.lists.proofs.Places.{length_more, get_last}
 use Rattle.c_rules.specs.declared.names.Scope.{Scope}
 use Rattle.c_rules.specs.declared.names.Meaning.{Meaning}
 use Rattle.c_rules.specs.declared.specifiers.BasicType.{BasicType}
@@ -19,7 +19,7 @@ use Rattle.c_rules.specs.declared.fault.Rule.TheVariants as rule
 use Rattle.c_resolution.specs.States.{State, state, Goes, finding, scoping}
 use Rattle.c_resolution.specs.Locals as y
 use Rattle.c_resolution.specs.Statements.{deeper, shallower, loop_body}
-use Rattle.resolved_program.proofs.Walks.{turn, length-more}
+use Rattle.resolved_program.proofs.Walks.{turn}
 use Rattle.resolved_program.specs.Orders.{left, given}
 use Rattle.resolved_program.proofs.Steps.{in_scope_is}
 
@@ -154,7 +154,7 @@ remove_last [] a = refl
 remove_last (x ∷ xs) a = ap (λ l. x ∷ l) (remove_last xs a)
 
 last_place : {A : Type 0} (xs : List A) (a : A) → length (xs ++ a ∷ []) - 1 ≡ length xs
-last_place xs a = omega (arith, length-more xs a)
+last_place xs a = omega (arith, length_more xs a)
 
 closed_is : (s : Scope) (outer : List Names) (inner : Names) (level : Option Names) → s.outer ≡ outer ++ inner ∷ [] → level ≡ Some inner → remove s.outer
     (length s.outer - 1) ≡ outer →

@@ -5,14 +5,14 @@ use Rattle.std.specs.Prelude.{◌+◌, ◌^◌, min, fold, is_some, if◌then◌
 use Rattle.std.specs.List.{AllByRecursion}
 use Rattle.std.specs.Str.{bytes_eq}
 use Rattle.std.proofs.lemmas.Slice.Eq.{bytes_eq-Decides}
-use Rattle.std.proofs.lemmas.Option.{same_Some}
+use Rattle.std.proofs.lemmas.Option.{same_Some, none-some}
+use Rattle.lists.proofs.Places.{length_more, get_last}
 use Rattle.c_tree.specs.declared.statement.Block.{Block}
 use Rattle.c_tree.specs.declared.declaration.Function.{Function as FunctionTree}
 use Rattle.c_tree.specs.declared.declaration.ExternalDeclaration.{ExternalDeclaration}
 use Rattle.c_tree.specs.declared.declaration.ExternalDeclaration.TheVariants as external
 use Rattle.c_rules.specs.Levels.{named_in, inserted}
 use Rattle.c_resolution.specs.Texts as y
-use Rattle.resolved_program.proofs.Walks.{none-some, length-more}
 
 -- the names of the functions that have a body, in the order of the text
 abbrev pub names_of : FunctionTree → Option Block → List (List ℕ)
@@ -36,7 +36,7 @@ IsAt done e = slice_get done e.1 ≡ Some e.0
 new_by : (b : Bool) (R : List ℕ × ℕ → Type 0) (d : List ℕ × ℕ) (more : List (List ℕ × ℕ)) (name : List ℕ) (a : ℕ) →
     (if b then Some d.1 else named_in more name) ≡ None → R d → AllByRecursion R more → (named_in more name ≡ None → AllByRecursion R (inserted more name a)) →
     AllByRecursion R (if b then (d.0, a) ∷ more else d ∷ inserted more name a)
-new_by true R d more name a none here all later = absurd (none-some d.1 none)
+new_by true R d more name a none here all later = absurd (none-some d.1 (sym none))
 new_by false R d more name a none here all later = (here, later none)
 
 new_entry : (R : List ℕ × ℕ → Type 0) (names : List (List ℕ × ℕ)) (name : List ℕ) (a : ℕ) → named_in names name ≡ None → AllByRecursion R names → R (name, a) →
@@ -51,7 +51,7 @@ noted_by None R names name a none all is = new_entry R names name a none all is
 noted_by (Some n) R names name a none all is = all
 
 grown_at : (done : List (List ℕ)) (name key : List ℕ) (k : ℕ) → slice_get done k ≡ Some key → slice_get (done ++ name ∷ []) k ≡ Some key
-grown_at [] name key k is = absurd (none-some key (sym is))
+grown_at [] name key k is = absurd (none-some key (is))
 grown_at (x ∷ done) name key zero is = is
 grown_at (x ∷ done) name key (suc k) is = grown_at done name key k is
 
@@ -61,10 +61,6 @@ grown done name e is = grown_at done name e.0 e.1 is
 all_grown : (done : List (List ℕ)) (name : List ℕ) (names : List (List ℕ × ℕ)) → AllByRecursion (IsAt done) names → AllByRecursion (IsAt (done ++ name ∷ [])) names
 all_grown done name [] all = tt
 all_grown done name (e ∷ names) all = (grown done name e all.0, all_grown done name names all.1)
-
-last_at : (done : List (List ℕ)) (name : List ℕ) → slice_get (done ++ name ∷ []) (length done) ≡ Some name
-last_at [] name = refl
-last_at (x ∷ done) name = last_at done name
 
 -- ---- all definitions
 
@@ -83,14 +79,14 @@ noted_function : (f : FunctionTree) (body : Option Block) (done : List (List ℕ
 noted_function f None done d small are = subst (λ l. AreNoted l d) (sym (append-nil done)) are
 noted_function f (Some body) done d small are =
     let name = f.name.bytes in
-    let more = length-more done name in
+    let more = length_more done name in
     let lt : length done < 2 ^ 32 = omega arith in
     let at = are.next ∙ least_is (length done) lt in
     record {
       next = ap (λ n. min (n + 1) 0xffff_ffff) are.next ∙ next_is (length done) ∙ ap (λ n. min n 0xffff_ffff) (sym more);
       entries =
           noted_by (named_in d.0 name) (IsAt (done ++ name ∷ [])) d.0 name d.1 refl (all_grown done name d.0 are.entries)
-          (ap (λ n. slice_get (done ++ name ∷ []) n) at ∙ last_at done name);
+          (ap (λ n. slice_get (done ++ name ∷ []) n) at ∙ get_last done name);
     }
 
 noted_declaration : (x : ExternalDeclaration) (done : List (List ℕ)) (d : y.Noted) → length (done ++ names_in x) ≤ 2 ^ 32 → AreNoted done d →
@@ -117,7 +113,7 @@ found_by false done e o name n same at later is = later is
 
 found_at : (done : List (List ℕ)) (names : List (List ℕ × ℕ)) (name : List ℕ) (n : ℕ) → AllByRecursion (IsAt done) names → named_in names name ≡ Some n →
     slice_get done n ≡ Some name
-found_at done [] name n all is = absurd (none-some n (sym is))
+found_at done [] name n all is = absurd (none-some n (is))
 found_at done (e ∷ names) name n all is = found_by (bytes_eq name e.0) done e (named_in names name) name n refl all.0 (found_at done names name n all.1) is
 
 -- the number of a name is that of a body of this name

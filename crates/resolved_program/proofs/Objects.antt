@@ -1,6 +1,7 @@
 -- What places of integers and of objects of POSIX threads give.
-use Rattle.std.proofs.Common.{◌≡◌, refl, subst, ℕ, Bool, true, false, Option, Some, None}
+use Rattle.std.proofs.Common.{◌≡◌, refl, subst, ℕ, Bool, true, false, Option, Some, None, sym}
 use Rattle.std.specs.Prelude.{◌||◌, is_some, if◌then◌else◌, unwrap_or}
+use Rattle.std.proofs.lemmas.Option.{none-some}
 use Rattle.c_program.specs.Tree.{Expression, ObjectPlace, Function, Program}
 use Rattle.c_program.specs.Resolved.{IsObject, IsObjectPlace, IsPlace}
 use Rattle.c_rules.specs.declared.fault.Rule.{Rule}
@@ -20,14 +21,14 @@ use Rattle.c_expressions.specs.Expressions.{variable_of}
 use Rattle.c_expressions.specs.Targets as t
 use Rattle.c_calls.specs.Arguments as a
 use Rattle.resolved_program.specs.Orders.{object_length}
-use Rattle.resolved_program.proofs.Walks.{Shows, shows_pure, shows_then, shows_as, shows_broken, shows_if, none-some, IfAny}
+use Rattle.resolved_program.proofs.Walks.{Shows, shows_pure, shows_then, shows_as, shows_broken, shows_if, IfAny}
 use Rattle.resolved_program.proofs.Known.{IsKnown, IsIndex}
 
 -- ---- what is assigned to
 
 no_fault : (is_const differs : Bool) (r : Rule) → (if is_const || differs then Some r else None) ≡ None → differs ≡ false
-no_fault true differs r h = absurd (none-some r h)
-no_fault false true r h = absurd (none-some r h)
+no_fault true differs r h = absurd (none-some r (sym h))
+no_fault false true r h = absurd (none-some r (sym h))
 no_fault false false r h = refl
 
 module _ (P : Program) (f : Function) where
@@ -43,11 +44,11 @@ module _ (P : Program) (f : Function) where
   place_is (known.Declared (meaning.Variable v)) i is index none =
       variable_is v v.length i is index (no_fault v.is_const (t.differ (is_some v.length) (is_some i)) rule.Kind none)
   place_is (known.Declared meaning.Unusable) i is index none = absurd is
-  place_is (known.Declared meaning.Argument) i is index none = absurd (none-some rule.Kind none)
-  place_is (known.Declared (meaning.Object o)) i is index none = absurd (none-some rule.Kind none)
-  place_is (known.Declared (meaning.Function number)) i is index none = absurd (none-some rule.Kind none)
-  place_is (known.Library function) i is index none = absurd (none-some rule.Kind none)
-  place_is known.Unknown i is index none = absurd (none-some rule.Unknown none)
+  place_is (known.Declared meaning.Argument) i is index none = absurd (none-some rule.Kind (sym none))
+  place_is (known.Declared (meaning.Object o)) i is index none = absurd (none-some rule.Kind (sym none))
+  place_is (known.Declared (meaning.Function number)) i is index none = absurd (none-some rule.Kind (sym none))
+  place_is (known.Library function) i is index none = absurd (none-some rule.Kind (sym none))
+  place_is known.Unknown i is index none = absurd (none-some rule.Unknown (sym none))
 
   -- ---- objects of POSIX threads
 

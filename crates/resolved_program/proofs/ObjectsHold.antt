@@ -3,6 +3,7 @@ use Rattle.std.proofs.Common.{◌≡◌, refl, sym, ap, subst, ◌∙◌, inl, i
 use Rattle.std.specs.Prelude.{◌⊎◌, is_none, unwrap_or, slice_get}
 use Rattle.std.specs.List.{AllByRecursion}
 use Rattle.std.proofs.lemmas.Option.{same_Some}
+use Rattle.lists.proofs.Places.{get_pushed}
 use Rattle.c_tree.specs.declared.statement.Block.{Block}
 use Rattle.c_tree.specs.declared.declaration.Function.{Function as FunctionTree}
 use Rattle.c_tree.specs.declared.declaration.GlobalDeclarator.{GlobalDeclarator}
@@ -26,7 +27,6 @@ use Rattle.resolved_program.specs.Gathered.{IsDeclaredThread}
 use Rattle.resolved_program.proofs.Walks.{all_more}
 use Rattle.resolved_program.proofs.Growing.{Grows}
 use Rattle.resolved_program.proofs.Fronts.{AreFronts}
-use Rattle.resolved_program.proofs.Headed.{at_more}
 use Rattle.resolved_program.proofs.Spelling.{text_is}
 use Rattle.resolved_program.proofs.Declaring.{IsVariableLeft, IsObjectLeft, IsGlobalLeft}
 use Rattle.resolved_program.proofs.Leaving.{IsTabled, nobody}
@@ -58,7 +58,7 @@ named_on s t globals grows are number a at =
 named_more : (s : Scope) (globals : List GlobalVariable) (a : GlobalVariable) (v : Variable) → named_in s.inner a.name ≡ Some (meaning.Variable v) →
     v.number ≡ length globals → AreNamed s globals → AreNamed s (globals ++ a ∷ [])
 named_more s globals a v is place are number b at =
-    elim (at_more globals a b number at) [
+    elim (get_pushed globals a number b at) [
       | inl before ↦ are number b before
       | inr last ↦ (v, ap (λ (c : GlobalVariable). named_in s.inner c.name) (sym last.1) ∙ is, place ∙ sym last.0)
     ]

@@ -1,8 +1,9 @@
 -- What parameters give: a local for each, the first of which is a long where the function is a start routine.
-use Rattle.std.proofs.Common.{◌≡◌, refl, sym, ap, subst, ◌∙◌, ℕ, suc, ◌≤◌, Bool, true, false, List, [], ◌∷◌, ◌++◌, length, Option, Some, None, append_assoc, append-nil, arith}
+use Rattle.std.proofs.Common.{◌≡◌, refl, sym, ap, subst, ◌∙◌, ℕ, suc, ◌≤◌, Bool, true, false, List, [], ◌∷◌, ◌++◌, length, Option, Some, None, append_assoc, append-nil}
 use Rattle.std.specs.Prelude.{◌^◌, not, slice_get, if◌then◌else◌, ⊤}
 use Rattle.std.specs.List.{AllByRecursion}
 use Rattle.std.proofs.lemmas.Bool.{not-false}
+use Rattle.std.proofs.lemmas.List.{nil_from_length}
 use Rattle.hls_ints.specs.Types.{long_int}
 use Rattle.c_tree.specs.declared.expression.Name.{Name}
 use Rattle.c_tree.specs.declared.declaration.Parameter.{Parameter}
@@ -36,10 +37,6 @@ rest_of (p ∷ list) = list
 first_or : Parameter → List Parameter → Parameter
 first_or p [] = p
 first_or p (q ∷ list) = q
-
-none_left : (xs : List LocalVariable) → length xs ≡ 0 → xs ≡ []
-none_left [] h = refl
-none_left (x ∷ xs) h = absurd (omega arith)
 
 -- a part that adds a local of one element and no name, and what that stands for
 pub record Adds (whole : Findings) (P : Program) (f : Function) (pointer routine : Bool) (x y : State) (m : Meaning) : Type 0 where
@@ -208,7 +205,7 @@ module _ (whole : Findings) (P : Program) (f : Function) (small : length f.local
         count = ap suc later.count;
         singles = (one.single, later.singles);
         longs = λ q is pointer.
-            let nothing = none_left later.more (later.count ∙ ap (λ l. length (rest_of l)) is) in
+            let nothing = nil_from_length later.more (later.count ∙ ap (λ l. length (rest_of l)) is) in
             let long = one.is_long (ap (λ l. (first_or p l).is_pointer) is ∙ pointer) in
             ap (λ l. l ∷ later.more) long ∙ ap (λ l. scalar long_int ∷ l) nothing;
         names = λ front argument all.

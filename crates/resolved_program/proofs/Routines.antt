@@ -2,28 +2,16 @@
 use Rattle.std.proofs.Common.{◌≡◌, refl, sym, ap, subst, ◌∙◌, inl, inr, ℕ, zero, suc, ◌<◌, Bool, true, false, List, [], ◌∷◌, length, Option, Some, None, eqb-true, eq-eqb, arith}
 use Rattle.std.specs.Prelude.{◌⊎◌, nat_eq, if◌then◌else◌, fold, slice_get, slice_set, slice_index_or, Contains}
 use Rattle.std.proofs.lemmas.Bool.{false≢true}
-use Rattle.std.proofs.lemmas.Option.{same_Some}
+use Rattle.std.proofs.lemmas.Option.{same_Some, none-some}
+use Rattle.std.proofs.lemmas.List.Elements.{Contains-append_right}
+use Rattle.lists.proofs.Places.{set_elsewhere, set_there}
 use Rattle.c_program.specs.declared.tree.ThreadObject.{ThreadObject}
 use Rattle.c_rules.specs.declared.fault.Fault.{Fault}
 use Rattle.c_rules.specs.declared.findings.Creation.{Creation}
 use Rattle.c_rules.specs.Faults.{first}
 use Rattle.c_resolution.specs.Routines as y
-use Rattle.resolved_program.proofs.Walks.{first-none, none-some}
+use Rattle.resolved_program.proofs.Walks.{first-none}
 use Rattle.resolved_program.proofs.Graph.{first-second}
-
--- ---- an element that is set
-
-set_there : {A : Type 0} (list : List A) (k : ℕ) (a b : A) → slice_get list k ≡ Some a → slice_get (slice_set list k b) k ≡ Some b
-set_there [] k a b is = absurd (none-some a (sym is))
-set_there (x ∷ list) zero a b is = refl
-set_there (x ∷ list) (suc k) a b is = set_there list k a b is
-
-set_elsewhere : {A : Type 0} (list : List A) (k n : ℕ) (b : A) → (k ≡ n → ⊥) → slice_get (slice_set list k b) n ≡ slice_get list n
-set_elsewhere [] k n b apart = refl
-set_elsewhere (x ∷ list) zero zero b apart = absurd (apart refl)
-set_elsewhere (x ∷ list) zero (suc n) b apart = refl
-set_elsewhere (x ∷ list) (suc k) zero b apart = refl
-set_elsewhere (x ∷ list) (suc k) (suc n) b apart = set_elsewhere list k n b (λ e. apart (ap suc e))
 
 -- ---- one create
 
@@ -61,7 +49,7 @@ set_later c object threads at none k o is = by (nat_eq c.thread k) refl
           subst (λ n. slice_get threads n ≡ Some object) e at,
           subst (λ x. IsLater object x (By c k)) made (record {
             length = refl;
-            kept = λ routine had. absurd (none-some routine (sym had ∙ none));
+            kept = λ routine had. absurd (none-some routine (sym (sym had ∙ none)));
             given = λ routine has. inr (sym e, sym (same_Some c.routine routine has));
           }),
         )
@@ -79,7 +67,7 @@ given_at_later c (Some object) threads at = given_to_later c object object.routi
 -- the routine that it names is that of its object
 second_by : (b : Bool) (f : Fault) → (if b then None else Some f) ≡ None → b ≡ true
 second_by true f h = refl
-second_by false f h = absurd (none-some f h)
+second_by false f h = absurd (none-some f (sym h))
 
 given_to_there : (c : Creation) (object : ThreadObject) (routine : Option ℕ) (threads : List ThreadObject) → slice_get threads c.thread ≡ Some object → object.routine ≡ routine →
     (y.given_to c object routine threads).1 ≡ None → (o : ThreadObject) → slice_get (y.given_to c object routine threads).0 c.thread ≡ Some o → o.routine ≡ Some c.routine
@@ -92,7 +80,7 @@ given_to_there c object (Some routine) threads at is none o here =
 
 given_at_there : (c : Creation) (object : Option ThreadObject) (threads : List ThreadObject) → slice_get threads c.thread ≡ object → (y.given_at c object threads).1 ≡ None →
     (o : ThreadObject) → slice_get (y.given_at c object threads).0 c.thread ≡ Some o → o.routine ≡ Some c.routine
-given_at_there c None threads at none o here = absurd (none-some o (sym here ∙ at))
+given_at_there c None threads at none o here = absurd (none-some o (sym (sym here ∙ at)))
 given_at_there c (Some object) threads at none o here = given_to_there c object object.routine threads at refl none o here
 
 -- ---- all creates
@@ -115,9 +103,6 @@ later_on a b d Given More All h k first next = record {
     by routine (inl had) = earlier routine (h.given routine had)
     by routine (inr gave) = inr (next routine gave)
 
-shifted : {A : Type 0} (x y : A) (list : List A) → Contains list x → Contains (y ∷ list) x
-shifted x y list inside = (suc inside.0, omega (arith, inside.1), inside.2)
-
 pub all_later : (list : List Creation) (threads : List ThreadObject) (fault : Option Fault) → AreLater threads (fold y.next_given (threads, fault) list).0 (Among list)
 all_later [] threads fault k o here = (o, here, same_later o (Among [] k))
 all_later (c ∷ list) threads fault k o here =
@@ -127,7 +112,7 @@ all_later (c ∷ list) threads fault k o here =
       before.0,
       before.1,
       later_on before.0 behind.0 o (By c k) (Among list k) (Among (c ∷ list) k) before.2 behind.2
-          (λ r by. (c, (0, omega arith, refl), by.0, by.1)) (λ r among. (among.0, shifted among.0 c list among.1, among.2, among.3)),
+          (λ r by. (c, (0, omega arith, refl), by.0, by.1)) (λ r among. (among.0, Contains-append_right (c ∷ []) list among.0 among.1, among.2, among.3)),
     )
 
 pub all_none : (list : List Creation) (threads : List ThreadObject) (fault : Option Fault) → (fold y.next_given (threads, fault) list).1 ≡ None → fault ≡ None

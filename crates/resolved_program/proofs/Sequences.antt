@@ -3,6 +3,7 @@ use Rattle.std.proofs.Common.{inl, inr, ℕ, zero, suc, Bool, true, false, List,
 use Rattle.std.specs.Prelude.{fold, if◌then◌else◌, Contains, ⊤}
 use Rattle.std.specs.List.{AllByRecursion}
 use Rattle.std.proofs.lemmas.List.Elements.{Contains-append_cases}
+use Rattle.lists.proofs.Places.{in_none}
 use Rattle.c_program.specs.Tree.{Condition, Statement, Function, Program}
 use Rattle.c_program.specs.Calls.{calls_of}
 use Rattle.c_program.specs.Resolved as r
@@ -88,8 +89,8 @@ module _ (whole : Findings) (P : Program) (number : ℕ) (f : Function) where
   pub nothing_in_order : (b : Bool) → InOrder b Statement.Done
   nothing_in_order b = record {
     is = tt;
-    calls = λ callee inside. absurd (k.nothing_in callee inside);
-    creates = λ thread routine inside. absurd (k.nothing_in (thread, routine) inside);
+    calls = λ callee inside. absurd (in_none callee inside);
+    creates = λ thread routine inside. absurd (in_none (thread, routine) inside);
   }
 
   only_is : (b : Bool) (list : List Statement) → All b list → InOrder b (y.only list)

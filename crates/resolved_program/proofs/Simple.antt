@@ -2,6 +2,7 @@
 use Rattle.std.proofs.Common.{◌≡◌, refl, sym, subst, ℕ, Bool, true, false, Option, Some, None}
 use Rattle.std.specs.Prelude.{not, if◌then◌else◌, Contains, ⊤}
 use Rattle.std.proofs.lemmas.Bool.{not-false}
+use Rattle.lists.proofs.Places.{in_none, all_back}
 use Rattle.c_tree.specs.declared.expression.BinaryOperator.{BinaryOperator}
 use Rattle.c_tree.specs.declared.expression.Argument.TheOpen.{Form-F}
 use Rattle.c_tree.specs.declared.expression.Form.{out-Form}
@@ -40,8 +41,7 @@ use Rattle.resolved_program.proofs.Walks.{Shows, shows_pure, shows_then, shows_a
 use Rattle.resolved_program.proofs.Known.{Is}
 use Rattle.resolved_program.proofs.Arguments.{target_shows, pointer_value_shows}
 use Rattle.resolved_program.proofs.Calls as k
-use Rattle.resolved_program.proofs.Calls.{nothing_in}
-use Rattle.resolved_program.proofs.Trees.{value_shows, all_left, all_right}
+use Rattle.resolved_program.proofs.Trees.{value_shows, all_left}
 
 comparison_by : (b : Bool) (o : ResolvedBinary) → r.is_comparison o ≡ b → IfAny (λ o. r.is_comparison o ≡ false) (if b then None else Some o)
 comparison_by true o is = tt
@@ -77,7 +77,7 @@ module _ (whole : Findings) (P : Program) (number : ℕ) (f : Function) (s : Sco
   assign_is at q right target is = record {
     is = (target, is.0);
     calls = is.1;
-    creates = λ thread routine inside. absurd (nothing_in (thread, routine) inside);
+    creates = λ thread routine inside. absurd (in_none (thread, routine) inside);
   }
 
   assigned_shows : (at : ℕ) (q : PlaceTree) (e : ExpressionTree) → AreValid (place_leaves q) → AreValid (expression_leaves e) → Shows whole Now InOrder (y.assigned s at q e)
@@ -131,7 +131,7 @@ module _ (whole : Findings) (P : Program) (number : ℕ) (f : Function) (s : Sco
 
   simple_form_shows : (at : ℕ) (x : SimpleForm) → AreValid (simple_form_leaves x) → Shows whole Now InOrder (y.simple_form s at x)
   simple_form_shows at (form.Assign q o e) valid =
-      assign_shows at q o e (all_left _ (place_leaves q) (expression_leaves e) valid) (all_right _ (place_leaves q) (expression_leaves e) valid)
+      assign_shows at q o e (all_left _ (place_leaves q) (expression_leaves e) valid) (all_back _ (place_leaves q) (expression_leaves e) valid)
   simple_form_shows at (form.Step q way) valid = step_shows at q way valid
   simple_form_shows at (form.Call x) valid = k.call_shows whole P number f s given_routines in_loop (place_in_tree at) x valid
 
@@ -176,7 +176,7 @@ module _ (whole : Findings) (P : Program) (number : ℕ) (f : Function) (s : Sco
 
   right_of_shows : (x : Returned) → AreValid (returned_leaves x) → Shows whole (Now × (y.may_return s.gives x ≡ true)) IsReturned (y.right_of s x)
   right_of_shows returned_as.Nothing valid =
-      shows_pure None (λ b. (nothing_returned s.gives f.returns b.1 b.0.gives, λ callee inside. absurd (nothing_in callee inside)))
+      shows_pure None (λ b. (nothing_returned s.gives f.returns b.1 b.0.gives, λ callee inside. absurd (in_none callee inside)))
   right_of_shows (returned_as.Value e) valid =
       shows_then (c.right_side s e) (λ right. pure (Some right))
       (shows_as (c.right_side s e) (λ b. b.0) (λ _ _ is. is) (k.right_side_shows whole P number f s given_routines in_loop e valid))
@@ -186,7 +186,7 @@ module _ (whole : Findings) (P : Program) (number : ℕ) (f : Function) (s : Sco
       shows_then (a.pointer_value s q) (λ x. pure (Some (RightSide.Value x)))
       (shows_as (a.pointer_value s q) (λ b. b.0) (λ _ _ is. is) (pointer_value_shows whole P number f s q valid))
       (λ x. shows_pure (Some (RightSide.Value x))
-      (λ b. (pointer_returned s.gives f.returns q x b.0.1 b.0.0.gives b.1, λ callee inside. absurd (nothing_in callee inside))))
+      (λ b. (pointer_returned s.gives f.returns q x b.0.1 b.0.0.gives b.1, λ callee inside. absurd (in_none callee inside))))
 
   pub returned_shows : (x : Returned) (at : ℕ) → AreValid (returned_leaves x) → Shows whole Now InOrder (y.returned s x at)
   unfolding y.returned
@@ -199,5 +199,5 @@ module _ (whole : Findings) (P : Program) (number : ℕ) (f : Function) (s : Sco
       (λ right. shows_pure (made right) (λ b. record {
         is = b.1.0;
         calls = b.1.1;
-        creates = λ thread routine inside. absurd (nothing_in (thread, routine) inside);
+        creates = λ thread routine inside. absurd (in_none (thread, routine) inside);
       })))

@@ -2,6 +2,8 @@
 use Rattle.std.proofs.Common.{◌≡◌, refl, sym, ap, subst, ℕ, ◌≤◌, Bool, true, false, List, [], ◌∷◌, ◌++◌, map, length, Option, Some, None, arith}
 use Rattle.std.specs.Prelude.{◌+◌, ◌-◌, ◌^◌, min, nat_eq, ⊤}
 use Rattle.std.specs.List.{AllByRecursion}
+use Rattle.std.proofs.lemmas.Bool.{both_ways}
+use Rattle.lists.proofs.Places.{all_back}
 use denote.Hole.Holds.{Such}
 use Rattle.c_tree.specs.declared.expression.Expression.{Expression as ExpressionTree}
 use Rattle.c_tree.specs.declared.statement.SimpleStatement.{SimpleStatement}
@@ -31,7 +33,7 @@ use Rattle.resolved_program.specs.Leaves.{item_layer, statement_layer, block_lay
 use Rattle.resolved_program.specs.Orders.{left, given, IsInOrder, IsAhead, Holds, GivesRoutines}
 use Rattle.resolved_program.proofs.Walks.{shows_pure, shows_as, shows_if, turn}
 use Rattle.resolved_program.proofs.Calls as k
-use Rattle.resolved_program.proofs.Trees.{condition_shows, all_left, all_right}
+use Rattle.resolved_program.proofs.Trees.{condition_shows, all_left}
 use Rattle.resolved_program.proofs.Simple.{simple_shows, returned_shows}
 use Rattle.resolved_program.proofs.Steps.{Does, does_pure, does_then, does_as, does_finding, does_finding_in, does_opened, does_closed, does_through, all_more}
 use Rattle.resolved_program.proofs.Locals.{declaration_does}
@@ -48,7 +50,7 @@ statement_leaves = fold-Statement Leaves Leaves Leaves item_layer statement_laye
 -- no break and no continue stands outside of a loop
 jump_is : (b : Bool) (loops : ℕ) → (b ≡ false → loops ≡ 0) → nat_eq loops 0 ≡ false → b ≡ true
 jump_is true loops none some = refl
-jump_is false loops none some = absurd (k.none_of (nat_eq loops 0) some (ap (λ n. nat_eq n 0) (none refl)))
+jump_is false loops none some = absurd (both_ways (nat_eq loops 0) some (ap (λ n. nat_eq n 0) (none refl)))
 
 -- a scope out of a loop's body
 out_of_loop : (b : Bool) (n m : ℕ) → m ≤ min (n + 1) 0xffff_ffff_ffff_ffff → (b ≡ false → n ≡ 0) → b ≡ false → m - 1 ≡ 0
@@ -234,7 +236,7 @@ module _ (whole : Findings) (P : Program) (number : ℕ) (f : Function) (given_r
   each_item b [] valid = tt
   each_item b (x ∷ list) valid =
       let more = all_of (map item_leaves (map (λ e. e.0) list)) in
-      (x.1.does (all_left _ (item_leaves x.0) more valid) b, each_item b list (all_right _ (item_leaves x.0) more valid))
+      (x.1.does (all_left _ (item_leaves x.0) more valid) b, each_item b list (all_back _ (item_leaves x.0) more valid))
 
   each_moves : (list : List SomeBlockItem) → AllByRecursion (λ (w : Adds). (steps : List Statement) → m.IsMoving (w steps)) (map item (map (λ e. e.0) list))
   each_moves [] = tt
@@ -292,10 +294,10 @@ module _ (whole : Findings) (P : Program) (number : ℕ) (f : Function) (given_r
             (λ c. m.staying_then consequent (last c) h.stays (λ x. m.staying_then alternative (λ z. pure (y.if_of c x z)) k.stays (λ z. m.staying_pure (y.if_of c x z))));
         does = λ valid b.
             let first = all_left _ (expression_leaves test) (leaves ++ others) valid in
-            let more = all_right _ (expression_leaves test) (leaves ++ others) valid in
+            let more = all_back _ (expression_leaves test) (leaves ++ others) valid in
             does_then (finding (λ s. condition s test)) next (condition_does b test first)
             (λ c. does_then consequent (last c) (does_as consequent (λ _. tt) (λ _ _ is. is) (h.does (all_left _ leaves others more) b))
-            (λ x. does_then alternative (λ z. pure (y.if_of c x z)) (does_as alternative (λ _. tt) (λ _ _ is. is) (k.does (all_right _ leaves others more) b))
+            (λ x. does_then alternative (λ z. pure (y.if_of c x z)) (does_as alternative (λ _. tt) (λ _ _ is. is) (k.does (all_back _ leaves others more) b))
             (λ z. does_pure (y.if_of c x z) (λ d. q.if_is whole P number f b c x z d.0.0.1 d.0.1 d.1))));
       }
 
@@ -311,7 +313,7 @@ module _ (whole : Findings) (P : Program) (number : ℕ) (f : Function) (given_r
             (λ c. m.staying_then (y.loop_body body) (λ x. pure (y.while_of c x)) (m.in_loop_body body h.stays) (λ x. m.staying_pure (y.while_of c x)));
         does = λ valid b.
             does_then (finding (λ s. condition s test)) next (condition_does b test (all_left _ (expression_leaves test) leaves valid))
-            (λ c. does_then (y.loop_body body) (λ x. pure (y.while_of c x)) (loop_body_does b body h.stays (h.does (all_right _ (expression_leaves test) leaves valid) true))
+            (λ c. does_then (y.loop_body body) (λ x. pure (y.while_of c x)) (loop_body_does b body h.stays (h.does (all_back _ (expression_leaves test) leaves valid) true))
             (λ x. does_pure (y.while_of c x) (λ d. q.while_is whole P number f b c x d.0.1 d.1)));
       }
 
@@ -324,7 +326,7 @@ module _ (whole : Findings) (P : Program) (number : ℕ) (f : Function) (given_r
             (λ c. m.staying_pure (y.do_while_of x c)));
         does = λ valid b.
             does_then (y.loop_body body) next (loop_body_does b body h.stays (h.does (all_left _ leaves (expression_leaves test) valid) true))
-            (λ x. does_then (finding (λ s. condition s test)) (λ c. pure (y.do_while_of x c)) (condition_does b test (all_right _ leaves (expression_leaves test) valid))
+            (λ x. does_then (finding (λ s. condition s test)) (λ c. pure (y.do_while_of x c)) (condition_does b test (all_back _ leaves (expression_leaves test) valid))
             (λ c. does_pure (y.do_while_of x c) (λ d. q.do_while_is whole P number f b x c d.0.1 d.1)));
       }
 
@@ -341,11 +343,11 @@ module _ (whole : Findings) (P : Program) (number : ℕ) (f : Function) (given_r
             let rest = of_any expression_leaves test ++ (of_any simple_leaves step ++ leaves) in
             let last = of_any simple_leaves step ++ leaves in
             let h0 = all_left _ (start_leaves begin) rest valid in
-            let v1 = all_right _ (start_leaves begin) rest valid in
+            let v1 = all_back _ (start_leaves begin) rest valid in
             let h1 = all_left _ (of_any expression_leaves test) last v1 in
-            let v2 = all_right _ (of_any expression_leaves test) last v1 in
+            let v2 = all_back _ (of_any expression_leaves test) last v1 in
             let h2 = all_left _ (of_any simple_leaves step) leaves v2 in
-            let h3 = all_right _ (of_any simple_leaves step) leaves v2 in
+            let h3 = all_back _ (of_any simple_leaves step) leaves v2 in
             does_then (scoping opened) (λ _. y.for_head begin test step >>= next) does_opened
             (λ _. does_then (y.for_head begin test step) next (for_head_does b begin test step h0 h1 h2)
             (λ head. does_then (y.loop_body body) (out head) (loop_body_does b body h.stays (h.does h3 true))

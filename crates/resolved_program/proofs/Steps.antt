@@ -17,6 +17,7 @@ use Rattle.c_resolution.specs.Locals.{declare}
 use Rattle.resolved_program.specs.Orders.{left, given, IsMeant, AreMeant, IsOrderly, IsFront, IsAhead, Holds}
 use Rattle.resolved_program.proofs.Walks.{Shows, shows_broken, outcome, turn, IfAny}
 use Rattle.std.proofs.lemmas.Option.{slice_get_within}
+use Rattle.lists.proofs.Places.{get_middle}
 use Rattle.resolved_program.proofs.Arguments.{element_is}
 
 -- ---- fronts of lists
@@ -25,11 +26,7 @@ pub front_before : {A : Type 0} (xs : List A) (a : A) (list : List A) → IsFron
 front_before xs a list h = (a ∷ h.0, sym (append_assoc xs (a ∷ []) h.0) ∙ h.1)
 
 pub next_in : {A : Type 0} (xs : List A) (a : A) (list : List A) → IsFront (xs ++ a ∷ []) list → slice_get list (length xs) ≡ Some a
-next_in xs a list h = sym (ap (λ l. slice_get l (length xs)) (sym (append_assoc xs (a ∷ []) h.0) ∙ h.1)) ∙ at xs h.0
-  where
-    at : (xs more : List _) → slice_get (xs ++ a ∷ more) (length xs) ≡ Some a
-    at [] more = refl
-    at (x ∷ xs) more = at xs more
+next_in xs a list h = sym (ap (λ l. slice_get l (length xs)) (sym (append_assoc xs (a ∷ []) h.0) ∙ h.1)) ∙ get_middle xs h.0 a
 
 pub front_length : {A : Type 0} (xs : List A) (a : A) (list : List A) → IsFront (xs ++ a ∷ []) list → length xs < length list
 front_length xs a list h = slice_get_within list (length xs) a (next_in xs a list h)

@@ -1,8 +1,10 @@
 -- The declarations of a text one after another: what holds before the first holds behind the last, where each keeps it.
-use Rattle.std.proofs.Common.{◌≡◌, refl, sym, ap, subst, ◌∙◌, inl, inr, ℕ, ◌<◌, ◌≤◌, Bool, false, List, [], ◌∷◌}
-use Rattle.std.proofs.Common.{◌++◌, length, Option, Some, None, append_assoc, append-nil, arith}
+use Rattle.std.proofs.Common.{◌≡◌, refl, sym, ap, subst, ◌∙◌, inl, inr, ℕ, ◌<◌, Bool, false, List, [], ◌∷◌}
+use Rattle.std.proofs.Common.{◌++◌, length, Option, Some, None, append_assoc, append-nil}
 use Rattle.std.specs.Prelude.{◌⊎◌, ◌^◌, fold, slice_get, unwrap_or}
 use Rattle.std.specs.List.{AllByRecursion}
+use Rattle.std.proofs.Math.Nat.{le_of_lt}
+use Rattle.lists.proofs.Places.{all_back}
 use Rattle.c_tree.specs.declared.statement.Block.{Block}
 use Rattle.c_tree.specs.declared.declaration.Function.{Function as FunctionTree}
 use Rattle.c_tree.specs.declared.declaration.GlobalDeclarator.{GlobalDeclarator}
@@ -28,7 +30,7 @@ use Rattle.resolved_program.specs.Orders.{left, given, IsFront, GivesRoutines}
 use Rattle.resolved_program.proofs.Walks.{outcome, turn, IfAny}
 use Rattle.resolved_program.proofs.Arguments.{element_is}
 use Rattle.resolved_program.proofs.Steps.{next_in}
-use Rattle.resolved_program.proofs.Trees.{all_left, all_right}
+use Rattle.resolved_program.proofs.Trees.{all_left}
 use Rattle.resolved_program.proofs.Functions.{defined_at}
 use Rattle.resolved_program.proofs.Filed.{headed}
 use Rattle.resolved_program.proofs.Growing.{front_same, front_on}
@@ -128,9 +130,6 @@ module _ (X : File) (main : ℕ) (numbered : IsNumbered (program_at X main)) (gi
       small_of (slice_get X.tables.functions k) code (next_in x.tables.functions code X.tables.functions front)
       (element_is (λ (f : Function). length f.locals < 2 ^ 32) X.tables.functions k numbered.locals)
 
-  less_or : (n : ℕ) → n < 2 ^ 32 → n ≤ 2 ^ 32
-  less_or n lt = omega arith
-
   -- ---- a function
 
   function_left_is : (f : FunctionTree) (x : File) → AreValid (function_leaves f) → IsWithin X (left (y.function f x)) →
@@ -140,7 +139,7 @@ module _ (X : File) (main : ℕ) (numbered : IsNumbered (program_at X main)) (gi
       let h = y.header x.scope f in
       function_leaves_it X.found P given_routines f h x (left (y.function_by f h x)) refl valid.1
       (λ body has tables.
-      less_or _ (code_small (defined_at f (y.return_type h) body (headed f h x)) x
+      le_of_lt (code_small (defined_at f (y.return_type h) body (headed f h x)) x
       (subst (λ (t : Tables). IsFront t.functions X.tables.functions) tables within.tables.functions))) within.found
 
   function_within : (f : FunctionTree) (x : File) → AreValid (function_leaves f) → IsWithin X (left (y.function f x)) → IsWithin X x
@@ -162,7 +161,7 @@ module _ (X : File) (main : ℕ) (numbered : IsNumbered (program_at X main)) (gi
   global_left_is words pointer d x valid within =
       let size = of_any expression_leaves d.length in
       let values = of_any initializer_leaves d.initializer in
-      global_left X.found P nobody words pointer d x (all_left _ size values valid.1) (all_right _ size values valid.1) within.found
+      global_left X.found P nobody words pointer d x (all_left _ size values valid.1) (all_back _ size values valid.1) within.found
 
   global_within : (words : Spelled) (pointer : Bool) (d : GlobalDeclarator) (x : File) → AreValid (global_leaves d) →
       IsWithin X (left (g.global words pointer d x)) → IsWithin X x
@@ -193,7 +192,7 @@ module _ (X : File) (main : ℕ) (numbered : IsNumbered (program_at X main)) (gi
   each_global h [] valid = tt
   each_global h (d ∷ list) valid =
       let more = of_each global_leaves list in
-      (h d (all_left _ (global_leaves d) more valid), each_global h list (all_right _ (global_leaves d) more valid))
+      (h d (all_left _ (global_leaves d) more valid), each_global h list (all_back _ (global_leaves d) more valid))
 
   module _ (L : List ExternalDeclaration) (K : List ExternalDeclaration → File → Type 0) (kept : IsKept L K) where
     next_carries : (done : List ExternalDeclaration) (words : Spelled) (d : GlobalDeclarator) → AreValid (global_leaves d) → (pointer : Bool) →
@@ -238,7 +237,7 @@ module _ (X : File) (main : ℕ) (numbered : IsNumbered (program_at X main)) (gi
         let e = after_one step a d list x in
         let o = declaration d x in
         let more = of_each external_leaves list in
-        let later = walk (done ++ d ∷ []) list (append_assoc done (d ∷ []) list ∙ is) (all_right _ (external_leaves d) more valid) (given o) (left o)
+        let later = walk (done ++ d ∷ []) list (append_assoc done (d ∷ []) list ∙ is) (all_back _ (external_leaves d) more valid) (given o) (left o)
         (subst (λ (z : Outcome File (Unit {0})). IsWithin X (left z)) e within) in
         let first = one_carries done list d is (all_left _ (external_leaves d) more valid) x later.0 in
         (first.0, λ k. subst (λ (z : Outcome File (Unit {0})). K L (left z)) (sym e) (later.1 (first.1 k)))

@@ -3,7 +3,8 @@ use Rattle.std.proofs.Common.{◌≡◌, refl, sym, ap, subst, ℕ, suc, Bool, t
 use Rattle.std.specs.Prelude.{◌+◌, fold, if◌then◌else◌, unwrap_or, ⊤}
 use Rattle.std.specs.List.{AllByRecursion}
 use Rattle.std.proofs.lemmas.List.Elements.{Contains-append_left, Contains-append_right}
-use Rattle.std.proofs.lemmas.Option.{same_Some}
+use Rattle.std.proofs.lemmas.Option.{same_Some, none-some}
+use Rattle.lists.proofs.Places.{length_more}
 use Rattle.c_rules.specs.declared.fault.Rule.{Rule}
 use Rattle.c_rules.specs.declared.fault.Fault.{Fault}
 use Rattle.c_rules.specs.declared.findings.Findings.{Findings}
@@ -29,22 +30,19 @@ abbrev IsNone : {A : Type 0} → Option A → Type 0
 IsNone None = Unit {0}
 IsNone (Some x) = ⊥
 
-pub none-some : {A : Type 0} (x : A) → Some x ≡ None → ⊥
-none-some {A} x h = subst (λ (o : Option A). IsNone o) (sym h) tt
-
 chosen : (b : Bool) (x y : Fault) → (if b then Some x else Some y) ≡ None → ⊥
-chosen true x y h = none-some x h
-chosen false x y h = none-some y h
+chosen true x y h = none-some x (sym h)
+chosen false x y h = none-some y (sym h)
 
 pub first-some : (a : Option Fault) (b : Fault) → first a (Some b) ≡ None → ⊥
 unfolding first
-first-some None b h = none-some b h
+first-some None b h = none-some b (sym h)
 first-some (Some a) b h = chosen (is_before b a) b a h
 
 pub first-none : (a b : Option Fault) → first a b ≡ None → a ≡ None
 unfolding first
 first-none None b h = refl
-first-none (Some a) None h = absurd (none-some a h)
+first-none (Some a) None h = absurd (none-some a (sym h))
 first-none (Some a) (Some b) h = absurd (chosen (is_before b a) b a h)
 
 -- what is said of what an option has
@@ -57,10 +55,6 @@ IfAny Is (Some a) = Is a
 pub all_more : {A : Type 0} (Is : A → Type 0) (xs : List A) (a : A) → AllByRecursion Is xs → Is a → AllByRecursion Is (xs ++ a ∷ [])
 all_more Is [] a all is = (is, tt)
 all_more Is (x ∷ xs) a all is = (all.0, all_more Is xs a all.1 is)
-
-pub length-more : {A : Type 0} (xs : List A) (a : A) → length (xs ++ a ∷ []) ≡ suc (length xs)
-length-more [] a = refl
-length-more (x ∷ xs) a = ap suc (length-more xs a)
 
 one_more : (m n k : ℕ) → m ≡ suc n → n + suc k ≡ m + k
 one_more m n k is = omega arith
@@ -127,7 +121,7 @@ module _ {whole : Findings} where
 
   pub shows_call : (caller : Option ℕ) (number callee at : ℕ) →
       Shows whole (caller ≡ Some number) (λ _. IsFoundCall whole number callee) (calls caller callee at)
-  shows_call None number callee at = record { back = λ found part. part; forth = λ found part is. absurd (none-some number (sym is)) }
+  shows_call None number callee at = record { back = λ found part. part; forth = λ found part is. absurd (none-some number (is)) }
   shows_call (Some caller) number callee at =
       let site : CallSite = record { caller = caller; callee = callee; offset = at } in
       record {
@@ -200,5 +194,5 @@ module _ {whole : Findings} where
       shows_then (walk b) (λ a. pure (list ++ a ∷ []))
       (shows_as (walk b) (λ before. before.0) (λ a _ is. is) here)
       (λ a. shows_pure (list ++ a ∷ [])
-      (λ c. (all_more Is list a c.0.1.0 c.1, sym (one_more (length (list ++ a ∷ [])) (length list) (length rest) (length-more list a)) ∙ c.0.1.1))))
+      (λ c. (all_more Is list a c.0.1.0 c.1, sym (one_more (length (list ++ a ∷ [])) (length list) (length rest) (length_more list a)) ∙ c.0.1.1))))
       [] items all)
