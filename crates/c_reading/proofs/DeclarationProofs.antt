@@ -1,7 +1,9 @@
 -- The readings of declarations at file scope and of a whole text read the grammar's rules.
-use Rattle.std.proofs.Common.{◌≡◌, ℕ, suc, ◌+◌, ◌<◌, ◌≤◌, List, [], ◌∷◌, Some, None, Bool, true, false, refl, arith}
+use Rattle.std.proofs.Common.{◌≡◌, ℕ, suc, ◌+◌, ◌<◌, List, [], ◌∷◌, Some, None, Bool, true, false, refl, arith}
 use Rattle.std.specs.Prelude.{◌||◌, ◌&&◌}
 use Rattle.std.proofs.lemmas.Bool.{or_left, or_right}
+use Rattle.std.proofs.Math.Bool.{or-false}
+use Rattle.std.proofs.Math.Nat.{le-suc}
 use Rattle.c_token.specs.declared.keyword.Keyword.TheVariants as k
 use Rattle.c_token.specs.declared.punctuator.Punctuator.TheVariants as p
 use Rattle.c_token.specs.declared.token.Kind.TheVariants as kind
@@ -50,20 +52,13 @@ module _ (n : ℕ) where
   whole : 0 < n → (depth : ℕ) → All depth
   whole lt depth = tt
 
-  same : n ≤ suc n
-  same = omega arith
-
   -- ---- parameters
 
   star : Reads All n (λ depth. c.star) (λ room. q.read_star) (is star_mark) (λ v. is star_mark) true
   unfolding q.read_star
   star =
       resize (either_in (on n star_mark (λ u. gives_value n true)) (gives_value n false) (λ z a b. cc) (λ v. is star_mark) (λ v z f. cc) (λ v z f. cc) (λ depth at v z a b f. f))
-      (is star_mark) (λ v. is star_mark) true (λ z. or_no (is star_mark z)) (λ v z f. f) refl
-    where
-      or_no : (b : Bool) → (b || false) ≡ b
-      or_no true = refl
-      or_no false = refl
+      (is star_mark) (λ v. is star_mark) true (λ z. or-false (is star_mark z)) (λ v z f. f) refl
 
   a_name : Reads All n (λ depth. g.name) (λ room. r.read_name) is_name (λ v. nowhere) false
   unfolding r.read_name
@@ -88,7 +83,7 @@ module _ (n : ℕ) where
       let rest = λ (words : Specifiers).
       both star (λ is_pointer. ends optional_name (λ y. record { specifiers = words; is_pointer = is_pointer; name = y }) (λ v. is_name) (λ a z f. f))
       (λ b z l f. star_name z l f) (λ v z. is star_mark z || is_name z) (λ b z f. or_right (is star_mark z) (is_name z) f) (λ a depth at b z j f l. or_left (is star_mark z) (is_name z) l) in
-      some_then {n = n} {m = n} same (specifiers whole) rest (λ v z l f. type_star_name z l f) (λ v. after_parameter)
+      some_then {n = n} {m = n} (le-suc n) (specifiers whole) rest (λ v z l f. type_star_name z l f) (λ v. after_parameter)
       (λ b z f. or_right (is_type_word z) (is star_mark z || is_name z) f) (λ a depth at b z j f l. or_left (is_type_word z) (is star_mark z || is_name z) l)
 
   parameter_ends : (y : Sign) → ((at : ℕ) → after_parameter (token (sign_kind y) at) ≡ false) → (z : Token) → after_parameter z ≡ true → is y z ≡ true → ⊥
@@ -214,7 +209,7 @@ module _ (n : ℕ) where
 
   next_global : Reads All n (λ depth. c.next_global (g.cast depth) (g.expr depth) (h.statement depth)) (λ room. q.read_next_global (suc room) room) (is comma) (λ v. after_global) false
   unfolding q.read_next_global
-  next_global = on n comma (λ u. name_then {n = n} {m = n} same whole global)
+  next_global = on n comma (λ u. name_then {n = n} {m = n} (le-suc n) whole global)
 
   global_ends : (y : Sign) → ((z : Token) → after_expr z ≡ true → is y z ≡ true → ⊥) → ((at : ℕ) → is open_square (token (sign_kind y) at) ≡ false)
       → ((at : ℕ) → is assign (token (sign_kind y) at) ≡ false)
@@ -291,7 +286,7 @@ module _ (n : ℕ) where
   unfolding q.read_external
   external =
       in_turn (specifiers whole)
-      (λ words. both star (λ is_pointer. name_then {n = n} {m = n} same whole (λ y. either_of words is_pointer y)) (λ b z l f. star_name z l f) (λ v. nowhere) (λ b z f. f)
+      (λ words. both star (λ is_pointer. name_then {n = n} {m = n} (le-suc n) whole (λ y. either_of words is_pointer y)) (λ b z l f. star_name z l f) (λ v. nowhere) (λ b z f. f)
       (λ a depth at b z j f l. cc))
       (λ v z l f. type_star_name z l f)
 

@@ -2,7 +2,8 @@
 use Rattle.std.proofs.Common.{◌≡◌, ℕ, zero, suc, ◌+◌, ◌<◌, ◌≤◌, List, [], ◌∷◌, ◌++◌, Option, Some, None, Bool, true, false, refl, sym, ap, ◌∙◌}
 use Rattle.std.proofs.Common.{subst, inl, inr, ⊎_elim, append_assoc, arith}
 use Rattle.std.specs.Prelude.{◌||◌, ◌&&◌, reverse}
-use Rattle.std.proofs.lemmas.Bool.{or_left, or_right, false_from_ne_true}
+use Rattle.std.proofs.lemmas.Bool.{or_left, or_right, false_from_ne_true, and_parts}
+use Rattle.std.specs.Cmp.{both_ways}
 use Rattle.c_token.specs.declared.keyword.Keyword.TheVariants as k
 use Rattle.c_token.specs.declared.punctuator.Punctuator.TheVariants as p
 use Rattle.c_token.specs.declared.constant.Constant.TheVariants.{TooLarge}
@@ -44,13 +45,6 @@ use Rattle.c_reading.proofs.TokenProofs.{constant_apart, text_apart, type_apart,
 use Rattle.c_reading.proofs.LevelProofs.{below, opens, goes, sign_ends, levels}
 use Rattle.c_reading.proofs.Pairs.{two_at_any_depth}
 use Rattle.c_reading.proofs.ExprShapes.{open_round, close_round, All, cast_opens, expr_opens, expr_of, some_cast, some_expr}
-
--- two tests that are true together are one
-pub bool_same : (a b : Bool) → (a ≡ true → b ≡ true) → (b ≡ true → a ≡ true) → a ≡ b
-bool_same true true to from = refl
-bool_same true false to from = sym (to refl)
-bool_same false true to from = from refl
-bool_same false false to from = refl
 
 abbrev pub open_square : Sign
 open_square = Mark p.OpenSquare
@@ -242,10 +236,7 @@ module _ {D : ℕ → Type 0} (n m : ℕ) (le : n ≤ suc m) (more : m ≤ n) (w
 
   pub pointer_common : 0 < n → (at : ℕ) (x : List Token) → partly ahead x ≡ true → StartsPlain (λ depth. g.converted_pointer (g.cast depth) (g.expr depth)) at x
   pointer_common lt at [] h = start_none converted_pointer lt at
-  pointer_common lt at (a ∷ []) h = start_begun converted_pointer lt at a (only_first (is open_round a) h) where
-    only_first : (b : Bool) → (b && true) ≡ true → b ≡ true
-    only_first true h = refl
-    only_first false h = cc
+  pointer_common lt at (a ∷ []) h = start_begun converted_pointer lt at a (and_parts (is open_round a) true h).0
   pointer_common lt at (a ∷ b ∷ []) h =
       let q = both_of (is open_round a) (is (Word k.Void) b) h in
       start_both {n = n} {m = m} conversion_to_pointer (λ c. ends inner_cast (tree.pointer c) (λ v. opens) (λ v x h. h)) lt at (a ∷ b ∷ [])
@@ -419,10 +410,7 @@ module _ {D : ℕ → Type 0} (n m : ℕ) (le : n ≤ suc m) (more : m ≤ n) (w
 
   pub expr_common : 0 < m → (at : ℕ) (x : List Token) → partly ahead x ≡ true → StartsPlain g.expr at x
   expr_common lt at [] h = start_none expr lt at
-  expr_common lt at (a ∷ []) h = start_begun expr lt at a (begins_round a (only_first (is open_round a) h)) where
-    only_first : (b : Bool) → (b && true) ≡ true → b ≡ true
-    only_first true h = refl
-    only_first false h = cc
+  expr_common lt at (a ∷ []) h = start_begun expr lt at a (begins_round a (and_parts (is open_round a) true h).0)
   expr_common lt at (a ∷ b ∷ []) h = let q = both_of (is open_round a) (is (Word k.Void) b) h in expr_starts (omega arith) at a b q.0 (type_of_void b q.1) where
     both_of : (b c : Bool) → (b && (c && true)) ≡ true → (b ≡ true) × (c ≡ true)
     both_of true true h = (refl, refl)
@@ -491,7 +479,7 @@ module _ {D : ℕ → Type 0} (n m : ℕ) (le : n ≤ suc m) (more : m ≤ n) (w
     where
       same_begins : (x : Token) → (is_text x || (is (Mark p.And) x || (is (Word k.Null) x || (is open_round x || r.begins_cast x)))) ≡ r.begins_argument x
       same_begins x =
-          bool_same _ _
+          both_ways _ _
           (λ h. or_cases (is_text x) _ h (λ a. or_right (r.begins_cast x) _ (or_left (is_text x) _ a))
           (λ h. or_cases (is (Mark p.And) x) _ h (λ a. or_right (r.begins_cast x) _ (or_right (is_text x) _ (or_left (is (Mark p.And) x) _ a)))
           (λ h. or_cases (is (Word k.Null) x) _ h (λ a. or_right (r.begins_cast x) _ (or_right (is_text x) _ (or_right (is (Mark p.And) x) _ a)))
@@ -582,7 +570,7 @@ module _ {D : ℕ → Type 0} (n m : ℕ) (le : n ≤ suc m) (more : m ≤ n) (w
       resize
       (ahead_two converted rest (is open_round) is_type_word 1 (λ v. opens) (λ v x h. h) (λ v x h. h) (λ all depth at w v h. converted_starts depth at w v h)
       (λ all depth at w v h. others_depart is_type_word [] begins_word depth at (all depth) w v h) (λ x h. h) (λ x h. begins_round x h))
-      r.begins_cast (λ v. opens) false (λ x. bool_same _ _ (λ h. or_cases (is open_round x) (r.begins_cast x) h (λ a. begins_round x a) (λ a. a))
+      r.begins_cast (λ v. opens) false (λ x. both_ways _ _ (λ h. or_cases (is open_round x) (r.begins_cast x) h (λ a. begins_round x a) (λ a. a))
       (λ h. or_right (is open_round x) (r.begins_cast x) h)) (λ v x h. h) refl
     where
       unary_apart : (x : Token) → is_unary x ≡ true → r.begins_primary x ≡ true → ⊥

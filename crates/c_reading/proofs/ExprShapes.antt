@@ -2,6 +2,7 @@
 -- spells an operand spells an expression.
 use Rattle.std.proofs.Common.{◌≡◌, ℕ, zero, suc, ◌+◌, List, [], ◌∷◌, ◌++◌, true, false, refl, sym, ap, ◌∙◌, subst, inl, inr, ⊎_elim}
 use Rattle.std.proofs.lemmas.Bool.{false_from_ne_true}
+use Rattle.std.proofs.lemmas.List.{append-nil}
 use Rattle.c_token.specs.declared.punctuator.Punctuator.TheVariants as p
 use Rattle.c_token.specs.declared.constant.Constant.TheVariants.{TooLarge}
 use Rattle.c_token.specs.declared.token.Kind.TheVariants as kind
@@ -15,7 +16,6 @@ use Rattle.c_tree.specs.declared.expression.Expression.{Expression}
 use Rattle.c_tree.specs.Tokens.{is, sign_at, name_at, constant_at, constant_of, unary_at, unary_of, is_unary}
 use Rattle.c_tree.specs.Trees as tree
 use Rattle.c_tree.specs.Expressions as g
-use Rattle.grammar.proofs.Lists.{append_nil}
 use Rattle.grammar.proofs.Parts.{gives}
 use Rattle.grammar.proofs.Nested.{OpensBy, one_opens, group_opens, both_opens, either_opens, depth_opens}
 use Rattle.c_reading.proofs.TokenProofs.{token, sign_apart, sign_exactly, name_apart, constant_apart, some_exactly, placed_exactly}
@@ -104,10 +104,10 @@ expr_opens = depth_opens g.expr (is open_round) (λ at w v h. h)
 
 pub binary_of : (level depth at : ℕ) (w : List (Placed Token)) (v : Expression) → g.cast depth at w v → g.binary level (g.cast depth) at w v
 binary_of zero depth at w v h = h
-binary_of (suc level) depth at w v h = (v, w, [], sym (append_nil w), binary_of level depth at w v h, ([], [], [], refl, refl, (refl, refl)))
+binary_of (suc level) depth at w v h = (v, w, [], sym (append-nil w), binary_of level depth at w v h, ([], [], [], refl, refl, (refl, refl)))
 
 pub expr_of : (depth at : ℕ) (w : List (Placed Token)) (v : Expression) → g.cast depth at w v → g.expr (suc depth) at w v
-expr_of depth at w v h = (v, w, [], sym (append_nil w), binary_of 10 depth at w v h, inr (refl, refl))
+expr_of depth at w v h = (v, w, [], sym (append-nil w), binary_of 10 depth at w v h, inr (refl, refl))
 
 -- some operand, some expression
 pub some_cast : (at : ℕ) → (w : List (Placed Token)) × (v : Expression) × Spelled g.cast at w v

@@ -1,8 +1,10 @@
 -- The readings of what stands in statements, and of statements with no statement in them, read the grammar's rules.
-use Rattle.std.proofs.Common.{◌≡◌, ℕ, suc, ◌+◌, ◌<◌, ◌≤◌, List, [], ◌∷◌, ◌++◌, Option, None, Bool, true, false, refl, sym, subst}
+use Rattle.std.proofs.Common.{◌≡◌, ℕ, suc, ◌+◌, ◌<◌, List, [], ◌∷◌, ◌++◌, Option, None, Bool, true, false, refl, sym, subst}
 use Rattle.std.proofs.Common.{inl, inr, ⊎_elim, arith}
 use Rattle.std.specs.Prelude.{◌||◌, ◌&&◌}
 use Rattle.std.proofs.lemmas.Bool.{or_left, or_right, both_ways}
+use Rattle.std.proofs.Math.Bool.{or_comm}
+use Rattle.std.proofs.Math.Nat.{le-suc}
 use Rattle.c_token.specs.declared.keyword.Keyword.TheVariants as k
 use Rattle.c_token.specs.declared.punctuator.Punctuator.TheVariants as p
 use Rattle.c_token.specs.declared.token.Kind.TheVariants as kind
@@ -70,12 +72,9 @@ module _ (n : ℕ) where
   whole : 0 < n → (depth : ℕ) → All depth
   whole lt depth = tt
 
-  same : n ≤ suc n
-  same = omega arith
-
   pub on : {B : Type 0} {Q : ℕ → Family Token B} {q : ℕ → ℕ → d.Reader Token B} {first' : ℕ → Token → Bool} {last' : B → Token → Bool} {null' : Bool}
       (z : Sign) → ((a : ℕ) → Reads All n (Q a) (q a) (first' a) last' null') → Reads All n ((λ depth. g.sign z) ∘> Q) (λ room. d.reads_both (r.expect z) (λ a. q a room)) (is z) last' false
-  on z after = sign_then {n = n} {m = n} same whole z after
+  on z after = sign_then {n = n} {m = n} (le-suc n) whole z after
 
   pub gives_value : {B : Type 0} (v : B) → Reads {T = Token} All n (λ depth. pure v) (λ room. d.reads_pure v) nowhere (λ v. nowhere) true
   gives_value v = reads_nothing whole v
@@ -83,19 +82,19 @@ module _ (n : ℕ) where
   -- ---- what is read of expressions
 
   pub optional_index : Reads All n (λ depth. optional (g.index (g.cast depth) (g.expr depth))) (λ room. e.read_optional_index (e.read_expr room) room) (is open_square) (λ v. is open_square) true
-  optional_index = x.optional_index n n same (omega arith) whole (cast n) (expr n)
+  optional_index = x.optional_index n n (le-suc n) (omega arith) whole (cast n) (expr n)
 
   place : Reads All n (λ depth. g.place (g.cast depth) (g.expr depth)) (λ room. e.read_place (e.read_expr room) room) is_name (λ v. is open_square) false
-  place = x.place n n same (omega arith) whole (cast n) (expr n)
+  place = x.place n n (le-suc n) (omega arith) whole (cast n) (expr n)
 
   arguments : Reads All n (λ depth. g.arguments (g.cast depth) (g.expr depth)) (λ room. e.read_arguments (e.read_argument room) room) (is open_round) (λ v. nowhere) false
-  arguments = x.arguments n n same (omega arith) whole (cast n) (expr n)
+  arguments = x.arguments n n (le-suc n) (omega arith) whole (cast n) (expr n)
 
   null : Reads All n (λ depth. g.null (g.cast depth) (g.expr depth)) (λ room. e.read_null) (is (Word k.Null)) (λ v. nowhere) false
-  null = x.null n n same (omega arith) whole (cast n) (expr n)
+  null = x.null n n (le-suc n) (omega arith) whole (cast n) (expr n)
 
   converted_pointer : Reads All n (λ depth. g.converted_pointer (g.cast depth) (g.expr depth)) (λ room. e.read_converted_pointer (e.read_cast room) room) (is open_round) (λ v. opens) false
-  converted_pointer = x.converted_pointer n n same (omega arith) whole (cast n) (expr n)
+  converted_pointer = x.converted_pointer n n (le-suc n) (omega arith) whole (cast n) (expr n)
 
   -- ---- simple statements
 
@@ -117,13 +116,13 @@ module _ (n : ℕ) where
   assign_rest : (y : Name) (i : Option Expression) → Reads All n (AssignRest y i) (λ room. s.read_assigned (suc room) room y i) is_assignment (λ v. after_expr) false
   unfolding s.read_assigned r.read_assignment_operator
   assign_rest y i =
-      one_then {n = n} {m = n} same whole is_assignment (λ z. some_exactly (assignment_at z)) (token (kind.Punctuator p.Assign) 0) Set refl
+      one_then {n = n} {m = n} (le-suc n) whole is_assignment (λ z. some_exactly (assignment_at z)) (token (kind.Punctuator p.Assign) 0) Set refl
       (λ op. ends (expr n) (λ value. record { form = simple_form.Assign (tree.place y i) op value; offset = y.offset }) (λ v. after_expr) (λ a z h. h))
 
   step_rest : (y : Name) (i : Option Expression) → Reads All n (StepRest y i) (λ room. s.read_step_behind (suc room) room y i) is_direction (λ v. nowhere) false
   unfolding s.read_step_behind r.read_way
   step_rest y i =
-      one_then {n = n} {m = n} same whole is_direction (λ z. some_exactly (direction_of z)) (token (kind.Punctuator p.PlusPlus) 0) Up refl
+      one_then {n = n} {m = n} (le-suc n) whole is_direction (λ z. some_exactly (direction_of z)) (token (kind.Punctuator p.PlusPlus) 0) Up refl
       (λ way. gives_value (record { form = simple_form.Step (tree.place y i) way; offset = y.offset }))
 
   change_rest : (y : Name) (i : Option Expression) → Reads All n (λ depth. AssignRest y i depth <|> StepRest y i depth)
@@ -149,14 +148,14 @@ module _ (n : ℕ) where
   on_name : Reads All n ((λ depth. g.name) ∘> NameRest) (λ room. s.read_on_name (suc room) room) is_name (λ v. after_expr) false
   unfolding s.read_on_name same_punctuator
   on_name =
-      name_then {n = n} {m = n} same whole
+      name_then {n = n} {m = n} (le-suc n) whole
       (λ y. either_in (called y) (changed y) (λ z a b. sign_apart open_round (λ z. is open_square z || (true && (is_direction z || is_assignment z))) (λ at. refl) z a b)
       (λ v. after_expr) (λ v z h. cc) (λ v z h. h) (λ depth at v z c h l. cc))
 
   step_before : Reads All n (λ depth. h.step_before (g.cast depth) (g.expr depth)) (λ room. s.read_step_before (suc room) room) is_direction (λ v. is open_square) false
   unfolding s.read_step_before r.read_direction
   step_before =
-      one_then {n = n} {m = n} same whole is_direction (λ z. placed_exactly z.offset (direction_of z)) (token (kind.Punctuator p.PlusPlus) 0) (Up, 0) refl
+      one_then {n = n} {m = n} (le-suc n) whole is_direction (λ z. placed_exactly z.offset (direction_of z)) (token (kind.Punctuator p.PlusPlus) 0) (Up, 0) refl
       (λ way. ends place (λ y. record { form = simple_form.Step y way.0; offset = way.1 }) (λ v. is open_square) (λ a z h. h))
 
   -- what begins with a name, by what stands behind it
@@ -202,13 +201,7 @@ module _ (n : ℕ) where
   simple =
       let all = either_in step_before on_name (λ z a b. direction_apart is_name (λ at. refl) (λ at. refl) z a b) (λ v. after_expr) (λ v z h. after_opens z (opens_square z h)) (λ v z h. h)
       (λ depth at v z c h l. cc) in
-      resize (same_rule all Simple to_simple from_simple) r.begins_simple (λ v. after_expr) false (λ z. turned (is_direction z) (is_name z)) (λ v z h. h) refl
-    where
-      turned : (a b : Bool) → (a || b) ≡ (b || a)
-      turned true true = refl
-      turned true false = refl
-      turned false true = refl
-      turned false false = refl
+      resize (same_rule all Simple to_simple from_simple) r.begins_simple (λ v. after_expr) false (λ z. or_comm (is_direction z) (is_name z)) (λ v z h. h) refl
 
   -- ---- declarations in a block
 
@@ -229,7 +222,7 @@ module _ (n : ℕ) where
   declarator : Reads All n (λ depth. h.declarator (g.cast depth) (g.expr depth)) (λ room. s.read_declarator (suc room) room) is_name (λ v. after_declarator) false
   unfolding s.read_declarator same_punctuator
   declarator =
-      name_then {n = n} {m = n} same whole
+      name_then {n = n} {m = n} (le-suc n) whole
       (λ y. both optional_index (λ length. ends optional_value (λ initial. record { name = y; length = length; initializer = initial }) (λ v. after_value) (λ a z h. h))
       (λ o z l h. sign_apart open_square (is assign) (λ at. refl) z l h) (λ v. after_declarator) (λ b z h. or_right (is open_square z) (after_value z) h)
       (λ a depth at b z c h l. or_left (is open_square z) (after_value z) l))
@@ -299,7 +292,7 @@ module _ (n : ℕ) where
 
   value_departs : (depth at : ℕ) (w : List (Placed Token)) (v : Returned) → h.returned_value (g.cast depth) (g.expr depth) at w v → DepartsBy ahead (at + 1) w
   value_departs depth at w v c =
-      departs_both (g.expr depth) (λ y. pure (returned_as.Value y)) ahead at (at + 1) w v c (x.expr_departs n n same (omega arith) whole (cast n) (expr n) (λ d. tt) depth at c.1 c.0 c.4)
+      departs_both (g.expr depth) (λ y. pure (returned_as.Value y)) ahead at (at + 1) w v c (x.expr_departs n n (le-suc n) (omega arith) whole (cast n) (expr n) (λ d. tt) depth at c.1 c.0 c.4)
 
   maybe_departs : (depth at : ℕ) (w : List (Placed Token)) (rest : List Token) (v : Returned) → Maybe depth at w v → Avoids after_maybe rest → d.sees_all ahead (plain w ++ rest) ≡ false
   maybe_departs depth at w rest v c av =
@@ -322,12 +315,12 @@ module _ (n : ℕ) where
   pointer_or_maybe =
       ahead_in returned_pointer maybe ahead 1 (λ v. after_maybe) (λ v z h. or_right (r.begins_cast z) (after_expr z) (after_opens z h)) (λ v z h. h)
       (λ all depth at w v c. starts_both (g.converted_pointer (g.cast depth) (g.expr depth)) (λ y. pure (returned_as.Pointer y)) ahead at (at + 1) w v c
-      (x.pointer_starts n n same (omega arith) whole (cast n) (expr n) depth at c.1 c.0 c.4))
+      (x.pointer_starts n n (le-suc n) (omega arith) whole (cast n) (expr n) depth at c.1 c.0 c.4))
       (λ all depth at w rest v c av. maybe_departs depth at w rest v c av)
       (λ all depth at w v c. maybe_level depth at w v c)
-      (λ lt at y c. start_both {n = n} {m = n} converted_pointer (λ c. gives_value (returned_as.Pointer c)) lt at y (x.pointer_common n n same (omega arith) whole (cast n) (expr n) lt at y c))
+      (λ lt at y c. start_both {n = n} {m = n} converted_pointer (λ c. gives_value (returned_as.Pointer c)) lt at y (x.pointer_common n n (le-suc n) (omega arith) whole (cast n) (expr n) lt at y c))
       (λ lt at y c. start_left (λ depth. h.returned_value (g.cast depth) (g.expr depth)) (λ depth. pure returned_as.Nothing) at y
-      (start_both {n = n} {m = n} (expr n) (λ c. gives_value (returned_as.Value c)) lt at y (x.expr_common n n same (omega arith) whole (cast n) (expr n) lt at y c)))
+      (start_both {n = n} {m = n} (expr n) (λ c. gives_value (returned_as.Value c)) lt at y (x.expr_common n n (le-suc n) (omega arith) whole (cast n) (expr n) lt at y c)))
 
   abbrev begins_returned : Token → Bool
   begins_returned z = is (Word k.Null) z || (is open_round z || (r.begins_cast z || false))

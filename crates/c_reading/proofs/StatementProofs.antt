@@ -1,7 +1,7 @@
 -- The readings of statements read the grammar's rules.
 use Rattle.std.proofs.Common.{◌≡◌, ℕ, zero, suc, ◌+◌, ◌<◌, ◌≤◌, List, [], ◌∷◌, ◌++◌, Option, Some, None, Bool, true, false, refl, sym, ap, ◌∙◌, subst, inl, inr, ⊎_elim, arith}
 use Rattle.std.specs.Prelude.{Ok, Err, if◌then◌else◌, ◌||◌, ◌&&◌, not}
-use Rattle.std.proofs.lemmas.Bool.{or_left, false_from_ne_true}
+use Rattle.std.proofs.lemmas.Bool.{or_left, false_from_ne_true, and_parts}
 use Rattle.c_token.specs.declared.keyword.Keyword.{Keyword}
 use Rattle.c_token.specs.declared.keyword.Keyword.TheVariants as k
 use Rattle.c_token.specs.declared.punctuator.Punctuator.TheVariants as p
@@ -89,10 +89,7 @@ abbrev pub After : Statement → Token → Bool
 After v z = not (closed v) && is else_word z
 
 pub after_else : (v : Statement) (z : Token) → After v z ≡ true → is else_word z ≡ true
-after_else v z h = and_right (not (closed v)) (is else_word z) h where
-  and_right : (a b : Bool) → (a && b) ≡ true → b ≡ true
-  and_right true b h = h
-  and_right false b h = cc
+after_else v z h = (and_parts (not (closed v)) (is else_word z) h).1
 
 open_after : (v : Statement) (z : Token) → closed v ≡ false → is else_word z ≡ true → After v z ≡ true
 open_after v z c h = ap (λ b. not b && is else_word z) c ∙ h

@@ -1,12 +1,13 @@
 -- One rule or the other, by the tokens ahead.
 use Rattle.std.proofs.Common.{◌≡◌, ℕ, suc, ◌+◌, ◌<◌, List, [], ◌∷◌, ◌++◌, length, Option, Some, None, Bool, true, false, refl, sym, ap, ◌∙◌, subst, inl, inr, ⊎_elim, append_assoc, arith}
 use Rattle.std.specs.Prelude.{Ok, Err, if◌then◌else◌, ◌||◌, ◌&&◌, not}
-use Rattle.std.proofs.lemmas.Bool.{or_left, or_right, and_from, and_parts, cases_Bool, false_from_ne_true, both_ways}
+use Rattle.std.proofs.lemmas.Bool.{or_left, or_right, and_from, and_parts, cases_Bool, false_from_ne_true, both_ways, not_from_false}
 use mathlib.Core.Bool.{or-false}
+use Rattle.std.proofs.lemmas.List.{append-nil}
 use Rattle.grammar.specs.Rules.{Placed, Rule, Family, one, ◌>>=◌, ◌<|>◌, optional}
 use Rattle.grammar.specs.Sentences.{plain}
 use Rattle.grammar.specs.Readers.{Syntax, Deep, Reading, Reader, sees, sees_all, reads_when, reads_either, reads_optional}
-use Rattle.grammar.proofs.Lists.{or_cases, append_nil, plain-append, Agrees, agrees-sym}
+use Rattle.grammar.proofs.Lists.{or_cases, plain-append, Agrees, agrees-sym}
 use Rattle.grammar.proofs.Good.{Reads, Answers, Dead, Avoids, Calm, ◌∘>◌, avoids_wider, deeper_by}
 use Rattle.grammar.proofs.Parts.{if_so, gives, resize, same_rule, reads_nothing, ends}
 
@@ -267,7 +268,7 @@ module _ {T : Type 0} where
       (left_common : 0 < n → (at : ℕ) (x : List T) → partly fs x ≡ true → StartsPlain P at x)
       (right_common : 0 < n → (at : ℕ) (x : List T) → partly fs x ≡ true → StartsPlain Q at x) where
     never : ((d : ℕ) → D d) → (depth at : ℕ) (w : List (Placed T)) (v : A) → Q depth at w v → sees_all fs (plain w) ≡ false
-    never all depth at w v h = ap (sees_all fs) (sym (append_nil (plain w))) ∙ others all depth at w [] v h tt
+    never all depth at w v h = ap (sees_all fs) (sym (append-nil (plain w))) ∙ others all depth at w [] v h tt
 
     pub ahead_in : Reads D n (P <∘> Q) (λ room. reads_when (sees_all fs) (p room) (q room)) (λ t. first t || first' t) Last (null || null')
     ahead_in =
@@ -329,10 +330,7 @@ module _ {T : Type 0} where
       subst (DepartsBy (set ∷ fs) m) (sym whole) (or_right (not (set h.4.0)) (departs fs (plain h.2)) more.0, level_token set fs m (h.4.0, at) h.2 same more.1)
 
   pub first_departs : (f : T → Bool) (fs : List (T → Bool)) (m : ℕ) (t : Placed T) (w : List (Placed T)) → f t.0 ≡ false → DepartsBy (f ∷ fs) m (t ∷ w)
-  first_departs f fs m t w out = (or_left (not (f t.0)) (departs fs (plain w)) (not_of (f t.0) out), level_out f fs m t w out) where
-    not_of : (b : Bool) → b ≡ false → not b ≡ true
-    not_of true e = cc
-    not_of false e = refl
+  first_departs f fs m t w out = (or_left (not (f t.0)) (departs fs (plain w)) (not_from_false (f t.0) out), level_out f fs m t w out)
 
   module _ {D : ℕ → Type 0} {A : Type 0} {n : ℕ} {P : Family T A} {p : ℕ → Reader T A} {first : T → Bool} {last : A → T → Bool} (good : Reads D n P p first last false) where
     -- a rule none of whose first tokens is of the set

@@ -1,23 +1,22 @@
 -- Each text has one answer: a sentence, one place of a syntax fault, or one place at which it nests too deep.
-use Rattle.std.proofs.Common.{◌≡◌, ℕ, zero, suc, ◌+◌, ◌<◌, ◌≤◌, List, [], ◌∷◌, ◌++◌, length, take, refl, sym, ap, ◌∙◌, subst, ◌⊎◌, inl, inr, ⊎_elim, append_assoc, length-append, arith}
+use Rattle.std.proofs.Common.{◌≡◌, ℕ, zero, suc, ◌+◌, ◌<◌, ◌≤◌, List, [], ◌∷◌, ◌++◌, length, take, refl, sym, ap, ◌∙◌, subst, ⊎_elim, append_assoc, length-append, arith}
 use Rattle.std.specs.Prelude.{Bool}
 use Rattle.std.proofs.lemmas.Bool.{cases_lt}
+use Rattle.std.proofs.lemmas.List.{length-take-le, take_all, append-nil}
+use Rattle.std.proofs.Math.Nat.{le_antisymm}
 use Rattle.grammar.specs.Rules.{Placed, Family}
 use Rattle.grammar.specs.Sentences.{plain, Within, Starts, Sentence, SentenceWithin, StartsSentence, StartsWithin, FaultAt, TooDeepAt}
 use Rattle.grammar.specs.Readers.{Reader}
-use Rattle.grammar.proofs.Lists.{append_nil, plain-append, length-plain, plain_cut, within_front, within_back, Agrees, agrees_same, agrees_front}
+use Rattle.grammar.proofs.Lists.{plain-append, length-plain, plain_cut, within_front, within_back, Agrees, agrees_same, agrees_front}
 use Rattle.grammar.proofs.Good.{Reads}
 
 in_order : (i k : ℕ) → (i < k → ⊥) → (k < i → ⊥) → i ≡ k
-in_order i k a b = le_same i k (not_less i k a) (not_less k i b) where
+in_order i k a b = le_antisymm (not_less k i b) (not_less i k a) where
   not_less : (i k : ℕ) → (i < k → ⊥) → k ≤ i
   not_less zero zero a = omega arith
   not_less zero (suc k) a = absurd (a (omega arith))
   not_less (suc i) zero a = omega arith
   not_less (suc i) (suc k) a = let h = not_less i k (λ lt. a (omega arith)) in omega arith
-
-  le_same : (i k : ℕ) → k ≤ i → i ≤ k → i ≡ k
-  le_same i k h g = omega arith
 
 module _ {T : Type 0} where
   -- the first i tokens are the first of the first k
@@ -26,12 +25,6 @@ module _ {T : Type 0} where
   take_front (suc i) zero ts le = absurd (omega arith)
   take_front (suc i) (suc k) [] le = ([], refl)
   take_front (suc i) (suc k) (t ∷ ts) le = let h = take_front i k ts (omega arith) in (h.0, ap (λ l. t ∷ l) h.1)
-
-  take_all : (k : ℕ) (ts : List T) → length ts ≤ k → take k ts ≡ ts
-  take_all zero [] le = refl
-  take_all zero (t ∷ ts) le = absurd (omega arith)
-  take_all (suc k) [] le = refl
-  take_all (suc k) (t ∷ ts) le = ap (λ l. t ∷ l) (take_all k ts (omega arith))
 
   same_front : (x y a b : List T) → x ++ a ≡ y ++ b → length x ≡ length y → x ≡ y
   same_front [] [] a b e s = refl
@@ -97,15 +90,10 @@ module _ {T : Type 0} where
         let long : plain d.front ++ (d.token ∷ []) ≡ take k ts ++ z.0 = d.is ∙ z.1 in
         let c = plain_cut (d.front ++ ((d.token, n) ∷ [])) (take k ts) z.0 (plain-append d.front ((d.token, n) ∷ []) ∙ long) in
         (d.front, same_front (plain d.front) (take k ts) (d.token ∷ []) z.0 long (sizes (take k ts) refl), starts_shorter d.front ((d.token, n) ∷ []) d.begun, d.before) where
-          length_take_at : (k : ℕ) (ts : List T) → k ≤ length ts → length (take k ts) ≡ k
-          length_take_at zero ts le = refl
-          length_take_at (suc k) [] le = absurd (omega arith)
-          length_take_at (suc k) (t ∷ ts) le = let h = length_take_at k ts (omega arith) in omega (arith, h)
-
           sizes : (y : List T) → take k ts ≡ y → length (plain d.front) ≡ length y
           sizes y e =
               let lt = deep_inside limit ts k n d in
-              let size = length_take_at k ts (omega (arith, lt)) in
+              let size = length-take-le k ts (omega (arith, lt)) in
               omega (arith, size, ap length e, length-plain d.front, d.place)
 
     pub fault_once : (limit : ℕ) (ts : List T) (j k : ℕ) → FaultAt P limit ts j → FaultAt P limit ts k → j ≡ k
@@ -152,7 +140,7 @@ module _ {T : Type 0} where
     sentence_starts : (ts : List T) (v : A) (k : ℕ) → Sentence P ts v → StartsSentence P (take k ts)
     sentence_starts ts v k h =
         let all : take (length ts + k) ts ≡ ts = take_all (length ts + k) ts (omega arith) in
-        cut_starts k (length ts + k) ts (omega arith) (h.0, h.1 ∙ sym all, ([], v, (h.2.0, subst (λ l. P h.2.0 0 l v) (sym (append_nil h.0)) h.2.1)))
+        cut_starts k (length ts + k) ts (omega arith) (h.0, h.1 ∙ sym all, ([], v, (h.2.0, subst (λ l. P h.2.0 0 l v) (sym (append-nil h.0)) h.2.1)))
 
     -- a sentence has no syntax fault
     pub sentence_or_fault : (limit : ℕ) (ts : List T) (v : A) (k : ℕ) → Sentence P ts v → FaultAt P limit ts k → ⊥
@@ -166,4 +154,4 @@ module _ {T : Type 0} where
     pub sentence_or_deep : (limit : ℕ) (ts : List T) (v : A) (k n : ℕ) → SentenceWithin P limit ts v → TooDeepAt P limit ts k n → ⊥
     sentence_or_deep limit ts v k n h d =
         let all : take (length ts) ts ≡ ts = take_all (length ts) ts (omega arith) in
-        deep_past limit ts k (length ts) n d (deep_inside limit ts k n d) (h.0, h.1 ∙ sym all, ([], v, (h.2.0, subst (λ l. P h.2.0 0 l v) (sym (append_nil h.0)) h.2.1)), h.3)
+        deep_past limit ts k (length ts) n d (deep_inside limit ts k n d) (h.0, h.1 ∙ sym all, ([], v, (h.2.0, subst (λ l. P h.2.0 0 l v) (sym (append-nil h.0)) h.2.1)), h.3)

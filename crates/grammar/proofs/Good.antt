@@ -2,10 +2,11 @@
 use Rattle.std.proofs.Common.{◌≡◌, ℕ, zero, suc, ◌+◌, ◌<◌, ◌≤◌, List, [], ◌∷◌, ◌++◌, length, Bool, true, false, refl, sym, ap, ◌∙◌, subst, ⊎_elim, arith}
 use Rattle.std.specs.Prelude.{Ok, Err}
 use Rattle.std.proofs.lemmas.Bool.{cases_Bool, false_from_ne_true, both_ways}
+use Rattle.std.proofs.lemmas.List.{append-nil}
 use Rattle.grammar.specs.Rules.{Placed, Family, ◌>>=◌}
 use Rattle.grammar.specs.Sentences.{plain, Within, Spelled, Starts}
 use Rattle.grammar.specs.Readers.{Syntax, Deep, Reading, Reader}
-use Rattle.grammar.proofs.Lists.{append_nil, plain-append, length-plain, within_wider, roof, within_roof, Agrees}
+use Rattle.grammar.proofs.Lists.{plain-append, length-plain, within_wider, roof, within_roof, Agrees}
 
 module _ {T : Type 0} where
   -- one rule after the other, at each depth
@@ -96,7 +97,7 @@ module _ {T : Type 0} where
     -- the tokens have one value
     pub one_value : (depth depth' at : ℕ) (w : List (Placed T)) (v v' : A) → length w < n → P depth at w v → P depth' at w v' → v ≡ v'
     one_value depth depth' at w v v' lt h h' =
-        let same : plain w ++ [] ≡ plain w = append_nil (plain w) in
+        let same : plain w ++ [] ≡ plain w = append-nil (plain w) in
         let short : length (plain w ++ []) < n = omega (arith, lt, ap length same, length-plain w) in
         let a = roof_complete depth at 0 w [] v short h tt in
         let b = roof_complete depth' at 0 w [] v' short h' tt in
@@ -111,8 +112,8 @@ module _ {T : Type 0} where
         ⊎_elim (λ yes. yes)
         (λ no.
         let long : List (Placed T) = w ++ (t ∷ z) in
-        let all : plain long ++ [] ≡ plain w ++ (t.0 ∷ plain z) = append_nil (plain long) ∙ plain-append w (t ∷ z) in
-        let size : length (plain long ++ []) < n = omega (arith, lt, ap length (append_nil (plain long)), length-plain long) in
+        let all : plain long ++ [] ≡ plain w ++ (t.0 ∷ plain z) = append-nil (plain long) ∙ plain-append w (t ∷ z) in
+        let size : length (plain long ++ []) < n = omega (arith, lt, ap length (append-nil (plain long)), length-plain long) in
         let a = roof_complete depth' at (roof w) long [] v' size h' tt in
         let room : roof long + roof w ≡ roof w + roof long = omega arith in
         let b = roof_complete depth at (roof long) w (t.0 ∷ plain z) v (subst (λ l. length l < n) all size) h no in

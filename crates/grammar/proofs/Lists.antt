@@ -1,6 +1,6 @@
 -- Lists of tokens with their nesting.
 use Rattle.std.proofs.Common.{◌≡◌, ℕ, ◌+◌, ◌<◌, ◌≤◌, List, [], ◌∷◌, ◌++◌, length, Bool, true, false, refl, sym, ap, ◌⊎◌, inl, inr, ⊎_elim, length-append, arith}
-use Rattle.std.specs.Prelude.{◌||◌, ◌&&◌}
+use Rattle.std.specs.Prelude.{◌||◌}
 use Rattle.grammar.specs.Rules.{Placed}
 use Rattle.grammar.specs.Sentences.{plain, Within}
 
@@ -11,10 +11,6 @@ or_cases true b e f h = f refl
 or_cases false b e f h = h e
 
 module _ {T : Type 0} where
-  pub append_nil : (xs : List T) → xs ++ [] ≡ xs
-  append_nil [] = refl
-  append_nil (x ∷ xs) = ap (λ l. x ∷ l) (append_nil xs)
-
   -- two ways to cut a list
   pub cuts : (x y a b : List T) → x ++ y ≡ a ++ b → ((z : List T) × (a ≡ x ++ z) × (y ≡ z ++ b)) ⊎ ((u : T) × (z : List T) × (x ≡ a ++ (u ∷ z)) × (b ≡ u ∷ (z ++ y)))
   cuts [] y a b e = inl (a, refl, e)

@@ -2,16 +2,18 @@
 use Rattle.std.proofs.Common.{◌≡◌, ℕ, zero, suc, ◌+◌, ◌-◌, ◌≤◌, List, [], ◌∷◌, ◌++◌, length, Bool, true, false, refl, sym, ap, ◌∙◌, subst, inl, inr, ⊎_elim, append_assoc, arith}
 use Rattle.std.specs.Prelude.{Ok, Err, if◌then◌else◌, ◌||◌, fold}
 use Rattle.std.proofs.lemmas.Bool.{or_left, or_right, both_ways}
+use Rattle.std.proofs.lemmas.List.{append-nil}
+use Rattle.std.proofs.Math.Bool.{or-false}
 use Rattle.grammar.specs.Rules.{Placed, Family, pure, ◌>>=◌, many}
 use Rattle.grammar.specs.Sentences.{Spelled}
 use Rattle.grammar.specs.Readers.{Reading, Reader, and_then, sees, sees_all, reads_pure, reads_both, reads_when, reads_while, reads_many, appended}
-use Rattle.grammar.proofs.Lists.{or_cases, append_nil, no_tokens}
+use Rattle.grammar.proofs.Lists.{or_cases, no_tokens}
 use Rattle.grammar.proofs.Good.{Reads, ◌∘>◌, less}
 use Rattle.grammar.proofs.Parts.{resize, same_rule, same_reader, reads_nothing, some_then}
 use Rattle.grammar.proofs.Choice.{◌<∘>◌, StartsBy, DepartsBy, either_in, ahead_two, starts_both}
 
 pub fold-appended : {A : Type 0} → (found vs : List A) → fold appended found vs ≡ found ++ vs
-fold-appended found [] = sym (append_nil found)
+fold-appended found [] = sym (append-nil found)
 fold-appended found (v ∷ vs) = fold-appended (found ++ (v ∷ [])) vs ∙ append_assoc found (v ∷ []) vs
 
 module _ {T : Type 0} where
@@ -179,16 +181,12 @@ module _ {T : Type 0} where
     and_pure (Ok x) = refl
     and_pure (Err stop) = refl
 
-    or_no : (a : Bool) → (a || false) ≡ a
-    or_no true = refl
-    or_no false = refl
-
     -- any number of P, joined one after the other to what was there
     pub folded : (s : S) → Reads D n (λ depth. many (P depth) >>= (λ vs. pure (fold join s vs))) (λ room ts. reads_while (sees first) join (p room) (length ts) s ts) first Last true
     folded s =
         let all = loop join item (λ s. reads_nothing {n = n} item.whole s) again_apart (λ v t l f. cc) (λ t l f. cc) Last (λ b t e. cc) (λ v b t z e. last_in v b t e) (λ b t z e. first_in b t e) s in
         resize (same_reader all (λ room ts. reads_while (sees first) join (p room) (length ts) s ts) (λ room ts lt. and_pure (reads_while (sees first) join (p room) (length ts) s ts)))
-        first Last true (λ t. or_no (first t)) (λ v t h. h) refl
+        first Last true (λ t. or-false (first t)) (λ v t h. h) refl
 
   module _ {D : ℕ → Type 0} {A : Type 0} {n : ℕ} {P : Family T A} {p : ℕ → Reader T A} {first last : T → Bool}
       (item : Reads D n P p first (λ v. last) false) (again_apart : (t : T) → last t ≡ true → first t ≡ true → ⊥) where
@@ -198,11 +196,11 @@ module _ {T : Type 0} where
     to_many : (depth at : ℕ) (w : List (Placed T)) (vs : List A) → Folded depth at w vs → many (P depth) at w vs
     to_many depth at w vs h =
         let value : vs ≡ h.0 = h.5.1 ∙ fold-appended [] h.0 in
-        let tokens : w ≡ h.1 = h.3 ∙ ap (λ l. h.1 ++ l) h.5.0 ∙ append_nil h.1 in
+        let tokens : w ≡ h.1 = h.3 ∙ ap (λ l. h.1 ++ l) h.5.0 ∙ append-nil h.1 in
         subst (λ l. many (P depth) at l vs) (sym tokens) (subst (λ x. many (P depth) at h.1 x) (sym value) h.4)
 
     from_many : (depth at : ℕ) (w : List (Placed T)) (vs : List A) → many (P depth) at w vs → Folded depth at w vs
-    from_many depth at w vs h = (vs, w, [], sym (append_nil w), h, (refl, sym (fold-appended [] vs)))
+    from_many depth at w vs h = (vs, w, [], sym (append-nil w), h, (refl, sym (fold-appended [] vs)))
 
     -- any number of P, in a list
     pub collected : Reads D n (λ depth. many (P depth)) (λ room. reads_many first (p room)) first (λ vs t. last t || first t) true

@@ -3,6 +3,7 @@ use Rattle.std.proofs.Common.{◌≡◌, ℕ, suc, ◌+◌, ◌<◌, ◌≤◌, 
 use Rattle.std.specs.Prelude.{Ok, Err, if◌then◌else◌, ◌||◌, ◌&&◌}
 use Rattle.std.proofs.lemmas.Bool.{or_left, or_right, and_from, and_parts, both_ways}
 use mathlib.Core.Bool.{or-false}
+use Rattle.std.proofs.Math.Bool.{and-true}
 use Rattle.grammar.specs.Rules.{Placed, Family, pure, one}
 use Rattle.grammar.specs.Sentences.{plain, Spelled, Starts}
 use Rattle.grammar.specs.Readers.{Syntax, Deep, Reading, Reader, and_then, reads_pure, taken, reads_one, reads_both}
@@ -290,15 +291,11 @@ module _ {T : Type 0} where
     ends Last last_in =
         resize
         (both good (λ a. reads_nothing {n = n} good.whole (g a)) (λ a t l f. cc) Last (λ b t e. cc) (λ a depth at b t z h e. subst (λ x. Last x t ≡ true) (sym h.1) (last_in a t e)))
-        first Last null (λ t. end_first null (first t)) (λ v t h. h) (end_null null)
+        first Last null (λ t. end_first null (first t)) (λ v t h. h) (and-true null)
       where
         end_first : (null b : Bool) → (b || (null && false)) ≡ b
         end_first true b = or-false b
         end_first false b = or-false b
-
-        end_null : (null : Bool) → (null && true) ≡ null
-        end_null true = refl
-        end_null false = refl
 
   -- ---- a token, and a rule after it
 

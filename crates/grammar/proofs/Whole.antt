@@ -2,10 +2,11 @@
 use Rattle.std.proofs.Common.{◌≡◌, ℕ, suc, ◌+◌, ◌-◌, ◌<◌, ◌≤◌, List, [], ◌∷◌, ◌++◌, length, take, refl, sym, ap, ◌∙◌, subst, append_assoc, length-append, arith}
 use Rattle.std.proofs.Math.Seq.{take-append_seam, take-append-add}
 use Rattle.std.specs.Prelude.{Ok, Err, Bool}
+use Rattle.std.proofs.lemmas.List.{append-nil}
 use Rattle.grammar.specs.Rules.{Placed, Family}
 use Rattle.grammar.specs.Sentences.{plain, Within, Spelled, Starts, Sentence, SentenceWithin, StartsWithin, FaultAt, TooDeepAt}
 use Rattle.grammar.specs.Readers.{Stop, Syntax, Deep, Reading, Reader}
-use Rattle.grammar.proofs.Lists.{append_nil, plain-append, length-plain}
+use Rattle.grammar.proofs.Lists.{plain-append, length-plain}
 use Rattle.grammar.proofs.Good.{Reads, Answers, Dead, Calm, calm_complete}
 
 module _ {T : Type 0} where
@@ -20,21 +21,21 @@ module _ {T : Type 0} where
     -- a sentence that keeps the limit is read whole
     pub complete : (v : A) → SentenceWithin P limit ts v → reading ≡ Ok (v, [])
     complete v h =
-        let cut : ts ≡ plain h.0 ++ [] = sym h.1 ∙ sym (append_nil (plain h.0)) in
+        let cut : ts ≡ plain h.0 ++ [] = sym h.1 ∙ sym (append-nil (plain h.0)) in
         let e : limit ≡ 0 + limit = omega arith in
         good.complete h.2.0 0 limit ts h.0 [] v (omega arith) cut h.2.1 (subst (λ l. Within l h.0) e h.3) tt
 
     -- a sentence is read whole, unless the reader stops at its nesting
     calm_whole : (v : A) → Sentence P ts v → Calm reading → reading ≡ Ok (v, [])
     calm_whole v h calm =
-        let cut : ts ≡ plain h.0 ++ [] = sym h.1 ∙ sym (append_nil (plain h.0)) in
+        let cut : ts ≡ plain h.0 ++ [] = sym h.1 ∙ sym (append-nil (plain h.0)) in
         calm_complete good h.2.0 0 limit ts h.0 [] v (omega arith) cut h.2.1 tt calm
 
     found_from : (v : A) (r : Reading T A) → Answers P 0 limit ts r → r ≡ Ok (v, []) → SentenceWithin P limit ts v
     found_from v (Ok x) k e =
         let is : A × List T = (v, []) in
         let same : x ≡ is = cc in
-        let whole : plain k.0 ≡ ts = sym (k.1 ∙ ap (λ y. plain k.0 ++ y.1) same ∙ append_nil (plain k.0)) in
+        let whole : plain k.0 ≡ ts = sym (k.1 ∙ ap (λ y. plain k.0 ++ y.1) same ∙ append-nil (plain k.0)) in
         (k.0, whole, subst (λ y. Spelled P 0 k.0 y.0) same k.2, k.3)
     found_from v (Err stop) k e = cc
 
@@ -74,7 +75,7 @@ module _ {T : Type 0} where
     ok_fault_from v t rest (Ok x) k e =
         let is : A × List T = (v, t ∷ rest) in
         let same : x ≡ is = cc in
-        fault_from k.0 (t ∷ rest) (k.1 ∙ ap (λ y. plain k.0 ++ y.1) same) ([], x.0, (k.2.0, subst (λ l. P k.2.0 0 l x.0) (sym (append_nil k.0)) k.2.1)) k.3
+        fault_from k.0 (t ∷ rest) (k.1 ∙ ap (λ y. plain k.0 ++ y.1) same) ([], x.0, (k.2.0, subst (λ l. P k.2.0 0 l x.0) (sym (append-nil k.0)) k.2.1)) k.3
         (subst (λ y. Dead P 0 (plain k.0) y.1) same k.4) (λ none. cc)
     ok_fault_from v t rest (Err stop) k e = cc
 

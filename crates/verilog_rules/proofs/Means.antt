@@ -1,5 +1,6 @@
 -- What tokens a phrase has: both ways, without their nesting.
 use Rattle.std.proofs.Common.{◌≡◌, ℕ, ◌+◌, List, [], ◌∷◌, ◌++◌, Option, Some, Bool, true, false, refl, sym, ap, ◌∙◌, ◌⊎◌, inl, inr, ⊎_elim}
+use Rattle.std.proofs.lemmas.Option.{same_Some}
 use Rattle.verilog_tree.specs.declared.token.Mark.{Mark}
 use Rattle.verilog_tree.specs.declared.token.Mark.TheVariants as m
 use Rattle.verilog_tree.specs.declared.token.Token.{Token}
@@ -147,20 +148,17 @@ quoted_token (t.Quoted k) n h = cc
 pub quoted_means : {B : Type 0} {Q : List ℕ → Phrase B} {S : List ℕ → Spelling B} → ((a : List ℕ) → Means (Q a) (S a)) → Means (one quoted_at >>= Q) (AfterOne t.Quoted S)
 quoted_means after = one_means quoted_at t.Quoted quoted_token (λ a. refl) after
 
-pub same_some : {A : Type 0} {a b : A} → Some a ≡ Some b → a ≡ b
-same_some e = cc
-
 operator_mark_is : (x : Mark) (o : BinaryOperator) → operator_of x ≡ Some o → x ≡ operator_mark o
-operator_mark_is m.Plus o h = ap operator_mark (same_some h)
-operator_mark_is m.Minus o h = ap operator_mark (same_some h)
-operator_mark_is m.Star o h = ap operator_mark (same_some h)
-operator_mark_is m.And o h = ap operator_mark (same_some h)
-operator_mark_is m.Or o h = ap operator_mark (same_some h)
-operator_mark_is m.Xor o h = ap operator_mark (same_some h)
-operator_mark_is m.EqualEqual o h = ap operator_mark (same_some h)
-operator_mark_is m.Less o h = ap operator_mark (same_some h)
-operator_mark_is m.ShiftLeft o h = ap operator_mark (same_some h)
-operator_mark_is m.ShiftRight o h = ap operator_mark (same_some h)
+operator_mark_is m.Plus o h = ap operator_mark (same_Some _ _ h)
+operator_mark_is m.Minus o h = ap operator_mark (same_Some _ _ h)
+operator_mark_is m.Star o h = ap operator_mark (same_Some _ _ h)
+operator_mark_is m.And o h = ap operator_mark (same_Some _ _ h)
+operator_mark_is m.Or o h = ap operator_mark (same_Some _ _ h)
+operator_mark_is m.Xor o h = ap operator_mark (same_Some _ _ h)
+operator_mark_is m.EqualEqual o h = ap operator_mark (same_Some _ _ h)
+operator_mark_is m.Less o h = ap operator_mark (same_Some _ _ h)
+operator_mark_is m.ShiftLeft o h = ap operator_mark (same_Some _ _ h)
+operator_mark_is m.ShiftRight o h = ap operator_mark (same_Some _ _ h)
 operator_mark_is _ o h = cc
 
 operator_token : (x : Token) (o : BinaryOperator) → operator_at x ≡ Some o → x ≡ t.Mark (operator_mark o)
@@ -179,8 +177,8 @@ pub operator_means : {B : Type 0} {Q : BinaryOperator → Phrase B} {S : BinaryO
 operator_means after = one_means operator_at (λ o. t.Mark (operator_mark o)) operator_token operator_back after
 
 division_mark_is : (x : Mark) (o : DivisionOperator) → division_of x ≡ Some o → x ≡ division_mark o
-division_mark_is m.Slash o h = ap division_mark (same_some h)
-division_mark_is m.Percent o h = ap division_mark (same_some h)
+division_mark_is m.Slash o h = ap division_mark (same_Some _ _ h)
+division_mark_is m.Percent o h = ap division_mark (same_Some _ _ h)
 division_mark_is _ o h = cc
 
 division_token : (x : Token) (o : DivisionOperator) → division_at x ≡ Some o → x ≡ t.Mark (division_mark o)

@@ -1,5 +1,6 @@
 -- The grammar's sentences are the tokens of nets.
 use Rattle.std.proofs.Common.{◌≡◌, ℕ, suc, ◌+◌, ◌-◌, List, [], ◌∷◌, ◌++◌, length, take, Ok, Err, refl, sym, ap, ◌∙◌, subst}
+use Rattle.std.proofs.lemmas.List.{nil_from_length}
 use Rattle.verilog_tree.specs.declared.token.Token.{Token}
 use Rattle.verilog_tree.specs.declared.tree.Net.{Net}
 use Rattle.verilog_tree.specs.Grammar as v
@@ -56,14 +57,10 @@ found_net limit ts n e =
 
 pub departs_where : (limit : ℕ) (ts left : List Token) → StopsWith (read_net (suc limit) ts) left → DepartsAt ts (length ts - length left)
 departs_where limit ts left h = by (read_net (suc limit) ts) refl h where
-  no_length : (l : List Token) → length l ≡ 0 → l ≡ []
-  no_length [] e = refl
-  no_length (x ∷ l) e = cc
-
   by : (r : Reading Token Net) → read_net (suc limit) ts ≡ r → StopsWith r left → DepartsAt ts (length ts - length left)
   by (Ok p) e h =
       let is : read_net (suc limit) ts ≡ Ok (p.0, left) = e ∙ ap (λ l. Ok (p.0, l)) h.0 in
-      departs_from limit ts _ (whole.some_left limit ts (reads.net (suc (length ts))) p.0 left is (λ z. h.1 (no_length left z)))
+      departs_from limit ts _ (whole.some_left limit ts (reads.net (suc (length ts))) p.0 left is (λ z. h.1 (nil_from_length left z)))
   by (Err (Syntax at)) e h =
       let is : read_net (suc limit) ts ≡ Err (Syntax left) = e ∙ ap (λ l. Err (Syntax l)) h in
       departs_from limit ts _ (whole.err_fault limit ts (reads.net (suc (length ts))) left is)

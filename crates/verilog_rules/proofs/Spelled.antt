@@ -1,5 +1,6 @@
 -- The phrases of right sides have the tokens that the grammar gives them.
 use Rattle.std.proofs.Common.{◌≡◌, ℕ, List, [], ◌∷◌, ◌++◌, Some, refl, sym, ap, ◌∙◌, subst, inl, inr, ⊎_elim}
+use Rattle.std.proofs.lemmas.List.{append-nil}
 use Rattle.verilog_tree.specs.declared.token.Mark.TheVariants as m
 use Rattle.verilog_tree.specs.declared.token.Token.{Token}
 use Rattle.verilog_tree.specs.declared.token.Token.TheVariants as t
@@ -19,10 +20,6 @@ use Rattle.verilog_rules.proofs.Means.{name_token, sign_means, name_means, numbe
 -- the tokens alone
 abbrev pub Is : {A : Type 0} → (A → Tokens) → Spelling A
 Is f z x = z ≡ f x
-
-pub assoc : (a b c : Tokens) → a ++ (b ++ c) ≡ (a ++ b) ++ c
-assoc [] b c = refl
-assoc (x ∷ a) b c = ap (λ l. x ∷ l) (assoc a b c)
 
 pub next : {z y other : Tokens} (x : Token) → z ≡ x ∷ y → y ≡ other → z ≡ x ∷ other
 next x e f = e ∙ ap (λ l. x ∷ l) f
@@ -61,18 +58,14 @@ module _ {A : Type 0} {P : g.Phrase A} (f : A → Tokens) (good : Means P (Is f)
   abbrev pub Listed : Spelling (List A)
   Listed z xs = (z ≡ v.commas f xs) × IsFilled xs
 
-  append_nothing : (z : Tokens) → z ++ [] ≡ z
-  append_nothing [] = refl
-  append_nothing (x ∷ z) = ap (λ l. x ∷ l) (append_nothing z)
-
   listed_there : (z : Tokens) (xs : List A) → Then (Is f) (λ first. Then (Is (v.more f)) (λ more. Nothing (first ∷ more))) z xs → Listed z xs
   listed_there z xs h =
-      let tokens : z ≡ f h.0 ++ v.more f h.5.0 = glued h.3 h.4 (glued h.5.3 h.5.4 h.5.5.0 ∙ append_nothing (v.more f h.5.0)) in
+      let tokens : z ≡ f h.0 ++ v.more f h.5.0 = glued h.3 h.4 (glued h.5.3 h.5.4 h.5.5.0 ∙ append-nil (v.more f h.5.0)) in
       subst (Listed z) (sym h.5.5.1) (tokens, tt)
 
   listed_back : (z : Tokens) (xs : List A) → Listed z xs → Then (Is f) (λ first. Then (Is (v.more f)) (λ more. Nothing (first ∷ more))) z xs
   listed_back z [] h = absurd h.1
-  listed_back z (x ∷ xs) h = (x, f x, v.more f xs, h.0, refl, (xs, v.more f xs, [], sym (append_nothing (v.more f xs)), refl, (refl, refl)))
+  listed_back z (x ∷ xs) h = (x, f x, v.more f xs, h.0, refl, (xs, v.more f xs, [], sym (append-nil (v.more f xs)), refl, (refl, refl)))
 
   pub listed_means : Means (g.listed P) Listed
   listed_means = same_means (then_means good (λ first. then_means more_means (λ more. pure_means (first ∷ more)))) listed_there listed_back

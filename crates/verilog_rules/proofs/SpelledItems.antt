@@ -1,5 +1,6 @@
 -- The phrases of statements, items and modules have the tokens that the grammar gives them.
 use Rattle.std.proofs.Common.{◌≡◌, ℕ, zero, suc, ◌+◌, List, [], ◌∷◌, ◌++◌, Option, Some, None, refl, sym, ap, ◌∙◌, subst, inl, inr, ⊎_elim, arith}
+use Rattle.std.proofs.lemmas.List.{append_assoc, append-nil}
 use Rattle.verilog_tree.specs.declared.token.Word.{Word}
 use Rattle.verilog_tree.specs.declared.token.Word.TheVariants as w
 use Rattle.verilog_tree.specs.declared.token.Mark.TheVariants as m
@@ -25,7 +26,7 @@ use Rattle.verilog_rules.specs.declared.sign.Sign.TheVariants as s
 use Rattle.verilog_rules.specs.Phrases as g
 use Rattle.verilog_rules.proofs.Means.{Spelling, Means, Then, After, AfterOne, Nothing, Either, same_means, pure_means, then_means, either_means}
 use Rattle.verilog_rules.proofs.Means.{sign_means, sign_last, name_means, number_means, quoted_means}
-use Rattle.verilog_rules.proofs.Spelled.{Is, next, glued, assoc, all_means, more_means, Listed}
+use Rattle.verilog_rules.proofs.Spelled.{Is, next, glued, all_means, more_means, Listed}
 use Rattle.verilog_rules.proofs.Spelled.{listed_means, name_alone, range_means, constant_means, signed_means, Right, right_means}
 use Rattle.verilog_rules.proofs.Statements as reads
 
@@ -39,17 +40,11 @@ module _ {A : Type 0} {P : g.Phrase A} {R : Spelling A} (good : Means P R) where
   -- [ P ]
   maybe_there : (z : Tokens) (o : Option A) → Either (Then R (λ x. Nothing (Some x))) (Nothing None) z o → Maybe z o
   maybe_there z o h =
-      ⊎_elim (λ k. subst (Maybe z) (sym k.5.1) (subst (λ l. R l k.0) (sym (glued k.3 refl k.5.0 ∙ all k.1)) k.4)) (λ k. subst (Maybe z) (sym k.1) k.0) h where
-        all : (x : Tokens) → x ++ [] ≡ x
-        all [] = refl
-        all (y ∷ x) = ap (λ l. y ∷ l) (all x)
+      ⊎_elim (λ k. subst (Maybe z) (sym k.5.1) (subst (λ l. R l k.0) (sym (glued k.3 refl k.5.0 ∙ append-nil k.1)) k.4)) (λ k. subst (Maybe z) (sym k.1) k.0) h
 
   maybe_back : (z : Tokens) (o : Option A) → Maybe z o → Either (Then R (λ x. Nothing (Some x))) (Nothing None) z o
   maybe_back z None h = inr (h, refl)
-  maybe_back z (Some x) h = inl (x, z, [], sym (all z), h, (refl, refl)) where
-    all : (x : Tokens) → x ++ [] ≡ x
-    all [] = refl
-    all (y ∷ x) = ap (λ l. y ∷ l) (all x)
+  maybe_back z (Some x) h = inl (x, z, [], sym (append-nil z), h, (refl, refl))
 
   pub maybe_means : Means (optional P) Maybe
   maybe_means = same_means (either_means (then_means good (λ x. pure_means (Some x))) (pure_means None)) maybe_there maybe_back
@@ -110,7 +105,7 @@ written_there z x h =
 
 print_flat : (text : List ℕ) (xs : List WriteArgument)
     → t.Mark m.Write ∷ (t.Mark m.OpenRound ∷ (t.Quoted text ∷ (v.more v.argument xs ++ (t.Mark m.CloseRound ∷ (t.Mark m.Semicolon ∷ []))))) ≡ v.write text xs
-print_flat text xs = ap (λ l. t.Mark m.Write ∷ (t.Mark m.OpenRound ∷ (t.Quoted text ∷ l))) (assoc (v.more v.argument xs) (v.mark m.CloseRound) (v.mark m.Semicolon))
+print_flat text xs = ap (λ l. t.Mark m.Write ∷ (t.Mark m.OpenRound ∷ (t.Quoted text ∷ l))) (sym (append_assoc (v.more v.argument xs) (v.mark m.CloseRound) (v.mark m.Semicolon)))
 
 print_there : (z : Tokens) (x : Statement) → Print z x → Said z x
 print_there z x h =
@@ -287,7 +282,7 @@ initial_constant_means =
     flat : (c : InitialConstant) → t.Name c.name ∷ (v.index c.word ++ (t.Mark m.Equal ∷ (v.constant c.value ++ v.mark m.Semicolon))) ≡ v.initial_constant c
     flat c =
         ap (λ l. t.Name c.name ∷ l)
-        (assoc (v.index c.word) (v.mark m.Equal) (v.constant c.value ++ v.mark m.Semicolon) ∙ assoc (v.index c.word ++ v.mark m.Equal) (v.constant c.value) (v.mark m.Semicolon))
+        (sym (append_assoc (v.index c.word) (v.mark m.Equal) (v.constant c.value ++ v.mark m.Semicolon)) ∙ sym (append_assoc (v.index c.word ++ v.mark m.Equal) (v.constant c.value) (v.mark m.Semicolon)))
 
     one_index : Means g.index (λ z k. z ≡ v.index (Some k))
     one_index =
@@ -349,12 +344,12 @@ listed_to depth at ts (x ∷ xs) h = glued (ap plain h.2 ∙ plain-append h.0 h.
 -- a wire or a register
 pub ranged_flat : (x : Word) (high : Option ℕ) (n : List ℕ) → t.Word x ∷ (v.range high ++ (t.Name n ∷
     (t.Mark m.Semicolon ∷ []))) ≡ v.word x ++ v.range high ++ v.name n ++ v.mark m.Semicolon
-ranged_flat x high n = ap (λ l. t.Word x ∷ l) (assoc (v.range high) (v.name n) (v.mark m.Semicolon))
+ranged_flat x high n = ap (λ l. t.Word x ∷ l) (sym (append_assoc (v.range high) (v.name n) (v.mark m.Semicolon)))
 
 pub instance_flat : (of n : List ℕ) (xs : List Connection)
     → t.Name of ∷ (t.Name n ∷ (t.Mark m.OpenRound ∷ (v.commas v.connection xs ++ (t.Mark m.CloseRound ∷ (t.Mark m.Semicolon ∷ []))))) ≡ v.item (i.Instance
     (record { module_name = of; name = n; connections = xs }))
-instance_flat of n xs = ap (λ l. t.Name of ∷ (t.Name n ∷ (t.Mark m.OpenRound ∷ l))) (assoc (v.commas v.connection xs) (v.mark m.CloseRound) (v.mark m.Semicolon))
+instance_flat of n xs = ap (λ l. t.Name of ∷ (t.Name n ∷ (t.Mark m.OpenRound ∷ l))) (sym (append_assoc (v.commas v.connection xs) (v.mark m.CloseRound) (v.mark m.Semicolon)))
 
 pub item_to : (depth at : ℕ) (ts : List (Placed Token)) (x : Item) → g.item (g.statement depth) at ts x → Itself (plain ts) x
 item_to depth at ts x h =

@@ -1,6 +1,8 @@
 -- The phrases of items of a depth, of modules and of whole texts have the tokens that the grammar gives them: a text's net is spelled exactly
 -- where the tokens are the net's and no list is empty of which the grammar asks for one.
 use Rattle.std.proofs.Common.{◌≡◌, ℕ, ◌+◌, List, [], ◌∷◌, ◌++◌, Option, Some, None, refl, sym, ap, ◌∙◌, subst, inl, inr}
+use Rattle.std.proofs.lemmas.Option.{same_Some}
+use Rattle.std.proofs.lemmas.List.{append_assoc, append-nil}
 use Rattle.verilog_tree.specs.declared.token.Word.{Word}
 use Rattle.verilog_tree.specs.declared.token.Word.TheVariants as w
 use Rattle.verilog_tree.specs.declared.token.Mark.TheVariants as m
@@ -24,8 +26,8 @@ use Rattle.grammar.proofs.Good.{deeper_by}
 use Rattle.verilog_rules.specs.declared.sign.Sign.TheVariants as s
 use Rattle.verilog_rules.specs.Signs.{direction_of, direction_at}
 use Rattle.verilog_rules.specs.Phrases as g
-use Rattle.verilog_rules.proofs.Means.{Spelling, Means, same_some, same_means, pure_means, then_means, one_means, sign_means, name_means}
-use Rattle.verilog_rules.proofs.Spelled.{Is, next, glued, assoc, listed_means}
+use Rattle.verilog_rules.proofs.Means.{Spelling, Means, same_means, pure_means, then_means, one_means, sign_means, name_means}
+use Rattle.verilog_rules.proofs.Spelled.{Is, next, glued, listed_means}
 use Rattle.verilog_rules.proofs.SpelledItems.{Has, has_all, raised, HasStatement, has_statement, StoredEnd, wire_means, stored_means, assign_means, initial_means}
 use Rattle.verilog_rules.proofs.SpelledItems.{instance_means, always_head_means, item_to, ranged_flat, instance_flat, optional_range}
 use Rattle.verilog_rules.proofs.Modules as reads
@@ -220,8 +222,8 @@ direction_word dir.Output = w.Output
 
 word_is : (x : Word) (d : Direction) → direction_of x ≡ Some d → x ≡ direction_word d
 unfolding direction_word
-word_is w.Input d h = ap direction_word (same_some h)
-word_is w.Output d h = ap direction_word (same_some h)
+word_is w.Input d h = ap direction_word (same_Some _ _ h)
+word_is w.Output d h = ap direction_word (same_Some _ _ h)
 word_is _ d h = cc
 
 direction_token : (x : Token) (d : Direction) → direction_at x ≡ Some d → x ≡ t.Word (direction_word d)
@@ -259,7 +261,7 @@ port_means =
     flat : (p : Port) → t.Word (direction_word p.direction) ∷ (t.Word w.Wire ∷ (v.range p.high ++ (t.Name p.name ∷ []))) ≡ v.port p
     flat p =
         ap (λ l. l ++ (t.Word w.Wire ∷ (v.range p.high ++ v.name p.name))) (sym (direction_tokens p.direction))
-        ∙ assoc (v.direction p.direction) (v.word w.Wire) (v.range p.high ++ v.name p.name) ∙ assoc (v.direction p.direction ++ v.word w.Wire) (v.range p.high) (v.name p.name)
+        ∙ sym (append_assoc (v.direction p.direction) (v.word w.Wire) (v.range p.high ++ v.name p.name)) ∙ sym (append_assoc (v.direction p.direction ++ v.word w.Wire) (v.range p.high) (v.name p.name))
 
 -- ---- modules
 
@@ -271,7 +273,7 @@ Head z h = (z ≡ head_tokens h) × IsFilled h.1
 
 head_flat : (n : List ℕ) (ports : List Port)
     → t.Word w.Module ∷ (t.Name n ∷ (t.Mark m.OpenRound ∷ (v.commas v.port ports ++ (t.Mark m.CloseRound ∷ (t.Mark m.Semicolon ∷ []))))) ≡ head_tokens (n, ports)
-head_flat n ports = ap (λ l. t.Word w.Module ∷ (t.Name n ∷ (t.Mark m.OpenRound ∷ l))) (assoc (v.commas v.port ports) (v.mark m.CloseRound) (v.mark m.Semicolon))
+head_flat n ports = ap (λ l. t.Word w.Module ∷ (t.Name n ∷ (t.Mark m.OpenRound ∷ l))) (sym (append_assoc (v.commas v.port ports) (v.mark m.CloseRound) (v.mark m.Semicolon)))
 
 head_means : Means g.module_head Head
 head_means =
@@ -290,7 +292,7 @@ head_means =
 module_split : (x : Module) → v.module_tokens x ≡ head_tokens (x.name, x.ports) ++ (v.all v.item x.items ++ (t.Word w.EndModule ∷ []))
 module_split x =
     ap (λ l. t.Word w.Module ∷ (t.Name x.name ∷ (t.Mark m.OpenRound ∷ l)))
-    (sym (assoc ((v.commas v.port x.ports ++ v.mark m.CloseRound) ++ v.mark m.Semicolon) (v.all v.item x.items) (v.word w.EndModule)))
+    ((append_assoc ((v.commas v.port x.ports ++ v.mark m.CloseRound) ++ v.mark m.Semicolon) (v.all v.item x.items) (v.word w.EndModule)))
 
 abbrev Whole : Spelling Module
 Whole z x = (z ≡ v.module_tokens x) × IsFullModule x
@@ -335,10 +337,6 @@ each_module : (xs : List Module) → Each IsFullModule xs → Each HasModule xs
 each_module [] h = tt
 each_module (x ∷ xs) h = (has_module x h.0, each_module xs h.1)
 
-append_nothing : (z : Tokens) → z ++ [] ≡ z
-append_nothing [] = refl
-append_nothing (x ∷ z) = ap (λ l. x ∷ l) (append_nothing z)
-
 abbrev WholeNet : Spelling Net
 WholeNet z n = (z ≡ v.net n) × IsFull n
 
@@ -346,7 +344,7 @@ net_to : (depth at : ℕ) (ts : List (Placed Token)) (n : Net) → g.net depth a
 net_to depth at ts n h =
     let first = module_to depth at h.1 h.0 h.4 in
     let rest = modules_to depth at h.5.1 h.5.0 h.5.4 in
-    let more : plain h.2 ≡ v.all v.module_tokens h.5.0 = glued (ap plain h.5.3 ∙ plain-append h.5.1 h.5.2) rest.0 (ap plain h.5.5.0) ∙ append_nothing
+    let more : plain h.2 ≡ v.all v.module_tokens h.5.0 = glued (ap plain h.5.3 ∙ plain-append h.5.1 h.5.2) rest.0 (ap plain h.5.5.0) ∙ append-nil
     (v.all v.module_tokens h.5.0) in
     subst (WholeNet (plain ts)) (sym h.5.5.1) (glued (ap plain h.3 ∙ plain-append h.1 h.2) first.0 more, (tt, (first.1, rest.1)))
 
@@ -360,11 +358,7 @@ from_modules [] some full = absurd some
 from_modules (x ∷ xs) some full =
     let all = has_all (λ depth. g.module_of (g.statement depth)) v.module_tokens raise_module (x ∷ xs) (each_module (x ∷ xs) full) 0 in
     let h = all.3 in
-    (all.1, all.2, (all.0, (x, h.0, h.1, h.2, h.3, (xs, h.1, [], sym (placed_nothing h.1), h.4, (refl, refl)))))
-  where
-    placed_nothing : (ts : List (Placed Token)) → ts ++ [] ≡ ts
-    placed_nothing [] = refl
-    placed_nothing (y ∷ ts) = ap (λ l. y ∷ l) (placed_nothing ts)
+    (all.1, all.2, (all.0, (x, h.0, h.1, h.2, h.3, (xs, h.1, [], sym (append-nil h.1), h.4, (refl, refl)))))
 
 pub spelled_from : (n : Net) → IsFull n → (ts : List (Placed Token)) × (plain ts ≡ v.net n) × Spelled g.net 0 ts n
 spelled_from n full = from_modules n.modules full.0 full.1
