@@ -59,6 +59,10 @@ pub get_middle : {A : Type 0} (xs ys : List A) (x : A) → slice_get (xs ++ x �
 get_middle [] ys x = refl
 get_middle (y ∷ xs) ys x = get_middle xs ys x
 
+pub length_more : {A : Type 0} (xs : List A) (x : A) → length (xs ++ x ∷ []) ≡ suc (length xs)
+length_more [] x = refl
+length_more (y ∷ xs) x = ap suc (length_more xs x)
+
 pub get_pushed : {A : Type 0} (xs : List A) (x : A) (k : ℕ) (y : A) → slice_get (xs ++ x ∷ []) k ≡ Some y → (slice_get xs k ≡ Some y) ⊎ ((k ≡ length xs) × (x ≡ y))
 get_pushed [] x zero y e = inr (refl, same_Some x y e)
 get_pushed [] x (suc k) y e = absurd (none-some y e)
