@@ -3,7 +3,7 @@ use Rattle.std.proofs.Common.{◌≡◌, ◌≢◌, ℕ, zero, suc, ◌+◌, ◌
 use Rattle.std.proofs.Common.{refl, sym, ap, subst, ◌∙◌, arith}
 use Rattle.std.proofs.lemmas.Bool.Decides.{nat_tests}
 use Rattle.std.proofs.lemmas.Option.{slice_get_within}
-use Rattle.std.proofs.lemmas.Bool.{and_from, eq-eqb}
+use Rattle.std.proofs.lemmas.Bool.{and_from, eq-eqb, lt-ltb}
 use Rattle.verilog_tree.specs.declared.tree.BinaryOperator.{BinaryOperator}
 use Rattle.verilog_tree.specs.declared.tree.BinaryOperator.TheVariants.{Add, Subtract, Multiply, And, Or, Xor, Equal, Less, ShiftLeft, ShiftRight}
 use Rattle.verilog_tree.specs.Scope.{is_clk}
@@ -126,21 +126,15 @@ module _ (m : Module) (P : ℕ → ℕ → Type 0) (reads : (y w : ℕ) → P y 
   binary_fits Or w x y f = and_from (has_width m x w) (has_width m y w) (has x w f.0) (has y w f.1)
   binary_fits Xor w x y f = and_from (has_width m x w) (has_width m y w) (has x w f.0) (has y w f.1)
 
-  below_power : (n w : ℕ) → n < 2 ^ w → nat_lt n (2 ^ w) ≡ true
-  below_power n w less = grind (arith, nat_tests)
-
   select_fits : (w x high low own : ℕ) → low ≤ high → high + 1 - low ≡ w → P x own → high < own → 1 < own → value_fits m (Select x high low) w ≡ true
   select_fits w x high low own order count p within wide =
       let e : width m x ≡ own = (reads x own p).0 in
       let a : nat_le low high ≡ true = grind (arith, nat_tests) in
-      let b : nat_lt high (width m x) ≡ true = subst (λ (n : ℕ). nat_lt high n ≡ true) (sym e) (lt high own within) in
-      let c : nat_lt 1 (width m x) ≡ true = subst (λ (n : ℕ). nat_lt 1 n ≡ true) (sym e) (lt 1 own wide) in
+      let b : nat_lt high (width m x) ≡ true = subst (λ (n : ℕ). nat_lt high n ≡ true) (sym e) (lt-ltb high own within) in
+      let c : nat_lt 1 (width m x) ≡ true = subst (λ (n : ℕ). nat_lt 1 n ≡ true) (sym e) (lt-ltb 1 own wide) in
       let d : w ≡ high - low + 1 = omega arith in
       and_from (nat_le low high) (nat_lt high (width m x) && (nat_lt 1 (width m x) && w == high - low + 1)) a
       (and_from (nat_lt high (width m x)) (nat_lt 1 (width m x) && w == high - low + 1) b (and_from (nat_lt 1 (width m x)) (w == high - low + 1) c (eq-eqb w (high - low + 1) d)))
-    where
-      lt : (a b : ℕ) → a < b → nat_lt a b ≡ true
-      lt a b h = grind (arith, nat_tests)
 
   one_width : (x v w : ℕ) → Has m x v → Has m x w → v ≡ w
   one_width x v w a b = let same : a.signal ≡ b.signal = (let e = a.listed in let f = b.listed in cc) in sym a.wide ∙ ap (λ (s : Signal). s.width) same ∙ b.wide
@@ -150,13 +144,13 @@ module _ (m : Module) (P : ℕ → ℕ → Type 0) (reads : (y w : ℕ) → P y 
       let words : memory_words m j ≡ length s.initial = ap (words_of_memory m) listed in
       let e : width m x ≡ own = (reads x own p).0 in
       let b : nat_lt (memory_words m j) (2 ^ width m x) ≡ true =
-      subst (λ (n : ℕ). nat_lt n (2 ^ width m x) ≡ true) (sym words) (subst (λ (n : ℕ). nat_lt (length s.initial) (2 ^ n) ≡ true) (sym e) (below_power (length s.initial) own less)) in
+      subst (λ (n : ℕ). nat_lt n (2 ^ width m x) ≡ true) (sym words) (subst (λ (n : ℕ). nat_lt (length s.initial) (2 ^ n) ≡ true) (sym e) (lt-ltb (length s.initial) (2 ^ own) less)) in
       and_from (is_read m x) (nat_lt (memory_words m j) (2 ^ width m x) && memory_width m j == w) (read x own p)
       (and_from (nat_lt (memory_words m j) (2 ^ width m x)) (memory_width m j == w) b (eq-eqb (memory_width m j) w (ap (width_of_memory m) listed ∙ wide)))
 
   pub value_right : (w : ℕ) (v : Value) → 0 < w → HasRange m v → FitsValue P (memory_at m) w v → value_fits m v w ≡ true
   value_right w (Copy x) some range f = has x w f
-  value_right w (Constant n) some range f = below_power n w f
+  value_right w (Constant n) some range f = lt-ltb n (2 ^ w) f
   value_right w (BitwiseNot x) some range f = has x w f
   value_right w (Binary o x y) some range f = binary_fits o w x y f
   value_right w (SignedLess x y) some range f = and_from (w == 1) (have_one_width m x y) (eq-eqb w 1 f.0) (alike x y f.1.0 f.1.1 f.1.2)

@@ -1,9 +1,8 @@
 -- Signals at the places of their kinds: inputs, then registers and wires, then outputs.
 use Rattle.std.proofs.Common.{◌≡◌, ◌≢◌, ℕ, zero, suc, ◌+◌, ◌-◌, ◌<◌, ◌≤◌, Bool, true, false, if◌then◌else◌, List, []}
 use Rattle.std.proofs.Common.{◌∷◌, ◌++◌, length, filter, get_or, slice_get, Some, refl, sym, ap, subst, ◌∙◌, arith, ⊎_elim}
-use Rattle.std.proofs.lemmas.Bool.{cases_lt}
-use Rattle.interleaving.proofs.Update.{same_or_not}
-use Rattle.circuit.proofs.Growth.{got}
+use Rattle.std.proofs.lemmas.Bool.{cases_lt, cases_eq, cond-false, cond-true}
+use Rattle.std.proofs.lemmas.Option.{slice_get-get_or}
 use Rattle.netlist.specs.declared.netlist.Source.{Source}
 use Rattle.netlist.specs.declared.netlist.Source.TheVariants.{Input, Register, Assigned, Port}
 use Rattle.netlist.specs.declared.netlist.Signal.{Signal}
@@ -64,14 +63,6 @@ inners xs = filter (λ (s : Signal). is_inner (kind_of s)) xs
 abbrev outs : List Signal → List Signal
 outs xs = filter (λ (s : Signal). is_output_port (kind_of s)) xs
 
-taken : (b : Bool) (x : Signal) (xs : List Signal) → b ≡ true → (if b then x ∷ xs else xs) ≡ x ∷ xs
-taken true x xs e = refl
-taken false x xs e = absurd cc
-
-dropped : (b : Bool) (x : Signal) (xs : List Signal) → b ≡ false → (if b then x ∷ xs else xs) ≡ xs
-dropped true x xs e = absurd cc
-dropped false x xs e = refl
-
 module _ (m : Module) (inputs first : ℕ) (order : inputs ≤ first) where
   abbrev From : ℕ → List Signal → Type 0
   From p xs = (k : ℕ) (s : Signal) → slice_get xs k ≡ Some s → IsKindAt m inputs first (p + k) s.is_output s.source
@@ -89,14 +80,14 @@ module _ (m : Module) (inputs first : ℕ) (order : inputs ≤ first) where
   no_inputs p (x ∷ xs) past each =
       let later = no_inputs (suc p) xs (omega arith) (rest p x xs each) in
       ⊎_elim
-      (λ (less : p < first). dropped (is_input_port (kind_of x)) x (ins xs) (kind_inner m inputs first p x past less (head p x xs each)).input_is ∙ later)
-      (λ (last : first ≤ p). dropped (is_input_port (kind_of x)) x (ins xs) (kind_output m inputs first p x order last (head p x xs each)).input_is ∙ later)
+      (λ (less : p < first). cond-false (is_input_port (kind_of x)) (x ∷ (ins xs)) (ins xs) (kind_inner m inputs first p x past less (head p x xs each)).input_is ∙ later)
+      (λ (last : first ≤ p). cond-false (is_input_port (kind_of x)) (x ∷ (ins xs)) (ins xs) (kind_output m inputs first p x order last (head p x xs each)).input_is ∙ later)
       (cases_lt p first)
 
   no_inners : (p : ℕ) (xs : List Signal) → first ≤ p → From p xs → inners xs ≡ []
   no_inners p [] past each = refl
   no_inners p (x ∷ xs) past each =
-      dropped (is_inner (kind_of x)) x (inners xs) (kind_output m inputs first p x order past (head p x xs each)).inner_is
+      cond-false (is_inner (kind_of x)) (x ∷ (inners xs)) (inners xs) (kind_output m inputs first p x order past (head p x xs each)).inner_is
       ∙ no_inners (suc p) xs (omega arith) (rest p x xs each)
 
   pub in_order : (p : ℕ) (xs : List Signal) → From p xs → xs ≡ ins xs ++ inners xs ++ outs xs
@@ -107,22 +98,22 @@ module _ (m : Module) (inputs first : ℕ) (order : inputs ≤ first) where
       ⊎_elim
       (λ (less : p < inputs).
       let k = kind_input m inputs first p x less here in
-      ap (λ l. x ∷ l) later ∙ sym (three (taken (is_input_port (kind_of x)) x (ins xs) k.input_is) (dropped (is_inner (kind_of x)) x (inners xs) k.inner_is)
-      (dropped (is_output_port (kind_of x)) x (outs xs) k.output_is)))
+      ap (λ l. x ∷ l) later ∙ sym (three (cond-true (is_input_port (kind_of x)) (x ∷ (ins xs)) (ins xs) k.input_is) (cond-false (is_inner (kind_of x)) (x ∷ (inners xs)) (inners xs) k.inner_is)
+      (cond-false (is_output_port (kind_of x)) (x ∷ (outs xs)) (outs xs) k.output_is)))
       (λ (past : inputs ≤ p).
       let none = no_inputs (suc p) xs (omega arith) (rest p x xs each) in
       ⊎_elim
       (λ (less : p < first).
       let k = kind_inner m inputs first p x past less here in
       ap (λ l. x ∷ l) (later ∙ ap (λ l. l ++ inners xs ++ outs xs) none)
-      ∙ sym (three (dropped (is_input_port (kind_of x)) x (ins xs) k.input_is ∙ none) (taken (is_inner (kind_of x)) x (inners xs) k.inner_is)
-      (dropped (is_output_port (kind_of x)) x (outs xs) k.output_is)))
+      ∙ sym (three (cond-false (is_input_port (kind_of x)) (x ∷ (ins xs)) (ins xs) k.input_is ∙ none) (cond-true (is_inner (kind_of x)) (x ∷ (inners xs)) (inners xs) k.inner_is)
+      (cond-false (is_output_port (kind_of x)) (x ∷ (outs xs)) (outs xs) k.output_is)))
       (λ (last : first ≤ p).
       let k = kind_output m inputs first p x order last here in
       let no = no_inners (suc p) xs (omega arith) (rest p x xs each) in
       ap (λ l. x ∷ l) (later ∙ ap (λ l. l ++ inners xs ++ outs xs) none ∙ ap (λ l. [] ++ l ++ outs xs) no)
-      ∙ sym (three (dropped (is_input_port (kind_of x)) x (ins xs) k.input_is ∙ none) (dropped (is_inner (kind_of x)) x (inners xs) k.inner_is ∙ no)
-      (taken (is_output_port (kind_of x)) x (outs xs) k.output_is)))
+      ∙ sym (three (cond-false (is_input_port (kind_of x)) (x ∷ (ins xs)) (ins xs) k.input_is ∙ none) (cond-false (is_inner (kind_of x)) (x ∷ (inners xs)) (inners xs) k.inner_is ∙ no)
+      (cond-true (is_output_port (kind_of x)) (x ∷ (outs xs)) (outs xs) k.output_is)))
       (cases_lt p first))
       (cases_lt p inputs)
     where
@@ -136,7 +127,7 @@ module _ (m : Module) (inputs first : ℕ) (order : inputs ≤ first) where
   input_count p (x ∷ xs) le ge each =
       ⊎_elim
       (λ (less : p < inputs).
-      let one = ap length (taken (is_input_port (kind_of x)) x (ins xs) (kind_input m inputs first p x less (head p x xs each)).input_is) in
+      let one = ap length (cond-true (is_input_port (kind_of x)) (x ∷ (ins xs)) (ins xs) (kind_input m inputs first p x less (head p x xs each)).input_is) in
       let later = input_count (suc p) xs less (omega arith) (rest p x xs each) in
       omega arith)
       (λ (past : inputs ≤ p). let none = ap length (no_inputs p (x ∷ xs) past each) in omega arith)
@@ -145,7 +136,7 @@ module _ (m : Module) (inputs first : ℕ) (order : inputs ≤ first) where
   all_outputs : (p : ℕ) (xs : List Signal) → first ≤ p → From p xs → length (outs xs) ≡ length xs
   all_outputs p [] past each = refl
   all_outputs p (x ∷ xs) past each =
-      ap length (taken (is_output_port (kind_of x)) x (outs xs) (kind_output m inputs first p x order past (head p x xs each)).output_is)
+      ap length (cond-true (is_output_port (kind_of x)) (x ∷ (outs xs)) (outs xs) (kind_output m inputs first p x order past (head p x xs each)).output_is)
       ∙ ap suc (all_outputs (suc p) xs (omega arith) (rest p x xs each))
 
   pub output_count : (p : ℕ) (xs : List Signal) → p ≤ first → first ≤ p + length xs → From p xs → length (outs xs) + first ≡ p + length xs
@@ -154,7 +145,7 @@ module _ (m : Module) (inputs first : ℕ) (order : inputs ≤ first) where
       ⊎_elim
       (λ (less : p < first).
       let later = output_count (suc p) xs less (omega arith) (rest p x xs each) in
-      let none = ap length (dropped (is_output_port (kind_of x)) x (outs xs) (not_output less)) in
+      let none = ap length (cond-false (is_output_port (kind_of x)) (x ∷ (outs xs)) (outs xs) (not_output less)) in
       omega arith)
       (λ (past : first ≤ p). let all = all_outputs p (x ∷ xs) past each in omega arith)
       (cases_lt p first)
@@ -167,11 +158,11 @@ module _ (m : Module) (inputs first : ℕ) (order : inputs ≤ first) where
 -- ---- checks, one place after the other
 
 pub item_at : {X : Type 0} (xs ys : List X) (i : ℕ) (x : X) → i < length xs → x ≡ get_or xs i x → xs ≡ ys → slice_get ys i ≡ Some x
-item_at xs ys i x lt e f = ap (λ l. slice_get l i) (sym f) ∙ got xs i x lt ∙ ap Some (sym e)
+item_at xs ys i x lt e f = ap (λ l. slice_get l i) (sym f) ∙ slice_get-get_or xs i x lt ∙ ap Some (sym e)
 
 pub placed_more : (P : ℕ → Signal → Type 0) (xs : List Signal) (n : ℕ) (x : Signal) → ((k : ℕ) (y : Signal) → k < n → slice_get xs k ≡ Some y → P k y) → slice_get xs n ≡ Some x → P n x
     → (k : ℕ) (y : Signal) → k < n + 1 → slice_get xs k ≡ Some y → P k y
 placed_more P xs n x each listed p k y lt there =
     ⊎_elim
     (λ (same : k ≡ n). let one : x ≡ y = (let h = ap (slice_get xs) same in cc) in subst (λ (z : ℕ). P z y) (sym same) (subst (λ (z : Signal). P n z) one p))
-    (λ (ne : k ≢ n). each k y (let less : k < n = omega arith in less) there) (same_or_not k n)
+    (λ (ne : k ≢ n). each k y (let less : k < n = omega arith in less) there) (cases_eq k n)

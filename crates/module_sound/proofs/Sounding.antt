@@ -1,13 +1,13 @@
 -- A module whose signals are graded and stand at their places is sound.
-use Rattle.std.proofs.Common.{◌≡◌, ◌≢◌, ℕ, zero, suc, ◌+◌, ◌-◌, ◌<◌, ◌≤◌, ◌^◌, Bool, true, false, ◌&&◌, nat_eq, nat_lt, if◌then◌else◌, List, [], ◌∷◌, ◌++◌, length, map, slice_get, Option, Some, None}
+use Rattle.std.proofs.Common.{◌≡◌, ◌≢◌, ℕ, zero, suc, ◌+◌, ◌-◌, ◌<◌, ◌≤◌, ◌^◌, Bool, true, false, ◌&&◌, nat_eq, nat_lt, if◌then◌else◌, List, [], ◌∷◌, ◌++◌, length, map, slice_get, Some, None}
 use Rattle.std.proofs.Common.{refl, sym, ap, subst, ◌∙◌, arith, inl, ⊎_elim, zero-add, ◌==◌}
 use Rattle.std.specs.Prelude.{option_map, codes}
 use Rattle.std.specs.Str.{bytes_eq}
-use Rattle.std.proofs.lemmas.Bool.Decides.{nat_tests}
 use Rattle.std.proofs.lemmas.List.{append-nil}
 use Rattle.std.proofs.lemmas.Option.{slice_get-map, slice_get_within}
-use Rattle.std.proofs.lemmas.Bool.{and_from, lt-ltb, eq-eqb}
-use Rattle.interleaving.proofs.Update.{same_or_not}
+use Rattle.std.proofs.lemmas.Bool.{and_from, lt-ltb, eq-eqb, cases_eq, cond-true}
+use Rattle.std.proofs.Math.Dec.{eqb-suc-zero}
+use Rattle.lists.proofs.Places.{get_nothing}
 use Rattle.verilog_tree.specs.Scope.{is_clk}
 use Rattle.verilog_tree.specs.Rules.{all_right}
 use Rattle.netlist.specs.declared.netlist.Source.{Source}
@@ -37,10 +37,6 @@ each_at : {X : Type 0} (P : X → Type 0) (xs : List X) → EachOf P xs → (k :
 each_at P [] e k x listed = absurd cc
 each_at P (y ∷ xs) e zero x listed = let same : y ≡ x = cc in subst P same e.0
 each_at P (y ∷ xs) e (suc k) x listed = each_at P xs e.1 k x listed
-
-nothing_at : {X : Type 0} (xs : List X) (k : ℕ) (x : X) → xs ≡ [] → slice_get xs k ≡ Some x → ⊥
-nothing_at [] k x e listed = absurd cc
-nothing_at (y ∷ xs) k x e listed = absurd cc
 
 named_at : (ss : List Signal) (i : ℕ) (x : List ℕ) → slice_get (map (λ (s : Signal). s.name) ss) i ≡ Some x → (s : Signal) × (slice_get ss i ≡ Some s) × (s.name ≡ x)
 named_at [] i x e = absurd cc
@@ -82,19 +78,8 @@ apart_both a b first second other i j x e f = by (in_one a b i x e) (in_one a b 
     by (Second k is at) (First there) = absurd (other j k x there at)
     by (Second k is at) (Second l so there) = let same : k ≡ l = second k l x at there in omega arith
 
-never_zero : (x : ℕ) → nat_eq (suc x) 0 ≡ false
-never_zero x = grind (arith, nat_tests)
-
-if_true : (b : Bool) (x y : Option ℕ) → b ≡ true → (if b then x else y) ≡ x
-if_true true x y e = refl
-if_true false x y e = absurd cc
-
-if_false : (b : Bool) (x y : Option ℕ) → b ≡ false → (if b then x else y) ≡ y
-if_false true x y e = absurd cc
-if_false false x y e = refl
-
 by_name : (n inputs : ℕ) (name : List ℕ) → is_clk name ≡ true → place_of n inputs name ≡ Some 0
-by_name n inputs name e = if_true (is_clk name) (Some 0) (if bytes_eq name (codes "en") then Some 1
+by_name n inputs name e = cond-true (is_clk name) (Some 0) (if bytes_eq name (codes "en") then Some 1
     else (if bytes_eq name (codes "need") then Some (n - 2) else (if bytes_eq name (codes "done") then Some (n - 1)
     else (if bytes_eq name (codes "beat") then Some (inputs + 2) else last_number name)))) e
 
@@ -112,7 +97,7 @@ module _ (m : Module) (inputs first : ℕ) (grades : List ℕ) (are : AreGrades 
 
   clock_is : (x : ℕ) (s : Signal) → slice_get m.signals x ≡ Some s → is_clk s.name ≡ nat_eq x 0
   clock_is zero s listed = let same : begins.signal ≡ s = (let e = begins.listed in cc) in subst (λ (z : Signal). is_clk z.name ≡ true) same begins.named
-  clock_is (suc x) s listed = not_clock (suc x) s listed (λ e. absurd cc) ∙ sym (never_zero x)
+  clock_is (suc x) s listed = not_clock (suc x) s listed (λ e. absurd cc) ∙ sym (eqb-suc-zero x)
 
   signals_apart : AreApart (signal_names m)
   signals_apart i j x e f =
@@ -245,7 +230,7 @@ module _ (m : Module) (inputs first : ℕ) (grades : List ℕ) (are : AreGrades 
       let one : begins.signal ≡ s = (let e = begins.listed in let f = ap (slice_get m.signals) same in cc) in
       subst (λ (z : Signal). (z.source ≡ Input) × (z.width ≡ 1)) one (begins.input, begins.wide))
       (λ (ne : x ≢ 0). absurd (let off = not_clock x s listed ne in let clash : true ≡ false = sym is ∙ off in cc))
-      (same_or_not x 0)
+      (cases_eq x 0)
 
   pub sound_alone : IsSoundAlone m inputs first
   sound_alone = record {
@@ -260,7 +245,7 @@ module _ (m : Module) (inputs first : ℕ) (grades : List ℕ) (are : AreGrades 
           let t = act_at k a listed in
           let e = set_right a.effect t.sets in
           record { conditions = signals_at a.conditions t.bits; signals = e.0; memories = e.1 };
-      instances = λ k x listed. absurd (nothing_at m.instances k x instances listed);
+      instances = λ k x listed. absurd (get_nothing m.instances k x instances listed);
     };
     sound = λ named before. record {
       name = named;
@@ -277,9 +262,9 @@ module _ (m : Module) (inputs first : ℕ) (grades : List ℕ) (are : AreGrades 
       actions = λ k a listed.
           let t = act_at k a listed in
           and_from (all_right (λ c. has_width m c 1) a.conditions) (effect_fits m a.effect) (bits_right a.conditions t.bits t.unclocked) (set_right a.effect t.sets).2;
-      instances = λ k x listed. absurd (nothing_at m.instances k x instances listed);
+      instances = λ k x listed. absurd (get_nothing m.instances k x instances listed);
       actions_clocked = λ k a listed. (0, begins.signal, begins.listed, begins.named);
-      instances_clocked = λ i n of listed. absurd (nothing_at m.instances i n instances listed);
+      instances_clocked = λ i n of listed. absurd (get_nothing m.instances i n instances listed);
     };
     input_count = (let count = input_count m inputs first placed.order 0 m.signals (omega arith) (let a = placed.order in let b = placed.within in omega arith) each_kind in omega arith);
     output_count = (let count = output_count m inputs first placed.order 0 m.signals (omega arith) (let b = placed.within in omega arith) each_kind in omega arith);

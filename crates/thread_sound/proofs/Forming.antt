@@ -2,9 +2,10 @@
 use Rattle.std.proofs.Common.{◌≡◌, ℕ, zero, suc, ◌+◌, ◌-◌, ◌<◌, ◌≤◌, ◌^◌, min, Bool, true, false, List, [], ◌∷◌, ◌++◌, length, map, Some, refl, sym, ap, subst}
 use Rattle.std.proofs.Common.{◌∙◌, arith, ⊎_elim, append_assoc, length-append}
 use Rattle.std.specs.Prelude.{slice_get, slice_index}
-use Rattle.std.proofs.lemmas.Option.{slice_get_within, get_or_from_slice_get}
+use Rattle.std.proofs.lemmas.Option.{slice_get_within, get_or_from_slice_get, slice_get-get_or}
 use Rattle.std.proofs.lemmas.Bool.{cases_lt}
 use Rattle.std.proofs.lemmas.List.{length-map}
+use Rattle.lists.proofs.Places.{get_there}
 use Rattle.hls_ints.specs.Types.{width_of}
 use Rattle.thread_promise.specs.Globals.{bank_total}
 use Rattle.thread_promise.specs.Types.{or_int}
@@ -51,13 +52,12 @@ use Rattle.thread_layout.specs.Thread.{cores_of, inputs_of, core_ports, first_ou
 use Rattle.thread_layout.specs.Memories.{memories_from, base_behind, control_base}
 use Rattle.thread_states.specs.Wired.{IsSteered, WiresControl}
 use Rattle.thread_sound.specs.Leaf.{IsChecked}
-use Rattle.thread_slots.proofs.Gating.{index_there}
 use Rattle.thread_slots.proofs.Laying.{stands_later}
 use Rattle.thread_slots.proofs.Wiring.{name_tells, name_differs}
 use Rattle.thread_layout.proofs.Opened.{wired}
 use Rattle.thread_layout.proofs.Resting.{mark_at}
 use Rattle.thread_layout.proofs.Placed.{from_inside, from_control, from_heard, from_early, from_slot, from_inputs, from_ports, inputs_long, registers_long, cores, words_count, banks_many}
-use Rattle.thread_layout.proofs.Placed.{opens_count, first_stage, got_any, enable_at, enable_stands, grant_at, grant_stands, stage_at, stage_stands, state_at, state_stands, beat_at}
+use Rattle.thread_layout.proofs.Placed.{opens_count, first_stage, enable_at, enable_stands, grant_at, grant_stands, stage_at, stage_stands, state_at, state_stands, beat_at}
 use Rattle.thread_layout.proofs.Placed.{beat_stands, variable_held, kept_held, mark_held, variables_at, kept_at, granted_at, before_outputs, bank_outputs}
 use Rattle.thread_layout.proofs.Placed.{HasBankOutputs, ask_stands, field_stands, need_stands, done_stands, all_long, ports_count, rows, widths_are, bank_listed, act_listed, own_act_rows, ports_long}
 use Rattle.thread_layout.proofs.Cores.{services_count}
@@ -332,7 +332,7 @@ module _ (shape : Shape) (code : ThreadCode) (plan : Planned) (m : Module) (t : 
   asks_copy x k less le under stands =
       let at = asks_at k less in
       let count : length t.edge.asks ≡ cores_of shape = controls.first.count ∙ opens_count shape code plan m t served in
-      let there = index_there t.edge.asks k (subst (λ z. k < z) (sym count) less) in
+      let there = slice_get-get_or t.edge.asks k 0 (subst (λ z. k < z) (sym count) less) in
       let here = controls.asks k (slice_index t.edge.asks k) there in
       let one_is = grade_asks (slice_index t.edge.asks k) (omega arith) (omega arith) in
       let own = grade_asked x le under in
@@ -360,8 +360,8 @@ module _ (shape : Shape) (code : ThreadCode) (plan : Planned) (m : Module) (t : 
   chain_at : (hs : List Held) (ys : List ℕ) (k w : ℕ) → AreChains t.laid.with_early before hs ys → k < length ys → HasWidthAt hs k w →
       IsEarlier t.laid.with_early before (slice_index ys k) w
   chain_at hs ys k w chains less wide =
-      let h = got_any hs k (subst (λ z. k < z) chains.count less) in
-      subst (λ z. IsEarlier t.laid.with_early before (slice_index ys k) z) (wide h.0 h.1) (chains.each k (slice_index ys k) h.0 h.1 (index_there ys k less))
+      let h = get_there hs k (subst (λ z. k < z) chains.count less) in
+      subst (λ z. IsEarlier t.laid.with_early before (slice_index ys k) z) (wide h.0 h.1) (chains.each k (slice_index ys k) h.0 h.1 (slice_get-get_or ys k 0 less))
 
   chain_counts : AreAsMany banks t.inside.early.requests.banks
   chain_counts = banks_many shape code plan m t served
@@ -396,7 +396,7 @@ module _ (shape : Shape) (code : ThreadCode) (plan : Planned) (m : Module) (t : 
       let number : one.1.first + i ≡ k = omega arith in
       let some : i < one.1.count = omega arith in
       let global : one.0 < length shape.globals = subst (λ z. one.0 < z) served.spreads.count (slice_get_within shape.spreads one.0 one.1 one.2) in
-      let ty = got_any shape.globals one.0 global in
+      let ty = get_there shape.globals one.0 global in
       let spread_is : slice_get inner.asking.spreads one.0 ≡ Some one.1 = ap (λ z. slice_get z one.0) (inner.spreads ∙ t.laid.slot.spreads_are) ∙ one.2 in
       bank_part x k j (width_of ty.0) less
       (subst (λ z. HasBankOutputs m.signals (port_at shape m z) t.edge.asks t.inside.early.requests.banks z (width_of ty.0)) number
@@ -413,7 +413,7 @@ module _ (shape : Shape) (code : ThreadCode) (plan : Planned) (m : Module) (t : 
       asks_copy x (banks + i) (omega arith) le under
       (subst (λ z. CopiesAt m.signals z 1 (slice_index t.edge.asks (banks + i))) (sym at) (ask_stands shape code plan m t served (banks + i) (omega arith)))
   act_copy x i (suc j) k own less at le under =
-      let found = got_any (group t.inside.early.requests (service_of k)).fields j (omega arith) in
+      let found = get_there (group t.inside.early.requests (service_of k)).fields j (omega arith) in
       let w = field_width (number_width shape.served (service_of k)) j in
       slot_copy x found.0 w le (subst (λ z. CopiesAt m.signals z w found.0) (sym at) (field_stands shape code plan m t served i k own j found.0 found.1))
       ((inner.early.linked.requests (service_of k)).fields j found.0 found.1)
@@ -445,7 +445,7 @@ module _ (shape : Shape) (code : ThreadCode) (plan : Planned) (m : Module) (t : 
       (let place = found.place in let one = place_of_rows own_rows (core_ports shape) own_widths found.core in omega arith) in
       ⊎_elim
       (λ (bank : found.core < banks).
-      let h = got_any t.inside.slot.words found.core (let words = counted in omega arith) in
+      let h = get_there t.inside.slot.words found.core (let words = counted in omega arith) in
       let its = bank_listed shape code plan m t served found.core h.0 h.1 in
       let same : found.own ≡ rows_at t.edge.asks t.inside.early.requests.banks found.core h.0.width = (let mine = found.listed in cc) in
       let four : length found.own ≡ 4 = ap length same in
@@ -453,7 +453,7 @@ module _ (shape : Shape) (code : ThreadCode) (plan : Planned) (m : Module) (t : 
       (λ (past : banks ≤ found.core).
       let count = services_count shape.served in
       let i : ℕ = found.core - banks in
-      let kind = got_any (services shape.served) i (omega arith) in
+      let kind = get_there (services shape.served) i (omega arith) in
       let here : banks + i ≡ found.core = omega arith in
       let its = act_listed shape code plan m t served i kind.0 kind.1 in
       let mine : slice_get own_rows (banks + i) ≡ Some found.own = ap (slice_get own_rows) here ∙ found.listed in
@@ -507,7 +507,7 @@ module _ (shape : Shape) (code : ThreadCode) (plan : Planned) (m : Module) (t : 
       let at : d + k ≡ x = omega arith in
       let count = opens_count shape code plan m t served in
       let under : k < length t.inside.early.opens = omega arith in
-      let found = got_any t.inside.early.opens k under in
+      let found = get_there t.inside.early.opens k under in
       let stands =
       stands_later controls.with_asks m.signals (d + k) 1 (Assigned (Binary And found.0 t.inside.inputs.enable))
       (grows_then controls.with_asks t.closed.with_control m.signals controls.later control_to) (controls.first.each k found.0 under found.1) in
@@ -656,7 +656,7 @@ module _ (shape : Shape) (code : ThreadCode) (plan : Planned) (m : Module) (t : 
   variable_has : (i : ℕ) (h : Held) → slice_get t.inside.slot.variables i ≡ Some h → HasRegister m h.register h.width
   variable_has i h there =
       let less : i < length code.variables = subst (λ z. i < z) t.laid.slot.variables_count (slice_get_within t.inside.slot.variables i h there) in
-      let ty = got_any code.variables i less in
+      let ty = get_there code.variables i less in
       let v = variable_held shape code plan m t served i ty.0 ty.1 in
       let same : v.held ≡ h = (let p = v.listed in cc) in
       subst (λ (z : Held). HasRegister m z.register z.width) same (register_has m v.held (behind + 3 + i) (width_of ty.0) 0 v.at v.wide v.stands)
@@ -707,7 +707,7 @@ module _ (shape : Shape) (code : ThreadCode) (plan : Planned) (m : Module) (t : 
   -- ---- each register is set by the statement of its own number
 
   some_next : (xs : List ℕ) (i : ℕ) → i < length xs → (y : ℕ) × (slice_get xs (0 + i) ≡ Some y)
-  some_next xs i less = let f = got_any xs i less in (f.0, (let same : 0 + i ≡ i = omega arith in ap (slice_get xs) same ∙ f.1))
+  some_next xs i less = let f = get_there xs i less in (f.0, (let same : 0 + i ≡ i = omega arith in ap (slice_get xs) same ∙ f.1))
 
   set_by : (k x condition source : ℕ) (register : ℕ) → register ≡ x
       → slice_get (firsts ++ (variable_sets ++ (kept_sets ++ (mark_sets ++ store_sets)))) k ≡ Some (set_action condition register source) → SetsAt m k x
@@ -733,14 +733,14 @@ module _ (shape : Shape) (code : ThreadCode) (plan : Planned) (m : Module) (t : 
 
   variable_set : (i : ℕ) → i < length t.inside.slot.variables → SetsAt m (3 + i) (behind + 3 + i)
   variable_set i less =
-      let found = got_any t.inside.slot.variables i less in
+      let found = get_there t.inside.slot.variables i less in
       let f = sets_at t.edge.leave t.inside.chains.variables 0 t.inside.slot.variables (kept_sets ++ (mark_sets ++ store_sets)) i found.0 variable_nexts found.1 in
       set_by (3 + i) (behind + 3 + i) t.edge.leave f.0 found.0.register (variables_at shape code plan m t served i found.0 found.1)
       (past_three (variable_sets ++ (kept_sets ++ (mark_sets ++ store_sets))) i ∙ f.1)
 
   kept_set : (i : ℕ) → i < length t.inside.slot.kept → SetsAt m (3 + (length t.inside.slot.variables + i)) (behind + 3 + length t.inside.slot.variables + i)
   kept_set i less =
-      let found = got_any t.inside.slot.kept i less in
+      let found = get_there t.inside.slot.kept i less in
       let f = sets_at t.edge.leave t.inside.chains.kept 0 t.inside.slot.kept (mark_sets ++ store_sets) i found.0 kept_nexts found.1 in
       set_by (3 + (length t.inside.slot.variables + i)) (behind + 3 + length t.inside.slot.variables + i) t.edge.leave f.0 found.0.register
       (kept_at shape code plan m t served i found.0 found.1)
@@ -750,7 +750,7 @@ module _ (shape : Shape) (code : ThreadCode) (plan : Planned) (m : Module) (t : 
   mark_set : (i : ℕ) → i < length t.inside.granted
       → SetsAt m (3 + (length t.inside.slot.variables + (length t.inside.slot.kept + i))) (behind + 3 + length t.inside.slot.variables + length t.inside.slot.kept + i)
   mark_set i less =
-      let found = got_any t.inside.granted i less in
+      let found = get_there t.inside.granted i less in
       let f = sets_at t.edge.moved t.edge.granted 0 t.inside.granted store_sets i found.0 mark_nexts found.1 in
       set_by (3 + (length t.inside.slot.variables + (length t.inside.slot.kept + i))) (behind + 3 + length t.inside.slot.variables + length t.inside.slot.kept + i) t.edge.moved f.0
       found.0.register
@@ -898,7 +898,7 @@ module _ (shape : Shape) (code : ThreadCode) (plan : Planned) (m : Module) (t : 
       let at = outputs_at in
       let one = inputs_inside in
       let two = asks_before in
-      let found = got_any m.signals (first_output shape m + j) (omega arith) in
+      let found = get_there m.signals (first_output shape m + j) (omega arith) in
       let here : grade (first_output shape m + j) ≡ 1 = grade_asked (first_output shape m + j) (omega arith) (omega arith) in
       record {
         wide = found.0.width;

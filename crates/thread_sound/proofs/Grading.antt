@@ -1,9 +1,8 @@
 -- Grades of signals: inputs have those of their places, what registers alone reach has 0, what the enable reaches 1, and what
 -- a grant or a word of a bank reaches 2.
-use Rattle.std.proofs.Common.{◌≡◌, ℕ, ◌+◌, ◌<◌, ◌≤◌, Bool, true, false, nat_lt, if◌then◌else◌, min, List, length, Option, Some, sym, ap, subst, ◌∙◌, arith, ⊎_elim}
+use Rattle.std.proofs.Common.{◌≡◌, ℕ, ◌+◌, ◌<◌, ◌≤◌, Bool, nat_lt, if◌then◌else◌, min, List, length, Option, Some, sym, ap, subst, ◌∙◌, arith, ⊎_elim}
 use Rattle.std.specs.Prelude.{slice_get}
-use Rattle.std.proofs.lemmas.Bool.{cases_lt}
-use Rattle.std.proofs.lemmas.Bool.Decides.{nat_tests}
+use Rattle.std.proofs.lemmas.Bool.{cases_lt, le-ltb, lt-ltb}
 use Rattle.netlist.specs.declared.netlist.Value.{Value}
 use Rattle.netlist.specs.declared.netlist.Value.TheVariants.{Copy, Constant, BitwiseNot, Binary, SignedLess, ArithmeticShiftRight, Conditional, Division, SignedDivision}
 use Rattle.netlist.specs.declared.netlist.Value.TheVariants.{MemoryRead, Select, Concatenation, Replication}
@@ -25,11 +24,6 @@ use Rattle.operator_wires.proofs.Building.{within, longer}
 -- ---- grades by places: so many inputs, then what registers alone reach, up to place l; the wires of stages, up to place d, which words of
 
 -- banks reach; whether cores are asked, up to place a; the other wires of control, up to place e; and the outputs, first those that ask
-is_less : (x y : ℕ) → x < y → nat_lt x y ≡ true
-is_less x y l = grind (arith, nat_tests)
-
-not_less : (x y : ℕ) → y ≤ x → nat_lt x y ≡ false
-not_less x y l = grind (arith, nat_tests)
 
 module _ (inputs l d a e asked : ℕ) where
   abbrev at_outputs : ℕ → ℕ
@@ -52,45 +46,45 @@ module _ (inputs l d a e asked : ℕ) where
 
   pub input_level : (x : ℕ) → x < inputs → level x ≡ min x 2
   unfolding level
-  input_level x less = ap (λ (t : Bool). if t then min x 2 else at_slot x) (is_less x inputs less)
+  input_level x less = ap (λ (t : Bool). if t then min x 2 else at_slot x) (lt-ltb x inputs less)
 
   past_inputs : (x : ℕ) → inputs ≤ x → level x ≡ at_slot x
   unfolding level
-  past_inputs x le = ap (λ (t : Bool). if t then min x 2 else at_slot x) (not_less x inputs le)
+  past_inputs x le = ap (λ (t : Bool). if t then min x 2 else at_slot x) (le-ltb x inputs le)
 
   pub slot_level : (x : ℕ) → inputs ≤ x → x < l → level x ≡ 0
-  slot_level x le less = past_inputs x le ∙ ap (λ (t : Bool). if t then 0 else at_stages x) (is_less x l less)
+  slot_level x le less = past_inputs x le ∙ ap (λ (t : Bool). if t then 0 else at_stages x) (lt-ltb x l less)
 
   module _ (slots : inputs ≤ l) where
     past_slot : (x : ℕ) → l ≤ x → level x ≡ at_stages x
-    past_slot x le = past_inputs x (omega arith) ∙ ap (λ (t : Bool). if t then 0 else at_stages x) (not_less x l le)
+    past_slot x le = past_inputs x (omega arith) ∙ ap (λ (t : Bool). if t then 0 else at_stages x) (le-ltb x l le)
 
     pub stage_level : (x : ℕ) → l ≤ x → x < d → level x ≡ 2
-    stage_level x le less = past_slot x le ∙ ap (λ (t : Bool). if t then 2 else at_asks x) (is_less x d less)
+    stage_level x le less = past_slot x le ∙ ap (λ (t : Bool). if t then 2 else at_asks x) (lt-ltb x d less)
 
     module _ (stages : l ≤ d) where
       past_stages : (x : ℕ) → d ≤ x → level x ≡ at_asks x
-      past_stages x le = past_slot x (omega arith) ∙ ap (λ (t : Bool). if t then 2 else at_asks x) (not_less x d le)
+      past_stages x le = past_slot x (omega arith) ∙ ap (λ (t : Bool). if t then 2 else at_asks x) (le-ltb x d le)
 
       pub asks_level : (x : ℕ) → d ≤ x → x < a → level x ≡ 1
-      asks_level x le less = past_stages x le ∙ ap (λ (t : Bool). if t then 1 else at_control x) (is_less x a less)
+      asks_level x le less = past_stages x le ∙ ap (λ (t : Bool). if t then 1 else at_control x) (lt-ltb x a less)
 
       module _ (cores : d ≤ a) where
         past_asks : (x : ℕ) → a ≤ x → level x ≡ at_control x
-        past_asks x le = past_stages x (omega arith) ∙ ap (λ (t : Bool). if t then 1 else at_control x) (not_less x a le)
+        past_asks x le = past_stages x (omega arith) ∙ ap (λ (t : Bool). if t then 1 else at_control x) (le-ltb x a le)
 
         pub control_level : (x : ℕ) → a ≤ x → x < e → level x ≡ 2
-        control_level x le less = past_asks x le ∙ ap (λ (t : Bool). if t then 2 else at_outputs x) (is_less x e less)
+        control_level x le less = past_asks x le ∙ ap (λ (t : Bool). if t then 2 else at_outputs x) (lt-ltb x e less)
 
         module _ (control : a ≤ e) where
           past_control : (x : ℕ) → e ≤ x → level x ≡ at_outputs x
-          past_control x le = past_asks x (omega arith) ∙ ap (λ (t : Bool). if t then 2 else at_outputs x) (not_less x e le)
+          past_control x le = past_asks x (omega arith) ∙ ap (λ (t : Bool). if t then 2 else at_outputs x) (le-ltb x e le)
 
           pub asked_level : (x : ℕ) → e ≤ x → x < e + asked → level x ≡ 1
-          asked_level x le less = past_control x le ∙ ap (λ (t : Bool). if t then 1 else 0) (is_less x (e + asked) less)
+          asked_level x le less = past_control x le ∙ ap (λ (t : Bool). if t then 1 else 0) (lt-ltb x (e + asked) less)
 
           pub told_level : (x : ℕ) → e + asked ≤ x → level x ≡ 0
-          told_level x le = past_control x (omega arith) ∙ ap (λ (t : Bool). if t then 1 else 0) (not_less x (e + asked) le)
+          told_level x le = past_control x (omega arith) ∙ ap (λ (t : Bool). if t then 1 else 0) (le-ltb x (e + asked) le)
 
         -- none is above 2
         pub most_level : (x : ℕ) → x < e → level x ≤ 2

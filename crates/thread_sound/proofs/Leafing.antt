@@ -1,10 +1,8 @@
 -- A checked module is a leaf.
 use Rattle.std.proofs.Common.{◌≡◌, ℕ, zero, suc, ◌+◌, ◌-◌, ◌<◌, ◌≤◌, Bool, true, false, nat_eq, nat_le, nat_lt, if◌then◌else◌, List, [], ◌∷◌, ◌++◌, length, map, take, slice_get, slice_index}
 use Rattle.std.proofs.Common.{Some, min, refl, sym, ap, subst, ◌∙◌, arith, ⊎_elim, ◌≢◌, length-append}
-use Rattle.std.proofs.lemmas.Bool.{cases_lt}
-use Rattle.std.proofs.lemmas.Bool.Decides.{nat_tests}
+use Rattle.std.proofs.lemmas.Bool.{cases_lt, cases_eq, le-ltb, lt-ltb, ltb-false, ltb-true, ne_eqb, eqb-false, eqb-true, lt-leb}
 use Rattle.std.proofs.lemmas.Option.{get_or_from_slice_get, slice_get_within}
-use Rattle.interleaving.proofs.Update.{same_or_not}
 use Rattle.netlist.specs.declared.netlist.Source.{Source}
 use Rattle.netlist.specs.declared.netlist.Source.TheVariants.{Input, Register, Assigned, Port}
 use Rattle.netlist.specs.declared.netlist.Signal.{Signal}
@@ -26,6 +24,8 @@ use Rattle.module_sound.specs.Grades.{IsOperand, IsGradedSource, AreGrades, Acts
 use Rattle.block_ir.specs.declared.code.ThreadCode.{ThreadCode}
 use Rattle.block_ir.specs.declared.plan.Planned.{Planned}
 use Rattle.std.proofs.lemmas.List.{length-map}
+use Rattle.std.proofs.Math.Nat.{min-eq_right}
+use Rattle.lists.proofs.Places.{get_there}
 use Rattle.thread_slots.specs.Services.{services, news_widths}
 use Rattle.thread_layout.proofs.Cores.{services_count}
 use Rattle.thread_sound.proofs.Telling.{told_is, place_within, told_by, told_all}
@@ -38,7 +38,7 @@ use Rattle.thread_sound.specs.Leaf.{parts_of, tells_of, IsChecked, IsLeafOf}
 use Rattle.module_sound.proofs.Sounding.{placed_is_sound}
 use Rattle.operator_wires.proofs.Giving.{listed}
 use Rattle.thread_layout.proofs.Opened.{wired}
-use Rattle.thread_layout.proofs.Placed.{from_inputs, inputs_long, bank_count, got_any}
+use Rattle.thread_layout.proofs.Placed.{from_inputs, inputs_long, bank_count}
 
 -- ---- lists
 
@@ -108,12 +108,9 @@ module _ (m : Module) (inputs : ℕ) (grades : List ℕ) (are : AreGrades m inpu
 
   pub clockless : IsClockless m inputs
   clockless = record {
-    signals = leaf_by (λ x. nat_eq x 0) (λ x y g h after e f le late. absurd (let zero_is : y ≡ 0 = is_zero y late in omega arith));
+    signals = leaf_by (λ x. nat_eq x 0) (λ x y g h after e f le late. absurd (let zero_is : y ≡ 0 = eqb-true y 0 late in omega arith));
     acts = each_map (ActsRight m) IsUnclocked m.actions (λ a t. (t.unclocked, t.sets.unclocked)) acts;
   }
-    where
-      is_zero : (y : ℕ) → nat_eq y 0 ≡ true → y ≡ 0
-      is_zero y e = grind arith
 
   -- an input's grade
   input_grade : (x : ℕ) → x < inputs → grade_of x ≡ min x 2
@@ -129,11 +126,8 @@ module _ (m : Module) (inputs : ℕ) (grades : List ℕ) (are : AreGrades m inpu
   early_port most place t = record {
     has = t.has;
     after = t.after;
-    early = ap (nat_le (suc most)) (index_is place t.own t.listed) ∙ not_less (suc most) t.own (let below = t.below in omega arith);
+    early = ap (nat_le (suc most)) (index_is place t.own t.listed) ∙ lt-leb (suc most) t.own (let below = t.below in omega arith);
   }
-    where
-      not_less : (a b : ℕ) → b < a → nat_le a b ≡ false
-      not_less a b less = grind arith
 
   pub early_slot : (place : ℕ) → IsSlotPort m grades place → late_from 2 place ≡ false
   early_slot place t = ap (nat_le 2) (index_is place 0 t.listed)
@@ -142,30 +136,6 @@ module _ (m : Module) (inputs : ℕ) (grades : List ℕ) (are : AreGrades m inpu
   slot_port place t = record { has = t.has; after = t.after; early = ap (nat_le 1) (index_is place 0 t.listed) }
 
 -- ---- the module of a thread
-
-is_number : (x n : ℕ) → nat_eq x n ≡ true → x ≡ n
-is_number x n e = grind arith
-
-is_other : (x n : ℕ) → nat_eq x n ≡ false → x ≢ n
-is_other x n e = grind arith
-
-other_is : (x n : ℕ) → x ≢ n → nat_eq x n ≡ false
-other_is x n e = grind arith
-
-is_below : (x y : ℕ) → nat_lt x y ≡ true → x < y
-is_below x y e = grind (arith, nat_tests)
-
-is_above : (x y : ℕ) → nat_lt x y ≡ false → y ≤ x
-is_above x y e = grind (arith, nat_tests)
-
-below_is : (x y : ℕ) → x < y → nat_lt x y ≡ true
-below_is x y less = grind (arith, nat_tests)
-
-above_is : (x y : ℕ) → y ≤ x → nat_lt x y ≡ false
-above_is x y le = grind (arith, nat_tests)
-
-two_least : (x : ℕ) → 2 ≤ x → min x 2 ≡ 2
-two_least x le = omega arith
 
 -- a part of an ask has its place among those of all cores
 part_place : (ports : List CorePort) (k j : ℕ) → j < parts_of ports k → ask_place ports k + j < length (asks_of ports)
@@ -222,12 +192,12 @@ module _ (shape : Shape) (m : Module) (counted : length (spread_out shape.spread
     where
       third : (c : Bool) → nat_lt x (2 + length ports) ≡ c → x ≢ 0 → x ≢ 1 → Heard_at x (if c then Grant (x - 2) else told_from 0 ports (x - (2 + length ports)))
       third true e zero_not one_not =
-          let below = is_below x (2 + length ports) e in
+          let below = ltb-true x (2 + length ports) e in
           let many = ports_many in
           let core : x - 2 < length ports = omega arith in
-          (omega arith, below_is (x - 2) (length ports) core, (let z : x ≡ 2 + (x - 2) = omega arith in z))
+          (omega arith, lt-ltb (x - 2) (length ports) core, (let z : x ≡ 2 + (x - 2) = omega arith in z))
       third false e zero_not one_not =
-          let past = is_above x (2 + length ports) e in
+          let past = ltb-false x (2 + length ports) e in
           let many = ports_many in
           let all = told_many in
           let own = told_by ports 0 (x - (2 + length ports)) (omega arith) in
@@ -235,20 +205,20 @@ module _ (shape : Shape) (m : Module) (counted : length (spread_out shape.spread
           let at = own.at in
           let plain : 0 + own.core ≡ own.core = omega arith in
           subst (Heard_at x) (sym (own.is ∙ ap (λ k. Told k own.part) plain))
-          (omega arith, below_is own.core (length ports) within, own.tells, (let z : x ≡ 2 + length ports + (told_place ports own.core + own.part) = omega arith in z))
+          (omega arith, lt-ltb own.core (length ports) within, own.tells, (let z : x ≡ 2 + length ports + (told_place ports own.core + own.part) = omega arith in z))
 
       second : (c : Bool) → nat_eq x 1 ≡ c → x ≢ 0 → Heard_at x (if c then Enable else behind_grants x)
-      second true e zero_not = is_number x 1 e
-      second false e zero_not = third (nat_lt x (2 + length ports)) refl zero_not (is_other x 1 e)
+      second true e zero_not = eqb-true x 1 e
+      second false e zero_not = third (nat_lt x (2 + length ports)) refl zero_not (eqb-false x 1 e)
 
       first : (c : Bool) → nat_eq x 0 ≡ c → Heard_at x (if c then Clock else (if nat_eq x 1 then Enable else behind_grants x))
-      first true e = is_number x 0 e
-      first false e = second (nat_eq x 1) refl (is_other x 0 e)
+      first true e = eqb-true x 0 e
+      first false e = second (nat_eq x 1) refl (eqb-false x 0 e)
 
   past_enable : (x : ℕ) → 2 ≤ x → input_at ports x ≡ behind_grants x
   past_enable x le =
-      ap (λ (c : Bool). if c then Clock else (if nat_eq x 1 then Enable else behind_grants x)) (other_is x 0 (λ e. absurd (omega arith)))
-      ∙ ap (λ (c : Bool). if c then Enable else behind_grants x) (other_is x 1 (λ e. absurd (omega arith)))
+      ap (λ (c : Bool). if c then Clock else (if nat_eq x 1 then Enable else behind_grants x)) (ne_eqb x 0 (λ e. absurd (omega arith)))
+      ∙ ap (λ (c : Bool). if c then Enable else behind_grants x) (ne_eqb x 1 (λ e. absurd (omega arith)))
 
   grant_heard : (k : ℕ) → k < cores_of shape → HasHeard m inputs (leaf_of shape m) (cores_of shape) parts told (2 + k) (Grant k)
   grant_heard k less =
@@ -257,7 +227,7 @@ module _ (shape : Shape) (m : Module) (counted : length (spread_out shape.spread
         input = omega arith;
         is =
             past_enable (2 + k) (omega arith)
-            ∙ ap (λ (c : Bool). if c then Grant (2 + k - 2) else told_from 0 ports (2 + k - (2 + length ports))) (below_is (2 + k) (2 + length ports) (omega arith))
+            ∙ ap (λ (c : Bool). if c then Grant (2 + k - 2) else told_from 0 ports (2 + k - (2 + length ports))) (lt-ltb (2 + k) (2 + length ports) (omega arith))
             ∙ ap Grant (let z : 2 + k - 2 ≡ k = omega arith in z);
       }
 
@@ -271,7 +241,7 @@ module _ (shape : Shape) (m : Module) (counted : length (spread_out shape.spread
         input = omega arith;
         is =
             past_enable x (omega arith)
-            ∙ ap (λ (c : Bool). if c then Grant (x - 2) else told_from 0 ports (x - (2 + length ports))) (above_is x (2 + length ports) (omega arith))
+            ∙ ap (λ (c : Bool). if c then Grant (x - 2) else told_from 0 ports (x - (2 + length ports))) (le-ltb x (2 + length ports) (omega arith))
             ∙ ap (told_from 0 ports) (let z : x - (2 + length ports) ≡ told_place ports k + j = omega arith in z) ∙ told_is ports 0 k j part
             ∙ ap (λ n. Told n j) (let z : 0 + k ≡ k = omega arith in z);
       }
@@ -292,7 +262,7 @@ module _ (shape : Shape) (code : ThreadCode) (plan : Planned) (m : Module) (t : 
 
   firsts : (x : ℕ) → x < count → HasInput m x
   firsts x less =
-      let found = got_any t.laid.with_inputs x (subst (λ n. x < n) (sym (inputs_long shape code plan m t served)) less) in
+      let found = get_there t.laid.with_inputs x (subst (λ n. x < n) (sym (inputs_long shape code plan m t served)) less) in
       let own = (wired shape code plan m t served).inputs x found.0 (omega arith) found.1 in
       record { signal = found.0; listed = listed t.laid.with_inputs m.signals x found.0 (from_inputs shape code plan m t served) found.1; is = own.drives }
 
@@ -301,7 +271,7 @@ module _ (shape : Shape) (code : ThreadCode) (plan : Planned) (m : Module) (t : 
 
   late_at : (n x : ℕ) → 2 ≤ x → x < count → nat_le n 2 ≡ true → late n x ≡ true
   late_at n x le less e =
-      late_input m count checked.grades checked.are checked.ports.acts t.alone firsts checked.begun n x less (ap (nat_le n) (two_least x le) ∙ e)
+      late_input m count checked.grades checked.are checked.ports.acts t.alone firsts checked.begun n x less (ap (nat_le n) (min-eq_right le) ∙ e)
 
   answers : (n : ℕ) → nat_le n 2 ≡ true → AnswersAreLate m count (leaf_of shape m) (cores_of shape) (parts_of (core_ports shape)) (tells_of (core_ports shape)) (late n)
   answers n e = record {
@@ -340,7 +310,7 @@ module _ (shape : Shape) (code : ThreadCode) (plan : Planned) (m : Module) (t : 
       let last : x ≡ asked + 1 = omega arith in
       ap (λ n. late 2 (first + n)) last
       ∙ early_slot m count checked.grades checked.are checked.ports.acts t.alone firsts checked.begun (done_at shape m) checked.ports.done)
-      (same_or_not x asked))
+      (cases_eq x asked))
       (cases_lt x asked)
 
   pub leaf_is : IsLeafOf shape m

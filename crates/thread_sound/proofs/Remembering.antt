@@ -3,6 +3,7 @@ use Rattle.std.proofs.Common.{◌≡◌, ℕ, zero, suc, ◌+◌, ◌<◌, ◌�
 use Rattle.std.specs.Prelude.{slice_get, replicate, codes}
 use Rattle.std.proofs.lemmas.List.{length-replicate}
 use Rattle.std.proofs.lemmas.Option.{slice_get_within}
+use Rattle.std.proofs.lemmas.Nat.{pow_pos}
 use Rattle.hls_ints.specs.Types.{width_of}
 use Rattle.block_ir.specs.declared.code.Array.{Array}
 use Rattle.netlist.specs.declared.netlist.Signal.{Signal}
@@ -15,7 +16,7 @@ use Rattle.circuit.specs.Rows.{EachOf}
 use Rattle.circuit.specs.Modules.{FitsMemory}
 use Rattle.module_sound.specs.Names.{place_of}
 use Rattle.module_sound.specs.Sounds.{IsRightMemory, AreRightMemories}
-use Rattle.operator_wires.proofs.Wording.{at_least, at_most, some}
+use Rattle.operator_wires.proofs.Wording.{at_least, at_most}
 use Rattle.thread_layout.specs.Memories.{memory_for, memories_from}
 use Rattle.thread_slots.proofs.Digits.{digits_tell}
 
@@ -34,7 +35,7 @@ array_tells n inputs j small = digits_tell j small
 
 zeros_fit : (w n : ℕ) → EachOf (λ k. k < 2 ^ w) (replicate n 0)
 zeros_fit w zero = tt
-zeros_fit w (suc n) = (some w, zeros_fit w n)
+zeros_fit w (suc n) = (pow_pos w, zeros_fit w n)
 
 named_at : (ms : List Memory) (i : ℕ) (x : Name) → slice_get (map (λ (c : Memory). c.name) ms) i ≡ Some x → (c : Memory) × (slice_get ms i ≡ Some c) × (c.name ≡ x)
 named_at [] i x e = absurd cc

@@ -1,11 +1,11 @@
 -- The module in a table of modules: its ports.
-use Rattle.std.proofs.Common.{◌≡◌, ℕ, zero, suc, ◌+◌, ◌-◌, ◌<◌, ◌≤◌, ◌⊎◌, nat_lt, true, false, List, [], ◌∷◌, ◌++◌, length, map, slice_get, Some, refl, sym, ap, subst, ◌∙◌, arith}
+use Rattle.std.proofs.Common.{◌≡◌, ℕ, zero, suc, ◌+◌, ◌-◌, ◌<◌, ◌≤◌, ◌⊎◌, false, List, [], ◌∷◌, ◌++◌, length, map, slice_get, Some, refl, sym, ap, subst, ◌∙◌, arith}
 use Rattle.std.proofs.Common.{inl, inr, ⊎_elim, length-append}
 use Rattle.std.specs.Prelude.{replicate, option_map}
-use Rattle.std.proofs.lemmas.Bool.{cases_lt}
-use Rattle.std.proofs.lemmas.Bool.Decides.{nat_tests}
+use Rattle.std.proofs.lemmas.Bool.{cases_lt, lt-ltb}
 use Rattle.std.proofs.lemmas.List.{length-replicate}
 use Rattle.std.proofs.lemmas.Option.{slice_get_within, slice_get-map, same_Some}
+use Rattle.lists.proofs.Places.{get_there, get_right, get_left}
 use Rattle.hls_ints.specs.Types.{width_of}
 use Rattle.verilog_tree.specs.Scope.{is_clk}
 use Rattle.block_ir.specs.declared.code.ThreadCode.{ThreadCode}
@@ -32,15 +32,12 @@ use Rattle.thread_layout.specs.Thread.{cores_of, inputs_of, core_ports, first_ou
 use Rattle.thread_sound.specs.Leaf.{IsLeafOf}
 use Rattle.thread_slots.proofs.Laying.{stands_later}
 use Rattle.thread_layout.proofs.Placed.{rows, widths_are, ports_count, row_copies, all_long, enable_stands, grant_stands, need_stands, done_stands, from_ports, from_words, from_inputs}
-use Rattle.thread_layout.proofs.Placed.{ports_long, bank_count, got_any}
-use Rattle.thread_layout.proofs.Rowing.{row_width, all_widths, all_count, further}
+use Rattle.thread_layout.proofs.Placed.{ports_long, bank_count}
+use Rattle.thread_layout.proofs.Rowing.{row_width, all_widths, all_count}
 
 silent_each : (m : Module) (actions : List Action) → EachOf (ActsRight m) actions → EachOf IsSilent actions
 silent_each m [] h = tt
 silent_each m (a ∷ actions) h = (h.0.sets.silent, silent_each m actions h.1)
-
-below_is : (x y : ℕ) → x < y → nat_lt x y ≡ true
-below_is x y less = grind (arith, nat_tests)
 
 -- ---- lists
 
@@ -49,11 +46,6 @@ among zero v rest y w e = inr (y, (let q : y ≡ 0 + y = omega arith in q), e)
 among (suc n) v rest zero w e = inl ((let l : 0 < suc n = omega arith in l), sym (same_Some v w e))
 among (suc n) v rest (suc y) w e =
     ⊎_elim (λ t. inl ((let l = t.0 in omega (arith, l)), t.1)) (λ t. inr (t.0, (let q = t.1 in omega (arith, q)), t.2)) (among n v rest y w e)
-
-front_of : (xs ys : List ℕ) (j : ℕ) → j < length xs → slice_get (xs ++ ys) j ≡ slice_get xs j
-front_of [] ys j less = absurd (omega arith)
-front_of (x ∷ xs) ys zero less = refl
-front_of (x ∷ xs) ys (suc j) less = front_of xs ys j (omega arith)
 
 split : (xs ys : List ℕ) (i w : ℕ) → slice_get (xs ++ ys) i ≡ Some w → ((i < length xs) × (slice_get xs i ≡ Some w)) ⊎ ((j : ℕ) × (i ≡ length xs + j) × (slice_get ys j ≡ Some w))
 split [] ys i w e = inr (i, (let q : i ≡ 0 + i = omega arith in q), e)
@@ -137,11 +129,11 @@ module _ (shape : Shape) (code : ThreadCode) (plan : Planned) (m : Module) (t : 
       asks : x < length (asks_of (core_ports shape)) → Has m (first_output shape m + x) w
       asks less =
           let count = all_count (rows shape code plan m t served) (core_ports shape) (widths_are shape code plan m t served) in
-          let found = got_any (joined (rows shape code plan m t served)) x (omega arith) in
+          let found = get_there (joined (rows shape code plan m t served)) x (omega arith) in
           let own : slice_get (asks_of (core_ports shape)) x ≡ Some (row_width found.0) =
           ap (λ l. slice_get l x) (all_widths (rows shape code plan m t served) (core_ports shape) (widths_are shape code plan m t served))
           ∙ slice_get-map row_width (joined (rows shape code plan m t served)) x ∙ ap (option_map row_width) found.1 in
-          let its : slice_get (asks_of (core_ports shape)) x ≡ Some w = sym (front_of (asks_of (core_ports shape)) (1 ∷ 1 ∷ []) x less) ∙ e in
+          let its : slice_get (asks_of (core_ports shape)) x ≡ Some w = sym (get_left (asks_of (core_ports shape)) (1 ∷ 1 ∷ []) x less) ∙ e in
           let wide : row_width found.0 ≡ w = cc in
           subst (Has m (first_output shape m + x)) wide (has_of (first_output shape m + x) found.0.width _ (row_copies shape code plan m t served x found.0 found.1))
 
@@ -158,7 +150,7 @@ module _ (shape : Shape) (code : ThreadCode) (plan : Planned) (m : Module) (t : 
       behind le =
           let i : ℕ = x - length (asks_of (core_ports shape)) in
           let at : length (asks_of (core_ports shape)) + i ≡ x = omega arith in
-          last i (sym at) (sym (further (asks_of (core_ports shape)) (1 ∷ 1 ∷ []) i) ∙ ap (slice_get (thread_outputs (core_ports shape))) at ∙ e)
+          last i (sym at) (sym (get_right (asks_of (core_ports shape)) (1 ∷ 1 ∷ []) i) ∙ ap (slice_get (thread_outputs (core_ports shape))) at ∙ e)
 
   -- ---- the module
 
@@ -178,7 +170,7 @@ module _ (shape : Shape) (code : ThreadCode) (plan : Planned) (m : Module) (t : 
     };
     silent = silent_each m m.actions leaf.acts;
     inputs_are = inputs_long;
-    uses = λ k less. below_is k (length (core_ports shape)) less;
+    uses = λ k less. lt-ltb k (length (core_ports shape)) less;
     enable = refl;
     grant = λ k less. refl;
     told = λ k j p listed less. refl;

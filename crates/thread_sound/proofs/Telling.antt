@@ -1,9 +1,8 @@
 -- What cores tell a thread, one behind the other.
-use Rattle.std.proofs.Common.{◌≡◌, ℕ, zero, suc, ◌+◌, ◌-◌, ◌<◌, ◌≤◌, Bool, true, false, nat_lt, if◌then◌else◌, List, [], ◌∷◌, ◌++◌, length, map, take, slice_get, Some, refl, sym, ap, ◌∙◌}
+use Rattle.std.proofs.Common.{◌≡◌, ℕ, zero, suc, ◌+◌, ◌-◌, ◌<◌, ◌≤◌, Bool, true, false, if◌then◌else◌, List, [], ◌∷◌, ◌++◌, length, map, take, slice_get, Some, refl, sym, ap, ◌∙◌}
 use Rattle.std.proofs.Common.{arith, ⊎_elim, length-append, append_assoc}
 use Rattle.std.specs.Prelude.{replicate}
-use Rattle.std.proofs.lemmas.Bool.{cases_lt}
-use Rattle.std.proofs.lemmas.Bool.Decides.{nat_tests}
+use Rattle.std.proofs.lemmas.Bool.{cases_lt, le-ltb, lt-ltb}
 use Rattle.std.proofs.lemmas.List.{map-append}
 use Rattle.leaf_machine.specs.Leaves.{Told}
 use Rattle.core_ports.specs.Ports.{CorePort, told_of, told_place}
@@ -13,12 +12,6 @@ use Rattle.thread_slots.specs.Services.{services, if_ids, news_widths}
 use Rattle.thread_layout.specs.Leaf.{told_from}
 use Rattle.thread_layout.specs.Thread.{bank_port, act_port}
 use Rattle.thread_sound.specs.Leaf.{tells_of}
-
-below_is : (x y : ℕ) → x < y → nat_lt x y ≡ true
-below_is x y less = grind (arith, nat_tests)
-
-above_is : (x y : ℕ) → y ≤ x → nat_lt x y ≡ false
-above_is x y le = grind (arith, nat_tests)
 
 -- ---- places
 
@@ -33,14 +26,14 @@ pub told_is : (ports : List CorePort) (from k j : ℕ) → j < tells_of ports k 
 told_is [] from k j part = absurd (omega arith)
 told_is (p ∷ ports) from zero j part =
     let first : told_place (p ∷ ports) zero + j ≡ j = (let z : 0 + j ≡ j = omega arith in z) in
-    ap (told_from from (p ∷ ports)) first ∙ ap (λ b. if b then Told from j else told_from (suc from) ports (j - length p.told)) (below_is j (length p.told) part)
+    ap (told_from from (p ∷ ports)) first ∙ ap (λ b. if b then Told from j else told_from (suc from) ports (j - length p.told)) (lt-ltb j (length p.told) part)
     ∙ ap (λ n. Told n j) (let z : from ≡ from + 0 = omega arith in z)
 told_is (p ∷ ports) from (suc k) j part =
     let next = next_place p ports k in
     let at : told_place (p ∷ ports) (suc k) + j ≡ length p.told + (told_place ports k + j) = omega arith in
     let x : ℕ = length p.told + (told_place ports k + j) in
     ap (told_from from (p ∷ ports)) at
-    ∙ ap (λ b. if b then Told from x else told_from (suc from) ports (x - length p.told)) (above_is x (length p.told) (omega arith))
+    ∙ ap (λ b. if b then Told from x else told_from (suc from) ports (x - length p.told)) (le-ltb x (length p.told) (omega arith))
     ∙ ap (told_from (suc from) ports) (let z : x - length p.told ≡ told_place ports k + j = omega arith in z)
     ∙ told_is ports (suc from) k j part ∙ ap (λ n. Told n j) (let z : suc from + k ≡ from + suc k = omega arith in z)
 
@@ -76,7 +69,7 @@ told_by (p ∷ ports) from x less =
       core = 0;
       part = x;
       is =
-          ap (λ b. if b then Told from x else told_from (suc from) ports (x - length p.told)) (below_is x (length p.told) here)
+          ap (λ b. if b then Told from x else told_from (suc from) ports (x - length p.told)) (lt-ltb x (length p.told) here)
           ∙ ap (λ n. Told n x) (let z : from ≡ from + 0 = omega arith in z);
       within = omega arith;
       tells = here;
@@ -92,7 +85,7 @@ told_by (p ∷ ports) from x less =
       core = suc rest.core;
       part = rest.part;
       is =
-          ap (λ b. if b then Told from x else told_from (suc from) ports (x - length p.told)) (above_is x (length p.told) past) ∙ rest.is
+          ap (λ b. if b then Told from x else told_from (suc from) ports (x - length p.told)) (le-ltb x (length p.told) past) ∙ rest.is
           ∙ ap (λ n. Told n rest.part) (let z : suc from + rest.core ≡ from + suc rest.core = omega arith in z);
       within = omega arith;
       tells = rest.tells;
