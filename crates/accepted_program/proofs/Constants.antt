@@ -3,6 +3,7 @@ use Rattle.std.proofs.Common.{◌≡◌, refl, subst, ℕ, ◌+◌, ◌≤◌, B
 use Rattle.std.specs.Prelude.{◌-◌, ◌^◌, ◌==◌, ◌&&◌, ◌||◌, cond, nat_le, nat_lt, pos, slice_index, option_map, if◌then◌else◌}
 use Rattle.std.specs.List.{find, prefix_len}
 use Rattle.std.proofs.lemmas.Bool.Decides.{nat_tests}
+use Rattle.std.proofs.lemmas.Bool.{and_parts}
 use Rattle.hls_ints.specs.Types.{HasType}
 use Rattle.c_token.specs.declared.constant.Base.{Base}
 use Rattle.c_token.specs.declared.constant.Suffix.{Suffix}
@@ -62,19 +63,11 @@ integer_is word = integer_by_is (t.base_of word) (drop (t.prefix_length (t.base_
 
 -- ---- characters
 
-pub left_of : (a b : Bool) → (a && b) ≡ true → a ≡ true
-left_of true b h = refl
-left_of false b h = cc
-
-pub right_of : (a b : Bool) → (a && b) ≡ true → b ≡ true
-right_of true b h = h
-right_of false b h = cc
-
 plain_small : (word : Bytes) → t.is_plain_character word ≡ true → nat_le (slice_index word 1) 126 ≡ true
 plain_small word h =
     let c = slice_index word 1 in
-    let inner = right_of (length word == 3) (t.is_between_quotes word && t.is_character_byte c) h in
-    right_of (nat_le 32 c) (nat_le c 126) (left_of (nat_le 32 c && nat_le c 126) _ (right_of (t.is_between_quotes word) (t.is_character_byte c) inner))
+    let inner = (and_parts (length word == 3) (t.is_between_quotes word && t.is_character_byte c) h).1 in
+    (and_parts (nat_le 32 c) (nat_le c 126) (and_parts (nat_le 32 c && nat_le c 126) _ (and_parts (t.is_between_quotes word) (t.is_character_byte c) inner).1).0).1
 
 small_fits : (n : ℕ) → nat_le n 126 ≡ true → nat_le n (2 ^ 31 - 1) ≡ true
 small_fits n h = wider n 126 (2 ^ 31 - 1) (omega arith) h where

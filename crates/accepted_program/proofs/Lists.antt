@@ -9,14 +9,6 @@ module _ {A : Type 0} (Is : A → Type 0) where
   all_both [] ys h k = k
   all_both (x ∷ xs) ys h k = (h.0, all_both xs ys h.1 k)
 
-  pub all_left : (xs ys : List A) → AllByRecursion Is (xs ++ ys) → AllByRecursion Is xs
-  all_left [] ys all = tt
-  all_left (x ∷ xs) ys all = (all.0, all_left xs ys all.1)
-
-  pub all_right : (xs ys : List A) → AllByRecursion Is (xs ++ ys) → AllByRecursion Is ys
-  all_right [] ys all = all
-  all_right (x ∷ xs) ys all = all_right xs ys all.1
-
   pub all_reverse : (xs : List A) → AllByRecursion Is xs → AllByRecursion Is (reverse xs)
   all_reverse [] all = tt
   all_reverse (x ∷ xs) all = subst (AllByRecursion Is) (sym (reverse-append (x ∷ []) xs)) (all_both (reverse xs) (x ∷ []) (all_reverse xs all.1) (all.0, tt))

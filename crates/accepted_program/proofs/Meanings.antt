@@ -4,7 +4,7 @@ use Rattle.std.specs.Prelude.{◌-◌, ◌==◌, ◌&&◌, ◌||◌, not, positi
 use Rattle.std.specs.List.{AllByRecursion}
 use Rattle.std.specs.Str.{bytes_eq}
 use Rattle.std.proofs.Math.Seq.{take-append_seam}
-use Rattle.std.proofs.lemmas.Bool.{or_right}
+use Rattle.std.proofs.lemmas.Bool.{or_right, and_parts}
 use Rattle.c_token.specs.declared.constant.Constant.{Constant}
 use Rattle.c_token.specs.declared.keyword.Keyword.{Keyword}
 use Rattle.c_token.specs.declared.token.Kind.{Kind}
@@ -27,7 +27,7 @@ use Rattle.c_lexer.specs.Meaning.{in_line, at_line_start, directive_word, defini
 use Rattle.resolved_program.specs.Leaves.{IsValidConstant}
 use Rattle.accepted_program.proofs.Trees.{IfAny}
 use Rattle.accepted_program.proofs.Tokens.{IsText, IsValidKind}
-use Rattle.accepted_program.proofs.Constants.{integer_is, character_is, left_of, right_of}
+use Rattle.accepted_program.proofs.Constants.{integer_is, character_is}
 
 -- what a lexeme's bytes are
 abbrev pub IsBetweenQuotes : Bytes → Type 0
@@ -84,10 +84,10 @@ printable_is b h = or_right (b == 9 || b == 10) (is_printable b) h
 body_is : (escaped : Bool) (z : Bytes) → is_text_body escaped z ≡ true → IsText z
 unfolding is_text_body
 body_is escaped [] h = tt
-body_is true (b ∷ z) h = (printable_is b (left_of (is_printable b) (is_text_body false z) h), body_is false z (right_of (is_printable b) (is_text_body false z) h))
+body_is true (b ∷ z) h = (printable_is b (and_parts (is_printable b) (is_text_body false z) h).0, body_is false z (and_parts (is_printable b) (is_text_body false z) h).1)
 body_is false (b ∷ z) h =
-    let more = right_of (not (b == 34)) (is_printable b && is_text_body (b == 92) z) h in
-    (printable_is b (left_of (is_printable b) (is_text_body (b == 92) z) more), body_is (b == 92) z (right_of (is_printable b) (is_text_body (b == 92) z) more))
+    let more = (and_parts (not (b == 34)) (is_printable b && is_text_body (b == 92) z) h).1 in
+    (printable_is b (and_parts (is_printable b) (is_text_body (b == 92) z) more).0, body_is (b == 92) z (and_parts (is_printable b) (is_text_body (b == 92) z) more).1)
 
 within_quotes : (inside : Bytes) → take (length (34 ∷ (inside ++ (34 ∷ []))) - 2) (inside ++ (34 ∷ [])) ≡ inside
 within_quotes inside =

@@ -1,7 +1,8 @@
 -- The two premises of the law of programs that trees spell, for the tree of a text's tokens.
-use Rattle.std.proofs.Common.{◌≡◌, refl, sym, ap, subst, ◌∙◌, ℕ, zero, suc, ◌+◌, ◌<◌, ◌≤◌, List, [], ◌∷◌, length, Option, Some, None, arith}
-use Rattle.std.specs.Prelude.{◌^◌, fold, slice_get, slice_set}
+use Rattle.std.proofs.Common.{◌≡◌, refl, sym, ap, subst, ◌∙◌, ℕ, suc, ◌+◌, ◌<◌, ◌≤◌, List, [], ◌∷◌, length, Option, Some, None, arith}
+use Rattle.std.specs.Prelude.{◌^◌, fold, slice_get}
 use Rattle.std.specs.List.{AllByRecursion}
+use Rattle.std.proofs.lemmas.List.{length-set}
 use Rattle.c_token.specs.declared.token.Token.{Token}
 use Rattle.grammar.specs.Rules.{Placed}
 use Rattle.grammar.specs.Sentences.{plain, SentenceWithin}
@@ -65,13 +66,8 @@ small_behind : (tree : TranslationUnit) (h : IsFewTokens tree) → IsSmall (0 + 
 unfolding behind declarations
 small_behind tree h = h.unit.1 0 (Outcome.Gives tt (before tree.declarations)) (small_at_start tree.declarations)
 
-set_length : {A : Type 0} (list : List A) (k : ℕ) (a : A) → length (slice_set list k a) ≡ length list
-set_length [] k a = refl
-set_length (x ∷ list) zero a = refl
-set_length (x ∷ list) (suc k) a = ap suc (set_length list k a)
-
 given_to_length : (c : Creation) (object : ThreadObject) (o : Option ℕ) (threads : List ThreadObject) → length (y.given_to c object o threads).0 ≡ length threads
-given_to_length c object None threads = set_length threads c.thread (record { length = object.length; routine = Some c.routine })
+given_to_length c object None threads = length-set threads c.thread (record { length = object.length; routine = Some c.routine })
 given_to_length c object (Some routine) threads = refl
 
 given_at_length : (c : Creation) (o : Option ThreadObject) (threads : List ThreadObject) → length (y.given_at c o threads).0 ≡ length threads

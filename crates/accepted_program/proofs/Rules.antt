@@ -2,8 +2,8 @@
 use Rattle.std.proofs.Common.{◌≡◌, sym, subst, ℕ, List, [], ◌∷◌, length, Option, Some, None, ⊎_elim, length-append, arith}
 use Rattle.std.specs.Prelude.{◌+◌}
 use Rattle.std.specs.List.{AllByRecursion}
+use Rattle.lists.proofs.Places.{all_back, all_front}
 use Rattle.grammar.specs.Rules.{Placed, Rule, pure, one, ◌>>=◌, ◌<|>◌, none, nested, many, optional}
-use Rattle.accepted_program.proofs.Lists.{all_left, all_right}
 
 module _ {T : Type 0} (IsValid : T → Type 0) where
   abbrev IsPlaced : Placed T → Type 0
@@ -38,8 +38,8 @@ module _ {T : Type 0} (IsValid : T → Type 0) where
   gives_then {Is = Is} P Q hp hq = record {
     gives = λ at ts v p all.
         let both = subst AreValid p.3 all in
-        let first = hp.gives at p.1 p.0 p.4 (all_left IsPlaced p.1 p.2 both) in
-        let next = (hq (length p.1) p.0 first).gives at p.2 v p.5 (all_right IsPlaced p.1 p.2 both) in
+        let first = hp.gives at p.1 p.0 p.4 (all_front IsPlaced p.1 p.2 both) in
+        let next = (hq (length p.1) p.0 first).gives at p.2 v p.5 (all_back IsPlaced p.1 p.2 both) in
         subst (λ l. Is (length l) v) (sym p.3) (subst (λ n. Is n v) (sym (length-append p.1 p.2)) next);
   }
 
@@ -56,8 +56,8 @@ module _ {T : Type 0} (IsValid : T → Type 0) where
     every at ts [] p all = subst (λ l. All (length l) []) (sym p) empty
     every at ts (v ∷ vs) p all =
         let both = subst AreValid p.2 all in
-        let first = h.gives at p.0 v p.3 (all_left IsPlaced p.0 p.1 both) in
-        let next = every at p.1 vs p.4 (all_right IsPlaced p.0 p.1 both) in
+        let first = h.gives at p.0 v p.3 (all_front IsPlaced p.0 p.1 both) in
+        let next = every at p.1 vs p.4 (all_back IsPlaced p.0 p.1 both) in
         subst (λ l. All (length l) (v ∷ vs)) (sym p.2) (subst (λ n. All n (v ∷ vs)) (sym (length-append p.0 p.1)) (more (length p.0) (length p.1) v vs first next))
 
   -- each of them is so

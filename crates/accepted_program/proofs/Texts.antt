@@ -2,7 +2,7 @@
 use Rattle.std.proofs.Common.{◌≡◌, refl, sym, subst, ℕ, ◌+◌, ◌<◌, ◌≤◌, Bool, true, false, List, [], ◌∷◌, length, Option, Some, None, length-append, arith}
 use Rattle.std.specs.Prelude.{Ok, nat_lt, if◌then◌else◌}
 use Rattle.std.specs.List.{AllByRecursion}
-use Rattle.std.proofs.lemmas.Bool.Decides.{nat_tests}
+use Rattle.std.proofs.lemmas.Bool.{ltb-true}
 use Rattle.c_token.specs.declared.token.Token.{Token}
 use Rattle.c_token.specs.declared.token.Kind.TheVariants.{End}
 use Rattle.c_token.specs.Spelling.{Bytes}
@@ -55,11 +55,8 @@ count_more at (action.Token k) ts = omega arith
 count_more at action.Name ts = omega arith
 count_more at (action.Value n) ts = omega arith
 
-below : (n m : ℕ) → nat_lt n m ≡ true → n < m
-below n m h = grind (arith, nat_tests)
-
 not_passed : (n : ℕ) (b : Bool) (o : Option Passed) (x : Passed) → nat_lt n max_tokens ≡ b → (if b then o else Some x) ≡ None → n < max_tokens
-not_passed n true o x is e = below n max_tokens is
+not_passed n true o x is e = ltb-true n max_tokens is
 not_passed n false o x is e = cc
 
 one_fits : (n : ℕ) (class : Class) (word : Bytes) (a : Action) → n ≤ 16384 → limit_by n class word a ≡ None → length (with_token 0 a []) + n ≤ 16384

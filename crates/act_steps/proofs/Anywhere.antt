@@ -1,9 +1,9 @@
 -- Who waits somewhere, where one barrier changes.
-use Rattle.std.specs.Prelude.{Bool, true, false, ◌||◌, nat_eq, Option, Some, None, slice_get, slice_set, slice_index}
+use Rattle.std.specs.Prelude.{Bool, true, false, ◌||◌, nat_eq, Option, Some, None, slice_get, slice_set}
 use Rattle.std.specs.List.{AllByRecursion, list_any}
-use Rattle.std.proofs.Common.{◌≡◌, ℕ, zero, suc, ◌<◌, ◌≤◌, List, [], ◌∷◌, length, refl, ap, ap₂, sym, ◌∙◌}
+use Rattle.std.proofs.Common.{◌≡◌, ℕ, zero, suc, ◌<◌, List, [], ◌∷◌, refl, ap, ap₂, sym, ◌∙◌}
 use Rattle.std.proofs.lemmas.Bool.{or_parts}
-use Rattle.std.proofs.lemmas.List.{get_or_past}
+use Rattle.std.proofs.Math.Bool.{or-true}
 use Rattle.planned_block.proofs.Bits.{same_is}
 use Rattle.thread_semantics.specs.State.{Frame, Slot, Unused, Running, Finished}
 use Rattle.thread_semantics.specs.Step.{is_running}
@@ -14,15 +14,6 @@ module _ {A : Type 0} (p : A → Bool) where
   any_set_same (x ∷ xs) zero a b e same = let here : x ≡ b = cc in ap (λ (z : Bool). z || list_any p xs) (same ∙ ap p (sym here))
   any_set_same (x ∷ xs) (suc n) a b e same = ap (λ (z : Bool). p x || z) (any_set_same xs n a b e same)
 
-  pub any_at : (xs : List A) (n : ℕ) (b : A) → slice_get xs n ≡ Some b → p b ≡ true → list_any p xs ≡ true
-  any_at [] n b e t = absurd cc
-  any_at (x ∷ xs) zero b e t = let here : x ≡ b = cc in ap (λ (z : Bool). z || list_any p xs) (ap p here ∙ t)
-  any_at (x ∷ xs) (suc n) b e t = ap (λ (z : Bool). p x || z) (any_at xs n b e t) ∙ or_true (p x)
-    where
-      or_true : (z : Bool) → (z || true) ≡ true
-      or_true true = refl
-      or_true false = refl
-
   pub none_any : (xs : List A) → ((m : ℕ) (b : A) → slice_get xs m ≡ Some b → p b ≡ false) → list_any p xs ≡ false
   none_any [] each = refl
   none_any (x ∷ xs) each = ap₂ (λ (a b : Bool). a || b) (each 0 x refl) (none_any xs (λ m b e. each (suc m) b e))
@@ -30,11 +21,7 @@ module _ {A : Type 0} (p : A → Bool) where
 pub all_below : (T : ℕ) (ws : List ℕ) → ((w : ℕ) → list_any (nat_eq w) ws ≡ true → w < T) → AllByRecursion (λ w. w < T) ws
 all_below T [] each = tt
 all_below T (w ∷ ws) each =
-    (each w (ap (λ (z : Bool). z || list_any (nat_eq w) ws) (same_is w w refl)), all_below T ws (λ v e. each v (ap (λ (z : Bool). nat_eq v w || z) e ∙ or_true (nat_eq v w))))
-  where
-    or_true : (z : Bool) → (z || true) ≡ true
-    or_true true = refl
-    or_true false = refl
+    (each w (ap (λ (z : Bool). z || list_any (nat_eq w) ws) (same_is w w refl)), all_below T ws (λ v e. each v (ap (λ (z : Bool). nat_eq v w || z) e ∙ or-true (nat_eq v w))))
 
 pub none_same : (w : ℕ) (ws : List ℕ) → list_any (nat_eq w) ws ≡ false → AllByRecursion (λ x. nat_eq w x ≡ false) ws
 none_same w [] e = tt
@@ -45,6 +32,3 @@ live_frames None e = absurd cc
 live_frames (Some Unused) e = absurd cc
 live_frames (Some (Running frames)) e = (frames, refl)
 live_frames (Some Finished) e = absurd cc
-
-pub past_zero : (xs : List ℕ) (i : ℕ) → length xs ≤ i → slice_index xs i ≡ 0
-past_zero xs i le = get_or_past xs i 0 le

@@ -4,6 +4,7 @@ use Rattle.std.proofs.Common.{◌≡◌, ◌≢◌, ℕ, ◌<◌, List, [], ◌�
 use Rattle.std.proofs.lemmas.Bool.{and_parts, ltb-true}
 use Rattle.std.proofs.lemmas.List.{length-replicate}
 use Rattle.std.proofs.lemmas.Option.{slice_get_within}
+use Rattle.lists.proofs.Places.{zeros_at}
 use Rattle.hls_ints.specs.Residues.{residue_of}
 use Rattle.c_program.specs.Tree.{Program}
 use Rattle.c_program.specs.Resolved.{IsResolved}
@@ -23,7 +24,6 @@ use Rattle.code_following.specs.Following.{print_formats, SameAct}
 use Rattle.core_states.specs.Machines.{Gate, gate_eligible}
 use Rattle.thread_cores.specs.Cores.{Core, OfBarrier, may_grant, granted}
 use Rattle.thread_cores.specs.Stands.{GateStands}
-use Rattle.core_states.proofs.Elements.{index-zeros}
 use Rattle.block_refine.specs.Routines.{Codes, Starts}
 use Rattle.block_refine.specs.RoutineActs.{IsStepOf}
 use Rattle.act_steps.specs.Requests.{AreNumbers, StandsAtAct, Serves, OwnAfter}
@@ -66,7 +66,7 @@ module _ (a : CodeAct) (m : ActOperand) (operation : ℕ) (ws : List ℕ) (P : P
           others = λ j ne.
               same_other P codes N T R numbers s i c at.reached at.cores step_of.calls step_of.frames step_of.runs n operation ws old new here gate becomes gates j ne
               (now j ∙ sym (was j))
-              (ap (λ (x : ℕ). nat_lt 0 x) (index-zeros T j)
+              (ap (λ (x : ℕ). nat_lt 0 x) (zeros_at T j)
               ∙ sym (no_bit P codes N T R numbers s i c at.reached at.cores step_of.calls step_of.frames step_of.runs n operation ws old new here gate becomes gates j (was j)));
         };
         waits = λ no.
@@ -109,7 +109,7 @@ barrier_inits_are_steps m o P codes N T R numbers acts s i f l next variables ar
         GateStands T (record { count = residue_of 64 (act_value variables o); waiting = replicate T 0 }) (Awaits v [])
     gates v word counts = record {
       sized = length-replicate T 0;
-      bits = λ j lt. index-zeros T j;
+      bits = λ j lt. zeros_at T j;
       count = λ k ws e. let same : v ≡ k = cc in ap pos word ∙ count_word v counts ∙ same;
     }
 
@@ -157,7 +157,7 @@ barrier_destroys_are_steps m P codes N T R numbers acts s i f l next variables a
     gates : GateStands T (record { count = 0; waiting = replicate T 0 }) NoBarrier
     gates = record {
       sized = length-replicate T 0;
-      bits = λ j lt. index-zeros T j;
+      bits = λ j lt. zeros_at T j;
       count = λ k ws e. absurd cc;
     }
 

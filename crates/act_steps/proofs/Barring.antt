@@ -2,17 +2,20 @@
 use Rattle.std.specs.Prelude.{Bool, true, false, nat_lt, Some, slice_get, slice_set}
 use Rattle.std.proofs.Common.{◌≡◌, ◌≢◌, ℕ, ◌<◌, List, refl, sym, ap, ◌∙◌, subst, ⊎_elim, arith}
 use Rattle.std.proofs.lemmas.Option.{slice_get_within}
+use Rattle.std.proofs.lemmas.List.{get_or_past, length-set}
+use Rattle.std.proofs.lemmas.Map.Keys.{any_passes_from_place}
+use Rattle.std.proofs.lemmas.Bool.{cases_eq}
+use Rattle.lists.proofs.Places.{get_there, set_there, set_elsewhere}
 use Rattle.hls_ints.specs.Residues.{bit_of}
 use Rattle.c_program.specs.Tree.{Program}
 use Rattle.c_program.specs.Resolved.{IsResolved}
 use Rattle.thread_semantics.specs.State.{Frame, Running, State, Barrier}
 use Rattle.thread_semantics.specs.Step.{is_waiter}
-use Rattle.interleaving.proofs.Update.{same_or_not}
 use Rattle.interleaving.specs.Interleaving.{Reachable}
 use Rattle.planned_block.proofs.Bits.{less_or_not}
 use Rattle.race_model.specs.Source.{Local, local_of, running, c_source}
 use Rattle.race_model.specs.Orderly.{waits_in, waits_at}
-use Rattle.race_model.proofs.Lists.{get-set_other, get-set_same, get-set_cases, length_set, get_below}
+use Rattle.race_model.proofs.Lists.{get-set_cases}
 use Rattle.race_model.proofs.Orderly.{orderly}
 use Rattle.code_following.specs.Following.{print_formats}
 use Rattle.block_ir.specs.Asked.{Asked, Barriers, Numbers, mutex_core, barrier_core, ids_core, printer_core}
@@ -22,7 +25,7 @@ use Rattle.thread_cores.specs.Stands.{GateStands, BarrierStands, StandsFor}
 use Rattle.block_refine.specs.Routines.{Codes}
 use Rattle.act_steps.specs.Requests.{AreNumbers, Other, Same, Released, HearsSame, cores_after}
 use Rattle.act_steps.proofs.Common.{status_kept, other_core, same_core}
-use Rattle.act_steps.proofs.Anywhere.{any_set_same, any_at, none_any, live_frames, past_zero}
+use Rattle.act_steps.proofs.Anywhere.{any_set_same, none_any, live_frames}
 
 abbrev pub asks_barrier : ℕ → ℕ → List ℕ → Asked
 asks_barrier n operation ws = record { service = Barriers; core = n; number = operation; values = ws }
@@ -77,11 +80,11 @@ module _ (P : Program) (codes : Codes) (N : Numbers) (T : ℕ) (R : IsResolved P
         };
     output = others_stay (printer_core N) (λ e. absurd (let lt = below in omega arith)) ∙ stands.output;
     mutex_count = stands.mutex_count;
-    barrier_count = length_set s.barriers n new ∙ stands.barrier_count;
+    barrier_count = length-set s.barriers n new ∙ stands.barrier_count;
   }
 
   pub own_slot : slice_get t.slots i ≡ Some (Running frames)
-  own_slot = get-set_same s.slots i (Running frames) (Running calls) slot
+  own_slot = set_there s.slots i (Running calls) (Running frames) slot
 
   -- what thread j hears where the gate says of it what it said
   hears : (j : ℕ) → core_waits (OfBarrier gate) j ≡ core_waits (OfBarrier before.gate) j → HearsSame N c after j
@@ -94,7 +97,7 @@ module _ (P : Program) (codes : Codes) (N : Numbers) (T : ℕ) (R : IsResolved P
         subst (λ z. core_waits (after (barrier_core N z)) j ≡ core_waits (c (barrier_core N z)) j) (sym e)
         (ap (λ (z : Core). core_waits z j) here_after ∙ same ∙ sym (ap (λ (z : Core). core_waits z j) before.is)))
         (λ ne. ap (λ (z : Core). core_waits z j) (others_stay (barrier_core N m) (λ e. ne (omega arith))))
-        (same_or_not m n);
+        (cases_eq m n);
   }
 
   -- a thread that waits there neither before nor after, or both
@@ -102,7 +105,7 @@ module _ (P : Program) (codes : Codes) (N : Numbers) (T : ℕ) (R : IsResolved P
   same_other j ne waits bit =
       Same
       (λ d. record {
-        slot = get-set_other s.slots i j (Running frames) (λ e. ne (sym e)) d;
+        slot = set_elsewhere s.slots i j (Running frames) (λ e. ne (sym e)) d;
         waits = any_set_same (is_waiter j) s.barriers n new old here waits d;
       })
       (hears j bit)
@@ -111,9 +114,9 @@ module _ (P : Program) (codes : Codes) (N : Numbers) (T : ℕ) (R : IsResolved P
   pub released : (j : ℕ) → j ≢ i → is_waiter j old ≡ true → is_waiter j new ≡ false → core_waits (OfBarrier gate) j ≡ false → Other P N c after s t j
   released j ne was now bit =
       Released live.0
-      (λ d. record { slot = live.1 d; waits = any_at (is_waiter j) s.barriers n old here was d })
+      (λ d. record { slot = live.1 d; waits = any_passes_from_place (is_waiter j) s.barriers n old here was d })
       (λ d. record {
-        slot = (get-set_other s.slots i j (Running frames) (λ e. ne (sym e)) ∙ live.1) d;
+        slot = (set_elsewhere s.slots i j (Running frames) (λ e. ne (sym e)) ∙ live.1) d;
         waits = none_any (is_waiter j) (slice_set s.barriers n new) none d;
       })
       bits
@@ -140,7 +143,7 @@ module _ (P : Program) (codes : Codes) (N : Numbers) (T : ℕ) (R : IsResolved P
 
       elsewhere : (m : ℕ) → m < N.barriers → n ≢ m → core_waits (c (barrier_core N m)) j ≡ false
       elsewhere m lt other =
-          let b = get_below s.barriers m (let e = stands.barrier_count in omega arith) in
+          let b = get_there s.barriers m (let e = stands.barrier_count in omega arith) in
           let z = stands.barriers m b.0 b.1 in
           ap (λ (x : Core). core_waits x j) z.is
           ∙ ap (λ (x : ℕ). nat_lt 0 x) (z.stands.bits j lives_below ∙ ap bit_of (only m b.0 b.1 other (is_waiter j b.0) refl))
@@ -150,7 +153,7 @@ module _ (P : Program) (codes : Codes) (N : Numbers) (T : ℕ) (R : IsResolved P
           ⊎_elim
           (λ e. subst (λ z. core_waits (after (barrier_core N z)) j ≡ false) e (ap (λ (z : Core). core_waits z j) here_after ∙ bit))
           (λ other. ap (λ (z : Core). core_waits z j) (others_stay (barrier_core N m) (λ e. other (omega arith))) ∙ elsewhere m lt other)
-          (same_or_not n m)
+          (cases_eq n m)
 
   -- who is no waiter has no bit
   pub no_bit : (j : ℕ) → is_waiter j old ≡ false → core_waits (OfBarrier before.gate) j ≡ false
@@ -158,5 +161,5 @@ module _ (P : Program) (codes : Codes) (N : Numbers) (T : ℕ) (R : IsResolved P
       ap (λ (x : ℕ). nat_lt 0 x)
       (⊎_elim
       (λ lt. before.stands.bits j lt ∙ ap bit_of none)
-      (λ le. past_zero before.gate.waiting j (let e = before.stands.sized in omega arith))
+      (λ le. get_or_past before.gate.waiting j 0 (let e = before.stands.sized in omega arith))
       (less_or_not j T))

@@ -3,6 +3,9 @@ use Rattle.std.specs.Prelude.{Bool, true, false, not, nat_eq, if◌then◌else�
 use Rattle.std.specs.List.{list_any}
 use Rattle.std.proofs.Common.{◌≡◌, ◌≢◌, ℕ, ◌<◌, List, [], ◌∷◌, length, refl, sym, ap, ◌∙◌, subst, ⊎_elim, arith}
 use Rattle.std.proofs.lemmas.Option.{slice_get_within}
+use Rattle.std.proofs.lemmas.List.{get_or-set_other, get_or-set_same, length-set}
+use Rattle.std.proofs.lemmas.Bool.{cases_eq}
+use Rattle.lists.proofs.Places.{set_there, set_elsewhere}
 use Rattle.hls_ints.specs.Residues.{residue_of}
 use Rattle.c_program.specs.Tree.{Program}
 use Rattle.c_program.specs.Resolved.{IsResolved}
@@ -12,12 +15,11 @@ use Rattle.thread_semantics.specs.Work.{Act}
 use Rattle.thread_semantics.specs.Step.{Steps, Undefines, with_slot, created, acted, object_operand, value_operand, is_waiter, is_running, is_live, step}
 use Rattle.interleaving.specs.Memory.{Memory}
 use Rattle.interleaving.specs.Threaded.{IsSynchronizing}
-use Rattle.interleaving.proofs.Update.{same_or_not}
 use Rattle.block_ir.specs.declared.code.Act.TheVariants as act
 use Rattle.block_ir.specs.declared.code.ActOperand.{ActOperand}
 use Rattle.planned_block.proofs.Bits.{less_is}
 use Rattle.race_model.specs.Source.{Local, local_of, running, outcome_of}
-use Rattle.race_model.proofs.Lists.{get-set_other, get-set_same, get-set_cases, length_set}
+use Rattle.race_model.proofs.Lists.{get-set_cases}
 use Rattle.race_model.proofs.Sound.{reachable_sound, runs_on}
 use Rattle.race_model.proofs.Orderly.{orderly}
 use Rattle.code_following.specs.Following.{AreValues, print_formats, SameAct, RunsRoutine}
@@ -25,7 +27,6 @@ use Rattle.block_ir.specs.Asked.{act_value, Asked, Ids, Numbers, mutex_core, bar
 use Rattle.core_states.specs.Machines.{ids_after}
 use Rattle.thread_cores.specs.Cores.{Core, OfIds, may_grant, status_in, argument_in, waits_in}
 use Rattle.thread_cores.specs.Stands.{status_of, StandsFor, IdsStand}
-use Rattle.core_states.proofs.Elements.{index-set_same, index-set_other}
 use Rattle.c_program.specs.Weight.{hardware_routines}
 use Rattle.block_refine.specs.Routines.{Codes, Starts}
 use Rattle.block_refine.specs.RoutineActs.{IsStepOf}
@@ -78,12 +79,12 @@ module _ (P : Program) (codes : Codes) (N : Numbers) (T : ℕ) (R : IsResolved P
     t = with_slot (with_slot s i (Running step_of.frames)) n (Running (started (slice_get P.functions routine) routine (v ∷ [])))
 
     apart : i ≢ n
-    apart e = let own = get-set_same s.slots i (Running step_of.frames) (Running step_of.calls) slot in
+    apart e = let own = set_there s.slots i (Running step_of.calls) (Running step_of.frames) slot in
         let there : slice_get slots i ≡ Some Unused = subst (λ k. slice_get slots k ≡ Some Unused) (sym e) now in
         cc
 
     was : slice_get s.slots n ≡ Some Unused
-    was = sym (get-set_other s.slots i n (Running step_of.frames) apart) ∙ now
+    was = sym (set_elsewhere s.slots i n (Running step_of.frames) apart) ∙ now
 
     below : n < T
     below = let lt = slice_get_within s.slots n Unused was in let e = length_now in omega arith
@@ -92,7 +93,7 @@ module _ (P : Program) (codes : Codes) (N : Numbers) (T : ℕ) (R : IsResolved P
     positive =
         ⊎_elim (λ z. absurd (let no : is_live s 0 ≡ false = ap (λ k. is_live s k) (sym z) ∙ ap is_running was in let yes = main_lives in cc))
         (λ ne. omega arith)
-        (same_or_not n 0)
+        (cases_eq n 0)
 
     has_ids : N.ids ≡ true
     has_ids = numbers.ids ∙ less_is 1 T (let p = positive in let b = below in omega arith)
@@ -117,10 +118,10 @@ module _ (P : Program) (codes : Codes) (N : Numbers) (T : ℕ) (R : IsResolved P
         ⊎_elim
         (λ same.
         subst (λ k. slice_index (slice_set table.ids.statuses n 1) k ≡ status_of x) same.0
-        (index-set_same table.ids.statuses n 1 (let z = table.statuses in let b = below in omega arith) ∙ ap status_of same.1))
+        (get_or-set_same table.ids.statuses n 1 0 (let z = table.statuses in let b = below in omega arith) ∙ ap status_of same.1))
         (λ other.
         let y = status_kept s.slots i j step_of.calls step_of.frames x slot other.1 in
-        index-set_other table.ids.statuses n j 1 (λ q. other.0 (sym q)) ∙ table.each j y.0 lt y.1 ∙ y.2)
+        get_or-set_other table.ids.statuses n j 1 0 (λ q. other.0 (sym q)) ∙ table.each j y.0 lt y.1 ∙ y.2)
         (get-set_cases slots n j (Running (started (slice_get P.functions routine) routine (v ∷ []))) x e)
 
     created_stands : StandsFor N T after t
@@ -137,9 +138,9 @@ module _ (P : Program) (codes : Codes) (N : Numbers) (T : ℕ) (R : IsResolved P
       ids = λ _. record {
         ids = ids_after table.ids i 0 n w;
         is = here;
-        statuses = length_set table.ids.statuses n 1 ∙ table.statuses;
-        arguments = length_set table.ids.arguments n w ∙ table.arguments;
-        main = index-set_other table.ids.statuses n 0 1 (λ q. absurd (let p = positive in omega arith)) ∙ table.main;
+        statuses = length-set table.ids.statuses n 1 ∙ table.statuses;
+        arguments = length-set table.ids.arguments n w ∙ table.arguments;
+        main = get_or-set_other table.ids.statuses n 0 1 0 (λ q. absurd (let p = positive in omega arith)) ∙ table.main;
         each = each;
       };
       output = others_stay (printer_core N) (λ q. absurd (let one : ◌≡◌ {A = ℕ} (if N.ids then 1 else 0) 1 = ap (λ (b : Bool). if b then 1 else 0) has_ids in omega arith))
@@ -150,8 +151,8 @@ module _ (P : Program) (codes : Codes) (N : Numbers) (T : ℕ) (R : IsResolved P
 
     own : local_of t i ≡ running step_of.frames
     own = λ d. record {
-      slot = (get-set_other slots n i (Running (started (slice_get P.functions routine) routine (v ∷ []))) (λ e. apart (sym e))
-          ∙ get-set_same s.slots i (Running step_of.frames) (Running step_of.calls) slot) d;
+      slot = (set_elsewhere slots n i (Running (started (slice_get P.functions routine) routine (v ∷ []))) (λ e. apart (sym e))
+          ∙ set_there s.slots i (Running step_of.calls) (Running step_of.frames) slot) d;
       waits = ap (λ (x : Local). x.waits) step_of.runs d;
     }
 
@@ -168,24 +169,24 @@ module _ (P : Program) (codes : Codes) (N : Numbers) (T : ℕ) (R : IsResolved P
     begins =
         Begun positive was routine v runs
         (λ d. record {
-          slot = get-set_same slots n (Running (started (slice_get P.functions routine) routine (v ∷ []))) Unused now d;
+          slot = set_there slots n Unused (Running (started (slice_get P.functions routine) routine (v ∷ []))) now d;
           waits = free (list_any (is_waiter n) s.barriers) refl d;
         })
-        (ap (λ (z : Core). status_in z n) here ∙ index-set_same table.ids.statuses n 1 (let z = table.statuses in let b = below in omega arith))
-        (ap (λ (z : Core). argument_in z n) here ∙ index-set_same table.ids.arguments n w (let z = table.arguments in let b = below in omega arith) ∙ argued)
+        (ap (λ (z : Core). status_in z n) here ∙ get_or-set_same table.ids.statuses n 1 0 (let z = table.statuses in let b = below in omega arith))
+        (ap (λ (z : Core). argument_in z n) here ∙ get_or-set_same table.ids.arguments n w 0 (let z = table.arguments in let b = below in omega arith) ∙ argued)
 
     stays : (j : ℕ) → j ≢ i → n ≢ j → Other P N c after s t j
     stays j ne other =
         Same
         (λ d. record {
           slot =
-              (get-set_other slots n j (Running (started (slice_get P.functions routine) routine (v ∷ []))) other
-              ∙ get-set_other s.slots i j (Running step_of.frames) (λ e. ne (sym e))) d;
+              (set_elsewhere slots n j (Running (started (slice_get P.functions routine) routine (v ∷ []))) other
+              ∙ set_elsewhere s.slots i j (Running step_of.frames) (λ e. ne (sym e))) d;
           waits = list_any (is_waiter j) s.barriers;
         })
         (record {
-          status = ap (λ (z : Core). status_in z j) here ∙ index-set_other table.ids.statuses n j 1 (λ q. other (sym q)) ∙ sym (ap (λ (z : Core). status_in z j) table.is);
-          argument = ap (λ (z : Core). argument_in z j) here ∙ index-set_other table.ids.arguments n j w (λ q. other (sym q)) ∙ sym (ap (λ (z : Core). argument_in z j) table.is);
+          status = ap (λ (z : Core). status_in z j) here ∙ get_or-set_other table.ids.statuses n j 1 0 (λ q. other (sym q)) ∙ sym (ap (λ (z : Core). status_in z j) table.is);
+          argument = ap (λ (z : Core). argument_in z j) here ∙ get_or-set_other table.ids.arguments n j w 0 (λ q. other (sym q)) ∙ sym (ap (λ (z : Core). argument_in z j) table.is);
           bits = λ m lt. ap (λ (z : Core). waits_in z j) (others_stay (barrier_core N m) (λ e. absurd (omega arith)));
         })
 
@@ -208,7 +209,7 @@ module _ (P : Program) (codes : Codes) (N : Numbers) (T : ℕ) (R : IsResolved P
             ⊎_elim
             (λ same. subst (λ k. Other P N c after s t k) same begins)
             (λ other. stays j ne other)
-            (same_or_not n j);
+            (cases_eq n j);
       };
       waits = λ no. absurd (let yes = may false no in cc);
     }

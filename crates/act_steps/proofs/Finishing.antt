@@ -2,7 +2,9 @@
 use Rattle.std.specs.Prelude.{Bool, true, if◌then◌else◌, ℤ, Option, Some, None, slice_get, slice_set, slice_index}
 use Rattle.std.specs.List.{list_any}
 use Rattle.std.proofs.Common.{◌≡◌, ◌≢◌, ℕ, zero, suc, ◌<◌, List, [], refl, sym, ap, ◌∙◌, subst, ⊎_elim, arith}
-use Rattle.std.proofs.lemmas.Option.{slice_get_within}
+use Rattle.std.proofs.lemmas.Option.{slice_get_within, none-some, same_Some}
+use Rattle.std.proofs.lemmas.List.{get_or-set_other, get_or-set_same, length-set}
+use Rattle.lists.proofs.Places.{set_there, set_elsewhere}
 use Rattle.c_program.specs.Tree.{Program}
 use Rattle.c_program.specs.Resolved.{IsResolved}
 use Rattle.thread_semantics.specs.State.{Frame, Slot, Running, Finished, State}
@@ -17,14 +19,13 @@ use Rattle.block_ir.specs.declared.code.Stage.TheVariants as stage
 use Rattle.planned_block.proofs.Bits.{less_is, other_is}
 use Rattle.planned_hardware.specs.Following.{Follows}
 use Rattle.race_model.specs.Source.{Local, local_of, running, outcome_of, c_source}
-use Rattle.race_model.proofs.Lists.{get-set_other, get-set_same, get-set_cases, length_set}
+use Rattle.race_model.proofs.Lists.{get-set_cases}
 use Rattle.race_model.proofs.Orderly.{orderly}
 use Rattle.code_following.specs.Following.{print_formats}
 use Rattle.block_ir.specs.Asked.{Asked, Ids, asked, Numbers, mutex_core, barrier_core, ids_core, printer_core}
 use Rattle.core_states.specs.Machines.{ids_after}
 use Rattle.thread_cores.specs.Cores.{Core, OfIds, may_grant, status_in, argument_in, waits_in}
 use Rattle.thread_cores.specs.Stands.{status_of, StandsFor, IdsStand}
-use Rattle.core_states.proofs.Elements.{index-set_same, index-set_other}
 use Rattle.block_refine.specs.Routines.{Codes, stage_at, blocks_of, plans_of, AtStageOf, AtAct, Starts}
 use Rattle.block_refine.specs.Threads.{plan_at, IsTyped}
 use Rattle.act_steps.specs.Requests.{AreNumbers, StandsAtAct, Serves, Other, Same, cores_after}
@@ -34,12 +35,6 @@ use Rattle.act_steps.proofs.Common.{other_core, same_core}
 
 abbrev asks_finish : Asked
 asks_finish = record { service = Ids; core = 0; number = 2; values = [] }
-
-same_asked : (a b : Asked) → Some a ≡ Some b → a ≡ b
-same_asked a b e = cc
-
-none_asked : (a : Asked) → None ≡ Some a → ⊥
-none_asked a e = cc
 
 -- a thread at an act runs and waits nowhere
 pub runs_at_act : (P : Program) (codes : Codes) (x : Local) (f l next : ℕ) (variables : ℕ → ℤ) (arrays : Memory ℤ) (a : CodeAct) → Starts P codes x f l variables arrays →
@@ -85,13 +80,13 @@ module _ (P : Program) (codes : Codes) (N : Numbers) (T : ℕ) (R : IsResolved P
   here = same_core T (print_formats P) (ids_core N) i asks_finish c (OfIds table.ids) table.is
 
   own_two : slice_index (slice_set table.ids.statuses i 2) i ≡ 2
-  own_two = index-set_same table.ids.statuses i 2 (let z = table.statuses in let b = below in omega arith)
+  own_two = get_or-set_same table.ids.statuses i 2 0 (let z = table.statuses in let b = below in omega arith)
 
   each : (j : ℕ) (x : Slot) → 0 < j → slice_get t.slots j ≡ Some x → slice_index (slice_set table.ids.statuses i 2) j ≡ status_of x
   each j x lt e =
       ⊎_elim
       (λ same. subst (λ k. slice_index (slice_set table.ids.statuses i 2) k ≡ status_of x) same.0 (own_two ∙ ap status_of same.1))
-      (λ other. index-set_other table.ids.statuses i j 2 (λ q. other.0 (sym q)) ∙ table.each j x lt other.1)
+      (λ other. get_or-set_other table.ids.statuses i j 2 0 (λ q. other.0 (sym q)) ∙ table.each j x lt other.1)
       (get-set_cases s.slots i j Finished x e)
 
   stands : StandsFor N T after t
@@ -108,9 +103,9 @@ module _ (P : Program) (codes : Codes) (N : Numbers) (T : ℕ) (R : IsResolved P
     ids = λ _. record {
       ids = ids_after table.ids i 2 0 0;
       is = here;
-      statuses = length_set table.ids.statuses i 2 ∙ table.statuses;
+      statuses = length-set table.ids.statuses i 2 ∙ table.statuses;
       arguments = table.arguments;
-      main = index-set_other table.ids.statuses i 0 2 (λ q. absurd (omega arith)) ∙ table.main;
+      main = get_or-set_other table.ids.statuses i 0 2 0 (λ q. absurd (omega arith)) ∙ table.main;
       each = each;
     };
     output = others_stay (printer_core N) (λ q. absurd (let one : ◌≡◌ {A = ℕ} (if N.ids then 1 else 0) 1 = ap (λ (b : Bool). if b then 1 else 0) has_ids in omega arith))
@@ -122,9 +117,9 @@ module _ (P : Program) (codes : Codes) (N : Numbers) (T : ℕ) (R : IsResolved P
   stays : (j : ℕ) → j ≢ i → Other P N c after s t j
   stays j ne =
       Same
-      (λ d. record { slot = get-set_other s.slots i j Finished (λ e. ne (sym e)) d; waits = list_any (is_waiter j) s.barriers })
+      (λ d. record { slot = set_elsewhere s.slots i j Finished (λ e. ne (sym e)) d; waits = list_any (is_waiter j) s.barriers })
       (record {
-        status = ap (λ (z : Core). status_in z j) here ∙ index-set_other table.ids.statuses i j 2 ne ∙ sym (ap (λ (z : Core). status_in z j) table.is);
+        status = ap (λ (z : Core). status_in z j) here ∙ get_or-set_other table.ids.statuses i j 2 0 ne ∙ sym (ap (λ (z : Core). status_in z j) table.is);
         argument = ap (λ (z : Core). argument_in z j) here ∙ sym (ap (λ (z : Core). argument_in z j) table.is);
         bits = λ m lt. ap (λ (z : Core). waits_in z j) (others_stay (barrier_core N m) (λ e. absurd (omega arith)));
       })
@@ -141,7 +136,7 @@ module _ (P : Program) (codes : Codes) (N : Numbers) (T : ℕ) (R : IsResolved P
       view = subst IsSynchronizing (sym ends.2) tt;
       steps = ap outcome_of ends.3;
       stands = stands;
-      own = (ap is_running (get-set_same s.slots i Finished (Running calls.0) slot), λ e. absurd (let z = two_now in omega arith));
+      own = (ap is_running (set_there s.slots i (Running calls.0) Finished slot), λ e. absurd (let z = two_now in omega arith));
       others = stays;
     };
     waits = λ no. absurd (let z = sym (ap (λ (z : Core). may_grant z i asks_finish) table.is) ∙ no in cc);
@@ -150,9 +145,9 @@ module _ (P : Program) (codes : Codes) (N : Numbers) (T : ℕ) (R : IsResolved P
   serves_finish : Serves P codes N T s i f next variables arrays act.Return ask c
   serves_finish =
       let same : asks_finish ≡ ask =
-      same_asked asks_finish ask (ap (λ (b : Bool). asked b act.Return variables) (sym (other_is (suc p) 0 (λ e. absurd (omega arith)))) ∙ at.asks) in
+      same_Some asks_finish ask (ap (λ (b : Bool). asked b act.Return variables) (sym (other_is (suc p) 0 (λ e. absurd (omega arith)))) ∙ at.asks) in
       subst (λ z. Serves P codes N T s i f next variables arrays act.Return z c) same serves_here
 
 pub finishes_are_steps : RequestIsStep act.Return
-finishes_are_steps P codes N T R numbers acts s zero f l next variables arrays ask c at = absurd (none_asked ask at.asks)
+finishes_are_steps P codes N T R numbers acts s zero f l next variables arrays ask c at = absurd (none-some ask at.asks)
 finishes_are_steps P codes N T R numbers acts s (suc p) f l next variables arrays ask c at = serves_finish P codes N T R numbers s p f l next variables arrays c ask at

@@ -2,8 +2,10 @@
 use Rattle.std.specs.Prelude.{Bool, true, false, nat_eq, if◌then◌else◌, ℤ, Option, Some, None, slice_get, slice_set, slice_index, ◌^◌}
 use Rattle.std.specs.List.{list_any}
 use Rattle.std.proofs.Common.{◌≡◌, ◌≢◌, ℕ, ◌<◌, List, [], ◌∷◌, refl, sym, ap, ◌∙◌, subst, ⊎_elim, arith}
-use Rattle.std.proofs.lemmas.Bool.{eqb-false}
+use Rattle.std.proofs.lemmas.Bool.{eqb-false, cases_eq}
 use Rattle.std.proofs.lemmas.Option.{slice_get_within}
+use Rattle.std.proofs.lemmas.List.{get_or-set_other, get_or-set_same, length-set}
+use Rattle.lists.proofs.Places.{set_there, set_elsewhere}
 use Rattle.hls_ints.specs.Residues.{residue_of}
 use Rattle.c_program.specs.Tree.{Program}
 use Rattle.c_program.specs.Resolved.{IsResolved}
@@ -14,12 +16,11 @@ use Rattle.thread_semantics.specs.Work.{Act}
 use Rattle.thread_semantics.specs.Step.{Steps, Blocks, Undefines, with_slot, joined, acted, is_waiter, is_running, is_live, step}
 use Rattle.interleaving.specs.Memory.{Memory}
 use Rattle.interleaving.specs.Threaded.{IsSynchronizing}
-use Rattle.interleaving.proofs.Update.{same_or_not}
 use Rattle.block_ir.specs.declared.code.Act.TheVariants as act
 use Rattle.block_ir.specs.declared.code.ActOperand.{ActOperand}
 use Rattle.planned_block.proofs.Bits.{less_is}
 use Rattle.race_model.specs.Source.{Local, local_of, running, outcome_of}
-use Rattle.race_model.proofs.Lists.{get-set_other, get-set_same, get-set_cases, length_set}
+use Rattle.race_model.proofs.Lists.{get-set_cases}
 use Rattle.race_model.proofs.Sound.{reachable_sound, runs_on}
 use Rattle.race_model.proofs.Orderly.{orderly}
 use Rattle.block_ir.specs.Asked.{act_value, Asked, Ids, Numbers, mutex_core, barrier_core, ids_core, printer_core}
@@ -27,7 +28,6 @@ use Rattle.code_following.specs.Following.{print_formats, SameAct}
 use Rattle.core_states.specs.Machines.{ids_after}
 use Rattle.thread_cores.specs.Cores.{Core, OfIds, may_grant, status_in, argument_in, waits_in}
 use Rattle.thread_cores.specs.Stands.{status_of, StandsFor, IdsStand}
-use Rattle.core_states.proofs.Elements.{index-set_same, index-set_other}
 use Rattle.block_refine.specs.Routines.{Codes, Starts}
 use Rattle.block_refine.specs.RoutineActs.{IsStepOf}
 use Rattle.act_steps.specs.Requests.{AreNumbers, StandsAtAct, Serves, Other, Same, Joined, cores_after}
@@ -68,12 +68,12 @@ module _ (P : Program) (codes : Codes) (N : Numbers) (T : ℕ) (R : IsResolved P
 
     apart : i ≢ n
     apart e =
-        let own = get-set_same s.slots i (Running step_of.frames) (Running step_of.calls) slot in
+        let own = set_there s.slots i (Running step_of.calls) (Running step_of.frames) slot in
         let there : slice_get slots i ≡ Some Finished = subst (λ k. slice_get slots k ≡ Some Finished) (sym e) now in
         cc
 
     was : slice_get s.slots n ≡ Some Finished
-    was = sym (get-set_other s.slots i n (Running step_of.frames) apart) ∙ now
+    was = sym (set_elsewhere s.slots i n (Running step_of.frames) apart) ∙ now
 
     below : n < T
     below = slot_below n Finished was
@@ -86,7 +86,7 @@ module _ (P : Program) (codes : Codes) (N : Numbers) (T : ℕ) (R : IsResolved P
         let lives = (orderly P R s at.reached).main (runs_on P R s i step_of.calls (reachable_sound P R s at.reached) slot) in
         cc))
         (λ ne. omega arith)
-        (same_or_not n 0)
+        (cases_eq n 0)
 
     abbrev after : ℕ → Core
     after = cores_after P codes N T (ids_core N) i (asks_join n) c
@@ -102,10 +102,10 @@ module _ (P : Program) (codes : Codes) (N : Numbers) (T : ℕ) (R : IsResolved P
         ⊎_elim
         (λ same.
         subst (λ k. slice_index (slice_set table.ids.statuses n 0) k ≡ status_of x) same.0
-        (index-set_same table.ids.statuses n 0 (let z = table.statuses in let b = below in omega arith) ∙ ap status_of same.1))
+        (get_or-set_same table.ids.statuses n 0 0 (let z = table.statuses in let b = below in omega arith) ∙ ap status_of same.1))
         (λ other.
         let y = status_kept s.slots i j step_of.calls step_of.frames x slot other.1 in
-        index-set_other table.ids.statuses n j 0 (λ q. other.0 (sym q)) ∙ table.each j y.0 lt y.1 ∙ y.2)
+        get_or-set_other table.ids.statuses n j 0 0 (λ q. other.0 (sym q)) ∙ table.each j y.0 lt y.1 ∙ y.2)
         (get-set_cases slots n j Unused x e)
 
     stands : StandsFor N T after t
@@ -122,9 +122,9 @@ module _ (P : Program) (codes : Codes) (N : Numbers) (T : ℕ) (R : IsResolved P
       ids = λ _. record {
         ids = ids_after table.ids i 1 n 0;
         is = here;
-        statuses = length_set table.ids.statuses n 0 ∙ table.statuses;
+        statuses = length-set table.ids.statuses n 0 ∙ table.statuses;
         arguments = table.arguments;
-        main = index-set_other table.ids.statuses n 0 0 (λ q. absurd (let p = positive in omega arith)) ∙ table.main;
+        main = get_or-set_other table.ids.statuses n 0 0 0 (λ q. absurd (let p = positive in omega arith)) ∙ table.main;
         each = each;
       };
       output = others_stay (printer_core N) (λ q. absurd (let one : ◌≡◌ {A = ℕ} (if N.ids then 1 else 0) 1 = ap (λ (b : Bool). if b then 1 else 0) has_ids in omega arith))
@@ -135,25 +135,25 @@ module _ (P : Program) (codes : Codes) (N : Numbers) (T : ℕ) (R : IsResolved P
 
     own : local_of t i ≡ running step_of.frames
     own = λ d. record {
-      slot = (get-set_other slots n i Unused (λ e. apart (sym e)) ∙ get-set_same s.slots i (Running step_of.frames) (Running step_of.calls) slot) d;
+      slot = (set_elsewhere slots n i Unused (λ e. apart (sym e)) ∙ set_there s.slots i (Running step_of.calls) (Running step_of.frames) slot) d;
       waits = ap (λ (x : Local). x.waits) step_of.runs d;
     }
 
     zero_now : status_in (after (ids_core N)) n ≡ 0
-    zero_now = ap (λ (z : Core). status_in z n) here ∙ index-set_same table.ids.statuses n 0 (let z = table.statuses in let b = below in omega arith)
+    zero_now = ap (λ (z : Core). status_in z n) here ∙ get_or-set_same table.ids.statuses n 0 0 (let z = table.statuses in let b = below in omega arith)
 
     is_joined : Other P N c after s t n
-    is_joined = Joined positive was (get-set_same slots n Unused Finished now) (λ e. absurd (let z = zero_now in omega arith))
+    is_joined = Joined positive was (set_there slots n Finished Unused now) (λ e. absurd (let z = zero_now in omega arith))
 
     stays : (j : ℕ) → j ≢ i → n ≢ j → Other P N c after s t j
     stays j ne other =
         Same
         (λ d. record {
-          slot = (get-set_other slots n j Unused other ∙ get-set_other s.slots i j (Running step_of.frames) (λ e. ne (sym e))) d;
+          slot = (set_elsewhere slots n j Unused other ∙ set_elsewhere s.slots i j (Running step_of.frames) (λ e. ne (sym e))) d;
           waits = list_any (is_waiter j) s.barriers;
         })
         (record {
-          status = ap (λ (z : Core). status_in z j) here ∙ index-set_other table.ids.statuses n j 0 (λ q. other (sym q)) ∙ sym (ap (λ (z : Core). status_in z j) table.is);
+          status = ap (λ (z : Core). status_in z j) here ∙ get_or-set_other table.ids.statuses n j 0 0 (λ q. other (sym q)) ∙ sym (ap (λ (z : Core). status_in z j) table.is);
           argument = ap (λ (z : Core). argument_in z j) here ∙ sym (ap (λ (z : Core). argument_in z j) table.is);
           bits = λ m lt. ap (λ (z : Core). waits_in z j) (others_stay (barrier_core N m) (λ e. absurd (omega arith)));
         })
@@ -173,7 +173,7 @@ module _ (P : Program) (codes : Codes) (N : Numbers) (T : ℕ) (R : IsResolved P
         steps = ap outcome_of steps;
         stands = stands;
         own = subst (λ x. Starts P codes x f next variables arrays) (sym own) step_of.starts;
-        others = λ j ne. ⊎_elim (λ same. subst (λ k. Other P N c after s t k) same is_joined) (λ other. stays j ne other) (same_or_not n j);
+        others = λ j ne. ⊎_elim (λ same. subst (λ k. Other P N c after s t k) same is_joined) (λ other. stays j ne other) (cases_eq n j);
       };
       waits = λ no. absurd (let t = may false no in cc);
     }
@@ -184,7 +184,7 @@ module _ (P : Program) (codes : Codes) (N : Numbers) (T : ℕ) (R : IsResolved P
       ⊎_elim
       (λ z. ap (λ (k : ℕ). nat_eq (slice_index table.ids.statuses k) 2) z ∙ ap (λ (k : ℕ). nat_eq k 2) table.main)
       (λ ne. ap (λ (k : ℕ). nat_eq k 2) (table.each n (Running frames) (omega arith) e))
-      (same_or_not n 0)
+      (cases_eq n 0)
 
   serves_running : (n : ℕ) (frames : List Frame) → slice_get s.slots n ≡ Some (Running frames) → step P s i ≡ Blocks blocked.Join → ServesJoin (asks_join n)
   serves_running n frames runs e = record {
@@ -198,8 +198,8 @@ module _ (P : Program) (codes : Codes) (N : Numbers) (T : ℕ) (R : IsResolved P
   runs_before n frames now =
       ⊎_elim
       (λ same. (step_of.calls, subst (λ k. slice_get s.slots k ≡ Some (Running step_of.calls)) same slot))
-      (λ ne. (frames, sym (get-set_other s.slots i n (Running step_of.frames) ne) ∙ now))
-      (same_or_not i n)
+      (λ ne. (frames, sym (set_elsewhere s.slots i n (Running step_of.frames) ne) ∙ now))
+      (cases_eq i n)
 
 module _ (P : Program) (codes : Codes) (N : Numbers) (T : ℕ) (R : IsResolved P) (numbers : AreNumbers P N T) (thread : ActOperand) (s : State) (i f l next : ℕ)
     (variables : ℕ → ℤ) (arrays : Memory ℤ) (c : ℕ → Core) (ask : Asked) (at : StandsAtAct P codes N T s i f l next variables arrays (act.Join thread) ask c)
@@ -226,7 +226,7 @@ module _ (P : Program) (codes : Codes) (N : Numbers) (T : ℕ) (R : IsResolved P
   by_self offset n frames word now true z e = absurd (never_undefined offset e)
   by_self offset n frames word now false z e =
       let apart = eqb-false i n z in
-      let old = sym (get-set_other s.slots i n (Running step_of.frames) apart) ∙ now in
+      let old = sym (set_elsewhere s.slots i n (Running step_of.frames) apart) ∙ now in
       subst (λ y. ServesNow (asks_join y)) (sym (word (let b = below_now n (Running frames) old in let few = numbers.few_threads in omega arith)))
       (serves_running P codes N T R numbers (two n (Running frames) old apart) thread s i f l next variables arrays c ask at step_of n frames old e)
 
@@ -238,15 +238,15 @@ module _ (P : Program) (codes : Codes) (N : Numbers) (T : ℕ) (R : IsResolved P
   joins offset n word (Some Finished) now e =
       ⊎_elim
       (λ same. absurd (
-      let own = get-set_same s.slots i (Running step_of.frames) (Running step_of.calls) own_slot in
+      let own = set_there s.slots i (Running step_of.calls) (Running step_of.frames) own_slot in
       let there : slice_get (slice_set s.slots i (Running step_of.frames)) i ≡ Some Finished =
       subst (λ k. slice_get (slice_set s.slots i (Running step_of.frames)) k ≡ Some Finished) (sym same) now in
       cc))
       (λ apart.
-      let old = sym (get-set_other s.slots i n (Running step_of.frames) apart) ∙ now in
+      let old = sym (set_elsewhere s.slots i n (Running step_of.frames) apart) ∙ now in
       subst (λ y. ServesNow (asks_join y)) (sym (word (let b = below_now n Finished old in let few = numbers.few_threads in omega arith)))
       (serves_finished P codes N T R numbers (two n Finished old apart) thread s i f l next variables arrays c ask at step_of n now e))
-      (same_or_not i n)
+      (cases_eq i n)
 
   serves_join : ServesNow ask
   serves_join = go step_of.act step_of.same step_of.steps

@@ -3,6 +3,8 @@ use Rattle.std.specs.Prelude.{Bool, true, false, nat_eq, if◌then◌else◌, �
 use Rattle.std.specs.List.{list_any}
 use Rattle.std.proofs.Common.{◌≡◌, ◌≢◌, ℕ, ◌<◌, List, [], refl, sym, ap, ◌∙◌, subst, ⊎_elim, arith}
 use Rattle.std.proofs.lemmas.Option.{slice_get_within}
+use Rattle.std.proofs.lemmas.List.{length-set}
+use Rattle.lists.proofs.Places.{set_there, set_elsewhere}
 use Rattle.hls_ints.specs.Residues.{residue_of}
 use Rattle.c_program.specs.Tree.{Program}
 use Rattle.c_program.specs.Resolved.{IsResolved}
@@ -20,7 +22,7 @@ use Rattle.block_ir.specs.declared.code.Act.TheVariants as act
 use Rattle.block_ir.specs.declared.code.ActOperand.{ActOperand}
 use Rattle.planned_block.proofs.Bits.{less_is}
 use Rattle.race_model.specs.Source.{Local, local_of, running, outcome_of, c_source}
-use Rattle.race_model.proofs.Lists.{get-set_other, get-set_same, get-set_cases, length_set}
+use Rattle.race_model.proofs.Lists.{get-set_cases}
 use Rattle.block_ir.specs.Asked.{act_value, Asked, Mutexes, Numbers, mutex_core, barrier_core, ids_core, printer_core, core_of}
 use Rattle.code_following.specs.Following.{print_formats, SameAct}
 use Rattle.core_states.specs.Machines.{lock_eligible, lock_after}
@@ -80,16 +82,16 @@ module _ (P : Program) (codes : Codes) (N : Numbers) (T : ℕ) (s : State) (i f 
           each = λ j x lt at. let y = status_kept s.slots i j calls frames x slot at in z.each j y.0 lt y.1 ∙ y.2;
         };
     output = others_stay (printer_core N) (λ e. absurd (let lt = below in omega arith)) ∙ stands.output;
-    mutex_count = length_set s.mutexes n new ∙ stands.mutex_count;
+    mutex_count = length-set s.mutexes n new ∙ stands.mutex_count;
     barrier_count = stands.barrier_count;
   }
 
   pub mutex_own : local_of t i ≡ running frames
-  mutex_own = λ d. record { slot = get-set_same s.slots i (Running frames) (Running calls) slot d; waits = ap (λ (x : Local). x.waits) runs d }
+  mutex_own = λ d. record { slot = set_there s.slots i (Running calls) (Running frames) slot d; waits = ap (λ (x : Local). x.waits) runs d }
 
   pub mutex_others : (j : ℕ) → j ≢ i → Other P N c after s t j
   mutex_others j ne =
-      Same (λ d. record { slot = get-set_other s.slots i j (Running frames) (λ e. ne (sym e)) d; waits = list_any (is_waiter j) s.barriers })
+      Same (λ d. record { slot = set_elsewhere s.slots i j (Running frames) (λ e. ne (sym e)) d; waits = list_any (is_waiter j) s.barriers })
       (record {
         status = ap (λ (z : Core). status_in z j) (others_stay (ids_core N) (λ e. absurd (let lt = below in omega arith)));
         argument = ap (λ (z : Core). argument_in z j) (others_stay (ids_core N) (λ e. absurd (let lt = below in omega arith)));

@@ -2,9 +2,11 @@
 use Rattle.std.specs.Prelude.{Bool, true, false, not, nat_eq, nat_lt, ◌||◌, if◌then◌else◌, ℤ, Option, Some, None, slice_get, slice_set, slice_index, unsigned_abs, ◌^◌}
 use Rattle.std.specs.List.{IsDistinct, list_any}
 use Rattle.std.proofs.Common.{◌≡◌, ◌≢◌, ℕ, suc, ◌+◌, ◌<◌, List, [], ◌∷◌, length, replicate, refl, sym, ap, ◌∙◌, subst, ⊎_elim, arith}
-use Rattle.std.proofs.lemmas.Bool.{eqb-true, eqb-false}
-use Rattle.std.proofs.lemmas.List.{length-replicate}
+use Rattle.std.proofs.lemmas.Bool.{eqb-true, eqb-false, cases_eq}
+use Rattle.std.proofs.lemmas.List.{length-replicate, get_or-set_other, get_or-set_same, length-set}
 use Rattle.std.proofs.lemmas.Option.{slice_get_within}
+use Rattle.std.proofs.lemmas.Map.Keys.{any_passes_from_place}
+use Rattle.lists.proofs.Places.{zeros_at, set_there}
 use Rattle.hls_ints.specs.Residues.{residue_of, bit_of}
 use Rattle.c_program.specs.Tree.{Program}
 use Rattle.c_program.specs.Resolved.{IsResolved}
@@ -14,27 +16,25 @@ use Rattle.thread_semantics.specs.Work.{Act}
 use Rattle.thread_semantics.specs.Step.{Undefines, with_slot, with_barrier, barrier_met, acted, is_waiter, step}
 use Rattle.interleaving.specs.Memory.{Memory}
 use Rattle.interleaving.specs.Threaded.{IsSynchronizing}
-use Rattle.interleaving.proofs.Update.{same_or_not}
 use Rattle.block_ir.specs.declared.code.Act.TheVariants as act
 use Rattle.block_ir.specs.declared.code.ActOperand.{ActOperand}
 use Rattle.planned_block.proofs.Bits.{less_is, not_less_is, same_is, other_is}
 use Rattle.race_model.specs.Source.{Local, outcome_of}
 use Rattle.race_model.specs.Orderly.{waits_in, AreWaiters}
-use Rattle.race_model.proofs.Lists.{get-set_same, list_any_at, length_set}
+use Rattle.race_model.proofs.Lists.{list_any_at}
 use Rattle.race_model.proofs.Orderly.{orderly}
 use Rattle.block_ir.specs.Asked.{act_value, Asked, Numbers, barrier_core, core_of}
 use Rattle.code_following.specs.Following.{print_formats, SameAct}
 use Rattle.core_states.specs.Machines.{Gate, total_of, with_waiter}
 use Rattle.thread_cores.specs.Cores.{Core, OfBarrier, may_grant, granted, waits_in as core_waits}
 use Rattle.thread_cores.specs.Stands.{GateStands, BarrierStands}
-use Rattle.core_states.proofs.Elements.{index-set_same, index-set_other, index-zeros}
 use Rattle.core_states.proofs.Waiters.{waiters_count}
 use Rattle.block_refine.specs.Routines.{Codes}
 use Rattle.block_refine.specs.RoutineActs.{IsStepOf}
 use Rattle.act_steps.specs.Requests.{AreNumbers, StandsAtAct, Serves, Other, cores_after}
 use Rattle.act_steps.proofs.ActByAct.{RequestIsStep}
 use Rattle.act_steps.proofs.Common.{names, never, same_core}
-use Rattle.act_steps.proofs.Anywhere.{any_set_same, any_at, all_below, none_same, live_frames}
+use Rattle.act_steps.proofs.Anywhere.{any_set_same, all_below, none_same, live_frames}
 use Rattle.act_steps.proofs.Barring.{asks_barrier, barrier_stands, own_slot, same_other, released, no_bit}
 
 one_more_distinct : (i : ℕ) (ws : List ℕ) → list_any (nat_eq i) ws ≡ false → IsDistinct nat_eq ws → IsDistinct nat_eq (i ∷ ws)
@@ -90,11 +90,11 @@ module _ (P : Program) (codes : Codes) (N : Numbers) (T : ℕ) (R : IsResolved P
         ⊎_elim
         (λ same.
         subst (λ z. slice_index (with_waiter g i) z ≡ bit_of (list_any (nat_eq z) (i ∷ waiters))) (sym same)
-        (index-set_same g.waiting i 1 (let e = before.stands.sized in let b = i_below in omega arith)
+        (get_or-set_same g.waiting i 1 0 (let e = before.stands.sized in let b = i_below in omega arith)
         ∙ sym (ap (λ (b : Bool). bit_of (b || list_any (nat_eq i) waiters)) (same_is i i refl))))
         (λ ne.
-        index-set_other g.waiting i j 1 ne ∙ before.stands.bits j lt ∙ sym (ap (λ (b : Bool). bit_of (b || list_any (nat_eq j) waiters)) (other_is j i ne)))
-        (same_or_not j i)
+        get_or-set_other g.waiting i j 1 0 ne ∙ before.stands.bits j lt ∙ sym (ap (λ (b : Bool). bit_of (b || list_any (nat_eq j) waiters)) (other_is j i ne)))
+        (cases_eq j i)
 
     total : total_of T (with_waiter g i) ≡ suc (length waiters)
     total = waiters_count T (with_waiter g i) (i ∷ waiters) (one_more_distinct i waiters apart are.distinct) (i_below, all_below T waiters waiter_below) joined_bits
@@ -127,12 +127,12 @@ module _ (P : Program) (codes : Codes) (N : Numbers) (T : ℕ) (R : IsResolved P
       gates_open : GateStands T opened (Awaits count [])
       gates_open = record {
         sized = length-replicate T 0;
-        bits = λ j lt. index-zeros T j;
+        bits = λ j lt. zeros_at T j;
         count = λ k ws e. let same : count ≡ k = cc in before.stands.count count waiters refl ∙ same;
       }
 
       no_zero : (j : ℕ) → core_waits (OfBarrier opened) j ≡ false
-      no_zero j = ap (λ (x : ℕ). nat_lt 0 x) (index-zeros T j)
+      no_zero j = ap (λ (x : ℕ). nat_lt 0 x) (zeros_at T j)
 
       open_others : (j : ℕ) → j ≢ i → (b : Bool) → list_any (nat_eq j) waiters ≡ b →
           Other P N c (cores_after P codes N T (barrier_core N n) i (asks_barrier n 1 []) c) s
@@ -191,7 +191,7 @@ module _ (P : Program) (codes : Codes) (N : Numbers) (T : ℕ) (R : IsResolved P
 
       gates_shut : GateStands T shut (Awaits count (i ∷ waiters))
       gates_shut = record {
-        sized = length_set g.waiting i 1 ∙ before.stands.sized;
+        sized = length-set g.waiting i 1 ∙ before.stands.sized;
         bits = joined_bits;
         count = λ k ws e. let same : count ≡ k = cc in before.stands.count count waiters refl ∙ same;
       }
@@ -203,7 +203,7 @@ module _ (P : Program) (codes : Codes) (N : Numbers) (T : ℕ) (R : IsResolved P
           same_other P codes N T R numbers s i c at.reached at.cores step_of.calls step_of.frames step_of.runs n 1 [] (Awaits count waiters)
           (Awaits count (i ∷ waiters)) here shut joins gates_shut
           j ne (ap (λ (b : Bool). b || list_any (nat_eq j) waiters) (other_is j i ne))
-          (ap (λ (x : ℕ). nat_lt 0 x) (index-set_other g.waiting i j 1 ne))
+          (ap (λ (x : ℕ). nat_lt 0 x) (get_or-set_other g.waiting i j 1 0 ne))
 
       serves_shut : ServesWait (asks_barrier n 1 [])
       serves_shut = record {
@@ -229,7 +229,7 @@ module _ (P : Program) (codes : Codes) (N : Numbers) (T : ℕ) (R : IsResolved P
                 ∙ sym (subst (λ z. core_waits (cores_after P codes N T (barrier_core N n) i (asks_barrier n 1 []) c (barrier_core N z)) i ≡ true) (sym word)
                 (ap (λ (z : Core). core_waits z i)
                 (same_core T (print_formats P) (barrier_core N n) i (asks_barrier n 1 []) c (OfBarrier g) before.is ∙ joins)
-                ∙ ap (λ (x : ℕ). nat_lt 0 x) (index-set_same g.waiting i 1 (let e = before.stands.sized in let b = i_below in omega arith))));
+                ∙ ap (λ (x : ℕ). nat_lt 0 x) (get_or-set_same g.waiting i 1 0 (let e = before.stands.sized in let b = i_below in omega arith))));
             starts = step_of.starts;
           };
           others = shut_others;
@@ -242,8 +242,8 @@ module _ (P : Program) (codes : Codes) (N : Numbers) (T : ℕ) (R : IsResolved P
 
           waits_now : list_any (is_waiter i) (slice_set s.barriers n (Awaits count (i ∷ waiters))) ≡ true
           waits_now =
-              any_at (is_waiter i) (slice_set s.barriers n (Awaits count (i ∷ waiters))) n (Awaits count (i ∷ waiters))
-              (get-set_same s.barriers n (Awaits count (i ∷ waiters)) (Awaits count waiters) here) own_waits
+              any_passes_from_place (is_waiter i) (slice_set s.barriers n (Awaits count (i ∷ waiters))) n (Awaits count (i ∷ waiters))
+              (set_there s.barriers n (Awaits count waiters) (Awaits count (i ∷ waiters)) here) own_waits
 
     met : (b : Bool) → nat_eq (length waiters + 1) (unsigned_abs count) ≡ b →
         step P s i ≡ (if b then with_barrier (with_slot s i (Running step_of.frames)) n (Awaits count [])

@@ -4,6 +4,7 @@ use Rattle.std.specs.List.{list_any}
 use Rattle.std.specs.Fmt.{signed_decimal}
 use Rattle.std.proofs.Common.{◌≡◌, ◌≢◌, ℕ, List, [], ◌∷◌, ◌++◌, refl, sym, ap, ◌∙◌, subst, arith}
 use Rattle.std.proofs.lemmas.Option.{slice_get_within}
+use Rattle.lists.proofs.Places.{set_there, set_elsewhere}
 use Rattle.hls_ints.specs.Residues.{bit_of}
 use Rattle.hls_ints.specs.Words.{signed_word}
 use Rattle.c_program.specs.Tree.{Piece, Program}
@@ -16,7 +17,6 @@ use Rattle.interleaving.specs.Threaded.{IsSynchronizing}
 use Rattle.block_ir.specs.declared.code.Act.TheVariants as act
 use Rattle.block_ir.specs.declared.code.ActOperand.{ActOperand}
 use Rattle.race_model.specs.Source.{Local, local_of, running, outcome_of}
-use Rattle.race_model.proofs.Lists.{get-set_other, get-set_same}
 use Rattle.code_following.specs.Following.{print_formats, SameAct}
 use Rattle.block_ir.specs.Asked.{Asked, Prints, operand_words, Numbers, mutex_core, barrier_core, ids_core, printer_core}
 use Rattle.thread_cores.specs.Cores.{Core, OfPrinter, may_grant, printed_words, text_at, status_in, argument_in, waits_in}
@@ -92,7 +92,7 @@ module _ (P : Program) (codes : Codes) (N : Numbers) (T : ℕ) (R : IsResolved P
       own = subst (λ x. Starts P codes x f next variables arrays) (sym own) step_of.starts;
       others = λ j ne.
           Same
-          (λ d. record { slot = get-set_other s.slots i j (Running step_of.frames) (λ e. ne (sym e)) d; waits = list_any (is_waiter j) s.barriers })
+          (λ d. record { slot = set_elsewhere s.slots i j (Running step_of.frames) (λ e. ne (sym e)) d; waits = list_any (is_waiter j) s.barriers })
           (record {
             status = ids_stay (λ (z : Core). status_in z j) refl refl;
             argument = ids_stay (λ (z : Core). argument_in z j) refl refl;
@@ -116,7 +116,7 @@ module _ (P : Program) (codes : Codes) (N : Numbers) (T : ℕ) (R : IsResolved P
 
       own : local_of t i ≡ running step_of.frames
       own = λ d. record {
-        slot = get-set_same s.slots i (Running step_of.frames) (Running step_of.calls) slot d;
+        slot = set_there s.slots i (Running step_of.calls) (Running step_of.frames) slot d;
         waits = ap (λ (x : Local). x.waits) step_of.runs d;
       }
 

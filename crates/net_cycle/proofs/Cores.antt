@@ -3,6 +3,7 @@ use Rattle.std.specs.Prelude.{Bool, true, false, nat_lt, if◌then◌else◌, ma
 use Rattle.std.proofs.Common.{◌≡◌, ℕ, zero, suc, ◌+◌, ◌-◌, ◌<◌, ◌≤◌, List, [], ◌∷◌, ◌++◌, length, refl, ap, ◌∙◌, arith}
 use Rattle.std.proofs.lemmas.Bool.Decides.{nat_tests}
 use Rattle.std.proofs.lemmas.Option.{slice_get_past}
+use Rattle.lists.proofs.Places.{copies_front}
 use Rattle.hls_ints.specs.Residues.{bit_of}
 use Rattle.bank_cores.specs.declared.bank.Shape.{Shape as BankShape}
 use Rattle.bank_cores.specs.Machine.{ask_of, begun}
@@ -26,11 +27,6 @@ repeated_right : {A : Type 0} (m : ℕ) (x : A) (ys : List A) (n : ℕ) → slic
 repeated_right zero x ys n = ap (slice_get ys) (omega arith)
 repeated_right (suc m) x ys n =
     let e : suc m + n ≡ suc (m + n) = omega arith in ap (slice_get (x ∷ (replicate m x ++ ys))) e ∙ repeated_right m x ys n
-
-repeated_at : {A : Type 0} (m : ℕ) (x : A) (ys : List A) (n : ℕ) → n < m → slice_get (replicate m x ++ ys) n ≡ Some x
-repeated_at zero x ys n l = absurd (omega arith)
-repeated_at (suc m) x ys zero l = refl
-repeated_at (suc m) x ys (suc n) l = repeated_at m x ys n (omega arith)
 
 mapped_at : {A : Type 0} {B : Type 0} (f : A → B) (xs : List A) (ys : List B) (n : ℕ) (a : A) → slice_get xs n ≡ Some a → slice_get (map f xs ++ ys) n ≡ Some (f a)
 mapped_at f [] ys n a e = absurd cc
@@ -126,7 +122,7 @@ module _ (K : Parts) where
       ap (core_at K) e ∙ mapped_right Bank K.banks (act_cores K) (length K.mutexes + n) ∙ mapped_right Mutex K.mutexes (barrier_shapes K ++ last_shapes) n
 
   pub barrier_at : (n : ℕ) → n < K.barriers → core_at K (barrier_core (numbers_of K) n) ≡ Some barrier
-  barrier_at n l = at_barriers n ∙ repeated_at K.barriers barrier last_shapes n l
+  barrier_at n l = at_barriers n ∙ copies_front K.barriers n barrier last_shapes l
 
   at_last : (n : ℕ) → core_at K (length K.banks + length K.mutexes + K.barriers + n) ≡ slice_get last_shapes n
   at_last n =

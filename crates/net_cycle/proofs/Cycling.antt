@@ -2,6 +2,7 @@
 use Rattle.std.specs.Prelude.{Bool, true, false, not, nat_eq, nat_lt, ◌&&◌, ◌||◌, ◌⊎◌, if◌then◌else◌, ◌++◌, Option, Some, None, slice_get, ℤ}
 use Rattle.std.proofs.Common.{◌≡◌, ◌≢◌, ℕ, ◌+◌, ◌<◌, ◌≤◌, List, [], length, refl, sym, ap, ap₂, ◌∙◌, subst, inl, inr, ⊎_elim, arith}
 use Rattle.std.proofs.lemmas.Option.{slice_get_past}
+use Rattle.std.proofs.lemmas.Bool.{not-true, or_parts, or_cases, both_ways}
 use Rattle.hls_ints.specs.Residues.{residue_of, bit_of}
 use Rattle.c_program.specs.Tree.{Program}
 use Rattle.interleaving.specs.Memory.{Location, Access, memory_after}
@@ -59,26 +60,6 @@ use Rattle.net_cycle.proofs.Waking.{wakes_in_cycle, returns_in_cycle, acts_in_cy
 use Rattle.net_cycle.proofs.Turning.{stays, bank_stays, act_may, act_granted, told_next, each_turns}
 
 -- ---- bits
-
-differ : (a : Bool) → a ≡ true → a ≡ false → ⊥
-differ true e z = cc
-differ false e z = cc
-
-either_true : (a b : Bool) → (a || b) ≡ true → (a ≡ true) ⊎ (b ≡ true)
-either_true true b e = inl refl
-either_true false b e = inr e
-
-both_false : (a b : Bool) → (a || b) ≡ false → (a ≡ false) × (b ≡ false)
-both_false true b e = absurd cc
-both_false false b e = (refl, e)
-
-false_not : (a : Bool) → a ≡ false → not a ≡ true
-false_not true e = absurd cc
-false_not false e = refl
-
-not_true : (a : Bool) → not a ≡ true → a ≡ false
-not_true true e = absurd cc
-not_true false e = refl
 
 -- a beat that turns, and one that does not
 turns_beat : (q r : Slot) → turned q r ≡ true → r.beat ≡ not q.beat
@@ -183,10 +164,10 @@ module _ (P : Program) (K : Parts) (built : IsBuilt P K) (chain : ℕ → ℕ �
     beats_now = beats t on_now (granted_to P K c h.net i) (news P K h.net i) h.memory q r (left.moved i lt)
 
     kept_slot : turned q r ≡ false → r ≡ q
-    kept_slot off = ⊎_elim (λ turns. absurd (differ (turned q r) (beat_turns q r turns.0) off)) (λ same. same) beats_now
+    kept_slot off = ⊎_elim (λ turns. absurd (both_ways (turned q r) off (beat_turns q r turns.0))) (λ same. same) beats_now
 
     never_both : r ≡ q → r.beat ≡ not q.beat → ⊥
-    never_both same turns = differ (turned q r) (beat_turns q r turns) (same_keeps q r same)
+    never_both same turns = both_ways (turned q r) (same_keeps q r same) (beat_turns q r turns)
 
     -- who moves outside blocks
     goes_out : in_block K q ≡ false → r.beat ≡ not q.beat → g.outside i ≡ true
@@ -210,10 +191,10 @@ module _ (P : Program) (K : Parts) (built : IsBuilt P K) (chain : ℕ → ℕ �
       not_refused asks' same (Ungranted m core lost) =
           let one : Some m ≡ Some k = sym core ∙ ap (core_of (numbers_of K)) same ∙ names in
           let at : m ≡ k = cc in
-          differ (is_granted (won k) i) (ap (λ (o : Option ℕ). is_granted o i) e ∙ same_is i i refl) (ap (λ (z : ℕ). is_granted (won z) i) (sym at) ∙ lost)
+          both_ways (is_granted (won k) i) (ap (λ (z : ℕ). is_granted (won z) i) (sym at) ∙ lost) (ap (λ (o : Option ℕ). is_granted o i) e ∙ same_is i i refl)
 
       moves_on : on_now ≡ true → r ≡ q → Moved t on_now (granted_to P K c h.net i) (news P K h.net i) h.memory q r → ⊥
-      moves_on on same (moved.Rests off slot) = differ on_now on off
+      moves_on on same (moved.Rests off slot) = both_ways on_now off on
       moves_on on same (moved.Works on' b p runs inside grant within heard slot) = let z = sym runs.listed ∙ listed_here in cc
       moves_on on same (moved.Stays on' d m asks' listed' is' refused slot) =
           let one : Some (stage.Act d m) ≡ Some (stage.Act a next) = sym listed' ∙ listed_here in
@@ -257,7 +238,7 @@ module _ (P : Program) (K : Parts) (built : IsBuilt P K) (chain : ℕ → ℕ �
     owns_none off never k o = by (who_wins P K built c h k i (owner_is K.threads (won k) i lt o)).1
       where
         by : Wins P K c h k i → ⊥
-        by (WinsBank bank on in_it) = differ (in_block K q) in_it off
+        by (WinsBank bank on in_it) = both_ways (in_block K q) off in_it
         by (WinsCore core on a next asks listed is names hands) = never a next asks listed is
 
     -- ---- in a block, or without a move
@@ -279,11 +260,11 @@ module _ (P : Program) (K : Parts) (built : IsBuilt P K) (chain : ℕ → ℕ �
 
     still : g.enabled i ≡ false → r ≡ q → ((k : ℕ) → left.grant i k ≡ false) → left.made i ≡ [] → g.outside i ≡ false → RunsInCycle M w v g i
     still off same ungranted none out = record {
-      on = λ e. absurd (differ (g.enabled i) e off);
-      inside = λ e. absurd (differ (g.enabled i) e off);
+      on = λ e. absurd (both_ways (g.enabled i) off e);
+      inside = λ e. absurd (both_ways (g.enabled i) off e);
       off = λ e. same;
-      within = λ k e. absurd (differ (left.grant i k) e (ungranted k));
-      owned = λ k l e. absurd (differ (g.enabled i) e off);
+      within = λ k e. absurd (both_ways (left.grant i k) (ungranted k) e);
+      owned = λ k l e. absurd (both_ways (g.enabled i) off e);
       memory = λ l o.
           memory_by i l lt o
           ∙ ap (λ (es : List (Access ℤ)). memory_after es h.memory l) (none ∙ sym (ap (λ (b : Bool). if b then accesses_of_cycle block plan q (left.grant i) wire else []) off));
@@ -295,7 +276,7 @@ module _ (P : Program) (K : Parts) (built : IsBuilt P K) (chain : ℕ → ℕ �
     advances_now on in_it is out = record {
       on = λ e. is.advances;
       inside = λ e. is.inside;
-      off = λ e. absurd (differ (g.enabled i) (ap₂ (λ (a b : Bool). a && b) on in_it) e);
+      off = λ e. absurd (both_ways (g.enabled i) e (ap₂ (λ (a b : Bool). a && b) on in_it));
       within = is.within;
       owned = λ k l e a touches.
           ap (owner_of K.threads)
@@ -318,9 +299,9 @@ module _ (P : Program) (K : Parts) (built : IsBuilt P K) (chain : ℕ → ℕ �
     runs : g.outside i ≡ false → GoesNow → RunsInCycle M w v g i
     runs out (Keeps idle slot ungranted none) = still (idle_is on_now (in_block K q) idle) slot ungranted none out
     runs out (Advanced on in_it is) = advances_now on in_it is out
-    runs out (Woke on off wakes none) = absurd (differ (g.outside i) (goes_out off (woken_beat wakes)) out)
-    runs out (Acted on a next k asks listed is core won' slot none) = absurd (differ (g.outside i) (goes_out (ap is_run listed) (ap (λ (z : Slot). z.beat) slot)) out)
-    runs out (Returned on main next listed slot none) = absurd (differ (g.outside i) (goes_out (ap is_run listed) (ap (λ (z : Slot). z.beat) slot)) out)
+    runs out (Woke on off wakes none) = absurd (both_ways (g.outside i) out (goes_out off (woken_beat wakes)))
+    runs out (Acted on a next k asks listed is core won' slot none) = absurd (both_ways (g.outside i) out (goes_out (ap is_run listed) (ap (λ (z : Slot). z.beat) slot)))
+    runs out (Returned on main next listed slot none) = absurd (both_ways (g.outside i) out (goes_out (ap is_run listed) (ap (λ (z : Slot). z.beat) slot)))
 
     -- ---- outside blocks
 
@@ -362,14 +343,14 @@ module _ (P : Program) (K : Parts) (built : IsBuilt P K) (chain : ℕ → ℕ �
             u = owner_is K.threads (won j) i lt o
 
             one : Wins P K c h j i → j ≡ k
-            one (WinsBank bank on in_it) = absurd (differ (in_block K q) in_it (ap is_run listed))
+            one (WinsBank bank on in_it) = absurd (both_ways (in_block K q) (ap is_run listed) in_it)
             one (WinsCore core' on a' next' asks' listed' is' names' hands) =
                 let same = same_asks k e a next asks listed is core a' next' asks' listed' is' in
                 let two : Some j ≡ Some k = sym names' ∙ ap (core_of (numbers_of K)) same ∙ core in
                 (let at : j ≡ k = cc in at)
 
         by : Wins P K c h k i → GoesInCycle
-        by (WinsBank bank on in_it) = absurd (differ (in_block K q) in_it (ap is_run listed))
+        by (WinsBank bank on in_it) = absurd (both_ways (in_block K q) (ap is_run listed) in_it)
         by (WinsCore core' on a' next' asks' listed' is' names' hands) =
             let granted' = act_granted P K built c h k i a' next' asks' listed' is' names' hands e in
             let same = same_asks k e a next asks listed is core a' next' asks' listed' is' in
@@ -380,8 +361,8 @@ module _ (P : Program) (K : Parts) (built : IsBuilt P K) (chain : ℕ → ℕ �
 
     acts : g.outside i ≡ true → GoesNow → GoesInCycle
     acts out (Keeps idle slot ungranted none) =
-        absurd (differ (turned q r) (both_true (not (in_block K q)) (turned q r) out).1 (same_keeps q r slot))
-    acts out (Advanced on in_it is) = absurd (differ (in_block K q) in_it (not_true (in_block K q) (both_true (not (in_block K q)) (turned q r) out).0))
+        absurd (both_ways (turned q r) (same_keeps q r slot) (both_true (not (in_block K q)) (turned q r) out).1)
+    acts out (Advanced on in_it is) = absurd (both_ways (in_block K q) (not-true (in_block K q) (both_true (not (in_block K q)) (turned q r) out).0) in_it)
     acts out (Woke on off wakes none) =
         inl
         (wakes_in_cycle P K chain w v place_owner core_owner i (memory_stays none) (each_turns P K built c h) (owns_none off (woken_acts wakes)) wakes)
@@ -406,14 +387,14 @@ module _ (P : Program) (K : Parts) (built : IsBuilt P K) (chain : ℕ → ℕ �
             ⊎_elim
             (λ turns. turns.0)
             (λ same. absurd
-            (moves_change M w v g i (runs_now out) (⊎_elim (λ gained. absurd (differ (g.outside i) gained out)) (λ gained. gained) (either_true (g.outside i) _ m)) same))
+            (moves_change M w v g i (runs_now out) (⊎_elim (λ gained. absurd (both_ways (g.outside i) out gained)) (λ gained. gained) (or_cases (g.outside i) _ m)) same))
             beats_now
 
     pub stays_now : moves M w v g i ≡ false → r ≡ q
     stays_now m = by (g.enabled i) refl
       where
         both : (g.outside i ≡ false) × ((g.enabled i && (is_ready block plan q (left.grant i) || is_answered block plan q (left.grant i))) ≡ false)
-        both = both_false (g.outside i) (g.enabled i && (is_ready block plan q (left.grant i) || is_answered block plan q (left.grant i))) m
+        both = or_parts (g.outside i) (g.enabled i && (is_ready block plan q (left.grant i) || is_answered block plan q (left.grant i))) m
 
         by : (b : Bool) → g.enabled i ≡ b → r ≡ q
         by false e = (runs_now both.0).off e
@@ -421,8 +402,8 @@ module _ (P : Program) (K : Parts) (built : IsBuilt P K) (chain : ℕ → ℕ �
             let is = runs_now both.0 in
             ⊎_elim
             (λ moved_on. absurd
-            (differ (is_ready block plan q (left.grant i) || is_answered block plan q (left.grant i)) moved_on.1
-            (sym (ap (λ (b : Bool). b && (is_ready block plan q (left.grant i) || is_answered block plan q (left.grant i))) e) ∙ both.1)))
+            (both_ways (is_ready block plan q (left.grant i) || is_answered block plan q (left.grant i)) (sym (ap (λ (b : Bool). b && (is_ready block plan q (left.grant i) || is_answered block plan q (left.grant i))) e) ∙ both.1)
+            moved_on.1))
             (λ rest. rest.0)
             (advances (bank_of K.spreads) block plan q h.memory (left.grant i) wire r (is.on e) (is.inside e) is.within)
 
@@ -430,11 +411,11 @@ module _ (P : Program) (K : Parts) (built : IsBuilt P K) (chain : ℕ → ℕ �
     advance_of : on_now ≡ true → in_block K q ≡ true → GoesNow →
         IsAdvance P K i on_now (asks_of P K c h.net i) (granted_to P K c h.net i) h.memory q r (left.grant i) (left.made i) block plan
     advance_of on in_it (Keeps idle slot ungranted none) =
-        absurd (differ (on_now && in_block K q) (ap₂ (λ (a b : Bool). a && b) on in_it) (idle_is on_now (in_block K q) idle))
+        absurd (both_ways (on_now && in_block K q) (idle_is on_now (in_block K q) idle) (ap₂ (λ (a b : Bool). a && b) on in_it))
     advance_of on in_it (Advanced on' in_it' is) = is
-    advance_of on in_it (Woke on' off wakes none) = absurd (differ (in_block K q) in_it off)
-    advance_of on in_it (Acted on' a next k asks listed is core won' slot none) = absurd (differ (in_block K q) in_it (ap is_run listed))
-    advance_of on in_it (Returned on' main next listed slot none) = absurd (differ (in_block K q) in_it (ap is_run listed))
+    advance_of on in_it (Woke on' off wakes none) = absurd (both_ways (in_block K q) off in_it)
+    advance_of on in_it (Acted on' a next k asks listed is core won' slot none) = absurd (both_ways (in_block K q) (ap is_run listed) in_it)
+    advance_of on in_it (Returned on' main next listed slot none) = absurd (both_ways (in_block K q) (ap is_run listed) in_it)
 
   -- ---- a bank that is asked serves somebody
 
@@ -497,7 +478,7 @@ module _ (P : Program) (K : Parts) (built : IsBuilt P K) (chain : ℕ → ℕ �
       in_no_block : in_block K q_now ≡ true → ⊥
       in_no_block in_it =
           let m = somebody_moves M w v g K.threads serves_all i lt (ap₂ (λ (a b : Bool). a && b) on in_it) in
-          differ (moves M w v g m.0) m.2 (nobody_moves m.0 m.1)
+          both_ways (moves M w v g m.0) (nobody_moves m.0 m.1) m.2
 
       refuses : (a : Act) (next k : ℕ) (asks : Asked) → slice_get (thread_at P K i).code.stages q_now.stage ≡ Some (stage.Act a next) →
           asked (nat_eq i 0) a q_now.variables ≡ Some asks → core_of (numbers_of K) asks ≡ Some k → may_grant (w.cores k) i asks ≡ false
@@ -526,8 +507,8 @@ module _ (P : Program) (K : Parts) (built : IsBuilt P K) (chain : ℕ → ℕ �
           by false e = e
           by true e =
               absurd
-              (differ (nat_lt 0 (asks_of P K c h.net i k 0) && may_grant (w.cores k) i asks)
-              (ap₂ (λ (m : ℕ) (z : Bool). nat_lt 0 m && z) (hands.raised ∙ ap bit_of on) e) (sym alike ∙ off))
+              (both_ways (nat_lt 0 (asks_of P K c h.net i k 0) && may_grant (w.cores k) i asks)
+              (sym alike ∙ off) (ap₂ (λ (m : ℕ) (z : Bool). nat_lt 0 m && z) (hands.raised ∙ ap bit_of on) e))
 
       -- who rests and is not told to go on
       rests_main : (i ≡ 0) → q_now.stage ≡ rest (thread_at P K i) → (r : Slot) → Wakes P K.codes (numbers_of K) K.threads w.cores i q_now r → ⊥
@@ -556,11 +537,11 @@ module _ (P : Program) (K : Parts) (built : IsBuilt P K) (chain : ℕ → ℕ �
           let operand : b' ≡ b = cc in
           let told = bit_told P K i h (residue_of 64 (act_value q_now.variables b)) below_it in
           let n = residue_of 64 (act_value q_now.variables b) in
-          differ (waits_bit (numbers_of K) w.cores n i) (ap (nat_lt 0) (sym told ∙ one))
-          (ap (λ (z : ActOperand). waits_bit (numbers_of K) w.cores (residue_of 64 (act_value q_now.variables z)) i) (sym operand) ∙ bit)
+          both_ways (waits_bit (numbers_of K) w.cores n i) (ap (λ (z : ActOperand). waits_bit (numbers_of K) w.cores (residue_of 64 (act_value q_now.variables z)) i) (sym operand) ∙ bit)
+          (ap (nat_lt 0) (sym told ∙ one))
 
       stalled : Moved (thread_at P K i) (is_enabled c.mask i) (granted_to P K c h.net i) (news P K h.net i) h.memory q_now (left.slots i) → Stalled P K c h i
-      stalled (moved.Rests off slot) = absurd (differ (is_enabled c.mask i) on off)
+      stalled (moved.Rests off slot) = absurd (both_ways (is_enabled c.mask i) off on)
       stalled (moved.Works on' b p runs inside grant within heard slot) =
           absurd (in_no_block (ap (λ (f : ℕ). is_run (stage_at K.codes f q_now.stage)) (own i lt) ∙ ap is_run runs.listed))
       stalled (moved.Stays on' a next asks listed is (Lost none) slot) = NoCore a next asks (there_listed q_now.stage (stage.Act a next) listed) is none

@@ -1,6 +1,7 @@
 -- What is known of the code of what is built.
 use Rattle.std.specs.Prelude.{Option, Some, None, slice_get}
-use Rattle.std.proofs.Common.{◌≡◌, ℕ, ◌^◌, ◌<◌, ◌≤◌, length, refl, sym, subst, ⊎_elim, arith, lit<}
+use Rattle.std.proofs.Common.{◌≡◌, ℕ, ◌^◌, ◌<◌, refl, sym, subst, ⊎_elim, arith, lit<}
+use Rattle.std.proofs.Math.Nat.{lt_of_le_of_lt, lt_trans}
 use Rattle.c_program.specs.Tree.{Program}
 use Rattle.block_ir.specs.declared.code.Stage.{Stage}
 use Rattle.block_ir.specs.declared.code.Stage.TheVariants as stage
@@ -32,12 +33,6 @@ nothing_kept = record {
   apart = λ j k r lt l ne a b. absurd (omega arith);
 }
 
-less_less : (a b c : ℕ) → a < b → b < c → a < c
-less_less a b c l m = omega arith
-
-most_less : (a b c : ℕ) → a ≤ b → b < c → a < c
-most_less a b c l m = omega arith
-
 module _ (P : Program) (K : Parts) (built : IsBuilt P K) where
   keeps : (f l : ℕ) → KeepsOrders (blocks_of K.codes f l) (plans_of K.codes f l)
   keeps f l = by (slice_get (K.codes f).code.stages l) refl
@@ -53,15 +48,15 @@ module _ (P : Program) (K : Parts) (built : IsBuilt P K) where
   ordered f l = record { earlier = (keeps f l).earlier; final = (keeps f l).final }
 
   few : core_count K < 2 ^ 64
-  few = less_less (core_count K) (2 ^ 15) (2 ^ 64) built.few_cores (lit< tt)
+  few = lt_trans built.few_cores (lit< tt)
 
   pub numbers : AreNumbers P (numbers_of K) K.threads
   numbers = record {
     threads = built.threads;
     ids = built.ids;
-    few_threads = most_less K.threads 64 (2 ^ 64) built.few_threads (lit< tt);
-    few_mutexes = less_less (length K.mutexes) (core_count K) (2 ^ 64) (omega arith) few;
-    few_barriers = less_less K.barriers (core_count K) (2 ^ 64) (omega arith) few;
+    few_threads = lt_of_le_of_lt built.few_threads (lit< tt);
+    few_mutexes = lt_trans (omega arith) few;
+    few_barriers = lt_trans (omega arith) few;
   }
 
 pub built_fits : BuiltFits

@@ -1,6 +1,7 @@
 -- A grant of a core's machine is a grant of the theory's core.
 use Rattle.std.specs.Prelude.{nat_eq, nat_lt, Bool, true, false, not, ◌&&◌, if◌then◌else◌, replicate, slice_get, slice_index, slice_set, Option, Some, None}
 use Rattle.std.proofs.Common.{◌≡◌, ℕ, suc, List, ◌++◌, refl, sym, ap, ap₂, ◌∙◌}
+use Rattle.std.proofs.Math.Bool.{and-true}
 use Rattle.c_program.specs.Tree.{Piece}
 use Rattle.circuit.specs.Rows.{spread}
 use Rattle.planned_block.proofs.Bits.{is_same}
@@ -129,10 +130,6 @@ ids_do T formats (Some (Forks c)) s e state out after i f a number created joine
     ∙ ap OfIds (ids_same state i a.number (f 2) (first_word a.values) (f 3) (second_word a.values) created joined)
 ids_do T formats (Some (Prints c)) s e state out after i f a number created joined = absurd cc
 
-and_true : (b : Bool) → b ≡ (b && true)
-and_true true = refl
-and_true false = refl
-
 pub printer_may : (o : Option CoreShape) (s : PrinterShape) → o ≡ Some (Prints s) → (state : (machine_of o).State) (out : List ℕ) (i : ℕ) (f : ℕ → ℕ) (a : Asked) →
     MayAlike o state out i f a
 printer_may None s e state out i f a = absurd cc
@@ -140,7 +137,7 @@ printer_may (Some (Bank c)) s e state out i f a = absurd cc
 printer_may (Some (Mutex c)) s e state out i f a = absurd cc
 printer_may (Some (Barrier c)) s e state out i f a = absurd cc
 printer_may (Some (Forks c)) s e state out i f a = absurd cc
-printer_may (Some (Prints c)) s e state out i f a = and_true (nat_lt 0 (f 0))
+printer_may (Some (Prints c)) s e state out i f a = sym (and-true (nat_lt 0 (f 0)))
 
 pub printer_does : (T : ℕ) (formats : List (List Piece)) (o : Option CoreShape) (s : PrinterShape) → o ≡ Some (Prints s) → (state : (machine_of o).State) (out after : List ℕ)
     (i : ℕ) (f : ℕ → ℕ) (a : Asked) → after ≡ out ++ text_at (slice_get formats a.number) a.values → DoesAlike T formats o state out after i f a

@@ -2,6 +2,7 @@
 use Rattle.std.specs.Prelude.{Bool, true, false, nat_lt, ℤ}
 use Rattle.std.proofs.Common.{◌≡◌, ℕ, ◌<◌, ◌≤◌, List, [], refl, ap, arith}
 use Rattle.std.proofs.lemmas.Bool.Decides.{nat_tests}
+use Rattle.std.proofs.lemmas.Bool.{ltb-true}
 use Rattle.c_program.specs.Tree.{Program}
 use Rattle.interleaving.specs.Memory.{Access}
 use Rattle.planned_block.specs.Slot.{Slot}
@@ -23,16 +24,13 @@ use Rattle.net_cycle.proofs.Cores.{has_banks}
 use Rattle.net_cycle.proofs.Steps.{banked, total_is, each_steps}
 use Rattle.net_cycle.proofs.Going.{step_goes}
 
-below_of : (T i : ℕ) → nat_lt i T ≡ true → i < T
-below_of T i e = grind (arith, nat_tests)
-
 -- by number a value of each thread, and another one beyond
 abbrev pick : {A : Type 0} (T i : ℕ) (c : Bool) → nat_lt i T ≡ c → (i < T → A) → A → A
-pick T i true e f d = f (below_of T i e)
+pick T i true e f d = f (ltb-true i T e)
 pick T i false e f d = d
 
 pick_has : {A : Type 0} (T i : ℕ) (c : Bool) (e : nat_lt i T ≡ c) (f : i < T → A) (d : A) (Q : A → Type 0) → i < T → ((l : i < T) → Q (f l)) → Q (pick T i c e f d)
-pick_has T i true e f d Q l all = all (below_of T i e)
+pick_has T i true e f d Q l all = all (ltb-true i T e)
 pick_has T i false e f d Q l all = absurd (let n : T ≤ i = grind (arith, nat_tests) in omega (arith, n, l))
 
 pick_beyond : {A : Type 0} (T i : ℕ) (c : Bool) (e : nat_lt i T ≡ c) (f : i < T → A) (d : A) → T ≤ i → pick T i c e f d ≡ d

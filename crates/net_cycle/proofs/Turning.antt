@@ -1,9 +1,10 @@
 -- EACH TURNS: what a cycle does to each core, in the theory's words; and that what it tells then fits.
-use Rattle.std.specs.Prelude.{Bool, true, false, ◌&&◌, nat_eq, nat_lt, if◌then◌else◌, ◌++◌, Option, Some, None, slice_get}
+use Rattle.std.specs.Prelude.{Bool, true, ◌&&◌, nat_eq, nat_lt, if◌then◌else◌, ◌++◌, Option, Some, None, slice_get}
 use Rattle.std.proofs.Common.{◌≡◌, ℕ, suc, ◌<◌, ◌≤◌, List, [], length, refl, sym, ap, ◌∙◌, subst, arith}
 use Rattle.std.proofs.lemmas.Bool.Decides.{nat_tests}
 use Rattle.std.proofs.lemmas.List.{append-nil, length-map}
-use Rattle.std.proofs.lemmas.Option.{slice_get_within}
+use Rattle.std.proofs.lemmas.Option.{slice_get_within, cond_some}
+use Rattle.std.proofs.lemmas.Bool.{ltb-true}
 use Rattle.hls_ints.specs.Residues.{residue_of}
 use Rattle.c_program.specs.Tree.{Program}
 use Rattle.block_ir.specs.declared.code.Act.{Act}
@@ -38,13 +39,6 @@ use Rattle.net_cycle.proofs.Handing.{HandsOver, hands_over}
 use Rattle.net_cycle.proofs.Printing.{site_prints}
 use Rattle.net_cycle.proofs.Granting.{MayAlike, DoesAlike, mutex_may, mutex_does, barrier_may, barrier_does, ids_may, ids_do}
 use Rattle.net_cycle.proofs.Granting.{printer_may, printer_does, printer_prints, shown_whatever, bank_shows}
-
-some_if : (c : Bool) (x k : ℕ) → (if c then Some x else None) ≡ Some k → (c ≡ true) × (x ≡ k)
-some_if true x k e = (refl, (let s : x ≡ k = cc in s))
-some_if false x k e = absurd cc
-
-less_told : (a b : ℕ) → nat_lt a b ≡ true → a < b
-less_told a b e = grind (arith, nat_tests)
 
 module _ (P : Program) (K : Parts) (built : IsBuilt P K) (c : Choice) (h : Stage P K) where
   abbrev next_out : List ℕ
@@ -149,13 +143,13 @@ module _ (P : Program) (K : Parts) (built : IsBuilt P K) (c : Choice) (h : Stage
 
     asks_core : (s : Service) → asks.service ≡ s → core_in (numbers_of K) s asks.core ≡ Some k → AsksCore
     asks_core Mutexes service at =
-        let u = some_if (nat_lt asks.core (length K.mutexes)) (mutex_core (numbers_of K) asks.core) k at in
-        let m = there K.mutexes asks.core (less_told asks.core (length K.mutexes) u.0) in
+        let u = cond_some (nat_lt asks.core (length K.mutexes)) (mutex_core (numbers_of K) asks.core) k at in
+        let m = there K.mutexes asks.core (ltb-true asks.core (length K.mutexes) u.0) in
         ToMutex m.0 (ap (core_at K) (sym u.1) ∙ mutex_at K asks.core m.0 m.1)
     asks_core Barriers service at =
-        let u = some_if (nat_lt asks.core K.barriers) (barrier_core (numbers_of K) asks.core) k at in
-        to_barrier service (ap (core_at K) (sym u.1) ∙ barrier_at K asks.core (less_told asks.core K.barriers u.0))
-    asks_core Ids service at = let u = some_if K.ids (ids_core (numbers_of K)) k at in to_ids service (ap (core_at K) (sym u.1) ∙ ids_at K u.0)
+        let u = cond_some (nat_lt asks.core K.barriers) (barrier_core (numbers_of K) asks.core) k at in
+        to_barrier service (ap (core_at K) (sym u.1) ∙ barrier_at K asks.core (ltb-true asks.core K.barriers u.0))
+    asks_core Ids service at = let u = cond_some K.ids (ids_core (numbers_of K)) k at in to_ids service (ap (core_at K) (sym u.1) ∙ ids_at K u.0)
     asks_core Prints service at =
         let same : printer_core (numbers_of K) ≡ k = cc in ToPrinter service same (ap (core_at K) (sym same) ∙ printer_at K)
 

@@ -1,13 +1,13 @@
 -- In the theory's words: a wake is a turn, whoever else is granted the core in that cycle; and a granted act, or main's return, is an act.
 use Rattle.std.specs.Prelude.{Bool, true, false, nat_eq, if◌then◌else◌, Some, ℤ}
 use Rattle.std.proofs.Common.{◌≡◌, ◌≢◌, ℕ, [], refl, sym, ap, ◌∙◌, subst, inr, ⊎_elim}
+use Rattle.std.proofs.lemmas.Bool.{cases_eq}
 use Rattle.hls_ints.specs.Residues.{residue_of}
 use Rattle.c_program.specs.Tree.{Program}
 use Rattle.c_program.specs.Weight.{bound}
 use Rattle.interleaving.specs.Memory.{Location}
 use Rattle.interleaving.specs.Hardware.{World, Hardware}
 use Rattle.interleaving.specs.Cycle.{AreForThread, TurnsInCycle, ActsInCycle, ActsAlone}
-use Rattle.interleaving.proofs.Update.{same_or_not}
 use Rattle.block_ir.specs.declared.code.Act.{Act}
 use Rattle.block_ir.specs.declared.code.Act.TheVariants as act
 use Rattle.block_ir.specs.declared.code.Stage.TheVariants as stage
@@ -125,4 +125,4 @@ module _ (P : Program) (K : Parts) (chain : ℕ → ℕ → ℕ) where
                 (λ ne.
                 alone.cores j (λ e. ne (only j e))
                 ∙ sym (ap (λ (x : Bool). if x then granted K.threads (print_formats P) (b.cores j) i ask else b.cores j) (other_is j k ne)))
-                (same_or_not j k)
+                (cases_eq j k)

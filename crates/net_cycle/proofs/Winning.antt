@@ -2,7 +2,7 @@
 use Rattle.std.specs.Prelude.{Bool, true, false, nat_lt, Option, Some, None, slice_get, ℤ}
 use Rattle.std.proofs.Common.{◌≡◌, ◌≢◌, ℕ, ◌<◌, ◌≤◌, ◌⊎◌, length, refl, sym, ap, ◌∙◌, subst, inl, inr, ⊎_elim, arith}
 use Rattle.std.proofs.lemmas.Bool.Decides.{nat_tests}
-use Rattle.interleaving.proofs.Update.{same_or_not}
+use Rattle.std.proofs.lemmas.Bool.{cases_eq}
 use Rattle.c_program.specs.Tree.{Program}
 use Rattle.block_ir.specs.declared.code.Act.{Act}
 use Rattle.block_ir.specs.declared.code.Stage.{Stage as CodeStage}
@@ -45,7 +45,7 @@ act_of N main variables (Some (stage.Act a next)) k e = by (asked main a variabl
 
 names_or : (o : Option ℕ) (k : ℕ) → (o ≡ Some k) ⊎ (o ≢ Some k)
 names_or None k = inr (λ e. cc)
-names_or (Some m) k = ⊎_elim (λ (e : m ≡ k). inl (ap Some e)) (λ (ne : m ≢ k). inr (λ e. let same : m ≡ k = cc in ne same)) (same_or_not m k)
+names_or (Some m) k = ⊎_elim (λ (e : m ≡ k). inl (ap Some e)) (λ (ne : m ≢ k). inr (λ e. let same : m ≡ k = cc in ne same)) (cases_eq m k)
 
 -- ---- past the cores nobody is granted anything
 

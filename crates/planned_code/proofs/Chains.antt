@@ -1,9 +1,9 @@
 -- The plans of typed code are short.
-use Rattle.std.proofs.Common.{◌≡◌, ℕ, zero, suc, ◌+◌, ◌*◌, ◌<◌, ◌≤◌, List, [], ◌∷◌, length, Option, Some, None, refl, sym, ap, ◌∙◌, subst, arith}
+use Rattle.std.proofs.Common.{◌≡◌, ℕ, zero, suc, ◌+◌, ◌*◌, ◌<◌, ◌≤◌, length, Option, Some, None, sym, ap, ◌∙◌, subst, arith}
 use Rattle.std.specs.Prelude.{slice_get}
+use Rattle.planned_view.proofs.Running.{size-view}
 use Rattle.c_program.specs.Tree.{Program}
 use Rattle.c_program.specs.Weight.{weight}
-use Rattle.block_ir.specs.declared.block.Operation.{Operation as CodeOperation}
 use Rattle.block_ir.specs.declared.block.Block.{Block as CodeBlock}
 use Rattle.block_ir.specs.declared.code.Stage.{Stage}
 use Rattle.block_ir.specs.declared.code.Stage.TheVariants as stage
@@ -14,7 +14,7 @@ use Rattle.block_ir.specs.declared.plan.Planned.{Planned}
 use Rattle.planned_block.specs.Block.{Block, Kind, Simple, Multiply, Divide, BankRead, BankWrite, ArrayRead, ArrayWrite, operation_at, size}
 use Rattle.planned_block.specs.Table.{latency, latencies_before}
 use Rattle.planned_block.proofs.Tables.{sequential_short}
-use Rattle.planned_view.specs.View.{operations_view, planned_view}
+use Rattle.planned_view.specs.View.{planned_view}
 use Rattle.planned_hardware.specs.Following.{own_latencies}
 use Rattle.block_refine.specs.Threads.{block_at, plan_at}
 use Rattle.right_plan.specs.Right.{IsRight, IsRightPlan}
@@ -34,10 +34,6 @@ latency_most (ArrayWrite x) = omega arith
 latencies_most : (b : Block) (n : ℕ) → latencies_before b n ≤ 8 * n
 latencies_most b zero = omega arith
 latencies_most b (suc n) = let rest = latencies_most b n in let one = latency_most (operation_at b n).kind in omega arith
-
-view_length : (os : List CodeOperation) → length (operations_view os) ≡ length os
-view_length [] = refl
-view_length (o ∷ os) = ap suc (view_length os)
 
 module _ (P : Program) (routine : ℕ) (code : ThreadCode) (plan : Planned) (typed : IsTypedCode P routine code) (is : IsRightPlan code plan) where
   pub typed_at : (l : ℕ) (b : CodeBlock) → slice_get code.stages l ≡ Some (stage.Run b) → IsTypedBlock (types_of P code) (length code.stages) (4 * weight P) b
@@ -68,7 +64,7 @@ module _ (P : Program) (routine : ℕ) (code : ThreadCode) (plan : Planned) (typ
   low l (Some (stage.Run b)) at =
       let v = planned_view b in
       let most = latencies_most v (size v) in
-      let long = view_length b.operations in
+      let long = size-view b.operations in
       let few = (typed_at l b at).size in
       omega (arith, most, long, few)
 
@@ -81,6 +77,6 @@ plans_are_small P f code plan typed is l b p at here =
     let brief = q.2.short in
     let most = sequential_short v in
     let sum = latencies_most v (size v) in
-    let long = view_length b.operations in
+    let long = size-view b.operations in
     let few = (typed_at P f code plan typed is l b at).few in
     omega (arith, states, brief, most, sum, long, few)

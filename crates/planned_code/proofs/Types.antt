@@ -1,6 +1,9 @@
 -- What lowering calls typed is what the promise of a thread's module calls typed.
-use Rattle.std.proofs.Common.{◌≡◌, ℕ, zero, suc, ◌<◌, List, [], ◌∷◌, ◌++◌, length, Option, Some, None, refl, sym, ap, ◌∙◌, subst, arith, append_assoc, length-append}
+use Rattle.std.proofs.Common.{◌≡◌, ℕ, zero, suc, List, [], ◌∷◌, ◌++◌, length, Option, Some, None, refl, sym, ap, ◌∙◌, subst, arith, append_assoc, length-append}
 use Rattle.std.specs.Prelude.{slice_get}
+use Rattle.std.proofs.lemmas.List.{append-nil}
+use Rattle.std.proofs.lemmas.Option.{slice_get_within}
+use Rattle.lists.proofs.Places.{get_front}
 use Rattle.hls_ints.specs.Types.{IntegerType}
 use Rattle.c_program.specs.declared.tree.UnaryOperator.{UnaryOperator}
 use Rattle.c_program.specs.declared.tree.UnaryOperator.TheVariants.{Plus, Minus, Complement, Not}
@@ -26,20 +29,6 @@ use Rattle.bank_partition.specs.declared.banks.Spread.{Spread}
 use Rattle.thread_promise.specs.Globals.{IsGlobalOf, IsAccess}
 use Rattle.code_following.specs.Typed.{Types, type_there, element_there, IsArray, last_type, source_type, operand_type, value_type}
 use Rattle.code_following.specs.Typed.{IsTypedSource, IsTypedOperand, IsTypedOperation, AreTyped, IsTypedFinal, IsTypedNext, IsTypedBlock}
-
-get_within : {A : Type 0} (xs : List A) (i : ℕ) (v : A) → slice_get xs i ≡ Some v → i < length xs
-get_within [] i v e = cc
-get_within (x ∷ xs) zero v e = omega arith
-get_within (x ∷ xs) (suc i) v e = let h = get_within xs i v e in omega arith
-
-get_more : {A : Type 0} (xs ys : List A) (k : ℕ) (x : A) → slice_get xs k ≡ Some x → slice_get (xs ++ ys) k ≡ Some x
-get_more [] ys k x e = cc
-get_more (z ∷ xs) ys zero x e = e
-get_more (z ∷ xs) ys (suc k) x e = get_more xs ys k x e
-
-get_last : {A : Type 0} (xs ys : List A) (x : A) → slice_get (xs ++ x ∷ ys) (length xs) ≡ Some x
-get_last [] ys x = refl
-get_last (z ∷ xs) ys x = get_last xs ys x
 
 -- the types of results
 
@@ -106,7 +95,7 @@ module _ (T : Types) (code : ThreadCode) (variables : T.variables ≡ code.varia
     source_typed before more (Constant ty v) is h = h
     source_typed before more (Variable x ty) is h = ap (λ ts. slice_get ts x) (sym variables) ∙ h
     source_typed before more (Value k ty) is h =
-        let at : slice_get all k ≡ Some h.0 = ap (λ os. slice_get os k) is ∙ get_more before more k h.0 h.1 in
+        let at : slice_get all k ≡ Some h.0 = ap (λ os. slice_get os k) is ∙ get_front before more k h.0 h.1 in
         (h.0, at, value_same h.0 ∙ h.2)
 
     pub operand_typed : (before more : List Operation) (o : Operand) → all ≡ before ++ more → IsTypedOperand T before o → promise.IsTypedOperand T.globals code all o
@@ -136,11 +125,7 @@ module _ (T : Types) (code : ThreadCode) (variables : T.variables ≡ code.varia
 
   module _ (n m : ℕ) (b : Block) (t : IsTypedBlock T n m b) where
     abbrev typed_in : (o : Operand) → IsTypedOperand T b.operations o → promise.IsTypedOperand T.globals code b.operations o
-    typed_in o h = operand_typed b.operations b.operations [] o (let e : b.operations ≡ b.operations ++ [] = sym (append_nothing b.operations) in e) h
-      where
-        append_nothing : (xs : List Operation) → xs ++ [] ≡ xs
-        append_nothing [] = refl
-        append_nothing (x ∷ xs) = ap (λ l. x ∷ l) (append_nothing xs)
+    typed_in o h = operand_typed b.operations b.operations [] o (let e : b.operations ≡ b.operations ++ [] = sym (append-nil b.operations) in e) h
 
     next_typed : (to : Next) → n ≡ length code.stages → IsTypedNext T n b.operations to → promise.IsTypedNext T.globals code b.operations to
     next_typed (Jump l) is h = omega arith
@@ -177,7 +162,7 @@ module _ (T : Types) where
   source_below : (before : List Operation) (s : Source) → IsTypedSource T before s → SourceNeedsBelow (length before) s
   source_below before (Constant ty v) h = tt
   source_below before (Variable x ty) h = tt
-  source_below before (Value k ty) h = get_within before k h.0 h.1
+  source_below before (Value k ty) h = slice_get_within before k h.0 h.1
 
   operand_below : (before : List Operation) (o : Operand) → IsTypedOperand T before o → NeedsBelow (length before) o
   operand_below before o h = source_below before o.source h

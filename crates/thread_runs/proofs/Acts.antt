@@ -2,6 +2,7 @@
 use Rattle.std.proofs.Common.{◌≡◌, ℕ, zero, suc, ◌+◌, ◌<◌, ◌≤◌, ◌^◌, Bool, true, false, ◌&&◌, min, List, [], ◌∷◌, length, slice_get, Option, Some, None, ℤ}
 use Rattle.std.proofs.Common.{refl, sym, ap, subst, ◌∙◌, arith}
 use Rattle.std.proofs.lemmas.Option.{slice_get_within}
+use Rattle.std.proofs.lemmas.Bool.{eq-eqb}
 use Rattle.hls_ints.specs.Residues.{residue_of, bit_of}
 use Rattle.block_ir.specs.declared.code.Act.{Act}
 use Rattle.block_ir.specs.declared.code.Act.TheVariants as act
@@ -34,7 +35,7 @@ use Rattle.thread_layout.proofs.Placed.{from_rest}
 use Rattle.thread_layout.proofs.Quiet.{target}
 use Rattle.thread_layout.proofs.Shown.{Shows}
 use Rattle.thread_layout.proofs.Sight.{shown_last, waits_last, does, still, knows, stage_shown, enabled}
-use Rattle.thread_runs.proofs.Leaving.{IsTarget, same_number, act_leave, act_moved}
+use Rattle.thread_runs.proofs.Leaving.{IsTarget, act_leave, act_moved}
 use Rattle.thread_runs.proofs.Printing.{act_left, act_off, number_is, value_is, stays_off, off_without_grant, off_moved, off_waiting, still_waiting}
 use Rattle.thread_runs.proofs.Targets.{target_within}
 use Rattle.thread_runs.proofs.Unasked.{asked_as}
@@ -180,7 +181,7 @@ module _ (shape : Shape) (code : ThreadCode) (plan : Planned) (m : Module) (t : 
         ask =
             let e = enabled shape code plan m t served r o in
             asked_as shape code plan m t served r q k o shows not_so within.1 e.0 e.1
-            ∙ ap (λ c. bit_of (is_core c k && e.0)) aimed ∙ ap (λ z. bit_of (z && e.0)) (same_number k) ∙ sym e.1;
+            ∙ ap (λ c. bit_of (is_core c k && e.0)) aimed ∙ ap (λ z. bit_of (z && e.0)) (eq-eqb k k refl) ∙ sym e.1;
         number =
             number_is shape code plan m t served r q a next call k o shows listed is_call own fits.number
             ∙ sym (number_kept call.service call.number (operand_words q.variables call.operands));

@@ -1,7 +1,8 @@
 -- What a block leaves in arrays.
-use Rattle.std.proofs.Common.{◌≡◌, ℕ, zero, suc, ◌+◌, ◌<◌, ◌≤◌, Bool, true, false, nat_eq, if◌then◌else◌, List, [], ◌∷◌, ◌++◌, length, Option, Some, ℤ, refl, sym, ap, ◌∙◌, arith}
+use Rattle.std.proofs.Common.{◌≡◌, ℕ, zero, suc, ◌+◌, ◌≤◌, Bool, true, false, nat_eq, if◌then◌else◌, List, [], ◌++◌, length, Option, Some, ℤ, refl, sym, ap, ◌∙◌, arith}
 use Rattle.std.proofs.Common.{append-nil, append_assoc}
 use Rattle.std.specs.Prelude.{slice_get, slice_index}
+use Rattle.lists.proofs.Places.{get_there}
 use Rattle.interleaving.specs.Memory.{Memory, Access, memory_after}
 use Rattle.interleaving.proofs.Accesses.{memory_after-append}
 use Rattle.c_program.specs.declared.tree.BinaryOperator.{BinaryOperator}
@@ -34,11 +35,6 @@ binary_none operator.Divide f l r = refl
 binary_none operator.Remainder f l r = refl
 binary_none _ f l r = refl
 
-some_at : (os : List Operation) (n : ℕ) → n < length os → (o : Operation) × (slice_get os n ≡ Some o)
-some_at [] n less = absurd (omega arith)
-some_at (o ∷ os) zero less = (o, refl)
-some_at (o ∷ os) (suc n) less = some_at os n (omega arith)
-
 module _ (b : Block) (p : BlockPlan) (q : Slot) (wire : ℕ → ℤ) where
   abbrev pub given : ℕ → ℤ
   given = value_now (planned_view b) (plan_view b p) q wire
@@ -65,7 +61,7 @@ module _ (b : Block) (p : BlockPlan) (q : Slot) (wire : ℕ → ℤ) where
   arrays_are zero a j le = refl
   arrays_are (suc n) a j le =
       let before = arrays_are n a j (omega arith) in
-      let found = some_at b.operations n (omega arith) in
+      let found = get_there b.operations n (omega arith) in
       ap (λ (es : List (Access ℤ)). memory_after es q.arrays (element_at a j))
       (where_last (starts_now (planned_view b) (plan_view b p) q) (array_access_now (planned_view b) (plan_view b p) q wire) n 0)
       ∙ ap (λ (m : Memory ℤ). m (element_at a j))

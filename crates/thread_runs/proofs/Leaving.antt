@@ -1,9 +1,8 @@
 -- When a state is left that asks no bank.
 use Rattle.std.proofs.Common.{◌≡◌, ◌≢◌, ℕ, zero, suc, ◌+◌, ◌-◌, ◌<◌, ◌≤◌, Bool, true, false, not, ◌&&◌, ◌||◌, nat_eq, length, slice_get, slice_index, Option, Some, None, refl, sym, ap}
 use Rattle.std.proofs.Common.{subst, ◌∙◌, arith, ⊎_elim}
-use Rattle.std.proofs.lemmas.Bool.{cases_lt}
-use Rattle.interleaving.proofs.Update.{same_or_not}
-use Rattle.std.proofs.lemmas.Bool.Decides.{nat_tests}
+use Rattle.std.proofs.lemmas.Bool.{cases_lt, cases_eq, eq-eqb, ne_eqb}
+use Rattle.std.proofs.Math.Bool.{or-false}
 use Rattle.hls_ints.specs.Residues.{bit_of}
 use Rattle.block_ir.specs.declared.code.ThreadCode.{ThreadCode}
 use Rattle.block_ir.specs.declared.plan.Planned.{Planned}
@@ -30,10 +29,6 @@ none_pass : (f : ℕ → Bool) (n : ℕ) → ((k : ℕ) → k < n → f k ≡ fa
 none_pass f zero none = refl
 none_pass f (suc n) none = ap (λ t. t || f n) (none_pass f n (λ k less. none k (omega arith))) ∙ none n (omega arith)
 
-or_false : (t : Bool) → (t || false) ≡ t
-or_false true = refl
-or_false false = refl
-
 -- tests of which only one may pass
 pub only_one : (f : ℕ → Bool) (n c : ℕ) → c < n → ((k : ℕ) → k < n → k ≢ c → f k ≡ false) → any_below f n ≡ f c
 only_one f zero c less none = absurd (omega arith)
@@ -41,18 +36,12 @@ only_one f (suc n) c less none =
     ⊎_elim
     (λ (same : n ≡ c).
     ap (λ t. t || f n) (none_pass f n (λ k below. none k (omega arith) (λ is. absurd (omega arith)))) ∙ ap f same)
-    (λ (ne : n ≢ c). ap (λ t. any_below f n || t) (none n (omega arith) ne) ∙ or_false (any_below f n) ∙ only_one f n c (omega arith) (λ k below. none k (omega arith)))
-    (same_or_not n c)
+    (λ (ne : n ≢ c). ap (λ t. any_below f n || t) (none n (omega arith) ne) ∙ or-false (any_below f n) ∙ only_one f n c (omega arith) (λ k below. none k (omega arith)))
+    (cases_eq n c)
 
 grant_is : {n : ℕ} (c : ℕ) (g : Bool) → n ≡ bit_of g → nat_eq n 1 ≡ g
 grant_is c true e = ap (λ k. nat_eq k 1) e
 grant_is c false e = ap (λ k. nat_eq k 1) e
-
-pub other_number : (k n : ℕ) → k ≢ n → nat_eq k n ≡ false
-other_number k n ne = grind (arith, nat_tests)
-
-pub same_number : (k : ℕ) → nat_eq k k ≡ true
-same_number k = grind (arith, nat_tests)
 
 no_unmet : (raised enabled grants : Bool) → raised ≡ false → (raised && not ((raised && enabled) && grants)) ≡ false
 no_unmet true enabled grants e = absurd cc
@@ -111,7 +100,7 @@ module _ (shape : Shape) (code : ThreadCode) (plan : Planned) (m : Module) (t : 
       where
         no_bank : (c : Option ℕ) → IsTarget r c a g → (k : ℕ) → k < banks → is_core c k ≡ false
         no_bank None is k bank = refl
-        no_bank (Some c) is k bank = let behind = is.1 in other_number k c (λ same. absurd (omega arith))
+        no_bank (Some c) is k bank = let behind = is.1 in ne_eqb k c (λ same. absurd (omega arith))
 
     missing_of : (c : Option ℕ) → IsTarget r c a g → ((n : ℕ) → n < cores_of shape → raised n ≡ is_core c n)
         → any_below (unmet raised grants e) (cores_of shape) ≡ (a && not ((a && e) && g))
@@ -120,8 +109,8 @@ module _ (shape : Shape) (code : ThreadCode) (plan : Planned) (m : Module) (t : 
     missing_of (Some c) is raised_so =
         let less = is.2 in
         only_one (unmet raised grants e) (cores_of shape) c less
-        (λ k below ne. no_unmet (raised k) e (grants k) (raised_so k below ∙ other_number k c ne))
-        ∙ ap (λ z. z && not ((z && e) && grants c)) (raised_so c less ∙ same_number c ∙ sym is.0)
+        (λ k below ne. no_unmet (raised k) e (grants k) (raised_so k below ∙ ne_eqb k c ne))
+        ∙ ap (λ z. z && not ((z && e) && grants c)) (raised_so c less ∙ eq-eqb c c refl ∙ sym is.0)
         ∙ ap (λ z. a && not ((a && e) && z)) (grant_is c g is.3)
 
     winning_of : (c : Option ℕ) → IsTarget r c a g → ((n : ℕ) → n < cores_of shape → raised n ≡ is_core c n)
@@ -131,8 +120,8 @@ module _ (shape : Shape) (code : ThreadCode) (plan : Planned) (m : Module) (t : 
     winning_of (Some c) is raised_so =
         let less = is.2 in
         only_one (got raised grants e) (cores_of shape) c less
-        (λ k below ne. no_got (raised k) e (grants k) (raised_so k below ∙ other_number k c ne))
-        ∙ ap (λ z. (z && e) && grants c) (raised_so c less ∙ same_number c ∙ sym is.0)
+        (λ k below ne. no_got (raised k) e (grants k) (raised_so k below ∙ ne_eqb k c ne))
+        ∙ ap (λ z. (z && e) && grants c) (raised_so c less ∙ eq-eqb c c refl ∙ sym is.0)
         ∙ ap (λ z. (a && e) && z) (grant_is c g is.3)
 
     missing : any_below (unmet raised grants e) (length t.inside.early.opens) ≡ (a && not ((a && e) && g))

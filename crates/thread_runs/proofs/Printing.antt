@@ -3,6 +3,9 @@ use Rattle.std.proofs.Common.{◌≡◌, ℕ, zero, suc, ◌+◌, ◌-◌, ◌%�
 use Rattle.std.proofs.Common.{slice_get, Option, Some, None, ℤ, pos, refl, sym, ap, subst, ◌∙◌, arith, min}
 use Rattle.std.proofs.Math.Nat.{mod-eq_of_lt}
 use Rattle.std.proofs.lemmas.Option.{slice_get_within, get_or_from_slice_get}
+use Rattle.std.proofs.lemmas.Bool.{eq-eqb}
+use Rattle.std.proofs.Math.Bool.{and-false}
+use Rattle.lists.proofs.Places.{get_there}
 use Rattle.interleaving.specs.Memory.{Location}
 use Rattle.hls_ints.specs.Residues.{residue_of, bit_of}
 use Rattle.hls_ints.specs.Types.{IntegerType, HasType, width_of}
@@ -37,10 +40,10 @@ use Rattle.thread_slots.specs.Wired.{field_width}
 use Rattle.thread_states.specs.Acts.{LeavesFor}
 use Rattle.thread_layout.specs.Modules.{IsModule}
 use Rattle.thread_layout.specs.Thread.{numbers_of, cores_of, inputs_of, is_core, places_of, port_at, done_at, IsPrintable, IsServed}
-use Rattle.thread_runs.proofs.Leaving.{IsTarget, same_number, act_leave, act_moved}
+use Rattle.thread_runs.proofs.Leaving.{IsTarget, act_leave, act_moved}
 use Rattle.thread_runs.proofs.Unasked.{asked_as}
 use Rattle.thread_layout.proofs.Cores.{HasKind, kind_there}
-use Rattle.thread_layout.proofs.Placed.{stands_copies, from_inside, from_rest, fields_count, field_stands, done_stands, got_any}
+use Rattle.thread_layout.proofs.Placed.{stands_copies, from_inside, from_rest, fields_count, field_stands, done_stands}
 use Rattle.thread_slots.proofs.Putting.{off_stores}
 use Rattle.thread_layout.proofs.Raising.{from_whole}
 use Rattle.thread_states.proofs.Acting.{leaves_later}
@@ -50,10 +53,6 @@ use Rattle.thread_layout.proofs.Resting.{agrees_off, left_moves, marks_left}
 use Rattle.thread_layout.proofs.Shown.{keeps_so}
 use Rattle.thread_layout.proofs.Sight.{shown_last, waits_last, stored, all_stored, next_words, does, still, knows, stage_shown, sees_variables, enabled, next_stage, next_state, next_beat}
 use Rattle.thread_layout.proofs.Sight.{next_variable, next_mark}
-
-and_false : (t : Bool) → (t && false) ≡ false
-and_false true = refl
-and_false false = refl
 
 same_operand : (variables : ℕ → ℤ) (v : ActOperand) → act_value variables v ≡ operand_of_act variables v
 same_operand variables (Constant ty n) = refl
@@ -66,7 +65,7 @@ cut (suc w) n less = let same : suc w - 1 + 1 ≡ suc w = omega arith in ap (λ 
 
 site_kept : (low : Bool) (w n : ℕ) → nat_lt w 32 ≡ low → n < 2 ^ w → resized_word false 32 w n ≡ n
 site_kept true w n e less = rw e (cut w n less)
-site_kept false w n e less = let f = and_false (nat_lt 32 w) in rw (e, f) refl
+site_kept false w n e less = let f = and-false (nat_lt 32 w) in rw (e, f) refl
 
 pub off_without_grant : (e : Bool) → bit_of (e && not (false || (true && not ((true && e) && false)))) ≡ 0
 off_without_grant true = refl
@@ -166,7 +165,7 @@ module _ (shape : Shape) (code : ThreadCode) (plan : Planned) (m : Module) (t : 
         let fields = (group t.inside.early.requests (service_of own.kind)).fields in
         let long : length fields ≡ suc (value_count shape.served s) =
         fields_count shape code plan m t served (service_of own.kind) ∙ ap (λ z. suc (value_count shape.served z)) own.is in
-        let found = got_any fields j (subst (λ (n : ℕ). j < n) (sym long) less) in
+        let found = get_there fields j (subst (λ (n : ℕ). j < n) (sym long) less) in
         ap (λ z. r.signal (port_at shape m z (suc j))) own.at
         ∙ stands_copies m r (port_at shape m (banks + own.number) (suc j)) (field_width (number_width shape.served (service_of own.kind)) j) found.0 o
         (field_stands shape code plan m t served own.number own.kind own.listed j found.0 found.1)
@@ -258,7 +257,7 @@ module _ (shape : Shape) (code : ThreadCode) (plan : Planned) (m : Module) (t : 
     prints_so =
         let e = enabled shape code plan m t served r o in (
           asked_as shape code plan m t served r q printer o shows not_so (omega arith) e.0 e.1
-              ∙ ap (λ c. bit_of (is_core c printer && e.0)) asked_it ∙ ap (λ z. bit_of (z && e.0)) (same_number printer) ∙ sym e.1,
+              ∙ ap (λ c. bit_of (is_core c printer && e.0)) asked_it ∙ ap (λ z. bit_of (z && e.0)) (eq-eqb printer printer refl) ∙ sym e.1,
           site_is,
           values_are,
           goes_on,

@@ -3,6 +3,8 @@ use Rattle.std.proofs.Common.{◌≡◌, ◌≢◌, ℕ, suc, ◌+◌, ◌%◌, 
 use Rattle.std.proofs.Common.{arith}
 use Rattle.std.proofs.Math.Nat.{mod-eq_of_lt}
 use Rattle.std.proofs.lemmas.Option.{slice_get_within}
+use Rattle.std.proofs.Math.Bool.{or-true}
+use Rattle.std.proofs.lemmas.Bool.{eqb-true}
 use Rattle.interleaving.specs.Memory.{Location, Memory}
 use Rattle.hls_ints.specs.Residues.{residue_of, bit_of}
 use Rattle.hls_ints.specs.Types.{HasType, width_of}
@@ -48,13 +50,6 @@ use Rattle.thread_layout.proofs.Shown.{starts_so, keeps_so, keeps_in_so, global_
 use Rattle.thread_layout.proofs.Sight.{shown_last, stored, all_stored, does, still, knows, stays_but, words_stay, next_beat, next_mark, next_kept, is_right, kept_of, has_widths, sees_slot}
 use Rattle.thread_layout.proofs.Sight.{in_stage, shared_so, told_so, told_nothing}
 use Rattle.thread_runs.proofs.Unasked.{asks_outside_so, quiet_so}
-
-is_same : (x n : ℕ) → nat_eq x n ≡ true → x ≡ n
-is_same x n e = grind arith
-
-or_true : (t : Bool) → (t || true) ≡ true
-or_true true = refl
-or_true false = refl
 
 module _ (shape : Shape) (code : ThreadCode) (plan : Planned) (m : Module) (t : IsModule shape code plan m) (served : IsServed shape code plan) where
   abbrev banks : ℕ
@@ -236,7 +231,7 @@ module _ (shape : Shape) (code : ThreadCode) (plan : Planned) (m : Module) (t : 
           (if last then left_for_next bank (planned_view b) (plan_view b p) q words
           else gone_on (planned_view b) (plan_view b p) q wire words (registers_next bank (planned_view b) (plan_view b p) q))
       by_end true e = (
-        λ less. absurd (let same = is_same (suc q.state) p.states e in omega arith),
+        λ less. absurd (let same = eqb-true (suc q.state) p.states e in omega arith),
         shows_next shape code plan m t served r q (left_for_next bank (planned_view b) (plan_view b p) q words) true o inside.shown.shown on leave
             (made.is_last ∙ ap bit_of e)
             (made.stage ∙ ap (λ c. if c then leads_to value (planned_view b).next else q.stage) e) refl refl
@@ -311,7 +306,7 @@ module _ (shape : Shape) (code : ThreadCode) (plan : Planned) (m : Module) (t : 
               outside = shows.outside;
               none_granted = λ none x less.
                   let k = any_found grants (size (planned_view b)) some in
-                  absurd (let clash : true ≡ false = sym (ap (λ z. q.granted k.0 || z) k.2 ∙ or_true (q.granted k.0)) ∙ none k.0 in cc);
+                  absurd (let clash : true ≡ false = sym (ap (λ z. q.granted k.0 || z) k.2 ∙ or-true (q.granted k.0)) ∙ none k.0 in cc);
             };
             alive = λ k n alive.
                 let v = kept_of shape code plan m t served r o q b p inside.runs inside.state inside.shown k n alive.operation alive.listed alive.register in

@@ -1,7 +1,7 @@
 -- Which core a stage asks.
 use Rattle.std.proofs.Common.{◌≡◌, ◌≢◌, ℕ, ◌+◌, ◌-◌, ◌<◌, ◌≤◌, Bool, true, false, not, ◌&&◌, nat_eq}
 use Rattle.std.proofs.Common.{nat_lt, if◌then◌else◌, slice_get, slice_index, ℤ, Option, Some, None, refl, sym, ap, subst, ◌∙◌, arith}
-use Rattle.std.proofs.lemmas.Bool.Decides.{nat_tests}
+use Rattle.std.proofs.lemmas.Bool.{ltb-true}
 use Rattle.hls_ints.specs.Residues.{bit_of}
 use Rattle.block_ir.specs.declared.code.Act.TheVariants as act
 use Rattle.block_ir.specs.declared.code.Stage.{Stage}
@@ -41,19 +41,16 @@ target_within main s variables banks served c e = by (asked_in main s variables)
 
 -- ---- the printer
 
-is_below : (x y : ℕ) → nat_lt x y ≡ true → x < y
-is_below x y e = grind (arith, nat_tests)
-
 not_last : (N : Numbers) (s : Service) (c : ℕ) → (s ≡ Prints → ⊥) → core_in N s c ≢ Some (printer_core N)
 not_last N Mutexes c ne = by (nat_lt c N.mutexes) refl
   where
     by : (b : Bool) → nat_lt c N.mutexes ≡ b → (if b then Some (mutex_core N c) else None) ≢ Some (printer_core N)
-    by true is e = let less = is_below c N.mutexes is in let same : N.banks + c ≡ N.banks + N.mutexes + N.barriers + bit_of N.ids = cc in absurd (omega arith)
+    by true is e = let less = ltb-true c N.mutexes is in let same : N.banks + c ≡ N.banks + N.mutexes + N.barriers + bit_of N.ids = cc in absurd (omega arith)
     by false is e = absurd cc
 not_last N Barriers c ne = by (nat_lt c N.barriers) refl
   where
     by : (b : Bool) → nat_lt c N.barriers ≡ b → (if b then Some (barrier_core N c) else None) ≢ Some (printer_core N)
-    by true is e = let less = is_below c N.barriers is in let same : N.banks + N.mutexes + c ≡ N.banks + N.mutexes + N.barriers + bit_of N.ids = cc in absurd (omega arith)
+    by true is e = let less = ltb-true c N.barriers is in let same : N.banks + N.mutexes + c ≡ N.banks + N.mutexes + N.barriers + bit_of N.ids = cc in absurd (omega arith)
     by false is e = absurd cc
 not_last N Ids c ne = by N.ids refl
   where

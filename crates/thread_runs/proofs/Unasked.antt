@@ -1,5 +1,6 @@
 -- Cores that are not asked: banks outside of blocks, and of those that acts ask all but the one of the act.
 use Rattle.std.proofs.Common.{◌≡◌, ◌≢◌, ℕ, ◌<◌, ◌≤◌, Bool, true, false, ◌&&◌, slice_get, Option, Some, None, refl, sym, ap, ◌∙◌, arith}
+use Rattle.std.proofs.lemmas.Bool.{ne_eqb}
 use Rattle.block_ir.specs.Asked.{printer_core}
 use Rattle.thread_promise.specs.Moves.{asked_in, core_asked}
 use Rattle.hls_ints.specs.Residues.{bit_of}
@@ -14,7 +15,7 @@ use Rattle.thread_promise.specs.Promise.{is_print, is_run}
 use Rattle.thread_slots.specs.declared.shape.Shape.{Shape}
 use Rattle.thread_layout.specs.Modules.{IsModule}
 use Rattle.thread_layout.specs.Thread.{numbers_of, cores_of, is_core, port_at, IsServed}
-use Rattle.thread_runs.proofs.Leaving.{IsTarget, other_number, core_asks}
+use Rattle.thread_runs.proofs.Leaving.{IsTarget, core_asks}
 use Rattle.thread_runs.proofs.Targets.{target_within, not_printer}
 use Rattle.thread_layout.proofs.Placed.{ask_copied}
 use Rattle.thread_runs.proofs.Targets.{block_quiet}
@@ -58,7 +59,7 @@ module _ (shape : Shape) (code : ThreadCode) (plan : Planned) (m : Module) (t : 
       before (Some c) is =
           let inside = target_within shape.is_main (slice_get code.stages q.stage) q.variables banks shape.served c is in
           let past = inside.0 in
-          other_number n c (λ same. absurd (omega arith))
+          ne_eqb n c (λ same. absurd (omega arith))
 
   -- no other core of acts is asked, and in a block none is
   pub asks_alone_so : (r : Reading) (q : Slot) (k : ℕ) → Obeys m r → Shows shape code plan m t served r q → banks ≤ k → k < cores_of shape
@@ -70,7 +71,7 @@ module _ (shape : Shape) (code : ThreadCode) (plan : Planned) (m : Module) (t : 
 
       not_it : (c : Option ℕ) → c ≢ Some k → is_core c k ≡ false
       not_it None ne = refl
-      not_it (Some c) ne = other_number k c (λ same. ne (ap Some (sym same)))
+      not_it (Some c) ne = ne_eqb k c (λ same. ne (ap Some (sym same)))
 
       by : (run : Bool) → is_run (slice_get code.stages q.stage) ≡ run → r.signal (port_at shape m k 0) ≡ 0
       by true is =

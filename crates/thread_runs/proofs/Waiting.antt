@@ -4,6 +4,7 @@ use Rattle.std.proofs.Common.{nat_eq, if◌then◌else◌, min, List, [], ◌∷
 use Rattle.std.proofs.Common.{refl, sym, ap, subst, ◌∙◌, arith}
 use Rattle.std.proofs.Math.Nat.{mod-eq_of_lt}
 use Rattle.std.proofs.lemmas.Option.{slice_get_within}
+use Rattle.std.proofs.lemmas.Bool.{eq-eqb, ne_eqb, eqb-true}
 use Rattle.hls_ints.specs.Residues.{residue_of, bit_of}
 use Rattle.hls_ints.specs.Types.{IntegerType, HasType, width_of, long_int, wrapped}
 use Rattle.hls_ints.specs.Words.{signed_word}
@@ -45,7 +46,7 @@ use Rattle.thread_layout.proofs.Raising.{from_whole}
 use Rattle.thread_layout.proofs.Shown.{Shows}
 use Rattle.thread_layout.proofs.Sight.{shown_last, waits_last, stored, does, still, knows, stage_shown, sees_variables, enabled}
 use Rattle.thread_layout.proofs.Tellings.{bar_wide, run_wide, argument_wide}
-use Rattle.thread_runs.proofs.Leaving.{only_one, other_number, same_number, act_leave, act_moved}
+use Rattle.thread_runs.proofs.Leaving.{only_one, act_leave, act_moved}
 use Rattle.thread_runs.proofs.Printing.{stays_off, arrays_stay, shows_next, act_left, off_waiting, still_waiting}
 
 -- ---- the argument
@@ -66,10 +67,7 @@ bit_is false false n e f = refl
 
 which_variable : (argument : Option ℕ) (x : ℕ) → is_variable argument x ≡ true → argument ≡ Some x
 which_variable None x e = absurd cc
-which_variable (Some y) x e = ap Some (sym (same x y e))
-  where
-    same : (n k : ℕ) → nat_eq n k ≡ true → n ≡ k
-    same n k is = grind arith
+which_variable (Some y) x e = ap Some (sym (eqb-true x y e))
 
 module _ (shape : Shape) (code : ThreadCode) (plan : Planned) (m : Module) (t : IsModule shape code plan m) (served : IsServed shape code plan) where
   abbrev rest : ℕ
@@ -172,13 +170,13 @@ module _ (shape : Shape) (code : ThreadCode) (plan : Planned) (m : Module) (t : 
 
     barred : HasBit m r t.laid.acts.barred (holds n)
     barred =
-        subst (HasBit m r t.laid.acts.barred) (ap (any_below (λ k. nat_eq n k && holds k)) bars ∙ one ∙ ap (λ z. z && holds n) (same_number n))
+        subst (HasBit m r t.laid.acts.barred) (ap (any_below (λ k. nat_eq n k && holds k)) bars ∙ one ∙ ap (λ z. z && holds n) (eq-eqb n n refl))
         (t.laid.tells.barred m r (λ k. nat_eq n k) holds (from_told shape code plan m t served) o names_are (λ k less. hold_is k (subst (λ z. k < z) bars less)))
       where
         one : any_below (λ k. nat_eq n k && holds k) shape.served.barriers ≡ (nat_eq n n && holds n)
         one =
             only_one (λ k. nat_eq n k && holds k) shape.served.barriers n inside
-            (λ k less ne. ap (λ z. z && holds k) (other_number n k (λ same. ne (sym same))))
+            (λ k less ne. ap (λ z. z && holds k) (ne_eqb n k (λ same. ne (sym same))))
 
     leads : LeavesFor (min next rest) (holds n) r t.laid.start t.laid.rested
     leads =

@@ -3,8 +3,10 @@ use Rattle.std.specs.Prelude.{◌≡◌, ℕ, zero, suc, ◌+◌, ◌<◌, ◌�
 use Rattle.std.specs.Prelude.{if◌then◌else◌, List, [], ◌∷◌, ◌++◌, length, take, drop, Some, is_some, not, codes, decimal}
 use Rattle.std.specs.Str.{bytes_eq}
 use Rattle.std.proofs.Common.{refl, sym, ap, ◌∙◌, get_or, add-one, below_more, arith}
-use Rattle.std.proofs.lemmas.Bool.{ltb-true, ltb-false, false_from_ne_true}
+use Rattle.std.proofs.lemmas.Bool.{ltb-true, ltb-false, false_from_ne_true, not-false, not-true}
 use Rattle.std.proofs.lemmas.Slice.Eq.{bytes_eq-Decides}
+use Rattle.std.proofs.lemmas.List.{drop_more}
+use Rattle.std.proofs.Math.Bool.{or_assoc, or-true, or-false}
 use Rattle.verilog_tree.specs.declared.tree.Port.{Port}
 use Rattle.verilog_tree.specs.Scope.{Name, Names, is_known}
 use Rattle.verilog_tree.specs.Facts.{with_name}
@@ -12,44 +14,26 @@ use Rattle.verilog_tree.specs.Rules.{port_named, has_port}
 use Rattle.top_ports.specs.Top.{pref}
 use Rattle.top_ports.specs.Ports.{prefs_below, AllKnown, ArePrefs}
 
-pub same_name : (x y : Name) → bytes_eq x y ≡ true → x ≡ y
-same_name x y h = (bytes_eq-Decides x y).0 h
-
-pub name_itself : (x : Name) → bytes_eq x x ≡ true
-name_itself x = (bytes_eq-Decides x x).1 refl
-
-or_false : (b : Bool) → (b || false) ≡ b
-or_false true = refl
-or_false false = refl
-
-or_true : (b : Bool) → (b || true) ≡ true
-or_true true = refl
-or_true false = refl
-
-or_assoc : (a b c : Bool) → (a || (b || c)) ≡ ((a || b) || c)
-or_assoc true b c = refl
-or_assoc false b c = refl
-
 -- ---- one name more at the end
 
 pub known_pushed : (names : Names) (x y : Name) → is_known (names ++ x ∷ []) y ≡ (is_known names y || bytes_eq y x)
-known_pushed [] x y = or_false (bytes_eq y x)
-known_pushed (z ∷ names) x y = ap (λ b. bytes_eq y z || b) (known_pushed names x y) ∙ or_assoc (bytes_eq y z) (is_known names y) (bytes_eq y x)
+known_pushed [] x y = or-false (bytes_eq y x)
+known_pushed (z ∷ names) x y = ap (λ b. bytes_eq y z || b) (known_pushed names x y) ∙ sym (or_assoc (bytes_eq y z) (is_known names y) (bytes_eq y x))
 
 known_with : (names : Names) (x y : Name) (b : Bool) → is_known names x ≡ b → is_known (if b then names else names ++ x ∷ []) y ≡ (is_known names y || bytes_eq y x)
 known_with names x y false e = known_pushed names x y
 known_with names x y true e = by (bytes_eq y x) refl where
   by : (v : Bool) → bytes_eq y x ≡ v → is_known names y ≡ (is_known names y || v)
-  by false k = sym (or_false (is_known names y))
-  by true k = ap (is_known names) (same_name y x k) ∙ e ∙ sym (or_true (is_known names y))
+  by false k = sym (or-false (is_known names y))
+  by true k = ap (is_known names) ((bytes_eq-Decides y x).0 k) ∙ e ∙ sym (or-true (is_known names y))
 
 known_more : (names : Names) (x y : Name) → is_known (with_name names x) y ≡ (is_known names y || bytes_eq y x)
 known_more names x y = known_with names x y (is_known names x) refl
 
 known_take : (xs : Names) (k : ℕ) (x y : Name) → x ≡ get_or xs k x → k < length xs → is_known (take (suc k) xs) y ≡ (is_known (take k xs) y || bytes_eq y x)
 known_take [] k x y e lt = absurd (omega arith)
-known_take (z ∷ xs) zero x y e lt = or_false (bytes_eq y z) ∙ ap (bytes_eq y) (sym e)
-known_take (z ∷ xs) (suc k) x y e lt = ap (λ b. bytes_eq y z || b) (known_take xs k x y e (omega arith)) ∙ or_assoc (bytes_eq y z) (is_known (take k xs) y) (bytes_eq y x)
+known_take (z ∷ xs) zero x y e lt = or-false (bytes_eq y z) ∙ ap (bytes_eq y) (sym e)
+known_take (z ∷ xs) (suc k) x y e lt = ap (λ b. bytes_eq y z || b) (known_take xs k x y e (omega arith)) ∙ sym (or_assoc (bytes_eq y z) (is_known (take k xs) y) (bytes_eq y x))
 
 has_named : (p : Port) (ports : List Port) (y : Name) (b : Bool) → is_some (if b then Some p else port_named ports y) ≡ (b || has_port ports y)
 has_named p ports y true = refl
@@ -58,10 +42,10 @@ has_named p ports y false = refl
 has_take : (ports : List Port) (k : ℕ) (p : Port) (y : Name) → p ≡ get_or ports k p → k < length ports
     → has_port (take (suc k) ports) y ≡ (has_port (take k ports) y || bytes_eq y p.name)
 has_take [] k p y e lt = absurd (omega arith)
-has_take (q ∷ ports) zero p y e lt = has_named q [] y (bytes_eq y q.name) ∙ or_false (bytes_eq y q.name) ∙ ap (λ r. bytes_eq y r.name) (sym e)
+has_take (q ∷ ports) zero p y e lt = has_named q [] y (bytes_eq y q.name) ∙ or-false (bytes_eq y q.name) ∙ ap (λ r. bytes_eq y r.name) (sym e)
 has_take (q ∷ ports) (suc k) p y e lt =
     has_named q (take (suc k) ports) y (bytes_eq y q.name) ∙ ap (λ b. bytes_eq y q.name || b) (has_take ports k p y e (omega arith))
-    ∙ or_assoc (bytes_eq y q.name) (has_port (take k ports) y) (bytes_eq y p.name)
+    ∙ sym (or_assoc (bytes_eq y q.name) (has_port (take k ports) y) (bytes_eq y p.name))
     ∙ ap (λ b. b || bytes_eq y p.name) (sym (has_named q (take k ports) y (bytes_eq y q.name)))
 
 -- ---- turns of loops
@@ -87,7 +71,7 @@ among_prefs (suc count) x h = by (among_prefs count x) (is_known (prefs_below co
   by found true e = let at = found e in let lt = at.1 in (at.0, omega (arith, lt), at.2)
   by found false e =
       let last : bytes_eq x (pref count) ≡ true = sym (ap (λ b. b || bytes_eq x (pref count)) e) ∙ sym (known_pushed (prefs_below count) (pref count) x) ∙ h in
-      (count, omega arith, same_name x (pref count) last)
+      (count, omega arith, (bytes_eq-Decides x (pref count)).0 last)
 
 pub at_least : (a b : ℕ) → (b < a → ⊥) → a ≤ b
 at_least a b h = by (nat_lt b a) refl where
@@ -103,17 +87,9 @@ is_among (suc count) k lt = known_pushed (prefs_below count) (pref count) (pref 
   by found false e =
       let le = at_least count k (λ less. let clash : true ≡ false = sym (found less) ∙ e in cc (clash)) in
       let same : k ≡ count = omega (arith, le, lt) in
-      ap (λ n. bytes_eq (pref k) (pref n)) (sym same) ∙ name_itself (pref k)
+      ap (λ n. bytes_eq (pref k) (pref n)) (sym same) ∙ (bytes_eq-Decides (pref k) (pref k)).1 refl
 
 -- ---- the names of prefs, one after another
-
-not_known : (b : Bool) → not b ≡ true → b ≡ false
-not_known true h = cc
-not_known false h = refl
-
-is_one : (b : Bool) → not b ≡ false → b ≡ true
-is_one true h = refl
-is_one false h = cc
 
 module _ (names prefs after : Names) (number : ℕ) (stem name : Name) (are : prefs ≡ prefs_below number) (known : AllKnown names number) (is_stem : stem ≡ codes "pref")
     (named : name ≡ stem ++ 95 ∷ decimal number) (pushed : after ≡ prefs ++ name ∷ []) where
@@ -124,30 +100,23 @@ module _ (names prefs after : Names) (number : ℕ) (stem name : Name) (are : pr
   longer = pushed ∙ ap (λ l. l ++ name ∷ []) are ∙ ap (λ x. prefs_below number ++ x ∷ []) is_pref
 
   pub prefs_done : not (is_known names name) ≡ true → ArePrefs names after
-  prefs_done h = record { count = number; before = known; last = ap (is_known names) (sym is_pref) ∙ not_known (is_known names name) h; are = longer }
+  prefs_done h = record { count = number; before = known; last = ap (is_known names) (sym is_pref) ∙ not-true (is_known names name) h; are = longer }
 
   pub prefs_more : not (is_known names name) ≡ false → (after ≡ prefs_below (number + 1)) × AllKnown names (number + 1)
   prefs_more h = (
     longer ∙ ap prefs_below (sym (add-one number)),
-    below_more (λ k. is_known names (pref k) ≡ true) number known (ap (is_known names) (sym is_pref) ∙ is_one (is_known names name) h),
+    below_more (λ k. is_known names (pref k) ≡ true) number known (ap (is_known names) (sym is_pref) ∙ not-false (is_known names name) h),
   )
 
 -- ---- a port by its name
 
-ports_left : (ports : List Port) (k : ℕ) (d : Port) → k < length ports → drop k ports ≡ get_or ports k d ∷ drop (k + 1) ports
-ports_left [] k d lt = absurd (omega arith)
-ports_left (p ∷ ports) zero d lt = refl
-ports_left (p ∷ ports) (suc k) d lt = ports_left ports k d (omega arith) ∙ ap (λ n. get_or ports k d ∷ drop n (p ∷ ports)) (shifted k) where
-  shifted : (n : ℕ) → suc (n + 1) ≡ suc n + 1
-  shifted n = omega arith
-
 module _ (ports : List Port) (k : ℕ) (p : Port) (y : Name) (left : has_port ports y ≡ has_port (drop k ports) y) (is : p ≡ get_or ports k p) (lt : k < length ports) where
   begins : has_port ports y ≡ (bytes_eq y p.name || has_port (drop (k + 1) ports) y)
-  begins = left ∙ ap (λ l. has_port l y) (ports_left ports k p lt ∙ ap (λ x. x ∷ drop (k + 1) ports) (sym is)) ∙ has_named p (drop (k + 1) ports) y (bytes_eq y p.name)
+  begins = left ∙ ap (λ l. has_port l y) (drop_more ports k p lt ∙ ap (λ x. x ∷ drop (k + 1) ports) (sym is)) ∙ has_named p (drop (k + 1) ports) y (bytes_eq y p.name)
 
   pub port_here : bytes_eq p.name y ≡ true → true ≡ has_port ports y
-  port_here h = sym (begins ∙ ap (λ b. b || has_port (drop (k + 1) ports) y) ((bytes_eq-Decides y p.name).1 (sym (same_name p.name y h))))
+  port_here h = sym (begins ∙ ap (λ b. b || has_port (drop (k + 1) ports) y) ((bytes_eq-Decides y p.name).1 (sym ((bytes_eq-Decides p.name y).0 h))))
 
   pub port_later : bytes_eq p.name y ≡ false → has_port ports y ≡ has_port (drop (k + 1) ports) y
   port_later h = begins ∙ ap (λ b. b || has_port (drop (k + 1) ports) y) (false_from_ne_true (bytes_eq y p.name) (λ other.
-      let clash : true ≡ false = sym ((bytes_eq-Decides p.name y).1 (sym (same_name y p.name other))) ∙ h in cc (clash)))
+      let clash : true ≡ false = sym ((bytes_eq-Decides p.name y).1 (sym ((bytes_eq-Decides y p.name).0 other))) ∙ h in cc (clash)))

@@ -3,6 +3,8 @@ use Rattle.std.specs.Prelude.{◌≡◌, ℕ, suc, Bool, true, false, not, ◌==
 use Rattle.std.specs.Str.{bytes_eq}
 use Rattle.std.proofs.Common.{refl, sym, ap, ◌∙◌, arith}
 use Rattle.std.proofs.lemmas.Bool.{eqb-true, eq-eqb, leb-true, le-leb, and_parts, and_from}
+use Rattle.std.proofs.lemmas.Slice.Eq.{bytes_eq-Decides}
+use Rattle.std.proofs.Math.Bool.{or-true}
 use Rattle.verilog_tree.specs.declared.tree.Direction.{Direction}
 use Rattle.verilog_tree.specs.declared.tree.Direction.TheVariants as dir
 use Rattle.verilog_tree.specs.declared.tree.Port.{Port}
@@ -11,7 +13,7 @@ use Rattle.verilog_tree.specs.Scope.{Name, Names, is_known, width_of}
 use Rattle.verilog_tree.specs.WellFormed.{is_input}
 use Rattle.top_ports.specs.Top.{pref, IsDone, IsEnable, IsPref, IsWanted, Clock, Done, Enable, Pref}
 use Rattle.top_ports.specs.Ports.{is_done, is_enable, is_pref, is_wanted, AreNames, AreSame, ArePrefs, prefs_below, IsFirstUnwanted, IsUnwanted}
-use Rattle.top_ports.proofs.Names.{same_name, name_itself, among_prefs, at_least, is_among}
+use Rattle.top_ports.proofs.Names.{among_prefs, at_least, is_among}
 
 input_way : (d : Direction) → is_input d ≡ true → d ≡ dir.Input
 input_way dir.Input h = refl
@@ -21,31 +23,24 @@ output_way : (d : Direction) → not (is_input d) ≡ true → d ≡ dir.Output
 output_way dir.Input h = cc
 output_way dir.Output h = refl
 
-same_bytes : (x y : Name) → x ≡ y → bytes_eq x y ≡ true
-same_bytes x y e = ap (bytes_eq x) (sym e) ∙ name_itself x
-
 done_to : (p : Port) → is_done p ≡ true → IsDone p
 done_to p h =
     let a = and_parts (bytes_eq p.name (codes "done")) (not (is_input p.direction) && width_of p.high == 1) h in
     let b = and_parts (not (is_input p.direction)) (width_of p.high == 1) a.1 in
-    record { name = same_name p.name (codes "done") a.0; way = output_way p.direction b.0; bit = eqb-true (width_of p.high) 1 b.1 }
+    record { name = (bytes_eq-Decides p.name (codes "done")).0 a.0; way = output_way p.direction b.0; bit = eqb-true (width_of p.high) 1 b.1 }
 
 done_from : (p : Port) → IsDone p → is_done p ≡ true
 done_from p h =
-    and_from (bytes_eq p.name (codes "done")) _ (same_bytes p.name (codes "done") h.name)
+    and_from (bytes_eq p.name (codes "done")) _ ((bytes_eq-Decides p.name (codes "done")).1 h.name)
     (and_from (not (is_input p.direction)) _ (ap (λ d. not (is_input d)) h.way) (eq-eqb (width_of p.high) 1 h.bit))
 
 enable_to : (p : Port) → is_enable p ≡ true → IsEnable p
 enable_to p h =
     let a = and_parts (bytes_eq p.name (codes "en")) (is_input p.direction) h in
-    record { name = same_name p.name (codes "en") a.0; way = input_way p.direction a.1 }
+    record { name = (bytes_eq-Decides p.name (codes "en")).0 a.0; way = input_way p.direction a.1 }
 
 enable_from : (p : Port) → IsEnable p → is_enable p ≡ true
-enable_from p h = and_from (bytes_eq p.name (codes "en")) _ (same_bytes p.name (codes "en") h.name) (ap is_input h.way)
-
-or_true : (b : Bool) → (b || true) ≡ true
-or_true true = refl
-or_true false = refl
+enable_from p h = and_from (bytes_eq p.name (codes "en")) _ ((bytes_eq-Decides p.name (codes "en")).1 h.name) (ap is_input h.way)
 
 module _ (ports : List Port) (names prefs set : Names) (known : AreNames ports names) (all : ArePrefs names prefs) (same : AreSame prefs set) where
   in_set : (x : Name) → is_known set x ≡ is_known (prefs_below (suc all.count)) x
@@ -74,21 +69,21 @@ module _ (ports : List Port) (names prefs set : Names) (known : AreNames ports n
   wanted_to : (p : Port) → is_wanted set p ≡ true → IsWanted ports p
   wanted_to p h = by (bytes_eq p.name clk) (is_done p) (is_enable p) (is_pref set p) refl refl refl refl h where
     by : (a b c d : Bool) → bytes_eq p.name clk ≡ a → is_done p ≡ b → is_enable p ≡ c → is_pref set p ≡ d → (a || (b || (c || d))) ≡ true → IsWanted ports p
-    by true b c d i j k l h = Clock (same_name p.name clk i)
+    by true b c d i j k l h = Clock ((bytes_eq-Decides p.name clk).0 i)
     by false true c d i j k l h = Done (done_to p j)
     by false false true d i j k l h = Enable (enable_to p k)
     by false false false true i j k l h = Pref (pref_to p l)
     by false false false false i j k l h = cc (h)
 
   wanted_from : (p : Port) → IsWanted ports p → is_wanted set p ≡ true
-  wanted_from p (Clock e) = ap (λ b. b || (is_done p || (is_enable p || is_pref set p))) (same_bytes p.name clk e)
-  wanted_from p (Done d) = ap (λ b. bytes_eq p.name clk || (b || (is_enable p || is_pref set p))) (done_from p d) ∙ or_true (bytes_eq p.name clk)
+  wanted_from p (Clock e) = ap (λ b. b || (is_done p || (is_enable p || is_pref set p))) ((bytes_eq-Decides p.name clk).1 e)
+  wanted_from p (Done d) = ap (λ b. bytes_eq p.name clk || (b || (is_enable p || is_pref set p))) (done_from p d) ∙ or-true (bytes_eq p.name clk)
   wanted_from p (Enable d) =
-      ap (λ b. bytes_eq p.name clk || (is_done p || (b || is_pref set p))) (enable_from p d) ∙ ap (λ b. bytes_eq p.name clk || b) (or_true (is_done p)) ∙ or_true
+      ap (λ b. bytes_eq p.name clk || (is_done p || (b || is_pref set p))) (enable_from p d) ∙ ap (λ b. bytes_eq p.name clk || b) (or-true (is_done p)) ∙ or-true
       (bytes_eq p.name clk)
   wanted_from p (Pref d) =
       ap (λ b. bytes_eq p.name clk || (is_done p || (is_enable p || b))) (pref_from p d)
-      ∙ ap (λ b. bytes_eq p.name clk || (is_done p || b)) (or_true (is_enable p)) ∙ ap (λ b. bytes_eq p.name clk || b) (or_true (is_done p)) ∙ or_true (bytes_eq p.name clk)
+      ∙ ap (λ b. bytes_eq p.name clk || (is_done p || b)) (or-true (is_enable p)) ∙ ap (λ b. bytes_eq p.name clk || b) (or-true (is_done p)) ∙ or-true (bytes_eq p.name clk)
 
   pub unwanted_is : (r : Option ℕ) → IsFirstUnwanted set ports r → IsUnwanted ports r
   unwanted_is None h = λ k p e. wanted_to p (h k p e)
