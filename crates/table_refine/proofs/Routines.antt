@@ -1,12 +1,13 @@
 -- A thread's module hears and asks the cores in their widths.
-use Rattle.std.proofs.Common.{◌≡◌, ℕ, zero, suc, ◌+◌, ◌<◌, List, [], ◌∷◌, length, Option, Some, refl, sym, ap, ◌∙◌, subst, arith}
+use Rattle.std.proofs.Common.{◌≡◌, ℕ, suc, ◌+◌, ◌<◌, List, [], ◌∷◌, length, Option, Some, refl, sym, ap, ◌∙◌, subst, arith}
 use Rattle.std.specs.Prelude.{replicate, slice_get, slice_index, true, nat_eq}
-use Rattle.std.proofs.lemmas.List.{length-map}
+use Rattle.std.proofs.lemmas.List.{length-map, length-replicate}
+use Rattle.std.proofs.lemmas.Option.{slice_get-get_or}
 use Rattle.netlist.specs.declared.netlist.Module.{Module}
 use Rattle.circuit.specs.Modules.{Has}
 use Rattle.circuit.specs.Interfaces.{first_of}
-use Rattle.lists.proofs.Places.{get_front, get_mapped}
-use Rattle.top_wiring.proofs.Lists.{get_behind, get_copies, get_flat_map}
+use Rattle.lists.proofs.Places.{get_front, get_mapped, copies_there}
+use Rattle.top_wiring.proofs.Lists.{get_behind, get_flat_map}
 use Rattle.leaf_machine.specs.Leaves.{LeafPorts}
 use Rattle.core_ports.specs.Ports.{CorePort, asks_of, told_of, ask_place, told_place, thread_inputs, thread_outputs, IsRoutineModule}
 use Rattle.core_family.specs.Family.{CoreShape, machine_of, port_of, ask_width, told_width}
@@ -19,12 +20,6 @@ use Rattle.planned_threads.specs.Surroundings.{routine_of}
 use Rattle.bank_memory.specs.Partition.{globals_of}
 use Rattle.thread_cycle.specs.Thread.{ArePorts}
 use Rattle.table_refine.specs.Wired.{ports_of, RoutinesFit, promised_ports, Serves, ThreadsServe}
-
--- a number of a list
-numbered_at : (xs : List ℕ) (j : ℕ) → j < length xs → slice_get xs j ≡ Some (slice_index xs j)
-numbered_at [] j l = absurd (omega arith)
-numbered_at (x ∷ xs) zero l = refl
-numbered_at (x ∷ xs) (suc j) l = numbered_at xs j (omega arith)
 
 module _ (K : Parts) (name : List ℕ) (m : Module) (inputs : ℕ) (leaf : LeafPorts) (routine : IsRoutineModule name (ports_of K) m inputs leaf) where
   abbrev ports : List CorePort
@@ -63,7 +58,7 @@ module _ (K : Parts) (name : List ℕ) (m : Module) (inputs : ℕ) (leaf : LeafP
       let below : k < length ports = (let n = port_count in omega (arith, n, l)) in
       let at : suc (suc k) ≡ leaf.grant k = (let e = routine.grant k below in omega (arith, e)) in
       subst (λ x. Has m x 1) at
-      (input_has (suc (suc k)) 1 (get_front (replicate (length ports) 1) (told_of ports) k 1 (get_copies (length ports) k 1 below)))
+      (input_has (suc (suc k)) 1 (get_front (replicate (length ports) 1) (told_of ports) k 1 (copies_there (length ports) 1 k below)))
 
   tells_has : (k j : ℕ) → k < core_count K → j < (core_machine K k).told → Has m (leaf.told k j) (told_width (core_at K k) j)
   tells_has k j l lt =
@@ -72,15 +67,11 @@ module _ (K : Parts) (name : List ℕ) (m : Module) (inputs : ℕ) (leaf : LeafP
       let width : told_width (core_at K k) j ≡ slice_index (port_of h.core).told j = ap (λ o. told_width o j) h.is ∙ (each_fits h.core).widths j inside in
       let found : slice_get (told_of ports) (told_place ports k + j) ≡ Some (told_width (core_at K k) j) =
       get_flat_map (λ (p : CorePort). p.told) ports k j (port_of h.core) (told_width (core_at K k) j) h.listed
-      (numbered_at (port_of h.core).told j inside ∙ ap Some (sym width)) in
+      (slice_get-get_or (port_of h.core).told j 0 inside ∙ ap Some (sym width)) in
       let at : suc (suc (length ports + (told_place ports k + j))) ≡ leaf.told k j = (let e = routine.told k j (port_of h.core) h.listed inside in omega (arith, e)) in
       subst (λ x. Has m x (told_width (core_at K k) j)) at
       (input_has (suc (suc (length ports + (told_place ports k + j)))) (told_width (core_at K k) j)
-      (get_behind (length ports) (replicate (length ports) 1) (told_of ports) (told_place ports k + j) (told_width (core_at K k) j) (length-copies (length ports)) found))
-    where
-      length-copies : (n : ℕ) → length {A = ℕ} (replicate n 1) ≡ n
-      length-copies zero = refl
-      length-copies (suc n) = ap suc (length-copies n)
+      (get_behind (length ports) (replicate (length ports) 1) (told_of ports) (told_place ports k + j) (told_width (core_at K k) j) (length-replicate (length ports) 1) found))
 
   asks_has : (k j : ℕ) → k < core_count K → j < (core_machine K k).parts → Has m (leaf.ask k j) (ask_width (core_at K k) j)
   asks_has k j l lt =
@@ -89,7 +80,7 @@ module _ (K : Parts) (name : List ℕ) (m : Module) (inputs : ℕ) (leaf : LeafP
       let width : ask_width (core_at K k) j ≡ slice_index (port_of h.core).asks j = ap (λ o. ask_width o j) h.is in
       let found : slice_get (asks_of ports) (ask_place ports k + j) ≡ Some (ask_width (core_at K k) j) =
       get_flat_map (λ (p : CorePort). p.asks) ports k j (port_of h.core) (ask_width (core_at K k) j) h.listed
-      (numbered_at (port_of h.core).asks j inside ∙ ap Some (sym width)) in
+      (slice_get-get_or (port_of h.core).asks j 0 inside ∙ ap Some (sym width)) in
       subst (λ x. Has m x (ask_width (core_at K k) j)) (sym (routine.ask k j (port_of h.core) h.listed inside))
       (output_has (ask_place ports k + j) (ask_width (core_at K k) j) (get_front (asks_of ports) (1 ∷ 1 ∷ []) (ask_place ports k + j) (ask_width (core_at K k) j) found))
 

@@ -1,8 +1,9 @@
 -- What is wired of a table of a program's parts is the whole net of the program.
-use Rattle.std.proofs.Common.{◌≡◌, ℕ, ◌+◌, ◌<◌, List, [], ◌∷◌, length, map, Option, Some, inr, refl, sym, ap, ◌∙◌, subst, arith}
+use Rattle.std.proofs.Common.{◌≡◌, ℕ, ◌+◌, ◌<◌, List, [], ◌∷◌, length, map, Option, Some, inr, sym, ap, ◌∙◌, subst, arith}
 use Rattle.std.specs.Prelude.{slice_get, decimal}
 use Rattle.std.proofs.lemmas.List.{length-map}
 use Rattle.std.proofs.lemmas.Option.{same_Some, slice_get_within}
+use Rattle.std.proofs.lemmas.Simd.{map-map}
 use Rattle.c_program.specs.Tree.{GlobalVariable, Program}
 use Rattle.bank_partition.specs.declared.banks.Spread.{Spread}
 use Rattle.bank_cores.specs.declared.bank.Shape.{Shape as BankShape}
@@ -37,10 +38,6 @@ use Rattle.table_refine.specs.Wired.{IsWholeTableOf, TablesAreWhole, WiredFollow
 use Rattle.table_refine.specs.Wired as wired_table
 use Rattle.table_refine.proofs.Names.{same_name}
 
-both_maps : {A B C : Type 0} (f : B → C) (g : A → B) (xs : List A) → map (λ x. f (g x)) xs ≡ map f (map g xs)
-both_maps f g [] = refl
-both_maps f g (x ∷ xs) = ap (λ l. f (g x) ∷ l) (both_maps f g xs)
-
 module _ (P : Program) (K : Parts) (t : Table) (n : Netlist) (is : IsWholeTableOf P K t) (wired : IsWired (modules_of t) (layout_of t) n) where
   abbrev top : Module
   top = wired.top
@@ -59,7 +56,7 @@ module _ (P : Program) (K : Parts) (t : Table) (n : Netlist) (is : IsWholeTableO
   cores_are = length-map t.cores (laid_core (kinds_at t)) ∙ core_count_is
 
   ports_are : wired_table.ports_of K ≡ table.ports_of t
-  ports_are = sym (both_maps port_of (λ (c : PlacedCore). c.shape) t.cores ∙ ap (map port_of) is.cores)
+  ports_are = sym (sym (map-map port_of (λ (c : PlacedCore). c.shape) t.cores) ∙ ap (map port_of) is.cores)
 
   -- ---- threads
 
