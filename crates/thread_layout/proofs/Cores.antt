@@ -1,11 +1,13 @@
 -- Which of the cores that acts ask is open: the one that is asked.
-use Rattle.std.proofs.Common.{◌≡◌, ℕ, zero, suc, ◌+◌, ◌-◌, ◌<◌, ◌≤◌, Bool, true, false, ◌&&◌, nat_eq, nat_lt, if◌then◌else◌, Some, None, refl, sym, ap, ◌∙◌, arith, ⊎_elim}
+use Rattle.std.proofs.Common.{◌≡◌, ℕ, ◌+◌, ◌-◌, ◌<◌, ◌≤◌, Bool, true, false, ◌&&◌, nat_eq, nat_lt, if◌then◌else◌, Some, None, refl, sym, ap, ◌∙◌, arith, ⊎_elim}
 use Rattle.std.proofs.Common.{List, [], ◌∷◌, ◌++◌, length, length-append}
 use Rattle.std.specs.Prelude.{replicate, slice_get}
 use Rattle.std.proofs.lemmas.List.{length-replicate}
 use Rattle.std.proofs.lemmas.Option.{slice_get_within}
-use Rattle.std.proofs.lemmas.Bool.{cases_lt}
+use Rattle.std.proofs.lemmas.Bool.{cases_lt, le-ltb, lt-ltb, eq-eqb, ltb-true}
 use Rattle.std.proofs.lemmas.Bool.Decides.{nat_tests}
+use Rattle.std.proofs.Math.Bool.{and-true, and-false}
+use Rattle.lists.proofs.Places.{get_front, copies_there, get_right}
 use Rattle.hls_ints.specs.Residues.{bit_of}
 use Rattle.block_ir.specs.Asked.{Service, Mutexes, Barriers, Ids, Prints, Numbers, core_in}
 use Rattle.thread_slots.specs.declared.shape.Served.{Served}
@@ -16,17 +18,8 @@ use Rattle.thread_asks.specs.Asking.{same_service}
 use Rattle.thread_requests.specs.Early.{joined_bits, act_count, act_open}
 use Rattle.thread_requests.proofs.Opening.{joined_front, joined_back}
 use Rattle.thread_layout.specs.Thread.{is_core}
-use Rattle.thread_layout.proofs.Rowing.{in_front, further}
 
 -- ---- bits
-
-and_no : (t : Bool) → (t && false) ≡ false
-and_no true = refl
-and_no false = refl
-
-and_yes : (t : Bool) → (t && true) ≡ t
-and_yes true = refl
-and_yes false = refl
 
 shifted : (b c k : ℕ) → nat_eq c k ≡ nat_eq (b + k) (b + c)
 shifted b c k = grind (arith, nat_tests)
@@ -34,20 +27,8 @@ shifted b c k = grind (arith, nat_tests)
 apart : (x y : ℕ) → x < y → nat_eq x y ≡ false
 apart x y less = grind (arith, nat_tests)
 
-is_below : (x y : ℕ) → nat_lt x y ≡ true → x < y
-is_below x y e = grind (arith, nat_tests)
-
 apart_back : (x y : ℕ) → y < x → nat_eq x y ≡ false
 apart_back x y less = grind (arith, nat_tests)
-
-equal : (x y : ℕ) → x ≡ y → nat_eq x y ≡ true
-equal x y e = grind (arith, nat_tests)
-
-less_is : (x y : ℕ) → x < y → nat_lt x y ≡ true
-less_is x y less = grind (arith, nat_tests)
-
-past_is : (x y : ℕ) → y ≤ x → nat_lt x y ≡ false
-past_is x y le = grind (arith, nat_tests)
 
 -- ---- core k of those that acts ask
 
@@ -98,8 +79,8 @@ module _ (served : Served) (wants : Service → Bool) (object : Service → ℕ)
 pub none_open : (served : Served) (object : Service → ℕ) (k : ℕ) → act_open served (λ s. false) object k ≡ false
 none_open served object k =
     by_kind served (λ s. false) object k (act_open served (λ s. false) object k ≡ false)
-    (λ less. at_mutex served (λ s. false) object k less ∙ and_no (nat_eq (object Mutexes) k))
-    (λ le less. at_barrier served (λ s. false) object k le less ∙ and_no (nat_eq (object Barriers) (k - served.mutexes)))
+    (λ less. at_mutex served (λ s. false) object k less ∙ and-false (nat_eq (object Mutexes) k))
+    (λ le less. at_barrier served (λ s. false) object k le less ∙ and-false (nat_eq (object Barriers) (k - served.mutexes)))
     (λ le past less. at_ids served (λ s. false) object k le past less) (λ le past last. at_printer served (λ s. false) object k le past last)
 
 module _ (banks : ℕ) (served : Served) (object : Service → ℕ) (k c : ℕ) (inside : k < act_count served) where
@@ -109,21 +90,21 @@ module _ (banks : ℕ) (served : Served) (object : Service → ℕ) (k c : ℕ) 
   mutex_open : object Mutexes ≡ c → act_open served (same_service Mutexes) object k ≡ is_core (core_in N Mutexes c) (banks + k)
   mutex_open e =
       by_kind served (same_service Mutexes) object k (act_open served (same_service Mutexes) object k ≡ is_core (core_in N Mutexes c) (banks + k))
-      (λ less. at_mutex served (same_service Mutexes) object k less ∙ and_yes (nat_eq (object Mutexes) k) ∙ ap (λ z. nat_eq z k) e
-      ∙ ⊎_elim (λ (in_range : c < served.mutexes). shifted banks c k ∙ ap (λ b. is_core (if b then Some (banks + c) else None) (banks + k)) (sym (less_is c served.mutexes in_range)))
+      (λ less. at_mutex served (same_service Mutexes) object k less ∙ and-true (nat_eq (object Mutexes) k) ∙ ap (λ z. nat_eq z k) e
+      ∙ ⊎_elim (λ (in_range : c < served.mutexes). shifted banks c k ∙ ap (λ b. is_core (if b then Some (banks + c) else None) (banks + k)) (sym (lt-ltb c served.mutexes in_range)))
       (λ (past : served.mutexes ≤ c).
-      apart_back c k (omega arith) ∙ ap (λ b. is_core (if b then Some (banks + c) else None) (banks + k)) (sym (past_is c served.mutexes past)))
+      apart_back c k (omega arith) ∙ ap (λ b. is_core (if b then Some (banks + c) else None) (banks + k)) (sym (le-ltb c served.mutexes past)))
       (cases_lt c served.mutexes))
-      (λ le less. at_barrier served (same_service Mutexes) object k le less ∙ and_no (nat_eq (object Barriers) (k - served.mutexes)) ∙ sym (off le))
+      (λ le less. at_barrier served (same_service Mutexes) object k le less ∙ and-false (nat_eq (object Barriers) (k - served.mutexes)) ∙ sym (off le))
       (λ le past less. at_ids served (same_service Mutexes) object k le past less ∙ sym (off le))
       (λ le past last. at_printer served (same_service Mutexes) object k le past last ∙ sym (off le))
     where
       off : served.mutexes ≤ k → is_core (core_in N Mutexes c) (banks + k) ≡ false
       off le =
           ⊎_elim
-          (λ (in_range : c < served.mutexes). ap (λ b. is_core (if b then Some (banks + c) else None) (banks + k)) (less_is c served.mutexes in_range)
+          (λ (in_range : c < served.mutexes). ap (λ b. is_core (if b then Some (banks + c) else None) (banks + k)) (lt-ltb c served.mutexes in_range)
           ∙ apart_back (banks + k) (banks + c) (omega arith))
-          (λ (past : served.mutexes ≤ c). ap (λ b. is_core (if b then Some (banks + c) else None) (banks + k)) (past_is c served.mutexes past))
+          (λ (past : served.mutexes ≤ c). ap (λ b. is_core (if b then Some (banks + c) else None) (banks + k)) (le-ltb c served.mutexes past))
           (cases_lt c served.mutexes)
 
   abbrev barrier_or : Bool → Bool
@@ -132,15 +113,15 @@ module _ (banks : ℕ) (served : Served) (object : Service → ℕ) (k c : ℕ) 
   barrier_open : object Barriers ≡ c → act_open served (same_service Barriers) object k ≡ is_core (core_in N Barriers c) (banks + k)
   barrier_open e =
       by_kind served (same_service Barriers) object k (act_open served (same_service Barriers) object k ≡ is_core (core_in N Barriers c) (banks + k))
-      (λ less. at_mutex served (same_service Barriers) object k less ∙ and_no (nat_eq (object Mutexes) k) ∙ sym (before less))
-      (λ le less. at_barrier served (same_service Barriers) object k le less ∙ and_yes (nat_eq (object Barriers) (k - served.mutexes))
+      (λ less. at_mutex served (same_service Barriers) object k less ∙ and-false (nat_eq (object Mutexes) k) ∙ sym (before less))
+      (λ le less. at_barrier served (same_service Barriers) object k le less ∙ and-true (nat_eq (object Barriers) (k - served.mutexes))
       ∙ ap (λ z. nat_eq z (k - served.mutexes)) e
       ∙ ⊎_elim
       (λ (in_range : c < served.barriers).
       shifted (banks + served.mutexes) c (k - served.mutexes)
       ∙ ap (λ z. nat_eq z (banks + served.mutexes + c)) (let z : banks + served.mutexes + (k - served.mutexes) ≡ banks + k = omega arith in z)
-      ∙ ap barrier_or (sym (less_is c served.barriers in_range)))
-      (λ (past : served.barriers ≤ c). apart_back c (k - served.mutexes) (omega arith) ∙ ap barrier_or (sym (past_is c served.barriers past)))
+      ∙ ap barrier_or (sym (lt-ltb c served.barriers in_range)))
+      (λ (past : served.barriers ≤ c). apart_back c (k - served.mutexes) (omega arith) ∙ ap barrier_or (sym (le-ltb c served.barriers past)))
       (cases_lt c served.barriers))
       (λ le past less. at_ids served (same_service Barriers) object k le past less ∙ sym (behind le past))
       (λ le past last. at_printer served (same_service Barriers) object k le past last ∙ sym (behind le past))
@@ -148,14 +129,14 @@ module _ (banks : ℕ) (served : Served) (object : Service → ℕ) (k c : ℕ) 
       before : k < served.mutexes → is_core (core_in N Barriers c) (banks + k) ≡ false
       before less =
           ⊎_elim
-          (λ (in_range : c < served.barriers). ap barrier_or (less_is c served.barriers in_range) ∙ apart (banks + k) (banks + served.mutexes + c) (omega arith))
-          (λ (past : served.barriers ≤ c). ap barrier_or (past_is c served.barriers past)) (cases_lt c served.barriers)
+          (λ (in_range : c < served.barriers). ap barrier_or (lt-ltb c served.barriers in_range) ∙ apart (banks + k) (banks + served.mutexes + c) (omega arith))
+          (λ (past : served.barriers ≤ c). ap barrier_or (le-ltb c served.barriers past)) (cases_lt c served.barriers)
 
       behind : served.mutexes ≤ k → served.barriers ≤ k - served.mutexes → is_core (core_in N Barriers c) (banks + k) ≡ false
       behind le over =
           ⊎_elim
-          (λ (in_range : c < served.barriers). ap barrier_or (less_is c served.barriers in_range) ∙ apart_back (banks + k) (banks + served.mutexes + c) (omega arith))
-          (λ (past : served.barriers ≤ c). ap barrier_or (past_is c served.barriers past)) (cases_lt c served.barriers)
+          (λ (in_range : c < served.barriers). ap barrier_or (lt-ltb c served.barriers in_range) ∙ apart_back (banks + k) (banks + served.mutexes + c) (omega arith))
+          (λ (past : served.barriers ≤ c). ap barrier_or (le-ltb c served.barriers past)) (cases_lt c served.barriers)
 
   abbrev ids_or : Bool → Bool
   ids_or b = is_core (if b then Some (banks + served.mutexes + served.barriers) else None) (banks + k)
@@ -163,9 +144,9 @@ module _ (banks : ℕ) (served : Served) (object : Service → ℕ) (k c : ℕ) 
   ids_open : act_open served (same_service Ids) object k ≡ is_core (core_in N Ids c) (banks + k)
   ids_open =
       by_kind served (same_service Ids) object k (act_open served (same_service Ids) object k ≡ is_core (core_in N Ids c) (banks + k))
-      (λ less. at_mutex served (same_service Ids) object k less ∙ and_no (nat_eq (object Mutexes) k)
+      (λ less. at_mutex served (same_service Ids) object k less ∙ and-false (nat_eq (object Mutexes) k)
       ∙ sym (other served.ids (apart (banks + k) (banks + served.mutexes + served.barriers) (omega arith))))
-      (λ le less. at_barrier served (same_service Ids) object k le less ∙ and_no (nat_eq (object Barriers) (k - served.mutexes))
+      (λ le less. at_barrier served (same_service Ids) object k le less ∙ and-false (nat_eq (object Barriers) (k - served.mutexes))
       ∙ sym (other served.ids (apart (banks + k) (banks + served.mutexes + served.barriers) (omega arith))))
       (λ le past less. at_ids served (same_service Ids) object k le past less ∙ sym (there served.ids less le past inside))
       (λ le past last. at_printer served (same_service Ids) object k le past last ∙ sym (last_one served.ids le past last))
@@ -175,7 +156,7 @@ module _ (banks : ℕ) (served : Served) (object : Service → ℕ) (k c : ℕ) 
       other false e = refl
 
       there : (b : Bool) → k - served.mutexes - served.barriers < bit_of b → served.mutexes ≤ k → served.barriers ≤ k - served.mutexes → k < act_count served → ids_or b ≡ true
-      there true less le past in_all = equal (banks + k) (banks + served.mutexes + served.barriers) (omega arith)
+      there true less le past in_all = eq-eqb (banks + k) (banks + served.mutexes + served.barriers) (omega arith)
       there false less le past in_all = absurd (omega arith)
 
       last_one : (b : Bool) → served.mutexes ≤ k → served.barriers ≤ k - served.mutexes → bit_of b ≤ k - served.mutexes - served.barriers → ids_or b ≡ false
@@ -188,10 +169,10 @@ module _ (banks : ℕ) (served : Served) (object : Service → ℕ) (k c : ℕ) 
   printer_open : act_open served (same_service Prints) object k ≡ is_core (core_in N Prints c) (banks + k)
   printer_open =
       by_kind served (same_service Prints) object k (act_open served (same_service Prints) object k ≡ is_core (core_in N Prints c) (banks + k))
-      (λ less. at_mutex served (same_service Prints) object k less ∙ and_no (nat_eq (object Mutexes) k) ∙ sym (apart (banks + k) printer_at (omega arith)))
-      (λ le less. at_barrier served (same_service Prints) object k le less ∙ and_no (nat_eq (object Barriers) (k - served.mutexes)) ∙ sym (apart (banks + k) printer_at (omega arith)))
+      (λ less. at_mutex served (same_service Prints) object k less ∙ and-false (nat_eq (object Mutexes) k) ∙ sym (apart (banks + k) printer_at (omega arith)))
+      (λ le less. at_barrier served (same_service Prints) object k le less ∙ and-false (nat_eq (object Barriers) (k - served.mutexes)) ∙ sym (apart (banks + k) printer_at (omega arith)))
       (λ le past less. at_ids served (same_service Prints) object k le past less ∙ sym (apart (banks + k) printer_at (omega arith)))
-      (λ le past last. at_printer served (same_service Prints) object k le past last ∙ sym (equal (banks + k) printer_at (omega arith)))
+      (λ le past last. at_printer served (same_service Prints) object k le past last ∙ sym (eq-eqb (banks + k) printer_at (omega arith)))
 
   -- CORE k IS OPEN as it is the one that is asked
   pub asked_open : (s : Service) → (s ≡ Mutexes → object Mutexes ≡ c) → (s ≡ Barriers → object Barriers ≡ c)
@@ -216,13 +197,8 @@ services_count served =
 
 -- ---- which kind of core that is
 
-repeated : {X : Type 0} (n : ℕ) (x : X) (k : ℕ) → k < n → slice_get (replicate n x) k ≡ Some x
-repeated zero x k less = absurd (omega arith)
-repeated (suc n) x zero less = refl
-repeated (suc n) x (suc k) less = repeated n x k (omega arith)
-
 further_by : {X : Type 0} (xs ys : List X) (n j : ℕ) → length xs ≡ n → slice_get (xs ++ ys) (n + j) ≡ slice_get ys j
-further_by xs ys n j e = ap (λ k. slice_get (xs ++ ys) (k + j)) (sym e) ∙ further xs ys j
+further_by xs ys n j e = ap (λ k. slice_get (xs ++ ys) (k + j)) (sym e) ∙ get_right xs ys j
 
 pub record HasKind (banks : ℕ) (served : Served) (s : Service) (k : ℕ) : Type 0 where
   pub number : ℕ
@@ -245,12 +221,12 @@ module _ (banks : ℕ) (served : Served) where
     where
       by : (b : Bool) → nat_lt c served.mutexes ≡ b → (if b then Some (banks + c) else None) ≡ Some k → HasKind banks served Mutexes k
       by true is e =
-          let less : c < served.mutexes = is_below c served.mutexes is in
+          let less : c < served.mutexes = ltb-true c served.mutexes is in
           let same : banks + c ≡ k = cc in
           record {
             number = c;
             kind = kind.Mutexes;
-            listed = in_front (replicate served.mutexes kind.Mutexes) _ c kind.Mutexes (repeated served.mutexes kind.Mutexes c less);
+            listed = get_front (replicate served.mutexes kind.Mutexes) _ c kind.Mutexes (copies_there served.mutexes kind.Mutexes c less);
             is = refl;
             at = sym same;
           }
@@ -259,12 +235,12 @@ module _ (banks : ℕ) (served : Served) where
     where
       by : (b : Bool) → nat_lt c served.barriers ≡ b → (if b then Some (banks + served.mutexes + c) else None) ≡ Some k → HasKind banks served Barriers k
       by true is e =
-          let less : c < served.barriers = is_below c served.barriers is in
+          let less : c < served.barriers = ltb-true c served.barriers is in
           let same : banks + served.mutexes + c ≡ k = cc in
           record {
             number = served.mutexes + c;
             kind = kind.Barriers;
-            listed = behind_mutexes c ∙ in_front (replicate served.barriers kind.Barriers) _ c kind.Barriers (repeated served.barriers kind.Barriers c less);
+            listed = behind_mutexes c ∙ get_front (replicate served.barriers kind.Barriers) _ c kind.Barriers (copies_there served.barriers kind.Barriers c less);
             is = refl;
             at = sym same ∙ (let z : banks + served.mutexes + c ≡ banks + (served.mutexes + c) = omega arith in z);
           }

@@ -3,6 +3,7 @@ use Rattle.std.proofs.Common.{◌≡◌, ℕ, false, suc, ◌+◌, ◌<◌, ◌�
 use Rattle.std.specs.Prelude.{slice_get, option_map, replicate}
 use Rattle.std.proofs.lemmas.List.{length-map, length-replicate}
 use Rattle.std.proofs.lemmas.Option.{slice_get_within, slice_get-map}
+use Rattle.lists.proofs.Places.{get_there, get_nothing, copies_are}
 use Rattle.hls_ints.specs.Types.{IntegerType, width_of}
 use Rattle.bank_partition.specs.declared.banks.Spread.{Spread}
 use Rattle.thread_promise.specs.Globals.{bank_total}
@@ -16,7 +17,6 @@ use Rattle.operator_wires.proofs.Giving.{grows_then}
 use Rattle.block_datapath.specs.declared.registers.Held.{Held}
 use Rattle.block_datapath.specs.declared.registers.Registers.{Registers}
 use Rattle.block_datapath.specs.Wired.{HasMemories, CanRead}
-use Rattle.block_datapath.specs.Requests.{HaveWidths}
 use Rattle.block_datapath.specs.Accesses.{HaveBankWidths}
 use Rattle.unit_datapath.specs.Units.{CanHaveUnits, IsInCode, LaysAll as LaysUnits}
 use Rattle.block_ir.specs.declared.code.ThreadCode.{ThreadCode}
@@ -54,12 +54,8 @@ use Rattle.thread_layout.proofs.Remembering.{has_memories}
 use Rattle.thread_slots.proofs.Gating.{of_bits_later}
 use Rattle.thread_slots.proofs.Wiring.{behind_then, types_fit}
 use Rattle.thread_layout.proofs.Tellings.{bar_wide, run_wide, argument_wide, hears_news}
-use Rattle.thread_requests.proofs.Asking.{some_at, held_of, have_widths, replicated, equal_width}
+use Rattle.thread_requests.proofs.Asking.{held_of, have_widths, equal_width}
 use Rattle.thread_requests.proofs.Spreading.{spread_there, spread_count, spread_from}
-
-none_listed : {X : Type 0} (xs : List X) (x : ℕ) (u : X) → xs ≡ [] → slice_get xs x ≡ Some u → ⊥
-none_listed [] x u e listed = absurd cc
-none_listed (y ∷ xs) x u e listed = absurd cc
 
 -- ---- registers that stand, and inputs
 
@@ -86,7 +82,7 @@ module _ (base : Base) (b c : List Signal) (room : base.first ≤ length b) (inp
       → slice_get registers x ≡ Some h → IsEarlier c base h.register h.width
   row_earlier from n widths registers t same count le x h listed =
       let less = slice_get_within registers x h listed in
-      let w = some_at widths x (subst (λ k. x < k) count less) in
+      let w = get_there widths x (subst (λ k. x < k) count less) in
       let f = t x w.0 (omega arith) w.1 in
       let one : f.0 ≡ h = (let e = f.1 in cc) in
       let here : IsEarlier c base (from + x) w.0 = stands_earlier (from + x) w.0 (Register 0) (omega arith) f.4 in
@@ -114,7 +110,7 @@ module _ (base : Base) (b c : List Signal) (room : base.first ≤ length b) (inp
     room = t.stage_room;
     arrays = memories;
     words = told;
-    units = λ x n place u listed there. absurd (none_listed registers.units x u none listed);
+    units = λ x n place u listed there. absurd (get_nothing registers.units x u none listed);
   }
     where
       widths_count : length (map width_of code.variables) ≡ length code.variables
@@ -125,7 +121,7 @@ module _ (base : Base) (b c : List Signal) (widths : List ℕ) (words : List Hel
   word_at : (n : ℕ) (h : Held) → slice_get words n ≡ Some h → (slice_get widths n ≡ Some h.width) × (h.register ≡ length b + n) × StandsAt c (length b + n) h.width Input
   word_at n h listed =
       let less = slice_get_within words n h listed in
-      let w = some_at widths n (subst (λ k. n < k) laid.count less) in
+      let w = get_there widths n (subst (λ k. n < k) laid.count less) in
       let f = laid.each n w.0 (subst (λ k. n < k) laid.count less) w.1 in
       let one : f.0 ≡ h = (let e = f.1 in cc) in
       let wide : w.0 ≡ h.width = sym f.2 ∙ ap (λ (k : Held). k.width) one in
@@ -171,7 +167,7 @@ bank_widths globals spreads n right = record {
   wide = λ k h e. equal_width n 64 k h e;
   own = λ x k s listed less h e.
       let within : x < length globals = subst (λ z. x < z) right.count (slice_get_within spreads x s listed) in
-      let ty = some_at globals x within in
+      let ty = get_there globals x within in
       let wide : slice_get (map width_of globals) x ≡ Some (width_of ty.0) = slice_get-map width_of globals x ∙ ap (option_map width_of) ty.1 in
       let at : slice_get (spread_out spreads (map width_of globals)) (s.first + k) ≡ Some (width_of ty.0) =
       ap (λ z. slice_get (spread_out spreads (map width_of globals)) (z + k)) (right.firsts x s listed)
@@ -189,7 +185,7 @@ heard_widths words outs f u need t =
     list_same (map held_width outs) (map held_width words) (length-map outs held_width ∙ t.count ∙ sym (length-map words held_width))
     (λ k w there.
     let less : k < length words = subst (λ z. k < z) (length-map words held_width) (slice_get_within (map held_width words) k w there) in
-    let own = some_at words k less in
+    let own = get_there words k less in
     let wide : slice_get (map held_width words) k ≡ Some (held_width own.0) = slice_get-map held_width words k ∙ ap (option_map held_width) own.1 in
     let same : held_width own.0 ≡ w = cc in
     let g = t.each k own.0 less own.1 in
@@ -244,7 +240,7 @@ inside_wired shape code plan b k c d e f n u v w g x h first kept ones acts star
     let from = spread_from told.spreads (marks_of inside) k y there in
     let less : from.0 < length inside.granted = subst (λ z. from.0 < z) (length-map inside.granted (λ (q : Held). q.register))
     (slice_get_within (marks_of inside) from.0 y from.1) in
-    let q = some_at inside.granted from.0 less in
+    let q = get_there inside.granted from.0 less in
     let at : slice_get (marks_of inside) from.0 ≡ Some q.0.register = slice_get-map (λ (z : Held). z.register) inside.granted from.0 ∙ ap
     (option_map (λ (z : Held). z.register)) q.1 in
     let register_is : q.0.register ≡ y = (let z = from.1 in cc) in
@@ -389,10 +385,10 @@ inside_wired shape code plan b k c d e f n u v w g x h first kept ones acts star
         q.width ≡ 1
     one_of ones n x q are t listed =
         let less : x < length ones = subst (λ z. x < z) t.count (slice_get_within inside.granted x q listed) in
-        let w = some_at ones x less in
+        let w = get_there ones x less in
         let f = t.each x w.0 less w.1 in
         let one : f.0 ≡ q = (let z = f.1 in cc) in
-        ap held_width (sym one) ∙ f.2 ∙ replicated n 1 x w.0 (ap (λ l. slice_get l x) (sym are) ∙ w.1)
+        ap held_width (sym one) ∙ f.2 ∙ copies_are n 1 x w.0 (ap (λ l. slice_get l x) (sym are) ∙ w.1)
 
 pub inside_laid : (shape : Shape) (code : ThreadCode) (plan : Planned) (a e f v w h : List Signal) (ground : Ground) (slot : Registers) (early : Early) (news : List Held) (acts : Told)
     (walked : Walked)

@@ -1,6 +1,7 @@
 -- A thread that asks a core which is not there waits.
-use Rattle.std.proofs.Common.{◌≡◌, ℕ, ◌+◌, ◌-◌, ◌<◌, ◌≤◌, nat_eq, Bool, true, false, not, ◌&&◌, ◌||◌, length, slice_get, Option, Some, None, ℤ}
+use Rattle.std.proofs.Common.{◌≡◌, ℕ, ◌+◌, ◌-◌, ◌<◌, ◌≤◌, Bool, true, false, not, ◌&&◌, ◌||◌, length, slice_get, Option, Some, None, ℤ}
 use Rattle.std.proofs.Common.{refl, sym, ap, subst, ◌∙◌, arith}
+use Rattle.std.proofs.lemmas.Bool.{eq-eqb}
 use Rattle.hls_ints.specs.Residues.{bit_of}
 use Rattle.block_ir.specs.declared.code.Stage.{Stage}
 use Rattle.block_ir.specs.declared.code.Stage.TheVariants as stage
@@ -33,9 +34,6 @@ never : (t : Bool) → bit_of (t && false) ≡ 0
 never true = refl
 never false = refl
 
-same_self : (x y : ℕ) → x ≡ y → nat_eq x y ≡ true
-same_self x y e = grind arith
-
 -- ---- what a stage asks
 
 -- a stage that asks nobody asks no cores of any kind
@@ -51,10 +49,6 @@ no_kind main (Some (stage.Act a next)) variables e k = by (request_of main a) e
 -- who asks a core that is not there asks for an object or for an id
 abbrev objects : (Service → Bool) → Bool
 objects wants = (wants Mutexes || wants Barriers) || wants Ids
-
-or_last : (t : Bool) → (t || true) ≡ true
-or_last true = refl
-or_last false = refl
 
 lost_kind : (N : Numbers) (variables : ℕ → ℤ) (call : Call) → core_asked N (asked_at variables (Some call)) ≡ None → objects (same_service call.service) ≡ true
 lost_kind N variables call e = by call.service refl
@@ -128,7 +122,7 @@ module _ (shape : Shape) (code : ThreadCode) (plan : Planned) (m : Module) (t : 
         opened : acts_by shape code plan m t served r (asks_kind shape code plan m t served r q o shows) (c - banks) ≡ true
         opened =
             raises shape code plan m t served r q o shows (c - banks) few
-            ∙ ap (λ z. is_core z (banks + (c - banks))) is ∙ same_self (banks + (c - banks)) c (let e : banks + (c - banks) ≡ c = omega arith in e)
+            ∙ ap (λ z. is_core z (banks + (c - banks))) is ∙ eq-eqb (banks + (c - banks)) c (let e : banks + (c - banks) ≡ c = omega arith in e)
 
     -- WHO ASKS A CORE THAT IS NOT THERE is
     pub lost_there : (ask : Asked) → ask_now shape code plan m t served r q o shows ≡ Some ask → core_asked (numbers_of shape) (Some ask) ≡ None → r.signal t.inside.early.lost ≡ 1

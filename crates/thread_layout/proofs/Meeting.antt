@@ -1,15 +1,12 @@
 -- Requests by operation and by bank: a state is ready, and a grant moves it, in both views alike.
 use Rattle.std.proofs.Common.{◌≡◌, ℕ, zero, suc, ◌<◌, Bool, true, false, not, ◌&&◌, ◌||◌, refl, sym, ap, ◌∙◌, arith, ⊎_elim, ◌≢◌}
-use Rattle.interleaving.proofs.Update.{same_or_not}
+use Rattle.std.proofs.lemmas.Bool.{cases_eq, and_from, and_parts}
+use Rattle.std.proofs.Math.Bool.{not-not, or-true}
+use Rattle.std.specs.Cmp.{both_ways}
 use Rattle.planned_block.specs.Advance.{all_below, any_below}
 use Rattle.thread_states.specs.Control.{got, unmet}
 
 -- ---- truth
-
-pub same_truth : (t u : Bool) → (t ≡ true → u ≡ true) → (u ≡ true → t ≡ true) → t ≡ u
-same_truth true u there back = sym (there refl)
-same_truth false true there back = absurd (let e = back refl in cc)
-same_truth false false there back = refl
 
 -- one that passes, where any does
 pub any_found : (f : ℕ → Bool) (n : ℕ) → any_below f n ≡ true → (k : ℕ) × (k < n) × (f k ≡ true)
@@ -21,21 +18,17 @@ any_found f (suc n) e = by (any_below f n) (f n) refl refl e (λ h. any_found f 
     by false true p q h rest = (n, omega arith, q)
     by false false p q h rest = absurd cc
 
-or_true : (t : Bool) → (t || true) ≡ true
-or_true true = refl
-or_true false = refl
-
 pub any_is : (f : ℕ → Bool) (n k : ℕ) → k < n → f k ≡ true → any_below f n ≡ true
 any_is f zero k less e = absurd (omega arith)
 any_is f (suc n) k less e =
-    ⊎_elim (λ (same : k ≡ n). ap (λ t. any_below f n || t) (ap f (sym same) ∙ e) ∙ or_true (any_below f n))
-    (λ (ne : k ≢ n). ap (λ t. t || f n) (any_is f n k (omega arith) e)) (same_or_not k n)
+    ⊎_elim (λ (same : k ≡ n). ap (λ t. any_below f n || t) (ap f (sym same) ∙ e) ∙ or-true (any_below f n))
+    (λ (ne : k ≢ n). ap (λ t. t || f n) (any_is f n k (omega arith) e)) (cases_eq k n)
 
 -- two lists of tests with one that passes in each, or none
 pub any_same : (f g : ℕ → Bool) (n m : ℕ) → ((k : ℕ) → k < n → f k ≡ true → (j : ℕ) × (j < m) × (g j ≡ true)) → ((j : ℕ) → j < m → g j ≡ true → (k : ℕ) × (k < n) × (f k ≡ true))
     → any_below f n ≡ any_below g m
 any_same f g n m there back =
-    same_truth (any_below f n) (any_below g m)
+    both_ways (any_below f n) (any_below g m)
     (λ e. let k = any_found f n e in let j = there k.0 k.1 k.2 in any_is g m j.0 j.1 j.2)
     (λ e. let j = any_found g m e in let k = back j.0 j.1 j.2 in any_is f n k.0 k.1 k.2)
 
@@ -44,15 +37,11 @@ not_both true true = refl
 not_both true false = refl
 not_both false u = refl
 
-not_not : (t : Bool) → not (not t) ≡ t
-not_not true = refl
-not_not false = refl
-
 pub all_not_any : (f : ℕ → Bool) (n : ℕ) → all_below f n ≡ not (any_below (λ k. not (f k)) n)
 all_not_any f zero = refl
 all_not_any f (suc n) =
     ap (λ t. t && f n) (all_not_any f n) ∙ not_both (not (any_below (λ k. not (f k)) n)) (f n)
-    ∙ ap (λ t. not (t || not (f n))) (not_not (any_below (λ k. not (f k)) n))
+    ∙ ap (λ t. not (t || not (f n))) (not-not (any_below (λ k. not (f k)) n))
 
 -- ---- one request
 
@@ -105,16 +94,6 @@ got_from true false true p q r = refl
 got_from true false false p q r = absurd cc
 got_from true true k p q r = absurd cc
 got_from false m k p q r = absurd cc
-
-both_parts : (t u : Bool) → (t && u) ≡ true → (t ≡ true) × (u ≡ true)
-both_parts true true e = (refl, refl)
-both_parts true false e = absurd cc
-both_parts false u e = absurd cc
-
-both_from : (t u : Bool) → t ≡ true → u ≡ true → (t && u) ≡ true
-both_from true true p q = refl
-both_from true false p q = absurd cc
-both_from false u p q = absurd cc
 
 -- ---- all of a state
 
@@ -176,10 +155,10 @@ module _ (N B : ℕ) (asks granted grant wants marked grants : ℕ → Bool) (ba
   pub only_own : (counts : ℕ → Bool) (k : ℕ) → k < N → asks k ≡ true → counts (bank k) ≡ true → ((n : ℕ) → n < B → counts n ≡ true → wants n ≡ true → n ≡ bank k)
       → any_below (λ n. counts n && got opened grants true n) B ≡ answer k
   only_own counts k less asked counted one =
-      same_truth (any_below (λ n. counts n && got opened grants true n) B) (answer k)
+      both_ways (any_below (λ n. counts n && got opened grants true n) B) (answer k)
       (λ e.
       let n = any_found (λ n. counts n && got opened grants true n) B e in
-      let two = both_parts (counts n.0) (got opened grants true n.0) n.2 in
+      let two = and_parts (counts n.0) (got opened grants true n.0) n.2 in
       let parts = got_parts (wants n.0) (marked n.0) (grants n.0) two.1 in
       let at : n.0 ≡ bank k = one n.0 n.1 two.0 parts.0 in
       let not_yet : granted k ≡ false = sym (marks k less asked) ∙ ap marked (sym at) ∙ parts.1 in
@@ -187,5 +166,5 @@ module _ (N B : ℕ) (asks granted grant wants marked grants : ℕ → Bool) (ba
       (λ e.
       let parts = answer_parts (asks k) (granted k) (grant k) e in
       any_is (λ n. counts n && got opened grants true n) B (bank k) (below k less asked)
-      (both_from (counts (bank k)) (got opened grants true (bank k)) counted
+      (and_from (counts (bank k)) (got opened grants true (bank k)) counted
       (got_from (wants (bank k)) (marked (bank k)) (grants (bank k)) (wanted k less asked) (marks k less asked ∙ parts.1) (hears k less asked parts.1 ∙ parts.2))))

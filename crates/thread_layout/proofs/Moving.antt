@@ -1,8 +1,10 @@
 -- A state of a block is left as the planned block is ready, and moves as one of its requests is granted.
 use Rattle.std.proofs.Common.{◌≡◌, ℕ, zero, suc, ◌+◌, ◌-◌, ◌%◌, ◌<◌, ◌≤◌, Bool, true, false, not, ◌&&◌, ◌||◌, nat_eq, nat_lt, nat_le, List, length, slice_get}
 use Rattle.std.proofs.Common.{slice_index, Option, Some, None, ℤ, refl, sym, ap, subst, ◌∙◌, arith, ⊎_elim}
-use Rattle.std.proofs.lemmas.Bool.{cases_lt}
+use Rattle.std.proofs.lemmas.Bool.{cases_lt, ltb-true, leb-true, eqb-true, not-true, and_from, and_parts, lt-ltb}
 use Rattle.std.proofs.lemmas.Bool.Decides.{nat_tests}
+use Rattle.std.proofs.Math.Bool.{and-false, and-true, or-false}
+use Rattle.planned_view.proofs.Running.{size-view}
 use Rattle.hls_ints.specs.Residues.{bit_of}
 use Rattle.hls_ints.specs.Types.{IntegerType, HasType}
 use Rattle.bank_partition.specs.declared.banks.Spread.{Spread}
@@ -27,7 +29,7 @@ use Rattle.thread_promise.specs.Promise.{IsInside, HearsBanks}
 use Rattle.block_datapath.specs.Operations.{seen_value}
 use Rattle.block_datapath.specs.Accesses.{is_bank, reaches_in}
 use Rattle.block_datapath.proofs.Reaching.{some_banks, reaching, only_one}
-use Rattle.block_datapath.proofs.Wanting.{view_count, Asker, asker_of}
+use Rattle.block_datapath.proofs.Wanting.{Asker, asker_of}
 use Rattle.thread_slots.specs.declared.shape.Shape.{Shape}
 use Rattle.block_ir.specs.Asked.{Service}
 use Rattle.thread_slots.specs.Requests.{group}
@@ -38,7 +40,7 @@ use Rattle.thread_states.specs.Control.{got, unmet, is_left, counts_of, Steers}
 use Rattle.thread_layout.specs.Modules.{marks_of, IsModule}
 use Rattle.thread_layout.specs.Thread.{cores_of, inputs_of, places_of, ports_of, IsServed}
 use Rattle.thread_layout.proofs.Meeting.{any_found, any_is, ready, moving, only_own}
-use Rattle.thread_layout.proofs.Opened.{raised_by, acts_by, no_service, all_count, marked_now, mark_bit, mark_of_bank, open_bits, is_less, bit_told}
+use Rattle.thread_layout.proofs.Opened.{raised_by, acts_by, no_service, all_count, marked_now, mark_bit, mark_of_bank, open_bits, bit_told}
 use Rattle.thread_layout.proofs.Cores.{none_open}
 use Rattle.thread_layout.proofs.Placed.{from_control, opens_count}
 use Rattle.thread_layout.proofs.Raising.{reached, wanted, wanted_bit}
@@ -48,23 +50,6 @@ use Rattle.thread_layout.proofs.Sight.{heard, steered}
 
 -- ---- small facts
 
-both_true : (t u : Bool) → (t && u) ≡ true → (t ≡ true) × (u ≡ true)
-both_true true true e = (refl, refl)
-both_true true false e = absurd cc
-both_true false u e = absurd cc
-
-both_from : (t u : Bool) → t ≡ true → u ≡ true → (t && u) ≡ true
-both_from true true p q = refl
-both_from true false p q = absurd cc
-both_from false u p q = absurd cc
-
-not_true : (t : Bool) → not t ≡ true → t ≡ false
-not_true true e = absurd cc
-not_true false e = refl
-
-is_number : (x n : ℕ) → nat_eq x n ≡ true → x ≡ n
-is_number x n e = grind arith
-
 told_bit : (n : ℕ) (b : Bool) → n ≡ bit_of b → nat_eq n 1 ≡ b
 told_bit n true e = ap (λ k. nat_eq k 1) e
 told_bit n false e = ap (λ k. nat_eq k 1) e
@@ -73,48 +58,30 @@ any_alike : (f g : ℕ → Bool) (n : ℕ) → ((k : ℕ) → k < n → f k ≡ 
 any_alike f g zero same = refl
 any_alike f g (suc n) same = ap (λ t. t || f n) (any_alike f g n (λ k less. same k (omega arith))) ∙ ap (λ t. any_below g n || t) (same n (omega arith))
 
-or_false : (t : Bool) → (t || false) ≡ t
-or_false true = refl
-or_false false = refl
-
 -- none of the last ones holds
 pub any_shorter : (f : ℕ → Bool) (b n : ℕ) → b ≤ n → ((k : ℕ) → b ≤ k → k < n → f k ≡ false) → any_below f n ≡ any_below f b
 any_shorter f b zero le none = ap (any_below f) (let z : 0 ≡ b = omega arith in z)
 any_shorter f b (suc n) le none =
     ⊎_elim
     (λ (less : b < suc n).
-    ap (λ z. any_below f n || z) (none n (omega arith) (omega arith)) ∙ or_false (any_below f n)
+    ap (λ z. any_below f n || z) (none n (omega arith) (omega arith)) ∙ or-false (any_below f n)
     ∙ any_shorter f b n (omega arith) (λ k past under. none k past (omega arith)))
     (λ (past : suc n ≤ b). ap (any_below f) (let z : suc n ≡ b = omega arith in z))
     (cases_lt b (suc n))
 
-and_true : (t : Bool) → (t && true) ≡ t
-and_true true = refl
-and_true false = refl
-
-and_false : (t : Bool) → (t && false) ≡ false
-and_false true = refl
-and_false false = refl
-
 from_first : (s i : ℕ) → nat_le s (s + i) ≡ true
 from_first s i = grind (arith, nat_tests)
-
-at_most : (x y : ℕ) → nat_le x y ≡ true → x ≤ y
-at_most x y e = grind (arith, nat_tests)
-
-is_below : (x y : ℕ) → nat_lt x y ≡ true → x < y
-is_below x y e = grind (arith, nat_tests)
 
 -- the banks of a global
 in_range : (s : Spread) (i : ℕ) → i < s.count → is_in s (s.first + i) ≡ true
 in_range s i less =
     let same : s.first + i - s.first ≡ i = omega arith in
-    both_from (nat_le s.first (s.first + i)) (nat_lt (s.first + i - s.first) s.count) (from_first s.first i) (ap (λ z. nat_lt z s.count) same ∙ is_less i s.count less)
+    and_from (nat_le s.first (s.first + i)) (nat_lt (s.first + i - s.first) s.count) (from_first s.first i) (ap (λ z. nat_lt z s.count) same ∙ lt-ltb i s.count less)
 
 range_of : (s : Spread) (n : ℕ) → is_in s n ≡ true → (s.first ≤ n) × (n - s.first < s.count)
 range_of s n e =
-    let two = both_true (nat_le s.first n) (nat_lt (n - s.first) s.count) e in
-    (at_most s.first n two.0, is_below (n - s.first) s.count two.1)
+    let two = and_parts (nat_le s.first n) (nat_lt (n - s.first) s.count) e in
+    (leb-true s.first n two.0, ltb-true (n - s.first) s.count two.1)
 
 abbrev global_in : Target → ℕ
 global_in NoTarget = 0
@@ -133,7 +100,7 @@ target_request (ArrayWrite y) x w e = absurd cc
 -- an operation reaches one bank at most
 same_bank : (s : Option Spread) (i n j : ℕ) → is_bank s i n ≡ true → is_bank s i j ≡ true → n ≡ j
 same_bank None i n j e f = absurd cc
-same_bank (Some s) i n j e f = is_number n (s.first + i % s.count) e ∙ sym (is_number j (s.first + i % s.count) f)
+same_bank (Some s) i n j e f = eqb-true n (s.first + i % s.count) e ∙ sym (eqb-true j (s.first + i % s.count) f)
 
 same_reach : (variables given : ℕ → ℤ) (globals : List IntegerType) (spreads : List Spread) (o : Option Operation) (n j : ℕ) → reaches_in variables given globals spreads o n ≡ true
     → reaches_in variables given globals spreads o j ≡ true → n ≡ j
@@ -182,7 +149,7 @@ module _ (shape : Shape) (code : ThreadCode) (plan : Planned) (m : Module) (t : 
 
     is_wanted : (k : ℕ) → k < size (planned_view b) → asking k ≡ true → wanted shape code plan m t served r q b p o inside (bank k) ≡ true
     is_wanted k below e =
-        any_is (reached shape code plan m t served r q b p o inside (bank k)) (length b.operations) k (subst (λ n. k < n) (view_count b.operations) below)
+        any_is (reached shape code plan m t served r q b p o inside (bank k)) (length b.operations) k (subst (λ n. k < n) (size-view b.operations) below)
         (reached_own k below e)
 
     pub asker : (n : ℕ) → n < banks → wanted shape code plan m t served r q b p o inside n ≡ true → (k : ℕ) × (k < size (planned_view b)) × (asking k ≡ true) × (bank k ≡ n)
@@ -190,11 +157,11 @@ module _ (shape : Shape) (code : ThreadCode) (plan : Planned) (m : Module) (t : 
         let k = any_found (reached shape code plan m t served r q b p o inside n) (length b.operations) e in
         let reach = reaching shape.globals shape.spreads code t.inside.slot q.stage b p q (wires_now shape.spreads b p q) n k.0 k.2 in
         let asked : asking k.0 ≡ true =
-        both_from (is_request (operation_at (planned_view b) k.0).kind) (nat_eq ((plan_view b p).start k.0) q.state)
+        and_from (is_request (operation_at (planned_view b) k.0).kind) (nat_eq ((plan_view b p).start k.0) q.state)
         (target_request (operation_at (planned_view b) k.0).kind reach.global reach.writes reach.target) (same_is ((plan_view b p).start k.0) q.state reach.at) in
-        let one = both_true (nat_eq q.state (slice_index p.starts k.0))
+        let one = and_parts (nat_eq q.state (slice_index p.starts k.0))
         (reaches_in q.variables (value_now (planned_view b) (plan_view b p) q (wires_now shape.spreads b p q)) shape.globals shape.spreads (slice_get b.operations k.0) n) k.2 in
-        let two = both_true (nat_eq q.state (slice_index p.starts k.0))
+        let two = and_parts (nat_eq q.state (slice_index p.starts k.0))
         (reaches_in q.variables (value_now (planned_view b) (plan_view b p) q (wires_now shape.spreads b p q)) shape.globals shape.spreads (slice_get b.operations k.0) (bank k.0))
         (reached_own k.0 reach.below asked) in (
           k.0,
@@ -209,11 +176,11 @@ module _ (shape : Shape) (code : ThreadCode) (plan : Planned) (m : Module) (t : 
         let a = who k below e in
         let less : a.number % a.spread.count < a.spread.count = some_banks a.number a.spread.count (served.spreads.powers a.global a.spread a.listed) in
         let at : bank k ≡ a.spread.first + a.number % a.spread.count = own_bank k below e ∙ a.bank in
-        let starts = both_true (is_request (operation_at (planned_view b) k).kind) (nat_eq ((plan_view b p).start k) q.state) e in
+        let starts = and_parts (is_request (operation_at (planned_view b) k).kind) (nat_eq ((plan_view b p).start k) q.state) e in
         told_bit (r.signal (slice_index (spread_out t.inside.slot.spreads (marks_of t.inside)) (bank k))) (q.granted k)
         (ap (λ n. r.signal (slice_index (spread_out t.inside.slot.spreads (marks_of t.inside)) n)) at
         ∙ ap r.signal (mark_of_bank shape code plan m t served a.global (a.number % a.spread.count) a.spread a.listed less)
-        ∙ inside.shown.granted k a.global a.writes below a.target (is_number ((plan_view b p).start k) q.state starts.1))
+        ∙ inside.shown.granted k a.global a.writes below a.target (eqb-true ((plan_view b p).start k) q.state starts.1))
 
     -- ---- control
 
@@ -256,24 +223,24 @@ module _ (shape : Shape) (code : ThreadCode) (plan : Planned) (m : Module) (t : 
     -- the bank of an operation that asks and has not been granted is open
     pub own_open : (k : ℕ) → k < size (planned_view b) → asking k ≡ true → q.granted k ≡ false → opened (bank k) ≡ true
     own_open k below e not_so =
-        both_from (wanted shape code plan m t served r q b p o inside (bank k)) (not (marked_now shape code plan m t served r (bank k))) (is_wanted k below e)
+        and_from (wanted shape code plan m t served r q b p o inside (bank k)) (not (marked_now shape code plan m t served r (bank k))) (is_wanted k below e)
         (ap not (marks k below e ∙ not_so))
 
     -- and a bank that is open is that of one
     pub open_asker : (n : ℕ) → n < banks → opened n ≡ true → (k : ℕ) × (k < size (planned_view b)) × (asking k ≡ true) × (q.granted k ≡ false) × (bank k ≡ n)
     open_asker n less e =
-        let two = both_true (wanted shape code plan m t served r q b p o inside n) (not (marked_now shape code plan m t served r n)) e in
+        let two = and_parts (wanted shape code plan m t served r q b p o inside n) (not (marked_now shape code plan m t served r n)) e in
         let k = asker n less two.0 in (
           k.0,
           k.1,
           k.2,
-          sym (marks k.0 k.1 k.2) ∙ ap (marked_now shape code plan m t served r) k.3 ∙ not_true (marked_now shape code plan m t served r n) two.1,
+          sym (marks k.0 k.1 k.2) ∙ ap (marked_now shape code plan m t served r) k.3 ∙ not-true (marked_now shape code plan m t served r n) two.1,
           k.3,
         )
 
     at_start : (k : ℕ) → asking k ≡ true → slice_index p.starts k ≡ q.state
     at_start k e =
-        is_number ((plan_view b p).start k) q.state (both_true (is_request (operation_at (planned_view b) k).kind) (nat_eq ((plan_view b p).start k) q.state) e).1
+        eqb-true ((plan_view b p).start k) q.state (and_parts (is_request (operation_at (planned_view b) k).kind) (nat_eq ((plan_view b p).start k) q.state) e).1
 
     -- a global has one access in a state
     only_access : (k j : ℕ) (below : k < size (planned_view b)) (e : asking k ≡ true) (under : j < size (planned_view b)) (f : asking j ≡ true) →
@@ -330,7 +297,7 @@ module _ (shape : Shape) (code : ThreadCode) (plan : Planned) (m : Module) (t : 
           let a = who k below e in
           let open_now : IsOpen shape.spreads b p q k a.global a.writes = record {
             below = below;
-            requested = both_from (asking k) (not (q.granted k)) e (ap not not_so);
+            requested = and_from (asking k) (not (q.granted k)) e (ap not not_so);
             target = a.target;
           } in
           told_bit (r.signal (2 + bank k)) (grant k) (ap (λ n. r.signal (2 + n)) (own_bank k below e) ∙ hears.grants k a.global a.writes open_now)
@@ -408,7 +375,7 @@ module _ (shape : Shape) (code : ThreadCode) (plan : Planned) (m : Module) (t : 
             ap (any_below (λ n. counts_of (slice_get t.inside.slot.spreads a.global) n && got raised grants true n)) (opens_count shape code plan m t served)
             ∙ any_shorter (λ n. counts_of (slice_get t.inside.slot.spreads a.global) n && got raised grants true n) banks (cores_of shape) many
             (λ n past under. ap (λ z. counts_of (slice_get t.inside.slot.spreads a.global) n && ((z && true) && grants n)) (down n past)
-            ∙ and_false (counts_of (slice_get t.inside.slot.spreads a.global) n))
+            ∙ and-false (counts_of (slice_get t.inside.slot.spreads a.global) n))
             ∙ any_alike (λ n. counts_of (slice_get t.inside.slot.spreads a.global) n && got raised grants true n) (λ n. is_in a.spread n && got opened grants true n) banks
             (λ n under. ap (λ z. counts_of z n && got raised grants true n) listed ∙ ap (λ z. is_in a.spread n && ((z && true) && grants n)) (up n under))
             ∙ only_own (size (planned_view b)) banks asking q.granted grant (wanted shape code plan m t served r q b p o inside)
@@ -429,14 +396,14 @@ module _ (shape : Shape) (code : ThreadCode) (plan : Planned) (m : Module) (t : 
             (subst (λ n. a.global < n) (sym (marks_counted shape code plan m t served)) less) bit).shows
             ∙ ap (λ z. bit_of ((q.granted k || z) && not (is_left raised grants true false (length t.inside.early.opens)))) (own_wins k below e)
             ∙ ap (λ z. bit_of ((q.granted k || answered (planned_view b) (plan_view b p) q grant k) && not z)) (left_so ∙ stay)
-            ∙ ap bit_of (and_true (q.granted k || answered (planned_view b) (plan_view b p) q grant k))
+            ∙ ap bit_of (and-true (q.granted k || answered (planned_view b) (plan_view b p) q grant k))
 
         pub block_mark : (k x : ℕ) (w : Bool) → k < size (planned_view b) → target_of (operation_at (planned_view b) k).kind ≡ OfGlobal x w → (plan_view b p).start k ≡ q.state
             → is_ready (planned_view b) (plan_view b p) q grant ≡ false
             → r.signal (slice_index t.edge.granted x) ≡ bit_of (q.granted k || answered (planned_view b) (plan_view b p) q grant k)
         block_mark k x w below target at stay =
             let e : asking k ≡ true =
-            both_from (is_request (operation_at (planned_view b) k).kind) (nat_eq ((plan_view b p).start k) q.state)
+            and_from (is_request (operation_at (planned_view b) k).kind) (nat_eq ((plan_view b p).start k) q.state)
             (target_request (operation_at (planned_view b) k).kind x w target) (same_is ((plan_view b p).start k) q.state at) in
             let same : (who k below e).global ≡ x = (let own = (who k below e).target in cc) in
             subst (λ y. r.signal (slice_index t.edge.granted y) ≡ bit_of (q.granted k || answered (planned_view b) (plan_view b p) q grant k)) same (own_mark k below e stay)

@@ -1,10 +1,12 @@
 -- Whether a core is needed: it is where a word is taken and where the thread waits, and not in a state that asks nothing and takes no word.
 use Rattle.std.proofs.Common.{◌≡◌, ◌≢◌, ℕ, zero, suc, ◌+◌, ◌-◌, ◌<◌, ◌≤◌, nat_eq, Bool, true, false, ◌&&◌, ◌||◌, List, [], ◌∷◌, length, slice_get, slice_index, Option, Some}
 use Rattle.std.proofs.Common.{None, ℤ, refl, sym, ap, subst, ◌∙◌, arith, ⊎_elim, length-append}
-use Rattle.std.proofs.lemmas.Bool.{cases_lt}
-use Rattle.std.proofs.lemmas.Bool.Decides.{nat_tests}
+use Rattle.std.proofs.lemmas.Bool.{cases_lt, cases_eq, or_parts, or_left, and_parts, and_left, and_from, eqb-true, ne_eqb, eq-eqb, or_from}
 use Rattle.std.proofs.lemmas.Option.{slice_get_within}
-use Rattle.interleaving.proofs.Update.{same_or_not}
+use Rattle.std.proofs.Math.Bool.{and-false, or-true}
+use Rattle.std.proofs.lemmas.List.{get_or-append_right, get_or_append_left}
+use Rattle.lists.proofs.Places.{get_there}
+use Rattle.planned_view.proofs.Running.{size-view}
 use Rattle.hls_ints.specs.Residues.{bit_of}
 use Rattle.c_program.specs.declared.tree.BinaryOperator.{BinaryOperator}
 use Rattle.c_program.specs.declared.tree.BinaryOperator.TheVariants as operators
@@ -30,7 +32,6 @@ use Rattle.circuit.specs.Modules.{Obeys}
 use Rattle.thread_promise.specs.Globals.{bank_total}
 use Rattle.thread_promise.specs.Promise.{IsInside}
 use Rattle.block_datapath.proofs.Walking.{listed_view}
-use Rattle.block_datapath.proofs.Wanting.{view_count}
 use Rattle.thread_slots.specs.declared.shape.Shape.{Shape}
 use Rattle.thread_slots.specs.Bits.{HasBit, HaveBits}
 use Rattle.thread_layout.specs.Modules.{IsModule}
@@ -41,33 +42,14 @@ use Rattle.thread_slots.specs.Idle.{is_idle}
 use Rattle.thread_layout.specs.Thread.{inputs_of, places_of, ports_of, IsServed}
 use Rattle.thread_needs.proofs.Needs.{idle_needs}
 use Rattle.thread_layout.proofs.Opened.{wired, earlier_wide, wants_count, want_wide, ask_wide, bit_told}
-use Rattle.thread_requests.proofs.Opening.{front_index, back_index}
 use Rattle.thread_requests.specs.Early.{wants_of}
 use Rattle.block_ir.specs.Asked.{Service, Mutexes, Barriers, Ids, Prints}
 use Rattle.thread_slots.specs.Requests.{group}
-use Rattle.thread_layout.proofs.Placed.{from_early, wide_bit, got_any}
+use Rattle.thread_layout.proofs.Placed.{from_early, wide_bit}
 use Rattle.thread_layout.proofs.Raising.{from_whole, from_needs}
 use Rattle.thread_layout.proofs.Sight.{knows, in_stage}
 
 -- ---- bits
-
-or_true : (t : Bool) → (t || true) ≡ true
-or_true true = refl
-or_true false = refl
-
-or_none : (t u : Bool) → t ≡ false → u ≡ false → (t || u) ≡ false
-or_none true u e f = absurd cc
-or_none false true e f = absurd cc
-or_none false false e f = refl
-
-same_number : (x n : ℕ) → x ≡ n → nat_eq x n ≡ true
-same_number x n e = grind (arith, nat_tests)
-
-other_number : (x n : ℕ) → x ≢ n → nat_eq x n ≡ false
-other_number x n e = grind (arith, nat_tests)
-
-number_is : (x n : ℕ) → nat_eq x n ≡ true → x ≡ n
-number_is x n e = grind (arith, nat_tests)
 
 bit_true : (b : Bool) → bit_of b ≡ 1 → b ≡ true
 bit_true true e = refl
@@ -77,48 +59,26 @@ bit_false : (b : Bool) → bit_of b ≡ 0 → b ≡ false
 bit_false true e = absurd cc
 bit_false false e = refl
 
-both_yes : (t u : Bool) → t ≡ true → u ≡ true → (t && u) ≡ true
-both_yes true true e f = refl
-both_yes true false e f = absurd cc
-both_yes false u e f = absurd cc
-
-and_false : (h : Bool) → (h && false) ≡ false
-and_false true = refl
-and_false false = refl
-
-and_no : (t u : Bool) → t ≡ false → (t && u) ≡ false
-and_no true u e = absurd cc
-and_no false u e = refl
-
-both_split : (t u : Bool) → (t && u) ≡ true → (t ≡ true) × (u ≡ true)
-both_split true true e = (refl, refl)
-both_split true false e = absurd cc
-both_split false u e = absurd cc
-
-first_yes : (t u : Bool) → t ≡ true → (t || u) ≡ true
-first_yes true u e = refl
-first_yes false u e = absurd cc
-
 -- who is at no meeting
 meets_none : (n l x : ℕ) (s : Option Stage) → x ≢ meeting n l → meets_at n l s x ≡ false
 meets_none n l x None ne = refl
-meets_none n l x (Some s) ne = ap (λ z. is_wait s && z) (other_number x (meeting n l) ne) ∙ and_false (is_wait s)
+meets_none n l x (Some s) ne = ap (λ z. is_wait s && z) (ne_eqb x (meeting n l) ne) ∙ and-false (is_wait s)
 
 -- and who is
 meets_so : (n l x : ℕ) (s : Stage) (t : Bool) → is_wait s ≡ true → x ≡ meeting n l → (t || meets_at n l (Some s) x) ≡ true
 meets_so n l x s t waits here =
-    ap (λ z. t || (z && nat_eq x (meeting n l))) waits ∙ ap (λ z. t || z) (same_number x (meeting n l) here) ∙ or_true t
+    ap (λ z. t || (z && nat_eq x (meeting n l))) waits ∙ ap (λ z. t || z) (eq-eqb x (meeting n l) here) ∙ or-true t
 
 -- one of the first n holds, and none does
 pub some_below : (f : ℕ → Bool) (n k : ℕ) → k < n → f k ≡ true → any_below f n ≡ true
 some_below f zero k less e = absurd (omega arith)
 some_below f (suc n) k less e =
-    ⊎_elim (λ (same : k ≡ n). ap (λ b. any_below f n || b) (ap f (sym same) ∙ e) ∙ or_true (any_below f n))
-    (λ (ne : k ≢ n). ap (λ b. b || f n) (some_below f n k (omega arith) e)) (same_or_not k n)
+    ⊎_elim (λ (same : k ≡ n). ap (λ b. any_below f n || b) (ap f (sym same) ∙ e) ∙ or-true (any_below f n))
+    (λ (ne : k ≢ n). ap (λ b. b || f n) (some_below f n k (omega arith) e)) (cases_eq k n)
 
 pub none_below : (f : ℕ → Bool) (n : ℕ) → ((k : ℕ) → k < n → f k ≡ false) → any_below f n ≡ false
 none_below f zero none = refl
-none_below f (suc n) none = or_none (any_below f n) (f n) (none_below f n (λ k less. none k (omega arith))) (none n (omega arith))
+none_below f (suc n) none = or_from (any_below f n) (f n) (none_below f n (λ k less. none k (omega arith))) (none n (omega arith))
 
 -- ---- reads of globals
 
@@ -136,19 +96,11 @@ no_read operators.Divide f x e = absurd cc
 no_read operators.Remainder f x e = absurd cc
 no_read _ f x e = absurd cc
 
-or_second : (t u : Bool) → (t || u) ≡ false → u ≡ false
-or_second true u e = absurd cc
-or_second false u e = e
-
-or_first : (t u : Bool) → (t || u) ≡ false → t ≡ false
-or_first true u e = absurd cc
-or_first false u e = refl
-
 not_some : (f : ℕ → Bool) (n : ℕ) → any_below f n ≡ false → (k : ℕ) → k < n → f k ≡ false
 not_some f zero e k less = absurd (omega arith)
 not_some f (suc n) e k less =
-    ⊎_elim (λ (same : k ≡ n). ap f same ∙ or_second (any_below f n) (f n) e)
-    (λ (ne : k ≢ n). not_some f n (or_first (any_below f n) (f n) e) k (omega arith)) (same_or_not k n)
+    ⊎_elim (λ (same : k ≡ n). ap f same ∙ (or_parts (any_below f n) (f n) e).1)
+    (λ (ne : k ≢ n). not_some f n (or_parts (any_below f n) (f n) e).0 k (omega arith)) (cases_eq k n)
 
 some_operation : (o : Option Operation) → takes_word o ≡ true → (p : Operation) × (o ≡ Some p)
 some_operation None e = absurd cc
@@ -174,7 +126,7 @@ module _ (shape : Shape) (code : ThreadCode) (plan : Planned) (m : Module) (t : 
   -- bank n
   pub asked_bank : (n : ℕ) → n < banks → slice_index asked n ≡ slice_index t.inside.early.requests.banks.wants n
   asked_bank n less =
-      front_index t.inside.early.requests.banks.wants _ n (subst (λ k. n < k) (sym (wants_count shape code plan m t served)) less)
+      get_or_append_left t.inside.early.requests.banks.wants _ 0 n (subst (λ k. n < k) (sym (wants_count shape code plan m t served)) less)
 
   -- behind them some kind
   pub asked_kind : (n : ℕ) → banks ≤ n → n < wants_all → (s : Service) × (slice_index asked n ≡ (group t.inside.early.requests s).wants)
@@ -183,7 +135,7 @@ module _ (shape : Shape) (code : ThreadCode) (plan : Planned) (m : Module) (t : 
       at : (k : ℕ) → n - banks ≡ k → slice_index asked n ≡ slice_index
           (t.inside.early.requests.mutex.wants ∷ t.inside.early.requests.barrier.wants ∷ t.inside.early.requests.ids.wants ∷ t.inside.early.requests.print.wants ∷ []) k
       at k e =
-          back_index t.inside.early.requests.banks.wants _ n (subst (λ z. z ≤ n) (sym (wants_count shape code plan m t served)) past)
+          get_or-append_right t.inside.early.requests.banks.wants _ (length t.inside.early.requests.banks.wants) n 0 refl (subst (λ z. z ≤ n) (sym (wants_count shape code plan m t served)) past)
           ∙ ap
           (λ z. slice_index
           (t.inside.early.requests.mutex.wants ∷ t.inside.early.requests.barrier.wants ∷ t.inside.early.requests.ids.wants ∷ t.inside.early.requests.print.wants ∷ [])
@@ -239,7 +191,7 @@ module _ (shape : Shape) (code : ThreadCode) (plan : Planned) (m : Module) (t : 
             (t.inside.early.requests.mutex.wants ∷ t.inside.early.requests.barrier.wants ∷ t.inside.early.requests.ids.wants ∷ t.inside.early.requests.print.wants ∷ []) k
         there k less =
             let count = wants_count shape code plan m t served in
-            back_index t.inside.early.requests.banks.wants _ (banks + k) (omega arith)
+            get_or-append_right t.inside.early.requests.banks.wants _ (length t.inside.early.requests.banks.wants) (banks + k) 0 refl (omega arith)
             ∙ ap
             (slice_index
             (t.inside.early.requests.mutex.wants ∷ t.inside.early.requests.barrier.wants ∷ t.inside.early.requests.ids.wants ∷ t.inside.early.requests.print.wants ∷ []))
@@ -300,7 +252,7 @@ module _ (shape : Shape) (code : ThreadCode) (plan : Planned) (m : Module) (t : 
           shows = held_bit.1;
         }) asked_bits in
         let off : (held_bit.0 || any_below (λ k. true && asked_now k) (length asked)) ≡ false = bit_false _ (sym need.shows ∙ none) in
-        not_some (λ k. true && asked_now k) (length asked) (or_second held_bit.0 _ off) n (subst (λ k. n < k) (sym asked_count) less)
+        not_some (λ k. true && asked_now k) (length asked) (or_parts held_bit.0 _ off).1 n (subst (λ k. n < k) (sym asked_count) less)
 
     -- and one is needed nowhere else
     unneeded : (s l : ℕ) → Placed s → now ≡ l → l < length code.stages → needs_in (slice_get code.stages l) (slice_get plan.stages l) s ≡ false
@@ -309,27 +261,27 @@ module _ (shape : Shape) (code : ThreadCode) (plan : Planned) (m : Module) (t : 
         let at : at_stages s ≡ false =
         none_below (needs_now s) (length code.stages)
         (λ k less.
-        or_none (nat_eq now k && needs_in (slice_get code.stages k) (slice_get plan.stages k) s) (meets_at (length code.stages) k (slice_get code.stages k) now)
+        or_from (nat_eq now k && needs_in (slice_get code.stages k) (slice_get plan.stages k) s) (meets_at (length code.stages) k (slice_get code.stages k) now)
         (⊎_elim
         (λ (same : k ≡ l).
         ap (λ z. nat_eq now z && needs_in (slice_get code.stages z) (slice_get plan.stages z) s) same
-        ∙ ap (λ z. nat_eq now l && z) none ∙ and_false (nat_eq now l))
-        (λ (ne : k ≢ l). and_no (nat_eq now k) _ (other_number now k (λ is. ne (sym is ∙ here)))) (same_or_not k l))
+        ∙ ap (λ z. nat_eq now l && z) none ∙ and-false (nat_eq now l))
+        (λ (ne : k ≢ l). and_left (nat_eq now k) _ (ne_eqb now k (λ is. ne (sym is ∙ here)))) (cases_eq k l))
         (meets_none (length code.stages) k now (slice_get code.stages k) (λ is. absurd (let same = sym here ∙ is in omega arith)))) in
         let end : nat_eq now (length code.stages) ≡ false =
-        other_number now (length code.stages) (λ is. absurd (let same : l ≡ length code.stages = sym here ∙ is in omega arith)) in
+        ne_eqb now (length code.stages) (λ is. absurd (let same : l ≡ length code.stages = sym here ∙ is in omega arith)) in
         let ask : any_below (λ k. true && asked_now k) (length asked) ≡ false =
         none_below (λ k. true && asked_now k) (length asked) (λ k less. quiet k (subst (λ z. k < z) asked_count less)) in
         (at_place s placed).shows
-        ∙ ap bit_of (or_none (nat_eq now (length code.stages) || at_stages s) (any_below (λ k. true && asked_now k) (length asked))
-        (or_none (nat_eq now (length code.stages)) (at_stages s) end at) ask)
+        ∙ ap bit_of (or_from (nat_eq now (length code.stages) || at_stages s) (any_below (λ k. true && asked_now k) (length asked))
+        (or_from (nat_eq now (length code.stages)) (at_stages s) end at) ask)
 
     -- and where a stage needs one
     stage_needs : (s l : ℕ) → now ≡ l → l < length code.stages → needs_in (slice_get code.stages l) (slice_get plan.stages l) s ≡ true → at_stages s ≡ true
     stage_needs s l here below needs =
         some_below (needs_now s) (length code.stages) l below
-        (first_yes (nat_eq now l && needs_in (slice_get code.stages l) (slice_get plan.stages l) s) (meets_at (length code.stages) l (slice_get code.stages l) now)
-        (both_yes (nat_eq now l) (needs_in (slice_get code.stages l) (slice_get plan.stages l) s) (same_number now l here) needs))
+        (or_left (nat_eq now l && needs_in (slice_get code.stages l) (slice_get plan.stages l) s) (meets_at (length code.stages) l (slice_get code.stages l) now)
+        (and_from (nat_eq now l) (needs_in (slice_get code.stages l) (slice_get plan.stages l) s) (eq-eqb now l here) needs))
 
     -- AT A RETURN no core is needed
     pub return_needs : (next : ℕ) → slice_get code.stages now ≡ Some (stage.Act Return next) → ((n : ℕ) → n < wants_all → asked_now n ≡ false) → r.signal t.inside.early.need ≡ 0
@@ -349,7 +301,7 @@ module _ (shape : Shape) (code : ThreadCode) (plan : Planned) (m : Module) (t : 
         stage_needs 0 now refl less (ap (λ k. needs_in k (slice_get plan.stages now) 0) listed ∙ idle_needs s (slice_get plan.stages now) 0 idle) in
         (at_place 0 (λ l b p e f is. absurd (runs_idle l b p e f is))).shows
         ∙ ap (λ k. bit_of ((nat_eq now (length code.stages) || k) || any_below (λ k. true && asked_now k) (length asked))) here
-        ∙ ap (λ k. bit_of (k || any_below (λ k. true && asked_now k) (length asked))) (or_true (nat_eq now (length code.stages)))
+        ∙ ap (λ k. bit_of (k || any_below (λ k. true && asked_now k) (length asked))) (or-true (nat_eq now (length code.stages)))
       where
         runs_idle : (l : ℕ) (b : Block) (p : BlockPlan) → slice_get code.stages l ≡ Some (stage.Run b) → slice_get plan.stages l ≡ Some (planned.Run p) → now ≡ l → ⊥
         runs_idle l b p e f is =
@@ -371,14 +323,14 @@ module _ (shape : Shape) (code : ThreadCode) (plan : Planned) (m : Module) (t : 
         (at_place 0
         (λ k b p e f is. absurd (let less = slice_get_within code.stages k (stage.Run b) e in let same = sym here ∙ is in omega arith))).shows
         ∙ ap (λ k. bit_of ((nat_eq now (length code.stages) || k) || any_below (λ k. true && asked_now k) (length asked))) at
-        ∙ ap (λ k. bit_of (k || any_below (λ k. true && asked_now k) (length asked))) (or_true (nat_eq now (length code.stages)))
+        ∙ ap (λ k. bit_of (k || any_below (λ k. true && asked_now k) (length asked))) (or-true (nat_eq now (length code.stages)))
 
     -- AT THE END a core is needed
     pub end_needs : now ≡ length code.stages → r.signal t.inside.early.need ≡ 1
     end_needs end =
         (at_place 0
         (λ l b p e f is. absurd (let less = slice_get_within code.stages l (stage.Run b) e in let same : length code.stages ≡ l = sym end ∙ is in omega arith))).shows
-        ∙ ap (λ k. bit_of ((k || at_stages 0) || any_below (λ k. true && asked_now k) (length asked))) (same_number now (length code.stages) end)
+        ∙ ap (λ k. bit_of ((k || at_stages 0) || any_below (λ k. true && asked_now k) (length asked))) (eq-eqb now (length code.stages) end)
 
     -- within a block
     module _ (q : Slot) (b : Block) (p : BlockPlan)
@@ -393,7 +345,7 @@ module _ (shape : Shape) (code : ThreadCode) (plan : Planned) (m : Module) (t : 
           let is = reads op.0 (ap takes_word (sym op.1) ∙ e) in (
             op.0,
             op.1,
-            subst (λ n. k < n) (sym (view_count b.operations)) (slice_get_within b.operations k op.0 op.1),
+            subst (λ n. k < n) (sym (size-view b.operations)) (slice_get_within b.operations k op.0 op.1),
             is.0,
             ap (λ (z : PlannedOperation). z.kind) (listed_view b.operations k op.0 op.1) ∙ is.1,
           )
@@ -439,18 +391,18 @@ module _ (shape : Shape) (code : ThreadCode) (plan : Planned) (m : Module) (t : 
       pub taken_needs : (k x : ℕ) → k < size (planned_view b) → last_state (planned_view b) (plan_view b p) k ≡ q.state → (operation_at (planned_view b) k).kind ≡ BankRead x
           → r.signal t.inside.early.need ≡ 1
       taken_needs k x below last kind =
-          let less : k < length b.operations = subst (λ n. k < n) (view_count b.operations) below in
-          let op = got_any b.operations k less in
+          let less : k < length b.operations = subst (λ n. k < n) (size-view b.operations) below in
+          let op = get_there b.operations k less in
           let takes : takes_word (slice_get b.operations k) ≡ true =
           ap takes_word op.1 ∙ read_takes op.0 x (ap (λ (z : PlannedOperation). z.kind) (sym (listed_view b.operations k op.0 op.1)) ∙ kind) in
           let hit : takes_at b p q.state k ≡ true =
-          both_yes (takes_word (slice_get b.operations k)) (nat_eq q.state (suc (slice_index p.starts k))) takes
-          (same_number q.state (suc (slice_index p.starts k)) (sym last ∙ last_of_read k x kind)) in
+          and_from (takes_word (slice_get b.operations k)) (nat_eq q.state (suc (slice_index p.starts k))) takes
+          (eq-eqb q.state (suc (slice_index p.starts k)) (sym last ∙ last_of_read k x kind)) in
           let at : at_stages q.state ≡ true =
           stage_needs q.state q.stage here_now below_end (stage_need ∙ some_below (takes_at b p q.state) (length b.operations) k less hit) in
           (at_place q.state placed_here).shows
           ∙ ap (λ z. bit_of ((nat_eq now (length code.stages) || z) || any_below (λ k. true && asked_now k) (length asked))) at
-          ∙ ap (λ z. bit_of (z || any_below (λ k. true && asked_now k) (length asked))) (or_true (nat_eq now (length code.stages)))
+          ∙ ap (λ z. bit_of (z || any_below (λ k. true && asked_now k) (length asked))) (or-true (nat_eq now (length code.stages)))
         where
           read_takes : (o : Operation) (x : ℕ) → (operation_view o).kind ≡ BankRead x → takes_word (Some o) ≡ true
           read_takes (Unary operator ty a) x e = absurd cc
@@ -472,7 +424,7 @@ module _ (shape : Shape) (code : ThreadCode) (plan : Planned) (m : Module) (t : 
           no_take k false e = e
           no_take k true e =
               absurd
-              (let two = both_split (takes_word (slice_get b.operations k)) (nat_eq q.state (suc (slice_index p.starts k))) e in
+              (let two = and_parts (takes_word (slice_get b.operations k)) (nat_eq q.state (suc (slice_index p.starts k))) e in
               let read = read_at k two.0 in
-              let last : last_state (planned_view b) (plan_view b p) k ≡ q.state = last_of_read k read.3 read.4 ∙ sym (number_is q.state (suc (slice_index p.starts k)) two.1) in
+              let last : last_state (planned_view b) (plan_view b p) k ≡ q.state = last_of_read k read.3 read.4 ∙ sym (eqb-true q.state (suc (slice_index p.starts k)) two.1) in
               closed.takes_none k read.3 read.2 last read.4)

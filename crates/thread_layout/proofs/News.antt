@@ -2,7 +2,7 @@
 use Rattle.std.proofs.Common.{◌≡◌, ℕ, zero, suc, ◌+◌, ◌<◌, ◌≤◌, Bool, nat_eq, if◌then◌else◌, List, [], ◌∷◌, ◌++◌, length, map, slice_get, Some}
 use Rattle.std.proofs.Common.{refl, ap, subst, ◌∙◌, arith}
 use Rattle.std.specs.Prelude.{option_map, replicate}
-use Rattle.std.proofs.lemmas.Option.{slice_get_within, slice_get-map}
+use Rattle.std.proofs.lemmas.Option.{slice_get_within, slice_get-map, get_or_from_slice_get}
 use Rattle.hls_ints.specs.Residues.{bit_of}
 use Rattle.hls_ints.specs.Types.{width_of}
 use Rattle.block_ir.specs.declared.code.ThreadCode.{ThreadCode}
@@ -22,7 +22,6 @@ use Rattle.thread_slots.specs.declared.shape.Shape.{Shape}
 use Rattle.thread_slots.specs.Bits.{HasBit}
 use Rattle.thread_slots.specs.Services.{services, news_widths}
 use Rattle.thread_slots.specs.Slots.{StandsAt}
-use Rattle.thread_slots.proofs.Gating.{index_got}
 use Rattle.thread_slots.proofs.Laying.{stands_later}
 use Rattle.thread_requests.specs.Early.{spread_out}
 use Rattle.thread_layout.specs.Leaf.{served_ports}
@@ -120,7 +119,7 @@ module _ (shape : Shape) (code : ThreadCode) (plan : Planned) (m : Module) (t : 
       let g = t.laid.hears_news.each k f.0 (slice_get_within t.laid.news k f.0 f.1) f.1 in
       let listed : slice_get (map (λ (h : Held). h.register) t.inside.news) k ≡ Some g.0.register =
       slice_get-map (λ (h : Held). h.register) t.inside.news k ∙ ap (option_map (λ (h : Held). h.register)) g.1 in
-      let place : heard_place t.inside.news k ≡ g.0.register = index_got (map (λ (h : Held). h.register) t.inside.news) k g.0.register listed in
+      let place : heard_place t.inside.news k ≡ g.0.register = get_or_from_slice_get (map (λ (h : Held). h.register) t.inside.news) k g.0.register 0 listed in
       let one = t.laid.words.long in
       let two = ports_long shape code plan m t served in
       let three = bank_count shape code plan m t served in

@@ -3,7 +3,8 @@ use Rattle.std.proofs.Common.{◌≡◌, ℕ, zero, suc, ◌+◌, ◌-◌, ◌<�
 use Rattle.std.proofs.Common.{slice_index, Some, refl, sym, ap, subst, ◌∙◌, arith}
 use Rattle.std.proofs.lemmas.Bool.Decides.{nat_tests}
 use Rattle.std.proofs.lemmas.List.{length-map}
-use Rattle.std.proofs.lemmas.Option.{slice_get_within, get_or_from_slice_get}
+use Rattle.std.proofs.lemmas.Option.{slice_get_within, get_or_from_slice_get, slice_get-get_or}
+use Rattle.lists.proofs.Places.{get_there}
 use Rattle.hls_ints.specs.Residues.{bit_of}
 use Rattle.hls_ints.specs.Types.{width_of}
 use Rattle.bank_partition.specs.declared.banks.Spread.{Spread}
@@ -27,15 +28,11 @@ use Rattle.thread_layout.specs.Modules.{marks_of, IsModule, IsWiredInside}
 use Rattle.thread_layout.specs.Thread.{inputs_of, cores_of, IsServed}
 use Rattle.block_ir.specs.Asked.{Service}
 use Rattle.thread_slots.specs.Requests.{group}
-use Rattle.thread_slots.proofs.Gating.{index_there}
 use Rattle.thread_requests.proofs.Opening.{have_joined}
 use Rattle.thread_layout.proofs.Placed.{no_argument, from_early, wide_bit, banks_many, mark_held, stands_wide}
 use Rattle.thread_requests.proofs.Spreading.{spread_there, spread_count}
 
 -- ---- lists
-
-pub is_less : (n k : ℕ) → n < k → nat_lt n k ≡ true
-is_less n k less = grind (arith, nat_tests)
 
 pub is_not_less : (n : ℕ) → nat_lt n n ≡ false
 is_not_less n = grind (arith, nat_tests)
@@ -72,16 +69,11 @@ module _ (shape : Shape) (code : ThreadCode) (plan : Planned) (m : Module) (t : 
   -- bits of banks, and of those that acts ask
   pub want_wide : (n : ℕ) → n < banks → width m (slice_index t.inside.early.requests.banks.wants n) ≡ 1
   want_wide n less =
-      let there = index_there t.inside.early.requests.banks.wants n (subst (λ k. n < k) (sym wants_count) less) in
-      let h = index_held wired.bits n (subst (λ k. n < k) (sym (sym wired.early.linked.banks.wants.count ∙ wants_count)) less) in
+      let there = slice_get-get_or t.inside.early.requests.banks.wants n 0 (subst (λ k. n < k) (sym wants_count) less) in
+      let h = get_there wired.bits n (subst (λ k. n < k) (sym (sym wired.early.linked.banks.wants.count ∙ wants_count)) less) in
       let stands = wired.early.linked.banks.wants.each n (slice_index t.inside.early.requests.banks.wants n) h.0 h.1 there in
       earlier_wide m t.laid.with_early _ (slice_index t.inside.early.requests.banks.wants n) h.0.width (from_early shape code plan m t served) stands
       ∙ wired.early.linked.widths.bits n h.0 h.1
-    where
-      index_held : (xs : List Held) (i : ℕ) → i < length xs → (x : Held) × (slice_get xs i ≡ Some x)
-      index_held [] i h = absurd (omega arith)
-      index_held (x ∷ xs) zero h = (x, refl)
-      index_held (x ∷ xs) (suc i) h = index_held xs i (omega arith)
 
   pub ask_wide : (s : Service) → width m (group t.inside.early.requests s).wants ≡ 1
   ask_wide s =

@@ -2,9 +2,10 @@
 use Rattle.std.proofs.Common.{◌≡◌, ℕ, zero, suc, ◌+◌, ◌-◌, ◌<◌, ◌^◌, Bool, true, false, if◌then◌else◌, List, [], ◌∷◌, length, map, slice_get, Option, Some, None, pos, refl, sym}
 use Rattle.std.proofs.Common.{ap, subst, ◌∙◌, arith, length-append, ◌++◌, ◌≤◌, take, ⊎_elim}
 use Rattle.std.proofs.lemmas.Bool.{cases_lt}
-use Rattle.std.specs.Prelude.{option_map, replicate, slice_index}
+use Rattle.std.specs.Prelude.{option_map, slice_index}
 use Rattle.std.proofs.lemmas.List.{length-map}
-use Rattle.std.proofs.lemmas.Option.{slice_get_within, slice_get-map}
+use Rattle.std.proofs.lemmas.Option.{slice_get_within, slice_get-map, slice_get-get_or}
+use Rattle.lists.proofs.Places.{get_there, copies_there}
 use Rattle.hls_ints.specs.Residues.{bit_of}
 use Rattle.hls_ints.specs.Types.{Width, bits_8, bits_16, bits_32, bits_64, IntegerType, HasType, width_of}
 use Rattle.bank_partition.specs.declared.banks.Spread.{Spread}
@@ -19,7 +20,6 @@ use Rattle.netlist.specs.declared.netlist.Module.{Module}
 use Rattle.verilog_meaning.specs.Readings.{Reading, width, signal_width, initial_reading, initial_signal, initial_number}
 use Rattle.verilog_meaning.specs.Cycles.{IsRegister}
 use Rattle.circuit.specs.Modules.{Obeys, Agree}
-use Rattle.circuit.proofs.Growth.{got}
 use Rattle.operator_wires.specs.Gives.{Grows}
 use Rattle.operator_wires.proofs.Giving.{grows_then}
 use Rattle.block_datapath.specs.declared.registers.Held.{Held}
@@ -88,11 +88,6 @@ zero_typed bits_32 true = refl
 zero_typed bits_32 false = refl
 zero_typed bits_64 true = refl
 zero_typed bits_64 false = refl
-
-pub got_any : {X : Type 0} (xs : List X) (i : ℕ) → i < length xs → (x : X) × (slice_get xs i ≡ Some x)
-got_any [] i h = absurd (omega arith)
-got_any (x ∷ xs) zero h = (x, refl)
-got_any (x ∷ xs) (suc i) h = got_any xs i (omega arith)
 
 -- the ports of bank k, whose words have this width, at these places
 pub record HasBankOutputs (signals : List Signal) (at : ℕ → ℕ) (asks : List ℕ) (banks : BankRequests) (k w : ℕ) : Type 0 where
@@ -303,7 +298,7 @@ module _ (shape : Shape) (code : ThreadCode) (plan : Planned) (m : Module) (t : 
 
   pub kept_held : (x : ℕ) → x < length t.laid.kept_widths → HasKept x
   kept_held x less =
-      let w = got t.laid.kept_widths x 0 less in
+      let w = slice_get-get_or t.laid.kept_widths x 0 less in
       let f = t.laid.slot.kept x _ less w in
       let place : length t.laid.with_inputs + 3 + length code.variables + x ≡ behind + 3 + length code.variables + x = ap
       (λ (n : ℕ). n + 3 + length code.variables + x) inputs_long in
@@ -335,7 +330,7 @@ module _ (shape : Shape) (code : ThreadCode) (plan : Planned) (m : Module) (t : 
 
   pub mark_held : (x : ℕ) → x < length shape.globals → HasMark x
   mark_held x less =
-      let f = t.laid.granted.each x 1 less (replicate_there (length shape.globals) x less) in
+      let f = t.laid.granted.each x 1 less (copies_there (length shape.globals) 1 x less) in
       let place : length t.laid.with_registers + x ≡ behind + 3 + length code.variables + plan.registers + x = ap (λ (n : ℕ). n + x) registers_long in
       record {
         held = f.0;
@@ -346,17 +341,12 @@ module _ (shape : Shape) (code : ThreadCode) (plan : Planned) (m : Module) (t : 
             subst (λ (n : ℕ). StandsAt m.signals n 1 (Register 0)) place
             (stands_later t.laid.with_slot m.signals (length t.laid.with_registers + x) 1 (Register 0) from_slot f.4);
       }
-    where
-      replicate_there : (n x : ℕ) → x < n → slice_get {X = ℕ} (replicate n 1) x ≡ Some 1
-      replicate_there zero x less = absurd (omega arith)
-      replicate_there (suc n) zero less = refl
-      replicate_there (suc n) (suc x) less = replicate_there n x (omega arith)
 
   -- the same, for the statements of an edge
   pub variables_at : (i : ℕ) (h : Held) → slice_get t.inside.slot.variables i ≡ Some h → h.register ≡ behind + 3 + i
   variables_at i h listed =
       let less : i < length code.variables = subst (λ (n : ℕ). i < n) t.laid.slot.variables_count (slice_get_within t.inside.slot.variables i h listed) in
-      let found = got_any code.variables i less in
+      let found = get_there code.variables i less in
       let v = variable_held i found.0 found.1 in
       let same : v.held ≡ h = (let e = v.listed in cc) in
       ap (λ (k : Held). k.register) (sym same) ∙ v.at
@@ -494,13 +484,13 @@ module _ (shape : Shape) (code : ThreadCode) (plan : Planned) (m : Module) (t : 
     where
       bank : k < banks → CopiesAt m.signals (port_at shape m k 0) 1 (slice_index t.edge.asks k)
       bank inside =
-          let h = got_any t.inside.slot.words k (subst (λ n. k < n) (sym words_count) inside) in
+          let h = get_there t.inside.slot.words k (subst (λ n. k < n) (sym words_count) inside) in
           (bank_asked k h.0 h.1).at_ask
 
       last : banks ≤ k → CopiesAt m.signals (port_at shape m k 0) 1 (slice_index t.edge.asks k)
       last past =
           let count = services_count shape.served in
-          let own = got_any (services shape.served) (k - banks) (omega arith) in
+          let own = get_there (services shape.served) (k - banks) (omega arith) in
           let same : banks + (k - banks) ≡ k = omega arith in
           subst (λ n. CopiesAt m.signals (port_at shape m n 0) 1 (slice_index t.edge.asks n)) same (act_ask (k - banks) own.0 own.1)
 

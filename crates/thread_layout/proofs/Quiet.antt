@@ -1,6 +1,7 @@
 -- What is asked at an act and past the last stage: no bank, and of the cores that acts ask those of one kind at most.
 use Rattle.std.proofs.Common.{◌≡◌, ℕ, ◌+◌, ◌<◌, ◌≤◌, Bool, true, false, List, [], ◌∷◌, length, slice_get, slice_index, Option, Some, None, refl, sym, ap, subst, ◌∙◌, arith, ⊎_elim}
 use Rattle.std.proofs.lemmas.Bool.{cases_lt}
+use Rattle.lists.proofs.Places.{get_there}
 use Rattle.hls_ints.specs.Residues.{bit_of}
 use Rattle.block_ir.specs.Asked.{Service, Mutexes, Barriers, Ids, Prints, Request as Call, request_of, Asked, asked_at, asked_with, value_of, operand_words, first_word, core_in}
 use Rattle.block_ir.specs.declared.code.Act.TheVariants as act
@@ -34,13 +35,12 @@ use Rattle.thread_requests.specs.Early.{act_count, act_open, with_banks}
 use Rattle.thread_requests.proofs.Asking.{group_kept}
 use Rattle.thread_layout.proofs.Cores.{none_open, asked_open}
 use Rattle.thread_layout.proofs.Opened.{want_wide, ask_wide, acts_by, start_many, start_less}
-use Rattle.thread_layout.proofs.Placed.{got_any}
 use Rattle.thread_layout.proofs.Raising.{from_whole, none_wanted}
 use Rattle.thread_layout.proofs.Shown.{Shows}
 use Rattle.thread_layout.proofs.Sight.{asks_so, knows, stage_shown, sees_variables}
 
 none_past : {X : Type 0} (xs : List X) (k : ℕ) → slice_get xs k ≡ None → length xs ≤ k
-none_past xs k e = ⊎_elim (λ (less : k < length xs). let found = got_any xs k less in let h = found.1 in absurd cc) (λ le. le) (cases_lt k (length xs))
+none_past xs k e = ⊎_elim (λ (less : k < length xs). let found = get_there xs k less in let h = found.1 in absurd cc) (λ le. le) (cases_lt k (length xs))
 
 -- ---- objects
 

@@ -1,9 +1,8 @@
 -- What a state of a block asks banks: each bank what the one operation asks that reaches it, or nothing.
-use Rattle.std.proofs.Common.{◌≡◌, ◌≢◌, ℕ, ◌+◌, ◌-◌, ◌/◌, ◌%◌, ◌^◌, ◌<◌, nat_eq, Bool, true, false, ◌&&◌, if◌then◌else◌, List, length, slice_get, slice_index}
+use Rattle.std.proofs.Common.{◌≡◌, ◌≢◌, ℕ, ◌+◌, ◌-◌, ◌/◌, ◌%◌, ◌^◌, ◌<◌, nat_eq, Bool, true, false, if◌then◌else◌, List, length, slice_get, slice_index}
 use Rattle.std.proofs.Common.{Option, Some, None, ℤ, refl, sym, ap, subst, ◌∙◌, arith, ⊎_elim, inl}
-use Rattle.std.proofs.lemmas.Bool.{eqb-true}
+use Rattle.std.proofs.lemmas.Bool.{eqb-true, cases_eq, and_from, and_parts}
 use Rattle.std.proofs.lemmas.Option.{slice_get_within}
-use Rattle.interleaving.proofs.Update.{same_or_not}
 use Rattle.hls_ints.specs.Residues.{residue_of, bit_of}
 use Rattle.hls_ints.specs.Types.{IntegerType, width_of}
 use Rattle.hls_ints.proofs.Conversions.{residue_of-below}
@@ -43,16 +42,6 @@ use Rattle.thread_layout.proofs.Meeting.{any_found, any_is}
 use Rattle.thread_layout.proofs.Opened.{want_wide, start_many, start_less, from_open}
 use Rattle.thread_layout.proofs.Placed.{mark_held, whole_many}
 use Rattle.thread_layout.proofs.Sight.{asks_so, asks_right, in_stage, sees_slot, knows}
-
-both_true : (t u : Bool) → (t && u) ≡ true → (t ≡ true) × (u ≡ true)
-both_true true true e = (refl, refl)
-both_true true false e = absurd cc
-both_true false u e = absurd cc
-
-both_from : (t u : Bool) → t ≡ true → u ≡ true → (t && u) ≡ true
-both_from true true p q = refl
-both_from true false p q = absurd cc
-both_from false u p q = absurd cc
 
 -- whoever reaches a bank wants it
 reach_wants : (variables given : ℕ → ℤ) (globals : List IntegerType) (spreads : List Spread) (o : Option Operation) (n : ℕ) → reaches_in variables given globals spreads o n ≡ true
@@ -314,7 +303,7 @@ module _ (shape : Shape) (code : ThreadCode) (plan : Planned) (m : Module) (t : 
 
     pub asked_by : (n k : ℕ) → n < banks → k < length b.operations → reached n k ≡ true → asked_at r t.inside.early.requests.banks n ≡ asked k
     asked_by n k less below e =
-        let two = both_true (nat_eq q.state (slice_index p.starts k)) (reaches_in q.variables given shape.globals shape.spreads (slice_get b.operations k) n) e in
+        let two = and_parts (nat_eq q.state (slice_index p.starts k)) (reaches_in q.variables given shape.globals shape.spreads (slice_get b.operations k) n) e in
         let a = access_of q.variables given shape.globals shape.spreads one_each are_one_each (slice_get b.operations k) n two.1 in
         let s = a.spread in
         let x = a.global in
@@ -325,7 +314,7 @@ module _ (shape : Shape) (code : ThreadCode) (plan : Planned) (m : Module) (t : 
         let at = number_is x j n s a.listed a.bank in
         let here =
         whole_by x k within below
-        (both_from (nat_eq q.state (slice_index p.starts k)) (reaches_in q.variables given shape.globals one_each (slice_get b.operations k) x) two.0 a.laid) in
+        (and_from (nat_eq q.state (slice_index p.starts k)) (reaches_in q.variables given shape.globals one_each (slice_get b.operations k) x) two.0 a.laid) in
         let index : r.signal (slice_index whole.addresses x) ≡ a.index = ap (λ (z : Asked). z.address) here ∙ a.at in
         let many = whole_many shape code plan m t served in
         let too = there_too x s a.listed in
@@ -361,7 +350,7 @@ module _ (shape : Shape) (code : ThreadCode) (plan : Planned) (m : Module) (t : 
             ∙ wanted_nowhere s.count (r.signal (slice_index whole.addresses x)) k
         by x k s listed within at true e =
             let h = any_found (laid x) (length b.operations) e in
-            let two = both_true (nat_eq q.state (slice_index p.starts h.0)) (reaches_in q.variables given shape.globals one_each (slice_get b.operations h.0) x) h.2 in
+            let two = and_parts (nat_eq q.state (slice_index p.starts h.0)) (reaches_in q.variables given shape.globals one_each (slice_get b.operations h.0) x) h.2 in
             let here = whole_by x h.0 within h.1 h.2 in
             let asks = laid_asks q.variables given shape.globals shape.spreads one_each are_one_each (slice_get b.operations h.0) x n s listed two.1 in
             let index = ap (λ (z : Asked). z.address) here in
@@ -370,11 +359,11 @@ module _ (shape : Shape) (code : ThreadCode) (plan : Planned) (m : Module) (t : 
             let hit : n ≡ s.first + (laid_so h.0).address % s.count = at ∙ ap (λ z. s.first + z) (sym same ∙ ap (λ i. i % s.count) index) in
             let reach = asks ∙ same_is n (s.first + (laid_so h.0).address % s.count) hit in
             absurd (let yes = any_is (reached n) (length b.operations) h.0 h.1
-            (both_from (nat_eq q.state (slice_index p.starts h.0)) (reaches_in q.variables given shape.globals shape.spreads (slice_get b.operations h.0) n) two.0 reach) in
+            (and_from (nat_eq q.state (slice_index p.starts h.0)) (reaches_in q.variables given shape.globals shape.spreads (slice_get b.operations h.0) n) two.0 reach) in
             cc))
             (λ (other : r.signal (slice_index whole.addresses x) % s.count ≢ k).
             ap (λ c. if c then r.signal (slice_index whole.wants x) else 0) (other_is (r.signal (slice_index whole.addresses x) % s.count) k other))
-            (same_or_not (r.signal (slice_index whole.addresses x) % s.count) k)
+            (cases_eq (r.signal (slice_index whole.addresses x) % s.count) k)
 
     -- THE BIT OF A BANK tells whether it is wanted
     pub wanted_bit : (n : ℕ) → n < banks → HasBit m r (slice_index t.inside.early.requests.banks.wants n) (wanted n)
@@ -383,7 +372,7 @@ module _ (shape : Shape) (code : ThreadCode) (plan : Planned) (m : Module) (t : 
         by : (w : Bool) → wanted n ≡ w → r.signal (slice_index t.inside.early.requests.banks.wants n) ≡ bit_of (wanted n)
         by true e =
             let k = any_found (reached n) (length b.operations) e in
-            let two = both_true (nat_eq q.state (slice_index p.starts k.0))
+            let two = and_parts (nat_eq q.state (slice_index p.starts k.0))
             (reaches_in q.variables (value_now (planned_view b) (plan_view b p) q wire) shape.globals shape.spreads (slice_get b.operations k.0) n) k.2 in
             ap (λ (a : Asked). a.wants) (asked_by n k.0 less k.1 k.2)
             ∙ reach_wants q.variables (value_now (planned_view b) (plan_view b p) q wire) shape.globals shape.spreads (slice_get b.operations k.0) n two.1

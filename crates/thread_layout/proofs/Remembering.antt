@@ -3,10 +3,10 @@ use Rattle.std.proofs.Common.{List, [], ◌∷◌, ◌++◌, ◌≡◌, ℕ, zer
 use Rattle.circuit.specs.Rows.{EachOf}
 use Rattle.std.specs.Prelude.{slice_get}
 use Rattle.std.proofs.lemmas.List.{length-replicate}
+use Rattle.lists.proofs.Places.{take_next}
 use Rattle.block_ir.specs.declared.code.Array.{Array}
 use Rattle.block_ir.specs.declared.code.ThreadCode.{ThreadCode}
 use Rattle.netlist.specs.declared.netlist.Memory.{Memory}
-use Rattle.circuit.proofs.Growth.{take-next}
 use Rattle.block_datapath.specs.Wired.{HasMemories}
 use Rattle.thread_layout.specs.Memories.{memory_for, memories_from}
 
@@ -34,7 +34,7 @@ memories_more xs n a memories after c is listed long one e =
     let next : n + 1 ≡ suc n = omega arith in
     let z : 0 + length (take n xs) ≡ n = omega arith in
     e ∙ ap (λ l. l ++ c ∷ []) is ∙ ap (λ k. memories_from 0 (take n xs) ++ k ∷ []) one ∙ ap (λ i. memories_from 0 (take n xs) ++ memory_for i a ∷ []) (sym z)
-    ∙ sym (memories_append 0 (take n xs) a) ∙ ap (memories_from 0) (sym (take-next xs n a listed)) ∙ ap (λ i. memories_from 0 (take i xs)) (sym next)
+    ∙ sym (memories_append 0 (take n xs) a) ∙ ap (memories_from 0) (sym (take_next xs n a listed)) ∙ ap (λ i. memories_from 0 (take i xs)) (sym next)
 
 -- whatever the first signal is that wires may read
 pub has_memories : (first : ℕ) (code : ThreadCode) → HasMemories (record { first = first; memory = λ j. slice_get (memories_from 0 code.arrays) j }) code

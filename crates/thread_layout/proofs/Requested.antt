@@ -1,5 +1,7 @@
 -- What a state of a block asks banks, at the ports.
-use Rattle.std.proofs.Common.{◌≡◌, ℕ, ◌%◌, ◌<◌, Bool, true, false, not, ◌&&◌, slice_get, slice_index, Option, Some, refl, sym, ap, subst, ◌∙◌, arith}
+use Rattle.std.proofs.Common.{◌≡◌, ℕ, ◌%◌, ◌<◌, Bool, true, false, not, slice_get, slice_index, Option, Some, sym, ap, subst, ◌∙◌, arith}
+use Rattle.std.proofs.lemmas.Bool.{not-true, and_from, and_parts}
+use Rattle.planned_view.proofs.Running.{size-view}
 use Rattle.hls_ints.specs.Residues.{residue_of}
 use Rattle.hls_ints.specs.Types.{IntegerType, HasType, width_of}
 use Rattle.bank_partition.specs.declared.banks.Spread.{Spread}
@@ -23,7 +25,7 @@ use Rattle.block_datapath.specs.Requests.{Asked, asked_at}
 use Rattle.block_datapath.specs.Accesses.{IsAskRight, asked_now}
 use Rattle.block_datapath.proofs.Indexing.{index_typed, target_typed}
 use Rattle.block_datapath.proofs.Reaching.{some_banks}
-use Rattle.block_datapath.proofs.Wanting.{view_count, Asker}
+use Rattle.block_datapath.proofs.Wanting.{Asker}
 use Rattle.thread_slots.specs.declared.shape.Shape.{Shape}
 use Rattle.block_ir.specs.Asked.{Service}
 use Rattle.thread_slots.specs.Requests.{group}
@@ -35,20 +37,6 @@ use Rattle.thread_layout.proofs.Placed.{HasBankOutputs, stands_copies, bank_outp
 use Rattle.thread_layout.proofs.Quiet.{block_bit}
 use Rattle.thread_layout.proofs.Raising.{asked_by}
 use Rattle.thread_layout.proofs.Sight.{enabled, enable_bit, asks_right, sees_slot}
-
-both_true : (t u : Bool) → (t && u) ≡ true → (t ≡ true) × (u ≡ true)
-both_true true true e = (refl, refl)
-both_true true false e = absurd cc
-both_true false u e = absurd cc
-
-both_from : (t u : Bool) → t ≡ true → u ≡ true → (t && u) ≡ true
-both_from true true p q = refl
-both_from true false p q = absurd cc
-both_from false u p q = absurd cc
-
-not_true : (t : Bool) → not t ≡ true → t ≡ false
-not_true true e = absurd cc
-not_true false e = refl
 
 module _ (shape : Shape) (code : ThreadCode) (plan : Planned) (m : Module) (t : IsModule shape code plan m) (served : IsServed shape code plan) where
   abbrev banks : ℕ
@@ -100,7 +88,7 @@ module _ (shape : Shape) (code : ThreadCode) (plan : Planned) (m : Module) (t : 
           (some_banks own.number own.spread.count (served.spreads.powers own.global own.spread own.listed)))
 
       asked_is : asked_at r t.inside.early.requests.banks n ≡ asked_now shape.globals shape.spreads code t.inside.slot q.stage b p q (wires_now shape.spreads b p q) k
-      asked_is = asked_by shape code plan m t served r q b p o inside n k less (subst (λ z. k < z) (view_count b.operations) below) own.reached
+      asked_is = asked_by shape code plan m t served r q b p o inside n k less (subst (λ z. k < z) (size-view b.operations) below) own.reached
 
       asked_own : q.granted k ≡ false
           → AsksBank r 1 ((ports_of shape m).bank n) own.spread (place_now shape.spreads b p q k own.global).index own.writes
@@ -133,8 +121,8 @@ module _ (shape : Shape) (code : ThreadCode) (plan : Planned) (m : Module) (t : 
         → AsksBank r 1 ((ports_of shape m).bank (bank_now shape.spreads b p q k x)) s (place_now shape.spreads b p q k x).index writes
         (residue_of (width_of ty) (written_now shape.spreads b p q k))
     asks_so k x writes s ty opened listed declared =
-        let two = both_true (asks (planned_view b) (plan_view b p) q k) (not (q.granted k)) opened.requested in
-        let not_so = not_true (q.granted k) two.1 in
+        let two = and_parts (asks (planned_view b) (plan_view b p) q k) (not (q.granted k)) opened.requested in
+        let not_so = not-true (q.granted k) two.1 in
         let a = asker k opened.below two.0 in
         let global : a.global ≡ x = (let mine = a.target in let its = opened.target in cc) in
         let kind : a.writes ≡ writes = (let mine = a.target in let its = opened.target in cc) in
@@ -156,5 +144,5 @@ module _ (shape : Shape) (code : ThreadCode) (plan : Planned) (m : Module) (t : 
         (λ j below e not_so is.
         let a = asker j below e in
         none j a.global a.writes
-        (record { below = below; requested = both_from (asks (planned_view b) (plan_view b p) q j) (not (q.granted j)) e (ap not not_so); target = a.target })
+        (record { below = below; requested = and_from (asks (planned_view b) (plan_view b p) q j) (not (q.granted j)) e (ap not not_so); target = a.target })
         (sym (own_bank shape code plan m t served r q b p o inside indices targets j below e) ∙ is))

@@ -2,6 +2,8 @@
 use Rattle.std.proofs.Common.{◌≡◌, ℕ, zero, suc, ◌+◌, ◌<◌, nat_eq, Bool, true, false, not, ◌&&◌, ◌||◌, List, [], ◌∷◌, length, map, slice_get, slice_index, Some, refl, sym, ap}
 use Rattle.std.proofs.Common.{subst, ◌∙◌}
 use Rattle.std.proofs.lemmas.List.{length-map}
+use Rattle.std.proofs.Math.Bool.{and-false}
+use Rattle.std.proofs.lemmas.Option.{slice_get-get_or}
 use Rattle.hls_ints.specs.Residues.{bit_of}
 use Rattle.netlist.specs.declared.netlist.Source.TheVariants.{Register}
 use Rattle.block_datapath.specs.declared.registers.Held.{Held}
@@ -17,7 +19,6 @@ use Rattle.thread_slots.specs.Bits.{HaveBits}
 use Rattle.thread_states.specs.Control.{got, is_left, counts_of, Steers}
 use Rattle.thread_layout.specs.Modules.{marks_of, IsModule}
 use Rattle.thread_layout.specs.Thread.{inputs_of, IsServed}
-use Rattle.thread_slots.proofs.Gating.{index_there}
 use Rattle.thread_layout.proofs.Opened.{bit_told, wired, earlier_wide}
 use Rattle.thread_layout.proofs.Placed.{from_control, from_early, mark_held, stands_wide, wide_bit}
 use Rattle.thread_layout.proofs.Sight.{heard, steered, waiting, stays, words_stay}
@@ -33,10 +34,6 @@ none_got open_to grants (suc n) = ap (λ t. t || got open_to grants false n) (no
 one_is : (b : Bool) → bit_of b ≡ 1 → b ≡ true
 one_is true e = refl
 one_is false e = absurd cc
-
-and_false : (t : Bool) → (t && false) ≡ false
-and_false true = refl
-and_false false = refl
 
 mapped_index : (hs : List Held) (i : ℕ) (h : Held) → slice_get hs i ≡ Some h → slice_index (map (λ (q : Held). q.register) hs) i ≡ h.register
 mapped_index [] i h e = absurd cc
@@ -68,7 +65,7 @@ module _ (shape : Shape) (code : ThreadCode) (plan : Planned) (m : Module) (t : 
 
     pub opens_now : HaveBits m r t.inside.early.opens (length t.inside.early.opens) raised_now
     opens_now n less =
-        let there = index_there t.inside.early.opens n less in
+        let there = slice_get-get_or t.inside.early.opens n 0 less in
         let stands = (wired shape code plan m t served).early.opens n (slice_index t.inside.early.opens n) there in
         let wide = earlier_wide m t.laid.with_early _ (slice_index t.inside.early.opens n) 1 (from_early shape code plan m t served) stands in
         let bit = wide_bit m r (slice_index t.inside.early.opens n) o wide in
@@ -132,4 +129,4 @@ module _ (shape : Shape) (code : ThreadCode) (plan : Planned) (m : Module) (t : 
         ∙ ap
         (λ l. bit_of ((bit.0 || any_below (λ k. counts_of (slice_get t.inside.slot.spreads x) k && got raised_now grants_now enabled k) (length t.inside.early.opens)) && not l))
         (left_now enabled on left)
-        ∙ ap bit_of (and_false (bit.0 || any_below (λ k. counts_of (slice_get t.inside.slot.spreads x) k && got raised_now grants_now enabled k) (length t.inside.early.opens)))
+        ∙ ap bit_of (and-false (bit.0 || any_below (λ k. counts_of (slice_get t.inside.slot.spreads x) k && got raised_now grants_now enabled k) (length t.inside.early.opens)))

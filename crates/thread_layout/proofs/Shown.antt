@@ -1,8 +1,10 @@
 -- What a reading of a thread's module shows at the start, and that it stands in registers and memories.
-use Rattle.std.proofs.Common.{◌≡◌, ℕ, zero, suc, ◌+◌, ◌%◌, ◌<◌, ◌^◌, Bool, List, [], ◌∷◌, length, slice_get, Option, Some, ℤ, refl, sym, ap, subst, ◌∙◌, arith}
+use Rattle.std.proofs.Common.{◌≡◌, ℕ, zero, suc, ◌+◌, ◌%◌, ◌<◌, ◌^◌, Bool, List, length, slice_get, Option, Some, ℤ, refl, sym, ap, subst, ◌∙◌, arith}
 use Rattle.std.specs.Prelude.{replicate}
 use Rattle.std.proofs.lemmas.List.{length-replicate}
 use Rattle.std.proofs.lemmas.Option.{slice_get_within}
+use Rattle.planned_view.proofs.Running.{size-view}
+use Rattle.lists.proofs.Places.{get_there}
 use Rattle.hls_ints.specs.Types.{width_of}
 use Rattle.operator_words.proofs.Typed.{residue_of-zero}
 use Rattle.bank_partition.specs.declared.banks.Spread.{Spread}
@@ -17,7 +19,7 @@ use Rattle.block_ir.specs.declared.plan.Planned.{Planned}
 use Rattle.planned_block.specs.Block.{Operation as PlannedOperation, operation_at, size}
 use Rattle.planned_block.specs.Plan.{OfGlobal, target_of}
 use Rattle.planned_block.specs.Slot.{Slot}
-use Rattle.planned_view.specs.View.{operation_view, operations_view, binary_kind, planned_view}
+use Rattle.planned_view.specs.View.{operation_view, binary_kind, planned_view}
 use Rattle.netlist.specs.declared.netlist.Memory.{Memory as Words}
 use Rattle.netlist.specs.declared.netlist.Module.{Module}
 use Rattle.verilog_meaning.specs.Readings.{Reading, initial_reading, initial_word, or_zero}
@@ -33,7 +35,6 @@ use Rattle.thread_layout.specs.Memories.{memory_for}
 use Rattle.thread_layout.specs.Modules.{IsModule}
 use Rattle.thread_layout.specs.Thread.{inputs_of, places_of, IsServed}
 use Rattle.thread_layout.proofs.Placed.{first_stage, zero_typed, stands_agrees, stands_begins, stage_stands, state_stands, beat_stands, variable_held, kept_held, kept_within, mark_held}
-use Rattle.thread_layout.proofs.Placed.{got_any}
 use Rattle.thread_layout.proofs.Sight.{memory_of}
 
 zero_word : (n i : ℕ) → or_zero (slice_get (replicate n 0) i) ≡ 0
@@ -42,10 +43,6 @@ zero_word (suc n) zero = refl
 zero_word (suc n) (suc i) = zero_word n i
 
 -- ---- accesses name globals
-
-view_count : (os : List Operation) → length (operations_view os) ≡ length os
-view_count [] = refl
-view_count (o ∷ os) = ap suc (view_count os)
 
 binary_no_target : (o : BinaryOperator) (f : ℤ → ℤ → ℤ) (x : ℕ) (w : Bool) → target_of (binary_kind o f) ≡ OfGlobal x w → ⊥
 binary_no_target operator.Multiply f x w e = absurd cc
@@ -66,7 +63,7 @@ pub global_of : (spreads : List Spread) (b : Block) → ((k : ℕ) (o : Operatio
     k < size (planned_view b)
     → target_of (operation_at (planned_view b) k).kind ≡ OfGlobal x w → (s : Spread) × (slice_get spreads x ≡ Some s)
 global_of spreads b accesses k x w below target =
-    let o = got_any b.operations k (subst (λ n. k < n) (view_count b.operations) below) in
+    let o = get_there b.operations k (subst (λ n. k < n) (size-view b.operations) below) in
     let view : operation_at (planned_view b) k ≡ operation_view o.0 = listed_view b.operations k o.0 o.1 in
     target_spread spreads o.0 x w (accesses k o.0 o.1) (ap (λ (z : PlannedOperation). target_of z.kind) (sym view) ∙ target)
 

@@ -1,7 +1,7 @@
 -- What a reading of a thread's module shows of the slot, and when it leaves the state.
 use Rattle.std.proofs.Common.{◌≡◌, ◌≢◌, ℕ, ◌+◌, ◌%◌, ◌<◌, ◌≤◌, ◌^◌, nat_eq, Bool, not, ◌||◌, if◌then◌else◌, List, [], length, map, slice_get, slice_index, Some, ℤ, pos}
 use Rattle.std.proofs.Common.{refl, sym, ap, subst, ◌∙◌, arith}
-use Rattle.std.proofs.lemmas.Option.{slice_get_within}
+use Rattle.std.proofs.lemmas.Option.{slice_get_within, slice_get-get_or}
 use Rattle.hls_ints.specs.Residues.{residue_of, bit_of}
 use Rattle.hls_ints.specs.Types.{IntegerType, HasType, width_of}
 use Rattle.bank_partition.specs.declared.banks.Spread.{Spread}
@@ -23,7 +23,6 @@ use Rattle.netlist.specs.declared.netlist.Source.TheVariants.{Input, Register}
 use Rattle.netlist.specs.declared.netlist.Module.{Module}
 use Rattle.verilog_meaning.specs.Readings.{Reading, width, register_after, word_after, next_reading}
 use Rattle.circuit.specs.Modules.{Obeys}
-use Rattle.circuit.proofs.Growth.{got}
 use Rattle.thread_promise.specs.Types.{value_type}
 use Rattle.thread_promise.specs.Slots.{ShowsData, ShowsInBlock}
 use Rattle.thread_promise.specs.Promise.{RunsAt, HearsBanks}
@@ -56,7 +55,6 @@ use Rattle.thread_layout.specs.Modules.{caller_of, IsModule}
 use Rattle.thread_states.specs.Actions.{actions_of}
 use Rattle.thread_layout.specs.Thread.{cores_of, inputs_of, places_of, ports_of, IsServed}
 use Rattle.thread_layout.proofs.Edges.{edge_stores, edge_stays, edge_keeps, edge_words, stage_next, state_next, beat_next, variable_next, kept_next, granted_next}
-use Rattle.thread_slots.proofs.Gating.{index_there}
 use Rattle.thread_layout.proofs.Placed.{no_argument, first_stage, from_rest, zero_typed, stands_wide, stands_fits, wide_bit}
 use Rattle.thread_layout.proofs.Placed.{from_control, from_inside, from_start, from_words_heard, enable_at, enable_stands, grant_at}
 use Rattle.thread_layout.proofs.Placed.{grant_stands, stage_at, stage_stands, state_at, state_stands, beat_at, beat_stands, variable_held, kept_held, kept_within, variables_at}
@@ -218,7 +216,7 @@ module _ (shape : Shape) (code : ThreadCode) (plan : Planned) (m : Module) (t : 
         let v = mark_held shape code plan m t served x less in
         let marks : length t.edge.granted ≡ length shape.globals =
         t.closed.controls.granted_count ∙ length-map t.inside.granted (λ (h : Held). h.register) ∙ t.laid.granted.count in
-        let there = index_there t.edge.granted x (subst (λ n. x < n) (sym marks) less) in
+        let there = slice_get-get_or t.edge.granted x 0 (subst (λ n. x < n) (sym marks) less) in
         let kept : length t.inside.slot.kept ≡ plan.registers = t.laid.slot.kept_count ∙ t.laid.kept.count in
         let at : behind + 3 + length code.variables + plan.registers + x ≡ behind + 3 + length t.inside.slot.variables + length t.inside.slot.kept + x =
         ap (λ (n : ℕ). behind + 3 + n + plan.registers + x) (sym t.laid.slot.variables_count)
@@ -269,7 +267,7 @@ module _ (shape : Shape) (code : ThreadCode) (plan : Planned) (m : Module) (t : 
           (state_at shape code plan m t served)
           (beat_at shape code plan m t served) (variables_at shape code plan m t served) (kept_at shape code plan m t served)
           (granted_at shape code plan m t served) on x _ (r.signal (behind + 3 + x)) v.held v.listed
-          (got t.inside.chains.variables x 0 less)
+          (slice_get-get_or t.inside.chains.variables x 0 less)
 
       pub next_kept : (x : ℕ) → x < plan.registers → (next_reading m r).signal (behind + 3 + length code.variables + x) ≡ next_number r t.inside.chains.kept x
       next_kept x within =
@@ -283,7 +281,7 @@ module _ (shape : Shape) (code : ThreadCode) (plan : Planned) (m : Module) (t : 
           (state_at shape code plan m t served)
           (beat_at shape code plan m t served) (variables_at shape code plan m t served) (kept_at shape code plan m t served)
           (granted_at shape code plan m t served) on x _ _ v.held v.listed
-          (got t.inside.chains.kept x 0 less)
+          (slice_get-get_or t.inside.chains.kept x 0 less)
 
     -- ---- within a block
 

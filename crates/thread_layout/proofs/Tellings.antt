@@ -2,9 +2,10 @@
 use Rattle.std.proofs.Common.{◌≡◌, ◌≢◌, ℕ, zero, suc, ◌+◌, ◌<◌, Bool, true, false, ◌&&◌, if◌then◌else◌, List, [], ◌∷◌, ◌++◌, length, map, slice_get, Some}
 use Rattle.std.proofs.Common.{refl, sym, ap, subst, ◌∙◌, arith, ⊎_elim, length-append}
 use Rattle.std.specs.Prelude.{slice_index, option_map, replicate}
-use Rattle.std.proofs.lemmas.List.{length-map}
-use Rattle.std.proofs.lemmas.Option.{slice_get_within, slice_get-map}
-use Rattle.interleaving.proofs.Update.{same_or_not}
+use Rattle.std.proofs.lemmas.List.{length-map, get_or_append_left, get_or_push}
+use Rattle.std.proofs.lemmas.Option.{slice_get_within, slice_get-map, get_or_from_slice_get}
+use Rattle.std.proofs.lemmas.Bool.{cases_eq}
+use Rattle.lists.proofs.Places.{get_there, copies_front}
 use Rattle.netlist.specs.declared.netlist.Signal.{Signal}
 use Rattle.operator_wires.specs.Gives.{Grows, Gives}
 use Rattle.operator_wires.specs.Added.{ConstantAdds}
@@ -17,7 +18,7 @@ use Rattle.thread_slots.specs.declared.shape.Served.{Served}
 use Rattle.thread_slots.specs.declared.told.Told.{Told}
 use Rattle.thread_slots.specs.Bits.{HasBit, HaveBits, BothOf, MakesBits, MakesAny, AddsBoths, AddsAny, AreBitsOf}
 use Rattle.thread_slots.specs.Services.{if_ids, news_widths}
-use Rattle.thread_slots.proofs.Gating.{index_got, index_last, of_bits_later}
+use Rattle.thread_slots.proofs.Gating.{of_bits_later}
 use Rattle.thread_requests.specs.Early.{held_width}
 use Rattle.thread_layout.specs.Telling.{heard_place, TakesFirst, IdsStand, LaysTold}
 
@@ -26,22 +27,17 @@ use Rattle.thread_layout.specs.Telling.{heard_place, TakesFirst, IdsStand, LaysT
 pub first_none : (places outs : List ℕ) → outs ≡ [] → TakesFirst places 0 outs
 first_none places outs e = record { count = ap length e; each = λ k less. absurd (omega arith) }
 
-index_before : (xs : List ℕ) (y x : ℕ) → x < length xs → slice_index (xs ++ y ∷ []) x ≡ slice_index xs x
-index_before [] y x less = absurd (omega arith)
-index_before (z ∷ xs) y zero less = refl
-index_before (z ∷ xs) y (suc x) less = index_before xs y x (omega arith)
-
 pub first_more : (places : List ℕ) (n place : ℕ) (outs after : List ℕ) → TakesFirst places n outs → place ≡ slice_index places n → after ≡ outs ++ place ∷ []
     → TakesFirst places (n + 1) after
 first_more places n place outs after t is same = record {
   count = ap length same ∙ length-append outs (place ∷ []) ∙ ap (λ k. k + 1) t.count;
   each = λ k less. ⊎_elim
       (λ (e : k ≡ n).
-      ap (λ l. slice_index l k) same ∙ ap (slice_index (outs ++ place ∷ [])) (e ∙ sym t.count) ∙ index_last outs place ∙ is ∙ ap (slice_index places) (sym e))
+      ap (λ l. slice_index l k) same ∙ ap (slice_index (outs ++ place ∷ [])) (e ∙ sym t.count) ∙ get_or_push outs place 0 (length outs) refl ∙ is ∙ ap (slice_index places) (sym e))
       (λ (ne : k ≢ n).
       let inside : k < n = omega arith in
-      ap (λ l. slice_index l k) same ∙ index_before outs place k (subst (λ j. k < j) (sym t.count) inside) ∙ t.each k inside)
-      (same_or_not k n);
+      ap (λ l. slice_index l k) same ∙ get_or_append_left outs (place ∷ []) 0 k (subst (λ j. k < j) (sym t.count) inside) ∙ t.each k inside)
+      (cases_eq k n);
 }
 
 -- ---- what is told
@@ -108,7 +104,7 @@ module _ (served : Served) (named : List ℕ) (news : List Held) (a b c d e : Li
         let second = adds_nothing base (omega arith) (omega arith) (omega arith) (omega arith) in
         let holds_stand : AreBitsOf base c holds = λ k x there.
         let inside : k < length named = subst (λ n. k < n) takes.count (slice_get_within holds k x there) in
-        let same : heard_place news k ≡ x = sym (held_is k inside) ∙ index_got holds k x there in
+        let same : heard_place news k ≡ x = sym (held_is k inside) ∙ get_or_from_slice_get holds k x 0 there in
         subst (λ z. IsEarlier c base z 1) same (stands_after a c base (heard_place news k) 1 to_c (held_stand k inside)) in
         let third = adds_both base (of_bits_later base a c named to_c named_stand) holds_stand (sym takes.count) in
         let never_d : IsEarlier d base never 1 = stands_after b d base never 1 (grows_then b c d two.grows boths.grows) first.stands in
@@ -137,18 +133,13 @@ module _ (served : Served) (named : List ℕ) (news : List Held) (a b c d e : Li
 
 -- ---- how wide the news are
 
-bars_wide : (n k : ℕ) (ws : List ℕ) → k < n → slice_get (replicate n 1 ++ ws) k ≡ Some 1
-bars_wide zero k ws less = absurd (omega arith)
-bars_wide (suc n) zero ws less = refl
-bars_wide (suc n) (suc k) ws less = bars_wide n k ws (omega arith)
-
 behind_bars : (n k : ℕ) (ws : List ℕ) → slice_get (replicate n 1 ++ ws) (n + k) ≡ slice_get ws k
 behind_bars zero k ws = ap (slice_get ws) (let z : 0 + k ≡ k = omega arith in z)
 behind_bars (suc n) k ws = ap (slice_get (1 ∷ (replicate n 1 ++ ws))) (let z : suc n + k ≡ suc (n + k) = omega arith in z) ∙ behind_bars n k ws
 
 module _ (served : Served) where
   pub bar_wide : (k : ℕ) → k < served.barriers → slice_get (news_widths served) k ≡ Some 1
-  bar_wide k less = bars_wide served.barriers k (if_ids served.ids (1 ∷ 64 ∷ [])) less
+  bar_wide k less = copies_front served.barriers k 1 (if_ids served.ids (1 ∷ 64 ∷ [])) less
 
   pub run_wide : served.ids ≡ true → slice_get (news_widths served) served.barriers ≡ Some 1
   run_wide is =
@@ -167,18 +158,13 @@ pub record HearsNews (news : List Held) (k w : ℕ) : Type 0 where
   pub wide : held.width ≡ w
   pub place : heard_place news k ≡ held.register
 
-some_at : {X : Type 0} (xs : List X) (i : ℕ) → i < length xs → (x : X) × (slice_get xs i ≡ Some x)
-some_at [] i h = absurd (omega arith)
-some_at (x ∷ xs) zero h = (x, refl)
-some_at (x ∷ xs) (suc i) h = some_at xs i (omega arith)
-
 pub hears_news : (news : List Held) (widths : List ℕ) (k w : ℕ) → map held_width news ≡ widths → slice_get widths k ≡ Some w → HearsNews news k w
 hears_news news widths k w same there =
     let at : slice_get (map held_width news) k ≡ Some w = ap (λ l. slice_get l k) same ∙ there in
     let less : k < length news = subst (λ n. k < n) (length-map news held_width) (slice_get_within (map held_width news) k w at) in
-    let own = some_at news k less in
+    let own = get_there news k less in
     let found : slice_get (map held_width news) k ≡ Some (held_width own.0) = slice_get-map held_width news k ∙ ap (option_map held_width) own.1 in
     let wide : held_width own.0 ≡ w = (let both : Some (held_width own.0) ≡ Some w = sym found ∙ at in cc) in
     let listed : slice_get (map (λ (h : Held). h.register) news) k ≡ Some own.0.register =
     slice_get-map (λ (h : Held). h.register) news k ∙ ap (option_map (λ (h : Held). h.register)) own.1 in
-    record { held = own.0; listed = own.1; wide = wide; place = index_got (map (λ (h : Held). h.register) news) k own.0.register listed }
+    record { held = own.0; listed = own.1; wide = wide; place = get_or_from_slice_get (map (λ (h : Held). h.register) news) k own.0.register 0 listed }

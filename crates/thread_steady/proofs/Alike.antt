@@ -2,6 +2,7 @@
 use Rattle.std.proofs.Common.{◌≡◌, ℕ, zero, suc, ◌+◌, ◌<◌, ◌≤◌, nat_eq, nat_lt, ◌&&◌, if◌then◌else◌, List, [], ◌∷◌, length, map, slice_get, Option, Some, None, refl, sym, ap}
 use Rattle.std.proofs.Common.{◌∙◌, arith, ⊎_elim}
 use Rattle.std.proofs.lemmas.Bool.{cases_lt}
+use Rattle.lists.proofs.Places.{get_there}
 use Rattle.netlist.specs.declared.netlist.Effect.{Effect}
 use Rattle.netlist.specs.declared.netlist.Effect.TheVariants.{Set, Store, Write}
 use Rattle.netlist.specs.declared.netlist.Action.{Action}
@@ -21,7 +22,6 @@ use Rattle.block_datapath.specs.declared.registers.Held.{Held}
 use Rattle.thread_slots.specs.declared.stores.Store.{Store as Put}
 use Rattle.thread_states.specs.Actions.{set_action, sets_of, sets_from}
 use Rattle.thread_slots.specs.Cells.{store_action}
-use Rattle.thread_layout.proofs.Placed.{got_any}
 use Rattle.thread_layout.proofs.Remembering.{each_append}
 
 -- ---- wires
@@ -33,7 +33,7 @@ module _ (m : Module) (r q : Reading) (one : Obeys m r) (two : Obeys m q) (agree
   below_alike (suc n) x less first inside =
       ⊎_elim (λ (h : x < length a). given x first h)
       (λ (h : length a ≤ x).
-      let s = got_any b x inside in
+      let s = get_there b x inside in
       let w = wires.each x s.0 h s.1 in
       let there = listed b m.signals x s.0 grows s.1 in
       one.equations x s.0 w.right there w.drives

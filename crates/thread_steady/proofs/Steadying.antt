@@ -1,9 +1,10 @@
 -- The module of main keeps to itself.
 use Rattle.std.proofs.Common.{◌≡◌, ◌≢◌, ℕ, ◌+◌, ◌-◌, ◌%◌, ◌<◌, ◌≤◌, ◌^◌, nat_eq, Bool, true, false, not, ◌&&◌, ◌||◌, if◌then◌else◌, List, [], ◌∷◌, ◌++◌, length}
 use Rattle.std.proofs.Common.{map, slice_get, slice_index, Option, Some, None, refl, sym, ap, subst, ◌∙◌, arith, ⊎_elim}
-use Rattle.std.proofs.lemmas.Bool.{cases_lt}
-use Rattle.std.proofs.lemmas.Bool.Decides.{nat_tests}
+use Rattle.std.proofs.lemmas.Bool.{cases_lt, eqb-true, or_parts, and_parts}
 use Rattle.std.proofs.lemmas.Option.{same_Some, slice_get_within, get_or_from_slice_get}
+use Rattle.std.proofs.Math.Bool.{or-false, or-true, and-false}
+use Rattle.lists.proofs.Places.{get_there}
 use Rattle.hls_ints.specs.Residues.{bit_of}
 use Rattle.block_ir.specs.declared.block.Block.{Block}
 use Rattle.block_ir.specs.declared.code.Act.TheVariants.{Return}
@@ -62,7 +63,7 @@ use Rattle.thread_requests.proofs.Opening.{joined_front, joined_back}
 use Rattle.thread_slots.specs.declared.requests.Request.{Request}
 use Rattle.thread_requests.specs.Early.{with_banks}
 use Rattle.thread_requests.proofs.Asking.{group_kept}
-use Rattle.thread_layout.proofs.Placed.{wide_bit, stands_wide, got_any, stands_copies, stands_agrees, from_control}
+use Rattle.thread_layout.proofs.Placed.{wide_bit, stands_wide, stands_copies, stands_agrees, from_control}
 use Rattle.thread_layout.proofs.Placed.{from_inside, from_rest, from_heard, from_words_heard, from_early, from_slot, from_registers, opens_count}
 use Rattle.thread_layout.proofs.Placed.{ask_copied, need_stands, done_stands, before_need, beat_at, beat_stands, inputs_long}
 use Rattle.thread_layout.proofs.Quiet.{bank_bit, service_shown}
@@ -89,22 +90,6 @@ turned false e = absurd cc
 some_bit : (b : Bool) → (bit_of b ≡ 0 → ⊥) → b ≡ true
 some_bit true e = refl
 some_bit false e = absurd (e refl)
-
-first_and : (t u : Bool) → (t && u) ≡ true → t ≡ true
-first_and true u e = refl
-first_and false u e = absurd cc
-
-and_false : (t : Bool) → (t && false) ≡ false
-and_false true = refl
-and_false false = refl
-
-or_true : (t : Bool) → (t || true) ≡ true
-or_true true = refl
-or_true false = refl
-
-neither_left : (t u : Bool) → (t || u) ≡ false → t ≡ false
-neither_left false u e = refl
-neither_left true u e = e
 
 agree_refl : (m : Module) (r : Reading) → Agree m r r
 agree_refl m r = record { registers = λ x s e i. refl; words = λ j k s e b. refl }
@@ -213,11 +198,7 @@ module _ (shape : Shape) (code : ThreadCode) (plan : Planned) (m : Module) (t : 
         none_below (got raised grants e) (length t.inside.early.opens) (λ k less. ap (λ z. (z && e) && grants k) (raised_none quiet k (within_opens k less)))
 
     left_quiet : Quiet → (e : Bool) → is_left raised grants e waits (length t.inside.early.opens) ≡ (e && not waits)
-    left_quiet quiet e = ap (λ z. e && not (waits || z)) (none_unmet quiet e) ∙ ap (λ z. e && not z) (or_none waits)
-      where
-        or_none : (w : Bool) → (w || false) ≡ w
-        or_none true = refl
-        or_none false = refl
+    left_quiet quiet e = ap (λ z. e && not (waits || z)) (none_unmet quiet e) ∙ ap (λ z. e && not z) (or-false waits)
 
     -- whatever moves turns the beat
     moves_on : r.signal t.edge.moved ≡ 1 → Agree m r (next_reading m r) → ⊥
@@ -244,7 +225,7 @@ module _ (shape : Shape) (code : ThreadCode) (plan : Planned) (m : Module) (t : 
 
         by : (c : Bool) → (leaves_now || hears_now) ≡ c → Agree m r (next_reading m r)
         by false e =
-            agrees_off shape code plan m t served r o (left_is on.0 on.1 ∙ ap bit_of (neither_left leaves_now hears_now e)) (moved_is on.0 on.1 ∙ ap bit_of e)
+            agrees_off shape code plan m t served r o (left_is on.0 on.1 ∙ ap bit_of (or_parts leaves_now hears_now e).0) (moved_is on.0 on.1 ∙ ap bit_of e)
         by true e =
             let bit = wide_bit m r (behind + 2) o (stands_wide m (behind + 2) 1 (Register 0) (beat_stands shape code plan m t served)) in
             absurd (turned bit.0 (sym bit.1 ∙ sym same ∙ next_beat shape code plan m t served r o bit.0 (moved_is on.0 on.1 ∙ ap bit_of e) bit.1))
@@ -341,7 +322,7 @@ module _ (shape : Shape) (code : ThreadCode) (plan : Planned) (m : Module) (t : 
       stays_end : Agree m r (next_reading m r)
       stays_end =
           let e = enabled shape code plan m t served r o in
-          let left : is_left raised grants e.0 waits (length t.inside.early.opens) ≡ false = left_quiet quiet_end e.0 ∙ ap (λ z. e.0 && not z) waits_end ∙ and_false e.0 in
+          let left : is_left raised grants e.0 waits (length t.inside.early.opens) ≡ false = left_quiet quiet_end e.0 ∙ ap (λ z. e.0 && not z) waits_end ∙ and-false e.0 in
           agrees_off shape code plan m t served r o (left_is e.0 e.1 ∙ ap bit_of left)
           (moved_is e.0 e.1
           ∙ ap (λ z. bit_of (z || any_below (got raised grants e.0) (length t.inside.early.opens))) left
@@ -352,7 +333,7 @@ module _ (shape : Shape) (code : ThreadCode) (plan : Planned) (m : Module) (t : 
   module _ (r q : Reading) (one : Obeys m r) (two : Obeys m q) (agree : Agree m r q) where
     slot_alike : (x : ℕ) → behind ≤ x → x < length t.laid.with_slot → r.signal x ≡ q.signal x
     slot_alike x le less =
-        let s = got_any t.laid.with_slot x less in
+        let s = get_there t.laid.with_slot x less in
         let is = inner.registers x s.0 (let long = inputs_long shape code plan m t served in omega arith) s.1 in
         agree.registers x s.0 (listed t.laid.with_slot m.signals x s.0 (from_slot shape code plan m t served) s.1)
         (subst (λ (d : Source). IsRegister d) (sym is.drives) tt)
@@ -470,7 +451,7 @@ module _ (shape : Shape) (code : ThreadCode) (plan : Planned) (m : Module) (t : 
   keeps = record {
     shown = λ r. (r, agree_refl m r);
     rests = λ r o off. rests_so shape code plan m t served r o off;
-    quiet = λ r o off k less uses. ask_shown r k o less ∙ asks_bit r o false off k less ∙ ap bit_of (and_false (raised_now shape code plan m t served r o k));
+    quiet = λ r o off k less uses. ask_shown r k o less ∙ asks_bit r o false off k less ∙ ap bit_of (and-false (raised_now shape code plan m t served r o k));
     closed_quiet = λ r o none k less uses.
         let e = enabled shape code plan m t served r o in
         ask_shown r k o less ∙ asks_bit r o e.0 e.1 k less
@@ -479,8 +460,8 @@ module _ (shape : Shape) (code : ThreadCode) (plan : Planned) (m : Module) (t : 
     closed_alike = λ r q o o' agree none on on'. all_alike r q o o' agree (sym (need_copied r o) ∙ none) on on';
     granted_moves = λ r k o on less uses asks granted.
         let asked : raised_now shape code plan m t served r o k ≡ true =
-        first_and (raised_now shape code plan m t served r o k) true
-        (some_bit (raised_now shape code plan m t served r o k && true) (λ z. asks (ask_shown r k o less ∙ asks_bit r o true on k less ∙ z))) in
+        (and_parts (raised_now shape code plan m t served r o k) true
+        (some_bit (raised_now shape code plan m t served r o k && true) (λ z. asks (ask_shown r k o less ∙ asks_bit r o true on k less ∙ z)))).0 in
         let hears : grants_now shape code plan m t served r o k ≡ true = ap (λ z. nat_eq z 1) granted in
         let hit : any_below (got (raised_now shape code plan m t served r o) (grants_now shape code plan m t served r o) true)
         (length t.inside.early.opens) ≡ true =
@@ -493,20 +474,17 @@ module _ (shape : Shape) (code : ThreadCode) (plan : Planned) (m : Module) (t : 
         (λ z. bit_of
         (is_left (raised_now shape code plan m t served r o) (grants_now shape code plan m t served r o) true
         (waiting shape code plan m t served r o).0 (length t.inside.early.opens) || z)) hit
-        ∙ ap bit_of (or_true _));
+        ∙ ap bit_of (or-true _));
   }
 
   ended : shape.is_main ≡ true → (r : Reading) → Obeys m r → r.signal (done_at shape m) ≡ 1 → Agree m r (next_reading m r)
   ended main r o done =
       stays_end r o main
-      (is_number (r.signal t.inside.slot.stage.register) (length code.stages)
+      (eqb-true (r.signal t.inside.slot.stage.register) (length code.stages)
       (is_true (nat_eq (r.signal t.inside.slot.stage.register) (length code.stages))
       (sym
       (t.laid.early.asked.asks.done_is m r (from_whole shape code plan m t served) o (knows shape code plan m t served r o))
       ∙ sym (done_copied r o) ∙ done)))
-    where
-      is_number : (x n : ℕ) → nat_eq x n ≡ true → x ≡ n
-      is_number x n e = grind (arith, nat_tests)
 
   steady_thread : IsSteadyThread (cores_of shape) m (leaf_of shape m)
   steady_thread =
