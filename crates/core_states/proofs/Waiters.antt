@@ -2,10 +2,10 @@
 use Rattle.std.specs.Prelude.{Bool, false, nat_eq, ◌||◌, slice_index}
 use Rattle.std.specs.List.{AllByRecursion, IsDistinct, list_any}
 use Rattle.std.proofs.Common.{◌≡◌, ◌≢◌, ℕ, zero, suc, ◌+◌, ◌<◌, List, [], ◌∷◌, length, refl, ap, ap₂, sym, ◌∙◌, subst, ⊎_elim, arith}
+use Rattle.std.proofs.lemmas.Bool.{cases_eq, ne_eqb, eq-eqb}
 use Rattle.hls_ints.specs.Residues.{bit_of}
 use Rattle.core_states.specs.Machines.{total_of}
 use Rattle.core_states.specs.Laws.{WaitersCount}
-use Rattle.core_states.proofs.Elements.{same_is, other_is, same_or_not}
 
 -- the sum of the first n values
 sum_below : ℕ → (ℕ → ℕ) → ℕ
@@ -40,7 +40,7 @@ one_more (suc n) f g w lt here others =
     let rest = one_more n f g w (omega arith) here (λ j l o. others j (omega arith) o) in
     let last = others n (omega arith) (λ e. ne (sym e)) in
     omega arith)
-    (same_or_not w n)
+    (cases_eq w n)
 
 none_same : (w : ℕ) (ws : List ℕ) → AllByRecursion (λ x. nat_eq w x ≡ false) ws → list_any (nat_eq w) ws ≡ false
 none_same w [] all = refl
@@ -51,8 +51,8 @@ unfolding IsDistinct
 counted n [] distinct below = sum_zero n
 counted n (w ∷ ws) distinct below =
     one_more n (λ j. bit_of (list_any (nat_eq j) ws)) (λ j. bit_of (list_any (nat_eq j) (w ∷ ws))) w below.0
-    (ap (λ (b : Bool). bit_of (b || list_any (nat_eq w) ws)) (same_is w w refl) ∙ sym (ap (λ (b : Bool). suc (bit_of b)) (none_same w ws distinct.0)))
-    (λ j lt ne. ap (λ (b : Bool). bit_of (b || list_any (nat_eq j) ws)) (other_is j w ne))
+    (ap (λ (b : Bool). bit_of (b || list_any (nat_eq w) ws)) (eq-eqb w w refl) ∙ sym (ap (λ (b : Bool). suc (bit_of b)) (none_same w ws distinct.0)))
+    (λ j lt ne. ap (λ (b : Bool). bit_of (b || list_any (nat_eq j) ws)) (ne_eqb j w ne))
     ∙ ap suc (counted n ws distinct.1 below.1)
 
 pub waiters_count : WaitersCount

@@ -1,7 +1,8 @@
 -- What is seen of the machine, its start, and the planned program that it runs.
-use Rattle.std.specs.Prelude.{Bool, true, false, ◌||◌, Option, Some, None, ℤ}
+use Rattle.std.specs.Prelude.{true, Option, Some, None, ℤ}
 use Rattle.std.proofs.Common.{◌≡◌, ℕ, zero, suc, ◌+◌, ◌*◌, ◌<◌, ◌≤◌, List, [], refl, sym, ap, ◌∙◌, subst, inl, inr, arith}
 use Rattle.std.proofs.Math.Nat.{mul-suc}
+use Rattle.std.proofs.lemmas.Bool.{or_left}
 use Rattle.c_program.specs.Tree.{Program}
 use Rattle.c_program.specs.Weight.{bound}
 use Rattle.thread_semantics.specs.State.{State, start}
@@ -53,10 +54,6 @@ prints_as (Some (Mutex b)) p e s out = absurd cc
 prints_as (Some (Barrier b)) p e s out = absurd cc
 prints_as (Some (Forks b)) p e s out = absurd cc
 prints_as (Some (Prints b)) p e s out = refl
-
-pub or_is : (b d : Bool) → b ≡ true → (b || d) ≡ true
-or_is true d e = refl
-or_is false d e = absurd cc
 
 -- what n threads have left that have at most B each
 total_within : (B : ℕ) (left : Slot → ℕ) (w : World ℤ Slot (ℕ → Core)) → ((i : ℕ) → left (w.slots i) ≤ B) → (n : ℕ) → total_left n left w ≤ B * n
@@ -155,7 +152,7 @@ module _ (P : Program) (K : Parts) (built : IsBuilt P K) where
     cycle = next P K built;
     is_full = is_full P K built;
     counts = clock.counts P K built;
-    full_counts = λ h c e. or_is (is_full P K built c) (any_below (moves P K built h c) K.threads) e;
+    full_counts = λ h c e. or_left (is_full P K built c) (any_below (moves P K built h c) K.threads) e;
     clocked = clocked P K built;
     views = views;
     seen = seen;

@@ -5,12 +5,13 @@ use Rattle.std.proofs.Common.{◌≡◌, ℕ, zero, suc, ◌<◌, List, [], leng
 use Rattle.std.proofs.lemmas.List.{length-replicate}
 use Rattle.std.proofs.lemmas.List.Concat.{length-flat_map}
 use Rattle.std.proofs.lemmas.Option.{slice_get_within}
+use Rattle.lists.proofs.Places.{zeros_at, copies_are}
 use Rattle.c_program.specs.declared.tree.ThreadObject.{ThreadObject}
 use Rattle.c_program.specs.declared.tree.MutexObject.{MutexObject}
 use Rattle.c_program.specs.declared.tree.BarrierObject.{BarrierObject}
 use Rattle.c_program.specs.Tree.{Program}
 use Rattle.c_program.specs.Resolved.{IsResolved}
-use Rattle.thread_semantics.specs.State.{Slot as ThreadSlot, Unused, Running, Barrier, NoBarrier, first_mutex, first_mutexes, started, start}
+use Rattle.thread_semantics.specs.State.{Slot as ThreadSlot, Unused, Running, NoBarrier, first_mutex, first_mutexes, started, start}
 use Rattle.thread_semantics.specs.Step.{is_running, is_waiter}
 use Rattle.bank_partition.specs.declared.banks.Spread.{Spread}
 use Rattle.planned_block.proofs.Bits.{other_is}
@@ -18,7 +19,6 @@ use Rattle.race_model.specs.Source.{local_of, running}
 use Rattle.thread_cores.specs.Cores.{Core, status_in, status_at}
 use Rattle.block_ir.specs.Asked.{Numbers, ids_core, printer_core}
 use Rattle.thread_cores.specs.Stands.{status_of, GateStands, StandsFor}
-use Rattle.core_states.proofs.Elements.{index-zeros}
 use Rattle.code_following.specs.Following.{HasArguments}
 use Rattle.block_refine.specs.Routines.{Codes, rest_of, Starts}
 use Rattle.block_refine.proofs.RoutineLaws.{code_follows}
@@ -35,11 +35,6 @@ unused_there : (n i : ℕ) (x : ThreadSlot) → slice_get (replicate n Unused) i
 unused_there zero i x e = absurd cc
 unused_there (suc n) zero x e = cc
 unused_there (suc n) (suc i) x e = unused_there n i x e
-
-no_barrier_there : (n i : ℕ) (b : Barrier) → slice_get (replicate n NoBarrier) i ≡ Some b → b ≡ NoBarrier
-no_barrier_there zero i b e = absurd cc
-no_barrier_there (suc n) zero b e = cc
-no_barrier_there (suc n) (suc i) b e = no_barrier_there n i b e
 
 nobody_waits : (i n : ℕ) → list_any (is_waiter i) (replicate n NoBarrier) ≡ false
 nobody_waits i zero = refl
@@ -67,19 +62,19 @@ module _ (P : Program) (codes : Codes) (N : Numbers) (T : ℕ) (spreads : List S
   stands = record {
     mutexes = first.mutexes;
     barriers = λ n b e.
-        let none = no_barrier_there (sum_by (λ (o : BarrierObject). o.length) P.barriers) n b e in
+        let none = copies_are (sum_by (λ (o : BarrierObject). o.length) P.barriers) NoBarrier n b e in
         record {
           gate = record { count = 0; waiting = replicate T 0 };
           is = first.barriers n (let lt = slice_get_within (start P).barriers n b e in let t = barrier_total in omega arith);
           stands = subst (GateStands T (record { count = 0; waiting = replicate T 0 })) (sym none)
-              (record { sized = length-replicate T 0; bits = λ i lt. index-zeros T i; count = λ k ws q. absurd cc });
+              (record { sized = length-replicate T 0; bits = λ i lt. zeros_at T i; count = λ k ws q. absurd cc });
         };
     ids = λ has. record {
       ids = record { statuses = replicate T 0; arguments = replicate T 0 };
       is = first.ids has;
       statuses = length-replicate T 0;
       arguments = length-replicate T 0;
-      main = index-zeros T 0;
+      main = zeros_at T 0;
       each = each;
     };
     output = first.printer;
@@ -89,12 +84,12 @@ module _ (P : Program) (codes : Codes) (N : Numbers) (T : ℕ) (spreads : List S
     where
       each : (i : ℕ) (x : ThreadSlot) → 0 < i → slice_get (start P).slots i ≡ Some x → slice_index (replicate T 0) i ≡ status_of x
       each zero x lt e = absurd (omega arith)
-      each (suc i) x lt e = index-zeros T (suc i) ∙ sym (ap status_of (unused_there ids_number i x e))
+      each (suc i) x lt e = zeros_at T (suc i) ∙ sym (ap status_of (unused_there ids_number i x e))
 
   -- ---- the slots
 
   no_status : (i : ℕ) (b : Bool) → N.ids ≡ b → status_at N c i ≡ 0
-  no_status i true e = ap (λ (k : Core). status_in k i) (first.ids e) ∙ index-zeros T i
+  no_status i true e = ap (λ (k : Core). status_in k i) (first.ids e) ∙ zeros_at T i
   no_status i false e =
       let none : ◌≡◌ {A = ℕ} (if N.ids then 1 else 0) 0 = ap (λ (b : Bool). if b then 1 else 0) e in
       let same : printer_core N ≡ ids_core N = omega arith in

@@ -3,6 +3,7 @@ use Rattle.std.specs.Prelude.{Bool, true, false, ◌||◌, ◌⊎◌, ◌↔◌,
 use Rattle.std.proofs.Common.{◌≡◌, ℕ, zero, suc, ◌+◌, ◌<◌, ◌≤◌, List, [], ◌∷◌, ◌++◌, length, refl, sym, ap, ap₂, ◌∙◌, subst, inl, inr, ⊎_elim, arith, append_assoc}
 use Rattle.std.proofs.lemmas.List.{append-nil}
 use Rattle.std.proofs.lemmas.Option.{slice_get_within}
+use Rattle.std.proofs.lemmas.Bool.{or_right}
 use Rattle.hls_ints.specs.Residues.{residue_of}
 use Rattle.hls_ints.specs.Types.{width_of}
 use Rattle.c_program.specs.Tree.{GlobalVariable, Program}
@@ -92,15 +93,11 @@ module _ (P : Program) (K : Parts) (built : IsBuilt P K) (beats : TurnsBeats K) 
   counts_full h c true e = refl
   counts_full h c false e = absurd cc
 
-  counts_change : (b d : Bool) → d ≡ true → (b || d) ≡ true
-  counts_change true d e = refl
-  counts_change false d e = e
-
   counts_is : (h : Stage P K) (c : Choice) → IsFull K c ⊎ Changes K h.net c → clock.counts P K built h c ≡ true
   counts_is h c why =
       ⊎_elim
       (λ (full : IsFull K c). counts_full h c (is_full P K built c) (same_is c.mask (2 ^ K.threads - 1) full))
-      (λ (change : Changes K h.net c). counts_change (is_full P K built c) (any_below (moves P K built h c) K.threads) (moved_where h c change))
+      (λ (change : Changes K h.net c). or_right (is_full P K built c) (any_below (moves P K built h c) K.threads) (moved_where h c change))
       why
 
   passes_is : (h : Stage P K) (c : Choice) → (IsFull K c → ⊥) → (Changes K h.net c → ⊥) → clock.counts P K built h c ≡ false
