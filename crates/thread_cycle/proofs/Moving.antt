@@ -1,7 +1,8 @@
 -- THREAD MOVES.
 use Rattle.std.specs.Prelude.{nat_lt, Bool, true, false, not, ◌&&◌, if◌then◌else◌, Option, Some, None, slice_get, ℤ}
 use Rattle.std.proofs.Common.{◌≡◌, ℕ, ◌+◌, ◌%◌, ◌<◌, ◌⊎◌, refl, sym, ap, ap₂, ◌∙◌, subst, inl, inr, ⊎_elim, arith}
-use Rattle.std.proofs.lemmas.Bool.Decides.{nat_tests}
+use Rattle.std.proofs.lemmas.Bool.{ltb-true}
+use Rattle.std.proofs.lemmas.Option.{cond_some}
 use Rattle.hls_ints.specs.Residues.{residue_of, bit_of}
 use Rattle.interleaving.specs.Memory.{Memory}
 use Rattle.bank_partition.specs.declared.banks.Spread.{Spread}
@@ -78,13 +79,6 @@ asks_nothing main (act.BarrierDestroy b) variables e = absurd cc
 
 -- ---- cores
 
-some_if : (c : Bool) (x k : ℕ) → (if c then Some x else None) ≡ Some k → (c ≡ true) × (x ≡ k)
-some_if true x k e = (refl, (let s : x ≡ k = cc in s))
-some_if false x k e = absurd cc
-
-less_told : (a b : ℕ) → nat_lt a b ≡ true → a < b
-less_told a b e = grind (arith, nat_tests)
-
 barrier_is : (N : Numbers) (n : ℕ) → n < N.barriers → IsActCore N (barrier_core N n)
 barrier_is N n lt = (omega arith, omega arith)
 
@@ -100,15 +94,15 @@ printer_is N = (omega arith, omega arith)
 -- what is asked is a core of acts
 pub core_in_is : (N : Numbers) (service : Service) (n k : ℕ) → core_in N service n ≡ Some k → IsActCore N k
 core_in_is N Mutexes n k e =
-    let c = some_if (nat_lt n N.mutexes) (mutex_core N n) k e in subst (IsActCore N) c.1 (mutex_is N n (less_told n N.mutexes c.0))
+    let c = cond_some (nat_lt n N.mutexes) (mutex_core N n) k e in subst (IsActCore N) c.1 (mutex_is N n (ltb-true n N.mutexes c.0))
 core_in_is N Barriers n k e =
-    let c = some_if (nat_lt n N.barriers) (barrier_core N n) k e in subst (IsActCore N) c.1 (barrier_is N n (less_told n N.barriers c.0))
-core_in_is N Ids n k e = let c = some_if N.ids (ids_core N) k e in subst (IsActCore N) c.1 (ids_is N)
+    let c = cond_some (nat_lt n N.barriers) (barrier_core N n) k e in subst (IsActCore N) c.1 (barrier_is N n (ltb-true n N.barriers c.0))
+core_in_is N Ids n k e = let c = cond_some N.ids (ids_core N) k e in subst (IsActCore N) c.1 (ids_is N)
 core_in_is N Prints n k e = let s : printer_core N ≡ k = cc in subst (IsActCore N) s (printer_is N)
 
 -- a barrier that has a core
 barrier_there : (N : Numbers) (n k : ℕ) → core_in N Barriers n ≡ Some k → n < N.barriers
-barrier_there N n k e = less_told n N.barriers (some_if (nat_lt n N.barriers) (barrier_core N n) k e).0
+barrier_there N n k e = ltb-true n N.barriers (cond_some (nat_lt n N.barriers) (barrier_core N n) k e).0
 
 zero_or_one : (n : ℕ) → n < 2 → (n ≡ 0) ⊎ (n ≡ 1)
 zero_or_one n lt = grind arith
@@ -265,7 +259,7 @@ module _ (t : Thread) (is : IsThread t) where
 
       within : (k : ℕ) → grant k ≡ true → k < size (planned_view b)
       unfolding grant
-      within k e = less_told k (size (planned_view b)) (both_true (nat_lt k (size (planned_view b))) (grants_at (target_of (operation_at (planned_view b) k).kind) k) e).0
+      within k e = ltb-true k (size (planned_view b)) (both_true (nat_lt k (size (planned_view b))) (grants_at (target_of (operation_at (planned_view b) k).kind) k) e).0
 
       grant_is : (k x : ℕ) (w : Bool) → IsOpen t.spreads b p q k x w → grant k ≡ granted (bank_now t.spreads b p q k x)
       unfolding grant grants_at

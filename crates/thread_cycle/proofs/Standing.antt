@@ -2,9 +2,9 @@
 use Rattle.std.specs.Prelude.{nat_eq, Bool, true, false, not, ◌⊎◌, if◌then◌else◌, Option, Some, None, slice_get, ℤ}
 use Rattle.std.proofs.Common.{◌≡◌, ◌≢◌, ℕ, zero, suc, ◌<◌, List, [], ◌∷◌, length, refl, sym, ap, ◌∙◌, subst, inl, inr, ⊎_elim, arith}
 use Rattle.std.proofs.lemmas.Option.{slice_get_past}
+use Rattle.std.proofs.lemmas.Bool.{cases_eq}
 use Rattle.hls_ints.specs.Residues.{bit_of}
 use Rattle.interleaving.specs.Memory.{Location, Memory}
-use Rattle.interleaving.proofs.Update.{same_or_not}
 use Rattle.block_ir.specs.declared.block.Next.{Next}
 use Rattle.block_ir.specs.declared.block.Next.TheVariants.{Jump, Branch}
 use Rattle.block_ir.specs.declared.block.Block.{Block}
@@ -156,7 +156,7 @@ module _ (t : Thread) (is : IsThread t) where
       ⊎_elim
       (λ (e : rest t ≡ 0). AtRest (first ∙ sym e) fits shown)
       (λ (ne : rest t ≢ 0). at_stage r q (let some : 0 < rest t = omega arith in subst (λ n. n < rest t) (sym first) some) fits none shown)
-      (same_or_not (rest t) 0)
+      (cases_eq (rest t) 0)
 
   -- what a cycle within a block leaves stands somewhere
   pub advanced : (bank : Location → ℕ) (memory : Memory ℤ) (grant : ℕ → Bool) (r : Reading) (q : Slot) (b : Block) (p : BlockPlan) → Runs t q.stage b p → q.state < p.states →

@@ -1,6 +1,7 @@
 -- WHO STAYS, and GRANTED ACCESSES.
-use Rattle.std.specs.Prelude.{Bool, true, false, not, ◌&&◌, ℤ}
+use Rattle.std.specs.Prelude.{Bool, true, false, not, ℤ}
 use Rattle.std.proofs.Common.{arith, ◌≢◌, ◌≡◌, ℕ, ◌<◌, refl, sym, ap, ◌∙◌, ⊎_elim}
+use Rattle.std.proofs.lemmas.Bool.{and_from, false_from_ne_true}
 use Rattle.interleaving.specs.Memory.{Location, Memory, Touches}
 use Rattle.block_ir.specs.declared.block.Block.{Block}
 use Rattle.block_ir.specs.declared.plan.BlockPlan.{BlockPlan}
@@ -25,15 +26,6 @@ turns : (b c : Bool) → c ≡ not b → c ≡ b → ⊥
 turns true c e s = let z = sym e ∙ s in cc
 turns false c e s = let z = sym e ∙ s in cc
 
-false_of : (c : Bool) → (c ≡ true → ⊥) → c ≡ false
-false_of true never = absurd (never refl)
-false_of false never = refl
-
-true_and : (a c : Bool) → a ≡ true → c ≡ true → (a && c) ≡ true
-true_and true true d e = refl
-true_and true false d e = absurd cc
-true_and false c d e = absurd cc
-
 -- ---- who stays
 
 module _ (t : Thread) (granted : ℕ → Bool) (news : ℕ → ℕ → ℕ) (q : Slot) (b : Block) (p : BlockPlan) (runs : Runs t q.stage b p) (inside : q.state < p.states) (grant : ℕ → Bool)
@@ -42,9 +34,9 @@ module _ (t : Thread) (granted : ℕ → Bool) (news : ℕ → ℕ → ℕ) (q :
   -- an open access is not granted
   unserved : (j y : ℕ) (v : Bool) → IsOpen t.spreads b p q j y v → granted (bank_now t.spreads b p q j y) ≡ false
   unserved j y v o =
-      false_of (granted (bank_now t.spreads b p q j y))
+      false_from_ne_true (granted (bank_now t.spreads b p q j y))
       (λ won.
-      let given = true_and (requests (planned_view b) (plan_view b p) q j) (grant j) o.requested (heard j y v o ∙ won) in
+      let given = and_from (requests (planned_view b) (plan_view b p) q j) (grant j) o.requested (heard j y v o ∙ won) in
       let some = some_tells (answered (planned_view b) (plan_view b p) q grant) (size (planned_view b)) j o.below given in
       let z = sym none ∙ some in cc)
 
