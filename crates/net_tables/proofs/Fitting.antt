@@ -5,6 +5,7 @@ use Rattle.std.specs.Prelude.{◌-◌, nat_lt, slice_get}
 use Rattle.std.proofs.lemmas.Bool.Decides.{nat_tests}
 use Rattle.std.proofs.lemmas.Option.{slice_get_within}
 use Rattle.std.proofs.lemmas.List.{length-map, length-replicate}
+use Rattle.lists.proofs.Places.{get_front, get_middle}
 use Rattle.netlist.specs.declared.netlist.Module.{Module}
 use Rattle.circuit.specs.Modules.{IsLeaf}
 use Rattle.circuit.specs.Interfaces.{first_of}
@@ -19,7 +20,7 @@ use Rattle.core_layout.specs.Fits.{FitsLayout as FitsCore}
 use Rattle.core_layout.proofs.Fitting.{cores_fit}
 use Rattle.net_tables.specs.Tables.{PlacedCore, Table, HasCores, core_name, kinds_at, laid_core, layout_of, modules_of, shapes_of}
 use Rattle.net_tables.specs.Laws.{CoreStands, ArbiterStands, EachThread, TablesFit}
-use Rattle.net_tables.proofs.Lists.{map_back, map_get, in_front, behind, behind_one}
+use Rattle.net_tables.proofs.Lists.{map_back, map_get, behind_one}
 use Rattle.net_tables.proofs.Small.{is_small}
 
 -- nothing is late past the cores
@@ -104,16 +105,16 @@ module _ (t : Table) (has : HasCores t) where
       many = let c = length-replicate {A = ℕ} T 1 in omega (arith, c)
 
   arbiter_stands : ArbiterStands t
-  arbiter_stands = record { listed = behind t.routines t.arbiter t.kinds; promise = arbiter_at; interface = has.granting.stands.interface }
+  arbiter_stands = record { listed = get_middle t.routines t.kinds t.arbiter; promise = arbiter_at; interface = has.granting.stands.interface }
 
   -- ---- properties of all of them
 
   module _ (P : ℕ → Module → Type 0) (Q : ℕ → Core → Module → Type 0) (R : ℕ → Module → Type 0) where
     pub each_module : EachThread t P → ((k : ℕ) (x : Core) (p : IsPlaced k x) → Q k x p.body) → ((k : ℕ) → R k t.arbiter) → EachModule (layout_of t) (modules_of t) P Q R
     each_module p q r = record {
-      thread = λ i number e. let m = p i number e in (m.0, in_front t.routines (t.arbiter ∷ t.kinds) number m.0 m.1, m.2);
+      thread = λ i number e. let m = p i number e in (m.0, get_front t.routines (t.arbiter ∷ t.kinds) number m.0 m.1, m.2);
       core = λ k x e. let s = placed k x e in (s.body, s.stands, q k x s);
-      arbiter = λ k l. (t.arbiter, behind t.routines t.arbiter t.kinds, r k);
+      arbiter = λ k l. (t.arbiter, get_middle t.routines t.kinds t.arbiter, r k);
     }
 
   -- ---- what is late
@@ -166,6 +167,6 @@ tables_fit t has = record {
   small = is_small t has;
   cores = core_stands t has;
   arbiters = arbiter_stands t has;
-  routines = λ number m e. in_front t.routines (t.arbiter ∷ t.kinds) number m e;
+  routines = λ number m e. get_front t.routines (t.arbiter ∷ t.kinds) number m e;
   leaves = are_leaves t has;
 }

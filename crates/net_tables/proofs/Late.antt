@@ -1,7 +1,8 @@
 -- Signals that are late under two choices are a choice of late signals.
-use Rattle.std.proofs.Common.{◌≡◌, ℕ, Bool, true, false, ap, refl}
+use Rattle.std.proofs.Common.{ℕ, Bool}
 use Rattle.std.specs.Prelude.{◌&&◌, slice_get}
-use Rattle.verilog_tree.proofs.Tests.{and_left, and_right, and_both}
+use Rattle.std.proofs.lemmas.Bool.{and_parts}
+use Rattle.verilog_tree.proofs.Tests.{and_both}
 use Rattle.netlist.specs.declared.netlist.Source.{Source}
 use Rattle.netlist.specs.declared.netlist.Source.TheVariants.{Input, Register, Assigned, Port}
 use Rattle.netlist.specs.declared.netlist.Module.{Module}
@@ -10,13 +11,6 @@ use Rattle.circuit.proofs.Tables.{fits_among, operand_of}
 
 abbrev pub both_late : (ℕ → Bool) → (ℕ → Bool) → ℕ → Bool
 both_late a b x = a x && b x
-
-pub false_left : (p q : Bool) → p ≡ false → (p && q) ≡ false
-false_left p q e = ap (λ z. z && q) e
-
-pub false_right : (p q : Bool) → q ≡ false → (p && q) ≡ false
-false_right true q e = e
-false_right false q e = refl
 
 module _ (m : Module) (inputs : ℕ) (a b : ℕ → Bool) where
   joint_source : (x w : ℕ) (source : Source) → IsSoundSource m inputs a x w source → IsSoundSource m inputs b x w source → IsSoundSource m inputs (both_late a b) x w source
@@ -29,7 +23,7 @@ module _ (m : Module) (inputs : ℕ) (a b : ℕ → Bool) where
         before = h.before;
         in_time = λ t.
             let o = operand_of (Reads m b x) (λ j. slice_get m.memories j) w v g y i in
-            and_both (a x) (b x) (h.in_time (and_left (a y) (b y) t)) (o.1.in_time (and_right (a y) (b y) t));
+            and_both (a x) (b x) (h.in_time (and_parts (a y) (b y) t).0) (o.1.in_time (and_parts (a y) (b y) t).1);
       }) f
   joint_source x w (Port i p) f g = f
 

@@ -20,15 +20,6 @@ there P [] e k x h = absurd (none-some x h)
 there P (y ∷ ys) e zero x h = subst P (same_Some y x h) e.0
 there P (y ∷ ys) e (suc k) x h = there P ys e.1 k x h
 
-pub in_front : {A : Type 0} (xs ys : List A) (k : ℕ) (x : A) → slice_get xs k ≡ Some x → slice_get (xs ++ ys) k ≡ Some x
-in_front [] ys k x e = absurd (none-some x e)
-in_front (y ∷ xs) ys zero x e = e
-in_front (y ∷ xs) ys (suc k) x e = in_front xs ys k x e
-
-pub behind : {A : Type 0} (xs : List A) (y : A) (ys : List A) → slice_get (xs ++ y ∷ ys) (length xs) ≡ Some y
-behind [] y ys = refl
-behind (x ∷ xs) y ys = behind xs y ys
-
 pub behind_one : {A : Type 0} (xs : List A) (y : A) (ys : List A) (k : ℕ) → slice_get (xs ++ y ∷ ys) (length xs + 1 + k) ≡ slice_get ys k
 behind_one [] y ys k = ap (slice_get (y ∷ ys)) (let e : 0 + 1 + k ≡ suc k = omega arith in e)
 behind_one (x ∷ xs) y ys k =

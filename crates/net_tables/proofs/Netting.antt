@@ -23,7 +23,7 @@ use Rattle.top_wiring.specs.Wired.{IsWired}
 use Rattle.top_wiring.specs.Found.{IsFound}
 use Rattle.top_wiring.proofs.Netting as netting
 use Rattle.top_wiring.proofs.Standing as standing
-use Rattle.lists.proofs.Places.{get_there}
+use Rattle.lists.proofs.Places.{get_there, get_front}
 use Rattle.top_wiring.proofs.InstanceKinds.{core_at, Kind, kind_of}
 use Rattle.top_wiring.proofs.InstanceKinds.Kind.{of_thread, of_core, of_arbiter}
 use Rattle.top_wiring.proofs.Settling.{nets_have_stages}
@@ -36,7 +36,7 @@ use Rattle.net_tables.specs.Tables.{PlacedCore, Table, HasCores, core_name, kind
 use Rattle.net_tables.specs.Laws.{IsLow}
 use Rattle.net_tables.specs.Whole.{IsWholeTable, AreThreads, places_of}
 use Rattle.net_tables.specs.Nets.{TellsDone, IsBankAt, IsBankNamed, IsNetOfTable, TablesAreNets}
-use Rattle.net_tables.proofs.Lists.{in_front, behind_one, map_back, map_get}
+use Rattle.net_tables.proofs.Lists.{behind_one, map_back, map_get}
 use Rattle.net_tables.proofs.Decimals.{digits_tell}
 use Rattle.net_tables.proofs.Small.{is_small}
 use Rattle.net_tables.proofs.Fitting.{each_module, are_leaves}
@@ -105,7 +105,7 @@ module _ (t : Table) (modules : ℕ → Module) (leaves : ℕ → LeafPorts) (n 
   number_of i l = get_there t.threads i l
 
   listed : (number : ℕ) (m : Module) → slice_get t.routines number ≡ Some m → slice_get (modules_of t) number ≡ Some m
-  listed number m e = in_front t.routines (t.arbiter ∷ t.kinds) number m e
+  listed number m e = get_front t.routines (t.arbiter ∷ t.kinds) number m e
 
   thread_runs : (i : ℕ) → i < T → (number : ℕ) × (slice_get t.threads i ≡ Some number) × (slice_get (modules_of t) number ≡ Some (modules i))
   thread_runs i l = let k = number_of i l in (k.0, k.1, listed k.0 (modules i) (runs.runs i k.0 k.1))

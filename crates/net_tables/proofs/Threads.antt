@@ -1,7 +1,7 @@
 -- The module of a thread stands at the places of the layout, and all that it puts out is early.
 use Rattle.std.proofs.Common.{◌≡◌, ◌⊎◌, ℕ, ◌+◌, ◌<◌, ◌≤◌, Bool, true, false, List, [], ◌∷◌, length, Option, Some, sym, ap, ◌∙◌, subst, ⊎_elim, arith, length-append}
 use Rattle.std.specs.Prelude.{◌&&◌, slice_get}
-use Rattle.std.proofs.lemmas.Bool.{cases_lt}
+use Rattle.std.proofs.lemmas.Bool.{cases_lt, and_right, and_left}
 use Rattle.std.proofs.lemmas.Bool.Decides.{nat_tests}
 use Rattle.std.proofs.lemmas.Option.{slice_get_within}
 use Rattle.std.proofs.lemmas.List.{length-map}
@@ -24,7 +24,7 @@ use Rattle.core_family.specs.Family.{CoreShape, machine_of, machine_at, port_of}
 use Rattle.core_family.proofs.Printing.{each_fits}
 use Rattle.net_tables.specs.Tables.{PlacedCore, Table, kinds_at, laid_core, layout_of, shapes_of, ports_of}
 use Rattle.net_tables.specs.Laws.{parts, told, ThreadStands, ThreadsFit}
-use Rattle.net_tables.proofs.Late.{both_late, false_left, false_right, joint_leaf}
+use Rattle.net_tables.proofs.Late.{both_late, joint_leaf}
 use Rattle.net_tables.proofs.Lists.{map_get, map_back}
 use Rattle.net_tables.proofs.Widths.{asks_are, news_are, thread_ports}
 
@@ -155,18 +155,18 @@ module _ (t : Table) (name : List ℕ) (m : Module) (inputs : ℕ) (leaf : LeafP
       let below : at.rest < parts t k = (let e = p.parts_are in omega (arith, e, inside)) in
       let place : leaf.ask k at.rest ≡ first + x = ask_at k at.rest at.item at.listed inside ∙ ap (λ z. first + z) (sym at.place) in
       subst (λ z. late z ≡ false) place
-      (false_left (asks_late (leaf.ask k at.rest)) (need_late (leaf.ask k at.rest) && done_late (leaf.ask k at.rest))
+      (and_left (asks_late (leaf.ask k at.rest)) (need_late (leaf.ask k at.rest) && done_late (leaf.ask k at.rest))
       (thread.asks k at.rest p.below (uses k p.below) below).1.early)
 
   need_early : late (first + asked) ≡ false
   need_early =
       subst (λ z. late z ≡ false) need_at
-      (false_right (asks_late leaf.need) (need_late leaf.need && done_late leaf.need) (false_left (need_late leaf.need) (done_late leaf.need) thread.need.bit.early))
+      (and_right (asks_late leaf.need) (need_late leaf.need && done_late leaf.need) (and_left (need_late leaf.need) (done_late leaf.need) thread.need.bit.early))
 
   done_early : late (first + (asked + 1)) ≡ false
   done_early =
       subst (λ z. late z ≡ false) done_at
-      (false_right (asks_late leaf.done) (need_late leaf.done && done_late leaf.done) (false_right (need_late leaf.done) (done_late leaf.done) done.bit.early))
+      (and_right (asks_late leaf.done) (need_late leaf.done && done_late leaf.done) (and_right (need_late leaf.done) (done_late leaf.done) done.bit.early))
 
   early : (x : ℕ) → x < length outs → late (first + x) ≡ false
   early x l =

@@ -2,6 +2,7 @@
 use Rattle.std.specs.Prelude.{codes, map, Option, Some, None, slice_get}
 use Rattle.std.proofs.Common.{◌≡◌, ℕ, zero, suc, ◌+◌, ◌<◌, List, [], ◌∷◌, ◌++◌, length, refl, sym, ap, ◌∙◌, subst, arith}
 use Rattle.std.proofs.lemmas.Option.{same_Some}
+use Rattle.std.proofs.lemmas.List.{length-map}
 use Rattle.hls_ints.specs.Residues.{bit_of}
 use Rattle.netlist.specs.declared.netlist.Signal.{Signal}
 use Rattle.netlist.specs.declared.netlist.Module.{Module}
@@ -22,10 +23,11 @@ use Rattle.top_wiring.specs.Top.{starts, thread_instance, arbiter_instance}
 use Rattle.top_wiring.specs.Wired.{IsWired}
 use Rattle.top_wiring.proofs.Netting as netting
 use Rattle.top_wiring.proofs.Standing as standing
-use Rattle.lists.proofs.Places.{get_there}
+use Rattle.lists.proofs.Places.{get_there, get_front}
 use Rattle.leaf_machine.specs.Leaves.{LeafPorts, leaf_thread, leaf_places}
 use Rattle.leaf_machine.specs.Steady.{KeepsToItself}
 use Rattle.leaf_machine.proofs.Leaves.{slot_bit_is}
+use Rattle.steady_net.proofs.Agreeing.{agree_on}
 use Rattle.print_core.specs.declared.printer.Shape.{Shape as PrinterShape}
 use Rattle.core_family.specs.Family.{CoreShape, Bank, Mutex, Barrier, Forks, Prints, machine_of, machine_at}
 use Rattle.core_family.proofs.Waiting.{each_waits}
@@ -33,20 +35,15 @@ use Rattle.net_tables.specs.Tables.{PlacedCore, Table, laid_core, kinds_at, layo
 use Rattle.net_tables.specs.Laws.{SameCore, SameOf, parts, told}
 use Rattle.net_tables.specs.Whole.{IsWholeTable, AreThreads, places_of}
 use Rattle.net_tables.specs.Nets.{IsNetOfTable}
-use Rattle.net_tables.proofs.Lists.{in_front, map_back}
+use Rattle.net_tables.proofs.Lists.{map_back}
 use Rattle.net_tables.proofs.Fitting.{tables_fit}
 use Rattle.net_tables.proofs.Netting.{tables_are_nets}
 use Rattle.steady_net.specs.Steady.{HoldsNothing, ShowsEnd, IsSteady}
-use Rattle.steady_net.proofs.Agreeing.{agree_on}
 use Rattle.steady_net.proofs.Stateless.{arbiter_holds, top_holds}
 use Rattle.steady_net.proofs.Steadiness.{steady_is_threaded}
 use Rattle.net_threads.specs.Threads.{AreSteady, NetOfTableIsThreaded}
 
 -- ---- lists and names
-
-mapped_length : {A B : Type 0} (f : A → B) (xs : List A) → length (map f xs) ≡ length xs
-mapped_length f [] = refl
-mapped_length f (x ∷ xs) = ap suc (mapped_length f xs)
 
 -- a signal's name among the names of a module
 named_at : (ss : List Signal) (x : ℕ) (s : Signal) → slice_get ss x ≡ Some s → slice_get (map (λ (t : Signal). t.name) ss) x ≡ Some s.name
@@ -56,8 +53,8 @@ named_at (t ∷ ss) (suc x) s e = named_at ss x s e
 
 declared_at : (m : Module) (name : List ℕ) (x : ℕ) (s : Signal) → IsSignal m name x s → slice_get (declared_names m) x ≡ Some name
 declared_at m name x s is =
-    in_front (signal_names m ++ memory_names m) (instance_names m) x name
-    (in_front (signal_names m) (memory_names m) x name (named_at m.signals x s is.listed ∙ ap Some is.named))
+    get_front (signal_names m ++ memory_names m) (instance_names m) x name
+    (get_front (signal_names m) (memory_names m) x name (named_at m.signals x s is.listed ∙ ap Some is.named))
 
 -- ---- a core that prints is the printer
 
@@ -98,7 +95,7 @@ module _ (t : Table) (modules : ℕ → Module) (leaves : ℕ → LeafPorts) (n 
   some_thread = let some = whole.cores.some in omega (arith, some)
 
   core_total : length t.cores ≡ cores layout
-  core_total = sym (mapped_length (laid_core (kinds_at t)) t.cores)
+  core_total = sym (length-map t.cores (laid_core (kinds_at t)))
 
   own_module : (i : ℕ) (l : i < T) → modules i ≡ (is.net.threads_stand i l).0
   own_module i l = same_Some (modules i) (is.net.threads_stand i l).0 (sym (is.runs i l) ∙ (is.net.threads_stand i l).1)

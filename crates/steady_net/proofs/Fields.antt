@@ -1,5 +1,6 @@
 -- What each cycle of a net of threads that keep to themselves does.
 use Rattle.std.proofs.Common.{◌≡◌, ℕ, ◌<◌, List, [], ◌∷◌, Some, slice_get, refl, sym, ap, ◌∙◌, subst}
+use Rattle.steady_net.proofs.Agreeing.{agree_on, agree_back}
 use Rattle.hls_ints.specs.Residues as bits
 use Rattle.netlist.specs.declared.netlist.Module.{Module}
 use Rattle.verilog_meaning.specs.Readings.{next_reading}
@@ -9,7 +10,6 @@ use Rattle.circuit.specs.Modules.{Obeys, Agree}
 use Rattle.circuit.specs.Machines.{CoreMachine, ThreadMachine}
 use Rattle.circuit.specs.Wiring.{NetPlaces}
 use Rattle.circuit.proofs.Stepping.{obeys, holds}
-use Rattle.steady_net.proofs.Agreeing.{agree_back, agree_on}
 use Rattle.steady_net.specs.Steady.{IsSteady}
 use Rattle.steady_net.proofs.Feeding.{enable_is}
 use Rattle.steady_net.proofs.Same.{same_in, agrees_in}

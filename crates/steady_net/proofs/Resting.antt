@@ -1,5 +1,6 @@
 -- A cycle in which no core grants: what the edge leaves, and that nothing is written.
 use Rattle.std.proofs.Common.{◌≡◌, ℕ, ◌<◌, List, [], ◌∷◌, Option, Some, None, slice_get, refl, sym, ap, ◌∙◌, subst, inl, inr, ⊎_elim}
+use Rattle.steady_net.proofs.Agreeing.{agree_on, agree_back}
 use Rattle.netlist.specs.declared.netlist.Instance.{Instance}
 use Rattle.netlist.specs.declared.netlist.Module.{Module}
 use Rattle.verilog_meaning.specs.Readings.{Reading, next_reading, written, action_bytes}
@@ -10,7 +11,6 @@ use Rattle.circuit.specs.Machines.{CoreMachine, ThreadMachine}
 use Rattle.circuit.specs.Wiring.{NetPlaces, IsInstanceOf}
 use Rattle.circuit.proofs.Staged.{from_then}
 use Rattle.circuit.proofs.Stepping.{obeys, holds}
-use Rattle.steady_net.proofs.Agreeing.{agree_back, agree_on}
 use Rattle.steady_net.specs.Steady.{IsSteady}
 use Rattle.steady_net.proofs.Feeding.{enable_is}
 use Rattle.steady_net.proofs.Same.{nothing_agrees, same_all, agrees_all}

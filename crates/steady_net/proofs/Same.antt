@@ -1,6 +1,7 @@
 -- States that agree in each instance are the same, where nothing stands deeper and the outermost module holds nothing.
 use Rattle.std.proofs.Common.{◌≡◌, ◌<◌, ℕ, List, [], ◌∷◌, ◌++◌, length, Some, slice_get, refl, sym, ap, ◌∙◌, subst}
 use Rattle.std.proofs.lemmas.List.{append-nil}
+use Rattle.lists.proofs.Places.{get_nothing}
 use Rattle.netlist.specs.declared.netlist.Signal.{Signal}
 use Rattle.netlist.specs.declared.netlist.Memory.{Memory}
 use Rattle.netlist.specs.declared.netlist.Module.{Module}
@@ -9,14 +10,11 @@ use Rattle.verilog_meaning.specs.Cycles.{Path, Valuation, module_at, IsAt, HasMe
 use Rattle.circuit.specs.Modules.{Agree}
 use Rattle.steady_net.specs.Steady.{HoldsNothing}
 
-no_memory : (l : List Memory) (j : ℕ) (s : Memory) → l ≡ [] → slice_get l j ≡ Some s → ⊥
-no_memory l j s e at = absurd (let none : slice_get [] j ≡ Some s = ap (λ x. slice_get x j) (sym e) ∙ at in cc)
-
 -- whatever holds nothing agrees
 pub nothing_agrees : (m : Module) (h g : Reading) → HoldsNothing m → Agree m h g
 nothing_agrees m h g holds = record {
   registers = λ x s e i. absurd (holds.registers x s e i);
-  words = λ j k s e l. absurd (no_memory m.memories j s holds.memories e);
+  words = λ j k s e l. absurd (get_nothing m.memories j s holds.memories e);
 }
 
 module _ (modules : List Module) (top : Module) (shallow : (i j : ℕ) (rest : Path) (m : Module) → module_at modules top (i ∷ j ∷ rest) ≡ Some m → ⊥) where
@@ -62,7 +60,7 @@ module _ (modules : List Module) (top : Module) (shallow : (i j : ℕ) (rest : P
       at_word [] agrees k i n s at l =
           let one : Some top ≡ Some k = at.stands in
           let same : top ≡ k = cc in
-          absurd (no_memory top.memories i s outside.memories (ap (λ (z : Module). slice_get z.memories i) same ∙ at.listed))
+          absurd (get_nothing top.memories i s outside.memories (ap (λ (z : Module). slice_get z.memories i) same ∙ at.listed))
       at_word (j ∷ []) agrees k i n s at l = (agrees j refl k at.stands).words i n s at.listed l
       at_word (a ∷ b ∷ path) agrees k i n s at l = absurd (shallow a b path k at.stands)
 

@@ -1,6 +1,8 @@
 -- Where no cycle of one thread changes anything, no cycle does.
-use Rattle.std.proofs.Common.{◌≡◌, ℕ, ◌<◌, Bool, true, false}
+use Rattle.std.proofs.Common.{◌≡◌, ℕ, ◌<◌, true, false}
 use Rattle.std.proofs.Common.{List, [], ◌∷◌, None, refl, sym, ap, ◌∙◌, inl, inr, ⊎_elim}
+use Rattle.std.proofs.lemmas.Bool.{both_ways}
+use Rattle.steady_net.proofs.Agreeing.{agree_on, agree_back}
 use Rattle.hls_ints.specs.Residues as bits
 use Rattle.netlist.specs.declared.netlist.Source.TheVariants.{Assigned, Port}
 use Rattle.netlist.specs.declared.netlist.Value.TheVariants.{Constant}
@@ -13,7 +15,6 @@ use Rattle.circuit.specs.Arbitration.{is_granted}
 use Rattle.circuit.specs.Machines.{CoreMachine, ThreadMachine, Hears}
 use Rattle.circuit.specs.Wiring.{NetPlaces, IsAskedBy}
 use Rattle.circuit.proofs.Arbitration.{none_may}
-use Rattle.steady_net.proofs.Agreeing.{agree_back, agree_on}
 use Rattle.steady_net.specs.Steady.{IsSteady}
 use Rattle.steady_net.proofs.Feeding.{fed, thread_granted, thread_told}
 use Rattle.steady_net.proofs.Same.{agrees_all}
@@ -23,9 +24,6 @@ use Rattle.steady_net.proofs.Bits.{set_here, alone_is_choice}
 use Rattle.steady_net.proofs.Fields.{own_obeys, own_holds, own_enable, slot_of, slot_rests}
 use Rattle.steady_net.proofs.Alone.{none_by, none_if_rests}
 use Rattle.steady_net.proofs.Written.{has_written}
-
-not_both : (b : Bool) → b ≡ true → b ≡ false → ⊥
-not_both b e f = absurd (let t : true ≡ false = sym e ∙ f in cc)
 
 module _ (threads cores : ℕ) (T : ℕ → ThreadMachine) (C : ℕ → CoreMachine) (p : NetPlaces threads cores T C) (modules : List Module) (top : Module)
     (steady : IsSteady threads cores T C p modules top) (h : Valuation) where
@@ -151,10 +149,10 @@ module _ (threads cores : ℕ) (T : ℕ → ThreadMachine) (C : ℕ → CoreMach
       none_wins : (k w : ℕ) → k < cores → Wins threads cores T C p modules top steady h cycle.through c cycle.settled k w → ⊥
       none_wins k w b wins =
           let a = there w wins.below in
-          not_both (may threads cores T C p modules top steady h a.0 (alone w) a.1 k wins.reach w)
-          (sym (may_alike cycle.through a.0 c (alone w) cycle.settled a.1 k w wins.reach wins.below wins.enabled (set_here w)) ∙ wins.may_be)
+          both_ways (may threads cores T C p modules top steady h a.0 (alone w) a.1 k wins.reach w)
           (none_may threads ((a.0 (p.arbiter_at k ∷ [])).signal (p.arbiter k).preferred) (may threads cores T C p modules top steady h a.0 (alone w) a.1 k wins.reach)
           (alone_none w wins.below k wins.reach) w wins.below)
+          (sym (may_alike cycle.through a.0 c (alone w) cycle.settled a.1 k w wins.reach wins.below wins.enabled (set_here w)) ∙ wins.may_be)
 
       none : (k : ℕ) (b : k < cores) → granted threads cores T C p modules top steady h cycle.through c cycle.settled k b ≡ None
       none = none_by threads cores T C p modules top steady h cycle.through c cycle.settled none_wins

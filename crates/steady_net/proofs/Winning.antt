@@ -1,7 +1,8 @@
 -- Whom a core grants: a thread that is enabled and asks, and its slot changes. Where a core grants nobody it stays and prints nothing.
-use Rattle.std.proofs.Common.{◌≡◌, ℕ, zero, suc, ◌<◌, ◌⊎◌, Bool, true, false, nat_eq, List, [], ◌∷◌, Option, Some, None, refl, sym, ap, ◌∙◌, subst, inl, inr, arith}
+use Rattle.std.proofs.Common.{◌≡◌, ℕ, zero, suc, ◌<◌, ◌⊎◌, Bool, true, nat_eq, List, [], ◌∷◌, Option, Some, None, refl, ap, ◌∙◌, subst, inl, inr, arith}
 use Rattle.std.proofs.Common.{⊎_elim}
 use Rattle.std.proofs.lemmas.Bool.Decides.{nat_tests}
+use Rattle.std.proofs.lemmas.Bool.{both_ways}
 use Rattle.hls_ints.specs.Residues as bits
 use Rattle.netlist.specs.declared.netlist.Module.{Module}
 use Rattle.verilog_meaning.specs.Readings.{next_reading, written}
@@ -27,9 +28,6 @@ bit_below a i = omega arith
 
 wins_itself : (w : ℕ) → bits.bit_of (is_granted (Some w) w) ≡ 1
 wins_itself w = let t : nat_eq w w ≡ true = grind (arith, nat_tests) in ap bits.bit_of t
-
-not_both : (b : Bool) → b ≡ true → b ≡ false → ⊥
-not_both b e f = absurd (let t : true ≡ false = sym e ∙ f in cc)
 
 module _ (threads cores : ℕ) (T : ℕ → ThreadMachine) (C : ℕ → CoreMachine) (p : NetPlaces threads cores T C) (modules : List Module) (top : Module)
     (steady : IsSteady threads cores T C p modules top) (h v : Valuation) (c : Choice) (settled : IsSettled modules top h c v) where
@@ -73,11 +71,11 @@ module _ (threads cores : ℕ) (T : ℕ → ThreadMachine) (C : ℕ → CoreMach
       ((p.thread i).uses k ≡ true) × Asks (T i) (p.thread i) cores (steady.net.threads_stand i b).0 (v (p.thread_at i ∷ [])) k
   asks_by k i l b e (inl part) = (
     part.0,
-    λ none. not_both (may k l i) e
-        ((steady.wait k l).asked (core_state k l) i (λ j. (v (p.core_at k ∷ [])).signal ((p.core k).ask j i)) (part.1 ∙ none)),
+    λ none. both_ways (may k l i) ((steady.wait k l).asked (core_state k l) i (λ j. (v (p.core_at k ∷ [])).signal ((p.core k).ask j i)) (part.1 ∙ none))
+        e,
   )
   asks_by k i l b e (inr none) =
-      absurd (not_both (may k l i) e ((steady.wait k l).asked (core_state k l) i (λ j. (v (p.core_at k ∷ [])).signal ((p.core k).ask j i)) none))
+      absurd (both_ways (may k l i) ((steady.wait k l).asked (core_state k l) i (λ j. (v (p.core_at k ∷ [])).signal ((p.core k).ask j i)) none) e)
 
   pub asks_if : (k i : ℕ) (l : k < cores) (b : i < threads) → may k l i ≡ true →
       ((p.thread i).uses k ≡ true) × Asks (T i) (p.thread i) cores (steady.net.threads_stand i b).0 (v (p.thread_at i ∷ [])) k
