@@ -3,6 +3,7 @@ use Rattle.std.proofs.Common.{◌≡◌, ℕ, zero, suc, ◌+◌, ◌-◌, ◌%�
 use Rattle.std.proofs.Math.Nat.{mod-eq_of_lt, two-pow-succ}
 use Rattle.std.proofs.lemmas.Nat.{pow_pos}
 use Rattle.std.proofs.lemmas.Int.{ints}
+use Rattle.std.proofs.lemmas.Bool.{lt-ltb}
 use Rattle.hls_ints.specs.Residues.{residue_of, signed_value_of}
 use Rattle.hls_ints.specs.Types.{Width, IntegerType, HasType, bits, width_of, in_signed_range, wrapped}
 use Rattle.hls_ints.proofs.Ranges.{bits-at_least}
@@ -16,9 +17,6 @@ pub residue_of-below : (w : ℕ) (z : ℤ) → residue_of w z < 2 ^ w
 unfolding residue_of
 residue_of-below w (pos n) = let z = pow_pos w in omega arith
 residue_of-below w (negsuc n) = let z = pow_pos w in omega arith
-
-is_below : (m n : ℕ) → m < n → IsTrue (nat_lt m n)
-is_below m n h = grind arith
 
 difference : (a n : ℕ) → pos a -ℤ pos (a + suc n) ≡ negsuc n
 difference a n = grind (arith, ints)
@@ -67,7 +65,7 @@ range_by_half true w n h below test = rw (low_word w n test) test
 range_by_half false w n h below test =
     let half : 2 ^ w ≡ 2 ^ (w - 1) + 2 ^ (w - 1) = double w h in
     let back : 2 ^ w - 1 - n < 2 ^ (w - 1) = grind arith in
-    rw (high_word w n below test) (is_below (2 ^ w - 1 - n) (2 ^ (w - 1)) back)
+    rw (high_word w n below test) (lt-ltb (2 ^ w - 1 - n) (2 ^ (w - 1)) back)
 
 bits_by_half : (test : Bool) (w n : ℕ) → n < 2 ^ w → nat_lt n (2 ^ (w - 1)) ≡ test → residue_of w (signed_value_of w n) ≡ n
 bits_by_half true w n below test = rw (low_word w n test) (residue_of-pos w n below)
@@ -84,7 +82,7 @@ unfolding wrapped
 range_at true w z =
     let word = residue_of (bits w) z in
     range_by_half (nat_lt word (2 ^ (bits w - 1))) (bits w) word (at_least_1 w) (residue_of-below (bits w) z) refl
-range_at false w z = is_below (residue_of (bits w) z) (2 ^ bits w) (residue_of-below (bits w) z)
+range_at false w z = lt-ltb (residue_of (bits w) z) (2 ^ bits w) (residue_of-below (bits w) z)
 
 same_at : (signed : Bool) (w : Width) (z : ℤ) → HasType (record { width = w; signed = signed }) z → wrapped (record { width = w; signed = signed }) z ≡ z
 unfolding wrapped residue_of

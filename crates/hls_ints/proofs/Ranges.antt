@@ -34,9 +34,6 @@ signed_abs h (negsuc n) t = grind arith
 half_power : (w : ℕ) → w ≤ 64 → 2 ^ (w - 1) ≤ 2 ^ 63
 half_power w h = pow_mono {i = w - 1} {j = 63} (omega arith)
 
-power_at_most : (w : ℕ) → w ≤ 64 → 2 ^ w ≤ 2 ^ 64
-power_at_most w h = pow_mono {i = w} {j = 64} h
-
 signed_range : (ty : IntegerType) (z : ℤ) → ty.signed ≡ true → HasType ty z → IsTrue (in_signed_range (2 ^ (width_of ty - 1)) z)
 signed_range ty z s h = rw s at h
 
@@ -59,7 +56,7 @@ product_bits : (w : ℕ) (a b : ℤ) → w ≤ 64 → IsTrue (in_unsigned_range 
     → to_z w128 (unsigned_abs a * unsigned_abs b % (1 * 2 ^ w % 2 ^ 128)) ≡ pos (residue_of w (a *ℤ b))
 unfolding residue_of
 product_bits w (pos a) (pos b) h p q =
-    let le = power_at_most w h in
+    let le = pow_mono h in
     let z = pow_pos w in
     let m : 1 * 2 ^ w % 2 ^ 128 ≡ 2 ^ w = omega arith in
     let lt : a * b % 2 ^ w < 2 ^ 127 = omega arith in
@@ -80,7 +77,7 @@ value_at_most : (ty : IntegerType) (n : ℕ) → HasType ty (pos n) → n < 2 ^ 
 value_at_most ty n h =
     let w = bits-at_most ty.width in
     let half = half_power (width_of ty) w in
-    let all = power_at_most (width_of ty) w in
+    let all = pow_mono w in
     grind (arith, half, all, h)
 
 pub rem_fits : (w : Width) (a d : ℤ) → FitsSigned w a → FitsSigned w (int_rem a d)

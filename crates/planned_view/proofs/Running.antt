@@ -1,7 +1,7 @@
 -- The runs are alike, operation by operation.
 use Rattle.std.specs.Prelude.{nat_eq, ℤ, pos, negsuc, Bool, if◌then◌else◌, ◌&&◌, slice_get, slice_index_or}
 use Rattle.std.proofs.Common.{◌≡◌, ℕ, zero, suc, ◌+◌, List, [], ◌∷◌, ◌++◌, length, refl, sym, ap, ◌∙◌, subst, arith, length-append, append-nil}
-use Rattle.std.proofs.lemmas.Bool.Decides.{nat_tests}
+use Rattle.std.proofs.Math.Dec.{eqb-suc-suc}
 use Rattle.hls_ints.specs.Operators.{is_zero as code_is_zero}
 use Rattle.hls_ints.specs.Types.{IntegerType, wrapped}
 use Rattle.c_program.specs.declared.tree.BinaryOperator.{BinaryOperator}
@@ -31,10 +31,7 @@ get_next : (xs : List ℤ) (v : ℤ) (k : ℕ) → or_zero (slice_get (xs ++ v �
 get_next [] v zero = refl
 get_next [] v (suc k) = sym (ap (λ (c : Bool). if c then v else pos 0) (other_is (suc k) 0 (λ (e : suc k ≡ 0). absurd (omega arith))))
 get_next (x ∷ xs) v zero = sym (ap (λ (c : Bool). if c then v else x) (other_is 0 (suc (length xs)) (λ (e : 0 ≡ suc (length xs)). absurd (omega arith))))
-get_next (x ∷ xs) v (suc k) = get_next xs v k ∙ ap (λ (c : Bool). if c then v else or_zero (slice_get xs k)) (next_eq k (length xs))
-  where
-    next_eq : (a c : ℕ) → nat_eq a c ≡ nat_eq (suc a) (suc c)
-    next_eq a c = grind (arith, nat_tests)
+get_next (x ∷ xs) v (suc k) = get_next xs v k ∙ ap (λ (c : Bool). if c then v else or_zero (slice_get xs k)) (sym (eqb-suc-suc k (length xs)))
 
 accesses_view-append : (es fs : List CodeAccess) → accesses_view (es ++ fs) ≡ accesses_view es ++ accesses_view fs
 accesses_view-append [] fs = refl
