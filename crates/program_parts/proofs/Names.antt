@@ -5,6 +5,7 @@ use Rattle.std.specs.List.{AllByRecursion, IsDistinct}
 use Rattle.std.specs.Cmp.Lexicographic.{pointwise, other_text}
 use Rattle.std.proofs.lemmas.Map.Keys.{IsDistinct-head, IsDistinct-tail}
 use Rattle.std.proofs.lemmas.Option.{none-some, same_Some}
+use Rattle.lists.proofs.Places.{get_there}
 use Rattle.c_program.specs.Tree.{Function, Program}
 use Rattle.c_program.specs.Resolved.{IsResolved}
 use Rattle.net_tables.specs.Whole.{IsThreadName, OfFunction, OfIdle}
@@ -38,16 +39,11 @@ behind_stem xs ys e = tail_same (tail_same (tail_same e))
     tail_same : {x y : ℕ} {xs ys : List ℕ} → x ∷ xs ≡ y ∷ ys → xs ≡ ys
     tail_same e = cc
 
-there : {A : Type 0} (xs : List A) (i : ℕ) → i < length xs → (x : A) × (slice_get xs i ≡ Some x)
-there [] i l = absurd (omega (arith, l))
-there (x ∷ xs) zero l = (x, refl)
-there (x ∷ xs) (suc i) l = there xs i (omega (arith, l))
-
 -- functions whose modules have one name are one
 pub same_function : (P : Program) → IsResolved P → (f g : ℕ) → f < length P.functions → g < length P.functions → function_module P f ≡ function_module P g → f ≡ g
 same_function P R f g l h e =
-    let x = there P.functions f l in
-    let y = there P.functions g h in
+    let x = get_there P.functions f l in
+    let y = get_there P.functions g h in
     names_apart P.functions R.function_names f g x.0 y.0 x.1 y.1
     (ap name_if (sym x.1) ∙ behind_stem (name_if (slice_get P.functions f)) (name_if (slice_get P.functions g)) e ∙ ap name_if y.1)
 

@@ -1,11 +1,10 @@
 -- What is made of a program is what its machine is built of, and the text that is written of it is good.
-use Rattle.std.proofs.Common.{◌≡◌, ℕ, zero, suc, ◌<◌, ◌≤◌, Bool, true, false, nat_eq, List, [], ◌∷◌, ◌++◌, length, map, get_or, Option, Some, None, codes}
+use Rattle.std.proofs.Common.{◌≡◌, ℕ, zero, suc, ◌<◌, ◌≤◌, Bool, true, false, nat_eq, List, [], ◌∷◌, ◌++◌, length, map, Option, Some, None, codes}
 use Rattle.std.proofs.Common.{refl, sym, ap, ◌∙◌, subst, inl, inr, ⊎_elim, arith}
-use Rattle.std.specs.Prelude.{slice_get, slice_index}
-use Rattle.std.proofs.lemmas.Bool.{cases_lt}
-use Rattle.std.proofs.lemmas.Bool.Decides.{nat_tests}
+use Rattle.std.specs.Prelude.{slice_get}
+use Rattle.std.proofs.lemmas.Bool.{cases_lt, eqb-true}
 use Rattle.std.proofs.lemmas.List.{length-map}
-use Rattle.std.proofs.lemmas.Option.{none-some, same_Some, slice_get-get_or, slice_get_within}
+use Rattle.std.proofs.lemmas.Option.{none-some, same_Some, slice_get_within, get_or_from_slice_get}
 use Rattle.hls_ints.specs.Residues.{bit_of}
 use Rattle.lists.proofs.Places.{get_there, get_front}
 use Rattle.c_program.specs.Tree.{Program}
@@ -71,9 +70,6 @@ code_beyond : (cs : List RoutineCode) (k : ℕ) → length cs ≤ k → code_at 
 code_beyond [] k l = refl
 code_beyond (c ∷ cs) zero l = absurd (omega (arith, l))
 code_beyond (c ∷ cs) (suc k) l = code_beyond cs k (omega (arith, l))
-
-index_is : (xs : List ℕ) (i n : ℕ) → slice_get xs i ≡ Some n → slice_index xs i ≡ n
-index_is xs i n e = same_Some (get_or xs i 0) n (sym (slice_get-get_or xs i 0 (slice_get_within xs i n e)) ∙ e)
 
 same_ports : (cores : List PlacedCore) → map (λ (c : PlacedCore). port_of c.shape) cores ≡ map port_of (map (λ (c : PlacedCore). c.shape) cores)
 same_ports [] = refl
@@ -167,7 +163,7 @@ module _ (P : Program) (spreads : List Spread) (w : Wanted) (made : List Routine
 
   -- what holds of its module holds of that of the parts
   of_thread : (i : ℕ) (l : i < w.threads) (Q : ThreadBody → Type 0) → Q (bodies (runner i l).number) → Q (body_of P spreads w made bodies i)
-  of_thread i l Q q = subst (λ k. Q (bodies k)) (sym (index_is (module_numbers P) i (runner i l).number (runner i l).listed)) q
+  of_thread i l Q q = subst (λ k. Q (bodies k)) (sym (get_or_from_slice_get (module_numbers P) i (runner i l).number 0 (runner i l).listed)) q
 
   -- ---- as parts
 
@@ -342,10 +338,7 @@ module _ (P : Program) (spreads : List Spread) (w : Wanted) (made : List Routine
     first_number : (runner 0 first).number ≡ 0
     first_number =
         same_Some (runner 0 first).number 0
-        (sym (runner 0 first).listed ∙ numbers.thread_there P R 0 (Some P.main) refl ∙ ap Some (zero_is (place_in FS P.main) (numbers.is_first P R 0 (Some P.main) refl)))
-      where
-        zero_is : (n : ℕ) → nat_eq n 0 ≡ true → n ≡ 0
-        zero_is n e = let s : n ≡ 0 = grind (arith, nat_tests, e) in s
+        (sym (runner 0 first).listed ∙ numbers.thread_there P R 0 (Some P.main) refl ∙ ap Some (eqb-true (place_in FS P.main) 0 (numbers.is_first P R 0 (Some P.main) refl)))
 
     steady : AreSteady t K.modules K.leaves
     steady = record {
