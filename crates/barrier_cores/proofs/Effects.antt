@@ -1,5 +1,5 @@
 -- What a granted request does to the bits and to the count of a barrier.
-use Rattle.std.proofs.Common.{◌≡◌, ℕ, zero, suc, ◌+◌, ◌^◌, ◌<◌, ◌≤◌, ◌⊎◌, List, length, replicate, Bool, true}
+use Rattle.std.proofs.Common.{◌≡◌, ℕ, zero, suc, ◌+◌, ◌^◌, ◌<◌, ◌≤◌, List, length, replicate, Bool, true}
 use Rattle.std.proofs.Common.{false, nat_eq, nat_lt, if◌then◌else◌, refl, sym, ap, ◌∙◌, ⊎_elim, arith, get_or-set_other}
 use Rattle.std.specs.Prelude.{not, ◌&&◌, slice_index, slice_set}
 use Rattle.std.proofs.lemmas.Bool.Decides.{nat_tests}
@@ -7,13 +7,11 @@ use Rattle.std.proofs.lemmas.Grind.{get_or-set_at}
 use Rattle.std.proofs.lemmas.List.{length-replicate}
 use Rattle.std.proofs.Math.ListN.{length-set}
 use Rattle.std.proofs.Math.Nat.{mod-eq_of_lt}
+use Rattle.std.proofs.lemmas.Bool.{cases_eq}
+use Rattle.lists.proofs.Places.{zeros_at}
 use Rattle.hls_ints.specs.Residues.{bit_of}
 use Rattle.hls_ints.specs.Words.{word}
-use Rattle.core_turns.proofs.Spreads.{zero_at}
 use Rattle.core_states.specs.Machines.{Gate, total_of}
-
-same_or_not : (a b : ℕ) → (a ≡ b) ⊎ (a ≡ b → ⊥)
-same_or_not a b = grind (arith, nat_tests)
 
 -- ---- the offer
 
@@ -59,7 +57,7 @@ bit_joined xs w k x y one l o e f =
     (λ (q : k ≡ w). let t : nat_eq w k ≡ true = grind (arith, nat_tests) in ap (λ a. if nat_eq a 0 then y else one) (e ∙ ap bit_of t) ∙ o ∙ sym (get_or-set_at xs w k 1 0 q l))
     (λ (q : k ≡ w → ⊥). let t : nat_eq w k ≡ false = grind (arith, nat_tests) in ap (λ a. if nat_eq a 0 then y else one) (e ∙ ap bit_of t) ∙ f ∙ sym
     (get_or-set_other xs w k 1 0 q))
-    (same_or_not k w)
+    (cases_eq k w)
 
 -- after a wait, nothing, an init or a destroy of thread w, with a count
 abbrev after : ℕ → Bool → Bool → Bool → Bool → Gate → ℕ → ℕ → Gate
@@ -70,9 +68,9 @@ after n b1 b3 b0 sh s w c =
 pub after_bit : (n : ℕ) (b1 b3 b0 sh : Bool) (s : Gate) (w c i : ℕ)
     → (if b1 then (if sh then slice_index (slice_set s.waiting w 1) i else 0) else (if b3 then slice_index s.waiting i else 0)) ≡ slice_index (after n b1 b3 b0 sh s w c).waiting i
 after_bit n true b3 b0 true s w c i = refl
-after_bit n true b3 b0 false s w c i = zero_at n i
+after_bit n true b3 b0 false s w c i = sym (zeros_at n i)
 after_bit n false true b0 sh s w c i = refl
-after_bit n false false b0 sh s w c i = zero_at n i
+after_bit n false false b0 sh s w c i = sym (zeros_at n i)
 
 pub after_count : (n : ℕ) (b1 b3 b0 sh : Bool) (s : Gate) (w c : ℕ) → (if b1 then s.count else (if b3 then s.count else (if b0 then c else 0))) ≡ (after n b1 b3 b0 sh s w c).count
 after_count n true b3 b0 sh s w c = refl

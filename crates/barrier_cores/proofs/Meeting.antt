@@ -1,9 +1,11 @@
 -- The table of a barrier keeps the promise of the barrier's machine.
-use Rattle.std.proofs.Common.{◌∷◌, ◌++◌, subst, ◌≡◌, ℕ, zero, suc, ◌+◌, ◌<◌, ◌≤◌, ◌⊎◌, List, [], length, slice_get, Option, Some, None, Bool, true, false, nat_eq, nat_lt}
+use Rattle.std.proofs.Common.{subst, ◌≡◌, ℕ, zero, suc, ◌+◌, ◌<◌, ◌≤◌, ◌⊎◌, List, [], length, slice_get, Option, Some, None, Bool, true, false, nat_eq, nat_lt}
 use Rattle.std.proofs.Common.{if◌then◌else◌, refl, sym, ap, ◌∙◌, ⊎_elim, arith, lit<, add-zero}
 use Rattle.std.specs.Prelude.{◌&&◌, ◌||◌, not, slice_index}
 use Rattle.std.proofs.lemmas.Bool.Decides.{nat_tests}
-use Rattle.std.proofs.lemmas.List.{length-replicate}
+use Rattle.std.proofs.lemmas.List.{length-replicate, append-nil}
+use Rattle.std.proofs.Math.Bool.{or-true}
+use Rattle.lists.proofs.Places.{zeros_at}
 use Rattle.hls_ints.specs.Residues.{bit_of}
 use Rattle.hls_ints.specs.Words.{word, word_sum}
 use Rattle.netlist.specs.declared.netlist.Signal.{Signal}
@@ -26,12 +28,7 @@ use Rattle.barrier_cores.specs.Barrier.{others, given, fresh, next, next_count, 
 use Rattle.barrier_cores.specs.Barrier.{rows, IsShape, IsBarrier}
 use Rattle.barrier_cores.specs.Machine.{Ask, ask_of, begun, barrier_machine, barrier_places, Shows, part_place, inputs, is_late}
 use Rattle.core_turns.proofs.Edges.{sets_after, sets_print, tested, both_bits, a_bit, each_spread}
-use Rattle.core_turns.proofs.Spreads.{zero_at}
 use Rattle.barrier_cores.proofs.Effects.{offered, own_number, summed, bit_joined, after_bit, after_count, after_sized}
-
-or_true : (b : Bool) → (b || true) ≡ true
-or_true true = refl
-or_true false = refl
 
 none_printed : (n : ℕ) (s : Gate) (f : ℕ → Ask) (o : Option ℕ) → [] ≡ printed (barrier_machine n) s f o
 none_printed n s f None = refl
@@ -59,7 +56,7 @@ module _ (shape : Shape) (ok : IsShape shape) (m : Module) (is : IsBarrier shape
   late_on : (x : ℕ) → operation_chain n ≤ x → x < offers n → is_late n x ≡ true
   late_on x b l =
       ap (λ t. is_between (grants n) (waiting n) x || t) (between_on (operation_chain n) (offers n) x b l)
-      ∙ or_true (is_between (grants n) (waiting n) x)
+      ∙ or-true (is_between (grants n) (waiting n) x)
 
   -- a late signal reads any
   from : {x y v : ℕ} → Has m y v → y < x → operation_chain n ≤ x → x < offers n → Reads m (is_late n) x y v
@@ -337,7 +334,7 @@ module _ (shape : Shape) (ok : IsShape shape) (m : Module) (is : IsBarrier shape
   starts : Shown (initial_reading (Some m)) (begun n)
   starts = record {
     sized = length-replicate {A = ℕ} n 0;
-    bits = λ i l. ap initial_signal (listed.1.1.1.1.1.0 i l) ∙ zero_at n i;
+    bits = λ i l. ap initial_signal (listed.1.1.1.1.1.0 i l) ∙ sym (zeros_at n i);
     count_is = ap initial_signal listed.1.1.1.1.1.1.0;
   }
 
@@ -540,13 +537,9 @@ module _ (shape : Shape) (ok : IsShape shape) (m : Module) (is : IsBarrier shape
     silent : (o : Option ℕ) → written m r ≡ printed (barrier_machine n) s (asked (barrier_machine n) (barrier_places n) r) o
     silent o =
         ap (action_bytes m r) is.actions
-        ∙ ap (action_bytes m r) (no_more (sets (waiting n) (next n) (n + 1)))
+        ∙ ap (action_bytes m r) (sym (append-nil (sets (waiting n) (next n) (n + 1))))
         ∙ sets_print r (waiting n) (next n) m 0 (n + 1) []
         ∙ none_printed n s (asked (barrier_machine n) (barrier_places n) r) o
-      where
-        no_more : (xs : List Action) → xs ≡ xs ++ []
-        no_more [] = refl
-        no_more (x ∷ xs) = ap (λ l. x ∷ l) (no_more xs)
 
     -- with one of the threads
     module _ (w : ℕ) (l : w < n) (alone : (k : ℕ) → k < n → S (grants n + k) ≡ bit_of (nat_eq w k)) where

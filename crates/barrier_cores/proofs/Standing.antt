@@ -224,19 +224,16 @@ module _ (shape : Shape) (ok : IsShape shape) where
     small : length z.signals < 2 ^ 64
     small = let e = long in let b = ok.few in omega arith
 
-  copies : (k v : ℕ) → length (replicate {A = ℕ} k v) ≡ k
-  copies k v = length-replicate {A = ℕ} k v
-
   many_inputs : length (input_widths n) ≡ inputs n
   many_inputs =
-      let b = copies n 1 in let c = copies n 2 in let d = copies n 64 in
+      let b = length-replicate {A = ℕ} n 1 in let c = length-replicate {A = ℕ} n 2 in let d = length-replicate {A = ℕ} n 64 in
       let e = length-append {A = ℕ} (replicate n 64) (replicate n 1) in
       let f = length-append {A = ℕ} (replicate n 2) (replicate n 64 ++ replicate n 1) in
       let g = length-append {A = ℕ} (replicate n 1) (replicate n 2 ++ (replicate n 64 ++ replicate n 1)) in
       omega arith
 
   many_outputs : length (output_widths n) ≡ n + n
-  many_outputs = let b = copies n 1 in let d = length-append {A = ℕ} (replicate n 1) (replicate n 1) in omega arith
+  many_outputs = let b = length-replicate {A = ℕ} n 1 in let d = length-append {A = ℕ} (replicate n 1) (replicate n 1) in omega arith
 
   module _ (m : Module) (is : IsBarrier shape m) where
     listed : EachRow (IsListed m (rows n) is.signals) 0 (rows n)

@@ -1,15 +1,16 @@
 -- What a granted request does to the bits of a barrier.
-use Rattle.std.proofs.Common.{◌≡◌, ◌+◌, replicate, true, false, nat_lt, if◌then◌else◌, refl, sym, ap, ◌∙◌, arith, get_or-set_other}
+use Rattle.std.proofs.Common.{◌≡◌, ◌+◌, replicate, true, false, nat_lt, if◌then◌else◌, refl, ap, ◌∙◌, arith, get_or-set_other}
 use Rattle.std.specs.Prelude.{◌&&◌, slice_index}
 use Rattle.std.proofs.lemmas.Bool.Decides.{nat_tests}
 use Rattle.std.proofs.lemmas.Grind.{get_or-set_at}
+use Rattle.lists.proofs.Places.{zeros_at}
 use Rattle.circuit.specs.Rows.{spread}
 use Rattle.circuit.proofs.Growth.{length-spread}
 use Rattle.core_states.specs.Machines.{total_of, with_waiter, gate_eligible}
 use Rattle.core_states.proofs.Keeping.{passers_stay}
 use Rattle.barrier_cores.specs.Barrier.{waiting, count}
 use Rattle.barrier_cores.specs.Laws.{OthersStay, FullClears, WaitSetsOwn, BarriersWait}
-use Rattle.core_turns.proofs.Spreads.{spread_is, zero_at}
+use Rattle.core_turns.proofs.Spreads.{spread_is}
 
 pub others_stay : OthersStay
 others_stay = record {
@@ -22,7 +23,7 @@ others_stay = record {
 pub full_clears : FullClears
 full_clears n g i count l =
     let t : nat_lt (total_of n (with_waiter g i)) g.count ≡ false = grind (arith, nat_tests) in
-    ((λ j. ap (λ b. slice_index (if b then with_waiter g i else replicate n 0) j) t ∙ sym (zero_at n j)), refl)
+    ((λ j. ap (λ b. slice_index (if b then with_waiter g i else replicate n 0) j) t ∙ (zeros_at n j)), refl)
 
 pub wait_sets_own : WaitSetsOwn
 wait_sets_own n g i count b l =
