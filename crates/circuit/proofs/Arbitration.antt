@@ -2,6 +2,8 @@
 use Rattle.std.proofs.Common.{◌≡◌, ℕ, zero, suc, ◌+◌, ◌<◌, ◌≤◌, ◌⊎◌, Bool, true, false, Option, Some, None, nat_eq, nat_lt, if◌then◌else◌, refl, sym, ap, ◌∙◌, subst, ⊎_elim, arith, zero-add}
 use Rattle.std.specs.Prelude.{not, ◌&&◌, ◌||◌}
 use Rattle.std.proofs.lemmas.Bool.Decides.{nat_tests}
+use Rattle.std.proofs.lemmas.Bool.{and_parts}
+use Rattle.std.proofs.Math.Bool.{and-false, or-true}
 use Rattle.circuit.specs.Arbitration.{first_from, at_or_after, or_else, granted_to, is_granted}
 use Rattle.circuit.proofs.Chains.{any_below}
 
@@ -41,22 +43,14 @@ pub none_below : (f : ℕ → Bool) (i : ℕ) → ((j : ℕ) → j < i → f j �
 none_below f zero h = refl
 none_below f (suc i) h = ap (λ b. b || any_below f i) (h i (omega arith)) ∙ none_below f i (λ j l. h j (omega arith))
 
-or_on : (b : Bool) → (b || true) ≡ true
-or_on true = refl
-or_on false = refl
-
 pub one_below : (f : ℕ → Bool) (w i : ℕ) → w < i → f w ≡ true → any_below f i ≡ true
 one_below f w zero l e = absurd (omega arith)
 one_below f w (suc i) l e =
     ⊎_elim (λ (s : w ≡ i). ap (λ b. b || any_below f i) (ap f (sym s) ∙ e))
-    (λ (m : w < i). ap (λ b. f i || b) (one_below f w i m e) ∙ or_on (f i))
+    (λ (m : w < i). ap (λ b. f i || b) (one_below f w i m e) ∙ or-true (f i))
     (let c : (w ≡ i) ⊎ (w < i) = grind (arith, nat_tests) in c)
 
 -- ---- the granted one is the first candidate
-
-and_off : (b : Bool) → (b && false) ≡ false
-and_off true = refl
-and_off false = refl
 
 granted_at : (f : ℕ → Bool) (n i w : ℕ) → IsFirst f 0 n (Some w) → i < n → nat_eq w i ≡ (f i && not (any_below f i))
 granted_at f n i w h l =
@@ -66,7 +60,7 @@ granted_at f n i w h l =
     ∙ sym (ap (λ b. b && not (any_below f i)) (ap f (sym e) ∙ h.2) ∙ ap not (none_below f i (λ j m. h.3 j (omega arith) (omega arith)))))
     (λ (c : (i < w) ⊎ (w < i)). ⊎_elim
     (λ (m : i < w). (let t : nat_eq w i ≡ false = grind (arith, nat_tests) in t) ∙ sym (ap (λ b. b && not (any_below f i)) (h.3 i (omega arith) m)))
-    (λ (m : w < i). (let t : nat_eq w i ≡ false = grind (arith, nat_tests) in t) ∙ sym (ap (λ b. f i && not b) (one_below f w i m h.2) ∙ and_off (f i))) c)
+    (λ (m : w < i). (let t : nat_eq w i ≡ false = grind (arith, nat_tests) in t) ∙ sym (ap (λ b. f i && not b) (one_below f w i m h.2) ∙ and-false (f i))) c)
     (let c : (w ≡ i) ⊎ ((i < w) ⊎ (w < i)) = grind (arith, nat_tests) in c)
 
 granted_by : (f : ℕ → Bool) (n i : ℕ) (o : Option ℕ) → IsFirst f 0 n o → i < n → is_granted o i ≡ (f i && not (any_below f i))
@@ -99,12 +93,8 @@ first_below : (f : ℕ → Bool) (n : ℕ) (o : Option ℕ) → IsFirst f 0 n o 
 first_below f n None h w e = absurd cc
 first_below f n (Some v) h w e = let s : v ≡ w = cc in ((let l = h.1 in omega arith), ap f (sym s) ∙ h.2)
 
-and_first : (a b : Bool) → (a && b) ≡ true → a ≡ true
-and_first true b e = refl
-and_first false b e = e
-
 candidate_asks : (b : Bool) (x y : Bool) → (if b then x && y else x) ≡ true → x ≡ true
-candidate_asks true x y e = and_first x y e
+candidate_asks true x y e = (and_parts x y e).0
 candidate_asks false x y e = e
 
 pub granted_below : (n preferred : ℕ) (asks : ℕ → Bool) (w : ℕ) → granted_to n preferred asks ≡ Some w → (w < n) × (asks w ≡ true)

@@ -1,7 +1,8 @@
 -- What a test keeps of a list, where it goes by the places; and what holds of each element.
-use Rattle.std.proofs.Common.{◌≡◌, ℕ, zero, suc, ◌+◌, ◌<◌, ◌≤◌, Bool, true, false, if◌then◌else◌, List, [], ◌∷◌, ◌++◌, length, take, drop, Some, refl, ap, ◌∙◌, subst, arith}
+use Rattle.std.proofs.Common.{◌≡◌, ℕ, zero, suc, ◌+◌, ◌<◌, ◌≤◌, Bool, true, false, if◌then◌else◌, List, [], ◌∷◌, ◌++◌, length, take, drop, Some, refl, ap, ◌∙◌, subst, arith, sym}
 use Rattle.std.specs.Prelude.{slice_get, filter}
 use Rattle.std.proofs.lemmas.Option.{same_Some, none-some}
+use Rattle.std.proofs.lemmas.List.{take-append-drop}
 use Rattle.verilog_tree.specs.Rules.{all_right}
 use Rattle.verilog_tree.proofs.Tests.{and_both}
 use Rattle.circuit.specs.Rows.{EachOf}
@@ -44,21 +45,11 @@ middle_kept p (suc a) (suc b) (x ∷ xs) l f g h =
     filtered p false x xs (f 0 x refl (omega arith))
     ∙ middle_kept p a b xs (omega arith) (λ k y e m. f (suc k) y e (omega arith)) (λ k y e m n. g (suc k) y e (omega arith) (omega arith)) (λ k y e m. h (suc k) y e (omega arith))
 
-split_two : {A : Type 0} (n : ℕ) (xs : List A) → xs ≡ take n xs ++ drop n xs
-split_two zero xs = refl
-split_two (suc n) [] = refl
-split_two (suc n) (x ∷ xs) = ap (λ l. x ∷ l) (split_two n xs)
-
 pub split_three : {A : Type 0} (a b : ℕ) (xs : List A) → a ≤ b → xs ≡ take a xs ++ drop a (take b xs) ++ drop b xs
-split_three zero b xs l = split_two b xs
+split_three zero b xs l = sym (take-append-drop b xs)
 split_three (suc a) zero xs l = absurd (omega arith)
 split_three (suc a) (suc b) [] l = refl
 split_three (suc a) (suc b) (x ∷ xs) l = ap (λ z. x ∷ z) (split_three a b xs (omega arith))
-
-pub length_front : {A : Type 0} (n : ℕ) (xs : List A) → n ≤ length xs → length (take n xs) ≡ n
-length_front zero xs l = refl
-length_front (suc n) [] l = absurd (omega arith)
-length_front (suc n) (x ∷ xs) l = let r : length (take n xs) ≡ n = length_front n xs (omega arith) in ap suc r
 
 pub length_back : {A : Type 0} (n k : ℕ) (xs : List A) → length xs ≡ n + k → length (drop n xs) ≡ k
 length_back zero k xs e = (omega arith)

@@ -2,6 +2,7 @@
 use Rattle.std.proofs.Common.{◌≡◌, ℕ, zero, suc, ◌+◌, ◌*◌, ◌<◌, ◌≤◌, Bool, true, false, if◌then◌else◌, List, [], ◌∷◌, length, Option, Some, None, slice_get, refl, sym, ap, ◌∙◌, subst, arith}
 use Rattle.std.specs.Prelude.{option_and_then}
 use Rattle.std.proofs.Math.Nat.{suc-mul, mul-le-mul_right}
+use Rattle.std.proofs.lemmas.Option.{slice_get_within}
 use Rattle.netlist.specs.declared.netlist.Source.{Source}
 use Rattle.netlist.specs.declared.netlist.Source.TheVariants.{Input, Register, Assigned, Port}
 use Rattle.netlist.specs.declared.netlist.Signal.{Signal}
@@ -35,11 +36,6 @@ same_stage a b size x y l m =
 abbrev pub all_sizes : List Module → ℕ
 all_sizes [] = 0
 all_sizes (m ∷ modules) = length m.signals + all_sizes modules
-
-listed_below : (signals : List Signal) (x : ℕ) (s : Signal) → slice_get signals x ≡ Some s → x < length signals
-listed_below [] x s e = absurd cc
-listed_below (t ∷ signals) zero s e = omega arith
-listed_below (t ∷ signals) (suc x) s e = let l = listed_below signals x s e in omega arith
 
 module_below : (modules : List Module) (i : ℕ) (m : Module) → slice_get modules i ≡ Some m → length m.signals ≤ all_sizes modules
 module_below [] i m e = absurd cc
@@ -90,7 +86,7 @@ module _ (modules : List Module) (top : Module) (stages : Stages) (is : IsStaged
   leaf_levels j m x w Input inputs at joined sound q names =
       let k = joined refl in
       let y = connected modules top (instance_at modules top [] j) x in
-      let l = listed_below top.signals y k.has.signal k.has.listed in
+      let l = slice_get_within top.signals y k.has.signal k.has.listed in
       let low : net_level [] y < net_level (j ∷ []) x = later_stage (stages.wire y) (port_stage modules top stages j x) (length top.signals + all_sizes modules) y x k.staged (omega arith) in
       let p : Place = ([], y) in
       let same : q ≡ p = pair_is q [] y names.0 names.1 in
@@ -125,7 +121,7 @@ module _ (modules : List Module) (top : Module) (stages : Stages) (is : IsStaged
       let Low : Place → Type 0 = λ z. IsDeclared modules top z × (net_level z.0 z.1 < net_level [] x) in
       subst Low (sym same) (there, low)
   top_levels x w (Port j port) staged q names =
-      let l = listed_below staged.holder.signals port staged.has.signal staged.has.listed in
+      let l = slice_get_within staged.holder.signals port staged.has.signal staged.has.listed in
       let b = instance_sized j staged.holder staged.stands in
       let low : net_level (j ∷ []) port < net_level [] x = later_stage (port_stage modules top stages j port) (stages.wire x)
       (length top.signals + all_sizes modules) port x staged.staged (omega arith) in

@@ -1,9 +1,11 @@
 -- A leaf module that is ready can stand in a table of modules.
-use Rattle.std.proofs.Common.{◌≡◌, ℕ, ◌^◌, ◌<◌, ◌≤◌, ◌⊎◌, Bool, true, false, nat_eq, nat_lt, List, ◌++◌, length, take, drop, Some}
+use Rattle.std.proofs.Common.{◌≡◌, ℕ, ◌^◌, ◌<◌, ◌≤◌, ◌⊎◌, Bool, true, false, nat_lt, List, ◌++◌, length, take, drop, Some}
 use Rattle.std.proofs.Common.{refl, sym, ap, ◌∙◌, subst, inl, ⊎_elim, arith}
 use Rattle.std.specs.Prelude.{slice_get}
 use Rattle.std.proofs.lemmas.Bool.Decides.{nat_tests}
 use Rattle.std.proofs.lemmas.Option.{same_Some, none-some}
+use Rattle.std.proofs.lemmas.List.{length-take-le}
+use Rattle.std.proofs.lemmas.Bool.{lt-ltb, eqb-true}
 use Rattle.verilog_tree.specs.Scope.{is_clk}
 use Rattle.netlist.specs.declared.netlist.Source.{Source}
 use Rattle.netlist.specs.declared.netlist.Source.TheVariants.{Input, Register, Assigned, Port}
@@ -16,12 +18,12 @@ use Rattle.netlist.specs.Laid.{IsSource, IsLaidSignal, IsLaidModule}
 use Rattle.netlist.specs.Sound.{HasClock, IsSoundModule}
 use Rattle.circuit.specs.Modules.{Has, FitsAction, FitsMemory, Reads, IsSoundSource}
 use Rattle.circuit.specs.Interfaces.{HasInterface, IsTableModule}
-use Rattle.circuit.proofs.Filters.{front_kept, back_kept, middle_kept, split_three, length_front, length_back}
+use Rattle.circuit.proofs.Filters.{front_kept, back_kept, middle_kept, split_three, length_back}
 use Rattle.circuit.proofs.Tables.{fits_among}
 use Rattle.circuit.proofs.Filters.{each_there, all_of}
 use Rattle.circuit.proofs.Forming.{IsAssigned, IsFormedMemory, ActsOnData, IsReady}
 use Rattle.circuit.proofs.Places.{value_places, action_laid}
-use Rattle.circuit.proofs.Fitting.{lt_true, source_right, action_right}
+use Rattle.circuit.proofs.Fitting.{source_right, action_right}
 
 -- ---- kinds
 
@@ -58,9 +60,6 @@ out_inner m (Assigned v) a = refl
 out_inner m (Port i p) a = absurd a
 
 -- ---- the module
-
-is_zero : (a : ℕ) → nat_eq a 0 ≡ true → a ≡ 0
-is_zero a e = grind (arith, nat_tests)
 
 module _ (m : Module) (inputs outputs : List ℕ) (late : ℕ → Bool) (ends : ℕ) (ready : IsReady m inputs outputs late ends) where
   abbrev I : ℕ
@@ -113,7 +112,7 @@ module _ (m : Module) (inputs outputs : List ℕ) (late : ℕ → Bool) (ends : 
   interface : HasInterface m inputs outputs
   interface = record {
     ports = ready.ports;
-    input_count = ap length inputs_kept ∙ length_front I m.signals (let a = ready.long in let b = ready.room in omega arith);
+    input_count = ap length inputs_kept ∙ length-take-le I m.signals (let a = ready.long in let b = ready.room in omega arith);
     output_count = ap length outputs_kept ∙ length_back ends (length outputs) m.signals ready.long;
     clock = λ x s e. (ready.formed x s e).clock;
   }
@@ -147,7 +146,7 @@ module _ (m : Module) (inputs outputs : List ℕ) (late : ℕ → Bool) (ends : 
 
   clock_is : (x : ℕ) (s : Signal) → slice_get m.signals x ≡ Some s → is_clk s.name ≡ true → (s.source ≡ Input) × (s.width ≡ 1)
   clock_is x s e c =
-      let zero-is : x ≡ 0 = is_zero x (sym (ready.formed x s e).clock ∙ c) in
+      let zero-is : x ≡ 0 = eqb-true x 0 (sym (ready.formed x s e).clock ∙ c) in
       let h = ready.clock_bit in
       let same : h.signal ≡ s = same_Some h.signal s (sym h.listed ∙ ap (slice_get m.signals) (sym zero-is) ∙ e) in
       let l : x < I = let z = ready.clocked in omega arith in
@@ -171,7 +170,7 @@ module _ (m : Module) (inputs outputs : List ℕ) (late : ℕ → Bool) (ends : 
             let f = memory_at j c e in
             record {
               fits = all_of (λ n. nat_lt n (2 ^ c.width)) c.initial (λ k n g.
-                  lt_true n (2 ^ c.width) (each_there (λ z. z < 2 ^ c.width) c.initial (each_there FitsMemory m.memories ready.leaf.begins j c e) k n g));
+                  lt-ltb n (2 ^ c.width) (each_there (λ z. z < 2 ^ c.width) c.initial (each_there FitsMemory m.memories ready.leaf.begins j c e) k n g));
               clock = f.clock;
             };
         actions = λ k a e. action_right m ends ready.formed a (each_there (FitsAction m) m.actions ready.leaf.acts k a e) (each_there (ActsOnData m) m.actions ready.acts k a e);

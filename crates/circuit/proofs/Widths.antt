@@ -4,7 +4,7 @@ use Rattle.std.proofs.Common.{if◌then◌else◌, ℤ, pos, negsuc, int_lt, int
 use Rattle.std.specs.Prelude.{int_div, ◌-ℤ◌}
 use Rattle.std.proofs.lemmas.Bool.Decides.{nat_tests}
 use Rattle.std.proofs.lemmas.Nat.{pow_pos, mod_below, and_le_l, or_lt, xor_lt, pow-add}
-use Rattle.std.proofs.Math.Nat.{div-le_self, mod-le, mul-le-mul_right, suc-mul}
+use Rattle.std.proofs.Math.Nat.{div-le_self, mod-le, mul-le-mul_right, suc-mul, lt_of_le_of_lt}
 use Rattle.hls_ints.specs.Residues.{bit_of, residue_of, floor_quotient}
 use Rattle.hls_ints.specs.Words.{word, signed_word}
 use Rattle.verilog_tree.specs.declared.tree.BinaryOperator.{BinaryOperator}
@@ -51,9 +51,6 @@ read_below : (b : Bool) (w x : ℕ) → (b ≡ true → x < 2 ^ w) → (if b the
 read_below true w x h = h refl
 read_below false w x h = pow_pos w
 
-at_most : (a b p : ℕ) → a ≤ b → b < p → a < p
-at_most a b p l m = omega arith
-
 -- numbers side by side: one above 2 ^ u and one of v bits
 beside : (above a u v : ℕ) → above < 2 ^ u → a < 2 ^ v → above * 2 ^ v + a < 2 ^ (u + v)
 beside above a u v l b =
@@ -75,7 +72,7 @@ module _ (m : Module) (r : Reading) where
   binary_below Add w x y f = along x w _ f.0.has (word_below (width m x) (r.signal x + r.signal y))
   binary_below Subtract w x y f = along x w _ f.0.has (residue_below (width m x) (pos (r.signal x) -ℤ pos (r.signal y)))
   binary_below Multiply w x y f = along x w _ f.0.has (word_below (width m x) (r.signal x * r.signal y))
-  binary_below And w x y f = along x w _ f.0.has (at_most _ _ _ (and_le_l (word (width m x) (r.signal x)) (word (width m x) (r.signal y))) (word_below (width m x) (r.signal x)))
+  binary_below And w x y f = along x w _ f.0.has (lt_of_le_of_lt (and_le_l (word (width m x) (r.signal x)) (word (width m x) (r.signal y))) (word_below (width m x) (r.signal x)))
   binary_below Or w x y f = along x w _ f.0.has (or_lt (width m x) (word (width m x) (r.signal x)) (word (width m x) (r.signal y)) (word_below (width m x) (r.signal x)) (word_below
       (width m x) (r.signal y)))
   binary_below Xor w x y f = along x w _ f.0.has (xor_lt (width m x) (word (width m x) (r.signal x)) (word (width m x) (r.signal y)) (word_below (width m x) (r.signal x))
@@ -84,12 +81,11 @@ module _ (m : Module) (r : Reading) where
   binary_below Less w x y f = bit_below (nat_lt (word (width m x) (r.signal x)) (word (width m x) (r.signal y))) w f.0
   binary_below ShiftLeft w x y f = along x w _ f.0.has (or_zero_below (nat_lt (r.signal y) (width m x)) (width m x) (word (width m x) (r.signal x * 2 ^ r.signal y)) (word_below
       (width m x) (r.signal x * 2 ^ r.signal y)))
-  binary_below ShiftRight w x y f = along x w _ f.0.has (or_zero_below (nat_lt (r.signal y) (width m x)) (width m x) (word (width m x) (r.signal x) / 2 ^ r.signal y) (at_most _ _ _
-      (div-le_self (word (width m x) (r.signal x)) (2 ^ r.signal y)) (word_below (width m x) (r.signal x))))
+  binary_below ShiftRight w x y f = along x w _ f.0.has (or_zero_below (nat_lt (r.signal y) (width m x)) (width m x) (word (width m x) (r.signal x) / 2 ^ r.signal y) (lt_of_le_of_lt (div-le_self (word (width m x) (r.signal x)) (2 ^ r.signal y)) (word_below (width m x) (r.signal x))))
 
   divided_below : (operator : DivisionOperator) (w a b : ℕ) → divided operator w a b < 2 ^ w
-  divided_below Quotient w a b = zero_or_below (nat_eq (word w b) 0) w (word w a / word w b) (at_most _ _ _ (div-le_self (word w a) (word w b)) (word_below w a))
-  divided_below Remainder w a b = zero_or_below (nat_eq (word w b) 0) w (word w a % word w b) (at_most _ _ _ (mod-le (word w a) (word w b)) (word_below w a))
+  divided_below Quotient w a b = zero_or_below (nat_eq (word w b) 0) w (word w a / word w b) (lt_of_le_of_lt (div-le_self (word w a) (word w b)) (word_below w a))
+  divided_below Remainder w a b = zero_or_below (nat_eq (word w b) 0) w (word w a % word w b) (lt_of_le_of_lt (mod-le (word w a) (word w b)) (word_below w a))
 
   signed_divided_below : (operator : DivisionOperator) (w a b : ℕ) → signed_divided operator w a b < 2 ^ w
   signed_divided_below Quotient w a b = zero_or_below (nat_eq (word w b) 0) w (residue_of w (int_div (signed_word w a) (signed_word w b))) (residue_below w (int_div

@@ -4,9 +4,10 @@ use Rattle.std.specs.Prelude.{not, ◌==◌, ◌&&◌, if◌then◌else◌, cond
 use Rattle.std.specs.Str.{bytes_eq}
 use Rattle.std.specs.Str.Parse.{digits_value}
 use Rattle.std.specs.Char.{is_ascii_digit}
-use Rattle.std.proofs.lemmas.Bool.{lt-ltb, ltb-true, not-true, or_parts}
+use Rattle.std.proofs.lemmas.Bool.{lt-ltb, ltb-true, not-true, or_parts, and_parts}
 use Rattle.std.proofs.lemmas.Bool.Decides.{nat_tests}
 use Rattle.std.proofs.lemmas.Fmt.{decimal_is_IsNumeral}
+use Rattle.std.proofs.lemmas.Slice.Eq.{bytes_eq-Decides}
 use Rattle.verilog_tree.specs.declared.token.Word.{Word}
 use Rattle.verilog_tree.specs.declared.token.Word.TheVariants as w
 use Rattle.verilog_tree.specs.declared.token.Mark.{Mark}
@@ -16,14 +17,14 @@ use Rattle.verilog_tree.specs.declared.token.Token.TheVariants as t
 use Rattle.verilog_tree.specs.Spelling.{Text, word_spelling, all_words, word_among, is_letter, is_name_byte, all_pass, is_no_word, is_name, is_plain, is_quoted}
 use Rattle.verilog_tree.specs.Tokens.{mark_spelling, spelling, run_of, after_run, word_by, word_or_name, number_of, with_byte, quoted, front_of, front}
 use Rattle.verilog_tree.specs.Tokens.{mark_by, is_token, is_blank, begins_slash, skip}
-use Rattle.verilog_tree.proofs.Tests.{and_left, and_right, bytes_same, digits_of}
+use Rattle.verilog_tree.proofs.Tests.{digits_of}
 
 -- a byte that goes on with no token before it
 abbrev pub separates : ℕ → Bool
 separates b = not (is_name_byte b) && (not (b == 61) && (not (b == 60) && (not (b == 62) && not (b == 47))))
 
 separates_name : (b : ℕ) → separates b ≡ true → is_name_byte b ≡ false
-separates_name b h = not-true _ (and_left _ _ h)
+separates_name b h = not-true _ (and_parts _ _ h).0
 
 separates_digit : (b : ℕ) → separates b ≡ true → is_ascii_digit b ≡ false
 separates_digit b h = (or_parts (is_letter b) (is_ascii_digit b) (separates_name b h)).1
@@ -33,12 +34,12 @@ separates_digit b h = (or_parts (is_letter b) (is_ascii_digit b) (separates_name
 run_found : (p : ℕ → Bool) (z : Text) (c : ℕ) (r : Text) → all_pass p z ≡ true → p c ≡ false → run_of p (z ++ (c ∷ r)) ≡ z
 run_found p [] c r all stops = ap (λ x. cond x (c ∷ run_of p r) []) stops
 run_found p (b ∷ z) c r all stops =
-    ap (λ x. cond x (b ∷ run_of p (z ++ (c ∷ r))) []) (and_left _ _ all) ∙ ap (λ l. b ∷ l) (run_found p z c r (and_right _ _ all) stops)
+    ap (λ x. cond x (b ∷ run_of p (z ++ (c ∷ r))) []) (and_parts _ _ all).0 ∙ ap (λ l. b ∷ l) (run_found p z c r (and_parts _ _ all).1 stops)
 
 after_found : (p : ℕ → Bool) (z : Text) (c : ℕ) (r : Text) → all_pass p z ≡ true → p c ≡ false → after_run p (z ++ (c ∷ r)) ≡ c ∷ r
 after_found p [] c r all stops = ap (λ x. cond x (after_run p r) (c ∷ r)) stops
 after_found p (b ∷ z) c r all stops =
-    ap (λ x. cond x (after_run p (z ++ (c ∷ r))) (b ∷ (z ++ (c ∷ r)))) (and_left _ _ all) ∙ after_found p z c r (and_right _ _ all) stops
+    ap (λ x. cond x (after_run p (z ++ (c ∷ r))) (b ∷ (z ++ (c ∷ r)))) (and_parts _ _ all).0 ∙ after_found p z c r (and_parts _ _ all).1 stops
 
 -- ---- names and words
 
@@ -75,17 +76,17 @@ no_word (Some w) z h = cc
 front_name : (n : Text) (c : ℕ) (r : Text) → is_name n ≡ true → separates c ≡ true → front (n ++ (c ∷ r)) ≡ Some (t.Name n, c ∷ r)
 front_name [] c r h sep = cc
 front_name (b ∷ z) c r h sep =
-    let rest = and_right (is_letter b) _ h in
-    front_letter b z c r (and_left (is_letter b) _ h) (and_left _ _ rest) sep ∙ ap (λ x. Some (x, c ∷ r)) (no_word (word_among all_words (b ∷ z)) (b ∷ z) (and_right _ _ rest))
+    let rest = (and_parts (is_letter b) _ h).1 in
+    front_letter b z c r (and_parts (is_letter b) _ h).0 (and_parts _ _ rest).0 sep ∙ ap (λ x. Some (x, c ∷ r)) (no_word (word_among all_words (b ∷ z)) (b ∷ z) (and_parts _ _ rest).1)
 
 -- ---- marks
 
 sep_no : (c : ℕ) → separates c ≡ true → ((c == 61) ≡ false) × ((c == 60) ≡ false) × ((c == 62) ≡ false)
 sep_no c h =
-    let a = and_right (not (is_name_byte c)) _ h in
-    let b = and_right (not (c == 61)) _ a in
-    let d = and_right (not (c == 60)) _ b in
-    (not-true _ (and_left (not (c == 61)) _ a), not-true _ (and_left (not (c == 60)) _ b), not-true _ (and_left (not (c == 62)) _ d))
+    let a = (and_parts (not (is_name_byte c)) _ h).1 in
+    let b = (and_parts (not (c == 61)) _ a).1 in
+    let d = (and_parts (not (c == 60)) _ b).1 in
+    (not-true _ (and_parts (not (c == 61)) _ a).0, not-true _ (and_parts (not (c == 60)) _ b).0, not-true _ (and_parts (not (c == 62)) _ d).0)
 
 front_mark : (m : Mark) (c : ℕ) (r : Text) → separates c ≡ true → front (mark_spelling m ++ (c ∷ r)) ≡ Some (t.Mark m, c ∷ r)
 unfolding front
@@ -134,7 +135,7 @@ number_found n lt =
     let value : digits_value 10 (decimal n) ≡ n = (decimal_is_IsNumeral n lt).1 in
     ap (λ v. if nat_lt v (2 ^ 64) && bytes_eq (decimal v) (decimal n) then Some v else None) value
     ∙ ap (λ x. if x && bytes_eq (decimal n) (decimal n) then Some n else None) (lt-ltb n (2 ^ 64) lt)
-    ∙ ap (λ x. if x then Some n else None) (bytes_same (decimal n))
+    ∙ ap (λ x. if x then Some n else None) ((bytes_eq-Decides (decimal n) (decimal n)).1 refl)
 
 front_digit : (b : ℕ) (z : Text) (c : ℕ) (r : Text) → all_pass is_ascii_digit (b ∷ z) ≡ true → separates c ≡ true
     → front ((b ∷ z) ++ (c ∷ r)) ≡ option_map (λ n. (t.Number n, c ∷ r)) (number_of (b ∷ z))
@@ -142,11 +143,11 @@ unfolding front
 front_digit b z c r all sep =
     let stop = separates_digit c sep in
     let tail : Text = z ++ (c ∷ r) in
-    let first = and_left (is_ascii_digit b) _ all in
+    let first = (and_parts (is_ascii_digit b) _ all).0 in
     let step : front_of (is_letter b) (is_ascii_digit b) (b == 34) b tail ≡ option_map (λ n. (t.Number n, after_run is_ascii_digit tail)) (number_of (b ∷ run_of is_ascii_digit tail)) =
     ap (λ x. front_of x (is_ascii_digit b) (b == 34) b tail) (no_letter b first) ∙ ap (λ x. front_of false x (b == 34) b tail) first in
-    let body : run_of is_ascii_digit tail ≡ z = run_found is_ascii_digit z c r (and_right (is_ascii_digit b) _ all) stop in
-    let rest : after_run is_ascii_digit tail ≡ c ∷ r = after_found is_ascii_digit z c r (and_right (is_ascii_digit b) _ all) stop in
+    let body : run_of is_ascii_digit tail ≡ z = run_found is_ascii_digit z c r (and_parts (is_ascii_digit b) _ all).1 stop in
+    let rest : after_run is_ascii_digit tail ≡ c ∷ r = after_found is_ascii_digit z c r (and_parts (is_ascii_digit b) _ all).1 stop in
     step ∙ ap (λ l. option_map (λ n. (t.Number n, after_run is_ascii_digit tail)) (number_of (b ∷ l))) body
     ∙ ap (λ l. option_map (λ n. (t.Number n, l)) (number_of (b ∷ z))) rest
 
@@ -164,14 +165,14 @@ quoted_found : (escaped : Bool) (z rest : Text) → is_quoted escaped z ≡ true
 quoted_found false [] rest h = refl
 quoted_found true [] rest h = cc
 quoted_found true (b ∷ z) rest h =
-    ap (λ x. if x then with_byte b (quoted false (z ++ (34 ∷ rest))) else None) (and_left (is_plain b) _ h)
-    ∙ ap (with_byte b) (quoted_found false z rest (and_right (is_plain b) _ h))
+    ap (λ x. if x then with_byte b (quoted false (z ++ (34 ∷ rest))) else None) (and_parts (is_plain b) _ h).0
+    ∙ ap (with_byte b) (quoted_found false z rest (and_parts (is_plain b) _ h).1)
 quoted_found false (b ∷ z) rest h =
-    let more = and_right (not (b == 34)) _ h in
-    let no = not-true (b == 34) (and_left (not (b == 34)) _ h) in
+    let more = (and_parts (not (b == 34)) _ h).1 in
+    let no = not-true (b == 34) (and_parts (not (b == 34)) _ h).0 in
     ap (λ x. if x then Some ([], z ++ (34 ∷ rest)) else (if is_plain b then with_byte b (quoted (b == 92) (z ++ (34 ∷ rest))) else None)) no
-    ∙ ap (λ x. if x then with_byte b (quoted (b == 92) (z ++ (34 ∷ rest))) else None) (and_left (is_plain b) _ more)
-    ∙ ap (with_byte b) (quoted_found (b == 92) z rest (and_right (is_plain b) _ more))
+    ∙ ap (λ x. if x then with_byte b (quoted (b == 92) (z ++ (34 ∷ rest))) else None) (and_parts (is_plain b) _ more).0
+    ∙ ap (with_byte b) (quoted_found (b == 92) z rest (and_parts (is_plain b) _ more).1)
 
 front_quoted : (z rest : Text) → is_quoted false z ≡ true → front ((34 ∷ (z ++ (34 ∷ []))) ++ rest) ≡ Some (t.Quoted z, rest)
 unfolding front
@@ -204,7 +205,7 @@ stays b z h k =
 stays_mark : (m : Mark) (c : ℕ) (r : Text) → separates c ≡ true → skip false (mark_spelling m ++ (c ∷ r)) ≡ mark_spelling m ++ (c ∷ r)
 unfolding skip
 stays_mark m.Slash c r h =
-    let slash = not-true (c == 47) (and_right (not (c == 62)) _ (and_right (not (c == 60)) _ (and_right (not (c == 61)) _ (and_right (not (is_name_byte c)) _ h)))) in
+    let slash = not-true (c == 47) (and_parts (not (c == 62)) _ (and_parts (not (c == 60)) _ (and_parts (not (c == 61)) _ (and_parts (not (is_name_byte c)) _ h).1).1).1).1 in
     ap (λ x. elim x as (λ v. Text) [ true ↦ skip true (c ∷ r) | false ↦ 47 ∷ (c ∷ r) ]) slash
 stays_mark _ c r h = refl
 
@@ -215,12 +216,12 @@ stays_word _ z = refl
 
 stays_name : (n : Text) (z : Text) → is_name n ≡ true → skip false (n ++ z) ≡ n ++ z
 stays_name [] z h = cc
-stays_name (b ∷ n) z h = let k = first_no_blank b (and_left (is_letter b) _ h) in stays b (n ++ z) k.0 k.1
+stays_name (b ∷ n) z h = let k = first_no_blank b (and_parts (is_letter b) _ h).0 in stays b (n ++ z) k.0 k.1
 
 stays_number : (n : ℕ) (z : Text) → n < 2 ^ 64 → skip false (decimal n ++ z) ≡ decimal n ++ z
 stays_number n z lt =
     let ds = digits_of n lt in
-    let k = digit_no_blank ds.first (and_left (is_ascii_digit ds.first) _ ds.digits) in
+    let k = digit_no_blank ds.first (and_parts (is_ascii_digit ds.first) _ ds.digits).0 in
     let here : skip false ((ds.first ∷ ds.others) ++ z) ≡ (ds.first ∷ ds.others) ++ z = stays ds.first (ds.others ++ z) k.0 k.1 in
     subst (λ l. skip false (l ++ z) ≡ l ++ z) (sym ds.is) here
 

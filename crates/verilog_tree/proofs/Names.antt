@@ -4,10 +4,10 @@ use Rattle.std.specs.Prelude.{not, ◌==◌, ◌&&◌, if◌then◌else◌, deci
 use Rattle.std.specs.Str.{bytes_eq}
 use Rattle.std.specs.Char.{is_ascii_digit}
 use Rattle.std.proofs.lemmas.Bool.Decides.{nat_tests}
-use Rattle.std.proofs.lemmas.Bool.{not-true, or_right}
+use Rattle.std.proofs.lemmas.Bool.{not-true, or_right, and_parts, and_right}
 use Rattle.verilog_tree.specs.declared.token.Word.{Word}
 use Rattle.verilog_tree.specs.Spelling.{Text, word_spelling, all_words, word_among, is_letter, is_name_byte, all_pass, is_no_word, is_name}
-use Rattle.verilog_tree.proofs.Tests.{and_left, and_right, and_both, all_pass-append, digits_of}
+use Rattle.verilog_tree.proofs.Tests.{and_both, all_pass-append, digits_of}
 
 -- ---- no word of the grammar has a _
 
@@ -17,16 +17,13 @@ is_other b = not (b == 95)
 other_differs : (z : Text) (x : Text) (ys : Text) → all_pass is_other ys ≡ true → bytes_eq (x ++ (95 ∷ z)) ys ≡ false
 unfolding is_other
 other_differs z [] [] h = refl
-other_differs z [] (y ∷ ys) h = head y (not-true _ (and_left _ _ h)) where
+other_differs z [] (y ∷ ys) h = head y (not-true _ (and_parts _ _ h).0) where
   head : (y : ℕ) → (y == 95) ≡ false → ((95 == y) && bytes_eq z ys) ≡ false
   head y e = ap (λ v. v && bytes_eq z ys) (flip y e) where
     flip : (y : ℕ) → (y == 95) ≡ false → (95 == y) ≡ false
     flip y e = grind (arith, nat_tests)
 other_differs z (b ∷ x) [] h = refl
-other_differs z (b ∷ x) (y ∷ ys) h = either (b == y) _ (other_differs z x ys (and_right _ _ h)) where
-  either : (a c : Bool) → c ≡ false → (a && c) ≡ false
-  either true c e = e
-  either false c e = refl
+other_differs z (b ∷ x) (y ∷ ys) h = and_right (b == y) _ (other_differs z x ys (and_parts _ _ h).1)
 
 all_other : List Word → Bool
 all_other [] = true
@@ -36,7 +33,7 @@ among_none : (ws : List Word) (x z : Text) → all_other ws ≡ true → word_am
 unfolding all_other
 among_none [] x z h = refl
 among_none (w ∷ ws) x z h =
-    ap (λ v. if v then Some w else word_among ws (x ++ (95 ∷ z))) (other_differs z x (word_spelling w) (and_left _ _ h)) ∙ among_none ws x z (and_right _ _ h)
+    ap (λ v. if v then Some w else word_among ws (x ++ (95 ∷ z))) (other_differs z x (word_spelling w) (and_parts _ _ h).0) ∙ among_none ws x z (and_parts _ _ h).1
 
 all_words_other : all_other all_words ≡ true
 unfolding all_other is_other
@@ -50,12 +47,12 @@ no_word x z = ap is_no_word (among_none all_words x z all_words_other)
 pub is_name-suffix : (x z : Text) → is_name x ≡ true → all_pass is_name_byte z ≡ true → is_name (x ++ (95 ∷ z)) ≡ true
 is_name-suffix [] z h k = cc
 is_name-suffix (b ∷ x) z h k =
-    let rest = and_right (is_letter b) _ h in
-    and_both (is_letter b) _ (and_left _ _ h) (and_both (all_pass is_name_byte (x ++ (95 ∷ z))) _ (all_pass-append is_name_byte x (95 ∷ z) (and_left _ _ rest) k) (no_word (b ∷ x) z))
+    let rest = (and_parts (is_letter b) _ h).1 in
+    and_both (is_letter b) _ (and_parts _ _ h).0 (and_both (all_pass is_name_byte (x ++ (95 ∷ z))) _ (all_pass-append is_name_byte x (95 ∷ z) (and_parts _ _ rest).0 k) (no_word (b ∷ x) z))
 
 digits_pass : (z : Text) → all_pass is_ascii_digit z ≡ true → all_pass is_name_byte z ≡ true
 digits_pass [] h = refl
-digits_pass (b ∷ z) h = and_both (is_name_byte b) _ (or_right (is_letter b) (is_ascii_digit b) (and_left _ _ h)) (digits_pass z (and_right (is_ascii_digit b) _ h))
+digits_pass (b ∷ z) h = and_both (is_name_byte b) _ (or_right (is_letter b) (is_ascii_digit b) (and_parts _ _ h).0) (digits_pass z (and_parts (is_ascii_digit b) _ h).1)
 
 pub name_bytes-decimal : (n : ℕ) → n < 2 ^ 64 → all_pass is_name_byte (decimal n) ≡ true
 name_bytes-decimal n lt = let ds = digits_of n lt in subst (λ z. all_pass is_name_byte z ≡ true) (sym ds.is) (digits_pass (ds.first ∷ ds.others) ds.digits)

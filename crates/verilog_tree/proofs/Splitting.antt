@@ -1,5 +1,6 @@
 -- A text splits into tokens in one way.
 use Rattle.std.proofs.Common.{◌≡◌, List, [], ◌∷◌, Some, refl, sym, ap, ◌∙◌, subst}
+use Rattle.std.proofs.lemmas.Option.{same_Some}
 use Rattle.verilog_tree.specs.declared.token.Token.{Token}
 use Rattle.verilog_tree.specs.Spelling.{Text}
 use Rattle.verilog_tree.specs.Tokens.{front, Splits}
@@ -14,11 +15,8 @@ splits_same text [] [] h k = refl
 splits_same text [] (u ∷ us) h k = absurd (nothing_here k.0 u _ h k.1)
 splits_same text (t ∷ ts) [] h k = absurd (nothing_here h.0 t _ k h.1)
 splits_same text (t ∷ ts) (u ∷ us) h k =
-    let pair : (t, h.0) ≡ (u, k.0) = some_same (sym h.1 ∙ k.1) in
+    let pair : (t, h.0) ≡ (u, k.0) = same_Some _ _ (sym h.1 ∙ k.1) in
     let token : t ≡ u = ap (λ p. p.0) pair in
     let rest : h.0 ≡ k.0 = ap (λ p. p.1) pair in
     let same : ts ≡ us = splits_same h.0 ts us h.2 (subst (λ z. Splits z us) (sym rest) k.2) in
     λ i. token i ∷ same i
-  where
-    some_same : {p q : Token × Text} → Some p ≡ Some q → p ≡ q
-    some_same e = cc
