@@ -1,14 +1,14 @@
 -- Where a net is none that a simulator runs.
 use Rattle.std.specs.Prelude.{◌≡◌, ℕ, ◌<◌, ◌≤◌, Bool, true, false, not, ◌==◌, ◌&&◌, ◌||◌, nat_lt, if◌then◌else◌, Option, Some, None, slice_get, codes}
 use Rattle.std.specs.Str.{bytes_eq}
-use Rattle.std.proofs.Common.{refl, sym, ap, ◌∙◌, subst, ◌⊎◌, inl, inr, ⊎_elim, arith}
-use Rattle.std.proofs.lemmas.Bool.{ltb-true, lt-ltb, ltb-false, eqb-true, eq-eqb, and_parts, and_from}
+use Rattle.std.proofs.Common.{refl, sym, ap, ◌∙◌, subst, inl, inr, ⊎_elim, arith}
+use Rattle.std.proofs.lemmas.Bool.{ltb-true, lt-ltb, ltb-false, eqb-true, eq-eqb, and_parts, and_from, not-true, and_cases, or_cases}
 use Rattle.std.proofs.lemmas.Slice.Eq.{bytes_eq-Decides}
+use Rattle.std.proofs.lemmas.Option.{same_Some}
 use Rattle.verilog_tree.specs.declared.tree.Port.{Port}
 use Rattle.verilog_tree.specs.declared.tree.Module.{Module}
 use Rattle.verilog_tree.specs.declared.tree.Net.{Net}
 use Rattle.verilog_tree.specs.Grammar.{clk}
-use Rattle.verilog_tree.specs.Scope.{Name}
 use Rattle.verilog_tree.specs.Rules.{has_port}
 use Rattle.verilog_tree.specs.Reads.{IsFilled}
 use Rattle.verilog_tree.specs.WellFormed.{IsWellFormed}
@@ -26,20 +26,11 @@ use Rattle.verilog_reader.specs.declared.read.Place.TheVariants as place
 use Rattle.verilog_reader.specs.Faults.{IsTopAt, IsRunnable, IsSimulated, IsWrong, Broken, Unwanted, IsFirstWrong, NoneWrong}
 use Rattle.verilog_reader.specs.Answers.{port_before, stands_before, IsBroken, or_unwanted, earlier, lacks_port, IsLacking, IsFaultAt, IsFaultOf}
 
-named_so : (x : Name) → bytes_eq x top ≡ true → x ≡ top
-named_so x h = (bytes_eq-Decides x top).0 h
-
-is_named : (x : Name) → x ≡ top → bytes_eq x top ≡ true
-is_named x e = (bytes_eq-Decides x top).1 e
-
 at_least : (a b : ℕ) → (b < a → ⊥) → a ≤ b
 at_least a b h = by (nat_lt b a) refl where
   by : (v : Bool) → nat_lt b a ≡ v → a ≤ b
   by true e = absurd (h (ltb-true b a e))
   by false e = ltb-false b a e
-
-same_some : {A : Type 0} {a b : A} → Some a ≡ Some b → a ≡ b
-same_some e = cc
 
 -- a port that a `top` may not have stands at the first of them or behind it
 record IsBehind (at : ℕ × ℕ) (j i : ℕ) : Type 0 where
@@ -48,17 +39,17 @@ record IsBehind (at : ℕ × ℕ) (j i : ℕ) : Type 0 where
 
 module _ (n : Net) where
   none_unwanted : IsUnwantedOf n.modules None → (j i : ℕ) (m : Module) (p : Port) → IsTopAt n j m → slice_get m.ports i ≡ Some p → (IsWanted m.ports p → ⊥) → ⊥
-  none_unwanted h j i m p is listed never = never (h j m is.listed (is_named m.name is.named) i p listed)
+  none_unwanted h j i m p is listed never = never (h j m is.listed ((bytes_eq-Decides m.name top).1 is.named) i p listed)
 
   behind : (at : ℕ × ℕ) → IsUnwantedOf n.modules (Some at) → (j i : ℕ) (m : Module) (p : Port) → IsTopAt n j m → slice_get m.ports i ≡ Some p → (IsWanted m.ports p → ⊥)
       → IsBehind at j i
   behind at h j i m p is listed never = record {
     number =
-        let not_less : j < at.0 → ⊥ = λ lt. never (h.0 j m lt is.listed (is_named m.name is.named) i p listed) in
+        let not_less : j < at.0 → ⊥ = λ lt. never (h.0 j m lt is.listed ((bytes_eq-Decides m.name top).1 is.named) i p listed) in
         at_least _ _ not_less;
     port = λ e.
         let here = h.1 in
-        let same : here.0 ≡ m = same_some (sym here.1 ∙ ap (slice_get n.modules) (sym e) ∙ is.listed) in
+        let same : here.0 ≡ m = same_Some _ _ (sym here.1 ∙ ap (slice_get n.modules) (sym e) ∙ is.listed) in
         let not_less : i < at.1 → ⊥ = λ lt.
         let listed' : slice_get here.0.ports i ≡ Some p = ap (λ x. slice_get x.ports i) same ∙ listed in
         never (subst (λ x. IsWanted x.ports p) same (here.3.1 i p lt listed')) in
@@ -83,7 +74,7 @@ module _ (n : Net) where
   unwanted_wrong at h =
       let here = h.1 in
       let port = here.3.0 in
-      Unwanted at.0 at.1 here.0 port.0 refl (record { listed = here.1; named = named_so here.0.name here.2 }) port.1 port.2
+      Unwanted at.0 at.1 here.0 port.0 refl (record { listed = here.1; named = (bytes_eq-Decides here.0.name top).0 here.2 }) port.1 port.2
 
   -- no unwanted port goes before the first of them
   not_before : (at : ℕ × ℕ) (j i : ℕ) → IsBehind at j i → GoesBefore (net.Module j (part.Port i)) (net.Module at.0 (part.Port at.1)) → ⊥
@@ -107,10 +98,6 @@ module _ (n : Net) where
   port_first (part.Port j) (part.Port k) i s t = let lt = ltb-true i k t in omega (arith, s, lt)
   port_first (part.Port j) (part.Item k) i s t = tt
   port_first (part.Item j) p i s t = absurd s
-
-  or_cases : (a b : Bool) → (a || b) ≡ true → (a ≡ true) ⊎ (b ≡ true)
-  or_cases true b h = inl refl
-  or_cases false b h = inr h
 
   goes_on : (q : NetPart) (at : ℕ × ℕ) (k : ℕ) (p : ModulePart) → GoesBefore q (net.Module at.0 (part.Port at.1)) → stands_before at k p ≡ true → GoesBefore q (net.Module k p)
   goes_on net.Modules at k p goes before = tt
@@ -186,19 +173,11 @@ module _ (n : Net) where
   runnable : (m : Module) → has_ports m ≡ true → ((k : ℕ) (p : Port) → slice_get m.ports k ≡ Some p → IsWanted m.ports p) → IsRunnable m
   runnable m has all = let both = and_parts (has_port m.ports clk) (has_port m.ports (codes "done")) has in record { clock = both.0; done = both.1; wanted = all }
 
-  and_false : (a b : Bool) → (a && b) ≡ false → (a ≡ false) ⊎ (b ≡ false)
-  and_false true b h = inr h
-  and_false false b h = inl refl
-
   has_both : (m : Module) → bytes_eq m.name top ≡ true → lacks_port m ≡ false → has_ports m ≡ true
   has_both m named h = by (has_ports m) refl where
     by : (v : Bool) → has_ports m ≡ v → v ≡ true
     by true e = refl
     by false e = let clash : true ≡ false = sym (and_from (bytes_eq m.name top) (not (has_ports m)) named (ap not e)) ∙ h in cc (clash)
-
-  has_not : (b : Bool) → not b ≡ true → b ≡ false
-  has_not true h = cc
-  has_not false h = refl
 
   pub lacking_is : (o : Option Place) → IsWellFormed n → IsUnwantedOf n.modules None → IsLacking n.modules o → IsFaultOf n o
   lacking_is None well none h =
@@ -207,12 +186,12 @@ module _ (n : Net) where
         well_formed = well;
         number = found.0;
         top = found.1;
-        is_top = record { listed = found.2; named = named_so found.1.name found.3 };
+        is_top = record { listed = found.2; named = (bytes_eq-Decides found.1.name top).0 found.3 };
         runnable = λ k m is.
-            let name = is_named m.name is.named in
+            let name = (bytes_eq-Decides m.name top).1 is.named in
             runnable m (has_both m name (h.1 k m is.listed)) (none k m is.listed name);
       }
-  lacking_is (Some place.End) well none h = (none_wrong well none, λ k m is. h (k, m, is.listed, is_named m.name is.named))
+  lacking_is (Some place.End) well none h = (none_wrong well none, λ k m is. h (k, m, is.listed, (bytes_eq-Decides m.name top).1 is.named))
   lacking_is (Some (place.Part k p)) well none h =
       let m = h.0.0 in
       let both = and_parts (bytes_eq m.name top) (not (has_ports m)) h.0.2 in
@@ -220,8 +199,8 @@ module _ (n : Net) where
         none_wrong well none,
         record {
           top = m;
-          is_top = record { listed = h.0.1; named = named_so m.name both.0 };
-          lacks = and_false (has_port m.ports clk) (has_port m.ports (codes "done")) (has_not (has_ports m) both.1);
+          is_top = record { listed = h.0.1; named = (bytes_eq-Decides m.name top).0 both.0 };
+          lacks = and_cases (has_port m.ports clk) (has_port m.ports (codes "done")) (not-true (has_ports m) both.1);
         },
         h.1,
       )

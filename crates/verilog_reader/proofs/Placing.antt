@@ -3,6 +3,7 @@ use Rattle.std.specs.Prelude.{◌≡◌, ℕ, zero, suc, ◌+◌, ◌<◌, ◌�
 use Rattle.std.proofs.Common.{refl, sym, ap, ◌∙◌, subst, add-one, arith}
 use Rattle.std.proofs.lemmas.Bool.{ltb-true, ltb-false}
 use Rattle.std.proofs.lemmas.List.{append-nil, take_all}
+use Rattle.std.proofs.lemmas.Option.{same_Some}
 use Rattle.verilog_tree.specs.declared.token.Token.{Token}
 use Rattle.verilog_tree.specs.declared.tree.Net.{Net}
 use Rattle.verilog_tree.specs.Spelling.{Text}
@@ -52,11 +53,8 @@ nothing : (z : Text) (t : Token) (behind : Text) → z ≡ [] → front z ≡ So
 unfolding front
 nothing z t behind e h = let no : front [] ≡ Some (t, behind) = ap front (sym e) ∙ h in cc (no)
 
-same_some : {A : Type 0} {a b : A} → Some a ≡ Some b → a ≡ b
-same_some e = cc
-
 same_pair : (p q : Token × Text) → Some p ≡ Some q → (p.0 ≡ q.0) × (p.1 ≡ q.1)
-same_pair p q e = let same : p ≡ q = same_some e in (ap (λ x. x.0) same, ap (λ x. x.1) same)
+same_pair p q e = let same : p ≡ q = same_Some _ _ e in (ap (λ x. x.0) same, ap (λ x. x.1) same)
 
 -- ---- whole texts
 

@@ -1,6 +1,7 @@
 -- Where the parts of a net stand in a text that spells it.
 use Rattle.std.specs.Prelude.{◌≡◌, ℕ, zero, suc, ◌+◌, List, [], ◌∷◌, ◌++◌, length, take, Some, slice_get}
 use Rattle.std.proofs.Common.{refl, sym, ap, ◌∙◌, subst, append_assoc}
+use Rattle.std.proofs.lemmas.List.{take_at}
 use Rattle.verilog_tree.specs.declared.token.Word.TheVariants as w
 use Rattle.verilog_tree.specs.declared.token.Mark.TheVariants as m
 use Rattle.verilog_tree.specs.declared.token.Token.{Token}
@@ -85,17 +86,13 @@ net_begins n k x p e h =
       r.1 ∙ ap (λ l. front ++ (l ++ r.0)) i.1 ∙ ap (λ l. front ++ l) (append_assoc (before_part p x) i.0 r.0) ∙ sym (append_assoc front (before_part p x) (i.0 ++ r.0)),
     )
 
-take_front : (a b : List Token) → take (length a) (a ++ b) ≡ a
-take_front [] b = refl
-take_front (x ∷ a) b = ap (λ l. x ∷ l) (take_front a b)
-
 pub stands : (text : Text) (l : Lexed) → IsLexed text l → (n : Net) → l.tokens ≡ g.net n → (k : ℕ) (p : ModulePart) (x : Module) → slice_get n.modules k ≡ Some x → HasPart x p
     → (offset : ℕ) → offset ≡ offset_at l (length (before n.modules k (before_part p x))) → StandsAt text n k p offset
 stands text l lexed n same k p x listed has offset is =
     let front = before n.modules k (before_part p x) in
     let begins = net_begins n k x p listed has in
     let place = placing.at text l lexed (length front) in
-    let taken : take (length front) l.tokens ≡ front = ap (take (length front)) (same ∙ begins.1) ∙ take_front front begins.0 in
+    let taken : take (length front) l.tokens ≡ front = ap (take (length front)) (same ∙ begins.1) ∙ take_at front begins.0 (length front) refl in
     record {
       of = x;
       listed = listed;
