@@ -5,6 +5,8 @@ use Rattle.std.specs.Prelude.{not, ◌&&◌, slice_index}
 use Rattle.std.proofs.lemmas.Bool.Decides.{nat_tests}
 use Rattle.std.proofs.lemmas.Grind.{get_or-set_at}
 use Rattle.std.proofs.Math.ListN.{length-set}
+use Rattle.std.proofs.lemmas.Bool.{cases_eq}
+use Rattle.std.proofs.lemmas.List.{get_or_past}
 use Rattle.hls_ints.specs.Residues.{bit_of}
 use Rattle.verilog_meaning.specs.Readings.{or_zero}
 use Rattle.circuit.specs.Rows.{EachOf}
@@ -16,16 +18,11 @@ first_word [] k = refl
 first_word (x ∷ xs) zero = refl
 first_word (x ∷ xs) (suc k) = first_word xs k
 
-past : (xs : List ℕ) (k : ℕ) → length xs ≤ k → 0 ≡ slice_index xs k
-past [] k l = refl
-past (x ∷ xs) zero l = absurd (omega arith)
-past (x ∷ xs) (suc k) l = past xs k (omega arith)
-
 -- a guarded read
 pub read_is : (size x y : ℕ) (words : List ℕ) → length words ≡ size → (x < size → y ≡ slice_index words x) → (if nat_lt x size then y else 0) ≡ slice_index words x
 read_is size x y words e h =
     ⊎_elim (λ (l : x < size). let t : nat_lt x size ≡ true = grind (arith, nat_tests) in ap (λ b. if b then y else 0) t ∙ h l)
-    (λ (l : size ≤ x). let t : nat_lt x size ≡ false = grind (arith, nat_tests) in ap (λ b. if b then y else 0) t ∙ past words x (omega arith))
+    (λ (l : size ≤ x). let t : nat_lt x size ≡ false = grind (arith, nat_tests) in ap (λ b. if b then y else 0) t ∙ sym (get_or_past words x 0 (omega arith)))
     (let c : (x < size) ⊎ (size ≤ x) = grind (arith, nat_tests) in c)
 
 pub if_same : (b : Bool) (x : ℕ) → (if b then x else x) ≡ x
@@ -65,9 +62,6 @@ offered false false runs finished false = refl
 
 -- ---- stores
 
-same_or_not : (a b : ℕ) → (a ≡ b) ⊎ (a ≡ b → ⊥)
-same_or_not a b = grind (arith, nat_tests)
-
 -- a word after a store under a wire
 abbrev pub kept_by : ℕ → ℕ → ℕ → ℕ → ℕ → ℕ
 kept_by test address value k old = if nat_lt 0 test && true then (if nat_eq address k then value else old) else old
@@ -82,7 +76,7 @@ stored true test xs k address value old e l f =
     (get_or-set_at xs address k value 0 q (omega arith)))
     (λ (q : k ≡ address → ⊥). let u : nat_eq address k ≡ false = grind (arith, nat_tests) in ap (λ c. if c then value else old) u ∙ f ∙ sym
     (get_or-set_other xs address k value 0 q))
-    (same_or_not k address)
+    (cases_eq k address)
 
 -- the table after a grant to thread i, by what it asks
 abbrev pub after : Bool → Bool → IdTable → ℕ → ℕ → ℕ → IdTable

@@ -1,9 +1,10 @@
 -- The table of the fork and join core keeps the promise of its machine.
-use Rattle.std.proofs.Common.{◌∷◌, subst, ◌≡◌, ℕ, zero, suc, ◌+◌, ◌^◌, ◌<◌, ◌≤◌, List, [], length, replicate, slice_get, slice_set, Option, Some, None, Bool, true, false}
+use Rattle.std.proofs.Common.{◌∷◌, subst, ◌≡◌, ℕ, zero, suc, ◌+◌, ◌^◌, ◌<◌, ◌≤◌, List, [], length, replicate, slice_get, slice_set, Option, Some, None, true, false}
 use Rattle.std.proofs.Common.{nat_eq, nat_lt}
 use Rattle.std.proofs.Common.{if◌then◌else◌, refl, sym, ap, ◌∙◌, arith, lit<, add-zero, zero-add}
 use Rattle.std.specs.Prelude.{not, ◌&&◌, ◌||◌, slice_index}
 use Rattle.std.proofs.lemmas.List.{length-replicate}
+use Rattle.std.proofs.Math.Bool.{or-true}
 use Rattle.hls_ints.specs.Residues.{bit_of}
 use Rattle.netlist.specs.declared.netlist.Signal.{Signal}
 use Rattle.netlist.specs.declared.netlist.Memory.{Memory}
@@ -28,10 +29,6 @@ use Rattle.core_turns.proofs.Edges.{a_bit}
 use Rattle.fork_join_cores.proofs.Effects.{first_word, read_is, if_same, no_bytes, each_zero, by_test, offered, kept_by, stored, target_of, status_of, after_statuses}
 use Rattle.fork_join_cores.proofs.Effects.{after_arguments, after_sized, after_each}
 
-or_true : (b : Bool) → (b || true) ≡ true
-or_true true = refl
-or_true false = refl
-
 none_printed : (shape : Shape) (s : IdTable) (f : ℕ → Ask) (o : Option ℕ) → [] ≡ printed (forks_machine shape) s f o
 none_printed shape s f None = refl
 none_printed shape s f (Some w) = refl
@@ -49,11 +46,8 @@ module _ (shape : Shape) (ok : IsShape shape) (m : Module) (is : IsForks shape m
   held_arguments : slice_get m.memories 1 ≡ Some (argument_memory n)
   held_arguments = ap (λ (ms : List Memory). slice_get ms 1) is.memories
 
-  zeros : length (replicate {A = ℕ} n 0) ≡ n
-  zeros = length-replicate {A = ℕ} n 0
-
   addressed : length (replicate {A = ℕ} n 0) < 2 ^ 64
-  addressed = let a = zeros in let b = ok.few in omega arith
+  addressed = let a = length-replicate {A = ℕ} n 0 in let b = ok.few in omega arith
 
   -- ---- what each row reads
 
@@ -70,7 +64,7 @@ module _ (shape : Shape) (ok : IsShape shape) (m : Module) (is : IsForks shape m
   late_on : (x : ℕ) → going_chain n ≤ x → x < offers n → is_late shape x ≡ true
   late_on x b l =
       ap (λ t. is_between (grants n) (zero_code n) x || t) (between_on (going_chain n) (offers n) x b l)
-      ∙ or_true (is_between (grants n) (zero_code n) x)
+      ∙ or-true (is_between (grants n) (zero_code n) x)
 
   -- a late signal reads any, and each reads early ones
   from : {x y v : ℕ} → Has m y v → y < x → going_chain n ≤ x → x < offers n → Reads m (is_late shape) x y v
@@ -459,14 +453,14 @@ module _ (shape : Shape) (ok : IsShape shape) (m : Module) (is : IsForks shape m
 
   starts : Shown (initial_reading (Some m)) (begun n)
   starts = record {
-    sized = zeros;
+    sized = length-replicate {A = ℕ} n 0;
     statuses = λ k l. ap (λ ms. initial_word (slice_get ms 0) k) is.memories ∙ first_word (replicate n 0) k;
-    each = zeros;
+    each = length-replicate {A = ℕ} n 0;
     arguments = λ k l. ap (λ ms. initial_word (slice_get ms 1) k) is.memories ∙ first_word (replicate n 0) k;
   }
 
   inside : (k : ℕ) → k < n → k < length (replicate {A = ℕ} n 0)
-  inside k l = let e = zeros in omega arith
+  inside k l = let e = length-replicate {A = ℕ} n 0 in omega arith
 
   keeps : (h g : Reading) (s : IdTable) → Agree m h g → Shown h s → Shown g s
   keeps h g s same e = record {
@@ -612,8 +606,8 @@ module _ (shape : Shape) (ok : IsShape shape) (m : Module) (is : IsForks shape m
       below y t d = let b : k < length y.initial = subst (λ (x : Memory). k < length x.initial) (sym t) l in omega arith
 
       which : (j : ℕ) → slice_get (status_memory n ∷ argument_memory n ∷ []) j ≡ Some z → h.word j k ≡ g.word j k
-      which zero t = let same : status_memory n ≡ z = cc in let b = below (status_memory n) same zeros in e.statuses k b ∙ sym (f.statuses k b)
-      which (suc zero) t = let same : argument_memory n ≡ z = cc in let b = below (argument_memory n) same zeros in e.arguments k b ∙ sym (f.arguments k b)
+      which zero t = let same : status_memory n ≡ z = cc in let b = below (status_memory n) same (length-replicate {A = ℕ} n 0) in e.statuses k b ∙ sym (f.statuses k b)
+      which (suc zero) t = let same : argument_memory n ≡ z = cc in let b = below (argument_memory n) same (length-replicate {A = ℕ} n 0) in e.arguments k b ∙ sym (f.arguments k b)
       which (suc (suc j)) t = absurd cc
 
   hears_same : (f g : ℕ → ℕ) → ((j : ℕ) → j < 4 → f j ≡ g j) → ask_of f ≡ ask_of g
@@ -632,13 +626,13 @@ module _ (shape : Shape) (ok : IsShape shape) (m : Module) (is : IsForks shape m
     status_read : (x : ℕ) → (if nat_lt x (memory_words (slice_get m.memories 0)) then r.word 0 x else 0) ≡ slice_index s.statuses x
     status_read x =
         ap (λ (z : Option Memory). if nat_lt x (memory_words z) then r.word 0 x else 0) held_status
-        ∙ ap (λ z. if nat_lt x z then r.word 0 x else 0) zeros
+        ∙ ap (λ z. if nat_lt x z then r.word 0 x else 0) (length-replicate {A = ℕ} n 0)
         ∙ read_is n x (r.word 0 x) s.statuses shown.sized (λ l. shown.statuses x l)
 
     argument_read : (x : ℕ) → (if nat_lt x (memory_words (slice_get m.memories 1)) then r.word 1 x else 0) ≡ slice_index s.arguments x
     argument_read x =
         ap (λ (z : Option Memory). if nat_lt x (memory_words z) then r.word 1 x else 0) held_arguments
-        ∙ ap (λ z. if nat_lt x z then r.word 1 x else 0) zeros
+        ∙ ap (λ z. if nat_lt x z then r.word 1 x else 0) (length-replicate {A = ℕ} n 0)
         ∙ read_is n x (r.word 1 x) s.arguments shown.each (λ l. shown.arguments x l)
 
     module _ (i : ℕ) (l : i < n) where

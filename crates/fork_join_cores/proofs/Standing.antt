@@ -217,12 +217,9 @@ module _ (shape : Shape) (ok : IsShape shape) where
     pub apart : z.memories ≡ [] → z.instances ≡ [] → AreApart (declared_names z)
     apart memories instances = names_apart z (rows n) signals small (offers n) formed_at memories instances
 
-  copies : (k v : ℕ) → length (replicate {A = ℕ} k v) ≡ k
-  copies k v = length-replicate {A = ℕ} k v
-
   many_inputs : length (input_widths shape) ≡ inputs shape
   many_inputs =
-      let b = copies n 1 in let c = copies n 64 in let d = copies n 2 in
+      let b = length-replicate {A = ℕ} n 1 in let c = length-replicate {A = ℕ} n 64 in let d = length-replicate {A = ℕ} n 2 in
       let e = length-append {A = ℕ} (replicate n 64) (replicate n 1) in
       let f = length-append {A = ℕ} (replicate n 64) (replicate n 64 ++ replicate n 1) in
       let g = length-append {A = ℕ} (replicate n 2) (replicate n 64 ++ (replicate n 64 ++ replicate n 1)) in
@@ -231,7 +228,7 @@ module _ (shape : Shape) (ok : IsShape shape) where
 
   many_outputs : length (output_widths shape) ≡ n + n + n
   many_outputs =
-      let b = copies n 1 in let c = copies n 64 in
+      let b = length-replicate {A = ℕ} n 1 in let c = length-replicate {A = ℕ} n 64 in
       let d = length-append {A = ℕ} (replicate n 1) (replicate n 64) in
       let e = length-append {A = ℕ} (replicate n 1) (replicate n 1 ++ replicate n 64) in
       omega arith
@@ -276,7 +273,7 @@ module _ (shape : Shape) (ok : IsShape shape) where
       formed = formed_at m is.signals;
       acts = subst (EachOf (ActsOnData m)) (sym is.actions) acts;
       memories = subst (EachOf (IsFormedMemory m)) (sym is.memories) (
-        record { low = omega arith; high = omega arith; words = (let e = copies n 0 in let b = ok.some in omega arith); clock = refl },
-        (record { low = omega arith; high = omega arith; words = (let e = copies n 0 in let b = ok.some in omega arith); clock = refl }, tt),
+        record { low = omega arith; high = omega arith; words = (let e = length-replicate {A = ℕ} n 0 in let b = ok.some in omega arith); clock = refl },
+        (record { low = omega arith; high = omega arith; words = (let e = length-replicate {A = ℕ} n 0 in let b = ok.some in omega arith); clock = refl }, tt),
       );
     })
