@@ -2,6 +2,7 @@
 use Rattle.std.specs.Prelude.{◌≡◌, ℕ, Bool, true, List, length, Option, Some, None, slice_get, refl}
 use Rattle.std.proofs.Common.{ap, sym, ◌∙◌, subst, ⊎_elim}
 use Rattle.std.proofs.lemmas.Option.{same_Some}
+use Rattle.std.proofs.lemmas.Bool.{cases_eq}
 use Rattle.netlist.specs.declared.netlist.Module.{Module}
 use Rattle.verilog_meaning.specs.Cycles.{Path}
 use Rattle.sim_values.specs.declared.settle.Step.{Step}
@@ -13,7 +14,6 @@ use Rattle.sim_layout.specs.Placed.{IsPlaced}
 use Rattle.sim_layout.specs.Wires.{signals_of, AreWires}
 use Rattle.cycle_sim.specs.LaidOut.{IsLaidOut}
 use Rattle.cycle_sim.specs.Opened.{writes_at, IsOne, IsWriter, AreTwo, LacksDone, IsTopNumber, IsRightNet, IsOpenable, Writes, HasPrinters}
-use Rattle.sim_values.proofs.Settles.{same_or}
 use Rattle.cycle_sim.proofs.Laid.{part_at}
 
 -- the tree, the places and the steps of a net
@@ -90,4 +90,4 @@ module _ {modules : List Module} {t : Module} {parts : List Part} {numbers : Lis
         writes = record { part = p; listed = at; writes = a };
         writes_too = record { part = other; listed = there; writes = b };
       }))))
-      (same_or q o)
+      (cases_eq q o)

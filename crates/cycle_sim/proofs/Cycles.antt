@@ -1,8 +1,9 @@
 -- What the calls of a simulator do to its words is a cycle of the net.
-use Rattle.std.specs.Prelude.{◌≡◌, ℕ, zero, suc, ◌+◌, ◌<◌, ◌⊎◌, Bool, true, false, ◌||◌, if◌then◌else◌, List, [], ◌∷◌, ◌++◌, length, Option, Some, None, slice_get, slice_index, refl, nat_eq}
+use Rattle.std.specs.Prelude.{◌≡◌, ℕ, zero, suc, ◌+◌, ◌<◌, ◌⊎◌, Bool, true, false, if◌then◌else◌, List, [], ◌∷◌, ◌++◌, length, Option, Some, None, slice_get, slice_index, refl, nat_eq}
 use Rattle.std.proofs.Common.{ap, sym, ◌∙◌, subst, inl, inr, ⊎_elim, arith}
 use Rattle.std.proofs.lemmas.Option.{slice_get_within}
 use Rattle.std.proofs.lemmas.List.{append-nil}
+use Rattle.std.proofs.lemmas.Bool.{cases_Bool, or_parts}
 use Rattle.netlist.specs.declared.netlist.Source.{Source}
 use Rattle.netlist.specs.declared.netlist.Source.TheVariants.{Input, Register, Assigned, Port}
 use Rattle.netlist.specs.declared.netlist.Effect.{Effect}
@@ -27,18 +28,7 @@ use Rattle.cycle_sim.proofs.Lift.{flat_settled}
 use Rattle.cycle_sim.proofs.Edges as edges
 use Rattle.cycle_sim.proofs.Stores as stores
 
-some_same : {X : Type 0} {x y : X} → Some x ≡ Some y → x ≡ y
-some_same e = cc
-
 -- ---- a module without a $write writes nothing
-
-or_left : (a b : Bool) → (a || b) ≡ false → a ≡ false
-or_left true b e = absurd cc
-or_left false b e = refl
-
-or_right : (a b : Bool) → (a || b) ≡ false → b ≡ false
-or_right true b e = absurd cc
-or_right false b e = e
 
 quiet_effect : (m : Module) (r : Reading) (e : Effect) → is_write e ≡ false → effect_bytes m r e ≡ []
 quiet_effect m r (Set x y) q = refl
@@ -53,8 +43,8 @@ quiet_actions : (m : Module) (r : Reading) (actions : List Action) → some_writ
 quiet_actions m r [] q = refl
 quiet_actions m r (a ∷ actions) q =
     let here : (if is_on r a.conditions then effect_bytes m r a.effect else []) ≡ [] =
-    quiet_if (is_on r a.conditions) (effect_bytes m r a.effect) (quiet_effect m r a.effect (or_left (is_write a.effect) (some_write actions) q)) in
-    ap (λ xs. xs ++ action_bytes m r actions) here ∙ quiet_actions m r actions (or_right (is_write a.effect) (some_write actions) q)
+    quiet_if (is_on r a.conditions) (effect_bytes m r a.effect) (quiet_effect m r a.effect (or_parts (is_write a.effect) (some_write actions) q).0) in
+    ap (λ xs. xs ++ action_bytes m r actions) here ∙ quiet_actions m r actions (or_parts (is_write a.effect) (some_write actions) q).1
 
 module _ (r : Running) (st : Stands r) (c : Choice) (fits : Fits r c) where
   abbrev modules : List Module
@@ -185,10 +175,6 @@ module _ (r : Running) (st : Stands r) (c : Choice) (fits : Fits r c) where
   part_quiet p None e quiet = ap (part_written p after) e
   part_quiet p (Some k) e quiet = ap (part_written p after) e ∙ quiet_actions k (reading p.spot after) k.actions (quiet k refl)
 
-  bool_cases : (b : Bool) → (b ≡ true) ⊎ (b ≡ false)
-  bool_cases true = inl refl
-  bool_cases false = inr refl
-
   -- the instance of a module with a $write writes all
   printer_path : (path : Path) (m : Module) → module_at modules st.top path ≡ Some m → some_write m.actions ≡ true → written_at modules st.top through path (Some m) ≡ output
   printer_path path m at prints =
@@ -201,7 +187,7 @@ module _ (r : Running) (st : Stands r) (c : Choice) (fits : Fits r c) where
       (λ k e. ⊎_elim
       (λ also. absurd (apart (sym (st.apart.printer q o p other m k is.1 (record { listed = there; kind = e }) prints also))))
       (λ quiet. quiet)
-      (bool_cases (some_write k.actions)))) in
+      (cases_Bool (some_write k.actions)))) in
       let own : writes p ≡ written m (reading p.spot after) = ap (part_written p after) is.1.kind in
       subst (λ (t : Spot). written m (reading t after) ≡ output) (sym is.2) (sym (one ∙ own))
 
@@ -210,7 +196,7 @@ module _ (r : Running) (st : Stands r) (c : Choice) (fits : Fits r c) where
   each_path path (Some m) e = ⊎_elim
       (λ prints. inr (printer_path path m e prints))
       (λ quiet. inl (quiet_actions m (through path) m.actions quiet))
-      (bool_cases (some_write m.actions))
+      (cases_Bool (some_write m.actions))
 
   abbrev Printer : List Part → Type 0
   Printer ps = (q : ℕ) × (p : Part) × (m : Module) × (slice_get ps q ≡ Some p) × (slice_get modules p.module ≡ Some m) × (some_write m.actions ≡ true)
@@ -220,7 +206,7 @@ module _ (r : Running) (st : Stands r) (c : Choice) (fits : Fits r c) where
   head_printer p ps (Some m) e = ⊎_elim
       (λ prints. inl (0, p, m, refl, e, prints))
       (λ quiet. inr (ap (part_written p after) e ∙ quiet_actions m (reading p.spot after) m.actions quiet))
-      (bool_cases (some_write m.actions))
+      (cases_Bool (some_write m.actions))
 
   abbrev AllQuiet : List Part → Type 0
   AllQuiet ps = (q : ℕ) (p : Part) → slice_get ps q ≡ Some p → writes p ≡ []

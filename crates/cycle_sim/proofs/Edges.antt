@@ -3,6 +3,7 @@ use Rattle.std.specs.Prelude.{◌≡◌, ℕ, zero, suc, ◌+◌, ◌<◌, Bool,
 use Rattle.std.proofs.Common.{ap, sym, ◌∙◌, subst, ⊎_elim, arith}
 use Rattle.std.proofs.lemmas.List.{get_or-set_same, get_or-set_other}
 use Rattle.std.proofs.Math.ListN.{length-set}
+use Rattle.std.proofs.lemmas.Bool.{cases_eq, ne_eqb, eq-eqb, cond-false, cond-true}
 use Rattle.netlist.specs.declared.netlist.Effect.{Effect}
 use Rattle.netlist.specs.declared.netlist.Effect.TheVariants.{Set, Store, Write}
 use Rattle.netlist.specs.declared.netlist.Action.{Action}
@@ -11,7 +12,6 @@ use Rattle.verilog_meaning.specs.Readings.{is_on, set_by, register_after}
 use Rattle.sim_values.specs.declared.value.Spot.{Spot}
 use Rattle.sim_values.specs.declared.edge.Part.{Part}
 use Rattle.sim_values.specs.Flat.{Flat, EachOf, reading, set_number, act_number, acted_numbers, actions_of, all_numbers}
-use Rattle.sim_values.proofs.Settles.{same_or, eq_true, eq_false, if_true, if_false}
 
 module _ (spot : Spot) (f : Flat) where
   set_length : (next : List ℕ) (e : Effect) → length (set_number spot f next e) ≡ length next
@@ -40,11 +40,11 @@ module _ (spot : Spot) (f : Flat) where
       (λ same.
       ap (λ (p : ℕ). slice_index (slice_set next (spot.base + p) v) (spot.base + k)) same
       ∙ get_or-set_same next (spot.base + k) v 0 l
-      ∙ sym (if_true (nat_eq x k) v (slice_index next (spot.base + k)) (eq_true x k same)))
+      ∙ sym (cond-true (nat_eq x k) v (slice_index next (spot.base + k)) (eq-eqb x k same)))
       (λ apart.
       get_or-set_other next (spot.base + x) (spot.base + k) v 0 (λ e. apart (omega arith))
-      ∙ sym (if_false (nat_eq x k) v (slice_index next (spot.base + k)) (eq_false x k apart)))
-      (same_or x k)
+      ∙ sym (cond-false (nat_eq x k) v (slice_index next (spot.base + k)) (ne_eqb x k apart)))
+      (cases_eq x k)
   set_register k next (Store j x y) l = refl
   set_register k next (Write text arguments) l = refl
 

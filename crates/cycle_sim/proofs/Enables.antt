@@ -1,9 +1,11 @@
 -- The threads that the outermost module enables.
-use Rattle.std.specs.Prelude.{◌≡◌, ℕ, zero, suc, Bool, true, false, List, [], ◌∷◌, ◌++◌, Some, slice_get, option_map, codes, if◌then◌else◌, refl}
+use Rattle.std.specs.Prelude.{◌≡◌, ℕ, zero, suc, false, List, [], ◌∷◌, ◌++◌, Some, slice_get, option_map, codes, if◌then◌else◌, refl}
 use Rattle.std.specs.Str.{bytes_eq}
 use Rattle.std.proofs.Common.{ap, sym, ◌∙◌, subst, arith}
 use Rattle.std.proofs.lemmas.Option.{slice_get-map, same_Some, none-some}
 use Rattle.std.proofs.lemmas.Slice.Eq.{bytes_eq-Decides}
+use Rattle.std.proofs.lemmas.Bool.{false_from_ne_true}
+use Rattle.lists.proofs.Places.{get_front}
 use Rattle.netlist.specs.declared.netlist.Signal.{Signal}
 use Rattle.netlist.specs.declared.netlist.Module.{Module}
 use Rattle.netlist.specs.Laid.{signal_names, memory_names, instance_names, declared_names}
@@ -20,10 +22,6 @@ narrow_top modules number is right x s at =
 pub threads_top : (modules : List Module) (number : ℕ) → IsTopNumber modules number → enable_width (signals_of (slice_get modules number)) ≡ threads_of modules
 threads_top modules number is = ap (λ o. enable_width (signals_of o)) is.stands ∙ sym (ap enables is.is_top)
 
-is_false : (b : Bool) → (b ≡ true → ⊥) → b ≡ false
-is_false true h = absurd (h refl)
-is_false false h = refl
-
 -- the one signal of the name `en`
 pub enable_at : (signals : List Signal) (x : ℕ) (s : Signal) → slice_get signals x ≡ Some s → s.name ≡ codes "en"
     → ((y : ℕ) (t : Signal) → slice_get signals y ≡ Some t → t.name ≡ codes "en" → y ≡ x) → enable_width signals ≡ s.width
@@ -33,21 +31,16 @@ enable_at (t ∷ signals) zero s at named one =
     ap (λ b. if b then t.width else enable_width signals) ((bytes_eq-Decides t.name (codes "en")).1 (ap (λ (u : Signal). u.name) same ∙ named)) ∙ ap (λ (u : Signal). u.width) same
 enable_at (t ∷ signals) (suc x) s at named one =
     let other : bytes_eq t.name (codes "en") ≡ false =
-    is_false (bytes_eq t.name (codes "en")) (λ e. let z : 0 ≡ suc x = one 0 t refl ((bytes_eq-Decides t.name (codes "en")).0 e) in absurd (omega (arith, z))) in
+    false_from_ne_true (bytes_eq t.name (codes "en")) (λ e. let z : 0 ≡ suc x = one 0 t refl ((bytes_eq-Decides t.name (codes "en")).0 e) in absurd (omega (arith, z))) in
     ap (λ b. if b then t.width else enable_width signals) other
     ∙ enable_at signals x s at named (λ y u there is. let z : suc y ≡ suc x = one (suc y) u there is in omega (arith, z))
 
 -- ---- of a sound netlist
 
-in_front : {A : Type 0} (xs ys : List A) (i : ℕ) (x : A) → slice_get xs i ≡ Some x → slice_get (xs ++ ys) i ≡ Some x
-in_front [] ys i x h = absurd (none-some x h)
-in_front (y ∷ xs) ys zero x h = h
-in_front (y ∷ xs) ys (suc i) x h = in_front xs ys i x h
-
 signal_named : (m : Module) (x : ℕ) (s : Signal) → slice_get m.signals x ≡ Some s → s.name ≡ codes "en" → slice_get (declared_names m) x ≡ Some (codes "en")
 signal_named m x s at named =
-    in_front (signal_names m ++ memory_names m) (instance_names m) x (codes "en")
-    (in_front (signal_names m) (memory_names m) x (codes "en") (slice_get-map (λ (t : Signal). t.name) m.signals x ∙ ap (option_map (λ (t : Signal). t.name)) at ∙ ap Some named))
+    get_front (signal_names m ++ memory_names m) (instance_names m) x (codes "en")
+    (get_front (signal_names m) (memory_names m) x (codes "en") (slice_get-map (λ (t : Signal). t.name) m.signals x ∙ ap (option_map (λ (t : Signal). t.name)) at ∙ ap Some named))
 
 pub threads_of_sound : ThreadsOfSound
 threads_of_sound n sound top x s is_top is =

@@ -2,6 +2,7 @@
 use Rattle.std.specs.Prelude.{◌≡◌, ℕ, zero, suc, ◌+◌, ◌<◌, Bool, List, [], ◌∷◌, ◌++◌, length, slice_index, slice_index_or, false, Option, Some, None, option_and_then, slice_get, refl}
 use Rattle.std.proofs.Common.{ap, sym, ◌∙◌, subst, ⊎_elim, arith}
 use Rattle.std.proofs.lemmas.Option.{slice_get_within}
+use Rattle.lists.proofs.Places.{get_there}
 use Rattle.netlist.specs.declared.netlist.Source.{Source}
 use Rattle.netlist.specs.declared.netlist.Source.TheVariants.{Input, Register, Assigned, Port}
 use Rattle.netlist.specs.declared.netlist.Signal.{Signal}
@@ -55,20 +56,12 @@ module _ {modules : List Module} {t : Module} {parts : List Part} {numbers : Lis
     pub part : Part
     pub is : IsPart modules parts (place_of parts path) part m
 
-  some_part : (q : ℕ) → q < length parts → (p : Part) × (slice_get parts q ≡ Some p)
-  some_part q l = first parts q l
-    where
-      first : (ps : List Part) (q : ℕ) → q < length ps → (p : Part) × (slice_get ps q ≡ Some p)
-      first [] q l = absurd (omega arith)
-      first (p ∷ ps) zero l = (p, refl)
-      first (p ∷ ps) (suc q) l = first ps q (omega arith)
-
   pub found : (path : Path) (m : Module) → module_at modules t path ≡ Some m → Found path m
   found path m at =
       let stands = tree_stands modules l.number l.kinds l.children t l.tree l.top_at path m at in
       let kind_there : slice_get l.kinds (place_of parts path) ≡ Some stands.0 = ap (slice_get l.kinds) (place_same path) ∙ stands.1 in
       let low = slice_get_within l.kinds (place_of parts path) stands.0 kind_there in
-      let p = some_part (place_of parts path) (let w = l.whole in omega (arith, w, low)) in
+      let p = get_there parts (place_of parts path) (let w = l.whole in omega (arith, w, low)) in
       let same : Some (p.0).module ≡ Some stands.0 = sym (l.placed.each (place_of parts path) p.0 p.1).0 ∙ kind_there in
       let kind_is : stands.0 ≡ (p.0).module = cc in
       record { part = p.0; is = record { listed = p.1; kind = subst (λ k. slice_get modules k ≡ Some m) kind_is stands.2 } }

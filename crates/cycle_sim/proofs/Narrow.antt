@@ -1,6 +1,8 @@
 -- A laid module has signals of 1 to 64 bits, and its right sides and values read only these.
 use Rattle.std.specs.Prelude.{◌≡◌, ℕ, suc, ◌+◌, ◌-◌, ◌==◌, ◌<◌, ◌≤◌, Bool, true, false, ◌&&◌, nat_lt, nat_le, List, [], ◌∷◌, map, length, Option, Some, None, slice_get, if◌then◌else◌, refl}
 use Rattle.std.proofs.Common.{ap, subst, arith}
+use Rattle.std.proofs.lemmas.Bool.{ltb-true, leb-true, and_parts}
+use Rattle.lists.proofs.Places.{get_there}
 use Rattle.verilog_tree.specs.Scope.{is_clk}
 use Rattle.netlist.specs.declared.netlist.Value.{Value}
 use Rattle.netlist.specs.declared.netlist.Value.TheVariants as v
@@ -20,7 +22,6 @@ use Rattle.netlist.specs.Sound as sound
 use Rattle.verilog_meaning.specs.Readings.{width, signal_width}
 use Rattle.verilog_meaning.specs.Threads.{operands}
 use Rattle.sim_values.specs.Flat.{EachOf, IsWide, HasRoom, IsNarrowSource, IsNarrowArgument, IsNarrowEffect, IsNarrowAction}
-use Rattle.cycle_sim.proofs.Fits.{some_at, left_true, right_true, at_most, below}
 
 same_operands : (a : Value) → laid.operands a ≡ operands a
 same_operands (v.Copy x) = refl
@@ -40,7 +41,7 @@ same_operands (v.Replication n x) = refl
 module _ (m : Module) (before : List Module) (is : IsLaidModule before m) where
   one_wide : (x : ℕ) → x < length m.signals → IsWide m x
   one_wide x l =
-      let s = some_at m.signals x l in
+      let s = get_there m.signals x l in
       let w : width m x ≡ (s.0).width = ap signal_width s.1 in
       let at = is.signals x s.0 s.1 in
       (let low = at.low in omega arith, let high = at.high in omega arith)
@@ -59,10 +60,10 @@ module _ (m : Module) (before : List Module) (is : IsLaidModule before m) where
 
   room : (a : Value) (w : ℕ) → value_fits m a w ≡ true → HasRoom a
   room (v.Select x high low) w e =
-      let rest = right_true (nat_le low high) (nat_lt high (sound.width m x) && (nat_lt 1 (sound.width m x) && w == high - low + 1)) e in
-      let l = below high (sound.width m x) (left_true (nat_lt high (sound.width m x)) (nat_lt 1 (sound.width m x) && w == high - low + 1) rest) in
+      let rest = (and_parts (nat_le low high) (nat_lt high (sound.width m x) && (nat_lt 1 (sound.width m x) && w == high - low + 1)) e).1 in
+      let l = ltb-true high (sound.width m x) (and_parts (nat_lt high (sound.width m x)) (nat_lt 1 (sound.width m x) && w == high - low + 1) rest).0 in
       let most : sound.width m x ≤ 64 = width_most (slice_get m.signals x) x refl in
-      (at_most low high (left_true (nat_le low high) (nat_lt high (sound.width m x) && (nat_lt 1 (sound.width m x) && w == high - low + 1)) e), omega arith)
+      (leb-true low high (and_parts (nat_le low high) (nat_lt high (sound.width m x) && (nat_lt 1 (sound.width m x) && w == high - low + 1)) e).0, omega arith)
   room (v.Copy x) w e = tt
   room (v.Constant n) w e = tt
   room (v.BitwiseNot x) w e = tt

@@ -2,7 +2,7 @@
 use Rattle.std.specs.Prelude.{◌≡◌, ℕ, zero, suc, ◌<◌, ◌≤◌, ◌⊎◌, nat_eq, if◌then◌else◌}
 use Rattle.std.proofs.Common.{sym, ◌∙◌, subst, inl, inr, ⊎_elim, arith}
 use Rattle.std.proofs.lemmas.Bool.Decides.{nat_tests}
-use Rattle.sim_values.proofs.Settles.{same_or, if_true, if_false}
+use Rattle.std.proofs.lemmas.Bool.{cases_eq, cond-false, cond-true}
 use Rattle.sim_values.proofs.Trees.{front_or_back}
 
 pub record AreTwice (f : ℕ → ℕ) (most : ℕ) : Type 0 where
@@ -23,7 +23,7 @@ some_one f value (suc n) = ⊎_elim
     (λ none. ⊎_elim
     (λ (here : f n ≡ value). inl (n, omega arith, here))
     (λ (other : f n ≡ value → ⊥). inr (λ k l e. last k l e none other))
-    (same_or (f n) value))
+    (cases_eq (f n) value))
     (some_one f value n)
   where
     last : (k : ℕ) → k < suc n → f k ≡ value → ((k : ℕ) → k < n → f k ≡ value → ⊥) → (f n ≡ value → ⊥) → ⊥
@@ -37,10 +37,10 @@ abbrev instead : ℕ → ℕ → ℕ → ℕ
 instead m value n = if nat_eq n m then value else n
 
 instead_same : (m value n : ℕ) → n ≡ m → instead m value n ≡ value
-instead_same m value n e = if_true (nat_eq n m) value n (grind (arith, nat_tests))
+instead_same m value n e = cond-true (nat_eq n m) value n (grind (arith, nat_tests))
 
 instead_other : (m value n : ℕ) → (n ≡ m → ⊥) → instead m value n ≡ n
-instead_other m value n ne = if_false (nat_eq n m) value n (grind (arith, nat_tests))
+instead_other m value n ne = cond-false (nat_eq n m) value n (grind (arith, nat_tests))
 
 pub twice : (n : ℕ) (f : ℕ → ℕ) → ((k : ℕ) → k ≤ n → f k < n) → AreTwice f n
 twice zero f below = absurd (let l = below 0 (omega arith) in omega (arith, l))
@@ -59,7 +59,7 @@ twice (suc m) f below = ⊎_elim
     let g = instead_other m value (f k) ne in
     let b = below k (omega (arith, l)) in
     let z : f k < m = ⊎_elim (λ (less : f k < m). less) (λ (same : f k ≡ m). absurd (ne same)) (below_or (f k) m b) in omega (arith, g, z))
-    (same_or (f k) m) in
+    (cases_eq (f k) m) in
     let t = twice m (λ k. instead m value (f k)) low in
     let before = t.before in
     let within = t.within in
@@ -73,12 +73,12 @@ twice (suc m) f below = ⊎_elim
           (λ (g : f t.other ≡ m). e ∙ sym g)
           (λ (h : f t.other ≡ m → ⊥).
           absurd (none t.other (omega (arith, within)) (sym (instead_other m value (f t.other) h) ∙ sym t.same ∙ instead_same m value (f t.first) e)))
-          (same_or (f t.other) m))
+          (cases_eq (f t.other) m))
           (λ (h : f t.first ≡ m → ⊥). ⊎_elim
           (λ (g : f t.other ≡ m).
           absurd (none t.first (omega (arith, before, within)) (sym (instead_other m value (f t.first) h) ∙ t.same ∙ instead_same m value (f t.other) g)))
           (λ (i : f t.other ≡ m → ⊥). sym (instead_other m value (f t.first) h) ∙ t.same ∙ instead_other m value (f t.other) i)
-          (same_or (f t.other) m))
-          (same_or (f t.first) m);
+          (cases_eq (f t.other) m))
+          (cases_eq (f t.first) m);
     })
     (some_one f (f (suc m)) (suc m))

@@ -4,6 +4,7 @@ use Rattle.std.proofs.Common.{ap, sym, ◌∙◌, subst, ⊎_elim}
 use Rattle.std.proofs.lemmas.List.{get_or-set_same, get_or-set_other}
 use Rattle.std.proofs.lemmas.Option.{slice_get_within}
 use Rattle.std.proofs.Math.ListN.{length-set}
+use Rattle.std.proofs.lemmas.Bool.{cases_eq}
 use Rattle.netlist.specs.declared.netlist.Signal.{Signal}
 use Rattle.netlist.specs.declared.netlist.Memory.{Memory}
 use Rattle.netlist.specs.declared.netlist.Module.{Module}
@@ -14,7 +15,6 @@ use Rattle.sim_values.specs.declared.edge.Part.{Part}
 use Rattle.sim_values.specs.Stands.{place_of, spot_of, kind_of, spot_at, word_of, IsPlan}
 use Rattle.sim_layout.specs.Running.{Running, IsPart, IsApart, Stands}
 use Rattle.cycle_sim.specs.Putting.{FitsAt, with_number, place_of_word, FitsWordAt, with_word}
-use Rattle.sim_values.proofs.Settles.{same_or}
 
 module _ (r : Running) (st : Stands r) where
   -- the part of a path
@@ -43,7 +43,7 @@ module _ (r : Running) (st : Stands r) where
         (sym (ap (slice_index (slice_set r.numbers place number)) same ∙ get_or-set_same r.numbers place number 0 (subst (λ k. k < length r.numbers) same (signal_room path m x s at))))
         (fits st.top st.is_top path m x s at i same))
         (λ apart. subst (λ n. n < 2 ^ s.width) (sym (get_or-set_other r.numbers place (word_of r.parts path x) number 0 apart)) (st.state.registers path m x s at i))
-        (same_or (word_of r.parts path x) place)
+        (cases_eq (word_of r.parts path x) place)
 
     pub put_stands : FitsAt r place number → Stands (with_number r place number)
     put_stands fits = record {
@@ -65,7 +65,7 @@ module _ (r : Running) (st : Stands r) where
         (sym (ap (slice_index (slice_set r.words place number)) same ∙ get_or-set_same r.words place number 0 (subst (λ p. p < length r.words) same (word_room path m j k s at l))))
         (fits st.top st.is_top path m j k s at l same))
         (λ apart. subst (λ n. n < 2 ^ s.width) (sym (get_or-set_other r.words place (place_of_word r path j k) number 0 apart)) (st.state.words path m j k s at l))
-        (same_or (place_of_word r path j k) place)
+        (cases_eq (place_of_word r path j k) place)
 
     pub put_word_stands : FitsWordAt r place number → Stands (with_word r place number)
     put_word_stands fits = record {

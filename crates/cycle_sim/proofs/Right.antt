@@ -4,6 +4,8 @@ use Rattle.std.specs.Prelude.{filter, take, Option, Some, None, option_and_then,
 use Rattle.std.proofs.Common.{ap, sym, ◌∙◌, subst, ⊎_elim, arith}
 use Rattle.std.specs.Str.{bytes_eq}
 use Rattle.std.proofs.lemmas.Option.{same_Some, slice_get_within}
+use Rattle.std.proofs.lemmas.Bool.{ltb-true}
+use Rattle.lists.proofs.Places.{get_there, get_left}
 use Rattle.verilog_tree.specs.Scope.{is_clk}
 use Rattle.netlist.specs.declared.netlist.Source.{Source}
 use Rattle.netlist.specs.declared.netlist.Source.TheVariants as source
@@ -24,8 +26,8 @@ use Rattle.circuit.specs.Modules.{Has, FitsAction, FitsMemory}
 use Rattle.circuit.specs.Nets.{FitsSource, FitsNet, FitsStatements}
 use Rattle.sim_layout.specs.Running.{IsRight}
 use Rattle.cycle_sim.specs.Opened.{IsRightNet}
-use Rattle.sim_values.proofs.Trees.{opened, get_front, get_back, front_or_back}
-use Rattle.cycle_sim.proofs.Fits.{some_at, each_listed, has_it, wide_read, value_right, action_right, memory_right, below}
+use Rattle.sim_values.proofs.Trees.{opened, get_back, front_or_back}
+use Rattle.cycle_sim.proofs.Fits.{each_listed, has_it, wide_read, value_right, action_right, memory_right}
 use Rattle.cycle_sim.proofs.Narrow.{narrow_source, narrow_actions}
 
 -- ---- lists
@@ -59,7 +61,7 @@ shorter p (x ∷ xs) = shorter_by (p x) x (filter p xs) (length xs) (shorter p x
 
 -- names that are apart are so in a part of the list
 apart_front : (a b : List (List ℕ)) → AreApart (a ++ b) → AreApart a
-apart_front a b apart i j x e f = apart i j x (get_front a b i (slice_get_within a i x e) ∙ e) (get_front a b j (slice_get_within a j x f) ∙ f)
+apart_front a b apart i j x e f = apart i j x (get_left a b i (slice_get_within a i x e) ∙ e) (get_left a b j (slice_get_within a j x f) ∙ f)
 
 apart_back : (a b : List (List ℕ)) → AreApart (a ++ b) → AreApart b
 apart_back [] b apart = apart
@@ -116,7 +118,7 @@ module _ (m : Module) (x : ℕ) (s : Signal) (is : s.source ≡ source.Input) wh
   input_first order listed =
       let at : slice_get (input_signals m ++ inner_signals m ++ output_signals m) x ≡ Some s = ap (λ l. slice_get l x) (sym order) ∙ listed in
       ⊎_elim
-      (λ l. in_front (sym (get_front (input_signals m ++ inner_signals m) (output_signals m) x l) ∙ at))
+      (λ l. in_front (sym (get_left (input_signals m ++ inner_signals m) (output_signals m) x l) ∙ at))
       (λ i. not_output i.0 (sym (get_back (input_signals m ++ inner_signals m) (output_signals m) x i.0 i.1) ∙ at))
       (front_or_back x (length (input_signals m ++ inner_signals m)))
 
@@ -157,7 +159,7 @@ module _ (n : Netlist) (is : IsSound n) (top : Module) (top_is : top_of n.module
         let outputs : length (d.instance).outputs ≡ length (output_signals d.of) = l.outputs ∙ ap (λ (z : Module). length (output_signals z)) same in
         let few = slice_get_within (d.instance).outputs d.output x d.tied in
         let room = shorter (λ (t : Signal). is_output_port (kind_of t)) (d.of).signals in
-        let p = some_at (d.of).signals (first_output d.of + d.output) (omega (arith, outputs, few, room)) in
+        let p = get_there (d.of).signals (first_output d.of + d.output) (omega (arith, outputs, few, room)) in
         let wide : sound.width m x ≡ (p.0).width = ((sound_module).instances i d.instance d.stands).outputs d.of d.earlier d.output x d.tied p.0 p.1 in
         let low = ((is.laid.modules (d.instance).of d.of listed_there).signals (first_output d.of + d.output) p.0 p.1).low in
         let own : s.width ≡ sound.width m x = wide_read m x s at.listed (omega (arith, wide, low)) in (
@@ -178,7 +180,7 @@ module _ (n : Netlist) (is : IsSound n) (top : Module) (top_is : top_of n.module
         let earlier : slice_get (take r.0 n.modules) (h.instance).of ≡ Some m = l.earlier ∙ ap Some same in
         let inputs : length (h.instance).inputs ≡ length (input_signals m) = l.inputs ∙ ap (λ (z : Module). length (input_signals z)) same in
         let first = input_first m x s input (laid_module).order at in
-        let y = some_at (h.instance).inputs x (omega (arith, inputs, first)) in
+        let y = get_there (h.instance).inputs x (omega (arith, inputs, first)) in
         let fits = ((is.modules r.0 h.holder r.1).instances i h.instance h.listed).inputs m earlier x y.0 y.1 s at in
         let there : connected n.modules top (instance_at n.modules top outer i) x ≡ y.0 =
         ap (λ o. connected n.modules top o x) (ap (option_and_then (λ (z : Module). slice_get z.instances i)) h.stands ∙ h.listed) ∙ ap or_zero y.1 in (
@@ -196,7 +198,7 @@ module _ (n : Netlist) (is : IsSound n) (top : Module) (top_is : top_of n.module
 
       drives : (x : ℕ) (s : Signal) (at : slice_get m.signals x ≡ Some s) (from : Source) → s.source ≡ from → IsSource (take k n.modules) m x s.is_output from
           → source_fits m from s.width ≡ true → FitsSource n.modules top path m x s.width from
-      drives x s at (source.Register initial) e laid fits = below initial (2 ^ s.width) fits
+      drives x s at (source.Register initial) e laid fits = ltb-true initial (2 ^ s.width) fits
       drives x s at (source.Assigned a) e laid fits = value_right m s.width a laid.1 fits
       drives x s at (source.Port i port) e laid fits = port_fits path x s i port (record { stands = stands; listed = at }) laid
       drives x s at source.Input e laid fits = by_path x s at e path stands

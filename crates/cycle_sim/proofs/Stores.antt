@@ -4,6 +4,7 @@ use Rattle.std.proofs.Common.{ap, sym, ◌∙◌, subst, ⊎_elim, arith}
 use Rattle.std.proofs.lemmas.List.{get_or-set_same, get_or-set_other}
 use Rattle.std.proofs.lemmas.Bool.Decides.{nat_tests}
 use Rattle.std.proofs.Math.ListN.{length-set}
+use Rattle.std.proofs.lemmas.Bool.{ltb-true, and_right, and_left, and_from, cases_eq, ne_eqb, eq-eqb, cond-false, cond-true}
 use Rattle.netlist.specs.declared.netlist.Effect.{Effect}
 use Rattle.netlist.specs.declared.netlist.Effect.TheVariants.{Set, Store, Write}
 use Rattle.netlist.specs.declared.netlist.Action.{Action}
@@ -12,22 +13,6 @@ use Rattle.verilog_meaning.specs.Readings.{is_on, stored_by, word_after, memory_
 use Rattle.sim_values.specs.declared.value.Spot.{Spot}
 use Rattle.sim_values.specs.declared.edge.Part.{Part}
 use Rattle.sim_values.specs.Flat.{Flat, EachOf, reading, with_words, stored_word, act_word, acted_words, part_words, all_words}
-use Rattle.sim_values.proofs.Settles.{same_or, eq_true, eq_false, if_true, if_false}
-
-both_true : (p q : Bool) → p ≡ true → q ≡ true → (p && q) ≡ true
-both_true true q e g = g
-both_true false q e g = absurd cc
-
-left_false : (p q : Bool) → p ≡ false → (p && q) ≡ false
-left_false true q e = absurd cc
-left_false false q e = refl
-
-right_false : (p q : Bool) → q ≡ false → (p && q) ≡ false
-right_false true q e = e
-right_false false q e = refl
-
-less_of : (a b : ℕ) → nat_lt a b ≡ true → a < b
-less_of a b e = grind (arith, nat_tests)
 
 not_less : (a b : ℕ) → nat_lt a b ≡ false → a < b → ⊥
 not_less a b e l = grind (arith, nat_tests)
@@ -77,24 +62,24 @@ module _ (m : Module) (spot : Spot) (f : Flat) where
         let at : start i + a ≡ start j + k = let s = ap start one in omega arith in
         ap (λ (p : ℕ). slice_index (slice_set ws p v) (start j + k)) at
         ∙ get_or-set_same ws (start j + k) v 0 l
-        ∙ sym (if_true (nat_eq i j && nat_eq a k) v old (both_true (nat_eq i j) (nat_eq a k) (eq_true i j one) (eq_true a k same))))
+        ∙ sym (cond-true (nat_eq i j && nat_eq a k) v old (and_from (nat_eq i j) (nat_eq a k) (eq-eqb i j one) (eq-eqb a k same))))
         (λ other.
         get_or-set_other ws (start i + a) (start j + k) v 0 (λ q. other (let s = ap start one in omega arith))
-        ∙ sym (if_false (nat_eq i j && nat_eq a k) v old (right_false (nat_eq i j) (nat_eq a k) (eq_false a k other))))
-        (same_or a k))
+        ∙ sym (cond-false (nat_eq i j && nat_eq a k) v old (and_right (nat_eq i j) (nat_eq a k) (ne_eqb a k other))))
+        (cases_eq a k))
         (λ other.
-        get_or-set_other ws (start i + a) (start j + k) v 0 (λ q. other (apart i a (less_of a (size i) e) (sym q)))
-        ∙ sym (if_false (nat_eq i j && nat_eq a k) v old (left_false (nat_eq i j) (nat_eq a k) (eq_false i j other))))
-        (same_or i j)
+        get_or-set_other ws (start i + a) (start j + k) v 0 (λ q. other (apart i a (ltb-true a (size i) e) (sym q)))
+        ∙ sym (cond-false (nat_eq i j && nat_eq a k) v old (and_left (nat_eq i j) (nat_eq a k) (ne_eqb i j other))))
+        (cases_eq i j)
     store_by false i a v ws e l =
         let old = slice_index ws (start j + k) in
         ⊎_elim
         (λ one. ⊎_elim
         (λ same. absurd (not_less a (size i) e (let s = ap size one in omega arith)))
-        (λ other. sym (if_false (nat_eq i j && nat_eq a k) v old (right_false (nat_eq i j) (nat_eq a k) (eq_false a k other))))
-        (same_or a k))
-        (λ other. sym (if_false (nat_eq i j && nat_eq a k) v old (left_false (nat_eq i j) (nat_eq a k) (eq_false i j other))))
-        (same_or i j)
+        (λ other. sym (cond-false (nat_eq i j && nat_eq a k) v old (and_right (nat_eq i j) (nat_eq a k) (ne_eqb a k other))))
+        (cases_eq a k))
+        (λ other. sym (cond-false (nat_eq i j && nat_eq a k) v old (and_left (nat_eq i j) (nat_eq a k) (ne_eqb i j other))))
+        (cases_eq i j)
 
     stored_own : (ws : List ℕ) (e : Effect) → start j + k < length ws
         → slice_index (stored_word m spot (with_words f ws) e) (start j + k) ≡ stored_by (reading spot f) e j k (slice_index ws (start j + k))
@@ -128,7 +113,7 @@ module _ (m : Module) (spot : Spot) (f : Flat) where
 
   store_missed : (b : Bool) (p j a v : ℕ) (ws : List ℕ) → nat_lt a (size j) ≡ b → ((c : ℕ) → c < size j → p ≡ start j + c → ⊥)
       → slice_index (if b then slice_set ws (start j + a) v else ws) p ≡ slice_index ws p
-  store_missed true p j a v ws e misses = get_or-set_other ws (start j + a) p v 0 (misses a (less_of a (size j) e))
+  store_missed true p j a v ws e misses = get_or-set_other ws (start j + a) p v 0 (misses a (ltb-true a (size j) e))
   store_missed false p j a v ws e misses = refl
 
   stored_missed : (p : ℕ) (ws : List ℕ) (e : Effect) → Misses p e → slice_index (stored_word m spot (with_words f ws) e) p ≡ slice_index ws p

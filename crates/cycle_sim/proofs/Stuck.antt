@@ -2,6 +2,8 @@
 use Rattle.std.specs.Prelude.{◌≡◌, ℕ, zero, suc, ◌+◌, ◌<◌, ◌≤◌, Bool, true, false, List, [], ◌∷◌, map, length, Option, Some, None, slice_get, slice_index_or, refl}
 use Rattle.std.proofs.Common.{ap, sym, ◌∙◌, subst, inl, inr, ⊎_elim, arith}
 use Rattle.std.proofs.lemmas.Option.{slice_get_within}
+use Rattle.std.proofs.lemmas.Bool.{both_ways}
+use Rattle.lists.proofs.Places.{get_there}
 use Rattle.netlist.specs.declared.netlist.Source.{Source}
 use Rattle.netlist.specs.declared.netlist.Source.TheVariants.{Input, Register, Assigned, Port}
 use Rattle.netlist.specs.declared.netlist.Value.{Value}
@@ -52,11 +54,6 @@ wide_signal (Some s) l = (s, refl)
 some_module : (x : ℕ) (o : Option Module) → x < length (signals_of o) → (m : Module) × (o ≡ Some m)
 some_module x None l = absurd (omega arith)
 some_module x (Some m) l = (m, refl)
-
-listed_at : (ss : List Signal) (x : ℕ) → x < length ss → (s : Signal) × (slice_get ss x ≡ Some s)
-listed_at [] x l = absurd (omega arith)
-listed_at (s ∷ ss) zero l = (s, refl)
-listed_at (s ∷ ss) (suc x) l = listed_at ss x (omega arith)
 
 module _ {modules : List Module} {t : Module} {parts : List Part} {numbers : List ℕ} {free : List Bool} {words starts : List ℕ} {wires : List Step} {prefs : ℕ}
     (l : IsLaidOut modules t parts numbers free words starts wires prefs) where
@@ -221,9 +218,6 @@ module _ {modules : List Module} {t : Module} {parts : List Part} {numbers : Lis
       pub left : IsLeft place
       pub depends : Depends modules t p place
 
-    not_both : (b : Bool) → b ≡ true → b ≡ false → ⊥
-    not_both b e f = cc
-
     is_free : (source : Source) → IsRegister source → is_register source ≡ true
     is_free Input r = absurd r
     is_free (Register n) r = refl
@@ -234,8 +228,8 @@ module _ {modules : List Module} {t : Module} {parts : List Part} {numbers : Lis
     next_of p left =
         let here = left.is in
         let lacks : IsRegister (here.signal).source → ⊥ =
-        λ r. not_both (slice_index_or stuck.marks (word_at p) false)
-        (stuck.free_known (word_at p) (register_free l p.0 here.kind p.1 here.signal here.is ∙ is_free (here.signal).source r)) left.clear in
+        λ r. both_ways (slice_index_or stuck.marks (word_at p) false)
+        left.clear (stuck.free_known (word_at p) (register_free l p.0 here.kind p.1 here.signal here.is ∙ is_free (here.signal).source r)) in
         let h = has_step l p.0 here.kind p.1 here.signal here.is lacks in
         let target = gives_target l p.0 p.1 (here.signal).name (here.signal).source h.step_is h.gives in
         let room = in_room l p.0 here.kind p.1 here.signal here.is in
@@ -318,7 +312,7 @@ module _ {modules : List Module} {t : Module} {parts : List Part} {numbers : Lis
       let x = loop.signal in
       let loops = first.loops in
       let m = some_module x (slice_get modules p.module) loops.inside in
-      let s = listed_at (m.0).signals x (subst (λ o. x < length (signals_of o)) m.1 loops.inside) in
+      let s = get_there (m.0).signals x (subst (λ o. x < length (signals_of o)) m.1 loops.inside) in
       let r = part_at l first.number p first.listed m.0 m.1 in
       let here : IsSignalAt (r.0, x) = record { kind = m.0; signal = s.0; is = record { stands = r.2; listed = s.1 } } in
       let f = found l r.0 m.0 r.2 in

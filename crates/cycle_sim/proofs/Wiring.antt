@@ -1,6 +1,7 @@
 -- The steps of a net have one for each signal that is no register and no input of the outermost module.
 use Rattle.std.specs.Prelude.{◌≡◌, ℕ, zero, suc, ◌+◌, ◌≤◌, ◌⊎◌, List, [], ◌∷◌, ◌++◌, length, Some, slice_get, refl}
 use Rattle.std.proofs.Common.{ap, sym, ◌∙◌, subst, inl, inr, ⊎_elim, arith}
+use Rattle.lists.proofs.Places.{get_left}
 use Rattle.netlist.specs.declared.netlist.Source.{Source}
 use Rattle.netlist.specs.declared.netlist.Source.TheVariants.{Input, Register, Assigned, Port}
 use Rattle.netlist.specs.declared.netlist.Signal.{Signal}
@@ -13,7 +14,7 @@ use Rattle.sim_values.specs.Order.{Takes}
 use Rattle.sim_values.specs.Stands.{step}
 use Rattle.sim_layout.specs.Wires.{steps_to, own_feed, own_steps, join_feed, join_steps, instance_steps, all_instances, part_steps, all_steps}
 use Rattle.sim_values.proofs.Orders.{get_more}
-use Rattle.sim_values.proofs.Trees.{get_front, get_back, front_or_back}
+use Rattle.sim_values.proofs.Trees.{get_back, front_or_back}
 
 pub takes_left : (xs ys : List Step) (s : Step) → Takes xs s → Takes (xs ++ ys) s
 takes_left xs ys s t = (t.0, get_more xs ys t.0 s t.1)
@@ -86,7 +87,7 @@ module _ (modules : List Module) (parts : List Part) where
 
 pub takes_split : (xs ys : List Step) (s : Step) → Takes (xs ++ ys) s → Takes xs s ⊎ Takes ys s
 takes_split xs ys s t = ⊎_elim
-    (λ l. inl (t.0, sym (get_front xs ys t.0 l) ∙ t.1))
+    (λ l. inl (t.0, sym (get_left xs ys t.0 l) ∙ t.1))
     (λ b. inr (b.0, sym (get_back xs ys t.0 b.0 b.1) ∙ t.1))
     (front_or_back t.0 (length xs))
 

@@ -4,10 +4,10 @@ use Rattle.std.proofs.Common.{sym, ap, ◌∙◌, get_or}
 use Rattle.std.proofs.Math.Seq.{drop-cons}
 use Rattle.std.specs.Str.{bytes_eq}
 use Rattle.std.proofs.lemmas.Option.{slice_get-get_or}
+use Rattle.std.proofs.lemmas.Bool.{cond-true}
 use Rattle.verilog_meaning.specs.Names.{module_named}
 use Rattle.netlist.specs.declared.netlist.Module.{Module}
 use Rattle.cycle_sim.specs.Opened.{IsTopNumber}
-use Rattle.sim_values.proofs.Settles.{if_true}
 
 -- the first module of the name `top`
 pub top_here : (modules : List Module) (i : ℕ) (m : Module) → i < length modules → m ≡ get_or modules i m → bytes_eq (codes "top") m.name ≡ true
@@ -16,6 +16,6 @@ top_here modules i m l is named e =
     let rest : drop i modules ≡ m ∷ drop (suc i) modules = drop-cons modules i m l ∙ ap (λ (k : Module). k ∷ drop (suc i) modules) (sym is) in
     record {
       top = m;
-      is_top = e ∙ ap (λ ms. module_named ms (codes "top")) rest ∙ if_true (bytes_eq (codes "top") m.name) (Some m) (module_named (drop (suc i) modules) (codes "top")) named;
+      is_top = e ∙ ap (λ ms. module_named ms (codes "top")) rest ∙ cond-true (bytes_eq (codes "top") m.name) (Some m) (module_named (drop (suc i) modules) (codes "top")) named;
       stands = slice_get-get_or modules i m l ∙ ap Some (sym is);
     }

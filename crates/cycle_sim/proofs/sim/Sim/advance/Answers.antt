@@ -1,8 +1,8 @@
 use Rattle.std.proofs.Common.{◌≡◌, ℕ, List, ◌++◌, length, take, drop, ap, sym, ◌∙◌, subst, arith}
+use Rattle.std.proofs.lemmas.List.{take_at}
 use Rattle.sim_values.specs.Flat.{all_numbers, all_words}
 use Rattle.sim_layout.specs.Running.{Running, running, Stands, flat, advanced}
 use Rattle.cycle_sim.proofs.Cycles.{advanced_stands}
-use Rattle.sim_layout.proofs.Calls.{whole_back}
 use Rattle.cycle_sim.proofs.sim.Sim.advance.Goals as goal
 
 pub invariant_of-self : goal.invariant_of-self
@@ -26,9 +26,9 @@ invariant_of-self c =
     let n_long : length numbers_of ≡ length i.numbers.items = c.pass_edge.auto.numbers ∙ ap length d in
     let x_long : length next_of ≡ length i.next.items = c.pass_edge.auto.next ∙ ap length e in
     let w_long : length words_of ≡ length i.words.items = c.pass_edge.auto.words ∙ ap length f in
-    let n_whole = whole_back i.numbers.len numbers_of (drop (length numbers_of) i.numbers.items) (omega (arith, i.numbers.ok.0)) in
-    let x_whole = whole_back i.next.len next_of (drop (length next_of) i.next.items) (omega (arith, i.next.ok.0)) in
-    let w_whole = whole_back i.words.len words_of (drop (length words_of) i.words.items) (omega (arith, i.words.ok.0)) in (
+    let n_whole = take_at numbers_of (drop (length numbers_of) i.numbers.items) i.numbers.len (omega (arith, i.numbers.ok.0)) in
+    let x_whole = take_at next_of (drop (length next_of) i.next.items) i.next.len (omega (arith, i.next.ok.0)) in
+    let w_whole = take_at words_of (drop (length words_of) i.words.items) i.words.len (omega (arith, i.words.ok.0)) in (
       subst (λ (ws : List ℕ). Stands (running r.modules r.parts r.steps (take i.numbers.len (numbers_of ++ drop (length numbers_of) i.numbers.items)) ws r.starts r.prefs r.done))
           (sym (w_whole ∙ words))
           (subst (λ (ns : List ℕ). Stands (running r.modules r.parts r.steps ns (all_words r.modules (flat r) r.parts) r.starts r.prefs r.done)) (sym (n_whole ∙ numbers)) stands),

@@ -1,8 +1,8 @@
 use Rattle.std.proofs.Common.{◌≡◌, ℕ, ◌+◌, List, length, drop, slice_index, slice_set, ap, sym, ◌∙◌, subst, arith}
 use Rattle.std.proofs.Math.ListN.{length-set}
+use Rattle.std.proofs.lemmas.List.{take_at}
 use Rattle.sim_layout.specs.Running.{Running, running, Stands}
 use Rattle.cycle_sim.specs.Putting.{FitsWordAt, with_word}
-use Rattle.sim_layout.proofs.Calls.{whole_back}
 use Rattle.cycle_sim.proofs.Putting.{put_word_stands}
 use Rattle.cycle_sim.proofs.sim.Sim.put_word.Goals as goal
 
@@ -17,7 +17,7 @@ invariant_of-self c =
     let given : put ≡ slice_set r.words place c.args.number =
     (let a = c.set_word_at.ensures in let b = c.number_at-start.ensures in let d = c.as_mut_slice.ensures.value in let e = c.as_slice.ensures.value in cc) in
     let long : length put ≡ length i.words.items = ap length given ∙ length-set r.words place c.args.number in
-    let whole = whole_back i.words.len put (drop (length put) i.words.items) (omega (arith, i.words.ok.0)) in
+    let whole = take_at put (drop (length put) i.words.items) i.words.len (omega (arith, i.words.ok.0)) in
     let stands : Stands (with_word r place c.args.number) = put_word_stands r c.self.invariant.0 place c.args.number fits in (
       subst (λ (ws : List ℕ). Stands (running r.modules r.parts r.steps r.numbers ws r.starts r.prefs r.done)) (sym (whole ∙ given)) stands,
       c.self.invariant.1,
