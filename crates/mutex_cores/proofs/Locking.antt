@@ -3,6 +3,7 @@ use Rattle.std.proofs.Common.{subst, ◌≡◌, ℕ, zero, suc, ◌+◌, ◌^◌
 use Rattle.std.proofs.Common.{if◌then◌else◌, refl, sym, ap, ◌∙◌, arith, add-zero, lit<}
 use Rattle.std.specs.Prelude.{◌&&◌, ◌||◌}
 use Rattle.std.proofs.lemmas.Option.{none-some}
+use Rattle.std.proofs.Math.Bool.{or-true}
 use Rattle.hls_ints.specs.Residues.{bit_of}
 use Rattle.netlist.specs.declared.netlist.Signal.{Signal}
 use Rattle.netlist.specs.declared.netlist.Memory.{Memory}
@@ -24,10 +25,6 @@ use Rattle.mutex_cores.specs.Mutex.{first_word, rows, IsShape, IsMutex}
 use Rattle.mutex_cores.specs.Machine.{Ask, ask_of, mutex_machine, mutex_places, first_lock, word_of_lock, Shows, part_place, inputs, is_late}
 use Rattle.mutex_cores.proofs.Locks.{is_taken, word_if, first_is, offered}
 use Rattle.core_turns.proofs.Edges.{one_after, tested, both_bits, a_bit}
-
-or_true : (b : Bool) → (b || true) ≡ true
-or_true true = refl
-or_true false = refl
 
 none_printed : (shape : Shape) (s : Lock) (f : ℕ → Ask) (o : Option ℕ) → [] ≡ printed (mutex_machine shape) s f o
 none_printed shape s f None = refl
@@ -71,7 +68,7 @@ module _ (shape : Shape) (ok : IsShape shape) (m : Module) (is : IsMutex shape m
   late_on : (x : ℕ) → chain n ≤ x → x < offers n → is_late shape x ≡ true
   late_on x b l =
       ap (λ t. is_between (grants n) (owner n) x || t) (between_on (chain n) (offers n) x b l)
-      ∙ or_true (is_between (grants n) (owner n) x)
+      ∙ or-true (is_between (grants n) (owner n) x)
 
   -- what is not late any signal reads
   read_early : (x y v : ℕ) → Has m y v → y < x → is_late shape y ≡ false → Reads m (is_late shape) x y v

@@ -2,6 +2,7 @@
 use Rattle.std.proofs.Common.{◌≡◌, ℕ, zero, suc, Bool, true, false, nat_eq, nat_lt, if◌then◌else◌, refl, sym, ap, ◌∙◌, arith}
 use Rattle.std.specs.Prelude.{not, ◌&&◌}
 use Rattle.std.proofs.lemmas.Bool.Decides.{nat_tests}
+use Rattle.std.proofs.lemmas.Bool.{eqb-true, and_right, and_left}
 use Rattle.hls_ints.specs.Residues.{bit_of}
 use Rattle.core_states.specs.Machines.{Lock, Unset, Free, Owned, is_owned, lock_eligible, lock_after}
 use Rattle.mutex_cores.specs.declared.mutex.Shape.{Shape}
@@ -42,30 +43,19 @@ offered true false = refl
 offered false true = refl
 offered false false = refl
 
-no_both : (a b : Bool) → a ≡ false → (a && b) ≡ false
-no_both true b e = absurd cc
-no_both false b e = refl
-
-not_second : (a b : Bool) → b ≡ false → (a && b) ≡ false
-not_second true b e = e
-not_second false b e = refl
-
 -- ---- what blocks
-
-same_number : (x y : ℕ) → nat_eq x y ≡ true → x ≡ y
-same_number x y e = grind (arith, nat_tests)
 
 blocked_by : (s : Lock) (a : Ask) (b c : Bool) → a.asks ≡ b → nat_eq a.operation 1 ≡ c → (b && not (c && is_owned s)) ≡ false → IsBlocked s a
 blocked_by s a false c p q e = Silent p
 blocked_by s a true false p q e = absurd cc
 blocked_by Unset a true true p q e = absurd cc
 blocked_by Free a true true p q e = absurd cc
-blocked_by (Owned j) a true true p q e = Taken (same_number a.operation 1 q) j refl
+blocked_by (Owned j) a true true p q e = Taken (eqb-true a.operation 1 q) j refl
 
 blocks : (shape : Shape) (s : Lock) (i : ℕ) (a : Ask) → IsBlocked s a → (mutex_machine shape).eligible s i a ≡ false
-blocks shape s i a (Silent e) = no_both a.asks (lock_eligible s a.operation) e
+blocks shape s i a (Silent e) = and_left a.asks (lock_eligible s a.operation) e
 blocks shape s i a (Taken e j o) =
-    not_second a.asks (lock_eligible s a.operation)
+    and_right a.asks (lock_eligible s a.operation)
     (ap (λ x. not (nat_eq x 1 && is_owned s)) e ∙ ap (λ (l : Lock). not (nat_eq 1 1 && is_owned l)) o)
 
 pub lock_blocked : LockBlocked
@@ -89,7 +79,7 @@ lock_is_granted shape s i a e = record {
   begun = λ o. ap (lock_after s i) o;
   unlocked = λ o. ap (lock_after s i) o;
   destroyed = λ o. ap (lock_after s i) o;
-  held = λ o j b q. not_second b.asks (lock_eligible (lock_after s i a.operation) b.operation)
+  held = λ o j b q. and_right b.asks (lock_eligible (lock_after s i a.operation) b.operation)
       (ap (λ x. not (nat_eq b.operation 1 && is_owned (lock_after s i x))) o ∙ ap (λ x. not (nat_eq x 1 && true)) q);
 }
 
@@ -97,5 +87,5 @@ pub locks_wait : MutexWaits
 locks_wait shape = record {
   shown = λ r. (lock_of_word (r.signal (owner shape.threads)), word_is (r.signal (owner shape.threads)));
   some = omega arith;
-  asked = λ s i f e. no_both (nat_lt 0 (f 0)) (lock_eligible s (f 1)) (ap (nat_lt 0) e);
+  asked = λ s i f e. and_left (nat_lt 0 (f 0)) (lock_eligible s (f 1)) (ap (nat_lt 0) e);
 }

@@ -141,12 +141,9 @@ module _ (shape : Shape) (ok : IsShape shape) (m : Module) (is : IsMutex shape m
   small : length m.signals < 2 ^ 64
   small = let e = long in let b = ok.few in omega arith
 
-  copies : (k w : ℕ) → length (replicate {A = ℕ} k w) ≡ k
-  copies k w = length-replicate {A = ℕ} k w
-
   many_inputs : length (input_widths shape) ≡ inputs shape
   many_inputs =
-      let a = copies n 1 in let b = copies n 2 in
+      let a = length-replicate {A = ℕ} n 1 in let b = length-replicate {A = ℕ} n 2 in
       let e = length-append {A = ℕ} (replicate n 2) (replicate n 1) in
       let f = length-append {A = ℕ} (replicate n 1) (replicate n 2 ++ replicate n 1) in
       omega arith
@@ -169,9 +166,9 @@ module _ (shape : Shape) (ok : IsShape shape) (m : Module) (is : IsMutex shape m
     leaf = subst (λ z. IsLeaf m z (is_late shape)) (sym many_inputs) (mutex_leaf shape ok m is);
     clocked = omega arith;
     clock_bit = has m 0 _ listed.0;
-    long = (let z = copies n 1 in let e = long in omega arith);
+    long = (let z = length-replicate {A = ℕ} n 1 in let e = long in omega arith);
     room = (let z = many_inputs in omega arith);
-    ports = has_ports m (input_widths shape) (output_widths shape) (offers n) (let z = copies n 1 in let e = long in omega arith) inputs_are outputs_are;
+    ports = has_ports m (input_widths shape) (output_widths shape) (offers n) (let z = length-replicate {A = ℕ} n 1 in let e = long in omega arith) inputs_are outputs_are;
     names = names_apart m (rows n first) is.signals small (offers n) formed_at is.memories is.instances;
     named = ap is_clk is.named ∙ no_clock shape.initialised;
     formed = formed_at;
