@@ -2,6 +2,9 @@
 use Rattle.std.proofs.Common.{◌≡◌, ◌≢◌, ℕ, zero, suc, ◌+◌, ◌<◌, ◌≤◌, List, [], ◌∷◌, length, Option, Some, refl, sym, ap, ◌∙◌, subst, ⊎_elim, arith}
 use Rattle.std.specs.Prelude.{slice_get, slice_set, Result, Ok, Err, OnOk}
 use Rattle.std.proofs.lemmas.Bool.Decides.{eqb_tells}
+use Rattle.std.proofs.lemmas.List.{set-set, length-set}
+use Rattle.std.proofs.lemmas.Option.{slice_get_within}
+use Rattle.lists.proofs.Places.{set_other, set_same}
 use Rattle.block_ir.specs.declared.operand.Operand.{Operand}
 use Rattle.block_ir.specs.declared.block.Final.{Final}
 use Rattle.block_ir.specs.declared.block.Block.{Block}
@@ -14,7 +17,6 @@ use Rattle.block_merge.specs.Joined.{joined, HasLeft}
 use Rattle.block_merge.specs.Maximal.{IsMaximalAt, AreCounted, Follows}
 use Rattle.block_merge.specs.Kept.{Keeps}
 use Rattle.block_merge.specs.Steps.{block_in, dead, IsLast, HoldsAt, IsReady, IsBlock, Begins, Joins, Merges, Grows, Tidies, Extends}
-use Rattle.block_merge.proofs.Lists.{get_within, set_same, set_other, set_twice, set_length}
 use Rattle.block_merge.proofs.Merging.{tidy, keeps_same, keeps_both, both, both_counted, both_maximal}
 use Rattle.block_merge.proofs.Merging.{both_keep, tidied, tidied_counted, tidied_maximal, tidied_keep, last_maximal}
 
@@ -60,7 +62,7 @@ module _ (old new : Merger) (l m : ℕ) (counted : AreCounted old.stages.items o
           subst (λ ss. Keeps old.most (length old.held.current) old.stages.items ss) (sym j.stages)
           (both_keep old.most (length old.held.current) old.stages.items old.counts l m old.held.current f counted refl (holds.left f.block f.at));
       size = j.size;
-      count = ap length j.stages ∙ set_length (slice_set old.stages.items m dead) l (Run one) ∙ set_length old.stages.items m dead;
+      count = ap length j.stages ∙ length-set (slice_set old.stages.items m dead) l (Run one) ∙ length-set old.stages.items m dead;
       most = j.most;
     };
     counted =
@@ -74,7 +76,7 @@ module _ (old new : Merger) (l m : ℕ) (counted : AreCounted old.stages.items o
   here : slice_get new.stages.items l ≡ Some (Run one)
   here =
       ap (λ ss. slice_get ss l) j.stages
-      ∙ set_same (slice_set old.stages.items m dead) l (Run one) (let w = get_within old.stages.items l (Run f.block) f.at in let e = set_length old.stages.items m dead
+      ∙ set_same (slice_set old.stages.items m dead) l (Run one) (let w = slice_get_within old.stages.items l (Run f.block) f.at in let e = length-set old.stages.items m dead
       in omega (arith, w, e))
 
   pub join_block : IsBlock new l
@@ -101,7 +103,7 @@ module _ (old new : Merger) (l : ℕ) (counted : AreCounted old.stages.items old
           subst (λ ss. Keeps old.most (length old.held.current) old.stages.items ss) (sym stages_are)
           (tidied_keep old.most (length old.held.current) old.stages.items l old.held.current block.0 t.finals block.1 refl (holds.left block.0 block.1) t.from t.leave);
       size = t.fresh.size;
-      count = ap length stages_are ∙ set_length old.stages.items l _;
+      count = ap length stages_are ∙ length-set old.stages.items l _;
       most = t.most;
     };
     counted =
@@ -187,7 +189,7 @@ all_next fn_ a b n h e was k lt =
 pub all_done : (fn_ a : Merger) (n : ℕ) → length fn_.stages.items ≤ n → Merges fn_ a → ((k : ℕ) → k < n → IsMaximalAt fn_.most a.stages.items k) → (k : ℕ) →
     IsMaximalAt fn_.most a.stages.items k
 all_done fn_ a n le h was k b d m at leads there =
-    was k (let w = get_within a.stages.items k (Run b) at in let c = h.count in omega (arith, w, c, le)) b d m at leads there
+    was k (let w = slice_get_within a.stages.items k (Run b) at in let c = h.count in omega (arith, w, c, le)) b d m at leads there
 
 -- ---- what the methods do
 
@@ -212,7 +214,7 @@ join_joins old new l m x y both_ s t one two held apart second second_is one_is 
     is ∙ ap (λ (h : OpenBlock). joined h.current x y) held_is ∙ ap (λ (z : Block). joined old.held.current z y) (sym eb) ∙ ap (joined old.held.current b) (sym ed) in
     record {
       stages =
-          new_is ∙ ap (λ ss. slice_set ss l (Run both_)) two_is ∙ set_twice one l dead (Run both_) ∙ ap (λ ss. slice_set ss l (Run both_)) one_is
+          new_is ∙ ap (λ ss. slice_set ss l (Run both_)) two_is ∙ set-set one l dead (Run both_) ∙ ap (λ ss. slice_set ss l (Run both_)) one_is
           ∙ ap (λ z. slice_set (slice_set old.stages.items m dead) l (Run z)) j;
       counts = counts;
       left = λ h.
@@ -227,7 +229,7 @@ pub tidied_stages : (old two : List Stage) (l : ℕ) (s : Stage) (x b : Block) (
     slice_get old l ≡ Some (Run b) →
     slice_set two l (Run (tidy x finals)) ≡ slice_set old l (Run (tidy b finals))
 tidied_stages old two l s x b finals first is two_is at =
-    ap (λ ss. slice_set ss l (Run (tidy x finals))) two_is ∙ set_twice old l dead (Run (tidy x finals)) ∙ ap (λ (z : Block). slice_set old l (Run (tidy z finals)))
+    ap (λ ss. slice_set ss l (Run (tidy x finals))) two_is ∙ set-set old l dead (Run (tidy x finals)) ∙ ap (λ (z : Block). slice_set old l (Run (tidy z finals)))
     (sym (same_block old l s x b first is at))
 
 pub merged_keeps : (a b c : Merger) (stages : List Stage) (n : ℕ) → a.stages.items ≡ stages → length a.held.current ≡ n → Merges a b → Merges b c →

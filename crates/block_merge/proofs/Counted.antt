@@ -2,13 +2,15 @@
 use Rattle.std.proofs.Common.{◌≡◌, ◌≢◌, ℕ, zero, suc, ◌+◌, ◌<◌, ◌≤◌, min, List, [], ◌∷◌}
 use Rattle.std.proofs.Common.{◌++◌, length, take, get_or, Option, Some, None, refl, ap, ◌∙◌, ⊎_elim, arith, length-append}
 use Rattle.std.specs.Prelude.{slice_get}
+use Rattle.std.proofs.lemmas.List.{take_all, length-set}
+use Rattle.lists.proofs.Places.{set_element}
 use Rattle.block_ir.specs.declared.block.Next.{Next}
 use Rattle.block_ir.specs.declared.block.Next.TheVariants.{Jump, Branch}
 use Rattle.block_ir.specs.declared.code.Stage.{Stage}
 use Rattle.block_ir.specs.declared.code.Stage.TheVariants.{Run, Act}
 use Rattle.block_merge.specs.Maximal.{one_way, next_ways, stage_ways, ways, AreCounted}
 use Rattle.block_merge.specs.Counting.{one_more, counted, counted_at, next_counted, stage_counted, AreZero}
-use Rattle.block_merge.proofs.Lists.{take_more, take_whole, set_element, set_length}
+use Rattle.block_merge.proofs.Lists.{take_more}
 use Rattle.block_merge.proofs.Ways.{one_here, one_elsewhere, ways_append}
 
 -- the ways of these stages
@@ -51,7 +53,7 @@ counted_length counts l = by (slice_get counts l)
   where
     by : (o : Option ℕ) → length (counted_at counts l o) ≡ length counts
     by None = refl
-    by (Some k) = set_length counts l (one_more k)
+    by (Some k) = length-set counts l (one_more k)
 
 next_length : (counts : List ℕ) (nx : Next) → length (next_counted counts nx) ≡ length counts
 next_length counts (Jump l) = counted_length counts l
@@ -75,7 +77,7 @@ pub tallied_none : (count : ℕ) (counts : List ℕ) → AreZero count counts �
 tallied_none count counts h = record { size = h.0; is = λ m c e. (let z = h.1 m c e in omega (arith, z)) }
 
 pub tallied_all : (ss : List Stage) (k : ℕ) (counts : List ℕ) → length ss ≤ k → Tallied (length ss) (take k ss) counts → AreCounted ss counts
-tallied_all ss k counts h t = (t.size, λ m c off e. t.is m c e ∙ ap (λ z. min (ways m z) 2) (take_whole ss k h))
+tallied_all ss k counts h t = (t.size, λ m c off e. t.is m c e ∙ ap (λ z. min (ways m z) 2) (take_all k ss h))
 
 pub zeros_more : (n : ℕ) (zs new : List ℕ) → new ≡ zs ++ 0 ∷ [] → AreZero n zs → AreZero (suc n) new
 zeros_more n zs new is h = rw is (length-append zs (0 ∷ []) ∙ (let z = h.0 in omega (arith, z)), λ k c e. by zs k c h.1 e)

@@ -3,6 +3,9 @@ use Rattle.std.proofs.Common.{◌≡◌, ◌≢◌, ℕ, suc, ◌+◌, ◌*◌, 
 use Rattle.std.proofs.Common.{Option, Some, None, refl, sym, ap, ◌∙◌, subst, ⊎_elim, inl, inr, arith, length-append, append_assoc, take, get_or}
 use Rattle.std.specs.Prelude.{◌⊎◌, nat_eq, true, false, if◌then◌else◌, Bool, slice_get, slice_set}
 use Rattle.std.proofs.lemmas.Bool.Decides.{eqb_tells}
+use Rattle.std.proofs.lemmas.List.{take_all, length-set}
+use Rattle.std.proofs.lemmas.Option.{slice_get_within}
+use Rattle.lists.proofs.Places.{get_there, set_other, set_same, set_element, get_right, get_left}
 use Rattle.c_program.specs.Tree.{Program}
 use Rattle.c_program.specs.Weight.{weight}
 use Rattle.block_ir.specs.declared.operand.Operand.{Operand}
@@ -21,7 +24,7 @@ use Rattle.block_merge.specs.Joined.{joined, moved_next, moved_operation, left_i
 use Rattle.block_merge.specs.Maximal.{one_way, next_ways, ways, IsTooLarge, IsMaximalAt, AreCounted, Follows}
 use Rattle.block_merge.specs.Kept.{with_stages, Keeps}
 use Rattle.block_merge.specs.Steps.{dead, IsLast}
-use Rattle.block_merge.proofs.Lists.{take_more, take_whole, get_left, get_right, get_there, get_within, set_element, set_same, set_other, set_length}
+use Rattle.block_merge.proofs.Lists.{take_more}
 use Rattle.block_merge.proofs.Ways.{one_here, one_elsewhere, ways_set, one_of, two_of}
 use Rattle.block_merge.proofs.Values.{finished_is, left_value}
 use Rattle.block_merge.proofs.Typing.{finals_below, finals_within, left_typed, joined_typed}
@@ -43,14 +46,14 @@ left_last [] f x before = refl
 left_last (g ∷ gs) f x before = left_last gs f x (if nat_eq x g.variable then Some g.value else before)
 
 within_front : (n : ℕ) (fs gs : List Final) → AreWithin n (fs ++ gs) → AreWithin n fs
-within_front n fs gs h k f e = h k f (get_left fs gs k (get_within fs k f e) ∙ e)
+within_front n fs gs h k f e = h k f (get_left fs gs k (slice_get_within fs k f e) ∙ e)
 
 within_last : (n : ℕ) (fs : List Final) (f : Final) → AreWithin n (fs ++ f ∷ []) → f.variable < n
 within_last n fs f h = h (length fs + 0) f (get_right fs (f ∷ []) 0)
 
 pub left_more : (current : List (Option Operand)) (fs : List Final) (f : Final) → HasLeft current fs → HasLeft (slice_set current f.variable (Some f.value)) (fs ++ f ∷ [])
 left_more current fs f left within x =
-    let size = set_length current f.variable (Some f.value) in
+    let size = length-set current f.variable (Some f.value) in
     let all : AreWithin (length current) (fs ++ f ∷ []) = λ k g e. (let h = within k g e in omega (arith, h, size)) in
     let was = left (within_front (length current) fs (f ∷ []) all) x in
     ⊎_elim
@@ -73,7 +76,7 @@ left_next start now next finals k f v lt item same is held fs h =
 pub left_all : (start now : List (Option Operand)) (finals : List Final) (k : ℕ) → length finals ≤ k →
     ((fs : List Final) → HasLeft start fs → HasLeft now (fs ++ take k finals)) →
     (fs : List Final) → HasLeft start fs → HasLeft now (fs ++ finals)
-left_all start now finals k le held fs h = subst (λ gs. HasLeft now (fs ++ gs)) (take_whole finals k le) (held fs h)
+left_all start now finals k le held fs h = subst (λ gs. HasLeft now (fs ++ gs)) (take_all k finals le) (held fs h)
 
 -- ---- kept
 
@@ -91,7 +94,7 @@ typed_set : (P : Program) (g : ℕ) (code : ThreadCode) (old : List Stage) (l : 
     IsTypedStage (types_of P (with_stages code old)) P (length old) (4 * weight P) s →
     IsTypedCode P g (with_stages code old) → IsTypedCode P g (with_stages code (slice_set old l s))
 typed_set P g code old l s h typed =
-    let size = set_length old l s in
+    let size = length-set old l s in
     record {
       some = (let z = typed.some in omega (arith, z, size));
       stages = λ k t e.
@@ -148,7 +151,7 @@ module _ (most size : ℕ) (old : List Stage) (counts : List ℕ) (l m : ℕ) (c
 
   pub both_counted : AreCounted both (slice_set counts m 0)
   both_counted = (
-    set_length counts m 0 ∙ counted.0 ∙ sym (set_length (slice_set old m dead) l (Run (joined current b d)) ∙ set_length old m dead),
+    length-set counts m 0 ∙ counted.0 ∙ sym (length-set (slice_set old m dead) l (Run (joined current b d)) ∙ length-set old m dead),
     λ j c off e.
         let w = both_ways j off in
         ⊎_elim
@@ -230,7 +233,7 @@ module _ (most size : ℕ) (old : List Stage) (counts : List ℕ) (l m : ℕ) (c
       let size_ : length b.operations + length d.operations ≤ 4 * weight P = (let s = f.size in omega (arith, s, le)) in
       let o = once in (
         typed_set P g code (slice_set old m dead) l (Run (joined current b d))
-            (subst (λ n. IsTypedBlock T n (4 * weight P) (joined current b d)) (sym (set_length old m dead))
+            (subst (λ n. IsTypedBlock T n (4 * weight P) (joined current b d)) (sym (length-set old m dead))
             (joined_typed T (length old) (4 * weight P) b d current are f.few size_ first next))
             (typed_set P g code old m dead (dead_typed T (length old) (4 * weight P) typed.some) typed),
         λ low n vs cells arguments has. follows_joined P old l m b d current dead f.at f.leads f.there f.apart (omega (arith, o)) are
@@ -252,7 +255,7 @@ module _ (most size : ℕ) (old : List Stage) (l : ℕ) (current : List (Option 
 
   pub tidied_counted : (counts : List ℕ) → AreCounted old counts → AreCounted tidied counts
   tidied_counted counts h =
-      (h.0 ∙ sym (set_length old l (Run (tidy b finals))), λ j c off e. h.1 j c off e ∙ ap (λ n. min n 2) (sym (tidied_ways j)))
+      (h.0 ∙ sym (length-set old l (Run (tidy b finals))), λ j c off e. h.1 j c off e ∙ ap (λ n. min n 2) (sym (tidied_ways j)))
 
   was_there : (k : ℕ) (x : Block) → slice_get tidied k ≡ Some (Run x) → (y : Block) × (slice_get old k ≡ Some (Run y)) × (y.next ≡ x.next) ×
       (length y.operations ≡ length x.operations) × (y.steps ≡ x.steps)
@@ -328,7 +331,7 @@ last_maximal most stages counts l counted last b d m at leads there = by (last b
         let some = led in
         omega (arith, h, apart, some)
     counts_there None e other off =
-        absurd (let w = get_within stages m (Run d) there in let n = counted.0 in
+        absurd (let w = slice_get_within stages m (Run d) there in let n = counted.0 in
         let s : (c : ℕ) × (slice_get counts m ≡ Some c) = get_there counts m (omega (arith, w, n)) in
         let z = s.1 in cc)
 

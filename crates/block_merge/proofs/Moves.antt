@@ -2,6 +2,7 @@
 use Rattle.std.proofs.Common.{◌≡◌, ℕ, zero, suc, ◌+◌, List, [], ◌∷◌, ◌++◌, ℤ, Option, Some, None, refl, sym, ap, ◌∙◌, subst, ⊎_elim, inl, inr, arith, append-nil, append_assoc}
 use Rattle.std.specs.Prelude.{◌⊎◌, ◌≢◌, nat_eq, ◌&&◌, if◌then◌else◌, slice_get, slice_set, Bool}
 use Rattle.std.proofs.lemmas.Bool.Decides.{eqb_tells}
+use Rattle.lists.proofs.Places.{set_element}
 use Rattle.c_program.specs.Tree.{Program}
 use Rattle.thread_semantics.specs.Memory.{Location, element, row_element, with_element, with_row}
 use Rattle.thread_semantics.specs.State.{Frame}
@@ -13,7 +14,6 @@ use Rattle.block_ir.specs.declared.block.Block.{Block}
 use Rattle.block_ir.specs.Run.{Cells, Access, with_cell, Running, operation_run, operations_run, started, block_run}
 use Rattle.block_ir.specs.Run as run
 use Rattle.code_following.specs.Following.{reads_of, write_of, AfterMove, AfterMoves, HoldGlobals}
-use Rattle.block_merge.proofs.Lists.{set_element}
 
 -- ---- cells after accesses
 

@@ -2,6 +2,9 @@
 use Rattle.std.proofs.Common.{◌≡◌, ◌≢◌, ℕ, zero, suc, ◌+◌, ◌^◌, ◌<◌, ◌≤◌, List, [], ◌++◌, length, ℤ, Option, Some, None, refl, sym, ap, ◌∙◌, append-nil, subst, ⊎_elim, arith}
 use Rattle.std.specs.Prelude.{if◌then◌else◌, Bool, true, false, slice_get, slice_set}
 use Rattle.std.proofs.lemmas.Bool.Decides.{eqb_tells}
+use Rattle.std.proofs.lemmas.List.{length-set}
+use Rattle.std.proofs.lemmas.Option.{slice_get_within}
+use Rattle.lists.proofs.Places.{set_other, set_same}
 use Rattle.hls_ints.specs.Operators.{is_zero}
 use Rattle.c_program.specs.Tree.{Program}
 use Rattle.thread_semantics.specs.State.{Frame}
@@ -19,7 +22,6 @@ use Rattle.block_ir.specs.Run.{Cells, Access, Running, operand_value, leads_to, 
 use Rattle.code_following.specs.Following.{AtStage, AfterMoves, HoldGlobals, IsAct, DoesSteps, DoesAct, DoesStage, Follows}
 use Rattle.block_merge.specs.Joined.{joined, moved_next, AreLeft}
 use Rattle.block_merge.specs.Maximal.{one_way, next_ways, stage_ways, ways}
-use Rattle.block_merge.proofs.Lists.{get_within, set_same, set_other, set_length}
 use Rattle.block_merge.proofs.Ways.{one_here, two_of}
 use Rattle.block_merge.proofs.Values.{LeftBelow, behind, same_function, first, between, second, joined_run, joined_variables, joined_stage}
 use Rattle.block_merge.proofs.Moves.{cells_after, block_kept, after_both, after_more, after_so}
@@ -151,7 +153,7 @@ module _ (P : Program) (old : List Stage) (l m : ℕ) (b d : Block) (current : L
   moved_ways n j (Branch test nonzero zero_) = refl
 
   new_there : slice_get new l ≡ Some (Run (joined current b d))
-  new_there = set_same (slice_set old m dead) l (Run (joined current b d)) (let h = get_within old l (Run b) at in let e = set_length old m dead in omega (arith, h, e))
+  new_there = set_same (slice_set old m dead) l (Run (joined current b d)) (let h = slice_get_within old l (Run b) at in let e = length-set old m dead in omega (arith, h, e))
 
   new_other : (k : ℕ) → k ≢ l → k ≢ m → slice_get new k ≡ slice_get old k
   new_other k off other = set_other (slice_set old m dead) l k (Run (joined current b d)) off ∙ set_other old m k dead other
@@ -236,7 +238,7 @@ module _ (P : Program) (old : List Stage) (l : ℕ) (b : Block) (finals : List F
   follows_tidied (suc n) k vs cells fs h =
       ⊎_elim
       (λ t. subst (λ i. Follows P tidied (suc n) i vs cells fs) (sym t.1)
-      (subst (λ o. DoesStage P (Follows P tidied n) o vs cells fs) (sym (set_same old l (Run tidy) (get_within old l (Run b) at)))
+      (subst (λ o. DoesStage P (Follows P tidied n) o vs cells fs) (sym (set_same old l (Run tidy) (slice_get_within old l (Run b) at)))
       (tidy_does (Follows P tidied n) vs cells fs
       (subst (λ o. DoesStage P (Follows P tidied n) o vs cells fs) at (goes n (follows_tidied n) (slice_get old l) vs cells fs
       (subst (λ i. Follows P old (suc n) i vs cells fs) t.1 h))))))

@@ -3,6 +3,8 @@ use Rattle.std.proofs.Common.{◌≡◌, ℕ, suc, ◌+◌, ◌^◌, ◌<◌, �
 use Rattle.std.proofs.Common.{Some, None, refl, sym, ap, ◌∙◌, subst, ⊎_elim, inl, inr, arith, append-nil, append_assoc, length-append}
 use Rattle.std.specs.Prelude.{◌⊎◌, nat_eq, if◌then◌else◌, Bool, slice_get}
 use Rattle.std.proofs.lemmas.Bool.Decides.{eqb_tells}
+use Rattle.std.proofs.lemmas.Option.{slice_get_within}
+use Rattle.lists.proofs.Places.{get_either, get_right, get_left}
 use Rattle.hls_ints.specs.Types.{IntegerType}
 use Rattle.block_ir.specs.declared.operand.Source.{Source}
 use Rattle.block_ir.specs.declared.operand.Source.TheVariants.{Constant, Variable, Value}
@@ -18,7 +20,7 @@ use Rattle.straight_code.specs.Evaluating.{current_operand}
 use Rattle.code_following.specs.Typed.{Types, source_type, last_type, operand_type, value_type, IsTypedSource}
 use Rattle.code_following.specs.Typed.{IsTypedOperand, IsTypedOperation, AreTyped, IsTypedFinal, IsTypedNext, IsTypedBlock}
 use Rattle.block_merge.specs.Joined.{later, moved_source, moved, moved_operation, moved_final, moved_next, joined, left_in, there, AreLeft, AreWithin}
-use Rattle.block_merge.proofs.Lists.{get_left, get_right, get_within, get_map, map_from, either_part}
+use Rattle.block_merge.proofs.Lists.{get_map, map_from}
 use Rattle.block_merge.proofs.Values.{LeftBelow}
 
 -- what is left in a variable is a final of it
@@ -43,7 +45,7 @@ module _ (T : Types) where
   source_after : (before more : List Operation) (s : Source) → IsTypedSource T before s → IsTypedSource T (before ++ more) s
   source_after before more (Constant ty v) h = h
   source_after before more (Variable x ty) h = h
-  source_after before more (Value k ty) h = (h.0, get_left before more k (get_within before k h.0 h.1) ∙ h.1, h.2)
+  source_after before more (Value k ty) h = (h.0, get_left before more k (slice_get_within before k h.0 h.1) ∙ h.1, h.2)
 
   typed_below : (before : List Operation) (o : Operand) → IsTypedOperand T before o → IsBelow (length before) o
   typed_below before o h = by o.source h
@@ -51,14 +53,14 @@ module _ (T : Types) where
       by : (s : Source) → IsTypedSource T before s → SourceIsBelow (length before) s
       by (Constant ty v) h = tt
       by (Variable x ty) h = tt
-      by (Value k ty) h = get_within before k h.0 h.1
+      by (Value k ty) h = slice_get_within before k h.0 h.1
 
   pub finals_below : (before : List Operation) (fs : List Final) → ((k : ℕ) (f : Final) → slice_get fs k ≡ Some f → IsTypedFinal T before f) → LeftBelow (length before) fs
   finals_below before fs typed x o e =
       ⊎_elim (λ h. subst (IsBelow (length before)) h.4 (typed_below before h.1.value (typed h.0 h.1 h.2).0)) (λ h. absurd cc) (left_from fs x None o e)
 
   pub finals_within : (before : List Operation) (fs : List Final) → ((k : ℕ) (f : Final) → slice_get fs k ≡ Some f → IsTypedFinal T before f) → AreWithin (length T.variables) fs
-  finals_within before fs typed k f e = get_within T.variables f.variable (operand_type f.value) (typed k f e).1
+  finals_within before fs typed k f e = slice_get_within T.variables f.variable (operand_type f.value) (typed k f e).1
 
   append_typed : (before os ps : List Operation) → AreTyped T before os → AreTyped T (before ++ os) ps → AreTyped T before (os ++ ps)
   append_typed before [] ps h k = subst (λ b. AreTyped T b ps) (append-nil before) k
@@ -96,7 +98,7 @@ module _ (T : Types) where
         IsTypedOperand T (first ++ moved_all before) (moved_source n current s) × (operand_type (moved_source n current s) ≡ source_type s)
     source_typed before (Constant ty v) few h = (h, refl)
     source_typed before (Value k ty) few h =
-        let within = get_within before k h.0 h.1 in
+        let within = slice_get_within before k h.0 h.1 in
         let same : later n k ≡ length first + k = omega (arith, within, few) in (
           (
             moved_operation n current h.0,
@@ -163,7 +165,7 @@ module _ (T : Types) where
         let t = finals h.0 g.0 g.1 in
         subst (IsTypedFinal T (first ++ moved_all os)) g.2
         (operand_typed os g.0.value few t.0, t.1 ∙ ap Some (sym (type_same os g.0.value few t.0))))
-        (either_part fs (map (moved_final n current) gs) k f e)
+        (get_either fs (map (moved_final n current) gs) k f e)
 
     pub next_typed : (count : ℕ) (os : List Operation) (nx : Next) → n + length os < 2 ^ 32 → IsTypedNext T count os nx →
         IsTypedNext T count (first ++ moved_all os) (moved_next n current nx)

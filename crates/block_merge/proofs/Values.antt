@@ -3,6 +3,8 @@ use Rattle.std.proofs.Common.{◌≡◌, ℕ, suc, ◌+◌, ◌^◌, ◌<◌, �
 use Rattle.std.proofs.Common.{◌++◌, length, map, ℤ, Option, Some, None, refl, sym, ap, ◌∙◌, subst, ⊎_elim, arith}
 use Rattle.std.proofs.Common.{append-nil, append_assoc, length-append}
 use Rattle.std.specs.Prelude.{◌⊎◌, pos, nat_eq, if◌then◌else◌, slice_get}
+use Rattle.std.proofs.lemmas.Option.{slice_get_past}
+use Rattle.lists.proofs.Places.{get_right, get_left}
 use Rattle.hls_ints.specs.Types.{IntegerType, wrapped}
 use Rattle.hls_ints.specs.Operators.{is_zero}
 use Rattle.block_ir.specs.Arithmetic.{unary_total, binary_total}
@@ -21,7 +23,6 @@ use Rattle.block_ir.specs.Run.{operation_run, operations_run, finished, leads_to
 use Rattle.straight_code.specs.Needs.{IsBelow, SourceIsBelow}
 use Rattle.straight_code.specs.Evaluating.{current_operand}
 use Rattle.block_merge.specs.Joined.{later, moved_source, moved, moved_operation, moved_final, moved_next, joined, left_in, there, AreLeft}
-use Rattle.block_merge.proofs.Lists.{get_left, get_right, get_past}
 
 pub same_function : (f g : ℕ → ℤ) → ((x : ℕ) → f x ≡ g x) → f ≡ g
 same_function f g h = λ d. λ x. h x d
@@ -101,7 +102,7 @@ module _ (variables : ℕ → ℤ) (r : Running) (n : ℕ) (current : List (Opti
   value_moved more k few =
       ⊎_elim
       (λ h. let e : later n k ≡ length r.values + k = omega (arith, long, h) in rw e (get_right r.values more k))
-      (λ h. get_past (r.values ++ more) (later n k) (let l = length-append r.values more in omega (arith, l, long, h, few)) ∙ sym (get_past more k (omega (arith, h, few))))
+      (λ h. slice_get_past (r.values ++ more) (later n k) (let l = length-append r.values more in omega (arith, l, long, h, few)) ∙ sym (slice_get_past more k (omega (arith, h, few))))
       (let d : (n + k < 2 ^ 32) ⊎ (2 ^ 32 ≤ n + k) = search arith in d)
 
   source_moved : (more : List ℤ) (s : Source) → n + length more < 2 ^ 32 → operand_value variables (r.values ++ more) (moved_source n current s) ≡ source_value ends more s

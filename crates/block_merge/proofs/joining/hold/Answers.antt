@@ -1,5 +1,5 @@
 use Rattle.std.proofs.Common.{◌∙◌, ap, length}
-use Rattle.block_merge.proofs.Lists.{set_length}
+use Rattle.std.proofs.lemmas.List.{length-set}
 use Rattle.block_merge.proofs.Merging.{left_next, left_all}
 use Rattle.block_merge.proofs.joining.hold.Goals as goal
 
@@ -10,7 +10,7 @@ loop-last-preserved c = record {
       c.loop-last-test.true
       c.last-item.is c.in_ok-value.ensures c.in_ok-set.ensures.current c.loop-last.invariant.left;
   noted = λ h. c.in_ok-set.ensures.noted (c.loop-last.invariant.noted h);
-  size = ap (λ l. length l) c.in_ok-set.ensures.current ∙ set_length c.loop-last.held.current c.last-item.result.variable _ ∙ c.loop-last.invariant.size;
+  size = ap (λ l. length l) c.in_ok-set.ensures.current ∙ length-set c.loop-last.held.current c.last-item.result.variable _ ∙ c.loop-last.invariant.size;
 }
 
 pub returns-clause-left : goal.returns-clause-left
