@@ -99,9 +99,6 @@ module _ (n : ℕ) (few : n ≤ 64) (m : Module) (is : IsArbiter n m) where
   long : length m.signals ≡ grants n + n
   long = ap length is.signals ∙ (let e = length-laid 0 (rows n) in omega arith)
 
-  many : length (replicate {A = ℕ} n 1) ≡ n
-  many = length-replicate {A = ℕ} n 1
-
   inputs_are : HasFrom m 0 (input_widths n)
   inputs_are =
       one_more m 0 1 (6 ∷ replicate n 1) (has m 0 _ listed.0)
@@ -115,12 +112,12 @@ module _ (n : ℕ) (few : n ≤ 64) (m : Module) (is : IsArbiter n m) where
 
   pub arbiter_stands : IsTableModule m (input_widths n) (output_widths n)
   arbiter_stands = table_module m (input_widths n) (output_widths n) never (grants n) (record {
-    leaf = subst (λ z. IsLeaf m z never) (let z = many in let e : inputs n ≡ length (input_widths n) = omega arith in e) (arbiter_leaf n few m is);
+    leaf = subst (λ z. IsLeaf m z never) (let z = length-replicate {A = ℕ} n 1 in let e : inputs n ≡ length (input_widths n) = omega arith in e) (arbiter_leaf n few m is);
     clocked = omega arith;
     clock_bit = has m 0 _ listed.0;
-    long = (let z = many in let e = long in omega arith);
-    room = (let z = many in omega arith);
-    ports = has_ports m (input_widths n) (output_widths n) (grants n) (let z = many in let e = long in omega arith) inputs_are outputs_are;
+    long = (let z = length-replicate {A = ℕ} n 1 in let e = long in omega arith);
+    room = (let z = length-replicate {A = ℕ} n 1 in omega arith);
+    ports = has_ports m (input_widths n) (output_widths n) (grants n) (let z = length-replicate {A = ℕ} n 1 in let e = long in omega arith) inputs_are outputs_are;
     names = names_apart m (rows n) is.signals (let e = long in omega arith) (grants n) formed_at is.memories is.instances;
     named = ap is_clk is.named;
     formed = formed_at;

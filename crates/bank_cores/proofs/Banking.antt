@@ -1,9 +1,11 @@
 -- The table of a bank keeps the promise of the bank's machine.
-use Rattle.std.proofs.Common.{◌∷◌, ◌++◌, subst, ◌≡◌, ℕ, zero, suc, ◌+◌, ◌<◌, ◌≤◌, List, [], length, slice_get, Option, Some, None, Bool, true, false, nat_eq, nat_lt}
+use Rattle.std.proofs.Common.{◌∷◌, ◌++◌, subst, ◌≡◌, ℕ, zero, suc, ◌+◌, ◌<◌, ◌≤◌, List, [], length, slice_get, Option, Some, None, true, false, nat_eq, nat_lt}
 use Rattle.std.proofs.Common.{if◌then◌else◌, refl, sym, ap, ◌∙◌, arith, lit<}
 use Rattle.std.specs.Prelude.{◌&&◌, ◌||◌, slice_index}
 use Rattle.std.proofs.lemmas.Nat.{pow_pos}
 use Rattle.std.proofs.lemmas.List.{length-replicate}
+use Rattle.std.proofs.Math.Bool.{or-true}
+use Rattle.lists.proofs.Places.{zeros_at}
 use Rattle.hls_ints.specs.Residues.{bit_of}
 use Rattle.netlist.specs.declared.netlist.Signal.{Signal}
 use Rattle.netlist.specs.declared.netlist.Memory.{Memory}
@@ -22,12 +24,7 @@ use Rattle.bank_cores.specs.Bank.{asks, operations, addresses, values, grants, k
 use Rattle.bank_cores.specs.Bank.{rows, store_under, memory_of, IsShape, IsBank}
 use Rattle.bank_cores.specs.Machine.{Words, Ask, ask_of, begun, bank_machine, bank_places, Shows, part_place, inputs, is_late}
 use Rattle.core_turns.proofs.Edges.{register_after-append, word_after-append, sets_after, sets_words, sets_print, tested, both_bits, a_bit, read_bit, each_joined, each_spread}
-use Rattle.core_turns.proofs.Spreads.{zero_at}
 use Rattle.bank_cores.proofs.Effects.{first_word, read_is, each_kept, each_word, sized_after, each_after, if_same, no_bytes}
-
-or_true : (b : Bool) → (b || true) ≡ true
-or_true true = refl
-or_true false = refl
 
 none_printed : (shape : Shape) (s : Words) (f : ℕ → Ask) (o : Option ℕ) → [] ≡ printed (bank_machine shape) s f o
 none_printed shape s f None = refl
@@ -68,7 +65,7 @@ module _ (shape : Shape) (ok : IsShape shape) (m : Module) (is : IsBank shape m)
   late_on : (x : ℕ) → address_chain n ≤ x → x < offers n → is_late shape x ≡ true
   late_on x b l =
       ap (λ t. is_between (grants n) (kept n) x || t) (between_on (address_chain n) (offers n) x b l)
-      ∙ or_true (is_between (grants n) (kept n) x)
+      ∙ or-true (is_between (grants n) (kept n) x)
 
   -- a late signal reads any
   from : (x y v : ℕ) → Has m y v → y < x → address_chain n ≤ x → x < offers n → Reads m (is_late shape) x y v
@@ -209,7 +206,7 @@ module _ (shape : Shape) (ok : IsShape shape) (m : Module) (is : IsBank shape m)
     sized = refl;
     words = λ k l. ap (λ ms. initial_word (slice_get ms 0) k) is.memories ∙ first_word shape.initial k;
     each = length-replicate {A = ℕ} n 0;
-    kept = λ i l. ap initial_signal (listed.1.1.1.1.1.1.0 i l) ∙ zero_at n i;
+    kept = λ i l. ap initial_signal (listed.1.1.1.1.1.1.0 i l) ∙ sym (zeros_at n i);
   }
 
   keeps : (h g : Reading) (s : Words) → Agree m h g → Shown h s → Shown g s

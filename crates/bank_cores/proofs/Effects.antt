@@ -5,6 +5,8 @@ use Rattle.std.specs.Prelude.{not, ◌&&◌, slice_index}
 use Rattle.std.proofs.lemmas.Bool.Decides.{nat_tests}
 use Rattle.std.proofs.lemmas.Grind.{get_or-set_at}
 use Rattle.std.proofs.Math.ListN.{length-set}
+use Rattle.std.proofs.lemmas.Bool.{cases_eq}
+use Rattle.std.proofs.lemmas.List.{get_or_past}
 use Rattle.verilog_meaning.specs.Readings.{or_zero}
 use Rattle.bank_cores.specs.Machine.{Words, written, read}
 
@@ -17,20 +19,12 @@ first_word [] k = refl
 first_word (x ∷ xs) zero = refl
 first_word (x ∷ xs) (suc k) = first_word xs k
 
-past : (xs : List ℕ) (k : ℕ) → length xs ≤ k → 0 ≡ slice_index xs k
-past [] k l = refl
-past (x ∷ xs) zero l = absurd (omega arith)
-past (x ∷ xs) (suc k) l = past xs k (omega arith)
-
 -- a guarded read
 pub read_is : (size x y : ℕ) (words : List ℕ) → length words ≡ size → (x < size → y ≡ slice_index words x) → (if nat_lt x size then y else 0) ≡ slice_index words x
 read_is size x y words e h =
     ⊎_elim (λ (l : x < size). let t : nat_lt x size ≡ true = grind (arith, nat_tests) in ap (λ b. if b then y else 0) t ∙ h l)
-    (λ (l : size ≤ x). let t : nat_lt x size ≡ false = grind (arith, nat_tests) in ap (λ b. if b then y else 0) t ∙ past words x (omega arith))
+    (λ (l : size ≤ x). let t : nat_lt x size ≡ false = grind (arith, nat_tests) in ap (λ b. if b then y else 0) t ∙ sym (get_or_past words x 0 (omega arith)))
     (let c : (x < size) ⊎ (size ≤ x) = grind (arith, nat_tests) in c)
-
-same_or_not : (a b : ℕ) → (a ≡ b) ⊎ (a ≡ b → ⊥)
-same_or_not a b = grind (arith, nat_tests)
 
 -- the word that is kept for thread i, where thread v is granted and thread i's own request reads or not
 pub each_kept : (b reads : Bool) (s : Words) (i v address value old : ℕ) → v < length s.kept → (i ≡ v → reads ≡ not b) → old ≡ slice_index s.kept i
@@ -42,7 +36,7 @@ each_kept true reads s i v address value old l h e =
     let u : (nat_eq v i && reads) ≡ false = ap (λ c. c && reads) t ∙ h q in
     ap (λ c. if c then slice_index s.words address else old) u ∙ e)
     (λ (q : i ≡ v → ⊥). let t : nat_eq v i ≡ false = grind (arith, nat_tests) in ap (λ c. if c && reads then slice_index s.words address else old) t ∙ e)
-    (same_or_not i v)
+    (cases_eq i v)
 each_kept false reads s i v address value old l h e =
     let x = slice_index s.words address in
     ⊎_elim
@@ -53,7 +47,7 @@ each_kept false reads s i v address value old l h e =
     (λ (q : i ≡ v → ⊥).
     let t : nat_eq v i ≡ false = grind (arith, nat_tests) in
     ap (λ c. if c && reads then x else old) t ∙ e ∙ sym (get_or-set_other s.kept v i x 0 q))
-    (same_or_not i v)
+    (cases_eq i v)
 
 -- word k
 pub each_word : (b : Bool) (s : Words) (k v address value old : ℕ) → k < length s.words → old ≡ slice_index s.words k
@@ -63,7 +57,7 @@ each_word true s k v address value old l e =
     ⊎_elim
     (λ (q : k ≡ address). let u : nat_eq address k ≡ true = grind (arith, nat_tests) in ap (λ c. if c then value else old) u ∙ sym (get_or-set_at s.words address k value 0 q (omega arith)))
     (λ (q : k ≡ address → ⊥). let u : nat_eq address k ≡ false = grind (arith, nat_tests) in ap (λ c. if c then value else old) u ∙ e ∙ sym (get_or-set_other s.words address k value 0 q))
-    (same_or_not k address)
+    (cases_eq k address)
 
 pub sized_after : (b : Bool) (s : Words) (v address value : ℕ) → length (after b s v address value).words ≡ length s.words
 sized_after true s v address value = length-set s.words address value

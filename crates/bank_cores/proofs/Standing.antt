@@ -148,12 +148,9 @@ module _ (shape : Shape) (ok : IsShape shape) where
     pub apart : z.memories ≡ [] → z.instances ≡ [] → AreApart (declared_names z)
     apart memories instances = names_apart z (rows n a w) signals small (offers n) formed_at memories instances
 
-  copies : (k v : ℕ) → length (replicate {A = ℕ} k v) ≡ k
-  copies k v = length-replicate {A = ℕ} k v
-
   many_inputs : length (input_widths shape) ≡ inputs shape
   many_inputs =
-      let b = copies n 1 in let c = copies n a in let d = copies n w in
+      let b = length-replicate {A = ℕ} n 1 in let c = length-replicate {A = ℕ} n a in let d = length-replicate {A = ℕ} n w in
       let e = length-append {A = ℕ} (replicate n w) (replicate n 1) in
       let f = length-append {A = ℕ} (replicate n a) (replicate n w ++ replicate n 1) in
       let g = length-append {A = ℕ} (replicate n 1) (replicate n a ++ (replicate n w ++ replicate n 1)) in
@@ -161,7 +158,7 @@ module _ (shape : Shape) (ok : IsShape shape) where
       omega arith
 
   many_outputs : length (output_widths shape) ≡ n + n
-  many_outputs = let b = copies n 1 in let c = copies n w in let d = length-append {A = ℕ} (replicate n 1) (replicate n w) in omega arith
+  many_outputs = let b = length-replicate {A = ℕ} n 1 in let c = length-replicate {A = ℕ} n w in let d = length-append {A = ℕ} (replicate n 1) (replicate n w) in omega arith
 
   module _ (m : Module) (is : IsBank shape m) where
     listed : EachRow (IsListed m (rows n a w) is.signals) 0 (rows n a w)

@@ -1,7 +1,7 @@
 -- Which operation of a state asks a bank.
 use Rattle.std.specs.Prelude.{Bool, true, false}
 use Rattle.std.proofs.Common.{◌≡◌, ◌≢◌, ℕ, zero, suc, ◌<◌, ◌≤◌, ◌⊎◌, List, refl, sym, ◌∙◌, subst, inl, inr, ⊎_elim, arith}
-use Rattle.interleaving.proofs.Update.{same_or_not}
+use Rattle.std.proofs.lemmas.Bool.{cases_eq}
 use Rattle.bank_partition.specs.declared.banks.Spread.{Spread}
 use Rattle.block_ir.specs.declared.block.Block.{Block}
 use Rattle.block_ir.specs.declared.plan.BlockPlan.{BlockPlan}
@@ -37,7 +37,7 @@ module _ (spreads : List Spread) (b : Block) (p : BlockPlan) (q : Slot) where
           (λ (same : bank_at_now j y ≡ n). inl (j, y, v, record { below = lt; requested = e; target = is }, same))
           (λ (ne : bank_at_now j y ≢ n).
           inr (λ x w o same. let z = sym is ∙ o.target in let one : x ≡ y = cc in ne (subst (λ i. bank_at_now j i ≡ n) one same)))
-          (same_or_not (bank_at_now j y) n)
+          (cases_eq (bank_at_now j y) n)
 
   pub find : (n count : ℕ) → count ≤ size (planned_view b) → IsFound n ⊎ ((j x : ℕ) (w : Bool) → j < count → Opens j x w → bank_at_now j x ≡ n → ⊥)
   find n zero le = inr (λ j x w lt o same. omega arith)
@@ -52,7 +52,7 @@ module _ (spreads : List Spread) (b : Block) (p : BlockPlan) (q : Slot) where
       ⊎_elim
       (λ (last : j ≡ count). never x w (subst (λ i. Opens i x w) last o) (subst (λ i. bank_at_now i x ≡ n) last same))
       (λ (ne : j ≢ count). none j x w (omega arith) o same)
-      (same_or_not j count)))
+      (cases_eq j count)))
       (at_one n count (omega arith)))
       (find n count (omega arith))
 

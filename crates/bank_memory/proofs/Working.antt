@@ -1,10 +1,10 @@
 -- What a thread in a block does to a bank: nothing where it is not granted, and else one read or one write.
-use Rattle.std.specs.Prelude.{nat_eq, Bool, true, false, ◌&&◌, ◌||◌, if◌then◌else◌, Option, Some, slice_get, ℤ}
+use Rattle.std.specs.Prelude.{nat_eq, Bool, true, false, ◌&&◌, if◌then◌else◌, Option, Some, slice_get, ℤ}
 use Rattle.std.proofs.Common.{◌≡◌, ◌≢◌, ℕ, zero, suc, ◌+◌, ◌%◌, ◌<◌, List, refl, sym, ap, ap₂, ◌∙◌, subst, ⊎_elim, arith}
+use Rattle.std.proofs.lemmas.Bool.{or_parts, cases_eq}
 use Rattle.hls_ints.specs.Residues.{residue_of}
 use Rattle.hls_ints.specs.Types.{IntegerType, HasType, width_of}
 use Rattle.interleaving.specs.Memory.{Location, Memory, Access, memory_after, Writes}
-use Rattle.interleaving.proofs.Update.{same_or_not}
 use Rattle.bank_partition.specs.declared.banks.Spread.{Spread}
 use Rattle.bank_cores.specs.Machine.{Ask}
 use Rattle.block_ir.specs.declared.block.Block.{Block}
@@ -37,15 +37,11 @@ module _ (bank : Location → ℕ) (b : PlannedBlock) (p : Plan) (q : Slot) (mem
   none_answered : (n : ℕ) → any_below (answered b p q grant) n ≡ false → (k : ℕ) → k < n → answered b p q grant k ≡ true → ⊥
   none_answered zero e k lt t = omega arith
   none_answered (suc n) e k lt t =
-      let s = either (any_below (answered b p q grant) n) (answered b p q grant n) e in
+      let s = or_parts (any_below (answered b p q grant) n) (answered b p q grant n) e in
       ⊎_elim
       (λ (last : k ≡ n). let z = sym t ∙ ap (answered b p q grant) last ∙ s.1 in let f : true ≡ false = cc in cc)
       (λ (ne : k ≢ n). none_answered n s.0 k (omega arith) t)
-      (same_or_not k n)
-    where
-      either : (u v : Bool) → (u || v) ≡ false → (u ≡ false) × (v ≡ false)
-      either true v e = absurd cc
-      either false v e = (refl, e)
+      (cases_eq k n)
 
   -- also where it waits for grants
   pub advance_words : (n : ℕ) → (advance bank b p q memory grant).words n ≡ read_words n

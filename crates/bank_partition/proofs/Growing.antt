@@ -1,6 +1,6 @@
 -- Lists of banks, one longer.
-use Rattle.std.proofs.Common.{◌≡◌, ℕ, zero, suc, ◌+◌, ◌^◌, ◌<◌, ◌≤◌, List, [], ◌∷◌, ◌++◌, map, drop, length, get_or, refl, sym, ap, ◌∙◌, subst, arith, append_assoc, append-nil, length-append, add-one}
-use Rattle.std.proofs.lemmas.List.{length-map, map-append}
+use Rattle.std.proofs.Common.{◌≡◌, ℕ, zero, suc, ◌+◌, ◌^◌, ◌<◌, ◌≤◌, List, [], ◌∷◌, ◌++◌, map, drop, length, get_or, sym, ap, ◌∙◌, subst, arith, append_assoc, append-nil, length-append, add-one}
+use Rattle.std.proofs.lemmas.List.{length-map, map-append, drop_all}
 use Rattle.std.proofs.Math.Seq.{drop-cons}
 use Rattle.c_program.specs.declared.tree.GlobalVariable.{GlobalVariable as GlobalVariableTree}
 use Rattle.c_program.specs.Plain.{global_of}
@@ -80,12 +80,6 @@ pub short_pushed : (before : List Spread) (s : Spread) → AreShort before → s
 short_pushed [] s known l = (l, tt)
 short_pushed (t ∷ before) s known l = (known.0, short_pushed before s known.1 l)
 
-dropped_all : (items : List GlobalVariableTree) (x : ℕ) → length items ≤ x → drop x items ≡ []
-dropped_all [] zero l = refl
-dropped_all [] (suc x) l = refl
-dropped_all (g ∷ items) zero l = absurd (omega arith)
-dropped_all (g ∷ items) (suc x) l = dropped_all items x (omega arith)
-
 -- all globals have their banks
 pub record IsDone (threads : List ℕ) (items : List GlobalVariableTree) (banks : List Bank) (spreads : List Spread) : Type 0 where
   pub banks_are : map shape_of banks ≡ banks_from threads 0 (map global_of items)
@@ -99,7 +93,7 @@ pub partitioned : (threads : List ℕ) (items : List GlobalVariableTree) (banks 
     → spreads ++ spreads_from threads x (length banks) (map global_of (drop x items)) ≡ spreads_from threads 0 0 (map global_of items) → AreShort spreads
     → IsDone threads items banks spreads
 partitioned threads items banks spreads x l b s short =
-    let none = dropped_all items x l in
+    let none = drop_all x items l in
     let first : map shape_of banks ≡ banks_from threads 0 (map global_of items) =
     sym (append-nil (map shape_of banks)) ∙ sym (ap (λ (r : List GlobalVariableTree). map shape_of banks ++ banks_from threads x (map global_of r)) none) ∙ b in
     let second : spreads ≡ spreads_from threads 0 0 (map global_of items) =

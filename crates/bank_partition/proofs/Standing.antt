@@ -3,12 +3,13 @@ use Rattle.std.proofs.Common.{◌≡◌, ℕ, zero, suc, ◌+◌, ◌*◌, ◌/�
 use Rattle.std.specs.Prelude.{true, false, nat_lt, if◌then◌else◌}
 use Rattle.std.specs.Prelude.{pos, unwrap_or, length}
 use Rattle.std.specs.List.{AllByRecursion}
-use Rattle.hls_ints.specs.Types.{Width, bits_8, bits_16, bits_32, bits_64, bits, width_of}
+use Rattle.hls_ints.specs.Types.{width_of}
 use Rattle.hls_ints.proofs.Conversions.{residue_of-below, at_least_1}
 use Rattle.std.proofs.lemmas.Bool.Decides.{nat_tests}
 use Rattle.std.proofs.lemmas.Nat.{div-mul-add, mod-mul-add, div-add-mod'}
 use Rattle.std.proofs.lemmas.Option.{none-some, same_Some}
 use Rattle.std.proofs.lemmas.Bool.{lt-ltb}
+use Rattle.hls_ints.proofs.Ranges.{bits-at_most}
 use Rattle.c_program.specs.Tree.{GlobalVariable}
 use Rattle.bank_partition.specs.declared.banks.Spread.{Spread}
 use Rattle.bank_partition.specs.Counts.{power_from, words_of}
@@ -38,12 +39,6 @@ short_at (t ∷ spreads) known (suc x) s e = short_at spreads known.1 x s e
 
 -- ---- what the core of a bank asks
 
-bits_high : (w : Width) → bits w ≤ 64
-bits_high bits_8 = omega arith
-bits_high bits_16 = omega arith
-bits_high bits_32 = omega arith
-bits_high bits_64 = omega arith
-
 pub length-spread : {A : Type 0} (f : ℕ → A) (i n : ℕ) → length (spread f i n) ≡ n
 length-spread f i zero = refl
 length-spread f i (suc n) = ap suc (length-spread f (i + 1) n)
@@ -55,7 +50,7 @@ all_below bound f h i (suc n) = (h i, all_below bound f h (i + 1) n)
 bank_held : (x : ℕ) (g : GlobalVariable) (count k : ℕ) → IsHeld (bank_of x g count k)
 bank_held x g count k = record {
   low = at_least_1 g.ty.width;
-  high = bits_high g.ty.width;
+  high = bits-at_most g.ty.width;
   counted = length-spread (λ a. first_value g (a * count + k)) 0 (words_of count k g.length);
   fits = all_below (2 ^ width_of g.ty) (λ a. first_value g (a * count + k)) (λ a. residue_of-below (width_of g.ty) (unwrap_or (slice_get g.initial (a * count + k)) (pos 0))) 0
       (words_of count k g.length);

@@ -3,9 +3,9 @@ use Rattle.std.proofs.Common.{◌≡◌, ◌≢◌, ℕ, ◌+◌, ◌/◌, ◌%�
 use Rattle.std.proofs.Common.{if◌then◌else◌, List, [], ◌∷◌, ◌++◌, length, slice_get, slice_index, Option, Some, None, ℤ, pos}
 use Rattle.std.proofs.Common.{refl, sym, ap, subst, ◌∙◌, arith, ⊎_elim, inl, inr, max, length-append, add-one}
 use Rattle.std.proofs.lemmas.Nat.{pow_pos}
-use Rattle.std.proofs.lemmas.Bool.{eqb-true, and_parts}
+use Rattle.std.proofs.lemmas.Bool.{eqb-true, and_parts, cases_eq}
 use Rattle.std.proofs.lemmas.Option.{slice_get_within}
-use Rattle.interleaving.proofs.Update.{same_or_not}
+use Rattle.lists.proofs.Places.{get_last, get_front}
 use Rattle.hls_ints.specs.Residues.{residue_of, bit_of}
 use Rattle.hls_ints.specs.Types.{IntegerType, width_of, long_int, wrapped}
 use Rattle.hls_ints.proofs.Conversions.{residue_of-wrapped, residue_of-below}
@@ -35,7 +35,7 @@ use Rattle.operator_wires.specs.Words.{Holds, Becomes}
 use Rattle.operator_wires.specs.Built.{Base, IsEarlier, Adds}
 use Rattle.operator_wires.specs.Added.{ConstantAdds, NumberAdds, IsConstant, IsConverted}
 use Rattle.operator_wires.proofs.Giving.{grows_refl, grows_then}
-use Rattle.operator_wires.proofs.Building.{room_of, stands_after, wires_none, wires_then}
+use Rattle.operator_wires.proofs.Building.{room_of, stands_after, wires_none, wires_then, longer}
 use Rattle.operator_wires.proofs.Wording.{word_of}
 use Rattle.thread_promise.specs.Types.{value_type, operand_type, or_int, IsTypedSource, IsTypedOperand, IsTypedOperation}
 use Rattle.block_datapath.specs.declared.registers.Held.{Held}
@@ -55,7 +55,7 @@ use Rattle.block_datapath.specs.Accesses.{reaches_in, asked_in, SeesOperand, See
 use Rattle.block_datapath.specs.Accesses.{AsksFirst, HaveBankWidths, HasOwnWidths, AreIndexLinks, AreAccessLinks}
 use Rattle.block_datapath.specs.Accesses.{IsAskRight, AsksBlock, IsAskingBlock}
 use Rattle.right_plan.proofs.Waiting.{request_is_slow}
-use Rattle.block_datapath.proofs.Walking.{listed_view, within_view, uses_source, got_before, got_last}
+use Rattle.block_datapath.proofs.Walking.{listed_view, within_view, uses_source}
 use Rattle.block_datapath.proofs.Wiring.{one_more, registers_after, values_after, sources_after, word_stands_after}
 use Rattle.block_datapath.proofs.Requesting.{same_asked, not_yet, bank_chains_after}
 
@@ -86,7 +86,7 @@ module _ (globals : List IntegerType) (code : ThreadCode) (p : BlockPlan) where
   registered_more b first old new values n number o given before listed same next = record {
     grows = grows_then first old new before.grows next.grows;
     count = length-append values (given ∷ []) ∙ ap (λ k. k + 1) before.count;
-    each = λ k x lt there. ⊎_elim (now k x there) (earlier k x lt there) (same_or_not k n);
+    each = λ k x lt there. ⊎_elim (now k x there) (earlier k x lt there) (cases_eq k n);
   }
     where
       now : (k : ℕ) (x : Operation) → slice_get b.operations k ≡ Some x → k ≡ n
@@ -94,7 +94,7 @@ module _ (globals : List IntegerType) (code : ThreadCode) (p : BlockPlan) where
       now k x there e =
           let is : o ≡ x = cc in (
             given,
-            ap (slice_get (values ++ given ∷ [])) (e ∙ sym before.count) ∙ got_last values given,
+            ap (slice_get (values ++ given ∷ [])) (e ∙ sym before.count) ∙ get_last values given,
             subst (λ (z : Operation). IsRegistered globals code p k z given) is (subst (λ (z : ℕ). IsRegistered globals code p z o given) (same ∙ sym e) next.is),
           )
 
@@ -103,7 +103,7 @@ module _ (globals : List IntegerType) (code : ThreadCode) (p : BlockPlan) where
       earlier k x lt there ne =
           let less : k < n = omega arith in
           let t = before.each k x less there in
-          (t.0, got_before values (given ∷ []) k t.0 t.1, t.2)
+          (t.0, get_front values (given ∷ []) k t.0 t.1, t.2)
 
 pub zero_wired : (a b : List Signal) (ty : IntegerType) (nought : Word) (given : Given) → IsConstant a b ty nought → given.word.place ≡ nought.place →
     given.word.width ≡ width_of ty
@@ -114,9 +114,6 @@ zero_wired a b ty nought given t at wide sign base low =
 
 pub zeros_none : (a : List Signal) → AreZeros a a []
 zeros_none a base low = record { wires = wires_none base a; values = λ k g e. absurd cc }
-
-longer : (a b : List Signal) → Grows a b → length a ≤ length b
-longer a b g = let e = ap length g.is ∙ length-append a g.more in omega arith
 
 pub zeros_more : (a b c : List Signal) (values : List Given) (g : Given) → AreZeros a b values → IsZero b c g → AreZeros a c (values ++ g ∷ [])
 zeros_more a b c values g t u base low =

@@ -6,6 +6,7 @@ use Rattle.std.proofs.lemmas.Bool.{cases_lt}
 use Rattle.std.proofs.lemmas.Bool.Decides.{nat_tests}
 use Rattle.std.proofs.Math.Nat.{mod-eq_of_lt}
 use Rattle.std.proofs.Math.Pow.{pow_mono}
+use Rattle.std.proofs.lemmas.Nat.{div-add-mod'}
 use Rattle.hls_ints.specs.Residues.{residue_of}
 use Rattle.hls_ints.specs.Types.{IntegerType, HasType, bits}
 use Rattle.hls_ints.specs.Types as types
@@ -110,17 +111,13 @@ past_words : (K n N : ℕ) → IsSmallPower K → n ≤ N → words_of K (N % K)
 past_words K n N power le =
     ⊎_elim
     (λ (less : N / K < words_of K (N % K) n).
-    absurd (let within = has_element K (N % K) n (N / K) below less in let whole = all in omega arith))
+    absurd (let within = has_element K (N % K) n (N / K) below less in let whole = (div-add-mod' N K) in omega arith))
     (λ (done : words_of K (N % K) n ≤ N / K). done)
     (cases_lt (N / K) (words_of K (N % K) n))
   where
     below : N % K < K
     below = by_power (λ k. N % k < k) K power (let e : N % 1 < 1 = omega arith in e) (let e : N % 2 < 2 = omega arith in e) (let e : N % 4 < 4 = omega arith in e)
         (let e : N % 8 < 8 = omega arith in e)
-
-    all : N / K * K + N % K ≡ N
-    all = by_power (λ k. N / k * k + N % k ≡ N) K power (let e : N / 1 * 1 + N % 1 ≡ N = omega arith in e) (let e : N / 2 * 2 + N % 2 ≡ N = omega arith in e)
-        (let e : N / 4 * 4 + N % 4 ≡ N = omega arith in e) (let e : N / 8 * 8 + N % 8 ≡ N = omega arith in e)
 
 positive_fits : (signed : Bool) (W : types.Width) (n : ℕ) → HasType (record { width = W; signed = signed }) (pos n) → n < 2 ^ 64
 positive_fits true W n h =

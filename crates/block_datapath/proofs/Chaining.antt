@@ -1,10 +1,9 @@
 -- Chains of conditionals: lemmas of each function that adds a link.
 use Rattle.std.proofs.Common.{◌≡◌, ◌≢◌, ℕ, zero, suc, ◌+◌, ◌%◌, ◌^◌, ◌<◌, ◌≤◌, Bool, true, false, not, ◌&&◌, nat_eq, if◌then◌else◌, List, [], ◌∷◌, length, slice_get, Option, Some}
 use Rattle.std.proofs.Common.{None, refl, sym, ap, subst, ◌∙◌, arith, ⊎_elim, add-one}
-use Rattle.std.specs.Prelude.{Result, Ok, Err, IfOk, OnOk}
+use Rattle.std.specs.Prelude.{Result, IfOk}
 use Rattle.std.proofs.Math.Nat.{mod-eq_of_lt}
-use Rattle.std.proofs.lemmas.Bool.{eqb-true}
-use Rattle.interleaving.proofs.Update.{same_or_not}
+use Rattle.std.proofs.lemmas.Bool.{eqb-true, cases_eq}
 use Rattle.netlist.specs.declared.netlist.Signal.{Signal}
 use Rattle.verilog_meaning.specs.Readings.{width}
 use Rattle.hls_ints.specs.Residues.{bit_of}
@@ -106,11 +105,6 @@ state_answer x a b c registers moment bit t made =
 
 -- ---- one link
 
--- a weaker fact of a success
-pub on_ok : {A E : Type 0} (x : Result A E) (P Q : Type 0) → (P → Q) → OnOk x P → OnOk x Q
-on_ok (Ok a) P Q h p = h p
-on_ok (Err e) P Q h p = tt
-
 not_within : {X : Type 0} (xs : List X) (k : ℕ) → slice_get xs k ≡ None → k < length xs → ⊥
 not_within [] k e h = absurd (omega arith)
 not_within (y ∷ xs) zero e h = absurd cc
@@ -145,7 +139,7 @@ choose : (c b i d : Bool) (S K O : ℕ) → i ≡ b → d ≡ c → (c ≡ true 
 choose c b i d S K O e f h = ap (λ k. if c && k then S else O) e ∙ chosen c b S K O h ∙ ap (λ k. if b && k then K else O) (sym f)
 
 eq_turned : (x n : ℕ) → nat_eq n x ≡ nat_eq x n
-eq_turned x n = ⊎_elim (λ e. same_is n x (sym e) ∙ sym (same_is x n e)) (λ ne. other_is n x (λ e. ne (sym e)) ∙ sym (other_is x n ne)) (same_or_not x n)
+eq_turned x n = ⊎_elim (λ e. same_is n x (sym e) ∙ sym (same_is x n e)) (λ ne. other_is n x (λ e. ne (sym e)) ∙ sym (other_is x n ne)) (cases_eq x n)
 
 pub keep_none : (a : List Signal) (registers : Registers) (at states : ℕ) (before : List ℕ) (g : Given) → g.register ≡ None → KeepsOne a a registers at states before before g
 keep_none a registers at states before g e = record {

@@ -2,10 +2,10 @@
 use Rattle.std.proofs.Common.{◌≡◌, ◌≢◌, ℕ, zero, suc, ◌-◌, ◌^◌, ◌<◌, ◌≤◌, Bool, true, false, ◌&&◌, nat_eq, if◌then◌else◌}
 use Rattle.std.proofs.Common.{List, [], ◌∷◌, length, slice_get, Some, ℤ, pos, negsuc, refl, sym, ap, subst, ◌∙◌, arith, inl, inr, ⊎_elim, max, min}
 use Rattle.std.proofs.lemmas.Option.{slice_get_within}
-use Rattle.std.proofs.lemmas.Bool.{eqb-true}
+use Rattle.std.proofs.lemmas.Bool.{eqb-true, cases_eq}
 use mathlib.Core.Bool.{and-true, and-false}
+use Rattle.std.proofs.Math.Nat.{min-eq_left}
 use Rattle.interleaving.specs.Memory.{Location}
-use Rattle.interleaving.proofs.Update.{same_or_not}
 use Rattle.netlist.specs.declared.netlist.Signal.{Signal}
 use Rattle.netlist.specs.declared.netlist.Module.{Module}
 use Rattle.verilog_meaning.specs.Readings.{Reading, width}
@@ -78,14 +78,14 @@ finals_typed ty x value (f ∷ fs) after each e =
     (λ (same : x ≡ f.variable).
     subst (λ (t : Bool). HasType ty (if t then value (operand_view f.value) else after x)) (sym (same_is x f.variable same)) (each 0 f refl (sym same)))
     (λ (ne : x ≢ f.variable). subst (λ (t : Bool). HasType ty (if t then value (operand_view f.value) else after x)) (sym (other_is x f.variable ne)) e)
-    (same_or_not x f.variable))
+    (cases_eq x f.variable))
 
 one_final : (r : Reading) (x w old : ℕ) (value : PlannedOperand → ℤ) (f : Final) (o : Finish) (after : ℕ → ℤ) → old ≡ residue_of w (after x) → o.variable ≡ f.variable
     → (f.variable ≡ x → r.signal o.word.place ≡ residue_of w (value (operand_view f.value)))
     → (if nat_eq x o.variable && true then r.signal o.word.place else old) ≡ residue_of w (if nat_eq x f.variable then value (operand_view f.value) else after x)
 one_final r x w old value f o after e variable shows =
     ap (λ (t : Bool). if t then r.signal o.word.place else old) (and-true (nat_eq x o.variable) ∙ ap (nat_eq x) variable)
-    ∙ ⊎_elim here there (same_or_not x f.variable)
+    ∙ ⊎_elim here there (cases_eq x f.variable)
   where
     here : x ≡ f.variable → (if nat_eq x f.variable then r.signal o.word.place else old) ≡ residue_of w (if nat_eq x f.variable then value (operand_view f.value) else after x)
     here same =
@@ -121,12 +121,7 @@ module _ (globals : List IntegerType) (code : ThreadCode) (registers : Registers
     (bank : Location → ℕ) (m : Module) (r : Reading) (q : Slot) (wire : ℕ → ℤ) (grows : Grows new m.signals) (obeys : Obeys m r) (sees : SeesSlot globals code registers b p m r q)
     (wired : IsFed globals code registers b p bank m r q wire) (at_end : suc q.state ≡ p.states) where
   below_all : (k : ℕ) (o : Operation) → slice_get b.operations k ≡ Some o → k < length b.operations
-  below_all k o e = got_below b.operations k o e
-    where
-      got_below : (os : List Operation) (k : ℕ) (o : Operation) → slice_get os k ≡ Some o → k < length os
-      got_below [] k o e = absurd cc
-      got_below (x ∷ os) zero o e = omega arith
-      got_below (x ∷ os) (suc k) o e = let h = got_below os k o e in omega arith
+  below_all k o e = slice_get_within b.operations k o e
 
   source_end : (source : Source) (state : ℕ) → state ≡ q.state → IsTypedSource globals code b.operations source →
       ((j : ℕ) (ty : IntegerType) → source ≡ Value j ty → IsUsedAtEnd (planned_view b) j)
@@ -158,19 +153,13 @@ module _ (globals : List IntegerType) (code : ThreadCode) (registers : Registers
   stage_end : (next : Next) (state : ℕ) → IsTypedNext globals code b.operations next
       → next_stage registers code values state q.variables (value_now (planned_view b) (plan_view b p) q wire) next
       ≡ leads_to (operand_now (planned_view b) (plan_view b p) q wire) (next_view next)
-  stage_end (Jump l) state typed = min_is l (length code.stages) typed
-    where
-      min_is : (a c : ℕ) → a ≤ c → min a c ≡ a
-      min_is a c h = omega arith
+  stage_end (Jump l) state typed = min-eq_left typed
   stage_end (Branch test nonzero otherwise) state typed =
       ap (λ z. if is_zero (seen_value q.variables (value_now (planned_view b) (plan_view b p) q wire) test) then z else min nonzero (length code.stages))
-      (min_is otherwise (length code.stages) typed.2)
-      ∙ ap (λ z. if is_zero (seen_value q.variables (value_now (planned_view b) (plan_view b p) q wire) test) then otherwise else z) (min_is nonzero (length code.stages) typed.1)
+      (min-eq_left typed.2)
+      ∙ ap (λ z. if is_zero (seen_value q.variables (value_now (planned_view b) (plan_view b p) q wire) test) then otherwise else z) (min-eq_left typed.1)
       ∙ zero_same (seen_value q.variables (value_now (planned_view b) (plan_view b p) q wire) test) nonzero otherwise
     where
-      min_is : (a c : ℕ) → a ≤ c → min a c ≡ a
-      min_is a c h = omega arith
-
       zero_same : (v : ℤ) (y n : ℕ) → (if is_zero v then n else y) ≡ (if planned_zero v then n else y)
       zero_same (pos k) y n = refl
       zero_same (negsuc k) y n = refl
@@ -182,7 +171,7 @@ last_is s states below =
     let all : max 1 states - 1 ≡ states - 1 = omega arith in
     ap (nat_eq s) all
     ∙ ⊎_elim (λ e. same_is s (states - 1) e ∙ sym (same_is (suc s) states (omega arith))) (λ ne. other_is s (states - 1) ne ∙ sym (other_is (suc s) states (λ e. ne (omega arith))))
-    (same_or_not s (states - 1))
+    (cases_eq s (states - 1))
 
 module _ (globals : List IntegerType) (code : ThreadCode) (registers : Registers) (l : ℕ) (b : Block) (p : BlockPlan) (s0 s1 s2 s3 s4 s5 s6 : List Signal) (before after : List ℕ)
     (values : List Given) (finishes : List Finish) (end : Moment) (last target : ℕ) (state : end.state ≡ max 1 p.states - 1) (states : end.states ≡ max 1 p.states)

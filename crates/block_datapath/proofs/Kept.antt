@@ -1,11 +1,12 @@
 -- Registers for values hold next what the planned block says.
 use Rattle.std.proofs.Common.{◌≡◌, ◌≢◌, ℕ, zero, suc, ◌%◌, ◌^◌, ◌<◌, ◌≤◌, Bool, true, false, ◌&&◌, nat_eq, nat_lt, if◌then◌else◌}
-use Rattle.std.proofs.Common.{List, [], ◌∷◌, length, slice_get, Option, Some, None, ℤ, refl, sym, ap, subst, ◌∙◌, arith, ◌⊎◌, inl, inr, ⊎_elim, max}
+use Rattle.std.proofs.Common.{List, length, slice_get, Option, Some, None, ℤ, refl, sym, ap, subst, ◌∙◌, arith, ◌⊎◌, inl, inr, ⊎_elim, max}
 use Rattle.std.proofs.Math.Nat.{mod-eq_of_lt}
 use Rattle.std.proofs.lemmas.Option.{slice_get_within}
-use Rattle.std.proofs.lemmas.Bool.{eqb-true, and_from, and_parts}
+use Rattle.std.proofs.lemmas.Bool.{eqb-true, and_from, and_parts, cases_eq}
+use Rattle.std.proofs.Math.Bool.{and-false}
+use Rattle.lists.proofs.Places.{get_there}
 use Rattle.interleaving.specs.Memory.{Location}
-use Rattle.interleaving.proofs.Update.{same_or_not}
 use Rattle.netlist.specs.declared.netlist.Signal.{Signal}
 use Rattle.netlist.specs.declared.netlist.Module.{Module}
 use Rattle.verilog_meaning.specs.Readings.{Reading}
@@ -65,12 +66,8 @@ named (Some y) x e = ap Some (eqb-true y x e)
 -- zeros above
 widened : (t : Bool) (from to n : ℕ) → from ≤ to → nat_lt to from ≡ t → resized_word false from to n ≡ n
 widened true from to n le e = absurd (let less : to < from = grind arith in omega arith)
-widened false from to n le e = by_second (nat_lt from to && false) (second (nat_lt from to))
+widened false from to n le e = by_second (nat_lt from to && false) (and-false (nat_lt from to))
   where
-    second : (t : Bool) → (t && false) ≡ false
-    second true = refl
-    second false = refl
-
     by_second : (u : Bool) → (nat_lt from to && false) ≡ false → resized_word false from to n ≡ n
     by_second u f = rw (e, f) refl
 
@@ -93,15 +90,10 @@ module _ (globals : List IntegerType) (code : ThreadCode) (registers : Registers
       operation_of : (j : ℕ) (v : Given) → slice_get values j ≡ Some v → Of j v
       operation_of j v listed =
           let below : j < length b.operations = subst (λ (n : ℕ). j < n) first.count (slice_get_within values j v listed) in
-          let found = got_one b.operations j below in
+          let found = get_there b.operations j below in
           let t = first.each j found.0 below found.1 in
           let same : t.0 ≡ v = (let h = t.1 in cc) in
           record { operation = found.0; listed = found.1; shown = subst (λ (z : Given). IsShown globals code registers b p s1 j found.0 z) same t.2 }
-        where
-          got_one : (os : List Operation) (j : ℕ) → j < length os → (x : Operation) × (slice_get os j ≡ Some x)
-          got_one [] j h = absurd (omega arith)
-          got_one (x ∷ os) zero h = (x, refl)
-          got_one (x ∷ os) (suc j) h = got_one os j (omega arith)
 
       can : (j : ℕ) (v : Given) → slice_get values j ≡ Some v → CanKeep m (max 1 p.states) true q.state v
       can j v listed =
@@ -152,7 +144,7 @@ module _ (globals : List IntegerType) (code : ThreadCode) (registers : Registers
 
         -- no other value gets the register
         alone : (j : ℕ) → Gets x j → j ≡ k ⊎ ⊥
-        alone j other = ⊎_elim (λ e. inl e) (λ ne. inr (clash ne)) (same_or_not j k)
+        alone j other = ⊎_elim (λ e. inl e) (λ ne. inr (clash ne)) (cases_eq j k)
           where
             clash : j ≢ k → ⊥
             clash ne =
@@ -219,7 +211,7 @@ module _ (globals : List IntegerType) (code : ThreadCode) (registers : Registers
         pub kept_next : (next_number r after x % 2 ^ width_of (value_type globals code t.operation)
             ≡ residue_of (width_of (value_type globals code t.operation)) (registers_after x))
             × HasType (value_type globals code t.operation) (registers_after x)
-        kept_next = ⊎_elim now before_now (same_or_not (last_state (planned_view b) (plan_view b p) k) q.state)
+        kept_next = ⊎_elim now before_now (cases_eq (last_state (planned_view b) (plan_view b p) k) q.state)
 
   pub block_keeps : KeepsBlock globals code registers b p s0 s2 before after end_at values
   block_keeps = record {

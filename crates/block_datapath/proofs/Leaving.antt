@@ -2,7 +2,8 @@
 use Rattle.std.proofs.Common.{◌≡◌, ◌≢◌, ℕ, ◌+◌, ◌<◌, Bool, true, false, not, ◌&&◌, nat_eq, if◌then◌else◌, List, [], ◌∷◌, ◌++◌, length, slice_get, Option, Some}
 use Rattle.std.proofs.Common.{refl, sym, ap, subst, ◌∙◌, arith, ⊎_elim, add-one, length-append, min}
 use Rattle.std.specs.Prelude.{Result, IfOk}
-use Rattle.interleaving.proofs.Update.{same_or_not}
+use Rattle.std.proofs.lemmas.Bool.{cases_eq}
+use Rattle.lists.proofs.Places.{get_last, get_front}
 use Rattle.netlist.specs.declared.netlist.Signal.{Signal}
 use Rattle.hls_ints.specs.Residues.{bit_of}
 use Rattle.hls_ints.specs.Types.{IntegerType, wrapped}
@@ -27,7 +28,6 @@ use Rattle.block_datapath.specs.Operations.{seen_value}
 use Rattle.block_datapath.specs.Chains.{next_number, is_set, SetsNext}
 use Rattle.block_datapath.specs.Ending.{BecomesOwn, IsFinal, ShowsFinal, ShowsFinals, ShowsNext, finishes_in, finish_number, SetsFirst}
 use Rattle.block_datapath.proofs.Seeing.{own_word}
-use Rattle.block_datapath.proofs.Walking.{got_before, got_last}
 use Rattle.block_datapath.proofs.Chaining.{set_bit}
 
 -- ---- words of variables
@@ -82,7 +82,7 @@ finals_more registers code values state a b c finals n finishes after f out t li
     (record {
       grows = grows_then a b c t.grows u.grows;
       count = length-append finishes (out ∷ []) ∙ ap (λ k. k + 1) t.count;
-      each = λ k g lt there. ⊎_elim (now k g there) (earlier k g lt there) (same_or_not k n);
+      each = λ k g lt there. ⊎_elim (now k g there) (earlier k g lt there) (cases_eq k n);
     })
   where
     now : (k : ℕ) (g : Final) → slice_get finals k ≡ Some g → k ≡ n
@@ -90,7 +90,7 @@ finals_more registers code values state a b c finals n finishes after f out t li
     now k g there same =
         let one : f ≡ g = cc in (
           out,
-          ap (slice_get (finishes ++ out ∷ [])) (same ∙ sym t.count) ∙ got_last finishes out,
+          ap (slice_get (finishes ++ out ∷ [])) (same ∙ sym t.count) ∙ get_last finishes out,
           subst (λ (z : Final). IsFinal registers code values state c z out) one u.is,
         )
 
@@ -99,7 +99,7 @@ finals_more registers code values state a b c finals n finishes after f out t li
     earlier k g lt there ne =
         let less : k < n = omega arith in
         let s = t.each k g less there in
-        (s.0, got_before finishes (out ∷ []) k s.0 s.1, final_lifted registers code values state b c g s.0 u.grows s.2)
+        (s.0, get_front finishes (out ∷ []) k s.0 s.1, final_lifted registers code values state b c g s.0 u.grows s.2)
 
 -- ---- chains of variables
 

@@ -2,6 +2,8 @@
 use Rattle.std.proofs.Common.{◌≡◌, ℕ, zero, suc, ◌<◌, ◌≤◌, ◌^◌, ◌⊎◌, inl, inr, ⊎_elim, true, false, List, [], ◌∷◌}
 use Rattle.std.proofs.Common.{◌++◌, length, slice_get, slice_set, Some, None, max, refl, sym, ap, subst, ◌∙◌, arith}
 use Rattle.std.specs.Prelude.{Result, IfOk}
+use Rattle.std.proofs.lemmas.List.{length-set}
+use Rattle.std.proofs.lemmas.Nat.{pow_pos}
 use Rattle.lists.proofs.Places.{get_there}
 use Rattle.netlist.specs.declared.netlist.Signal.{Signal}
 use Rattle.hls_ints.specs.Types.{IntegerType, width_of}
@@ -13,7 +15,7 @@ use Rattle.operator_wires.specs.Built.{Base, IsEarlier, Adds}
 use Rattle.operator_wires.proofs.Giving.{grows_then}
 use Rattle.operator_wires.specs.Added.{ConstantAdds, ResizedAdds, NumberAdds, ChoiceAdds, BothAdds, IsConverted, BitOfOne}
 use Rattle.operator_wires.proofs.Building.{stands_after, room_of, wires_none, wires_then, adds_after}
-use Rattle.operator_wires.proofs.Wording.{some, own}
+use Rattle.operator_wires.proofs.Wording.{own}
 use Rattle.operator_wires.proofs.Making.{of_ok}
 use Rattle.block_datapath.specs.declared.registers.Held.{Held}
 use Rattle.block_datapath.specs.declared.registers.Registers.{Registers}
@@ -28,11 +30,6 @@ use Rattle.block_datapath.specs.Wired.{IsStageNumber, IsTarget, IsBlockAdded, Is
 use Rattle.block_datapath.proofs.Wiring.{registers_after, values_after, sources_after, word_stands_after, room}
 
 -- ---- one number of a list is set
-
-set_length : (a : List ℕ) (j v : ℕ) → length (slice_set a j v) ≡ length a
-set_length [] j v = refl
-set_length (x ∷ xs) zero v = refl
-set_length (x ∷ xs) (suc j) v = ap suc (set_length xs j v)
 
 abbrev IsSetOr : List ℕ → ℕ → ℕ → ℕ → ℕ → Type 0
 IsSetOr a j v x y = ((x ≡ j) × (v ≡ y)) ⊎ (slice_get a x ≡ Some y)
@@ -66,7 +63,7 @@ link_set a b number width condition source old next before after listed within t
     let made = t base e f last in
     let set : AreChains b base registers (slice_set before number next) =
     record {
-      count = set_length before number next ∙ count;
+      count = length-set before number next ∙ count;
       each = λ x y k g l.
           ⊎_elim (λ (here : (x ≡ number) × (next ≡ y)).
           let at : slice_get registers number ≡ Some k = ap (slice_get registers) (sym here.0) ∙ g in
@@ -95,7 +92,7 @@ pub unknown_state : {E : Type 0} (x : Result ℕ E) (a b : List Signal) (registe
     IfOk x (IsStateBit a b registers moment)
 unknown_state x a b registers moment made =
     of_ok x (ConstantAdds a b 1 0) (IsStateBit a b registers moment)
-    (λ place t base e f room. t base (room_of a base moment.at 1 f) f.low f.high (some 1)) made
+    (λ place t base e f room. t base (room_of a base moment.at 1 f) f.low f.high (pow_pos 1)) made
 
 pub state_wired : {E : Type 0} (x : Result ℕ E) (a b c : List Signal) (registers : Registers) (moment : Moment) (bit : ℕ)
     → NumberAdds a b registers.state.width registers.state.register moment.state bit → IfOk x (BothAdds b c moment.at bit) → IfOk x (IsBitOfState a c registers moment)
@@ -261,7 +258,7 @@ block_wired a b c d e f g code registers stage plan before after values finishes
     let c_to_e = wires_then base c d e ends.wires to.wires in
     let b_to_e = wires_then base b c e made.wires c_to_e in
     let bit_e : IsEarlier e base end.at 1 = subst (λ n. IsEarlier e base n 1) (sym at_is) (stands_after b e base at 1 b_to_e.grows first.stands) in
-    let some_states = some registers.state.width in
+    let some_states = pow_pos registers.state.width in
     let fit_states = fits.states in
     let few : end.states ≤ 2 ^ registers.state.width = subst (λ n. n ≤ 2 ^ registers.state.width) (sym states_are)
     (let m : max 1 plan.states ≤ 2 ^ registers.state.width = grind arith in m) in
@@ -296,7 +293,7 @@ pub kept_block_wired : (a b c : List Signal) (code : ThreadCode) (registers : Re
 kept_block_wired a b c code registers stage plan before after kept kept_after left values same states_are t u base fits is chains kept_chains =
     let block = t base fits is chains in
     let grows = block.wires.grows in
-    let some_states = some registers.state.width in
+    let some_states = pow_pos registers.state.width in
     let fit_states = fits.states in
     let few : left.end.states ≤ 2 ^ registers.state.width =
     subst (λ n. n ≤ 2 ^ registers.state.width) (sym states_are) (let m : max 1 plan.states ≤ 2 ^ registers.state.width = grind arith in m) in

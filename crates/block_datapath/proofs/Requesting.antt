@@ -1,10 +1,11 @@
 -- The bank of an index, and the address in it.
 use Rattle.std.proofs.Common.{◌≡◌, ℕ, zero, suc, ◌+◌, ◌-◌, ◌/◌, ◌%◌, ◌^◌, ◌<◌, ◌≤◌, nat_eq, Bool}
 use Rattle.std.proofs.Common.{true, false, ◌&&◌, if◌then◌else◌, List, refl, sym, ap, subst, ◌∙◌, ◌≢◌, nat_lt, ⊎_elim, arith}
-use Rattle.std.specs.Prelude.{Result, not, IfOk, bit_and}
+use Rattle.std.specs.Prelude.{Result, not, IfOk}
 use Rattle.std.proofs.lemmas.Bool.{cases_lt}
 use Rattle.std.proofs.lemmas.Nat.{pow_pos, mod_below}
 use Rattle.std.proofs.Math.Nat.{mod-eq_of_lt}
+use Rattle.std.specs.Int.Bits.{and_zero_l}
 use Rattle.hls_ints.specs.Residues.{bit_of}
 use Rattle.bank_partition.specs.declared.banks.Spread.{Spread}
 use Rattle.hls_ints.specs.Words.{word_equal, word_and}
@@ -169,14 +170,8 @@ link_shows : (r : Reading) (before after : List ℕ) (n number condition : ℕ) 
 link_shows r before after n number condition t source value set is shows =
     shows ∙ ap (λ s. if nat_eq n number && s then source else next_number r before n) set ∙ ap (λ k. if nat_eq n number && t then k else next_number r before n) is
 
--- a bit and 0
-zero_and : (n : ℕ) → n < 2 → bit_and 0 n ≡ 0
-zero_and zero less = refl
-zero_and (suc zero) less = refl
-zero_and (suc (suc n)) less = absurd (omega arith)
-
 and_none : (n : ℕ) → word_and 1 0 n ≡ 0
-and_none n = zero_and (n % 2) (let e : n % 2 < 2 = omega arith in e)
+and_none n = and_zero_l (n % 2)
 
 never : {A : Type 0} (t : Bool) (by old : A) → (if t && false then by else old) ≡ old
 never true by old = refl

@@ -4,7 +4,7 @@ use Rattle.std.proofs.Common.{false, if◌then◌else◌, List, slice_get, Some,
 use Rattle.std.proofs.Common.{arith, ⊎_elim}
 use Rattle.std.specs.Prelude.{Result, IfOk}
 use Rattle.std.proofs.lemmas.Nat.{pow_pos, mod_below}
-use Rattle.interleaving.proofs.Update.{same_or_not}
+use Rattle.std.proofs.lemmas.Bool.{cases_eq}
 use Rattle.hls_ints.specs.Residues.{residue_of, bit_of}
 use Rattle.hls_ints.specs.Types.{IntegerType, width_of, long_int, wrapped}
 use Rattle.hls_ints.proofs.Conversions.{residue_of-wrapped}
@@ -125,7 +125,7 @@ module _ (registers : Registers) where
                 let off : r.signal chosen ≡ 0 = bit ∙ ap bit_of (other_is i n ne) in
                 ap (λ (k : ℕ). if nat_eq k 0 then r.signal old else r.signal told) off
                 ∙ (t.shows m r number to_b o wide (omega arith) fits (omega arith) (omega arith) tells).1)
-                (same_or_not i n),
+                (cases_eq i n),
           );
     }
 

@@ -2,8 +2,10 @@
 use Rattle.std.proofs.Common.{◌≡◌, ◌≢◌, ℕ, zero, suc, ◌+◌, ◌<◌, ◌≤◌, Bool, if◌then◌else◌, List, [], ◌∷◌, ◌++◌, length, slice_get, slice_index, Option}
 use Rattle.std.proofs.Common.{Some, ℤ, refl, sym, ap, subst, ◌∙◌, arith, inl, inr, ⊎_elim, length-append, get_or}
 use Rattle.std.specs.Prelude.{slice_index_or}
+use Rattle.std.proofs.lemmas.Option.{slice_get-get_or}
+use Rattle.std.proofs.lemmas.Bool.{cases_eq}
+use Rattle.lists.proofs.Places.{get_last, get_front, get_there}
 use Rattle.interleaving.specs.Memory.{Location, Memory}
-use Rattle.interleaving.proofs.Update.{same_or_not}
 use Rattle.netlist.specs.declared.netlist.Signal.{Signal}
 use Rattle.netlist.specs.declared.netlist.Module.{Module}
 use Rattle.verilog_meaning.specs.Readings.{Reading}
@@ -24,7 +26,6 @@ use Rattle.planned_block.specs.Slot.{Slot, value_now, operand_now, register_valu
 use Rattle.planned_block.proofs.Bits.{same_is, other_is}
 use Rattle.planned_view.specs.View.{source_view, operand_view, operation_view, operations_view, converted_to, binary_kind, planned_view, plan_view}
 use Rattle.circuit.specs.Modules.{Obeys}
-use Rattle.circuit.proofs.Growth.{got}
 use Rattle.operator_wires.specs.Gives.{Grows}
 use Rattle.operator_wires.specs.Words.{IsWord}
 use Rattle.operator_wires.proofs.Giving.{grows_refl, grows_then}
@@ -74,21 +75,7 @@ binary_gives bank operator.And f words arrays l r = refl
 binary_gives bank operator.ExclusiveOr f words arrays l r = refl
 binary_gives bank operator.InclusiveOr f words arrays l r = refl
 
-declared_at : (types : List IntegerType) (x : ℕ) → x < length types → (ty : IntegerType) × (slice_get types x ≡ Some ty)
-declared_at [] x less = absurd (omega arith)
-declared_at (t ∷ types) zero less = (t, refl)
-declared_at (t ∷ types) (suc x) less = declared_at types x (omega arith)
-
 -- ---- one more at the end
-
-pub got_before : {X : Type 0} (a b : List X) (k : ℕ) (x : X) → slice_get a k ≡ Some x → slice_get (a ++ b) k ≡ Some x
-got_before [] b k x e = absurd cc
-got_before (y ∷ a) b zero x e = e
-got_before (y ∷ a) b (suc k) x e = got_before a b k x e
-
-pub got_last : {X : Type 0} (a : List X) (x : X) → slice_get (a ++ x ∷ []) (length a) ≡ Some x
-got_last [] x = refl
-got_last (y ∷ a) x = got_last a x
 
 module _ (globals : List IntegerType) (code : ThreadCode) (registers : Registers) (b : Block) (p : BlockPlan) where
   -- ---- what an operation sees in its last state
@@ -221,7 +208,7 @@ module _ (globals : List IntegerType) (code : ThreadCode) (registers : Registers
     sized_here (Unary operator ty a) typed access = tt
     sized_here (Binary operator ty a c) typed access = tt
     sized_here (ReadGlobal x count i) typed access =
-        let declared = declared_at globals x typed.1 in
+        let declared = get_there globals x typed.1 in
         record { spread = access.0; listed = access.1; long = access.2; ty = declared.0; typed = declared.1 }
     sized_here (WriteGlobal x count i a) typed access = tt
     sized_here (ReadArray x count i) typed access = typed.1
@@ -301,7 +288,7 @@ module _ (globals : List IntegerType) (code : ThreadCode) (registers : Registers
   first_more first old new values n o given before listed next = record {
     grows = grows_then first old new before.grows next.shows.grows;
     count = length-append values (given ∷ []) ∙ ap (λ k. k + 1) before.count;
-    each = λ k x lt there. ⊎_elim (now k x there) (earlier k x lt there) (same_or_not k n);
+    each = λ k x lt there. ⊎_elim (now k x there) (earlier k x lt there) (cases_eq k n);
   }
     where
       now : (k : ℕ) (x : Operation) → slice_get b.operations k ≡ Some x → k ≡ n
@@ -309,7 +296,7 @@ module _ (globals : List IntegerType) (code : ThreadCode) (registers : Registers
       now k x there e =
           let same : o ≡ x = cc in (
             given,
-            ap (slice_get (values ++ given ∷ [])) (e ∙ sym before.count) ∙ got_last values given,
+            ap (slice_get (values ++ given ∷ [])) (e ∙ sym before.count) ∙ get_last values given,
             subst (λ (z : Operation). IsShown globals code registers b p new k z given) same
                 (subst (λ (z : ℕ). IsShown globals code registers b p new z o given) (sym e) (shown_next first old new values n o given before listed next)),
           )
@@ -319,7 +306,7 @@ module _ (globals : List IntegerType) (code : ThreadCode) (registers : Registers
       earlier k x lt there ne =
           let less : k < n = omega arith in
           let t = before.each k x less there in
-          (t.0, got_before values (given ∷ []) k t.0 t.1, lifted old new k x t.0 next.shows.grows t.2)
+          (t.0, get_front values (given ∷ []) k t.0 t.1, lifted old new k x t.0 next.shows.grows t.2)
 
 -- a value that was given over the same values, in other words
 pub next_same : (old new : List Signal) (globals : List IntegerType) (code : ThreadCode) (registers : Registers) (values others : List Given) (p : BlockPlan) (n k : ℕ)
@@ -330,4 +317,4 @@ next_same old new globals code registers values others p n k o given e f t =
     (λ (z : List Given). GivesOperation old new globals code registers z p k o given) e t)
 
 pub item_is : {X : Type 0} (xs ys : List X) (i : ℕ) (x : X) → i < length xs → x ≡ get_or xs i x → xs ≡ ys → slice_get ys i ≡ Some x
-item_is xs ys i x lt e f = ap (λ l. slice_get l i) (sym f) ∙ got xs i x lt ∙ ap Some (sym e)
+item_is xs ys i x lt e f = ap (λ l. slice_get l i) (sym f) ∙ slice_get-get_or xs i x lt ∙ ap Some (sym e)

@@ -1,7 +1,8 @@
 -- Operations that ask in a state of a block, and the banks that they ask.
-use Rattle.std.proofs.Common.{◌≡◌, ℕ, zero, suc, ◌+◌, ◌/◌, ◌%◌, ◌<◌, ◌≤◌, ◌^◌, nat_eq, Bool, true, false, ◌&&◌, List, [], ◌∷◌, length, slice_get, slice_index, Option, Some, ℤ, pos}
+use Rattle.std.proofs.Common.{◌≡◌, ℕ, zero, ◌+◌, ◌/◌, ◌%◌, ◌<◌, ◌≤◌, ◌^◌, nat_eq, Bool, true, false, ◌&&◌, List, slice_get, slice_index, Option, Some, ℤ, pos}
 use Rattle.std.proofs.Common.{refl, sym, ap, subst, ◌∙◌, arith}
 use Rattle.std.proofs.lemmas.Bool.{and_parts, and_from, eqb-true}
+use Rattle.planned_view.proofs.Running.{size-view}
 use Rattle.lists.proofs.Places.{get_there}
 use Rattle.interleaving.specs.Memory.{Location}
 use Rattle.hls_ints.specs.Residues.{residue_of, bit_of}
@@ -19,7 +20,7 @@ use Rattle.planned_block.specs.Block.{Operation as PlannedOperation, operation_a
 use Rattle.planned_block.specs.Plan.{OfGlobal, target_of}
 use Rattle.planned_block.specs.Slot.{Slot, is_request, asks, value_now, operand_now}
 use Rattle.planned_block.proofs.Bits.{same_is}
-use Rattle.planned_view.specs.View.{operation_view, operations_view, binary_kind, planned_view, plan_view}
+use Rattle.planned_view.specs.View.{operation_view, binary_kind, planned_view, plan_view}
 use Rattle.c_program.specs.declared.tree.BinaryOperator.{BinaryOperator}
 use Rattle.c_program.specs.declared.tree.BinaryOperator.TheVariants as operator
 use Rattle.thread_promise.specs.Types.{or_int}
@@ -30,10 +31,6 @@ use Rattle.block_datapath.specs.Requests.{Asked}
 use Rattle.block_datapath.specs.Accesses.{is_bank, address_in, reaches_bank, asked_of, reaches_now, asked_now, reaches_in, asked_in}
 use Rattle.block_datapath.proofs.Banking.{bank_read, bank_written, address_read, address_written}
 use Rattle.block_datapath.proofs.Walking.{listed_view}
-
-pub view_count : (os : List Operation) → length (operations_view os) ≡ length os
-view_count [] = refl
-view_count (o ∷ os) = ap suc (view_count os)
 
 binary_asks_not : (o : BinaryOperator) (f : ℤ → ℤ → ℤ) → is_request (binary_kind o f) ≡ false
 binary_asks_not operator.Multiply f = refl
@@ -164,6 +161,6 @@ module _ (globals : List IntegerType) (spreads : List Spread) (code : ThreadCode
     pub asker_of : (k : ℕ) → k < size (planned_view b) → asks (planned_view b) (plan_view b p) q k ≡ true → Asker k
     asker_of k below e =
         let two = and_parts (is_request (operation_at (planned_view b) k).kind) (nat_eq ((plan_view b p).start k) q.state) e in
-        let o = get_there b.operations k (subst (λ n. k < n) (view_count b.operations) below) in
+        let o = get_there b.operations k (subst (λ n. k < n) (size-view b.operations) below) in
         let view : operation_at (planned_view b) k ≡ operation_view o.0 = listed_view b.operations k o.0 o.1 in
         of_operation k o.0 o.1 (ap (λ (z : PlannedOperation). is_request z.kind) (sym view) ∙ two.0) (eqb-true ((plan_view b p).start k) q.state two.1)

@@ -1,6 +1,7 @@
 -- Wires of operands, operations and chains: lemmas of each function that adds some.
 use Rattle.std.proofs.Common.{◌≡◌, ℕ, zero, suc, ◌<◌, ◌≤◌, ◌^◌, true, false, arith, List, [], ◌∷◌, ◌++◌, length, slice_get, Option, Some, None, refl, sym, ap, subst, ◌∙◌}
 use Rattle.std.specs.Prelude.{Result, IfOk}
+use Rattle.std.proofs.lemmas.Nat.{pow_pos}
 use Rattle.netlist.specs.declared.netlist.Signal.{Signal}
 use Rattle.netlist.specs.declared.netlist.Value.TheVariants.{MemoryRead}
 use Rattle.block_ir.specs.declared.code.Array.{Array}
@@ -16,7 +17,7 @@ use Rattle.operator_wires.specs.Gives.{Grows}
 use Rattle.operator_wires.specs.Built.{Base, IsEarlier, Adds, StandsAs, AddsWord}
 use Rattle.operator_wires.specs.Added.{IsAdded, ConstantAdds, ResizedAdds, IsConstant, IsConverted, IsOfTwo, LikeOne}
 use Rattle.operator_wires.proofs.Building.{stands_after, room_of, wires_none, wires_then}
-use Rattle.operator_wires.proofs.Wording.{some, at_least, at_most, own, word_of, word_none, word_after}
+use Rattle.operator_wires.proofs.Wording.{at_least, at_most, own, word_of, word_none, word_after}
 use Rattle.operator_wires.proofs.Making.{of_ok}
 use Rattle.thread_promise.specs.Types.{source_type, last_type, operand_type, value_type, element_type}
 use Rattle.block_datapath.specs.declared.registers.Held.{Held}
@@ -152,7 +153,7 @@ pub zero_like_wired : (a b : List Signal) (word out : Word) (place : ℕ) → Co
     → LikeOne a b word out
 zero_like_wired a b word out place t at wide sign base ty is =
     let w = own base a ty word is in
-    like base a b ty word out place is (t base (room_of a base word.place word.width w) w.low w.high (some word.width)) at wide sign
+    like base a b ty word out place is (t base (room_of a base word.place word.width w) w.low w.high (pow_pos word.width)) at wide sign
 
 -- ---- conversions
 

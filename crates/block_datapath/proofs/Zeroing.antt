@@ -1,8 +1,10 @@
 -- Nothing is asked of banks: chains that begin with zeros.
-use Rattle.std.proofs.Common.{◌≡◌, ◌≢◌, ℕ, zero, suc, ◌+◌, ◌<◌, ◌≤◌, List, [], ◌∷◌, ◌++◌, length, replicate}
+use Rattle.std.proofs.Common.{◌≡◌, ◌≢◌, ℕ, ◌+◌, ◌<◌, ◌≤◌, List, [], ◌∷◌, ◌++◌, length, replicate}
 use Rattle.std.proofs.Common.{slice_get, slice_index, Some, refl, sym, ap, subst, ◌∙◌, arith, ⊎_elim, length-append}
 use Rattle.std.proofs.lemmas.Nat.{pow_pos}
-use Rattle.interleaving.proofs.Update.{same_or_not}
+use Rattle.std.proofs.lemmas.List.{get_or_push, get_or_append_left, length-replicate}
+use Rattle.std.proofs.lemmas.Bool.{cases_eq}
+use Rattle.lists.proofs.Places.{get_last, copies_are, get_earlier}
 use Rattle.netlist.specs.declared.netlist.Signal.{Signal}
 use Rattle.operator_wires.specs.Gives.{Gives}
 use Rattle.operator_wires.specs.Built.{Base, IsEarlier, AreWires}
@@ -15,24 +17,6 @@ use Rattle.block_datapath.specs.Chains.{next_number}
 use Rattle.block_datapath.specs.Requests.{ShowsZeros, AsksNothing, HaveWidths, AreZeroChains, AreEmptyChains, asked_at, nothing_asked}
 use Rattle.block_datapath.proofs.Linking.{chains_after}
 use Rattle.block_datapath.proofs.Requesting.{same_asked}
-use Rattle.block_datapath.proofs.Walking.{got_last}
-
--- ---- one more at the end
-
-index_before : (xs : List ℕ) (y x : ℕ) → x < length xs → slice_index (xs ++ y ∷ []) x ≡ slice_index xs x
-index_before [] y x less = absurd (omega arith)
-index_before (z ∷ xs) y zero less = refl
-index_before (z ∷ xs) y (suc x) less = index_before xs y x (omega arith)
-
-index_last : (xs : List ℕ) (y : ℕ) → slice_index (xs ++ y ∷ []) (length xs) ≡ y
-index_last [] y = refl
-index_last (z ∷ xs) y = index_last xs y
-
-got_earlier : (xs : List ℕ) (y x z : ℕ) → x ≢ length xs → slice_get (xs ++ y ∷ []) x ≡ Some z → slice_get xs x ≡ Some z
-got_earlier [] y zero z ne e = absurd (ne refl)
-got_earlier [] y (suc x) z ne e = absurd cc
-got_earlier (w ∷ xs) y zero z ne e = e
-got_earlier (w ∷ xs) y (suc x) z ne e = got_earlier xs y x z (λ same. ne (ap suc same)) e
 
 -- ---- zeros
 
@@ -48,11 +32,11 @@ zeros_more a b c n w place places after t u same = record {
       ap (λ l. next_number r l x) same
       ∙ ⊎_elim
       (λ (e : x ≡ n).
-      ap (λ k. r.signal (slice_index (places ++ place ∷ []) k)) (e ∙ sym t.count) ∙ ap r.signal (index_last places place) ∙ u.shows m r g o)
+      ap (λ k. r.signal (slice_index (places ++ place ∷ []) k)) (e ∙ sym t.count) ∙ ap r.signal (get_or_push places place 0 (length places) refl) ∙ u.shows m r g o)
       (λ (ne : x ≢ n).
       let inside : x < n = omega arith in
-      ap r.signal (index_before places place x (subst (λ k. x < k) (sym t.count) inside)) ∙ t.shows m r x (grows_then b c m.signals u.grows g) o inside)
-      (same_or_not x n);
+      ap r.signal (get_or_append_left places (place ∷ []) 0 x (subst (λ k. x < k) (sym t.count) inside)) ∙ t.shows m r x (grows_then b c m.signals u.grows g) o inside)
+      (cases_eq x n);
 }
 
 -- the chains of the first ones
@@ -83,11 +67,11 @@ first_more a b c widths places after w place t listed u same base registers low 
           let there : slice_get (places ++ place ∷ []) x ≡ Some y = ap (λ (l : List ℕ). slice_get l x) (sym same) ∙ f in
           ⊎_elim
           (λ (here : x ≡ length places).
-          let one : place ≡ y = (let p = got_last places place in let q = ap (slice_get (places ++ place ∷ [])) here in cc) in
+          let one : place ≡ y = (let p = get_last places place in let q = ap (slice_get (places ++ place ∷ [])) here in cc) in
           let two : h.width ≡ w = have.each (length places) w h (ap (slice_get registers) (sym here) ∙ e) listed in
           subst (λ z. IsEarlier c base z h.width) one (subst (λ z. IsEarlier c base place z) (sym two) last.stands))
-          (λ (ne : x ≢ length places). stands_after b c base y h.width last.wires.grows (before.each x y h e (got_earlier places place x y ne there)))
-          (same_or_not x (length places));
+          (λ (ne : x ≢ length places). stands_after b c base y h.width last.wires.grows (before.each x y h e (get_earlier places place x y ne there)))
+          (cases_eq x (length places));
     }
 
 pub first_all : (a b : List Signal) (widths places : List ℕ) → length places ≡ length widths → AreFirstZeros a b widths places → AreZeroChains a b widths places
@@ -112,24 +96,20 @@ begun_asks a b c d e words bits wide chains one many t u v w = record {
       (v.shows m r j to_d o (subst (λ k. j < k) (sym wides) less)) (w.shows m r j g o less);
 }
   where
-    long : (n k : ℕ) → length (replicate n k) ≡ n
-    long zero k = refl
-    long (suc n) k = ap suc (long n k)
-
     ones : length bits ≡ length words
-    ones = ap length one ∙ long (length words) 1
+    ones = ap length one ∙ length-replicate (length words) 1
 
     wides : length wide ≡ length words
-    wides = ap length many ∙ long (length words) 64
+    wides = ap length many ∙ length-replicate (length words) 64
 
 pub begun_links : (a b c d e : List Signal) (words bits wide : List ℕ) (chains : BankRequests) → bits ≡ replicate (length words) 1 → wide ≡ replicate (length words) 64 →
     AreZeroChains a b bits chains.wants → AreZeroChains b c bits chains.writes → AreZeroChains c d wide chains.addresses → AreZeroChains d e words chains.values →
     AreEmptyChains a e words chains
 begun_links a b c d e words bits wide chains one many t u v w base ones wides own low fit have_one have_wide have_own =
     let fit_one : (x n : ℕ) → slice_get bits x ≡ Some n → (1 ≤ n) × (n ≤ 64) = λ x n h.
-    let is = repeated (length words) 1 x n (ap (λ l. slice_get l x) (sym one) ∙ h) in (omega arith, omega arith) in
+    let is = copies_are (length words) 1 x n (ap (λ l. slice_get l x) (sym one) ∙ h) in (omega arith, omega arith) in
     let fit_wide : (x n : ℕ) → slice_get wide x ≡ Some n → (1 ≤ n) × (n ≤ 64) = λ x n h.
-    let is = repeated (length words) 64 x n (ap (λ l. slice_get l x) (sym many) ∙ h) in (omega arith, omega arith) in
+    let is = copies_are (length words) 64 x n (ap (λ l. slice_get l x) (sym many) ∙ h) in (omega arith, omega arith) in
     let has_one = subst (HaveWidths ones) (sym one) have_one in
     let has_wide = subst (HaveWidths wides) (sym many) have_wide in
     let p = t base ones low fit_one has_one in
@@ -150,8 +130,3 @@ begun_links a b c d e words bits wide chains one many t u v w base ones wides ow
         values = l.chains;
       };
     }
-  where
-    repeated : (n k x w : ℕ) → slice_get (replicate n k) x ≡ Some w → w ≡ k
-    repeated zero k x w e = absurd cc
-    repeated (suc n) k zero w e = cc
-    repeated (suc n) k (suc x) w e = repeated n k x w e

@@ -2,6 +2,8 @@
 use Rattle.std.proofs.Common.{◌≡◌, ◌≢◌, ℕ, suc, List, map, refl, ap, sym, ◌∙◌, subst}
 use Rattle.std.specs.Prelude.{ℤ, Bool, true, false, Option, Some, slice_get, slice_set, if◌then◌else◌}
 use Rattle.std.specs.List.{list_any, list_all}
+use Rattle.std.proofs.lemmas.List.{length-set}
+use Rattle.lists.proofs.Places.{set_there, set_elsewhere}
 use Rattle.c_program.specs.Tree.{Program}
 use Rattle.c_program.specs.Resolved.{IsResolved}
 use Rattle.thread_semantics.specs.declared.cause.UndefinedCause.TheVariants.{LiveThread}
@@ -18,7 +20,6 @@ use Rattle.interleaving.specs.Interleaving.{Reachable}
 use Rattle.planned_hardware.specs.Following.{AtStage}
 use Rattle.race_model.specs.Source.{Local, local_of, running, location_of, view_of_move, outcome_of, c_source}
 use Rattle.race_model.specs.Orderly.{is_finished, is_over}
-use Rattle.race_model.proofs.Lists.{get-set_other, get-set_same, length_set}
 use Rattle.race_model.proofs.Sound.{IsSound, step_moved, runs_on, reachable_sound}
 use Rattle.race_model.proofs.Threaded.{view_is}
 use Rattle.race_model.proofs.Possible.{is_possible}
@@ -82,7 +83,7 @@ module _ (P : Program) (codes : Codes) (f : ℕ) where
     -- a step that gives the thread other calls leaves a state in which it has them
     has_calls : (frames : List Frame) (t : State) → t.slots ≡ slice_set s.slots i (Running frames) → t.barriers ≡ s.barriers → local_of t i ≡ running frames
     has_calls frames t e b = λ d. record {
-      slot = (ap (λ xs. slice_get xs i) e ∙ get-set_same s.slots i (Running frames) (Running calls) slot) d;
+      slot = (ap (λ xs. slice_get xs i) e ∙ set_there s.slots i (Running calls) (Running frames) slot) d;
       waits = (ap (list_any (is_waiter i)) b ∙ free) d;
     }
 
@@ -126,7 +127,7 @@ module _ (P : Program) (codes : Codes) (f : ℕ) where
       ReturnsThere P s
   main_returns s variables arrays frames reads slot view steps =
       let t : State = record s { slots = slice_set s.slots 0 Finished; ended = true } in
-      let over : is_over (local_of t 0) ≡ true = ap is_finished (get-set_same s.slots 0 Finished (Running frames) slot) in
+      let over : is_over (local_of t 0) ≡ true = ap is_finished (set_there s.slots 0 (Running frames) Finished slot) in
       record {
         state = t;
         reads = reads;
@@ -138,9 +139,9 @@ module _ (P : Program) (codes : Codes) (f : ℕ) where
           globals = refl;
           mutexes = refl;
           barriers = refl;
-          threads = length_set s.slots 0 Finished;
+          threads = length-set s.slots 0 Finished;
           others = λ j ne d. record {
-            slot = get-set_other s.slots 0 j Finished (λ same. ne (sym same)) d;
+            slot = set_elsewhere s.slots 0 j Finished (λ same. ne (sym same)) d;
             waits = list_any (is_waiter j) s.barriers;
           };
         };

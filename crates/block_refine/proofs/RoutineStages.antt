@@ -2,6 +2,7 @@
 use Rattle.std.proofs.Common.{◌≡◌, ℕ, zero, suc, ◌<◌, List, [], length, refl, ap, sym, ◌∙◌, subst, arith}
 use Rattle.std.specs.Prelude.{ℤ, pos, Option, Some, None, slice_get, unwrap_or}
 use mathlib.Core.Path.{fun_ext}
+use Rattle.std.proofs.Math.Nat.{lt_irrefl}
 use Rattle.c_program.specs.Tree.{Program}
 use Rattle.c_program.specs.Resolved.{IsResolved}
 use Rattle.thread_semantics.specs.State.{Frame}
@@ -128,12 +129,9 @@ module _ (P : Program) (R : IsResolved P) (codes : Codes) (planned : ArePlanned 
     at_stage (Some (stage.Run b)) q does =
         (λ some m typed. block_stage b q does m typed, λ none. let some = planned f l b q in absurd (omega arith))
     at_stage (Some (stage.Act a next)) q does = (
-      λ some. absurd (no_state (subst (λ o. 0 < (plan_at o (slice_get (codes f).plan.stages l)).states) q some)),
+      λ some. absurd (lt_irrefl 0 (subst (λ o. 0 < (plan_at o (slice_get (codes f).plan.stages l)).states) q some)),
       λ none. subst (λ o. AtStageOf P (Followed P codes f n) o (running frames) variables (memory_of_cells arrays)) (sym q) (frames, refl, at_act a next does),
     )
-      where
-        no_state : 0 < 0 → ⊥
-        no_state lt = omega arith
 
   pub follows : (n : ℕ) → Gives n
   follows zero l variables arrays frames are does = tt

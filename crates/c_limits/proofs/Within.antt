@@ -1,8 +1,9 @@
 -- A program that is above no limit is within each.
-use Rattle.std.proofs.Common.{◌≡◌, ℕ, ◌<◌, ◌≤◌, Bool, true, false, cond, List, [], ◌∷◌, ◌++◌, length, refl, subst, arith, ltb-false}
+use Rattle.std.proofs.Common.{◌≡◌, ℕ, ◌<◌, ◌≤◌, Bool, true, false, cond, List, [], ◌∷◌, length, refl, subst, arith, ltb-false}
 use Rattle.std.specs.Prelude.{Option, Some, None, nat_lt, if◌then◌else◌, filter}
 use Rattle.std.specs.Option.{option_or}
 use Rattle.std.specs.List.{AllByRecursion}
+use Rattle.lists.proofs.Places.{all_back, all_front}
 use Rattle.c_program.specs.Tree.{Program}
 use Rattle.c_program.specs.Counting.{capped}
 use Rattle.c_program.specs.Limits.{thread_ids, mutex_elements, barrier_elements, longest_array, global_elements, print_sites, local_elements, IsWithinLimits}
@@ -37,14 +38,6 @@ each_within limit amount (f ∷ fs) small none = (
   capped_within limit (amount f) small (first_none (over limit (capped (amount f))) (over_each limit (λ g. capped (amount g)) fs) none),
   each_within limit amount fs small (second_none (over limit (capped (amount f))) (over_each limit (λ g. capped (amount g)) fs) none),
 )
-
-all_front : (Q : ℕ → Type 0) (xs ys : List ℕ) → AllByRecursion Q (xs ++ ys) → AllByRecursion Q xs
-all_front Q [] ys all = tt
-all_front Q (x ∷ xs) ys all = (all.0, all_front Q xs ys all.1)
-
-all_back : (Q : ℕ → Type 0) (xs ys : List ℕ) → AllByRecursion Q (xs ++ ys) → AllByRecursion Q ys
-all_back Q [] ys all = all
-all_back Q (x ∷ xs) ys all = all_back Q xs ys all.1
 
 -- what holds of main, of those before it and of those after it holds of each
 all_kept : (Q : ℕ → Type 0) (main : ℕ) (fs : List ℕ) → AllByRecursion Q (filter (λ f. nat_lt f main) fs) → Q main → AllByRecursion Q (filter (λ f. nat_lt main f) fs) → AllByRecursion Q fs

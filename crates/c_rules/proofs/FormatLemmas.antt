@@ -1,6 +1,7 @@
 -- A format by the parts of what is left of it.
 use Rattle.std.proofs.Common.{◌≡◌, ◌≢◌, refl, sym, ap, ◌∙◌, ℕ, zero, suc, ◌+◌, ◌-◌, ◌<◌, ◌≤◌, List, [], ◌∷◌, length, Option, Some, None, arith}
 use Rattle.std.specs.Prelude.{option_and_then}
+use Rattle.std.proofs.lemmas.List.{nil_from_length}
 use Rattle.c_program.specs.Tree.{Piece}
 use Rattle.c_rules.specs.declared.format.Part.{Part}
 use Rattle.c_rules.specs.Formats.{Draft, flushed, with_part, first_part, pieces_from}
@@ -30,10 +31,6 @@ pieces_from-next n d (byte ∷ rest) p apart is = ap (option_and_then (λ (p : P
 pub one_turn : (n i : ℕ) → i < n → n - i ≡ suc (n - (i + 1))
 one_turn n i lt = omega arith
 
-pub empty_of : (xs : List ℕ) → length xs ≡ 0 → xs ≡ []
-empty_of [] is = refl
-empty_of (x ∷ xs) is = absurd (omega arith)
-
 pub apart_of : (xs : List ℕ) → length xs ≢ 0 → xs ≢ []
 apart_of xs apart is = apart (ap length is)
 
@@ -46,7 +43,7 @@ next_of n i d e left rest part whole lt apart is then so_far =
     ∙ ap (λ x. pieces_from (n - (i + 1)) x rest) (sym then)
 
 pub end_of : (n : ℕ) (d : Draft) (left : List ℕ) (whole : Option (List Piece)) → length left ≡ 0 → whole ≡ pieces_from n d left → whole ≡ Some (flushed d.0 d.1)
-end_of n d left whole is so_far = so_far ∙ pieces_from-end n d left (empty_of left is)
+end_of n d left whole is so_far = so_far ∙ pieces_from-end n d left (nil_from_length left is)
 
 pub stuck_of : (n : ℕ) (d : Draft) (left : List ℕ) (whole : Option (List Piece)) → length left ≢ 0 → None ≡ first_part left → whole ≡ pieces_from n d left → None ≡ whole
 stuck_of n d left whole apart is so_far = sym (so_far ∙ pieces_from-stuck n d left (apart_of left apart) (sym is))

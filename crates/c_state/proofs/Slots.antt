@@ -1,7 +1,8 @@
 -- A thread's calls among the thread ids.
-use Rattle.std.proofs.Common.{◌≡◌, ℕ, zero, suc, ◌<◌, ◌≤◌, List, [], ◌∷◌, refl, ap, sym, ◌∙◌, length, get_or, map, arith, Some, ℤ}
+use Rattle.std.proofs.Common.{◌≡◌, ℕ, zero, suc, ◌<◌, ◌≤◌, List, [], ◌∷◌, ap, sym, ◌∙◌, length, get_or, map, arith, Some, ℤ}
 use Rattle.std.specs.Prelude.{slice_get, slice_set}
 use Rattle.std.proofs.Math.Seq.{map-set_same}
+use Rattle.std.proofs.lemmas.List.{map-set}
 use Rattle.thread_semantics.specs.State.{Slot, State}
 use Rattle.c_state.specs.declared.state.Slot.{Slot as SlotCode}
 use Rattle.c_state.specs.View.{slot_of}
@@ -17,11 +18,6 @@ not_seen f [] k y h e = cc
 not_seen f (x ∷ xs) zero y h e = absurd (omega arith)
 not_seen f (x ∷ xs) (suc k) y h e = not_seen f xs k y (omega arith) e
 
-pub map-slice_set : {A B : Type 0} (f : A → B) (xs : List A) (k : ℕ) (x : A) → map f (slice_set xs k x) ≡ slice_set (map f xs) k (f x)
-map-slice_set f [] k x = refl
-map-slice_set f (y ∷ ys) zero x = refl
-map-slice_set f (y ∷ ys) (suc k) x = ap (λ l. f y ∷ l) (map-slice_set f ys k x)
-
 module _ (slots : List SlotCode) (k : ℕ) (old new : SlotCode) (there : k < length slots) (is : old ≡ get_or slots k old) where
   pub slot_is : (before : Slot) → slice_get (map slot_of slots) k ≡ Some before → slot_of old ≡ before
   slot_is before seen =
@@ -30,7 +26,7 @@ module _ (slots : List SlotCode) (k : ℕ) (old new : SlotCode) (there : k < len
   pub slot_put : (before after : Slot) → slice_get (map slot_of slots) k ≡ Some before → (slot_of old ≡ before → slot_of new ≡ after) →
       map slot_of (slice_set slots k new) ≡ slice_set (map slot_of slots) k after
   slot_put before after seen f =
-      map-slice_set slot_of slots k new ∙ ap (slice_set (map slot_of slots) k) (f (slot_is before seen))
+      map-set slot_of slots k new ∙ ap (slice_set (map slot_of slots) k) (f (slot_is before seen))
 
   pub slot_same : slot_of new ≡ slot_of old → map slot_of (slice_set slots k new) ≡ map slot_of slots
   slot_same e = map-set_same slot_of slots k new old (e ∙ ap slot_of is)

@@ -62,11 +62,6 @@ set_back (b ∷ bs) zero (suc h) is = inr is
 set_back (b ∷ bs) (suc f) zero is = inr is
 set_back (b ∷ bs) (suc f) (suc h) is = elim (set_back bs f h is) [ inl same ↦ inl (ap suc same) | inr was ↦ inr was ]
 
-pub set_length : (marks : List Bool) (f : ℕ) → length (slice_set marks f true) ≡ length marks
-set_length [] f = refl
-set_length (b ∷ bs) zero = refl
-set_length (b ∷ bs) (suc f) = ap suc (set_length bs f)
-
 pub none_has : (n h : ℕ) → has (replicate n false) h ≡ false
 none_has zero h = refl
 none_has (suc n) zero = refl

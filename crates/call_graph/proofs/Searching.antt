@@ -4,7 +4,7 @@ use Rattle.std.specs.Prelude.{not, nat_lt, if◌then◌else◌, Option, Some, No
 use Rattle.std.specs.Bool.{Decides}
 use Rattle.std.proofs.lemmas.Bool.{false≢true, and_parts, and_cases, not-true, not-false, cases_lt, ltb-true, lt-ltb}
 use Rattle.std.proofs.lemmas.Option.{slice_get_within, slice_get_past, get_or_from_slice_get, none-some, same_Some}
-use Rattle.std.proofs.lemmas.List.{length-append, length-replicate}
+use Rattle.std.proofs.lemmas.List.{length-append, length-replicate, length-set}
 use Rattle.std.proofs.lemmas.List.Elements.{Contains-append_left, Contains-push}
 use Rattle.lists.proofs.Places.{get_there, get_front}
 use Rattle.call_graph.specs.declared.table.Call.{Call}
@@ -12,7 +12,7 @@ use Rattle.call_graph.specs.declared.search.Search.{Search}
 use Rattle.call_graph.specs.Graphs.{callees, table, row, has, is_new, with_mark, marking, following, following_one, begun, turns, searched, marks_from, all_marks}
 use Rattle.call_graph.specs.Reaching.{Leads, Here, Further, leads, IsReach}
 use Rattle.call_graph.proofs.Marks.{at_Contains, has_inside, set_has, set_keeps}
-use Rattle.call_graph.proofs.Marks.{set_back, set_length, none_has, count, count_none, count_few, count_set, each_length, each_at}
+use Rattle.call_graph.proofs.Marks.{set_back, none_has, count, count_none, count_few, count_set, each_length, each_at}
 
 Contains_at : (xs : List ℕ) (k x : ℕ) → slice_get xs k ≡ Some x → Contains xs x
 Contains_at xs k x is = (k, slice_get_within xs k x is, get_or_from_slice_get xs k x x is)
@@ -36,7 +36,7 @@ keeps_both s t u a b = record {
 
 choose_keeps : (s : Search) (f : ℕ) (b : Bool) → Keeps s (if b then with_mark s f else s)
 choose_keeps s f true = record {
-  size = set_length s.marks f;
+  size = length-set s.marks f true;
   marks = λ h is. set_keeps s.marks f h is;
   found = λ k x is. get_front s.found (f ∷ []) k x is;
 }

@@ -2,6 +2,7 @@
 use Rattle.std.proofs.Common.{◌≡◌, ℕ, zero, suc, ◌+◌, ◌*◌, ◌≤◌, true, List, [], ◌∷◌, ◌++◌, length, ℤ, Option, Some, refl, sym, ap, None, ◌∙◌, subst, arith, append-nil}
 use Rattle.std.proofs.Common.{length-append}
 use Rattle.std.specs.Prelude.{slice_get}
+use Rattle.lists.proofs.Places.{get_front, set_same}
 use Rattle.hls_ints.specs.Types.{IntegerType}
 use Rattle.c_program.specs.Tree.{Expression, Piece, Statement, Program}
 use Rattle.code_places.specs.Weighing.{inlined_weight}
@@ -25,8 +26,8 @@ use Rattle.code_places.specs.Resuming.{Keeping, nothing_kept, IsMid, AtFresh, Is
 use Rattle.code_places.specs.Apart.{IsTypedNow, IsGood}
 use Rattle.code_places.specs.Control.{with_label, ActsAt, Whole, IsIn, GoesOn}
 use Rattle.code_places.specs.Doing.{Grows, at_site, OnwardUpTo, Suits, SuitsTyping, Leads}
-use Rattle.straight_code.proofs.Cells.{set_same, get_within}
-use Rattle.code_places.proofs.Advancing.{get_more, pushed_here}
+use Rattle.straight_code.proofs.Cells.{get_within}
+use Rattle.code_places.proofs.Advancing.{pushed_here}
 use Rattle.code_places.proofs.Opening.{act_open}
 use Rattle.straight_code.proofs.Running.{run_length}
 use Rattle.straight_code.proofs.Puts.{arguments_converted}
@@ -147,7 +148,7 @@ module _ (P : Program) (format : List Piece) (arguments : List Expression) (old 
       fresh = λ idle label among.
           subst (λ l. AtFresh W.setting homes (keeping size) i l (Perform offset (Print format) ∷ k))
           (sym (pushed_here (stage.Act (code.Print site operands) acts.next) (with_label acts.mid).stages acts.pushed acts.pushes W.stage_of
-          (acts_pushed (code.Print site operands) mid new acts W whole).obeys label (get_more acts.mid.stages.labels (None ∷ []) label
+          (acts_pushed (code.Print site operands) mid new acts W whole).obeys label (get_front acts.mid.stages.labels (None ∷ []) label
           (Some (length acts.mid.stages.places)) among))) (print_acts i le);
       busy = λ busy. absurd (let idle = idle_act in omega arith);
       here = λ busy. absurd (let idle = idle_act in omega arith);

@@ -1,6 +1,7 @@
 -- A pthread call: the step that evaluates its operands, and the act.
 use Rattle.std.proofs.Common.{◌≡◌, ℕ, zero, suc, ◌+◌, ◌≤◌, true, List, [], ◌∷◌, ◌++◌, length, ℤ, Option, Some, refl, sym, ap, None, ◌∙◌, subst, arith, append-nil}
 use Rattle.std.proofs.Common.{length-append}
+use Rattle.lists.proofs.Places.{get_front, set_same}
 use Rattle.c_program.specs.Tree.{ThreadCall, Statement, Program}
 use Rattle.thread_semantics.specs.Memory.{Memory, Evaluation, Gives, Fails}
 use Rattle.thread_semantics.specs.Work.{Work, Do, Perform, Onward, settled}
@@ -18,7 +19,7 @@ use Rattle.thread_rooms.specs.declared.objects.Objects.{Objects}
 use Rattle.straight_code.specs.declared.homes.Home.{Home}
 use Rattle.straight_code.specs.declared.open_block.OpenBlock.{OpenBlock}
 use Rattle.straight_code.specs.Printing.{held_by}
-use Rattle.straight_code.proofs.Cells.{set_same, get_within}
+use Rattle.straight_code.proofs.Cells.{get_within}
 use Rattle.straight_code.proofs.Running.{run_length}
 use Rattle.code_places.specs.declared.lowering.Lowering.{Lowering}
 use Rattle.code_places.specs.Labels.{IsHere}
@@ -27,7 +28,7 @@ use Rattle.code_places.specs.Apart.{IsGood}
 use Rattle.code_places.specs.Control.{with_label, ActsAt, Whole, IsIn, GoesOn}
 use Rattle.code_places.specs.declared.targets.Loop.{Loop}
 use Rattle.code_places.specs.Doing.{Grows, OnwardUpTo, Suits, Leads}
-use Rattle.code_places.proofs.Advancing.{get_more, pushed_here}
+use Rattle.code_places.proofs.Advancing.{pushed_here}
 use Rattle.code_places.proofs.Opening.{act_open}
 use Rattle.code_places.proofs.Shapes.{have_homes}
 use Rattle.code_places.proofs.Resuming.{Goes, resume_less}
@@ -144,7 +145,7 @@ module _ (P : Program) (call : ThreadCall) (old mid new : Lowering) (b : OpenBlo
       fresh = λ idle label among.
           subst (λ l. AtFresh W.setting homes keeping i l (Perform offset (act_of call) ∷ k))
           (sym (pushed_here (stage.Act code_act acts.next) (with_label acts.mid).stages acts.pushed acts.pushes W.stage_of
-          (acts_pushed code_act mid new acts W whole).obeys label (get_more acts.mid.stages.labels (None ∷ []) label
+          (acts_pushed code_act mid new acts W whole).obeys label (get_front acts.mid.stages.labels (None ∷ []) label
           (Some (length acts.mid.stages.places)) among))) (call_acts i le);
       busy = λ busy. absurd (let idle = idle_act in omega arith);
       here = λ busy. absurd (let idle = idle_act in omega arith);

@@ -1,6 +1,7 @@
 -- The numbers of the objects that resolved calls name.
 use Rattle.std.proofs.Common.{◌≡◌, ℕ, zero, suc, ◌+◌, ◌^◌, ◌<◌, ◌≤◌, List, [], ◌∷◌, ℤ, Option, Some, None, refl, sym, ap, arith, sum_by, take}
 use Rattle.std.specs.Prelude.{slice_get}
+use Rattle.std.proofs.lemmas.List.Sums.{sum_by-cons}
 use Rattle.c_program.specs.declared.tree.ThreadObject.{ThreadObject}
 use Rattle.c_program.specs.declared.tree.MutexObject.{MutexObject}
 use Rattle.c_program.specs.declared.tree.BarrierObject.{BarrierObject}
@@ -13,7 +14,6 @@ use Rattle.thread_semantics.specs.Value.{value, values}
 use Rattle.thread_semantics.specs.Move.{object_number, alone, operands_of, first_thread, first_mutex, first_barrier}
 use Rattle.thread_rooms.specs.declared.objects.Objects.{Objects}
 use Rattle.straight_code.proofs.Cells.{get_within}
-use Rattle.straight_code.proofs.Words.{sum_cons}
 use Rattle.thread_rooms.specs.Objects.{AreObjects, number_there, first_in}
 use Rattle.code_acts.specs.Acts.{number_expression, operand_expressions}
 use Rattle.code_acts.proofs.Numbering.{place_length, number_value, one_value, two_values}
@@ -21,8 +21,8 @@ use Rattle.code_acts.proofs.Numbering.{place_length, number_value, one_value, tw
 -- those before an object and its own are no more than all
 total_within : {A : Type 0} (f : A → ℕ) (xs : List A) (x : ℕ) (a : A) → slice_get xs x ≡ Some a → sum_by f (take x xs) + f a ≤ sum_by f xs
 total_within f [] x a e = cc
-total_within f (y ∷ ys) zero a e = let s = sum_cons f y ys in let same : f y ≡ f a = ap f (let z : y ≡ a = cc in z) in omega (arith, s, same)
-total_within f (y ∷ ys) (suc x) a e = let s = sum_cons f y ys in let t = sum_cons f y (take x ys) in let rest = total_within f ys x a e in omega (arith, s, t, rest)
+total_within f (y ∷ ys) zero a e = let s = sum_by-cons f y ys in let same : f y ≡ f a = ap f (let z : y ≡ a = cc in z) in omega (arith, s, same)
+total_within f (y ∷ ys) (suc x) a e = let s = sum_by-cons f y ys in let t = sum_by-cons f y (take x ys) in let rest = total_within f ys x a e in omega (arith, s, t, rest)
 
 -- an object that is there has its number, and with its elements it is below the count
 pub record IsPlaced (count : ℕ) (first : ℕ → ℕ) (numbers : List ℕ) (place : ObjectPlace) : Type 0 where

@@ -2,6 +2,7 @@
 use Rattle.std.proofs.Common.{◌≡◌, ℕ, suc, ◌+◌, ◌*◌, ◌^◌, ◌<◌, ◌≤◌, List, [], ◌∷◌, length, pos, Some, refl, sym, ap, ◌∙◌, subst, arith, sum_by}
 use Rattle.std.specs.Prelude.{slice_get, Option}
 use Rattle.std.specs.List.{AllByRecursion}
+use Rattle.std.proofs.lemmas.List.Sums.{sum_by-cons}
 use Rattle.hls_ints.specs.Types.{HasType, long_int}
 use Rattle.c_program.specs.Tree.{Expression, ObjectPlace, ThreadCall, Statement, Function, Program}
 use Rattle.c_program.specs.Limits.{mutex_elements, barrier_elements}
@@ -14,7 +15,6 @@ use Rattle.thread_rooms.specs.declared.objects.Objects.{Objects}
 use Rattle.straight_code.specs.declared.homes.Home.{Home}
 use Rattle.straight_code.specs.declared.open_block.OpenBlock.{OpenBlock}
 use Rattle.straight_code.specs.Typing.{Typing, Fits, HasWords, IsTypedOpen}
-use Rattle.straight_code.proofs.Words.{sum_cons}
 use Rattle.code_places.specs.Weighing.{inlined_weight}
 use Rattle.code_places.specs.declared.lowering.Lowering.{Lowering}
 use Rattle.code_places.specs.Apart.{IsTypedNow}
@@ -121,13 +121,13 @@ module _ (P : Program) (f : Function) (o : Objects) (are : AreObjects P o) where
   }
 
 weight_is : (call : ThreadCall) → thread_call_weight call ≡ object_place_weight (place_of call) + sum_by expression_weight (values_of call)
-weight_is (ThreadCall.Create thread routine argument) = ap (λ k. object_place_weight thread + k) (let s = sum_cons expression_weight argument [] in omega (arith, s))
+weight_is (ThreadCall.Create thread routine argument) = ap (λ k. object_place_weight thread + k) (let s = sum_by-cons expression_weight argument [] in omega (arith, s))
 weight_is (ThreadCall.Join thread) = omega arith
 weight_is (ThreadCall.MutexInit mutex) = omega arith
 weight_is (ThreadCall.MutexDestroy mutex) = omega arith
 weight_is (ThreadCall.MutexLock mutex) = omega arith
 weight_is (ThreadCall.MutexUnlock mutex) = omega arith
-weight_is (ThreadCall.BarrierInit barrier count) = ap (λ k. object_place_weight barrier + k) (let s = sum_cons expression_weight count [] in omega (arith, s))
+weight_is (ThreadCall.BarrierInit barrier count) = ap (λ k. object_place_weight barrier + k) (let s = sum_by-cons expression_weight count [] in omega (arith, s))
 weight_is (ThreadCall.BarrierDestroy barrier) = omega arith
 weight_is (ThreadCall.BarrierWait barrier) = omega arith
 
@@ -179,7 +179,7 @@ pub value_works_ : (homes : List Home) (o : Objects) (n : ℕ) (call : ThreadCal
 value_works_ homes o n call e old mid new one w v = record {
   count =
       (let c = number_count homes n (first_of_call o call) (place_of call) old mid w in let d = v.works.count in
-      let k = weight_is call ∙ ap (λ es. object_place_weight (place_of call) + sum_by expression_weight es) one in let s = sum_cons expression_weight e [] in omega (arith, c, d, k, s));
+      let k = weight_is call ∙ ap (λ es. object_place_weight (place_of call) + sum_by expression_weight es) one in let s = sum_by-cons expression_weight e [] in omega (arith, c, d, k, s));
   typed = λ S fits is open_.
       let p = call_parts S.program S.function o is.0 call is.1 in
       let some : 0 < length (values_of call) = (let l = ap length one in omega (arith, l)) in

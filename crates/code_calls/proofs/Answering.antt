@@ -1,6 +1,8 @@
 -- Returns lead to the caller.
 use Rattle.std.proofs.Common.{◌≡◌, ℕ, suc, ◌<◌, List, [], ◌∷◌, ◌++◌, length, ℤ, Option, Some, None, refl, sym, ap, ◌∙◌, subst, ⊎_elim, inl, inr, arith, append-nil}
 use Rattle.std.specs.Prelude.{slice_get, ◌⊎◌}
+use Rattle.std.proofs.lemmas.List.{length-set}
+use Rattle.lists.proofs.Places.{set_other, set_same, set_element}
 use Rattle.hls_ints.specs.Types.{IntegerType, long_int, wrapped}
 use Rattle.c_program.specs.declared.tree.ReturnType.{ReturnType}
 use Rattle.c_program.specs.declared.tree.ReturnType.TheVariants.{Void, Integer, Pointer}
@@ -35,7 +37,6 @@ use Rattle.code_places.specs.Apart.{IsGood}
 use Rattle.code_places.specs.Control.{marked, LeadsOn, EndsBusy, Jumps, Whole, IsIn, GoesOn}
 use Rattle.code_places.specs.Seats.{GoesBack, IsSeated}
 use Rattle.code_calls.specs.Calling.{PutsReturned}
-use Rattle.straight_code.proofs.Cells.{set_element, set_same, set_other, set_length}
 use Rattle.straight_code.proofs.Conversions.{from_word}
 use Rattle.straight_code.proofs.Stores.{conversion_right}
 use Rattle.straight_code.proofs.Puts.{same_source, wrapped_twice}
@@ -202,7 +203,7 @@ is_returned word Void a old new p = nothing_returned word Void a old new p (λ v
 is_returned word Pointer a old new p = nothing_returned word Pointer a old new p (λ v. refl)
 is_returned word (Integer ty) a old new p = record {
   operations = p.operations;
-  size = ap length p.current ∙ set_length old.current word (Some p.twice);
+  size = ap length p.current ∙ length-set old.current word (Some p.twice);
   steps = p.steps;
   noted = p.noted;
   below = λ k under fits x o e.

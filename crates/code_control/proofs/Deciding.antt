@@ -2,6 +2,7 @@
 use Rattle.std.proofs.Common.{◌≡◌, ℕ, suc, ◌+◌, ◌*◌, ◌<◌, Bool, true, false, not, List, [], ◌∷◌, ◌++◌, length, ℤ, Some, None, refl, sym, ap, ◌∙◌, subst, inl, inr, arith}
 use Rattle.std.proofs.Common.{append-nil}
 use Rattle.std.specs.Prelude.{if◌then◌else◌, slice_get}
+use Rattle.lists.proofs.Places.{get_front}
 use Rattle.hls_ints.specs.Operators.{is_zero}
 use Rattle.c_program.specs.Tree.{Expression, Condition}
 use Rattle.c_program.specs.Weight.{expression_weight, condition_weight}
@@ -36,7 +37,7 @@ use Rattle.code_places.proofs.Controlling.{whole_placed, begin_at, after_held, a
 use Rattle.code_places.proofs.Resuming.{same_function, fresh_sound}
 use Rattle.code_places.proofs.Staying.{anywhere_more, now_more, ends_typed}
 use Rattle.straight_code.proofs.Cells.{get_within}
-use Rattle.code_places.proofs.Advancing.{None_, get_more, advances_both, advances_new, first_after, labels_more, marks, pushes_advance, pushed_here, pushed_is}
+use Rattle.code_places.proofs.Advancing.{None_, advances_both, advances_new, first_after, labels_more, marks, pushes_advance, pushed_here, pushed_is}
 use Rattle.code_places.proofs.Opening.{marks_keep, is_marked, pushed_begun, label_begun, begins_advance}
 use Rattle.code_places.proofs.NewLabel.{label_keeps, goes_before_label}
 
@@ -352,7 +353,7 @@ module _ (c d : Condition) (next t f x y : ℕ) (old a m b new : Lowering) (numb
   all_settled h here =
       m_new.at h (length old.stages.stages.items)
       (subst (λ n. IsAt h n m.stages) (ap (λ (z : Lowering). length z.stages.stages.items) label)
-      (first.settled h (subst (λ (z : Lowering). IsHere z.stages h) (sym label) (get_more old.stages.labels (None ∷ []) h (Some (length old.stages.places)) here))))
+      (first.settled h (subst (λ (z : Lowering). IsHere z.stages h) (sym label) (get_front old.stages.labels (None ∷ []) h (Some (length old.stages.places)) here))))
 
   all_site : new.site ≡ old.site
   all_site = second.site ∙ begin_site next m b first.ends begins ∙ first.site ∙ ap (λ (z : Lowering). z.site) label

@@ -1,14 +1,16 @@
 -- Places get their stages.
-use Rattle.std.proofs.Common.{◌≡◌, ◌≢◌, Bool, true, false, ℕ, zero, suc, ◌<◌, ◌≤◌, List, [], ◌∷◌, ◌++◌, length, get_or, map, replicate, Option, Some, None, refl, sym, ap, ◌∙◌}
+use Rattle.std.proofs.Common.{◌≡◌, Bool, true, false, ℕ, zero, suc, ◌<◌, ◌≤◌, List, [], ◌∷◌, ◌++◌, length, get_or, map, replicate, Option, Some, None, refl, sym, ap, ◌∙◌}
 use Rattle.std.proofs.Common.{subst, ⊎_elim, arith}
 use Rattle.std.specs.Prelude.{slice_get, slice_set, slice_index}
 use Rattle.std.proofs.lemmas.Bool.Decides.{eqb_tells}
+use Rattle.std.proofs.lemmas.Option.{slice_get-get_or}
+use Rattle.std.proofs.lemmas.List.{length-replicate, get_or-set_other, get_or-set_same, length-set}
 use Rattle.block_ir.specs.declared.code.Stage.{Stage}
 use Rattle.code_places.specs.declared.stages.Place.{Place}
 use Rattle.code_places.specs.declared.stages.Place.TheVariants as place
 use Rattle.code_places.specs.declared.stages.Stages.{Stages}
 use Rattle.code_places.specs.Labels.{ObeysAll, Obeys, led, Settles, Pushes, IsOrdered, IsFirst, AllBelow, with_used, stage_at, stage_to, AreStages, Finishes}
-use Rattle.straight_code.proofs.Cells.{get_within, set_length}
+use Rattle.straight_code.proofs.Cells.{get_within}
 
 pub pushes : (stage : Stage) (old mid new : Stages) (number : ℕ) → mid.stages.items ≡ old.stages.items ++ stage ∷ [] → mid ≡ record old { stages = mid.stages } → number ≡ length old.stages.items →
     Settles (place.Stage number) mid new → Pushes stage old new
@@ -25,31 +27,15 @@ pub record HaveStages (labels : List (Option ℕ)) (places : List Place) (count 
   pub each : (number : ℕ) (p : Place) → from ≤ number → slice_get places number ≡ Some p → slice_index came number ≡ stage_to labels came p
   pub below : AllBelow count came
 
-index_set_same : (xs : List ℕ) (i v : ℕ) → i < length xs → slice_index (slice_set xs i v) i ≡ v
-index_set_same [] i v lt = absurd (omega arith)
-index_set_same (x ∷ xs) zero v lt = refl
-index_set_same (x ∷ xs) (suc i) v lt = index_set_same xs i v (omega arith)
-
-index_set_other : (xs : List ℕ) (i k v : ℕ) → k ≢ i → slice_index (slice_set xs i v) k ≡ slice_index xs k
-index_set_other [] i k v h = refl
-index_set_other (x ∷ xs) zero zero v h = absurd (h refl)
-index_set_other (x ∷ xs) zero (suc k) v h = refl
-index_set_other (x ∷ xs) (suc i) zero v h = refl
-index_set_other (x ∷ xs) (suc i) (suc k) v h = index_set_other xs i k v (λ e. h (ap suc e))
-
 zeros_below : (n count : ℕ) → 0 < count → AllBelow count (replicate n 0)
 zeros_below zero count some label = omega arith
 zeros_below (suc n) count some zero = omega arith
 zeros_below (suc n) count some (suc label) = zeros_below n count some label
 
-zeros_length : (n : ℕ) → length {A = ℕ} (replicate n 0) ≡ n
-zeros_length zero = refl
-zeros_length (suc n) = ap suc (zeros_length n)
-
 pub stages_none : (labels : List (Option ℕ)) (places : List Place) (count from : ℕ) (came : List ℕ) → 0 < count → from ≡ length places → came ≡ replicate (length places) 0 →
     HaveStages labels places count from came
 stages_none labels places count from came some last is = record {
-  size = ap length is ∙ zeros_length (length places);
+  size = ap length is ∙ length-replicate (length places) 0;
   each = λ number p le at. absurd (let lt = get_within places number p at in omega (arith, lt, le, last));
   below = subst (AllBelow count) (sym is) (zeros_below (length places) count some);
 }
@@ -66,7 +52,7 @@ module _ (labels : List (Option ℕ)) (places : List Place) (count number stage 
       by (Some None) e = refl
       by (Some (Some other)) e =
           let lt = ordered.later k label other there e in
-          ap (λ xs. slice_index xs other) next_is ∙ index_set_other came number other stage (omega (arith, lt, le))
+          ap (λ xs. slice_index xs other) next_is ∙ get_or-set_other came number other stage 0 (omega (arith, lt, le))
 
   at_below : (o : Option (Option ℕ)) → AllBelow count came → stage_at came o < count
   at_below None below = some
@@ -79,21 +65,21 @@ module _ (labels : List (Option ℕ)) (places : List Place) (count number stage 
 
   set_below : AllBelow count came → number < length came → AllBelow count next
   set_below below lt = λ k. ⊎_elim
-      (λ t. subst (λ v. v < count) (sym (ap (λ xs. slice_index xs k) next_is ∙ ap (slice_index (slice_set came number stage)) t.1 ∙ index_set_same came number stage lt ∙ stage_is))
+      (λ t. subst (λ v. v < count) (sym (ap (λ xs. slice_index xs k) next_is ∙ ap (slice_index (slice_set came number stage)) t.1 ∙ get_or-set_same came number stage 0 lt ∙ stage_is))
       (stage_below p at below))
-      (λ t. subst (λ v. v < count) (sym (ap (λ xs. slice_index xs k) next_is ∙ index_set_other came number k stage t.1)) (below k))
+      (λ t. subst (λ v. v < count) (sym (ap (λ xs. slice_index xs k) next_is ∙ get_or-set_other came number k stage 0 t.1)) (below k))
       (eqb_tells k number)
 
   pub set_more : HaveStages labels places count (suc number) came → HaveStages labels places count number next
   set_more have = record {
-    size = ap length next_is ∙ set_length came number stage ∙ have.size;
+    size = ap length next_is ∙ length-set came number stage ∙ have.size;
     each = λ k q le there. ⊎_elim
         (λ t.
         ap (λ xs. slice_index xs k) next_is ∙ ap (slice_index (slice_set came number stage)) t.1
-        ∙ index_set_same came number stage (let lt = get_within places number p at in let s = have.size in omega (arith, lt, s)) ∙ stage_is
+        ∙ get_or-set_same came number stage 0 (let lt = get_within places number p at in let s = have.size in omega (arith, lt, s)) ∙ stage_is
         ∙ ap (stage_to labels came) (let same : p ≡ q = (let e = sym at ∙ ap (slice_get places) (sym t.1) ∙ there in cc) in same) ∙ sym (to_later k q le there))
         (λ t.
-        ap (λ xs. slice_index xs k) next_is ∙ index_set_other came number k stage t.1 ∙ have.each k q (let apart = t.1 in omega (arith, apart, le)) there
+        ap (λ xs. slice_index xs k) next_is ∙ get_or-set_other came number k stage 0 t.1 ∙ have.each k q (let apart = t.1 in omega (arith, apart, le)) there
         ∙ sym (to_later k q le there))
         (eqb_tells k number);
     below = set_below have.below (let lt = get_within places number p at in let s = have.size in omega (arith, lt, s));
@@ -144,16 +130,11 @@ module _ (start : ℕ) (s : Stages) (labels more_labels : List (Option ℕ)) (pl
           by (place.Stage n) e = e
           by (place.Same other) e = e ∙ sym (at other)
 
-get_is : {A : Type 0} (xs : List A) (k : ℕ) (d : A) → k < length xs → slice_get xs k ≡ Some (get_or xs k d)
-get_is [] k d lt = absurd (omega arith)
-get_is (x ∷ xs) zero d lt = refl
-get_is (x ∷ xs) (suc k) d lt = get_is xs k d (omega arith)
-
 pub stages_more : (labels : List (Option ℕ)) (places : List Place) (count from number stage : ℕ) (came passed next : List ℕ) (d : Place) → IsOrdered labels places count → 0 < count →
     suc number ≡ from → from ≤ length places → passed ≡ came → stage ≡ stage_to labels passed (get_or places number d) → next ≡ slice_set came number stage → HaveStages labels places count from came →
     HaveStages labels places count number next
 stages_more labels places count from number stage came passed next d ordered some one le passed_is is next_is have =
-    set_more labels places count number stage came next (get_or places number d) ordered (get_is places number d (omega (arith, one, le)))
+    set_more labels places count number stage came next (get_or places number d) ordered (slice_get-get_or places number d (omega (arith, one, le)))
     (is ∙ ap (λ xs. stage_to labels xs (get_or places number d)) passed_is) next_is some (subst (λ n. HaveStages labels places count n came) (sym one) have)
 
 -- ---- a label that is led to

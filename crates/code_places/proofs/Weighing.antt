@@ -1,16 +1,16 @@
 -- What functions weigh with all that is inlined in them.
 use Rattle.std.proofs.Common.{◌≡◌, ℕ, zero, suc, ◌+◌, ◌<◌, ◌≤◌, List, [], ◌∷◌, ◌++◌, length, Option, Some, None, refl, sym, ap, subst, arith, sum_by}
 use Rattle.std.specs.Prelude.{slice_get, Contains}
-use Rattle.std.proofs.lemmas.List.Sums.{sum_by-append}
+use Rattle.std.proofs.lemmas.List.Sums.{sum_by-append, sum_by-cons}
 use Rattle.std.proofs.lemmas.List.Elements.{Contains-append_left, Contains-append_right, Contains-push}
+use Rattle.std.proofs.lemmas.Option.{slice_get_within}
 use Rattle.c_program.specs.Tree.{RightSide, Statement, Function, Program}
 use Rattle.c_program.specs.Calls.{calls_of, calls_of_right, calls_of_returned, IsAcyclic}
 use Rattle.c_program.specs.Weight.{right_side_weight, returned_weight, statement_weight, own_weight, with_callees, inlined, function_weight}
 use Rattle.code_places.specs.Weighing.{right_with, returned_with, weight_with, inlined_weight}
-use Rattle.straight_code.proofs.Words.{sum_cons}
 
 one_sum : (callee : ℕ → ℕ) (g : ℕ) → sum_by callee (g ∷ []) ≡ callee g
-one_sum callee g = let s = sum_cons callee g [] in omega (arith, s)
+one_sum callee g = let s = sum_by-cons callee g [] in omega (arith, s)
 
 right_sum : (callee : ℕ → ℕ) (right : RightSide) → right_with callee right ≡ right_side_weight right + sum_by callee (calls_of_right right)
 right_sum callee (RightSide.Value e) = omega arith
@@ -47,8 +47,8 @@ weight_sum callee (Statement.Thread offset call) = omega arith
 same_sum : (f g : ℕ → ℕ) (xs : List ℕ) → ((x : ℕ) → Contains xs x → f x ≡ g x) → sum_by f xs ≡ sum_by g xs
 same_sum f g [] same = refl
 same_sum f g (x ∷ xs) same =
-    let a = sum_cons f x xs in
-    let b = sum_cons g x xs in
+    let a = sum_by-cons f x xs in
+    let b = sum_by-cons g x xs in
     let one = same x (Contains-append_left (x ∷ []) xs x (Contains-push [] x)) in
     let rest = same_sum f g xs (λ y c. same y (Contains-append_right (x ∷ []) xs y c)) in
     omega (arith, a, b, one, rest)
@@ -79,11 +79,6 @@ module _ (fs : List Function) (acyclic : IsAcyclic fs) where
       deep (suc n) n h (omega (arith, falls, below, long)) (omega (arith, falls, below, long))) in
       omega (arith, all, same))
 
-get_in : {A : Type 0} (xs : List A) (n : ℕ) (x : A) → slice_get xs n ≡ Some x → n < length xs
-get_in [] n x e = cc
-get_in (y ∷ xs) zero x e = omega arith
-get_in (y ∷ xs) (suc n) x e = let h = get_in xs n x e in omega arith
-
 -- a function weighs what its body does, and one more
 pub body_weighs : (P : Program) (g : ℕ) (f : Function) → IsAcyclic P.functions → slice_get P.functions g ≡ Some f → inlined_weight P f.body + 1 ≤ function_weight P.functions g
-body_weighs P g f acyclic at = stable_at P.functions acyclic (length P.functions) g f refl at (get_in P.functions g f at)
+body_weighs P g f acyclic at = stable_at P.functions acyclic (length P.functions) g f refl at (slice_get_within P.functions g f at)

@@ -1,5 +1,5 @@
 -- Lists that are read from numbers one after another.
-use Rattle.std.proofs.Common.{◌≡◌, ℕ, zero, suc, ◌+◌, ◌<◌, replicate, refl, sym, ap, ◌∙◌, arith}
+use Rattle.std.proofs.Common.{◌≡◌, ℕ, zero, suc, ◌+◌, ◌<◌, sym, ap, ◌∙◌, arith}
 use Rattle.std.specs.Prelude.{slice_index}
 use Rattle.circuit.specs.Rows.{spread}
 
@@ -11,9 +11,3 @@ index_is f i (suc n) (suc k) l = let e : i + 1 + k ≡ i + suc k = omega arith i
 -- element k of a list of n numbers
 pub spread_is : (f : ℕ → ℕ) (n k : ℕ) → k < n → f k ≡ slice_index (spread f 0 n) k
 spread_is f n k l = sym (index_is f 0 n k l ∙ ap f (let e : 0 + k ≡ k = omega arith in e))
-
--- of zeros alone
-pub zero_at : (n i : ℕ) → 0 ≡ slice_index (replicate n 0) i
-zero_at zero i = refl
-zero_at (suc n) zero = refl
-zero_at (suc n) (suc i) = zero_at n i

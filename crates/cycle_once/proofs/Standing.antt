@@ -1,6 +1,7 @@
 -- The laws, for the net that flat words stand for.
-use Rattle.std.specs.Prelude.{◌≡◌, ℕ, List, [], Some, length}
+use Rattle.std.specs.Prelude.{◌≡◌, ℕ, List, [], length}
 use Rattle.std.proofs.Common.{sym, ◌∙◌, subst}
+use Rattle.std.proofs.lemmas.Option.{same_Some}
 use Rattle.netlist.specs.declared.netlist.Signal.{Signal}
 use Rattle.netlist.specs.declared.netlist.Module.{Module}
 use Rattle.verilog_meaning.specs.Cycles.{Path, Valuation, Choice, IsAt, IsSettled, IsSameIn, Cycle, Runs}
@@ -11,13 +12,10 @@ use Rattle.cycle_once.proofs.Levels.{level, levelled}
 use Rattle.cycle_sim.proofs.Same.{moved, settled_moved}
 use Rattle.cycle_once.proofs.Once.{settles, once, alike, runs_once as runs_alike}
 
-same_some : {X : Type 0} {x y : X} → Some x ≡ Some y → x ≡ y
-same_some e = cc
-
 -- a law of nets with levels whose statements fit is one of each net that flat words stand for
 pub in_each : (P : List Module → Module → Type 0) → ((modules : List Module) (top : Module) (rank : Path → ℕ → ℕ) → IsLevelled modules top rank → FitsStatements modules top → P modules top) → InEach P
 in_each P law r st top e =
-    subst (P r.modules) (same_some (sym st.is_top ∙ e))
+    subst (P r.modules) (same_Some _ _ (sym st.is_top ∙ e))
     (law r.modules st.top (level r.modules st.top r.parts r.steps st.free r.prefs (length r.numbers) st.plan st.right.fits)
     (levelled r.modules st.top r.parts r.steps st.free r.prefs (length r.numbers) st.plan st.right.fits) st.right.statements)
 

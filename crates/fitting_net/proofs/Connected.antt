@@ -4,7 +4,8 @@ use Rattle.std.specs.Prelude.{◌&&◌, ◌==◌, slice_get, nat_lt, if◌then�
 use Rattle.std.specs.List.{flat_map}
 use Rattle.std.specs.Str.{bytes_eq}
 use Rattle.std.proofs.lemmas.Option.{same_Some, none-some}
-use Rattle.std.proofs.lemmas.Bool.{ltb-true, eqb-true}
+use Rattle.std.proofs.lemmas.Bool.{ltb-true, eqb-true, and_parts}
+use Rattle.std.proofs.lemmas.Slice.Eq.{bytes_eq-Decides}
 use Rattle.verilog_tree.specs.declared.kind.SignalClass.{SignalClass}
 use Rattle.verilog_tree.specs.declared.kind.Kind.TheVariants as kind
 use Rattle.verilog_tree.specs.declared.tree.Direction.{Direction}
@@ -21,10 +22,8 @@ use Rattle.verilog_tree.specs.Rules.{all_right, are_distinct, is_signal, has_wid
 use Rattle.verilog_tree.specs.Scope.{is_known}
 use Rattle.verilog_tree.specs.Facts.{Facts, Interface, interface_named, interface_of, nothing, after, after_module, port_facts, module_facts}
 use Rattle.verilog_tree.specs.WellFormed.{EachAfter, IsModule, instance_right}
-use Rattle.verilog_tree.proofs.Tests.{and_left, and_right}
 use Rattle.netlist.specs.NetlistOf as n
 use Rattle.netlist.specs.NetlistOf.{place}
-use Rattle.netlist_text.proofs.Places.{is_name, same_name}
 use Rattle.netlist_text.proofs.Members.{In, in_none, in_first, in_rest, in_cons, in_either, in_unflat, is_known_in}
 use Rattle.netlist_text.proofs.Grown.{items_modules, port_facts_are}
 use Rattle.fitting_net.proofs.Tests.{both, right_in}
@@ -42,7 +41,7 @@ pub record IsPortFound (ps : List Port) (z : Name) (p : Port) : Type 0 where
 
 port_by : (q : Port) (ps : List Port) (z : Name) (p : Port) → (port_named ps z ≡ Some p → IsPortFound ps z p) → (b : Bool) → bytes_eq z q.name ≡ b
     → (if b then Some q else port_named ps z) ≡ Some p → IsPortFound (q ∷ ps) z p
-port_by q ps z p next true e h = record { at = 0; found = h; name = sym (ap (λ (t : Port). t.name) (same_Some q p h)) ∙ sym (is_name z q.name e) }
+port_by q ps z p next true e h = record { at = 0; found = h; name = sym (ap (λ (t : Port). t.name) (same_Some q p h)) ∙ sym ((bytes_eq-Decides z q.name).0 e) }
 port_by q ps z p next false e h = let r = next h in record { at = suc r.at; found = r.found; name = r.name }
 
 pub port_found : (ps : List Port) (z : Name) (p : Port) → port_named ps z ≡ Some p → IsPortFound ps z p
@@ -60,14 +59,12 @@ connection_by : (c : Connection) (cs : List Connection) (z : Name) → In (conne
     bytes_eq z c.port ≡ b
     → IsConnection (c ∷ cs) z
 connection_by c cs z h next true e =
-    record { connection = c; held = in_first c cs; port = sym (is_name z c.port e); signal = ap (λ b. if b then c.signal else n.connected cs z) e }
+    record { connection = c; held = in_first c cs; port = sym ((bytes_eq-Decides z c.port).0 e); signal = ap (λ b. if b then c.signal else n.connected cs z) e }
 connection_by c cs z h next false e = elim (in_cons c.port z (connected_ports cs) h) [
-  | inl q ↦ absurd (let t : true ≡ false = sym (bytes_eq_same c.port z q) ∙ e in cc)
+  | inl q ↦ absurd (let t : true ≡ false = sym ((bytes_eq-Decides z c.port).1 (sym q)) ∙ e in cc)
   | inr q ↦ (let r = next q in
       record { connection = r.connection; held = in_rest c r.connection cs r.held; port = r.port; signal = ap (λ b. if b then c.signal else n.connected cs z) e ∙ r.signal })
-] where
-  bytes_eq_same : (a b : Name) → a ≡ b → bytes_eq b a ≡ true
-  bytes_eq_same a b q = subst (λ (t : Name). bytes_eq b t ≡ true) (sym q) (same_name b)
+]
 
 connection_found : (cs : List Connection) (z : Name) → In (connected_ports cs) z → IsConnection cs z
 connection_found [] z h = absurd (in_none z h)
@@ -223,11 +220,11 @@ module _ (ms : List Module) (whole : Facts) (each : EachAfter (IsModule whole) a
 
       tied : (at : ℕ) (p : Port) → slice_get o.of.ports at ≡ Some p → IsTied p.name
       tied at p there =
-          let all_known = and_right (are_distinct (connected_ports t.connections)) (all_right (λ (q : Port). is_known (connected_ports t.connections) q.name) o.of.ports)
-          (and_right (all_right test t.connections) rest o.right) in
+          let all_known = (and_parts (are_distinct (connected_ports t.connections)) (all_right (λ (q : Port). is_known (connected_ports t.connections) q.name) o.of.ports)
+          (and_parts (all_right test t.connections) rest o.right).1).1 in
           let known = right_in (λ (q : Port). is_known (connected_ports t.connections) q.name) o.of.ports p all_known (record { at = at; found = there }) in
           let c = connection_found t.connections p.name (is_known_in (connected_ports t.connections) p.name known) in
-          let takes_it = right_in test t.connections c.connection (and_left (all_right test t.connections) rest o.right) c.held in
+          let takes_it = right_in test t.connections c.connection (and_parts (all_right test t.connections) rest o.right).0 c.held in
           tied_by p.name (port_named o.of.ports p.name) refl
           (subst (λ (y : Name). takes scope_at (port_named o.of.ports p.name) y ≡ true) (sym c.signal)
           (subst (λ (y : Name). takes scope_at (port_named o.of.ports y) c.connection.signal ≡ true) c.port takes_it))
@@ -274,7 +271,7 @@ module _ (ms : List Module) (whole : Facts) (each : EachAfter (IsModule whole) a
           let out : signal_right scope_at direction.Output x (scope.width_of r.port.high) ≡ true =
           subst (λ (q : Direction). signal_right scope_at q x (scope.width_of r.port.high) ≡ true) way here in
           eqb-true (driven_width (kind_of scope_at x)) (scope.width_of r.port.high)
-          (and_right (nat_lt 0 (scope.width_of r.port.high)) (driven_width (kind_of scope_at x) == scope.width_of r.port.high) out)
+          (and_parts (nat_lt 0 (scope.width_of r.port.high)) (driven_width (kind_of scope_at x) == scope.width_of r.port.high) out).1
           ∙ wide
 
       pub output_tied : (d : n.Declaration) → In (n.declarations o.of) d → d.kind ≡ n.OutputPort → driven_width (kind_of scope_at (n.connected t.connections d.name)) ≡ d.width
@@ -291,7 +288,7 @@ module _ (ms : List Module) (whole : Facts) (each : EachAfter (IsModule whole) a
           let here : (is_clk x && is_clock (kind_of scope_at x)) ≡ true =
           sym (ap (λ b. if b then (is_clk x && is_clock (kind_of scope_at x)) else signal_right scope_at r.port.direction x (scope.width_of r.port.high)) (ap is_clk r.name ∙ c)) ∙
           r.connects in
-          subst (Reads x) (sym (r.told.clock c).1) (clock_read whole f m (formed k m found) x (and_right (is_clk x) (is_clock (kind_of scope_at x)) here))
+          subst (Reads x) (sym (r.told.clock c).1) (clock_read whole f m (formed k m found) x (and_parts (is_clk x) (is_clock (kind_of scope_at x)) here).1)
       input_by d r e false c =
           let x = n.connected t.connections d.name in
           let q = plain of_scope d r.told r.port r.is r.name c in
@@ -303,10 +300,10 @@ module _ (ms : List Module) (whole : Facts) (each : EachAfter (IsModule whole) a
           r.connects in
           let into : has_width scope_at x (scope.width_of r.port.high) ≡ true = subst (λ (y : Direction). signal_right scope_at y x (scope.width_of r.port.high) ≡ true) way here in
           let reads = read whole f m (formed k m found) x (ltb-true 0 (read_width (kind_of scope_at x))
-          (and_left (is_signal scope_at x) (read_width (kind_of scope_at x) == scope.width_of r.port.high) into)) in
+          (and_parts (is_signal scope_at x) (read_width (kind_of scope_at x) == scope.width_of r.port.high) into).0) in
           subst (Reads x)
-          (eqb-true (read_width (kind_of scope_at x)) (scope.width_of r.port.high) (and_right (is_signal scope_at x)
-          (read_width (kind_of scope_at x) == scope.width_of r.port.high) into) ∙ wide) reads
+          (eqb-true (read_width (kind_of scope_at x)) (scope.width_of r.port.high) (and_parts (is_signal scope_at x)
+          (read_width (kind_of scope_at x) == scope.width_of r.port.high) into).1 ∙ wide) reads
 
       pub input_tied : (d : n.Declaration) → In (n.declarations o.of) d → d.kind ≡ n.InputPort → Reads (n.connected t.connections d.name) d.width
       input_tied d h e = input_by d (tied_port d h (ap is_port_kind e)) e (is_clk d.name) refl

@@ -6,7 +6,8 @@ use Rattle.std.specs.List.{flat_map}
 use Rattle.std.specs.Str.{bytes_eq}
 use Rattle.std.proofs.lemmas.Nat.{pow_pos}
 use Rattle.std.proofs.lemmas.Option.{same_Some, none-some}
-use Rattle.std.proofs.lemmas.Bool.{ltb-true}
+use Rattle.std.proofs.lemmas.Bool.{ltb-true, and_parts}
+use Rattle.std.proofs.lemmas.Slice.Eq.{bytes_eq-Decides}
 use Rattle.lists.proofs.Places.{get_mapped, get_unmapped}
 use Rattle.verilog_tree.specs.declared.kind.Kind.{Kind}
 use Rattle.verilog_tree.specs.declared.kind.Kind.TheVariants as kind
@@ -22,11 +23,9 @@ use Rattle.verilog_tree.specs.Scope as scope
 use Rattle.verilog_tree.specs.Rules.{all_right, is_constant, place_right, initial_constant_right}
 use Rattle.verilog_tree.specs.Facts.{Facts}
 use Rattle.verilog_tree.specs.WellFormed.{IsModule}
-use Rattle.verilog_tree.proofs.Tests.{and_left, and_right}
 use Rattle.netlist.specs.declared.netlist.Memory.{Memory}
 use Rattle.netlist.specs.NetlistOf as n
 use Rattle.netlist.specs.NetlistOf.{place}
-use Rattle.netlist_text.proofs.Places.{is_name}
 use Rattle.netlist_text.proofs.Members.{In, Entry, in_first, in_rest, in_map, in_flat, in_unflat}
 use Rattle.circuit.specs.Rows.{EachOf}
 use Rattle.circuit.specs.Modules.{FitsMemory}
@@ -48,7 +47,7 @@ initial_below : (cs : List InitialConstant) (x : Name) (word : Option ℕ) (w : 
 initial_below [] x word w each = pow_pos w
 initial_below (c ∷ cs) x word w each =
     given_by c cs x word w (bytes_eq x c.name && n.same_word word c.word)
-    (λ h. each c (in_first c cs) (is_name x c.name (and_left (bytes_eq x c.name) (n.same_word word c.word) h)) (and_right (bytes_eq x c.name) (n.same_word word c.word) h))
+    (λ h. each c (in_first c cs) ((bytes_eq-Decides x c.name).0 (and_parts (bytes_eq x c.name) (n.same_word word c.word) h).0) (and_parts (bytes_eq x c.name) (n.same_word word c.word) h).1)
     (initial_below cs x word w (λ d q. each d (in_rest c d cs q)))
 
 words_below : (cs : List InitialConstant) (x : Name) (w : ℕ) → ((k : ℕ) → n.initial_of cs x (Some k) < 2 ^ w) → (k count : ℕ) → EachOf (λ v. v < 2 ^ w) (n.words_of cs x k count)
@@ -63,16 +62,16 @@ register_value : (sc : Scope) (o : Option Kind) (word : Option ℕ) (value : Con
     value.value < 2 ^ register_width o
 register_value sc o None value e h =
     ltb-true value.value (2 ^ register_width o)
-    (and_right (value.width == register_width o) (nat_lt value.value (2 ^ register_width o)) (and_right (nat_lt 0 (register_width o)) (is_constant value (register_width o)) h))
+    (and_parts (value.width == register_width o) (nat_lt value.value (2 ^ register_width o)) (and_parts (nat_lt 0 (register_width o)) (is_constant value (register_width o)) h).1).1
 register_value sc o (Some k) value e h = absurd (cc)
 
 word_value : (sc : Scope) (o : Option Kind) (k : ℕ) (word : Option ℕ) (value : Constant) → n.same_word (Some k) word ≡ true → place_right sc o word value ≡ true →
     value.value < 2 ^ memory_width o
 word_value sc o k None value e h = absurd (cc)
 word_value sc o k (Some j) value e h =
-    let rest = and_right (nat_lt 0 (memory_width o)) (nat_lt j (words_of o) && is_constant value (memory_width o)) h in
+    let rest = (and_parts (nat_lt 0 (memory_width o)) (nat_lt j (words_of o) && is_constant value (memory_width o)) h).1 in
     ltb-true value.value (2 ^ memory_width o)
-    (and_right (value.width == memory_width o) (nat_lt value.value (2 ^ memory_width o)) (and_right (nat_lt j (words_of o)) (is_constant value (memory_width o)) rest))
+    (and_parts (value.width == memory_width o) (nat_lt value.value (2 ^ memory_width o)) (and_parts (nat_lt j (words_of o)) (is_constant value (memory_width o)) rest).1).1
 
 memory_is : (x : Item) (y : text_memory.Memory) → n.memory_item x ≡ Some y → x ≡ i.Memory y
 memory_is (i.Memory z) y e = ap i.Memory (same_Some z y e)

@@ -4,6 +4,7 @@ use Rattle.std.specs.Prelude.{◌||◌, slice_get, is_some, if◌then◌else◌}
 use Rattle.std.specs.Str.{bytes_eq}
 use Rattle.std.proofs.lemmas.Option.{same_Some, none-some}
 use Rattle.std.proofs.lemmas.Bool.{or_parts, not-true}
+use Rattle.std.proofs.lemmas.Slice.Eq.{bytes_eq-Decides}
 use Rattle.verilog_tree.specs.declared.kind.Kind.{Kind}
 use Rattle.verilog_tree.specs.declared.tree.Port.{Port}
 use Rattle.verilog_tree.specs.declared.tree.Item.{Item}
@@ -11,7 +12,6 @@ use Rattle.verilog_tree.specs.declared.tree.Module.{Module}
 use Rattle.verilog_tree.specs.Scope.{Name, Scope, kind_of, is_clk, is_declared, declaration, port_declaration}
 use Rattle.verilog_tree.specs.Facts.{Facts, after, after_port, after_item, with_declaration, after_declaration, head_facts, port_facts, module_facts}
 use Rattle.verilog_tree.specs.WellFormed.{IsItem, IsPort, IsModule, is_new_declaration}
-use Rattle.netlist_text.proofs.Places.{is_name, same_name}
 use Rattle.netlist_text.proofs.Members.{Entry}
 use Rattle.fitting_net.proofs.Lists.{each_at}
 
@@ -32,7 +32,7 @@ append_by x s d next true e = absurd (cc)
 append_by x s d next false e = next e
 
 append_comes : (s : Scope) (d : Entry) → is_declared s d.0 ≡ false → kind_of (s ++ d ∷ []) d.0 ≡ Some d.1
-append_comes [] d e = ap (λ b. if b then Some d.1 else None) (same_name d.0)
+append_comes [] d e = ap (λ b. if b then Some d.1 else None) ((bytes_eq-Decides d.0 d.0).1 refl)
 append_comes (x ∷ s) d e = append_by x s d (append_comes s d) (bytes_eq d.0 x.0) e
 
 -- the name has this kind before, or by a new declaration
@@ -40,7 +40,7 @@ abbrev IsFrom : Scope → Entry → Name → Kind → Type 0
 IsFrom s d z k = (kind_of s z ≡ Some k) ⊎ ((d.0 ≡ z) × (d.1 ≡ k))
 
 one_by : (d : Entry) (z : Name) (k : Kind) (b : Bool) → bytes_eq z d.0 ≡ b → (if b then Some d.1 else None) ≡ Some k → (d.0 ≡ z) × (d.1 ≡ k)
-one_by d z k true q e = (sym (is_name z d.0 q), same_Some d.1 k e)
+one_by d z k true q e = (sym ((bytes_eq-Decides z d.0).0 q), same_Some d.1 k e)
 one_by d z k false q e = absurd (none-some k e)
 
 from_by : (x : Entry) (s : Scope) (d : Entry) (z : Name) (k : Kind) → (kind_of (s ++ d ∷ []) z ≡ Some k → IsFrom s d z k) → (b : Bool)

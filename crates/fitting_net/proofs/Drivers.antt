@@ -6,7 +6,7 @@ use Rattle.std.specs.List.{flat_map}
 use Rattle.std.specs.Str.{bytes_eq}
 use Rattle.std.proofs.lemmas.Slice.Eq.{bytes_eq-Decides}
 use Rattle.std.proofs.lemmas.Option.{same_Some, none-some}
-use Rattle.std.proofs.lemmas.Bool.{not-true}
+use Rattle.std.proofs.lemmas.Bool.{not-true, and_parts}
 use Rattle.verilog_tree.specs.declared.tree.Direction.{Direction}
 use Rattle.verilog_tree.specs.declared.tree.Direction.TheVariants as direction
 use Rattle.verilog_tree.specs.declared.tree.Expression.{Expression}
@@ -21,11 +21,10 @@ use Rattle.verilog_tree.specs.Scope.{Name, Names, Scope, is_known, kind_of, driv
 use Rattle.verilog_tree.specs.Rules.{all_right, are_distinct, expression_right, assign_right, port_named, connected_ports}
 use Rattle.verilog_tree.specs.Facts.{Facts, Interface, interface_named, ports_of, is_output, outputs, drives, nothing, after, with_name, after_module, port_facts, module_facts}
 use Rattle.verilog_tree.specs.WellFormed.{EachAfter, IsModule, is_input}
-use Rattle.verilog_tree.proofs.Tests.{and_left, and_right, and_both}
+use Rattle.verilog_tree.proofs.Tests.{and_both}
 use Rattle.netlist.specs.declared.netlist.Source.TheVariants as source
 use Rattle.netlist.specs.NetlistOf as n
 use Rattle.netlist.specs.NetlistOf.{is_output_port}
-use Rattle.netlist_text.proofs.Places.{is_name, same_name}
 use Rattle.netlist_text.proofs.Members.{In, in_none, in_one, in_first, in_rest, in_cons, in_either, in_flat, in_unflat, in_holds, is_known_in, after_in}
 use Rattle.netlist_text.proofs.Grown.{items_driven, port_facts_are}
 use Rattle.fitting_net.proofs.Tests.{both, or_there}
@@ -45,7 +44,7 @@ record IsAssign (assigns : List Assign) (x : Name) (right : Expression) : Type 0
 assign_by : (a : Assign) (assigns : List Assign) (x : Name) (right : Expression) → (n.assigned assigns x ≡ Some right → IsAssign assigns x right) → (b : Bool) →
     bytes_eq x a.target ≡ b
     → (if b then Some a.value else n.assigned assigns x) ≡ Some right → IsAssign (a ∷ assigns) x right
-assign_by a assigns x right next true e h = record { assign = a; held = in_first a assigns; target = is_name x a.target e; value = same_Some a.value right h }
+assign_by a assigns x right next true e h = record { assign = a; held = in_first a assigns; target = (bytes_eq-Decides x a.target).0 e; value = same_Some a.value right h }
 assign_by a assigns x right next false e h = let r = next h in record { assign = r.assign; held = in_rest a r.assign assigns r.held; target = r.target; value = r.value }
 
 assign_found : (assigns : List Assign) (x : Name) (right : Expression) → n.assigned assigns x ≡ Some right → IsAssign assigns x right
@@ -57,7 +56,7 @@ no_assign_by : (a b : Assign) (assigns : List Assign) (x : Name) → (n.assigned
     → In (b ∷ assigns) a → x ≡ a.target → ⊥
 no_assign_by a b assigns x next true e h q same = none-some b.value (sym h)
 no_assign_by a b assigns x next false e h q same = elim (in_cons b a assigns q) [
-  | inl r ↦ both e (subst (λ (y : Name). bytes_eq x y ≡ true) (same ∙ ap (λ (t : Assign). t.target) (sym r)) (same_name x))
+  | inl r ↦ both e (subst (λ (y : Name). bytes_eq x y ≡ true) (same ∙ ap (λ (t : Assign). t.target) (sym r)) ((bytes_eq-Decides x x).1 refl))
   | inr r ↦ next h r
 ]
 
@@ -113,8 +112,8 @@ output_by d ds cs x k port next true e h =
       port_is = omega (arith, same);
       declared = d;
       listed = refl;
-      output = and_left (is_output_port d.kind) (bytes_eq x (n.connected cs d.name)) e;
-      tied = is_name x (n.connected cs d.name) (and_right (is_output_port d.kind) (bytes_eq x (n.connected cs d.name)) e);
+      output = (and_parts (is_output_port d.kind) (bytes_eq x (n.connected cs d.name)) e).0;
+      tied = (bytes_eq-Decides x (n.connected cs d.name)).0 (and_parts (is_output_port d.kind) (bytes_eq x (n.connected cs d.name)) e).1;
     }
 output_by d ds cs x k port next false e h =
     let r = next h in
@@ -133,7 +132,7 @@ no_output_by : (d c : n.Declaration) (ds : List n.Declaration) (cs : List Connec
 no_output_by d c ds cs x k next true e h q out same = none-some k (sym h)
 no_output_by d c ds cs x k next false e h q out same = elim (in_cons d c ds q) [
   | inl r ↦ both e (and_both (is_output_port d.kind) (bytes_eq x (n.connected cs d.name)) (ap (λ (t : n.Declaration). is_output_port t.kind) r ∙ out)
-      (subst (λ (y : Name). bytes_eq x y ≡ true) (same ∙ ap (λ (t : n.Declaration). n.connected cs t.name) (sym r)) (same_name x)))
+      (subst (λ (y : Name). bytes_eq x y ≡ true) (same ∙ ap (λ (t : n.Declaration). n.connected cs t.name) (sym r)) ((bytes_eq-Decides x x).1 refl)))
   | inr r ↦ next h r
 ]
 
@@ -215,7 +214,7 @@ only_by : (c d : Connection) (cs : List Connection) → (In cs c → n.connected
     → bytes_eq c.port d.port ≡ b → (if b then d.signal else n.connected cs c.port) ≡ c.signal
 only_by c d cs next apart h true e = elim (in_cons d c cs h) [
   | inl q ↦ ap (λ (t : Connection). t.signal) q
-  | inr q ↦ absurd (known_not d.port (connected_ports cs) apart (subst (In (connected_ports cs)) (is_name c.port d.port e) (port_in cs c q)))
+  | inr q ↦ absurd (known_not d.port (connected_ports cs) apart (subst (In (connected_ports cs)) ((bytes_eq-Decides c.port d.port).0 e) (port_in cs c q)))
 ] where
   port_in : (cs : List Connection) (c : Connection) → In cs c → In (connected_ports cs) c.port
   port_in [] c q = absurd (in_none c q)
@@ -225,16 +224,16 @@ only_by c d cs next apart h true e = elim (in_cons d c cs h) [
   ]
 
   known_not : (x : Name) (xs : Names) → are_distinct (x ∷ xs) ≡ true → In xs x → ⊥
-  known_not x xs h q = both (not-true (is_known xs x) (and_left (not (is_known xs x)) (are_distinct xs) h)) (in_holds bytes_eq bytes_eq-Decides xs x q)
+  known_not x xs h q = both (not-true (is_known xs x) (and_parts (not (is_known xs x)) (are_distinct xs) h).0) (in_holds bytes_eq bytes_eq-Decides xs x q)
 only_by c d cs next apart h false e = elim (in_cons d c cs h) [
-  | inl q ↦ both e (subst (λ (t : Connection). bytes_eq c.port t.port ≡ true) (sym q) (same_name c.port))
+  | inl q ↦ both e (subst (λ (t : Connection). bytes_eq c.port t.port ≡ true) (sym q) ((bytes_eq-Decides c.port c.port).1 refl))
   | inr q ↦ next q
 ]
 
 only : (cs : List Connection) (c : Connection) → are_distinct (connected_ports cs) ≡ true → In cs c → n.connected cs c.port ≡ c.signal
 only [] c apart h = absurd (in_none c h)
 only (d ∷ cs) c apart h =
-    only_by c d cs (only cs c (and_right (not (is_known (connected_ports cs) d.port)) (are_distinct (connected_ports cs)) apart)) apart h (bytes_eq c.port d.port) refl
+    only_by c d cs (only cs c (and_parts (not (is_known (connected_ports cs) d.port)) (are_distinct (connected_ports cs)) apart).1) apart h (bytes_eq c.port d.port) refl
 
 -- an output that is found by its name
 is_out : (o : Option Port) → is_output o ≡ true → (p : Port) × (o ≡ Some p) × (p.direction ≡ direction.Output)
@@ -324,8 +323,8 @@ module _ (ms : List Module) (whole : Facts) (each : EachAfter (IsModule whole) a
       let c = outputs_in o.of.ports t.connections x (subst (λ (ps : List Port). In (outputs ps t.connections) x) ports h) in
       let p = is_out (port_named o.of.ports c.connection.port) c.output in
       let q = port_found o.of.ports c.connection.port p.0 p.1 in
-      let apart = and_left (are_distinct (connected_ports t.connections)) (all_right (λ (y : Port). is_known (connected_ports t.connections) y.name) o.of.ports)
-      (and_right _ (are_distinct (connected_ports t.connections) && all_right (λ (y : Port). is_known (connected_ports t.connections) y.name) o.of.ports) o.right) in
+      let apart = (and_parts (are_distinct (connected_ports t.connections)) (all_right (λ (y : Port). is_known (connected_ports t.connections) y.name) o.of.ports)
+      (and_parts _ (are_distinct (connected_ports t.connections) && all_right (λ (y : Port). is_known (connected_ports t.connections) y.name) o.of.ports) o.right).1).0 in
       let d : n.Declaration = n.declaration (kind_at (p.0).direction) p.0 in
       let here : n.of_instance n.declarations before t ≡ n.declarations o.of = ap (λ (j : ℕ). n.of_module n.declarations (slice_get before j)) o.place_is ∙ ap
       (n.of_module n.declarations) o.held in
@@ -370,7 +369,7 @@ module _ (ms : List Module) (whole : Facts) (each : EachAfter (IsModule whole) a
       let there : slice_get m.items r.at ≡ Some (i.Assign a.assign) = r.found ∙ ap Some (assign_is r.x a.assign (some_in (n.assign_item r.x) a.assign r.inside)) in
       let rule : assign_right scope a.assign.target a.assign.value ≡ true = (item_is whole f m is r.at (i.Assign a.assign) there).right in
       let width = driven_width (kind_of scope a.assign.target) in
-      let fits = and_right (nat_lt 0 width) (expression_right scope a.assign.value width) rule in
+      let fits = (and_parts (nat_lt 0 width) (expression_right scope a.assign.value width) rule).1 in
       let wide : width ≡ d.width = ap (λ (x : Name). driven_width (kind_of scope x)) (sym a.target) ∙ driven whole f m is d (told whole f m is d q) h in
       subst (λ (w : ℕ). expression_right scope right w ≡ true) wide (subst (λ (x : Expression). expression_right scope x width ≡ true) a.value fits)
 

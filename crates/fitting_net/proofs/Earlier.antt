@@ -4,13 +4,13 @@ use Rattle.std.specs.Prelude.{not, slice_get, if◌then◌else◌}
 use Rattle.std.specs.Str.{bytes_eq}
 use Rattle.std.proofs.lemmas.Option.{same_Some, none-some}
 use Rattle.std.proofs.lemmas.List.{append-nil}
+use Rattle.std.proofs.lemmas.Slice.Eq.{bytes_eq-Decides}
 use Rattle.verilog_tree.specs.declared.tree.Module.{Module}
 use Rattle.verilog_tree.specs.Scope.{Name}
 use Rattle.verilog_tree.specs.Facts.{Facts, Interface, interface_named, interface_of, after, after_module}
 use Rattle.netlist.specs.declared.netlist.Module as netlist_module
 use Rattle.netlist.specs.NetlistOf as n
 use Rattle.netlist.specs.NetlistOf.{place}
-use Rattle.netlist_text.proofs.Places.{is_name}
 
 -- ---- interfaces by name
 
@@ -62,7 +62,7 @@ module _ (m : Module) (ms : List Module) (f : Facts) (z : Name) (x : Interface) 
         place_is = place_at true q;
         of = m;
         listed = refl;
-        name = is_name z m.name q;
+        name = (bytes_eq-Decides z m.name).0 q;
         is = same_Some x mine (sym e ∙ modules_kept ms (after_module f m) z mine here);
       }
   earlier_by none e false q next =

@@ -3,17 +3,17 @@ use Rattle.std.proofs.Common.{◌≡◌, ℕ, zero, suc, ◌+◌, ◌<◌, List,
 use Rattle.std.specs.Prelude.{not, ◌||◌, slice_get}
 use Rattle.std.specs.Str.{bytes_eq}
 use Rattle.std.proofs.lemmas.Option.{same_Some, none-some}
+use Rattle.std.proofs.lemmas.Slice.Eq.{bytes_eq-Decides}
 use Rattle.verilog_tree.specs.Facts.{after}
 use Rattle.verilog_tree.specs.WellFormed.{EachAfter}
 use Rattle.netlist.specs.NetlistOf.{Name, place, some}
-use Rattle.netlist_text.proofs.Places.{is_name, same_name}
 use Rattle.netlist_text.proofs.Members.{In, in_none, in_one, in_cons}
 
 -- ---- places of names
 
 place_by : (n : Name) (names : List Name) (x : Name) (b : Bool) → bytes_eq x n ≡ b → (b ≡ false → slice_get names (place names x) ≡ Some x)
     → slice_get (n ∷ names) (cond (not b) (1 + place names x) 0) ≡ Some x
-place_by n names x true e next = ap Some (sym (is_name x n e))
+place_by n names x true e next = ap Some (sym ((bytes_eq-Decides x n).0 e))
 place_by n names x false e next =
     let same : 1 + place names x ≡ suc (place names x) = omega arith in
     ap (slice_get (n ∷ names)) same ∙ next refl
@@ -22,7 +22,7 @@ place_by n names x false e next =
 pub place_found : (names : List Name) (x : Name) → In names x → slice_get names (place names x) ≡ Some x
 place_found [] x h = absurd (in_none x h)
 place_found (n ∷ names) x h = place_by n names x (bytes_eq x n) refl (λ e. place_found names x (elim (in_cons n x names h) [
-  | inl same ↦ absurd (let t : true ≡ false = sym (ap (bytes_eq x) same ∙ same_name x) ∙ e in cc)
+  | inl same ↦ absurd (let t : true ≡ false = sym (ap (bytes_eq x) same ∙ (bytes_eq-Decides x x).1 refl) ∙ e in cc)
   | inr p ↦ p
 ]))
 

@@ -4,6 +4,7 @@ use Rattle.std.proofs.Common.{Option, Some, None, refl, sym, ap, ◌∙◌, subs
 use Rattle.std.specs.Prelude.{slice_get}
 use Rattle.std.specs.List.{flat_map}
 use Rattle.std.proofs.lemmas.Option.{same_Some}
+use Rattle.std.proofs.lemmas.Simd.{map-map}
 use Rattle.lists.proofs.Places.{get_mapped, get_unmapped}
 use Rattle.verilog_tree.specs.declared.tree.Direction.{Direction}
 use Rattle.verilog_tree.specs.declared.tree.Direction.TheVariants as direction
@@ -28,7 +29,7 @@ use Rattle.netlist.specs.declared.netlist.Module.{Module}
 use Rattle.netlist.specs.NetlistOf as n
 use Rattle.netlist.specs.NetlistOf.{place, module_of, netlist_of}
 use Rattle.netlist.specs.Laid.{AreApart, signal_names, memory_names, instance_names}
-use Rattle.netlist_text.proofs.Places.{get_either, map_map}
+use Rattle.netlist_text.proofs.Places.{get_either}
 use Rattle.netlist_text.proofs.Members.{In, in_none, in_one, in_unflat}
 use Rattle.verilog_meaning.specs.Readings.{or_zero}
 use Rattle.verilog_meaning.specs.Cycles.{IsRegister}
@@ -234,17 +235,17 @@ module _ (ms : List text.Module) (whole : Facts) (each : EachAfter (IsModule who
 
     signals_apart : AreApart (signal_names mine)
     signals_apart =
-        subst AreApart (sym (ap (map (λ (y : Signal). y.name)) (signals_are before m) ∙ map_map (λ (y : Signal). y.name) (n.signal_of before m) (n.declarations m)))
+        subst AreApart (sym (ap (map (λ (y : Signal). y.name)) (signals_are before m) ∙ map-map (λ (y : Signal). y.name) (n.signal_of before m) (n.declarations m)))
         (apart.signals_apart whole f m is)
 
     memories_apart : AreApart (memory_names mine)
     memories_apart =
-        subst AreApart (sym (ap (map (λ (y : Memory). y.name)) (memories_are before m) ∙ map_map (λ (y : Memory). y.name) (n.memory_of before m) (n.memory_items m)))
+        subst AreApart (sym (ap (map (λ (y : Memory). y.name)) (memories_are before m) ∙ map-map (λ (y : Memory). y.name) (n.memory_of before m) (n.memory_items m)))
         (apart.memories_apart whole f m is)
 
     instances_apart : AreApart (instance_names mine)
     instances_apart =
-        subst AreApart (sym (ap (map (λ (y : Instance). y.name)) (instances_are before m) ∙ map_map (λ (y : Instance). y.name) (n.instance_of before m) (n.instance_items m)))
+        subst AreApart (sym (ap (map (λ (y : Instance). y.name)) (instances_are before m) ∙ map-map (λ (y : Instance). y.name) (n.instance_of before m) (n.instance_items m)))
         (apart.instances_apart whole f m is)
 
   -- ---- instances

@@ -3,12 +3,12 @@ use Rattle.std.proofs.Common.{◌≡◌, ℕ, zero, suc, ◌<◌, ◌⊎◌, Lis
 use Rattle.std.specs.Prelude.{slice_get, is_some, if◌then◌else◌}
 use Rattle.std.proofs.lemmas.Option.{same_Some, none-some}
 use Rattle.std.proofs.lemmas.Bool.{cases_order}
+use Rattle.std.proofs.lemmas.Slice.Eq.{bytes_eq-Decides}
 use Rattle.lists.proofs.Places.{none_of}
 use Rattle.verilog_tree.specs.declared.tree.Module.{Module}
 use Rattle.verilog_tree.specs.Scope.{Name}
 use Rattle.verilog_tree.specs.Facts.{Facts, Interface, interface_named, interface_of, nothing, after, after_module}
 use Rattle.verilog_tree.specs.WellFormed.{EachAfter, IsModule}
-use Rattle.netlist_text.proofs.Places.{same_name}
 use Rattle.fitting_net.proofs.Lists.{each_at, each_take}
 use Rattle.fitting_net.proofs.Earlier.{modules_kept, named_none}
 
@@ -33,7 +33,7 @@ module _ (whole : Facts) where
   here m ms f is =
       modules_kept ms (after_module f m) m.name (interface_of f.modules m)
       (named_none f.modules (interface_of f.modules m ∷ []) m.name (none_of (interface_named f.modules m.name) is.new)
-      ∙ ap (λ b. if b then Some (interface_of f.modules m) else None) (same_name m.name))
+      ∙ ap (λ b. if b then Some (interface_of f.modules m) else None) ((bytes_eq-Decides m.name m.name).1 refl))
 
   -- a module is the one of its name
   pub own : (ms : List Module) (f : Facts) (k : ℕ) (t : Module) → EachAfter (IsModule whole) after_module f ms → slice_get ms k ≡ Some t

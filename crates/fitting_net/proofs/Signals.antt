@@ -3,7 +3,7 @@ use Rattle.std.proofs.Common.{◌≡◌, ℕ, ◌+◌, ◌<◌, ◌≤◌, List,
 use Rattle.std.specs.Prelude.{◌&&◌, ◌==◌, slice_get, is_some, nat_lt, if◌then◌else◌}
 use Rattle.std.specs.List.{flat_map}
 use Rattle.std.proofs.lemmas.Option.{same_Some, none-some}
-use Rattle.std.proofs.lemmas.Bool.{ltb-true, eqb-true}
+use Rattle.std.proofs.lemmas.Bool.{ltb-true, eqb-true, and_parts}
 use Rattle.lists.proofs.Places.{get_unmapped}
 use Rattle.verilog_tree.specs.declared.kind.SignalClass.{SignalClass}
 use Rattle.verilog_tree.specs.declared.kind.SignalClass.TheVariants as class
@@ -19,7 +19,6 @@ use Rattle.verilog_tree.specs.Scope.{Name, Scope, kind_of, is_clk, signal, port_
 use Rattle.verilog_tree.specs.Scope as scope
 use Rattle.verilog_tree.specs.Facts.{Facts, after, after_port, head_facts}
 use Rattle.verilog_tree.specs.WellFormed.{IsPort, IsModule, is_input}
-use Rattle.verilog_tree.proofs.Tests.{and_left, and_right}
 use Rattle.netlist.specs.NetlistOf as n
 use Rattle.netlist.specs.NetlistOf.{place}
 use Rattle.netlist_text.proofs.Members.{In, Entry, in_none, in_one, in_first, in_front, in_back, in_either, in_map, in_flat, in_unflat}
@@ -171,8 +170,8 @@ module _ (whole f : Facts) (m : Module) (is : IsModule whole f m) where
         high = r.most;
         clock = λ h.
             let t = implied (is_clk p.name) (is_input p.direction && scope.width_of p.high == 1) port.clock h in (
-              input_at p.direction (and_left (is_input p.direction) (scope.width_of p.high == 1) t),
-              sym r.width ∙ eqb-true (scope.width_of p.high) 1 (and_right (is_input p.direction) (scope.width_of p.high == 1) t),
+              input_at p.direction (and_parts (is_input p.direction) (scope.width_of p.high == 1) t).0,
+              sym r.width ∙ eqb-true (scope.width_of p.high) 1 (and_parts (is_input p.direction) (scope.width_of p.high == 1) t).1,
             );
       }
 

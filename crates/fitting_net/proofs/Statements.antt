@@ -2,7 +2,7 @@
 use Rattle.std.proofs.Common.{◌≡◌, ℕ, ◌<◌, List, [], ◌∷◌, ◌++◌, Bool, true, false, refl, sym, ap, ◌∙◌, subst, inl, inr, map, length, arith}
 use Rattle.std.specs.Prelude.{◌==◌, slice_get}
 use Rattle.std.specs.List.{flat_map, list_any}
-use Rattle.std.proofs.lemmas.Bool.{ltb-true, eqb-true, or_left, or_right}
+use Rattle.std.proofs.lemmas.Bool.{ltb-true, eqb-true, or_left, or_right, and_parts}
 use Rattle.verilog_tree.specs.declared.tree.WriteArgument.{WriteArgument}
 use Rattle.verilog_tree.specs.declared.tree.WriteArgument.TheVariants as w
 use Rattle.verilog_tree.specs.declared.tree.Statement.{Statement}
@@ -13,7 +13,6 @@ use Rattle.verilog_tree.specs.Reads.{Each}
 use Rattle.verilog_tree.specs.Scope.{Name, Scope, kind_of, register_width, memory_width}
 use Rattle.verilog_tree.specs.Rules.{all_true, all_right, Between, values_in, has_values, width, is_signal, has_width, argument_right, statement_step, statement_right}
 use Rattle.verilog_tree.specs.Facts.{any_true, prints_step, statement_prints}
-use Rattle.verilog_tree.proofs.Tests.{and_left, and_right}
 use Rattle.verilog_tree.proofs.Fold.{induct}
 use Rattle.netlist.specs.declared.netlist.Effect.TheVariants as effect
 use Rattle.netlist.specs.declared.netlist.Action.{Action}
@@ -66,8 +65,8 @@ module _ (signals memories : List Name) where
 
     of_width : (x : Name) (k : ℕ) → has_width scope x k ≡ true → Has m (place signals x) k × (0 < k)
     of_width x k q =
-        let l = ltb-true 0 (width scope x) (and_left (is_signal scope x) (width scope x == k) q) in
-        let e = eqb-true (width scope x) k (and_right (is_signal scope x) (width scope x == k) q) in
+        let l = ltb-true 0 (width scope x) (and_parts (is_signal scope x) (width scope x == k) q).0 in
+        let e = eqb-true (width scope x) k (and_parts (is_signal scope x) (width scope x == k) q).1 in
         (subst (Has m (place signals x)) e (at_name x l), omega (arith, l, e))
 
     of_signal : (x : Name) → is_signal scope x ≡ true → (k : ℕ) × Has m (place signals x) k
@@ -82,42 +81,42 @@ module _ (signals memories : List Name) where
     store_fits c x y h cs fit =
         let k = memory_width (kind_of scope c) in
         let both = sym (fold_store Bool (statement_step scope) c x y) ∙ h in
-        let r = of_width y k (and_right (is_signal scope x) (has_width scope y k) both) in
+        let r = of_width y k (and_parts (is_signal scope x) (has_width scope y k) both).1 in
         let t = at_memory c r.1 in
         subst (EachOf (FitsAction m)) (sym (store_action c x y cs))
-        ((fit, (t.words, t.listed, subst (Has m (place signals y)) (sym t.wide) r.0, of_signal x (and_left (is_signal scope x) (has_width scope y k) both))), tt)
+        ((fit, (t.words, t.listed, subst (Has m (place signals y)) (sym t.wide) r.0, of_signal x (and_parts (is_signal scope x) (has_width scope y k) both).0)), tt)
 
     arguments_fit : (ys : List WriteArgument) → all_right (argument_right scope) ys ≡ true → EachOf (FitsArgument m) (map (n.argument signals memories) ys)
     arguments_fit [] h = tt
     arguments_fit (w.Unsigned x ∷ ys) h = (
-      of_signal x (and_left (is_signal scope x) (all_right (argument_right scope) ys) h),
-      arguments_fit ys (and_right (is_signal scope x) (all_right (argument_right scope) ys) h),
+      of_signal x (and_parts (is_signal scope x) (all_right (argument_right scope) ys) h).0,
+      arguments_fit ys (and_parts (is_signal scope x) (all_right (argument_right scope) ys) h).1,
     )
     arguments_fit (w.Signed x ∷ ys) h = (
-      of_signal x (and_left (is_signal scope x) (all_right (argument_right scope) ys) h),
-      arguments_fit ys (and_right (is_signal scope x) (all_right (argument_right scope) ys) h),
+      of_signal x (and_parts (is_signal scope x) (all_right (argument_right scope) ys) h).0,
+      arguments_fit ys (and_parts (is_signal scope x) (all_right (argument_right scope) ys) h).1,
     )
 
     write_fits : (text : List ℕ) (ys : List WriteArgument) → Fits (s.Write text ys)
     write_fits text ys h cs fit =
         let both = sym (fold_write Bool (statement_step scope) text ys) ∙ h in
         subst (EachOf (FitsAction m)) (sym (write_action text ys cs))
-        ((fit, arguments_fit ys (and_right (has_values (values_in Between text) (length ys)) (all_right (argument_right scope) ys) both)), tt)
+        ((fit, arguments_fit ys (and_parts (has_values (values_in Between text) (length ys)) (all_right (argument_right scope) ys) both).1), tt)
 
     bodies_fit : (ys : List Statement) → Each Fits ys → all_true (map (statement_right scope) ys) ≡ true → (cs : List ℕ) → EachOf IsBit cs
         → EachOf (FitsAction m) (flat_map (λ (g : List ℕ → List Action). g cs) (map actions ys))
     bodies_fit [] each h cs fit = tt
     bodies_fit (y ∷ ys) each h cs fit =
         each_append (FitsAction m) (actions y cs) (flat_map (λ (g : List ℕ → List Action). g cs) (map actions ys))
-        (each.0 (and_left (statement_right scope y) (all_true (map (statement_right scope) ys)) h) cs fit)
-        (bodies_fit ys each.1 (and_right (statement_right scope y) (all_true (map (statement_right scope) ys)) h) cs fit)
+        (each.0 (and_parts (statement_right scope y) (all_true (map (statement_right scope) ys)) h).0 cs fit)
+        (bodies_fit ys each.1 (and_parts (statement_right scope y) (all_true (map (statement_right scope) ys)) h).1 cs fit)
 
     if_fits : (c : Name) (ys : List Statement) → Each Fits ys → Fits (s.If c ys)
     if_fits c ys each h cs fit =
         let both = sym (fold_if Bool (statement_step scope) c ys) ∙ h in
-        let bit = of_width c 1 (and_left (has_width scope c 1) (all_true (map (statement_right scope) ys)) both) in
+        let bit = of_width c 1 (and_parts (has_width scope c 1) (all_true (map (statement_right scope) ys)) both).0 in
         subst (EachOf (FitsAction m)) (sym (if_actions c ys cs))
-        (bodies_fit ys each (and_right (has_width scope c 1) (all_true (map (statement_right scope) ys)) both) (cs ++ place signals c ∷ [])
+        (bodies_fit ys each (and_parts (has_width scope c 1) (all_true (map (statement_right scope) ys)) both).1 (cs ++ place signals c ∷ [])
         (each_append IsBit cs (place signals c ∷ []) fit (bit.0, tt)))
 
     statement_fits : (x : Statement) → Fits x
@@ -128,8 +127,8 @@ module _ (signals memories : List Name) where
     body_fits [] h = tt
     body_fits (y ∷ ys) h =
         each_append (FitsAction m) (actions y []) (flat_map (λ (x : Statement). actions x []) ys)
-        (statement_fits y (and_left (statement_right scope y) (all_right (statement_right scope) ys) h) [] tt)
-        (body_fits ys (and_right (statement_right scope y) (all_right (statement_right scope) ys) h))
+        (statement_fits y (and_parts (statement_right scope y) (all_right (statement_right scope) ys) h).0 [] tt)
+        (body_fits ys (and_parts (statement_right scope y) (all_right (statement_right scope) ys) h).1)
 
   -- ---- what is printed
 

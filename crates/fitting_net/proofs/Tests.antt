@@ -4,9 +4,8 @@ use Rattle.std.specs.Prelude.{not, ◌&&◌, ◌||◌, ◌==◌, slice_get, nat_
 use Rattle.std.specs.List.{list_any}
 use Rattle.std.proofs.lemmas.Bool.Decides.{nat_tests}
 use Rattle.std.proofs.lemmas.Option.{same_Some, none-some}
-use Rattle.std.proofs.lemmas.Bool.{or_right}
+use Rattle.std.proofs.lemmas.Bool.{or_right, and_parts}
 use Rattle.verilog_tree.specs.Rules.{all_right}
-use Rattle.verilog_tree.proofs.Tests.{and_left, and_right}
 use Rattle.netlist_text.proofs.Members.{In, in_none, in_cons}
 
 -- a test that holds and fails
@@ -30,6 +29,6 @@ second_false false b e h = both refl h
 pub right_in : {A : Type 0} (p : A → Bool) (xs : List A) (x : A) → all_right p xs ≡ true → In xs x → p x ≡ true
 right_in p [] x h q = absurd (in_none x q)
 right_in p (y ∷ xs) x h q = elim (in_cons y x xs q) [
-  | inl e ↦ ap p (sym e) ∙ and_left (p y) (all_right p xs) h
-  | inr r ↦ right_in p xs x (and_right (p y) (all_right p xs) h) r
+  | inl e ↦ ap p (sym e) ∙ (and_parts (p y) (all_right p xs) h).0
+  | inr r ↦ right_in p xs x (and_parts (p y) (all_right p xs) h).1 r
 ]

@@ -3,7 +3,7 @@ use Rattle.std.specs.Prelude.{◌≡◌, ℕ, zero, suc, ◌/◌, ◌%◌, ◌<�
 use Rattle.std.specs.Prelude.{Some, None, MatchOption, option_and_then, slice_get, codes, decimal, if◌then◌else◌, refl}
 use Rattle.std.proofs.Common.{ap, sym, ◌∙◌, subst, arith}
 use Rattle.std.proofs.lemmas.Option.{same_Some, none-some, slice_get_within, slice_get_past}
-use Rattle.std.proofs.lemmas.Bool.{ltb-true, lt-ltb}
+use Rattle.std.proofs.lemmas.Bool.{ltb-true, lt-ltb, both_ways}
 use Rattle.netlist.specs.declared.netlist.Memory.{Memory}
 use Rattle.netlist.specs.declared.netlist.Instance.{Instance}
 use Rattle.netlist.specs.declared.netlist.Module.{Module}
@@ -12,7 +12,7 @@ use Rattle.verilog_meaning.specs.Follows.{HasBanks, IsElement}
 use Rattle.global_banks.specs.declared.locate.Location.{Location}
 use Rattle.global_banks.specs.Banks.{memory_place, instance_place, memories_of, kind_of, bank_count, memories_at, in_bank, located, location}
 use Rattle.global_banks.specs.Elements.{AreNamed, IsPlace, ElementsAreLocated}
-use Rattle.global_banks.proofs.Named.{bank_name, true_false, found_at, one_place, rest_only, rest_all}
+use Rattle.global_banks.proofs.Named.{bank_name, found_at, one_place, rest_only, rest_all}
 use Rattle.global_banks.proofs.Listed.{is_memory, is_instance, kind_stands, counted, one_count}
 
 module _ (modules : List Module) (top : Module) (x : List ℕ) (j : ℕ) (named : AreNamed modules top) where
@@ -122,7 +122,7 @@ module _ (modules : List Module) (top : Module) (x : List ℕ) (j : ℕ) (named 
         λ is.
         let t = there is in
         let words : memory_words o ≡ length is.bank.memory.initial = ap memory_words (sym e ∙ t.listed) in
-        true_false (nat_lt word (memory_words o)) (lt-ltb word (memory_words o) (let w = t.inside in omega (arith, words, w))) q
+        both_ways (nat_lt word (memory_words o)) q (lt-ltb word (memory_words o) (let w = t.inside in omega (arith, words, w)))
 
     answer : Answer (in_bank modules top.instances x digits word)
     answer = answer_by (slice_get memories m) refl (nat_lt word (memory_words (slice_get memories m))) refl

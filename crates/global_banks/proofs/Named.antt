@@ -13,15 +13,6 @@ use Rattle.netlist.specs.Laid.{AreApart}
 use Rattle.verilog_meaning.specs.Names.{with_digits}
 use Rattle.global_banks.specs.Banks.{behind, rest_of, is_rest}
 
-pub true_false : (b : Bool) → b ≡ true → b ≡ false → ⊥
-true_false b e f = absurd cc
-
-same_bytes : (a b : List ℕ) → bytes_eq a b ≡ true → a ≡ b
-same_bytes a b e = (bytes_eq-Decides a b).0 e
-
-bytes_same : (a b : List ℕ) → a ≡ b → bytes_eq a b ≡ true
-bytes_same a b e = (bytes_eq-Decides a b).1 e
-
 -- ---- the first place where a test holds
 
 module _ {X : Type 0} (p : X → Bool) where
@@ -74,7 +65,7 @@ bank_name stem x digits = with_digits (stem ++ x) digits
 
 behind_by : (b : Bool) (stem name r : List ℕ) → bytes_eq (take (length stem) name) stem ≡ b → (if b then Some (drop (length stem) name) else None) ≡ Some r → name ≡ stem ++ r
 behind_by true stem name r q e =
-    sym (take-append-drop (length stem) name) ∙ ap (λ z. z ++ drop (length stem) name) (same_bytes (take (length stem) name) stem q) ∙ ap (λ z. stem ++ z) (same_Some (drop (length stem) name) r e)
+    sym (take-append-drop (length stem) name) ∙ ap (λ z. z ++ drop (length stem) name) ((bytes_eq-Decides (take (length stem) name) stem).0 q) ∙ ap (λ z. stem ++ z) (same_Some (drop (length stem) name) r e)
 behind_by false stem name r q e = absurd (none-some r e)
 
 behind_some : (stem name r : List ℕ) → behind stem name ≡ Some r → name ≡ stem ++ r
@@ -82,7 +73,7 @@ behind_some stem name r e = behind_by (bytes_eq (take (length stem) name) stem) 
 
 behind_is : (stem r : List ℕ) → behind stem (stem ++ r) ≡ Some r
 behind_is stem r =
-    ap (λ (b : Bool). if b then Some (drop (length stem) (stem ++ r)) else None) (bytes_same (take (length stem) (stem ++ r)) stem (take-append_seam stem r)) ∙ ap Some (drop-append_seam stem r)
+    ap (λ (b : Bool). if b then Some (drop (length stem) (stem ++ r)) else None) ((bytes_eq-Decides (take (length stem) (stem ++ r)) stem).1 (take-append_seam stem r)) ∙ ap Some (drop-append_seam stem r)
 
 rest_by : (stem x name digits : List ℕ) (a b : Option (List ℕ)) → behind stem name ≡ a → option_and_then (behind x) a ≡ b → option_and_then (behind (codes "_")) b ≡ Some digits
     → name ≡ bank_name stem x digits
@@ -108,10 +99,10 @@ named_rest stem x name digits e =
 
 is_rest_by : (o : Option (List ℕ)) (digits : List ℕ) → is_rest o digits ≡ true → o ≡ Some digits
 is_rest_by None digits e = absurd cc
-is_rest_by (Some r) digits e = ap Some (same_bytes r digits e)
+is_rest_by (Some r) digits e = ap Some ((bytes_eq-Decides r digits).0 e)
 
 pub rest_only : (stem x name digits : List ℕ) → is_rest (rest_of stem x name) digits ≡ true → name ≡ bank_name stem x digits
 rest_only stem x name digits e = rest_named stem x name digits (is_rest_by (rest_of stem x name) digits e)
 
 pub rest_all : (stem x name digits : List ℕ) → name ≡ bank_name stem x digits → is_rest (rest_of stem x name) digits ≡ true
-rest_all stem x name digits e = ap (λ o. is_rest o digits) (named_rest stem x name digits e) ∙ bytes_same digits digits refl
+rest_all stem x name digits e = ap (λ o. is_rest o digits) (named_rest stem x name digits e) ∙ (bytes_eq-Decides digits digits).1 refl

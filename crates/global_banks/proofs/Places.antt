@@ -1,14 +1,9 @@
 -- The first place where a test holds, a step at a time.
-use Rattle.std.proofs.Common.{◌≡◌, ℕ, zero, suc, ◌+◌, ◌<◌, ◌≤◌, List, [], ◌∷◌, Bool, true, false, cond, refl, sym, ap, ◌∙◌, length, drop, get_or, arith}
+use Rattle.std.proofs.Common.{◌≡◌, ℕ, suc, ◌+◌, ◌<◌, ◌≤◌, List, ◌∷◌, Bool, true, false, cond, sym, ap, ◌∙◌, length, drop, get_or, arith}
 use Rattle.std.specs.Prelude.{not}
 use Rattle.std.specs.List.{position_or_len}
 use Rattle.std.proofs.Math.Seq.{drop-cons}
-
-drop_end : {X : Type 0} (xs : List X) (i : ℕ) → length xs ≤ i → drop i xs ≡ []
-drop_end [] zero l = refl
-drop_end [] (suc i) l = refl
-drop_end (x ∷ xs) zero l = absurd (omega arith)
-drop_end (x ∷ xs) (suc i) l = drop_end xs i (omega arith)
+use Rattle.std.proofs.lemmas.List.{drop_all}
 
 rest_at : {X : Type 0} (xs : List X) (i : ℕ) (y : X) → i < length xs → y ≡ get_or xs i y → drop i xs ≡ y ∷ drop (suc i) xs
 rest_at {X} xs i y l is = drop-cons xs i y l ∙ ap (λ (k : X). k ∷ drop (suc i) xs) (sym is)
@@ -35,5 +30,5 @@ module _ {X : Type 0} (p : X → Bool) where
 
   pub missed : (xs : List X) (i : ℕ) → length xs ≤ i → i ≤ length xs → position_or_len p xs ≡ i + position_or_len p (drop i xs) → length xs ≡ position_or_len p xs
   missed xs i l u e =
-      let z : among (drop i xs) ≡ 0 = ap among (drop_end xs i l) in
+      let z : among (drop i xs) ≡ 0 = ap among (drop_all i xs l) in
       omega (arith, e, z, l, u)

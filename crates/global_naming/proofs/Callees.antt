@@ -1,16 +1,14 @@
 -- The calls of functions as a graph: what a function calls there is what its body calls.
-use Rattle.std.proofs.Common.{◌≡◌, refl, sym, ap, ◌∙◌, ℕ, zero, suc, ◌+◌, ◌<◌, Bool, true, false, nat_eq, if◌then◌else◌, List, [], ◌∷◌, ◌++◌, map, append-nil, append_assoc, arith, fold}
+use Rattle.std.proofs.Common.{◌≡◌, refl, sym, ap, ◌∙◌, ℕ, zero, suc, ◌+◌, ◌<◌, Bool, false, nat_eq, if◌then◌else◌, List, [], ◌∷◌, ◌++◌, map, append-nil, append_assoc, arith, fold}
 use Rattle.std.specs.Prelude.{Some, slice_get}
 use Rattle.std.proofs.lemmas.List.Sums.{fold-append}
 use Rattle.std.proofs.lemmas.Option.{none-some, same_Some}
 use Rattle.std.proofs.lemmas.Bool.Decides.{nat_tests}
+use Rattle.std.proofs.lemmas.Bool.{eq-eqb}
 use Rattle.c_program.specs.Tree.{Function}
 use Rattle.c_program.specs.Calls.{calls_of}
 use Rattle.call_graph.specs.Graphs.{with_call, callees}
 use Rattle.global_naming.specs.Tables.{call_from, calls_after, calls_from}
-
-same_number : (k : ℕ) → nat_eq k k ≡ true
-same_number k = grind (arith, nat_tests)
 
 apart : (k n : ℕ) → n < k → nat_eq k n ≡ false
 apart k n lt = grind (arith, nat_tests)
@@ -21,7 +19,7 @@ apart_before n k j sum = grind (arith, nat_tests)
 own : (k : ℕ) (gs acc : List ℕ) → fold (with_call k) acc (map (call_from k) gs) ≡ acc ++ gs
 own k [] acc = sym (append-nil acc)
 own k (g ∷ gs) acc =
-    let one = ap (λ (b : Bool). if b then acc ++ g ∷ [] else acc) (same_number k) in
+    let one = ap (λ (b : Bool). if b then acc ++ g ∷ [] else acc) (eq-eqb k k refl) in
     ap (λ (xs : List ℕ). fold (with_call k) xs (map (call_from k) gs)) one ∙ own k gs (acc ++ g ∷ []) ∙ append_assoc acc (g ∷ []) gs
 
 others : (n k : ℕ) (differ : nat_eq k n ≡ false) (gs acc : List ℕ) → fold (with_call n) acc (map (call_from k) gs) ≡ acc

@@ -2,8 +2,9 @@
 use Rattle.std.proofs.Common.{◌≡◌, refl, sym, ap, ◌∙◌, subst, inl, inr, ◌⊎◌, ℕ, zero, suc, ◌<◌, ◌≤◌, Bool, true, false, List, [], ◌∷◌, length, slice_set, nat_eq, filter, cond, arith}
 use Rattle.std.proofs.lemmas.Bool.{false≢true, eqb-true}
 use Rattle.std.proofs.lemmas.Bool.Decides.{nat_tests}
+use Rattle.std.proofs.lemmas.List.{length-set}
 use Rattle.call_graph.specs.Graphs.{has}
-use Rattle.call_graph.proofs.Marks.{set_has, set_keeps, set_back, set_length}
+use Rattle.call_graph.proofs.Marks.{set_has, set_keeps, set_back}
 use Rattle.global_naming.specs.Tables.{with_names}
 
 pub set_beyond : (marks : List Bool) (k : ℕ) → length marks ≤ k → slice_set marks k true ≡ marks
@@ -15,7 +16,7 @@ set_beyond (b ∷ bs) (suc k) beyond = ap (λ (xs : List Bool). b ∷ xs) (set_b
 
 pub names_length : (names : List ℕ) (marks : List Bool) → length (with_names names marks) ≡ length marks
 names_length [] marks = refl
-names_length (y ∷ ys) marks = names_length ys (slice_set marks y true) ∙ set_length marks y
+names_length (y ∷ ys) marks = names_length ys (slice_set marks y true) ∙ length-set marks y true
 
 pub keeps : (names : List ℕ) (marks : List Bool) (x : ℕ) → has marks x ≡ true → has (with_names names marks) x ≡ true
 keeps [] marks x is = is
@@ -57,5 +58,5 @@ marks_it (y ∷ ys) marks x inside named = by (nat_eq x y) refl (marks_it ys (sl
       let same : y ≡ x = sym (eqb-true x y is) in
       keeps ys (slice_set marks y true) x (subst (λ (k : ℕ). has (slice_set marks k true) x ≡ true) (sym same) (set_has marks x inside))
   by false is later =
-      let long = set_length marks y in
+      let long = length-set marks y true in
       later (omega (arith, inside, long)) (not_head (nat_eq x y) y (filter (nat_eq x) ys) is named)

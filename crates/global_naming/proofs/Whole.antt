@@ -1,11 +1,13 @@
 -- The counts are those of the definition.
-use Rattle.std.proofs.Common.{◌≡◌, refl, sym, ap, ◌∙◌, subst, inl, inr, ℕ, zero, suc, ◌+◌, ◌*◌, ◌<◌, ◌≤◌, Bool, true, false, if◌then◌else◌, List, [], ◌∷◌, ◌++◌, length, replicate, sum_by, arith}
+use Rattle.std.proofs.Common.{◌≡◌, refl, sym, ap, ◌∙◌, subst, inl, inr, ℕ, ◌+◌, ◌*◌, ◌<◌, ◌≤◌, Bool, true, false, if◌then◌else◌, List, [], ◌∷◌, ◌++◌, length, replicate, sum_by, arith}
 use Rattle.std.specs.Prelude.{Option, Some, None, slice_get}
 use Rattle.std.specs.List.{flat_map}
-use Rattle.std.proofs.lemmas.Bool.{false≢true, ltb-true, lt-ltb, cases_lt}
+use Rattle.std.proofs.lemmas.Bool.{ltb-true, lt-ltb, cases_lt}
 use Rattle.std.proofs.lemmas.List.{length-append}
 use Rattle.std.proofs.lemmas.List.Sums.{sum_by-cons, sum_by-append}
 use Rattle.std.proofs.lemmas.Option.{slice_get_within}
+use Rattle.std.proofs.lemmas.List.Folds.{sum_by-replicate}
+use Rattle.std.specs.Cmp.{both_ways}
 use Rattle.lists.proofs.Places.{get_front, get_last}
 use Rattle.c_program.specs.declared.tree.ThreadObject.{ThreadObject}
 use Rattle.c_program.specs.Tree.{Program}
@@ -20,18 +22,6 @@ use Rattle.global_naming.proofs.Amounts.{positive_inside, found, positive}
 use Rattle.global_naming.proofs.Few.{no_more_than_threads}
 use Rattle.global_naming.proofs.Named.{named_by, is_named}
 
-same_bool : (a b : Bool) → (a ≡ true → b ≡ true) → (b ≡ true → a ≡ true) → a ≡ b
-same_bool true b there back = sym (there refl)
-same_bool false true there back = absurd (false≢true (back refl))
-same_bool false false there back = refl
-
-times_same : (t : Option ℕ → ℕ) (n : ℕ) (o : Option ℕ) → sum_by t (replicate n o) ≡ n * t o
-times_same t zero o = omega arith
-times_same t (suc n) o =
-    let whole = sum_by-cons t o (replicate n o) in
-    let rest = times_same t n o in
-    omega (arith, whole, rest)
-
 at_most : (n : ℕ) → n ≤ 1000000 → capped n ≡ n
 at_most n le = omega (arith, le)
 
@@ -41,7 +31,7 @@ module _ (P : Program) (rows : List (List Bool)) (acyclic : IsAcyclic P.function
 
   -- the marks are those of the definition
   pub marks_are : (f x : ℕ) → x < length P.globals → has (named_to P rows f count) x ≡ names_global P x f
-  marks_are f x inside = same_bool (has (named_to P rows f count) x) (names_global P x f) there back where
+  marks_are f x inside = both_ways (has (named_to P rows f count) x) (names_global P x f) there back where
     there : has (named_to P rows f count) x ≡ true → names_global P x f ≡ true
     there is =
         let n = named_by P rows f x count is in
@@ -64,11 +54,11 @@ module _ (P : Program) (rows : List (List Bool)) (acyclic : IsAcyclic P.function
     by false = omega arith
 
   object_share : (x : ℕ) → x < length P.globals → (n : ℕ) (o : Option ℕ) → sum_by (share x) (runners_by P rows n o) ≡ sum_by (runner_names P x) (replicate n o)
-  object_share x inside n None = let none = times_same (runner_names P x) n None in omega (arith, none)
+  object_share x inside n None = let none = sum_by-replicate (runner_names P x) n None in omega (arith, none)
   object_share x inside n (Some f) =
       let one = sum_by-cons (share x) (running P rows n f) [] in
       let own = share_of n f x inside in
-      let times = times_same (runner_names P x) n (Some f) in
+      let times = sum_by-replicate (runner_names P x) n (Some f) in
       omega (arith, one, own, times)
 
   objects_share :

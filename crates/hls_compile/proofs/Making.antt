@@ -4,6 +4,7 @@ use Rattle.std.proofs.Common.{refl, sym, ap, ◌∙◌, subst, arith}
 use Rattle.std.specs.Prelude.{slice_get}
 use Rattle.std.proofs.lemmas.Bool.Decides.{nat_tests}
 use Rattle.std.proofs.lemmas.Option.{none-some, same_Some, slice_get_within}
+use Rattle.std.proofs.lemmas.Bool.{eq-eqb}
 use Rattle.lists.proofs.Places.{get_there, get_front, get_mapped}
 use Rattle.hls_ints.specs.Residues.{bit_of}
 use Rattle.c_program.specs.Tree.{Program}
@@ -91,9 +92,6 @@ module _ (P : Program) (banks : Banks) (w : Wanted) (plans : List PlannedFunctio
       is_main : nat_eq k 0 ≡ nat_eq f P.main
       is_main = by k function
         where
-          itself : (n : ℕ) → nat_eq n n ≡ true
-          itself n = grind (arith, nat_tests)
-
           other : (b : Bool) (j : ℕ) → nat_eq f P.main ≡ b → slice_get FS (suc j) ≡ Some f → nat_eq (suc j) 0 ≡ b
           other true j e there =
               let same : f ≡ P.main = grind (arith, nat_tests, e) in
@@ -102,7 +100,7 @@ module _ (P : Program) (banks : Banks) (w : Wanted) (plans : List PlannedFunctio
           other false j e there = (let no : nat_eq (suc j) 0 ≡ false = grind (arith, nat_tests) in no)
 
           by : (j : ℕ) → slice_get FS j ≡ Some f → nat_eq j 0 ≡ nat_eq f P.main
-          by zero there = sym (ap (λ z. nat_eq z P.main) (sym (same_Some P.main f there)) ∙ itself P.main)
+          by zero there = sym (ap (λ z. nat_eq z P.main) (sym (same_Some P.main f there)) ∙ eq-eqb P.main P.main refl)
           by (suc j) there = other (nat_eq f P.main) j refl there
 
       there : (m : Module) × (slice_get modules k ≡ Some m)

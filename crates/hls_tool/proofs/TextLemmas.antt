@@ -1,7 +1,9 @@
 -- The C text that a source gives to a task is one.
-use Rattle.std.proofs.Common.{◌≡◌, ℕ, zero, suc, ◌+◌, ◌<◌, Bool, true, false, List, [], ◌∷◌, ◌++◌, length}
-use Rattle.std.proofs.Common.{drop, take, Option, Some, refl, sym, subst, ap, ◌∙◌, inl, inr, ⊎_elim, arith, length-append}
+use Rattle.std.proofs.Common.{◌≡◌, ℕ, zero, suc, ◌+◌, ◌<◌, true, false, List, length}
+use Rattle.std.proofs.Common.{drop, take, Option, Some, refl, sym, subst, ap, ◌∙◌, inl, inr, ⊎_elim, arith}
 use Rattle.std.specs.Prelude.{◌⊎◌}
+use Rattle.std.proofs.lemmas.Bool.{both_ways}
+use Rattle.lists.proofs.Places.{length_more}
 use Rattle.journal_text.specs.declared.entry.Entry.{Entry}
 use Rattle.journal_text.specs.Lines.{begins, line_long, Led}
 use Rattle.journal_text.specs.Texts.{IsParted}
@@ -22,14 +24,11 @@ below_or_same zero (suc n) l = inl (omega arith)
 below_or_same (suc k) zero l = absurd (omega (arith, l))
 below_or_same (suc k) (suc n) l = ⊎_elim (λ less. inl (omega (arith, less))) (λ same. inr (ap suc same)) (below_or_same k n (omega (arith, l)))
 
-long_more : (lines : List (List ℕ)) (line : List ℕ) → length (lines ++ line ∷ []) ≡ suc (length lines)
-long_more lines line = length-append lines (line ∷ []) ∙ (let e : length lines + 1 ≡ suc (length lines) = omega arith in e)
-
 led_place : (text : List ℕ) (n : ℕ) (lines : List (List ℕ)) → Led text n lines → (n ≡ place text (length lines)) × AreMarked text (length lines)
 led_place text _ _ Led.start = (refl, λ k l. absurd (omega (arith, l)))
 led_place text _ _ (Led.more {n} {lines} led marked) =
     let before = led_place text n lines led in
-    let long = long_more lines (take (line_long (drop n text)) (drop n text)) in
+    let long = length_more lines (take (line_long (drop n text)) (drop n text)) in
     let there : begins (drop (place text (length lines)) text) ≡ true = subst (λ (x : ℕ). begins (drop x text) ≡ true) before.0 marked in (
       ap (λ (x : ℕ). x + line_long (drop x text)) before.0 ∙ ap (place text) (sym long),
       λ k l. ⊎_elim (λ less. before.1 k less) (λ same. subst (λ (x : ℕ). begins (drop (place text x) text) ≡ true) (sym same) there)
@@ -43,13 +42,9 @@ either_way (suc n) zero = inr (inl (omega arith))
 either_way (suc n) (suc m) =
     ⊎_elim (λ a. inl (omega (arith, a))) (λ b. inr (⊎_elim (λ c. inl (omega (arith, c))) (λ d. inr (ap suc d)) b)) (either_way n m)
 
-not_both : (b : Bool) → b ≡ true → b ≡ false → ⊥
-not_both true e f = absurd cc
-not_both false e f = absurd cc
-
 -- no line begins so where the other reading ends
 never_past : (text : List ℕ) (n m rest : ℕ) → rest ≡ place text n → begins (drop rest text) ≡ false → AreMarked text m → n < m → ⊥
-never_past text n m rest e ends marked l = not_both (begins (drop (place text n) text)) (marked n l) (subst (λ (x : ℕ). begins (drop x text) ≡ false) e ends)
+never_past text n m rest e ends marked l = both_ways (begins (drop (place text n) text)) (subst (λ (x : ℕ). begins (drop x text) ≡ false) e ends) (marked n l)
 
 pub one_rest : (text : List ℕ) (first second : List Entry) (a b : Option ℕ) (n m : ℕ) → IsParted text first a n → IsParted text second b m → n ≡ m
 one_rest text first second a b n m x y =

@@ -1,7 +1,7 @@
 -- A number option as the command line reads it.
 use Rattle.std.proofs.Common.{◌≡◌, ℕ, ◌<◌, ◌^◌, Bool, List, true, false, refl, sym, ap, ◌∙◌, [], ◌∷◌, length}
 use Rattle.std.specs.Prelude.{Option, Some, None, is_some, option_map, option_and_then, nat_lt, slice_get, ◌&&◌, if◌then◌else◌}
-use Rattle.std.proofs.lemmas.Bool.{ltb-true, lt-ltb}
+use Rattle.std.proofs.lemmas.Bool.{ltb-true, lt-ltb, cond-true}
 use Rattle.std.specs.List.{list_all}
 use Rattle.std.specs.Char.{digit_value}
 use Rattle.std.specs.Str.Parse.{AllDigits, IsNumeral, ParsesUnsigned, ExplainsUnsignedError, HasUnsignedDigitsIfOk, digits_value, without_leading_plus}
@@ -49,10 +49,6 @@ passed ds e =
 abbrev Gives : List ℕ → Option ℕ → Type 0
 Gives t r = ReadsOne {T = ℕ} {E = ParseIntError} (λ bs x. ParsesUnsigned 32 10 bs x × ExplainsUnsignedError 10 bs x × HasUnsignedDigitsIfOk bs x) t r
 
-picked : (b : Bool) (n : ℕ) → b ≡ true → Some n ≡ (if b then Some n else None)
-picked true n holds = refl
-picked false n holds = cc
-
 dropped : (b : Bool) (n : ℕ) → ¬ (b ≡ true) → None ≡ (if b then Some n else None)
 dropped true n fails = absurd (fails refl)
 dropped false n fails = refl
@@ -60,7 +56,7 @@ dropped false n fails = refl
 pub reads_number : (t : List ℕ) (r : Option ℕ) → Gives t r → r ≡ number_of t
 reads_number t None (e, gives) = dropped _ _ (λ e. gives.0 (passed (without_leading_plus t) e))
 reads_number t (Some v) gives =
-    ap (λ (n : ℕ). Some n) gives.0.1 ∙ picked _ _ (passes (without_leading_plus t) gives.0.0.0 gives.0.0.1)
+    ap (λ (n : ℕ). Some n) gives.0.1 ∙ sym (cond-true _ (Some _) None (passes (without_leading_plus t) gives.0.0.0 gives.0.0.1))
 
 pub reads_option : (o : Option (List ℕ)) (r : Option ℕ) → (o ≡ None → r ≡ None) → ((t : List ℕ) → o ≡ Some t → Gives t r)
     → r ≡ option_and_then number_of o

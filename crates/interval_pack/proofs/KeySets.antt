@@ -28,9 +28,6 @@ module _ {K : Type 0} where
   pub cons_head : (k : K) (ks : List K) → Contains (k ∷ ks) k
   cons_head k ks = (0, omega arith, refl)
 
-  pub cons_more : (k x : K) (ks : List K) → Contains ks x → Contains (k ∷ ks) x
-  cons_more k x ks h = let l = h.1 in (suc h.0, omega arith, h.2)
-
   cases_at : (k x : K) (ks : List K) (i : ℕ) → i < length (k ∷ ks) → get_or (k ∷ ks) i x ≡ x → (x ≡ k) ⊎ Contains ks x
   cases_at k x ks zero l e = inl (sym e)
   cases_at k x ks (suc i) l e = inr (i, omega arith, e)

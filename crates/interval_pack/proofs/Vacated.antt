@@ -1,5 +1,5 @@
 -- Rows that are freed, taken again and opened.
-use Rattle.std.proofs.Common.{◌≡◌, ◌≢◌, ℕ, ◌<◌, ◌≤◌, ◌+◌, List, [], ◌∷◌, ◌++◌, length, get_or, set, ap, sym, ◌∙◌, ◌⊎◌, inl, inr, arith, get_or-set_other, get_or-set_same, true}
+use Rattle.std.proofs.Common.{◌≡◌, ◌≢◌, ℕ, ◌<◌, ◌≤◌, ◌+◌, List, [], ◌∷◌, ◌++◌, length, get_or, set, ap, sym, ◌∙◌, ◌⊎◌, inl, inr, arith, get_or-set_same, true}
 use Rattle.std.specs.List.{All, Contains}
 use Rattle.std.specs.Ordering.{nat_cmp}
 use Rattle.std.specs.BTreeMap.Range.{IsLeBy, IsLtBy}
@@ -7,11 +7,11 @@ use Rattle.std.specs.BTreeSet.{insert_key, Updates}
 use Rattle.std.proofs.lemmas.Bool.{cases_eq, cases_lt}
 use Rattle.std.proofs.lemmas.Cmp.{nat_cmp_total}
 use Rattle.std.proofs.lemmas.Map.Lookups.{exact_unsigned}
-use Rattle.std.proofs.lemmas.List.{get_or_append_left, get_or_push, length_push, length-set}
-use Rattle.std.proofs.lemmas.List.Elements.{All-contains}
+use Rattle.std.proofs.lemmas.List.{get_or_append_left, get_or_push, length_push, length-set, get_or-set_other}
+use Rattle.std.proofs.lemmas.List.Elements.{All-contains, Contains-append_right}
 use Rattle.interval_pack.specs.declared.rows.Rows.{Rows}
 use Rattle.interval_pack.specs.FreeRows.{AllLater, AreRows, AreRowsAt, AreBusy}
-use Rattle.interval_pack.proofs.KeySets.{pair_cmp, pair_total, pair_exact, cons_head, cons_more, cons_cases, insert_cases, insert_head, insert_more}
+use Rattle.interval_pack.proofs.KeySets.{pair_cmp, pair_total, pair_exact, cons_head, cons_cases, insert_cases, insert_head, insert_more}
 
 abbrev IsPair : ℕ × ℕ → ℕ × ℕ → Type 0
 IsPair a b = a ≡ b
@@ -48,7 +48,7 @@ module _ (ends : List ℕ) (place end row : ℕ) (old new : Rows) (are : AreRows
   one_freed = record {
     count = are.count ∙ sym count;
     free = λ r h. free_by r (insert_cases nat_cmp old.free.keys new.free.keys row r keys h);
-    busy = λ e r h. are.busy e r (rw popped (cons_more (end, row) (e, r) new.busy.keys h));
+    busy = λ e r h. are.busy e r (rw popped (Contains-append_right ((end, row) ∷ []) new.busy.keys (e, r) h));
     each = λ r l. each_by r (are.each r l);
   }
 
@@ -113,15 +113,12 @@ module _ (ends : List ℕ) (place end row : ℕ) (old new : Rows) (are : AreRows
   here : get_or (set ends row end) row 0 ≡ end
   here = get_or-set_same ends row end 0 row_within
 
-  other : (q : ℕ) → q ≢ row → get_or (set ends row end) q 0 ≡ get_or ends q 0
-  other q ne = get_or-set_other ends row q end 0 ne
-
   free_now : (q : ℕ) → Contains new.free.keys q → (q < length (set ends row end)) × (get_or (set ends row end) q 0 ≤ place)
   free_now q h =
-      let was = are.rows_are.free q (rw popped (cons_more row q new.free.keys h)) in
+      let was = are.rows_are.free q (rw popped (Contains-append_right (row ∷ []) new.free.keys q h)) in
       let m = still_free q h in
       let ne : q ≢ row = omega arith in
-      let o = other q ne in
+      let o = get_or-set_other ends row q end 0 ne in
       (omega (arith, was.0, length-set ends row end), omega (arith, was.1))
 
   busy_by : (e q : ℕ) → (IsPair (e, q) (end, row)) ⊎ Contains old.busy.keys (e, q) → (q < length (set ends row end)) × (get_or (set ends row end) q 0 ≡ e)
@@ -133,7 +130,7 @@ module _ (ends : List ℕ) (place end row : ℕ) (old new : Rows) (are : AreRows
       let was = are.rows_are.busy e q h in
       let late = are.later e q h in
       let ne : q ≢ row = λ same. (let f : get_or ends q 0 ≡ get_or ends row 0 = ap (λ (x : ℕ). get_or ends x 0) same in omega (arith, f, was.1, late, row_ended)) in
-      (omega (arith, was.0, length-set ends row end), other q ne ∙ was.1)
+      (omega (arith, was.0, length-set ends row end), get_or-set_other ends row q end 0 ne ∙ was.1)
 
   taken_each : (q : ℕ) → q < length ends → (q ≡ row) ⊎ (q ≡ row → ⊥) → Contains new.free.keys q ⊎ Contains new.busy.keys (get_or (set ends row end) q 0, q)
   taken_each q l (inl same) = rw (same, here) (inr (insert_head pair_cmp pair_total pair_exact old.busy new.busy (end, row) updates))
@@ -147,7 +144,7 @@ module _ (ends : List ℕ) (place end row : ℕ) (old new : Rows) (are : AreRows
       by_list (inl h) = by_key (cons_cases row q new.free.keys (rw popped at h))
       by_list (inr h) =
           let ne : q ≢ row = differs in
-          rw (other q ne) (inr (insert_more pair_cmp pair_total pair_exact old.busy new.busy (end, row) updates (get_or ends q 0, q) h))
+          rw (get_or-set_other ends row q end 0 ne) (inr (insert_more pair_cmp pair_total pair_exact old.busy new.busy (end, row) updates (get_or ends q 0, q) h))
 
   pub one_taken : AreRows (set ends row end) place new
   one_taken = record {

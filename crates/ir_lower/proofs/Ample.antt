@@ -1,6 +1,8 @@
 -- The code of a program within the limits is not too large.
-use Rattle.std.proofs.Common.{◌≡◌, ℕ, ◌+◌, ◌<◌, ◌≤◌, false, List, [], ◌∷◌, ◌++◌, length, map, replicate, Option, Some, None, refl, sym, ap, ◌∙◌, subst, arith, inl}
+use Rattle.std.proofs.Common.{◌≡◌, ℕ, ◌+◌, ◌<◌, ◌≤◌, false, [], ◌++◌, length, map, replicate, Option, Some, None, refl, sym, ap, ◌∙◌, subst, arith, inl}
 use Rattle.std.specs.Prelude.{slice_get, Contains}
+use Rattle.std.proofs.lemmas.List.{length-map}
+use Rattle.lists.proofs.Places.{get_front}
 use Rattle.hls_ints.specs.Types.{long_int}
 use Rattle.c_program.specs.declared.tree.LocalVariable.{LocalVariable}
 use Rattle.c_program.specs.declared.tree.Function.{Function as FunctionTree}
@@ -31,7 +33,6 @@ use Rattle.code_places.specs.Needing.{needed, IsFullFor}
 use Rattle.ir_lower.specs.Codes.{function_needs}
 use Rattle.straight_code.proofs.Cells.{get_within}
 use Rattle.straight_code.proofs.Room.{full_more}
-use Rattle.straight_code.proofs.Typing.{get_more}
 use Rattle.code_places.proofs.Staying.{fresh_typed, words_less}
 use Rattle.code_places.proofs.Resuming.{fresh_sound}
 use Rattle.code_places.proofs.Growing.{shifts_both, begins_shifts}
@@ -40,10 +41,6 @@ use Rattle.code_calls.proofs.Callees.{function_in}
 use Rattle.ir_lower.proofs.Whole.{get_map, get_none, values_among, word_at}
 use Rattle.ir_lower.proofs.Roots.{thread_function, holds_of}
 use Rattle.thread_rooms.proofs.Sites.{formats_count}
-
-map_long : (fs : List FunctionTree) → length (map function_of fs) ≡ length fs
-map_long [] = refl
-map_long (g ∷ gs) = let h = map_long gs in omega (arith, h)
 
 -- a thread function, whose code begins
 module _ (p : ProgramTree) (r : ℕ) (f : FunctionTree) (at : slice_get p.functions.items r ≡ Some f) (H : Rooms) (first begun : Lowering) (start : ℕ)
@@ -91,7 +88,7 @@ module _ (p : ProgramTree) (r : ℕ) (f : FunctionTree) (at : slice_get p.functi
 
   home_typed : (l : LocalVariable) (o : Option Home) → IsTypedHome (types_in H) l o → IsTypedHome typing.types l o
   home_typed l None h = absurd h
-  home_typed l (Some (home.Variable n)) h = get_more H.variables (replicate (all_values P.functions) long_int) n l.ty h
+  home_typed l (Some (home.Variable n)) h = get_front H.variables (replicate (all_values P.functions) long_int) n l.ty h
   home_typed l (Some (home.Array a)) h = h
 
   fits : (g : ℕ) (d : Function) → slice_get P.functions g ≡ Some d → Runs P r g → Fits (record typing { function = d }) (homes_in H g)
@@ -154,7 +151,7 @@ module _ (p : ProgramTree) (r : ℕ) (f : FunctionTree) (at : slice_get p.functi
       low acyclic g called =
           let below = acyclic.below r (get_within P.functions r (function_of f) found) in
           let falls = acyclic.falls r g (record { code = function_of f; found = found; called = called }) in
-          let long = map_long p.functions.items in
+          let long = length-map p.functions.items function_of in
           omega (arith, below, falls, deep, long)
 
 -- what is needed before its code begins

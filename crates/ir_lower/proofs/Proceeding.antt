@@ -1,6 +1,7 @@
 -- The code of a program begins at its first place.
-use Rattle.std.proofs.Common.{◌≡◌, ℕ, zero, suc, Bool, true, false, ◌&&◌, List, [], ◌∷◌, map, Some, None, refl, sym, ap, ◌∙◌, subst, inl, inr, arith}
+use Rattle.std.proofs.Common.{◌≡◌, ℕ, zero, suc, true, false, List, [], ◌∷◌, map, Some, None, refl, sym, ap, ◌∙◌, subst, inl, inr, arith}
 use Rattle.std.specs.Prelude.{slice_get}
+use Rattle.std.proofs.lemmas.Bool.{and_parts}
 use Rattle.c_program.specs.declared.tree.Function.{Function as FunctionTree}
 use Rattle.c_program.specs.declared.tree.Program.{Program as ProgramTree}
 use Rattle.c_program.specs.Plain.{function_of, program_of, statement_of}
@@ -20,15 +21,11 @@ use Rattle.code_places.proofs.Proceeding.{none_begun}
 
 -- ---- the whole
 
-pub both_taken : (a b : Bool) → (a && b) ≡ true → (a ≡ true) × (b ≡ true)
-both_taken true b e = (refl, e)
-both_taken false b e = absurd cc
-
 taken_in : (fs : List FunctionTree) (n : ℕ) (f : FunctionTree) → slice_get fs n ≡ Some f → are_taken (map function_of fs) ≡ true → is_taken false (statement_of f.body) ≡ true
 taken_in [] n f at all = absurd cc
 taken_in (g ∷ gs) zero f at all =
-    ap (λ z. is_taken false (statement_of z.body)) (let same : f ≡ g = cc in same) ∙ (both_taken (is_taken false (statement_of g.body)) (are_taken (map function_of gs)) all).0
-taken_in (g ∷ gs) (suc n) f at all = taken_in gs n f at (both_taken (is_taken false (statement_of g.body)) (are_taken (map function_of gs)) all).1
+    ap (λ z. is_taken false (statement_of z.body)) (let same : f ≡ g = cc in same) ∙ (and_parts (is_taken false (statement_of g.body)) (are_taken (map function_of gs)) all).0
+taken_in (g ∷ gs) (suc n) f at all = taken_in gs n f at (and_parts (is_taken false (statement_of g.body)) (are_taken (map function_of gs)) all).1
 
 pub taken_body : (p : ProgramTree) (number : ℕ) (f : FunctionTree) → slice_get p.functions.items number ≡ Some f → are_taken (program_of p).functions ≡ true →
     is_taken false (statement_of f.body) ≡ true

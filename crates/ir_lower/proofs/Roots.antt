@@ -1,13 +1,14 @@
 -- Thread functions: main, and the start routines that a create names.
-use Rattle.std.proofs.Common.{◌≡◌, ◌≢◌, ℕ, zero, suc, ◌<◌, ◌≤◌, Bool, true, false, ◌||◌, List, [], ◌∷◌, ◌++◌}
+use Rattle.std.proofs.Common.{◌≡◌, ◌≢◌, ℕ, zero, suc, ◌<◌, ◌≤◌, true, false, List, [], ◌∷◌, ◌++◌}
 use Rattle.std.proofs.Common.{◌+◌, length, get_or, take, Option, Some, None, refl, sym, ap, ◌∙◌, subst, arith, ⊎_elim, inl, inr}
 use Rattle.std.specs.Prelude.{nat_eq, slice_get, Contains, ◌⊎◌}
 use Rattle.std.specs.Option.{option_eq}
 use Rattle.std.specs.List.{AllByRecursion, range_with_len, list_any}
 use Rattle.std.proofs.lemmas.Bool.Decides.{eqb_tells}
 use Rattle.std.proofs.lemmas.List.Elements.{All-contains, Contains-append_cases, Contains-push_cases, filter_passes}
-use Rattle.std.proofs.lemmas.List.{take_more}
+use Rattle.std.proofs.lemmas.List.{take_more, take_all}
 use Rattle.std.proofs.lemmas.List.Sums.{get_or-le-sum_by}
+use Rattle.std.proofs.lemmas.Bool.{or_cases}
 use Rattle.c_program.specs.declared.tree.ThreadObject.{ThreadObject}
 use Rattle.c_program.specs.Tree.{Function, Program}
 use Rattle.c_program.specs.Resolved.{IsResolved, IsRoutineAt, IsStartRoutine}
@@ -26,10 +27,6 @@ names_it : (r : ℕ) (o : Option ℕ) → option_eq nat_eq o (Some r) ≡ true �
 names_it r None e = cc
 names_it r (Some k) e = ap Some (⊎_elim (λ t. t.1) (λ t. absurd (let wrong : true ≡ false = sym e ∙ t.0 in cc)) (eqb_tells k r))
 
-either : (a b : Bool) → (a || b) ≡ true → (a ≡ true) ⊎ (b ≡ true)
-either true b e = inl refl
-either false b e = inr e
-
 -- an object that has the routine
 record HasObject (threads : List ThreadObject) (r : ℕ) : Type 0 where
   pub place : ℕ
@@ -44,7 +41,7 @@ object_of : (threads : List ThreadObject) (r : ℕ) → is_routine threads r ≡
 object_of [] r e = cc
 object_of (o ∷ os) r e =
     ⊎_elim (λ here. record { place = 0; object = o; at = refl; routine = names_it r o.routine here }) (λ there. object_next o os r (object_of os r there))
-    (either (names_routine r o) (list_any (names_routine r) os) e)
+    (or_cases (names_routine r o) (list_any (names_routine r) os) e)
 
 module _ (P : Program) (resolved : IsResolved P) (r : ℕ) where
   routine_function : (o : Option Function) → slice_get P.functions r ≡ o → IsRoutineAt o → IsThreadFunction P r
@@ -107,10 +104,4 @@ codes_next P fs i cs new c lt all one pushed =
     (subst (AreThreadCodes P (take i fs ++ get_or fs i 0 ∷ [])) (sym pushed) (codes_more P (take i fs) (get_or fs i 0) cs c all one))
 
 pub codes_whole : (P : Program) (fs : List ℕ) (i : ℕ) (cs : List ThreadCode) → length fs ≤ i → AreThreadCodes P (take i fs) cs → AreThreadCodes P fs cs
-codes_whole P fs i cs le all = subst (λ xs. AreThreadCodes P xs cs) (take_all fs i le) all
-  where
-    take_all : (xs : List ℕ) (n : ℕ) → length xs ≤ n → take n xs ≡ xs
-    take_all [] zero h = refl
-    take_all [] (suc n) h = refl
-    take_all (x ∷ xs) zero h = absurd (omega arith)
-    take_all (x ∷ xs) (suc n) h = ap (λ l. x ∷ l) (take_all xs n (omega arith))
+codes_whole P fs i cs le all = subst (λ xs. AreThreadCodes P xs cs) (take_all i fs le) all

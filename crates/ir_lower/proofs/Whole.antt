@@ -5,6 +5,7 @@ use Rattle.std.specs.List.{AllByRecursion}
 use Rattle.std.proofs.lemmas.Bool.Decides.{eqb_tells}
 use Rattle.std.specs.Prelude.{slice_get, slice_index, string_bytes, Contains, ◌⊎◌}
 use Rattle.std.proofs.lemmas.List.{length-map, length-replicate}
+use Rattle.lists.proofs.Places.{get_front, copies_there}
 use Rattle.hls_ints.specs.Types.{IntegerType, long_int, wrapped}
 use Rattle.straight_code.specs.Passing.{IsPassed, ArePassed}
 use Rattle.block_ir.specs.Run.{Cells}
@@ -38,7 +39,6 @@ use Rattle.code_places.specs.Weighing.{inlined_weight}
 use Rattle.code_following.specs.Typed.{types_of, IsTypedStage, BeginsWith, IsNameIfAny, IsTypedCode, IsThreadCode}
 use Rattle.code_following.proofs.Arguments.{none_given, none_named}
 use Rattle.straight_code.specs.Typing.{Typing, IsTypedHome, Fits, HasWords}
-use Rattle.straight_code.proofs.Typing.{get_more}
 use Rattle.code_places.proofs.Staying.{stage_more, fresh_typed, words_less}
 use Rattle.code_places.proofs.Resuming.{fresh_sound}
 use Rattle.code_places.proofs.Controlling.{led_length, begin_at, begun_idle}
@@ -66,13 +66,8 @@ values_among [] g f at = absurd cc
 values_among (d ∷ fs) zero f at = subst (λ (z : Function). most_values z.body ≤ all_values (d ∷ fs)) (let same : d ≡ f = cc in same) (omega arith)
 values_among (d ∷ fs) (suc g) f at = let rest = values_among fs g f at in omega arith
 
-word_in : (count j : ℕ) → j < count → slice_get (replicate count long_int) j ≡ Some long_int
-word_in zero j lt = absurd (omega arith)
-word_in (suc count) zero lt = refl
-word_in (suc count) (suc j) lt = word_in count j (omega arith)
-
 pub word_at : (xs : List IntegerType) (count j n : ℕ) → n ≡ length xs + j → j < count → slice_get (xs ++ replicate count long_int) n ≡ Some long_int
-word_at [] count j n e lt = ap (slice_get (replicate count long_int)) (let same : n ≡ j = omega arith in same) ∙ word_in count j lt
+word_at [] count j n e lt = ap (slice_get (replicate count long_int)) (let same : n ≡ j = omega arith in same) ∙ copies_there count long_int j lt
 word_at (x ∷ xs) count j zero e lt = absurd (omega arith)
 word_at (x ∷ xs) count j (suc n) e lt = word_at xs count j n (omega arith) lt
 
@@ -300,7 +295,7 @@ module _ (p : ProgramTree) (r : ℕ) (code : ThreadCode) (made : IsCodeOf p r co
     home_typed : (l : LocalVariable) (o : Option Home) → IsTypedHome (types_in H) l o → IsTypedHome (types_of P code) l o
     home_typed l None h = absurd h
     home_typed l (Some (home.Variable n)) h =
-        ap (λ ts. slice_get ts n) variables_are ∙ get_more H.variables (replicate (all_values P.functions) long_int) n l.ty h
+        ap (λ ts. slice_get ts n) variables_are ∙ get_front H.variables (replicate (all_values P.functions) long_int) n l.ty h
     home_typed l (Some (home.Array a)) h = ap (λ arrays. slice_get arrays a) arrays_are ∙ h
 
     fits : (g : ℕ) (d : Function) → slice_get P.functions g ≡ Some d → Runs P r g → Fits (record typing { function = d }) (homes_in H g)

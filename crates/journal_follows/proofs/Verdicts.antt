@@ -1,6 +1,7 @@
 -- What a run and a replay answer.
-use Rattle.std.proofs.Common.{◌≡◌, ℕ, zero, suc, List, [], ◌∷◌, Some, refl, sym, ◌∙◌, subst}
+use Rattle.std.proofs.Common.{◌≡◌, ℕ, List, [], ◌∷◌, Some, refl, sym, ◌∙◌, subst}
 use Rattle.std.proofs.lemmas.Option.{same_Some}
+use Rattle.std.proofs.Math.Nat.{suc-ne-zero}
 use Rattle.c_program.specs.Tree.{Program}
 use Rattle.c_program.specs.Weight.{thread_count}
 use Rattle.thread_semantics.specs.Races.{IsGood}
@@ -41,13 +42,10 @@ module _ (modules : List Module) (top : Module) (count : ℕ) where
   legal_of [] h g is = is
   legal_of (e ∷ journal) h g is = (is.0, is.1, legal_of journal is.0 g is.3)
 
-apart : suc zero ≡ zero → ⊥
-apart e = cc
-
 module _ (P : Program) (modules : List Module) (top : Module) (threaded : IsThreaded modules top (thread_count P)) (h : Valuation) (out : List ℕ)
     (shows : ShowsInterleaving P modules top h out) where
   not_both : ShowsDone modules top h (all_enabled (thread_count P) []) 1 → ShowsDone modules top h (all_enabled (thread_count P) []) 0 → ⊥
-  not_both a b = apart (threaded.done_alike h h (all_enabled (thread_count P) []) (all_enabled (thread_count P) []) 1 0 (in_refl modules top _ h) a b)
+  not_both a b = suc-ne-zero 0 (threaded.done_alike h h (all_enabled (thread_count P) []) (all_enabled (thread_count P) []) 1 0 (in_refl modules top _ h) a b)
 
   judged : (e n : ℕ) (v : Verdict) → Ends modules top (thread_count P) h e n v → HasInterleaving P out v
   judged e n verdict.Done ends = record {

@@ -1,12 +1,12 @@
 -- A simulator whose state is that of another one.
-use Rattle.std.specs.Prelude.{◌≡◌, ℕ, zero, suc, ◌⊎◌, Bool, true, false, ◌+◌, ◌<◌, ◌≤◌, List, [], Option, Some, None}
-use Rattle.std.proofs.Common.{ap, sym, ◌∙◌, subst, ⊎_elim, inl, inr, arith}
+use Rattle.std.specs.Prelude.{◌≡◌, ℕ, Bool, true, false, ◌+◌, ◌<◌, ◌≤◌, List, [], Option, Some, None}
+use Rattle.std.proofs.Common.{ap, sym, ◌∙◌, subst, ⊎_elim, arith}
 use Rattle.std.proofs.lemmas.Option.{same_Some}
+use Rattle.std.proofs.lemmas.Bool.{cases_lt, cases_eq}
 use Rattle.netlist.specs.declared.netlist.Module.{Module}
 use Rattle.verilog_meaning.specs.Names.{top_of}
 use Rattle.verilog_meaning.specs.Cycles.{Valuation, Choice, IsSameIn, ShowsDone}
 use Rattle.verilog_meaning.specs.Threads.{alone, all_enabled, IsSame, IsStuck}
-use Rattle.sim_values.proofs.Settles.{same_or}
 use Rattle.sim_layout.specs.Rounds.{threads_of}
 use Rattle.sim_layout.specs.Running.{Running, Stands, state_of, IsSameNet, IsSameState, TellsDone}
 use Rattle.cycle_sim.proofs.Same.{same_refl, same_sym, same_trans, cycle_moved, shows_moved}
@@ -76,18 +76,12 @@ none_more r s net state from n none here k l m moves =
     ⊎_elim
     (λ (e : k ≡ n). here (moving_on r s net state n (subst (λ j. Moving (threads_of r.modules) j r) e moves)))
     (λ other. none k l (omega (arith, m, other)) moves)
-    (same_or k n)
+    (cases_eq k n)
 
 pub first_found : (r s : Running) → IsSameNet r s → IsSameState r s → (from end i : ℕ) → from ≤ i → i < end → NoneBefore r from i → Moving (threads_of s.modules) i s → IsFirstFound r from end (Some i)
 first_found r s net state from end i l m none moves = (l, m, moving_back r s net state i moves, none)
 
 -- ---- the first from a preferred one on
-
-below_or : (a b : ℕ) → (a < b) ⊎ (b ≤ a)
-below_or zero zero = inr (omega arith)
-below_or zero (suc b) = inl (omega arith)
-below_or (suc a) zero = inr (omega arith)
-below_or (suc a) (suc b) = ⊎_elim (λ l. inl (omega (arith, l))) (λ l. inr (omega (arith, l))) (below_or a b)
 
 pub preferred_first : (r : Running) (prefer end i : ℕ) → end ≡ threads_of r.modules → IsFirstFound r prefer end (Some i) → IsPreferred r prefer i
 preferred_first r prefer end i e f = record {
@@ -109,7 +103,7 @@ module _ (r s : Running) (net : IsSameNet r s) (state : IsSameState r s) (prefer
   }
 
   pub mover_wrapped : (o : Option ℕ) → prefer ≤ threads_of r.modules → IsFirstFound s 0 prefer o → IsMover r prefer o
-  mover_wrapped None within f = λ k l m. ⊎_elim (λ low. f k (omega arith) low (moving_on r s net state k m)) (λ high. none k high (omega (arith, l, e)) m) (below_or k prefer)
+  mover_wrapped None within f = λ k l m. ⊎_elim (λ low. f k (omega arith) low (moving_on r s net state k m)) (λ high. none k high (omega (arith, l, e)) m) (cases_lt k prefer)
   mover_wrapped (Some i) within f = preferred_wrapped i within f
 
 -- ---- the verdict

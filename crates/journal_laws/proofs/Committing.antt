@@ -1,11 +1,11 @@
 -- An entry is made: closed cycles that were done on a copy, and perhaps an open one.
 use Rattle.std.specs.Prelude.{◌≡◌, ◌≢◌, ℕ, suc, ◌+◌, ◌<◌, ◌≤◌, ◌⊎◌, true, false, List, [], Some, refl}
 use Rattle.std.proofs.Common.{ap, sym, ◌∙◌, subst, inl, inr, ⊎_elim, arith}
+use Rattle.std.proofs.lemmas.Bool.{cases_eq}
 use Rattle.netlist.specs.declared.netlist.Module.{Module}
 use Rattle.verilog_meaning.specs.Names.{top_of}
 use Rattle.verilog_meaning.specs.Cycles.{Valuation, Choice, IsState, Cycle, Runs, ShowsDone}
 use Rattle.verilog_meaning.specs.Threads.{slot, alone, all_enabled, IsSame, IsSameSlot, Needs, IsThreaded, Moves, times}
-use Rattle.sim_values.proofs.Settles.{same_or}
 use Rattle.sim_layout.specs.Rounds.{threads_of}
 use Rattle.sim_layout.specs.Running.{Running, Stands, state_of, settled_run, advanced}
 use Rattle.cycle_sim.proofs.Same.{same_refl, same_sym, cycle_moved, shows_moved, runs_to_same, runs_on}
@@ -84,11 +84,11 @@ module _ (r : Running) (st : Stands r) (top : Module) (e : top_of r.modules ≡ 
       (λ (one : b.0 ≡ 1). absurd (changes (slot_within ms top threads i p k (t.done_stays p k all out put_state (subst (λ n. ShowsDone ms top p all n) one b.1)
       (subst (λ j. Cycle ms top p (alone j) k out) first cycle)))))
       (λ other. subst (λ n. ShowsDone ms top p all n) (let s = shown_bit ms top p all b.0 b.1 in omega (arith, s, other)) b.1)
-      (same_or b.0 1))
+      (cases_eq b.0 1))
       (λ (other : i ≢ 0).
       let stays : IsSameSlot ms top threads 0 h p = first_stays r st top e threads i 0 t below other zero_in closed h p (is_state r st top e) closed_moves in
       subst (λ n. ShowsDone ms top p all n) (sym (t.done_alike h p all all 0 b.0 stays shows b.1)) b.1)
-      (same_or i 0)
+      (cases_eq i 0)
 
   -- ---- with an open cycle
 

@@ -3,11 +3,11 @@ use Rattle.std.specs.Prelude.{◌≡◌, ℕ, ◌^◌, ◌<◌, ◌⊎◌, true,
 use Rattle.std.proofs.Common.{sym, ◌∙◌, subst, inl, inr, ⊎_elim, arith}
 use Rattle.std.proofs.lemmas.Bool.Decides.{nat_tests}
 use Rattle.std.proofs.lemmas.Option.{same_Some}
+use Rattle.std.proofs.lemmas.Bool.{eqb-true, cases_eq}
 use Rattle.netlist.specs.declared.netlist.Module.{Module}
 use Rattle.verilog_meaning.specs.Names.{top_of}
 use Rattle.verilog_meaning.specs.Cycles.{Path, Valuation, Choice, IsState, IsSameIn, Cycle, ShowsDone}
 use Rattle.verilog_meaning.specs.Threads.{slot, alone, all_enabled, IsSame, IsSameSlot, Needs, IsThreaded, IsStuck}
-use Rattle.sim_values.proofs.Settles.{same_or}
 use Rattle.sim_layout.specs.Running.{Running, state_of, TellsDone}
 use Rattle.slot_sim.specs.Slots.{TellsNeed, Moving}
 use Rattle.slot_sim.proofs.Bits.{set_here, alone_is_choice}
@@ -16,21 +16,18 @@ use Rattle.journal_laws.specs.Journal.{CanMove}
 use Rattle.journal_laws.proofs.Moving.{slot_within}
 
 low : (n : ℕ) → n < 2 → (n ≡ 0) ⊎ (n ≡ 1)
-low n l = ⊎_elim (λ e. inl e) (λ other. inr (omega (arith, l, other))) (same_or n 0)
+low n l = ⊎_elim (λ e. inl e) (λ other. inr (omega (arith, l, other))) (cases_eq n 0)
 
 not_one : (n : ℕ) → false ≡ nat_eq n 1 → n < 2 → n ≡ 0
 not_one n e l = grind (arith, nat_tests)
-
-is_one : (n : ℕ) → true ≡ nat_eq n 1 → n ≡ 1
-is_one n e = grind (arith, nat_tests)
 
 -- numbers are the same or not
 pub slot_stable : (modules : List Module) (top : Module) (outer : Path) (h g : Valuation) → ((IsSameIn modules top outer h g → ⊥) → ⊥) → IsSameIn modules top outer h g
 slot_stable modules top outer h g never = record {
   registers = λ path m x s at i.
-      ⊎_elim (λ same. same) (λ other. absurd (never (λ is. other (is.registers path m x s at i)))) (same_or ((h (path ++ outer)).signal x) ((g (path ++ outer)).signal x));
+      ⊎_elim (λ same. same) (λ other. absurd (never (λ is. other (is.registers path m x s at i)))) (cases_eq ((h (path ++ outer)).signal x) ((g (path ++ outer)).signal x));
   words = λ path m j k s at l.
-      ⊎_elim (λ same. same) (λ other. absurd (never (λ is. other (is.words path m j k s at l)))) (same_or ((h (path ++ outer)).word j k) ((g (path ++ outer)).word j k));
+      ⊎_elim (λ same. same) (λ other. absurd (never (λ is. other (is.words path m j k s at l)))) (cases_eq ((h (path ++ outer)).word j k) ((g (path ++ outer)).word j k));
 }
 
 pub state_to : (modules : List Module) (top : Module) (threads : ℕ) (h g : Valuation) → IsState modules top h → IsSame modules top threads h g → IsState modules top g
@@ -102,13 +99,13 @@ module _ (r : Running) (top : Module) (e : top_of r.modules ≡ Some top) (threa
   pub is_shown : TellsDone All r true → ShowsDone r.modules top (state_of r) All 1
   is_shown d =
       let shows : ShowsDone r.modules top (state_of r) All d.number = subst (λ (x : Module). ShowsDone r.modules x (state_of r) All d.number) (same_Some d.top top (sym d.is_top ∙ e)) d.shows in
-      subst (λ n. ShowsDone r.modules top (state_of r) All n) (is_one d.number d.is) shows
+      subst (λ n. ShowsDone r.modules top (state_of r) All n) (eqb-true d.number 1 (sym d.is)) shows
 
   pub need_told : (i : ℕ) → TellsNeed threads i r true → Needs r.modules top threads (state_of r) (alone i) i 1
   need_told i n =
       let needs : Needs r.modules top threads (state_of r) (alone i) i n.number =
       subst (λ (x : Module). Needs r.modules x threads (state_of r) (alone i) i n.number) (same_Some n.top top (sym n.is_top ∙ e)) n.needs in
-      subst (λ k. Needs r.modules top threads (state_of r) (alone i) i k) (is_one n.number n.is) needs
+      subst (λ k. Needs r.modules top threads (state_of r) (alone i) i k) (eqb-true n.number 1 (sym n.is)) needs
 
   pub need_tells : (i : ℕ) → Needs r.modules top threads (state_of r) (alone i) i 1 → TellsNeed threads i r true
   need_tells i n = record { top = top; is_top = e; number = 1; needs = n; is = refl }

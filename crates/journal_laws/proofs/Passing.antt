@@ -1,8 +1,8 @@
 -- Closed cycles one after another.
-use Rattle.std.specs.Prelude.{◌≡◌, ℕ, zero, suc, ◌+◌, ◌<◌, false, true, nat_eq, List, [], Some, refl}
+use Rattle.std.specs.Prelude.{◌≡◌, ℕ, zero, suc, ◌+◌, ◌<◌, false, true, List, [], Some, refl}
 use Rattle.std.proofs.Common.{ap, sym, ◌∙◌, subst, inl, inr, ⊎_elim, arith}
 use Rattle.std.proofs.lemmas.Option.{same_Some}
-use Rattle.std.proofs.lemmas.Bool.Decides.{nat_tests}
+use Rattle.std.proofs.lemmas.Bool.{eqb-false}
 use Rattle.netlist.specs.declared.netlist.Module.{Module}
 use Rattle.verilog_meaning.specs.Names.{top_of}
 use Rattle.verilog_meaning.specs.Cycles.{Valuation, Cycle}
@@ -39,9 +39,6 @@ module _ (modules : List Module) (top : Module) (n i : ℕ) where
   advances zero h g p = slot_within modules top n i h g p
   advances (suc k) h g p = (p.0, p.1, p.2, p.3, advances k p.0 g p.4)
 
-not_one : (n : ℕ) → false ≡ nat_eq n 1 → n ≡ 1 → ⊥
-not_one n e f = grind (arith, nat_tests)
-
 -- need that is told not to be 1 is 0
 pub need_closed : (r : Running) (n i : ℕ) → IsThreadedIn r.modules n → i < n → (top : Module) → top_of r.modules ≡ Some top → (g : Valuation)
     (out : List ℕ) → Cycle r.modules top (state_of r) (alone i) g out
@@ -53,7 +50,7 @@ need_closed r n i threaded below top e g out cycle tells =
     let told : Needs r.modules top n h (alone i) i tells.number = subst (λ (y : Module). Needs r.modules y n h (alone i) i tells.number) (same_Some tells.top top (sym tells.is_top ∙ e)) tells.needs in
     let same : tells.number ≡ 1 =
     (threaded top e).needs h h (alone i) (alone i) i tells.number 1 below (slot_within r.modules top n i h h (same_refl r.modules top h)) told one in
-    not_one tells.number tells.is same))
+    eqb-false tells.number 1 (sym tells.is) same))
     (need_bit r.modules top n (threaded top e) i below h g out cycle)
 
 -- so many were done in a simulator

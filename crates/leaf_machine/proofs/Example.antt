@@ -1,6 +1,7 @@
 -- The example is a leaf of a thread.
 use Rattle.std.proofs.Common.{◌≡◌, ℕ, zero, suc, ◌<◌, Bool, true, false, nat_eq, nat_lt, List, [], ◌++◌, if◌then◌else◌, refl, sym, ap, arith, lit<}
 use Rattle.std.specs.Prelude.{◌&&◌, ◌||◌}
+use Rattle.std.proofs.Math.Arith.{lt-one}
 use Rattle.circuit.specs.Modules.{Has, Reads, IsSound, IsLeaf}
 use Rattle.circuit.proofs.Tables.{EachRow, table_leaf, no_inputs, one_input}
 use Rattle.leaf_machine.specs.Leaves.{Grant, IsThreadLeaf, IsHeard}
@@ -55,9 +56,6 @@ late x = nat_eq x 2 || nat_eq x 5
 abbrev live : ℕ → Bool
 live x = nat_eq x 1 || nat_eq x 2 || nat_eq x 5 || nat_eq x 6
 
-first_core : (k : ℕ) → k < 1 → k ≡ 0
-first_core k l = omega arith
-
 heard : (x : ℕ) → x < 3 → IsHeard example 3 ports 1 (λ k. 1) (λ k. 0) x (input_at x)
 heard zero l = refl
 heard (suc zero) l = refl
@@ -73,7 +71,7 @@ example_is_leaf = record {
   ported = record {
     all = heard;
     enable = record { input = lit< tt; is = refl };
-    grants = λ k l u. record { input = lit< tt; is = ap Grant (sym (first_core k l)) };
+    grants = λ k l u. record { input = lit< tt; is = ap Grant (sym (lt-one l)) };
     tells = λ k j l u d. absurd (omega arith);
   };
   clockless = record { signals = leaf (λ x. nat_eq x 0) (λ e. e) (λ e. e) (λ e. e) (λ e. e) (λ e. e) (λ e. e); acts = (((lit< tt, tt), (lit< tt, tt)), tt) };

@@ -1,6 +1,7 @@
 -- An operation as plans of blocks see it, and as a schedule does.
 use Rattle.std.proofs.Common.{◌≡◌, ℕ, zero, suc, ◌+◌, ◌<◌, Bool, true, false, ◌||◌, List, [], ◌∷◌, length, slice_get, get_or, Some, None, nat_lt, nat_eq}
 use Rattle.std.proofs.Common.{if◌then◌else◌, refl, sym, ap, subst, ◌∙◌, inl, inr, arith, ℤ}
+use Rattle.lists.proofs.Places.{get_there}
 use Rattle.hls_ints.specs.Types.{IntegerType}
 use Rattle.c_program.specs.declared.tree.BinaryOperator.{BinaryOperator}
 use Rattle.c_program.specs.declared.tree.BinaryOperator.TheVariants.{Multiply as Times, Divide as Over, Remainder}
@@ -23,11 +24,6 @@ use Rattle.register_binding.specs.Registers.{is_operand, uses_value}
 use Rattle.register_binding.specs.Used.{is_value, any_final, next_uses}
 
 -- ---- the lists
-
-pub item : (os : List CodeOperation) (k : ℕ) → k < length os → (o : CodeOperation) × (slice_get os k ≡ Some o)
-item [] k l = absurd (omega arith)
-item (o ∷ os) zero l = (o, refl)
-item (o ∷ os) (suc k) l = item os k (omega arith)
 
 pub view_at : (os : List CodeOperation) (k : ℕ) (o : CodeOperation) → slice_get os k ≡ Some o → get_or (operations_view os) k no_operation ≡ operation_view o
 view_at [] k o e = absurd cc
@@ -53,10 +49,6 @@ length-from (x ∷ os) m = ap suc (length-from os (suc m))
 
 pub length-nodes : (os : List CodeOperation) → length (nodes_of os) ≡ length os
 length-nodes os = length-from os 0
-
-pub length-view : (os : List CodeOperation) → length (operations_view os) ≡ length os
-length-view [] = refl
-length-view (x ∷ os) = ap suc (length-view os)
 
 needs_from : (os : List CodeOperation) (m k : ℕ) (o : CodeOperation) → EachNeedsEarlier m os → slice_get os k ≡ Some o → OperationNeedsBelow (m + k) o
 needs_from [] m k o needs e = absurd cc
@@ -228,6 +220,6 @@ uses_below (WriteArray x n a b) k i (inr e) = value_is_below b.source k i e
 pub use_earlier : (os : List CodeOperation) → UseEarlier (nodes_of os)
 use_earlier os j i l u =
     let n = length-nodes os in
-    let w = item os j (omega arith) in
+    let w = get_there os j (omega arith) in
     let f = node_at os j w.0 w.1 in
     uses_below w.0 j i (rw f at u)

@@ -5,6 +5,9 @@ use Rattle.std.specs.Prelude.{slice_index, max}
 use Rattle.std.proofs.lemmas.Bool.{cases_lt}
 use Rattle.std.proofs.lemmas.Int.{ints}
 use Rattle.std.proofs.lemmas.List.{get_or-take}
+use Rattle.std.proofs.Math.Logic.{⊎_swap}
+use Rattle.lists.proofs.Places.{get_there}
+use Rattle.planned_view.proofs.Running.{size-view}
 use Rattle.schedule_sdc.specs.Solution.{Meets}
 use Rattle.block_ir.specs.declared.block.Block.{Block as CodeBlock}
 use Rattle.block_ir.specs.declared.block.Operation.{Operation as CodeOperation}
@@ -29,7 +32,7 @@ use Rattle.unit_binding.proofs.SameKinds.{same_back}
 use Rattle.register_binding.specs.Used.{any_final, is_used_at_end}
 use Rattle.register_binding.specs.Registers.{uses_value, needed_to, life_end, Lives, LiveTogether, register_at, number}
 use Rattle.least_plan.specs.Planned.{IsPlannedBlock, PlanKeepsOrders}
-use Rattle.least_plan.proofs.Bridge.{item, view_at, node_at, needs_at, length-nodes, length-view, simple_is, latency_is, global_is, array_is, uses_is, uses_test}
+use Rattle.least_plan.proofs.Bridge.{view_at, node_at, needs_at, length-nodes, simple_is, latency_is, global_is, array_is, uses_is, uses_test}
 use Rattle.least_plan.proofs.Bridge.{finals_test, next_test}
 
 pub view_register_is : (rs : List (Option ℕ)) (k : ℕ) → view_register rs k ≡ get_or rs k None
@@ -104,7 +107,7 @@ module _ (b : CodeBlock) (q : BlockPlan) (is : IsPlannedBlock b q) (order : IsIn
   nodes_length = length-nodes b.operations
 
   size_is : size v ≡ n
-  size_is = length-view b.operations
+  size_is = size-view b.operations
 
   ordered : IsOrdered v
   ordered = view_ordered b order
@@ -125,7 +128,7 @@ module _ (b : CodeBlock) (q : BlockPlan) (is : IsPlannedBlock b q) (order : IsIn
 
   both : (k : ℕ) → k < n → Both k
   both k l =
-      let w = item b.operations k l in
+      let w = get_there b.operations k l in
       let e = view_at b.operations k w.0 w.1 in
       let f = node_at b.operations k w.0 w.1 in
       record {
@@ -329,17 +332,13 @@ module _ (b : CodeBlock) (q : BlockPlan) (is : IsPlannedBlock b q) (order : IsIn
   apart : (j k r : ℕ) → j < n → k < n → j ≢ k → p.register j ≡ Some r → p.register k ≡ Some r → (p.until j ≤ last_state v p k) ⊎ (p.until k ≤ last_state v p j)
   apart j k r lj lk ne e f = by_order (cases_lt (done nodes is.starts j) (done nodes is.starts k)) (cases_lt (done nodes is.starts k) (done nodes is.starts j)) (cases_lt j k)
     where
-      turned : (p.until k ≤ last_state v p j) ⊎ (p.until j ≤ last_state v p k) → (p.until j ≤ last_state v p k) ⊎ (p.until k ≤ last_state v p j)
-      turned (inl x) = inr x
-      turned (inr x) = inl x
-
       by_order : (done nodes is.starts j < done nodes is.starts k) ⊎ (done nodes is.starts k ≤ done nodes is.starts j) →
           (done nodes is.starts k < done nodes is.starts j) ⊎ (done nodes is.starts j ≤ done nodes is.starts k) →
           (j < k) ⊎ (k ≤ j) → (p.until j ≤ last_state v p k) ⊎ (p.until k ≤ last_state v p j)
       by_order (inl x) y z = apart_if j k r lj lk (inl x) e f
-      by_order (inr x) (inl y) z = turned (apart_if k j r lk lj (inl y) f e)
+      by_order (inr x) (inl y) z = ⊎_swap (apart_if k j r lk lj (inl y) f e)
       by_order (inr x) (inr y) (inl z) = apart_if j k r lj lk (inr (omega arith, z)) e f
-      by_order (inr x) (inr y) (inr z) = turned (apart_if k j r lk lj (inr (omega arith, omega arith)) f e)
+      by_order (inr x) (inr y) (inr z) = ⊎_swap (apart_if k j r lk lj (inr (omega arith, omega arith)) f e)
 
   packed : IsPacked v p
   packed = record {

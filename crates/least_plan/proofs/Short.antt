@@ -1,6 +1,8 @@
 -- The plan is no longer than the operations one after another.
 use Rattle.std.proofs.Common.{◌≡◌, ℕ, zero, suc, ◌+◌, ◌<◌, ◌≤◌, length, refl, ap, sym, ◌∙◌, arith}
 use Rattle.std.specs.Prelude.{slice_index, max}
+use Rattle.lists.proofs.Places.{get_there}
+use Rattle.planned_view.proofs.Running.{size-view}
 use Rattle.block_ir.specs.declared.block.Block.{Block}
 use Rattle.planned_block.specs.Block.{Operation, operation_at, size}
 use Rattle.planned_block.specs.Table.{latency, greater, latencies_before, sequential}
@@ -9,11 +11,11 @@ use Rattle.op_graph.specs.declared.node.Node.{Node}
 use Rattle.op_graph.specs.Graph.{nodes_of, latency_of, latency_at, time_before, UseEarlier}
 use Rattle.op_graph.proofs.OneByOne.{one_by_one}
 use Rattle.least_plan.specs.Planned.{PlanIsShort}
-use Rattle.least_plan.proofs.Bridge.{item, view_at, node_at, latency_is, length-nodes, length-view, use_earlier}
+use Rattle.least_plan.proofs.Bridge.{view_at, node_at, latency_is, length-nodes, use_earlier}
 
 latency_alike : (b : Block) (k : ℕ) → k < length b.operations → latency (operation_at (planned_view b) k).kind ≡ latency_at (nodes_of b.operations) k
 latency_alike b k l =
-    let w = item b.operations k l in
+    let w = get_there b.operations k l in
     let e = view_at b.operations k w.0 w.1 in
     let f = node_at b.operations k w.0 w.1 in
     ap (λ (z : Operation). latency z.kind) e ∙ (latency_is w.0 k ∙ sym (ap (λ (z : Node). latency_of z.kind) f))
@@ -40,7 +42,7 @@ plan_is_short b p is =
     let within : n < length nodes + 1 = omega arith in
     let end : slice_index is.starts n ≤ time_before nodes n = is.least.least (time_before nodes) (one_by_one nodes earlier) n within in
     let same : latencies_before (planned_view b) (size (planned_view b)) ≡ time_before nodes n =
-    ap (latencies_before (planned_view b)) (length-view b.operations) ∙ before_alike b n (omega arith) in
+    ap (latencies_before (planned_view b)) (size-view b.operations) ∙ before_alike b n (omega arith) in
     let most : (sequential (planned_view b)).states ≡ max 1 (time_before nodes n) = greater_max 1 (latencies_before (planned_view b) (size (planned_view b)))
     ∙ ap (λ (z : ℕ). max 1 z) same in
     let low = max-le 1 (slice_index is.starts n) (time_before nodes n) end in

@@ -1,9 +1,11 @@
 -- The plans of stages, one after another.
-use Rattle.std.proofs.Common.{◌≡◌, ℕ, zero, suc, ◌+◌, ◌<◌, ◌≤◌, List, [], ◌∷◌, ◌++◌, length, slice_get, get_or, take, Some, refl, ap, subst, sym, ◌∙◌, ◌⊎◌, inl, inr}
+use Rattle.std.proofs.Common.{◌≡◌, ℕ, zero, suc, ◌+◌, ◌<◌, ◌≤◌, List, [], ◌∷◌, ◌++◌, length, slice_get, take, Some, refl, ap, subst, ◌∙◌, ◌⊎◌, inl, inr}
 use Rattle.std.proofs.Common.{arith, add-one}
 use Rattle.std.specs.Prelude.{max}
 use Rattle.std.specs.List.{AllByRecursion}
 use Rattle.std.proofs.lemmas.Bool.{cases_lt}
+use Rattle.std.proofs.lemmas.List.{take_all}
+use Rattle.lists.proofs.Places.{take_next}
 use Rattle.block_ir.specs.declared.code.Stage.{Stage}
 use Rattle.block_ir.specs.declared.code.Stage.TheVariants as stage
 use Rattle.block_ir.specs.declared.code.ThreadCode.{ThreadCode}
@@ -62,16 +64,6 @@ alone_reaches count (stage.Act a next) (planned.Run p) few h = absurd h
 abbrev pub IsReached : ℕ → List Stage → List StagePlan → Type 0
 IsReached n ss ps = (n ≡ 0) ⊎ SomeReaches n ss ps
 
-take_next : (ss : List Stage) (i : ℕ) (s : Stage) → slice_get ss i ≡ Some s → take (suc i) ss ≡ take i ss ++ s ∷ []
-take_next [] i s e = absurd cc
-take_next (x ∷ ss) zero s e = let same : x ≡ s = cc in ap (λ (z : Stage). z ∷ []) same
-take_next (x ∷ ss) (suc i) s e = ap (λ (l : List Stage). x ∷ l) (take_next ss i s e)
-
-pub item_is : (ss : List Stage) (i : ℕ) (s : Stage) → i < length ss → s ≡ get_or ss i s → slice_get ss i ≡ Some s
-item_is [] i s l e = absurd (omega arith)
-item_is (x ∷ ss) zero s l e = ap Some (sym e)
-item_is (x ∷ ss) (suc i) s l e = item_is ss i s (omega arith) e
-
 module _ (ss : List Stage) (ps : List StagePlan) (n : ℕ) (s : Stage) (p : StagePlan) (count : ℕ) (each : EachPlanned n ss ps) (reached : IsReached n ss ps)
     (few : IsNumbered s) (alone : IsPlannedAlone s p count) where
   next_each : EachPlanned (max n count) (ss ++ s ∷ []) (ps ++ p ∷ [])
@@ -112,15 +104,9 @@ next_stage ss i n m count s p ps qs e all sofar alone f g =
       reached = next_reached (take i ss) ps n s p count sofar.each sofar.reached (numbered_at ss i s all e) alone (cases_lt n count);
     })
 
-take_past : (ss : List Stage) (i : ℕ) → length ss ≤ i → take i ss ≡ ss
-take_past [] zero l = refl
-take_past [] (suc i) l = refl
-take_past (x ∷ ss) zero l = absurd (omega arith)
-take_past (x ∷ ss) (suc i) l = ap (λ (r : List Stage). x ∷ r) (take_past ss i (omega arith))
-
 pub planned_code : (code : ThreadCode) (p : Planned) (ss : List Stage) (i : ℕ) → SoFar p.registers (take i ss) p.stages → length ss ≤ i → ss ≡ code.stages → IsPlanned code p
 planned_code code p ss i sofar l e =
-    let t : take i ss ≡ code.stages = take_past ss i l ∙ e in
+    let t : take i ss ≡ code.stages = take_all i ss l ∙ e in
     record {
       each = subst (λ (z : List Stage). EachPlanned p.registers z p.stages) t sofar.each;
       reached = subst (λ (z : List Stage). IsReached p.registers z p.stages) t sofar.reached;

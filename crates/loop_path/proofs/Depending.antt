@@ -1,7 +1,8 @@
 -- In a net that is laid out in words a signal depends on another exactly where its word leads to the other's.
-use Rattle.std.specs.Prelude.{◌≡◌, ℕ, zero, suc, ◌+◌, ◌<◌, ◌≤◌, Bool, List, [], ◌∷◌, map, length, Option, Some, None, slice_get, refl}
+use Rattle.std.specs.Prelude.{◌≡◌, ℕ, ◌+◌, ◌<◌, ◌≤◌, Bool, List, [], ◌∷◌, map, length, Option, Some, None, slice_get, refl}
 use Rattle.std.proofs.Common.{ap, sym, ◌∙◌, subst, inl, inr, ⊎_elim, arith}
 use Rattle.std.proofs.lemmas.Option.{slice_get_within}
+use Rattle.lists.proofs.Places.{get_there}
 use Rattle.netlist.specs.declared.netlist.Source.{Source}
 use Rattle.netlist.specs.declared.netlist.Source.TheVariants.{Input, Register, Assigned, Port}
 use Rattle.netlist.specs.declared.netlist.Value.{Value}
@@ -45,11 +46,6 @@ wide_signal (Some s) l = (s, refl)
 pub some_module : (x : ℕ) (o : Option Module) → x < length (signals_of o) → (m : Module) × (o ≡ Some m)
 some_module x None l = absurd (omega arith)
 some_module x (Some m) l = (m, refl)
-
-listed_at : (ss : List Signal) (x : ℕ) → x < length ss → (s : Signal) × (slice_get ss x ≡ Some s)
-listed_at [] x l = absurd (omega arith)
-listed_at (s ∷ ss) zero l = (s, refl)
-listed_at (s ∷ ss) (suc x) l = listed_at ss x (omega arith)
 
 module _ {modules : List Module} {t : Module} {parts : List Part} {numbers : List ℕ} {free : List Bool} {words starts : List ℕ} {wires : List Step} {prefs : ℕ}
     (l : IsLaidOut modules t parts numbers free words starts wires prefs) where
@@ -207,7 +203,7 @@ module _ {modules : List Module} {t : Module} {parts : List Part} {numbers : Lis
       let part : p ≡ f.part = cc in
       let spot : p.spot ≡ spot_at parts path = ap (λ (z : Part). z.spot) part ∙ sym (spot_is l path m f) in
       let kind : slice_get modules p.module ≡ Some m = ap (λ (z : Part). slice_get modules z.module) part ∙ f.is.kind in
-      let s = listed_at m.signals x (subst (λ o. x < length (signals_of o)) kind loops.inside) in
+      let s = get_there m.signals x (subst (λ o. x < length (signals_of o)) kind loops.inside) in
       let here : IsSignalAt (path, x) = record { kind = m; signal = s.0; is = record { stands = stands; listed = s.1 } } in
       let leads : Leads modules wires (word_at (path, x)) (word_at (path, x)) = subst (λ u. Leads modules wires (u.base + x) (u.base + x)) spot loops.leads in
       record {

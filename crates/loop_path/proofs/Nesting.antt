@@ -2,6 +2,7 @@
 use Rattle.std.specs.Prelude.{◌≡◌, ℕ, ◌+◌, ◌<◌, ◌≤◌, List, [], ◌∷◌, ◌++◌, length, slice_index, Option, Some, option_and_then, slice_get, refl}
 use Rattle.std.proofs.Common.{ap, sym, ◌∙◌, subst, ⊎_elim, arith, append_assoc}
 use Rattle.std.proofs.lemmas.Option.{slice_get_within}
+use Rattle.std.proofs.lemmas.List.{append-nil}
 use Rattle.netlist.specs.declared.netlist.Instance.{Instance}
 use Rattle.netlist.specs.declared.netlist.Module.{Module}
 use Rattle.verilog_meaning.specs.Cycles.{Path, module_at}
@@ -74,17 +75,13 @@ AreLeft children place done inner = (path : Path) → place_in children path ≡
 pub left_all : (children : List ℕ) (place : ℕ) → AreLeft children place [] place
 left_all children place path e nested = record { rest = path; is = refl; place = e; nested = nested }
 
-append_none : {X : Type 0} (xs : List X) → xs ++ [] ≡ xs
-append_none [] = refl
-append_none (x ∷ xs) = ap (λ ys. x ∷ ys) (append_none xs)
-
 -- at the outermost instance all is found
 pub left_none : (children : List ℕ) (place : ℕ) (done : Path) (inner : ℕ) → AreLeft children place done inner → IsOutermost children (length children) inner
     → (path : Path) → place_in children path ≡ place → IsNested children path → path ≡ done
 left_none children place done inner left outermost path e nested = (let l = left path e nested in ends l.rest l.is l.place l.nested)
   where
     ends : (rest : Path) → path ≡ done ++ rest → place_in children rest ≡ inner → IsNested children rest → path ≡ done
-    ends [] is at n = is ∙ append_none done
+    ends [] is at n = is ∙ append-nil done
     ends (i ∷ outer) is at n = (let f = n.0.first in let o = outermost (place_in children outer) n.0.within in absurd (omega (arith, f, o, at)))
 
 -- the instance round it is found

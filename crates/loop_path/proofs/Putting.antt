@@ -1,6 +1,7 @@
 -- The text of a path, an instance at a time.
-use Rattle.std.specs.Prelude.{◌≡◌, ℕ, zero, suc, ◌+◌, ◌-◌, ◌<◌, ◌≤◌, List, [], ◌∷◌, ◌++◌, length, drop, Option, Some, None, option_and_then, slice_get, slice_index, refl}
-use Rattle.std.proofs.Common.{ap, sym, ◌∙◌, subst, arith, append_assoc}
+use Rattle.std.specs.Prelude.{◌≡◌, ℕ, suc, ◌+◌, ◌-◌, ◌<◌, ◌≤◌, List, [], ◌∷◌, ◌++◌, length, drop, Option, Some, None, option_and_then, slice_get, slice_index, refl}
+use Rattle.std.proofs.Common.{ap, sym, ◌∙◌, subst, arith, append_assoc, drop-cons}
+use Rattle.std.proofs.lemmas.List.{append-nil}
 use Rattle.netlist.specs.declared.netlist.Instance.{Instance}
 use Rattle.netlist.specs.declared.netlist.Module.{Module}
 use Rattle.verilog_meaning.specs.Cycles.{Path, module_at}
@@ -37,19 +38,9 @@ put_more modules t outer i start text more kind inner is e f = record {
       (slice_get m.instances i)) o) is.stands;
 }
 
-append_none : {X : Type 0} (xs : List X) → xs ≡ xs ++ []
-append_none [] = refl
-append_none (x ∷ xs) = ap (λ ys. x ∷ ys) (append_none xs)
-
 drop_all : {X : Type 0} (xs : List X) → drop (length xs) xs ≡ []
 drop_all [] = refl
 drop_all (x ∷ xs) = drop_all xs
-
--- the last so many of a path, and one more
-last_more : (path : Path) (k : ℕ) → k < length path → drop k path ≡ slice_index path k ∷ drop (suc k) path
-last_more [] k less = absurd (omega arith)
-last_more (i ∷ path) zero less = refl
-last_more (i ∷ path) (suc k) less = last_more path k (omega arith)
 
 module _ (modules : List Module) (t : Module) (path : Path) (start : List ℕ) where
   abbrev pub last : ℕ → Path
@@ -58,7 +49,7 @@ module _ (modules : List Module) (t : Module) (path : Path) (start : List ℕ) w
   pub put_none : (text : List ℕ) (kind : Option Module) → text ≡ start → kind ≡ Some t → IsPut modules t (last 0) start text kind
   put_none text kind e f =
       subst (λ (p : Path). IsPut modules t p start text kind) (sym (ap (λ k. drop k path) (let z : length path - 0 ≡ length path = omega arith in z) ∙ drop_all path))
-      (record { written = e ∙ append_none start; stands = f })
+      (record { written = e ∙ sym (append-nil start); stands = f })
 
   pub put_next : (done place : ℕ) (text more : List ℕ) (kind inner : Option Module) → IsPut modules t (last done) start text kind → done < length path
       → place ≡ length path - 1 - done
@@ -68,7 +59,7 @@ module _ (modules : List Module) (t : Module) (path : Path) (start : List ℕ) w
       let here : length path - (done + 1) ≡ place = omega arith in
       let next : length path - done ≡ suc place = omega arith in
       let rest = subst (λ (k : ℕ). IsPut modules t (drop k path) start text kind) next is in
-      subst (λ (p : Path). IsPut modules t p start more inner) (sym (ap (λ k. drop k path) here ∙ last_more path place (omega arith)))
+      subst (λ (p : Path). IsPut modules t p start more inner) (sym (ap (λ k. drop k path) here ∙ drop-cons path place 0 (omega arith)))
       (put_more modules t (drop (suc place) path) (slice_index path place) start text more kind inner rest f g)
 
   pub put_all : (done : ℕ) → length path ≤ done → (text : List ℕ) (kind : Option Module) → IsPut modules t (last done) start text kind → IsPut modules t path start text kind

@@ -4,23 +4,22 @@ use Rattle.std.specs.Prelude.{◌&&◌, ◌||◌, not, nat_lt, if◌then◌else�
 use Rattle.std.specs.Str.{bytes_eq}
 use Rattle.std.proofs.lemmas.Bool.{ltb-true, leb-false}
 use mathlib.Core.Bool.{and-false}
+use Rattle.std.proofs.Math.Bool.{or-false, and_assoc}
+use Rattle.std.proofs.lemmas.Slice.Eq.{bytes_eq-Decides}
 use Rattle.verilog_tree.specs.declared.tree.Port.{Port}
 use Rattle.verilog_tree.specs.declared.tree.Connection.{Connection}
 use Rattle.verilog_tree.specs.Scope.{Name, Names, Scope, is_known}
 use Rattle.verilog_tree.specs.Rules as rule
 use Rattle.verilog_tree.specs.Facts as fact
 use Rattle.verilog_tree.specs.WellFormed.{are_new}
-use Rattle.net_rules.proofs.Same.{same_bytes, turned}
+use Rattle.net_rules.proofs.Same.{turned}
 
 -- none of the names is known
 abbrev none_in : Names → Names → Bool
 none_in known xs = rule.all_right (λ x. not (is_known known x)) xs
 
 known_pushed : (known : Names) (x y : Name) → is_known (known ++ x ∷ []) y ≡ (is_known known y || bytes_eq y x)
-known_pushed [] x y = or_false (bytes_eq y x) where
-  or_false : (b : Bool) → (b || false) ≡ b
-  or_false true = refl
-  or_false false = refl
+known_pushed [] x y = or-false (bytes_eq y x)
 known_pushed (k ∷ known) x y = ap (λ b. bytes_eq y k || b) (known_pushed known x y) ∙ or_assoc (bytes_eq y k) (is_known known y) (bytes_eq y x) where
   or_assoc : (a b c : Bool) → (a || (b || c)) ≡ ((a || b) || c)
   or_assoc true b c = refl
@@ -38,10 +37,6 @@ none_pushed known x (y ∷ ys) =
     (λ i. not (known_pushed known x y i) && none_pushed known x ys i)
     ∙ ap (λ b. not (is_known known y || b) && (none_in known ys && not (is_known ys x))) (turned x y (bytes_eq x y) refl)
     ∙ split (is_known known y) (bytes_eq x y) (none_in known ys) (is_known ys x)
-
-and_assoc : (a b c : Bool) → ((a && b) && c) ≡ (a && (b && c))
-and_assoc true b c = refl
-and_assoc false b c = refl
 
 new_one : (known : Names) (x : Name) (xs : Names) (b : Bool) → is_known known x ≡ b
     → ((l : Names) → are_new l xs ≡ (none_in l xs && rule.are_distinct xs))
@@ -63,21 +58,15 @@ pub distinct : (xs : Names) → are_new [] xs ≡ rule.are_distinct xs
 distinct xs = new_distinct xs [] ∙ ap (λ b. b && rule.are_distinct xs) (none_in_none xs)
 
 known_once : (known : Names) (x y : Name) (b : Bool) → is_known known x ≡ true → bytes_eq y x ≡ b → is_known known y ≡ (is_known known y || b)
-known_once known x y true h e = let there : is_known known y ≡ true = ap (is_known known) (same_bytes y x e) ∙ h in there ∙ sym (ap (λ b. b || true) there)
-known_once known x y false h e = or_false (is_known known y) where
-  or_false : (b : Bool) → b ≡ (b || false)
-  or_false true = refl
-  or_false false = refl
+known_once known x y true h e = let there : is_known known y ≡ true = ap (is_known known) ((bytes_eq-Decides y x).0 e) ∙ h in there ∙ sym (ap (λ b. b || true) there)
+known_once known x y false h e = sym (or-false (is_known known y))
 
 known_with_at : (known : Names) (x y : Name) (b : Bool) → is_known known x ≡ b → is_known (if b then known else known ++ x ∷ []) y ≡ (is_known known y || bytes_eq y x)
 known_with_at known x y true h = known_once known x y (bytes_eq y x) h refl
 known_with_at known x y false h = known_pushed known x y
 
 known_after : (xs : Names) (known : Names) (y : Name) → is_known (fact.after fact.with_name known xs) y ≡ (is_known known y || is_known xs y)
-known_after [] known y = or_false (is_known known y) where
-  or_false : (b : Bool) → b ≡ (b || false)
-  or_false true = refl
-  or_false false = refl
+known_after [] known y = sym (or-false (is_known known y))
 known_after (x ∷ xs) known y =
     known_after xs (fact.with_name known x) y ∙ ap (λ b. b || is_known xs y) (known_with_at known x y (is_known known x) refl)
     ∙ or_assoc (is_known known y) (bytes_eq y x) (is_known xs y) where

@@ -1,13 +1,13 @@
 -- What is known of a net, in the parts that the check keeps apart.
 use Rattle.std.proofs.Common.{◌≡◌, ℕ, ◌+◌, List, [], ◌∷◌, Option, Some, None, Bool, true, false, refl, ap, ◌∙◌}
 use Rattle.std.specs.Prelude.{if◌then◌else◌, not, is_some}
-use Rattle.std.proofs.lemmas.Bool.{not-true}
+use Rattle.std.proofs.lemmas.Bool.{not-true, and_parts}
+use Rattle.lists.proofs.Places.{none_of}
 use Rattle.verilog_tree.specs.declared.tree.Port.{Port}
 use Rattle.verilog_tree.specs.declared.tree.Item.{Item}
 use Rattle.verilog_tree.specs.declared.tree.Module.{Module}
 use Rattle.verilog_tree.specs.Scope.{Names}
 use Rattle.verilog_tree.specs.Facts as fact
-use Rattle.verilog_tree.proofs.Tests.{and_left, and_right}
 use Rattle.net_check.specs.declared.fault.ModulePart.TheVariants as part
 use Rattle.net_check.specs.declared.facts.ModuleFacts.{ModuleFacts}
 use Rattle.net_check.specs.declared.printing.Printing.{Printing}
@@ -70,16 +70,12 @@ head_true : (b : Bool) (o r : Option ℕ) → search_for.in_order b o r ≡ None
 head_true true o r h = refl
 head_true false o r h = cc
 
-none_named : (o : Option fact.Interface) → is_some o ≡ false → o ≡ None
-none_named None h = refl
-none_named (Some x) h = cc
-
 -- where no part breaks a rule, the name is new
 pub name_new : (placed : Names) (earlier : List fact.Interface) (p : Printing) (m : Module) → known.first_part placed earlier p m ≡ None
     → fact.interface_named earlier m.name ≡ None
 name_new placed earlier p m h =
     let stands = head_true (known.head_stands placed earlier m) _ _ h in
-    none_named _ (not-true _ (and_left (not (is_some (fact.interface_named earlier m.name))) _ (and_right (not (is_empty m.ports)) _ stands)))
+    none_of _ (not-true _ (and_parts (not (is_some (fact.interface_named earlier m.name))) _ (and_parts (not (is_empty m.ports)) _ stands).1).0)
 
 pub head_fails : (b : Bool) (o r : Option ℕ) → b ≡ false → search_for.in_order b o r ≡ Some part.Head
 head_fails true o r h = cc

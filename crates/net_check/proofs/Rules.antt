@@ -2,7 +2,7 @@
 use Rattle.std.proofs.Common.{◌≡◌, Bool, true, false, refl, ◌⊎◌, inl, inr, ⊎_elim, List, [], ◌∷◌}
 use Rattle.std.specs.Prelude.{not, ◌&&◌, ◌||◌, nat_lt, is_some}
 use Rattle.std.specs.List.{list_any}
-use Rattle.std.proofs.lemmas.Bool.{and_cases, not-false, not-true}
+use Rattle.std.proofs.lemmas.Bool.{and_cases, not-false, not-true, and_parts}
 use Rattle.verilog_tree.specs.declared.tree.Expression.{Expression}
 use Rattle.verilog_tree.specs.declared.tree.Expression.TheVariants as expr
 use Rattle.verilog_tree.specs.declared.tree.Port.{Port}
@@ -15,7 +15,6 @@ use Rattle.verilog_tree.specs.Rules.{all_right, has_port}
 use Rattle.verilog_tree.specs.Reads.{IsFilled, IsFullExpression, IsFullItem}
 use Rattle.verilog_tree.specs.Facts.{Facts, interface_named, is_top, drives, written_by, body_of, item_prints}
 use Rattle.verilog_tree.specs.WellFormed.{IsItem, IsPort, is_new_declaration, are_new, none_known, is_complete, is_input, is_clocked}
-use Rattle.verilog_tree.proofs.Tests.{and_left, and_right}
 use Rattle.net_check.specs.Breaks.{is_empty, lacks_parts, lacks, BreaksItem, BreaksPort, BreaksHead}
 use Rattle.net_check.specs.Breaks.{BreaksItem as item, BreaksPort as port, BreaksHead as head}
 use Rattle.net_check.specs.Search as search_for
@@ -89,25 +88,25 @@ pub record MeetsItem (all before : Facts) (x : Item) : Type 0 where
 module _ (all before : Facts) (x : Item) where
   pub item_meets : search_for.item_stands all before x ≡ true → MeetsItem all before x
   item_meets h =
-      let new = and_left (search_for.is_new all before x) _ h in
-      let rest = and_right (search_for.is_new all before x) _ h in
-      let once = and_left (search_for.prints_once before x) _ rest in
-      let others = and_right (search_for.prints_once before x) _ rest in
-      let after_declared = and_right (is_new_declaration before.scope (declaration x)) _ new in
-      let after_driven = and_right (are_new before.driven (drives all.modules x)) _ after_declared in
-      let after_lacks = and_right (not (lacks x)) _ others in
+      let new = (and_parts (search_for.is_new all before x) _ h).0 in
+      let rest = (and_parts (search_for.is_new all before x) _ h).1 in
+      let once = (and_parts (search_for.prints_once before x) _ rest).0 in
+      let others = (and_parts (search_for.prints_once before x) _ rest).1 in
+      let after_declared = (and_parts (is_new_declaration before.scope (declaration x)) _ new).1 in
+      let after_driven = (and_parts (are_new before.driven (drives all.modules x)) _ after_declared).1 in
+      let after_lacks = (and_parts (not (lacks x)) _ others).1 in
       record {
         is = record {
-          new = and_left (is_new_declaration before.scope (declaration x)) _ new;
-          right = and_right (is_complete all x) _ after_lacks;
-          driver = and_left (are_new before.driven (drives all.modules x)) _ after_declared;
-          writer = and_left (all_right (λ s. none_known before.written (written_by s)) (body_of x)) _ after_driven;
-          initial = and_right (all_right (λ s. none_known before.written (written_by s)) (body_of x)) _ after_driven;
-          complete = and_left (is_complete all x) _ after_lacks;
-          printing = not-true _ (and_left (not (item_prints x && before.printed)) _ once);
-          printer = and_right (not (item_prints x && before.printed)) _ once;
+          new = (and_parts (is_new_declaration before.scope (declaration x)) _ new).0;
+          right = (and_parts (is_complete all x) _ after_lacks).1;
+          driver = (and_parts (are_new before.driven (drives all.modules x)) _ after_declared).0;
+          writer = (and_parts (all_right (λ s. none_known before.written (written_by s)) (body_of x)) _ after_driven).0;
+          initial = (and_parts (all_right (λ s. none_known before.written (written_by s)) (body_of x)) _ after_driven).1;
+          complete = (and_parts (is_complete all x) _ after_lacks).0;
+          printing = not-true _ (and_parts (not (item_prints x && before.printed)) _ once).0;
+          printer = (and_parts (not (item_prints x && before.printed)) _ once).1;
         };
-        full = not-true _ (and_left (not (lacks x)) _ others);
+        full = not-true _ (and_parts (not (lacks x)) _ others).0;
       }
 
   new_breaks : search_for.is_new all before x ≡ false → BreaksItem all before x
@@ -138,13 +137,13 @@ module _ (all before : Facts) (x : Item) where
 module _ (all before : Facts) (p : Port) where
   pub port_meets : search_for.port_stands all before p ≡ true → IsPort all before p
   port_meets h =
-      let rest = and_right (not (is_declared before.scope p.name)) _ h in
-      let others = and_right (nat_lt 0 (width_of p.high)) _ rest in
+      let rest = (and_parts (not (is_declared before.scope p.name)) _ h).1 in
+      let others = (and_parts (nat_lt 0 (width_of p.high)) _ rest).1 in
       record {
-        new = not-true _ (and_left (not (is_declared before.scope p.name)) _ h);
-        width = and_left (nat_lt 0 (width_of p.high)) _ rest;
-        driven = and_left (is_input p.direction || is_known all.driven p.name) _ others;
-        clock = and_right (is_input p.direction || is_known all.driven p.name) _ others;
+        new = not-true _ (and_parts (not (is_declared before.scope p.name)) _ h).0;
+        width = (and_parts (nat_lt 0 (width_of p.high)) _ rest).0;
+        driven = (and_parts (is_input p.direction || is_known all.driven p.name) _ others).0;
+        clock = (and_parts (is_input p.direction || is_known all.driven p.name) _ others).1;
       }
 
   pub port_breaks : search_for.port_stands all before p ≡ false → BreaksPort all before p
@@ -169,15 +168,15 @@ pub record MeetsHead (all_placed : Names) (before : Facts) (m : Module) : Type 0
 module _ (whole before : Facts) (m : Module) where
   pub head_meets : search_for.head_stands whole.placed before m ≡ true → MeetsHead whole.placed before m
   head_meets h =
-      let named = and_right (not (is_empty m.ports)) _ h in
-      let unclocked = and_right (not (is_some (interface_named before.modules m.name))) _ named in
-      let others = and_right (not (is_clk m.name)) _ unclocked in
+      let named = (and_parts (not (is_empty m.ports)) _ h).1 in
+      let unclocked = (and_parts (not (is_some (interface_named before.modules m.name))) _ named).1 in
+      let others = (and_parts (not (is_clk m.name)) _ unclocked).1 in
       record {
-        ports = not-true _ (and_left (not (is_empty m.ports)) _ h);
-        new = not-true _ (and_left (not (is_some (interface_named before.modules m.name))) _ named);
-        name = not-true _ (and_left (not (is_clk m.name)) _ unclocked);
-        clock = and_left (not (list_any (is_clocked before.modules) m.items) || has_port m.ports clk) _ others;
-        placed = and_right (not (list_any (is_clocked before.modules) m.items) || has_port m.ports clk) _ others;
+        ports = not-true _ (and_parts (not (is_empty m.ports)) _ h).0;
+        new = not-true _ (and_parts (not (is_some (interface_named before.modules m.name))) _ named).0;
+        name = not-true _ (and_parts (not (is_clk m.name)) _ unclocked).0;
+        clock = (and_parts (not (list_any (is_clocked before.modules) m.items) || has_port m.ports clk) _ others).0;
+        placed = (and_parts (not (list_any (is_clocked before.modules) m.items) || has_port m.ports clk) _ others).1;
       }
 
   pub head_breaks : search_for.head_stands whole.placed before m ≡ false → BreaksHead whole before m

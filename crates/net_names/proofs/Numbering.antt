@@ -7,6 +7,7 @@ use Rattle.std.specs.Map.{lookup}
 use Rattle.std.proofs.lemmas.List.{length-map, length-take-le, take_more, get_or-map}
 use Rattle.std.proofs.lemmas.Option.{none-some}
 use Rattle.std.proofs.lemmas.Slice.Eq.{bytes_eq-Decides}
+use Rattle.std.proofs.lemmas.Bool.{and_parts}
 use Rattle.indexmap.specs.IndexMap.{insert_entry}
 use denote.Bor.{Bor}
 use Rattle.verilog_tree.specs.declared.tree.InitialConstant.{InitialConstant}
@@ -105,9 +106,6 @@ module _ {K : Type 0} (same : K → K → Bool) where
 
 -- ---- tables of names
 
-same_names : (x y : Name) → bytes_eq x y ≡ true → x ≡ y
-same_names x y e = (bytes_eq-Decides x y).0 e
-
 first_more : (k : ℕ) (names : List Name) (name : Name) (x : Name) →
     first_from k (names ++ name ∷ []) x ≡ or_else (first_from k names x) (last_of bytes_eq name (k + length names) x)
 first_more k [] name x = let same : k ≡ k + 0 = omega arith in ap (λ m. last_of bytes_eq name m x) same
@@ -119,7 +117,7 @@ first_more k (n ∷ more) name x =
 pub noted_is : (t : Table Name) (names : List Name) (name : Name) → IsTable t names → IsTable (noted bytes_eq t name (length names)) (names ++ name ∷ [])
 noted_is t names name is x =
     let same : length names ≡ 0 + length names = omega arith in
-    noted_more bytes_eq same_names t name (length names) x ∙ ap (λ o. or_else o (last_of bytes_eq name (length names) x)) (is x)
+    noted_more bytes_eq (λ x y e. (bytes_eq-Decides x y).0 e) t name (length names) x ∙ ap (λ o. or_else o (last_of bytes_eq name (length names) x)) (is x)
     ∙ ap (λ m. or_else (first_from 0 names x) (last_of bytes_eq name m x)) same ∙ sym (first_more 0 names name x)
 
 -- one name more of a list
@@ -170,15 +168,10 @@ word_test None (Some k) = refl
 word_test (Some j) None = refl
 word_test (Some j) (Some k) = refl
 
-both : (a b : Bool) → (a && b) ≡ true → (a ≡ true) × (b ≡ true)
-both true true e = (refl, refl)
-both true false e = cc
-both false b e = cc
-
 same_places : (p q : Place) → same_place p q ≡ true → p ≡ q
 same_places p q e =
-    let parts = both (bytes_eq p.0 q.0) (option_eq nat_eq p.1 q.1) e in
-    let name : p.0 ≡ q.0 = same_names p.0 q.0 parts.0 in
+    let parts = and_parts (bytes_eq p.0 q.0) (option_eq nat_eq p.1 q.1) e in
+    let name : p.0 ≡ q.0 = (bytes_eq-Decides p.0 q.0).0 parts.0 in
     let word : p.1 ≡ q.1 = same_words p.1 q.1 parts.1 in
     (λ i. (name i, word i))
 

@@ -1,10 +1,10 @@
 -- The net follows the program where its machine does.
 use Rattle.std.proofs.Common.{◌≡◌, ◌⊎◌, ℕ, zero, suc, ◌+◌, ◌/◌, ◌%◌, ◌<◌, ◌≤◌, Bool, true, false, List, [], ◌∷◌, length, take, Some, slice_get}
 use Rattle.std.proofs.Common.{slice_index, refl, sym, ap, ◌∙◌, subst, inl, inr, arith}
-use Rattle.std.specs.Prelude.{◌↔◌, ◌-◌, ◌^◌, map, ℤ, Option, None}
+use Rattle.std.specs.Prelude.{◌↔◌, map, ℤ, Option, None}
 use Rattle.std.proofs.lemmas.Option.{slice_get_within}
 use Rattle.std.proofs.lemmas.List.Elements.{All-nil}
-use Rattle.std.proofs.lemmas.Nat.{pow_pos}
+use Rattle.std.proofs.Math.Pow.{ones_lt}
 use Rattle.hls_ints.specs.Residues.{bit_of, residue_of}
 use Rattle.c_program.specs.Tree.{GlobalVariable, Program}
 use Rattle.bank_partition.specs.declared.banks.Spread.{Spread}
@@ -76,10 +76,6 @@ element_within (row ∷ rows) (d ∷ gs) (suc x) j v g e at there =
     let tail : map length rows ≡ map (λ (z : GlobalVariable). z.length) gs = cc in
     element_within rows gs x j v g tail at there
 
--- the mask of so many threads
-full_mask : (n : ℕ) → 2 ^ n - 1 < 2 ^ n
-full_mask n = let p = pow_pos n in omega (arith, p)
-
 module _ (P : Program) (K : Parts) (modules : List Module) (top : Module) (whole : IsWhole P K modules top) where
   -- done is shown exactly where the machine is done
   done_both : (h : Valuation) (s : Machine K) → IsState modules top h → Shows P K modules top whole h s
@@ -90,7 +86,7 @@ module _ (P : Program) (K : Parts) (modules : List Module) (top : Module) (whole
             (shown_is P K modules top whole h (all_enabled K.threads []) 1 shows (s.slots 0) before),
         λ done.
             let c = all_enabled K.threads [] in
-            let choice : IsChoice K.threads c = (full_mask K.threads, All-nil (λ p. p < 64)) in
+            let choice : IsChoice K.threads c = (ones_lt K.threads, All-nil (λ p. p < 64)) in
             let v = staged_settles modules top whole.stages whole.staged h c state (whole.fits c choice) in
             record {
               place = whole.done.shows.place;

@@ -1,5 +1,6 @@
 -- The slot of a thread is what its instance holds: a cycle leaves it exactly where the machine's step does.
 use Rattle.std.proofs.Common.{◌≡◌, ℕ, ◌<◌, List, [], ◌∷◌, ◌++◌, length, Some, slice_get, sym, ap, ◌∙◌, subst}
+use Rattle.net_refine.proofs.Agreeing.{agree_on, agree_back}
 use Rattle.c_program.specs.Tree.{Program}
 use Rattle.netlist.specs.declared.netlist.Signal.{Signal}
 use Rattle.netlist.specs.declared.netlist.Memory.{Memory}
@@ -11,7 +12,6 @@ use Rattle.circuit.proofs.Staged.{no_deeper}
 use Rattle.net_cycle.specs.Built.{Parts, Machine}
 use Rattle.machine_follows.specs.Follows.{next_machine, Changes}
 use Rattle.net_refine.specs.Whole.{IsWhole}
-use Rattle.net_refine.proofs.Agreeing.{agree_back, agree_on}
 use Rattle.net_refine.proofs.Cycles.{Shows, cycle_shows}
 
 module _ (P : Program) (K : Parts) (modules : List Module) (top : Module) (whole : IsWhole P K modules top) where

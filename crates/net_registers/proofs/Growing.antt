@@ -1,10 +1,11 @@
 -- A list of registers grows mark by mark.
-use Rattle.std.proofs.Common.{◌≡◌, refl, sym, ap, ◌∙◌, subst, ℕ, zero, suc, ◌+◌, ◌<◌, Bool, true, false}
+use Rattle.std.proofs.Common.{◌≡◌, refl, sym, ap, ◌∙◌, subst, ℕ, ◌+◌, ◌<◌, Bool, true, false}
 use Rattle.std.proofs.Common.{List, [], ◌∷◌, ◌++◌, map, length, take, Some, slice_get, append_assoc, append-nil, get_or, ◌≤◌, arith}
 use Rattle.std.specs.Prelude.{if◌then◌else◌}
 use Rattle.std.specs.List.{AllByRecursion}
-use Rattle.std.proofs.lemmas.List.{map-append, take_more, length-take-le}
+use Rattle.std.proofs.lemmas.List.{map-append, take_more, length-take-le, take_all, length-map, length-append}
 use Rattle.std.proofs.lemmas.List.Concat.{flat_map-append}
+use Rattle.std.proofs.lemmas.Option.{slice_get-get_or}
 use Rattle.netlist.specs.declared.netlist.Signal.{Signal}
 use Rattle.netlist.specs.declared.netlist.Source.{Source}
 use Rattle.netlist.specs.declared.netlist.Source.TheVariants.{Input, Register as Stored, Assigned, Port}
@@ -18,18 +19,10 @@ use Rattle.net_registers.specs.Marks.{Register, Mark, Enter, Holds, Leave, own, 
 use Rattle.net_registers.specs.Heads.{place_of, width_of, lines_from, line_of, scope_line, end_line, IsOfNet, Grows, HasLine, HasRegister, HasSignal, HasOwn, IsBased}
 use Rattle.net_registers.specs.Walks.{HasScope}
 
-pub length-joined : {A : Type 0} (xs ys : List A) → length (xs ++ ys) ≡ length xs + length ys
-length-joined [] ys = omega arith
-length-joined (x ∷ xs) ys = let e = length-joined xs ys in omega (arith, e)
-
-pub length-mapped : {A B : Type 0} (f : A → B) (xs : List A) → length (map f xs) ≡ length xs
-length-mapped f [] = refl
-length-mapped f (x ∷ xs) = ap suc (length-mapped f xs)
-
 pub lines_append : (number : ℕ) (xs ys : List Mark) → lines_from number (xs ++ ys) ≡ lines_from number xs ++ lines_from (number + length (registers_of xs)) ys
 lines_append number [] ys = let e : number ≡ number + 0 = omega arith in ap (λ (k : ℕ). lines_from k ys) e
 lines_append number (m ∷ xs) ys =
-    let j = length-joined (held m) (registers_of xs) in
+    let j = length-append (held m) (registers_of xs) in
     let e : (number + length (held m)) + length (registers_of xs) ≡ number + length (registers_of (m ∷ xs)) = omega (arith, j) in
     ap (λ (l : List (List ℕ)). line_of number m ∷ l) (lines_append (number + length (held m)) xs ys
     ∙ ap (λ (k : ℕ). lines_from (number + length (held m)) xs ++ lines_from k ys) e)
@@ -65,7 +58,7 @@ module _ (modules : List Module) (top : Module) (parts : List Part) where
       let ry = registers_of ys in
       let both : registers_of (xs ++ ys) ≡ rx ++ ry = flat_map-append held xs ys in
       let count : length b.places ≡ length a.places + length rx =
-      ap length f.places ∙ length-joined a.places (map (place_of parts) rx) ∙ ap (λ (k : ℕ). length a.places + k) (length-mapped (place_of parts) rx) in
+      ap length f.places ∙ length-append a.places (map (place_of parts) rx) ∙ ap (λ (k : ℕ). length a.places + k) (length-map rx (place_of parts)) in
       let lines : lines_from (length a.places) (xs ++ ys) ≡ lines_from (length a.places) xs ++ lines_from (length b.places) ys =
       lines_append (length a.places) xs ys ∙ ap (λ (k : ℕ). lines_from (length a.places) xs ++ lines_from k ys) (sym count) in
       record {
@@ -135,21 +128,10 @@ HasFirst a b base signals count =
 pub first_none : (a : Listing) (base : ℕ) (signals : List Signal) → HasFirst a a base signals 0
 first_none a base signals modules top parts path kind based e = grows_none modules top parts a
 
-got : {A : Type 0} (xs : List A) (k : ℕ) (d : A) → k < length xs → slice_get xs k ≡ Some (get_or xs k d)
-got [] k d lt = absurd (omega (arith, lt))
-got (x ∷ xs) zero d lt = refl
-got (x ∷ xs) (suc k) d lt = got xs k d (omega (arith, lt))
-
-taken : {A : Type 0} (xs : List A) (k : ℕ) → length xs ≤ k → take k xs ≡ xs
-taken [] zero le = refl
-taken [] (suc k) le = refl
-taken (x ∷ xs) zero le = absurd (omega (arith, le))
-taken (x ∷ xs) (suc k) le = ap (λ l. x ∷ l) (taken xs k (omega (arith, le)))
-
 pub first_more : (a b c : Listing) (base : ℕ) (signals : List Signal) (count : ℕ) (s : Signal) → count < length signals → s ≡ get_or signals count s →
     HasFirst a b base signals count → HasSignal b c base count s → HasFirst a c base signals (count + 1)
 first_more a b c base signals count s lt is first one modules top parts path kind based e =
-    let at : slice_get signals count ≡ Some s = got signals count s lt ∙ ap (λ (z : Signal). Some z) (sym is) in
+    let at : slice_get signals count ≡ Some s = slice_get-get_or signals count s lt ∙ ap (λ (z : Signal). Some z) (sym is) in
     let more : take (count + 1) signals ≡ take count signals ++ s ∷ [] = take_more signals count s lt ∙ ap (λ (z : Signal). take count signals ++ z ∷ []) (sym is) in
     let long : length (take count signals) ≡ count = length-take-le count signals (omega (arith, lt)) in
     let marks : own path 0 (take (count + 1) signals) ≡ own path 0 (take count signals) ++ own_mark path count s =
@@ -162,7 +144,7 @@ first_more a b c base signals count s lt is first one modules top parts path kin
 
 pub first_all : (a b : Listing) (base : ℕ) (signals : List Signal) (count : ℕ) → length signals ≤ count → HasFirst a b base signals count → HasOwn a b base signals
 first_all a b base signals count le first modules top parts path kind based e =
-    subst (λ (l : List Signal). Grows modules top parts a b (own path 0 l)) (taken signals count le) (first modules top parts path kind based e)
+    subst (λ (l : List Signal). Grows modules top parts a b (own path 0 l)) (take_all count signals le) (first modules top parts path kind based e)
 
 -- a scope begins
 pub grows_scope : (modules : List Module) (top : Module) (parts : List Part) (path : Path) (kind : Module) (a b : Listing) (name : List ℕ) (base : ℕ) →

@@ -1,7 +1,7 @@
 -- Lines of a head begin with `$` and have no line feed inside.
 use Rattle.std.proofs.Common.{◌≡◌, refl, sym, ap, ◌∙◌, ℕ, ◌<◌, ◌^◌, Bool, true, false, List, [], ◌∷◌, ◌++◌, arith}
-use Rattle.std.specs.Prelude.{◌==◌, ◌&&◌, decimal, codes}
-use Rattle.std.proofs.lemmas.Bool.{false_from_ne_true}
+use Rattle.std.specs.Prelude.{◌==◌, decimal, codes}
+use Rattle.std.proofs.lemmas.Bool.{false_from_ne_true, and_parts}
 use Rattle.std.proofs.lemmas.Fmt.{decimal_is_IsNumeral}
 use Rattle.netlist.specs.declared.netlist.Signal.{Signal}
 use Rattle.verilog_tree.specs.Spelling.{is_name, is_name_byte, is_letter, all_pass}
@@ -10,24 +10,19 @@ use Rattle.vcd_text.specs.Recover.{IsHeadLine}
 use Rattle.vcd_text.proofs.Bytes.{Plain, is_line, plain_append, plain_id, plain_digits}
 use Rattle.net_registers.specs.Heads.{scope_line, register_line, end_line}
 
-both : (a b : Bool) → (a && b) ≡ true → (a ≡ true) × (b ≡ true)
-both true true e = (refl, refl)
-both true false e = cc
-both false b e = cc
-
 -- a byte that passes a test which a line feed does not pass
 no_feed : (p : ℕ → Bool) (b : ℕ) → p 10 ≡ false → p b ≡ true → (b == 10) ≡ false
 no_feed p b fails passes = false_from_ne_true (b == 10) (λ e. let same : b ≡ 10 = grind (arith, e) in let bad = sym passes ∙ ap p same ∙ fails in cc)
 
 plain_pass : (p : ℕ → Bool) (bytes : List ℕ) → p 10 ≡ false → all_pass p bytes ≡ true → Plain bytes
 plain_pass p [] fails e = tt
-plain_pass p (b ∷ bytes) fails e = let parts = both (p b) (all_pass p bytes) e in (no_feed p b fails parts.0, plain_pass p bytes fails parts.1)
+plain_pass p (b ∷ bytes) fails e = let parts = and_parts (p b) (all_pass p bytes) e in (no_feed p b fails parts.0, plain_pass p bytes fails parts.1)
 
 plain_name : (name : List ℕ) → is_name name ≡ true → Plain name
 plain_name [] e = cc
 plain_name (b ∷ name) e =
-    let first = both (is_letter b) _ e in
-    let rest = both (all_pass is_name_byte name) _ first.1 in
+    let first = and_parts (is_letter b) _ e in
+    let rest = and_parts (all_pass is_name_byte name) _ first.1 in
     (no_feed is_letter b refl first.0, plain_pass is_name_byte name refl rest.0)
 
 head_line : (bytes : List ℕ) → Plain bytes → IsHeadLine (36 ∷ bytes)

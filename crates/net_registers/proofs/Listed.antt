@@ -6,6 +6,7 @@ use Rattle.verilog_meaning.specs.Cycles.{IsState}
 use Rattle.std.specs.Prelude.{codes, option_map, slice_index}
 use Rattle.std.specs.List.{All, AllByRecursion}
 use Rattle.std.proofs.lemmas.List.Elements.{All-from_recursion}
+use Rattle.std.proofs.lemmas.List.{length-map}
 use Rattle.sim_layout.specs.Running.{Running, Stands, IsRight, state_of}
 use Rattle.vcd_text.specs.Dump.{AreValues}
 use Rattle.vcd_text.specs.Recover.{unlines, IsHeadLine}
@@ -13,7 +14,7 @@ use Rattle.net_registers.specs.declared.listing.Listing.{Listing}
 use Rattle.net_registers.specs.Marks.{Register, registers_of}
 use Rattle.net_registers.specs.Heads.{place_of, width_of, number_in, lines_from, head_lines, HasLine, IsListing, IsOfNet}
 use Rattle.net_registers.specs.Walks.{IsWalk}
-use Rattle.net_registers.proofs.Growing.{unlines_append, all_append, length-mapped}
+use Rattle.net_registers.proofs.Growing.{unlines_append, all_append}
 use Rattle.net_registers.proofs.Heading.{timescale_is, definitions_is}
 use Rattle.net_registers.proofs.Walking.{walked}
 
@@ -65,10 +66,10 @@ values_fit r l is listing =
     let same : is.top ≡ listing.top = same_Some is.top listing.top (sym is.is_top ∙ listing.is_top) in
     let state : IsState r.modules listing.top (state_of r) = subst (λ (t : Module). IsState r.modules t (state_of r)) same is.state in
     let numbers : map (slice_index r.numbers) l.places ≡ map (number_in (state_of r)) gs = ap (map (slice_index r.numbers)) listing.places ∙ numbers_are r gs in
-    let long : length (map (number_in (state_of r)) gs) ≡ length (map width_of gs) = length-mapped (number_in (state_of r)) gs ∙ sym (length-mapped width_of gs) in
+    let long : length (map (number_in (state_of r)) gs) ≡ length (map width_of gs) = length-map gs (number_in (state_of r)) ∙ sym (length-map gs width_of) in
     let values : AreValues (map width_of gs) (map (number_in (state_of r)) gs) = record {
       each = long;
-      fit = λ k lt. fit_at r listing.top state gs listing.net k (omega (arith, lt, length-mapped width_of gs));
+      fit = λ k lt. fit_at r listing.top state gs listing.net k (omega (arith, lt, length-map gs width_of));
     } in
     subst (λ (w : List ℕ). AreValues w (map (slice_index r.numbers) l.places)) (sym listing.widths) (subst (AreValues (map width_of gs)) (sym numbers) values)
 

@@ -2,6 +2,7 @@
 use Rattle.std.proofs.Common.{◌≡◌, refl, sym, ap, ◌∙◌, subst, ℕ, zero, suc, ◌+◌, List, [], ◌∷◌, ◌++◌, length, drop, Option, Some, None, slice_get, append_assoc, append-nil, arith}
 use Rattle.std.specs.Prelude.{option_and_then}
 use Rattle.std.proofs.lemmas.Option.{same_Some, none-some}
+use Rattle.std.proofs.lemmas.List.{length-append, same_from_push}
 use Rattle.netlist.specs.declared.netlist.Instance.{Instance}
 use Rattle.netlist.specs.declared.netlist.Module.{Module}
 use Rattle.verilog_meaning.specs.Names.{top_of}
@@ -13,22 +14,12 @@ use Rattle.net_registers.specs.declared.listing.Listing.{Listing}
 use Rattle.net_registers.specs.Marks.{Mark, Enter, Leave, own, scope, Adds, none, lacks, adds, AreMarks}
 use Rattle.net_registers.specs.Heads.{Grows, HasLine, IsBased, end_line}
 use Rattle.net_registers.specs.Walks.{Frame, frame_of, IsStack, Rests, first_listing, IsWalk, Enters, EntersSome}
-use Rattle.net_registers.proofs.Growing.{grows_both, grows_leave, grows_scope, length-joined}
+use Rattle.net_registers.proofs.Growing.{grows_both, grows_leave, grows_scope}
 
 -- ---- lists
 
 no_last : {A : Type 0} (xs : List A) (a : A) → [] ≡ xs ++ a ∷ [] → ⊥
-no_last xs a e = let l = ap length e ∙ length-joined xs (a ∷ []) in omega (arith, l)
-
-last_same : {A : Type 0} (xs ys : List A) (a b : A) → xs ++ a ∷ [] ≡ ys ++ b ∷ [] → (xs ≡ ys) × (a ≡ b)
-last_same [] [] a b e = (refl, cc)
-last_same [] (y ∷ ys) a b e = let t : [] ≡ ys ++ b ∷ [] = cc in absurd (no_last ys b t)
-last_same (x ∷ xs) [] a b e = let t : [] ≡ xs ++ a ∷ [] = cc in absurd (no_last xs a t)
-last_same (x ∷ xs) (y ∷ ys) a b e =
-    let t : xs ++ a ∷ [] ≡ ys ++ b ∷ [] = cc in
-    let r = last_same xs ys a b t in
-    let h : x ≡ y = cc in
-    ((λ i. h i ∷ r.0 i), r.1)
+no_last xs a e = let l = ap length e ∙ length-append xs (a ∷ []) in omega (arith, l)
 
 dropped_none : {A : Type 0} (xs : List A) (k : ℕ) → slice_get xs k ≡ None → drop k xs ≡ []
 dropped_none [] zero e = refl
@@ -70,7 +61,7 @@ module _ (r : Running) (items : List code.Frame) (frame : code.Frame) (listing :
       ((rest : List Mark) → Rests r.modules top frames rest → AreMarks r.modules (marks ++ rest)) → IsPopped r items frame listing
   popped_by top is_top [] stack marks grown closes = absurd (no_last items frame (sym stack))
   popped_by top is_top (f ∷ frames) stack marks grown closes =
-      let same = last_same items stack.0 frame (frame_of r.modules top r.parts f) stack.1 in
+      let same = same_from_push items stack.0 frame (frame_of r.modules top r.parts f) stack.1 in
       record {
         top = top;
         is_top = is_top;

@@ -4,6 +4,7 @@ use Rattle.std.specs.Prelude.{cond, is_some, if◌then◌else◌}
 use Rattle.std.specs.Option.{option_copied}
 use Rattle.std.specs.Str.{bytes_eq}
 use Rattle.std.specs.Map.{lookup}
+use Rattle.std.proofs.lemmas.Slice.Eq.{bytes_eq-Decides}
 use denote.Bor.{Bor}
 use Rattle.verilog_tree.specs.declared.tree.Port.{Port}
 use Rattle.verilog_tree.specs.Scope.{Name}
@@ -12,7 +13,6 @@ use Rattle.verilog_tree.specs.Facts.{interface_named}
 use Rattle.net_rules.specs.declared.interfaces.Interface.{Interface as Seen}
 use Rattle.net_rules.specs.Tables.{plain_port, named, is_named, with_port, with_ports, table_of}
 use Rattle.net_rules.specs.Interfaces.{seen, seen_as, seen_at}
-use Rattle.net_rules.proofs.Same.{same_bytes}
 
 pub some_copied : {A : Type 0} (o : Option (Bor A)) → is_some (option_copied o) ≡ is_some o
 some_copied None = refl
@@ -58,7 +58,7 @@ named-pushed (e ∷ es) d name =
 old_port : (ds : List (Name × Port)) (p : Port) (name : Name) (b : Bool) → bytes_eq name p.name ≡ b → is_named ds p.name ≡ true
     → named ds name ≡ or_else (named ds name) (cond b (Some p) None)
 old_port ds p name true e h =
-    let there : is_some (named ds name) ≡ true = ap (λ n. is_some (named ds n)) (same_bytes name p.name e) ∙ h in
+    let there : is_some (named ds name) ≡ true = ap (λ n. is_some (named ds n)) ((bytes_eq-Decides name p.name).0 e) ∙ h in
     or_known (named ds name) (Some p) there
 old_port ds p name false e h = sym (or_none (named ds name))
 
@@ -80,7 +80,7 @@ table-named ps name = with-ports ps [] name
 
 seen_cond : (name : Name) (b : Bool) (e : Bor (List ℕ) × Seen) (r : Option Seen) → bytes_eq name e.0.now ≡ b
     → seen_as name (cond b (Some e.1) r) ≡ cond b (Some (seen_at e)) (seen_as name r)
-seen_cond name true e r h = ap (λ n. Some (seen n e.1)) (same_bytes name e.0.now h)
+seen_cond name true e r h = ap (λ n. Some (seen n e.1)) ((bytes_eq-Decides name e.0.now).0 h)
 seen_cond name false e r h = refl
 
 pub lookup-seen : (name : Name) (es : List (Bor (List ℕ) × Seen)) → seen_as name (lookup (λ k. bytes_eq name k.now) es) ≡ interface_named (map seen_at es) name

@@ -4,6 +4,7 @@ use Rattle.std.specs.Prelude.{cond, is_some, if◌then◌else◌, ◌||◌}
 use Rattle.std.specs.List.{list_any}
 use Rattle.std.specs.Str.{bytes_eq}
 use Rattle.std.specs.Map.{lookup}
+use Rattle.std.proofs.lemmas.List.{map_push}
 use Rattle.indexmap.specs.IndexMap.{insert_entry}
 use denote.Bor.{Bor}
 use Rattle.verilog_tree.specs.declared.kind.Kind.{Kind}
@@ -16,14 +17,10 @@ pub any-map : {X Y : Type 0} (f : X → Y) (p : Y → Bool) (xs : List X) → li
 any-map f p [] = refl
 any-map f p (x ∷ xs) = ap (λ b. p (f x) || b) (any-map f p xs)
 
-pub pushed : {X Y : Type 0} (f : X → Y) (k : X) (xs : List X) → map f (xs ++ k ∷ []) ≡ map f xs ++ f k ∷ []
-pushed f k [] = refl
-pushed f k (x ∷ xs) = ap (λ l. f x ∷ l) (pushed f k xs)
-
 -- a key that is new goes last
 pub with-map : {X Y : Type 0} (f : X → Y) (b : Bool) (ks : List X) (k : X) → b ≡ false → map f (cond b ks (ks ++ k ∷ [])) ≡ map f ks ++ f k ∷ []
 with-map f true ks k e = cc
-with-map f false ks k e = pushed f k ks
+with-map f false ks k e = map_push f ks k
 
 -- ---- maps
 

@@ -1,10 +1,11 @@
 -- The statements of a module: widths, what they write, whether they print.
-use Rattle.std.proofs.Common.{◌≡◌, ℕ, suc, ◌<◌, List, [], ◌∷◌, ◌++◌, Bool, true, false, Some, refl, sym, ap, ◌∙◌, subst, length, map}
+use Rattle.std.proofs.Common.{◌≡◌, ℕ, suc, ◌<◌, List, [], ◌∷◌, Bool, true, false, Some, refl, sym, ap, ◌∙◌, subst, length, map}
 use Rattle.std.specs.Prelude.{slice_get, ◌&&◌, ◌||◌}
 use Rattle.std.specs.List.{flat_map, list_any}
 use Rattle.std.proofs.lemmas.List.{append-nil, length-map}
 use Rattle.lists.proofs.Places.{get_there, get_mapped}
 use mathlib.Core.Bool.{or-false}
+use Rattle.std.proofs.lemmas.Bool.{and_parts}
 use Rattle.verilog_tree.specs.declared.tree.WriteArgument.{WriteArgument}
 use Rattle.verilog_tree.specs.declared.tree.Statement.{Statement}
 use Rattle.verilog_tree.specs.declared.tree.Statement.TheVariants as s
@@ -16,7 +17,7 @@ use Rattle.verilog_tree.specs.Rules as rules
 use Rattle.verilog_tree.specs.Rules.{all_right, Between, values_in, has_values}
 use Rattle.verilog_tree.specs.Facts.{written_by, written_step, statement_prints, prints_step}
 use Rattle.verilog_tree.specs.WellFormed.{none_known}
-use Rattle.verilog_tree.proofs.Tests.{and_left, and_right, and_both}
+use Rattle.verilog_tree.proofs.Tests.{and_both}
 use Rattle.netlist.specs.declared.netlist.Argument.{Argument}
 use Rattle.netlist.specs.declared.netlist.Argument.TheVariants as a
 use Rattle.netlist.specs.declared.netlist.Effect.{Effect}
@@ -64,15 +65,12 @@ module _ (m : Module) where
 
   -- ---- registers that are set
 
-  no_more : (xs : Names) → xs ++ [] ≡ xs
-  no_more xs = append-nil xs
-
   guarded_writes : (cs : List ℕ) (x y : ℕ) → In (written_by (laid.guarded m cs (effect.Set x y))) (laid.signal_name m x)
   guarded_writes [] x y =
       subst (λ (l : Names). In l (laid.signal_name m x)) (sym (fold_set Names written_step (laid.signal_name m x) (laid.signal_name m y))) (in_first (laid.signal_name m x) [])
   guarded_writes (c ∷ cs) x y =
       subst (λ (l : Names). In l (laid.signal_name m x))
-      (sym (fold_if Names written_step (laid.signal_name m c) (laid.guarded m cs (effect.Set x y)) ∙ no_more (written_by (laid.guarded m cs (effect.Set x y)))))
+      (sym (fold_if Names written_step (laid.signal_name m c) (laid.guarded m cs (effect.Set x y)) ∙ append-nil (written_by (laid.guarded m cs (effect.Set x y)))))
       (guarded_writes cs x y)
 
   pub set_written : (k : ℕ) (x : Action) (r y : ℕ) → slice_get m.actions k ≡ Some x → x.effect ≡ effect.Set r y
@@ -130,8 +128,8 @@ module _ (sc : Scope) (m : Module) (knows : KnowsNames sc m) where
   guarded_right [] x r p q g h = effect_right x p q h
   guarded_right (c ∷ cs) x r p q g h =
       fold_if Bool (rules.statement_step sc) (laid.signal_name m c) (laid.guarded m cs x)
-      ∙ and_both _ _ (has_is sc m knows c 1 (r 0 c refl) ∙ and_left _ _ g)
-      (and_both _ true (guarded_right cs x (λ k y o. r (suc k) y o) p q (and_right (sound.has_width m c 1) _ g) h) refl)
+      ∙ and_both _ _ (has_is sc m knows c 1 (r 0 c refl) ∙ (and_parts _ _ g).0)
+      (and_both _ true (guarded_right cs x (λ k y o. r (suc k) y o) p q (and_parts (sound.has_width m c 1) _ g).1 h) refl)
 
   statements_of : (xs : List Action) → ((k : ℕ) (x : Action) → slice_get xs k ≡ Some x → IsLaidAction m x) → ((k : ℕ) (x : Action) → slice_get xs k ≡ Some x → sound.action_fits m x ≡ true)
       → all_right (rules.statement_right sc) (map (laid.statement m) xs) ≡ true
@@ -139,7 +137,7 @@ module _ (sc : Scope) (m : Module) (knows : KnowsNames sc m) where
   statements_of (x ∷ xs) h g =
       let one = h 0 x refl in
       let fit = g 0 x refl in
-      and_both _ _ (guarded_right x.conditions x.effect one.conditions one.signals one.memories (and_left _ _ fit) (and_right (all_right (λ c. sound.has_width m c 1) x.conditions) _ fit))
+      and_both _ _ (guarded_right x.conditions x.effect one.conditions one.signals one.memories (and_parts _ _ fit).0 (and_parts (all_right (λ c. sound.has_width m c 1) x.conditions) _ fit).1)
       (statements_of xs (λ k y q. h (suc k) y q) (λ k y q. g (suc k) y q))
 
   pub statements_right : ((k : ℕ) (x : Action) → slice_get m.actions k ≡ Some x → IsLaidAction m x) → ((k : ℕ) (x : Action) → slice_get m.actions k ≡ Some x → sound.action_fits m x ≡ true)

@@ -5,6 +5,7 @@ use Rattle.std.specs.List.{flat_map}
 use Rattle.std.proofs.lemmas.Bool.Decides.{nat_tests}
 use Rattle.std.proofs.lemmas.Option.{slice_get_within}
 use Rattle.std.proofs.lemmas.List.{take_at, map-append}
+use Rattle.std.proofs.lemmas.Simd.{map-map}
 use Rattle.lists.proofs.Places.{get_front, get_back}
 use Rattle.verilog_tree.specs.declared.tree.Memory as text_memory
 use Rattle.verilog_tree.specs.declared.tree.Module as text_module
@@ -23,7 +24,7 @@ use Rattle.netlist.specs.Laid.{AreApart, IsSource, IsLaidInstance, IsLaidModule,
 use Rattle.netlist.specs.Laid.{input_signals, output_signals, signal_names, memory_names, instance_names, module_names}
 use Rattle.netlist_text.specs.LaidOut as laid
 use Rattle.netlist_text.specs.LaidOut.{net_of}
-use Rattle.netlist_text.proofs.Places.{map_map, map_back, map_against, apart_front, apart_back}
+use Rattle.netlist_text.proofs.Places.{map_back, map_against, apart_front, apart_back}
 use Rattle.netlist_text.proofs.Told.{told_declaration, told_declarations, told_ports_in, told_ports_out, told_memories}
 use Rattle.netlist_text.proofs.Told.{told_assigns, told_constants, told_instances, told_actions, told_signal_names}
 use Rattle.netlist_text.proofs.Constants.{register_back, memory_words_back}
@@ -66,7 +67,7 @@ module _ (all before : List Module) (m : Module) (known : AreBefore all before) 
   signal_names_back = told_signal_names all m fits.order
 
   memory_names_back : n.memory_names earlier text ≡ memory_names m
-  memory_names_back = ap (map (λ (x : text_memory.Memory). x.name)) (told_memories all m) ∙ map_map (λ (x : text_memory.Memory). x.name) laid.memory_of m.memories
+  memory_names_back = ap (map (λ (x : text_memory.Memory). x.name)) (told_memories all m) ∙ map-map (λ (x : text_memory.Memory). x.name) laid.memory_of m.memories
 
   constants_back : n.constants earlier text ≡ laid.constants m
   constants_back = told_constants all m
@@ -143,7 +144,7 @@ module _ (all before : List Module) (m : Module) (known : AreBefore all before) 
       let at : Signal → ℕ = λ s. place (signal_names m) (connected cs s.name) in
       let find : (p : ℕ) → p < length m.signals → place (signal_names m) (laid.signal_name m p) ≡ p = signal_back m signals_apart memories_apart in
       let same : (ss : List Signal) → map tie (map told_declaration ss) ≡ map at ss = λ ss.
-      map_map tie told_declaration ss ∙ ap (λ l. map (λ (s : Signal). place l (connected cs s.name)) ss) signal_names_back in
+      map-map tie told_declaration ss ∙ ap (λ l. map (λ (s : Signal). place l (connected cs s.name)) ss) signal_names_back in
       let inputs : map tie (n.of_instance n.input_ports earlier (laid.instance_by m x h.of)) ≡ x.inputs =
       ap (map tie) (of_instance_is all before m known n.input_ports x h.of h.earlier ∙ told_ports_in all h.of) ∙ same (input_signals h.of)
       ∙ map_against at (input_signals h.of) x.inputs (sym h.inputs) (λ k s p q r.

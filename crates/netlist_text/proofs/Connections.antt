@@ -4,6 +4,8 @@ use Rattle.std.specs.Prelude.{slice_get, unwrap_or, if◌then◌else◌}
 use Rattle.std.specs.Str.{bytes_eq}
 use Rattle.std.proofs.lemmas.Option.{same_Some, none-some}
 use Rattle.std.proofs.lemmas.List.{append-nil, length-append}
+use Rattle.std.proofs.lemmas.Slice.Eq.{bytes_eq-Decides}
+use Rattle.std.proofs.lemmas.Simd.{map-map}
 use Rattle.lists.proofs.Places.{get_front, get_back, get_there, get_mapped}
 use Rattle.verilog_tree.specs.declared.tree.Connection.{Connection}
 use Rattle.verilog_tree.specs.declared.tree.Module as text_module
@@ -14,7 +16,7 @@ use Rattle.netlist.specs.NetlistOf as n
 use Rattle.netlist.specs.NetlistOf.{Name, place, connected}
 use Rattle.netlist.specs.Laid.{AreApart, input_signals, inner_signals, output_signals, first_output, signal_names, module_names}
 use Rattle.netlist_text.specs.LaidOut as laid
-use Rattle.netlist_text.proofs.Places.{place_at, map_map, same_name, other_name}
+use Rattle.netlist_text.proofs.Places.{place_at, other_name}
 use Rattle.netlist_text.proofs.Values.{signal_name_at}
 
 -- a module whose signals have names of their own and stand in order
@@ -66,7 +68,7 @@ module _ (m of : Module) (apart : AreApart (signal_names of)) where
   tied (r ∷ ps) k rest zero p s h at fits =
       let here : slice_get of.signals k ≡ Some s = ap (slice_get of.signals) (sym (add-zero k)) ∙ at in
       ap (λ b. if b then laid.signal_name m r else connected (ties (k + 1) ps ++ rest) s.name)
-      (ap (bytes_eq s.name) (signal_name_at of k s here) ∙ same_name s.name) ∙ ap (laid.signal_name m) (same_Some r p h)
+      (ap (bytes_eq s.name) (signal_name_at of k s here) ∙ (bytes_eq-Decides s.name s.name).1 refl) ∙ ap (laid.signal_name m) (same_Some r p h)
   tied (r ∷ ps) k rest (suc j) p s h at fits =
       let e : k + suc j ≡ k + 1 + j = omega arith in
       ap (λ b. if b then laid.signal_name m r else connected (ties (k + 1) ps ++ rest) s.name) (other_port k (k + suc j) s at (omega arith) (λ e. omega arith))
@@ -111,7 +113,7 @@ module _ (all before : List Module) (m : Module) (known : AreBefore all before) 
 
   pub place_is : (k : ℕ) (of : Module) → slice_get before k ≡ Some of → place (n.module_names texts) of.name ≡ k
   place_is k of h =
-      ap (λ l. place l of.name) (map_map (λ (t : text_module.Module). t.name) (laid.text_of_module all) before)
+      ap (λ l. place l of.name) (map-map (λ (t : text_module.Module). t.name) (laid.text_of_module all) before)
       ∙ place_at (module_names before) k of.name known.names (get_mapped (λ (y : Module). y.name) before k of h)
 
   pub of_instance_is : {A : Type 0} (f : text_module.Module → List A) (x : Instance) (of : Module) → slice_get before x.of ≡ Some of

@@ -8,6 +8,7 @@ use Rattle.std.proofs.lemmas.Bool.Decides.{nat_tests}
 use Rattle.std.proofs.lemmas.Option.{same_Some, none-some}
 use Rattle.lists.proofs.Places.{get_mapped}
 use mathlib.Core.Bool.{and-false}
+use Rattle.std.proofs.lemmas.Slice.Eq.{bytes_eq-Decides}
 use Rattle.verilog_tree.specs.declared.tree.InitialConstant.{InitialConstant}
 use Rattle.netlist.specs.declared.netlist.Source.{Source}
 use Rattle.netlist.specs.declared.netlist.Source.TheVariants as source
@@ -17,14 +18,14 @@ use Rattle.netlist.specs.declared.netlist.Module.{Module}
 use Rattle.netlist.specs.NetlistOf.{Name, initial_of, words_of}
 use Rattle.netlist.specs.Laid.{AreApart, signal_names, memory_names}
 use Rattle.netlist_text.specs.LaidOut as laid
-use Rattle.netlist_text.proofs.Places.{same_name, head_other, apart_rest}
+use Rattle.netlist_text.proofs.Places.{head_other, apart_rest}
 
 -- ---- registers
 
 register_here : (x : Signal) (c : ℕ) (from : Source) (l rest : List InitialConstant) → from ≡ source.Register c → initial_of ((laid.register_by x from ++ l) ++ rest) x.name None ≡ c
 register_here x c source.Input l rest e = cc
 register_here x c (source.Register d) l rest e =
-    let same : d ≡ c = cc in ap (λ b. if b && true then d else initial_of (l ++ rest) x.name None) (same_name x.name) ∙ same
+    let same : d ≡ c = cc in ap (λ b. if b && true then d else initial_of (l ++ rest) x.name None) ((bytes_eq-Decides x.name x.name).1 refl) ∙ same
 register_here x c (source.Assigned right) l rest e = cc
 register_here x c (source.Port j port) l rest e = cc
 
@@ -70,7 +71,7 @@ word_here : (t : Memory) (k : ℕ) (vs : List ℕ) (rest : List InitialConstant)
 word_here t k [] rest i v h = absurd (none-some v h)
 word_here t k (u ∷ vs) rest zero v h =
     let after = initial_of (laid.with_places (laid.word_constant t) (k + 1) vs ++ rest) t.name (Some (k + 0)) in
-    ap (λ b. if b && nat_eq (k + 0) k then u else after) (same_name t.name) ∙ ap (λ b. if b then u else after) (eq-eqb (k + 0) k (add-zero k)) ∙ same_Some u v h
+    ap (λ b. if b && nat_eq (k + 0) k then u else after) ((bytes_eq-Decides t.name t.name).1 refl) ∙ ap (λ b. if b then u else after) (eq-eqb (k + 0) k (add-zero k)) ∙ same_Some u v h
 word_here t k (u ∷ vs) rest (suc i) v h =
     let after = initial_of (laid.with_places (laid.word_constant t) (k + 1) vs ++ rest) t.name (Some (k + suc i)) in
     let apart : nat_eq (k + suc i) k ≡ false = grind (arith, nat_tests) in

@@ -7,7 +7,6 @@ use Rattle.verilog_tree.specs.declared.tree.BinaryOperator.TheVariants as op
 use Rattle.verilog_tree.specs.Scope.{is_known}
 use Rattle.verilog_tree.specs.Rules.{are_distinct}
 use Rattle.verilog_tree.specs.WellFormed.{IsWellFormed}
-use Rattle.verilog_tree.proofs.Tests.{and_left, and_right}
 use Rattle.netlist.specs.declared.netlist.Value.TheVariants as v
 use Rattle.netlist.specs.declared.netlist.Source.TheVariants as source
 use Rattle.netlist.specs.declared.netlist.Signal.{Signal}
@@ -22,7 +21,7 @@ use Rattle.netlist_text.specs.LaidOut.{net_of}
 use Rattle.netlist_text.proofs.Members.{In, in_holds}
 use Rattle.std.specs.Str.{bytes_eq}
 use Rattle.std.proofs.lemmas.Slice.Eq.{bytes_eq-Decides}
-use Rattle.std.proofs.lemmas.Bool.{not-true}
+use Rattle.std.proofs.lemmas.Bool.{not-true, and_parts}
 use Rattle.netlist_text.proofs.Back.{netlist_back}
 use Rattle.netlist_text.proofs.NetFormed.{net_formed}
 
@@ -47,7 +46,7 @@ false_true b p q = let e : true ≡ false = sym p ∙ q in absurd (cc)
 first_apart : (n : Name) (names : List Name) → are_distinct (n ∷ names) ≡ true → (j : ℕ) (x : Name) → n ≡ x → slice_get names j ≡ Some x → ⊥
 first_apart n names h j x e q =
     let held : In names n = record { at = j; found = q ∙ ap Some (sym e) } in
-    false_true (is_known names n) (in_holds bytes_eq bytes_eq-Decides names n held) (not-true (is_known names n) (and_left _ _ h))
+    false_true (is_known names n) (in_holds bytes_eq bytes_eq-Decides names n held) (not-true (is_known names n) (and_parts _ _ h).0)
 
 -- names that a test finds apart
 pub apart_by_test : (names : List Name) → are_distinct names ≡ true → (i j : ℕ) (x : Name) → slice_get names i ≡ Some x → slice_get names j ≡ Some x → i ≡ j
@@ -55,7 +54,7 @@ apart_by_test [] h i j x p q = absurd (none-some x p)
 apart_by_test (n ∷ names) h zero zero x p q = refl
 apart_by_test (n ∷ names) h zero (suc j) x p q = absurd (first_apart n names h j x (same_Some n x p) q)
 apart_by_test (n ∷ names) h (suc i) zero x p q = absurd (first_apart n names h i x (same_Some n x q) p)
-apart_by_test (n ∷ names) h (suc i) (suc j) x p q = ap (λ k. suc k) (apart_by_test names (and_right (not (is_known names n)) _ h) i j x p q)
+apart_by_test (n ∷ names) h (suc i) (suc j) x p q = ap (λ k. suc k) (apart_by_test names (and_parts (not (is_known names n)) _ h).1 i j x p q)
 
 -- ---- the counter
 

@@ -8,6 +8,7 @@ use Rattle.std.proofs.lemmas.Bool.Decides.{nat_tests}
 use Rattle.std.proofs.lemmas.Option.{none-some}
 use Rattle.std.proofs.lemmas.List.{append-nil}
 use Rattle.std.proofs.lemmas.Bool.{false_from_ne_true}
+use Rattle.std.proofs.Math.Bool.{or-false}
 use Rattle.verilog_tree.specs.declared.tree.InitialConstant.{InitialConstant}
 use Rattle.verilog_tree.specs.declared.tree.Statement.{Statement}
 use Rattle.verilog_tree.specs.declared.tree.Item.{Item}
@@ -283,10 +284,6 @@ module _ (all before : List Module) (m : Module) (known : AreBefore all before) 
         | inr p ↦ none-some p.1 p.2
       ])
 
-  or_nothing : (a : Bool) → (a || false) ≡ a
-  or_nothing true = refl
-  or_nothing false = refl
-
   always_formed : (list_any (λ (x : Action). is_write x.effect) m.actions && f.printed) ≡ false → IsItem whole (at fourth) (laid.always_item body)
   always_formed quiet = record {
     new = refl;
@@ -296,7 +293,7 @@ module _ (all before : List Module) (m : Module) (known : AreBefore all before) 
     initial = refl;
     complete = refl;
     printing = ap (λ b. b && (at fourth).printed) (prints_are m m.actions)
-        ∙ ap (λ b. list_any (λ (x : Action). is_write x.effect) m.actions && b) (printed_is fourth ∙ ap (λ b. f.printed || b) none_printed_yet ∙ or_nothing f.printed) ∙ quiet;
+        ∙ ap (λ b. list_any (λ (x : Action). is_write x.effect) m.actions && b) (printed_is fourth ∙ ap (λ b. f.printed || b) none_printed_yet ∙ or-false f.printed) ∙ quiet;
     printer = refl;
   }
 

@@ -7,7 +7,7 @@ use Rattle.std.specs.Bool.{Decides}
 use Rattle.std.specs.Option.{option_eq}
 use Rattle.std.specs.Str.{bytes_eq}
 use Rattle.std.proofs.lemmas.Slice.Eq.{bytes_eq-Decides}
-use Rattle.std.proofs.lemmas.Bool.{eqb-true, eq-eqb}
+use Rattle.std.proofs.lemmas.Bool.{eqb-true, eq-eqb, and_parts}
 use Rattle.std.proofs.lemmas.Bool.Decides.{nat_tests}
 use Rattle.std.proofs.lemmas.Option.{same_Some, none-some, slice_get_within}
 use Rattle.std.proofs.lemmas.List.{map-append}
@@ -18,7 +18,7 @@ use Rattle.verilog_tree.specs.Rules as rules
 use Rattle.verilog_tree.specs.Rules.{all_right}
 use Rattle.verilog_tree.specs.Facts.{Place, same_place, is_place, with_place, place_of, words_below}
 use Rattle.verilog_tree.specs.WellFormed.{are_new_places}
-use Rattle.verilog_tree.proofs.Tests.{and_left, and_right, and_both}
+use Rattle.verilog_tree.proofs.Tests.{and_both}
 use Rattle.netlist.specs.declared.netlist.Source.{Source}
 use Rattle.netlist.specs.declared.netlist.Source.TheVariants as source
 use Rattle.netlist.specs.declared.netlist.Signal.{Signal}
@@ -48,8 +48,8 @@ pair_is p q a b = let make : Name → Option ℕ → Place = λ x y. (x, y) in a
 
 pub place_decides : (p q : Place) → Decides (same_place p q) (p ≡ q)
 place_decides p q = (
-  λ h. (let a : p.0 ≡ q.0 = (bytes_eq-Decides p.0 q.0).0 (and_left _ _ h) in
-      let b : p.1 ≡ q.1 = (same_word_decides p.1 q.1).0 (and_right (bytes_eq p.0 q.0) _ h) in
+  λ h. (let a : p.0 ≡ q.0 = (bytes_eq-Decides p.0 q.0).0 (and_parts _ _ h).0 in
+      let b : p.1 ≡ q.1 = (same_word_decides p.1 q.1).0 (and_parts (bytes_eq p.0 q.0) _ h).1 in
       pair_is p q a b),
   λ h. and_both _ _ ((bytes_eq-Decides p.0 q.0).1 (ap (λ (x : Place). x.0) h)) ((same_word_decides p.1 q.1).1 (ap (λ (x : Place). x.1) h)),
 )
@@ -147,8 +147,8 @@ words_apart c k vs = λ i j p a b.
 
 all_at : {A : Type 0} (p : A → Bool) (xs : List A) (k : ℕ) (x : A) → all_right p xs ≡ true → slice_get xs k ≡ Some x → p x ≡ true
 all_at p [] k x h q = absurd (none-some x q)
-all_at p (y ∷ xs) zero x h q = ap p (sym (same_Some y x q)) ∙ and_left (p y) (all_right p xs) h
-all_at p (y ∷ xs) (suc k) x h q = all_at p xs k x (and_right (p y) (all_right p xs) h) q
+all_at p (y ∷ xs) zero x h q = ap p (sym (same_Some y x q)) ∙ (and_parts (p y) (all_right p xs) h).0
+all_at p (y ∷ xs) (suc k) x h q = all_at p xs k x (and_parts (p y) (all_right p xs) h).1 q
 
 -- ---- of a module
 

@@ -4,6 +4,7 @@ use Rattle.std.proofs.Common.{false, Some, refl, sym, ap, ◌∙◌, subst, inl,
 use Rattle.std.specs.Prelude.{slice_get, if◌then◌else◌}
 use Rattle.std.specs.Str.{bytes_eq}
 use Rattle.std.proofs.lemmas.Option.{same_Some, none-some}
+use Rattle.std.proofs.lemmas.Slice.Eq.{bytes_eq-Decides}
 use Rattle.lists.proofs.Places.{get_there, get_mapped}
 use Rattle.verilog_tree.specs.declared.tree.Direction.{Direction}
 use Rattle.verilog_tree.specs.declared.tree.Direction.TheVariants as direction
@@ -20,7 +21,7 @@ use Rattle.netlist.specs.declared.netlist.Module.{Module}
 use Rattle.netlist.specs.NetlistOf.{Kind, InputPort, OutputPort, PlainWire, Reg, is_output_port}
 use Rattle.netlist.specs.Laid.{AreApart, IsLaidInstance, kind_of, is_input_port, input_signals, output_signals, first_output, signal_names}
 use Rattle.netlist_text.specs.LaidOut as laid
-use Rattle.netlist_text.proofs.Places.{get_filtered, same_name, is_name}
+use Rattle.netlist_text.proofs.Places.{get_filtered}
 use Rattle.netlist_text.proofs.Values.{signal_name_at}
 use Rattle.netlist_text.proofs.Connections.{IsOrdered, input_at, output_at, AreBefore, instance_is}
 use Rattle.netlist_text.proofs.Sources.{mapped_some}
@@ -52,9 +53,9 @@ port_by_there s Reg h = cc
 
 port_step : (q : Port) (ps : List Port) (x : Name) (p : Port) → ((r : Port) → In (q ∷ ps) r → r.name ≡ x → r ≡ p) → (port_named ps x ≡ Some p) ⊎ (q.name ≡ x)
     → (b : Bool) → bytes_eq x q.name ≡ b → (if b then Some q else port_named ps x) ≡ Some p
-port_step q ps x p all next true e = ap Some (all q (in_first q ps) (sym (is_name x q.name e)))
+port_step q ps x p all next true e = ap Some (all q (in_first q ps) (sym ((bytes_eq-Decides x q.name).0 e)))
 port_step q ps x p all (inl h) false e = h
-port_step q ps x p all (inr h) false e = let t : bytes_eq x q.name ≡ true = ap (bytes_eq x) h ∙ same_name x in let f : true ≡ false = sym t ∙ e in absurd (cc)
+port_step q ps x p all (inr h) false e = let t : bytes_eq x q.name ≡ true = ap (bytes_eq x) h ∙ (bytes_eq-Decides x x).1 refl in let f : true ≡ false = sym t ∙ e in absurd (cc)
 
 port_first : (ps : List Port) (x : Name) (p : Port) → ((r : Port) → In ps r → r.name ≡ x → r ≡ p) → (k : ℕ) → slice_get ps k ≡ Some p → p.name ≡ x → port_named ps x ≡ Some p
 port_first [] x p all k h is = absurd (none-some p h)

@@ -13,7 +13,7 @@ use Rattle.verilog_tree.specs.Scope.{Name, Names, Scope, kind_of, is_declared}
 use Rattle.verilog_tree.specs.Facts.{after, with_name, with_declaration}
 use Rattle.verilog_tree.specs.WellFormed.{are_new}
 use Rattle.verilog_tree.proofs.Tests.{and_both}
-use Rattle.netlist_text.proofs.Places.{get_either, same_name, is_name}
+use Rattle.netlist_text.proofs.Places.{get_either}
 
 pub record In {A : Type 0} (xs : List A) (x : A) : Type 0 where
   pub at : ℕ
@@ -166,10 +166,10 @@ Entry = Name × Kind
 
 kind_step : (d : Entry) (ds : Scope) (x : Name) (k : Kind) → ((e : Entry) → In (d ∷ ds) e → e.0 ≡ x → e.1 ≡ k) → (kind_of ds x ≡ Some k) ⊎ (d.0 ≡ x)
     → (b : Bool) → bytes_eq x d.0 ≡ b → (if b then Some d.1 else kind_of ds x) ≡ Some k
-kind_step d ds x k all next true e = ap Some (all d (in_first d ds) (sym (is_name x d.0 e)))
+kind_step d ds x k all next true e = ap Some (all d (in_first d ds) (sym ((bytes_eq-Decides x d.0).0 e)))
 kind_step d ds x k all (inl h) false e = h
 kind_step d ds x k all (inr h) false e =
-    let t : bytes_eq x d.0 ≡ true = ap (bytes_eq x) h ∙ same_name x in let f : true ≡ false = sym t ∙ e in absurd (cc)
+    let t : bytes_eq x d.0 ≡ true = ap (bytes_eq x) h ∙ (bytes_eq-Decides x x).1 refl in let f : true ≡ false = sym t ∙ e in absurd (cc)
 
 -- a name that is declared, and as this kind alone
 pub kind_unique : (ds : Scope) (x : Name) (k : Kind) → ((e : Entry) → In ds e → e.0 ≡ x → e.1 ≡ k) → (i : ℕ) (e : Entry) → slice_get ds i ≡ Some e → e.0 ≡ x → kind_of ds x ≡ Some k
@@ -179,7 +179,7 @@ kind_unique (d ∷ ds) x k all (suc i) e h is =
     kind_step d ds x k all (inl (kind_unique ds x k (λ f p q. all f (in_rest d f ds p) q) i e h is)) (bytes_eq x d.0) refl
 
 declared_by : (d : Entry) (ds : Scope) (x : Name) → (kind_of ds x ≡ None) → (b : Bool) → bytes_eq x d.0 ≡ b → (d.0 ≡ x → ⊥) → (if b then Some d.1 else kind_of ds x) ≡ None
-declared_by d ds x next true e h = absurd (h (sym (is_name x d.0 e)))
+declared_by d ds x next true e h = absurd (h (sym ((bytes_eq-Decides x d.0).0 e)))
 declared_by d ds x next false e h = next
 
 pub undeclared : (ds : Scope) (x : Name) → ((e : Entry) → In ds e → e.0 ≡ x → ⊥) → kind_of ds x ≡ None
@@ -207,7 +207,7 @@ some_entry : (ds : Scope) (x : Name) → is_some (kind_of ds x) ≡ true → Nam
 some_entry [] x h = cc
 some_entry (d ∷ ds) x h = by_test (bytes_eq x d.0) refl h (some_entry ds x) where
   by_test : (b : Bool) → bytes_eq x d.0 ≡ b → is_some (if b then Some d.1 else kind_of ds x) ≡ true → (is_some (kind_of ds x) ≡ true → Named ds x) → Named (d ∷ ds) x
-  by_test true e q next = record { entry = d; held = in_first d ds; name = sym (is_name x d.0 e) }
+  by_test true e q next = record { entry = d; held = in_first d ds; name = sym ((bytes_eq-Decides x d.0).0 e) }
   by_test false e q next = let n = next q in record { entry = n.entry; held = in_rest d n.entry ds n.held; name = n.name }
 
 named_by : (s : Scope) (d : Entry) (b : Bool) → is_declared s d.0 ≡ b → Named (if b then s else s ++ d ∷ []) d.0

@@ -6,8 +6,8 @@ use Rattle.std.specs.List.{flat_map, list_any}
 use Rattle.std.specs.Str.{bytes_eq}
 use Rattle.std.proofs.lemmas.Slice.Eq.{bytes_eq-Decides}
 use Rattle.std.proofs.lemmas.Option.{same_Some, none-some, slice_get_within}
-use Rattle.std.proofs.lemmas.List.{take_at, length-append}
-use Rattle.std.proofs.lemmas.Bool.{false_from_ne_true}
+use Rattle.std.proofs.lemmas.List.{take_at, length_push}
+use Rattle.std.proofs.lemmas.Bool.{false_from_ne_true, or_cases, and_parts}
 use Rattle.lists.proofs.Places.{get_front, get_back, get_mapped}
 use Rattle.verilog_tree.specs.declared.tree.Connection.{Connection}
 use Rattle.verilog_tree.specs.declared.tree.Expression.TheVariants as e
@@ -20,7 +20,6 @@ use Rattle.verilog_tree.specs.Reads.{IsFilled, Each, IsFullExpression, IsFullIte
 use Rattle.verilog_tree.specs.Facts.{Facts, Interface, interface_named, interface_of, is_top, nothing}
 use Rattle.verilog_tree.specs.Facts.{after, after_module, with_name, item_prints, places_printer, prints_below_top, statement_prints}
 use Rattle.verilog_tree.specs.WellFormed.{EachAfter, IsModule, IsWellFormed}
-use Rattle.verilog_tree.proofs.Tests.{and_left, and_right}
 use Rattle.netlist.specs.declared.netlist.Value.{Value}
 use Rattle.netlist.specs.declared.netlist.Value.TheVariants as v
 use Rattle.netlist.specs.declared.netlist.Source.{Source}
@@ -37,7 +36,7 @@ use Rattle.netlist.specs.Sound as sound
 use Rattle.netlist.specs.Sound.{IsSound, IsSoundModule, Writes, Places, IsTop, is_write}
 use Rattle.netlist_text.specs.LaidOut as laid
 use Rattle.netlist_text.specs.LaidOut.{net_of}
-use Rattle.netlist_text.proofs.Places.{get_either, apart_front, other_name, same_name}
+use Rattle.netlist_text.proofs.Places.{get_either, apart_front, other_name}
 use Rattle.netlist_text.proofs.Connections.{AreBefore, instance_is}
 use Rattle.netlist_text.proofs.Back.{before_are, fits_at}
 use Rattle.netlist_text.proofs.Members.{In, in_none, in_flat, in_unmap, in_map, after_in, in_after, in_holds, holds_in}
@@ -123,7 +122,7 @@ full_expression m w (v.Division operator x y) h = tt
 full_expression m w (v.SignedDivision operator x y) h = tt
 full_expression m w (v.MemoryRead j x) h = tt
 full_expression m w (v.Select x high low) h = full_select m x high low (nat_eq high low)
-full_expression m w (v.Concatenation xs) h = full_parts m xs (and_left _ _ h)
+full_expression m w (v.Concatenation xs) h = full_parts m xs (and_parts _ _ h).0
 full_expression m w (v.Replication c x) h = tt
 
 full_assign : (m : Module) (s : Signal) (from : Source) → sound.source_fits m from s.width ≡ true → Each IsFullItem (laid.assign_by m s from)
@@ -243,8 +242,8 @@ module _ (x : Netlist) (ok : IsSound x) where
 
     prints_here : ((interface_of f.modules (make m)).prints && not (is_top m.name)) ≡ true → ok.printing.below (length ms) ≡ true
     prints_here h =
-        let some = and_left (interface_of f.modules (make m)).prints _ h in
-        let below = and_right (interface_of f.modules (make m)).prints _ h in
+        let some = (and_parts (interface_of f.modules (make m)).prints _ h).0 in
+        let below = (and_parts (interface_of f.modules (make m)).prints _ h).1 in
         elim (any_front (λ y. item_prints y || places_printer f.modules y) (λ y. refl) (λ y. refl) (λ y. refl) (λ y. refl) (λ y. refl)
         x.modules m m.signals m.memories m.signals (laid.constants m) (map (laid.statement m) m.actions) m.instances some) [
           | inl p ↦ top_or_below below (ok.printing.writes (length ms) (prints_writes (or_off _ p.0)))
@@ -279,7 +278,7 @@ module _ (x : Netlist) (ok : IsSound x) where
     mine = interface_of f.modules (make m)
 
     named_here : interface_named (f.modules ++ mine ∷ []) m.name ≡ Some mine
-    named_here = named_back f.modules (mine ∷ []) m.name new_here ∙ ap (λ b. if b then Some mine else None) (same_name m.name)
+    named_here = named_back f.modules (mine ∷ []) m.name new_here ∙ ap (λ b. if b then Some mine else None) ((bytes_eq-Decides m.name m.name).1 refl)
 
     last_is : (j : ℕ) (y : Module) → slice_get (ms ++ m ∷ []) (length ms + j) ≡ Some y → slice_get (m ∷ []) j ≡ Some y → (j ≡ 0) × (m ≡ y)
     last_is zero y h q = (refl, same_Some m y q)
@@ -311,26 +310,19 @@ module _ (x : Netlist) (ok : IsSound x) where
         named_back f.modules (mine ∷ []) z (g.absent z (λ j y h e. none j y (get_front ms (m ∷ []) j y h) e))
         ∙ ap (λ b. if b then Some mine else None) (other_name z m.name (λ e. none (length ms + 0) m last (sym e)))
 
-    count : length (ms ++ m ∷ []) ≡ length ms + 1
-    count = length-append ms (m ∷ [])
-
-    printed_by : (a b : Bool) → (a || b) ≡ true → (a ≡ true) ⊎ (b ≡ true)
-    printed_by true b h = inl refl
-    printed_by false b h = inr h
-
     printed_next : (after_module f (make m)).printed ≡ true → (j : ℕ) × (j < length (ms ++ m ∷ [])) × Writes x j
-    printed_next h = elim (printed_by f.printed (module_writes (make m)) (sym (module_printed f (make m)) ∙ h)) [
-      | inl p ↦ (let w = g.printed p in let c = count in let l : w.0 < length ms = w.1 in (w.0, omega arith, w.2))
-      | inr p ↦ (let c = count in (length ms, omega arith, text_writes p))
+    printed_next h = elim (or_cases f.printed (module_writes (make m)) (sym (module_printed f (make m)) ∙ h)) [
+      | inl p ↦ (let w = g.printed p in let c = length_push ms m in let l : w.0 < length ms = w.1 in (w.0, omega arith, w.2))
+      | inr p ↦ (let c = length_push ms m in (length ms, omega arith, text_writes p))
     ]
 
     placed_next : (z : Name) → In (after_module f (make m)).placed z → Placed (ms ++ m ∷ []) z
     placed_next z h = elim (after_in bytes_eq bytes_eq-Decides f.placed (module_places (make m)) z (subst (λ (l : Names). In l z) (module_placed f (make m)) h)) [
-      | inl p ↦ (let a = g.placed z p in let c = count in let l : a.k < length ms = a.low in
+      | inl p ↦ (let a = g.placed z p in let c = length_push ms m in let l : a.k < length ms = a.low in
           record { k = a.k; i = a.i; of = a.of; y = a.y; low = omega arith; places = a.places; found = a.found; name = a.name })
       | inr p ↦ (let a = placed_in z m.instances (λ k n q. q)
           (subst (λ (l : Names). In l z) (placed_view x.modules m m.signals m.memories m.signals (laid.constants m) (map (laid.statement m) m.actions) m.instances) p) in
-          let c = count in
+          let c = length_push ms m in
           record { k = length ms; i = a.0; of = a.1.of; y = a.4.0; low = omega arith; places = a.3; found = a.4.1; name = a.4.2 })
     ]
 
@@ -341,8 +333,8 @@ module _ (x : Netlist) (ok : IsSound x) where
 
     quiet : (list_any (λ (a : Action). is_write a.effect) m.actions && f.printed) ≡ false
     quiet = false_from_ne_true (list_any (λ (a : Action). is_write a.effect) m.actions && f.printed) (λ h.
-        (let w = g.printed (and_right (list_any (λ (a : Action). is_write a.effect) m.actions) f.printed h) in
-        let same : w.0 ≡ length ms = ok.printing.one w.0 (length ms) w.2 (writes_by (and_left _ f.printed h)) in
+        (let w = g.printed (and_parts (list_any (λ (a : Action). is_write a.effect) m.actions) f.printed h).1 in
+        let same : w.0 ≡ length ms = ok.printing.one w.0 (length ms) w.2 (writes_by (and_parts _ f.printed h).0) in
         let low : w.0 < length ms = w.1 in omega arith))
 
     plain_before : (j : ℕ) (y : Module) → slice_get ms j ≡ Some y → (k : ℕ) (s : Signal) → slice_get y.signals k ≡ Some s → IsPlain s
@@ -357,8 +349,8 @@ module _ (x : Netlist) (ok : IsSound x) where
         let items = front x.modules m m.signals m.memories m.signals (laid.constants m) (map (laid.statement m) m.actions) a in
         let state = at x.modules ms m known fits right f g.knows plain_before items in
         false_from_ne_true (places_printer f.modules (laid.instance_item x.modules m n) && is_known state.placed of.name) (λ q.
-        (let below = below_by (length a) n at_n (and_left _ _ q) in
-        let held : In state.placed of.name = holds_in bytes_eq bytes_eq-Decides state.placed of.name (and_right (places_printer f.modules (laid.instance_item x.modules m n)) _ q) in
+        (let below = below_by (length a) n at_n (and_parts _ _ q).0 in
+        let held : In state.placed of.name = holds_in bytes_eq bytes_eq-Decides state.placed of.name (and_parts (places_printer f.modules (laid.instance_item x.modules m n)) _ q).1 in
         let grown : In (after with_name f.placed (flat_map item_modules items)) of.name = subst (λ (l : Names). In l of.name)
         (placed_is x.modules ms m known fits right f g.knows plain_before items) held in
         elim (after_in bytes_eq bytes_eq-Decides f.placed (flat_map item_modules items) of.name grown) [

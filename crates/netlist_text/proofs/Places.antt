@@ -35,10 +35,6 @@ pub get_filtered : {A : Type 0} (p : A → Bool) (xs : List A) (k : ℕ) (x : A)
 get_filtered p [] k x h = absurd (none-some x h)
 get_filtered p (y ∷ xs) k x h = filtered_step p y (filter p xs) x (λ j q. get_filtered p xs j x q) (p y) k refl h
 
-pub map_map : {A B C : Type 0} (f : B → C) (g : A → B) (xs : List A) → map f (map g xs) ≡ map (λ x. f (g x)) xs
-map_map f g [] = refl
-map_map f g (x ∷ xs) = ap (λ l. f (g x) ∷ l) (map_map f g xs)
-
 pub map_back : {A B : Type 0} (f : B → A) (g : A → B) (xs : List A) → ((k : ℕ) (x : A) → slice_get xs k ≡ Some x → f (g x) ≡ x) → map f (map g xs) ≡ xs
 map_back f g [] h = refl
 map_back f g (x ∷ xs) h = ap (λ y. y ∷ map f (map g xs)) (h 0 x refl) ∙ ap (λ l. x ∷ l) (map_back f g xs (λ k y q. h (suc k) y q))
@@ -53,14 +49,8 @@ map_against f (x ∷ xs) (y ∷ ys) e h =
 
 -- ---- names
 
-pub same_name : (x : Name) → bytes_eq x x ≡ true
-same_name x = (bytes_eq-Decides x x).1 refl
-
 pub other_name : (x n : Name) → (x ≡ n → ⊥) → bytes_eq x n ≡ false
 other_name x n h = false_from_ne_true (bytes_eq x n) (λ e. h ((bytes_eq-Decides x n).0 e))
-
-pub is_name : (x n : Name) → bytes_eq x n ≡ true → x ≡ n
-is_name x n h = (bytes_eq-Decides x n).0 h
 
 pub apart_rest : (n : Name) (names : List Name) → AreApart (n ∷ names) → AreApart names
 apart_rest n names apart = λ i j x p q. let e : suc i ≡ suc j = apart (suc i) (suc j) x p q in omega arith
@@ -79,7 +69,7 @@ head_other n names k x apart h = other_name x n (λ e. let z : 0 ≡ suc k = apa
 pub place_at : (names : List Name) (k : ℕ) (x : Name) → AreApart names → slice_get names k ≡ Some x → place names x ≡ k
 place_at [] k x apart h = absurd (none-some x h)
 place_at (n ∷ names) zero x apart h =
-    ap (λ b. cond (not b) (1 + place names x) 0) (subst (λ (y : Name). bytes_eq x y ≡ true) (sym (same_Some n x h)) (same_name x))
+    ap (λ b. cond (not b) (1 + place names x) 0) (subst (λ (y : Name). bytes_eq x y ≡ true) (sym (same_Some n x h)) ((bytes_eq-Decides x x).1 refl))
 place_at (n ∷ names) (suc k) x apart h =
     let e : place names x ≡ k = place_at names k x (apart_rest n names apart) h in
     let f : 1 + place names x ≡ suc k = omega arith in

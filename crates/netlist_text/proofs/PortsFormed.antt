@@ -6,6 +6,7 @@ use Rattle.std.specs.Str.{bytes_eq}
 use Rattle.std.proofs.lemmas.Bool.{eq-eqb}
 use Rattle.std.proofs.lemmas.Bool.Decides.{nat_tests}
 use Rattle.std.proofs.lemmas.Option.{slice_get_within}
+use Rattle.std.proofs.lemmas.Slice.Eq.{bytes_eq-Decides}
 use Rattle.lists.proofs.Places.{get_front}
 use Rattle.verilog_tree.specs.declared.tree.Port.{Port}
 use Rattle.verilog_tree.specs.declared.tree.Item.TheVariants as i
@@ -23,7 +24,6 @@ use Rattle.netlist.specs.Laid as netlist_laid
 use Rattle.netlist.specs.Laid.{AreApart, IsLaidModule, kind_by, signal_names}
 use Rattle.netlist.specs.Sound.{IsSoundModule, HasClock}
 use Rattle.netlist_text.specs.LaidOut as laid
-use Rattle.netlist_text.proofs.Places.{is_name}
 use Rattle.netlist_text.proofs.Connections.{AreBefore, instance_is}
 use Rattle.netlist_text.proofs.Members.{In, Entry, in_none, in_first, in_rest, undeclared, declarations_in}
 use Rattle.netlist_text.proofs.Grown.{ports_are}
@@ -126,7 +126,7 @@ clock_port m apart inputs h =
     let s = h.1 in
     let input : s.source ≡ source.Input = inputs h.0 s h.2 h.3 in
     let port : is_port (netlist_laid.kind_of s) ≡ true = ap (λ k. is_port (kind_by k s.is_output)) input in
-    ap (has_port (laid.ports m)) (sym (is_name s.name clk h.3)) ∙ ap is_some (port_found m apart h.0 s h.2 port)
+    ap (has_port (laid.ports m)) (sym ((bytes_eq-Decides s.name clk).0 h.3)) ∙ ap is_some (port_found m apart h.0 s h.2 port)
 
 record FoundPort (ps : List Port) (x : Name) : Type 0 where
   pub p : Port
@@ -135,7 +135,7 @@ record FoundPort (ps : List Port) (x : Name) : Type 0 where
 
 found_step : (p : Port) (ps : List Port) (x : Name) → (is_some (port_named ps x) ≡ true → FoundPort ps x) → (b : Bool) → bytes_eq x p.name ≡ b
     → is_some (if b then Some p else port_named ps x) ≡ true → FoundPort (p ∷ ps) x
-found_step p ps x next true e h = record { p = p; held = in_first p ps; name = sym (is_name x p.name e) }
+found_step p ps x next true e h = record { p = p; held = in_first p ps; name = sym ((bytes_eq-Decides x p.name).0 e) }
 found_step p ps x next false e h = let n = next h in record { p = n.p; held = in_rest p n.p ps n.held; name = n.name }
 
 found_port : (ps : List Port) (x : Name) → is_some (port_named ps x) ≡ true → FoundPort ps x

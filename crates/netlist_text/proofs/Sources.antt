@@ -5,12 +5,13 @@ use Rattle.std.specs.List.{flat_map}
 use Rattle.std.specs.Str.{bytes_eq}
 use Rattle.std.proofs.lemmas.Slice.Eq.{bytes_eq-Decides}
 use Rattle.std.proofs.lemmas.Option.{same_Some, none-some, slice_get_within}
+use Rattle.std.proofs.lemmas.Bool.{and_parts}
 use Rattle.lists.proofs.Places.{get_there, get_mapped, get_unmapped}
 use Rattle.verilog_tree.specs.declared.tree.Expression.{Expression}
 use Rattle.verilog_tree.specs.declared.tree.Connection.{Connection}
 use Rattle.verilog_tree.specs.declared.tree.Assign.{Assign}
 use Rattle.verilog_tree.specs.declared.tree.Item.{Item}
-use Rattle.verilog_tree.proofs.Tests.{and_left, and_right, and_both}
+use Rattle.verilog_tree.proofs.Tests.{and_both}
 use Rattle.netlist.specs.declared.netlist.Source.{Source}
 use Rattle.netlist.specs.declared.netlist.Source.TheVariants as source
 use Rattle.netlist.specs.declared.netlist.Signal.{Signal}
@@ -20,7 +21,7 @@ use Rattle.netlist.specs.NetlistOf as n
 use Rattle.netlist.specs.NetlistOf.{Name, Kind, InputPort, OutputPort, PlainWire, Reg, Declaration, connected, assigned, is_output_port}
 use Rattle.netlist.specs.Laid.{EachAt, AreApart, IsDriven, IsLaidInstance, kind_of, is_input_port, is_inner, input_signals, inner_signals, output_signals, first_output, signal_names, source_at}
 use Rattle.netlist_text.specs.LaidOut as laid
-use Rattle.netlist_text.proofs.Places.{get_either, get_filtered, same_name, other_name, is_name, head_other, apart_rest}
+use Rattle.netlist_text.proofs.Places.{get_either, get_filtered, other_name, head_other, apart_rest}
 use Rattle.netlist_text.proofs.Told.{told_declaration, told_declarations}
 use Rattle.netlist_text.proofs.Values.{signal_name_at}
 use Rattle.netlist_text.proofs.Connections.{IsOrdered, first_is, output_at, output_connected, AreBefore, texts, instance_is, of_instance_is}
@@ -53,7 +54,7 @@ module _ (m : Module) where
   here : (t : Signal) (from : Source) (rest : List Assign) → assigned rest t.name ≡ None → assigned (told_by t from ++ rest) t.name ≡ assigned_right t from
   here t source.Input rest h = h
   here t (source.Register c) rest h = h
-  here t (source.Assigned right) rest h = ap (λ b. if b then Some (laid.expression m t.width right) else assigned rest t.name) (same_name t.name)
+  here t (source.Assigned right) rest h = ap (λ b. if b then Some (laid.expression m t.width right) else assigned rest t.name) ((bytes_eq-Decides t.name t.name).1 refl)
   here t (source.Port j port) rest h = h
 
   assigned_among : (ss : List Signal) (k : ℕ) (s : Signal) → AreApart (map (λ (x : Signal). x.name) ss) → slice_get ss k ≡ Some s → assigned (told_all ss) s.name ≡ assigned_right s s.source
@@ -84,7 +85,7 @@ sound_step : (d : Declaration) (ds : List Declaration) (cs : List Connection) (x
     → (b : Bool) → (is_output_port d.kind && bytes_eq x (connected cs d.name)) ≡ b → (if b then Some k else n.tied_output ds cs x (k + 1)) ≡ Some q → Found (d ∷ ds) cs x k q
 sound_step d ds cs x k q next true e h =
     let same : k ≡ q = same_Some k q h in
-    record { at = 0; declaration = d; place = omega arith; is = refl; output = and_left _ _ e; name = is_name x (connected cs d.name) (and_right (is_output_port d.kind) _ e) }
+    record { at = 0; declaration = d; place = omega arith; is = refl; output = (and_parts _ _ e).0; name = (bytes_eq-Decides x (connected cs d.name)).0 (and_parts (is_output_port d.kind) _ e).1 }
 sound_step d ds cs x k q next false e h =
     let f = next h in
     let p : q ≡ k + 1 + f.at = f.place in

@@ -4,7 +4,7 @@ use Rattle.std.proofs.Common.{false, Some, refl, sym, ap, ◌∙◌, subst, inl,
 use Rattle.std.specs.Prelude.{slice_get, not, nat_lt, ◌==◌, ◌&&◌, if◌then◌else◌}
 use Rattle.std.specs.Str.{bytes_eq}
 use Rattle.std.proofs.lemmas.Slice.Eq.{bytes_eq-Decides}
-use Rattle.std.proofs.lemmas.Bool.{eq-eqb, false_from_ne_true}
+use Rattle.std.proofs.lemmas.Bool.{eq-eqb, false_from_ne_true, and_parts}
 use Rattle.std.proofs.lemmas.Bool.Decides.{nat_tests}
 use Rattle.std.proofs.lemmas.Option.{same_Some, none-some, slice_get_within}
 use Rattle.lists.proofs.Places.{get_there, get_mapped}
@@ -17,7 +17,7 @@ use Rattle.verilog_tree.specs.Scope as scope
 use Rattle.verilog_tree.specs.Scope.{Name, Names, Scope, is_known, is_clk, is_clock, driven_width}
 use Rattle.verilog_tree.specs.Rules as rules
 use Rattle.verilog_tree.specs.Rules.{all_right, port_named, connected_ports, are_distinct}
-use Rattle.verilog_tree.proofs.Tests.{and_left, and_right, and_both}
+use Rattle.verilog_tree.proofs.Tests.{and_both}
 use Rattle.netlist.specs.declared.netlist.Source.TheVariants as source
 use Rattle.netlist.specs.declared.netlist.Signal.{Signal}
 use Rattle.netlist.specs.declared.netlist.Instance.{Instance}
@@ -42,7 +42,7 @@ all_in p (x ∷ xs) h = and_both _ _ (h x (in_first x xs)) (all_in p xs (λ y q.
 
 all_append : {A : Type 0} (p : A → Bool) (xs ys : List A) → all_right p xs ≡ true → all_right p ys ≡ true → all_right p (xs ++ ys) ≡ true
 all_append p [] ys h g = g
-all_append p (x ∷ xs) ys h g = and_both _ _ (and_left (p x) (all_right p xs) h) (all_append p xs ys (and_right (p x) (all_right p xs) h) g)
+all_append p (x ∷ xs) ys h g = and_both _ _ (and_parts (p x) (all_right p xs) h).0 (all_append p xs ys (and_parts (p x) (all_right p xs) h).1 g)
 
 module _ (m of : Module) where
   abbrev ties : ℕ → List ℕ → List Connection

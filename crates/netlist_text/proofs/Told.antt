@@ -3,6 +3,7 @@ use Rattle.std.proofs.Common.{◌≡◌, List, [], ◌∷◌, ◌++◌, refl, sy
 use Rattle.std.specs.Prelude.{if◌then◌else◌}
 use Rattle.std.specs.List.{flat_map}
 use Rattle.std.proofs.lemmas.List.{append-nil, map-append}
+use Rattle.std.proofs.lemmas.Simd.{map-map}
 use Rattle.verilog_tree.specs.declared.tree.Port.{Port}
 use Rattle.verilog_tree.specs.declared.tree.Wire.{Wire}
 use Rattle.verilog_tree.specs.declared.tree.Register.{Register}
@@ -18,7 +19,6 @@ use Rattle.netlist.specs.NetlistOf as n
 use Rattle.netlist.specs.NetlistOf.{Name, Kind, InputPort, OutputPort, PlainWire, Reg, Declaration, is_output_port}
 use Rattle.netlist.specs.Laid.{kind_of, is_input_port, is_inner, input_signals, inner_signals, output_signals, signal_names}
 use Rattle.netlist_text.specs.LaidOut as laid
-use Rattle.netlist_text.proofs.Places.{map_map}
 use Rattle.netlist_text.proofs.Parts.{flat_flat, flat_none, flat_filter, map_none, map_single, block_none, block_all, parts}
 
 abbrev pub as_kind : Signal → Kind → Declaration
@@ -168,4 +168,4 @@ module _ (all : List Module) (m : Module) where
       ∙ simp append-nil
 
   pub told_signal_names : m.signals ≡ input_signals m ++ inner_signals m ++ output_signals m → map (λ (d : Declaration). d.name) (n.declarations (laid.text_of_module all m)) ≡ signal_names m
-  told_signal_names order = ap (map (λ (d : Declaration). d.name)) (told_declarations order) ∙ map_map (λ (d : Declaration). d.name) told_declaration m.signals
+  told_signal_names order = ap (map (λ (d : Declaration). d.name)) (told_declarations order) ∙ map-map (λ (d : Declaration). d.name) told_declaration m.signals

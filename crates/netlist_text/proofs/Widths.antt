@@ -1,8 +1,9 @@
 -- Widths in a scope that knows the signals and the memories of a module.
 use Rattle.std.proofs.Common.{◌≡◌, ℕ, suc, ◌+◌, ◌-◌, ◌*◌, ◌^◌, ◌<◌, ◌≤◌, List, [], ◌∷◌, Bool, true, false, Some, None, refl, sym, ap, ◌∙◌, length, map, arith}
 use Rattle.std.specs.Prelude.{slice_get, is_some, option_map, unwrap_or, ◌==◌, ◌&&◌, nat_lt, nat_le, nat_eq, if◌then◌else◌}
-use Rattle.std.proofs.lemmas.Bool.{eqb-true, eq-eqb, false_from_ne_true}
+use Rattle.std.proofs.lemmas.Bool.{eqb-true, eq-eqb, false_from_ne_true, and_parts}
 use Rattle.std.proofs.lemmas.Bool.Decides.{nat_tests}
+use Rattle.std.proofs.lemmas.Slice.Eq.{bytes_eq-Decides}
 use Rattle.lists.proofs.Places.{get_there}
 use Rattle.verilog_tree.specs.declared.kind.SignalClass.{SignalClass}
 use Rattle.verilog_tree.specs.declared.kind.SignalClass.TheVariants as class
@@ -13,7 +14,7 @@ use Rattle.verilog_tree.specs.Scope as scope
 use Rattle.verilog_tree.specs.Scope.{Name, Scope, is_clk, read_width, ranged_width, driven_width, register_width}
 use Rattle.verilog_tree.specs.Rules as rules
 use Rattle.verilog_tree.specs.Rules.{is_comparison, is_shift, all_right}
-use Rattle.verilog_tree.proofs.Tests.{and_left, and_right, and_both}
+use Rattle.verilog_tree.proofs.Tests.{and_both}
 use Rattle.netlist.specs.declared.netlist.Value.{Value}
 use Rattle.netlist.specs.declared.netlist.Value.TheVariants as v
 use Rattle.netlist.specs.declared.netlist.Source.{Source}
@@ -24,7 +25,6 @@ use Rattle.netlist.specs.declared.netlist.Module.{Module}
 use Rattle.netlist.specs.Laid.{kind_by, AreSignals, AreMemories, operands, memories_read}
 use Rattle.netlist.specs.Sound as sound
 use Rattle.netlist_text.specs.LaidOut as laid
-use Rattle.netlist_text.proofs.Places.{same_name}
 use Rattle.netlist_text.proofs.Values.{signal_name_at, memory_name_at}
 use Rattle.netlist_text.proofs.Views.{told_kind_by, told_kind, memory_kind}
 
@@ -197,7 +197,7 @@ module _ (sc : Scope) (m : Module) (knows : KnowsNames sc m) where
 
   division_is : (x y w : ℕ) → x < length m.signals → y < length m.signals → (sound.has_width m x w && sound.has_width m y w) ≡ true
       → rules.division_right sc (laid.signal_name m y) (laid.sized w 0) (laid.sized w 0) (laid.signal_name m x) (laid.signal_name m y) w ≡ true
-  division_is x y w p q h = and_both _ _ (same_name (laid.signal_name m y)) (and_both _ _ (zero_is w) (and_both _ _ (zero_is w) (both_is x y w p q ∙ h)))
+  division_is x y w p q h = and_both _ _ ((bytes_eq-Decides (laid.signal_name m y) (laid.signal_name m y)).1 refl) (and_both _ _ (zero_is w) (and_both _ _ (zero_is w) (both_is x y w p q ∙ h)))
 
   words_is : (j : ℕ) (c : Memory) → slice_get m.memories j ≡ Some c → scope.words_of (scope.kind_of sc (laid.memory_name m j)) ≡ length c.initial
   words_is j c h =
@@ -230,12 +230,12 @@ module _ (sc : Scope) (m : Module) (knows : KnowsNames sc m) where
   read_right : (j x w : ℕ) → x < length m.signals → j < length m.memories → sound.value_fits m (v.MemoryRead j x) w ≡ true
       → rules.expression_right sc (laid.expression m w (v.MemoryRead j x)) w ≡ true
   read_right j x w p q h =
-      let read : sound.is_read m x ≡ true = and_left _ _ h in
-      let rest = and_right (sound.is_read m x) _ h in
-      let fits : nat_lt (sound.memory_words m j) (2 ^ sound.width m x) ≡ true = and_left _ _ rest in
-      let wide_is : (sound.memory_width m j == w) ≡ true = and_right (nat_lt (sound.memory_words m j) (2 ^ sound.width m x)) _ rest in
+      let read : sound.is_read m x ≡ true = (and_parts _ _ h).0 in
+      let rest = (and_parts (sound.is_read m x) _ h).1 in
+      let fits : nat_lt (sound.memory_words m j) (2 ^ sound.width m x) ≡ true = (and_parts _ _ rest).0 in
+      let wide_is : (sound.memory_width m j == w) ≡ true = (and_parts (nat_lt (sound.memory_words m j) (2 ^ sound.width m x)) _ rest).1 in
       let a : laid.signal_width m x ≡ rules.width sc (laid.signal_name m x) = address_is x p read ∙ sym (width_is x p) in
-      and_both _ _ (same_name (laid.signal_name m x)) (and_both _ _ (read_is x p ∙ read)
+      and_both _ _ ((bytes_eq-Decides (laid.signal_name m x) (laid.signal_name m x)).1 refl) (and_both _ _ (read_is x p ∙ read)
       (and_both _ _ (and_both _ _ (eq-eqb _ _ a) (ap (λ k. nat_lt k (2 ^ rules.width sc (laid.signal_name m x))) (memory_words_is j q)
       ∙ ap (λ k. nat_lt (sound.memory_words m j) (2 ^ k)) (width_is x p) ∙ fits))
       (and_both _ _ (eq-eqb _ _ (sym (word_count_is j q))) (and_both _ _ (ap (λ k. k == w) (memory_width_is j q) ∙ wide_is) (zero_is w)))))
@@ -252,12 +252,12 @@ module _ (sc : Scope) (m : Module) (knows : KnowsNames sc m) where
   select_by : (x high low w : ℕ) → x < length m.signals → sound.value_fits m (v.Select x high low) w ≡ true → (b : Bool) → nat_eq high low ≡ b
       → rules.expression_right sc (if b then e.BitSelect (laid.signal_name m x) high else e.PartSelect (laid.signal_name m x) high low) w ≡ true
   select_by x high low w p h b e =
-      let le : nat_le low high ≡ true = and_left _ _ h in
-      let rest = and_right (nat_le low high) _ h in
-      let within : nat_lt high (sound.width m x) ≡ true = and_left _ _ rest in
-      let last = and_right (nat_lt high (sound.width m x)) _ rest in
-      let ranged : nat_lt 1 (sound.width m x) ≡ true = and_left _ _ last in
-      let count : (w == high - low + 1) ≡ true = and_right (nat_lt 1 (sound.width m x)) _ last in
+      let le : nat_le low high ≡ true = (and_parts _ _ h).0 in
+      let rest = (and_parts (nat_le low high) _ h).1 in
+      let within : nat_lt high (sound.width m x) ≡ true = (and_parts _ _ rest).0 in
+      let last = (and_parts (nat_lt high (sound.width m x)) _ rest).1 in
+      let ranged : nat_lt 1 (sound.width m x) ≡ true = (and_parts _ _ last).0 in
+      let count : (w == high - low + 1) ≡ true = (and_parts (nat_lt 1 (sound.width m x)) _ last).1 in
       let inside : nat_lt high (ranged_width (scope.kind_of sc (laid.signal_name m x))) ≡ true =
       ap (nat_lt high) (ranged_is x p ∙ ap (λ b. if b then sound.width m x else 0) ranged) ∙ within in
       select_both x high low w le inside count b e
@@ -292,6 +292,6 @@ module _ (sc : Scope) (m : Module) (knows : KnowsNames sc m) where
   expression_fits (v.Select x high low) w p q h = select_by x high low w (p 0 x refl) h (nat_eq high low) refl
   expression_fits (v.Concatenation xs) w p q h =
       ap (λ b. b && rules.joint_width sc (map (laid.signal_name m) xs) == w) (all_read xs p) ∙ ap (λ k. all_right (sound.is_read m) xs && k == w) (joint_is xs p)
-      ∙ and_right (sound.is_filled m xs) _ h
+      ∙ (and_parts (sound.is_filled m xs) _ h).1
   expression_fits (v.Replication n x) w p q h =
       ap (λ b. b && n * rules.width sc (laid.signal_name m x) == w) (read_is x (p 0 x refl)) ∙ ap (λ k. sound.is_read m x && n * k == w) (width_is x (p 0 x refl)) ∙ h

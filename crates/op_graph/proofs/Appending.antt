@@ -3,18 +3,12 @@ use Rattle.std.proofs.Common.{◌≡◌, ℕ, suc, zero, ◌+◌, ◌*◌, ◌<�
 use Rattle.std.specs.List.{Contains}
 use Rattle.std.proofs.lemmas.Bool.{cases_eq}
 use Rattle.std.proofs.lemmas.List.Elements.{Contains-append_left, Contains-append_right, Contains-append_cases}
+use Rattle.lists.proofs.Places.{in_none}
 use Rattle.schedule_sdc.specs.declared.constraint.Constraint.{Constraint}
 use Rattle.op_graph.specs.Listed.{row, rows_below}
 
 pub one_step : (o p a x y : List Constraint) → x ≡ o ++ p → y ≡ x ++ a → y ≡ o ++ (p ++ a)
 one_step o p a x y e f = f ∙ (ap (λ (z : List Constraint). z ++ a) e ∙ append_assoc o p a)
-
-pub of_one : (x c : Constraint) → Contains (x ∷ []) c → x ≡ c
-of_one x c (zero, l, e) = e
-of_one x c (suc k, l, e) = absurd (omega arith)
-
-pub of_none : (c : Constraint) → Contains {X = Constraint} [] c → ⊥
-of_none c h = omega (arith, h.1)
 
 pub is_one : (x c : Constraint) → c ≡ x → Contains (x ∷ []) c
 is_one x c e = (0, omega arith, sym e)
@@ -34,7 +28,7 @@ below_has rows (suc k) j c l h = by_place (cases_eq j k) (below_has rows k j c)
 -- what holds of the rows of each place holds of all
 pub of_below : (P : Constraint → Type 0) (rows : ℕ → List Constraint) (k : ℕ) → ((j : ℕ) → j < k → (c : Constraint) → Contains (rows j) c → P c) →
     (c : Constraint) → Contains (rows_below rows k) c → P c
-of_below P rows zero each c h = absurd (of_none c h)
+of_below P rows zero each c h = absurd (in_none c h)
 of_below P rows (suc k) each c h = by_part (of_below P rows k (λ j l. each j (omega arith)) c) (Contains-append_cases (rows_below rows k) (rows k) c h)
   where
     by_part : (Contains (rows_below rows k) c → P c) → (Contains (rows_below rows k) c) ⊎ (Contains (rows k) c) → P c

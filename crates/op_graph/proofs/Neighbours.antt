@@ -6,6 +6,7 @@ use Rattle.std.specs.List.{All, Contains}
 use Rattle.std.proofs.lemmas.Bool.{cases_eq, eqb-true, eq-eqb}
 use Rattle.std.proofs.lemmas.Int.{ints}
 use Rattle.std.proofs.lemmas.List.Elements.{Contains-append_left, Contains-append_right, Contains-append_cases, All-contains, All-contains_itself}
+use Rattle.lists.proofs.Places.{in_none}
 use Rattle.schedule_sdc.specs.declared.constraint.Constraint.{Constraint}
 use Rattle.schedule_sdc.specs.Solution.{Meets, IsSolution, IsWithin}
 use Rattle.op_graph.specs.declared.node.Kind.{Kind}
@@ -16,7 +17,7 @@ use Rattle.op_graph.specs.Table.{Row, Ends, Chained, ChainedTwice, Kept, Awaited
 use Rattle.op_graph.specs.Listed.{row, rows_below, rows_of_uses, operand_rows, use_rows, far_rows, all_uses, end_row, end_rows}
 use Rattle.op_graph.specs.Reduced.{last_below, first_from, accesses_global, writes_array, writes, global_at, write_at, after_access, global_rows, all_globals}
 use Rattle.op_graph.specs.Reduced.{after_write, array_rows, all_arrays, before_write, read_rows, rows_of_last, all_reads}
-use Rattle.op_graph.proofs.Appending.{of_none, is_one, below_has, of_below, length-below}
+use Rattle.op_graph.proofs.Appending.{is_one, below_has, of_below, length-below}
 use Rattle.op_graph.proofs.TableRows.{one_row, uses_sound, ends_sound, chained, chained_twice, kept, awaited, ended}
 
 -- ---- the last below a place, and the first from one on
@@ -117,31 +118,31 @@ module _ (nodes : List Node) where
   global_sound j (Global x w) c l e h = by_last (last_below (global_at nodes x) j) refl h
     where
       by_last : (o : Option ℕ) → last_below (global_at nodes x) j ≡ o → Contains (after_access nodes j o) c → Row nodes c
-      by_last None f g = absurd (of_none c g)
+      by_last None f g = absurd (in_none c g)
       by_last (Some i) f g =
           let is = last_is (global_at nodes x) j i f in
           one_row nodes (row i j (gap_after (writes (kind_at nodes i)))) c (OneGlobal x (writes (kind_at nodes i)) w is.0 l (global_kind x (kind_at nodes i) is.1) e refl) g
-  global_sound j k c l e h = absurd (of_none c h)
+  global_sound j k c l e h = absurd (in_none c h)
 
   array_sound : (j : ℕ) (k : Kind) (c : Constraint) → j < length nodes → kind_at nodes j ≡ k → Contains (array_rows nodes j k) c → Row nodes c
   array_sound j (Array x w) c l e h = by_last (last_below (write_at nodes x) j) refl h
     where
       by_last : (o : Option ℕ) → last_below (write_at nodes x) j ≡ o → Contains (after_write j o) c → Row nodes c
-      by_last None f g = absurd (of_none c g)
+      by_last None f g = absurd (in_none c g)
       by_last (Some i) f g =
           let is = last_is (write_at nodes x) j i f in
           one_row nodes (row i j 1) c (OneArray x true w is.0 l (write_kind x (kind_at nodes i) is.1) e refl refl) g
-  array_sound j k c l e h = absurd (of_none c h)
+  array_sound j k c l e h = absurd (in_none c h)
 
   read_sound : (i m : ℕ) (k : Kind) (c : Constraint) → suc i + m ≤ length nodes → kind_at nodes i ≡ k → Contains (read_rows nodes i m k) c → Row nodes c
   read_sound i m (Array x false) c l e h = by_first (first_from (write_at nodes x) (suc i) m) refl h
     where
       by_first : (o : Option ℕ) → first_from (write_at nodes x) (suc i) m ≡ o → Contains (before_write i o) c → Row nodes c
-      by_first None f g = absurd (of_none c g)
+      by_first None f g = absurd (in_none c g)
       by_first (Some j) f g =
           let is = first_is (write_at nodes x) (suc i) m j f in
           one_row nodes (row i j 1) c (OneArray x false true (omega (arith, is.0)) (omega (arith, is.1)) e (write_kind x (kind_at nodes j) is.2) refl refl) g
-  read_sound i m k c l e h = absurd (of_none c h)
+  read_sound i m k c l e h = absurd (in_none c h)
 
   globals_sound : (c : Constraint) → Contains (all_globals nodes (length nodes)) c → Row nodes c
   globals_sound = of_below (Row nodes) (λ j. global_rows nodes j (kind_at nodes j)) (length nodes) (λ j l c h. global_sound j (kind_at nodes j) c l refl h)

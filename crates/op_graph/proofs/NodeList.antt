@@ -1,6 +1,8 @@
 -- The nodes of a list of operations.
 use Rattle.std.proofs.Common.{◌≡◌, ℕ, suc, zero, ◌+◌, ◌<◌, ◌≤◌, List, [], ◌∷◌, ◌++◌, length, take, slice_get, slice_index_or, Option}
 use Rattle.std.proofs.Common.{Some, None, Bool, true, false, nat_lt, if◌then◌else◌, refl, ap, sym, ◌∙◌, subst, inl, inr, arith, add-one}
+use Rattle.std.proofs.lemmas.List.{take_all}
+use Rattle.lists.proofs.Places.{take_next}
 use Rattle.block_ir.specs.declared.operand.Source.{Source}
 use Rattle.block_ir.specs.declared.operand.Source.TheVariants.{Constant, Variable, Value}
 use Rattle.block_ir.specs.declared.block.Operation.{Operation}
@@ -13,11 +15,6 @@ nodes-append k [] o = let e : k + 0 ≡ k = omega arith in ap (λ (n : ℕ). nod
 nodes-append k (x ∷ os) o =
     let e : suc k + length os ≡ k + suc (length os) = omega arith in
     ap (λ (l : List Node). node_of k x ∷ l) (nodes-append (suc k) os o ∙ ap (λ (n : ℕ). nodes_from (suc k) os ++ node_of n o ∷ []) e)
-
-take_next : (os : List Operation) (i : ℕ) (o : Operation) → slice_get os i ≡ Some o → take (suc i) os ≡ take i os ++ o ∷ []
-take_next [] i o e = absurd cc
-take_next (x ∷ os) zero o e = let same : x ≡ o = cc in ap (λ (z : Operation). z ∷ []) same
-take_next (x ∷ os) (suc i) o e = ap (λ (l : List Operation). x ∷ l) (take_next os i o e)
 
 length_taken : (os : List Operation) (i : ℕ) (o : Operation) → slice_get os i ≡ Some o → length (take i os) ≡ i
 length_taken [] i o e = absurd cc
@@ -32,11 +29,6 @@ nodes_next os i o x y e f g =
     let same : nodes_of (take (suc i) os) ≡ nodes_of (take i os) ++ node_of i o ∷ [] =
     ap nodes_of (take_next os i o e) ∙ nodes-append 0 (take i os) o ∙ ap (λ (m : ℕ). nodes_of (take i os) ++ node_of m o ∷ []) n in
     rw (add-one, same, g, f) refl
-
-pub item_is : (os : List Operation) (i : ℕ) (o : Operation) → i < length os → o ≡ slice_index_or os i o → slice_get os i ≡ Some o
-item_is [] i o l e = absurd (omega arith)
-item_is (x ∷ os) zero o l e = ap Some (sym e)
-item_is (x ∷ os) (suc i) o l e = item_is os i o (omega arith) e
 
 below_if : (b : Bool) (j k i : ℕ) → nat_lt j k ≡ b → (if b then Some j else None) ≡ Some i → i < k
 below_if true j k i e f = let same : j ≡ i = cc in grind arith
@@ -71,11 +63,5 @@ use_earlier os nodes e =
     let P : List Node → Type 0 = UseEarlier in
     subst P (sym e) (λ j i l u. let h = earlier_from os 0 j i l u in omega arith)
 
-take_past : (os : List Operation) (i : ℕ) → length os ≤ i → take i os ≡ os
-take_past [] zero l = refl
-take_past [] (suc i) l = refl
-take_past (x ∷ os) zero l = absurd (omega arith)
-take_past (x ∷ os) (suc i) l = ap (λ (r : List Operation). x ∷ r) (take_past os i (omega arith))
-
 pub whole : (os : List Operation) (i : ℕ) (nodes : List Node) → length os ≤ i → nodes ≡ nodes_of (take i os) → nodes ≡ nodes_of os
-whole os i nodes l e = e ∙ ap nodes_of (take_past os i l)
+whole os i nodes l e = e ∙ ap nodes_of (take_all i os l)

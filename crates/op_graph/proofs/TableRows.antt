@@ -4,6 +4,7 @@ use Rattle.std.proofs.Common.{None, refl, ap, subst, sym, ◌∙◌, ◌⊎◌, 
 use Rattle.std.specs.List.{Contains}
 use Rattle.std.proofs.lemmas.Bool.{cases_eq}
 use Rattle.std.proofs.lemmas.List.Elements.{Contains-append_left, Contains-append_right, Contains-append_cases}
+use Rattle.lists.proofs.Places.{in_none, in_one}
 use Rattle.schedule_sdc.specs.declared.constraint.Constraint.{Constraint}
 use Rattle.op_graph.specs.declared.node.Kind.{Kind}
 use Rattle.op_graph.specs.declared.node.Kind.TheVariants.{Global, Array}
@@ -11,25 +12,25 @@ use Rattle.op_graph.specs.declared.node.Node.{Node}
 use Rattle.op_graph.specs.Graph.{node, kind_at, Uses, is_simple, latency_at}
 use Rattle.op_graph.specs.Table.{IsTable, Row, Ends, Chained, ChainedTwice, Kept, Awaited, OneGlobal, OneArray, gap_after}
 use Rattle.op_graph.specs.Listed.{row, far_rows, use_rows, operand_rows, rows_of_uses, all_uses, order_gap, gap_rows, order_rows, all_orders, end_row, end_rows}
-use Rattle.op_graph.proofs.Appending.{of_one, of_none, is_one, row_path, below_has, of_below}
+use Rattle.op_graph.proofs.Appending.{is_one, row_path, below_has, of_below}
 
 module _ (nodes : List Node) where
   abbrev IsRow : Constraint → Type 0
   IsRow c = Row nodes c
 
   pub one_row : (x c : Constraint) → IsRow x → Contains (x ∷ []) c → IsRow c
-  one_row x c r h = subst (λ (d : Constraint). IsRow d) (of_one x c h) r
+  one_row x c r h = subst (λ (d : Constraint). IsRow d) (in_one x c h) r
 
   -- each row listed is a row of the table
 
   far_if : (b : Bool) (i j h : ℕ) (c : Constraint) → is_simple (kind_at nodes h) ≡ b → j < length nodes → Uses nodes j i → Uses nodes i h → is_simple (kind_at nodes i) ≡ true →
       is_simple (kind_at nodes j) ≡ true → Contains (if b then row h j 1 ∷ [] else []) c → IsRow c
   far_if true i j h c e l u v si sj k = one_row (row h j 1) c (ChainedTwice i l u v e si sj refl) k
-  far_if false i j h c e l u v si sj k = absurd (of_none c k)
+  far_if false i j h c e l u v si sj k = absurd (in_none c k)
 
   far_sound : (i j : ℕ) (o : Option ℕ) (c : Constraint) → ((h : ℕ) → o ≡ Some h → Uses nodes i h) → j < length nodes → Uses nodes j i → is_simple (kind_at nodes i) ≡ true →
       is_simple (kind_at nodes j) ≡ true → Contains (far_rows nodes j o) c → IsRow c
-  far_sound i j None c v l u si sj k = absurd (of_none c k)
+  far_sound i j None c v l u si sj k = absurd (in_none c k)
   far_sound i j (Some h) c v l u si sj k = far_if (is_simple (kind_at nodes h)) i j h c refl l u (v h refl) si sj k
 
   abbrev use_if_rows : Bool → Bool → ℕ → ℕ → List Constraint
@@ -51,7 +52,7 @@ module _ (nodes : List Node) where
   use_if false d i j c si sj l u k = one_row (row i j (latency_at nodes i)) c (Awaited l u si refl) k
 
   operand_sound : (j : ℕ) (o : Option ℕ) (c : Constraint) → ((i : ℕ) → o ≡ Some i → Uses nodes j i) → j < length nodes → Contains (operand_rows nodes j o) c → IsRow c
-  operand_sound j None c u l k = absurd (of_none c k)
+  operand_sound j None c u l k = absurd (in_none c k)
   operand_sound j (Some i) c u l k = use_if (is_simple (kind_at nodes i)) (is_simple (kind_at nodes j)) i j c refl refl l (u i refl) k
 
   operands_sound : (j : ℕ) (c : Constraint) → j < length nodes → Contains (rows_of_uses nodes j) c → IsRow c
@@ -69,23 +70,23 @@ module _ (nodes : List Node) where
   global_if true x y i j v w c e lt l p q k =
       let s : y ≡ x = grind arith in
       one_row (row i j (gap_after v)) c (OneGlobal x v w lt l p (q ∙ ap (λ (z : ℕ). Global z w) s) refl) k
-  global_if false x y i j v w c e lt l p q k = absurd (of_none c k)
+  global_if false x y i j v w c e lt l p q k = absurd (in_none c k)
 
   array_if : (b d : Bool) (x y i j : ℕ) (v w : Bool) (c : Constraint) → nat_eq x y ≡ b → (v || w) ≡ d → i < j → j < length nodes → kind_at nodes i ≡ Array x v → kind_at nodes j ≡ Array y w →
       Contains (gap_rows i j (if b && d then Some 1 else None)) c → IsRow c
   array_if true true x y i j v w c e f lt l p q k =
       let s : y ≡ x = grind arith in
       one_row (row i j 1) c (OneArray x v w lt l p (q ∙ ap (λ (z : ℕ). Array z w) s) f refl) k
-  array_if true false x y i j v w c e f lt l p q k = absurd (of_none c k)
-  array_if false d x y i j v w c e f lt l p q k = absurd (of_none c k)
+  array_if true false x y i j v w c e f lt l p q k = absurd (in_none c k)
+  array_if false d x y i j v w c e f lt l p q k = absurd (in_none c k)
 
   gap_sound : (a b : Kind) (i j : ℕ) (c : Constraint) → i < j → j < length nodes → kind_at nodes i ≡ a → kind_at nodes j ≡ b → Contains (gap_rows i j (order_gap a b)) c → IsRow c
   gap_sound (Global x v) (Global y w) i j c lt l p q k = global_if (nat_eq x y) x y i j v w c refl lt l p q k
   gap_sound (Array x v) (Array y w) i j c lt l p q k = array_if (nat_eq x y) (v || w) x y i j v w c refl refl lt l p q k
-  gap_sound a b i j c lt l p q k = absurd (of_none c k)
+  gap_sound a b i j c lt l p q k = absurd (in_none c k)
 
   order_sound : (j : ℕ) (k : ℕ) (c : Constraint) → k ≤ j → j < length nodes → Contains (order_rows nodes j k) c → IsRow c
-  order_sound j zero c le l h = absurd (of_none c h)
+  order_sound j zero c le l h = absurd (in_none c h)
   order_sound j (suc k) c le l h = by_part (order_sound j k c (omega arith) l) (Contains-append_cases (order_rows nodes j k) (gap_rows k j (order_gap (kind_at nodes k) (kind_at nodes j))) c h)
     where
       by_part : (Contains (order_rows nodes j k) c → IsRow c) → (Contains (order_rows nodes j k) c) ⊎ (Contains (gap_rows k j (order_gap (kind_at nodes k) (kind_at nodes j))) c) → IsRow c

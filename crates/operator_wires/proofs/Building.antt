@@ -3,6 +3,7 @@ use Rattle.std.proofs.Common.{◌≡◌, ℕ, zero, suc, ◌+◌, ◌<◌, ◌�
 use Rattle.std.specs.Prelude.{slice_get, Result, Ok, Err, IfOk}
 use Rattle.std.proofs.lemmas.Option.{slice_get_within}
 use Rattle.std.proofs.lemmas.Bool.Decides.{nat_tests}
+use Rattle.lists.proofs.Places.{get_last, get_left}
 use Rattle.verilog_tree.specs.declared.tree.BinaryOperator.{BinaryOperator}
 use Rattle.verilog_tree.specs.declared.tree.BinaryOperator.TheVariants as gate
 use Rattle.netlist.specs.declared.netlist.Value.{Value}
@@ -32,23 +33,14 @@ room_of a base y w e = let l = within a base y w e in let f = e.after in omega a
 pub longer : (a b : List Signal) → Grows a b → length a ≤ length b
 longer a b g = let n = ap length g.is ∙ length-append a g.more in omega arith
 
-at_last : (a : List Signal) (t : Signal) → slice_get (a ++ t ∷ []) (length a) ≡ Some t
-at_last [] t = refl
-at_last (y ∷ a) t = at_last a t
-
 only_last : (a : List Signal) (t s : Signal) (x : ℕ) → length a ≤ x → slice_get (a ++ t ∷ []) x ≡ Some s → (x ≡ length a) × (t ≡ s)
 only_last [] t s zero l e = (refl, (let same : t ≡ s = cc in same))
 only_last [] t s (suc x) l e = absurd cc
 only_last (y ∷ a) t s zero l e = absurd (omega arith)
 only_last (y ∷ a) t s (suc x) l e = let rest = only_last a t s x (omega arith) e in (ap suc rest.0, rest.1)
 
-at_front : (a more : List Signal) (x : ℕ) → x < length a → slice_get (a ++ more) x ≡ slice_get a x
-at_front [] more x l = absurd (omega arith)
-at_front (y ∷ a) more zero l = refl
-at_front (y ∷ a) more (suc x) l = at_front a more x (omega arith)
-
 pub front : (a b : List Signal) (x : ℕ) → Grows a b → x < length a → slice_get b x ≡ slice_get a x
-front a b x g l = ap (λ l. slice_get l x) g.is ∙ at_front a g.more x l
+front a b x g l = ap (λ l. slice_get l x) g.is ∙ get_left a g.more x l
 
 -- ---- right sides under weaker conditions
 
@@ -103,7 +95,7 @@ adds_after base a b c w place t u = record { wires = wires_then base a b c t u.w
 pub lays_adds : (base : Base) (old new : List Signal) (w place : ℕ) (v : Value) → Lays old new Wire w false (Assigned v) place → IsRightSide old base w v → Adds base old new w place
 lays_adds base old new w place v t right =
     let grows : Grows old new = record { more = t.signal ∷ []; is = t.is } in
-    let here : slice_get new (length old) ≡ Some t.signal = ap (λ l. slice_get l (length old)) t.is ∙ at_last old t.signal in
+    let here : slice_get new (length old) ≡ Some t.signal = ap (λ l. slice_get l (length old)) t.is ∙ get_last old t.signal in
     let more : (y u : ℕ) → IsEarlier old base y u → IsRead new base (length old) y u =
     λ y u e. record { earlier = stands_after old new base y u grows e; before = within old base y u e } in
     let fits : FitsValue (IsRead new base (length old)) base.memory w v =

@@ -1,6 +1,7 @@
 -- Signals put behind others.
-use Rattle.std.proofs.Common.{◌≡◌, ℕ, zero, suc, List, [], ◌∷◌, ◌++◌, length, slice_get, Some, refl, sym, ap, ◌∙◌, arith, append_assoc, length-append}
+use Rattle.std.proofs.Common.{◌≡◌, ℕ, List, [], ◌∷◌, ◌++◌, length, slice_get, Some, sym, ap, ◌∙◌, arith, append_assoc, length-append}
 use Rattle.std.proofs.lemmas.List.{append-nil}
+use Rattle.lists.proofs.Places.{get_last, get_front}
 use Rattle.netlist.specs.declared.netlist.Signal.{Signal}
 use Rattle.netlist.specs.declared.netlist.Source.{Source}
 use Rattle.netlist.specs.declared.netlist.Source.TheVariants as source
@@ -14,20 +15,11 @@ grows_refl a = record { more = []; is = sym (append-nil a) }
 pub grows_then : (a b c : List Signal) → Grows a b → Grows b c → Grows a c
 grows_then a b c g h = record { more = g.more ++ h.more; is = h.is ∙ ap (λ l. l ++ h.more) g.is ∙ append_assoc a g.more h.more }
 
-get-append : (a b : List Signal) (x : ℕ) (s : Signal) → slice_get a x ≡ Some s → slice_get (a ++ b) x ≡ Some s
-get-append [] b x s e = absurd cc
-get-append (y ∷ a) b zero s e = e
-get-append (y ∷ a) b (suc x) s e = get-append a b x s e
-
-get-last : (a : List Signal) (s : Signal) → slice_get (a ++ s ∷ []) (length a) ≡ Some s
-get-last [] s = refl
-get-last (y ∷ a) s = get-last a s
-
 pub listed : (a b : List Signal) (x : ℕ) (s : Signal) → Grows a b → slice_get a x ≡ Some s → slice_get b x ≡ Some s
-listed a b x s g e = ap (λ l. slice_get l x) g.is ∙ get-append a g.more x s e
+listed a b x s g e = ap (λ l. slice_get l x) g.is ∙ get_front a g.more x s e
 
 stands_at : (old new : List Signal) (w place : ℕ) (d : Source) (t : Stands old new w d place) → slice_get new place ≡ Some t.signal
-stands_at old new w place d t = ap (λ l. slice_get l place) t.is ∙ ap (slice_get (old ++ t.signal ∷ [])) t.last ∙ get-last old t.signal
+stands_at old new w place d t = ap (λ l. slice_get l place) t.is ∙ ap (slice_get (old ++ t.signal ∷ [])) t.last ∙ get_last old t.signal
 
 -- a wire that stands gives its right side
 pub stands_gives : (old new : List Signal) (w place : ℕ) (v : Value) → Stands old new w (source.Assigned v) place → Gives old new place w (λ m r. value m r v)

@@ -1,5 +1,6 @@
 -- Words of other widths.
 use Rattle.std.proofs.Common.{◌≡◌, ℕ, ◌+◌, ◌-◌, ◌*◌, ◌/◌, ◌%◌, ◌^◌, ◌<◌, ◌≤◌, Bool, true, false, ◌&&◌, if◌then◌else◌, nat_lt, List, [], ◌∷◌, ℤ, refl, sym, ap, subst, ◌∙◌, arith}
+use Rattle.std.proofs.Math.Nat.{add-sub_cancel_left}
 use Rattle.netlist.specs.declared.netlist.Signal.{Signal}
 use Rattle.netlist.specs.declared.netlist.Value.TheVariants.{Select, Replication}
 use Rattle.netlist.specs.declared.netlist.Module.{Module}
@@ -25,9 +26,6 @@ gives_after a b c place w f g before t same = record {
   shows = λ m r h o. t.shows m r h o ∙ same m r (grows_then b c m.signals t.grows h) h o;
 }
 
-same_bit : (n : ℕ) → n + 1 - n ≡ 1
-same_bit n = omega arith
-
 beside_zeros : (w v z n : ℕ) → z ≡ 0 → (0 * 2 ^ w + z) * 2 ^ v + n ≡ n
 beside_zeros w v z n e = let none : 0 * 2 ^ w + z ≡ 0 = omega arith in ap (λ x. x * 2 ^ v + n) none ∙ (let e' : 0 * 2 ^ v + n ≡ n = omega arith in e')
 
@@ -48,7 +46,7 @@ sign_gives a b c d sign fill place of top count to t u v =
     (grows_then a b c t.grows u.grows) v
     (λ m r g h o.
     let before = grows_then b c m.signals u.grows g in
-    let bit : r.signal sign ≡ (r.signal of / 2 ^ top) % 2 ^ 1 = t.shows m r before o ∙ ap (λ n. (r.signal of / 2 ^ top) % 2 ^ n) (same_bit top) in
+    let bit : r.signal sign ≡ (r.signal of / 2 ^ top) % 2 ^ 1 = t.shows m r before o ∙ ap (λ n. (r.signal of / 2 ^ top) % 2 ^ n) (add-sub_cancel_left top 1) in
     let filled : r.signal fill ≡ repeated count 1 ((r.signal of / 2 ^ top) % 2 ^ 1) =
     u.shows m r g o ∙ ap (λ n. repeated count n (r.signal sign)) (t.wide m before) ∙ ap (repeated count 1) bit
     in

@@ -12,9 +12,6 @@ use Rattle.operator_wires.specs.Built.{Base, IsEarlier, IsRightSide, AreWires, A
 use Rattle.operator_wires.specs.Added.{IsAdded, ConstantAdds, BesideAdds, LowAdds, SignAdds, ZerosAdds, ResizedAdds, NumberAdds, IsConstant, IsConverted, TruthOf, BitOfOne}
 use Rattle.operator_wires.proofs.Building.{stands_after, room_of, wires_none, wires_then, adds_after}
 
-pub some : (w : ℕ) → 0 < 2 ^ w
-some w = pow_pos w
-
 pub at_least : (ty : IntegerType) → 8 ≤ width_of ty
 at_least ty = bits-at_least ty.width
 
@@ -88,7 +85,7 @@ sign_adds a b c d sign fill place of from to top count is counts t u v base e mo
 
 pub zeros_adds : (a b c : List Signal) (zeros place of from to count : ℕ) → count ≡ to - from → ConstantAdds a b count 0 zeros → BesideAdds b c to zeros of place → ZerosAdds a c of from to place
 zeros_adds a b c zeros place of from to count counts t u base e less most =
-    let none = t base (room_of a base of from e) (omega arith) (omega arith) (some count) in
+    let none = t base (room_of a base of from e) (omega arith) (omega arith) (pow_pos count) in
     adds_after base a b c to place none.wires (u base count from none.stands (stands_after a b base of from none.wires.grows e) (omega arith) most)
 
 pub resized_low : (a b : List Signal) (of from to place : ℕ) (signed : Bool) → to < from → LowAdds a b of to place → ResizedAdds a b of from to signed place
@@ -126,4 +123,4 @@ pub truth_adds : (a b : List Signal) (bit place : ℕ) (out : Word) → ZerosAdd
 truth_adds a b bit place out t at wide sign base e = word_of base a b truth_type place out (t base e (let l : 1 < 32 = omega arith in l) (let l : 32 ≤ 64 = omega arith in l)) at wide sign
 
 pub zero_test_adds : (a b : List Signal) (word : Word) (place : ℕ) → NumberAdds a b word.width word.place 0 place → BitOfOne a b word place
-zero_test_adds a b word place t base ty is = t base (own base a ty word is) (some word.width)
+zero_test_adds a b word place t base ty is = t base (own base a ty word is) (pow_pos word.width)

@@ -2,6 +2,7 @@
 use Rattle.std.proofs.Common.{◌≡◌, ℕ, ◌≤◌, true, false, List, refl, sym, subst, ◌∙◌, arith}
 use Rattle.std.specs.Prelude.{Result, Ok, Err, IfOk}
 use Rattle.std.proofs.lemmas.Result.{IfOk-weaker}
+use Rattle.std.proofs.lemmas.Nat.{pow_pos}
 use Rattle.c_program.specs.declared.tree.UnaryOperator.{UnaryOperator}
 use Rattle.c_program.specs.declared.tree.UnaryOperator.TheVariants.{Plus}
 use Rattle.c_program.specs.declared.tree.BinaryOperator.{BinaryOperator}
@@ -20,7 +21,7 @@ use Rattle.operator_wires.specs.Built.{Base, IsEarlier, IsRightSide, StandsAs, A
 use Rattle.operator_wires.specs.Added.{IsAdded, ConstantAdds, NotAdds, BinaryAdds, NumberAdds, IsConverted, IsOfTwo, LikeOne, LikeTwo, LikeLeft, TruthOf, TruthOfOne, TruthOfTwo, BitOfTwo, QuotientOf}
 use Rattle.operator_wires.specs.Added.{GateAdds, UnaryAdds, OwnAdds, RightAdds}
 use Rattle.operator_wires.proofs.Building.{stands_after, room_of, wires_then, adds_after}
-use Rattle.operator_wires.proofs.Wording.{some, own, stands_as_after, word_like, word_none, word_after}
+use Rattle.operator_wires.proofs.Wording.{own, stands_as_after, word_like, word_none, word_after}
 
 -- ---- wires of operators
 
@@ -28,7 +29,7 @@ pub negated_adds : (a b c : List Signal) (word out : Word) (zero place : ℕ) �
     → out.place ≡ place → out.width ≡ word.width → out.signed ≡ word.signed → LikeOne a c word out
 negated_adds a b c word out zero place t u at wide sign base ty is =
     let e = own base a ty word is in
-    let none = t base (room_of a base word.place word.width e) e.low e.high (some word.width) in
+    let none = t base (room_of a base word.place word.width e) e.low e.high (pow_pos word.width) in
     let made = u base (none.stands, stands_after a b base word.place word.width none.wires.grows e) in
     word_like base a c ty word out place is (adds_after base a b c word.width place none.wires made) at wide sign
 
@@ -38,7 +39,7 @@ complement_adds a b word out place t at wide sign base ty is = word_like base a 
 
 pub zero_word_adds : (a b c : List Signal) (word out : Word) (bit : ℕ) → NumberAdds a b word.width word.place 0 bit → TruthOf b c bit out → TruthOfOne a c word out
 zero_word_adds a b c word out bit t u base ty is =
-    let test = t base (own base a ty word is) (some word.width) in
+    let test = t base (own base a ty word is) (pow_pos word.width) in
     word_after base a b c truth_type out test.wires (u base test.stands)
 
 pub gate_adds : (a b : List Signal) (operator : Gate) (left right out : Word) (place : ℕ) → BinaryAdds a b operator left.width left.place right.place place

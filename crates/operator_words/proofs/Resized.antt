@@ -1,16 +1,14 @@
 -- Conversions by wires: low bits, zeros above, copies of the sign above.
 use Rattle.std.proofs.Common.{◌≡◌, ℕ, zero, suc, ◌+◌, ◌-◌, ◌*◌, ◌/◌, ◌%◌, ◌^◌, ◌<◌, ◌≤◌, Bool, true, false, ℤ, pos, negsuc, ap, sym, subst, ◌∙◌, refl, arith, mul_comm}
-use Rattle.std.proofs.Math.Nat.{mod-eq_of_lt, div-eq_of_lt, mul-add-mod_self_left, div-add-mod, div-lt_iff_lt-mul, add-div_left, pow-le-pow_right, two-pow-succ}
+use Rattle.std.proofs.Math.Nat.{mod-eq_of_lt, div-eq_of_lt, mul-add-mod_self_left, div-add-mod, div-lt_iff_lt-mul, add-div_left, two-pow-succ}
 use Rattle.std.proofs.lemmas.Nat.{pow_pos, pow-add}
+use Rattle.std.proofs.Math.Pow.{pow_mono}
 use Rattle.hls_ints.specs.Residues.{residue_of}
 use Rattle.hls_ints.specs.Types.{Width, HasType, bits}
 use Rattle.hls_ints.proofs.Conversions.{at_least_1, double}
 use Rattle.verilog_meaning.specs.Readings.{repeated}
 use Rattle.operator_words.specs.Shown.{LowBitsShow, ZerosShow, SignShows}
 use Rattle.operator_words.proofs.Typed.{signed_type, unsigned_type}
-
-pub pow_le : {i j : ℕ} → i ≤ j → 2 ^ i ≤ 2 ^ j
-pow_le {i = i} {j = j} h = let two : 0 < 2 = omega arith in pow-le-pow_right {n = 2} two {i = i} {j = j} h
 
 -- ---- low bits
 
@@ -73,7 +71,7 @@ unfolding residue_of
 with_zeros_are W to (pos n) h t =
     let below : n < 2 ^ bits W = grind arith in
     let up = factor (bits W) to h in
-    let more : n < 2 ^ to = let wider = pow_le {i = bits W} {j = to} h in omega arith in
+    let more : n < 2 ^ to = let wider = pow_mono h in omega arith in
     mod-eq_of_lt below ∙ sym (mod-eq_of_lt more)
 with_zeros_are W to (negsuc n) h t = absurd cc
 
@@ -88,7 +86,7 @@ with_sign_pos : (w to n : ℕ) → 1 ≤ w → w ≤ to → n < 2 ^ (w - 1) →
     repeated (to - w) 1 (((n % 2 ^ w) / 2 ^ (w - 1)) % 2 ^ 1) * 2 ^ w + n % 2 ^ w ≡ n % 2 ^ to
 with_sign_pos w to n one h below =
     let two = double w one in
-    let wider = pow_le {i = w} {j = to} h in
+    let wider = pow_mono h in
     let small : n % 2 ^ w ≡ n = mod-eq_of_lt (omega arith) in
     let same : n % 2 ^ to ≡ n = mod-eq_of_lt (omega arith) in
     let sign : n / 2 ^ (w - 1) ≡ 0 = div-eq_of_lt below in
@@ -98,7 +96,7 @@ with_sign_neg : (w to n : ℕ) → 1 ≤ w → w ≤ to → n < 2 ^ (w - 1) →
     repeated (to - w) 1 (((2 ^ w - 1 - n % 2 ^ w) / 2 ^ (w - 1)) % 2 ^ 1) * 2 ^ w + (2 ^ w - 1 - n % 2 ^ w) ≡ 2 ^ to - 1 - n % 2 ^ to
 with_sign_neg w to n one h below =
     let two = double w one in
-    let wider = pow_le {i = w} {j = to} h in
+    let wider = pow_mono h in
     let small : n % 2 ^ w ≡ n = mod-eq_of_lt (omega arith) in
     let same : n % 2 ^ to ≡ n = mod-eq_of_lt (omega arith) in
     let upper : 2 ^ w - 1 - n ≡ 2 ^ (w - 1) + (2 ^ (w - 1) - 1 - n) = omega arith in

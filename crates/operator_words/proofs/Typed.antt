@@ -1,8 +1,9 @@
 -- Values of a type and the words that show them: tests, quotients and remainders.
-use Rattle.std.proofs.Common.{◌≡◌, ℕ, ◌-◌, ◌/◌, ◌%◌, ◌^◌, ◌<◌, Bool, true, false, not, ℤ, pos, negsuc, ap, sym, subst, ◌∙◌, refl, arith, IsTrue, nat_lt, nat_eq, if◌then◌else◌}
+use Rattle.std.proofs.Common.{◌≡◌, ℕ, ◌-◌, ◌/◌, ◌%◌, ◌^◌, ◌<◌, Bool, true, false, not, ℤ, pos, negsuc, ap, sym, subst, ◌∙◌, refl, arith, nat_lt, nat_eq, if◌then◌else◌}
 use Rattle.std.proofs.Common.{int_lt, int_le, int_div, int_rem, ◌&&◌}
 use Rattle.std.proofs.Math.Nat.{mod-eq_of_lt, mod-le, div-le_self}
 use Rattle.std.proofs.lemmas.Nat.{pow_pos}
+use Rattle.std.proofs.lemmas.Bool.{lt-ltb}
 use Rattle.hls_ints.specs.Residues.{residue_of, signed_value_of, bit_of}
 use Rattle.hls_ints.specs.Types.{Width, IntegerType, HasType, bits, width_of, wrapped}
 use Rattle.hls_ints.specs.Operators.{is_zero}
@@ -94,12 +95,9 @@ word_equal_is ty a b h k =
     (λ e. let P : ℤ → Type 0 = λ x. (int_le a x && int_le x a) ≡ true in subst P (same_word ty a b h k e) (int_le_refl a))
     (λ e. ap (residue_of w) (int_le_antisym a b e)) refl)
 
-zero_below : (n : ℕ) → 0 < n → IsTrue (nat_lt 0 n)
-zero_below n h = grind arith
-
 has_zero_at : (signed : Bool) (W : Width) → HasType (record { width = W; signed = signed }) (pos 0)
-has_zero_at true W = zero_below (2 ^ (bits W - 1)) (pow_pos (bits W - 1))
-has_zero_at false W = zero_below (2 ^ bits W) (pow_pos (bits W))
+has_zero_at true W = lt-ltb 0 (2 ^ (bits W - 1)) (pow_pos (bits W - 1))
+has_zero_at false W = lt-ltb 0 (2 ^ bits W) (pow_pos (bits W))
 
 pub has_zero : (ty : IntegerType) → HasType ty (pos 0)
 has_zero ty = has_zero_at ty.signed ty.width

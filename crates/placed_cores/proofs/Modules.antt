@@ -6,6 +6,7 @@ use Rattle.std.specs.List.{list_any}
 use Rattle.std.proofs.lemmas.Bool.{cases_lt}
 use Rattle.std.proofs.lemmas.Bool.Decides.{nat_tests}
 use Rattle.std.proofs.lemmas.Option.{same_Some, none-some, slice_get_within}
+use Rattle.std.proofs.lemmas.Map.Keys.{any_passes_from_place}
 use Rattle.hls_ints.specs.Residues.{bit_of}
 use Rattle.lists.proofs.Places.{get_front, get_last}
 use Rattle.netlist.specs.declared.netlist.Module.{Module}
@@ -79,16 +80,6 @@ any_by : {A : Type 0} (p : A → Bool) (x : A) (xs : List A) (b : Bool) → p x 
 any_by p x xs true t e = refl
 any_by p x xs false t e = absurd (let z : false ≡ true = e in cc)
 
--- one that is there is some one
-any_of : {A : Type 0} (p : A → Bool) (xs : List A) (n : ℕ) (x : A) → slice_get xs n ≡ Some x → p x ≡ true → list_any p xs ≡ true
-any_of p [] n x e t = absurd (none-some x e)
-any_of p (y ∷ xs) zero x e t = any_by p y xs (p y) refl (ap p (same_Some y x e) ∙ t)
-any_of p (y ∷ xs) (suc n) x e t = or_true (p y) (list_any p xs) (any_of p xs n x e t)
-  where
-    or_true : (a b : Bool) → b ≡ true → (a || b) ≡ true
-    or_true true b e = refl
-    or_true false b e = e
-
 module _ (w : Wanted) (right : HaveModules w) (banks : List Module) (are_banks : AreBankModules w.threads w.banks (length w.banks) banks) where
   module _ (mutexes : List Module) (are_mutexes : AreMutexModules w mutexes) where
     abbrev unset : List Module
@@ -124,7 +115,7 @@ module _ (w : Wanted) (right : HaveModules w) (banks : List Module) (are_banks :
     mutex_by n m e true is =
         let kind : mutex_at w m ≡ free_at w = ap (λ b. if b then free_at w else unset_at w) is in
         let same : free_mutex w ≡ m = ap (λ (t : ℕ). shape t true) (sym asked) ∙ ap (shape m.threads) (sym is) in
-        let has = free_there (any_of (λ (m : MutexShape). m.initialised) w.mutexes n m e is) in
+        let has = free_there (any_passes_from_place (λ (m : MutexShape). m.initialised) w.mutexes n m e is) in
         subst (λ (z : MutexShape). HasKind w.threads to_free (mutex_at w m) (Mutex z)) same
         (subst (λ k. HasKind w.threads to_free k (Mutex (free_mutex w))) (sym kind) has)
       where
@@ -136,7 +127,7 @@ module _ (w : Wanted) (right : HaveModules w) (banks : List Module) (are_banks :
     mutex_by n m e false is =
         let kind : mutex_at w m ≡ unset_at w = ap (λ b. if b then free_at w else unset_at w) is in
         let same : unset_mutex w ≡ m = ap (λ (t : ℕ). shape t false) (sym asked) ∙ ap (shape m.threads) (sym is) in
-        let has = unset_there (any_of (λ (m : MutexShape). not m.initialised) w.mutexes n m e (ap not is)) in
+        let has = unset_there (any_passes_from_place (λ (m : MutexShape). not m.initialised) w.mutexes n m e (ap not is)) in
         subst (λ (z : MutexShape). HasKind w.threads to_free (mutex_at w m) (Mutex z)) same
         (subst (λ k. HasKind w.threads to_free k (Mutex (unset_mutex w))) (sym kind) has)
       where

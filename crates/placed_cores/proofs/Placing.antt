@@ -3,7 +3,7 @@ use Rattle.std.proofs.Common.{◌≡◌, ℕ, zero, suc, ◌+◌, ◌<◌, ◌�
 use Rattle.std.proofs.Common.{add-one, length-append, refl, sym, ap, ◌∙◌, subst, ⊎_elim, arith}
 use Rattle.std.specs.Prelude.{◌||◌, not, slice_get}
 use Rattle.std.specs.List.{list_any}
-use Rattle.std.proofs.lemmas.Bool.{cases_lt}
+use Rattle.std.proofs.lemmas.Bool.{cases_lt, not-true}
 use Rattle.std.proofs.lemmas.List.{map-append}
 use Rattle.std.proofs.lemmas.Bool.Decides.{nat_tests}
 use Rattle.std.proofs.lemmas.Option.{same_Some, none-some, slice_get_within}
@@ -222,14 +222,10 @@ module _ (w : Wanted) where
   free_by : (b : Bool) (m : MutexShape) → m.initialised ≡ b → mutex_at w m ≡ (if b then free_at w else unset_at w)
   free_by b m e = ap (λ z. if z then free_at w else unset_at w) e
 
-  not_true : (b : Bool) → not b ≡ true → b ≡ false
-  not_true true e = absurd (let z : false ≡ true = e in cc)
-  not_true false e = refl
-
   used_unset : (j : ℕ) → unset_at w ≤ j → j < free_at w → IsUsed j
   used_unset j l h =
       let some = any_is (λ (m : MutexShape). not m.initialised) w.mutexes (set_bit (list_any (λ (m : MutexShape). not m.initialised) w.mutexes) (omega (arith, l, h))) in
-      let at : mutex_at w some.1 ≡ unset_at w = free_by false some.1 (not_true some.1.initialised some.3) in
+      let at : mutex_at w some.1 ≡ unset_at w = free_by false some.1 (not-true some.1.initialised some.3) in
       let low = bit_low (list_any (λ (m : MutexShape). not m.initialised) w.mutexes) in
       record { place = B + some.0; core = placed_mutex w some.0 some.1; listed = mutex_there some.0 some.1 some.2; kind = omega (arith, at, l, h, low) }
     where

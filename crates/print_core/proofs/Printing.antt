@@ -3,7 +3,9 @@ use Rattle.std.proofs.Common.{◌∷◌, subst, ◌≡◌, ℕ, zero, suc, ◌+�
 use Rattle.std.proofs.Common.{if◌then◌else◌, refl, sym, ap, ◌∙◌, arith, add-zero, zero-add, lit<}
 use Rattle.std.specs.Prelude.{◌&&◌, ◌||◌}
 use Rattle.std.proofs.lemmas.Nat.{div-mul-add}
-use Rattle.std.proofs.Math.Nat.{div-lt_iff_lt-mul, suc-mul, mul-le-mul_right}
+use Rattle.std.proofs.Math.Nat.{div-lt_iff_lt-mul, suc-mul}
+use Rattle.std.proofs.Math.Arith.{digits_lt}
+use Rattle.std.proofs.Math.Bool.{or-true}
 use Rattle.hls_ints.specs.Residues.{bit_of}
 use Rattle.netlist.specs.declared.netlist.Signal.{Signal}
 use Rattle.netlist.specs.declared.netlist.Memory.{Memory}
@@ -27,10 +29,6 @@ use Rattle.print_core.specs.Printer.{asks, sites, values, grants, one, going, si
 use Rattle.print_core.specs.Machine.{Ask, ask_of, printer_machine, printer_places, inputs, is_late, part_place}
 use Rattle.print_core.proofs.Writing.{all_missed, one_hit}
 
-or_true : (b : Bool) → (b || true) ≡ true
-or_true true = refl
-or_true false = refl
-
 a_bit : (a : ℕ) → a < 2 → a ≡ bit_of (nat_lt 0 a)
 a_bit zero l = refl
 a_bit (suc zero) l = refl
@@ -53,12 +51,6 @@ some_in_group n (suc c) k l = omega arith
 
 next_group : (a k c j : ℕ) → a + (suc k * c + j) ≡ a + c + (k * c + j)
 next_group a k c j = let e = suc-mul k c in omega arith
-
-in_product : (n c k j : ℕ) → k < n → j < c → k * c + j < n * c
-in_product n c k j l b =
-    let e = suc-mul k c in
-    let m : suc k * c ≤ n * c = mul-le-mul_right c (let s : suc k ≤ n = omega arith in s) in
-    omega arith
 
 -- ---- the $writes fit
 
@@ -109,7 +101,7 @@ module _ (shape : Shape) (ok : IsShape shape) (m : Module) (is : IsPrinter shape
   late_on : (x : ℕ) → going n c ≤ x → x < offers n c s → is_late shape x ≡ true
   late_on x a b =
       ap (λ t. is_between (grants n c) (one n c) x || t) (between_on (going n c) (offers n c s) x a b)
-      ∙ or_true (is_between (grants n c) (one n c) x)
+      ∙ or-true (is_between (grants n c) (one n c) x)
 
   -- a late signal reads any
   from : (x y w : ℕ) → Has m y w → y < x → going n c ≤ x → x < offers n c s → Reads m (is_late shape) x y w
@@ -251,7 +243,7 @@ module _ (shape : Shape) (ok : IsShape shape) (m : Module) (is : IsPrinter shape
           ∙ picked n (λ k. r.signal (chains n c + (k * c + j))) (λ k. r.signal (grants n c + k)) (λ k. r.signal (values n c + (k * c + j)))
           (λ k b.
           let z : chains n c + (suc k * c + j) ≡ chains n c + c + (k * c + j) = next_group (chains n c) k c j in
-          ap r.signal z ∙ told.1.1.1.1.1.1.1.1.1.1.1.0 (k * c + j) (in_product n c k j b l)
+          ap r.signal z ∙ told.1.1.1.1.1.1.1.1.1.1.1.0 (k * c + j) (digits_lt b l)
           ∙ ap (λ x. if nat_eq (r.signal (grants n c + x)) 0 then r.signal (chains n c + (k * c + j)) else r.signal (values n c + (k * c + j))) (div-mul-add k c j l))
           o granted.below granted.bits
           ∙ ap (λ y. pick o y (λ k. r.signal (values n c + (k * c + j)))) (ap r.signal start ∙ told.1.1.1.1.1.1.1.1.1.1.0 j l)
@@ -335,7 +327,7 @@ module _ (shape : Shape) (ok : IsShape shape) (m : Module) (is : IsPrinter shape
   ask_input zero i l b = printer_leaf.first (asks n c + i) (omega arith)
   ask_input (suc zero) i l b = printer_leaf.first (sites n c + i) (omega arith)
   ask_input (suc (suc j)) i l b =
-      let k : i * c + j < n * c = in_product n c i j b (let d : j < c = omega arith in d) in
+      let k : i * c + j < n * c = digits_lt b (let d : j < c = omega arith in d) in
       printer_leaf.first (values n c + (i * c + j)) (omega arith)
 
   pub printer_core : IsCore (printer_machine shape) (printer_places shape) n m

@@ -1,11 +1,11 @@
 -- Values and $writes, one part or one site longer.
 use Rattle.std.proofs.Common.{◌≡◌, ℕ, zero, suc, ◌+◌, ◌<◌, ◌≤◌, List, [], ◌∷◌, ◌++◌, length, take, slice_get, Some, sym, ap, ◌∙◌, subst, arith, add-one, add-zero, zero-add}
 use Rattle.std.proofs.lemmas.List.{length-take-le}
+use Rattle.lists.proofs.Places.{take_next}
 use Rattle.netlist.specs.declared.netlist.Argument.{Argument}
 use Rattle.netlist.specs.declared.netlist.Argument.TheVariants as argument
 use Rattle.netlist.specs.declared.netlist.Action.{Action}
 use Rattle.circuit.specs.Rows.{EachOf}
-use Rattle.circuit.proofs.Growth.{take-next}
 use Rattle.print_core.specs.declared.format.Part.{Part}
 use Rattle.print_core.specs.declared.format.Part.TheVariants.{Text, Unsigned, Signed}
 use Rattle.print_core.specs.Format.{IsPart, IsSite, values_of, arguments_of}
@@ -35,7 +35,7 @@ pub record IsSoFar (first : ℕ) (parts : List Part) (i : ℕ) (values : List Ar
 pub values_grow : (first : ℕ) (parts : List Part) (i : ℕ) (p : Part) (xs ys : List Argument) (place after : ℕ) → slice_get parts i ≡ Some p → IsSoFar first parts i xs place
     → ys ≡ xs ++ arguments_of place (p ∷ []) → after ≡ place + values_of (p ∷ []) → IsSoFar first parts (i + 1) ys after
 values_grow first parts i p xs ys place after e so f g =
-    let longer = ap (λ n. take n parts) (add-one i) ∙ take-next parts i p e in
+    let longer = ap (λ n. take n parts) (add-one i) ∙ take_next parts i p e in
     record {
       so_far = f ∙ ap (λ n. xs ++ arguments_of n (p ∷ [])) so.next ∙ ap (λ l. l ++ arguments_of (first + values_of (take i parts)) (p ∷ [])) so.so_far
           ∙ sym (arguments_of-append first (take i parts) (p ∷ [])) ∙ ap (arguments_of first) (sym longer);
@@ -69,7 +69,7 @@ writes_grow hits first sites i p xs ys e l f g =
     let n : i ≡ 0 + length (take i sites) = sym (zero-add (length (take i sites)) ∙ length-take-le i sites l) in
     g ∙ ap (λ n. xs ++ write (hits + n) first p ∷ []) n ∙ ap (λ zs. zs ++ write (hits + (0 + length (take i sites))) first p ∷ []) f
     ∙ sym (writes_from-append hits first 0 (take i sites) (p ∷ []))
-    ∙ ap (writes_from hits first 0) (sym (ap (λ n. take n sites) (add-one i) ∙ take-next sites i p e))
+    ∙ ap (writes_from hits first 0) (sym (ap (λ n. take n sites) (add-one i) ∙ take_next sites i p e))
 
 site_at : (values : ℕ) (sites : List (List Part)) (i : ℕ) (p : List Part) → EachOf (IsSite values) sites → slice_get sites i ≡ Some p → IsSite values p
 site_at values [] i p h e = absurd cc
@@ -89,7 +89,7 @@ pub next_below : (first : ℕ) (parts : List Part) (i : ℕ) (p : Part) (xs : Li
     → values_of (p ∷ []) ≡ 1 → place + 1 ≤ first + values_of parts
 next_below first parts i p xs place e so one =
     let a = values_of-append (take i parts) (p ∷ []) in
-    let b = ap values_of (take-next parts i p e) in
+    let b = ap values_of (take_next parts i p e) in
     let l = values_of-take parts (suc i) in
     let n = so.next in
     omega arith

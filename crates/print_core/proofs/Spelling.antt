@@ -2,10 +2,11 @@
 use Rattle.std.proofs.Common.{◌≡◌, ℕ, zero, suc, ◌+◌, ◌≤◌, List, [], ◌∷◌, ◌++◌, length, take, slice_get, Some, Bool, true, false, nat_eq, refl, sym, ap, ◌∙◌, append_assoc, add-one}
 use Rattle.std.specs.Prelude.{not, ◌||◌, ◌==◌, if◌then◌else◌}
 use Rattle.std.proofs.lemmas.List.{append-nil, take_all}
+use Rattle.std.proofs.lemmas.Bool.{and_parts}
+use Rattle.lists.proofs.Places.{take_next}
 use Rattle.verilog_tree.specs.Spelling.{is_quoted, is_plain}
-use Rattle.verilog_tree.proofs.Tests.{and_left, and_right, and_both}
+use Rattle.verilog_tree.proofs.Tests.{and_both}
 use Rattle.circuit.specs.Rows.{EachOf}
-use Rattle.circuit.proofs.Growth.{take-next}
 use Rattle.print_core.specs.declared.format.Part.{Part}
 use Rattle.print_core.specs.declared.format.Part.TheVariants.{Text, Unsigned, Signed}
 use Rattle.print_core.specs.Format.{is_printable, all_printable, IsPart, spelled_byte, spelled_bytes, spelled_part, spelled}
@@ -25,25 +26,25 @@ bytes_grow a t u bytes i b e f g =
     g ∙ ap (λ l. l ++ spelled_byte b) f ∙ append_assoc a (spelled_bytes (take i bytes)) (spelled_byte b)
     ∙ ap (λ l. a ++ (spelled_bytes (take i bytes) ++ l)) (sym (append-nil (spelled_byte b)))
     ∙ ap (λ l. a ++ l) (sym (spelled_bytes-append (take i bytes) (b ∷ [])))
-    ∙ ap (λ l. a ++ spelled_bytes l) (sym (ap (λ n. take n bytes) (add-one i) ∙ take-next bytes i b e))
+    ∙ ap (λ l. a ++ spelled_bytes l) (sym (ap (λ n. take n bytes) (add-one i) ∙ take_next bytes i b e))
 
 pub parts_grow : (t u : List ℕ) (parts : List Part) (i : ℕ) (p : Part) → slice_get parts i ≡ Some p → t ≡ spelled (take i parts) → u ≡ t ++ spelled_part p → u ≡ spelled (take (i + 1) parts)
 parts_grow t u parts i p e f g =
     g ∙ ap (λ l. l ++ spelled_part p) f
     ∙ ap (λ l. spelled (take i parts) ++ l) (sym (append-nil (spelled_part p)))
     ∙ sym (spelled-append (take i parts) (p ∷ []))
-    ∙ ap spelled (sym (ap (λ n. take n parts) (add-one i) ∙ take-next parts i p e))
+    ∙ ap spelled (sym (ap (λ n. take n parts) (add-one i) ∙ take_next parts i p e))
 
 -- ---- quotes
 
 quoted-append : (escaped : Bool) (x y : List ℕ) → is_quoted escaped x ≡ true → is_quoted false y ≡ true → is_quoted escaped (x ++ y) ≡ true
 quoted-append true [] y h k = cc
 quoted-append false [] y h k = k
-quoted-append true (b ∷ x) y h k = and_both (is_plain b) _ (and_left _ _ h) (quoted-append false x y (and_right (is_plain b) _ h) k)
+quoted-append true (b ∷ x) y h k = and_both (is_plain b) _ (and_parts _ _ h).0 (quoted-append false x y (and_parts (is_plain b) _ h).1 k)
 quoted-append false (b ∷ x) y h k =
-    let inner = and_right (not (b == 34)) _ h in
-    and_both (not (b == 34)) _ (and_left _ _ h)
-    (and_both (is_plain b) _ (and_left _ _ inner) (quoted-append (b == 92) x y (and_right (is_plain b) _ inner) k))
+    let inner = (and_parts (not (b == 34)) _ h).1 in
+    and_both (not (b == 34)) _ (and_parts _ _ h).0
+    (and_both (is_plain b) _ (and_parts _ _ inner).0 (quoted-append (b == 92) x y (and_parts (is_plain b) _ inner).1 k))
 
 or_left : (b : Bool) → (b || false) ≡ true → b ≡ true
 or_left true h = refl
@@ -66,8 +67,8 @@ bytes_quoted : (bytes : List ℕ) → all_printable bytes ≡ true → is_quoted
 bytes_quoted [] h = refl
 bytes_quoted (b ∷ bytes) h =
     quoted-append false (spelled_byte b) (spelled_bytes bytes)
-    (byte_quoted b (nat_eq b 10) (nat_eq b 9) (nat_eq b 92) (nat_eq b 34) (nat_eq b 37) refl refl refl refl (and_left _ _ h))
-    (bytes_quoted bytes (and_right (is_printable b) _ h))
+    (byte_quoted b (nat_eq b 10) (nat_eq b 9) (nat_eq b 92) (nat_eq b 34) (nat_eq b 37) refl refl refl refl (and_parts _ _ h).0)
+    (bytes_quoted bytes (and_parts (is_printable b) _ h).1)
 
 part_quoted : (p : Part) → IsPart p → is_quoted false (spelled_part p) ≡ true
 part_quoted (Text bytes) h = bytes_quoted bytes h
@@ -83,5 +84,5 @@ all-quoted text parts i h e l = ap (is_quoted false) (e ∙ ap spelled (take_all
 
 pub printable_at : (bytes : List ℕ) (i b : ℕ) → all_printable bytes ≡ true → slice_get bytes i ≡ Some b → is_printable b ≡ true
 printable_at [] i b h e = absurd cc
-printable_at (c ∷ bytes) zero b h e = let same : c ≡ b = cc in sym (ap is_printable same) ∙ and_left _ _ h
-printable_at (c ∷ bytes) (suc i) b h e = printable_at bytes i b (and_right (is_printable c) _ h) e
+printable_at (c ∷ bytes) zero b h e = let same : c ≡ b = cc in sym (ap is_printable same) ∙ (and_parts _ _ h).0
+printable_at (c ∷ bytes) (suc i) b h e = printable_at bytes i b (and_parts (is_printable c) _ h).1 e

@@ -120,12 +120,9 @@ module _ (shape : Shape) (ok : IsShape shape) (m : Module) (is : IsPrinter shape
   long : length m.signals ≡ offers n c s + n
   long = ap length is.signals ∙ (let e = length-laid 0 (rows n c s) in omega arith)
 
-  copies : (k w : ℕ) → length (replicate {A = ℕ} k w) ≡ k
-  copies k w = length-replicate {A = ℕ} k w
-
   many_inputs : length (input_widths shape) ≡ inputs shape
   many_inputs =
-      let a = copies n 1 in let b = copies n 16 in let d = copies (n * c) 64 in
+      let a = length-replicate {A = ℕ} n 1 in let b = length-replicate {A = ℕ} n 16 in let d = length-replicate {A = ℕ} (n * c) 64 in
       let e = length-append {A = ℕ} (replicate (n * c) 64) (replicate n 1) in
       let f = length-append {A = ℕ} (replicate n 16) (replicate (n * c) 64 ++ replicate n 1) in
       let g = length-append {A = ℕ} (replicate n 1) (replicate n 16 ++ (replicate (n * c) 64 ++ replicate n 1)) in
@@ -153,9 +150,9 @@ module _ (shape : Shape) (ok : IsShape shape) (m : Module) (is : IsPrinter shape
     leaf = subst (λ z. IsLeaf m z (is_late shape)) (sym many_inputs) (printer_leaf shape ok m is);
     clocked = omega arith;
     clock_bit = has m 0 _ listed.0;
-    long = (let z = copies n 1 in let e = long in omega arith);
+    long = (let z = length-replicate {A = ℕ} n 1 in let e = long in omega arith);
     room = (let z = many_inputs in omega arith);
-    ports = has_ports m (input_widths shape) (output_widths shape) (offers n c s) (let z = copies n 1 in let e = long in omega arith) inputs_are outputs_are;
+    ports = has_ports m (input_widths shape) (output_widths shape) (offers n c s) (let z = length-replicate {A = ℕ} n 1 in let e = long in omega arith) inputs_are outputs_are;
     names = names_apart m (rows n c s) is.signals small (offers n c s) formed_at is.memories is.instances;
     named = ap is_clk is.named;
     formed = formed_at;

@@ -2,7 +2,7 @@
 use Rattle.std.proofs.Common.{◌≡◌, ℕ, ◌+◌, ◌<◌, List, [], ◌∷◌, ◌++◌, length, Option, Some, None, Bool, true, false, nat_eq, if◌then◌else◌}
 use Rattle.std.proofs.Common.{refl, sym, ap, ◌∙◌, arith, append_assoc, zero-add}
 use Rattle.std.specs.Prelude.{option_map, ◌==◌}
-use Rattle.std.proofs.lemmas.Bool.Decides.{nat_tests}
+use Rattle.std.proofs.lemmas.Bool.{eq-eqb}
 use Rattle.verilog_tree.specs.Rules.{Between, Value, Percent, Backslash, next_plain, count_at, values_in, has_values}
 use Rattle.netlist.specs.Laid.{argument_place}
 use Rattle.circuit.specs.Rows.{EachOf}
@@ -60,13 +60,10 @@ length-arguments place (Text bytes ∷ parts) = length-arguments place parts
 length-arguments place (Unsigned ∷ parts) = let e = length-arguments (place + 1) parts in omega arith
 length-arguments place (Signed ∷ parts) = let e = length-arguments (place + 1) parts in omega arith
 
-same_number : (a b : ℕ) → a ≡ b → (a == b) ≡ true
-same_number a b e = grind (arith, nat_tests)
-
 pub has_site_values : (place : ℕ) (parts : List Part) → has_values (values_in Between (spelled parts)) (length (arguments_of place parts)) ≡ true
 has_site_values place parts =
     ap (λ o. has_values o (length (arguments_of place parts))) (site_values parts)
-    ∙ same_number (values_of parts) (length (arguments_of place parts)) (sym (length-arguments place parts))
+    ∙ eq-eqb (values_of parts) (length (arguments_of place parts)) (sym (length-arguments place parts))
 
 pub arguments_behind : (place : ℕ) → 0 < place → (parts : List Part) → EachOf (λ a. 0 < argument_place a) (arguments_of place parts)
 arguments_behind place l [] = tt

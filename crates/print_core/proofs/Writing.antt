@@ -5,6 +5,7 @@ use Rattle.std.specs.Prelude.{◌&&◌}
 use Rattle.std.specs.Fmt.{signed_decimal}
 use Rattle.std.proofs.lemmas.Bool.Decides.{nat_tests}
 use Rattle.std.proofs.lemmas.List.{append-nil}
+use Rattle.std.proofs.lemmas.Bool.{eqb-true}
 use Rattle.hls_ints.specs.Words.{signed_word}
 use Rattle.hls_ints.specs.Residues.{bit_of}
 use Rattle.netlist.specs.declared.netlist.Action.{Action}
@@ -17,9 +18,6 @@ use Rattle.print_core.specs.Printer.{write, writes_from}
 use Rattle.print_core.specs.Machine.{site_bytes, bytes_of_site}
 use Rattle.circuit.specs.Rows.{EachOf}
 
-same_byte : (b k : ℕ) → nat_eq b k ≡ true → k ≡ b
-same_byte b k e = grind (arith, nat_tests)
-
 plain_step : (b : ℕ) (rest : List ℕ) (vs : List (List ℕ)) (slash percent : Bool) → slash ≡ false → percent ≡ false
     → plain_bytes b (if slash then Escape else (if percent then Percent else Plain)) ++ filled (if slash then Escape else (if percent then Percent else Plain)) rest vs ≡ b ∷ filled Plain rest vs
 plain_step b rest vs true percent e f = absurd cc
@@ -30,11 +28,11 @@ byte_filled : (b : ℕ) (rest : List ℕ) (vs : List (List ℕ)) (feed tab slash
     → nat_eq b 37 ≡ percent
     → filled Plain ((if feed then 92 ∷ 110 ∷ [] else (if tab then 92 ∷ 116 ∷ [] else (if slash then 92 ∷ 92 ∷ [] else (if quote then 92 ∷ 34 ∷ [] else
     (if percent then 37 ∷ 37 ∷ [] else b ∷ []))))) ++ rest) vs ≡ b ∷ filled Plain rest vs
-byte_filled b rest vs true tab slash quote percent e f g h i = ap (λ x. x ∷ filled Plain rest vs) (same_byte b 10 e)
-byte_filled b rest vs false true slash quote percent e f g h i = ap (λ x. x ∷ filled Plain rest vs) (same_byte b 9 f)
-byte_filled b rest vs false false true quote percent e f g h i = ap (λ x. x ∷ filled Plain rest vs) (same_byte b 92 g)
-byte_filled b rest vs false false false true percent e f g h i = ap (λ x. x ∷ filled Plain rest vs) (same_byte b 34 h)
-byte_filled b rest vs false false false false true e f g h i = ap (λ x. x ∷ filled Plain rest vs) (same_byte b 37 i)
+byte_filled b rest vs true tab slash quote percent e f g h i = ap (λ x. x ∷ filled Plain rest vs) (sym (eqb-true b 10 e))
+byte_filled b rest vs false true slash quote percent e f g h i = ap (λ x. x ∷ filled Plain rest vs) (sym (eqb-true b 9 f))
+byte_filled b rest vs false false true quote percent e f g h i = ap (λ x. x ∷ filled Plain rest vs) (sym (eqb-true b 92 g))
+byte_filled b rest vs false false false true percent e f g h i = ap (λ x. x ∷ filled Plain rest vs) (sym (eqb-true b 34 h))
+byte_filled b rest vs false false false false true e f g h i = ap (λ x. x ∷ filled Plain rest vs) (sym (eqb-true b 37 i))
 byte_filled b rest vs false false false false false e f g h i = plain_step b rest vs (nat_eq b 92) (nat_eq b 37) g i
 
 bytes_filled : (bytes rest : List ℕ) (vs : List (List ℕ)) → filled Plain (spelled_bytes bytes ++ rest) vs ≡ bytes ++ filled Plain rest vs

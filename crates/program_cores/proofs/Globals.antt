@@ -5,6 +5,8 @@ use Rattle.std.specs.Prelude.{◌&&◌, ◌||◌, nat_eq, nat_le, sum_by, if◌t
 use Rattle.std.specs.List.{AllByRecursion}
 use Rattle.std.proofs.lemmas.List.{length-map}
 use Rattle.std.proofs.lemmas.Option.{none-some}
+use Rattle.std.proofs.lemmas.Bool.{or_left}
+use Rattle.lists.proofs.Places.{get_there}
 use Rattle.c_program.specs.Tree.{GlobalVariable, Program}
 use Rattle.c_program.specs.Resolved.{is_letter, is_letter_or_digit, IsName, IsGlobal, IsResolved}
 use Rattle.c_limits.specs.Counts.{first_passed}
@@ -142,16 +144,11 @@ module _ (P : Program) (counts : List ℕ) (resolved : IsResolved P) (limits : f
 
   pub all_there : (n : ℕ) → n < bank_total spreads → (x : ℕ) × (s : Spread) × (slice_get spreads x ≡ Some s) × (s.first ≤ n) × (n < s.first + s.count)
   all_there n l =
-      let b = there (shapes parted) n (let all = total_is in omega (arith, all, l)) in
+      let b = get_there (shapes parted) n (let all = total_is in omega (arith, all, l)) in
       let o = are.owned n b.0 b.1 in
       let place = o.3 in
       let below = o.2 in
       (b.0.global, o.0, o.1, omega (arith, place), omega (arith, place, below))
-    where
-      there : {A : Type 0} (xs : List A) (i : ℕ) → i < length xs → (a : A) × (slice_get xs i ≡ Some a)
-      there [] i l = absurd (omega arith)
-      there (x ∷ xs) zero l = (x, refl)
-      there (x ∷ xs) (suc i) l = there xs i (omega arith)
 
 -- ---- names
 
@@ -161,10 +158,6 @@ arranged false true y z h = refl
 arranged false false true z h = refl
 arranged false false false true h = refl
 arranged false false false false h = absurd cc
-
-or_left : (x z : Bool) → IsTrue x → IsTrue (x || z)
-or_left true z h = refl
-or_left false z h = absurd cc
 
 name_byte : (b : ℕ) → IsTrue (is_letter_or_digit b) → is_name_byte b ≡ true
 name_byte b h = arranged (nat_le 65 b && nat_le b 90) (nat_le 97 b && nat_le b 122) (nat_eq b 95) (nat_le 48 b && nat_le b 57) h

@@ -8,6 +8,8 @@ use Rattle.std.proofs.lemmas.Bool.Decides.{nat_tests}
 use Rattle.std.proofs.lemmas.List.Folds.{list_any_at}
 use Rattle.std.proofs.lemmas.List.Elements.{Contains-append_cases, Contains-append_left, Contains-append_right}
 use Rattle.std.proofs.lemmas.Bool.{and_from, or_right, and_parts}
+use Rattle.std.proofs.lemmas.List.{take_all}
+use Rattle.lists.proofs.Places.{in_one}
 use Rattle.thread_semantics.specs.Memory.{Location}
 use Rattle.thread_semantics.specs.Races.{Touch}
 use Rattle.race_check.specs.declared.access.Access.{Access}
@@ -86,15 +88,12 @@ only_at : (x y : Touch) (k : ℕ) → k < 1 → slice_index_or (x ∷ []) k y �
 only_at x y zero h e = e
 only_at x y (suc k) h e = absurd (omega arith)
 
-only_one : (x y : Touch) → Contains (x ∷ []) y → x ≡ y
-only_one x y c = only_at x y c.0 c.1 c.2
-
 -- One touch alone.
 hit_least : (x : Touch) (zs : List Touch) → IsLeast (Hits (x ∷ []) zs) (hit x zs)
 hit_least x zs = go (x.written && list_any (is_at x.place) zs) refl
   where
     place_is : (q : Location) → Hits (x ∷ []) zs q → x.place ≡ q
-    place_is q h = ap (λ (t : Touch). t.place) (only_one x h.first h.first_in) ∙ h.first_place
+    place_is q h = ap (λ (t : Touch). t.place) (in_one x h.first h.first_in) ∙ h.first_place
 
     go : (b : Bool) → (x.written && list_any (is_at x.place) zs) ≡ b → IsLeast (Hits (x ∷ []) zs) (if b then Some x.place else None)
     go true e =
@@ -111,7 +110,7 @@ hit_least x zs = go (x.written && list_any (is_at x.place) zs) refl
           λ q h. subst (λ r. precedes x.place r ≡ true) (place_is q h) (precedes_itself x.place),
         )
     go false e = λ q h.
-        let w : x.written ≡ true = ap (λ (t : Touch). t.written) (only_one x h.first h.first_in) ∙ h.written in
+        let w : x.written ≡ true = ap (λ (t : Touch). t.written) (in_one x h.first h.first_in) ∙ h.written in
         let a : list_any (is_at x.place) zs ≡ true = any_from x.place zs h.second h.second_in (h.second_place ∙ sym (place_is q h)) in
         let both : (x.written && list_any (is_at x.place) zs) ≡ true = and_from x.written (list_any (is_at x.place) zs) w a in
         let never : ⊥ = cc (both, e) in never
@@ -162,16 +161,10 @@ pub hits_at : (xs : List Access) (k : ℕ) (d : Access) (zs : List Touch) (best 
     IsLeast (Hits (touches_of (take (k + 1) xs)) zs) (least best (hit (touch_of (get_or xs k d)) zs))
 hits_at xs k d zs best h l = hits_next xs k (get_or xs k d) zs best (get_itself xs k d h) h l
 
-take_whole : (xs : List Access) (k : ℕ) → length xs ≤ k → take k xs ≡ xs
-take_whole [] zero h = refl
-take_whole [] (suc k) h = refl
-take_whole (x ∷ xs) zero h = absurd (omega arith)
-take_whole (x ∷ xs) (suc k) h = ap (λ l. x ∷ l) (take_whole xs k (omega arith))
-
 pub hits_all : (xs : List Access) (k : ℕ) (zs : List Touch) (best : Option Location) → length xs ≤ k → IsLeast (Hits (touches_of (take k xs)) zs) best →
     IsLeast (Hits (touches_of xs) zs) best
 hits_all xs k zs best h l =
-    subst (λ ts. IsLeast (Hits (touches_of ts) zs) best) (take_whole xs k h) l
+    subst (λ ts. IsLeast (Hits (touches_of ts) zs) best) (take_all k xs h) l
 
 -- Both ways.
 conflict_split : (ys zs : List Touch) (q : Location) → Conflict ys zs q → Hits ys zs q ⊎ Hits zs ys q

@@ -1,9 +1,10 @@
 -- Marks of lists, one after another.
-use Rattle.std.proofs.Common.{◌≡◌, ◌≢◌, ℕ, zero, suc, ◌+◌, ◌<◌, ◌≤◌, Bool, true, false, ◌||◌, List, [], ◌∷◌, ◌++◌, length, slice_get, get_or, set, take, replicate, Some}
+use Rattle.std.proofs.Common.{◌≡◌, ◌≢◌, ℕ, ◌+◌, ◌<◌, ◌≤◌, Bool, true, false, ◌||◌, List, [], ◌∷◌, ◌++◌, length, slice_get, get_or, set, take, replicate, Some}
 use Rattle.std.proofs.Common.{nat_eq, refl, sym, ap, subst, ◌∙◌, ◌⊎◌, inl, inr, arith, add-one, get_or-set_other, get_or-set_same}
 use Rattle.std.proofs.lemmas.Bool.{cases_eq}
-use Rattle.std.proofs.lemmas.List.{length-set, get_or-replicate, length-replicate}
+use Rattle.std.proofs.lemmas.List.{length-set, get_or-replicate, length-replicate, take_all}
 use mathlib.Core.Bool.{or-false, or-true, or_assoc}
+use Rattle.lists.proofs.Places.{take_next}
 use Rattle.block_ir.specs.declared.block.Final.{Final}
 use Rattle.block_ir.specs.declared.block.Block.{Block}
 use Rattle.register_binding.specs.Used.{is_value, any_final, next_uses, is_used_at_end, AreUsedAtEnd, IsMarked}
@@ -49,16 +50,6 @@ any_final-append [] g k = or-false (is_value g.value.source k)
 any_final-append (f ∷ fs) g k = ap (λ (m : Bool). is_value f.value.source k || m) (any_final-append fs g k) ∙ sym (or_assoc (is_value f.value.source k) (any_final fs k)
     (is_value g.value.source k))
 
-take_next : (fs : List Final) (i : ℕ) (g : Final) → slice_get fs i ≡ Some g → take (suc i) fs ≡ take i fs ++ g ∷ []
-take_next [] i g e = absurd cc
-take_next (x ∷ fs) zero g e = let same : x ≡ g = cc in ap (λ (z : Final). z ∷ []) same
-take_next (x ∷ fs) (suc i) g e = ap (λ (l : List Final). x ∷ l) (take_next fs i g e)
-
-pub item_is : (fs : List Final) (i : ℕ) (g : Final) → i < length fs → g ≡ get_or fs i g → slice_get fs i ≡ Some g
-item_is [] i g l e = absurd (omega arith)
-item_is (x ∷ fs) zero g l e = ap Some (sym e)
-item_is (x ∷ fs) (suc i) g l e = item_is fs i g (omega arith) e
-
 -- one more final
 pub finals_marked : (fs : List Final) (i : ℕ) (g : Final) (a b c : List Bool) → slice_get fs i ≡ Some g → IsMarked (any_final (take i fs)) a b →
     IsMarked (is_value g.value.source) b c →
@@ -68,14 +59,8 @@ finals_marked fs i g a b c e s t =
     (is_value g.value.source) a b c s t)
     (λ k. sym (ap (λ (l : List Final). any_final l k) (ap (λ (n : ℕ). take n fs) (add-one i) ∙ take_next fs i g e) ∙ any_final-append (take i fs) g k))
 
-take_past : (fs : List Final) (i : ℕ) → length fs ≤ i → take i fs ≡ fs
-take_past [] zero l = refl
-take_past [] (suc i) l = refl
-take_past (x ∷ fs) zero l = absurd (omega arith)
-take_past (x ∷ fs) (suc i) l = ap (λ (r : List Final). x ∷ r) (take_past fs i (omega arith))
-
 pub all_finals : (fs : List Final) (i : ℕ) (a b : List Bool) → length fs ≤ i → IsMarked (any_final (take i fs)) a b → IsMarked (any_final fs) a b
-all_finals fs i a b l s = subst (λ (r : List Final). IsMarked (any_final r) a b) (take_past fs i l) s
+all_finals fs i a b l s = subst (λ (r : List Final). IsMarked (any_final r) a b) (take_all i fs l) s
 
 pub used_at_end : (b : Block) (n : ℕ) (a c d : List Bool) → n ≡ length b.operations → a ≡ replicate n false → IsMarked (any_final b.finals) a c →
     IsMarked (next_uses b.next) c d → AreUsedAtEnd b d

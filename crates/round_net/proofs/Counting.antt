@@ -3,6 +3,7 @@ use Rattle.std.proofs.Common.{◌≡◌, ℕ, zero, suc, ◌+◌, ◌^◌, ◌<�
 use Rattle.std.proofs.Common.{ap, ◌∙◌, arith, append_assoc}
 use Rattle.std.specs.Prelude.{codes, decimal, take, drop, None}
 use Rattle.std.proofs.Math.Seq.{take-append_seam, drop-append_seam}
+use Rattle.std.proofs.lemmas.Slice.Eq.{bytes_eq-Decides}
 use Rattle.netlist.specs.declared.netlist.Signal.{Signal}
 use Rattle.netlist.specs.declared.netlist.Module.{Module}
 use Rattle.verilog_meaning.specs.Names.{numbered}
@@ -16,7 +17,6 @@ use Rattle.top_wiring.specs.Parts.{each_from}
 use Rattle.top_wiring.specs.Ports.{cores}
 use Rattle.top_wiring.specs.Top.{input, output, preference, all_wires, done_place, IsTop}
 use Rattle.top_wiring.specs.Wires.{wire_signal}
-use Rattle.round_net.proofs.Naming.{same_name}
 
 -- ---- a number's name is one that is counted
 
@@ -25,7 +25,7 @@ decimal_is k l = minimal_passes (decimal k) (decimal_minimal k l)
 
 behind_is : (stem rest : List ℕ) → behind stem (stem ++ rest) ≡ Some rest
 behind_is stem rest =
-    ap (λ (b : Bool). if b then Some (drop (length stem) (stem ++ rest)) else None) (same_name (take (length stem) (stem ++ rest)) stem (take-append_seam stem rest))
+    ap (λ (b : Bool). if b then Some (drop (length stem) (stem ++ rest)) else None) ((bytes_eq-Decides (take (length stem) (stem ++ rest)) stem).1 (take-append_seam stem rest))
     ∙ ap Some (drop-append_seam stem rest)
 
 pub pref_is : (k : ℕ) → k < 2 ^ 64 → is_pref (numbered (codes "pref") k) ≡ true

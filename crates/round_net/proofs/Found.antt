@@ -3,14 +3,15 @@ use Rattle.std.proofs.Common.{◌≡◌, ◌≢◌, ℕ, zero, suc, if◌then◌
 use Rattle.std.proofs.Common.{refl, sym, ap, ◌∙◌, ⊎_elim, arith}
 use Rattle.std.specs.Prelude.{codes}
 use Rattle.std.proofs.lemmas.Option.{same_Some, none-some}
+use Rattle.std.proofs.lemmas.Slice.Eq.{bytes_eq-Decides}
 use Rattle.netlist.specs.declared.netlist.Module.{Module}
 use Rattle.verilog_meaning.specs.Names.{module_named}
 use Rattle.top_wiring.proofs.Lists.{get_either}
 use Rattle.round_net.specs.Found.{HasNo, RoundIsFound}
-use Rattle.round_net.proofs.Naming.{same_name, other_name}
+use Rattle.round_net.proofs.Naming.{other_name}
 
 pub named_behind : (xs : List Module) (name : List ℕ) (y : Module) (ys : List Module) → HasNo name xs → y.name ≡ name → module_named (xs ++ y ∷ ys) name ≡ Some y
-named_behind [] name y ys h e = ap (λ b. if b then Some y else module_named ys name) (same_name name y.name (sym e))
+named_behind [] name y ys h e = ap (λ b. if b then Some y else module_named ys name) ((bytes_eq-Decides name y.name).1 (sym e))
 named_behind (x ∷ xs) name y ys h e =
     ap (λ b. if b then Some x else module_named (xs ++ y ∷ ys) name) (other_name name x.name (λ q. h 0 x refl (sym q)))
     ∙ named_behind xs name y ys (λ k m g. h (suc k) m g) e

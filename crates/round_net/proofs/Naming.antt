@@ -3,9 +3,6 @@ use Rattle.std.proofs.Common.{◌≡◌, ◌≢◌, ℕ, Bool, true, false, List
 use Rattle.std.specs.Str.{bytes_eq}
 use Rattle.std.proofs.lemmas.Slice.Eq.{bytes_eq-Decides}
 
-pub same_name : (x y : List ℕ) → x ≡ y → bytes_eq x y ≡ true
-same_name x y e = grind (arith, bytes_eq-Decides)
-
 pub other_name : (x y : List ℕ) → x ≢ y → bytes_eq x y ≡ false
 other_name x y h = by_test (bytes_eq x y) refl
   where

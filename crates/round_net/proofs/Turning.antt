@@ -4,6 +4,7 @@ use Rattle.netlist.specs.declared.netlist.Source.TheVariants as source
 use Rattle.netlist.specs.declared.netlist.Module.{Module}
 use Rattle.netlist.specs.declared.netlist.Netlist.{Netlist}
 use Rattle.std.specs.Prelude.{slice_get, codes}
+use Rattle.std.proofs.Math.Nat.{mod-add-mod}
 use Rattle.verilog_meaning.specs.Readings.{initial_reading, initial_signal}
 use Rattle.verilog_meaning.specs.Cycles.{Path, Valuation, Choice, IsSameIn, IsSettled, Cycle, Runs, Reaches, ShowsDone, next_state, initial_state}
 use Rattle.sim_layout.specs.Rounds.{round, rounds}
@@ -98,10 +99,7 @@ module _ (layout : Layout) (modules : List Module) (n : Netlist) (w : IsWired mo
     counts_on =
         let counter = inner (codes "counter") 1 4 (source.Register 0) in
         let kept = register_at n.modules w.round (next_state n.modules w.round v) g cycle.next [] w.round 1 counter (own_at layout modules n w 1 counter refl) tt in
-        sym kept ∙ counts layout modules n w v ∙ next_is layout modules n w h v c cycle.settled ∙ ap (λ (z : ℕ). (z + 1) % 16) at ∙ wraps k
-      where
-        wraps : (k : ℕ) → (k % 16 + 1) % 16 ≡ (k + 1) % 16
-        wraps k = omega arith
+        sym kept ∙ counts layout modules n w v ∙ next_is layout modules n w h v c cycle.settled ∙ ap (λ (z : ℕ). (z + 1) % 16) at ∙ mod-add-mod k 16 1
 
   -- ---- runs
 

@@ -4,7 +4,8 @@ use Rattle.std.proofs.Common.{refl, sym, ap, ◌∙◌, subst, arith, add-zero, 
 use Rattle.std.specs.Prelude.{slice_get, codes}
 use Rattle.std.specs.Str.{bytes_eq}
 use Rattle.std.proofs.lemmas.Option.{same_Some, none-some}
-use Rattle.lists.proofs.Places.{get_front, get_back}
+use Rattle.std.proofs.lemmas.Slice.Eq.{bytes_eq-Decides}
+use Rattle.lists.proofs.Places.{get_front, get_back, copies_there}
 use Rattle.hls_ints.specs.Words.{word_sum}
 use Rattle.verilog_tree.specs.declared.tree.BinaryOperator.TheVariants.{Add}
 use Rattle.netlist.specs.declared.netlist.Value.TheVariants.{Copy, Constant, Binary, Concatenation}
@@ -24,11 +25,10 @@ use Rattle.top_wiring.specs.Wires.{source_of, wire_signal}
 use Rattle.top_wiring.specs.Top.{input, preference, output, all_wires, done_place}
 use Rattle.top_wiring.specs.Round.{inner, round_signals, top_instance}
 use Rattle.top_wiring.specs.Wired.{IsWired}
-use Rattle.top_wiring.proofs.Lists.{get_behind, get_copies}
+use Rattle.top_wiring.proofs.Lists.{get_behind}
 use Rattle.top_wiring.proofs.Standing as standing
 use Rattle.top_wiring.proofs.SignalKinds as signals
 use Rattle.top_wiring.proofs.SignalKinds.SignalKind.{clock, mask, chosen, wire, done}
-use Rattle.round_net.proofs.Naming.{same_name}
 use Rattle.round_net.proofs.Paths.{IsWrapper}
 use Rattle.round_net.proofs.Insides.{IsFed}
 
@@ -47,7 +47,7 @@ pref_is : (name : List ℕ) (p n from j : ℕ) → name ≡ numbered (codes "pre
 pref_is name p zero from j e l = absurd (omega arith)
 pref_is name p (suc n) from zero e l =
     let there : name ≡ numbered (codes "pref") from = e ∙ ap (numbered (codes "pref")) (add-zero from) in
-    ap (λ (b : Bool). if b then p else pref_number name (replicate n p) (from + 1)) (same_name name (numbered (codes "pref") from) there)
+    ap (λ (b : Bool). if b then p else pref_number name (replicate n p) (from + 1)) ((bytes_eq-Decides name (numbered (codes "pref") from)).1 there)
 pref_is name p (suc n) from (suc j) e l =
     let next : from + suc j ≡ from + 1 + j = omega arith in
     either_same (bytes_eq name (numbered (codes "pref") from)) p (pref_number name (replicate n p) (from + 1))
@@ -217,7 +217,7 @@ module _ (layout : Layout) (modules : List Module) (n : Netlist) (w : IsWired mo
         let name = numbered (codes "pref") j in
         let few : j < prefs = omega (arith, l, enough) in
         let place : slice_get (0 ∷ 4 ∷ [] ++ replicate K 7) x ≡ Some 7 =
-        ap (slice_get (0 ∷ 4 ∷ [] ++ replicate K 7)) e ∙ get_behind 2 (0 ∷ 4 ∷ []) (replicate K 7) j 7 refl (get_copies K j 7 l) in
+        ap (slice_get (0 ∷ 4 ∷ [] ++ replicate K 7)) e ∙ get_behind 2 (0 ∷ 4 ∷ []) (replicate K 7) j 7 refl (copies_there K 7 j l) in
         gets x 7 (k % 16) s (input name 6) place at_preferred (pref_is name (k % 16) prefs 0 j (ap (numbered (codes "pref")) (sym (zero-add j))) few) q
     by_kind x s i (wire y v' f e q) = absurd (wire_no_input v' (ap (λ (z : Signal). z.source) (sym q) ∙ i))
     by_kind x s i (done e q) = let z : source.Assigned (Copy (done_place modules layout)) ≡ source.Input = ap (λ (z : Signal). z.source) (sym q) ∙ i in absurd cc

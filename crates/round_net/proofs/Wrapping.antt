@@ -4,6 +4,7 @@ use Rattle.std.proofs.Math.Path.{fun_ext}
 use Rattle.std.specs.Prelude.{slice_get, slice_index}
 use Rattle.std.proofs.lemmas.Nat.{pow_pos}
 use Rattle.std.proofs.lemmas.Option.{same_Some, none-some}
+use Rattle.std.proofs.Math.Nat.{mod-add-mod}
 use Rattle.hls_ints.specs.Words.{word_sum}
 use Rattle.netlist.specs.declared.netlist.Signal.{Signal}
 use Rattle.netlist.specs.declared.netlist.Module.{Module}
@@ -75,9 +76,6 @@ module _ (layout : Layout) (modules : List Module) (n : Netlist) (w : IsWired mo
     abbrev Right : ℕ → Signal → Type 0
     Right x s = ((through []).signal x ≡ number n.modules w.round (around k g) c through [] w.round x s s.source) × ((through []).signal x < 2 ^ s.width)
 
-    sum_is : (k % 16 + 1) % 16 ≡ (k + 1) % 16
-    sum_is = omega arith
-
     below_mask : (m : ℕ) → 0 < m → m - 1 < m
     below_mask m l = omega arith
 
@@ -95,7 +93,7 @@ module _ (layout : Layout) (modules : List Module) (n : Netlist) (w : IsWired mo
     right (suc zero) s e = subst (Right 1) (same_Some _ s e) (refl, counter_low k)
     right (suc (suc zero)) s e = subst (Right 2) (same_Some _ s e) (refl, lit< tt)
     right (suc (suc (suc zero))) s e =
-        subst (Right 3) (same_Some _ s e) (sym sum_is ∙ ap (λ (z : ℕ). word_sum z (k % 16) 1) (sym (four layout modules n w)), counter_low (k + 1))
+        subst (Right 3) (same_Some _ s e) (sym (mod-add-mod k 16 1) ∙ ap (λ (z : ℕ). word_sum z (k % 16) 1) (sym (four layout modules n w)), counter_low (k + 1))
     right (suc (suc (suc (suc zero)))) s e = subst (Right 4) (same_Some _ s e) (refl, below_mask (2 ^ T) (pow_pos T))
     right (suc (suc (suc (suc (suc zero))))) s e = subst (Right 5) (same_Some _ s e) (refl, bit)
     right (suc (suc (suc (suc (suc (suc zero)))))) s e = subst (Right 6) (same_Some _ s e) (refl, lit< tt)

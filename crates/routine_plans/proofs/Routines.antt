@@ -2,6 +2,7 @@
 use Rattle.std.specs.Prelude.{Bool, true, false, nat_lt, if◌then◌else◌, Option, Some, None, slice_get}
 use Rattle.std.specs.List.{flat_map}
 use Rattle.std.proofs.Common.{◌≡◌, ◌≢◌, ℕ, zero, suc, ◌+◌, ◌*◌, ◌<◌, ◌≤◌, List, [], ◌∷◌, ◌++◌, length, replicate, refl, sym, ap, ◌∙◌, subst, ⊎_elim, arith}
+use Rattle.lists.proofs.Places.{get_nothing}
 use Rattle.hls_ints.specs.Types.{IntegerType}
 use Rattle.c_program.specs.declared.tree.ThreadObject.{ThreadObject}
 use Rattle.c_program.specs.Tree.{Program}
@@ -59,16 +60,13 @@ module _ (P : Program) (threads : List ℕ) (f : ℕ) (c : RoutineCode) (is : Is
     prints = λ l site next values format at at_site. (is.code.typed.stages l (stage.Act (act.Print site values) next) at).0.counted format at_site;
   }
 
-nothing_at : (stages : List Stage) (l : ℕ) (s : Stage) → stages ≡ [] → slice_get stages l ≡ Some s → ⊥
-nothing_at stages l s none e = let past : None ≡ Some s = sym (ap (λ (ss : List Stage). slice_get ss l) none) ∙ e in cc
-
 -- code of no stages
 empty_is_code : (P : Program) (threads : List ℕ) (c : RoutineCode) → c.code.stages ≡ [] → IsCode P (spreads_from threads 0 0 P.globals) c 4
 empty_is_code P threads c none = record {
-  leads = λ l s at. absurd (nothing_at c.code.stages l s none at);
-  planned = λ l b at. absurd (nothing_at c.code.stages l (stage.Run b) none at);
-  few = λ l site next values at. absurd (nothing_at c.code.stages l (stage.Act (act.Print site values) next) none at);
-  prints = λ l site next values format at at_site. absurd (nothing_at c.code.stages l (stage.Act (act.Print site values) next) none at);
+  leads = λ l s at. absurd (get_nothing c.code.stages l s none at);
+  planned = λ l b at. absurd (get_nothing c.code.stages l (stage.Run b) none at);
+  few = λ l site next values at. absurd (get_nothing c.code.stages l (stage.Act (act.Print site values) next) none at);
+  prints = λ l site next values format at at_site. absurd (get_nothing c.code.stages l (stage.Act (act.Print site values) next) none at);
 }
 
 pub routines_are_code : RoutinesAreCode
@@ -103,7 +101,7 @@ module _ (P : Program) (R : IsResolved P) (f : ℕ) where
 
 module _ (P : Program) (codes : Codes) (are : AreRoutines P codes) where
   block_there : (f l : ℕ) (b : Block) → stage_at codes f l ≡ Some (stage.Run b) → IsRoutine P f (codes f)
-  block_there f l b at = ⊎_elim (λ is. is) (λ none. absurd (nothing_at (codes f).code.stages l (stage.Run b) none at)) (are.each f)
+  block_there f l b at = ⊎_elim (λ is. is) (λ none. absurd (get_nothing (codes f).code.stages l (stage.Run b) none at)) (are.each f)
 
   are_planned : ArePlanned codes
   are_planned f l b at =

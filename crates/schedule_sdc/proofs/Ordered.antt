@@ -12,9 +12,6 @@ use Rattle.schedule_sdc.specs.declared.constraint.Solved.TheVariants.{Starts, Cy
 use Rattle.schedule_sdc.specs.Solution.{IsWithin, Meets, IsSolution, IsLeast, FitsIfSolvable, Walks, IsPositiveCycle, IsAnswer}
 
 module _ (n : ℕ) (list moved : List Constraint) (moves : IsPermutation list moved) where
-  back : IsPermutation moved list
-  back = IsPermutation-sym list moved moves
-
   pub within_moved : All (IsWithin n) list → All (IsWithin n) moved
   within_moved h = All-permutation (IsWithin n) list moved moves h
 
@@ -22,7 +19,7 @@ module _ (n : ℕ) (list moved : List Constraint) (moves : IsPermutation list mo
   solves_moved t h = All-permutation (Meets t) list moved moves h
 
   solves_again : (t : ℕ → ℕ) → IsSolution moved t → IsSolution list t
-  solves_again t h = All-permutation (Meets t) moved list back h
+  solves_again t h = All-permutation (Meets t) moved list (IsPermutation-sym list moved moves) h
 
   pub fits_moved : FitsIfSolvable n list → FitsIfSolvable n moved
   fits_moved fits = record { small = λ t solves. (let s = fits.small t (solves_again t solves) in (s.0, solves_moved s.0 s.1, s.2)) }
@@ -36,7 +33,7 @@ module _ (n : ℕ) (list moved : List Constraint) (moves : IsPermutation list mo
 
   walks_again : (p : ℕ) (rest : List ℕ) (sum : ℤ) → Walks moved p rest sum → Walks list p rest sum
   walks_again p [] sum w = w
-  walks_again p (q ∷ rest) sum w = (w.0, Contains-permutation moved list w.0 back w.1, w.2, w.3, walks_again q rest (sum -ℤ w.0.gap) w.4)
+  walks_again p (q ∷ rest) sum w = (w.0, Contains-permutation moved list w.0 (IsPermutation-sym list moved moves) w.1, w.2, w.3, walks_again q rest (sum -ℤ w.0.gap) w.4)
 
   cycle_again : (walk : List ℕ) → IsPositiveCycle moved walk → IsPositiveCycle list walk
   cycle_again [] h = absurd h

@@ -1,11 +1,5 @@
 -- Small facts for the simulator's calls.
-use Rattle.std.specs.Prelude.{◌≡◌, ℕ, List, ◌++◌, length, take, Result, Ok, Err, OnErr, is_ok, if◌then◌else◌}
-use Rattle.std.proofs.Common.{ap, sym, ◌∙◌}
-use Rattle.std.proofs.Math.Seq.{take-append_seam}
-
--- a slice that is written whole
-pub whole_back : {X : Type 0} (n : ℕ) (new rest : List X) → length new ≡ n → take n (new ++ rest) ≡ new
-whole_back n new rest l = ap (λ k. take k (new ++ rest)) (sym l) ∙ take-append_seam new rest
+use Rattle.std.specs.Prelude.{◌≡◌, ℕ, List, Result, Ok, Err, OnErr, is_ok, if◌then◌else◌}
 
 pub on_err : {T E : Type 0} (r : Result T E) (P : Type 0) → P → OnErr r P
 on_err (Ok x) P p = tt

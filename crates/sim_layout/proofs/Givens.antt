@@ -7,6 +7,8 @@ use Rattle.std.specs.Str.Pattern.{LacksTextAt}
 use Rattle.std.specs.Result.{result_ok}
 use Rattle.std.proofs.lemmas.Fmt.{parse-decimal}
 use Rattle.std.proofs.lemmas.Slice.Eq.{bytes_eq-Decides}
+use Rattle.std.proofs.lemmas.Bool.{cond-false, cond-true}
+use Rattle.lists.proofs.Places.{get_last}
 use Rattle.verilog_meaning.specs.Names.{numbered}
 use Rattle.verilog_meaning.specs.Cycles.{pref_number}
 use Rattle.netlist.specs.declared.netlist.Source.{Source}
@@ -17,8 +19,7 @@ use Rattle.sim_values.specs.declared.settle.Feed.TheVariants.{Zero, Enables, Pre
 use Rattle.sim_values.specs.declared.settle.Step.{Step}
 use Rattle.sim_values.specs.Stands.{step}
 use Rattle.sim_layout.specs.Given.{IsInput, TellsPref, IsPrefOf, IsRooted, IsRoot, AreRoots, IsGivenOne, IsGivenFor}
-use Rattle.sim_values.proofs.Settles.{if_true, if_false}
-use Rattle.sim_values.proofs.Orders.{get_last, get_more, get_snoc}
+use Rattle.sim_values.proofs.Orders.{get_more, get_snoc}
 use Rattle.sim_values.proofs.Trees.{front_or_back}
 
 module _ (name : List ℕ) where
@@ -33,18 +34,18 @@ module _ (name : List ℕ) where
   first_pref [] k (suc j) h t = refl
   first_pref (p ∷ prefs) k zero h t =
       let here : k + 0 ≡ k = omega arith in
-      if_true (bytes_eq name (numbered (codes "pref") k)) p (pref_number name prefs (k + 1)) (subst test here t)
+      cond-true (bytes_eq name (numbered (codes "pref") k)) p (pref_number name prefs (k + 1)) (subst test here t)
   first_pref (p ∷ prefs) k (suc j) h t =
       let here : k + 0 ≡ k = omega arith in
       let last : k + suc j ≡ k + 1 + j = omega arith in
-      if_false (bytes_eq name (numbered (codes "pref") k)) p (pref_number name prefs (k + 1)) (subst other here (h 0 (omega arith)))
+      cond-false (bytes_eq name (numbered (codes "pref") k)) p (pref_number name prefs (k + 1)) (subst other here (h 0 (omega arith)))
       ∙ first_pref prefs (k + 1) j (λ i l. subst other (let z : k + suc i ≡ k + 1 + i = omega arith in z) (h (suc i) (omega arith))) (subst test last t)
 
   no_pref : (prefs : List ℕ) (k : ℕ) → ((i : ℕ) → i < length prefs → other (k + i)) → pref_number name prefs k ≡ 0
   no_pref [] k h = refl
   no_pref (p ∷ prefs) k h =
       let here : k + 0 ≡ k = omega arith in
-      if_false (bytes_eq name (numbered (codes "pref") k)) p (pref_number name prefs (k + 1)) (subst other here (h 0 (omega arith)))
+      cond-false (bytes_eq name (numbered (codes "pref") k)) p (pref_number name prefs (k + 1)) (subst other here (h 0 (omega arith)))
       ∙ no_pref prefs (k + 1) (λ i l. subst other (let z : k + suc i ≡ k + 1 + i = omega arith in z) (h (suc i) (omega arith)))
 
 -- ---- the number of a name pref_k
@@ -61,12 +62,12 @@ pub pref_lacks : (name : List ℕ) → LacksTextAt (codes "pref_") name 0 → Te
 pref_lacks name lacks k small is = absurd (lacks (decimal k) ((bytes_eq-Decides name (numbered (codes "pref") k)).0 is))
 
 pub input_en : (most : ℕ) (name : List ℕ) → bytes_eq name (codes "en") ≡ true → IsInput most name Enables
-input_en most name e = record { always = λ modules c f few. sym (if_true (bytes_eq name (codes "en")) c.mask (pref_number name c.prefs 0) e); plain = λ modules. refl }
+input_en most name e = record { always = λ modules c f few. sym (cond-true (bytes_eq name (codes "en")) c.mask (pref_number name c.prefs 0) e); plain = λ modules. refl }
 
 pub input_pref : (most : ℕ) (name : List ℕ) (j : ℕ) → bytes_eq name (codes "en") ≡ false → IsPrefOf name most (Some j) → IsInput most name (Preferred j)
 input_pref most name j e is = record {
   always = λ modules c f few.
-      sym (if_false (bytes_eq name (codes "en")) c.mask (pref_number name c.prefs 0) e ∙ first_pref name c.prefs 0 j
+      sym (cond-false (bytes_eq name (codes "en")) c.mask (pref_number name c.prefs 0) e ∙ first_pref name c.prefs 0 j
       (λ i l. subst (other name) (let z : i ≡ 0 + i = omega arith in z) (is.1 i l)) (subst (test name) (let z : j ≡ 0 + j = omega arith in z) is.0));
   plain = λ modules. refl;
 }
@@ -74,7 +75,7 @@ input_pref most name j e is = record {
 pub input_zero : (most : ℕ) (name : List ℕ) → bytes_eq name (codes "en") ≡ false → IsPrefOf name most None → IsInput most name Zero
 input_zero most name e is = record {
   always = λ modules c f few.
-      sym (if_false (bytes_eq name (codes "en")) c.mask (pref_number name c.prefs 0) e ∙ no_pref name c.prefs 0
+      sym (cond-false (bytes_eq name (codes "en")) c.mask (pref_number name c.prefs 0) e ∙ no_pref name c.prefs 0
       (λ i l. subst (other name) (let z : i ≡ 0 + i = omega arith in z) (is i (omega arith))));
   plain = λ modules. refl;
 }

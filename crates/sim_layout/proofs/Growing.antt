@@ -4,6 +4,7 @@ use Rattle.std.proofs.Common.{ap, sym, ◌∙◌, subst, inl, inr, ⊎_elim, ari
 use Rattle.std.proofs.lemmas.List.{get_or-set_same, get_or-set_other}
 use Rattle.std.proofs.lemmas.Option.{same_Some, slice_get_within}
 use Rattle.std.proofs.Math.ListN.{length-set}
+use Rattle.std.proofs.lemmas.Bool.{both_ways, cases_eq}
 use Rattle.netlist.specs.declared.netlist.Module.{Module}
 use Rattle.verilog_meaning.specs.Threads.{IsOneOf}
 use Rattle.sim_values.specs.declared.settle.Step.{Step}
@@ -13,7 +14,6 @@ use Rattle.sim_values.specs.Order.{reads, IsMarked, IsClear, SomeOf, IsPartial, 
 use Rattle.sim_layout.specs.Waits.{IsWaiting, IsListed}
 use Rattle.sim_layout.specs.Growing.{IsUnmet, IsTaken, IsBlocked, IsCovered, IsGrowing}
 use Rattle.sim_values.proofs.Orders.{partial_more, partial_none}
-use Rattle.sim_values.proofs.Settles.{same_or}
 
 -- ---- a word that is not known
 
@@ -134,7 +134,7 @@ module _ (modules : List Module) (wires : List Step) (free : List Bool) (from nu
           known = λ y m. ⊎_elim
               (λ (same : y ≡ s.target). subst (IsMarked new.marks.items) (sym same) target_known)
               (λ (apart : y ≡ s.target → ⊥). other y apart ∙ m)
-              (same_or y s.target);
+              (cases_eq y s.target);
           listed = keeps;
           blocked = λ k t b. ⊎_elim
               (λ (same : b.word ≡ s.target).
@@ -148,7 +148,7 @@ module _ (modules : List Module) (wires : List Step) (free : List Bool) (from nu
                 clear = other b.word apart ∙ b.clear;
                 waits = λ l. subst (λ w. IsWaiting w.last.items w.chain.items b.word k) (sym waits) (b.waits (let e = same_long in omega (arith, e, l)));
               }))
-              (same_or b.word s.target);
+              (cases_eq b.word s.target);
         })
       where
         same_long : length new.marks.items ≡ length g.marks.items
@@ -170,14 +170,11 @@ grown_none modules wires free g marks taken long looks = record {
   covered = λ k s there. inr (inl (k, omega arith, looks k (slice_get_within wires k s there)));
 }
 
-not_both : (b : Bool) → b ≡ true → b ≡ false → ⊥
-not_both b e f = cc
-
 -- where none is to be looked at, none can be taken
 pub grown_held : (modules : List Module) (wires : List Step) (free : List Bool) (from : ℕ) (g : Growth) → length g.looks.items ≤ from → IsGrowing modules wires free from g
     → AreHeld modules wires g.marks.items (length wires)
 grown_held modules wires free from g past grown k s less there inside clear = ⊎_elim
-    (λ (taken : IsTaken g.marks.items s). absurd (not_both (slice_index_or g.marks.items s.target false) (taken inside) clear))
+    (λ (taken : IsTaken g.marks.items s). absurd (both_ways (slice_index_or g.marks.items s.target false) clear (taken inside)))
     (λ rest. ⊎_elim
     (λ (listed : IsListed from g.looks.items k).
     let a = listed.1 in

@@ -1,9 +1,10 @@
 -- A search for all that leads to a place finds whether it leads to itself.
-use Rattle.std.specs.Prelude.{◌≡◌, ℕ, zero, suc, ◌+◌, ◌<◌, ◌⊎◌, Bool, true, false, List, [], ◌∷◌, length, replicate, Some, slice_get, slice_index_or, slice_set, refl}
+use Rattle.std.specs.Prelude.{◌≡◌, ℕ, ◌+◌, ◌<◌, ◌⊎◌, Bool, true, false, List, [], ◌∷◌, length, replicate, Some, slice_get, slice_index_or, slice_set, refl}
 use Rattle.std.proofs.Common.{ap, sym, ◌∙◌, subst, inl, inr, ⊎_elim, arith}
-use Rattle.std.proofs.lemmas.List.{get_or-set_same, get_or-set_other}
+use Rattle.std.proofs.lemmas.List.{get_or-set_same, get_or-set_other, get_or-replicate, length-replicate}
 use Rattle.std.proofs.lemmas.Option.{same_Some, slice_get_within}
 use Rattle.std.proofs.Math.ListN.{length-set}
+use Rattle.std.proofs.lemmas.Bool.{cases_Bool, both_ways, cases_eq}
 use Rattle.netlist.specs.declared.netlist.Module.{Module}
 use Rattle.verilog_meaning.specs.Threads.{IsOneOf}
 use Rattle.sim_values.specs.declared.settle.Step.{Step}
@@ -14,11 +15,7 @@ use Rattle.sim_layout.specs.declared.loops.Found.{Found}
 use Rattle.sim_layout.specs.Wires.{signals_of}
 use Rattle.sim_layout.specs.Leads.{Leads, AreInRoom, IsSearch, IsClosed, AreClosed, AreApart, LoopsNowhere, IsLoopIn, AreLoopless, IsFirstFound}
 use Rattle.sim_layout.specs.Leads.Leads.{Directly, Through}
-use Rattle.sim_values.proofs.Settles.{same_or}
 use Rattle.sim_values.proofs.Trees.{front_or_back}
-
-not_both : (b : Bool) → b ≡ true → b ≡ false → ⊥
-not_both b e f = cc
 
 -- of some place that is clear
 pub record OneClear (marks : List Bool) (places : List ℕ) : Type 0 where
@@ -56,38 +53,26 @@ module _ (modules : List Module) (wires : List Step) (place : ℕ) where
         here = ⊎_elim
             (λ same. ap (λ j. slice_index_or (slice_set apart s.target false) j false) same ∙ get_or-set_same apart s.target false false target)
             (λ other. get_or-set_other apart s.target place false false other ∙ search.here)
-            (same_or place s.target);
+            (cases_eq place s.target);
         leads = λ k l clear. ⊎_elim
             (λ same. inr (subst (λ j. Leads modules wires j place) (sym same) (found_step apart room search s has some)))
             (λ other. search.leads k (let m = ap length e in omega (arith, l, long, m)) (sym (get_or-set_other apart s.target k false false other) ∙ clear))
-            (same_or k s.target);
+            (cases_eq k s.target);
       })
 
   -- at the start the place alone is found
   pub search_none : (apart : List Bool) (n : ℕ) → place < n → apart ≡ slice_set (replicate n true) place false → IsSearch modules wires place apart
   search_none apart n l e =
       subst (IsSearch modules wires place) (sym e) (record {
-        here = get_or-set_same (replicate n true) place false false (let z = replicate_long n in omega (arith, l, z));
+        here = get_or-set_same (replicate n true) place false false (let z = length-replicate n true in omega (arith, l, z));
         leads = λ k inside clear. ⊎_elim
             (λ same. inl same)
             (λ other.
-            absurd (not_both (slice_index_or (slice_set (replicate n true) place false) k false)
-            (get_or-set_other (replicate n true) place k false false other ∙ all_true n k (let z = replicate_long n in let y = set_long (replicate n true) place in omega (arith, inside, z, y)))
-            clear))
-            (same_or k place);
+            absurd (both_ways (slice_index_or (slice_set (replicate n true) place false) k false)
+            clear
+            (get_or-set_other (replicate n true) place k false false other ∙ get_or-replicate n k true false (let z = length-replicate n true in let y = length-set (replicate n true) place false in omega (arith, inside, z, y)))))
+            (cases_eq k place);
       })
-    where
-      replicate_long : (n : ℕ) → length (replicate n true) ≡ n
-      replicate_long zero = refl
-      replicate_long (suc n) = ap suc (replicate_long n)
-
-      all_true : (n k : ℕ) → k < n → slice_index_or (replicate n true) k false ≡ true
-      all_true zero k l = absurd (omega arith)
-      all_true (suc n) zero l = refl
-      all_true (suc n) (suc k) l = all_true n k (omega arith)
-
-      set_long : (xs : List Bool) (k : ℕ) → length (slice_set xs k false) ≡ length xs
-      set_long xs k = length-set xs k false
 
   -- what leads to a place that is found is found, and is not the place
   module _ (apart : List Bool) (n : ℕ) (count : n ≡ length wires) (closed : AreClosed modules wires apart n) (away : AreApart modules wires place apart n) where
@@ -98,16 +83,12 @@ module _ (modules : List Module) (wires : List Step) (place : ℕ) where
     back (Directly s y has among) clear = (
       ⊎_elim
           (λ (e : slice_index_or apart s.target false ≡ true).
-          absurd (not_both (slice_index_or apart y false)
-          (each_among (IsMarked apart) (reads modules s.feed) (closed has.0 (within s has) s has.1 e) y among) clear))
+          absurd (both_ways (slice_index_or apart y false)
+          clear (each_among (IsMarked apart) (reads modules s.feed) (closed has.0 (within s has) s has.1 e) y among)))
           (λ e. e)
-          (two (slice_index_or apart s.target false)),
-      λ same. not_both (slice_index_or apart y false) (each_among (IsMarked apart) (reads modules s.feed) (away has.0 s (within s has) has.1 same) y among) clear,
+          (cases_Bool (slice_index_or apart s.target false)),
+      λ same. both_ways (slice_index_or apart y false) clear (each_among (IsMarked apart) (reads modules s.feed) (away has.0 s (within s has) has.1 same) y among),
     )
-      where
-        two : (b : Bool) → (b ≡ true) ⊎ (b ≡ false)
-        two true = inl refl
-        two false = inr refl
     back (Through a b c first rest) clear = back first (back rest clear).0
 
     pub no_loop : IsClear apart place → Leads modules wires place place → ⊥
@@ -137,7 +118,7 @@ pub closed_found : (modules : List Module) (wires : List Step) (apart : List Boo
 closed_found modules wires apart k s at either u there marked =
     let same : u ≡ s = one_step wires k k s u at refl there in
     ⊎_elim
-    (λ clear. absurd (not_both (slice_index_or apart s.target false) (ap (λ (z : Step). slice_index_or apart z.target false) (sym same) ∙ marked) clear))
+    (λ clear. absurd (both_ways (slice_index_or apart s.target false) clear (ap (λ (z : Step). slice_index_or apart z.target false) (sym same) ∙ marked)))
     (λ each. subst (λ (z : Step). EachOf (IsMarked apart) (reads modules z.feed)) (sym same) each)
     either
 

@@ -2,6 +2,8 @@
 use Rattle.std.specs.Prelude.{◌≡◌, ℕ, zero, suc, ◌+◌, ◌<◌, ◌⊎◌, Bool, false, List, [], ◌∷◌, ◌++◌, length, slice_index, slice_index_or, Option, Some, None, slice_get, refl}
 use Rattle.std.proofs.Common.{ap, sym, ◌∙◌, subst, inl, inr, ⊎_elim, arith, length-append}
 use Rattle.std.proofs.lemmas.Option.{slice_get_within}
+use Rattle.std.proofs.lemmas.List.{get_or_append_left}
+use Rattle.lists.proofs.Places.{get_left}
 use Rattle.netlist.specs.declared.netlist.Signal.{Signal}
 use Rattle.netlist.specs.declared.netlist.Memory.{Memory}
 use Rattle.netlist.specs.declared.netlist.Module.{Module}
@@ -9,12 +11,7 @@ use Rattle.verilog_meaning.specs.Readings.{initial_number, or_zero, memory_words
 use Rattle.sim_values.specs.declared.edge.Part.{Part}
 use Rattle.sim_layout.specs.Running.{IsPart}
 use Rattle.sim_layout.specs.Placed.{is_register, numbers_in, frees_in, starts_in, words_in, numbers_of, frees_of, starts_of, words_of, IsPlaced}
-use Rattle.sim_values.proofs.Trees.{get_front, get_back, index_front, index_back, front_or_back}
-
-or_front : {X : Type 0} (xs ys : List X) (q : ℕ) (d : X) → q < length xs → slice_index_or (xs ++ ys) q d ≡ slice_index_or xs q d
-or_front [] ys q d l = absurd (omega arith)
-or_front (x ∷ xs) ys zero d l = refl
-or_front (x ∷ xs) ys (suc q) d l = or_front xs ys q d (omega arith)
+use Rattle.sim_values.proofs.Trees.{get_back, index_back, front_or_back}
 
 or_back : {X : Type 0} (xs ys : List X) (q i : ℕ) (d : X) → q ≡ length xs + i → slice_index_or (xs ++ ys) q d ≡ slice_index_or ys i d
 or_back [] ys q i d e = ap (λ k. slice_index_or ys k d) (let z : q ≡ i = omega arith in z)
@@ -80,7 +77,7 @@ words_get (m ∷ ms) zero s x p e l at =
     let same : m ≡ s = cc in
     let here : p ≡ x = omega arith in
     let small : x < length m.initial = subst (λ (t : Memory). x < length t.initial) (sym same) l in
-    ap (slice_index (m.initial ++ words_in ms)) here ∙ index_front m.initial (words_in ms) x small ∙ index_get m.initial x small
+    ap (slice_index (m.initial ++ words_in ms)) here ∙ get_or_append_left m.initial (words_in ms) 0 x small ∙ index_get m.initial x small
     ∙ ap (λ (t : Memory). or_zero (slice_get t.initial x)) same
 words_get (m ∷ ms) (suc j) s x p e l at = index_back m.initial (words_in ms) p (offset ms j + x) (omega arith) ∙ words_get ms j s x (offset ms j + x) e l refl
 
@@ -117,7 +114,7 @@ module _ (modules : List Module) (kinds children : List ℕ) (parts : List Part)
 
   listed_split : (q : ℕ) (p : Part) → slice_get more q ≡ Some p → (slice_get parts q ≡ Some p) ⊎ ((q ≡ length parts) × (p ≡ part))
   listed_split q p e = ⊎_elim
-      (λ l. inl (sym (get_front parts (part ∷ []) q l) ∙ e))
+      (λ l. inl (sym (get_left parts (part ∷ []) q l) ∙ e))
       (λ b. let one = only b.0 p (sym (get_back parts (part ∷ []) q b.0 b.1) ∙ e) in inr (let z = b.1 in let y = one.0 in omega arith, one.1))
       (front_or_back q (length parts))
 
@@ -141,7 +138,7 @@ module _ (modules : List Module) (kinds children : List ℕ) (parts : List Part)
 
   old_start : (q : ℕ) (p : Part) (m : Module) (j : ℕ) → IsPart modules parts q p m → j < length m.memories
       → slice_index (starts ++ starts_of (length words) o) (p.spot.memories + j) ≡ slice_index starts (p.spot.memories + j)
-  old_start q p m j is l = index_front starts (starts_of (length words) o) (p.spot.memories + j) (placed.memories q p m j is l)
+  old_start q p m j is l = get_or_append_left starts (starts_of (length words) o) 0 (p.spot.memories + j) (placed.memories q p m j is l)
 
   new_start : (q : ℕ) (p : Part) (m : Module) (j : ℕ) → IsNew q p m → j < length m.memories
       → slice_index (starts ++ starts_of (length words) o) (p.spot.memories + j) ≡ length words + offset m.memories j
@@ -174,8 +171,8 @@ module _ (modules : List Module) (kinds children : List ℕ) (parts : List Part)
       (λ old.
       let l = placed.room q p m x old (slice_get_within m.signals x s at) in
       let b = placed.begins q p m x s old at in (
-        index_front numbers (numbers_of o) (p.spot.base + x) l ∙ b.0,
-        or_front free (frees_of o) (p.spot.base + x) false (let z = placed.long in omega arith) ∙ b.1,
+        get_or_append_left numbers (numbers_of o) 0 (p.spot.base + x) l ∙ b.0,
+        get_or_append_left free (frees_of o) false (p.spot.base + x) (let z = placed.long in omega arith) ∙ b.1,
       ))
       (λ new.
       let z = base_is q p m new in (
@@ -227,7 +224,7 @@ module _ (modules : List Module) (kinds children : List ℕ) (parts : List Part)
       (λ old.
       let y = old_start q p m j old within in
       ap (λ (n : ℕ). slice_index (words ++ words_of o) (n + x)) y
-      ∙ index_front words (words_of o) (slice_index starts (p.spot.memories + j) + x) (placed.word_room q p m j x old small)
+      ∙ get_or_append_left words (words_of o) 0 (slice_index starts (p.spot.memories + j) + x) (placed.word_room q p m j x old small)
       ∙ placed.word_begins q p m j x s old at l)
       (λ new.
       let y = new_start q p m j new within in

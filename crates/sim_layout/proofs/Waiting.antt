@@ -3,11 +3,12 @@ use Rattle.std.specs.Prelude.{◌≡◌, ℕ, ◌<◌, ◌≤◌, ◌⊎◌, Lis
 use Rattle.std.proofs.Common.{ap, sym, ◌∙◌, subst, inl, inr, ⊎_elim}
 use Rattle.std.proofs.lemmas.List.{get_or-set_same, get_or-set_other}
 use Rattle.std.proofs.lemmas.Option.{same_Some, none-some}
+use Rattle.std.proofs.lemmas.Bool.{cases_eq}
+use Rattle.lists.proofs.Places.{get_last}
 use Rattle.sim_layout.specs.declared.waits.Wait.{Wait}
 use Rattle.sim_layout.specs.Waits.{IsInChain, IsWaiting, IsListed}
 use Rattle.sim_layout.specs.Waits.IsInChain.{Here, Before}
-use Rattle.sim_values.proofs.Orders.{get_more, get_last}
-use Rattle.sim_values.proofs.Settles.{same_or}
+use Rattle.sim_values.proofs.Orders.{get_more}
 
 chain_more : (chain : List Wait) (new : Wait) (k : ℕ) {o : Option ℕ} → IsInChain chain k o → IsInChain (chain ++ new ∷ []) k o
 chain_more chain new k (Here w at is) = Here w (get_more chain (new ∷ []) _ w at) is
@@ -33,7 +34,7 @@ module _ (last new_last : List (Option ℕ)) (chain new_chain : List Wait) (new 
       subst (IsInChain new_chain k) (sym (ap (λ z. slice_index_or new_last z None) same ∙ last_here)) (Before new new_at old))
       (λ (apart : w ≡ word → ⊥).
       subst (IsInChain new_chain k) (sym (ap (λ l. slice_index_or l w None) set ∙ get_or-set_other last word w (Some (length chain)) None apart)) longer)
-      (same_or w word)
+      (cases_eq w word)
 
 -- ---- the steps of a chain are listed
 

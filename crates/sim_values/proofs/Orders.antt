@@ -4,20 +4,17 @@ use Rattle.std.proofs.Common.{ap, sym, ◌∙◌, subst, inl, inr, ⊎_elim, ari
 use Rattle.std.proofs.lemmas.List.{get_or-set_same, get_or-set_other}
 use Rattle.std.proofs.lemmas.Option.{slice_get_within}
 use Rattle.std.proofs.Math.ListN.{length-set}
+use Rattle.std.proofs.lemmas.Bool.{both_ways, cases_eq}
 use Rattle.netlist.specs.declared.netlist.Module.{Module}
 use Rattle.sim_values.specs.declared.settle.Step.{Step}
 use Rattle.sim_values.specs.Flat.{EachOf}
 use Rattle.sim_values.specs.Order.{reads, InOrder, IsMarked, IsClear, SomeOf, Known, Takes, IsPartial, IsOrder, AreHeld, IsLeft, IsStuck}
-use Rattle.sim_values.proofs.Settles.{same_or, each_to}
+use Rattle.sim_values.proofs.Settles.{each_to}
 
 pub get_more : {X : Type 0} (xs ys : List X) (j : ℕ) (x : X) → slice_get xs j ≡ Some x → slice_get (xs ++ ys) j ≡ Some x
 get_more [] ys j x e = absurd cc
 get_more (y ∷ xs) ys zero x e = e
 get_more (y ∷ xs) ys (suc j) x e = get_more xs ys j x e
-
-pub get_last : {X : Type 0} (xs : List X) (x : X) → slice_get (xs ++ x ∷ []) (length xs) ≡ Some x
-get_last [] x = refl
-get_last (y ∷ xs) x = get_last xs x
 
 known_keep : (known : ℕ → Type 0) (steps : List Step) (s : Step) (k : ℕ) → Known known steps k → Known known (steps ++ s ∷ []) k
 known_keep known [] s k h = inl h
@@ -46,25 +43,22 @@ get_snoc [] x (suc k) t e = absurd cc
 get_snoc (y ∷ xs) x zero t e = inl e
 get_snoc (y ∷ xs) x (suc k) t e = get_snoc xs x k t e
 
-not_both : (b : Bool) → b ≡ true → b ≡ false → ⊥
-not_both b e f = cc
-
 pub partial_more : (modules : List Module) (wires : List Step) (free marks : List Bool) (done : List Step) (i : ℕ) (s : Step)
     → IsPartial modules wires free marks done → slice_get wires i ≡ Some s → s.target < length marks → slice_index_or marks s.target false ≡ false
     → EachOf (IsMarked marks) (reads modules s.feed) → IsPartial modules wires free (slice_set marks s.target true) (done ++ s ∷ [])
 partial_more modules wires free marks done i s p at l new ready = record {
   ordered = order_snoc modules (IsMarked free) done s p.ordered
       (each_to (IsMarked marks) (Known (IsMarked free) done) (reads modules s.feed) p.known ready)
-      (λ h. not_both (slice_index_or marks s.target false) (p.all s.target h) new);
+      (λ h. both_ways (slice_index_or marks s.target false) new (p.all s.target h));
   known = λ k e. ⊎_elim
       (λ same. subst (Known (IsMarked free) (done ++ s ∷ [])) (sym same) (known_last (IsMarked free) done s))
       (λ apart. known_keep (IsMarked free) done s k (p.known k (sym (get_or-set_other marks s.target k true false apart) ∙ e)))
-      (same_or k s.target);
+      (cases_eq k s.target);
   all = λ k h. ⊎_elim
       (λ same. ap (λ j. slice_index_or (slice_set marks s.target true) j false) same ∙ get_or-set_same marks s.target true false l)
       (λ apart. get_or-set_other marks s.target k true false apart
       ∙ ⊎_elim (λ old. p.all k old) (λ e. absurd (apart e)) (known_back (IsMarked free) done s k h))
-      (same_or k s.target);
+      (cases_eq k s.target);
   from = λ k t there. ⊎_elim
       (λ old. p.from k t old)
       (λ same. subst (Takes wires) (sym same) (i, at))

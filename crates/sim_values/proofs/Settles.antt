@@ -1,9 +1,9 @@
 -- Steps in order settle the places that they give, and change no place that was known.
-use Rattle.std.specs.Prelude.{◌≡◌, ℕ, zero, suc, ◌+◌, ◌<◌, ◌⊎◌, Bool, true, false, nat_eq, if◌then◌else◌, List, [], ◌∷◌, map, length, Option, Some, None, slice_get, slice_index, refl}
+use Rattle.std.specs.Prelude.{◌≡◌, ℕ, zero, suc, ◌+◌, ◌<◌, ◌⊎◌, nat_eq, List, [], ◌∷◌, map, length, Option, Some, None, slice_get, slice_index, refl}
 use Rattle.std.proofs.Common.{ap, sym, ◌∙◌, subst, inl, inr, ⊎_elim, arith}
 use Rattle.std.proofs.lemmas.List.{get_or-set_same, get_or-set_other}
-use Rattle.std.proofs.lemmas.Bool.Decides.{nat_tests}
 use Rattle.std.proofs.Math.ListN.{length-set}
+use Rattle.std.proofs.lemmas.Bool.{cases_eq, ne_eqb, eq-eqb, cond-false, cond-true}
 use Rattle.hls_ints.specs.Words.{word}
 use Rattle.netlist.specs.declared.netlist.Source.{Source}
 use Rattle.netlist.specs.declared.netlist.Source.TheVariants.{Input, Register, Assigned, Port}
@@ -88,31 +88,11 @@ module _ (modules : List Module) (c : Choice) where
 
 -- ---- ranks
 
-pub if_true : {X : Type 0} (b : Bool) (x y : X) → b ≡ true → (if b then x else y) ≡ x
-if_true true x y e = refl
-if_true false x y e = absurd cc
-
-pub if_false : {X : Type 0} (b : Bool) (x y : X) → b ≡ false → (if b then x else y) ≡ y
-if_false false x y e = refl
-if_false true x y e = absurd cc
-
-pub eq_true : (a b : ℕ) → a ≡ b → nat_eq a b ≡ true
-eq_true a b e = grind (arith, nat_tests)
-
-pub eq_false : (a b : ℕ) → (a ≡ b → ⊥) → nat_eq a b ≡ false
-eq_false a b e = grind (arith, nat_tests)
-
-pub same_or : (k t : ℕ) → (k ≡ t) ⊎ (k ≡ t → ⊥)
-same_or zero zero = inl refl
-same_or zero (suc t) = inr (λ e. absurd (omega arith))
-same_or (suc k) zero = inr (λ e. absurd (omega arith))
-same_or (suc k) (suc t) = elim (same_or k t) [ inl e ↦ inl (ap suc e) | inr f ↦ inr (λ e. f (omega arith)) ]
-
 rank_here : (i : ℕ) (s : Step) (steps : List Step) (k : ℕ) → s.target ≡ k → rank i (s ∷ steps) k ≡ i + 1
-rank_here i s steps k e = if_true (nat_eq s.target k) (i + 1) (rank (i + 1) steps k) (eq_true s.target k e)
+rank_here i s steps k e = cond-true (nat_eq s.target k) (i + 1) (rank (i + 1) steps k) (eq-eqb s.target k e)
 
 rank_later : (i : ℕ) (s : Step) (steps : List Step) (k : ℕ) → (s.target ≡ k → ⊥) → rank i (s ∷ steps) k ≡ rank (i + 1) steps k
-rank_later i s steps k e = if_false (nat_eq s.target k) (i + 1) (rank (i + 1) steps k) (eq_false s.target k e)
+rank_later i s steps k e = cond-false (nat_eq s.target k) (i + 1) (rank (i + 1) steps k) (ne_eqb s.target k e)
 
 module _ (modules : List Module) where
   pub rank_known : (known : ℕ → Type 0) (i : ℕ) (steps : List Step) (k : ℕ) → InOrder modules known steps → known k → rank i steps k ≡ 0
@@ -154,5 +134,5 @@ module _ (modules : List Module) where
       (λ y l. ⊎_elim
       (λ same. let h = rank_here i t steps y same in omega arith)
       (λ apart. let h = rank_later i t steps y apart in omega arith)
-      (same_or t.target y))
+      (cases_eq t.target y))
       (rank_reads known' (i + 1) steps j s o.2 at)

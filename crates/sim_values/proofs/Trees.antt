@@ -2,6 +2,8 @@
 use Rattle.std.specs.Prelude.{◌≡◌, ℕ, zero, suc, ◌+◌, ◌<◌, ◌⊎◌, List, [], ◌∷◌, ◌++◌, length, slice_index, Option, Some, None, option_and_then, slice_get, refl}
 use Rattle.std.proofs.Common.{ap, sym, ◌∙◌, subst, inl, inr, ⊎_elim, arith, length-append}
 use Rattle.std.proofs.lemmas.Option.{slice_get_within}
+use Rattle.std.proofs.lemmas.List.{get_or_append_left}
+use Rattle.lists.proofs.Places.{get_left}
 use Rattle.netlist.specs.declared.netlist.Instance.{Instance}
 use Rattle.netlist.specs.declared.netlist.Module.{Module}
 use Rattle.verilog_meaning.specs.Cycles.{Path, module_at}
@@ -9,20 +11,10 @@ use Rattle.sim_values.specs.Loops.{Before}
 use Rattle.sim_values.specs.Tree.{instances_of, kinds_of, place_in, IsInstance, IsInner, IsReached, IsGrown, IsTree}
 use Rattle.sim_values.proofs.Orders.{get_more}
 
-pub get_front : {X : Type 0} (xs ys : List X) (q : ℕ) → q < length xs → slice_get (xs ++ ys) q ≡ slice_get xs q
-get_front [] ys q l = absurd (omega arith)
-get_front (x ∷ xs) ys zero l = refl
-get_front (x ∷ xs) ys (suc q) l = get_front xs ys q (omega arith)
-
 pub get_back : {X : Type 0} (xs ys : List X) (q i : ℕ) → q ≡ length xs + i → slice_get (xs ++ ys) q ≡ slice_get ys i
 get_back [] ys q i e = ap (slice_get ys) (let z : q ≡ i = omega arith in z)
 get_back (x ∷ xs) ys zero i e = absurd (omega arith)
 get_back (x ∷ xs) ys (suc q) i e = get_back xs ys q i (omega arith)
-
-pub index_front : (xs ys : List ℕ) (q : ℕ) → q < length xs → slice_index (xs ++ ys) q ≡ slice_index xs q
-index_front [] ys q l = absurd (omega arith)
-index_front (x ∷ xs) ys zero l = refl
-index_front (x ∷ xs) ys (suc q) l = index_front xs ys q (omega arith)
 
 pub index_back : (xs ys : List ℕ) (q i : ℕ) → q ≡ length xs + i → slice_index (xs ++ ys) q ≡ slice_index ys i
 index_back [] ys q i e = ap (slice_index ys) (let z : q ≡ i = omega arith in z)
@@ -52,7 +44,7 @@ place_stable : (children more : List ℕ) (path : Path) → IsInner children pat
 place_stable children more [] inner = refl
 place_stable children more (i ∷ outer) inner =
     ap (λ p. slice_index (children ++ more) p + i) (place_stable children more outer inner.1)
-    ∙ ap (λ k. k + i) (index_front children more (place_in children outer) inner.0)
+    ∙ ap (λ k. k + i) (get_or_append_left children more 0 (place_in children outer) inner.0)
 
 inner_stable : (children more : List ℕ) (path : Path) → IsInner children path → IsInner (children ++ more) path
 inner_stable children more [] inner = tt
@@ -117,19 +109,19 @@ grown_more modules top kinds children kind g at =
       within = omega (arith, length-append children (length kinds ∷ []), length-append kinds more);
       kids = λ q i k n less there inside. ⊎_elim
           (λ old.
-          let before : slice_get kinds q ≡ Some k = sym (get_front kinds more q (omega arith)) ∙ there in
-          let index : slice_index (children ++ length kinds ∷ []) q ≡ slice_index children q = index_front children (length kinds ∷ []) q old in
+          let before : slice_get kinds q ≡ Some k = sym (get_left kinds more q (omega arith)) ∙ there in
+          let index : slice_index (children ++ length kinds ∷ []) q ≡ slice_index children q = get_or_append_left children (length kinds ∷ []) 0 q old in
           ap (λ p. slice_get (kinds ++ more) (p + i)) index ∙ get_more kinds more (slice_index children q + i) n.of (g.kids q i k n old before inside))
           (λ new.
           let here : q ≡ length children = let z = new.1 in omega (arith, length-append children (length kinds ∷ [])) in
-          let one : Some k ≡ Some kind = sym there ∙ get_front kinds more q (omega arith) ∙ ap (slice_get kinds) here ∙ at in
+          let one : Some k ≡ Some kind = sym there ∙ get_left kinds more q (omega arith) ∙ ap (slice_get kinds) here ∙ at in
           let same : k ≡ kind = cc in
           let index : slice_index (children ++ length kinds ∷ []) q ≡ length kinds = index_back children (length kinds ∷ []) q 0 (omega arith) in
           ap (λ p. slice_get (kinds ++ more) (p + i)) index ∙ get_back kinds more (length kinds + i) i refl
           ∙ kinds_get ns i n (ap (λ u. slice_get (instances_of (slice_get modules u)) i) (sym same) ∙ inside))
           (front_or_back q (length children));
       reached = λ t is q k there. ⊎_elim
-          (λ old. reached_stable modules t children (length kinds ∷ []) q k (g.reached t is q k (sym (get_front kinds more q old) ∙ there)))
+          (λ old. reached_stable modules t children (length kinds ∷ []) q k (g.reached t is q k (sym (get_left kinds more q old) ∙ there)))
           (λ new.
           let i = new.0 in
           let from = kinds_from ns i k (sym (get_back kinds more q i new.1) ∙ there) in
@@ -138,18 +130,18 @@ grown_more modules top kinds children kind g at =
           (reached_inside modules t children (length kinds) (length children) kind i (slice_get modules kind) from.0 refl from.1 refl (g.reached t is (length children) kind at))))
           (front_or_back q (length kinds));
       behind = λ q less. ⊎_elim
-          (λ old. let index = index_front children (length kinds ∷ []) q old in let b = g.behind q old in omega (arith, index, b))
+          (λ old. let index = get_or_append_left children (length kinds ∷ []) 0 q old in let b = g.behind q old in omega (arith, index, b))
           (λ new. let index = last_index q new.0 new.1 less in omega (arith, index, l))
           (front_or_back q (length children));
       ends = λ q k less there. ⊎_elim
           (λ old.
-          let before : slice_get kinds q ≡ Some k = sym (get_front kinds more q (let w = g.within in omega arith)) ∙ there in
-          let index = index_front children (length kinds ∷ []) q old in
+          let before : slice_get kinds q ≡ Some k = sym (get_left kinds more q (let w = g.within in omega arith)) ∙ there in
+          let index = get_or_append_left children (length kinds ∷ []) 0 q old in
           let e = g.ends q k old before in
           omega (arith, index, e, length-append kinds more))
           (λ new.
           let here : q ≡ length children = (let z = new.1 in omega (arith, length-append children (length kinds ∷ []))) in
-          let one : Some k ≡ Some kind = sym there ∙ get_front kinds more q (omega arith) ∙ ap (slice_get kinds) here ∙ at in
+          let one : Some k ≡ Some kind = sym there ∙ get_left kinds more q (omega arith) ∙ ap (slice_get kinds) here ∙ at in
           let same : k ≡ kind = cc in
           let index = last_index q new.0 new.1 less in
           let count : length (instances_of (slice_get modules k)) ≡ length more = ap (λ u. length (instances_of (slice_get modules u))) same ∙ sym (kinds_length ns) in
@@ -157,10 +149,10 @@ grown_more modules top kinds children kind g at =
           (front_or_back q (length children));
       apart = λ q o k less inside there.
           let from : q < length children = omega (arith, length-append children (length kinds ∷ [])) in
-          let before : slice_get kinds q ≡ Some k = sym (get_front kinds more q (let w = g.within in omega arith)) ∙ there in
-          let first = index_front children (length kinds ∷ []) q from in
+          let before : slice_get kinds q ≡ Some k = sym (get_left kinds more q (let w = g.within in omega arith)) ∙ there in
+          let first = get_or_append_left children (length kinds ∷ []) 0 q from in
           ⊎_elim
-          (λ old. let index = index_front children (length kinds ∷ []) o old in let e = g.apart q o k less old before in omega (arith, first, index, e))
+          (λ old. let index = get_or_append_left children (length kinds ∷ []) 0 o old in let e = g.apart q o k less old before in omega (arith, first, index, e))
           (λ new. let index = last_index o new.0 new.1 inside in let e = g.ends q k from before in omega (arith, first, index, e))
           (front_or_back o (length children));
     }

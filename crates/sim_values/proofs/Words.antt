@@ -1,8 +1,9 @@
 -- Words modulo 2 to the 64.
-use Rattle.std.proofs.Common.{◌≡◌, ℕ, zero, suc, ◌+◌, ◌*◌, ◌%◌, ◌^◌, ◌<◌, ◌≤◌, List, [], ◌∷◌, length, drop, get_or, refl, sym, ap, ◌∙◌, subst, arith}
+use Rattle.std.proofs.Common.{◌≡◌, ℕ, suc, ◌+◌, ◌*◌, ◌%◌, ◌^◌, ◌<◌, ◌≤◌, List, [], ◌∷◌, length, drop, get_or, refl, sym, ap, ◌∙◌, subst, arith}
 use Rattle.std.proofs.Math.Seq.{drop-cons}
 use Rattle.std.proofs.Math.Nat.{mod-add-mod}
 use Rattle.std.proofs.lemmas.Nat.{mul-mod_first, mod_below, pow_pos}
+use Rattle.std.proofs.lemmas.List.{drop_all}
 use Rattle.hls_ints.specs.Words.{word}
 use Rattle.netlist.specs.declared.netlist.Module.{Module}
 use Rattle.verilog_meaning.specs.Readings.{Reading, joined, width}
@@ -40,13 +41,7 @@ each_next P xs i l e =
     let all = subst (EachOf P) (drop-cons xs i 0 l) e in
     (all.0, subst (λ k. EachOf P (drop k xs)) next all.1)
 
-drop_end : (xs : List ℕ) (i : ℕ) → length xs ≤ i → drop i xs ≡ []
-drop_end [] zero l = refl
-drop_end [] (suc i) l = refl
-drop_end (x ∷ xs) zero l = absurd (omega arith)
-drop_end (x ∷ xs) (suc i) l = drop_end xs i (omega arith)
-
 -- no part more
 pub joined_end : (m : Module) (r : Reading) (xs : List ℕ) (i above total : ℕ) → length xs ≤ i → total ≡ word 64 (joined m r (drop i xs) above) → above < 2 ^ 64 → above ≡ total
 joined_end m r xs i above total l e small =
-    is_small above above refl small ∙ sym (e ∙ ap (λ ys. word 64 (joined m r ys above)) (drop_end xs i l))
+    is_small above above refl small ∙ sym (e ∙ ap (λ ys. word 64 (joined m r ys above)) (drop_all i xs l))

@@ -1,6 +1,7 @@
 -- The edge is found to change parts exactly where it changes the state in the instances below a path; and whether a thread moves.
 use Rattle.std.specs.Prelude.{◌≡◌, ℕ, zero, suc, ◌<◌, ◌⊎◌, true, false, List, [], ◌∷◌, ◌++◌, length, Option, Some, None, slice_get, refl}
 use Rattle.std.proofs.Common.{ap, sym, ◌∙◌, subst, ⊎_elim, arith}
+use Rattle.std.proofs.lemmas.Bool.{or_cases, or_parts}
 use Rattle.netlist.specs.declared.netlist.Effect.{Effect}
 use Rattle.netlist.specs.declared.netlist.Effect.TheVariants.{Set}
 use Rattle.netlist.specs.declared.netlist.Action.{Action}
@@ -24,7 +25,7 @@ use Rattle.cycle_once.proofs.Once.{next_same}
 use Rattle.slot_sim.specs.Members.{AreMembers}
 use Rattle.slot_sim.specs.Changing.{changes, part_changes, part_changes_at, parts_change, SomeSets, LeavesOther, other_number, other_word, LeavesAll}
 use Rattle.slot_sim.proofs.Collecting.{instance_here}
-use Rattle.slot_sim.proofs.Changes.{or_left, or_right, one_of, found, left_alone}
+use Rattle.slot_sim.proofs.Changes.{found, left_alone}
 use Rattle.slot_sim.proofs.Sames.{in_trans, in_sym, within}
 
 -- ---- parts at some places
@@ -34,9 +35,9 @@ one_left : (modules : List Module) (parts : List Part) (f : Flat) (places : List
 one_left modules parts f [] e k q at = absurd cc
 one_left modules parts f (o ∷ places) e zero q at =
     let same : o ≡ q = cc in
-    subst (λ z. part_changes_at modules f (slice_get parts z) ≡ false) same (or_left (part_changes_at modules f (slice_get parts o)) (parts_change modules parts f places) e)
+    subst (λ z. part_changes_at modules f (slice_get parts z) ≡ false) same (or_parts (part_changes_at modules f (slice_get parts o)) (parts_change modules parts f places) e).0
 one_left modules parts f (o ∷ places) e (suc k) q at =
-    one_left modules parts f places (or_right (part_changes_at modules f (slice_get parts o)) (parts_change modules parts f places) e) k q at
+    one_left modules parts f places (or_parts (part_changes_at modules f (slice_get parts o)) (parts_change modules parts f places) e).1 k q at
 
 -- a part that is listed, whose module the edge changes
 record IsChanged (modules : List Module) (parts : List Part) (f : Flat) (places : List ℕ) : Type 0 where
@@ -64,7 +65,7 @@ changed modules parts f (q ∷ places) e = ⊎_elim
     (λ rest.
     let c = changed modules parts f places rest in
     record { number = suc c.number; place = c.place; at = c.at; part = c.part; kind = c.kind; is = c.is; changes_there = c.changes_there })
-    (one_of (part_changes_at modules f (slice_get parts q)) (parts_change modules parts f places) e)
+    (or_cases (part_changes_at modules f (slice_get parts q)) (parts_change modules parts f places) e)
 
 -- ---- one of the statements
 

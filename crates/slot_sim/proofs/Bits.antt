@@ -1,16 +1,8 @@
 -- The masks of one thread alone.
-use Rattle.std.proofs.Common.{◌≡◌, ◌≢◌, ℕ, ◌+◌, ◌-◌, ◌*◌, ◌/◌, ◌%◌, ◌^◌, ◌<◌, ◌≤◌, ap, ◌∙◌, arith}
+use Rattle.std.proofs.Common.{◌≡◌, ◌≢◌, ℕ, ◌+◌, ◌-◌, ◌*◌, ◌/◌, ◌%◌, ◌^◌, ◌<◌, ap, ◌∙◌, arith}
 use Rattle.std.proofs.lemmas.List.Elements.{All-nil}
-use Rattle.std.proofs.Math.Nat.{pow-le-pow_right}
-use Rattle.std.proofs.lemmas.Nat.{div-mul-add, pow_pos, pow-add}
+use Rattle.std.proofs.lemmas.Nat.{div-mul-add, pow_pos, pow-add, pow_below}
 use Rattle.verilog_meaning.specs.Threads.{bit_of, alone, IsChoice}
-
-pub above : (i j : ℕ) → i < j → 2 ^ i < 2 ^ j
-above i j l =
-    let s : 2 ^ (1 + i) ≡ 2 ^ 1 * 2 ^ i = pow-add 2 1 i in
-    let q : 2 ^ (1 + i) ≤ 2 ^ j = pow-le-pow_right {n = 2} (omega arith) {i = 1 + i} {j = j} (omega arith) in
-    let o : 0 < 2 ^ i = pow_pos i in
-    omega (arith, s, q, o)
 
 pub set_here : (i : ℕ) → bit_of (2 ^ i) i ≡ 1
 set_here i =
@@ -28,4 +20,4 @@ first_not_set i other =
 
 -- the choice of thread i alone is one
 pub alone_is_choice : (threads i : ℕ) → i < threads → IsChoice threads (alone i)
-alone_is_choice threads i l = (above i threads l, All-nil (λ p. p < 64))
+alone_is_choice threads i l = (pow_below i threads l, All-nil (λ p. p < 64))

@@ -1,8 +1,9 @@
 -- The parts that stand in one are collected, and they are those of the instances below its path.
 use Rattle.std.specs.Prelude.{◌≡◌, ℕ, zero, suc, ◌+◌, ◌<◌, ◌≤◌, List, [], ◌∷◌, ◌++◌, length, Option, Some, None, option_and_then, slice_get, slice_index, drop, Result, Ok, Err, IfOk, refl}
 use Rattle.std.proofs.Common.{ap, sym, ◌∙◌, subst, ⊎_elim, arith, length-append}
-use Rattle.std.proofs.lemmas.Option.{slice_get_within, same_Some}
+use Rattle.std.proofs.lemmas.Option.{slice_get_within, same_Some, slice_get-get_or}
 use Rattle.std.proofs.lemmas.List.{append_assoc}
+use Rattle.lists.proofs.Places.{get_left}
 use Rattle.netlist.specs.declared.netlist.Instance.{Instance}
 use Rattle.netlist.specs.declared.netlist.Module.{Module}
 use Rattle.verilog_meaning.specs.Cycles.{Path, module_at}
@@ -11,7 +12,7 @@ use Rattle.sim_values.specs.Stands.{children_of, kind_of, place_of}
 use Rattle.sim_values.specs.Tree.{instances_of, IsInstance}
 use Rattle.sim_layout.specs.Running.{Running, Stands, IsPart}
 use Rattle.sim_values.proofs.Orders.{get_more}
-use Rattle.sim_values.proofs.Trees.{get_front, get_back, opened, front_or_back}
+use Rattle.sim_values.proofs.Trees.{get_back, opened, front_or_back}
 use Rattle.slot_sim.specs.Members.{Listed, places_from, inner_of, IsInside, here, below, AreCollected, AreMembers, AreMembersOf}
 
 from_get : (start : ℕ) (ns : List Instance) (i : ℕ) → i < length ns → slice_get (places_from start ns) i ≡ Some (start + i)
@@ -63,11 +64,6 @@ collected_more modules parts first n places new a l is =
     subst (λ (ps : List ℕ). AreCollected modules parts first (n + 1) ps) (sym is)
     (record { root = get_more places more 0 first a.root; within = omega (arith, l, length-append places more); inner = inner; inside = inside })
   where
-    at_n : (xs : List ℕ) (k : ℕ) → k < length xs → slice_get xs k ≡ Some (slice_index xs k)
-    at_n [] k l = absurd (omega arith)
-    at_n (x ∷ xs) zero l = refl
-    at_n (x ∷ xs) (suc k) l = at_n xs k (omega arith)
-
     p : ℕ
     p = slice_index places n
 
@@ -78,11 +74,11 @@ collected_more modules parts first n places new a l is =
     more = places_from (children_of (slice_get parts p)) inner_ones
 
     there : slice_get places n ≡ Some p
-    there = at_n places n l
+    there = slice_get-get_or places n 0 l
 
     inner : (k q i : ℕ) → k < n + 1 → slice_get (places ++ more) k ≡ Some q → i < length (inner_of modules (slice_get parts q)) → Listed (places ++ more) (children_of (slice_get parts q) + i)
     inner k q i less at small =
-        let before : slice_get places k ≡ Some q = sym (get_front places more k (omega arith)) ∙ at in
+        let before : slice_get places k ≡ Some q = sym (get_left places more k (omega arith)) ∙ at in
         ⊎_elim
         (λ (old : k < n). let o = a.inner k q i old before small in (o.0, get_more places more o.0 (children_of (slice_get parts q) + i) o.1))
         (λ back.
@@ -96,7 +92,7 @@ collected_more modules parts first n places new a l is =
     inside : (k q : ℕ) → slice_get (places ++ more) k ≡ Some q → IsInside modules parts first q
     inside k q at =
         ⊎_elim
-        (λ (old : k < length places). a.inside k q (sym (get_front places more k old) ∙ at))
+        (λ (old : k < length places). a.inside k q (sym (get_left places more k old) ∙ at))
         (λ back.
         let w = from_within (children_of (slice_get parts p)) inner_ones back.0 q (sym (get_back places more k back.0 back.1) ∙ at) in
         subst (IsInside modules parts first) (sym w.1) (below (a.inside n p there) w.0))

@@ -1,6 +1,7 @@
 -- Parts are found to hold the same exactly where the states are the same in the instances below a path.
 use Rattle.std.specs.Prelude.{◌≡◌, ℕ, zero, suc, ◌+◌, ◌<◌, true, List, [], ◌∷◌, ◌++◌, length, Option, Some, None, slice_get, slice_index, refl}
 use Rattle.std.proofs.Common.{ap, sym, ◌∙◌, subst, arith}
+use Rattle.std.proofs.lemmas.Bool.{and_from, and_parts}
 use Rattle.netlist.specs.declared.netlist.Source.{Source}
 use Rattle.netlist.specs.declared.netlist.Source.TheVariants.{Input, Register, Assigned, Port}
 use Rattle.netlist.specs.declared.netlist.Signal.{Signal}
@@ -16,7 +17,7 @@ use Rattle.cycle_sim.proofs.Putting.{part_is}
 use Rattle.slot_sim.specs.Members.{AreMembers}
 use Rattle.slot_sim.specs.Same.{is_register, registers_same, words_same, memories_same, part_same, part_same_at, parts_same}
 use Rattle.slot_sim.proofs.Collecting.{instance_here}
-use Rattle.slot_sim.proofs.Telling.{and_first, and_second, and_both, registers_told, registers_shown, words_told, words_shown}
+use Rattle.slot_sim.proofs.Telling.{registers_told, registers_shown, words_told, words_shown}
 
 tests_register : (source : Source) → IsRegister source → is_register source ≡ true
 tests_register Input i = absurd i
@@ -41,12 +42,12 @@ memories_told f g first (m ∷ memories) e zero k s at l =
     let low : k < length m.initial = subst (λ (t : Memory). k < length t.initial) (sym same) l in
     subst (λ p. slice_index f.words (slice_index f.starts p + k) ≡ slice_index g.words (slice_index g.starts p + k)) here
     (words_told f.words g.words (slice_index f.starts first) (slice_index g.starts first) m.initial
-    (and_first (words_same f.words g.words (slice_index f.starts first) (slice_index g.starts first) m.initial) (memories_same f g (first + 1) memories) e) k low)
+    (and_parts (words_same f.words g.words (slice_index f.starts first) (slice_index g.starts first) m.initial) (memories_same f g (first + 1) memories) e).0 k low)
 memories_told f g first (m ∷ memories) e (suc j) k s at l =
     let there : (first + 1) + j ≡ first + suc j = omega arith in
     subst (λ p. slice_index f.words (slice_index f.starts p + k) ≡ slice_index g.words (slice_index g.starts p + k)) there
     (memories_told f g (first + 1) memories
-    (and_second (words_same f.words g.words (slice_index f.starts first) (slice_index g.starts first) m.initial) (memories_same f g (first + 1) memories) e) j k s at l)
+    (and_parts (words_same f.words g.words (slice_index f.starts first) (slice_index g.starts first) m.initial) (memories_same f g (first + 1) memories) e).1 j k s at l)
 
 memories_shown : (f g : Flat) (first : ℕ) (memories : List Memory)
     → ((j k : ℕ) (s : Memory) → slice_get memories j ≡ Some s → k < length s.initial
@@ -54,7 +55,7 @@ memories_shown : (f g : Flat) (first : ℕ) (memories : List Memory)
 memories_shown f g first [] h = refl
 memories_shown f g first (m ∷ memories) h =
     let here : first + 0 ≡ first = omega arith in
-    and_both (words_same f.words g.words (slice_index f.starts first) (slice_index g.starts first) m.initial) (memories_same f g (first + 1) memories)
+    and_from (words_same f.words g.words (slice_index f.starts first) (slice_index g.starts first) m.initial) (memories_same f g (first + 1) memories)
     (words_shown f.words g.words (slice_index f.starts first) (slice_index g.starts first) m.initial
     (λ k l. subst (λ p. slice_index f.words (slice_index f.starts p + k) ≡ slice_index g.words (slice_index g.starts p + k)) here (h 0 k m refl l)))
     (memories_shown f g (first + 1) memories
@@ -69,15 +70,15 @@ one_told : (modules : List Module) (parts : List Part) (f g : Flat) (places : Li
 one_told modules parts f g [] e k q at = absurd cc
 one_told modules parts f g (r ∷ places) e zero q at =
     let same : r ≡ q = cc in
-    subst (λ z. part_same_at modules f g (slice_get parts z) ≡ true) same (and_first (part_same_at modules f g (slice_get parts r)) (parts_same modules parts f g places) e)
+    subst (λ z. part_same_at modules f g (slice_get parts z) ≡ true) same (and_parts (part_same_at modules f g (slice_get parts r)) (parts_same modules parts f g places) e).0
 one_told modules parts f g (r ∷ places) e (suc k) q at =
-    one_told modules parts f g places (and_second (part_same_at modules f g (slice_get parts r)) (parts_same modules parts f g places) e) k q at
+    one_told modules parts f g places (and_parts (part_same_at modules f g (slice_get parts r)) (parts_same modules parts f g places) e).1 k q at
 
 all_shown : (modules : List Module) (parts : List Part) (f g : Flat) (places : List ℕ) → ((k q : ℕ) → slice_get places k ≡ Some q → part_same_at modules f g (slice_get parts q) ≡ true)
     → parts_same modules parts f g places ≡ true
 all_shown modules parts f g [] h = refl
 all_shown modules parts f g (q ∷ places) h =
-    and_both (part_same_at modules f g (slice_get parts q)) (parts_same modules parts f g places) (h 0 q refl) (all_shown modules parts f g places (λ k r at. h (suc k) r at))
+    and_from (part_same_at modules f g (slice_get parts q)) (parts_same modules parts f g places) (h 0 q refl) (all_shown modules parts f g places (λ k r at. h (suc k) r at))
 
 module _ (r o : Running) (st : Stands r) (net : IsSameNet r o) (outer : Path) (places : List ℕ) (members : AreMembers r.modules st.top r.parts outer places) where
   abbrev top : Module
@@ -105,7 +106,7 @@ module _ (r o : Running) (st : Stands r) (net : IsSameNet r o) (outer : Path) (p
         let is = part_is r st path m at.stands in
         let p = is.0 in
         let told = registers_told r.numbers o.numbers p.spot.base m.signals
-        (and_first (registers_same r.numbers o.numbers p.spot.base m.signals) (memories_same (flat r) (flat o) p.spot.memories m.memories) (there inner m at.stands)) x s at.listed
+        (and_parts (registers_same r.numbers o.numbers p.spot.base m.signals) (memories_same (flat r) (flat o) p.spot.memories m.memories) (there inner m at.stands)).0 x s at.listed
         (tests_register s.source i) in
         ap (λ (t : Spot). slice_index r.numbers (t.base + x)) is.2 ∙ told ∙ sym (other_signal path x ∙ ap (λ (t : Spot). slice_index o.numbers (t.base + x)) is.2)
 
@@ -116,7 +117,7 @@ module _ (r o : Running) (st : Stands r) (net : IsSameNet r o) (outer : Path) (p
         let is = part_is r st path m at.stands in
         let p = is.0 in
         let told = memories_told (flat r) (flat o) p.spot.memories m.memories
-        (and_second (registers_same r.numbers o.numbers p.spot.base m.signals) (memories_same (flat r) (flat o) p.spot.memories m.memories) (there inner m at.stands)) j k s at.listed l in
+        (and_parts (registers_same r.numbers o.numbers p.spot.base m.signals) (memories_same (flat r) (flat o) p.spot.memories m.memories) (there inner m at.stands)).1 j k s at.listed l in
         ap (λ (t : Spot). slice_index r.words (slice_index r.starts (t.memories + j) + k)) is.2 ∙ told
         ∙ sym (other_word path j k ∙ ap (λ (t : Spot). slice_index o.words (slice_index o.starts (t.memories + j) + k)) is.2)
 
@@ -134,7 +135,7 @@ module _ (r o : Running) (st : Stands r) (net : IsSameNet r o) (outer : Path) (p
         let path : found.0 ≡ i.0 ++ outer = st.apart.paths found.0 (i.0 ++ outer) (instance_here r.modules st.top found.0 m found.2) i.1 (found.1 ∙ sym i.2) in
         let stands : module_at r.modules st.top (i.0 ++ outer) ≡ Some m = ap (module_at r.modules st.top) (sym path) ∙ found.2 in
         let spot : spot_at r.parts (i.0 ++ outer) ≡ p.spot = ap (λ z. spot_of (slice_get r.parts z)) i.2 ∙ ap spot_of listed in
-        and_both (registers_same r.numbers o.numbers p.spot.base m.signals) (memories_same (flat r) (flat o) p.spot.memories m.memories)
+        and_from (registers_same r.numbers o.numbers p.spot.base m.signals) (memories_same (flat r) (flat o) p.spot.memories m.memories)
         (registers_shown r.numbers o.numbers p.spot.base m.signals
         (λ x s there is_one.
         ap (λ (t : Spot). slice_index r.numbers (t.base + x)) (sym spot)

@@ -2,6 +2,7 @@
 use Rattle.std.specs.Prelude.{◌≡◌, ◌≢◌, ℕ, zero, suc, ◌^◌, ◌<◌, nat_eq, slice_index, List, [], Some, refl}
 use Rattle.std.proofs.Common.{sym, ◌∙◌, subst, ⊎_elim, arith}
 use Rattle.std.proofs.lemmas.Option.{same_Some}
+use Rattle.std.proofs.lemmas.Bool.{cases_eq}
 use Rattle.netlist.specs.declared.netlist.Module.{Module}
 use Rattle.verilog_meaning.specs.Names.{top_of}
 use Rattle.verilog_meaning.specs.Cycles.{Path, Valuation, Choice, IsState, Cycle, ShowsDone}
@@ -12,7 +13,6 @@ use Rattle.sim_values.specs.Flat.{all_written}
 use Rattle.sim_layout.specs.Running.{Running, Stands, flat, state_of, Fits, settled_run, advanced}
 use Rattle.sim_layout.specs.Rounds.{threads_of}
 use Rattle.cycle_sim.proofs.Cycles.{run_cycle, advanced_stands, done_told}
-use Rattle.sim_values.proofs.Settles.{same_or}
 use Rattle.cycle_sim.proofs.Turning.{net_refl, takes_rounds, fits_all}
 use Rattle.slot_sim.specs.Threaded.{IsSameBut, Advances}
 use Rattle.slot_sim.specs.Laws.{Goes, ClosedGoes}
@@ -140,10 +140,10 @@ module _ (threads i : ℕ) (below : i < threads) where
           (λ one. absurd (changes (within modules top s h g (t.done_stays h g all [] (is_state r st top e) (subst (λ n. ShowsDone modules top h all n) one b.2)
           (subst (λ k. Cycle modules top h (alone k) g []) first cycle)))))
           (λ other. subst (λ n. ShowsDone modules top h all n) (let low = b.1 in omega (arith, low, other)) b.2)
-          (same_or b.0 1)
+          (cases_eq b.0 1)
 
       pub running : (i ≢ 0 → ShowsDone modules top h all 0) → ShowsDone modules top h all 0
-      running other = ⊎_elim main_runs other (same_or i 0)
+      running other = ⊎_elim main_runs other (cases_eq i 0)
 
   -- of another thread's closed cycle done hangs on main's slot, which stays
   pub still : (r : Running) (st : Stands r) (top : Module) (e : top_of r.modules ≡ Some top) (t : IsThreaded r.modules top threads) (many : threads_of r.modules ≡ threads)

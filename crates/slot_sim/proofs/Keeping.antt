@@ -2,12 +2,13 @@
 use Rattle.std.specs.Prelude.{◌≡◌, ℕ, ◌^◌, ◌<◌, Bool, true, false, List, [], ◌∷◌, ◌++◌, length, Some, slice_get, refl}
 use Rattle.std.proofs.Common.{ap, sym, ◌∙◌, subst, ⊎_elim, arith}
 use Rattle.std.proofs.lemmas.Option.{same_Some, slice_get_within}
+use Rattle.lists.proofs.Places.{get_left}
 use Rattle.netlist.specs.declared.netlist.Module.{Module}
 use Rattle.verilog_meaning.specs.Names.{top_of}
 use Rattle.verilog_meaning.specs.Cycles.{Choice}
 use Rattle.verilog_meaning.specs.Threads.{slot, alone, IsSameSlot, HasThread}
 use Rattle.sim_values.specs.declared.edge.Part.{Part}
-use Rattle.sim_values.proofs.Trees.{get_front, get_back, front_or_back}
+use Rattle.sim_values.proofs.Trees.{get_back, front_or_back}
 use Rattle.sim_layout.specs.Rounds.{threads_of}
 use Rattle.sim_layout.specs.Running.{Running, Stands, flat, state_of, choice_of, Fits, IsSameNet}
 use Rattle.slot_sim.specs.declared.slot.Slot.{Slot}
@@ -32,7 +33,7 @@ pub slots_more : (modules : List Module) (parts : List Part) (slots new : List S
 slots_more modules parts slots new n s long are is e i t at =
     let there : slice_get (slots ++ s ∷ []) i ≡ Some t = ap (λ l. slice_get l i) (sym e) ∙ at in
     ⊎_elim
-    (λ old. are i t (sym (get_front slots (s ∷ []) i old) ∙ there))
+    (λ old. are i t (sym (get_left slots (s ∷ []) i old) ∙ there))
     (λ back.
     let last : slice_get (s ∷ []) back.0 ≡ Some t = sym (get_back slots (s ∷ []) i back.0 back.1) ∙ there in
     let k = slice_get_within (s ∷ []) back.0 t last in
@@ -48,7 +49,7 @@ pub copies_more : (slots copies new : List Slot) (n : ℕ) (s c : Slot) → leng
 copies_more slots copies new n s c long at is are e k d there =
     let here : slice_get (copies ++ c ∷ []) k ≡ Some d = ap (λ l. slice_get l k) (sym e) ∙ there in
     ⊎_elim
-    (λ old. are k d (sym (get_front copies (c ∷ []) k old) ∙ here))
+    (λ old. are k d (sym (get_left copies (c ∷ []) k old) ∙ here))
     (λ back.
     let last : slice_get (c ∷ []) back.0 ≡ Some d = sym (get_back copies (c ∷ []) k back.0 back.1) ∙ here in
     let w = slice_get_within (c ∷ []) back.0 d last in

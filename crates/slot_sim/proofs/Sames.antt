@@ -2,10 +2,10 @@
 use Rattle.std.specs.Prelude.{◌≡◌, ℕ, ◌⊎◌, List, [], ◌∷◌, ◌++◌, refl}
 use Rattle.std.proofs.Common.{ap, sym, ◌∙◌, subst, inl, inr, ⊎_elim}
 use Rattle.std.proofs.lemmas.List.{append-nil}
+use Rattle.std.proofs.lemmas.Bool.{cases_eq}
 use Rattle.netlist.specs.declared.netlist.Module.{Module}
 use Rattle.verilog_meaning.specs.Cycles.{Path, Valuation, IsSameIn, IsSameAt}
 use Rattle.verilog_meaning.specs.Threads.{slot}
-use Rattle.sim_values.proofs.Settles.{same_or}
 use Rattle.slot_sim.specs.Threaded.{IsSameBut}
 use Rattle.slot_sim.specs.Laws.{TakenIsSame}
 
@@ -26,7 +26,7 @@ shorter x y j rest (z ∷ inner, e) = (inner, cc)
 
 pub ends : (path : Path) (j : ℕ) → Ends path j ⊎ (Ends path j → ⊥)
 ends [] j = inr (nothing j)
-ends (x ∷ []) j = ⊎_elim (λ same. inl ([], ap (λ z. z ∷ []) same)) (λ other. inr (λ e. other (one x j e))) (same_or x j)
+ends (x ∷ []) j = ⊎_elim (λ same. inl ([], ap (λ z. z ∷ []) same)) (λ other. inr (λ e. other (one x j e))) (cases_eq x j)
 ends (x ∷ y ∷ rest) j = ⊎_elim (λ e. inl (x ∷ e.0, ap (λ p. x ∷ p) e.1)) (λ no. inr (λ e. no (shorter x y j rest e))) (ends (y ∷ rest) j)
 
 module _ (modules : List Module) (top : Module) where

@@ -3,10 +3,10 @@ use Rattle.std.specs.Prelude.{◌≡◌, ◌≢◌, ℕ, zero, suc, ◌+◌, ◌
 use Rattle.std.proofs.Common.{ap, sym, ◌∙◌, subst, ⊎_elim, arith}
 use Rattle.std.proofs.lemmas.List.{get_or-set_same, get_or-set_other}
 use Rattle.std.proofs.Math.ListN.{length-set}
+use Rattle.std.proofs.lemmas.Bool.{cases_eq}
 use Rattle.netlist.specs.declared.netlist.Memory.{Memory}
 use Rattle.netlist.specs.declared.netlist.Module.{Module}
 use Rattle.sim_values.specs.declared.edge.Part.{Part}
-use Rattle.sim_values.proofs.Settles.{same_or}
 use Rattle.sim_layout.specs.Running.{IsPart}
 use Rattle.slot_sim.specs.Taking.{taken, taken_memories, taken_numbers_of, taken_words_of, taken_numbers_at, taken_words_at, taken_numbers, taken_words}
 
@@ -20,7 +20,7 @@ one_stays : (xs ys : List ℕ) (p z : ℕ) → z < length ys → slice_index ys 
 one_stays xs ys p z l e = ⊎_elim
     (λ same. ap (slice_index (slice_set ys p (slice_index xs p))) same ∙ get_or-set_same ys p (slice_index xs p) 0 (subst (λ k. k < length ys) same l) ∙ ap (slice_index xs) (sym same))
     (λ apart. get_or-set_other ys p z (slice_index xs p) 0 apart ∙ e)
-    (same_or z p)
+    (cases_eq z p)
 
 stays : {X : Type 0} (xs ys : List ℕ) (p : ℕ) (ws : List X) (z : ℕ) → z < length ys → slice_index ys z ≡ slice_index xs z → slice_index (taken xs ys p ws) z ≡ slice_index xs z
 stays xs ys p [] z l e = e

@@ -3,7 +3,7 @@ use Rattle.std.specs.Prelude.{◌≡◌, ℕ, ◌-◌, ◌^◌, ◌<◌, Bool, t
 use Rattle.std.specs.Str.{bytes_eq}
 use Rattle.std.proofs.Common.{ap, sym, ◌∙◌, subst, arith}
 use Rattle.std.proofs.lemmas.Option.{same_Some}
-use Rattle.std.proofs.lemmas.Nat.{pow_pos}
+use Rattle.std.proofs.lemmas.Nat.{pow_pos, pow_below}
 use Rattle.verilog_meaning.specs.Cycles.{Cycle}
 use Rattle.verilog_meaning.specs.Threads.{slot, alone, IsSameSlot, Needs}
 use Rattle.circuit.specs.Nets.{FitsChoice}
@@ -12,11 +12,10 @@ use Rattle.sim_layout.specs.Rounds.{threads_of}
 use Rattle.cycle_sim.proofs.Same.{moved, settled_moved}
 use Rattle.cycle_once.proofs.Standing.{cycle_once}
 use Rattle.slot_sim.specs.Laws.{AloneFits, NeedIsTold, NeedsMove, MovesByTrial}
-use Rattle.slot_sim.proofs.Bits.{above}
 use Rattle.slot_sim.proofs.Sames.{in_refl, in_trans, within}
 
 bit_fits : (b : Bool) (T i w : ℕ) → i < T → (if b then 2 ^ T - 1 else 0) < w → (if b then 2 ^ i else 0) < w
-bit_fits true T i w l m = let a = above i T l in let p : 0 < 2 ^ i = pow_pos i in omega arith
+bit_fits true T i w l m = let a = pow_below i T l in let p : 0 < 2 ^ i = pow_pos i in omega arith
 bit_fits false T i w l m = m
 
 pub alone_fits : AloneFits

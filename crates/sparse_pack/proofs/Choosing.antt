@@ -55,10 +55,6 @@ more_if false xs k q l e = count_by_more_no (holds q) xs k nowhere l e ∙ (let 
 pub crowd-more : (xs : List Interval) (k q : ℕ) → k < length xs → crowd_at (take (k + 1) xs) q ≡ crowd_at (take k xs) q + one_if (holds q (at xs k))
 crowd-more xs k q l = more_if (holds q (at xs k)) xs k q l refl
 
-pub take_all : (xs : List Interval) → take (length xs) xs ≡ xs
-take_all [] = refl
-take_all (x ∷ xs) = ap (λ (r : List Interval). x ∷ r) (take_all xs)
-
 count-map : (test : Interval → Bool) (f : ℕ → Interval) (is : List ℕ) → count_by test (map f is) ≡ count_by (λ (i : ℕ). test (f i)) is
 count-map test f [] = refl
 count-map test f (i ∷ is) =

@@ -2,14 +2,14 @@
 use Rattle.std.proofs.Common.{◌≡◌, ◌≢◌, ℕ, ◌<◌, ◌≤◌, List, length, get_or, replicate, true, ap, subst, sym, ◌∙◌, ◌⊎◌, inl, inr, arith}
 use Rattle.std.specs.List.{All}
 use Rattle.std.proofs.lemmas.Bool.{cases_lt, cases_eq}
-use Rattle.std.proofs.lemmas.List.{get_or_default, get_or-replicate, length-replicate}
+use Rattle.std.proofs.lemmas.List.{get_or_default, get_or-replicate, length-replicate, take_all}
 use Rattle.interval_pack.specs.declared.interval.Interval.{Interval}
 use Rattle.interval_pack.specs.LeftEdge.{IsBefore}
 use Rattle.interval_pack.specs.Packing.{at, nowhere, start_of, Meet, crowd_at, IsPacking}
 use Rattle.interval_pack.proofs.Counts.{holds, start_held, end_held, at_most_rows, counted}
 use Rattle.sparse_pack.specs.Sparse.{HasPlace, Share, IsSparsePacking}
 use Rattle.sparse_pack.specs.Chosen.{IsRisingBelow, IsSpread}
-use Rattle.sparse_pack.proofs.Choosing.{AreChosen, take_all}
+use Rattle.sparse_pack.proofs.Choosing.{AreChosen}
 
 -- of two things one is taken before the other
 either_before : (start : ℕ → ℕ) (i j : ℕ) → (i ≡ j → ⊥) → IsBefore start i j ⊎ IsBefore start j i
@@ -141,7 +141,7 @@ module _ (intervals : List Interval) (chosen : List ℕ) (solid : List Interval)
             absurd (omega arith)
 
     crowd_is : (p : ℕ) → crowd_at solid p ≡ crowd_at intervals p
-    crowd_is p = are.crowd p ∙ ap (λ (xs : List Interval). crowd_at xs p) (take_all intervals)
+    crowd_is p = are.crowd p ∙ ap (λ (xs : List Interval). crowd_at xs p) (take_all (length intervals) intervals (omega arith))
 
     pub packed : IsSparsePacking intervals new rows crowded
     packed = record {

@@ -2,6 +2,9 @@
 use Rattle.std.proofs.Common.{◌≡◌, ℕ, suc, ◌-◌, ◌<◌, ◌≤◌, List, [], ◌∷◌, ◌++◌, length, ℤ, Option, Some, None, refl, sym, ap, ◌∙◌, subst, ⊎_elim, arith, append-nil, append_assoc}
 use Rattle.std.proofs.Common.{take, drop, get_or}
 use Rattle.std.specs.Prelude.{slice_get}
+use Rattle.std.proofs.lemmas.List.{length-set}
+use Rattle.std.proofs.lemmas.List.Sums.{sum_by-cons}
+use Rattle.lists.proofs.Places.{set_other, set_same, set_element}
 use Rattle.hls_ints.specs.Types.{IntegerType, wrapped}
 use Rattle.c_program.specs.declared.tree.Expression.{Expression as ExpressionTree}
 use Rattle.c_program.specs.declared.tree.LocalVariable.{LocalVariable}
@@ -22,13 +25,12 @@ use Rattle.straight_code.specs.Assigning.{IsHomed, HaveHomes, now_held}
 use Rattle.straight_code.specs.Typing.{Typing, IsTypedHome, IsTypedOpen}
 use Rattle.code_following.specs.Typed.{IsTypedOperand}
 use Rattle.straight_code.specs.Passing.{PutsThere, IsPassed, ArePassed, IsReady, Passed, Passes, WorksOnArguments}
-use Rattle.straight_code.proofs.Cells.{set_element, set_same, set_other, set_length, row_of}
+use Rattle.straight_code.proofs.Cells.{row_of}
 use Rattle.straight_code.proofs.Running.{parts, run_append, reads_none, reads_both}
 use Rattle.straight_code.proofs.Stores.{conversion_right}
 use Rattle.straight_code.proofs.Steps.{gives_is, fits_on, hold_on, read_held, length_on}
 use Rattle.straight_code.proofs.Puts.{same_source, rest_is}
 use Rattle.straight_code.proofs.Typing.{operand_converted}
-use Rattle.straight_code.proofs.Words.{sum_cons}
 use Rattle.straight_code.proofs.Working.{variable_stored}
 
 -- what the block has once a value is put
@@ -45,7 +47,7 @@ pub record IsPut (h : Home) (ty : IntegerType) (a : Operand) (old new : OpenBloc
 is_put : (h : Home) (ty : IntegerType) (a : Operand) (old new : OpenBlock) → PutsThere h ty a old new → IsPut h ty a old new
 is_put (home.Variable n) ty a old new p = record {
   operations = p.operations;
-  size = ap length p.current ∙ set_length old.current n (Some p.stored);
+  size = ap length p.current ∙ length-set old.current n (Some p.stored);
   steps = p.steps;
   noted = p.noted;
   below = λ k under fits x o e.
@@ -209,7 +211,7 @@ works_more : (homes : List Home) (h : Home) (room : List Home) (l : LocalVariabl
     Evaluates homes e old mid a → PutsThere h l.ty a mid put → WorksOnArguments homes room locals es put new → WorksOnArguments homes (h ∷ room) (l ∷ locals) (e ∷ es) old new
 works_more homes h room l locals e es old mid put new a first puts rest = record {
   count =
-      (let c = first.computes.count in let d = rest.count in let s = sum_cons expression_weight e es in let p = ap length (is_put h l.ty a mid put puts).operations in
+      (let c = first.computes.count in let d = rest.count in let s = sum_by-cons expression_weight e es in let p = ap length (is_put h l.ty a mid put puts).operations in
       omega (arith, c, d, s, p));
   typed = λ S fits is open_.
       let i = first.computes.typed S fits is.0.0 open_ in

@@ -2,6 +2,8 @@
 use Rattle.std.proofs.Common.{◌≡◌, ℕ, zero, suc, Bool, List, [], ◌∷◌, ◌++◌, length, ℤ, Option, Some, None, refl, sym, ap, ◌∙◌, subst, ⊎_elim, inl, inr}
 use Rattle.std.specs.Prelude.{nat_eq, ◌⊎◌, if◌then◌else◌, slice_get, slice_set}
 use Rattle.std.proofs.lemmas.Bool.Decides.{eqb_tells}
+use Rattle.std.proofs.lemmas.List.{length-set}
+use Rattle.lists.proofs.Places.{set_element}
 use Rattle.block_ir.specs.declared.operand.Operand.{Operand}
 use Rattle.block_ir.specs.declared.block.Final.{Final}
 use Rattle.block_ir.specs.declared.block.Next.{Next}
@@ -10,7 +12,6 @@ use Rattle.block_ir.specs.Run.{operand_value, finished}
 use Rattle.straight_code.specs.declared.open_block.OpenBlock.{OpenBlock}
 use Rattle.straight_code.specs.Evaluating.{current_value}
 use Rattle.straight_code.specs.Closing.{IsAmong, Covers, final_at, finals_of, IsUnchanged, Closes}
-use Rattle.straight_code.proofs.Cells.{set_element, set_length}
 
 pub among_append : (xs : List ℕ) (y x : ℕ) → IsAmong (xs ++ y ∷ []) x → (IsAmong xs x) ⊎ (x ≡ y)
 among_append [] y x (inl e) = inr e
@@ -126,7 +127,7 @@ cleared_none before = record { size = refl; left = λ x o e. e; gone = λ x o e 
 
 pub cleared_more : (before now : List (Option Operand)) (done : List ℕ) (v : ℕ) → Cleared before now done → Cleared before (slice_set now v None) (done ++ v ∷ [])
 cleared_more before now done v c = record {
-  size = set_length now v None ∙ c.size;
+  size = length-set now v None ∙ c.size;
   left = λ x o e. ⊎_elim (λ p. absurd (let none : Some o ≡ None = p.1 in cc)) (λ p. c.left x o p.1) (set_element now v x None (Some o) e);
   gone = λ x o e h.
       ⊎_elim (λ p. absurd (let none : Some o ≡ None = p.1 in cc))

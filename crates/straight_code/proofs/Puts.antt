@@ -2,6 +2,8 @@
 use Rattle.std.proofs.Common.{◌≡◌, ℕ, suc, ◌+◌, ◌<◌, ◌≤◌, List, [], ◌∷◌, ◌++◌, length, ℤ, Option, Some, None, refl, sym, ap, ◌∙◌, subst, ⊎_elim, arith, append-nil, append_assoc}
 use Rattle.std.proofs.Common.{length-append, ◌-◌, take, drop, get_or}
 use Rattle.std.specs.Prelude.{slice_get, slice_set}
+use Rattle.std.proofs.lemmas.List.{length-set, take_all}
+use Rattle.lists.proofs.Places.{set_other, set_same, set_element}
 use Rattle.hls_ints.specs.Types.{IntegerType, long_int, wrapped}
 use Rattle.hls_ints.proofs.Conversions.{residue_of-wrapped}
 use Rattle.c_program.specs.declared.tree.Expression.{Expression as ExpressionTree}
@@ -22,7 +24,7 @@ use Rattle.straight_code.specs.Closing.{HasNoted}
 use Rattle.straight_code.specs.Printing.{HoldWords, converted_argument, converted_arguments, held_by, Held, Puts, PutsValue, PutsValues}
 use Rattle.straight_code.proofs.Conversions.{wrapped_by_bits}
 use Rattle.straight_code.proofs.Running.{parts, current_kept, run_append, run_length, reads_none, reads_both}
-use Rattle.straight_code.proofs.Cells.{set_element, set_same, set_other, set_length, row_of}
+use Rattle.straight_code.proofs.Cells.{row_of}
 use Rattle.straight_code.proofs.Stores.{conversion_right}
 use Rattle.straight_code.proofs.Steps.{gives_is, fits_on, hold_on, read_held}
 
@@ -79,7 +81,7 @@ module _ (homes : List Home) (n : ℕ) (ty : IntegerType) (e : Expression) (old 
   puts_value = record {
     operations = first.operations;
     added = operations ∙ ap (λ (z : OpenBlock). z.operations) first.added;
-    size = ap length current ∙ set_length mid.current n (Some w) ∙ ap (λ (z : OpenBlock). length z.current) first.added;
+    size = ap length current ∙ length-set mid.current n (Some w) ∙ ap (λ (z : OpenBlock). length z.current) first.added;
     steps = steps ∙ ap (λ (z : OpenBlock). z.steps) first.added;
     noted = λ h. noted (subst HasNoted (sym first.added) h);
     below = value_below;
@@ -190,13 +192,9 @@ arguments_none homes n types [] b few = puts_none homes n (λ m. converted_argum
     nothing (ty ∷ types) m = refl
 arguments_none homes n types (e ∷ trees) b few = absurd (omega arith)
 
-all_taken : {A : Type 0} (xs : List A) → take (length xs) xs ≡ xs
-all_taken [] = refl
-all_taken (x ∷ xs) = ap (λ l. x ∷ l) (all_taken xs)
-
 -- the lists behind their first elements
 pub rest_is : {A : Type 0} (x : A) (xs : List A) → take (suc (length xs) - 1) xs ≡ xs
-rest_is x xs = ap (λ k. take k xs) (let e : suc (length xs) - 1 ≡ length xs = omega arith in e) ∙ all_taken xs
+rest_is x xs = ap (λ k. take k xs) (let e : suc (length xs) - 1 ≡ length xs = omega arith in e) ∙ take_all (length xs) xs (omega arith)
 
 pub whole_is : {A : Type 0} (xs rest : List A) (x : A) → 1 ≤ length xs → x ≡ get_or xs 0 x → rest ≡ take (length xs - 1) (drop 1 xs) → xs ≡ x ∷ rest
 whole_is [] rest x some first rest_are = absurd (omega arith)

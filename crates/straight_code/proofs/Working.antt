@@ -2,6 +2,8 @@
 use Rattle.std.proofs.Common.{◌≡◌, ℕ, suc, ◌+◌, ◌*◌, ◌-◌, ◌^◌, ◌<◌, ◌≤◌, false, List, [], ◌∷◌, ◌++◌, length, take, drop, get_or, Some, refl, sym, ap, ◌∙◌, subst, ⊎_elim, pos}
 use Rattle.std.proofs.Common.{arith, append-nil, append_assoc, length-append}
 use Rattle.std.specs.Prelude.{slice_get, slice_set}
+use Rattle.std.proofs.lemmas.List.Sums.{sum_by-cons}
+use Rattle.lists.proofs.Places.{set_element}
 use Rattle.hls_ints.specs.Types.{IntegerType, long_int, int_type}
 use Rattle.c_program.specs.declared.tree.Expression.{Expression as ExpressionTree}
 use Rattle.c_program.specs.declared.tree.BinaryOperator.{BinaryOperator}
@@ -24,9 +26,7 @@ use Rattle.straight_code.specs.Evaluating.{load_block, loaded, with_more, Evalua
 use Rattle.straight_code.specs.Assigning.{Stores, Places}
 use Rattle.code_following.specs.Typed.{Types, operand_type, IsTypedOperand, AreTyped}
 use Rattle.straight_code.specs.Typing.{Typing, Fits, IsTypedOpen, WorksOnAssignment, WorksOnUpdate, WorksOnValue, WorksOnValues}
-use Rattle.straight_code.proofs.Cells.{set_element}
 use Rattle.straight_code.proofs.Values.{load_operations, load_added}
-use Rattle.straight_code.proofs.Words.{sum_cons}
 use Rattle.straight_code.proofs.Puts.{rest_is}
 use Rattle.straight_code.proofs.Typing.{operand_more, operand_converted, open_more, computed_last, target_type, IsTypedTarget, target_more, target_typed, load_typed, load_count}
 
@@ -200,7 +200,7 @@ values_works homes n next (x ∷ xs) others e old mid new some front others_are 
     record {
       count =
           (let c = first.count in let d = second.count in
-          let s = sum_cons expression_weight (expression_of x) (expressions_of xs) in omega (arith, c, d, s));
+          let s = sum_by-cons expression_weight (expression_of x) (expressions_of xs) in omega (arith, c, d, s));
       typed = λ S fits is open_.
           second.typed S fits (is.0.1, λ j lt. subst (λ k. slice_get S.types.variables k ≡ Some long_int) (let k : n + suc j ≡ suc n + j = omega arith in k) (is.1 (suc j) (omega arith)))
           (first.typed S fits (is.0.0, subst (λ k. slice_get S.types.variables k ≡ Some long_int) (let k : n + 0 ≡ n = omega arith in k) (is.1 0 (omega arith))) open_);

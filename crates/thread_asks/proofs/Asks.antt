@@ -1,8 +1,9 @@
 -- What is asked of cores, one stage after the other.
-use Rattle.std.proofs.Common.{◌≡◌, ◌≢◌, ℕ, suc, ◌+◌, ◌<◌, ◌≤◌, nat_eq, Bool, true, false, ◌||◌, List, length, slice_get, Option, Some, ℤ, refl, sym, ap, subst, ◌∙◌, arith}
+use Rattle.std.proofs.Common.{◌≡◌, ◌≢◌, ℕ, suc, ◌+◌, ◌<◌, ◌≤◌, nat_eq, true, false, List, length, slice_get, Option, Some, ℤ, refl, sym, ap, subst, ◌∙◌, arith}
 use Rattle.std.proofs.Common.{⊎_elim}
 use Rattle.std.proofs.lemmas.Option.{slice_get_within}
-use Rattle.interleaving.proofs.Update.{same_or_not}
+use Rattle.std.proofs.lemmas.Bool.{cases_eq, ne_eqb}
+use Rattle.std.proofs.Math.Bool.{or-false}
 use Rattle.hls_ints.specs.Residues.{bit_of}
 use Rattle.hls_ints.specs.Types.{IntegerType}
 use Rattle.bank_partition.specs.declared.banks.Spread.{Spread}
@@ -95,10 +96,6 @@ number_high served Prints high = high
 
 -- ---- one request
 
-or_nothing : (t : Bool) → (t || false) ≡ t
-or_nothing true = refl
-or_nothing false = refl
-
 same_request : (r : Reading) (before after : Request) → after ≡ before → SameRequest r before after
 same_request r before after same = record {
   wants = λ t e. ap (λ (q : Request). r.signal q.wants) same ∙ e;
@@ -151,7 +148,7 @@ module _ (a b c d : List Signal) (code : ThreadCode) (registers : Registers) (w 
       count = counted;
       bit = λ e m g. ap (width m) wants_same ∙ bit.bit.wide m (back_b m g);
       off = λ m r g o e no. record {
-        wants = λ v is. ap r.signal wants_same ∙ bit.bit.shows m r v false (back_b m g) o (e m (back_a m g)) is no ∙ ap bit_of (or_nothing v);
+        wants = λ v is. ap r.signal wants_same ∙ bit.bit.shows m r v false (back_b m g) o (e m (back_a m g)) is no ∙ ap bit_of (or-false v);
         object = ap r.signal object_same;
         fields = same_everywhere r before.fields after.fields counted (λ x less.
             u.rests m r x g o no (middle_long x less) ∙ t.rests m r x (back_c m g) o no (wanted_long x less) ∙ ap (λ (l : List ℕ). next_number r l x) fields_same);
@@ -250,10 +247,7 @@ told_off : (registers : Registers) (l at : ℕ) (a b : List Signal) (m : Module)
     HasStage registers l m r
     → r.signal registers.stage.register ≢ l → r.signal at ≡ 0
 told_off registers l at a b m r told g o has ne =
-    told.shows m r g o has.wide has.room has.fits ∙ ap bit_of (other_stage (r.signal registers.stage.register) l ne)
-  where
-    other_stage : (x n : ℕ) → x ≢ n → nat_eq x n ≡ false
-    other_stage x n ne = grind arith
+    told.shows m r g o has.wide has.room has.fits ∙ ap bit_of (ne_eqb (r.signal registers.stage.register) l ne)
 
 pub ask_steps : (registers : Registers) (l at : ℕ) (a b c : List Signal) (x y : Requests) → TellsStage a b registers l at → AskOff at b c x y → AsksOver registers l a c x y
 ask_steps registers l at a b c x y told t = record {
@@ -512,7 +506,7 @@ module _ (globals : List IntegerType) (spreads : List Spread) (code : ThreadCode
             (λ m r g o knows here. t.still m r (back m g) o e knows (λ k less. λ is. absurd (let z : k ≡ n = sym is ∙ here in omega arith))) made)))
             (λ (ne : k ≢ n).
             asks_lifted k n x (slice_get plan.stages k) b c start middle after ne inside t.many (t.bits e) u.step (t.does e k x (let less : k < n = omega arith in less) there))
-            (same_or_not k n);
+            (cases_eq k n);
         wired = λ le fits base bits wide own links.
             let before = t.wired inside fits base bits wide own links in
             let last = u.wired inside (fits n) base bits wide own before.linked in

@@ -2,7 +2,7 @@
 use Rattle.std.proofs.Common.{◌≡◌, ◌≢◌, ℕ, suc, ◌+◌, ◌<◌, ◌≤◌, Bool, true, false, not, ◌&&◌, nat_eq, if◌then◌else◌, List, length, slice_get, Some, ℤ, refl, sym, ap, subst, ◌∙◌}
 use Rattle.std.proofs.Common.{arith, ⊎_elim}
 use Rattle.std.specs.Prelude.{Result, IfOk}
-use Rattle.interleaving.proofs.Update.{same_or_not}
+use Rattle.std.proofs.lemmas.Bool.{cases_eq}
 use Rattle.hls_ints.specs.Residues.{residue_of}
 use Rattle.hls_ints.specs.Types.{IntegerType, HasType, wrapped, long_int}
 use Rattle.hls_ints.proofs.Conversions.{residue_of-wrapped}
@@ -165,7 +165,7 @@ values_more a b c code registers at before middle after values n v t listed u = 
       (λ (ne : j ≢ n).
       let smaller : j < n = omega arith in
       u.others m r (suc j) g o (λ e. ne (let h : j ≡ n = omega arith in h)) (inside (suc j) less) ∙ t.asks m r variables j w (back m g) o hit seen smaller there typed less)
-      (same_or_not j n);
+      (cases_eq j n);
   wired = values_linked a b c code registers at before middle after t.wired u.wired;
 }
   where

@@ -1,7 +1,7 @@
 -- The barrier at which a thread meets others: one stage after the other.
 use Rattle.std.proofs.Common.{◌≡◌, ◌≢◌, ℕ, ◌+◌, ◌<◌, true, List, length, slice_get, Some, refl, sym, ap, subst, ◌∙◌, arith, ⊎_elim}
 use Rattle.std.proofs.lemmas.Option.{slice_get_within}
-use Rattle.interleaving.proofs.Update.{same_or_not}
+use Rattle.std.proofs.lemmas.Bool.{cases_eq}
 use Rattle.hls_ints.specs.Residues.{residue_of, bit_of}
 use Rattle.block_ir.specs.Asked.{act_value}
 use Rattle.block_ir.specs.declared.code.Act.TheVariants.{BarrierWait}
@@ -87,7 +87,7 @@ module _ (code : ThreadCode) (registers : Registers) where
         u.rests m r g o knows inside
         (numbers_apart (length code.stages) n k (r.signal registers.stage.register) s x ne inside (slice_get_within code.stages k x there) at)
         ∙ t.names k x (let under : k < n = omega arith in under) there barrier next e m r variables (grows_then b c m.signals u.grows g) o knows here seen typed)
-        (same_or_not k n);
+        (cases_eq k n);
     wired = λ le base slots.
         let first = t.wired (omega arith) base slots in
         adds_after base a b c 64 after first.wires (u.wired inside base (slots_later base a b first.wires.grows code registers slots) first.stands);

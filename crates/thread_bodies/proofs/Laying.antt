@@ -1,12 +1,12 @@
 -- The modules of all threads of a program, as they are laid out, are what its parts ask of them.
-use Rattle.std.proofs.Common.{◌≡◌, ℕ, zero, suc, ◌+◌, ◌<◌, ◌≤◌, ◌⊎◌, Bool, true, false, nat_eq, List, [], ◌∷◌, ◌++◌, length, map, Option, None, Some, String, codes}
-use Rattle.std.proofs.Common.{refl, sym, ap, ◌∙◌, subst, inl, inr, ⊎_elim, arith, length-append}
+use Rattle.std.proofs.Common.{◌≡◌, ℕ, zero, suc, ◌+◌, ◌<◌, ◌≤◌, Bool, true, false, nat_eq, List, [], ◌∷◌, ◌++◌, length, map, Option, None, Some, String, codes}
+use Rattle.std.proofs.Common.{refl, sym, ap, ◌∙◌, subst, ⊎_elim, arith, length-append}
 use Rattle.std.specs.Prelude.{slice_get, slice_index_or, string_bytes}
 use Rattle.std.specs.declared.alloc.Global.{Global}
-use Rattle.std.proofs.lemmas.Bool.Decides.{nat_tests}
 use Rattle.std.proofs.lemmas.List.{length-map}
 use Rattle.std.proofs.lemmas.Option.{none-some, same_Some, slice_get_within, slice_get-get_or, slice_get_past, get_or_from_slice_get}
-use Rattle.lists.proofs.Places.{get_there, get_mapped}
+use Rattle.std.proofs.Math.Dec.{eqb-suc-zero}
+use Rattle.lists.proofs.Places.{get_there, get_mapped, get_pushed}
 use Rattle.hls_ints.specs.Residues.{bit_of}
 use Rattle.hls_ints.specs.Types.{IntegerType}
 use Rattle.c_limits.specs.Counts.{first_passed}
@@ -55,15 +55,6 @@ code_past : (made : List RoutineCode) → code_at made (length made) ≡ no_code
 code_past [] = refl
 code_past (c ∷ made) = code_past made
 
-last_cases : {A : Type 0} (xs : List A) (x : A) (k : ℕ) (y : A) → slice_get (xs ++ x ∷ []) k ≡ Some y → (slice_get xs k ≡ Some y) ⊎ ((k ≡ length xs) × (x ≡ y))
-last_cases [] x zero y e = inr (refl, same_Some x y e)
-last_cases [] x (suc k) y e = absurd (none-some y e)
-last_cases (z ∷ xs) x zero y e = inl e
-last_cases (z ∷ xs) x (suc k) y e = ⊎_elim (λ before. inl before) (λ last. inr (ap suc last.0, last.1)) (last_cases xs x k y e)
-
-positive : (n : ℕ) → nat_eq (suc n) 0 ≡ false
-positive n = grind (arith, nat_tests)
-
 -- ---- the code of threads without a function
 
 abbrev pub code_of : List IntegerType → List (String Global) → List Array → List Stage → List StagePlan → RoutineCode
@@ -98,7 +89,7 @@ module _ (P : Program) (spreads : List Spread) (w : Wanted) (made : List Routine
         (λ (last : (k ≡ length modules) × (m ≡ d)).
         subst (λ (z : Module). IsLaid (module_shape P spreads w k) (code_at made k) z) last.1
         (subst (λ j. IsLaid (module_shape P spreads w j) (code_at made j) m) (sym (last.0 ∙ are.count)) is))
-        (last_cases modules m k d e);
+        (get_pushed modules m k d e);
   }
 
   -- without a module for threads without a function, or with one
@@ -113,7 +104,7 @@ module _ (P : Program) (spreads : List Spread) (w : Wanted) (made : List Routine
       let past : slice_get (thread_functions P) k ≡ None = slice_get_past (thread_functions P) k (omega arith) in
       subst (λ (c : RoutineCode). IsLaid (module_shape P spreads w k) c m) (sym (ap (code_at made) (sym count) ∙ code_past made))
       (subst (λ (o : Option ℕ). IsLaid (shape_of P spreads w (nat_eq k 0) (name_of P o)) no_code m) (sym past)
-      (subst (λ main. IsLaid (shape_of P spreads w main (codes "idle")) no_code m) (sym (positive (length (routines P)))) is))
+      (subst (λ main. IsLaid (shape_of P spreads w main (codes "idle")) no_code m) (sym (eqb-suc-zero (length (routines P)))) is))
 
   pub with_idle : length made ≡ length (thread_functions P) → (modules : List Module) (m : Module) → AreLaid P spreads w made (length (thread_functions P)) modules →
       IsLaid (shape_of P spreads w false (codes "idle")) no_code m → has_idle P ≡ true →
@@ -205,7 +196,7 @@ module _ (P : Program) (resolved : IsResolved P) (limits : first_passed P ≡ No
     idle_body idle =
         let k = length made in
         let past : function_at k ≡ None = slice_get_past (thread_functions P) k (omega (arith, count)) in
-        let later : nat_eq k 0 ≡ false = ap (λ n. nat_eq n 0) count ∙ positive (length (routines P)) in
+        let later : nat_eq k 0 ≡ false = ap (λ n. nat_eq n 0) count ∙ eqb-suc-zero (length (routines P)) in
         let inside : k < length modules = (let n = laid.count in let one : bit_of (has_idle P) ≡ 1 = ap bit_of idle in omega (arith, n, one, count)) in
         let served = subst (λ (z : RoutineCode). IsServed (module_shape P spreads w k) z.code z.plan) (sym (code_past made)) (idle_served (nat_eq k 0) (name_of P (function_at k))) in
         subst (λ main. IsBody P spreads w main no_code (codes "idle") (bodies_of P spreads w made modules k)) later

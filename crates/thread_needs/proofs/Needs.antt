@@ -1,8 +1,9 @@
 -- Where a core is needed though none may be asked: one more place, and one more stage.
 use Rattle.std.proofs.Common.{◌≡◌, ℕ, suc, ◌+◌, ◌<◌, ◌^◌, nat_eq, Bool, true, false, ◌&&◌, ◌||◌, List, length, slice_get, slice_index, Option, Some, None, refl, sym, ap}
 use Rattle.std.proofs.Common.{subst, ◌∙◌, arith}
-use Rattle.std.proofs.lemmas.Bool.Decides.{nat_tests}
 use Rattle.std.proofs.lemmas.Option.{slice_get_within}
+use Rattle.std.proofs.lemmas.Bool.{eqb-true}
+use Rattle.std.proofs.Math.Bool.{and-true, and-false, and-or_distrib_left, or-false, or_assoc}
 use Rattle.hls_ints.specs.Residues.{bit_of}
 use Rattle.hls_ints.specs.Words.{word_inclusive_or}
 use Rattle.block_ir.specs.declared.block.Operation.{Operation}
@@ -42,29 +43,6 @@ use Rattle.thread_slots.proofs.Numbering.{has_meeting}
 use Rattle.thread_slots.proofs.Taken.{Told}
 
 -- ---- bits
-
-or_then : (s t u : Bool) → ((s || t) || u) ≡ (s || (t || u))
-or_then true t u = refl
-or_then false t u = refl
-
-or_nothing : (t : Bool) → t ≡ (t || false)
-or_nothing true = refl
-or_nothing false = refl
-
-and_or : (h t u : Bool) → (h && (t || u)) ≡ ((h && t) || (h && u))
-and_or true t u = refl
-and_or false t u = refl
-
-and_nothing : (h : Bool) → (h && false) ≡ false
-and_nothing true = refl
-and_nothing false = refl
-
-and_sure : (h : Bool) → (h && true) ≡ h
-and_sure true = refl
-and_sure false = refl
-
-is_number : (x n : ℕ) → nat_eq x n ≡ true → x ≡ n
-is_number x n e = grind (arith, nat_tests)
 
 pub idle_needs : (s : Stage) (plan : Option StagePlan) (state : ℕ) → is_idle s plan ≡ true → needs_in (Some s) plan state ≡ true
 idle_needs (stage.Run b) (Some (planned.Run p)) state e = absurd cc
@@ -115,7 +93,7 @@ module _ (registers : Registers) where
     shows = λ m r t u g o has place.
         let s = split m r u place in
         let middle = one.shows m r t s.0 (grows_then b c m.signals two.grows g) o has s.2 in
-        subst (λ k. HasBit m r z k) (or_then t s.0 s.1 ∙ ap (λ k. t || k) (sym s.4)) (two.shows m r (t || s.0) s.1 g o middle s.3);
+        subst (λ k. HasBit m r z k) (or_assoc t s.0 s.1 ∙ ap (λ k. t || k) (sym s.4)) (two.shows m r (t || s.0) s.1 g o middle s.3);
     wired = λ base stage state room earlier.
         let before = one.wired base stage state (first base room) earlier in
         adds_after base a b c 1 z before.wires
@@ -138,7 +116,7 @@ module _ (registers : Registers) where
   needs_none J X a x none = record {
     grows = grows_refl a;
     wide = λ m g is. is;
-    shows = λ m r t u g o has place. subst (λ k. HasBit m r x k) (or_nothing t ∙ ap (λ k. t || k) (sym (none m r u place))) has;
+    shows = λ m r t u g o has place. subst (λ k. HasBit m r x k) (sym (or-false t) ∙ ap (λ k. t || k) (sym (none m r u place))) has;
     wired = λ base stage state room earlier. record { wires = wires_none base a; stands = earlier };
   }
 
@@ -198,13 +176,13 @@ module _ (registers : Registers) where
       → NeedsMore registers (HasStates registers at states) (IsTaken registers at states start op) a a x x
   needs_other at states start op a x takes =
       needs_none (HasStates registers at states) (IsTaken registers at states start op) a x
-      (λ m r u place. place.is ∙ ap (λ k. place.here && (k && nat_eq place.state (suc start))) takes ∙ and_nothing place.here)
+      (λ m r u place. place.is ∙ ap (λ k. place.here && (k && nat_eq place.state (suc start))) takes ∙ and-false place.here)
 
   -- ---- a block
 
   module _ (at : ℕ) (b : Block) (p : BlockPlan) where
     pub reads_none : (a : List Signal) (x : ℕ) → NeedsMore registers (HasStates registers at p.states) (AreTaken registers at b p 0) a a x x
-    reads_none a x = needs_none (HasStates registers at p.states) (AreTaken registers at b p 0) a x (λ m r u place. place.is ∙ and_nothing place.here)
+    reads_none a x = needs_none (HasStates registers at p.states) (AreTaken registers at b p 0) a x (λ m r u place. place.is ∙ and-false place.here)
 
     pub reads_more : (n start : ℕ) (op : Operation) (s0 s1 s2 : List Signal) (x y z : ℕ) → slice_get b.operations n ≡ Some op → start ≡ slice_index p.starts n
         → NeedsMore registers (HasStates registers at p.states) (AreTaken registers at b p n) s0 s1 x y
@@ -242,7 +220,7 @@ module _ (registers : Registers) where
               ∙ ap (λ k. place.here && any_below (takes_at b p place.state) k) (let next : n + 1 ≡ suc n = omega arith in next)
               ∙ ap (λ k. place.here && (any_below (takes_at b p place.state) n || (takes_word k && nat_eq place.state (suc (slice_index p.starts n))))) listed
               ∙ ap (λ k. place.here && (any_below (takes_at b p place.state) n || (takes_word (Some op) && nat_eq place.state (suc k)))) (sym start_is)
-              ∙ and_or place.here (any_below (takes_at b p place.state) n) (takes_word (Some op) && nat_eq place.state (suc start)),
+              ∙ and-or_distrib_left place.here (any_below (takes_at b p place.state) n) (takes_word (Some op) && nat_eq place.state (suc start)),
         ))
 
     -- at a stage
@@ -260,8 +238,8 @@ module _ (registers : Registers) where
             here = nat_eq (r.signal registers.stage.register) l;
             shows = told.shows m r from o place.has.wide place.has.room place.has.fits;
             state = place.state;
-            inside = λ e. place.inside b p refl refl (is_number (r.signal registers.stage.register) l e);
-            is = place.is ∙ sym (or_nothing (nat_eq (r.signal registers.stage.register) l && any_below (takes_at b p place.state) (length b.operations)));
+            inside = λ e. place.inside b p refl refl (eqb-true (r.signal registers.stage.register) l e);
+            is = place.is ∙ (or-false (nat_eq (r.signal registers.stage.register) l && any_below (takes_at b p place.state) (length b.operations)));
           });
       wired = λ base stage state room earlier.
           let first = told_wired base stage room.stage in
@@ -287,7 +265,7 @@ module _ (registers : Registers) where
             place.is
             ∙ ap (λ k. (at && k) || (is_wait s && nat_eq (r.signal registers.stage.register) (meeting n l))) (idle_needs s plan place.state idle)
             ∙ ap (λ k. (at && true) || (k && nat_eq (r.signal registers.stage.register) (meeting n l))) (no_wait s plan idle)
-            ∙ sym (or_nothing (at && true)) ∙ and_sure at;
+            ∙ (or-false (at && true)) ∙ and-true at;
       })
 
   -- an act other than a wait
@@ -299,7 +277,7 @@ module _ (registers : Registers) where
       let at = nat_eq (r.signal registers.stage.register) l in
       place.is
       ∙ ap (λ k. (at && false) || (k && nat_eq (r.signal registers.stage.register) (meeting n l))) goes
-      ∙ sym (or_nothing (at && false)) ∙ and_nothing at)
+      ∙ (or-false (at && false)) ∙ and-false at)
 
   pub needs_meeting : (n l : ℕ) (a' : Act) (next : ℕ) (plan : Option StagePlan) (a b : List Signal) (x y : ℕ) → is_wait (stage.Act a' next) ≡ true
       → NeedsMore registers (IsNumbered registers (meeting n l)) (IsThere registers (meeting n l)) a b x y
@@ -314,7 +292,7 @@ module _ (registers : Registers) where
         is =
             place.is
             ∙ ap (λ k. (at && false) || (k && nat_eq (r.signal registers.stage.register) (meeting n l))) waits
-            ∙ ap (λ k. k || nat_eq (r.signal registers.stage.register) (meeting n l)) (and_nothing at);
+            ∙ ap (λ k. k || nat_eq (r.signal registers.stage.register) (meeting n l)) (and-false at);
       })
 
   module _ (code : ThreadCode) (plan : Planned) where

@@ -6,6 +6,7 @@ use Rattle.std.specs.List.{flat_map, list_any}
 use Rattle.std.proofs.lemmas.Bool.Decides.{nat_tests}
 use Rattle.std.proofs.lemmas.List.{map-append}
 use Rattle.std.proofs.lemmas.List.Folds.{list_any-append}
+use Rattle.std.proofs.Math.Bool.{and-false}
 use Rattle.c_program.specs.declared.tree.ThreadObject.{ThreadObject}
 use Rattle.c_program.specs.Tree.{Program}
 use Rattle.c_program.specs.Weight.{thread_functions, routines}
@@ -37,11 +38,7 @@ numbers_are P fs e =
 -- ---- threads without a function
 
 idle_copies : (n : ℕ) (o : Option ℕ) → list_any is_idle (replicate n o) ≡ (is_idle o && nat_lt 0 n)
-idle_copies zero o = sym (by (is_idle o))
-  where
-    by : (b : Bool) → (b && false) ≡ false
-    by true = refl
-    by false = refl
+idle_copies zero o = sym (and-false (is_idle o))
 idle_copies (suc n) o =
     ap (λ (b : Bool). is_idle o || b) (idle_copies n o) ∙ by (is_idle o) (nat_lt 0 n)
     ∙ ap (λ (b : Bool). is_idle o && b) (let e : true ≡ nat_lt 0 (suc n) = grind (arith, nat_tests) in e)

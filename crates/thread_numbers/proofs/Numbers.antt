@@ -7,7 +7,10 @@ use Rattle.std.specs.Option.{option_eq}
 use Rattle.std.proofs.lemmas.Bool.Decides.{nat_tests}
 use Rattle.std.proofs.lemmas.List.{length-map}
 use Rattle.std.proofs.lemmas.Option.{none-some, same_Some, slice_get-get_or, slice_get_within}
-use Rattle.lists.proofs.Places.{get_back, get_mapped, get_unmapped}
+use Rattle.std.proofs.Math.Bool.{or-true}
+use Rattle.std.proofs.Math.Dec.{eqb-suc-zero}
+use Rattle.std.proofs.lemmas.Bool.{eq-eqb}
+use Rattle.lists.proofs.Places.{get_back, get_mapped, get_unmapped, copies_front}
 use Rattle.hls_ints.specs.Types.{int_type}
 use Rattle.c_program.specs.declared.tree.ThreadObject.{ThreadObject}
 use Rattle.c_program.specs.declared.tree.ReturnType.TheVariants.{Integer, Pointer}
@@ -18,9 +21,6 @@ use Rattle.c_program.proofs.Runners.{routines_count, runners_are_threads}
 use Rattle.thread_numbers.specs.Numbers.{place_in, number_in, module_numbers, is_idle, has_idle}
 
 -- ---- places
-
-itself : (n : ℕ) → nat_eq n n ≡ true
-itself n = grind (arith, nat_tests)
 
 -- a number stands at its place, or nowhere
 pub place_cases : (fs : List ℕ) (f : ℕ) → (slice_get fs (place_in fs f) ≡ Some f) ⊎ (place_in fs f ≡ length fs)
@@ -36,7 +36,7 @@ place_cases (g ∷ fs) f = by (nat_eq g f) refl (place_cases fs f)
 place_by : (fs : List ℕ) (f g k : ℕ) (b : Bool) → nat_eq g f ≡ b → slice_get (g ∷ fs) k ≡ Some f → ((j : ℕ) → slice_get fs j ≡ Some f → slice_get fs (place_in fs f) ≡ Some f) →
     slice_get (g ∷ fs) (if b then 0 else suc (place_in fs f)) ≡ Some f
 place_by fs f g k true t e rest = ap Some (let s : g ≡ f = grind (arith, nat_tests, t) in s)
-place_by fs f g zero false t e rest = absurd (let s = same_Some g f e in let no : nat_eq g f ≡ true = ap (λ z. nat_eq z f) s ∙ itself f in cc)
+place_by fs f g zero false t e rest = absurd (let s = same_Some g f e in let no : nat_eq g f ≡ true = ap (λ z. nat_eq z f) s ∙ eq-eqb f f refl in cc)
 place_by fs f g (suc k) false t e rest = rest k e
 
 -- where it stands somewhere, it stands at its place
@@ -81,9 +81,6 @@ once_by p a n j k f false d e rest = rest j k d e
 once_in_range : (p : ℕ → Bool) (a n j k f : ℕ) → slice_get (kept p a n) j ≡ Some f → slice_get (kept p a n) k ≡ Some f → j ≡ k
 once_in_range p a zero j k f d e = absurd (none-some f d)
 once_in_range p a (suc n) j k f d e = once_by p a n j k f (p a) d e (λ x y l r. once_in_range p (a + 1) n x y f l r)
-
-positive : (n : ℕ) → nat_eq (suc n) 0 ≡ false
-positive n = grind (arith, nat_tests)
 
 module _ (P : Program) (R : IsResolved P) where
   abbrev FS : List ℕ
@@ -172,11 +169,7 @@ module _ (P : Program) (R : IsResolved P) where
   any_at : (os : List (Option ℕ)) (i : ℕ) → slice_get os i ≡ Some None → list_any is_idle os ≡ true
   any_at [] i e = absurd (none-some None e)
   any_at (o ∷ os) zero e = ap (λ (z : Option ℕ). is_idle z || list_any is_idle os) (same_Some o None e)
-  any_at (o ∷ os) (suc i) e = ap (λ b. is_idle o || b) (any_at os i e) ∙ or_true (is_idle o)
-    where
-      or_true : (b : Bool) → (b || true) ≡ true
-      or_true true = refl
-      or_true false = refl
+  any_at (o ∷ os) (suc i) e = ap (λ b. is_idle o || b) (any_at os i e) ∙ or-true (is_idle o)
 
   -- where one has none, there is such a one
   pub idle_there : (i : ℕ) → slice_get HR i ≡ Some None → has_idle P ≡ true
@@ -190,12 +183,12 @@ module _ (P : Program) (R : IsResolved P) where
   -- thread 0 is main's, and main's alone
   pub is_first : (i : ℕ) (o : Option ℕ) → slice_get HR i ≡ Some o → nat_eq (number_in FS o) 0 ≡ nat_eq i 0
   is_first zero o e = ap (λ (z : Option ℕ). nat_eq (number_in FS z) 0) (sym (same_Some (Some P.main) o e))
-      ∙ ap (λ (b : Bool). nat_eq (if b then 0 else suc (place_in (routines P) P.main)) 0) (itself P.main)
-  is_first (suc i) None e = positive (length (routines P)) ∙ sym (positive i)
-  is_first (suc i) (Some f) e = by (nat_eq P.main f) refl ∙ sym (positive i)
+      ∙ ap (λ (b : Bool). nat_eq (if b then 0 else suc (place_in (routines P) P.main)) 0) (eq-eqb P.main P.main refl)
+  is_first (suc i) None e = eqb-suc-zero (length (routines P)) ∙ sym (eqb-suc-zero i)
+  is_first (suc i) (Some f) e = by (nat_eq P.main f) refl ∙ sym (eqb-suc-zero i)
     where
       by : (b : Bool) → nat_eq P.main f ≡ b → nat_eq (if b then 0 else suc (place_in (routines P) f)) 0 ≡ false
-      by false t = positive (place_in (routines P) f)
+      by false t = eqb-suc-zero (place_in (routines P) f)
       by true t =
           let same : P.main ≡ f = grind (arith, nat_tests, t) in
           let w = owner_of f P.threads i e in
@@ -207,13 +200,9 @@ module _ (P : Program) (R : IsResolved P) where
   -- one without a function is another
   pub idle_not_first : (i : ℕ) → slice_get HR i ≡ Some None → false ≡ nat_eq i 0
   idle_not_first zero e = absurd (let z : Some P.main ≡ None = same_Some (Some P.main) None e in cc)
-  idle_not_first (suc i) e = sym (positive i)
+  idle_not_first (suc i) e = sym (eqb-suc-zero i)
 
   -- ---- each module is one of a thread
-
-  in_copies : (n : ℕ) (r : Option ℕ) (rest : List (Option ℕ)) → 0 < n → slice_get (replicate n r ++ rest) 0 ≡ Some r
-  in_copies zero r rest l = absurd (omega (arith, l))
-  in_copies (suc n) r rest l = refl
 
   thread_of : (f : ℕ) (os : List ThreadObject) → ((x : ℕ) (o : ThreadObject) → slice_get os x ≡ Some o → 0 < o.length) → (x : ℕ) (o : ThreadObject) → slice_get os x ≡ Some o →
       o.routine ≡ Some f → (i : ℕ) × (slice_get (flat_map (λ (z : ThreadObject). replicate z.length z.routine) os) i ≡ Some (Some f))
@@ -221,7 +210,7 @@ module _ (P : Program) (R : IsResolved P) where
   thread_of f (p ∷ os) some zero o e r =
       let same = same_Some p o e in (
         0,
-        in_copies p.length p.routine (flat_map (λ (z : ThreadObject). replicate z.length z.routine) os) (some 0 p refl)
+        copies_front p.length 0 p.routine (flat_map (λ (z : ThreadObject). replicate z.length z.routine) os) (some 0 p refl)
             ∙ ap Some (ap (λ (z : ThreadObject). z.routine) same ∙ r),
       )
   thread_of f (p ∷ os) some (suc x) o e r =

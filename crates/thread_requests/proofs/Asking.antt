@@ -1,8 +1,9 @@
 -- What all stages ask, bank by bank: links of globals, and behind them those of banks.
-use Rattle.std.proofs.Common.{◌≡◌, ℕ, zero, suc, ◌+◌, ◌<◌, ◌≤◌, List, [], ◌∷◌, length, map, take, Option, Some, slice_get, refl, sym, ap, subst, ◌∙◌, arith, inl}
+use Rattle.std.proofs.Common.{◌≡◌, ℕ, ◌+◌, ◌<◌, ◌≤◌, List, length, map, take, Option, Some, slice_get, refl, sym, ap, subst, ◌∙◌, arith, inl}
 use Rattle.std.specs.Prelude.{replicate, option_map}
 use Rattle.std.proofs.lemmas.List.{length-map}
 use Rattle.std.proofs.lemmas.Option.{slice_get_within, slice_get-map}
+use Rattle.lists.proofs.Places.{get_there, copies_are}
 use Rattle.hls_ints.specs.Types.{IntegerType, width_of}
 use Rattle.bank_partition.specs.declared.banks.Spread.{Spread}
 use Rattle.block_ir.specs.Asked.{Service, Mutexes, Barriers, Ids, Prints}
@@ -34,11 +35,6 @@ use Rattle.thread_requests.specs.Early.{BeginsLinkedOf, with_banks, FitSpreads, 
 
 -- ---- registers of some widths
 
-pub some_at : {X : Type 0} (xs : List X) (i : ℕ) → i < length xs → (x : X) × (slice_get xs i ≡ Some x)
-some_at [] i h = absurd (omega arith)
-some_at (x ∷ xs) zero h = (x, refl)
-some_at (x ∷ xs) (suc i) h = some_at xs i (omega arith)
-
 abbrev pub held_of : ℕ → Held
 held_of w = record { register = 0; width = w }
 
@@ -51,16 +47,11 @@ have_widths widths = record {
       ap (λ (z : Held). z.width) (sym same);
 }
 
-pub replicated : (n w x y : ℕ) → slice_get (replicate n w) x ≡ Some y → y ≡ w
-replicated zero w x y e = absurd cc
-replicated (suc n) w zero y e = let same : w ≡ y = cc in sym same
-replicated (suc n) w (suc x) y e = replicated n w x y e
-
 pub equal_width : (n w k : ℕ) (h : Held) → slice_get (map held_of (replicate n w)) k ≡ Some h → h.width ≡ w
 equal_width n w k h e =
     let less : k < length (replicate n w) = subst (λ z. k < z) (length-map (replicate n w) held_of) (slice_get_within (map held_of (replicate n w)) k h e) in
-    let y = some_at (replicate n w) k less in
-    (have_widths (replicate n w)).each k y.0 h e y.1 ∙ replicated n w k y.0 y.1
+    let y = get_there (replicate n w) k less in
+    (have_widths (replicate n w)).each k y.0 h e y.1 ∙ copies_are n w k y.0 y.1
 
 -- ---- globals, each in one bank
 
@@ -70,7 +61,7 @@ module _ (globals : List IntegerType) where
   own_width x h e =
       let inner : x < length (map width_of globals) =
       subst (λ z. x < z) (length-map (map width_of globals) held_of) (slice_get_within (map held_of (map width_of globals)) x h e) in
-      let ty = some_at globals x (subst (λ z. x < z) (length-map globals width_of) inner) in
+      let ty = get_there globals x (subst (λ z. x < z) (length-map globals width_of) inner) in
       let wide : slice_get (map width_of globals) x ≡ Some (width_of ty.0) = slice_get-map width_of globals x ∙ ap (option_map width_of) ty.1 in
       (have_widths (map width_of globals)).each x (width_of ty.0) h e wide ∙ ap (λ (o : Option IntegerType). width_of (or_int o)) (sym ty.1)
 
@@ -78,7 +69,7 @@ module _ (globals : List IntegerType) where
   type_fits : (x w : ℕ) → slice_get (map width_of globals) x ≡ Some w → (1 ≤ w) × (w ≤ 64)
   type_fits x w e =
       let less : x < length globals = subst (λ z. x < z) (length-map globals width_of) (slice_get_within (map width_of globals) x w e) in
-      let ty = some_at globals x less in
+      let ty = get_there globals x less in
       let wide : slice_get (map width_of globals) x ≡ Some (width_of ty.0) = slice_get-map width_of globals x ∙ ap (option_map width_of) ty.1 in
       let same : width_of ty.0 ≡ w = cc in
       let low = at_least ty.0 in

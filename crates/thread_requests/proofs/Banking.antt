@@ -2,11 +2,11 @@
 use Rattle.std.proofs.Common.{◌≡◌, ◌≢◌, ℕ, zero, suc, ◌+◌, ◌-◌, ◌/◌, ◌%◌, ◌^◌, ◌<◌, ◌≤◌, nat_eq, Bool, true, false, if◌then◌else◌, List, [], ◌∷◌, ◌++◌, length, take, Option}
 use Rattle.std.proofs.Common.{Some, None, slice_get, slice_index, refl, sym, ap, subst, ◌∙◌, arith, ⊎_elim, length-append, add-one}
 use Rattle.std.specs.Prelude.{replicate}
-use Rattle.std.proofs.lemmas.Bool.{cases_lt}
+use Rattle.std.proofs.lemmas.Bool.{cases_lt, cases_eq}
 use Rattle.std.proofs.lemmas.Nat.{pow_pos, mod_below}
-use Rattle.std.proofs.lemmas.List.{length-replicate}
-use Rattle.std.proofs.lemmas.Option.{slice_get_within, get_or_from_slice_get}
-use Rattle.interleaving.proofs.Update.{same_or_not}
+use Rattle.std.proofs.lemmas.List.{length-replicate, get_or-replicate, get_or-append-add, get_or_append_left, get_or_push, take_all}
+use Rattle.std.proofs.lemmas.Option.{slice_get_within, get_or_from_slice_get, slice_get-get_or}
+use Rattle.lists.proofs.Places.{get_last, get_front, get_there, copies_are}
 use Rattle.planned_block.proofs.Bits.{same_is, other_is}
 use Rattle.hls_ints.specs.Residues.{bit_of}
 use Rattle.hls_ints.specs.Words.{word_equal}
@@ -28,44 +28,19 @@ use Rattle.block_datapath.specs.Wired.{HasWidthAt, AreChains}
 use Rattle.block_datapath.specs.Requests.{AddressesBank, AreAsMany, AreBankChains, AddsBankLinks}
 use Rattle.block_datapath.proofs.Chaining.{equal_small}
 use Rattle.block_datapath.proofs.Linking.{chains_after}
-use Rattle.block_datapath.proofs.Walking.{got_before, got_last}
 use Rattle.thread_slots.specs.Bits.{AddsBits, AreBitsOf}
-use Rattle.thread_slots.proofs.Gating.{index_last, index_there}
 use Rattle.thread_requests.specs.Banks.{own_bank, AreOneEach, bank_number, IsNever, wanted_at, HasBits, AreChosen, AreOwnWants, AreWants, AddsLongs, AreAddresses, AreSpread}
 use Rattle.thread_requests.specs.Banks.{SpreadsRequests}
 use Rattle.thread_requests.specs.Early.{spread_out}
-use Rattle.thread_requests.proofs.Asking.{some_at}
 use Rattle.thread_requests.proofs.Spreading.{total_next, total_within, spread_there, spread_count, spread_at}
 
 -- ---- lists
-
-index_first : (xs ys : List ℕ) (k : ℕ) → k < length xs → slice_index (xs ++ ys) k ≡ slice_index xs k
-index_first [] ys k less = absurd (omega arith)
-index_first (x ∷ xs) ys zero less = refl
-index_first (x ∷ xs) ys (suc k) less = index_first xs ys k (omega arith)
-
-index_past : (xs ys : List ℕ) (k : ℕ) → slice_index (xs ++ ys) (length xs + k) ≡ slice_index ys k
-index_past [] ys k = ap (slice_index ys) (let e : 0 + k ≡ k = omega arith in e)
-index_past (x ∷ xs) ys k = ap (slice_index (x ∷ (xs ++ ys))) (let e : suc (length xs) + k ≡ suc (length xs + k) = omega arith in e) ∙ index_past xs ys k
-
-index_same : (n v k : ℕ) → k < n → slice_index (replicate n v) k ≡ v
-index_same zero v k less = absurd (omega arith)
-index_same (suc n) v zero less = refl
-index_same (suc n) v (suc k) less = index_same n v k (omega arith)
-
-got_same : (n v k y : ℕ) → slice_get (replicate n v) k ≡ Some y → v ≡ y
-got_same zero v k y e = absurd cc
-got_same (suc n) v zero y e = let same : v ≡ y = cc in same
-got_same (suc n) v (suc k) y e = got_same n v k y e
 
 got_split : (xs ys : List ℕ) (k y : ℕ) (P : ℕ → Type 0) → ((j : ℕ) → slice_get xs j ≡ Some y → P y) → ((j : ℕ) → slice_get ys j ≡ Some y → P y)
     → slice_get (xs ++ ys) k ≡ Some y → P y
 got_split [] ys k y P front back e = back k e
 got_split (x ∷ xs) ys zero y P front back e = front zero e
 got_split (x ∷ xs) ys (suc k) y P front back e = got_split xs ys k y P (λ j h. front (suc j) h) back e
-
-got_index : (xs : List ℕ) (k y : ℕ) → slice_get xs k ≡ Some y → slice_index xs k ≡ y
-got_index xs k y e = get_or_from_slice_get xs k y 0 e
 
 -- ---- one bank each
 
@@ -77,9 +52,9 @@ one_more l after n own t is same = record {
   count = ap length same ∙ length-append l (own ∷ []) ∙ ap (λ k. k + 1) t.count;
   each = λ x less. ⊎_elim
       (λ (e : x ≡ n).
-      ap (λ z. slice_get z x) same ∙ ap (slice_get (l ++ own ∷ [])) (e ∙ sym t.count) ∙ got_last l own ∙ ap Some (is ∙ ap own_bank (sym e)))
-      (λ (ne : x ≢ n). ap (λ z. slice_get z x) same ∙ got_before l (own ∷ []) x (own_bank x) (t.each x (let h : x < n = omega arith in h)))
-      (same_or_not x n);
+      ap (λ z. slice_get z x) same ∙ ap (slice_get (l ++ own ∷ [])) (e ∙ sym t.count) ∙ get_last l own ∙ ap Some (is ∙ ap own_bank (sym e)))
+      (λ (ne : x ≢ n). ap (λ z. slice_get z x) same ∙ get_front l (own ∷ []) x (own_bank x) (t.each x (let h : x < n = omega arith in h)))
+      (cases_eq x n);
 }
 
 -- ---- addresses
@@ -105,15 +80,15 @@ module _ (spreads : List Spread) (indices : List ℕ) where
         let own : s ≡ z = cc in
         let count : 2 ^ bits ≡ z.count = subst (λ (k : Spread). IsSmallPower k.count → 2 ^ bits ≡ k.count) own power small in
         let is : index ≡ slice_index indices x = at ∙ ap (slice_index indices) (sym e) in
-        ap r.signal (ap (λ v. slice_index v x) same ∙ ap (slice_index (l ++ place ∷ [])) (e ∙ sym t.count) ∙ index_last l place)
+        ap r.signal (ap (λ v. slice_index v x) same ∙ ap (slice_index (l ++ place ∷ [])) (e ∙ sym t.count) ∙ get_or_push l place 0 (length l) refl)
         ∙ shows.shows m r g o (subst (λ i. r.signal i < 2 ^ 64) (sym is) fits)
         ∙ ap (λ i. r.signal i / 2 ^ bits) is
         ∙ ap (λ k. r.signal (slice_index indices x) / k) count)
         (λ (ne : x ≢ n).
         let less' : x < n = omega arith in
-        ap r.signal (ap (λ v. slice_index v x) same ∙ index_first l (place ∷ []) x (subst (λ k. x < k) (sym t.count) less'))
+        ap r.signal (ap (λ v. slice_index v x) same ∙ get_or_append_left l (place ∷ []) 0 x (subst (λ k. x < k) (sym t.count) less'))
         ∙ t.shows m r x z (grows_then b c m.signals shows.grows g) o less' there small fits)
-        (same_or_not x n);
+        (cases_eq x n);
     wired = λ base stand.
         let first = t.wired base (λ x less. stand x (omega arith)) in
         let more : n < n + 1 = omega arith in
@@ -158,16 +133,16 @@ chosen_more a b c d want last never bits n is place l after t number number_wire
       ⊎_elim
       (λ (e : k ≡ n).
       let bit : r.signal is ≡ bit_of (nat_eq (r.signal last) n) = number.shows m r to_c o ∙ equal_small (width m last) bits (r.signal last) n has.wide has.fits (omega arith) in
-      ap r.signal (ap (λ v. slice_index v k) same ∙ ap (slice_index (l ++ place ∷ [])) (e ∙ sym t.count) ∙ index_last l place)
+      ap r.signal (ap (λ v. slice_index v k) same ∙ ap (slice_index (l ++ place ∷ [])) (e ∙ sym t.count) ∙ get_or_push l place 0 (length l) refl)
       ∙ choice.shows m r g o
       ∙ ap (λ i. if nat_eq i 0 then r.signal never else r.signal want) bit
       ∙ choice_is (nat_eq (r.signal last) n) (r.signal want) (r.signal never)
       ∙ ap (λ j. if nat_eq (r.signal last) j then r.signal want else r.signal never) (sym e))
       (λ (ne : k ≢ n).
       let less' : k < n = omega arith in
-      ap r.signal (ap (λ v. slice_index v k) same ∙ index_first l (place ∷ []) k (subst (λ j. k < j) (sym t.count) less'))
+      ap r.signal (ap (λ v. slice_index v k) same ∙ get_or_append_left l (place ∷ []) 0 k (subst (λ j. k < j) (sym t.count) less'))
       ∙ t.shows m r k (grows_then b c m.signals number.grows to_c) o less' (omega arith) has)
-      (same_or_not k n);
+      (cases_eq k n);
   wired = λ base room one two three.
       let first = t.wired base (omega arith) one two three in
       let bit = number_wired base (stands_after a b base last bits first.wires.grows one) (omega arith) in
@@ -200,12 +175,12 @@ one_wanted a want index bits count l none power same = record {
   many = ap length same ∙ length-replicate count want;
   shows = λ m r k g o small less.
       let one : count ≡ 1 = small_power bits count none power small in
-      ap r.signal (ap (λ v. slice_index v k) same ∙ index_same count want k less)
+      ap r.signal (ap (λ v. slice_index v k) same ∙ get_or-replicate count k want 0 less)
       ∙ sym (ap (λ c. if nat_eq (r.signal index % c) k then r.signal want else 0) one
       ∙ ap (λ z. if z then r.signal want else 0) (same_is (r.signal index % 1) k (let e : r.signal index % 1 ≡ k = omega arith in e)));
   wired = λ base small stand index_stands. record {
     wires = wires_none base a;
-    stand = λ k y h. let e : want ≡ y = got_same count want k y (ap (λ z. slice_get z k) (sym same) ∙ h) in subst (λ z. IsEarlier a base z 1) e stand;
+    stand = λ k y h. let e : want ≡ y = sym (copies_are count want k y (ap (λ z. slice_get z k) (sym same) ∙ h)) in subst (λ z. IsEarlier a base z 1) e stand;
   };
 }
 
@@ -216,12 +191,12 @@ never_wanted a want index count l never same = record {
   many = ap length same ∙ length-replicate count want;
   shows = λ m r k g o small less.
       let zero_now : r.signal want ≡ 0 = o.equations want never.signal (Constant 0) (listed a m.signals want never.signal g never.listed) never.is in
-      ap r.signal (ap (λ v. slice_index v k) same ∙ index_same count want k less)
+      ap r.signal (ap (λ v. slice_index v k) same ∙ get_or-replicate count k want 0 less)
       ∙ zero_now
       ∙ sym (ap (λ z. if nat_eq (r.signal index % count) k then z else 0) zero_now ∙ either_zero (nat_eq (r.signal index % count) k));
   wired = λ base small stand index_stands. record {
     wires = wires_none base a;
-    stand = λ k y h. let e : want ≡ y = got_same count want k y (ap (λ z. slice_get z k) (sym same) ∙ h) in subst (λ z. IsEarlier a base z 1) e stand;
+    stand = λ k y h. let e : want ≡ y = sym (copies_are count want k y (ap (λ z. slice_get z k) (sym same) ∙ h)) in subst (λ z. IsEarlier a base z 1) e stand;
   };
 }
   where
@@ -289,7 +264,7 @@ module _ (spreads : List Spread) (wants indices : List ℕ) where
         let mine : s ≡ z = cc in
         let count : s.count ≡ z.count = ap (λ (q : Spread). q.count) mine in
         let at : bank_number spreads x k ≡ length l + k = ap (λ i. bank_number spreads i k) e ∙ ap (λ i. i + k) (sym t.count) in
-        ap r.signal (ap (λ v. slice_index v (bank_number spreads x k)) same ∙ ap (slice_index (l ++ own)) at ∙ index_past l own k)
+        ap r.signal (ap (λ v. slice_index v (bank_number spreads x k)) same ∙ ap (slice_index (l ++ own)) at ∙ get_or-append-add l own k 0)
         ∙ u.shows m r k g o (subst IsSmallPower (sym count) small) (omega arith)
         ∙ ap (λ i. wanted_at s.count (r.signal i) (r.signal want) k) (index_at ∙ ap (slice_index indices) (sym e))
         ∙ ap (λ i. wanted_at s.count (r.signal (slice_index indices x)) (r.signal i) k) (want_at ∙ ap (slice_index wants) (sym e))
@@ -297,9 +272,9 @@ module _ (spreads : List Spread) (wants indices : List ℕ) where
         (λ (ne : x ≢ n).
         let less' : x < n = omega arith in
         let inside : bank_number spreads x k < length l = subst (λ i. bank_number spreads x k < i) (sym t.count) (total_within spreads x n k z there less' under) in
-        ap r.signal (ap (λ v. slice_index v (bank_number spreads x k)) same ∙ index_first l own (bank_number spreads x k) inside)
+        ap r.signal (ap (λ v. slice_index v (bank_number spreads x k)) same ∙ get_or_append_left l own 0 (bank_number spreads x k) inside)
         ∙ t.shows m r x k z (grows_then b c m.signals u.grows g) o less' there small under)
-        (same_or_not x n);
+        (cases_eq x n);
     wired = λ base powers one two.
         let first = t.wired base powers (λ x less. one x (omega arith)) (λ x less. two x (omega arith)) in
         let more : n < n + 1 = omega arith in
@@ -315,16 +290,12 @@ module _ (spreads : List Spread) (wants indices : List ℕ) where
 
 -- ---- all of it
 
-take_all : (spreads : List Spread) → take (length spreads) spreads ≡ spreads
-take_all [] = refl
-take_all (s ∷ spreads) = ap (λ l. s ∷ l) (take_all spreads)
-
 -- link k of chains of one width
 chain_at : (a : List Signal) (base : Base) (hs : List Held) (ys : List ℕ) (k w : ℕ) → AreChains a base hs ys → k < length ys → HasWidthAt hs k w
     → IsEarlier a base (slice_index ys k) w
 chain_at a base hs ys k w chains less wide =
-    let h = some_at hs k (subst (λ z. k < z) chains.count less) in
-    subst (λ z. IsEarlier a base (slice_index ys k) z) (wide h.0 h.1) (chains.each k (slice_index ys k) h.0 h.1 (index_there ys k less))
+    let h = get_there hs k (subst (λ z. k < z) chains.count less) in
+    subst (λ z. IsEarlier a base (slice_index ys k) z) (wide h.0 h.1) (chains.each k (slice_index ys k) h.0 h.1 (slice_get-get_or ys k 0 less))
 
 -- places of one width
 places_chains : (a : List Signal) (base : Base) (all : List Held) (banks : List ℕ) (w : ℕ) → ((k y : ℕ) → slice_get banks k ≡ Some y → IsEarlier a base y w)
@@ -340,8 +311,8 @@ module _ (spreads : List Spread) where
       → slice_index all (bank_number spreads x k) ≡ slice_index values x
   spread_index values all x k s count is there less =
       let inside : x < length values = subst (λ n. x < n) (sym count) (slice_get_within spreads x s there) in
-      got_index all (bank_number spreads x k) (slice_index values x)
-      (ap (λ l. slice_get l (bank_number spreads x k)) is ∙ spread_there spreads values x k (slice_index values x) s there (index_there values x inside) less)
+      get_or_from_slice_get all (bank_number spreads x k) (slice_index values x)
+      0 (ap (λ l. slice_get l (bank_number spreads x k)) is ∙ spread_there spreads values x k (slice_index values x) s there (slice_get-get_or values x 0 inside) less)
 
   -- links of globals, spread to their banks
   spread_chains : (a : List Signal) (base : Base) (hs all : List Held) (values banks : List ℕ) → AreChains a base hs values → length values ≡ length spreads
@@ -352,7 +323,7 @@ module _ (spreads : List Spread) where
     count = ap length is ∙ spread_count spreads values count ∙ sym total;
     each = λ j y h there got.
         let from = spread_at spreads values j y (ap (λ l. slice_get l j) (sym is) ∙ got) in
-        let g = some_at hs from.global (subst (λ n. from.global < n) chains.count (slice_get_within values from.global y from.value)) in
+        let g = get_there hs from.global (subst (λ n. from.global < n) chains.count (slice_get_within values from.global y from.value)) in
         let same : h.width ≡ g.0.width = wide from.global from.number from.spread g.0 from.listed from.below g.1 h (ap (slice_get all) (sym from.at) ∙ there) in
         subst (λ w. IsEarlier a base y w) (sym same) (chains.each from.global y g.0 g.1 from.value);
   }
@@ -405,4 +376,4 @@ module _ (spreads : List Spread) where
   }
     where
       wants_count : length banks.wants ≡ bank_total spreads
-      wants_count = u.count ∙ ap bank_total (take_all spreads)
+      wants_count = u.count ∙ ap bank_total (take_all (length spreads) spreads (omega arith))

@@ -1,8 +1,8 @@
 -- Which of the cores that acts ask are open.
-use Rattle.std.proofs.Common.{◌≡◌, ℕ, zero, suc, ◌+◌, ◌-◌, ◌<◌, ◌≤◌, ◌^◌, Bool, true, false, not, ◌&&◌, ◌||◌, nat_eq, nat_lt, if◌then◌else◌, List, [], ◌∷◌, ◌++◌, length, slice_index}
+use Rattle.std.proofs.Common.{◌≡◌, ℕ, zero, suc, ◌+◌, ◌-◌, ◌<◌, ◌≤◌, ◌^◌, Bool, true, false, not, ◌&&◌, ◌||◌, nat_eq, if◌then◌else◌, List, [], ◌∷◌, ◌++◌, length, slice_index}
 use Rattle.std.proofs.Common.{refl, sym, ap, subst, ◌∙◌, arith, ⊎_elim, length-append}
-use Rattle.std.proofs.lemmas.Bool.{cases_lt}
-use Rattle.std.proofs.lemmas.Bool.Decides.{nat_tests}
+use Rattle.std.proofs.lemmas.Bool.{cases_lt, le-ltb, lt-ltb}
+use Rattle.std.proofs.lemmas.List.{get_or-append_right, get_or_append_left}
 use Rattle.hls_ints.specs.Residues.{bit_of}
 use Rattle.block_ir.specs.Asked.{Service, Mutexes, Barriers, Ids, Prints}
 use Rattle.netlist.specs.declared.netlist.Signal.{Signal}
@@ -29,27 +29,11 @@ use Rattle.thread_requests.specs.Early.{joined_bits, act_open, act_count, HasObj
 
 -- ---- lists of bits, one behind the other
 
-pub front_index : (xs ys : List ℕ) (n : ℕ) → n < length xs → slice_index (xs ++ ys) n ≡ slice_index xs n
-front_index [] ys n less = absurd (omega arith)
-front_index (x ∷ xs) ys zero less = refl
-front_index (x ∷ xs) ys (suc n) less = front_index xs ys n (omega arith)
-
-pub back_index : (xs ys : List ℕ) (n : ℕ) → length xs ≤ n → slice_index (xs ++ ys) n ≡ slice_index ys (n - length xs)
-back_index [] ys n le = ap (slice_index ys) (let z : n ≡ n - 0 = omega arith in z)
-back_index (x ∷ xs) ys zero le = absurd (omega arith)
-back_index (x ∷ xs) ys (suc n) le = back_index xs ys n (omega arith) ∙ ap (slice_index ys) (let z : n - length xs ≡ suc n - suc (length xs) = omega arith in z)
-
-is_less : (n k : ℕ) → n < k → nat_lt n k ≡ true
-is_less n k less = grind (arith, nat_tests)
-
-not_less : (n k : ℕ) → k ≤ n → nat_lt n k ≡ false
-not_less n k le = grind (arith, nat_tests)
-
 pub joined_front : (n : ℕ) (f g : ℕ → Bool) (k : ℕ) → k < n → joined_bits n f g k ≡ f k
-joined_front n f g k less = ap (λ b. if b then f k else g (k - n)) (is_less k n less)
+joined_front n f g k less = ap (λ b. if b then f k else g (k - n)) (lt-ltb k n less)
 
 pub joined_back : (n : ℕ) (f g : ℕ → Bool) (k : ℕ) → n ≤ k → joined_bits n f g k ≡ g (k - n)
-joined_back n f g k le = ap (λ b. if b then f k else g (k - n)) (not_less k n le)
+joined_back n f g k le = ap (λ b. if b then f k else g (k - n)) (le-ltb k n le)
 
 pub have_joined : (m : Module) (r : Reading) (xs ys : List ℕ) (n k : ℕ) (f g : ℕ → Bool) → length xs ≡ n → HaveBits m r xs n f → HaveBits m r ys k g
     → HaveBits m r (xs ++ ys) (n + k) (joined_bits n f g)
@@ -57,12 +41,12 @@ have_joined m r xs ys n k f g count one two j less = ⊎_elim front back (cases_
   where
     front : j < n → HasBit m r (slice_index (xs ++ ys) j) (joined_bits n f g j)
     front in_first =
-        subst (λ p. HasBit m r p (joined_bits n f g j)) (sym (front_index xs ys j (subst (λ z. j < z) (sym count) in_first)))
+        subst (λ p. HasBit m r p (joined_bits n f g j)) (sym (get_or_append_left xs ys 0 j (subst (λ z. j < z) (sym count) in_first)))
         (subst (HasBit m r (slice_index xs j)) (sym (joined_front n f g j in_first)) (one j in_first))
 
     back : n ≤ j → HasBit m r (slice_index (xs ++ ys) j) (joined_bits n f g j)
     back past =
-        let at : slice_index (xs ++ ys) j ≡ slice_index ys (j - n) = back_index xs ys j (subst (λ z. z ≤ j) (sym count) past) ∙ ap (λ z. slice_index ys (j - z)) count in
+        let at : slice_index (xs ++ ys) j ≡ slice_index ys (j - n) = get_or-append_right xs ys (length xs) j 0 refl (subst (λ z. z ≤ j) (sym count) past) ∙ ap (λ z. slice_index ys (j - z)) count in
         subst (λ p. HasBit m r p (joined_bits n f g j)) (sym at)
         (subst (HasBit m r (slice_index ys (j - n))) (sym (joined_back n f g j past)) (two (j - n) (omega arith)))
 

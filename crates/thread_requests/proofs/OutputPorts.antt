@@ -1,9 +1,10 @@
 -- The output ports.
-use Rattle.std.proofs.Common.{◌≡◌, ◌≢◌, ℕ, zero, suc, ◌+◌, ◌<◌, ◌≤◌, true, false, List, [], ◌∷◌, ◌++◌, length, take, slice_get, Some, refl, sym, ap, subst, ◌∙◌, arith, append_assoc}
+use Rattle.std.proofs.Common.{◌≡◌, ◌≢◌, ℕ, zero, suc, ◌+◌, ◌<◌, true, false, List, [], ◌∷◌, ◌++◌, length, take, slice_get, Some, refl, sym, ap, subst, ◌∙◌, arith, append_assoc}
 use Rattle.std.proofs.Common.{⊎_elim, add-one}
 use Rattle.std.specs.Prelude.{slice_index}
-use Rattle.std.proofs.lemmas.List.{append-nil, get_or_past}
-use Rattle.interleaving.proofs.Update.{same_or_not}
+use Rattle.std.proofs.lemmas.List.{append-nil}
+use Rattle.std.proofs.lemmas.Bool.{cases_eq}
+use Rattle.lists.proofs.Places.{get_last}
 use Rattle.netlist.specs.declared.netlist.Value.TheVariants.{Copy}
 use Rattle.netlist.specs.declared.netlist.Source.TheVariants.{Assigned}
 use Rattle.netlist.specs.declared.netlist.Signal.{Signal}
@@ -13,7 +14,6 @@ use Rattle.operator_wires.specs.Built.{Lays, is_single}
 use Rattle.operator_wires.proofs.Giving.{grows_refl, grows_then, listed}
 use Rattle.block_datapath.specs.declared.registers.Held.{Held}
 use Rattle.block_datapath.specs.declared.requests.BankRequests.{BankRequests}
-use Rattle.block_datapath.proofs.Walking.{got_last}
 use Rattle.thread_slots.specs.declared.requests.Requests.{Requests}
 use Rattle.thread_slots.specs.declared.shape.Served.{Served}
 use Rattle.thread_slots.specs.declared.shape.Service.{Service as Kind}
@@ -111,10 +111,6 @@ pub joined_then : (xs ys : List (List Row)) → joined (xs ++ ys) ≡ joined xs 
 joined_then [] ys = refl
 joined_then (x ∷ xs) ys = ap (λ l. x ++ l) (joined_then xs ys) ∙ sym (append_assoc x (joined xs) (joined ys))
 
--- past the end there is nothing
-pub past_index : (asks : List ℕ) (n : ℕ) → length asks ≤ n → slice_index asks n ≡ 0
-past_index asks n le = get_or_past asks n 0 le
-
 -- four rows one after the other
 pub four_added : (x a b c d : List Row) (p q r s : Row) → a ≡ x ++ p ∷ [] → b ≡ a ++ q ∷ [] → c ≡ b ++ r ∷ [] → d ≡ c ++ s ∷ [] → d ≡ x ++ p ∷ q ∷ r ∷ s ∷ []
 four_added x a b c d p q r s one two three four =
@@ -145,7 +141,7 @@ rows_more a b c rows n place row t here u =
           (subst (λ (z : Row). CopiesAt c (length b) z.width z.source) one (stands_last b c row.width place (Assigned (Copy row.source)) u)))
           (λ (ne : k ≢ n).
           stands_later b c (length a + k) own.width (Assigned (Copy own.source)) more (t.each k own (let less : k < n = omega arith in less) there))
-          (same_or_not k n);
+          (cases_eq k n);
     }
 
 -- ---- all outputs
@@ -166,7 +162,7 @@ outputs_laid a b c d served needs done place words asks requests t u put v =
       need = stands_later c d (length b) 1 (Assigned (Copy needs)) v.grows (stands_last b c 1 place (Assigned (Copy needs)) u);
       need_put = record {
         signal = put.signal;
-        listed = listed c d (length b) put.signal v.grows (ap (λ (l : List Signal). slice_get l (length b)) put.is ∙ got_last b put.signal);
+        listed = listed c d (length b) put.signal v.grows (ap (λ (l : List Signal). slice_get l (length b)) put.is ∙ get_last b put.signal);
         named = put.named;
         flag = put.flag;
       };

@@ -4,6 +4,7 @@ use Rattle.std.proofs.Common.{append_assoc, add-one}
 use Rattle.std.specs.Prelude.{replicate, slice_get}
 use Rattle.std.proofs.lemmas.Bool.{cases_lt}
 use Rattle.std.proofs.lemmas.List.{append-nil, length-replicate}
+use Rattle.lists.proofs.Places.{copies_front}
 use Rattle.bank_partition.specs.declared.banks.Spread.{Spread}
 use Rattle.thread_promise.specs.Globals.{bank_total}
 use Rattle.thread_requests.specs.Early.{copies_of, spread_out}
@@ -27,11 +28,6 @@ spread_more before after spreads values n s v copies e listed at made same =
     ∙ ap (λ k. spread_out (take k spreads) values) (sym (add-one n))
 
 -- ---- where they stand
-
-among_first : (n v k : ℕ) (rest : List ℕ) → k < n → slice_get (replicate n v ++ rest) k ≡ Some v
-among_first zero v k rest less = absurd (omega arith)
-among_first (suc n) v zero rest less = refl
-among_first (suc n) v (suc k) rest less = among_first n v k rest (omega arith)
 
 past_first : (n v k : ℕ) (rest : List ℕ) → slice_get (replicate n v ++ rest) (n + k) ≡ slice_get rest k
 past_first zero v k rest = ap (slice_get rest) (let e : 0 + k ≡ k = omega arith in e)
@@ -57,7 +53,7 @@ spread_there (t ∷ spreads) (w ∷ values) zero k v s listed there less =
     let one : w ≡ v = cc in
     let count : t.count ≡ s.count = ap (λ (z : Spread). z.count) same in
     ap (slice_get (replicate t.count w ++ spread_out spreads values)) (let e : 0 + k ≡ k = omega arith in e)
-    ∙ among_first t.count w k (spread_out spreads values) (omega arith)
+    ∙ copies_front t.count k w (spread_out spreads values) (omega arith)
     ∙ ap Some one
 spread_there (t ∷ spreads) (w ∷ values) (suc x) k v s listed there less =
     let at : bank_total (t ∷ take x spreads) + k ≡ t.count + (bank_total (take x spreads) + k) = (let c = total_cons t (take x spreads) in omega arith) in
@@ -137,7 +133,7 @@ spread_at (s ∷ spreads) [] k y e = absurd cc
 spread_at (s ∷ spreads) (v ∷ values) k y e =
     ⊎_elim
     (λ (less : k < s.count).
-    let here = among_first s.count v k (spread_out spreads values) less in
+    let here = copies_front s.count k v (spread_out spreads values) less in
     let none : bank_total [] ≡ 0 = refl in
     let same : v ≡ y = cc in
     record {

@@ -3,6 +3,7 @@ use Rattle.std.proofs.Common.{◌≡◌, ℕ, zero, suc, ◌<◌, true, List, []
 use Rattle.std.specs.Prelude.{replicate, slice_get}
 use Rattle.std.proofs.lemmas.List.{length-map}
 use Rattle.std.proofs.lemmas.Option.{slice_get_within}
+use Rattle.lists.proofs.Places.{get_there}
 use Rattle.hls_ints.specs.Types.{IntegerType}
 use Rattle.block_ir.specs.declared.code.ThreadCode.{ThreadCode}
 use Rattle.block_ir.specs.declared.plan.Planned.{Planned}
@@ -21,7 +22,6 @@ use Rattle.thread_slots.specs.Requests.{group}
 use Rattle.thread_asks.specs.declared.asking.Caller.{Caller}
 use Rattle.thread_requests.specs.declared.early.Acts.{Acts}
 use Rattle.thread_requests.proofs.Opening.{stand_joined}
-use Rattle.thread_requests.proofs.Asking.{some_at}
 use Rattle.thread_slots.specs.declared.requests.Requests.{Requests}
 use Rattle.thread_requests.specs.declared.early.Early.{Early}
 use Rattle.thread_needs.specs.Needing.{NeedsMore, FitStages, IsNeedOfFirst}
@@ -37,7 +37,7 @@ wants_stand : (base : Base) (a : List Signal) (bits wide own : List Held) (banks
     → AreBitsOf base a banks.wants
 wants_stand base a bits wide own banks t ones k y there =
     let less = slice_get_within banks.wants k y there in
-    let h = some_at bits k (subst (λ n. k < n) t.wants.count less) in
+    let h = get_there bits k (subst (λ n. k < n) t.wants.count less) in
     subst (λ w. IsEarlier a base y w) (ones k h.0 h.1) (t.wants.each k y h.0 h.1 there)
 
 -- the bits that tell whether cores are asked that acts ask, behind those of banks

@@ -5,6 +5,8 @@ use Rattle.std.specs.List.{sum_by}
 use Rattle.std.proofs.Math.Nat.{eq-or-lt_of_le}
 use Rattle.std.proofs.Math.Seq.{take-suc}
 use Rattle.std.proofs.lemmas.List.Sums.{sum_by_push, sum_by-take-le}
+use Rattle.std.proofs.lemmas.List.{take_all}
+use Rattle.lists.proofs.Places.{get_last}
 use Rattle.c_program.specs.declared.tree.ThreadObject.{ThreadObject}
 use Rattle.c_program.specs.declared.tree.MutexObject.{MutexObject}
 use Rattle.c_program.specs.declared.tree.BarrierObject.{BarrierObject}
@@ -26,10 +28,6 @@ get_pushed : (ns : List ℕ) (n x : ℕ) → x < length ns → slice_get (ns ++ 
 get_pushed [] n x lt = absurd (omega arith)
 get_pushed (m ∷ ns) n zero lt = refl
 get_pushed (m ∷ ns) n (suc x) lt = get_pushed ns n x (omega arith)
-
-get_last : (ns : List ℕ) (n : ℕ) → slice_get (ns ++ n ∷ []) (length ns) ≡ Some n
-get_last [] n = refl
-get_last (m ∷ ns) n = get_last ns n
 
 module _ {A : Type 0} (first : ℕ) (elements : A → ℕ) (objects : List A) where
   sum_next : (i : ℕ) (d : A) → i < length objects → sum_by elements (take (i + 1) objects) ≡ sum_by elements (take i objects) + elements (get_or objects i d)
@@ -65,12 +63,6 @@ module _ {A : Type 0} (first : ℕ) (elements : A → ℕ) (objects : List A) wh
       earlier : (x : ℕ) → x < i → slice_get new.numbers x ≡ Some (first + sum_by elements (take x objects))
       earlier x less =
           ap (λ ns. slice_get ns x) numbers ∙ get_pushed old.numbers old.next x (let long = before.long in omega (arith, long)) ∙ before.each x less
-
-  take_all : (n : ℕ) (xs : List A) → length xs ≤ n → take n xs ≡ xs
-  take_all zero [] le = refl
-  take_all (suc n) [] le = refl
-  take_all zero (x ∷ xs) le = absurd (omega (arith, le))
-  take_all (suc n) (x ∷ xs) le = ap (λ l. x ∷ l) (take_all n xs (omega (arith, le)))
 
   pub all_counted : (n : ℕ) (c : Counted) → AreCounted first elements objects n c → length objects ≤ n → AreNumbers first elements objects c.numbers
   all_counted n c is le = record {

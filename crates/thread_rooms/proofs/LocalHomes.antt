@@ -3,7 +3,7 @@ use Rattle.std.proofs.Common.{◌≡◌, ℕ, zero, suc, ◌+◌, ◌≤◌, Boo
 use Rattle.std.proofs.Common.{⊎_elim, arith, append_assoc, append-nil, length-append, cond}
 use Rattle.std.specs.Prelude.{count_by, sum_by, slice_get, nat_eq}
 use Rattle.std.proofs.lemmas.List.Concat.{flat_map-append}
-use Rattle.std.proofs.lemmas.List.Sums.{sum_by-append}
+use Rattle.std.proofs.lemmas.List.Sums.{sum_by-append, sum_by-cons}
 use Rattle.std.proofs.lemmas.Bool.Decides.{eqb_tells}
 use Rattle.c_program.specs.declared.tree.LocalVariable.{LocalVariable}
 use Rattle.c_program.specs.Tree.{Function}
@@ -14,7 +14,6 @@ use Rattle.straight_code.specs.declared.homes.Home.TheVariants.{Variable, Array}
 use Rattle.thread_rooms.specs.declared.rooms.Rooms.{Rooms}
 use Rattle.thread_rooms.specs.Locals.{is_scalar, is_array, home_in, homes_after, variable_of, variables_of, array_of, arrays_of, Houses, Homed, AllHomed, all_locals, rooms_after}
 use Rattle.thread_rooms.specs.Locals.{ArePlaced}
-use Rattle.straight_code.proofs.Words.{sum_cons}
 use Rattle.thread_rooms.specs.Housing.{IsHomeOf}
 
 pub count_last : (p : LocalVariable → Bool) (before : List LocalVariable) (l : LocalVariable) (b : Bool) → p l ≡ b → count_by p (before ++ l ∷ []) ≡ count_by p before + cond b 1 0
@@ -41,7 +40,7 @@ variables_count [] = refl
 variables_count (l ∷ ls) =
     let rest = variables_count ls in
     let both = length-append (variable_of l) (variables_of ls) in
-    let next = sum_cons (λ (z : LocalVariable). cond (is_scalar z) 1 0) l ls in
+    let next = sum_by-cons (λ (z : LocalVariable). cond (is_scalar z) 1 0) l ls in
     let one = this (is_scalar l) in
     omega (arith, rest, both, next, one)
   where
@@ -54,7 +53,7 @@ arrays_count [] = refl
 arrays_count (l ∷ ls) =
     let rest = arrays_count ls in
     let both = length-append (array_of l) (arrays_of ls) in
-    let next = sum_cons (λ (z : LocalVariable). cond (is_array z) 1 0) l ls in
+    let next = sum_by-cons (λ (z : LocalVariable). cond (is_array z) 1 0) l ls in
     let one = this (is_scalar l) in
     omega (arith, rest, both, next, one)
   where
@@ -127,7 +126,7 @@ rooms_append before site (d ∷ fs) f =
     ∙ ap (λ ls. rooms_after (before ++ d.locals) (site + print_count d.body) fs
     ++ record { homes = homes_after ls f.locals; site = (site + print_count d.body) + sum_by (λ (g : Function). print_count g.body) fs } ∷ []) (append_assoc before d.locals (all_locals fs))
     ∙ ap (λ n. rooms_after (before ++ d.locals) (site + print_count d.body) fs ++ record { homes = homes_after (before ++ all_locals (d ∷ fs)) f.locals; site = n } ∷ [])
-    (let s = sum_cons (λ (g : Function). print_count g.body) d fs in omega (arith, s)))
+    (let s = sum_by-cons (λ (g : Function). print_count g.body) d fs in omega (arith, s)))
 
 pub room_more : (fs : List Function) (f : Function) (homes : List Home) (a b c : Rooms) → ArePlaced fs a → AllHomed (all_locals fs) f.locals homes a b →
     c.rooms ≡ b.rooms ++ record { homes = homes; site = b.sites } ∷ [] → c.sites ≡ b.sites + print_count f.body → c.variables ≡ b.variables → c.arrays ≡ b.arrays →
@@ -143,7 +142,7 @@ room_more fs f homes a b c placed homed rooms sites variables arrays = record {
     arrays = arrays ∙ homed.houses.arrays ∙ ap arrays_of all_is;
   };
   sites =
-      (let s = sum_by-append (λ (g : Function). print_count g.body) fs (f ∷ []) in let k = sum_cons (λ (g : Function). print_count g.body) f [] in let one = homed.sites in let two = placed.sites in
+      (let s = sum_by-append (λ (g : Function). print_count g.body) fs (f ∷ []) in let k = sum_by-cons (λ (g : Function). print_count g.body) f [] in let one = homed.sites in let two = placed.sites in
       omega (arith, sites, s, k, one, two));
 }
   where
@@ -219,7 +218,7 @@ each_home before (d ∷ ls) size zero l room at =
         let one : d.length ≡ 1 = ⊎_elim (λ t. t.1) (λ t. absurd (let wrong : true ≡ false = sym is ∙ t.0 in cc)) (eqb_tells d.length 1) in
         let more = sum_by-append (λ (z : LocalVariable). cond (is_scalar z) 1 0) before (d ∷ ls) in
         let this : cond {A = ℕ} (is_scalar d) 1 0 ≡ 1 = ap (λ b. cond b 1 0) is in
-        let next = sum_cons (λ (z : LocalVariable). cond (is_scalar z) 1 0) d ls in
+        let next = sum_by-cons (λ (z : LocalVariable). cond (is_scalar z) 1 0) d ls in
         (one, omega (arith, more, next, this, room))
     by false is = λ one. let wrong : true ≡ false = sym (ap (λ n. nat_eq n 1) one) ∙ is in cc
 each_home before (d ∷ ls) size (suc x) l room at =

@@ -1,5 +1,5 @@
 -- There is a name, or none, for each variable, and each is an identifier.
-use Rattle.std.proofs.Common.{◌≡◌, ℕ, zero, suc, ◌+◌, ◌-◌, Bool, true, false, ◌&&◌, if◌then◌else◌, List, [], ◌∷◌, ◌++◌, length, take, Option, Some, None, refl, sym, ap, ◌∙◌, arith}
+use Rattle.std.proofs.Common.{◌≡◌, ℕ, zero, suc, ◌+◌, ◌-◌, Bool, true, false, if◌then◌else◌, List, [], ◌∷◌, ◌++◌, length, take, Option, Some, None, refl, sym, ap, ◌∙◌, arith}
 use Rattle.std.proofs.Common.{append_assoc, append-nil, length-append, cond, get_or, map, ◌<◌}
 use Rattle.std.specs.Prelude.{count_by, slice_get}
 use Rattle.std.proofs.lemmas.List.Sums.{sum_by-append}
@@ -7,12 +7,14 @@ use Rattle.std.proofs.lemmas.List.{map-append}
 use Rattle.std.specs.Bool.{IsTrue}
 use Rattle.std.specs.List.{flat_map, list_all, AllByRecursion}
 use Rattle.std.proofs.lemmas.List.Concat.{flat_map-append}
+use Rattle.std.proofs.lemmas.Option.{slice_get_read}
+use Rattle.std.proofs.lemmas.Bool.{and_parts}
+use Rattle.lists.proofs.Places.{get_front}
 use Rattle.c_program.specs.declared.tree.LocalVariable.{LocalVariable}
 use Rattle.c_program.specs.Limits.{print_count}
 use Rattle.c_program.specs.Tree.{Function}
 use Rattle.c_program.specs.Resolved.{is_letter, is_letter_or_digit}
 use Rattle.code_following.specs.Typed.{IsNameIfAny}
-use Rattle.straight_code.proofs.Typing.{get_more}
 use Rattle.straight_code.specs.declared.homes.Home.TheVariants.{Variable}
 use Rattle.thread_rooms.specs.Locals.{is_scalar, home_in, homes_after, variable_of, variables_of, all_locals, rooms_after}
 use Rattle.thread_rooms.specs.Housing.{homes_there}
@@ -44,20 +46,16 @@ names_count (f ∷ fs) =
 
 -- ---- identifiers
 
-both : (a b : Bool) → (a && b) ≡ true → (a ≡ true) × (b ≡ true)
-both true b e = (refl, e)
-both false b e = absurd cc
-
 letters : (bytes : List ℕ) → list_all is_letter_or_digit bytes ≡ true → AllByRecursion (λ byte. IsTrue (is_letter_or_digit byte)) bytes
 letters [] e = tt
 letters (byte ∷ bytes) e =
-    let h = both (is_letter_or_digit byte) (list_all is_letter_or_digit bytes) e in
+    let h = and_parts (is_letter_or_digit byte) (list_all is_letter_or_digit bytes) e in
     (h.0, letters bytes h.1)
 
 identifier : (name : List ℕ) → is_name name ≡ true → IsNameIfAny name
 identifier [] e = tt
 identifier (first ∷ rest) e =
-    let h = both (is_letter first) (list_all is_letter_or_digit rest) e in
+    let h = and_parts (is_letter first) (list_all is_letter_or_digit rest) e in
     (h.0, letters rest h.1)
 
 given_is : (o : Option (List ℕ)) → IsNameIfAny (name_given o)
@@ -125,7 +123,7 @@ pub named_in_rooms : (before : List LocalVariable) (site : ℕ) (fs : List Funct
     slice_get (variable_names fs) k ≡ Some (name_given (slice_get f.local_names x))
 named_in_rooms before site [] g x n k f at e from = cc
 named_in_rooms before site (d ∷ fs) zero x n k f at e from =
-    get_more (scalar_names d.locals d.local_names) (variable_names fs) k (name_given (slice_get f.local_names x))
+    get_front (scalar_names d.locals d.local_names) (variable_names fs) k (name_given (slice_get f.local_names x))
     (scalar_named before d.locals d.local_names x n k e from ∙ ap (λ (z : Function). Some (name_given (slice_get z.local_names x))) (let same : d ≡ f = cc in same))
 named_in_rooms before site (d ∷ fs) (suc g) x n k f at e from =
     let least = variable_room (before ++ d.locals) (site + print_count d.body) fs g x n e in
@@ -165,16 +163,11 @@ names_more fs f =
     flat_map-append (λ (g : Function). scalar_names g.locals g.local_names) fs (f ∷ [])
     ∙ ap (λ l. variable_names fs ++ l) (append-nil (scalar_names f.locals f.local_names))
 
-local_at : (ls : List LocalVariable) (i : ℕ) (l : LocalVariable) → i < length ls → l ≡ get_or ls i l → slice_get ls i ≡ Some l
-local_at [] i l lt is = absurd (omega arith)
-local_at (d ∷ ls) zero l lt is = ap Some (sym is)
-local_at (d ∷ ls) (suc i) l lt is = local_at ls i l (omega arith) is
-
 module _ {A : Type 0} (bytes : A → List ℕ) (ls : List LocalVariable) (given : List (List ℕ)) (old names new : List A) (i : ℕ) (l : LocalVariable) (lt : i < length ls) (is : l ≡ get_or ls i l) where
   next_names : (b : Bool) → is_scalar l ≡ b →
       scalar_names (take (i + 1) ls) given ≡ scalar_names (take i ls) given ++ (if b then name_given (slice_get given i) ∷ [] else [])
   next_names b e =
-      ap (λ n. scalar_names (take n ls) given) (let s : i + 1 ≡ suc i = omega arith in s) ∙ scalars_more ls given i l (local_at ls i l lt is)
+      ap (λ n. scalar_names (take n ls) given) (let s : i + 1 ≡ suc i = omega arith in s) ∙ scalars_more ls given i l (slice_get_read ls (length ls) i l refl lt is)
       ∙ ap (λ c. scalar_names (take i ls) given ++ (if c then name_given (slice_get given i) ∷ [] else [])) e
 
   -- after a scalar

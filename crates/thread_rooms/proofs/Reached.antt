@@ -4,7 +4,10 @@ use Rattle.std.proofs.Common.{arith, sum_by, drop, ⊎_elim, inl, inr, length-ap
 use Rattle.std.specs.Prelude.{replicate, slice_get, slice_set, unwrap_or, Contains, ◌⊎◌}
 use Rattle.std.specs.List.{AllByRecursion}
 use Rattle.std.proofs.lemmas.Bool.Decides.{eqb_tells}
-use Rattle.std.proofs.lemmas.List.Elements.{Contains-append_left, Contains-append_right, Contains-append_cases, Contains-push, Contains-push_cases}
+use Rattle.std.proofs.lemmas.List.Elements.{Contains-append_left, Contains-append_right, Contains-append_cases, Contains-push}
+use Rattle.std.proofs.lemmas.List.{length-set, drop_all, length-replicate}
+use Rattle.std.proofs.lemmas.List.Sums.{sum_by-cons, sum_by-le-sum_by}
+use Rattle.lists.proofs.Places.{set_other, set_same, in_one, in_none}
 use Rattle.c_program.specs.declared.tree.LocalVariable.{LocalVariable}
 use Rattle.c_program.specs.Tree.{Function, Program}
 use Rattle.c_program.specs.Limits.{own_elements, local_elements}
@@ -14,8 +17,7 @@ use Rattle.c_program.specs.Resolved.{IsFunction, IsResolved}
 use Rattle.thread_rooms.specs.Reaching.{has, callees, mark_all, mark_from, marks_of, kept, with_marks}
 use Rattle.thread_rooms.specs.Locals.{all_locals}
 use Rattle.thread_rooms.specs.Housing.{Runs}
-use Rattle.straight_code.proofs.Cells.{set_same, set_other, set_length, get_within}
-use Rattle.straight_code.proofs.Words.{sum_cons}
+use Rattle.straight_code.proofs.Cells.{get_within}
 
 -- ---- marks
 
@@ -64,15 +66,9 @@ module _ (fs : List Function) (acyclic : IsAcyclic fs) where
   abbrev Marked : ℕ → Type 0
   Marked d = (marks : List Bool) (g : ℕ) → length marks ≡ length fs → acyclic.rank g < d → MarksAll (g ∷ []) marks (mark_from fs d marks g)
 
-  contains_none : (x : ℕ) → Contains [] x → ⊥
-  contains_none x c = (let lt = c.1 in omega (arith, lt))
-
-  contains_one : (g x : ℕ) → Contains (g ∷ []) x → x ≡ g
-  contains_one g x c = ⊎_elim (λ none. absurd (contains_none x none)) (λ same. sym same) (Contains-push_cases [] g x c)
-
   all_marked : (d : ℕ) → Marked d → (gs : List ℕ) (marks : List Bool) → length marks ≡ length fs → ((g : ℕ) → Contains gs g → acyclic.rank g < d) →
       MarksAll gs marks (mark_all (mark_from fs d) marks gs)
-  all_marked d one [] marks size low = record { marks = marks_none marks; each = λ g c lt. absurd (contains_none g c) }
+  all_marked d one [] marks size low = record { marks = marks_none marks; each = λ g c lt. absurd (in_none g c) }
   all_marked d one (g ∷ gs) marks size low =
       by (one marks g size (low g (Contains-append_left (g ∷ []) gs g (Contains-push [] g))))
       (λ long. all_marked d one gs (mark_from fs d marks g) (long ∙ size) (λ x c. low x (Contains-append_right (g ∷ []) gs x c)))
@@ -92,7 +88,7 @@ module _ (fs : List Function) (acyclic : IsAcyclic fs) where
   from_marked (suc d) marks g size low = by (from_marked d) (has marks g) refl
     where
       lower : (o : Option Function) → slice_get fs g ≡ o → (h : ℕ) → Contains (callees o) h → acyclic.rank h < d
-      lower None at h c = absurd (contains_none h c)
+      lower None at h c = absurd (in_none h c)
       lower (Some f) at h c = let falls = acyclic.falls g h (record { code = f; found = at; called = c }) in omega (arith, falls, low)
 
       found : List ℕ
@@ -104,13 +100,13 @@ module _ (fs : List Function) (acyclic : IsAcyclic fs) where
       mark_last : MarksAll found marks mid → MarksAll (g ∷ []) marks (slice_set mid g true)
       mark_last all = record {
         marks = record {
-          size = set_length mid g true ∙ all.marks.size;
+          size = length-set mid g true ∙ all.marks.size;
           more = λ x e. marked_more mid g x (all.marks.more x e);
           closed = λ closed f h e call lt. marked_more mid g h (goes closed f h e call lt);
         };
         each = λ x c lt.
-            subst (λ z. has (slice_set mid g true) z ≡ true) (sym (contains_one g x c))
-            (marked_same mid g (let one = contains_one g x c in let long = all.marks.size in omega (arith, one, long, lt, size)));
+            subst (λ z. has (slice_set mid g true) z ≡ true) ((in_one g x c))
+            (marked_same mid g (let one = sym (in_one g x c) in let long = all.marks.size in omega (arith, one, long, lt, size)));
       }
         where
           goes : IsClosed marks → (f h : ℕ) → has (slice_set mid g true) f ≡ true → Calls fs f h → h < length fs → has mid h ≡ true
@@ -121,17 +117,13 @@ module _ (fs : List Function) (acyclic : IsAcyclic fs) where
               (eqb_tells f g)
 
       by : Marked d → (b : Bool) → has marks g ≡ b → MarksAll (g ∷ []) marks (if b then marks else slice_set mid g true)
-      by rest true e = record { marks = marks_none marks; each = λ x c lt. subst (λ z. has marks z ≡ true) (sym (contains_one g x c)) e }
+      by rest true e = record { marks = marks_none marks; each = λ x c lt. subst (λ z. has marks z ≡ true) ((in_one g x c)) e }
       by rest false e = mark_last (all_marked d rest found marks size (lower (slice_get fs g) refl))
 
 none_marked : (n f : ℕ) → has (replicate n false) f ≡ true → ⊥
 none_marked zero f e = cc
 none_marked (suc n) zero e = cc
 none_marked (suc n) (suc f) e = none_marked n f e
-
-none_length : (n : ℕ) → length (replicate n false) ≡ n
-none_length zero = refl
-none_length (suc n) = ap suc (none_length n)
 
 -- ---- what a function reaches
 
@@ -143,7 +135,7 @@ caller_found fs f g (Through call rest) = (call.code, call.found)
 module _ (P : Program) (resolved : IsResolved P) (root : ℕ) (code : Function) (found : slice_get P.functions root ≡ Some code) where
   all_reached : MarksAll P.functions resolved.acyclic (root ∷ []) (replicate (length P.functions) false) (marks_of P.functions root)
   all_reached =
-      from_marked P.functions resolved.acyclic (length P.functions) (replicate (length P.functions) false) root (none_length (length P.functions))
+      from_marked P.functions resolved.acyclic (length P.functions) (replicate (length P.functions) false) root (length-replicate (length P.functions) false)
       (resolved.acyclic.below root (get_within P.functions root code found))
 
   root_reached : has (marks_of P.functions root) root ≡ true
@@ -232,7 +224,7 @@ module _ (fs : List Function) where
   all_few d one (g ∷ gs) marks =
       let first = one marks g in
       let rest = all_few d one gs (mark_from fs d marks g) in
-      let sum = sum_cons (inlined own_locals fs d) g gs in
+      let sum = sum_by-cons (inlined own_locals fs d) g gs in
       omega (arith, first, rest, sum)
 
   from_few : (d : ℕ) → Few d
@@ -255,15 +247,6 @@ module _ (fs : List Function) where
 
 -- a lesser amount comes to less
 module _ (amount more : Function → ℕ) (fs : List Function) (less : (g : ℕ) (f : Function) → slice_get fs g ≡ Some f → amount f ≤ more f) where
-  sum_less : (a b : ℕ → ℕ) → ((g : ℕ) → a g ≤ b g) → (gs : List ℕ) → sum_by a gs ≤ sum_by b gs
-  sum_less a b each [] = omega arith
-  sum_less a b each (g ∷ gs) =
-      let one = each g in
-      let rest = sum_less a b each gs in
-      let x = sum_cons a g gs in
-      let y = sum_cons b g gs in
-      omega (arith, one, rest, x, y)
-
   inlined_less : (d g : ℕ) → inlined amount fs d g ≤ inlined more fs d g
   inlined_less zero g = omega arith
   inlined_less (suc d) g = by (λ h. inlined_less d h) (slice_get fs g) refl
@@ -272,13 +255,13 @@ module _ (amount more : Function → ℕ) (fs : List Function) (less : (g : ℕ)
       by rest None at = omega arith
       by rest (Some f) at =
           let own = less g f at in
-          let all = sum_less (inlined amount fs d) (inlined more fs d) rest (calls_of f.body) in
+          let all = sum_by-le-sum_by (inlined amount fs d) (inlined more fs d) (calls_of f.body) rest in
           omega (arith, own, all)
 
 elements_many : (ls : List LocalVariable) → AllByRecursion (λ (l : LocalVariable). 0 < l.length) ls → length ls ≤ sum_by (λ (l : LocalVariable). l.length) ls
 elements_many [] all = omega arith
 elements_many (l ∷ ls) all =
-    let s = sum_cons (λ (k : LocalVariable). k.length) l ls in
+    let s = sum_by-cons (λ (k : LocalVariable). k.length) l ls in
     let h = elements_many ls all.1 in
     let own = all.0 in
     omega (arith, s, h, own)
@@ -318,11 +301,5 @@ pub marks_end : (fs : List Function) (depth g : ℕ) (old marks new : List Bool)
 marks_end fs depth g old marks new calls i some off are followed long is =
     is
     ∙ ap (λ m. slice_set m g true)
-    (sym (ap (mark_all (mark_from fs (depth - 1)) marks) (none_left calls i long)) ∙ sym followed ∙ ap (mark_all (mark_from fs (depth - 1)) old) are)
+    (sym (ap (mark_all (mark_from fs (depth - 1)) marks) (drop_all i calls long)) ∙ sym followed ∙ ap (mark_all (mark_from fs (depth - 1)) old) are)
     ∙ sym (marked_on fs depth old g some off)
-  where
-    none_left : (xs : List ℕ) (n : ℕ) → length xs ≤ n → drop n xs ≡ []
-    none_left [] zero le = refl
-    none_left [] (suc n) le = refl
-    none_left (x ∷ xs) zero le = absurd (omega arith)
-    none_left (x ∷ xs) (suc n) le = none_left xs n (omega arith)

@@ -6,10 +6,9 @@ use Rattle.c_program.specs.Limits.{print_count}
 use Rattle.c_program.specs.Resolved.{is_conversion}
 use Rattle.code_following.specs.Following.{conversions_of, formats_of, print_formats}
 use Rattle.thread_rooms.specs.Formats.{HasSites}
-use Rattle.straight_code.proofs.Running.{get_left, get_last}
-use Rattle.straight_code.proofs.Words.{sum_cons}
 use Rattle.std.specs.List.{flat_map}
-use Rattle.std.proofs.lemmas.List.Sums.{sum_by-append}
+use Rattle.std.proofs.lemmas.List.Sums.{sum_by-append, sum_by-cons}
+use Rattle.lists.proofs.Places.{get_last, get_left}
 
 pub formats_length : (s : Statement) → length (formats_of s) ≡ print_count s
 formats_length Statement.Done = refl
@@ -57,9 +56,9 @@ site_at P format arguments offset site sites =
 pub conversions_length : (format : List Piece) → length (conversions_of format) ≡ count_by is_conversion format
 conversions_length [] = refl
 conversions_length (Piece.Text bytes ∷ pieces) =
-    conversions_length pieces ∙ sym (sum_cons (λ (p : Piece). cond (is_conversion p) 1 0) (Piece.Text bytes) pieces ∙ (omega arith))
+    conversions_length pieces ∙ sym (sum_by-cons (λ (p : Piece). cond (is_conversion p) 1 0) (Piece.Text bytes) pieces ∙ (omega arith))
 conversions_length (Piece.Conversion ty ∷ pieces) =
-    ap suc (conversions_length pieces) ∙ sym (sum_cons (λ (p : Piece). cond (is_conversion p) 1 0) (Piece.Conversion ty) pieces ∙ (omega arith))
+    ap suc (conversions_length pieces) ∙ sym (sum_by-cons (λ (p : Piece). cond (is_conversion p) 1 0) (Piece.Conversion ty) pieces ∙ (omega arith))
 
 pub formats_count : (fs : List Function) → length (flat_map (λ (f : Function). formats_of f.body) fs) ≡ sum_by (λ (f : Function). print_count f.body) fs
 formats_count [] = refl

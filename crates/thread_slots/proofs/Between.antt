@@ -1,7 +1,7 @@
 -- What stands for a whole thread, as a block needs it, and the other way round.
-use Rattle.std.proofs.Common.{◌≡◌, ℕ, zero, suc, ◌<◌, List, [], ◌∷◌, length, Some, refl, sym, subst, arith}
-use Rattle.std.specs.Prelude.{slice_get}
+use Rattle.std.proofs.Common.{◌≡◌, ◌<◌, List, sym, subst}
 use Rattle.std.proofs.lemmas.Option.{slice_get_within}
+use Rattle.lists.proofs.Places.{get_there}
 use Rattle.hls_ints.specs.Types.{IntegerType, width_of}
 use Rattle.block_ir.specs.declared.code.ThreadCode.{ThreadCode}
 use Rattle.netlist.specs.declared.netlist.Signal.{Signal}
@@ -15,11 +15,6 @@ use Rattle.block_datapath.specs.Wired.{AreRegisters, AreSources}
 use Rattle.thread_slots.specs.Wired.{ValuesStand, AreSlots}
 use Rattle.thread_slots.proofs.Linked.{slots_later}
 
-some_at : {X : Type 0} (xs : List X) (i : ℕ) → i < length xs → (x : X) × (slice_get xs i ≡ Some x)
-some_at [] i h = absurd (omega arith)
-some_at (x ∷ xs) zero h = (x, refl)
-some_at (x ∷ xs) (suc i) h = some_at xs i (omega arith)
-
 module _ (base : Base) (a : List Signal) (code : ThreadCode) (registers : Registers) (slots : AreSlots base a code registers) where
   pub registers_of : AreRegisters a base code.variables registers
   registers_of = record {
@@ -28,7 +23,7 @@ module _ (base : Base) (a : List Signal) (code : ThreadCode) (registers : Regist
     beat = slots.beat;
     variables = λ x h listed.
         let less = slice_get_within registers.variables x h listed in
-        let ty = some_at code.variables x (subst (λ n. x < n) slots.count less) in
+        let ty = get_there code.variables x (subst (λ n. x < n) slots.count less) in
         let says = slots.typed x h ty.0 listed ty.1 in
         record { ty = ty.0; declared = ty.1; says = says; stands = subst (λ n. IsEarlier a base h.register n) says (slots.variables x h listed) };
     kept = slots.kept;

@@ -1,8 +1,11 @@
 -- Lists of bits.
-use Rattle.std.proofs.Common.{◌≡◌, ◌≢◌, ℕ, zero, suc, ◌+◌, ◌<◌, Bool, true, false, not, ◌&&◌, ◌||◌, List, [], ◌∷◌, ◌++◌, length, slice_get, slice_index, Some, refl, sym, ap}
+use Rattle.std.proofs.Common.{◌≡◌, ◌≢◌, ℕ, suc, ◌+◌, ◌<◌, Bool, true, false, not, ◌&&◌, ◌||◌, List, [], ◌∷◌, ◌++◌, length, slice_get, slice_index, Some, refl, sym, ap}
 use Rattle.std.proofs.Common.{subst, ◌∙◌, arith, ⊎_elim, length-append}
 use Rattle.std.proofs.lemmas.Option.{get_or_from_slice_get}
-use Rattle.interleaving.proofs.Update.{same_or_not}
+use Rattle.std.proofs.lemmas.Bool.{cases_eq}
+use Rattle.std.proofs.Math.Bool.{or_assoc, or-false}
+use Rattle.std.proofs.lemmas.List.{get_or_push, get_or_append_left}
+use Rattle.lists.proofs.Places.{get_last, get_earlier}
 use Rattle.hls_ints.specs.Residues.{bit_of}
 use Rattle.hls_ints.specs.Words.{word_and, word_inclusive_or, word_complement, word_equal}
 use Rattle.verilog_tree.specs.declared.tree.BinaryOperator.TheVariants.{And}
@@ -19,7 +22,6 @@ use Rattle.operator_wires.proofs.Giving.{grows_refl, grows_then}
 use Rattle.operator_wires.proofs.Building.{stands_after, wires_none, wires_then}
 use Rattle.planned_block.specs.Advance.{any_below}
 use Rattle.block_datapath.proofs.Chaining.{equal_small}
-use Rattle.block_datapath.proofs.Walking.{got_last}
 use Rattle.thread_slots.specs.Slots.{StandsAt}
 use Rattle.thread_slots.specs.Bits.{HasBit, NotOf, BothOf, WithOf, NumberOf, MakesBits, LaysWith, MakesAny, EitherIf, AreBitsOf, AddsBits, AddsNots, AddsBoths, AddsAny, EitherAdds}
 use Rattle.thread_slots.proofs.Laying.{stands_last, stands_grow, stands_long, stands_later}
@@ -73,23 +75,6 @@ has_either a b place left right t m r x y g o one two = record {
       ∙ or_bits x y;
 }
 
--- ---- one more at the end of a list
-
-index_before : (xs : List ℕ) (y x : ℕ) → x < length xs → slice_index (xs ++ y ∷ []) x ≡ slice_index xs x
-index_before [] y x less = absurd (omega arith)
-index_before (z ∷ xs) y zero less = refl
-index_before (z ∷ xs) y (suc x) less = index_before xs y x (omega arith)
-
-pub index_last : (xs : List ℕ) (y : ℕ) → slice_index (xs ++ y ∷ []) (length xs) ≡ y
-index_last [] y = refl
-index_last (z ∷ xs) y = index_last xs y
-
-got_earlier : (xs : List ℕ) (y x z : ℕ) → x ≢ length xs → slice_get (xs ++ y ∷ []) x ≡ Some z → slice_get xs x ≡ Some z
-got_earlier [] y zero z ne e = absurd (ne refl)
-got_earlier [] y (suc x) z ne e = absurd cc
-got_earlier (w ∷ xs) y zero z ne e = e
-got_earlier (w ∷ xs) y (suc x) z ne e = got_earlier xs y x z (λ same. ne (ap suc same)) e
-
 -- ---- a bit of each
 
 module _ (Made : Module → Reading → ℕ → Bool → Type 0) where
@@ -103,24 +88,21 @@ module _ (Made : Module → Reading → ℕ → Bool → Type 0) where
     count = ap length same ∙ length-append outs (place ∷ []) ∙ ap (λ k. k + 1) t.count;
     shows = λ m r k v g o less made. ⊎_elim
         (λ (e : k ≡ n).
-        let at : slice_index after k ≡ place = ap (λ l. slice_index l k) same ∙ ap (slice_index (outs ++ place ∷ [])) (e ∙ sym t.count) ∙ index_last outs place in
+        let at : slice_index after k ≡ place = ap (λ l. slice_index l k) same ∙ ap (slice_index (outs ++ place ∷ [])) (e ∙ sym t.count) ∙ get_or_push outs place 0 (length outs) refl in
         subst (λ p. HasBit m r p v) (sym at) (shows m r v g o (subst (λ j. Made m r j v) e made)))
         (λ (ne : k ≢ n).
         let inside : k < n = omega arith in
-        let at : slice_index after k ≡ slice_index outs k = ap (λ l. slice_index l k) same ∙ index_before outs place k (subst (λ j. k < j) (sym t.count) inside) in
+        let at : slice_index after k ≡ slice_index outs k = ap (λ l. slice_index l k) same ∙ get_or_append_left outs (place ∷ []) 0 k (subst (λ j. k < j) (sym t.count) inside) in
         subst (λ p. HasBit m r p v) (sym at) (t.shows m r k v (grows_then b c m.signals more g) o inside made))
-        (same_or_not k n);
+        (cases_eq k n);
   }
-
-pub index_got : (xs : List ℕ) (k x : ℕ) → slice_get xs k ≡ Some x → slice_index xs k ≡ x
-index_got xs k x e = get_or_from_slice_get xs k x 0 e
 
 pub not_more : (a b c : List Signal) (bits : List ℕ) (n x place : ℕ) (outs after : List ℕ) → MakesBits a b n outs (NotOf bits) → slice_get bits n ≡ Some x
     → Gives b c place 1 (λ m r. word_complement (width m x) (r.signal x)) → after ≡ outs ++ place ∷ [] → MakesBits a c (n + 1) after (NotOf bits)
 not_more a b c bits n x place outs after t listed u same =
     bits_more (NotOf bits) a b c n place outs after t u.grows
     (λ m r v g o made.
-    subst (λ z. HasBit m r place z) (sym made.is) (has_not b c place x u m r made.bit g o (subst (λ p. HasBit m r p made.bit) (index_got bits n x listed) made.has)))
+    subst (λ z. HasBit m r place z) (sym made.is) (has_not b c place x u m r made.bit g o (subst (λ p. HasBit m r p made.bit) (get_or_from_slice_get bits n x 0 listed) made.has)))
     same
 
 pub both_more : (a b c : List Signal) (left right : List ℕ) (n x y place : ℕ) (outs after : List ℕ) → MakesBits a b n outs (BothOf left right) → slice_get left n ≡ Some x
@@ -130,7 +112,7 @@ both_more a b c left right n x y place outs after t listed at u same =
     bits_more (BothOf left right) a b c n place outs after t u.grows
     (λ m r v g o made.
     subst (λ z. HasBit m r place z) (sym made.is)
-    (has_both b c place x y u m r made.one made.two g o (subst (λ p. HasBit m r p made.one) (index_got left n x listed) made.has_one)
+    (has_both b c place x y u m r made.one made.two g o (subst (λ p. HasBit m r p made.one) (get_or_from_slice_get left n x 0 listed) made.has_one)
     (subst (λ p. HasBit m r p made.two) (sym at) made.has_two)))
     same
 
@@ -140,7 +122,7 @@ with_more a b c bits n x other place outs after t listed u same =
     bits_more (WithOf bits other) a b c n place outs after t u.grows
     (λ m r v g o made.
     subst (λ z. HasBit m r place z) (sym made.is)
-    (has_both b c place x other u m r made.one made.two g o (subst (λ p. HasBit m r p made.one) (index_got bits n x listed) made.has_one) made.has_two))
+    (has_both b c place x other u m r made.one made.two g o (subst (λ p. HasBit m r p made.one) (get_or_from_slice_get bits n x 0 listed) made.has_one) made.has_two))
     same
 
 pub number_more : (a b c : List Signal) (of n place : ℕ) (outs after : List ℕ) → MakesBits a b n outs (NumberOf of)
@@ -177,11 +159,11 @@ laid_more a b c bits other n x place outs after t listed u same =
       places = λ k less. ⊎_elim
           (λ (e : k ≡ n).
           let at : length b ≡ length a + k = omega arith in
-          ap (λ l. slice_index l k) same ∙ ap (slice_index (outs ++ place ∷ [])) (e ∙ sym t.count) ∙ index_last outs place ∙ u.last ∙ at)
+          ap (λ l. slice_index l k) same ∙ ap (slice_index (outs ++ place ∷ [])) (e ∙ sym t.count) ∙ get_or_push outs place 0 (length outs) refl ∙ u.last ∙ at)
           (λ (ne : k ≢ n).
           let inside : k < n = omega arith in
-          ap (λ l. slice_index l k) same ∙ index_before outs place k (subst (λ j. k < j) (sym t.count) inside) ∙ t.places k inside)
-          (same_or_not k n);
+          ap (λ l. slice_index l k) same ∙ get_or_append_left outs (place ∷ []) 0 k (subst (λ j. k < j) (sym t.count) inside) ∙ t.places k inside)
+          (cases_eq k n);
       each = λ k y less there. ⊎_elim
           (λ (e : k ≡ n).
           let one : x ≡ y = (let z = ap (slice_get bits) e in cc) in
@@ -191,7 +173,7 @@ laid_more a b c bits other n x place outs after t listed u same =
           (λ (ne : k ≢ n).
           let inside : k < n = omega arith in
           stands_later b c (length a + k) 1 (Assigned (Binary And y other)) more (t.each k y inside there))
-          (same_or_not k n);
+          (cases_eq k n);
     }
 
 -- ---- how they are put together
@@ -210,25 +192,17 @@ adds_more base a b c outs after place t u same = record {
       let whole : slice_get (outs ++ place ∷ []) k ≡ Some x = ap (λ l. slice_get l k) (sym same) ∙ there in
       ⊎_elim
       (λ (e : k ≡ length outs).
-      let found : slice_get (outs ++ place ∷ []) (length outs) ≡ Some place = got_last outs place in
+      let found : slice_get (outs ++ place ∷ []) (length outs) ≡ Some place = get_last outs place in
       let one : place ≡ x = (let q = ap (slice_get (outs ++ place ∷ [])) e in cc) in
       subst (λ z. IsEarlier c base z 1) one u.stands)
-      (λ (ne : k ≢ length outs). stands_after b c base x 1 u.wires.grows (t.stand k x (got_earlier outs place k x ne whole)))
-      (same_or_not k (length outs));
+      (λ (ne : k ≢ length outs). stands_after b c base x 1 u.wires.grows (t.stand k x (get_earlier outs place k x ne whole)))
+      (cases_eq k (length outs));
 }
 
 -- ---- one bit of all
 
-or_false : (t : Bool) → t ≡ (t || false)
-or_false true = refl
-or_false false = refl
-
-or_then : (s t u : Bool) → ((s || t) || u) ≡ (s || (t || u))
-or_then true t u = refl
-or_then false t u = refl
-
 pub any_none : (a : List Signal) (first : ℕ) (bits : List ℕ) (counts : ℕ → Bool) → MakesAny a a first bits counts 0 first
-any_none a first bits counts = record { grows = grows_refl a; shows = λ m r s t g o one have. subst (λ z. HasBit m r first z) (or_false s) one }
+any_none a first bits counts = record { grows = grows_refl a; shows = λ m r s t g o one have. subst (λ z. HasBit m r first z) (sym (or-false s)) one }
 
 pub any_more : (a b c : List Signal) (first : ℕ) (bits : List ℕ) (counts : ℕ → Bool) (n x any out : ℕ) → MakesAny a b first bits counts n any → slice_get bits n ≡ Some x
     → EitherIf b c any x (counts n) out → MakesAny a c first bits counts (n + 1) out
@@ -236,17 +210,17 @@ any_more a b c first bits counts n x any out t listed u = record {
   grows = grows_then a b c t.grows u.grows;
   shows = λ m r s v g o one have.
       let before = t.shows m r s v (grows_then b c m.signals u.grows g) o one (λ k less. have k (omega arith)) in
-      let here = subst (λ p. HasBit m r p (v n)) (index_got bits n x listed) (have n (omega arith)) in
+      let here = subst (λ p. HasBit m r p (v n)) (get_or_from_slice_get bits n x 0 listed) (have n (omega arith)) in
       let next : suc n ≡ n + 1 = omega arith in
       subst (λ j. HasBit m r out (s || any_below (λ k. counts k && v k) j)) next
-      (subst (λ z. HasBit m r out z) (or_then s (any_below (λ k. counts k && v k) n) (counts n && v n)) (u.shows m r _ (v n) g o before here));
+      (subst (λ z. HasBit m r out z) (or_assoc s (any_below (λ k. counts k && v k) n) (counts n && v n)) (u.shows m r _ (v n) g o before here));
 }
 
 pub either_all : (a b : List Signal) (any bit out : ℕ) → Gives a b out 1 (λ m r. word_inclusive_or (width m any) (r.signal any) (r.signal bit)) → EitherIf a b any bit true out
 either_all a b any bit out t = record { grows = t.grows; shows = λ m r s u g o one two. has_either a b out any bit t m r s u g o one two }
 
 pub either_none : (a : List Signal) (any bit : ℕ) → EitherIf a a any bit false any
-either_none a any bit = record { grows = grows_refl a; shows = λ m r s u g o one two. subst (λ z. HasBit m r any z) (or_false s) one }
+either_none a any bit = record { grows = grows_refl a; shows = λ m r s u g o one two. subst (λ z. HasBit m r any z) (sym (or-false s)) one }
 
 pub either_some : (a b : List Signal) (any bit out : ℕ) (counts : Bool) → counts ≡ true → Gives a b out 1 (λ m r. word_inclusive_or (width m any) (r.signal any) (r.signal bit))
     → EitherIf a b any bit counts out
@@ -261,11 +235,6 @@ adds_any a b c first any out x n bits t listed u base stand one =
     let before = t base stand one in
     let last = u base before.stands (stands_after a b base x 1 before.wires.grows (stand n x listed)) in
     record { wires = wires_then base a b c before.wires last.wires; stands = last.stands }
-
-pub index_there : (xs : List ℕ) (k : ℕ) → k < length xs → slice_get xs k ≡ Some (slice_index xs k)
-index_there [] k less = absurd (omega arith)
-index_there (x ∷ xs) zero less = refl
-index_there (x ∷ xs) (suc k) less = index_there xs k (omega arith)
 
 -- ---- the same of equal lists
 

@@ -1,8 +1,9 @@
 -- Words of banks that are heard: one, and one after the other.
-use Rattle.std.proofs.Common.{◌≡◌, ◌≢◌, ℕ, zero, suc, ◌+◌, ◌<◌, ◌≤◌, nat_eq, false, if◌then◌else◌, List, [], ◌∷◌, ◌++◌, length, slice_get, Some, refl, sym, ap, subst, ◌∙◌, arith}
+use Rattle.std.proofs.Common.{◌≡◌, ◌≢◌, ℕ, suc, ◌+◌, ◌<◌, ◌≤◌, nat_eq, false, if◌then◌else◌, List, [], ◌∷◌, ◌++◌, length, slice_get, Some, refl, sym, ap, subst, ◌∙◌, arith}
 use Rattle.std.proofs.Common.{⊎_elim, length-append}
-use Rattle.std.proofs.lemmas.Bool.{cases_lt}
-use Rattle.interleaving.proofs.Update.{same_or_not}
+use Rattle.std.proofs.lemmas.Bool.{cases_lt, cases_eq}
+use Rattle.std.proofs.lemmas.Nat.{pow_pos}
+use Rattle.lists.proofs.Places.{get_last, get_front, get_earlier}
 use Rattle.netlist.specs.declared.netlist.Value.{Value}
 use Rattle.netlist.specs.declared.netlist.Value.TheVariants.{Constant, Conditional}
 use Rattle.netlist.specs.declared.netlist.Source.TheVariants.{Assigned}
@@ -14,9 +15,7 @@ use Rattle.operator_wires.specs.Built.{Base, Lays, IsEarlier}
 use Rattle.operator_wires.specs.Added.{IsAdded}
 use Rattle.operator_wires.proofs.Giving.{grows_refl, grows_then}
 use Rattle.operator_wires.proofs.Building.{stands_after, room_of, longer, wires_none, wires_then, constant_right, choice_right}
-use Rattle.operator_wires.proofs.Wording.{some}
 use Rattle.block_datapath.specs.declared.registers.Held.{Held}
-use Rattle.block_datapath.proofs.Walking.{got_before, got_last}
 use Rattle.thread_slots.specs.Hearing.{IsHeard, AddsBehind, HearsWord, HearsWords, AddAllBehind}
 
 -- ---- one word
@@ -48,11 +47,11 @@ word_heard a b c need silence place word zeros zero_laid zeros_added gives laid 
       let same : x ≡ length b = omega arith in
       ap r.signal (same ∙ sym laid.last) ∙ gives.shows m r g o
       ∙ ap (λ z. if nat_eq z 0 then r.signal silence else r.signal word.register) none ∙ zero_is)
-      (same_or_not x (length a));
+      (cases_eq x (length a));
   wired = λ base bit own.
       let low = own.low in
       let high = own.high in
-      let first = zeros_added base (constant_right a base word.width 0 (room_of a base need 1 bit) low high (some word.width)) in
+      let first = zeros_added base (constant_right a base word.width 0 (room_of a base need 1 bit) low high (pow_pos word.width)) in
       let last =
       added base
       (choice_right b base word.width need word.register silence (stands_after a b base need 1 zeros.grows bit)
@@ -103,21 +102,15 @@ heard_more a b c need n words outs after word one t here u e =
           (λ (same : k ≡ n).
           let is : word ≡ v = (let z = ap (slice_get words) same in cc) in (
             one,
-            ap (slice_get (outs ++ one ∷ [])) (same ∙ sym t.count) ∙ got_last outs one,
+            ap (slice_get (outs ++ one ∷ [])) (same ∙ sym t.count) ∙ get_last outs one,
             subst (λ (z : Held). IsHeard c need z one) is u.heard,
           ))
           (λ (ne : k ≢ n).
           let less : k < n = omega arith in
           let f = t.each k v less there in
-          (f.0, got_before outs (one ∷ []) k f.0 f.1, heard_later b c need v f.0 u.grows f.2))
-          (same_or_not k n);
+          (f.0, get_front outs (one ∷ []) k f.0 f.1, heard_later b c need v f.0 u.grows f.2))
+          (cases_eq k n);
     })
-
-held_earlier : (xs : List Held) (y z : Held) (x : ℕ) → x ≢ length xs → slice_get (xs ++ y ∷ []) x ≡ Some z → slice_get xs x ≡ Some z
-held_earlier [] y z zero ne e = absurd (ne refl)
-held_earlier [] y z (suc x) ne e = absurd cc
-held_earlier (w ∷ xs) y z zero ne e = e
-held_earlier (w ∷ xs) y z (suc x) ne e = held_earlier xs y z x (λ same. ne (ap suc same)) e
 
 pub behind_none : (base : Base) (a : List Signal) (outs : List Held) → outs ≡ [] → AddAllBehind base a a outs
 behind_none base a outs e = record {
@@ -133,10 +126,10 @@ behind_more base a b c outs after one t u e = record {
       let put : slice_get (outs ++ one ∷ []) k ≡ Some out = ap (λ (l : List Held). slice_get l k) (sym e) ∙ there in
       ⊎_elim
       (λ (same : k ≡ length outs).
-      let is : one ≡ out = (let z = ap (slice_get (outs ++ one ∷ [])) same in let w = got_last outs one in cc) in
+      let is : one ≡ out = (let z = ap (slice_get (outs ++ one ∷ [])) same in let w = get_last outs one in cc) in
       let long = longer a b t.wires.grows in
       subst (λ (z : Held). IsEarlier c later z.register z.width) is (u.stands later (omega arith)))
       (λ (ne : k ≢ length outs).
-      stands_after b c later out.register out.width u.wires.grows (t.stand later le k out (held_earlier outs one out k ne put)))
-      (same_or_not k (length outs));
+      stands_after b c later out.register out.width u.wires.grows (t.stand later le k out (get_earlier outs one k out ne put)))
+      (cases_eq k (length outs));
 }

@@ -1,8 +1,9 @@
 -- The input ports.
-use Rattle.std.proofs.Common.{◌≡◌, ℕ, zero, suc, ◌+◌, ◌<◌, false, List, length, map, slice_get, Some, refl, sym, ap, subst, ◌∙◌, arith}
+use Rattle.std.proofs.Common.{◌≡◌, ℕ, ◌+◌, ◌<◌, false, List, length, map, slice_get, sym, ap, subst, ◌∙◌, arith}
 use Rattle.std.specs.Prelude.{option_map, replicate}
 use Rattle.std.proofs.lemmas.List.{length-map, length-replicate}
 use Rattle.std.proofs.lemmas.Option.{slice_get-map, get_or_from_slice_get}
+use Rattle.lists.proofs.Places.{get_last, copies_there}
 use Rattle.netlist.specs.declared.netlist.Source.TheVariants.{Input}
 use Rattle.netlist.specs.declared.netlist.Signal.{Signal}
 use Rattle.operator_wires.specs.declared.wires.Role.TheVariants.{Clock}
@@ -10,7 +11,6 @@ use Rattle.operator_wires.specs.Gives.{Stands}
 use Rattle.operator_wires.specs.Built.{Lays}
 use Rattle.operator_wires.proofs.Giving.{grows_then, listed}
 use Rattle.block_datapath.specs.declared.registers.Held.{Held}
-use Rattle.block_datapath.proofs.Walking.{got_last}
 use Rattle.thread_slots.specs.declared.inputs.Inputs.{Inputs}
 use Rattle.thread_slots.specs.Slots.{StandsAt, LaysAll}
 use Rattle.thread_slots.specs.Inputs.{LaysInputs}
@@ -36,24 +36,19 @@ inputs_laid a b c d cores clock enable ones held list inputs t u e ones_are v li
       long = omega arith;
       clock = stands_later b d (length a) 1 Input from_b (stands_last a b 1 clock Input t);
       clock_named = λ s there.
-          let here = listed b d (length a) laid.signal from_b (ap (λ l. slice_get l (length a)) laid.is ∙ got_last a laid.signal) in
+          let here = listed b d (length a) laid.signal from_b (ap (λ l. slice_get l (length a)) laid.is ∙ get_last a laid.signal) in
           let same : laid.signal ≡ s = cc in
           ap (λ (z : Signal). z.name) (sym same) ∙ laid.named;
       enable = e ∙ u.last ∙ b_long;
       enable_stands = stands_later c d (length a + 1) 1 Input to_d (subst (λ (x : ℕ). StandsAt c x 1 Input) b_long (stands_last b c 1 enable Input u));
       count = ap length grants ∙ length-map held (λ (h : Held). h.register) ∙ v.count ∙ count;
       grants = λ k less.
-          let f = v.each k 1 (subst (λ n. k < n) (sym count) less) (ap (λ l. slice_get l k) ones_are ∙ one_there cores k less) in
+          let f = v.each k 1 (subst (λ n. k < n) (sym count) less) (ap (λ l. slice_get l k) ones_are ∙ copies_there cores 1 k less) in
           get_or_from_slice_get inputs.grants k f.0.register 0
           (ap (λ l. slice_get l k) grants ∙ slice_get-map (λ (h : Held). h.register) held k ∙ ap (option_map (λ (h : Held). h.register)) f.1)
           ∙ f.3
           ∙ ap (λ n. n + k) at;
       grants_stand = λ k less.
-          let f = v.each k 1 (subst (λ n. k < n) (sym count) less) (ap (λ l. slice_get l k) ones_are ∙ one_there cores k less) in
+          let f = v.each k 1 (subst (λ n. k < n) (sym count) less) (ap (λ l. slice_get l k) ones_are ∙ copies_there cores 1 k less) in
           subst (λ n. StandsAt d (n + k) 1 Input) at f.4;
     }
-  where
-    one_there : (n k : ℕ) → k < n → slice_get {X = ℕ} (replicate n 1) k ≡ Some 1
-    one_there zero k less = absurd (omega arith)
-    one_there (suc n) zero less = refl
-    one_there (suc n) (suc k) less = one_there n k (omega arith)

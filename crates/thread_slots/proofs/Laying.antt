@@ -1,7 +1,6 @@
 -- Registers one behind the other, and their widths.
 use Rattle.std.proofs.Common.{◌≡◌, ◌≢◌, ℕ, ◌+◌, ◌<◌, ◌≤◌, ◌^◌, List, [], ◌∷◌, ◌++◌, length, map, slice_get, Some, refl, sym, ap, subst, ◌∙◌, arith, ⊎_elim, length-append}
 use Rattle.std.proofs.lemmas.List.{length-map}
-use Rattle.interleaving.proofs.Update.{same_or_not}
 use Rattle.hls_ints.specs.Types.{IntegerType, width_of}
 use Rattle.bank_partition.specs.declared.banks.Spread.{Spread}
 use Rattle.block_ir.specs.declared.block.Operation.{Operation}
@@ -22,8 +21,9 @@ use Rattle.operator_wires.proofs.Giving.{grows_refl, grows_then, listed}
 use Rattle.thread_promise.specs.Types.{value_type}
 use Rattle.block_datapath.specs.declared.registers.Held.{Held}
 use Rattle.block_datapath.specs.declared.registers.Registers.{Registers}
-use Rattle.block_datapath.proofs.Walking.{got_before, got_last}
 use Rattle.std.specs.Prelude.{false, codes, string_bytes}
+use Rattle.std.proofs.lemmas.Bool.{cases_eq}
+use Rattle.lists.proofs.Places.{get_last, get_front}
 use Rattle.thread_slots.specs.Naming.{register_name, LaysNamed, IsNamedAt, AreNamed}
 use Rattle.thread_slots.specs.Slots.{StandsAt, LaysRegister, StandFrom, LaysAll, IsHeldAt, LaysSlot, Widens, HasRoomAt, KeepsOperations}
 
@@ -32,7 +32,7 @@ use Rattle.thread_slots.specs.Slots.{StandsAt, LaysRegister, StandFrom, LaysAll,
 pub stands_last : (a b : List Signal) (w place : ℕ) (d : Source) → Stands a b w d place → StandsAt b (length a) w d
 stands_last a b w place d t = record {
   signal = t.signal;
-  listed = ap (λ l. slice_get l (length a)) t.is ∙ got_last a t.signal;
+  listed = ap (λ l. slice_get l (length a)) t.is ∙ get_last a t.signal;
   wide = t.wide;
   drives = t.drives;
 }
@@ -68,7 +68,7 @@ lays_more d a b c widths n registers after w h t here says u e =
           let long = t.long in
           let at : length b ≡ length a + k = omega arith in (
             h,
-            ap (slice_get (registers ++ h ∷ [])) (same ∙ sym t.count) ∙ got_last registers h,
+            ap (slice_get (registers ++ h ∷ [])) (same ∙ sym t.count) ∙ get_last registers h,
             says ∙ one,
             u.last ∙ at,
             subst (λ (x : ℕ). StandsAt c x v d) at
@@ -77,8 +77,8 @@ lays_more d a b c widths n registers after w h t here says u e =
           (λ (ne : k ≢ n).
           let less : k < n = omega arith in
           let f = t.each k v less there in
-          (f.0, got_before registers (h ∷ []) k f.0 f.1, f.2, f.3, stands_later b c (length a + k) v d more f.4))
-          (same_or_not k n);
+          (f.0, get_front registers (h ∷ []) k f.0 f.1, f.2, f.3, stands_later b c (length a + k) v d more f.4))
+          (cases_eq k n);
     })
   where
     more : Grows b c
@@ -96,11 +96,11 @@ held_at a b c w initial place h t g e = record {
 -- ---- names
 
 named_last : (a b : List Signal) (name : List ℕ) (w : ℕ) (h : Held) → LaysNamed a b name w h → IsNamedAt b (length a) name
-named_last a b name w h t = record { signal = t.signal; listed = ap (λ l. slice_get l (length a)) t.is ∙ got_last a t.signal; named = t.named }
+named_last a b name w h t = record { signal = t.signal; listed = ap (λ l. slice_get l (length a)) t.is ∙ get_last a t.signal; named = t.named }
 
 -- the beat
 beat_last : (a b : List Signal) (place : ℕ) → Lays a b Beat 1 false (source.Register 0) place → IsNamedAt b (length a) (codes "beat")
-beat_last a b place t = record { signal = t.signal; listed = ap (λ l. slice_get l (length a)) t.is ∙ got_last a t.signal; named = t.named }
+beat_last a b place t = record { signal = t.signal; listed = ap (λ l. slice_get l (length a)) t.is ∙ get_last a t.signal; named = t.named }
 
 named_later : (a b : List Signal) (place : ℕ) (name : List ℕ) → Grows a b → IsNamedAt a place name → IsNamedAt b place name
 named_later a b place name g t = record { signal = t.signal; listed = listed a b place t.signal g t.listed; named = t.named }
@@ -125,7 +125,7 @@ named_more a b c names n w h long t u k less =
     (λ (ne : k ≢ n).
     named_later b c (length a + k) (register_name names k (length a + k)) (stands_grow b c w h.register (source.Register 0) (named_stands b c (register_name names n (length b)) w h u))
     (t k (let z : k < n = omega arith in z)))
-    (same_or_not k n)
+    (cases_eq k n)
 
 -- ---- the slot
 
@@ -203,5 +203,5 @@ module _ (globals : List IntegerType) (code : ThreadCode) where
         subst (λ (z : Operation). HasRoomAt after x (width_of (value_type globals code z))) one
         (subst (λ (z : ℕ). HasRoomAt after x z) e (room x (ap (register_at p.registers) (sym same) ∙ register))))
         (λ (ne : k ≢ n). more.more x (width_of (value_type globals code u)) (t.room k x u (let less : k < n = omega arith in less) there register))
-        (same_or_not k n);
+        (cases_eq k n);
   }

@@ -1,8 +1,8 @@
 -- Chains whose links stand among signals, with more links.
-use Rattle.std.proofs.Common.{◌≡◌, ℕ, suc, ◌<◌, ◌≤◌, ◌^◌, Bool, false, nat_eq, if◌then◌else◌, List, length, map, Some, sym, ap, subst, ◌∙◌, arith}
+use Rattle.std.proofs.Common.{◌≡◌, ℕ, suc, ◌<◌, ◌≤◌, ◌^◌, Bool, if◌then◌else◌, List, length, map, Some, sym, ap, subst, ◌∙◌, arith}
 use Rattle.std.specs.Prelude.{slice_get, option_map}
 use Rattle.std.proofs.lemmas.Option.{slice_get-map}
-use Rattle.std.proofs.lemmas.Bool.Decides.{nat_tests}
+use Rattle.std.proofs.Math.Dec.{eqb-suc-zero}
 use Rattle.hls_ints.specs.Types.{width_of}
 use Rattle.block_ir.specs.declared.code.ThreadCode.{ThreadCode}
 use Rattle.netlist.specs.declared.netlist.Signal.{Signal}
@@ -138,10 +138,7 @@ begin_linked base a b c code registers first second chains one two variables kep
 
 -- all fields but the first have 64 bits
 pub later_field : (site_width k : ℕ) → field_width site_width (suc k) ≡ 64
-later_field site_width k = ap (λ (t : Bool). if t then site_width else 64) (not_first k)
-  where
-    not_first : (k : ℕ) → nat_eq (suc k) 0 ≡ false
-    not_first k = grind (arith, nat_tests)
+later_field site_width k = ap (λ (t : Bool). if t then site_width else 64) (eqb-suc-zero k)
 
 -- wires that can be added behind enough signals
 abbrev pub Bit : Base → List Signal → List Signal → ℕ → Type 0

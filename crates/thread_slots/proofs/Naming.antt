@@ -4,11 +4,12 @@ use Rattle.std.specs.Prelude.{not, ◌==◌, ◌&&◌, if◌then◌else◌, deci
 use Rattle.std.specs.Str.{bytes_eq}
 use Rattle.std.proofs.lemmas.List.{append_cancel_right}
 use Rattle.std.proofs.lemmas.List.Sums.{fold-append}
-use Rattle.std.proofs.lemmas.Bool.{not-true, false≢true}
+use Rattle.std.proofs.lemmas.Bool.{not-true, false≢true, and_parts, and_right}
 use Rattle.std.proofs.lemmas.Bool.Decides.{nat_tests}
+use Rattle.std.proofs.lemmas.Slice.Eq.{bytes_eq-Decides}
 use Rattle.verilog_tree.specs.declared.token.Word.{Word}
 use Rattle.verilog_tree.specs.Spelling.{Text, word_spelling, all_words, word_among, is_letter, is_name_byte, all_pass, is_no_word, is_name}
-use Rattle.verilog_tree.proofs.Tests.{and_left, and_right, and_both, all_pass-append, bytes_same}
+use Rattle.verilog_tree.proofs.Tests.{and_both, all_pass-append}
 use Rattle.verilog_tree.proofs.Names.{name_bytes-decimal}
 use Rattle.verilog_meaning.specs.Names.{numbered}
 use Rattle.module_sound.specs.Names.{number_behind, last_number, place_of}
@@ -20,19 +21,15 @@ use Rattle.thread_slots.proofs.Digits.{digits_tell}
 abbrev is_other : ℕ → Bool
 is_other b = not (b == 95)
 
-either_false : (a c : Bool) → c ≡ false → (a && c) ≡ false
-either_false true c e = e
-either_false false c e = refl
-
 flipped : (y : ℕ) → (y == 95) ≡ false → (95 == y) ≡ false
 flipped y e = grind (arith, nat_tests)
 
 -- a text with a `_` is none without
 differs : (z x ys : Text) → all_pass is_other ys ≡ true → bytes_eq (x ++ (95 ∷ z)) ys ≡ false
 differs z [] [] h = refl
-differs z [] (y ∷ ys) h = ap (λ v. v && bytes_eq z ys) (flipped y (not-true _ (and_left _ _ h)))
+differs z [] (y ∷ ys) h = ap (λ v. v && bytes_eq z ys) (flipped y (not-true _ (and_parts _ _ h).0))
 differs z (b ∷ x) [] h = refl
-differs z (b ∷ x) (y ∷ ys) h = either_false (b == y) _ (differs z x ys (and_right _ _ h))
+differs z (b ∷ x) (y ∷ ys) h = and_right (b == y) _ (differs z x ys (and_parts _ _ h).1)
 
 all_other : List Word → Bool
 all_other [] = true
@@ -42,7 +39,7 @@ among_none : (ws : List Word) (x z : Text) → all_other ws ≡ true → word_am
 unfolding all_other
 among_none [] x z h = refl
 among_none (w ∷ ws) x z h =
-    ap (λ v. if v then Some w else word_among ws (x ++ (95 ∷ z))) (differs z x (word_spelling w) (and_left _ _ h)) ∙ among_none ws x z (and_right _ _ h)
+    ap (λ v. if v then Some w else word_among ws (x ++ (95 ∷ z))) (differs z x (word_spelling w) (and_parts _ _ h).0) ∙ among_none ws x z (and_parts _ _ h).1
 
 words_other : all_other all_words ≡ true
 unfolding all_other
@@ -61,9 +58,9 @@ stem_identifies name = identifies (bytes_eq name (codes "array")) (is_identifier
 numbered_name : (stem : Text) (x : ℕ) → is_identifier stem ≡ true → x < 2 ^ 64 → is_name (numbered stem x) ≡ true
 numbered_name [] x h small = absurd cc
 numbered_name (b ∷ stem) x h small =
-    and_both (is_letter b) _ (and_left _ _ h)
+    and_both (is_letter b) _ (and_parts _ _ h).0
     (and_both (all_pass is_name_byte (stem ++ (95 ∷ decimal x))) _
-    (all_pass-append is_name_byte stem (95 ∷ decimal x) (and_right (is_letter b) _ h) (name_bytes-decimal x small))
+    (all_pass-append is_name_byte stem (95 ∷ decimal x) (and_parts (is_letter b) _ h).1 (name_bytes-decimal x small))
     (ap is_no_word (among_none all_words (b ∷ stem) (decimal x) words_other)))
 
 -- put together of three texts
@@ -97,7 +94,7 @@ named_tells stem n inputs x small =
 
 stem_differs : (a b : Bool) (name : Text) → bytes_eq name (codes "array") ≡ a → (if a then codes "array_" else (if b then name else codes "variable")) ≡ codes "array" → ⊥
 stem_differs true b name e f = absurd cc
-stem_differs false true name e f = false≢true (sym e ∙ ap (λ (z : Text). bytes_eq z (codes "array")) f ∙ bytes_same (codes "array"))
+stem_differs false true name e f = false≢true (sym e ∙ ap (λ (z : Text). bytes_eq z (codes "array")) f ∙ (bytes_eq-Decides (codes "array") (codes "array")).1 refl)
 stem_differs false false name e f = absurd cc
 
 pub named_differs : (name : Text) (x j : ℕ) → x < 2 ^ 64 → j < 2 ^ 64 → numbered (stem_for name) x ≡ numbered (codes "array") j → ⊥

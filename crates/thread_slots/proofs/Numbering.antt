@@ -1,5 +1,6 @@
 -- The numbers of different stages are apart, and there is room for all of them.
 use Rattle.std.proofs.Common.{◌≡◌, ◌≢◌, ℕ, ◌<◌, Bool, true, false, ◌&&◌, ◌||◌, nat_eq, length, ◌⊎◌, inl, inr, refl, sym, ap, subst, ◌∙◌, arith, ⊎_elim}
+use Rattle.std.proofs.lemmas.Bool.{or_left, or_parts}
 use Rattle.block_ir.specs.declared.code.Stage.{Stage}
 use Rattle.block_ir.specs.declared.code.ThreadCode.{ThreadCode}
 use Rattle.netlist.specs.declared.netlist.Module.{Module}
@@ -15,10 +16,6 @@ neither : (t v u : Bool) → t ≡ false → u ≡ false → (t || (v && u)) ≡
 neither false true u e f = f
 neither false false u e f = refl
 neither true v u e f = absurd cc
-
-no_first : (t u : Bool) → (t || u) ≡ false → t ≡ false
-no_first true u e = absurd cc
-no_first false u e = refl
 
 no_second : (t u : Bool) → (t || (true && u)) ≡ false → u ≡ false
 no_second true u e = absurd cc
@@ -39,7 +36,7 @@ rest_apart n k s less = apart n k n s (λ e. absurd (omega arith)) (λ e. absurd
 
 -- what is no number of a stage is not the stage's own, nor a wait's meeting
 pub not_own : (n l x : ℕ) (s : Stage) → numbers n l s x ≡ false → x ≢ l
-not_own n l x s none e = absurd (let clash : true ≡ false = sym (same_is x l e) ∙ no_first (nat_eq x l) (is_wait s && nat_eq x (meeting n l)) none in cc)
+not_own n l x s none e = absurd (let clash : true ≡ false = sym (same_is x l e) ∙ (or_parts (nat_eq x l) (is_wait s && nat_eq x (meeting n l)) none).0 in cc)
 
 pub not_meeting : (n l x : ℕ) (s : Stage) → is_wait s ≡ true → numbers n l s x ≡ false → x ≢ meeting n l
 not_meeting n l x s waits none e =
@@ -49,16 +46,12 @@ not_meeting n l x s waits none e =
 
 -- ---- a number of a stage
 
-yes_first : (t u : Bool) → t ≡ true → (t || u) ≡ true
-yes_first true u e = refl
-yes_first false u e = absurd cc
-
 yes_second : (t u : Bool) → u ≡ true → (t || (true && u)) ≡ true
 yes_second true u e = refl
 yes_second false u e = e
 
 pub own_number : (n l : ℕ) (s : Stage) → numbers n l s l ≡ true
-own_number n l s = yes_first (nat_eq l l) (is_wait s && nat_eq l (meeting n l)) (same_is l l refl)
+own_number n l s = or_left (nat_eq l l) (is_wait s && nat_eq l (meeting n l)) (same_is l l refl)
 
 pub meeting_number : (n l : ℕ) (s : Stage) → is_wait s ≡ true → numbers n l s (meeting n l) ≡ true
 meeting_number n l s waits =

@@ -3,7 +3,7 @@ use Rattle.std.proofs.Common.{◌≡◌, ◌≢◌, ℕ, zero, suc, ◌+◌, ◌
 use Rattle.std.proofs.Common.{pos, negsuc, refl, sym, ap, subst, ◌∙◌, arith, ⊎_elim, append-nil, append_assoc}
 use Rattle.std.specs.Prelude.{Result, Ok, Err, OnOk, slice_get, slice_index}
 use Rattle.std.proofs.lemmas.Bool.Decides.{nat_tests}
-use Rattle.interleaving.proofs.Update.{same_or_not}
+use Rattle.std.proofs.lemmas.Bool.{cases_eq, and_parts, eqb-true}
 use Rattle.hls_ints.specs.Residues.{residue_of, bit_of}
 use Rattle.hls_ints.specs.Types.{IntegerType, HasType, width_of, wrapped}
 use Rattle.block_ir.specs.Run.{place_written}
@@ -31,13 +31,6 @@ use Rattle.block_datapath.specs.Operations.{seen_value, IsOutside, Addresses}
 use Rattle.block_datapath.proofs.Seeing.{own_word}
 use Rattle.thread_slots.specs.declared.stores.Store.{Store}
 use Rattle.thread_slots.specs.Cells.{store_action, AreOff, Cells, cell_at, cells_first, PutsFirst, PutsCells, AddsIn, PutsWord, cell_after, SeesWrite, PutsOne}
-
-same_number : (a b : ℕ) → nat_eq a b ≡ true → a ≡ b
-same_number a b e = grind arith
-
-and_first : (t u : Bool) → (t && u) ≡ true → t ≡ true
-and_first true u e = refl
-and_first false u e = absurd cc
 
 -- ---- one store
 
@@ -102,7 +95,7 @@ word_put a b c d registers number array index value source moment condition addr
       (λ (ne : i ≢ number).
       ap (λ t. if t && nat_eq (r.signal s.address) j then r.signal s.source else word) (other_is s.memory i (λ h. ne (sym h ∙ in_)))
       ∙ sym (ap (λ t. if t && nat_eq j (place_written array.length v) then residue_of (width_of array.ty) w else word) (other_is i number ne)))
-      (same_or_not i number);
+      (cases_eq i number);
 }
   where
     to_c : (m : Module) → Grows d m.signals → Grows c m.signals
@@ -186,7 +179,7 @@ module _ (a b c d : List Signal) (registers : Registers) (moment : Moment) (befo
         (if t then stored_value else v)
     by_test false i j old array v e listed is typed = (is, typed)
     by_test true i j old array v e listed is typed =
-        let at : i ≡ number = same_number i number (and_first (nat_eq i number) (nat_eq j (place_written n place)) e) in
+        let at : i ≡ number = eqb-true i number (and_parts (nat_eq i number) (nat_eq j (place_written n place)) e).0 in
         let same : own ≡ array = (let f = ap (slice_get code.arrays) at in cc) in (
           ap (λ (k : Array). residue_of (width_of k.ty) stored_value) same,
           subst (λ (k : Array). HasType k.ty stored_value) same value_is.typed,
@@ -218,7 +211,7 @@ module _ (a b c d : List Signal) (registers : Registers) (moment : Moment) (befo
             → (if nat_eq i number && nat_eq array.length (place_written n place) then stored_value else v) ≡ v
         by_place i array v listed false e = ap (λ t. if t && nat_eq array.length (place_written n place) then stored_value else v) e
         by_place i array v listed true e =
-            let at : i ≡ number = same_number i number e in
+            let at : i ≡ number = eqb-true i number e in
             let same : own ≡ array = (let f = ap (slice_get code.arrays) at in cc) in
             let size : array.length ≡ n = ap (λ (k : Array). k.length) (sym same) ∙ long in
             ap (λ t. if t && nat_eq array.length (place_written n place) then stored_value else v) e
@@ -321,7 +314,7 @@ module _ (a b c : List Signal) (registers : Registers) (at states start : ℕ) (
     next_by : (t : Bool) → nat_eq (slice_index starts n) s ≡ t
         → PutsCells code r (first.added ++ next.added) (λ i j v. if t then cell_at variables given (slice_get operations n) i j (so_far i j v) else so_far i j v)
     next_by true e =
-        let here_is : slice_index starts n ≡ s = same_number (slice_index starts n) s e in
+        let here_is : slice_index starts n ≡ s = eqb-true (slice_index starts n) s e in
         let told = sees n o (omega arith) listed in
         let now : start ≡ s = start_is ∙ here_is in
         let moment_now : IsMoment m r registers at states true start = subst (λ k. IsMoment m r registers at states true k) (sym now) moment_ in

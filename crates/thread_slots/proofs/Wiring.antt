@@ -133,11 +133,6 @@ named_behind inputs a b names k w h t low high =
       fits = pow_pos t.signal.width;
     })
 
--- ---- outputs
-
-pub power_some : (w : ℕ) → 0 < 2 ^ w
-power_some w = pow_pos w
-
 -- ---- inputs
 
 pub input_behind : (a b : List Signal) (role : Role) (w place : ℕ) → Lays a b role w false Input place →

@@ -2,6 +2,7 @@
 use Rattle.std.proofs.Common.{◌≡◌, ◌≢◌, ℕ, ◌+◌, ◌<◌, ◌≤◌, ◌^◌, List, [], ◌++◌, length, Option, Some, ℤ, refl, sym, ap, subst, ◌∙◌, arith, append-nil, append_assoc, ⊎_elim}
 use Rattle.std.specs.Prelude.{slice_get, slice_index}
 use Rattle.std.proofs.lemmas.Option.{slice_get_within}
+use Rattle.std.proofs.lemmas.Bool.{cases_eq}
 use Rattle.interleaving.specs.Memory.{Location}
 use Rattle.hls_ints.specs.Residues.{bit_of}
 use Rattle.hls_ints.specs.Types.{IntegerType}
@@ -14,7 +15,6 @@ use Rattle.block_ir.specs.declared.code.Stage.TheVariants as stage
 use Rattle.block_ir.specs.declared.plan.StagePlan.{StagePlan}
 use Rattle.block_ir.specs.declared.plan.StagePlan.TheVariants as planned
 use Rattle.block_ir.specs.declared.plan.Planned.{Planned}
-use Rattle.interleaving.proofs.Update.{same_or_not}
 use Rattle.block_ir.specs.declared.code.ThreadCode.{ThreadCode}
 use Rattle.block_ir.specs.declared.plan.BlockPlan.{BlockPlan}
 use Rattle.netlist.specs.declared.netlist.Signal.{Signal}
@@ -167,7 +167,7 @@ module _ (globals : List IntegerType) (code : ThreadCode) (registers : Registers
       (λ (ne : k ≢ n).
       off_both r first.added next.added (first.acts m r k x to (back m g) o knows (omega arith) (omega arith) listed at)
       (next.rests m r g o (has_stage m r knows le) (λ e. ne (sym at ∙ e))))
-      (same_or_not k n)
+      (cases_eq k n)
 
   runs_so : (k : ℕ) (x : Block) (y : BlockPlan) → k < n + 1 → n + 1 ≤ length code.stages → slice_get code.stages k ≡ Some (stage.Run x) →
       slice_get plan.stages k ≡ Some (planned.Run y)
@@ -190,7 +190,7 @@ module _ (globals : List IntegerType) (code : ThreadCode) (registers : Registers
       puts_both code r first.added next.added (cells_first x.operations y.starts q.state q.variables (value_now (planned_view x) (plan_view x y) q wire) (length x.operations))
       (λ i j v. v)
       one (puts_off code r next.added off))
-      (same_or_not k n)
+      (cases_eq k n)
 
   still_so : (m : Module) (r : Reading) → Grows c m.signals → Obeys m r → KnowsStage code registers m r → n + 1 ≤ length code.stages
       → ((k : ℕ) → k < n + 1 → r.signal registers.stage.register ≢ k) → AreOff r (first.added ++ next.added)

@@ -1,8 +1,10 @@
 -- Ports, what an edge does, and when a state is left.
-use Rattle.std.proofs.Common.{◌≡◌, ℕ, zero, suc, ◌+◌, ◌<◌, ◌≤◌, Bool, true, false, not, ◌&&◌, ◌||◌, List, [], ◌∷◌, ◌++◌, length, take, slice_get, slice_index, Option, Some, None}
+use Rattle.std.proofs.Common.{◌≡◌, ℕ, zero, suc, ◌+◌, ◌<◌, Bool, true, false, not, ◌&&◌, ◌||◌, List, [], ◌∷◌, ◌++◌, length, take, slice_get, slice_index, Option, Some, None}
 use Rattle.std.proofs.Common.{refl, sym, ap, subst, ◌∙◌, arith, append_assoc, add-one}
-use Rattle.std.proofs.lemmas.List.{append-nil}
-use Rattle.std.proofs.lemmas.Option.{slice_get_within}
+use Rattle.std.proofs.lemmas.List.{append-nil, length-take-le}
+use Rattle.std.proofs.lemmas.Option.{slice_get_within, get_or_from_slice_get}
+use Rattle.std.proofs.Math.Bool.{or-false}
+use Rattle.lists.proofs.Places.{take_next}
 use Rattle.hls_ints.specs.Words.{word_and, word_complement}
 use Rattle.bank_partition.specs.declared.banks.Spread.{Spread}
 use Rattle.netlist.specs.declared.netlist.Signal.{Signal}
@@ -10,7 +12,6 @@ use Rattle.netlist.specs.declared.netlist.Action.{Action}
 use Rattle.netlist.specs.declared.netlist.Module.{Module}
 use Rattle.verilog_meaning.specs.Readings.{Reading, width}
 use Rattle.circuit.specs.Modules.{Obeys}
-use Rattle.circuit.proofs.Growth.{take-next}
 use Rattle.operator_wires.specs.Gives.{Grows, Gives}
 use Rattle.operator_wires.proofs.Giving.{grows_then, listed}
 use Rattle.block_datapath.specs.declared.registers.Held.{Held}
@@ -22,17 +23,13 @@ use Rattle.planned_block.specs.Advance.{any_below}
 use Rattle.thread_slots.specs.Bits.{HasBit, HaveBits, NotOf, BothOf, WithOf, MakesBits, MakesAny, is_in}
 use Rattle.thread_states.specs.Control.{got, unmet, is_left, counts_of, Follows, RemembersOne, Remembered, Remembers, Steers, Controls}
 use Rattle.thread_states.specs.Actions.{sets_of, sets_from}
-use Rattle.thread_slots.proofs.Gating.{has_not, has_both, bits_more, index_got}
+use Rattle.thread_slots.proofs.Gating.{has_not, has_both, bits_more}
 
 -- ---- grants that are remembered
 
 none_below : (t : ℕ → Bool) (n : ℕ) → any_below (λ k. false && t k) n ≡ false
 none_below t zero = refl
 none_below t (suc n) = ap (λ c. c || false) (none_below t n)
-
-or_false : (t : Bool) → (t || false) ≡ t
-or_false true = refl
-or_false false = refl
 
 pub mark_of_some : (a b c : List Signal) (mark : ℕ) (gots : List ℕ) (s : Spread) (stay any out : ℕ) → MakesAny a b mark gots (is_in s) (length gots) any
     → Gives b c out 1 (λ m r. word_and (width m any) (r.signal any) (r.signal stay)) → RemembersOne a c mark gots (Some s) stay out
@@ -47,7 +44,7 @@ pub mark_of_none : (a b : List Signal) (mark : ℕ) (gots : List ℕ) (stay out 
 mark_of_none a b mark gots stay out u = record {
   grows = u.grows;
   shows = λ m r p q v g o one wins stays.
-      let none : p ≡ (p || any_below (λ k. false && v k) (length gots)) = sym (ap (λ c. p || c) (none_below v (length gots)) ∙ or_false p) in
+      let none : p ≡ (p || any_below (λ k. false && v k) (length gots)) = sym (ap (λ c. p || c) (none_below v (length gots)) ∙ or-false p) in
       subst (λ z. HasBit m r out (z && q)) none (has_both a b out mark stay u m r p q g o one stays);
 }
 
@@ -60,7 +57,7 @@ marks_more a b c granted gots spreads spread stay n x place outs after t listed 
     (λ m r v g o made.
     subst (λ z. HasBit m r place z) (sym made.is)
     (subst (λ (s : Option Spread). HasBit m r place ((made.mark || any_below (λ k. counts_of s k && made.wins k) (length gots)) && made.stays)) at
-    (u.shows m r made.mark made.stays made.wins g o (subst (λ p. HasBit m r p made.mark) (index_got granted n x listed) made.has_mark) made.has_wins made.has_stays)))
+    (u.shows m r made.mark made.stays made.wins g o (subst (λ p. HasBit m r p made.mark) (get_or_from_slice_get granted n x 0 listed) made.has_mark) made.has_wins made.has_stays)))
     same
 
 -- ---- control
@@ -210,20 +207,15 @@ sets_next condition nexts n (y ∷ hs) h =
     (λ k. sets_from condition nexts (suc n) hs ++ sets_of condition h (slice_get nexts k)) at)
     ∙ sym (append_assoc (sets_of condition y (slice_get nexts n)) (sets_from condition nexts (suc n) hs) (sets_of condition h (slice_get nexts (n + suc (length hs)))))
 
-length_taken : (hs : List Held) (n : ℕ) → n ≤ length hs → length (take n hs) ≡ n
-length_taken hs zero le = refl
-length_taken [] (suc n) le = absurd (omega arith)
-length_taken (h ∷ hs) (suc n) le = ap suc (length_taken hs n (omega arith))
-
 pub sets_more : (before middle after : List Action) (condition n : ℕ) (nexts : List ℕ) (hs : List Held) (h : Held) (next : Option ℕ) →
     middle ≡ before ++ sets_from condition nexts 0 (take n hs)
     → slice_get hs n ≡ Some h → next ≡ slice_get nexts n → after ≡ middle ++ sets_of condition h next → after ≡ before ++ sets_from condition nexts 0 (take (n + 1) hs)
 sets_more before middle after condition n nexts hs h next e listed f g =
     let within = slice_get_within hs n h listed in
-    let count : 0 + length (take n hs) ≡ n = (let z = length_taken hs n (omega arith) in omega arith) in
+    let count : 0 + length (take n hs) ≡ n = (let z = length-take-le n hs (omega arith) in omega arith) in
     g
     ∙ ap (λ l. l ++ sets_of condition h next) e
     ∙ ap (λ o. (before ++ sets_from condition nexts 0 (take n hs)) ++ sets_of condition h o) (f ∙ ap (slice_get nexts) (sym count))
     ∙ append_assoc before (sets_from condition nexts 0 (take n hs)) (sets_of condition h (slice_get nexts (0 + length (take n hs))))
     ∙ ap (λ l. before ++ l) (sym (sets_next condition nexts 0 (take n hs) h))
-    ∙ ap (λ l. before ++ sets_from condition nexts 0 l) (sym (ap (λ k. take k hs) (add-one n) ∙ take-next hs n h listed))
+    ∙ ap (λ l. before ++ sets_from condition nexts 0 l) (sym (ap (λ k. take k hs) (add-one n) ∙ take_next hs n h listed))

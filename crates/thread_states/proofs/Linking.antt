@@ -1,5 +1,6 @@
 -- One more link of a chain.
-use Rattle.std.proofs.Common.{◌≡◌, ℕ, Bool, true, false, ◌||◌, nat_eq, if◌then◌else◌, List, length, refl, ap, ◌∙◌}
+use Rattle.std.proofs.Common.{◌≡◌, ℕ, true, false, nat_eq, if◌then◌else◌, List, length, refl, ap, ◌∙◌}
+use Rattle.std.proofs.Math.Bool.{or-false}
 use Rattle.netlist.specs.declared.netlist.Signal.{Signal}
 use Rattle.netlist.specs.declared.netlist.Module.{Module}
 use Rattle.verilog_meaning.specs.Readings.{Reading, width}
@@ -13,12 +14,6 @@ use Rattle.planned_block.proofs.Bits.{other_is}
 use Rattle.thread_slots.specs.declared.chains.Chains.{Chains}
 use Rattle.thread_slots.specs.Links.{AreBits, LeadsTo, WaitsAt, IsStill, ShowSame, AreAsMany}
 use Rattle.thread_states.specs.Acts.{StepsOver}
-
--- ---- bits
-
-or_false : (t : Bool) → (t || false) ≡ t
-or_false true = refl
-or_false false = refl
 
 -- ---- what chains show
 
@@ -107,7 +102,7 @@ lead_off a b before after last target t = record {
     stage = t.stage m r g o ∙ ap (λ n. if nat_eq n 0 then r.signal before.stage else r.signal target) no;
     variables = λ x. ap (λ (c : Chains). next_number r c.variables x) t.same;
     kept = λ x. ap (λ (c : Chains). next_number r c.kept x) t.same;
-    is_last = λ v is. t.bit.shows m r v false g o (e.is_last m (grows_then a b m.signals t.grows g)) is no ∙ ap bit_of (or_false v);
+    is_last = λ v is. t.bit.shows m r v false g o (e.is_last m (grows_then a b m.signals t.grows g)) is no ∙ ap bit_of (or-false v);
     waits = λ v is. ap (λ (c : Chains). r.signal c.waits) t.same ∙ is;
   };
 }
@@ -128,7 +123,7 @@ wait_off a b before after condition t = record {
     variables = λ x. ap (λ (c : Chains). next_number r c.variables x) t.same;
     kept = λ x. ap (λ (c : Chains). next_number r c.kept x) t.same;
     is_last = λ v is. ap (λ (c : Chains). r.signal c.is_last) t.same ∙ is;
-    waits = λ v is. t.bit.shows m r v false g o (e.waits m (grows_then a b m.signals t.grows g)) is no ∙ ap bit_of (or_false v);
+    waits = λ v is. t.bit.shows m r v false g o (e.waits m (grows_then a b m.signals t.grows g)) is no ∙ ap bit_of (or-false v);
   };
 }
 

@@ -2,7 +2,7 @@
 use Rattle.std.proofs.Common.{◌≡◌, ◌≢◌, ℕ, suc, ◌+◌, ◌%◌, ◌^◌, ◌<◌, ◌≤◌, Bool, true, false, nat_eq, if◌then◌else◌, List, length, slice_get, Option, Some, None, min, refl}
 use Rattle.std.proofs.Common.{sym, ap, subst, ◌∙◌, arith, ⊎_elim}
 use Rattle.std.proofs.lemmas.Option.{slice_get_within}
-use Rattle.interleaving.proofs.Update.{same_or_not}
+use Rattle.std.proofs.lemmas.Bool.{cases_eq, eqb-true}
 use Rattle.hls_ints.specs.Residues.{bit_of}
 use Rattle.hls_ints.specs.Types.{IntegerType, width_of}
 use Rattle.block_ir.specs.declared.block.Block.{Block}
@@ -44,9 +44,6 @@ use Rattle.thread_slots.proofs.Linking.{same_everywhere, has_stage}
 use Rattle.thread_slots.proofs.Numbering.{own_number, meeting_number, number_not_rest, numbers_apart, rest_apart}
 
 -- ---- a block
-
-is_same : (x n : ℕ) → nat_eq x n ≡ true → x ≡ n
-is_same x n e = grind arith
 
 chosen_stage : (t : Bool) (S T L l : ℕ) → S ≡ l → (t ≡ true → T ≡ L) → (if nat_eq (bit_of t) 0 then S else T) ≡ (if t then L else l)
 chosen_stage true S T L l e f = f refl
@@ -106,7 +103,7 @@ module _ (globals : List IntegerType) (code : ThreadCode) (registers : Registers
             leads.stage m r g o
             ∙ ap (λ n. if nat_eq n 0 then r.signal middle.stage else r.signal left.target) ends.last
             ∙ chosen_stage (nat_eq (suc q.state) p.states) (r.signal middle.stage) (r.signal left.target) _ l
-            (ap (λ (c : Chains). r.signal c.stage) same ∙ still.stage ∙ inside.stage) (λ e. ends.target (is_same (suc q.state) p.states e));
+            (ap (λ (c : Chains). r.signal c.stage) same ∙ still.stage ∙ inside.stage) (λ e. ends.target (eqb-true (suc q.state) p.states e));
         variables = λ x ty declared.
             let v = sees.variables x ty declared in
             let less : x < length before.variables = subst (λ (n : ℕ). x < n) (sym variables) (slice_get_within code.variables x ty declared) in
@@ -283,7 +280,7 @@ module _ (globals : List IntegerType) (code : ThreadCode) (registers : Registers
           u.step.rests m r g o (t.bits e) knows inside
           (numbers_apart end n k (r.signal registers.stage.register) s x ne inside (slice_get_within code.stages k x there) at))
           (t.does e variables kept k x (let less : k < n = omega arith in less) there))
-          (same_or_not k n);
+          (cases_eq k n);
       wired = λ base fits bar linked le.
           let before = t.wired base fits bar linked (omega arith) in
           let last = u.wired inside base (stands_after a b base told.barred 1 t.grows bar) (fits n) before.linked in

@@ -1,6 +1,7 @@
 -- How many tokens phrases have.
 use Rattle.std.specs.Prelude.{◌≡◌, ℕ, zero, suc, ◌+◌, ◌-◌, ◌*◌, ◌<◌, List, [], ◌∷◌, ◌++◌, length, take, Option}
 use Rattle.std.proofs.Common.{refl, sym, ap, ◌∙◌, get_or, add-one, arith, length-append, append_assoc}
+use Rattle.std.proofs.lemmas.List.{append-nil}
 use Rattle.verilog_tree.specs.declared.token.Mark.TheVariants as m
 use Rattle.verilog_tree.specs.declared.token.Word.TheVariants as w
 use Rattle.verilog_tree.specs.declared.token.Token.{Token}
@@ -31,10 +32,7 @@ use Rattle.token_places.specs.Before.{port_and_comma, before_name, before_port, 
 module _ {A : Type 0} (f : A → List Token) where
   all_take : (xs : List A) (k : ℕ) (x : A) → x ≡ get_or xs k x → k < length xs → g.all f (take (suc k) xs) ≡ g.all f (take k xs) ++ f x
   all_take [] k x e lt = absurd (omega arith)
-  all_take (y ∷ xs) zero x e lt = no_more (f y) ∙ ap f (sym e) where
-    no_more : (l : List Token) → l ++ [] ≡ l
-    no_more [] = refl
-    no_more (z ∷ l) = ap (λ k. z ∷ k) (no_more l)
+  all_take (y ∷ xs) zero x e lt = append-nil (f y) ∙ ap f (sym e)
   all_take (y ∷ xs) (suc k) x e lt = ap (λ l. f y ++ l) (all_take xs k x e (omega arith)) ∙ sym (append_assoc (f y) (g.all f (take k xs)) (f x))
 
   pub counted : (xs : List A) (k : ℕ) (x : A) (a b n : ℕ) → a ≡ length (g.all f (take k xs)) → b ≡ a + n → n ≡ length (f x) → x ≡ get_or xs k x → k < length xs

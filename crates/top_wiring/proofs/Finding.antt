@@ -29,9 +29,6 @@ use Rattle.top_wiring.proofs.Porting.{has_ports, prefs_are}
 
 -- ---- by names
 
-same_name : (x y : List ℕ) → x ≡ y → bytes_eq x y ≡ true
-same_name x y e = grind (arith, bytes_eq-Decides)
-
 other_name : (x y : List ℕ) → x ≢ y → bytes_eq x y ≡ false
 other_name x y h = by_test (bytes_eq x y) refl
   where
@@ -41,7 +38,7 @@ other_name x y h = by_test (bytes_eq x y) refl
 
 named_behind : (xs : List Module) (name : List ℕ) (y : Module) (ys : List Module) → ((k : ℕ) (m : Module) → slice_get xs k ≡ Some m → m.name ≢ name) → y.name ≡ name
     → module_named (xs ++ y ∷ ys) name ≡ Some y
-named_behind [] name y ys h e = ap (λ b. if b then Some y else module_named ys name) (same_name name y.name (sym e))
+named_behind [] name y ys h e = ap (λ b. if b then Some y else module_named ys name) ((bytes_eq-Decides name y.name).1 (sym e))
 named_behind (x ∷ xs) name y ys h e =
     ap (λ b. if b then Some x else module_named (xs ++ y ∷ ys) name) (other_name name x.name (λ q. h 0 x refl (sym q)))
     ∙ named_behind xs name y ys (λ k m g. h (suc k) m g) e
@@ -50,7 +47,7 @@ first_named : (xs : List Instance) (name : List ℕ) (i : ℕ) (x : Instance) �
     → ((j : ℕ) (y : Instance) → slice_get xs j ≡ Some y → j < i → y.name ≢ name) → instance_named xs name ≡ i
 first_named [] name i x e q h = absurd (none-some x e)
 first_named (y ∷ ys) name zero x e q h =
-    ap (λ b. if b then 0 else suc (instance_named ys name)) (same_name name y.name (sym q ∙ ap (λ (z : Instance). z.name) (sym (same_Some y x e))))
+    ap (λ b. if b then 0 else suc (instance_named ys name)) ((bytes_eq-Decides name y.name).1 (sym q ∙ ap (λ (z : Instance). z.name) (sym (same_Some y x e))))
 first_named (y ∷ ys) name (suc i) x e q h =
     ap (λ b. if b then 0 else suc (instance_named ys name)) (other_name name y.name (λ z. h 0 y refl (omega arith) (sym z)))
     ∙ ap suc (first_named ys name i x e q (λ j z g l. h (suc j) z g (omega arith)))

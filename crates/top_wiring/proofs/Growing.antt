@@ -2,7 +2,7 @@
 use Rattle.std.proofs.Common.{◌≡◌, ℕ, zero, suc, ◌+◌, ◌<◌, ◌≤◌, List, [], ◌∷◌, ◌++◌, length, get_or, take, map, refl, sym, ap, ◌∙◌, arith, append_assoc, add-zero, zero-add, length-append}
 use Rattle.std.specs.Prelude.{slice_get, slice_index}
 use Rattle.std.specs.List.{flat_map}
-use Rattle.std.proofs.lemmas.List.{take_more, map-append, append-nil, length-take-le, get_or_default}
+use Rattle.std.proofs.lemmas.List.{take_more, map-append, append-nil, length-take-le}
 use Rattle.std.proofs.lemmas.List.Concat.{flat_map-append}
 use Rattle.netlist.specs.declared.netlist.Module.{Module}
 use Rattle.top_wiring.specs.declared.parts.Part.{Part}
@@ -175,7 +175,3 @@ counts_low (p ∷ ps) modules i (suc j) =
     let l = counts_low ps modules (i + 1) j in
     let n = length-append (ports modules i p) (flat_from (ports modules) (i + 1) ps) in
     omega arith
-
--- an element of numbers is itself, whatever stands for one past the end
-pub number_is : (xs : List ℕ) (i : ℕ) → i < length xs → get_or xs i 0 ≡ get_or xs i (get_or xs i 0)
-number_is xs i lt = get_or_default xs i 0 (get_or xs i 0) lt

@@ -8,7 +8,7 @@ use Rattle.std.proofs.lemmas.List.{length-replicate}
 use Rattle.std.proofs.lemmas.Option.{same_Some, none-some, slice_get_within}
 use Rattle.std.proofs.Math.Nat.{div-lt_iff_lt-mul, mod-lt, mul-add}
 use Rattle.std.proofs.lemmas.Nat.{div-add-mod'}
-use Rattle.lists.proofs.Places.{get_front, get_there}
+use Rattle.lists.proofs.Places.{get_front, get_there, copies_there}
 use Rattle.verilog_tree.specs.Scope.{is_clk}
 use Rattle.netlist.specs.declared.netlist.Source.{Source}
 use Rattle.netlist.specs.declared.netlist.Source.TheVariants as source
@@ -22,13 +22,13 @@ use Rattle.top_wiring.specs.Parts.{group_widths, ask_widths, told_widths, core_o
 use Rattle.top_wiring.specs.Wires.{first_port, wire_signal}
 use Rattle.top_wiring.specs.Top.{input, preference, starts, thread_inputs, core_inputs, arbiter_inputs, IsTop}
 use Rattle.top_wiring.specs.Ports as ports
-use Rattle.top_wiring.proofs.Lists.{get_behind, get_copies, get_each_copied, get_flat_map, copies_back, get_either, flat_map_back}
+use Rattle.top_wiring.proofs.Lists.{get_behind, get_each_copied, get_flat_map, copies_back, get_either, flat_map_back}
 use Rattle.top_wiring.proofs.Standing as standing
 use Rattle.top_wiring.proofs.InputLists as inputs
 
 -- element i of the widths of a core's outputs: whether it offers, and what it tells
 pub offer_width : (n : ℕ) (c : Core) (i : ℕ) → i < n → slice_get (core_outputs n c) i ≡ Some 1
-offer_width n c i l = get_front (replicate n 1) (flat_map (λ (w : ℕ). replicate n w) c.told) i 1 (get_copies n i 1 l)
+offer_width n c i l = get_front (replicate n 1) (flat_map (λ (w : ℕ). replicate n w) c.told) i 1 (copies_there n 1 i l)
 
 pub tell_width : (n : ℕ) (c : Core) (j i w : ℕ) → slice_get c.told j ≡ Some w → i < n → slice_get (core_outputs n c) (n + (j * n + i)) ≡ Some w
 tell_width n c j i w e l = get_behind n (replicate n 1) (flat_map (λ (w : ℕ). replicate n w) c.told) (j * n + i) w (length-replicate n 1) (get_each_copied n c.told j i w e l)
@@ -38,7 +38,7 @@ pub ask_width : (all : List Core) (k g j : ℕ) (c : Core) (group : Group) → s
     → slice_get (ask_widths all) (length (ask_widths (take k all)) + (length (group_widths (take g c.groups)) + j)) ≡ Some group.width
 ask_width all k g j c group e h l =
     get_flat_map (λ (c : Core). group_widths c.groups) all k (length (group_widths (take g c.groups)) + j) c group.width e
-    (get_flat_map (λ (g : Group). replicate g.count g.width) c.groups g j group group.width h (get_copies group.count j group.width l))
+    (get_flat_map (λ (g : Group). replicate g.count g.width) c.groups g j group group.width h (copies_there group.count group.width j l))
 
 module _ (modules : List Module) (layout : Layout) (top : Module) (is : IsTop modules layout top) where
   abbrev T : ℕ
@@ -157,7 +157,7 @@ module _ (modules : List Module) (layout : Layout) (top : Module) (is : IsTop mo
     thread_grant k l =
         let place = slice_index S (T + K + k) + i in
         let q = first_port modules (arbiter_part T layout.arbiter k) + i in
-        let stands = standing.port_stands modules layout top is (T + K + k) i 1 (arbiter_part T layout.arbiter k) (standing.arbiter_part_at layout k l) (get_copies T i 1 thread_in) in
+        let stands = standing.port_stands modules layout top is (T + K + k) i 1 (arbiter_part T layout.arbiter k) (standing.arbiter_part_at layout k l) (copies_there T 1 i thread_in) in
         let s = stage_is place (T + K + k) 1 q stands in
         let u = of_arbiter_part k 3 5 7 in
         record {
@@ -270,7 +270,7 @@ module _ (modules : List Module) (layout : Layout) (top : Module) (is : IsTop mo
         let place = slice_index S (T + K + k) + i in
         let q = first_port modules (arbiter_part T layout.arbiter k) + i in
         let x = 1 + (T * length (group_widths c.groups) + i) in
-        let stands = standing.port_stands modules layout top is (T + K + k) i 1 (arbiter_part T layout.arbiter k) (standing.arbiter_part_at layout k core_in) (get_copies T i 1 l) in
+        let stands = standing.port_stands modules layout top is (T + K + k) i 1 (arbiter_part T layout.arbiter k) (standing.arbiter_part_at layout k core_in) (copies_there T 1 i l) in
         let s = stage_is place (T + K + k) 1 q stands in
         let u = of_arbiter_part k 3 5 7 in
         record {

@@ -4,9 +4,9 @@ use Rattle.std.proofs.Common.{map, replicate, Some, refl, sym, ap, ◌∙◌, su
 use Rattle.std.specs.Prelude.{slice_get, slice_index}
 use Rattle.std.specs.List.{flat_map}
 use Rattle.std.proofs.Math.Nat.{suc-mul}
-use Rattle.std.proofs.lemmas.List.{length-replicate, get_or-replicate}
-use Rattle.std.proofs.lemmas.Option.{slice_get-get_or, slice_get_within, same_Some, none-some}
-use Rattle.lists.proofs.Places.{get_front, get_back}
+use Rattle.std.proofs.lemmas.List.{length-replicate}
+use Rattle.std.proofs.lemmas.Option.{slice_get_within, same_Some, none-some}
+use Rattle.lists.proofs.Places.{get_front, get_back, copies_there}
 use Rattle.netlist.specs.declared.netlist.Module.{Module}
 use Rattle.circuit.specs.Rows.{spread}
 use Rattle.circuit.proofs.Growth.{slice_get-spread}
@@ -31,11 +31,6 @@ get_either (y ∷ xs) ys (suc i) x h = elim (get_either xs ys i x h) [
   | inl p ↦ inl p
   | inr p ↦ inr (let e : i ≡ length xs + p.at = p.is in record { at = p.at; is = omega arith; found = p.found })
 ]
-
-pub get_copies : {A : Type 0} (n k : ℕ) (a : A) → k < n → slice_get (replicate n a) k ≡ Some a
-get_copies n k a lt =
-    let n-is = length-replicate n a in
-    slice_get-get_or (replicate n a) k a (omega arith) ∙ ap (λ x. Some x) (get_or-replicate n k a a lt)
 
 -- ---- by number
 
@@ -197,12 +192,12 @@ copies_back n k a x h =
     let within = slice_get_within (replicate n a) k x h in
     let n-is = length-replicate n a in
     let l : k < n = omega arith in
-    (l, same_Some x a (sym h ∙ get_copies n k a l))
+    (l, same_Some x a (sym h ∙ copies_there n a k l))
 
 -- n copies of each
 pub get_each_copied : (n : ℕ) (xs : List ℕ) (k i w : ℕ) → slice_get xs k ≡ Some w → i < n → slice_get (flat_map (λ (x : ℕ). replicate n x) xs) (k * n + i) ≡ Some w
 get_each_copied n xs k i w h l =
-    let m = get_flat_map (λ (x : ℕ). replicate n x) xs k i w w h (get_copies n i w l) in
+    let m = get_flat_map (λ (x : ℕ). replicate n x) xs k i w w h (copies_there n w i l) in
     let e = length-copied xs k h in
     let q : length (flat_map (λ (x : ℕ). replicate n x) (take k xs)) + i ≡ k * n + i = omega arith in
     subst (λ (p : ℕ). slice_get (flat_map (λ (x : ℕ). replicate n x) xs) p ≡ Some w) q m

@@ -3,7 +3,7 @@ use Rattle.std.proofs.Common.{◌≡◌, ℕ, ◌+◌, ◌-◌, ◌*◌, ◌<◌
 use Rattle.std.specs.Prelude.{slice_get, slice_index, codes, option_and_then}
 use Rattle.std.proofs.lemmas.Bool.Decides.{nat_tests}
 use Rattle.std.proofs.lemmas.Option.{slice_get_within}
-use Rattle.lists.proofs.Places.{get_front, get_there}
+use Rattle.lists.proofs.Places.{get_front, get_there, copies_there}
 use Rattle.netlist.specs.declared.netlist.Value.TheVariants.{Copy, Select}
 use Rattle.netlist.specs.declared.netlist.Source.{Source}
 use Rattle.netlist.specs.declared.netlist.Source.TheVariants as source
@@ -27,7 +27,7 @@ use Rattle.circuit.specs.Interfaces.{first_of}
 use Rattle.top_wiring.specs.Ports.{asked_before, told_before, arbiter_outputs}
 use Rattle.top_wiring.specs.Machine.{IsThreadAt, IsCoreAt, IsArbiterAt, KeepPromises}
 use Rattle.top_wiring.specs.Wired.{IsWired}
-use Rattle.top_wiring.proofs.Lists.{get_copies, copies_back, flat_map_back}
+use Rattle.top_wiring.proofs.Lists.{copies_back, flat_map_back}
 use Rattle.top_wiring.proofs.InstanceKinds.{Kind, kind_of}
 use Rattle.top_wiring.proofs.InstanceKinds.Kind.{of_thread, of_core, of_arbiter}
 use Rattle.top_wiring.proofs.Standing as standing
@@ -111,7 +111,7 @@ module _ (layout : Layout) (modules : List Module) (n : Netlist) (w : IsWired mo
         → slice_get w.top.signals (slice_index S (T + K + k) + i)
         ≡ Some (wire_signal (slice_index S (T + K + k) + i) (Port 1 (T + K + k) (first_of m (arbiter_outputs layout) + i)))
     grant_source k i m b h l =
-        standing.port_stands modules layout w.top w.is_top (T + K + k) i 1 (arbiter_part T layout.arbiter k) (standing.arbiter_part_at layout k b) (get_copies T i 1 l)
+        standing.port_stands modules layout w.top w.is_top (T + K + k) i 1 (arbiter_part T layout.arbiter k) (standing.arbiter_part_at layout k b) (copies_there T 1 i l)
         ∙ ap (λ z. Some (wire_signal (slice_index S (T + K + k) + i) (Port 1 (T + K + k) (z + i)))) (first_is (arbiter_part T layout.arbiter k) m (arbiter_outputs layout) h refl)
 
     ask_source : (i number x v : ℕ) (m : Module) → slice_get layout.threads i ≡ Some number → slice_get modules number ≡ Some m → slice_get (ask_widths layout.cores) x ≡ Some v

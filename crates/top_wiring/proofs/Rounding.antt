@@ -7,7 +7,7 @@ use Rattle.std.proofs.lemmas.Fmt.{decimal_digit}
 use Rattle.std.proofs.lemmas.Nat.{pow_pos}
 use Rattle.std.proofs.lemmas.List.{length-replicate}
 use Rattle.std.proofs.lemmas.Option.{same_Some, none-some}
-use Rattle.std.proofs.lemmas.Bool.{and_parts}
+use Rattle.std.proofs.lemmas.Bool.{and_parts, and_from}
 use Rattle.lists.proofs.Places.{get_back, get_mapped}
 use Rattle.verilog_tree.specs.Scope.{is_clk}
 use Rattle.netlist.specs.declared.netlist.Value.TheVariants.{Constant, Concatenation}
@@ -242,10 +242,7 @@ module _ (layout : Layout) (modules : List Module) (sound : AreSound layout modu
 
   fits_width : (x v : ℕ) (s : Signal) → slice_get (round_signals T shown) x ≡ Some s → is_clk s.name ≡ false → s.width ≡ v → 0 < v → has_width r x v ≡ true
   fits_width x v s e c q l =
-      ap (λ z. nat_lt 0 z && z == v) (width_is x v s e c q) ∙ both (nat_lt 0 v) (v == v) (grind (arith, nat_tests)) (grind (arith, nat_tests))
-    where
-      both : (a b : Bool) → a ≡ true → b ≡ true → (a && b) ≡ true
-      both a b p q = ap (λ z. z && b) p ∙ q
+      ap (λ z. nat_lt 0 z && z == v) (width_is x v s e c q) ∙ and_from (nat_lt 0 v) (v == v) (grind (arith, nat_tests)) (grind (arith, nat_tests))
 
   counter_fits : has_width r 1 4 ≡ true
   counter_fits = fits_width 1 4 (inner (codes "counter") 1 4 (source.Register 0)) refl refl refl (lit< tt)

@@ -8,6 +8,7 @@ use Rattle.std.proofs.lemmas.Slice.Eq.{bytes_eq-Decides}
 use Rattle.std.proofs.lemmas.List.{length-replicate, append-nil}
 use Rattle.std.proofs.lemmas.List.Elements.{filter-append}
 use Rattle.std.proofs.lemmas.Option.{same_Some, none-some, slice_get_within}
+use Rattle.std.proofs.lemmas.Bool.{and_from}
 use Rattle.lists.proofs.Places.{get_there}
 use Rattle.verilog_tree.specs.Scope.{is_clk}
 use Rattle.netlist.specs.declared.netlist.Value.TheVariants.{Select}
@@ -408,10 +409,7 @@ module _ (layout : Layout) (modules : List Module) (sound : AreSound layout modu
   width_is x v s e c q = ap (width_read top) e ∙ ap (λ b. if b then 0 else s.width) c ∙ q
 
   fits_width : (x v : ℕ) → width top x ≡ v → 0 < v → has_width top x v ≡ true
-  fits_width x v e l = ap (λ z. nat_lt 0 z && z == v) e ∙ (let z : (nat_lt 0 v && v == v) ≡ true = both (nat_lt 0 v) (v == v) (grind (arith, nat_tests)) (grind (arith, nat_tests)) in z)
-    where
-      both : (a b : Bool) → a ≡ true → b ≡ true → (a && b) ≡ true
-      both a b p q = ap (λ z. z && b) p ∙ q
+  fits_width x v e l = ap (λ z. nat_lt 0 z && z == v) e ∙ (let z : (nat_lt 0 v && v == v) ≡ true = and_from (nat_lt 0 v) (v == v) (grind (arith, nat_tests)) (grind (arith, nat_tests)) in z)
 
   mask_width : width top 1 ≡ T
   mask_width = width_is 1 T (input (codes "en") T) (standing.mask_stands modules layout top is) refl refl

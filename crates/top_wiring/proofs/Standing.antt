@@ -5,7 +5,7 @@ use Rattle.std.specs.Prelude.{slice_get, slice_index, codes}
 use Rattle.std.proofs.lemmas.Bool.Decides.{nat_tests}
 use Rattle.std.proofs.lemmas.List.{length-replicate}
 use Rattle.std.proofs.lemmas.List.{length-map}
-use Rattle.lists.proofs.Places.{get_front, get_back, get_mapped}
+use Rattle.lists.proofs.Places.{get_front, get_back, get_mapped, copies_there}
 use Rattle.netlist.specs.declared.netlist.Signal.{Signal}
 use Rattle.netlist.specs.declared.netlist.Instance.{Instance}
 use Rattle.netlist.specs.declared.netlist.Module.{Module}
@@ -20,7 +20,7 @@ use Rattle.top_wiring.specs.Parts.{each_from, flat_from, ask_widths, thread_part
 use Rattle.top_wiring.specs.Wires.{first_port, port_wire, ports, enables, blocks, wire_signal}
 use Rattle.top_wiring.specs.Top.{input, preference, output, thread_instance, core_instance, arbiter_instance, all_wires, starts, done_place, IsTop}
 use Rattle.top_wiring.proofs.Growing.{length-each_from}
-use Rattle.top_wiring.proofs.Lists.{get_behind, get_each, get_spread, get_copies, get_flat_from, starts_at}
+use Rattle.top_wiring.proofs.Lists.{get_behind, get_each, get_spread, get_flat_from, starts_at}
 
 -- the wire that says whether thread i is enabled
 abbrev pub enable_wire : ℕ → ℕ → Wire
@@ -218,7 +218,7 @@ module _ (modules : List Module) (layout : Layout) where
         let asks = ask_widths layout.cores in
         let own = thread_part asks number in
         let x = length asks + 1 in
-        let here : slice_get own.outputs x ≡ Some 1 = get_behind (length asks) asks (replicate 2 1) 1 1 refl (get_copies 2 1 1 (omega arith)) in
+        let here : slice_get own.outputs x ≡ Some 1 = get_behind (length asks) asks (replicate 2 1) 1 1 refl (copies_there 2 1 1 (omega arith)) in
         let part = thread_part_at layout 0 number e in
         let a = length-append asks (replicate {A = ℕ} 2 1) in
         let b : length (replicate {A = ℕ} 2 1) ≡ 2 = length-replicate {A = ℕ} 2 1 in

@@ -1,5 +1,5 @@
 -- One kind after another.
-use Rattle.std.proofs.Common.{◌≡◌, ◌≢◌, ℕ, suc, zero, ◌<◌, List, [], ◌∷◌, ◌++◌, length, replicate, Bool, true, false, ◌||◌, if◌then◌else◌}
+use Rattle.std.proofs.Common.{◌≡◌, ◌≢◌, ℕ, suc, ◌<◌, List, [], ◌∷◌, ◌++◌, length, replicate, Bool, true, false, ◌||◌, if◌then◌else◌}
 use Rattle.std.proofs.Common.{refl, ap, subst, sym, ◌∙◌, ◌⊎◌, inl, inr, arith}
 use Rattle.std.specs.Prelude.{slice_index}
 use Rattle.std.specs.List.{Contains}
@@ -7,6 +7,7 @@ use Rattle.std.proofs.lemmas.Bool.{cases_eq, cases_Bool, or_left, or_right, or_c
 use Rattle.std.proofs.lemmas.List.{ext_get_or, get_or-replicate, length-replicate}
 use Rattle.std.proofs.lemmas.List.Elements.{Contains-append_cases}
 use Rattle.std.proofs.lemmas.List.Quantifiers.{all_pairs_push}
+use Rattle.lists.proofs.Places.{in_one}
 use Rattle.interval_pack.specs.LeftEdge.{IsBefore}
 use Rattle.interval_pack.proofs.Unique.{same_numbers}
 use Rattle.op_graph.specs.declared.node.Kind.{Kind}
@@ -142,17 +143,13 @@ module _ (nodes : List Node) (starts : List ℕ) where
               let n : i ≢ k = ne in
               listed_is (kind_at nodes i) ∙ or_left (is_listed counts (kind_at nodes i)) (same_kind kind (kind_at nodes i)) (are.listed i (omega arith) s)
 
-          last : (c : UnitCount) → Contains (added ∷ []) c → added ≡ c
-          last c (zero, l, e) = e
-          last c (suc m, l, e) = absurd (omega arith)
-
           -- a count was there before, or is the one of the kind
           by_part : (c : UnitCount) → Contains counts' c → (Contains counts c) ⊎ (added ≡ c)
           by_part c h = the_last (Contains-append_cases counts (added ∷ []) c (subst (λ (cs : List UnitCount). Contains cs c) more h))
             where
               the_last : (Contains counts c) ⊎ (Contains (added ∷ []) c) → (Contains counts c) ⊎ (added ≡ c)
               the_last (inl x) = inl x
-              the_last (inr x) = inr (last c x)
+              the_last (inr x) = inr (in_one added c x)
 
           present : (c : UnitCount) → (Contains counts c) ⊎ (added ≡ c) → IsPresent nodes c.kind
           present c (inl x) = are.present c x

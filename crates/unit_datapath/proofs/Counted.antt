@@ -2,7 +2,8 @@
 use Rattle.std.proofs.Common.{◌≡◌, ℕ, zero, suc, ◌+◌, ◌<◌, ◌≤◌, ◌⊎◌, nat_eq, Bool, true, false, not, ◌&&◌, if◌then◌else◌, List, [], ◌∷◌, ◌++◌, length, Some, slice_get, slice_index}
 use Rattle.std.proofs.Common.{refl, sym, ap, subst, ◌∙◌, arith, inl, inr, ⊎_elim}
 use Rattle.std.proofs.lemmas.Bool.{not-true, and_from, and_parts, eq-eqb}
-use Rattle.lists.proofs.Places.{get_back}
+use Rattle.std.proofs.lemmas.Option.{slice_get-get_or}
+use Rattle.lists.proofs.Places.{get_back, get_front, get_either}
 use Rattle.hls_ints.specs.Types.{IntegerType, Width, bits, bits_8, bits_16, bits_32, bits_64, width_of, int_type, unsigned_int, long_int, unsigned_long}
 use Rattle.c_program.specs.declared.tree.BinaryOperator.{BinaryOperator}
 use Rattle.c_program.specs.declared.tree.BinaryOperator.TheVariants as operator
@@ -12,7 +13,6 @@ use Rattle.planned_block.specs.Block.{IsAmong}
 use Rattle.netlist.specs.declared.netlist.Signal.{Signal}
 use Rattle.block_datapath.specs.declared.registers.UnitResults.{UnitResults}
 use Rattle.block_datapath.specs.Units.{is_for, unit_type, unit_place, same_operator, same_type}
-use Rattle.block_datapath.proofs.Walking.{got_before}
 use Rattle.unit_datapath.specs.declared.kinds.UnitKind.{UnitKind}
 use Rattle.unit_datapath.specs.declared.inputs.UnitInputs.{UnitInputs}
 use Rattle.unit_datapath.specs.declared.units.UnitCounts.{UnitCounts}
@@ -20,8 +20,7 @@ use Rattle.unit_datapath.specs.Kinds.{is_of}
 use Rattle.unit_datapath.specs.Counts.{IsCountOf}
 use Rattle.unit_datapath.specs.Units.{HasUnit, IsOperatorCount, AreCounted, AreCountsOf, AreOnce, IsLaid}
 use Rattle.unit_datapath.proofs.Kinding.{type_same}
-use Rattle.unit_datapath.proofs.Resulting.{index_there}
-use Rattle.unit_datapath.proofs.Laying.{split_get, only_get}
+use Rattle.unit_datapath.proofs.Laying.{only_get}
 use Rattle.unit_datapath.proofs.Valuing.{type_is, operator_is}
 
 -- a list is as long as the numbers of the units ask for
@@ -133,24 +132,24 @@ module _ (code : ThreadCode) (plan : Planned) (kind : UnitKind) where
           ⊎_elim
           (λ (f : slice_get first x ≡ Some k). (let e : operator.Multiply ≡ operator.Remainder = sym (t.own x k f) ∙ o ∙ v.own y l q in (let g : ⊥ = cc in g)))
           (λ (f : (z : ℕ) × (slice_get second z ≡ Some k)). (let e : operator.Divide ≡ operator.Remainder = sym (u.own f.0 k f.1) ∙ o ∙ v.own y l q in (let g : ⊥ = cc in g)))
-          (split_get first second x k p)
+          (get_either first second x k p)
 
       each : (x : ℕ) (w : UnitResults) → slice_get ((first ++ second) ++ third) x ≡ Some w → (w.ty ≡ kind.ty) × (is_of kind w.operator kind.ty ≡ true) × IsLongEnough code plan w
       each x w f =
           ⊎_elim
           (λ (g : slice_get (first ++ second) x ≡ Some w).
-          ⊎_elim (λ (h : slice_get first x ≡ Some w). t.each x w h) (λ (h : (y : ℕ) × (slice_get second y ≡ Some w)). u.each h.0 w h.1) (split_get first second x w g))
+          ⊎_elim (λ (h : slice_get first x ≡ Some w). t.each x w h) (λ (h : (y : ℕ) × (slice_get second y ≡ Some w)). u.each h.0 w h.1) (get_either first second x w g))
           (λ (g : (y : ℕ) × (slice_get third y ≡ Some w)). v.each g.0 w g.1)
-          (split_get (first ++ second) third x w f)
+          (get_either (first ++ second) third x w f)
 
       found : (o : BinaryOperator) (n : ℕ) → is_of kind o kind.ty ≡ true → HasUnit code plan o kind.ty n →
           (x : ℕ) × (w : UnitResults) × (slice_get ((first ++ second) ++ third) x ≡ Some w) × (w.operator ≡ o)
       found operator.Multiply n of_kind has =
           let one = t.all n of_kind has in
-          (one.0, one.1, got_before (first ++ second) third one.0 one.1 (got_before first second one.0 one.1 one.2), one.3)
+          (one.0, one.1, get_front (first ++ second) third one.0 one.1 (get_front first second one.0 one.1 one.2), one.3)
       found operator.Divide n of_kind has =
           let one = u.all n of_kind has in
-          (length first + one.0, one.1, got_before (first ++ second) third (length first + one.0) one.1 (get_back first second one.0 one.1 one.2), one.3)
+          (length first + one.0, one.1, get_front (first ++ second) third (length first + one.0) one.1 (get_back first second one.0 one.1 one.2), one.3)
       found operator.Remainder n of_kind has =
           let one = v.all n of_kind has in
           (length (first ++ second) + one.0, one.1, get_back (first ++ second) third one.0 one.1 one.2, one.3)
@@ -270,7 +269,7 @@ module _ (code : ThreadCode) (plan : Planned) where
         ⊎_elim
         (λ (g : slice_get xs x ≡ Some w). let k = t.own x w g in (k.0, inr k.1, k.2, k.3))
         (λ (g : (y : ℕ) × (slice_get ys y ≡ Some w)). let k = u.of_kind g.0 w g.1 in (kind, inl refl, k.0, k.1))
-        (split_get xs ys x w f);
+        (get_either xs ys x w f);
     once = once_both xs ys t.once u.once
         (λ x y v w p q o s.
         let k = t.own x v p in
@@ -279,7 +278,7 @@ module _ (code : ThreadCode) (plan : Planned) where
         (subst (λ (z : UnitKind). IsAmong kinds z)
         (kind_same k.0 kind v.operator (sym k.2 ∙ s ∙ own.0) k.3 (subst (λ (z : BinaryOperator). is_of kind z kind.ty ≡ true) (sym o) own.1)) k.1));
     each = λ x w f.
-        ⊎_elim (λ (g : slice_get xs x ≡ Some w). t.each x w g) (λ (g : (y : ℕ) × (slice_get ys y ≡ Some w)). u.counted g.0 w g.1) (split_get xs ys x w f);
+        ⊎_elim (λ (g : slice_get xs x ≡ Some w). t.each x w g) (λ (g : (y : ℕ) × (slice_get ys y ≡ Some w)). u.counted g.0 w g.1) (get_either xs ys x w f);
     all = λ k o n among of_kind has.
         ⊎_elim
         (λ (same : k ≡ kind).
@@ -287,7 +286,7 @@ module _ (code : ThreadCode) (plan : Planned) where
         (length xs + own.0, own.1, get_back xs ys own.0 own.1 own.2, own.3, (u.of_kind own.0 own.1 own.2).0 ∙ ap (λ (z : UnitKind). z.ty) (sym same)))
         (λ (rest : IsAmong kinds k).
         let own = t.all k o n rest of_kind has in
-        (own.0, own.1, got_before xs ys own.0 own.1 own.2, own.3, own.4))
+        (own.0, own.1, get_front xs ys own.0 own.1 own.2, own.3, own.4))
         among;
   }
 
@@ -306,7 +305,7 @@ module _ (code : ThreadCode) (plan : Planned) where
       by_first : (t : Bool) → is_for o ty v ≡ t → ((j : ℕ) → slice_get us j ≡ Some u → (place : ℕ) × (unit_place us o ty n ≡ Some place)) →
           (place : ℕ) × (unit_place (v ∷ us) o ty n ≡ Some place)
       by_first true f later =
-          (slice_index v.places n, ap (λ (z : Bool). if z then slice_get v.places n else unit_place us o ty n) f ∙ index_there v.places n (long 0 v refl f))
+          (slice_index v.places n, ap (λ (z : Bool). if z then slice_get v.places n else unit_place us o ty n) f ∙ slice_get-get_or v.places n 0 (long 0 v refl f))
       by_first false f later =
           let more = rest x refl f later in
           (more.0, ap (λ (z : Bool). if z then slice_get v.places n else unit_place us o ty n) f ∙ more.1)

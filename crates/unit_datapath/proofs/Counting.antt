@@ -1,6 +1,5 @@
 -- How many units there are: lemmas of each function that counts.
 use Rattle.std.proofs.Common.{◌≡◌, ◌≢◌, ℕ, suc, ◌+◌, ◌≤◌, ◌⊎◌, true, false, length, Option, Some, slice_get, slice_index, refl, sym, ap, subst, ◌∙◌, arith, inl, inr, ⊎_elim}
-use Rattle.interleaving.proofs.Update.{same_or_not}
 use Rattle.hls_ints.specs.Types.{IntegerType}
 use Rattle.c_program.specs.declared.tree.BinaryOperator.{BinaryOperator}
 use Rattle.block_ir.specs.declared.block.Operation.{Operation}
@@ -13,6 +12,7 @@ use Rattle.block_ir.specs.declared.plan.StagePlan.{StagePlan}
 use Rattle.block_ir.specs.declared.plan.StagePlan.TheVariants as planned
 use Rattle.block_ir.specs.declared.plan.Planned.{Planned}
 use Rattle.std.proofs.lemmas.Option.{slice_get_within}
+use Rattle.std.proofs.lemmas.Bool.{cases_eq}
 use Rattle.unit_datapath.specs.Counts.{IsCountOf, is_made, OperationHas, BlockHas, StageHas, CodeHas}
 
 -- ---- counts
@@ -71,7 +71,7 @@ module _ (operator : BinaryOperator) (unit : IntegerType) where
       let e : h.1 ≡ o = (let there = h.3 in let at = ap (slice_get b.operations) same in cc) in
       inr (subst (λ (z : Operation). OperationHas operator unit p n z v) e (subst (λ (z : ℕ). OperationHas operator unit p z h.1 v) same h.4)))
       (λ (ne : h.0 ≢ n). inl (h.0, h.1, (let less = h.2 in omega arith), h.3, h.4))
-      (same_or_not h.0 n))
+      (cases_eq h.0 n))
 
   -- ---- a stage
 
@@ -116,4 +116,4 @@ module _ (operator : BinaryOperator) (unit : IntegerType) where
       let e : h.1 ≡ s = (let there = h.3 in let at = ap (slice_get code.stages) same in cc) in
       inr (subst (λ (z : Stage). StageHas operator unit z (slice_get plan.stages l) v) e (subst (λ (z : ℕ). StageHas operator unit h.1 (slice_get plan.stages z) v) same h.4)))
       (λ (ne : h.0 ≢ l). inl (h.0, h.1, (let less = h.2 in omega arith), h.3, h.4))
-      (same_or_not h.0 l))
+      (cases_eq h.0 l))

@@ -1,9 +1,12 @@
 -- The multiplexers of the operands of units: how they begin, and a link of one.
 use Rattle.std.proofs.Common.{◌≡◌, ◌≢◌, ℕ, zero, suc, ◌<◌, ◌≤◌, nat_eq, Bool, true, false, ◌&&◌, if◌then◌else◌}
-use Rattle.std.proofs.Common.{List, [], ◌∷◌, length, replicate, slice_get, slice_index, slice_set, Option, Some, refl, sym, ap, subst, ◌∙◌, arith, ⊎_elim}
+use Rattle.std.proofs.Common.{List, [], ◌∷◌, length, replicate, slice_get, slice_set, Option, Some, refl, sym, ap, subst, ◌∙◌, arith, ⊎_elim}
+use Rattle.std.proofs.lemmas.Bool.{cases_eq}
+use Rattle.std.proofs.lemmas.List.{get_or-set_other, get_or-set_same, length-set, length-replicate}
+use Rattle.std.proofs.lemmas.Option.{slice_get_within}
+use Rattle.lists.proofs.Places.{set_other, set_same, copies_there, copies_are}
 use Rattle.netlist.specs.declared.netlist.Signal.{Signal}
 use Rattle.netlist.specs.declared.netlist.Module.{Module}
-use Rattle.interleaving.proofs.Update.{same_or_not}
 use Rattle.planned_block.proofs.Bits.{same_is, other_is}
 use Rattle.operator_wires.specs.Gives.{Grows}
 use Rattle.operator_wires.specs.Built.{Base, IsEarlier}
@@ -21,45 +24,26 @@ use Rattle.unit_datapath.specs.Inputs.{is_begun, IsBegun, SameInputs, ArePlaces,
 abbrev of_width : ℕ → Held
 of_width w = record { register = 0; width = w }
 
-pub many_long : {A : Type 0} (n : ℕ) (x : A) → length (replicate n x) ≡ n
-many_long zero x = refl
-many_long (suc n) x = ap suc (many_long n x)
-
-pub many_get : {A : Type 0} (n : ℕ) (x y : A) (k : ℕ) → slice_get (replicate n x) k ≡ Some y → y ≡ x
-many_get zero x y k e = absurd cc
-many_get (suc n) x y zero e = cc
-many_get (suc n) x y (suc k) e = many_get n x y k e
-
-many_there : {A : Type 0} (n : ℕ) (x : A) (k : ℕ) → k < n → slice_get (replicate n x) k ≡ Some x
-many_there zero x k less = absurd (omega arith)
-many_there (suc n) x zero less = refl
-many_there (suc n) x (suc k) less = many_there n x k (omega arith)
-
 widths_are : (n w : ℕ) → HaveWidths (replicate n (of_width w)) (replicate n w)
 widths_are n w = record {
-  count = many_long n (of_width w) ∙ sym (many_long n w);
-  each = λ x v h e f. ap (λ (z : Held). z.width) (many_get n (of_width w) h x e) ∙ sym (many_get n w v x f);
+  count = length-replicate n (of_width w) ∙ sym (length-replicate n w);
+  each = λ x v h e f. ap (λ (z : Held). z.width) (copies_are n (of_width w) x h e) ∙ sym (copies_are n w x v f);
 }
 
 width_at : (n w number : ℕ) → HasWidthAt (replicate n (of_width w)) number w
-width_at n w number h e = ap (λ (z : Held). z.width) (many_get n (of_width w) h number e)
-
-within : (xs : List ℕ) (k y : ℕ) → slice_get xs k ≡ Some y → k < length xs
-within [] k y e = absurd cc
-within (x ∷ xs) zero y e = omega arith
-within (x ∷ xs) (suc k) y e = let h = within xs k y e in omega arith
+width_at n w number h e = ap (λ (z : Held). z.width) (copies_are n (of_width w) number h e)
 
 module _ (signals : List Signal) (base : Base) (w n : ℕ) (places : List ℕ) where
   to_chains : ArePlaces signals base w n places → AreChains signals base (replicate n (of_width w)) places
   to_chains t = record {
-    count = t.count ∙ sym (many_long n (of_width w));
+    count = t.count ∙ sym (length-replicate n (of_width w));
     each = λ x y h e f. subst (λ (k : ℕ). IsEarlier signals base y k) (sym (width_at n w x h e)) (t.each x y f);
   }
 
   of_chains : AreChains signals base (replicate n (of_width w)) places → ArePlaces signals base w n places
   of_chains t =
-      let count : length places ≡ n = t.count ∙ many_long n (of_width w) in
-      record { count = count; each = λ x y f. t.each x y (of_width w) (many_there n (of_width w) x (subst (λ (k : ℕ). x < k) count (within places x y f))) f }
+      let count : length places ≡ n = t.count ∙ length-replicate n (of_width w) in
+      record { count = count; each = λ x y f. t.each x y (of_width w) (copies_there n (of_width w) x (subst (λ (k : ℕ). x < k) count (slice_get_within places x y f))) f }
 
 pub places_after : (a b : List Signal) (base : Base) (w n : ℕ) (places : List ℕ) → Grows a b → ArePlaces a base w n places → ArePlaces b base w n places
 places_after a b base w n places g t = record { count = t.count; each = λ x y e. stands_after a b base y w g (t.each x y e) }
@@ -74,50 +58,21 @@ set_past [] j v past = refl
 set_past (x ∷ xs) zero v past = absurd (omega arith)
 set_past {A = A} (x ∷ xs) (suc j) v past = ap (λ (ys : List A). x ∷ ys) (set_past xs j v (omega arith))
 
-set_long : {A : Type 0} (xs : List A) (j : ℕ) (v : A) → length (slice_set xs j v) ≡ length xs
-set_long [] j v = refl
-set_long (x ∷ xs) zero v = refl
-set_long (x ∷ xs) (suc j) v = ap suc (set_long xs j v)
-
-set_same : {A : Type 0} (xs : List A) (j : ℕ) (v : A) → j < length xs → slice_get (slice_set xs j v) j ≡ Some v
-set_same [] j v less = absurd (omega arith)
-set_same (x ∷ xs) zero v less = refl
-set_same (x ∷ xs) (suc j) v less = set_same xs j v (omega arith)
-
-set_other : {A : Type 0} (xs : List A) (j x : ℕ) (v : A) → x ≢ j → slice_get (slice_set xs j v) x ≡ slice_get xs x
-set_other [] j x v ne = refl
-set_other (y ∷ xs) zero zero v ne = absurd (ne refl)
-set_other (y ∷ xs) zero (suc x) v ne = refl
-set_other (y ∷ xs) (suc j) zero v ne = refl
-set_other (y ∷ xs) (suc j) (suc x) v ne = set_other xs j x v (λ same. ne (ap suc same))
-
-index_same : (xs : List ℕ) (j v : ℕ) → j < length xs → slice_index (slice_set xs j v) j ≡ v
-index_same [] j v less = absurd (omega arith)
-index_same (x ∷ xs) zero v less = refl
-index_same (x ∷ xs) (suc j) v less = index_same xs j v (omega arith)
-
-index_other : (xs : List ℕ) (j x v : ℕ) → x ≢ j → slice_index (slice_set xs j v) x ≡ slice_index xs x
-index_other [] j x v ne = refl
-index_other (y ∷ xs) zero zero v ne = absurd (ne refl)
-index_other (y ∷ xs) zero (suc x) v ne = refl
-index_other (y ∷ xs) (suc j) zero v ne = refl
-index_other (y ∷ xs) (suc j) (suc x) v ne = index_other xs j x v (λ same. ne (ap suc same))
-
 places_set : (signals : List Signal) (base : Base) (w n : ℕ) (places : List ℕ) (j place : ℕ) → ArePlaces signals base w n places → IsEarlier signals base place w →
     ArePlaces signals base w n (slice_set places j place)
 places_set signals base w n places j place t is = record {
-  count = set_long places j place ∙ t.count;
+  count = length-set places j place ∙ t.count;
   each = λ x y e.
       ⊎_elim
       (λ (same : x ≡ j).
-      let here : x < length places = subst (λ (k : ℕ). x < k) (set_long places j place) (within (slice_set places j place) x y e) in
+      let here : x < length places = subst (λ (k : ℕ). x < k) (length-set places j place) (slice_get_within (slice_set places j place) x y e) in
       let less : j < length places = subst (λ (k : ℕ). k < length places) same here in
       let own = set_same places j place less in
       let at : slice_get (slice_set places j place) j ≡ Some y = subst (λ (k : ℕ). slice_get (slice_set places j place) k ≡ Some y) same e in
       let is_place : place ≡ y = cc in
       subst (λ (k : ℕ). IsEarlier signals base k w) is_place is)
       (λ (ne : x ≢ j). t.each x y (sym (set_other places j x place ne) ∙ e))
-      (same_or_not x j);
+      (cases_eq x j);
 }
 
 -- ---- the beginning
@@ -129,9 +84,9 @@ pub begun : (a b c : List Signal) (n w : ℕ) (widths others : List ℕ) (inputs
 begun a b c n w widths others inputs none same alike t tw u uw = record {
   grows = grows_then a b c t.grows u.grows;
   many = record {
-    begun = ap length none ∙ many_long n false;
-    lefts = t.count ∙ ap length same ∙ many_long n w;
-    rights = u.count ∙ ap length alike ∙ many_long n w;
+    begun = ap length none ∙ length-replicate n false;
+    lefts = t.count ∙ ap length same ∙ length-replicate n w;
+    rights = u.count ∙ ap length alike ∙ length-replicate n w;
   };
   wired = λ base low some most.
       let first = tw base (replicate n (of_width w)) low (fits widths same some most) (subst (HaveWidths (replicate n (of_width w))) (sym same) (widths_are n w)) in
@@ -149,7 +104,7 @@ begun a b c n w widths others inputs none same alike t tw u uw = record {
   where
     fits : (l : List ℕ) → l ≡ replicate n w → 1 ≤ w → w ≤ 64 → (x v : ℕ) → slice_get l x ≡ Some v → (1 ≤ v) × (v ≤ 64)
     fits l e some most x v f =
-        let is : v ≡ w = many_get n w v x (ap (λ (z : List ℕ). slice_get z x) (sym e) ∙ f) in
+        let is : v ≡ w = copies_are n w x v (ap (λ (z : List ℕ). slice_get z x) (sym e) ∙ f) in
         (subst (λ (z : ℕ). 1 ≤ z) (sym is) some, subst (λ (z : ℕ). z ≤ 64) (sym is) most)
 
 -- ---- a link
@@ -218,20 +173,20 @@ pub unit_begun : (a : List Signal) (before after : UnitInputs) (unit w here left
 unit_begun a before after unit w here left right marks lefts rights off = record {
   grows = grows_refl a;
   many = λ n is. record {
-    begun = ap length marks ∙ set_long before.begun unit true ∙ is.begun;
-    lefts = ap length lefts ∙ set_long before.lefts unit left ∙ is.lefts;
-    rights = ap length rights ∙ set_long before.rights unit right ∙ is.rights;
+    begun = ap length marks ∙ length-set before.begun unit true ∙ is.begun;
+    lefts = ap length lefts ∙ length-set before.lefts unit left ∙ is.lefts;
+    rights = ap length rights ∙ length-set before.rights unit right ∙ is.rights;
   };
   set = λ m r n g o is less set. (
     ap (λ (l : List Bool). is_begun (slice_get l unit)) marks
         ∙ ap is_begun (set_same before.begun unit true (subst (λ (k : ℕ). unit < k) (sym is.begun) less)),
-    ap (λ (l : List ℕ). next_number r l unit) lefts ∙ ap r.signal (index_same before.lefts unit left (subst (λ (k : ℕ). unit < k) (sym is.lefts) less)),
-    ap (λ (l : List ℕ). next_number r l unit) rights ∙ ap r.signal (index_same before.rights unit right (subst (λ (k : ℕ). unit < k) (sym is.rights) less)),
+    ap (λ (l : List ℕ). next_number r l unit) lefts ∙ ap r.signal (get_or-set_same before.lefts unit left 0 (subst (λ (k : ℕ). unit < k) (sym is.lefts) less)),
+    ap (λ (l : List ℕ). next_number r l unit) rights ∙ ap r.signal (get_or-set_same before.rights unit right 0 (subst (λ (k : ℕ). unit < k) (sym is.rights) less)),
   );
   rests = λ m r x n g o is less other. record {
     begun = λ on. ap (λ (l : List Bool). is_begun (slice_get l x)) marks ∙ ap is_begun (set_other before.begun unit x true (apart x on)) ∙ on;
-    left = λ on. ap (λ (l : List ℕ). next_number r l x) lefts ∙ ap r.signal (index_other before.lefts unit x left (apart x on));
-    right = λ on. ap (λ (l : List ℕ). next_number r l x) rights ∙ ap r.signal (index_other before.rights unit x right (apart x on));
+    left = λ on. ap (λ (l : List ℕ). next_number r l x) lefts ∙ ap r.signal (get_or-set_other before.lefts unit x left 0 (apart x on));
+    right = λ on. ap (λ (l : List ℕ). next_number r l x) rights ∙ ap r.signal (get_or-set_other before.rights unit x right 0 (apart x on));
   };
   wired = λ base n is bit first second. record {
     wires = wires_none base a;

@@ -3,6 +3,7 @@ use Rattle.std.proofs.Common.{◌≡◌, ℕ, zero, suc, nat_eq, Bool, true, fal
 use Rattle.std.specs.Prelude.{slice_index_or, ℤ}
 use Rattle.std.specs.Bool.{beq}
 use Rattle.std.proofs.lemmas.Bool.{eqb-true, not-true, and_from, and_parts, eq-eqb}
+use Rattle.std.specs.Cmp.{booleans_Decides}
 use Rattle.hls_ints.specs.Types.{IntegerType, width_of}
 use Rattle.c_program.specs.declared.tree.BinaryOperator.{BinaryOperator}
 use Rattle.c_program.specs.declared.tree.BinaryOperator.TheVariants as operator
@@ -18,28 +19,16 @@ use Rattle.block_datapath.specs.Units.{same_type, unit_type, has_constant}
 use Rattle.unit_datapath.specs.declared.kinds.UnitKind.{UnitKind}
 use Rattle.unit_datapath.specs.Kinds.{is_of, is_shared, is_work}
 
--- ---- bits
-
-same_bit : (t u : Bool) → beq t u ≡ true → t ≡ u
-same_bit true true e = refl
-same_bit true false e = absurd cc
-same_bit false true e = absurd cc
-same_bit false false e = refl
-
-bit_same : (t : Bool) → beq t t ≡ true
-bit_same true = refl
-bit_same false = refl
-
 -- ---- kinds
 
 pub same_width : (s t : IntegerType) → same_type s t ≡ true → width_of s ≡ width_of t
 same_width s t e = eqb-true (width_of s) (width_of t) (and_parts (nat_eq (width_of s) (width_of t)) (beq s.signed t.signed) e).0
 
 pub same_sign : (s t : IntegerType) → same_type s t ≡ true → s.signed ≡ t.signed
-same_sign s t e = same_bit s.signed t.signed (and_parts (nat_eq (width_of s) (width_of t)) (beq s.signed t.signed) e).1
+same_sign s t e = (booleans_Decides s.signed t.signed).0 (and_parts (nat_eq (width_of s) (width_of t)) (beq s.signed t.signed) e).1
 
 pub type_same : (ty : IntegerType) → same_type ty ty ≡ true
-type_same ty = and_from (nat_eq (width_of ty) (width_of ty)) (beq ty.signed ty.signed) (eq-eqb (width_of ty) (width_of ty) refl) (bit_same ty.signed)
+type_same ty = and_from (nat_eq (width_of ty) (width_of ty)) (beq ty.signed ty.signed) (eq-eqb (width_of ty) (width_of ty) refl) ((booleans_Decides ty.signed ty.signed).1 refl)
 
 -- the kind of the operations of a kind of units
 abbrev node_kind : UnitKind → Kind
@@ -50,7 +39,7 @@ node_shared kind true e =
     ap (λ (z : Bool). same_kind (if z then Divide (width_of kind.ty) kind.ty.signed else Multiply (width_of kind.ty))
     (if z then Divide (width_of kind.ty) kind.ty.signed else Multiply
     (width_of kind.ty))) e
-    ∙ and_from (nat_eq (width_of kind.ty) (width_of kind.ty)) (beq kind.ty.signed kind.ty.signed) (eq-eqb (width_of kind.ty) (width_of kind.ty) refl) (bit_same kind.ty.signed)
+    ∙ and_from (nat_eq (width_of kind.ty) (width_of kind.ty)) (beq kind.ty.signed kind.ty.signed) (eq-eqb (width_of kind.ty) (width_of kind.ty) refl) ((booleans_Decides kind.ty.signed kind.ty.signed).1 refl)
 node_shared kind false e =
     ap (λ (z : Bool). same_kind (if z then Divide (width_of kind.ty) kind.ty.signed else Multiply (width_of kind.ty))
     (if z then Divide (width_of kind.ty) kind.ty.signed else Multiply

@@ -1,9 +1,10 @@
 -- The functional units of a thread: kind after kind.
-use Rattle.std.proofs.Common.{◌≡◌, ℕ, zero, suc, ◌<◌, ◌≤◌, ◌⊎◌, Bool, true, false, if◌then◌else◌, List, [], ◌∷◌, ◌++◌, length, Some, slice_get, slice_index, ℤ}
-use Rattle.std.proofs.Common.{refl, sym, ap, subst, ◌∙◌, arith, inl, inr, ⊎_elim}
-use Rattle.std.proofs.lemmas.Option.{slice_get_within}
+use Rattle.std.proofs.Common.{◌≡◌, ℕ, zero, suc, ◌<◌, ◌≤◌, Bool, true, false, if◌then◌else◌, List, [], ◌∷◌, ◌++◌, length, Some, slice_get, slice_index, ℤ}
+use Rattle.std.proofs.Common.{refl, sym, ap, subst, ◌∙◌, arith, ⊎_elim}
+use Rattle.std.proofs.lemmas.Option.{slice_get_within, slice_get-get_or}
 use Rattle.std.proofs.lemmas.List.{append-nil}
 use Rattle.std.proofs.lemmas.Bool.{and_parts}
+use Rattle.lists.proofs.Places.{get_either}
 use Rattle.hls_ints.specs.Types.{IntegerType, width_of, wrapped}
 use Rattle.c_program.specs.declared.tree.BinaryOperator.{BinaryOperator}
 use Rattle.block_ir.specs.Arithmetic.{binary_total}
@@ -38,7 +39,6 @@ use Rattle.unit_datapath.specs.Links.{IsAtWork, LinksStages}
 use Rattle.unit_datapath.specs.Results.{HasWidth, AddsPlaces, ShowsResults}
 use Rattle.unit_datapath.specs.Units.{CanHaveUnits, UnitsStand, IsInCode, LaysInputs, ShowsUnits, LaysUnits, IsLaid}
 use Rattle.unit_datapath.proofs.Inputting.{inputs_after}
-use Rattle.unit_datapath.proofs.Resulting.{index_there}
 use Rattle.unit_datapath.proofs.Kinding.{shared_from}
 use Rattle.unit_datapath.proofs.Valuing.{type_is, operator_is, made_of_kind, unit_value, kind_result}
 
@@ -51,17 +51,12 @@ links_wide : (a : List Signal) (base : Base) (n x : ℕ) (ty : IntegerType) (c :
     HasWidth m c x ty
 links_wide a base n x ty c m t less g = record {
   left = earlier_wide a base (slice_index c.lefts x) (width_of ty) m
-      (t.lefts.each x (slice_index c.lefts x) (index_there c.lefts x (subst (λ (k : ℕ). x < k) (sym t.lefts.count) less))) g;
+      (t.lefts.each x (slice_index c.lefts x) (slice_get-get_or c.lefts x 0 (subst (λ (k : ℕ). x < k) (sym t.lefts.count) less))) g;
   right = earlier_wide a base (slice_index c.rights x) (width_of ty) m
-      (t.rights.each x (slice_index c.rights x) (index_there c.rights x (subst (λ (k : ℕ). x < k) (sym t.rights.count) less))) g;
+      (t.rights.each x (slice_index c.rights x) (slice_get-get_or c.rights x 0 (subst (λ (k : ℕ). x < k) (sym t.rights.count) less))) g;
 }
 
 -- ---- lists
-
-pub split_get : {A : Type 0} (xs ys : List A) (x : ℕ) (u : A) → slice_get (xs ++ ys) x ≡ Some u → (slice_get xs x ≡ Some u) ⊎ ((y : ℕ) × (slice_get ys y ≡ Some u))
-split_get [] ys x u e = inr (x, e)
-split_get (z ∷ xs) ys zero u e = inl e
-split_get (z ∷ xs) ys (suc x) u e = split_get xs ys x u e
 
 pub only_get : {A : Type 0} (v u : A) (x : ℕ) → slice_get (v ∷ []) x ≡ Some u → v ≡ u
 only_get v u zero e = cc
@@ -167,7 +162,7 @@ module _ (code : ThreadCode) (registers : Registers) (plan : Planned) where
         (λ (f : (y : ℕ) × (slice_get (u ∷ []) y ≡ Some w)).
         subst (λ (z : UnitResults). ShowsUnits code registers plan e z) (only_get u w f.0 f.1)
         (entry_shown kind count a b c inputs base can d e operator n u t.grows few yes laid.0 laid.1 shows))
-        (split_get results (u ∷ []) x w there);
+        (get_either results (u ∷ []) x w there);
     wires = λ base can. wires_then base b d e (t.wires base can) (added base can).wires;
     stands = λ base can x k place w there got.
         ⊎_elim
@@ -177,7 +172,7 @@ module _ (code : ThreadCode) (registers : Registers) (plan : Planned) where
         let wide : width_of (binary_result operator kind.ty) ≡ width_of w.ty = ap width_of (kind_result kind operator yes ∙ sym laid.1 ∙ ap (λ (z : UnitResults). z.ty) same) in
         subst (λ (z : ℕ). IsEarlier e base place z) wide
         ((added base can).stand.each k place (subst (λ (z : UnitResults). slice_get z.places k ≡ Some place) (sym same) got)))
-        (split_get results (u ∷ []) x w there);
+        (get_either results (u ∷ []) x w there);
   }
     where
       shows : ShowsResults d e c operator kind.ty n u.places
@@ -216,13 +211,13 @@ module _ (code : ThreadCode) (registers : Registers) (plan : Planned) where
         ⊎_elim
         (λ (f : slice_get xs x ≡ Some w). shown_later b d w u.grows (t.shown base can x w f))
         (λ (f : (y : ℕ) × (slice_get ys y ≡ Some w)). u.shown base (can_after a b base code registers plan t.grows can) f.0 w f.1)
-        (split_get xs ys x w there);
+        (get_either xs ys x w there);
     wires = λ base can. wires_then base a b d (t.wires base can) (u.wires base (can_after a b base code registers plan t.grows can));
     stands = λ base can x k place w there got.
         ⊎_elim
         (λ (f : slice_get xs x ≡ Some w). stands_after b d base place (width_of w.ty) u.grows (t.stands base can x k place w f got))
         (λ (f : (y : ℕ) × (slice_get ys y ≡ Some w)). u.stands base (can_after a b base code registers plan t.grows can) f.0 k place w f.1 got)
-        (split_get xs ys x w there);
+        (get_either xs ys x w there);
   }
 
 -- a place is found in a list for the operator and the type

@@ -3,8 +3,7 @@ use Rattle.std.proofs.Common.{◌≡◌, ◌≢◌, ℕ, ◌+◌, ◌^◌, ◌<�
 use Rattle.std.proofs.Common.{refl, sym, ap, subst, ◌∙◌, arith, ⊎_elim, inl, inr, if◌then◌else◌}
 use Rattle.std.proofs.lemmas.Nat.{pow_pos}
 use Rattle.std.proofs.lemmas.Option.{slice_get_within}
-use Rattle.std.proofs.lemmas.Bool.{or_parts}
-use Rattle.interleaving.proofs.Update.{same_or_not}
+use Rattle.std.proofs.lemmas.Bool.{or_parts, cases_eq}
 use Rattle.hls_ints.specs.Residues.{bit_of}
 use Rattle.hls_ints.specs.Types.{IntegerType, width_of}
 use Rattle.hls_ints.proofs.Conversions.{residue_of-wrapped}
@@ -251,7 +250,7 @@ module _ (code : ThreadCode) (registers : Registers) (kind : UnitKind) (b : Bloc
     works = λ globals m r q wire k n left right ok g ob moment states sees as_many less few at.
         ⊎_elim (now globals m r q wire k n left right ok g ob moment states sees as_many few at)
         (earlier globals m r q wire k n left right ok g ob moment states sees as_many less few at)
-        (same_or_not k count);
+        (cases_eq k count);
     away = λ m r y n g ob one off as_many less.
         same_then r before mid after y (t.away m r y n (back m g) ob one off as_many less) (u.away m r y n g ob one off (t.many n as_many) less);
     wired = λ base n slots at room is.
@@ -330,10 +329,7 @@ module _ (code : ThreadCode) (registers : Registers) (kind : UnitKind) (b : Bloc
               let high = within.1 in
               ⊎_elim (λ (past : last_state (planned_view b) (plan_view b p) k < slice_index p.starts count). absurd (omega arith))
               (λ (past : last_state (planned_view b) (plan_view b p) count < slice_index p.starts k). absurd (omega arith))
-              (ok.units k count sooner (shorter b.operations count x listed) shared same)
-            where
-              shorter : (os : List Operation) (n : ℕ) (o : Operation) → slice_get os n ≡ Some o → n < length os
-              shorter os n o e = slice_get_within os n o e
+              (ok.units k count sooner (slice_get_within b.operations count x listed) shared same)
 
   pub block_linked : (l : ℕ) (a c d : List Signal) (before after : UnitInputs) (at : ℕ) → end.at ≡ at → end.states ≡ max 1 p.states → TellsStage a c registers l at →
       NumberAdds a c registers.stage.width registers.stage.register l at → LinksFirst code registers kind b p end c d before after (length b.operations) →
@@ -458,7 +454,7 @@ module _ (code : ThreadCode) (registers : Registers) (kind : UnitKind) where
           gets_after r mid after (slice_index p.units k) kind.ty (operand_now (planned_view b) (plan_view b p) q wire (operand_view left))
           (operand_now (planned_view b) (plan_view b p) q wire (operand_view right)) so_far
           (u.rests m r (slice_index p.units k) n g ob (has count (omega arith)) (λ h. ne (sym stage_is ∙ h)) (t.many n as_many) few))
-          (same_or_not l count);
+          (cases_eq l count);
       wired = λ base n slots low room is.
           let first = t.wired base n slots (omega arith) room is in
           let more = first.wires.grows in
@@ -480,4 +476,4 @@ work_more kind b n o before t listed e k x less there =
     let is : o ≡ x = (let at = ap (slice_get b.operations) same in cc) in
     subst (λ (z : Operation). is_work kind z ≡ false) is none.1)
     (λ (ne : k ≢ n). t none.0 k x (omega arith) there)
-    (same_or_not k n)
+    (cases_eq k n)

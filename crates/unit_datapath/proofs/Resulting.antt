@@ -1,6 +1,8 @@
 -- The operators of units: one more at the end.
-use Rattle.std.proofs.Common.{◌≡◌, ◌≢◌, ℕ, zero, suc, ◌+◌, ◌<◌, List, [], ◌∷◌, ◌++◌, length, slice_get, slice_index, Some, refl, sym, ap, subst, ◌∙◌, arith, ⊎_elim, length-append}
-use Rattle.interleaving.proofs.Update.{same_or_not}
+use Rattle.std.proofs.Common.{◌≡◌, ◌≢◌, ℕ, ◌+◌, ◌<◌, List, [], ◌∷◌, ◌++◌, length, slice_get, slice_index, Some, refl, sym, ap, subst, ◌∙◌, ⊎_elim, length-append}
+use Rattle.std.proofs.lemmas.Bool.{cases_eq}
+use Rattle.std.proofs.lemmas.Option.{slice_get-get_or}
+use Rattle.lists.proofs.Places.{get_last, get_earlier}
 use Rattle.hls_ints.specs.Types.{IntegerType, width_of, wrapped}
 use Rattle.hls_ints.proofs.Conversions.{residue_of-wrapped, wrapped-range}
 use Rattle.c_program.specs.declared.tree.BinaryOperator.{BinaryOperator}
@@ -15,23 +17,11 @@ use Rattle.operator_wires.specs.Added.{IsOfTwo}
 use Rattle.operator_wires.proofs.Giving.{grows_refl, grows_then}
 use Rattle.operator_wires.proofs.Building.{stands_after, wires_none, wires_then}
 use Rattle.block_datapath.specs.Units.{word_at}
-use Rattle.block_datapath.proofs.Walking.{got_last}
 use Rattle.unit_datapath.specs.declared.inputs.UnitInputs.{UnitInputs}
 use Rattle.unit_datapath.specs.Results.{ShowsResults}
 
-pub index_there : (xs : List ℕ) (n : ℕ) → n < length xs → slice_get xs n ≡ Some (slice_index xs n)
-index_there [] n less = absurd (omega arith)
-index_there (x ∷ xs) zero less = refl
-index_there (x ∷ xs) (suc n) less = index_there xs n (omega arith)
-
-pub got_earlier : {X : Type 0} (xs : List X) (y z : X) (x : ℕ) → x ≢ length xs → slice_get (xs ++ y ∷ []) x ≡ Some z → slice_get xs x ≡ Some z
-got_earlier [] y z zero ne e = absurd (ne refl)
-got_earlier [] y z (suc x) ne e = absurd cc
-got_earlier (w ∷ xs) y z zero ne e = e
-got_earlier (w ∷ xs) y z (suc x) ne e = got_earlier xs y z x (λ same. ne (ap suc same)) e
-
 last_is : {X : Type 0} (xs : List X) (y z : X) (x : ℕ) → x ≡ length xs → slice_get (xs ++ y ∷ []) x ≡ Some z → y ≡ z
-last_is xs y z x at e = let one = got_last xs y in let two = ap (slice_get (xs ++ y ∷ [])) at in cc
+last_is xs y z x at e = let one = get_last xs y in let two = ap (slice_get (xs ++ y ∷ [])) at in cc
 
 pub results_none : (a : List Signal) (c : UnitInputs) (operator : BinaryOperator) (ty : IntegerType) (places : List ℕ) → places ≡ [] → ShowsResults a a c operator ty 0 places
 results_none a c operator ty places none = record {
@@ -74,8 +64,8 @@ module _ (a b d : List Signal) (c : UnitInputs) (operator : BinaryOperator) (ty 
         subst (λ (k : ℕ). IsWord m r (word_at k (binary_result operator ty)) (binary_result operator ty) (binary_total operator ty (wrapped ty v) (wrapped ty w)))
         (last_is places out.place place x same e)
         (record { says = refl; sign = refl; wide = word.wide; shows = word.shows; typed = word.typed }))
-        (λ (ne : x ≢ length places). t.shows m r x place v w (grows_then b d m.signals u.grows g) o (got_earlier places out.place place x ne e) wide gets)
-        (same_or_not x (length places));
+        (λ (ne : x ≢ length places). t.shows m r x place v w (grows_then b d m.signals u.grows g) o (get_earlier places out.place x place ne e) wide gets)
+        (cases_eq x (length places));
     wired = λ base many is.
         let first = t.wired base many is in
         let more = first.wires.grows in
@@ -83,13 +73,13 @@ module _ (a b d : List Signal) (c : UnitInputs) (operator : BinaryOperator) (ty 
           says = says;
           sign = sign;
           stands = subst (λ (k : ℕ). IsEarlier b base k (width_of ty)) (sym at)
-              (stands_after a b base (slice_index c.lefts n) (width_of ty) more (is.lefts.each n (slice_index c.lefts n) (index_there c.lefts n less)));
+              (stands_after a b base (slice_index c.lefts n) (width_of ty) more (is.lefts.each n (slice_index c.lefts n) (slice_get-get_or c.lefts n 0 less)));
         } in
         let two : StandsAs b base ty right = record {
           says = says2;
           sign = sign2;
           stands = subst (λ (k : ℕ). IsEarlier b base k (width_of ty)) (sym at2)
-              (stands_after a b base (slice_index c.rights n) (width_of ty) more (is.rights.each n (slice_index c.rights n) (index_there c.rights n few)));
+              (stands_after a b base (slice_index c.rights n) (width_of ty) more (is.rights.each n (slice_index c.rights n) (slice_get-get_or c.rights n 0 few)));
         } in
         let last = uw base ty ty one two in
         record {
@@ -101,8 +91,8 @@ module _ (a b d : List Signal) (c : UnitInputs) (operator : BinaryOperator) (ty 
                 (λ (same : x ≡ length places).
                 subst (λ (k : ℕ). IsEarlier d base k (width_of (binary_result operator ty))) (last_is places out.place y x same e) last.word.stands)
                 (λ (ne : x ≢ length places).
-                stands_after b d base y (width_of (binary_result operator ty)) last.wires.grows (first.stand.each x y (got_earlier places out.place y x ne e)))
-                (same_or_not x (length places));
+                stands_after b d base y (width_of (binary_result operator ty)) last.wires.grows (first.stand.each x y (get_earlier places out.place x y ne e)))
+                (cases_eq x (length places));
           };
         };
   }

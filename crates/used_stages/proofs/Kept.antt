@@ -3,6 +3,7 @@ use Rattle.std.proofs.Common.{◌≡◌, ◌≢◌, ℕ, zero, suc, ◌+◌, ◌
 use Rattle.std.proofs.Common.{Option, Some, None, refl, sym, ap, ◌∙◌, subst, ⊎_elim, inl, inr, arith}
 use Rattle.std.specs.Prelude.{◌⊎◌, ◌||◌, ◌&&◌, not, if◌then◌else◌, nat_eq, nat_lt, slice_get}
 use Rattle.std.proofs.lemmas.Bool.Decides.{eqb_tells, leb_tells}
+use Rattle.std.proofs.lemmas.Option.{slice_get_within}
 use Rattle.lists.proofs.Places.{get_there, get_mapped, get_unmapped}
 use Rattle.c_program.specs.Tree.{Program}
 use Rattle.c_program.specs.Weight.{weight}
@@ -25,7 +26,7 @@ use Rattle.block_merge.specs.Maximal.{next_ways, stage_ways, ways, IsTooLarge, I
 use Rattle.used_stages.specs.Used.{empty, leads_to_first, is_empty, is_used, used_from, used, kept, number, next_renumbered, renumbered, used_stages, with_used}
 use Rattle.used_stages.specs.declared.numbers.Numbers.{Numbers}
 use Rattle.used_stages.specs.Steps.{number_in, AreNumbers}
-use Rattle.used_stages.proofs.Lists.{within, number_first, kept_get, kept_from, number_less}
+use Rattle.used_stages.proofs.Lists.{number_first, kept_get, kept_from, number_less}
 use Rattle.used_stages.proofs.Ways.{one_here, one_elsewhere, one_of, ways_kept}
 use Rattle.used_stages.proofs.Moves.{after_so, act_so}
 
@@ -125,7 +126,7 @@ module _ (stages : List Stage) where
   at_new l s u e = get_mapped (renumbered new) (kept us stages) (new l) s (kept_get us stages l s u e)
 
   less_new : (l : ℕ) → l < length stages → IsKept l → new l < length after
-  less_new l lt there = let g = get_there stages l lt in within after (new l) (renumbered new g.0) (at_new l g.0 (there g.0 g.1) g.1)
+  less_new l lt there = let g = get_there stages l lt in slice_get_within after (new l) (renumbered new g.0) (at_new l g.0 (there g.0 g.1) g.1)
 
   -- where a stage comes from
   from : (k : ℕ) (t : Stage) → slice_get after k ≡ Some t →
@@ -236,7 +237,7 @@ module _ (stages : List Stage) where
 
       behind : m < q → ⊥
       behind lt =
-          let in_range = within stages q s e in
+          let in_range = slice_get_within stages q s e in
           let g = get_there stages m (omega (arith, lt, in_range)) in
           let h = number_less us m q (there g.0 g.1) lt in
           omega (arith, h, same)
@@ -334,7 +335,7 @@ module _ (stages : List Stage) where
     where
       by : (l : ℕ) (b : Block) → slice_get us l ≡ Some true → slice_get stages l ≡ Some (Run b) → new l ≡ k → renumbered new (Run b) ≡ empty → 0 < ways k after
       by l b u at is same =
-          let in_range = within stages l (Run b) at in
+          let in_range = slice_get_within stages l (Run b) at in
           let none = empty_from b first (omega (arith, in_range)) same in
           let apart : l ≢ 0 = λ z. off (sym is ∙ new_first l z) in
           let f : is_used stages l (Run b) ≡ true = (let h : Some (is_used stages l (Run b)) ≡ Some true = sym (flag l (Run b) at) ∙ u in cc) in

@@ -6,11 +6,6 @@ use Rattle.std.proofs.lemmas.List.{map-append, reverse-append}
 use Rattle.used_stages.specs.Used.{kept, number}
 use Rattle.used_stages.specs.Steps.{number_or}
 
-pub within : {A : Type 0} (xs : List A) (i : ℕ) (v : A) → slice_get xs i ≡ Some v → i < length xs
-within [] i v e = cc
-within (x ∷ xs) zero v e = omega arith
-within (x ∷ xs) (suc i) v e = let h = within xs i v e in omega arith
-
 pub number_first : (us : List Bool) → number us 0 ≡ 0
 number_first [] = refl
 number_first (u ∷ us) = refl

@@ -1,7 +1,9 @@
 -- Stages to which ways lead, marked stage after stage.
-use Rattle.std.proofs.Common.{◌≡◌, ◌≢◌, ℕ, zero, suc, ◌+◌, ◌<◌, ◌≤◌, Bool, true, false, List, [], ◌∷◌, ◌++◌, length, take, get_or, Some}
-use Rattle.std.proofs.Common.{refl, sym, ap, ◌∙◌, ⊎_elim, inl, inr, arith, lt-ltb}
-use Rattle.std.specs.Prelude.{◌⊎◌, ◌||◌, not, nat_eq, nat_lt, slice_get, slice_set, slice_index_or}
+use Rattle.std.proofs.Common.{◌≡◌, ℕ, zero, suc, ◌+◌, ◌<◌, ◌≤◌, Bool, true, false, List, [], ◌∷◌, ◌++◌, length, take, get_or, Some}
+use Rattle.std.proofs.Common.{refl, sym, ap, ◌∙◌, ⊎_elim, arith, lt-ltb}
+use Rattle.std.specs.Prelude.{◌||◌, not, nat_eq, nat_lt, slice_get, slice_set, slice_index_or}
+use Rattle.std.proofs.lemmas.List.{take_all, length-set}
+use Rattle.lists.proofs.Places.{set_element}
 use Rattle.block_ir.specs.declared.block.Next.{Next}
 use Rattle.block_ir.specs.declared.block.Next.TheVariants.{Jump, Branch}
 use Rattle.block_ir.specs.declared.code.Stage.{Stage}
@@ -11,18 +13,6 @@ use Rattle.used_stages.specs.Steps.{marked_next, marked, AreUnset, AreLed}
 use Rattle.used_stages.specs.Used.{is_empty, is_used, used_from, used}
 use Rattle.used_stages.proofs.Lists.{flag_at}
 use Rattle.used_stages.proofs.Ways.{one_here, one_elsewhere, ways_append}
-
-set_element : {A : Type 0} (xs : List A) (i y : ℕ) (v w : A) → slice_get (slice_set xs i v) y ≡ Some w → ((y ≡ i) × (w ≡ v)) ⊎ ((y ≢ i) × (slice_get xs y ≡ Some w))
-set_element [] i y v w e = cc
-set_element (x ∷ xs) zero zero v w e = inl (refl, cc)
-set_element (x ∷ xs) zero (suc y) v w e = inr (λ h. cc, e)
-set_element (x ∷ xs) (suc i) zero v w e = inr (λ h. cc, e)
-set_element (x ∷ xs) (suc i) (suc y) v w e = ⊎_elim (λ p. inl (ap suc p.0, p.1)) (λ p. inr (λ h. p.0 cc, p.1)) (set_element xs i y v w e)
-
-set_length : {A : Type 0} (xs : List A) (i : ℕ) (v : A) → length (slice_set xs i v) ≡ length xs
-set_length [] i v = refl
-set_length (x ∷ xs) zero v = refl
-set_length (x ∷ xs) (suc i) v = ap suc (set_length xs i v)
 
 -- the ways of these stages
 pub record Marked (count : ℕ) (done : List Stage) (led : List Bool) : Type 0 where
@@ -53,9 +43,9 @@ marked_length : (led : List Bool) (s : Stage) → length (marked led s) ≡ leng
 marked_length led (Run b) = by b.next
   where
     by : (nx : Next) → length (marked_next led nx) ≡ length led
-    by (Jump l) = set_length led l true
-    by (Branch test nonzero zero_) = set_length (slice_set led nonzero true) zero_ true ∙ set_length led nonzero true
-marked_length led (Act act next) = set_length led next true
+    by (Jump l) = length-set led l true
+    by (Branch test nonzero zero_) = length-set (slice_set led nonzero true) zero_ true ∙ length-set led nonzero true
+marked_length led (Act act next) = length-set led next true
 
 pub marked_none : (count : ℕ) (led : List Bool) → AreUnset count led → Marked count [] led
 marked_none count led h = record { size = h.0; is = λ m v e. h.1 m v e }
@@ -64,12 +54,6 @@ take_more : {A : Type 0} (ss : List A) (k : ℕ) (s : A) → k < length ss → s
 take_more [] k s h e = absurd (omega arith)
 take_more (t ∷ ts) zero s h e = ap (λ z. z ∷ []) (sym e)
 take_more (t ∷ ts) (suc k) s h e = ap (λ l. t ∷ l) (take_more ts k s (omega arith) e)
-
-take_whole : {A : Type 0} (ss : List A) (k : ℕ) → length ss ≤ k → take k ss ≡ ss
-take_whole [] zero h = refl
-take_whole [] (suc k) h = refl
-take_whole (t ∷ ts) zero h = absurd (omega arith)
-take_whole (t ∷ ts) (suc k) h = ap (λ l. t ∷ l) (take_whole ts k (omega arith))
 
 pub take_next : {A : Type 0} (ss : List A) (k : ℕ) (s : A) → k < length ss → s ≡ get_or ss k s → take (k + 1) ss ≡ take k ss ++ s ∷ []
 take_next ss k s lt item = let e : k + 1 ≡ suc k = omega arith in ap (λ n. take n ss) e ∙ take_more ss k s lt item
@@ -84,7 +68,7 @@ marked_more ss k s led new lt item is h = rw (take_next ss k s lt item, is) (rec
 })
 
 pub marked_all : (ss : List Stage) (k : ℕ) (led : List Bool) → length ss ≤ k → Marked (length ss) (take k ss) led → AreLed ss led
-marked_all ss k led h t = (t.size, λ m v e. t.is m v e ∙ ap (λ z. nat_lt 0 (ways m z)) (take_whole ss k h))
+marked_all ss k led h t = (t.size, λ m v e. t.is m v e ∙ ap (λ z. nat_lt 0 (ways m z)) (take_all k ss h))
 
 -- ---- which stages are used
 
@@ -112,7 +96,7 @@ used_more stages led us new k s v lt item are was more is =
     ∙ sym (ap (used_from stages 0) (take_next stages k s lt item) ∙ used_append stages 0 (take k stages) s)
 
 pub used_all : (stages : List Stage) (us : List Bool) (k : ℕ) → length stages ≤ k → us ≡ used_from stages 0 (take k stages) → us ≡ used stages
-used_all stages us k le is = is ∙ ap (used_from stages 0) (take_whole stages k le)
+used_all stages us k le is = is ∙ ap (used_from stages 0) (take_all k stages le)
 
 pub used_length : (all : List Stage) (n : ℕ) (xs : List Stage) → length (used_from all n xs) ≡ length xs
 used_length all n [] = refl

@@ -2,6 +2,7 @@
 use Rattle.std.proofs.Common.{◌≡◌, refl, sym, ap, ◌∙◌, subst, ℕ, suc, ◌+◌, ◌<◌, ◌≤◌, ◌^◌, ◌⊎◌, ⊎_elim, Bool, false, List, [], ◌++◌, map, length, append_assoc, arith}
 use Rattle.std.specs.Prelude.{slice_index}
 use Rattle.std.proofs.lemmas.Option.{same_Some}
+use Rattle.std.proofs.lemmas.List.{length-map}
 use Rattle.netlist.specs.declared.netlist.Module.{Module}
 use Rattle.verilog_meaning.specs.Cycles.{Valuation, IsSameIn, Runs, Reaches, initial_state}
 use Rattle.verilog_meaning.specs.Threads.{all_enabled}
@@ -17,7 +18,6 @@ use Rattle.vcd_text.proofs.Recovering.{recovers}
 use Rattle.net_registers.specs.declared.listing.Listing.{Listing}
 use Rattle.net_registers.specs.Marks.{Register, registers_of}
 use Rattle.net_registers.specs.Heads.{IsListing, width_of, place_of, head_lines}
-use Rattle.net_registers.proofs.Growing.{length-mapped}
 use Rattle.net_registers.proofs.Listed.{numbers_are, narrow_of}
 use Rattle.vcd_trace.specs.Trace.{AreNumbers, IsTraced}
 use Rattle.vcd_trace.specs.Tracing.{AreFrom, IsTracing}
@@ -148,7 +148,7 @@ module _ (first now asked : Running) (l : Listing) (most n : ℕ) (text numbers 
     tells = told_it.tells;
     all = all;
     recovers = λ k r le lt.
-        let long : length l.widths ≡ length gs = ap length is.listing.widths ∙ length-mapped width_of gs in
+        let long : length l.widths ≡ length gs = ap length is.listing.widths ∙ length-map gs width_of in
         ap (λ (t : List ℕ). recover t k r) (is.text_is ∙ ap (λ (h : List ℕ). h ++ frames l.widths is.values n) is.listing.head)
         ∙ recovers (head_lines is.listing.marks) l.widths is.values n k r is.listing.lines is.fit (narrow_of first l stands is.listing) few (omega (arith, within, small)) le
         (omega (arith, lt, long));

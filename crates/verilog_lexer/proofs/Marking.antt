@@ -5,6 +5,7 @@ use Rattle.std.specs.Cmp.Lexicographic.{pointwise}
 use Rattle.std.specs.Str.{bytes_eq}
 use Rattle.std.proofs.Common.{refl, sym, ap, ◌∙◌, get_or, arith}
 use Rattle.std.proofs.lemmas.Bool.{eqb-true, eq-eqb, and_parts}
+use Rattle.std.proofs.lemmas.List.{drop_more}
 use Rattle.verilog_tree.specs.declared.token.Word.{Word}
 use Rattle.verilog_tree.specs.declared.token.Mark.{Mark}
 use Rattle.verilog_tree.specs.declared.token.Mark.TheVariants as m
@@ -68,16 +69,9 @@ module _ (ws : List Word) (k : ℕ) (d w : Word) (z : Text) (whole : Option Word
       left ∙ word_step ws k d z lt ∙ ap (λ x. if bytes_eq z (word_spelling x) then Some x else word_among (drop (k + 1) ws) z) (sym is)
       ∙ ap (λ v. if v then Some w else word_among (drop (k + 1) ws) z) h
 
-front_of_list : (ms : List Mark) (k : ℕ) (d : Mark) → k < length ms → drop k ms ≡ get_or ms k d ∷ drop (k + 1) ms
-front_of_list [] k d lt = absurd (omega arith)
-front_of_list (m ∷ ms) zero d lt = refl
-front_of_list (m ∷ ms) (suc k) d lt = front_of_list ms k d (omega arith) ∙ ap (λ n. get_or ms k d ∷ drop n (m ∷ ms)) (shifted k) where
-  shifted : (n : ℕ) → suc (n + 1) ≡ suc n + 1
-  shifted n = omega arith
-
 module _ (ms : List Mark) (k : ℕ) (d m : Mark) (z : Text) (left : mark_among ms z ≡ mark_among (drop k ms) z) (is : m ≡ get_or ms k d) (lt : k < length ms) where
   begins : drop k ms ≡ m ∷ drop (k + 1) ms
-  begins = front_of_list ms k d lt ∙ ap (λ x. x ∷ drop (k + 1) ms) (sym is)
+  begins = drop_more ms k d lt ∙ ap (λ x. x ∷ drop (k + 1) ms) (sym is)
 
   pub mark_found : starts_with nat_eq z (mark_spelling m) ≡ true → IsMarkAmong ms z (Some (m, length (mark_spelling m)))
   mark_found h = (mark_long m, starts_long (mark_spelling m) z h, left ∙ ap (λ l. mark_among l z) begins ∙ mark_here m (drop (k + 1) ms) z h)

@@ -2,13 +2,14 @@
 use Rattle.std.proofs.Common.{◌≡◌, ℕ, suc, ◌+◌, ◌*◌, ◌%◌, ◌^◌, ◌<◌, ◌≤◌, List, [], ◌∷◌, length, drop, get_or, refl, sym, ap, ◌∙◌, subst, arith}
 use Rattle.std.proofs.Math.Nat.{mod-add-mod}
 use Rattle.std.proofs.lemmas.Nat.{mul-mod_first, mod_below, pow_pos}
+use Rattle.std.proofs.lemmas.List.{drop_all}
 use Rattle.hls_ints.specs.Words.{word}
 use Rattle.netlist.specs.declared.netlist.Module.{Module}
 use Rattle.netlist.specs.NetlistOf.{Name}
 use Rattle.verilog_meaning.specs.Readings.{Reading, joined, repeated, width}
 use Rattle.verilog_value.specs.declared.valuation.Valuation.{Valuation}
 use Rattle.verilog_value.specs.Value.{EachOf, IsWide, IsWideName, module_of, places, reading_of, standing_for, width_at}
-use Rattle.verilog_value.proofs.Places.{drop_end, rest_at}
+use Rattle.verilog_value.proofs.Places.{rest_at}
 
 pub is_small : (x v : ℕ) → x ≡ v → x < 2 ^ 64 → x ≡ word 64 v
 is_small x v e l = grind arith
@@ -48,7 +49,7 @@ module _ (v : Valuation) where
 
   -- no part more
   pub joined_end : (xs : List Name) (i above total : ℕ) → length xs ≤ i → total ≡ word 64 (side (drop i xs) above) → above < 2 ^ 64 → above ≡ total
-  joined_end xs i above total l e small = is_small above above refl small ∙ sym (e ∙ ap (λ (ys : List Name). word 64 (side ys above)) (drop_end xs i l))
+  joined_end xs i above total l e small = is_small above above refl small ∙ sym (e ∙ ap (λ (ys : List Name). word 64 (side ys above)) (drop_all i xs l))
 
 -- one copy more
 pub repeated_next : (i w n above out : ℕ) → above ≡ word 64 (repeated i w n) → out ≡ word 64 (above * 2 ^ w + n) → out ≡ word 64 (repeated (i + 1) w n)

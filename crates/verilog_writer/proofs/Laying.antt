@@ -1,6 +1,7 @@
 -- What is laid out splits into its tokens.
 use Rattle.std.proofs.Common.{◌≡◌, ℕ, zero, suc, ◌+◌, ◌<◌, List, [], ◌∷◌, ◌++◌, Some, Bool, true, false, refl, sym, ap, ◌∙◌, subst, append_assoc, add-one, length, take, get_or, arith}
 use Rattle.std.specs.Prelude.{if◌then◌else◌, Result, Ok, Err, IfOk}
+use Rattle.std.proofs.lemmas.List.{append-nil}
 use Rattle.verilog_tree.specs.declared.token.Word.TheVariants as w
 use Rattle.verilog_tree.specs.declared.token.Mark.TheVariants as m
 use Rattle.verilog_tree.specs.declared.token.Token.{Token}
@@ -162,10 +163,7 @@ all_tokens_append (x ∷ xs) ys h k = (h.0, all_tokens_append xs ys h.1 k)
 module _ {A : Type 0} (f : A → List Token) where
   all_take : (xs : List A) (i : ℕ) (x : A) → x ≡ get_or xs i x → i < length xs → g.all f (take (suc i) xs) ≡ g.all f (take i xs) ++ f x
   all_take [] i x e lt = absurd (omega arith)
-  all_take (y ∷ xs) zero x e lt = no_more (f y) ∙ ap f (sym e) where
-    no_more : (l : List Token) → l ++ [] ≡ l
-    no_more [] = refl
-    no_more (z ∷ l) = ap (λ k. z ∷ k) (no_more l)
+  all_take (y ∷ xs) zero x e lt = append-nil (f y) ∙ ap f (sym e)
   all_take (y ∷ xs) (suc i) x e lt = ap (λ l. f y ++ l) (all_take xs i x e (omega arith)) ∙ sym (append_assoc (f y) (g.all f (take i xs)) (f x))
 
   pub all_next : (a b c : Text) (xs : List A) (i : ℕ) (x : A) → b ≡ put_all a (g.all f (take i xs)) → c ≡ put_all b (f x) → x ≡ get_or xs i x → i < length xs

@@ -1,18 +1,10 @@
-use Rattle.std.proofs.Common.{length}
-use Rattle.block_datapath.specs.Accesses.{AsksFirst, AreAccessLinks, AsksBlock, IsAskingBlock}
-use Rattle.block_datapath.proofs.Chaining.{on_ok}
+use Rattle.std.proofs.lemmas.Result.{on_ok_weaker}
 use Rattle.block_datapath.proofs.Accessing.{block_asked, block_linked}
 use Rattle.block_datapath.proofs.accesses.ask_block.Goals as goal
 
 pub returns-clause-shows : goal.returns-clause-shows
 returns-clause-shows c =
-    on_ok c.ask_all.result
-    (AsksFirst c.registered_values.new.wires.signals c.ask_all.new.wires.signals c.args.registers.now c.args.code.now.variables c.as_slice-given.result.now c.args.chains.now
-    c.ask_all.new.chains
-    c.args.globals.now c.args.spreads.now c.args.block.now c.args.plan.now c.end_of-end.result (length c.args.block.now.operations))
-    (AsksBlock c.args.globals.now c.args.spreads.now c.args.code.now c.args.registers.now c.args.stage c.args.block.now c.args.plan.now c.args.wires.now.signals
-    c.ask_all.new.wires.signals
-    c.args.chains.now c.ask_all.new.chains)
+    on_ok_weaker c.ask_all.result
     (λ last.
     block_asked c.args.globals.now c.args.spreads.now c.args.code.now c.args.registers.now c.args.stage c.args.block.now c.args.plan.now c.args.wires.now.signals
     c.at_stage.new.wires.signals
@@ -22,12 +14,7 @@ returns-clause-shows c =
 
 pub returns-clause-wired : goal.returns-clause-wired
 returns-clause-wired c =
-    on_ok c.ask_all.result
-    (AreAccessLinks c.registered_values.new.wires.signals c.ask_all.new.wires.signals c.args.registers.now c.args.code.now.variables c.as_slice-given.result.now c.args.chains.now
-    c.ask_all.new.chains c.args.globals.now c.args.spreads.now c.end_of-end.result)
-    (IsAskingBlock c.args.globals.now c.args.spreads.now c.args.code.now c.args.registers.now c.args.stage c.args.block.now c.args.plan.now c.args.wires.now.signals
-    c.ask_all.new.wires.signals
-    c.args.chains.now c.ask_all.new.chains)
+    on_ok_weaker c.ask_all.result
     (λ last.
     block_linked c.args.globals.now c.args.spreads.now c.args.code.now c.args.registers.now c.args.stage c.args.block.now c.args.plan.now c.args.wires.now.signals
     c.at_stage.new.wires.signals

@@ -1,23 +1,17 @@
-use Rattle.std.proofs.Common.{List, Some, subst}
+use Rattle.std.proofs.Common.{List, subst}
+use Rattle.std.proofs.lemmas.Result.{on_ok_weaker}
 use Rattle.hls_ints.specs.Types.{IntegerType}
 use Rattle.thread_promise.specs.Types.{operand_type}
 use Rattle.block_datapath.specs.declared.requests.BankAccess.{BankAccess}
 use Rattle.block_datapath.specs.Seen.{ShowsOperand}
 use Rattle.block_datapath.specs.Wired.{IsSourced}
-use Rattle.block_datapath.specs.Requests.{AsksBank, AreAsksAdded}
-use Rattle.block_datapath.specs.Accesses.{AsksIndex, AreIndexLinks}
-use Rattle.block_datapath.proofs.Chaining.{on_ok}
 use Rattle.block_datapath.proofs.Accessing.{index_asked, index_linked}
 use Rattle.block_datapath.proofs.accesses.ask_index.Goals as goal
 
 pub returns-clause-shows : goal.returns-clause-shows
 returns-clause-shows c =
     let access : BankAccess = record { state = c.in_ok-state.state; writes = c.in_ok-flag.flag; address = c.in_ok-address.address; value = c.args.value.place } in
-    on_ok c.ask_bank.result (AsksBank c.constant.new.self.signals c.ask_bank.new.wires.signals c.args.chains.now c.ask_bank.new.chains c.args.spread c.in_ok-wide.wide.place access)
-    (AsksIndex c.args.wires.now.signals c.ask_bank.new.wires.signals c.args.registers.now c.args.code.now.variables c.args.values.now c.args.chains.now c.ask_bank.new.chains
-    c.args.moment
-    (Some c.args.spread) c.args.index.now c.args.writes c.args.value)
-    (λ last.
+    on_ok_weaker c.ask_bank.result (λ last.
     index_asked c.args.registers.now c.args.code.now.variables c.args.values.now c.args.chains.now c.ask_bank.new.chains c.args.moment c.args.wires.now.signals
     c.in_state.new.wires.signals
     c.operand_word.new.wires.signals c.converted.new.self.signals c.bank_address.new.wires.signals c.constant.new.self.signals c.ask_bank.new.wires.signals c.args.spread
@@ -33,11 +27,7 @@ returns-clause-shows c =
 pub returns-clause-wired : goal.returns-clause-wired
 returns-clause-wired c =
     let access : BankAccess = record { state = c.in_ok-state.state; writes = c.in_ok-flag.flag; address = c.in_ok-address.address; value = c.args.value.place } in
-    on_ok c.ask_bank.result
-    (AreAsksAdded c.constant.new.self.signals c.ask_bank.new.wires.signals c.args.spread c.args.value.width c.in_ok-wide.wide.place access c.args.chains.now c.ask_bank.new.chains)
-    (AreIndexLinks c.args.wires.now.signals c.ask_bank.new.wires.signals c.args.registers.now c.args.code.now.variables c.args.values.now c.args.chains.now c.ask_bank.new.chains
-    c.args.moment
-    (Some c.args.spread) c.args.value)
+    on_ok_weaker c.ask_bank.result
     (λ last.
     index_linked c.args.registers.now c.args.code.now.variables c.args.values.now c.args.chains.now c.ask_bank.new.chains c.args.moment c.args.wires.now.signals
     c.in_state.new.wires.signals

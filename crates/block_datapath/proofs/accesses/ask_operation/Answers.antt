@@ -1,18 +1,13 @@
-use Rattle.std.proofs.Common.{ℕ, refl, sym, subst}
+use Rattle.std.proofs.Common.{refl, sym, subst}
+use Rattle.std.proofs.lemmas.Result.{on_ok_weaker}
 use Rattle.block_ir.specs.declared.block.Operation.{Operation}
-use Rattle.block_ir.specs.declared.block.Operation.TheVariants.{ReadGlobal, WriteGlobal}
 use Rattle.block_datapath.specs.Accesses.{AsksOperation}
-use Rattle.block_datapath.proofs.Chaining.{on_ok}
 use Rattle.block_datapath.proofs.Accessing.{silent_asked, silent_linked}
 use Rattle.block_datapath.proofs.accesses.ask_operation.Goals as goal
 
 pub returns-in-ReadGlobal-clause-shows : goal.returns-in-ReadGlobal-clause-shows
 returns-in-ReadGlobal-clause-shows c =
-    on_ok c.ask_read.result
-    ((n : ℕ) → AsksOperation c.args.wires.now.signals c.ask_read.new.wires.signals c.args.registers.now c.args.code.now.variables c.args.values.now c.args.chains.now
-    c.ask_read.new.chains c.args.globals.now c.args.spreads.now c.args.moment (ReadGlobal c.in-ReadGlobal.global n c.in-ReadGlobal.index))
-    (AsksOperation c.args.wires.now.signals c.ask_read.new.wires.signals c.args.registers.now c.args.code.now.variables c.args.values.now c.args.chains.now
-    c.ask_read.new.chains c.args.globals.now c.args.spreads.now c.args.moment c.args.operation.now)
+    on_ok_weaker c.ask_read.result
     (λ t.
     subst (λ (o : Operation). AsksOperation c.args.wires.now.signals c.ask_read.new.wires.signals c.args.registers.now c.args.code.now.variables c.args.values.now c.args.chains.now
     c.ask_read.new.chains c.args.globals.now c.args.spreads.now c.args.moment o)
@@ -21,11 +16,7 @@ returns-in-ReadGlobal-clause-shows c =
 
 pub returns-in-WriteGlobal-clause-shows : goal.returns-in-WriteGlobal-clause-shows
 returns-in-WriteGlobal-clause-shows c =
-    on_ok c.ask_write.result
-    ((n : ℕ) → AsksOperation c.args.wires.now.signals c.ask_write.new.wires.signals c.args.registers.now c.args.code.now.variables c.args.values.now c.args.chains.now
-    c.ask_write.new.chains c.args.globals.now c.args.spreads.now c.args.moment (WriteGlobal c.in-WriteGlobal.global n c.in-WriteGlobal.index c.in-WriteGlobal.value))
-    (AsksOperation c.args.wires.now.signals c.ask_write.new.wires.signals c.args.registers.now c.args.code.now.variables c.args.values.now c.args.chains.now
-    c.ask_write.new.chains c.args.globals.now c.args.spreads.now c.args.moment c.args.operation.now)
+    on_ok_weaker c.ask_write.result
     (λ t.
     subst (λ (o : Operation). AsksOperation c.args.wires.now.signals c.ask_write.new.wires.signals c.args.registers.now c.args.code.now.variables c.args.values.now
     c.args.chains.now

@@ -1,23 +1,15 @@
-use Rattle.std.proofs.Common.{ℕ, List, true, subst}
+use Rattle.std.proofs.Common.{List, subst}
+use Rattle.std.proofs.lemmas.Result.{on_ok_weaker}
 use Rattle.hls_ints.specs.Types.{IntegerType}
-use Rattle.block_ir.specs.declared.block.Operation.TheVariants.{WriteGlobal}
 use Rattle.thread_promise.specs.Types.{operand_type}
 use Rattle.block_datapath.specs.Seen.{ShowsOperand}
 use Rattle.block_datapath.specs.Wired.{IsSourced}
-use Rattle.block_datapath.specs.Accesses.{AsksIndex, AsksOperation, AreIndexLinks, AreAccessLinks}
-use Rattle.block_datapath.proofs.Chaining.{on_ok}
 use Rattle.block_datapath.proofs.Accessing.{write_asked, write_linked}
 use Rattle.block_datapath.proofs.accesses.ask_write.Goals as goal
 
 pub returns-clause-shows : goal.returns-clause-shows
 returns-clause-shows c =
-    on_ok c.ask_spread.result
-    (AsksIndex c.converted.new.self.signals c.ask_spread.new.wires.signals c.args.registers.now c.args.code.now.variables c.args.values.now c.args.chains.now
-    c.ask_spread.new.chains c.args.moment
-    c.spread_at-spread.result c.args.index.now true c.in_ok-own.own)
-    ((n : ℕ) → AsksOperation c.args.wires.now.signals c.ask_spread.new.wires.signals c.args.registers.now c.args.code.now.variables c.args.values.now c.args.chains.now
-    c.ask_spread.new.chains c.args.globals.now c.args.spreads.now
-    c.args.moment (WriteGlobal c.args.global n c.args.index.now c.args.value.now))
+    on_ok_weaker c.ask_spread.result
     (λ last n.
     write_asked c.args.registers.now c.args.code.now.variables c.args.values.now c.args.chains.now c.ask_spread.new.chains c.args.moment c.args.globals.now c.args.spreads.now
     c.args.wires.now.signals
@@ -32,13 +24,7 @@ returns-clause-shows c =
 
 pub returns-clause-wired : goal.returns-clause-wired
 returns-clause-wired c =
-    on_ok c.ask_spread.result
-    (AreIndexLinks c.converted.new.self.signals c.ask_spread.new.wires.signals c.args.registers.now c.args.code.now.variables c.args.values.now c.args.chains.now
-    c.ask_spread.new.chains c.args.moment
-    c.spread_at-spread.result c.in_ok-own.own)
-    (AreAccessLinks c.args.wires.now.signals c.ask_spread.new.wires.signals c.args.registers.now c.args.code.now.variables c.args.values.now c.args.chains.now
-    c.ask_spread.new.chains c.args.globals.now c.args.spreads.now
-    c.args.moment)
+    on_ok_weaker c.ask_spread.result
     (λ last.
     write_linked c.args.registers.now c.args.code.now.variables c.args.values.now c.args.chains.now c.ask_spread.new.chains c.args.moment c.args.globals.now c.args.spreads.now
     c.args.wires.now.signals

@@ -1,11 +1,11 @@
-use Rattle.circuit.proofs.Growth.{got}
+use Rattle.std.proofs.lemmas.Option.{slice_get-get_or}
 use Rattle.block_datapath.proofs.Leaving.{sets_none, sets_more}
 use Rattle.block_datapath.proofs.Linking.{sets_nothing, sets_one_more}
 use Rattle.block_datapath.proofs.ending.set_finals.Goals as goal
 
 pub loop-finish-preserved : goal.loop-finish-preserved
 loop-finish-preserved c =
-    let next = got c.args.finishes.now c.loop-finish.finish-index _ c.loop-finish-test.true in (
+    let next = slice_get-get_or c.args.finishes.now c.loop-finish.finish-index _ c.loop-finish-test.true in (
       sets_more c.args.wires.now.signals c.loop-finish.wires.signals c.set_next.new.wires.signals c.args.last c.args.nexts.now c.loop-finish.nexts c.set_next.new.nexts
           c.args.finishes.now
           c.loop-finish.finish-index _ c.loop-finish.invariant.0 next c.in_ok-set_next.ensures.shows,

@@ -1,5 +1,5 @@
 use Rattle.std.proofs.Common.{◌≡◌, ℕ, length, subst, arith}
-use Rattle.circuit.proofs.Growth.{got}
+use Rattle.std.proofs.lemmas.Option.{slice_get-get_or}
 use Rattle.block_datapath.specs.Chains.{KeepsFirst}
 use Rattle.block_datapath.specs.Wired.{ValuesStand}
 use Rattle.block_datapath.proofs.Chaining.{keeps_none, keeps_more}
@@ -8,7 +8,7 @@ use Rattle.block_datapath.proofs.keeping.keep_all.Goals as goal
 
 pub loop-given-preserved : goal.loop-given-preserved
 loop-given-preserved c =
-    let next = got c.args.values.now c.loop-given.given-index _ c.loop-given-test.true in (
+    let next = slice_get-get_or c.args.values.now c.loop-given.given-index _ c.loop-given-test.true in (
       keeps_more c.args.wires.now.signals c.loop-given.wires.signals c.keep.new.wires.signals c.args.registers.now c.args.end.at c.args.end.states c.args.nexts.now
           c.loop-given.nexts c.keep.new.nexts
           c.args.values.now c.loop-given.given-index _ c.loop-given.invariant.0 next c.in_ok-keep.ensures.shows,

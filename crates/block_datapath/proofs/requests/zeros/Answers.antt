@@ -1,13 +1,13 @@
 use Rattle.std.proofs.Common.{◌≡◌, ℕ, length, ap, subst, ◌∙◌, arith}
 use Rattle.std.specs.Prelude.{slice_get}
-use Rattle.circuit.proofs.Growth.{got}
+use Rattle.std.proofs.lemmas.Option.{slice_get-get_or}
 use Rattle.block_datapath.specs.Requests.{ShowsZeros}
 use Rattle.block_datapath.proofs.Zeroing.{zeros_none, zeros_more, first_none, first_more, first_all}
 use Rattle.block_datapath.proofs.requests.zeros.Goals as goal
 
 pub loop-width-preserved : goal.loop-width-preserved
 loop-width-preserved c =
-    let here = got c.args.widths.now c.loop-width.width-index _ c.loop-width-test.true in (
+    let here = slice_get-get_or c.args.widths.now c.loop-width.width-index _ c.loop-width-test.true in (
       zeros_more c.args.wires.now.signals c.loop-width.wires.signals c.constant.new.self.signals c.loop-width.width-index _ c.in_ok-zero.zero c.loop-width.zeros c.push.new.self
           c.loop-width.invariant.0 c.in_ok-zero.ensures.shows c.in_ok-push.ensures.ok,
       first_more c.args.wires.now.signals c.loop-width.wires.signals c.constant.new.self.signals c.args.widths.now c.loop-width.zeros c.push.new.self _ c.in_ok-zero.zero

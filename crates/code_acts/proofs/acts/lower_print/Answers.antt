@@ -1,11 +1,11 @@
 use Rattle.std.proofs.Common.{◌≡◌, ◌+◌, length, sym, ap, ◌∙◌, subst}
+use Rattle.std.proofs.lemmas.List.{length-map}
 use Rattle.code_places.specs.declared.lowering.Lowering.{Lowering}
 use Rattle.code_places.proofs.Proceeding.{acts_proceed}
 use Rattle.c_program.specs.Plain.{expression_of, expressions_of, pieces_of}
 use Rattle.straight_code.specs.declared.open_block.OpenBlock.{OpenBlock}
 use Rattle.straight_code.specs.Printing.{word_operands, PutsValues}
 use Rattle.straight_code.specs.Typing.{WorksOnValues}
-use Rattle.straight_code.proofs.Words.{map_length}
 use Rattle.code_acts.proofs.Acting.{print_leads}
 use Rattle.code_acts.proofs.acts.lower_print.Goals as goal
 
@@ -15,7 +15,7 @@ returns-clause-lowers c = λ offset P around on.
     let es = expressions_of c.args.arguments.now in
     let first = c.in_ok-first.first in
     let operands : c.in_ok-values.values ≡ word_operands first (length es) =
-    c.in_ok-values.ensures.operands ∙ ap (word_operands first) (sym (map_length expression_of c.args.arguments.now)) in
+    c.in_ok-values.ensures.operands ∙ ap (word_operands first) (sym (length-map c.args.arguments.now expression_of)) in
     print_leads P (pieces_of c.args.format.now) es old c.skip_sites.new.self c.act.new.self c.lower_values.new.block c.in_ok-types.types c.in_ok-values.values c.site-site.result first
     c.in_ok-first.ensures.word c.in_ok-types.ensures
     (subst (λ hs. PutsValues hs first c.in_ok-types.types es old.block c.lower_values.new.block) c.as_slice.ensures

@@ -1,6 +1,7 @@
 use Rattle.std.proofs.Common.{◌≡◌, ◌+◌, ◌-◌, ◌&&◌, true, false, Some, refl, sym, ap, ◌∙◌, subst, arith}
 use Rattle.std.specs.Prelude.{is_some, slice_get}
 use Rattle.std.proofs.lemmas.Result.{err_from_is_err_and}
+use Rattle.std.proofs.lemmas.Bool.{and_parts}
 use Rattle.c_program.specs.Limits.{print_count}
 use Rattle.c_program.specs.Plain.{function_of, place_of, program_of, returned_of, right_side_of, condition_of, expressions_of, statement_of}
 use Rattle.c_program.specs.Tree.{RightSide, Statement}
@@ -15,7 +16,7 @@ use Rattle.code_control.proofs.Proceeding.{choice_targets, choice_back_first, ch
 use Rattle.code_control.proofs.Proceeding.{while_proceeds, while_targets, while_head, while_leaving, do_proceeds, do_targets}
 use Rattle.code_control.proofs.Proceeding.{do_turning, do_leaving, do_apart, for_proceeds, for_targets, for_turning, for_head, for_leaving}
 use Rattle.code_control.proofs.Proceeding.{turn_back_target, do_back_target, for_back_target}
-use Rattle.ir_lower.proofs.Proceeding.{both_taken, taken_body}
+use Rattle.ir_lower.proofs.Proceeding.{taken_body}
 use Rattle.code_calls.proofs.Proceeding.{call_back_target}
 use Rattle.code_calls.proofs.Proceeding.{done_open, done_back, calls_proceed, delivers_proceed, hands_proceed, closed_reached}
 use Rattle.code_calls.proofs.Continuing.{call_lowers, call_assigned, call_returned}
@@ -33,7 +34,7 @@ lower_statement-loop-rest-preserved t c =
     let is : statement_of c.loop-rest.rest.now ≡ Statement.Sequence (statement_of c.deref.result.now) (statement_of c.deref-rest.result.now) =
     ap statement_of c.in-Sequence.is ∙ ap (λ z. Statement.Sequence (statement_of z) (statement_of c.in-Sequence.next.value)) (sym c.deref.ensures)
     ∙ ap (λ z. Statement.Sequence (statement_of c.deref.result.now) (statement_of z)) (sym c.deref-rest.ensures) in
-    let part = both_taken (is_taken (is_some c.args.around) (statement_of c.deref.result.now)) (is_taken (is_some c.args.around) (statement_of c.deref-rest.result.now))
+    let part = and_parts (is_taken (is_some c.args.around) (statement_of c.deref.result.now)) (is_taken (is_some c.args.around) (statement_of c.deref-rest.result.now))
     (sym (ap (is_taken (is_some c.args.around)) is) ∙ c.loop-rest.invariant.taken) in
     record {
       taken = part.1;
@@ -102,7 +103,7 @@ lower_statement-lower_statement-requires t c =
       (
         c.requires.functions,
         (
-          (both_taken (is_taken (is_some c.args.around) (statement_of c.deref.result.now)) (is_taken (is_some c.args.around) (statement_of c.in-Sequence.next.value))
+          (and_parts (is_taken (is_some c.args.around) (statement_of c.deref.result.now)) (is_taken (is_some c.args.around) (statement_of c.in-Sequence.next.value))
               (sym (ap (is_taken (is_some c.args.around)) (is)) ∙ c.loop-rest.invariant.taken)).0,
           (
             targets_after c.args.around c.args.code.now.stages c.loop-rest.code.stages c.loop-rest.invariant.proceeds.advances c.requires.targets,
@@ -137,7 +138,7 @@ lower_statement-lower_statement-requires-in-If t c =
       (
         c.requires.functions,
         (
-          (both_taken (is_taken (is_some c.args.around) (statement_of c.deref-in-If.result.now)) (is_taken (is_some c.args.around) (statement_of c.in-If.alternative.value))
+          (and_parts (is_taken (is_some c.args.around) (statement_of c.deref-in-If.result.now)) (is_taken (is_some c.args.around) (statement_of c.in-If.alternative.value))
               (sym (ap (is_taken (is_some c.args.around)) is) ∙ c.loop-rest.invariant.taken)).0,
           (
             targets_after c.args.around c.args.code.now.stages c.open_choice.new.code.stages
@@ -159,7 +160,7 @@ lower_statement-lower_statement-requires-in-If-2 t c =
       (
         c.requires.functions,
         (
-          (both_taken (is_taken (is_some c.args.around) (statement_of c.in-If.consequent.value)) (is_taken (is_some c.args.around) (statement_of c.deref-in-If-2.result.now))
+          (and_parts (is_taken (is_some c.args.around) (statement_of c.in-If.consequent.value)) (is_taken (is_some c.args.around) (statement_of c.deref-in-If-2.result.now))
               (sym (ap (is_taken (is_some c.args.around)) is) ∙ c.loop-rest.invariant.taken)).1,
           (
             choice_targets c.args.around (condition_of c.in-If.condition) c.in_ok-labels-in-If.labels c.args.code.now c.loop-rest.code c.open_choice.new.code
@@ -219,8 +220,8 @@ lower_statement-lower_statement-requires-in-For-2 t c =
       (
         c.requires.functions,
         (
-          (both_taken (is_taken false (statement_of c.in-For.last.value)) (is_taken true (statement_of c.deref-in-For-3.result.now))
-              (both_taken (is_taken false (statement_of c.in-For.first.value)) (is_taken false (statement_of c.in-For.last.value) && is_taken true
+          (and_parts (is_taken false (statement_of c.in-For.last.value)) (is_taken true (statement_of c.deref-in-For-3.result.now))
+              (and_parts (is_taken false (statement_of c.in-For.first.value)) (is_taken false (statement_of c.in-For.last.value) && is_taken true
               (statement_of c.deref-in-For-3.result.now))
               (sym (ap (is_taken (is_some c.args.around)) is) ∙ c.loop-rest.invariant.taken)).1).1,
           (
@@ -613,7 +614,7 @@ lower_statement-lower_statement-requires-in-For t c =
       (
         c.requires.functions,
         (
-          (both_taken (is_taken false (statement_of c.deref-in-For.result.now)) (is_taken false (statement_of c.in-For.last.value) && is_taken true (statement_of c.in-For.body.value))
+          (and_parts (is_taken false (statement_of c.deref-in-For.result.now)) (is_taken false (statement_of c.in-For.last.value) && is_taken true (statement_of c.in-For.body.value))
               (sym (ap (is_taken (is_some c.args.around)) is) ∙ c.loop-rest.invariant.taken)).0,
           (
             tt,
@@ -633,8 +634,8 @@ lower_statement-lower_statement-requires-in-For-3 t c =
       (
         c.requires.functions,
         (
-          (both_taken (is_taken false (statement_of c.deref-in-For-4.result.now)) (is_taken true (statement_of c.in-For.body.value))
-              (both_taken (is_taken false (statement_of c.in-For.first.value)) (is_taken false (statement_of c.deref-in-For-4.result.now) && is_taken true (statement_of c.in-For.body.value))
+          (and_parts (is_taken false (statement_of c.deref-in-For-4.result.now)) (is_taken true (statement_of c.in-For.body.value))
+              (and_parts (is_taken false (statement_of c.in-For.first.value)) (is_taken false (statement_of c.deref-in-For-4.result.now) && is_taken true (statement_of c.in-For.body.value))
               (sym (ap (is_taken (is_some c.args.around)) is) ∙ c.loop-rest.invariant.taken)).1).0,
           (
             tt,

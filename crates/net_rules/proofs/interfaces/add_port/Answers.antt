@@ -2,11 +2,12 @@ use Rattle.std.proofs.Common.{◌≡◌, ◌++◌, ◌∷◌, [], List, None, fa
 use Rattle.std.specs.Prelude.{is_some, if◌then◌else◌}
 use Rattle.std.specs.Str.{bytes_eq}
 use Rattle.std.specs.Map.{lookup}
+use Rattle.std.proofs.lemmas.List.{map_push}
 use Rattle.lists.proofs.Places.{none_of}
 use Rattle.verilog_tree.specs.declared.tree.Port.{Port}
 use Rattle.verilog_tree.specs.Scope.{Name}
 use Rattle.net_rules.specs.Tables.{plain_port, is_named}
-use Rattle.net_rules.proofs.Tables.{new-entry, pushed}
+use Rattle.net_rules.proofs.Tables.{new-entry}
 use Rattle.net_rules.proofs.PortTables.{lookup-ports, some_copied}
 use Rattle.net_rules.proofs.interfaces.add_port.Goals as goal
 
@@ -21,5 +22,5 @@ returns c =
     ∙ ap (λ n. is_named table n) name ∙ unknown) in
     let added : List (Name × Port) = table ++ (c.args.port.now.name, c.args.port.now) ∷ [] in
     ap (map plain_port) (c.in_ok-insert.ensures.entries ∙ new-entry c.as_bytes.result c.args.port c.args.named.now.entries none)
-    ∙ pushed plain_port (c.as_bytes.result, c.args.port) c.args.named.now.entries ∙ (λ i. table ++ (name i, c.args.port.now) ∷ [])
+    ∙ map_push plain_port c.args.named.now.entries (c.as_bytes.result, c.args.port) ∙ (λ i. table ++ (name i, c.args.port.now) ∷ [])
     ∙ sym (ap (λ b. if b then table else added) unknown)

@@ -1,11 +1,12 @@
-use Rattle.std.proofs.Common.{arith}
-use Rattle.op_graph.proofs.NodeList.{nodes_next, item_is, use_earlier, whole}
+use Rattle.std.proofs.Common.{arith, length, refl}
+use Rattle.std.proofs.lemmas.Option.{slice_get_read}
+use Rattle.op_graph.proofs.NodeList.{nodes_next, use_earlier, whole}
 use Rattle.op_graph.proofs.node.nodes.Goals as goal
 
 pub loop-number-preserved : goal.loop-number-preserved
 loop-number-preserved c =
     nodes_next c.args.operations.now c.loop-number.number c.index-operations-number.result c.loop-number.nodes.items c.push.new.self.items
-    (item_is c.args.operations.now c.loop-number.number c.index-operations-number.result c.loop-number-test.true c.index-operations-number.is)
+    (slice_get_read c.args.operations.now (length c.args.operations.now) c.loop-number.number c.index-operations-number.result refl c.loop-number-test.true c.index-operations-number.is)
     c.loop-number.invariant (rw c.make_node.ensures at c.in_ok-push.ensures.items)
 
 pub returns-clause-earlier : goal.returns-clause-earlier

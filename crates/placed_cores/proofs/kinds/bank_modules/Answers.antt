@@ -1,6 +1,6 @@
 use Rattle.std.proofs.Common.{◌≡◌, ◌+◌, List, Some, slice_get, sym, ap, ◌∙◌, subst}
+use Rattle.std.proofs.lemmas.Option.{slice_get-get_or}
 use Rattle.netlist.specs.declared.netlist.Module.{Module}
-use Rattle.circuit.proofs.Growth.{got}
 use Rattle.core_family.specs.Family.{Bank, IsCoreModule}
 use Rattle.placed_cores.specs.Kinds.{AreBankModules, IsWantedBank}
 use Rattle.placed_cores.proofs.Modules.{wanted_at, no_modules, one_module_more}
@@ -15,7 +15,7 @@ loop-bank-preserved c =
     let i = c.loop-bank.bank-index in
     let b = c.bank-item.result in
     let m = c.in_ok-made.made in
-    let at : slice_get banks i ≡ Some b = got banks i _ c.loop-bank-test.true ∙ ap Some (sym c.bank-item.is) in
+    let at : slice_get banks i ≡ Some b = slice_get-get_or banks i _ c.loop-bank-test.true ∙ ap Some (sym c.bank-item.is) in
     let right : IsWantedBank c.args.threads b = wanted_at banks i b c.requires at in
     let is : IsCoreModule c.args.threads (Bank b) m = record {
       asked_by = right.asked_by;

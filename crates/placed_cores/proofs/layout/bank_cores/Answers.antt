@@ -1,5 +1,5 @@
 use Rattle.std.proofs.Common.{◌≡◌, ◌+◌, List, [], ◌∷◌, ◌++◌, take, Some, slice_get, sym, ap, ◌∙◌, arith}
-use Rattle.circuit.proofs.Growth.{got}
+use Rattle.std.proofs.lemmas.Option.{slice_get-get_or}
 use Rattle.top_wiring.specs.declared.layout.Core.{Core}
 use Rattle.top_wiring.specs.Parts.{each_from}
 use Rattle.placed_cores.specs.Laying.{bank_core}
@@ -12,7 +12,7 @@ loop-bank-preserved c =
     let first = c.args.first in
     let i = c.loop-bank.bank-index in
     let b = c.bank-item.result in
-    let at : slice_get banks i ≡ Some b = got banks i _ c.loop-bank-test.true ∙ ap Some (sym c.bank-item.is) in
+    let at : slice_get banks i ≡ Some b = slice_get-get_or banks i _ c.loop-bank-test.true ∙ ap Some (sym c.bank-item.is) in
     let core : c.in_ok-core.core ≡ bank_core (first + i) b = c.in_ok-core.ensures ∙ ap (λ n. bank_core n b) c.loop-bank.invariant.counted in
     record {
       made = c.in_ok-push.ensures.ok

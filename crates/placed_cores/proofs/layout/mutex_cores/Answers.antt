@@ -1,5 +1,5 @@
 use Rattle.std.proofs.Common.{◌≡◌, ◌+◌, List, [], ◌∷◌, ◌++◌, get_or, take, Some, false, slice_get, sym, ap, ◌∙◌, arith}
-use Rattle.circuit.proofs.Growth.{got}
+use Rattle.std.proofs.lemmas.Option.{slice_get-get_or}
 use Rattle.mutex_cores.specs.declared.mutex.Shape.{Shape as MutexShape}
 use Rattle.top_wiring.specs.declared.layout.Core.{Core}
 use Rattle.top_wiring.specs.Parts.{each_from}
@@ -12,7 +12,7 @@ loop-mutex-preserved c =
     let mutexes = c.args.mutexes.now in
     let i = c.loop-mutex.mutex-index in
     let m : MutexShape = get_or mutexes i (record { threads = 0; initialised = false }) in
-    let at : slice_get mutexes i ≡ Some m = got mutexes i (record { threads = 0; initialised = false }) c.loop-mutex-test.true in
+    let at : slice_get mutexes i ≡ Some m = slice_get-get_or mutexes i (record { threads = 0; initialised = false }) c.loop-mutex-test.true in
     let zero : i ≡ 0 + i = omega arith in
     let core : c.in_ok-core.core ≡ either_mutex c.args.unset c.args.free (0 + i) m =
     c.in_ok-core.ensures ∙ ap (λ p. mutex_core p c.loop-mutex.n) c.either_place.ensures

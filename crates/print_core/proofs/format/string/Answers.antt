@@ -1,12 +1,12 @@
 use Rattle.std.proofs.Common.{Some, sym, ap, ◌∙◌}
-use Rattle.circuit.proofs.Growth.{got}
+use Rattle.std.proofs.lemmas.Option.{slice_get-get_or}
 use Rattle.print_core.proofs.Spelling.{parts_grow, all-quoted}
 use Rattle.print_core.proofs.format.string.Goals as goal
 
 pub loop-i-preserved : goal.loop-i-preserved
 loop-i-preserved c =
     parts_grow _ _ c.args.parts.now c.loop-i.i c.index-parts-i.result
-    (got c.args.parts.now c.loop-i.i _ c.loop-i-test.true ∙ ap Some (sym c.index-parts-i.is))
+    (slice_get-get_or c.args.parts.now c.loop-i.i _ c.loop-i-test.true ∙ ap Some (sym c.index-parts-i.is))
     c.loop-i.invariant c.in_ok-push_part.ensures
 
 pub from_string-requires : goal.from_string-requires

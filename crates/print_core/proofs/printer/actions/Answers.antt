@@ -1,5 +1,5 @@
 use Rattle.std.proofs.Common.{◌≡◌, ◌+◌, ◌*◌, ◌++◌, [], ◌∷◌, List, length, slice_get, ◌≤◌, Some, sym, ap, ◌∙◌, arith}
-use Rattle.circuit.proofs.Growth.{got}
+use Rattle.std.proofs.lemmas.Option.{slice_get-get_or}
 use Rattle.print_core.specs.declared.format.Part.{Part}
 use Rattle.print_core.specs.Printer.{write}
 use Rattle.print_core.proofs.Sites.{writes_grow}
@@ -12,7 +12,7 @@ loop-site-preserved c =
     let first = c.results_place-first.result in
     let hits = c.results_place-first.result + c.args.shape.now.values + 2 * c.len.result in
     let all : c.as_slice-parts-items.result.now ≡ sites = c.as_slice-parts-items.ensures in
-    let e = got c.as_slice-parts-items.result.now i _ c.loop-site-test.true ∙ ap Some (sym c.parts-item.is) in
+    let e = slice_get-get_or c.as_slice-parts-items.result.now i _ c.loop-site-test.true ∙ ap Some (sym c.parts-item.is) in
     let at : slice_get sites i ≡ Some c.parts-item.result = sym (ap (λ (l : List (List Part)). slice_get l i) all) ∙ e in
     let l : i ≤ length sites = let n = ap (λ (l : List (List Part)). length l) all in let b = c.loop-site-test.true in omega arith in
     writes_grow hits first sites i c.parts-item.result c.loop-site.actions c.push_write.new.actions at l c.loop-site.invariant

@@ -1,7 +1,7 @@
 use Rattle.std.proofs.Common.{sym, subst, refl, arith}
 use Rattle.std.specs.Prelude.{drop, length}
+use Rattle.std.proofs.lemmas.List.{take_at}
 use Rattle.sim_layout.specs.Ranks.{AreSuspects}
-use Rattle.sim_layout.proofs.Calls.{whole_back}
 use Rattle.sim_layout.proofs.Ranking.{suspects_ranked}
 use Rattle.sim_layout.proofs.suspects.suspects.Goals as goal
 
@@ -11,5 +11,5 @@ returns-then-all_suspects-clause-marked c =
     let items = c.in_ok-suspects.suspects.items in
     let long = c.all_suspects.ensures.long in
     subst (AreSuspects c.args.modules.now c.args.wires.now)
-    (sym (whole_back c.in_ok-suspects.suspects.len new (drop (length new) items) (omega (arith, long))))
+    (sym (take_at new (drop (length new) items) c.in_ok-suspects.suspects.len (omega (arith, long))))
     (suspects_ranked c.args.modules.now c.args.wires.now c.as_slice.result.now new (c.if-all_suspects.ensures.ranked refl))

@@ -1,5 +1,6 @@
 use Rattle.std.proofs.Common.{◌≡◌, ℕ, List, [], ◌∷◌, Option, Some, sym, ap, subst, ◌∙◌}
 use Rattle.std.specs.Prelude.{Result, OnOk}
+use Rattle.std.proofs.lemmas.Result.{on_ok_weaker}
 use Rattle.hls_ints.specs.Types.{IntegerType}
 use Rattle.bank_partition.specs.declared.banks.Spread.{Spread}
 use Rattle.block_ir.specs.Asked.{Mutexes, Barriers, Ids, Prints, Request as Call, request_of}
@@ -9,7 +10,6 @@ use Rattle.block_ir.specs.declared.code.ActOperand.{ActOperand}
 use Rattle.block_ir.specs.declared.code.Stage.TheVariants as stage
 use Rattle.block_ir.specs.declared.code.ThreadCode.{ThreadCode}
 use Rattle.block_ir.specs.declared.plan.StagePlan.{StagePlan}
-use Rattle.block_datapath.proofs.Chaining.{on_ok}
 use Rattle.netlist.specs.declared.netlist.Signal.{Signal}
 use Rattle.block_datapath.specs.declared.registers.Registers.{Registers}
 use Rattle.thread_slots.specs.declared.requests.Requests.{Requests}
@@ -23,10 +23,8 @@ module _ {A E : Type 0} (x : Result A E) (code : ThreadCode) (registers : Regist
       → OnOk x ((globals : List IntegerType) (spreads : List Spread) (next : ℕ) (plan : Option StagePlan) →
       AsksStage globals spreads code registers caller l (stage.Act act next) plan a b before after)
   by_table is t =
-      on_ok x (AsksRequest code registers caller l call a b before after)
-      ((globals : List IntegerType) (spreads : List Spread) (next : ℕ) (plan : Option StagePlan) →
-      AsksStage globals spreads code registers caller l (stage.Act act next) plan a b before after)
-      (λ own globals spreads next plan. own globals spreads act next plan is) t
+      on_ok_weaker x (λ own globals spreads next plan. own globals spreads act next plan is)
+      t
 
 pub returns-in-Print : goal.returns-in-Print
 returns-in-Print c =
@@ -92,13 +90,7 @@ returns-in-BarrierDestroy c =
 
 pub returns-in-Return : goal.returns-in-Return
 returns-in-Return c =
-    on_ok c.ask_return.result
-    ((globals : List IntegerType) (spreads : List Spread) (next : ℕ) (plan : Option StagePlan) →
-    AsksStage globals spreads c.args.code.now c.args.registers.now c.args.caller c.args.number (stage.Act act_taken.Return next) plan c.args.wires.now.signals
-    c.ask_return.new.wires.signals c.args.requests.now c.ask_return.new.requests)
-    ((globals : List IntegerType) (spreads : List Spread) (next : ℕ) (plan : Option StagePlan) →
-    AsksStage globals spreads c.args.code.now c.args.registers.now c.args.caller c.args.number (stage.Act c.args.act.now next) plan c.args.wires.now.signals
-    c.ask_return.new.wires.signals c.args.requests.now c.ask_return.new.requests)
+    on_ok_weaker c.ask_return.result
     (λ t globals spreads next plan.
     subst (λ (a : Act). AsksStage globals spreads c.args.code.now c.args.registers.now c.args.caller c.args.number (stage.Act a next) plan c.args.wires.now.signals
     c.ask_return.new.wires.signals c.args.requests.now c.ask_return.new.requests) (sym c.in-Return.is) (t globals spreads next plan))

@@ -1,10 +1,10 @@
 use Rattle.std.proofs.Common.{◌≡◌, false, refl}
+use Rattle.std.proofs.lemmas.Result.{on_ok_weaker}
 use Rattle.block_ir.specs.Asked.{Service, Mutexes, Barriers, Ids, Prints}
-use Rattle.block_datapath.proofs.Chaining.{on_ok}
 use Rattle.thread_slots.specs.declared.requests.Request.{Request}
 use Rattle.thread_slots.specs.declared.requests.Requests.{Requests}
 use Rattle.thread_slots.specs.Requests.{group}
-use Rattle.thread_asks.specs.Asking.{call_of, same_service, CallsPlain, AsksRequest}
+use Rattle.thread_asks.specs.Asking.{call_of, same_service}
 use Rattle.thread_asks.proofs.Asks.{call_stage}
 use Rattle.thread_asks.proofs.asking.ask_print.Goals as goal
 
@@ -20,9 +20,7 @@ returns c =
     let b = c.at_stage.new.wires.signals in
     let d = c.call.new.wires.signals in
     let z : Requests = record x { print = c.call.new.request } in
-    on_ok c.call.result
-    (CallsPlain c.args.code.now c.args.registers.now c.args.caller.served.printer.site_width c.in_ok-at.at c.args.site c.args.values.now b d x.print c.call.new.request)
-    (AsksRequest c.args.code.now c.args.registers.now c.args.caller c.args.number (call_of Prints c.args.site (c.args.values.now)) c.args.wires.now.signals d x z)
+    on_ok_weaker c.call.result
     (λ t globals spreads act next plan is.
     call_stage globals spreads c.args.code.now c.args.registers.now c.args.caller c.args.number act next plan (call_of Prints c.args.site (c.args.values.now)) is x z
     c.args.wires.now.signals b d c.in_ok-at.at c.in_ok-at.ensures.shows c.in_ok-at.ensures.wired t.calls (others x c.call.new.request) refl)

@@ -1,12 +1,9 @@
-use Rattle.std.proofs.Common.{◌≡◌, ℕ, List, Option, Some, refl, sym, subst}
+use Rattle.std.proofs.Common.{◌≡◌, Option, Some, refl, sym, subst}
 use Rattle.std.specs.Prelude.{slice_get}
-use Rattle.hls_ints.specs.Types.{IntegerType}
-use Rattle.bank_partition.specs.declared.banks.Spread.{Spread}
+use Rattle.std.proofs.lemmas.Result.{on_ok_weaker}
 use Rattle.block_ir.specs.declared.code.Stage.{Stage}
 use Rattle.block_ir.specs.declared.code.Stage.TheVariants as stage
 use Rattle.block_ir.specs.declared.plan.StagePlan.{StagePlan}
-use Rattle.block_datapath.proofs.Chaining.{on_ok}
-use Rattle.thread_asks.specs.declared.asking.Caller.{Caller}
 use Rattle.thread_asks.specs.Asking.{AsksStage}
 use Rattle.thread_asks.proofs.Asks.{nothing_stage}
 use Rattle.thread_asks.proofs.asking.ask_stage.Goals as goal
@@ -14,13 +11,7 @@ use Rattle.thread_asks.proofs.asking.ask_stage.Goals as goal
 pub returns-in-Some : goal.returns-in-Some
 returns-in-Some c =
     let planned : Some c.in-Some.plan.now ≡ slice_get c.args.planned.now.stages c.args.number = (let some = c.in-Some.ensures.value in cc) in
-    on_ok c.ask_run.result
-    ((caller : Caller) → AsksStage c.args.globals.now c.args.spreads.now c.args.code.now c.args.registers.now caller c.args.number (stage.Run c.in-Run.block)
-    (Some c.in-Some.plan.now)
-    c.args.wires.now.signals c.ask_run.new.wires.signals c.args.requests.now c.ask_run.new.requests)
-    (AsksStage c.args.globals.now c.args.spreads.now c.args.code.now c.args.registers.now c.args.caller c.args.number c.args.stage.now
-    (slice_get c.args.planned.now.stages c.args.number)
-    c.args.wires.now.signals c.ask_run.new.wires.signals c.args.requests.now c.ask_run.new.requests)
+    on_ok_weaker c.ask_run.result
     (λ t.
     subst (λ (s : Stage). AsksStage c.args.globals.now c.args.spreads.now c.args.code.now c.args.registers.now c.args.caller c.args.number s
     (slice_get c.args.planned.now.stages c.args.number)
@@ -40,13 +31,7 @@ returns-in-None c =
 
 pub returns-in-Act : goal.returns-in-Act
 returns-in-Act c =
-    on_ok c.ask_act.result
-    ((globals : List IntegerType) (spreads : List Spread) (next : ℕ) (plan : Option StagePlan) →
-    AsksStage globals spreads c.args.code.now c.args.registers.now c.args.caller c.args.number
-    (stage.Act c.in-Act.act next) plan c.args.wires.now.signals c.ask_act.new.wires.signals c.args.requests.now c.ask_act.new.requests)
-    (AsksStage c.args.globals.now c.args.spreads.now c.args.code.now c.args.registers.now c.args.caller c.args.number c.args.stage.now
-    (slice_get c.args.planned.now.stages c.args.number)
-    c.args.wires.now.signals c.ask_act.new.wires.signals c.args.requests.now c.ask_act.new.requests)
+    on_ok_weaker c.ask_act.result
     (λ t.
     subst (λ (s : Stage). AsksStage c.args.globals.now c.args.spreads.now c.args.code.now c.args.registers.now c.args.caller c.args.number s
     (slice_get c.args.planned.now.stages c.args.number)

@@ -1,12 +1,10 @@
-use Rattle.std.proofs.Common.{◌≡◌, [], ◌∷◌, ◌++◌, ap, ◌∙◌, append_assoc}
-use Rattle.block_datapath.proofs.Chaining.{on_ok}
+use Rattle.std.proofs.Common.{[], ◌∷◌, ◌++◌, ap, ◌∙◌, append_assoc}
+use Rattle.std.proofs.lemmas.Result.{on_ok_weaker}
 use Rattle.thread_requests.specs.Outputs.{request_row, fields_from}
 use Rattle.thread_requests.proofs.outputs.add_request.Goals as goal
 
 pub returns : goal.returns
 returns c =
-    on_ok c.add_fields.result (c.add_fields.new.rows ≡ c.add.new.rows ++ fields_from c.args.first 0 c.as_slice.result.now)
-    (c.add_fields.new.rows ≡ c.args.rows.now ++ request_row c.args.ask ∷ fields_from c.args.first 0 c.args.request.now.fields)
-    (λ e. e ∙ ap (λ l. c.add.new.rows ++ fields_from c.args.first 0 l) c.as_slice.ensures ∙ ap (λ l. l ++ fields_from c.args.first 0 c.args.request.now.fields) c.in_ok-add.ensures
+    on_ok_weaker c.add_fields.result (λ e. e ∙ ap (λ l. c.add.new.rows ++ fields_from c.args.first 0 l) c.as_slice.ensures ∙ ap (λ l. l ++ fields_from c.args.first 0 c.args.request.now.fields) c.in_ok-add.ensures
     ∙ append_assoc c.args.rows.now (request_row c.args.ask ∷ []) (fields_from c.args.first 0 c.args.request.now.fields))
     c.add_fields.ensures

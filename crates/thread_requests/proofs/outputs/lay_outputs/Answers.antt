@@ -1,7 +1,7 @@
 use Rattle.std.proofs.Common.{List, ◌+◌, length, sym, subst, ◌∙◌}
-use Rattle.block_datapath.proofs.Chaining.{on_ok}
+use Rattle.std.proofs.lemmas.Result.{on_ok_weaker}
 use Rattle.thread_requests.specs.declared.outputs.Row.{Row}
-use Rattle.thread_requests.specs.Outputs.{LaysRows, LaysDone, LaysOutputs, AreNumbered}
+use Rattle.thread_requests.specs.Outputs.{LaysRows, LaysDone, AreNumbered}
 use Rattle.thread_slots.specs.Wired.{Behind, IsNamedOutput}
 use Rattle.thread_requests.proofs.OutputPorts.{outputs_laid, rows_numbered}
 use Rattle.thread_slots.proofs.Taken.{on_two}
@@ -11,9 +11,7 @@ use Rattle.thread_requests.proofs.outputs.lay_outputs.Goals as goal
 pub returns-clause-lays : goal.returns-clause-lays
 returns-clause-lays c =
     let rows = c.as_slice.ensures ∙ c.in_ok-rows.ensures in
-    on_ok c.lay_done.result (LaysDone c.output.new.self.signals c.lay_done.new.wires.signals c.args.done)
-    (LaysOutputs c.args.served c.args.wires.now.signals c.lay_done.new.wires.signals c.args.words.now c.args.asks.now c.args.requests.now c.args.needs c.args.done)
-    (outputs_laid c.args.wires.now.signals c.lay_rows.new.wires.signals c.output.new.self.signals c.lay_done.new.wires.signals c.args.served c.args.needs c.args.done _
+    on_ok_weaker c.lay_done.result (outputs_laid c.args.wires.now.signals c.lay_rows.new.wires.signals c.output.new.self.signals c.lay_done.new.wires.signals c.args.served c.args.needs c.args.done _
     c.args.words.now c.args.asks.now c.args.requests.now
     (subst (λ (z : List Row). LaysRows c.args.wires.now.signals c.lay_rows.new.wires.signals z (length z)) rows c.in_ok-lay_rows.ensures.lays)
     c.in_ok-output.ensures.stands c.in_ok-output.ensures.laid)

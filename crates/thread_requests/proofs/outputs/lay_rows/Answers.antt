@@ -1,4 +1,4 @@
-use Rattle.circuit.proofs.Growth.{got}
+use Rattle.std.proofs.lemmas.Option.{slice_get-get_or}
 use Rattle.thread_slots.specs.Wired.{IsNamedOutput}
 use Rattle.thread_requests.proofs.OutputPorts.{rows_none, rows_more}
 use Rattle.thread_slots.proofs.Wiring.{laid_grows, behind_none, behind_then}
@@ -7,7 +7,7 @@ use Rattle.thread_requests.proofs.outputs.lay_rows.Goals as goal
 
 pub loop-row-preserved : goal.loop-row-preserved
 loop-row-preserved c =
-    let listed = got c.args.rows.now c.loop-row.row-index _ c.loop-row-test.true in
+    let listed = slice_get-get_or c.args.rows.now c.loop-row.row-index _ c.loop-row-test.true in
     record {
       lays =
           rows_more c.args.wires.now.signals c.loop-row.wires.signals c.output.new.self.signals c.args.rows.now c.loop-row.row-index _ _ c.loop-row.invariant.lays listed

@@ -1,12 +1,12 @@
 use Rattle.std.proofs.Common.{true}
-use Rattle.circuit.proofs.Growth.{got}
+use Rattle.std.proofs.lemmas.Option.{slice_get-get_or}
 use Rattle.operator_wires.proofs.Building.{wires_none}
 use Rattle.thread_slots.proofs.Gating.{any_none, any_more, either_all, adds_any}
 use Rattle.thread_slots.proofs.bits.any_of.Goals as goal
 
 pub loop-bit-preserved : goal.loop-bit-preserved
 loop-bit-preserved c =
-    let here = got c.args.bits.now c.loop-bit.bit-index _ c.loop-bit-test.true in
+    let here = slice_get-get_or c.args.bits.now c.loop-bit.bit-index _ c.loop-bit-test.true in
     record {
       shows =
           any_more c.args.wires.now.signals c.loop-bit.wires.signals c.either.new.self.signals c.args.first c.args.bits.now

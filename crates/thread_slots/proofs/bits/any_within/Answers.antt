@@ -1,5 +1,5 @@
 use Rattle.std.proofs.Common.{◌≡◌, length, subst, arith}
-use Rattle.circuit.proofs.Growth.{got}
+use Rattle.std.proofs.lemmas.Option.{slice_get-get_or}
 use Rattle.operator_wires.proofs.Building.{wires_none}
 use Rattle.thread_slots.specs.Bits.{MakesAny, is_in}
 use Rattle.thread_slots.proofs.Gating.{any_none, any_more, adds_any}
@@ -7,7 +7,7 @@ use Rattle.thread_slots.proofs.bits.any_within.Goals as goal
 
 pub loop-number-preserved : goal.loop-number-preserved
 loop-number-preserved c =
-    let here = got c.args.bits.now c.loop-number.number _ c.loop-number-test.true in
+    let here = slice_get-get_or c.args.bits.now c.loop-number.number _ c.loop-number-test.true in
     record {
       shows =
           any_more c.args.wires.now.signals c.loop-number.wires.signals c.either_within.new.wires.signals c.args.first c.args.bits.now

@@ -1,15 +1,14 @@
 use Rattle.std.proofs.Common.{◌<◌, length, subst, sym}
-use Rattle.std.proofs.lemmas.Option.{slice_get_within}
-use Rattle.circuit.proofs.Growth.{got}
+use Rattle.std.proofs.lemmas.Option.{slice_get_within, slice_get-get_or}
 use Rattle.operator_wires.proofs.Building.{stands_after}
 use Rattle.operator_wires.specs.Built.{IsEarlier}
 use Rattle.thread_slots.specs.Bits.{BothOf}
-use Rattle.thread_slots.proofs.Gating.{bits_none, both_more, adds_none, adds_more, index_there}
+use Rattle.thread_slots.proofs.Gating.{bits_none, both_more, adds_none, adds_more}
 use Rattle.thread_slots.proofs.bits.both_each.Goals as goal
 
 pub loop-number-preserved : goal.loop-number-preserved
 loop-number-preserved c =
-    let here = got c.args.left.now c.loop-number.number _ c.loop-number-test.true in
+    let here = slice_get-get_or c.args.left.now c.loop-number.number _ c.loop-number-test.true in
     record {
       shows =
           both_more c.args.wires.now.signals c.loop-number.wires.signals c.both.new.self.signals c.args.left.now c.args.right.now c.loop-number.number _ c.bit_at.result
@@ -19,7 +18,7 @@ loop-number-preserved c =
           let before = c.loop-number.invariant.wired base left right same in
           let less : c.loop-number.number < length c.args.right.now =
           subst (λ n. c.loop-number.number < n) same (slice_get_within c.args.left.now c.loop-number.number _ here) in
-          let other = right c.loop-number.number _ (index_there c.args.right.now c.loop-number.number less) in
+          let other = right c.loop-number.number _ (slice_get-get_or c.args.right.now c.loop-number.number 0 less) in
           adds_more base c.args.wires.now.signals c.loop-number.wires.signals c.both.new.self.signals c.loop-number.outs c.push.new.self c.in_ok-out.out before
           (c.in_ok-out.ensures.wired base (stands_after c.args.wires.now.signals c.loop-number.wires.signals base _ 1 before.wires.grows (left c.loop-number.number _ here))
           (subst (λ p. IsEarlier c.loop-number.wires.signals base p 1) (sym c.bit_at.ensures)

@@ -1,4 +1,4 @@
-use Rattle.circuit.proofs.Growth.{got}
+use Rattle.std.proofs.lemmas.Option.{slice_get-get_or}
 use Rattle.operator_wires.proofs.Building.{stands_after}
 use Rattle.thread_slots.specs.Bits.{WithOf}
 use Rattle.thread_slots.proofs.Gating.{bits_none, with_more, laid_none, laid_more, adds_none, adds_more}
@@ -6,7 +6,7 @@ use Rattle.thread_slots.proofs.bits.both_with.Goals as goal
 
 pub loop-bit-preserved : goal.loop-bit-preserved
 loop-bit-preserved c =
-    let here = got c.args.bits.now c.loop-bit.bit-index _ c.loop-bit-test.true in
+    let here = slice_get-get_or c.args.bits.now c.loop-bit.bit-index _ c.loop-bit-test.true in
     record {
       shows =
           with_more c.args.wires.now.signals c.loop-bit.wires.signals c.both.new.self.signals c.args.bits.now c.loop-bit.bit-index _ c.args.other c.in_ok-out.out c.loop-bit.outs

@@ -1,11 +1,11 @@
-use Rattle.circuit.proofs.Growth.{got}
+use Rattle.std.proofs.lemmas.Option.{slice_get-get_or}
 use Rattle.operator_wires.proofs.Building.{stands_after}
 use Rattle.thread_slots.proofs.Heard.{heard_none, heard_more, behind_none, behind_more}
 use Rattle.thread_slots.proofs.hearing.hear.Goals as goal
 
 pub loop-word-preserved : goal.loop-word-preserved
 loop-word-preserved c =
-    let here = got c.args.words.now c.loop-word.word-index _ c.loop-word-test.true in
+    let here = slice_get-get_or c.args.words.now c.loop-word.word-index _ c.loop-word-test.true in
     record {
       shows =
           heard_more c.args.wires.now.signals c.loop-word.wires.signals c.hear_one.new.wires.signals c.args.need c.loop-word.word-index c.args.words.now c.loop-word.heard

@@ -1,5 +1,5 @@
 use Rattle.std.proofs.Common.{refl}
-use Rattle.circuit.proofs.Growth.{got}
+use Rattle.std.proofs.lemmas.Option.{slice_get-get_or}
 use Rattle.netlist.specs.declared.netlist.Source.TheVariants.{Input}
 use Rattle.thread_slots.specs.Wired.{IsInnerInput}
 use Rattle.thread_slots.proofs.Laying.{lays_none, lays_more, stands_grow}
@@ -8,7 +8,7 @@ use Rattle.thread_slots.proofs.inputs.lay_many.Goals as goal
 
 pub loop-width-preserved : goal.loop-width-preserved
 loop-width-preserved c =
-    let here = got c.args.widths.now c.loop-width.width-index _ c.loop-width-test.true in
+    let here = slice_get-get_or c.args.widths.now c.loop-width.width-index _ c.loop-width-test.true in
     record {
       laid =
           lays_more Input c.args.wires.now.signals c.loop-width.wires.signals c.input.new.self.signals c.args.widths.now c.loop-width.width-index c.loop-width.inputs

@@ -1,11 +1,12 @@
 use Rattle.std.proofs.Common.{◌∙◌, ◌≡◌, ◌<◌, ◌^◌, ℕ, List, length, map, ap, subst, if◌then◌else◌, refl, arith}
 use Rattle.std.specs.Prelude.{string_bytes}
 use Rattle.std.proofs.lemmas.List.{length-map}
+use Rattle.std.proofs.lemmas.Nat.{pow_pos}
 use Rattle.hls_ints.specs.Types.{width_of}
 use Rattle.thread_slots.specs.Naming.{AreNamed}
 use Rattle.thread_slots.specs.Slots.{LaysSlot}
 use Rattle.thread_slots.proofs.Laying.{slot_laid, stands_long, stands_grow}
-use Rattle.thread_slots.proofs.Wiring.{power_some, first_fits, types_fit, slots_behind}
+use Rattle.thread_slots.proofs.Wiring.{first_fits, types_fit, slots_behind}
 use Rattle.thread_slots.proofs.slots.lay_registers.Goals as goal
 
 pub returns-clause-slot : goal.returns-clause-slot
@@ -73,5 +74,5 @@ returns-clause-wired c = λ fit.
     (first_fits c.args.is_main c.len-end.result c.first_stage-first.result c.width_of-width.result c.first_stage-first.ensures
     (let room = c.width_of-width.ensures.room in let most = c.in_ok-most.ensures in omega arith))
     c.width_of-width.ensures.low c.width_of-width.ensures.high)
-    (c.in_ok-state.ensures.wired inputs refl (power_some c.state_width-state_width.result) c.state_width-state_width.ensures.low c.state_width-state_width.ensures.high)
+    (c.in_ok-state.ensures.wired inputs refl (pow_pos c.state_width-state_width.result) c.state_width-state_width.ensures.low c.state_width-state_width.ensures.high)
     (c.in_ok-variables.ensures.wired inputs (types_fit _ c.as_slice-2.result.now (c.as_slice-3.ensures ∙ c.in_ok-widths.ensures))) (c.in_ok-kept.ensures.wired inputs refl fit)

@@ -1,6 +1,6 @@
 use Rattle.std.proofs.Common.{map, length}
 use Rattle.std.specs.Prelude.{string_bytes}
-use Rattle.circuit.proofs.Growth.{got}
+use Rattle.std.proofs.lemmas.Option.{slice_get-get_or}
 use Rattle.netlist.specs.declared.netlist.Source.TheVariants as source
 use Rattle.thread_slots.specs.Naming.{register_name}
 use Rattle.thread_slots.specs.Wired.{IsSlotRegister}
@@ -16,7 +16,7 @@ loop-number-preserved c =
     let s2 = c.lay_variable.new.wires.signals in
     let name = register_name names c.loop-number.number (length s1) in
     let stands = named_stands s1 s2 name _ c.in_ok-held.held c.in_ok-held.ensures in
-    let there = got c.args.widths.now c.loop-number.number _ c.loop-number-test.true in
+    let there = slice_get-get_or c.args.widths.now c.loop-number.number _ c.loop-number-test.true in
     record {
       laid =
           lays_more (source.Register 0) s0 s1 s2 c.args.widths.now c.loop-number.number c.loop-number.registers c.push.new.self _ c.in_ok-held.held

@@ -1,12 +1,10 @@
-use Rattle.std.proofs.Common.{ℕ, List, sym, ap, subst, ◌∙◌}
+use Rattle.std.proofs.Common.{List, sym, ap, subst, ◌∙◌}
 use Rattle.hls_ints.specs.Types.{IntegerType}
-use Rattle.block_ir.specs.declared.block.Operation.TheVariants.{WriteArray}
 use Rattle.operator_wires.proofs.Giving.{grows_then}
 use Rattle.block_datapath.specs.Seen.{ShowsOperand}
-use Rattle.block_datapath.proofs.Chaining.{on_ok}
-use Rattle.thread_slots.specs.Cells.{PutsWord, PutsOne}
 use Rattle.thread_slots.proofs.Putting.{puts_write, puts_missing}
 use Rattle.std.specs.Prelude.{slice_get}
+use Rattle.std.proofs.lemmas.Result.{on_ok_weaker}
 use Rattle.thread_slots.proofs.Between.{operands_wired}
 use Rattle.thread_slots.proofs.Storing.{stores_kept, written_wired}
 use Rattle.thread_slots.proofs.stores.write_array.Goals as goal
@@ -28,12 +26,7 @@ returns-in-None-clause-wired c = λ base slots values bit few.
 
 pub returns-in-Some-clause-puts : goal.returns-in-Some-clause-puts
 returns-in-Some-clause-puts c =
-    on_ok c.put.result
-    (PutsWord c.operand_word-2.new.wires.signals c.put.new.wires.signals c.args.registers.now c.args.moment c.args.stores.now c.put.new.stores c.args.array c.in-Some.own
-    c.in_ok-index.index
-    c.in_ok-value.value)
-    ((n : ℕ) → PutsOne c.args.wires.now.signals c.put.new.wires.signals c.args.registers.now c.args.moment c.args.stores.now c.put.new.stores c.args.code.now c.args.values.now
-    (WriteArray c.args.array n c.args.index.now c.args.value.now))
+    on_ok_weaker c.put.result
     (λ t n.
     puts_write c.args.wires.now.signals c.operand_word.new.wires.signals c.operand_word-2.new.wires.signals c.put.new.wires.signals c.args.registers.now c.args.moment
     c.args.stores.now

@@ -1,8 +1,8 @@
 use Rattle.std.proofs.Common.{◌≡◌, ℕ, min, length, sym, ap, subst, ◌∙◌, arith}
-use Rattle.block_datapath.proofs.Chaining.{on_ok}
+use Rattle.std.proofs.lemmas.Result.{on_ok_weaker}
 use Rattle.block_ir.specs.declared.code.Act.{Act}
 use Rattle.thread_promise.specs.Moves.{stage_after}
-use Rattle.thread_states.specs.Acts.{LeadsFrom, TakesWait, TakesAct}
+use Rattle.thread_states.specs.Acts.{TakesWait}
 use Rattle.thread_states.proofs.Acting.{lead_taken, wait_taken, goes_on}
 use Rattle.thread_states.proofs.acts.take_act.Goals as goal
 
@@ -10,11 +10,7 @@ pub returns-in-BarrierWait : goal.returns-in-BarrierWait
 returns-in-BarrierWait c =
     let n = length c.args.code.now.stages in
     let same : c.min-following.result ≡ min c.args.next n = c.min-following.ensures ∙ ap (min c.args.next) c.len-rest.ensures in
-    on_ok c.take_wait.result
-    (TakesWait c.args.code.now c.args.registers.now c.args.told.barred c.args.stage c.min-following.result c.args.wires.now.signals c.take_wait.new.wires.signals
-    c.args.chains.now c.take_wait.new.chains)
-    (TakesAct c.args.code.now c.args.registers.now c.args.told c.args.stage c.args.act.now c.args.next c.args.wires.now.signals c.take_wait.new.wires.signals c.args.chains.now
-    c.take_wait.new.chains)
+    on_ok_weaker c.take_wait.result
     (λ t.
     wait_taken c.args.code.now c.args.registers.now c.args.told c.args.stage c.args.act.now c.args.next c.args.wires.now.signals c.take_wait.new.wires.signals c.args.chains.now
     c.take_wait.new.chains c.in-BarrierWait.barrier c.in-BarrierWait.is
@@ -25,10 +21,7 @@ returns-in-BarrierWait c =
 pub returns-in-Return : goal.returns-in-Return
 returns-in-Return c =
     let n = length c.args.code.now.stages in
-    on_ok c.lead_to.result
-    (LeadsFrom c.args.registers.now c.args.stage c.len-rest.result c.args.wires.now.signals c.lead_to.new.wires.signals c.args.chains.now c.lead_to.new.chains)
-    (TakesAct c.args.code.now c.args.registers.now c.args.told c.args.stage c.args.act.now c.args.next c.args.wires.now.signals c.lead_to.new.wires.signals c.args.chains.now
-    c.lead_to.new.chains)
+    on_ok_weaker c.lead_to.result
     (λ t.
     lead_taken c.args.code.now c.args.registers.now c.args.told c.args.stage c.args.act.now c.args.next c.args.wires.now.signals c.lead_to.new.wires.signals c.args.chains.now
     c.lead_to.new.chains c.len-rest.result (λ barrier e. absurd (let is = c.in-Return.is in cc))
@@ -39,10 +32,7 @@ pub returns-in_default : goal.returns-in_default
 returns-in_default c =
     let n = length c.args.code.now.stages in
     let same : c.min-following.result ≡ min c.args.next n = c.min-following.ensures ∙ ap (min c.args.next) c.len-rest.ensures in
-    on_ok c.lead_to-in_default.result
-    (LeadsFrom c.args.registers.now c.args.stage c.min-following.result c.args.wires.now.signals c.lead_to-in_default.new.wires.signals c.args.chains.now c.lead_to-in_default.new.chains)
-    (TakesAct c.args.code.now c.args.registers.now c.args.told c.args.stage c.args.act.now c.args.next c.args.wires.now.signals c.lead_to-in_default.new.wires.signals c.args.chains.now
-    c.lead_to-in_default.new.chains)
+    on_ok_weaker c.lead_to-in_default.result
     (λ t.
     lead_taken c.args.code.now c.args.registers.now c.args.told c.args.stage c.args.act.now c.args.next c.args.wires.now.signals c.lead_to-in_default.new.wires.signals c.args.chains.now
     c.lead_to-in_default.new.chains c.min-following.result c.in_default.not-BarrierWait

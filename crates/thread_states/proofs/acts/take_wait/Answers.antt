@@ -1,15 +1,11 @@
 use Rattle.std.proofs.Common.{ℕ, subst}
-use Rattle.block_datapath.proofs.Chaining.{on_ok}
-use Rattle.thread_states.specs.Acts.{LeadsFrom, LeadsUnless, TakesWait}
+use Rattle.std.proofs.lemmas.Result.{on_ok_weaker}
+use Rattle.thread_states.specs.Acts.{LeadsFrom, LeadsUnless}
 use Rattle.thread_states.proofs.acts.take_wait.Goals as goal
 
 pub returns : goal.returns
 returns c =
-    on_ok c.lead_unless.result
-    (LeadsUnless c.args.registers.now c.in_ok-number.number c.args.following c.args.barred c.lead_to.new.wires.signals c.lead_unless.new.wires.signals c.lead_to.new.chains
-    c.lead_unless.new.chains)
-    (TakesWait c.args.code.now c.args.registers.now c.args.barred c.args.stage c.args.following c.args.wires.now.signals c.lead_unless.new.wires.signals c.args.chains.now
-    c.lead_unless.new.chains)
+    on_ok_weaker c.lead_unless.result
     (λ t. record {
       with_own = c.lead_to.new.wires.signals;
       own = c.lead_to.new.chains;

@@ -1,4 +1,4 @@
-use Rattle.circuit.proofs.Growth.{got}
+use Rattle.std.proofs.lemmas.Option.{slice_get-get_or}
 use Rattle.operator_wires.proofs.Building.{stands_after}
 use Rattle.thread_states.specs.Control.{Remembered}
 use Rattle.thread_states.proofs.Closing.{marks_more}
@@ -7,7 +7,7 @@ use Rattle.thread_states.proofs.control.remember.Goals as goal
 
 pub loop-number-preserved : goal.loop-number-preserved
 loop-number-preserved c =
-    let here = got c.args.granted.now c.loop-number.number _ c.loop-number-test.true in
+    let here = slice_get-get_or c.args.granted.now c.loop-number.number _ c.loop-number-test.true in
     record {
       shows =
           marks_more c.args.wires.now.signals c.loop-number.wires.signals c.remember_one.new.wires.signals c.args.granted.now c.args.got.now c.args.spreads.now c.spread_at.result

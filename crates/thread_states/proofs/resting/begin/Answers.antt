@@ -1,16 +1,13 @@
 use Rattle.std.proofs.Common.{ℕ, refl, subst}
-use Rattle.block_datapath.proofs.Chaining.{on_ok}
+use Rattle.std.proofs.lemmas.Result.{on_ok_weaker}
 use Rattle.thread_slots.specs.declared.chains.Chains.{Chains}
-use Rattle.thread_states.specs.Acts.{LeadsUnless, TakesArgument, LeavesRest}
+use Rattle.thread_states.specs.Acts.{LeadsUnless, TakesArgument}
 use Rattle.thread_states.proofs.resting.begin.Goals as goal
 
 pub returns : goal.returns
 returns c =
     let after : Chains = record c.lead_unless.new.chains { variables = c.take_argument.new.variables } in
-    on_ok c.take_argument.result
-    (TakesArgument c.args.registers.now c.args.code.now.argument c.len-rest.result c.args.told.argument c.lead_unless.new.wires.signals c.take_argument.new.wires.signals
-    c.lead_unless.new.chains.variables c.take_argument.new.variables)
-    (LeavesRest c.args.code.now c.args.registers.now c.args.told c.args.wires.now.signals c.take_argument.new.wires.signals c.args.chains.now after)
+    on_ok_weaker c.take_argument.result
     (λ t. record {
       with_idle = c.not.new.self.signals;
       with_lead = c.lead_unless.new.wires.signals;

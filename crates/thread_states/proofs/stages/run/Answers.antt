@@ -1,9 +1,7 @@
-use Rattle.std.proofs.Common.{List, Some, refl, sym, subst}
+use Rattle.std.proofs.Common.{List, refl, sym, subst}
+use Rattle.std.proofs.lemmas.Result.{on_ok_weaker}
 use Rattle.block_ir.specs.declared.plan.StagePlan.TheVariants as planned
-use Rattle.block_datapath.proofs.Chaining.{on_ok}
-use Rattle.thread_states.specs.Cells.{StoresBlock}
 use Rattle.thread_states.proofs.Blocks.{block_stores}
-use Rattle.thread_states.specs.Stores.{StageKeepsStores}
 use Rattle.thread_states.proofs.Storing.{run_stored}
 use Rattle.block_datapath.specs.declared.operands.Given.{Given}
 use Rattle.thread_slots.specs.Wired.{ValuesStand}
@@ -45,11 +43,7 @@ returns-clause-runs c =
 pub returns-clause-stores : goal.returns-clause-stores
 returns-clause-stores c =
     let middle : Chains = record c.args.chains.now { variables = c.leave_block.new.variables; kept = c.leave_block.new.kept } in
-    on_ok c.lead.result (LeadsTo c.store_all.new.wires.signals c.lead.new.wires.signals middle c.lead.new.self c.in_ok-left.left.last c.in_ok-left.left.target)
-    (StageKeepsStores c.args.code.now c.args.registers.now c.args.number (Some (planned.Run c.args.plan.now)) c.args.wires.now.signals c.lead.new.wires.signals c.args.chains.now
-    c.args.stores.now
-    c.store_all.new.stores)
-    (λ t.
+    on_ok_weaker c.lead.result (λ t.
     run_stored c.args.code.now c.args.registers.now c.args.number c.args.plan.now c.args.wires.now.signals c.leave_block.new.wires.signals c.store_all.new.wires.signals
     c.lead.new.wires.signals c.args.chains.now c.leave_block.new.variables c.leave_block.new.kept c.in_ok-left.left c.as_slice-given.result.now c.args.stores.now
     c.store_all.new.stores
@@ -65,11 +59,7 @@ returns-clause-stores c =
 pub returns-clause-puts : goal.returns-clause-puts
 returns-clause-puts c =
     let middle : Chains = record c.args.chains.now { variables = c.leave_block.new.variables; kept = c.leave_block.new.kept } in
-    on_ok c.lead.result (LeadsTo c.store_all.new.wires.signals c.lead.new.wires.signals middle c.lead.new.self c.in_ok-left.left.last c.in_ok-left.left.target)
-    (StoresBlock c.args.globals.now c.args.code.now c.args.registers.now c.args.number c.args.block.now c.args.plan.now c.args.wires.now.signals c.lead.new.wires.signals
-    c.args.stores.now
-    c.store_all.new.stores)
-    (λ t.
+    on_ok_weaker c.lead.result (λ t.
     block_stores c.args.globals.now c.args.code.now c.args.registers.now c.args.number c.args.block.now c.args.plan.now c.args.wires.now.signals c.leave_block.new.wires.signals
     c.store_all.new.wires.signals c.lead.new.wires.signals c.args.chains.now.variables c.leave_block.new.variables c.args.chains.now.kept c.leave_block.new.kept c.in_ok-left.left
     c.as_slice-given.result.now c.as_slice-given.ensures c.args.stores.now c.store_all.new.stores c.in_ok-left.ensures.shows c.in_ok-store_all.ensures.puts t.grows)

@@ -1,26 +1,17 @@
 use Rattle.std.proofs.Common.{Some, sym, subst}
 use Rattle.std.specs.Prelude.{OnOk}
+use Rattle.std.proofs.lemmas.Result.{on_ok_weaker}
 use Rattle.block_ir.specs.declared.plan.StagePlan.{StagePlan}
-use Rattle.thread_states.specs.Cells.{StoresBlock, StoresStage}
 use Rattle.thread_states.proofs.Blocks.{stage_of_block, stage_of_none}
 use Rattle.thread_states.specs.Stores.{StageKeepsStores}
 use Rattle.thread_states.proofs.Storing.{stage_kept}
-use Rattle.block_datapath.proofs.Chaining.{on_ok}
 use Rattle.block_ir.specs.declared.code.Stage.TheVariants as taken
-use Rattle.thread_slots.specs.declared.told.Told.{Told}
-use Rattle.thread_states.specs.Acts.{Idles}
-use Rattle.thread_states.specs.Stages.{RunsBlock, TakesStage}
 use Rattle.thread_states.proofs.Stepping.{run_taken, idle_taken}
 use Rattle.thread_states.proofs.stages.take_block.Goals as goal
 
 pub returns-in-Run-clause-takes : goal.returns-in-Run-clause-takes
 returns-in-Run-clause-takes c =
-    on_ok c.run.result
-    (RunsBlock c.args.globals.now c.args.code.now c.args.registers.now c.args.number c.args.block.now c.in-Run.plan c.args.wires.now.signals c.run.new.wires.signals
-    c.args.chains.now c.run.new.chains)
-    ((told : Told) → TakesStage c.args.globals.now c.args.code.now c.args.registers.now told c.args.number (taken.Run c.args.block.now)
-    (Some c.args.plan.now) c.args.wires.now.signals
-    c.run.new.wires.signals c.args.chains.now c.run.new.chains)
+    on_ok_weaker c.run.result
     (λ t told.
     run_taken c.args.globals.now c.args.code.now c.args.registers.now told c.args.number c.args.wires.now.signals c.run.new.wires.signals c.args.chains.now c.run.new.chains
     c.args.block.now
@@ -29,11 +20,7 @@ returns-in-Run-clause-takes c =
 
 pub returns-in-Act-clause-takes : goal.returns-in-Act-clause-takes
 returns-in-Act-clause-takes c =
-    on_ok c.idle.result
-    (Idles c.args.registers.now c.args.number c.args.wires.now.signals c.idle.new.wires.signals c.args.chains.now c.idle.new.chains)
-    ((told : Told) → TakesStage c.args.globals.now c.args.code.now c.args.registers.now told c.args.number (taken.Run c.args.block.now)
-    (Some c.args.plan.now) c.args.wires.now.signals
-    c.idle.new.wires.signals c.args.chains.now c.idle.new.chains)
+    on_ok_weaker c.idle.result
     (λ t told.
     idle_taken c.args.globals.now c.args.code.now c.args.registers.now told c.args.number c.args.wires.now.signals c.idle.new.wires.signals c.args.chains.now c.idle.new.chains
     c.args.block.now
@@ -48,10 +35,7 @@ returns-in-Run-clause-stores c =
 
 pub returns-in-Act-clause-stores : goal.returns-in-Act-clause-stores
 returns-in-Act-clause-stores c =
-    on_ok c.idle.result
-    (Idles c.args.registers.now c.args.number c.args.wires.now.signals c.idle.new.wires.signals c.args.chains.now c.idle.new.chains)
-    (StageKeepsStores c.args.code.now c.args.registers.now c.args.number (Some c.args.plan.now) c.args.wires.now.signals c.idle.new.wires.signals c.args.chains.now
-    c.args.stores.now c.args.stores.now)
+    on_ok_weaker c.idle.result
     (λ t.
     stage_kept c.args.code.now c.args.registers.now c.args.number (Some c.args.plan.now) c.args.wires.now.signals c.idle.new.wires.signals c.args.chains.now c.args.stores.now
     t.step.grows)
@@ -59,12 +43,7 @@ returns-in-Act-clause-stores c =
 
 pub returns-in-Run-clause-puts : goal.returns-in-Run-clause-puts
 returns-in-Run-clause-puts c =
-    on_ok c.run.result
-    (StoresBlock c.args.globals.now c.args.code.now c.args.registers.now c.args.number c.args.block.now c.in-Run.plan c.args.wires.now.signals c.run.new.wires.signals
-    c.args.stores.now c.run.new.stores)
-    (StoresStage c.args.globals.now c.args.code.now c.args.registers.now c.args.number (taken.Run c.args.block.now)
-    (Some c.args.plan.now) c.args.wires.now.signals c.run.new.wires.signals
-    c.args.stores.now c.run.new.stores)
+    on_ok_weaker c.run.result
     (λ t.
     stage_of_block c.args.globals.now c.args.code.now c.args.registers.now c.args.number c.args.wires.now.signals c.run.new.wires.signals c.args.stores.now c.run.new.stores
     c.args.block.now
@@ -73,11 +52,7 @@ returns-in-Run-clause-puts c =
 
 pub returns-in-Act-clause-puts : goal.returns-in-Act-clause-puts
 returns-in-Act-clause-puts c =
-    on_ok c.idle.result
-    (Idles c.args.registers.now c.args.number c.args.wires.now.signals c.idle.new.wires.signals c.args.chains.now c.idle.new.chains)
-    (StoresStage c.args.globals.now c.args.code.now c.args.registers.now c.args.number (taken.Run c.args.block.now)
-    (Some c.args.plan.now) c.args.wires.now.signals c.idle.new.wires.signals
-    c.args.stores.now c.args.stores.now)
+    on_ok_weaker c.idle.result
     (λ t.
     stage_of_none c.args.globals.now c.args.code.now c.args.registers.now c.args.number (taken.Run c.args.block.now)
     (Some c.args.plan.now) c.args.wires.now.signals c.idle.new.wires.signals

@@ -1,25 +1,19 @@
 use Rattle.std.proofs.Common.{◌≡◌, Option, Some, sym, subst}
 use Rattle.block_ir.specs.declared.code.Stage.TheVariants as taken
-use Rattle.thread_states.specs.Cells.{StoresStage}
 use Rattle.thread_states.proofs.Blocks.{stage_of_none}
 use Rattle.thread_states.specs.Stores.{StageKeepsStores}
 use Rattle.thread_states.proofs.Storing.{stage_kept}
 use Rattle.std.specs.Prelude.{OnOk, slice_get}
+use Rattle.std.proofs.lemmas.Result.{on_ok_weaker}
 use Rattle.block_ir.specs.declared.code.Stage.{Stage}
 use Rattle.block_ir.specs.declared.plan.StagePlan.{StagePlan}
-use Rattle.block_datapath.proofs.Chaining.{on_ok}
-use Rattle.thread_slots.specs.declared.told.Told.{Told}
-use Rattle.thread_states.specs.Acts.{Idles, TakesAct}
 use Rattle.thread_states.specs.Stages.{TakesStage}
 use Rattle.thread_states.proofs.Stepping.{idle_taken, act_taken}
 use Rattle.thread_states.proofs.stages.take_stage.Goals as goal
 
 pub returns-in-None-clause-takes : goal.returns-in-None-clause-takes
 returns-in-None-clause-takes c =
-    on_ok c.idle.result (Idles c.args.registers.now c.args.number c.args.wires.now.signals c.idle.new.wires.signals c.args.chains.now c.idle.new.chains)
-    (TakesStage c.args.globals.now c.args.code.now c.args.registers.now c.args.told c.args.number c.args.stage.now (slice_get c.args.planned.now.stages c.args.number)
-    c.args.wires.now.signals c.idle.new.wires.signals c.args.chains.now c.idle.new.chains)
-    (λ t.
+    on_ok_weaker c.idle.result (λ t.
     subst (λ (s : Stage). TakesStage c.args.globals.now c.args.code.now c.args.registers.now c.args.told c.args.number s (slice_get c.args.planned.now.stages c.args.number)
     c.args.wires.now.signals c.idle.new.wires.signals c.args.chains.now c.idle.new.chains) (sym c.in-Run.is)
     (idle_taken c.args.globals.now c.args.code.now c.args.registers.now c.args.told c.args.number c.args.wires.now.signals c.idle.new.wires.signals c.args.chains.now
@@ -29,11 +23,7 @@ returns-in-None-clause-takes c =
 
 pub returns-in-None-clause-stores : goal.returns-in-None-clause-stores
 returns-in-None-clause-stores c =
-    on_ok c.idle.result (Idles c.args.registers.now c.args.number c.args.wires.now.signals c.idle.new.wires.signals c.args.chains.now c.idle.new.chains)
-    (StageKeepsStores c.args.code.now c.args.registers.now c.args.number (slice_get c.args.planned.now.stages c.args.number) c.args.wires.now.signals c.idle.new.wires.signals
-    c.args.chains.now
-    c.args.stores.now c.args.stores.now)
-    (λ t.
+    on_ok_weaker c.idle.result (λ t.
     stage_kept c.args.code.now c.args.registers.now c.args.number (slice_get c.args.planned.now.stages c.args.number) c.args.wires.now.signals c.idle.new.wires.signals
     c.args.chains.now
     c.args.stores.now t.step.grows)
@@ -41,11 +31,7 @@ returns-in-None-clause-stores c =
 
 pub returns-in-Act-clause-takes : goal.returns-in-Act-clause-takes
 returns-in-Act-clause-takes c =
-    on_ok c.take_act.result
-    (TakesAct c.args.code.now c.args.registers.now c.args.told c.args.number c.in-Act.act c.in-Act.next c.args.wires.now.signals c.take_act.new.wires.signals c.args.chains.now
-    c.take_act.new.chains)
-    (TakesStage c.args.globals.now c.args.code.now c.args.registers.now c.args.told c.args.number c.args.stage.now (slice_get c.args.planned.now.stages c.args.number)
-    c.args.wires.now.signals c.take_act.new.wires.signals c.args.chains.now c.take_act.new.chains)
+    on_ok_weaker c.take_act.result
     (λ t.
     subst (λ (s : Stage). TakesStage c.args.globals.now c.args.code.now c.args.registers.now c.args.told c.args.number s (slice_get c.args.planned.now.stages c.args.number)
     c.args.wires.now.signals c.take_act.new.wires.signals c.args.chains.now c.take_act.new.chains) (sym c.in-Act.is)
@@ -56,11 +42,7 @@ returns-in-Act-clause-takes c =
 pub returns-in-Some-clause-takes : goal.returns-in-Some-clause-takes
 returns-in-Some-clause-takes c =
     let found : Some c.in-Some.plan.now ≡ slice_get c.args.planned.now.stages c.args.number = (let value = c.in-Some.ensures.value in cc) in
-    on_ok c.take_block.result
-    ((told : Told) → TakesStage c.args.globals.now c.args.code.now c.args.registers.now told c.args.number (taken.Run c.in-Run.block) (Some c.in-Some.plan.now)
-    c.args.wires.now.signals c.take_block.new.wires.signals c.args.chains.now c.take_block.new.chains)
-    (TakesStage c.args.globals.now c.args.code.now c.args.registers.now c.args.told c.args.number c.args.stage.now (slice_get c.args.planned.now.stages c.args.number)
-    c.args.wires.now.signals c.take_block.new.wires.signals c.args.chains.now c.take_block.new.chains)
+    on_ok_weaker c.take_block.result
     (λ t.
     subst (λ (s : Stage). TakesStage c.args.globals.now c.args.code.now c.args.registers.now c.args.told c.args.number s (slice_get c.args.planned.now.stages c.args.number)
     c.args.wires.now.signals c.take_block.new.wires.signals c.args.chains.now c.take_block.new.chains) (sym c.in-Run.is)
@@ -70,12 +52,7 @@ returns-in-Some-clause-takes c =
 
 pub returns-in-Act-clause-stores : goal.returns-in-Act-clause-stores
 returns-in-Act-clause-stores c =
-    on_ok c.take_act.result
-    (TakesAct c.args.code.now c.args.registers.now c.args.told c.args.number c.in-Act.act c.in-Act.next c.args.wires.now.signals c.take_act.new.wires.signals c.args.chains.now
-    c.take_act.new.chains)
-    (StageKeepsStores c.args.code.now c.args.registers.now c.args.number (slice_get c.args.planned.now.stages c.args.number) c.args.wires.now.signals c.take_act.new.wires.signals
-    c.args.chains.now
-    c.args.stores.now c.args.stores.now)
+    on_ok_weaker c.take_act.result
     (λ t.
     stage_kept c.args.code.now c.args.registers.now c.args.number (slice_get c.args.planned.now.stages c.args.number) c.args.wires.now.signals c.take_act.new.wires.signals
     c.args.chains.now
@@ -84,10 +61,7 @@ returns-in-Act-clause-stores c =
 
 pub returns-in-None-clause-puts : goal.returns-in-None-clause-puts
 returns-in-None-clause-puts c =
-    on_ok c.idle.result (Idles c.args.registers.now c.args.number c.args.wires.now.signals c.idle.new.wires.signals c.args.chains.now c.idle.new.chains)
-    (StoresStage c.args.globals.now c.args.code.now c.args.registers.now c.args.number c.args.stage.now (slice_get c.args.planned.now.stages c.args.number) c.args.wires.now.signals
-    c.idle.new.wires.signals c.args.stores.now c.args.stores.now)
-    (λ t.
+    on_ok_weaker c.idle.result (λ t.
     stage_of_none c.args.globals.now c.args.code.now c.args.registers.now c.args.number c.args.stage.now
     (slice_get c.args.planned.now.stages c.args.number) c.args.wires.now.signals
     c.idle.new.wires.signals c.args.stores.now t.step.grows (λ x p e f. absurd (let none = c.in-None.ensures.value in cc)))
@@ -95,11 +69,7 @@ returns-in-None-clause-puts c =
 
 pub returns-in-Act-clause-puts : goal.returns-in-Act-clause-puts
 returns-in-Act-clause-puts c =
-    on_ok c.take_act.result
-    (TakesAct c.args.code.now c.args.registers.now c.args.told c.args.number c.in-Act.act c.in-Act.next c.args.wires.now.signals c.take_act.new.wires.signals c.args.chains.now
-    c.take_act.new.chains)
-    (StoresStage c.args.globals.now c.args.code.now c.args.registers.now c.args.number c.args.stage.now (slice_get c.args.planned.now.stages c.args.number) c.args.wires.now.signals
-    c.take_act.new.wires.signals c.args.stores.now c.args.stores.now)
+    on_ok_weaker c.take_act.result
     (λ t.
     stage_of_none c.args.globals.now c.args.code.now c.args.registers.now c.args.number c.args.stage.now
     (slice_get c.args.planned.now.stages c.args.number) c.args.wires.now.signals

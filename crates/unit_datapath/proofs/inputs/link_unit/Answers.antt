@@ -1,15 +1,13 @@
 use Rattle.std.proofs.Common.{◌∙◌, sym, ap, List, Bool}
 use Rattle.std.specs.Prelude.{slice_get}
-use Rattle.block_datapath.proofs.Chaining.{on_ok}
-use Rattle.unit_datapath.specs.Inputs.{is_begun, LinksUnit, LinksBegun}
+use Rattle.std.proofs.lemmas.Result.{on_ok_weaker}
+use Rattle.unit_datapath.specs.Inputs.{is_begun}
 use Rattle.unit_datapath.proofs.Inputting.{unit_begun}
 use Rattle.unit_datapath.proofs.inputs.link_unit.Goals as goal
 
 pub returns-then-is_begun : goal.returns-then-is_begun
 returns-then-is_begun c =
-    on_ok c.link_begun.result
-    (LinksBegun c.args.wires.now.signals c.link_begun.new.wires.signals c.args.inputs.now c.link_begun.new.inputs c.args.unit c.args.width c.args.here c.args.left c.args.right)
-    (LinksUnit c.args.wires.now.signals c.link_begun.new.wires.signals c.args.inputs.now c.link_begun.new.inputs c.args.unit c.args.width c.args.here c.args.left c.args.right)
+    on_ok_weaker c.link_begun.result
     (λ t. t (ap (λ (l : List Bool). is_begun (slice_get l c.args.unit)) (sym c.as_slice.ensures) ∙ sym c.is_begun.ensures ∙ c.if-is_begun.true))
     c.link_begun.ensures
 

@@ -1,18 +1,10 @@
-use Rattle.std.proofs.Common.{length}
-use Rattle.block_datapath.proofs.Chaining.{on_ok}
-use Rattle.unit_datapath.specs.Links.{LinksFirst, LinksBlock}
+use Rattle.std.proofs.lemmas.Result.{on_ok_weaker}
 use Rattle.unit_datapath.proofs.Linking.{block_linked}
 use Rattle.unit_datapath.proofs.links.link_block.Goals as goal
 
 pub returns : goal.returns
 returns c =
-    on_ok c.link_all.result
-    (LinksFirst c.args.code.now c.args.registers.now c.args.kind.now c.args.block.now c.args.plan.now c.end_of-end.result c.at_stage.new.wires.signals c.link_all.new.wires.signals
-    c.args.inputs.now
-    c.link_all.new.inputs (length c.args.block.now.operations))
-    (LinksBlock c.args.code.now c.args.registers.now c.args.kind.now c.args.stage c.args.block.now c.args.plan.now c.args.wires.now.signals c.link_all.new.wires.signals
-    c.args.inputs.now
-    c.link_all.new.inputs)
+    on_ok_weaker c.link_all.result
     (λ last.
     block_linked c.args.code.now c.args.registers.now c.args.kind.now c.args.block.now c.args.plan.now c.end_of-end.result c.args.stage c.args.wires.now.signals
     c.at_stage.new.wires.signals

@@ -1,17 +1,11 @@
 use Rattle.std.proofs.Common.{◌∙◌}
-use Rattle.block_datapath.proofs.Chaining.{on_ok}
-use Rattle.unit_datapath.specs.Inputs.{LinksUnit}
-use Rattle.unit_datapath.specs.Links.{LinksOperands}
+use Rattle.std.proofs.lemmas.Result.{on_ok_weaker}
 use Rattle.unit_datapath.proofs.Linking.{operands_linked}
 use Rattle.unit_datapath.proofs.links.link_operands.Goals as goal
 
 pub returns : goal.returns
 returns c =
-    on_ok c.link_unit.result
-    (LinksUnit c.unit_word-2.new.wires.signals c.link_unit.new.wires.signals c.args.inputs.now c.link_unit.new.inputs c.unit_of-unit.result c.from-width.result c.in_ok-here.here
-    c.in_ok-first.first.place c.in_ok-second.second.place)
-    (LinksOperands c.args.code.now c.args.registers.now c.args.plan.now c.args.ty c.args.number c.args.end c.args.further c.args.left.now c.args.right.now c.args.wires.now.signals
-    c.link_unit.new.wires.signals c.args.inputs.now c.link_unit.new.inputs)
+    on_ok_weaker c.link_unit.result
     (λ last.
     operands_linked c.args.code.now c.as_slice-types.result.now c.args.registers.now c.args.plan.now c.args.ty c.args.number c.args.end c.args.further c.start_of-start.result
     c.unit_of-unit.result

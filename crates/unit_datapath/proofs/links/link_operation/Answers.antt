@@ -1,19 +1,12 @@
 use Rattle.std.proofs.Common.{◌∙◌, refl, sym, ap}
-use Rattle.block_datapath.proofs.Chaining.{on_ok}
+use Rattle.std.proofs.lemmas.Result.{on_ok_weaker}
 use Rattle.unit_datapath.specs.Kinds.{is_work}
-use Rattle.unit_datapath.specs.Links.{LinksOperands, LinksOperation}
 use Rattle.unit_datapath.proofs.Linking.{operation_linked, nothing_linked}
 use Rattle.unit_datapath.proofs.links.link_operation.Goals as goal
 
 pub returns-then-is_shared : goal.returns-then-is_shared
 returns-then-is_shared c =
-    on_ok c.link_operands.result
-    (LinksOperands c.args.code.now c.args.registers.now c.args.plan.now c.args.kind.now.ty c.args.number c.args.end c.further_states-further.result c.in-Binary.left
-    c.in-Binary.right
-    c.args.wires.now.signals c.link_operands.new.wires.signals c.args.inputs.now c.link_operands.new.inputs)
-    (LinksOperation c.args.code.now c.args.registers.now c.args.kind.now c.args.plan.now c.args.end c.args.number c.args.operation.now c.args.wires.now.signals
-    c.link_operands.new.wires.signals
-    c.args.inputs.now c.link_operands.new.inputs)
+    on_ok_weaker c.link_operands.result
     (λ t.
     operation_linked c.args.code.now c.args.registers.now c.args.kind.now c.args.plan.now c.args.end c.args.number c.args.operation.now c.in-Binary.operator c.in-Binary.ty
     c.in-Binary.left
