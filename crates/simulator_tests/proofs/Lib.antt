@@ -1,4 +1,2 @@
-mod Texts
-pub mod Dumped
 pub mod Opens
 pub mod Shift

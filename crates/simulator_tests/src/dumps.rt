@@ -1,6 +1,6 @@
 // Dumps of a run, and the registers in them.
 
-use crate::nets::dumped;
+use crate::nets::{DUMPED, net_of};
 use cycle_sim::sim::Sim;
 use hls_io::Bytes;
 use net_registers::registers::{register, registers};
@@ -13,10 +13,9 @@ const DUMP: &str =
     #0\n$dumpvars\nb0 !\n$end\n#1\nb1 !\n#2\nb10 !\n";
 
 #[test]
-#[tactic(auto, using(crate::proofs::Dumped::dumped_opens))]
 fn a_run_is_dumped(rt: HostRuntime) -> Result<(), Fail> {
-    let modules = dumped(rt.alloc())?;
-    let traced = trace(rt.alloc(), modules.as_slice(), 9)?;
+    let net = net_of(rt.alloc(), DUMPED)?;
+    let traced = trace(rt.alloc(), net.modules.as_slice(), 9)?;
     assert!(rt; traced.cycles == 2);
     assert!(rt; traced.is_done);
     assert!(rt; traced.text.as_slice() == DUMP.as_bytes());
@@ -24,10 +23,9 @@ fn a_run_is_dumped(rt: HostRuntime) -> Result<(), Fail> {
 }
 
 #[test]
-#[tactic(auto, using(crate::proofs::Dumped::dumped_opens))]
 fn a_register_has_its_number(rt: HostRuntime) -> Result<(), Fail> {
-    let modules = dumped(rt.alloc())?;
-    let mut sim = Sim::open(rt.alloc(), modules.as_slice())?;
+    let net = net_of(rt.alloc(), DUMPED)?;
+    let mut sim = Sim::open(rt.alloc(), net.modules.as_slice())?;
     let listing = registers(rt.alloc(), &sim)?;
     assert!(rt; register(&sim, &listing, 0) == Some(0u64));
     assert!(rt; register(&sim, &listing, 1) == None);

@@ -1,103 +1,111 @@
 // What the simulator answers, beside what the definitions say.
 
-use crate::nets::{counter, looped};
+ghost use Rattle.cycle_sim.specs.Opened.{IsOpenable};
+
+use crate::nets::{COUNTER, LOOPED, net_of};
 use cycle_sim::sim::{OpenError, Sim};
 use hls_io::Bytes;
+use netlist::netlist::Module;
 use round_robin::run::run;
-use std::alloc::AllocError;
+use std::alloc::{AllocError, Global};
 use std::test::Fail;
 
-/// `left` and `right` depend on themselves, and `left` stands first.
+/// `left` and `right` depend on themselves, and `left` stands first: behind `clk` and `ready`.
 #[test]
-#[tactic(auto, using(crate::proofs::Opens::looped_opens))]
 fn a_loop_is_named_by_its_first_signal(rt: HostRuntime) -> Result<(), Fail> {
-    let modules = looped(rt.alloc())?;
-    let is_named = match Sim::open(rt.alloc(), modules.as_slice()) {
-        Err(OpenError::Loop { module, signal }) => module == 0 && signal == 1,
+    let net = net_of(rt.alloc(), LOOPED)?;
+    let is_named = match Sim::open(rt.alloc(), net.modules.as_slice()) {
+        Err(OpenError::Loop { module, signal }) => module == 0 && signal == 2,
         Err(OpenError::Memory) | Ok(_) => false,
     };
     assert!(rt; is_named);
     Ok(())
 }
 
-/// One cycle in which each arbiter prefers thread 5, and whether done is then shown.
+/// Whether done is shown so, by `done` and behind one cycle in which each arbiter prefers thread 5.
 #[tactic(auto, using(cycle_sim::proofs::Turning::net_refl, cycle_sim::proofs::Turning::fits_round, cycle_sim::proofs::Turning::fits_all))]
-fn cycle(sim: &mut Sim<'_>, out: &mut Bytes) -> Result<bool, AllocError> {
+fn shows(sim: &mut Sim<'_>, out: &mut Bytes, is_done: bool) -> Result<bool, AllocError> {
     let all = sim.all_enabled();
     let choice = sim.all_preferring(5)?;
     sim.cycle(&choice, out)?;
-    Ok(sim.shows_done(&all))
+    Ok(sim.shows_done(&all) == is_done && sim.done() == is_done)
+}
+
+fn takes_its_choice(sim: &mut Sim<'_>, out: &mut Bytes) -> Result<bool, AllocError> {
+    let is_new = !sim.done();
+    let is_first = shows(sim, out, false)?;
+    let is_last = shows(sim, out, true)?;
+    Ok(is_new && is_first && is_last)
 }
 
 /// Both threads are enabled, `en` is 3, and `pref_0` is 5.
 #[test]
-#[tactic(auto, using(crate::proofs::Opens::counter_opens))]
 fn a_cycle_takes_its_choice(rt: HostRuntime) -> Result<(), Fail> {
-    let modules = counter(rt.alloc())?;
-    let mut sim = Sim::open(rt.alloc(), modules.as_slice())?;
+    let net = net_of(rt.alloc(), COUNTER)?;
+    let mut sim = Sim::open(rt.alloc(), net.modules.as_slice())?;
     let mut out = Bytes::new(rt.alloc());
-    assert!(rt; !sim.done());
-    for is_done in [false, true] {
-        let shows_done = cycle(&mut sim, &mut out)?;
-        assert!(rt; shows_done == is_done);
-        assert!(rt; sim.done() == is_done);
-    }
+    let is_right = takes_its_choice(&mut sim, &mut out)?;
+    assert!(rt; is_right);
     assert!(rt; out.as_slice() == b"3,5;3,5;".as_slice());
     Ok(())
 }
 
+/// Whether a copy runs to its end in this many cycles.
+fn copy_ends(sim: &Sim<'_>, out: &mut Bytes, cycles: u32) -> Result<bool, AllocError> {
+    let mut copy = sim.copy()?;
+    let ran = copy.lockstep(20, out)?;
+    Ok(ran == cycles && copy.done())
+}
+
 /// A copy goes its own way.
 #[test]
-#[tactic(auto, using(crate::proofs::Opens::counter_opens))]
 fn a_copy_leaves_its_original(rt: HostRuntime) -> Result<(), Fail> {
-    let modules = counter(rt.alloc())?;
-    let mut sim = Sim::open(rt.alloc(), modules.as_slice())?;
-    let mut copy = sim.copy()?;
+    let net = net_of(rt.alloc(), COUNTER)?;
+    let mut sim = Sim::open(rt.alloc(), net.modules.as_slice())?;
     let mut out = Bytes::new(rt.alloc());
-    let cycles = copy.lockstep(20, &mut out)?;
-    assert!(rt; cycles == 2);
-    assert!(rt; copy.done());
+    let is_ended = copy_ends(&sim, &mut out, 2)?;
+    assert!(rt; is_ended);
     assert!(rt; !sim.done());
     Ok(())
 }
 
+/// The elements of `x` before the first edge, and behind it.
+const ELEMENTS: [[Option<u64>; 5]; 2] = [
+    [Some(7), Some(9), Some(11), Some(13), None],
+    [Some(7), Some(9), Some(1), Some(1), None],
+];
+
+/// Whether the elements of the global `x` are these.
+fn are_elements(sim: &Sim<'_>, words: &[Option<u64>; 5]) -> bool {
+    sim.global("x", 0) == words[0]
+        && sim.global("x", 1) == words[1]
+        && sim.global("x", 2) == words[2]
+        && sim.global("x", 3) == words[3]
+        && sim.global("x", 4) == words[4]
+}
+
+fn stand(sim: &mut Sim<'_>, out: &mut Bytes) -> Result<bool, AllocError> {
+    let is_first = are_elements(sim, &ELEMENTS[0]) && sim.global("y", 0) == None;
+    let cycles = sim.lockstep(1, out)?;
+    Ok(is_first && cycles == 1 && are_elements(sim, &ELEMENTS[1]))
+}
+
 /// Element j is word j / 2 of bank j modulo 2. The first edge makes word 1 of both banks 1.
 #[test]
-#[tactic(auto, using(crate::proofs::Opens::counter_opens))]
 fn an_element_stands_in_its_bank(rt: HostRuntime) -> Result<(), Fail> {
-    let modules = counter(rt.alloc())?;
-    let mut sim = Sim::open(rt.alloc(), modules.as_slice())?;
-    for (element, word) in [
-        (0u64, Some(7u64)),
-        (1, Some(9)),
-        (2, Some(11)),
-        (3, Some(13)),
-        (4, None),
-    ] {
-        assert!(rt; sim.global("x", element) == word, "at {element}");
-    }
-    assert!(rt; sim.global("y", 0) == None);
+    let net = net_of(rt.alloc(), COUNTER)?;
+    let mut sim = Sim::open(rt.alloc(), net.modules.as_slice())?;
     let mut out = Bytes::new(rt.alloc());
-    let cycles = sim.lockstep(1, &mut out)?;
-    assert!(rt; cycles == 1);
-    for (element, word) in [
-        (0u64, Some(7u64)),
-        (1, Some(9)),
-        (2, Some(1)),
-        (3, Some(1)),
-        (4, None),
-    ] {
-        assert!(rt; sim.global("x", element) == word, "at {element}");
-    }
+    let is_right = stand(&mut sim, &mut out)?;
+    assert!(rt; is_right);
     Ok(())
 }
 
 /// In cycle k both threads are enabled, and `pref_0` is k.
 #[test]
-#[tactic(auto, using(crate::proofs::Opens::counter_opens))]
 fn lockstep_ends_where_done_is_shown(rt: HostRuntime) -> Result<(), Fail> {
-    let modules = counter(rt.alloc())?;
-    let mut sim = Sim::open(rt.alloc(), modules.as_slice())?;
+    let net = net_of(rt.alloc(), COUNTER)?;
+    let mut sim = Sim::open(rt.alloc(), net.modules.as_slice())?;
     let mut out = Bytes::new(rt.alloc());
     for cycles in [2u32, 0] {
         let ran = sim.lockstep(20, &mut out)?;
@@ -107,20 +115,30 @@ fn lockstep_ends_where_done_is_shown(rt: HostRuntime) -> Result<(), Fail> {
     Ok(())
 }
 
+/// The most cycles of a run, how many it has, whether done is shown behind them, and what it writes.
+type Row = (u32, u32, bool, &'static str);
+
+const RUNS: [Row; 4] = [
+    (0, 0, false, ""),
+    (1, 1, false, "3,0;"),
+    (2, 2, true, "3,0;3,1;"),
+    (20, 2, true, "3,0;3,1;"),
+];
+
+fn is_run(alloc: Global, modules: &[Module], row: &Row) -> Result<bool, OpenError>
+    requires { IsOpenable modules.now }
+{
+    let ran = run(alloc, modules, row.0)?;
+    Ok(ran.cycles == row.1 && ran.is_done == row.2 && ran.printed.as_slice() == row.3.as_bytes())
+}
+
 #[test]
-#[tactic(auto, using(crate::proofs::Opens::counter_opens))]
 fn a_run_tells_its_cycles(rt: HostRuntime) -> Result<(), Fail> {
-    let modules = counter(rt.alloc())?;
-    for (most, cycles, is_done, printed) in [
-        (0u32, 0u32, false, ""),
-        (1, 1, false, "3,0;"),
-        (2, 2, true, "3,0;3,1;"),
-        (20, 2, true, "3,0;3,1;"),
-    ] {
-        let ran = run(rt.alloc(), modules.as_slice(), most)?;
-        assert!(rt; ran.cycles == cycles, "of {most}");
-        assert!(rt; ran.is_done == is_done, "of {most}");
-        assert!(rt; ran.printed.as_slice() == printed.as_bytes(), "of {most}");
+    let net = net_of(rt.alloc(), COUNTER)?;
+    for row in &RUNS {
+        let is_run = is_run(rt.alloc(), net.modules.as_slice(), row)?;
+        let most = row.0;
+        assert!(rt; is_run, "of {most}");
     }
     Ok(())
 }

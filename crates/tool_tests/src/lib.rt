@@ -7,6 +7,8 @@ mod builds;
 #[cfg(test)]
 mod call;
 #[cfg(test)]
+mod choices;
+#[cfg(test)]
 mod faults;
 #[cfg(test)]
 mod limits;

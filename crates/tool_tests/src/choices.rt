@@ -2,18 +2,14 @@
 
 ghost use Rattle.cycle_sim.specs.Opened.{IsOpenable};
 
+use crate::programs::ADDING;
 use cycle_sim::sim::Sim;
 use hls_compile::compile;
 use hls_io::Bytes;
 use netlist::netlist::Module;
 use std::alloc::{AllocError, Global};
 use std::test::Fail;
-
-/// Three threads add 1 each.
-const ADDING: &str =
-    "pthread_t t[3]; pthread_mutex_t m = PTHREAD_MUTEX_INITIALIZER; int s; void *w(void *arg){pthread_mutex_lock(&m); s = s + 1; pthread_mutex_unlock(&m); \
-    return NULL;} int main(void){int i; for (i = 0; i < 3; i++) pthread_create(&t[i], NULL, w, NULL); for (i = 0; i < 3; i++) pthread_join(t[i], NULL); \
-    printf(\"%d\\n\", s); return 0;}";
+use std::thread::Threads;
 
 /// One cycle in which all threads are enabled and each arbiter prefers thread 1, and whether done is then shown.
 #[tactic(auto, using(cycle_sim::proofs::Turning::net_refl, cycle_sim::proofs::Turning::fits_round, cycle_sim::proofs::Turning::fits_all))]
@@ -45,13 +41,24 @@ fn is_done(
     Ok(sim.done() && out.as_slice() == printed)
 }
 
+/// The same of the net of a program.
+fn is_built<R: Threads + Sync>(
+    rt: &R,
+    alloc: Global,
+    text: &str,
+    cycles: u32,
+    printed: &[u8],
+) -> Result<bool, AllocError> {
+    match compile(rt, alloc, text.as_bytes(), 1) {
+        Ok(built) => is_done(alloc, built.net.modules.as_slice(), cycles, printed),
+        Err(_) => Ok(false),
+    }
+}
+
 /// T is 4 and B is 64 * (24 + 1): 88,000 / 1,600 - 4 is 51, and the program ends after 50 steps. Where done is shown it stays.
 #[test]
 fn is_done_within_the_bound_on_steps(rt: HostRuntime) -> Result<(), Fail> {
-    let is_right = match compile(&rt, rt.alloc(), ADDING.as_bytes(), 1) {
-        Ok(built) => is_done(rt.alloc(), built.net.modules.as_slice(), 88_000, b"3\n")?,
-        Err(_) => false,
-    };
+    let is_right = is_built(&rt, rt.alloc(), ADDING, 88_000, b"3\n")?;
     assert!(rt; is_right);
     Ok(())
 }
