@@ -2,14 +2,15 @@
 
 ghost use Rattle.cycle_sim.specs.Opened.{IsOpenable};
 
+use crate::call::{BUILD, SURE, told};
 use crate::programs::ADDING;
 use cycle_sim::sim::Sim;
-use hls_compile::compile;
 use hls_io::Bytes;
+use net_netlist::netlist;
 use netlist::netlist::Module;
 use std::alloc::{AllocError, Global};
 use std::test::Fail;
-use std::thread::Threads;
+use verilog_reader::read::{ReadError, read};
 
 /// One cycle in which all threads are enabled and each arbiter prefers thread 1, and whether done is then shown.
 #[tactic(auto, using(cycle_sim::proofs::Turning::net_refl, cycle_sim::proofs::Turning::fits_round, cycle_sim::proofs::Turning::fits_all))]
@@ -41,24 +42,25 @@ fn is_done(
     Ok(sim.done() && out.as_slice() == printed)
 }
 
-/// The same of the net of a program.
-fn is_built<R: Threads + Sync>(
-    rt: &R,
+/// The same of the net that a Verilog text spells.
+#[tactic(auto, using(crate::proofs::Opens::opens))]
+fn is_done_by(
     alloc: Global,
-    text: &str,
+    text: &[u8],
     cycles: u32,
     printed: &[u8],
-) -> Result<bool, AllocError> {
-    match compile(rt, alloc, text.as_bytes(), 1) {
-        Ok(built) => is_done(alloc, built.net.modules.as_slice(), cycles, printed),
-        Err(_) => Ok(false),
-    }
+) -> Result<bool, ReadError> {
+    let net = read(alloc, text)?;
+    let made = netlist(alloc, &net)?;
+    let is_done = is_done(alloc, made.modules.as_slice(), cycles, printed)?;
+    Ok(is_done)
 }
 
 /// T is 4 and B is 64 * (24 + 1): 88,000 / 1,600 - 4 is 51, and the program ends after 50 steps. Where done is shown it stays.
 #[test]
 fn is_done_within_the_bound_on_steps(rt: HostRuntime) -> Result<(), Fail> {
-    let is_right = is_built(&rt, rt.alloc(), ADDING, 88_000, b"3\n")?;
+    let built = told(&rt, rt.alloc(), ADDING.as_bytes(), BUILD, &SURE)?;
+    let is_right = is_done_by(rt.alloc(), built.out.held(), 88_000, b"3\n")?;
     assert!(rt; is_right);
     Ok(())
 }
