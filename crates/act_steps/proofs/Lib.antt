@@ -11,3 +11,5 @@ pub mod Joining
 pub mod Finishing
 pub mod Printing
 pub mod Requests
+pub use Rattle.block_refine.proofs.RoutineActs
+pub use Rattle.block_refine.proofs.RoutineLaws

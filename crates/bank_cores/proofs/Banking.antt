@@ -11,8 +11,8 @@ use Rattle.netlist.specs.declared.netlist.Signal.{Signal}
 use Rattle.netlist.specs.declared.netlist.Memory.{Memory}
 use Rattle.netlist.specs.declared.netlist.Action.{Action}
 use Rattle.netlist.specs.declared.netlist.Module.{Module}
-use Rattle.verilog_meaning.specs.Readings.{Reading, written, action_bytes, initial_reading, initial_signal, initial_word, memory_words, next_reading, register_after, word_after}
-use Rattle.verilog_meaning.specs.Cycles.{IsRegister}
+use Rattle.circuit.specs.Readings.{Reading, written, action_bytes, initial_reading, initial_signal, initial_word, memory_words, next_reading, register_after, word_after}
+use Rattle.circuit.specs.Cycles.{IsRegister}
 use Rattle.circuit.specs.Rows.{EachOf, sets, set_at}
 use Rattle.circuit.specs.Modules.{FitsAction, FitsMemory, Obeys, Agree, Has, HasInput, Reads, IsSound, IsLeaf, is_between}
 use Rattle.circuit.specs.Arbitration.{is_granted}

@@ -7,7 +7,7 @@ use Rattle.std.proofs.lemmas.Grind.{get_or-set_at}
 use Rattle.std.proofs.Math.ListN.{length-set}
 use Rattle.std.proofs.lemmas.Bool.{cases_eq}
 use Rattle.std.proofs.lemmas.List.{get_or_past}
-use Rattle.verilog_meaning.specs.Readings.{or_zero}
+use Rattle.circuit.specs.Readings.{or_zero}
 use Rattle.bank_cores.specs.Machine.{Words, written, read}
 
 -- a request that writes or reads

@@ -5,7 +5,7 @@ use Rattle.netlist.specs.declared.netlist.Memory.{Memory}
 use Rattle.netlist.specs.declared.netlist.Action.{Action}
 use Rattle.netlist.specs.declared.netlist.Effect.TheVariants.{Store}
 use Rattle.netlist.specs.declared.netlist.Module.{Module}
-use Rattle.verilog_meaning.specs.Names.{numbered}
+use Rattle.circuit.specs.Names.{numbered}
 use Rattle.circuit.specs.declared.rows.Role.TheVariants as role
 use Rattle.circuit.specs.declared.rows.Operand.TheVariants.{Each, Fixed}
 use Rattle.circuit.specs.declared.rows.Form.TheVariants.{Input, Register, Constant, Output, Binary, Conditional, MemoryRead}

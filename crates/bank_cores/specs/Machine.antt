@@ -1,7 +1,7 @@
 -- A bank as a machine: a thread asks to read or to write a word; a write that is granted changes one word, and a read that
 -- is granted keeps the word for its thread, until that thread's next one.
 use Rattle.std.specs.Prelude.{◌≡◌, ℕ, zero, suc, ◌+◌, ◌<◌, Bool, ◌||◌, nat_lt, if◌then◌else◌, replicate, List, [], ◌∷◌, ◌++◌, length, slice_index, slice_set}
-use Rattle.verilog_meaning.specs.Readings.{Reading}
+use Rattle.circuit.specs.Readings.{Reading}
 use Rattle.circuit.specs.Modules.{is_between}
 use Rattle.circuit.specs.Machines.{CoreMachine, CorePlaces}
 use Rattle.bank_cores.specs.declared.bank.Shape.{Shape}

@@ -23,12 +23,12 @@ use Rattle.planned_block.specs.Plan.{further_states, last_state}
 use Rattle.planned_block.specs.Slot.{Slot, is_request, value_now, register_value}
 use Rattle.planned_block.proofs.Bits.{same_is, other_is}
 use Rattle.planned_block.specs.Advance.{last_of}
-use Rattle.planned_view.specs.View.{operand_view, operation_view, planned_view, plan_view, register_at}
+use Rattle.thread_promise.specs.View.{operand_view, operation_view, planned_view, plan_view, register_at}
 use Rattle.netlist.specs.declared.netlist.Signal.{Signal}
 use Rattle.netlist.specs.declared.netlist.Module.{Module}
 use Rattle.verilog_meaning.specs.Readings.{Reading, width}
-use Rattle.circuit.specs.Modules.{Obeys}
-use Rattle.operator_words.proofs.Typed.{residue_of-zero}
+use Rattle.operator_wires.specs.Modules.{Obeys}
+use Rattle.operator_wires.proofs.Typed.{residue_of-zero}
 use Rattle.operator_wires.specs.declared.words.Word.{Word}
 use Rattle.operator_wires.specs.Gives.{Grows, Gives}
 use Rattle.operator_wires.specs.Words.{Holds, Becomes}
@@ -54,7 +54,7 @@ use Rattle.block_datapath.specs.Accesses.{AddsRegistered, IsRegistered, AreRegis
 use Rattle.block_datapath.specs.Accesses.{reaches_in, asked_in, SeesOperand, SeesAccess, AsksIndex, AsksOperation}
 use Rattle.block_datapath.specs.Accesses.{AsksFirst, HaveBankWidths, HasOwnWidths, AreIndexLinks, AreAccessLinks}
 use Rattle.block_datapath.specs.Accesses.{IsAskRight, AsksBlock, IsAskingBlock}
-use Rattle.right_plan.proofs.Waiting.{request_is_slow}
+use Rattle.thread_promise.proofs.Waiting.{request_is_slow}
 use Rattle.block_datapath.proofs.Walking.{listed_view, within_view, uses_source}
 use Rattle.block_datapath.proofs.Wiring.{one_more, registers_after, values_after, sources_after, word_stands_after}
 use Rattle.block_datapath.proofs.Requesting.{same_asked, not_yet, bank_chains_after}

@@ -25,8 +25,8 @@ use Rattle.planned_block.specs.Block.{Operand as PlannedOperand, Final as Planne
 use Rattle.planned_block.specs.Advance.{last_of}
 use Rattle.planned_block.specs.Slot.{Slot, value_now, operand_now}
 use Rattle.planned_block.proofs.Bits.{same_is, other_is}
-use Rattle.planned_view.specs.View.{operand_view, finals_view, next_view, planned_view, plan_view}
-use Rattle.circuit.specs.Modules.{Obeys}
+use Rattle.thread_promise.specs.View.{operand_view, finals_view, next_view, planned_view, plan_view}
+use Rattle.operator_wires.specs.Modules.{Obeys}
 use Rattle.operator_wires.specs.Gives.{Grows}
 use Rattle.operator_wires.specs.Words.{IsWord}
 use Rattle.operator_wires.proofs.Giving.{grows_then}

@@ -14,8 +14,8 @@ use Rattle.planned_block.specs.Block.{Operand as PlannedOperand, Operation as Pl
 use Rattle.planned_block.specs.Plan.{last_state}
 use Rattle.planned_block.specs.Slot.{Slot, is_request, value_now, register_value}
 use Rattle.planned_block.proofs.Bits.{other_is}
-use Rattle.right_plan.proofs.Waiting.{request_is_slow}
-use Rattle.planned_view.specs.View.{source_view, converted_to, operand_view, operation_view, planned_view, plan_view}
+use Rattle.thread_promise.proofs.Waiting.{request_is_slow}
+use Rattle.thread_promise.specs.View.{source_view, converted_to, operand_view, operation_view, planned_view, plan_view}
 use Rattle.netlist.specs.declared.netlist.Module.{Module}
 use Rattle.verilog_meaning.specs.Readings.{Reading}
 use Rattle.thread_promise.specs.Types.{source_type, last_type, value_type, IsTypedSource, IsTypedOperand}

@@ -22,8 +22,8 @@ use Rattle.planned_block.specs.Advance.{last_of, is_register}
 use Rattle.planned_block.specs.Plan.{last_state}
 use Rattle.planned_block.specs.Slot.{Slot, RegistersAfter}
 use Rattle.planned_block.proofs.Bits.{same_is, other_is}
-use Rattle.planned_view.specs.View.{planned_view, plan_view}
-use Rattle.circuit.specs.Modules.{Obeys}
+use Rattle.thread_promise.specs.View.{planned_view, plan_view}
+use Rattle.operator_wires.specs.Modules.{Obeys}
 use Rattle.operator_wires.specs.Gives.{Grows}
 use Rattle.operator_wires.specs.Words.{resized_word}
 use Rattle.operator_wires.proofs.Giving.{grows_then}

@@ -15,7 +15,7 @@ use Rattle.planned_block.specs.Block.{Operation as PlannedOperation, operation_a
 use Rattle.planned_block.specs.Plan.{OfGlobal, target_of, gap_after, KeepsOrders}
 use Rattle.planned_block.specs.Slot.{Slot, value_now}
 use Rattle.planned_block.specs.Advance.{last_of}
-use Rattle.planned_view.specs.View.{planned_view, plan_view}
+use Rattle.thread_promise.specs.View.{planned_view, plan_view}
 use Rattle.thread_promise.specs.Globals.{IsSmallPower}
 use Rattle.block_datapath.specs.declared.registers.Registers.{Registers}
 use Rattle.block_datapath.specs.Requests.{Asked}

@@ -13,7 +13,7 @@ use Rattle.planned_block.proofs.Bits.{same_is, other_is, less_is, not_less_is}
 use Rattle.netlist.specs.declared.netlist.Signal.{Signal}
 use Rattle.netlist.specs.declared.netlist.Value.TheVariants.{Select}
 use Rattle.netlist.specs.declared.netlist.Module.{Module}
-use Rattle.circuit.specs.Modules.{Obeys}
+use Rattle.operator_wires.specs.Modules.{Obeys}
 use Rattle.verilog_meaning.specs.Readings.{Reading, width, value}
 use Rattle.operator_wires.specs.Gives.{Grows, Gives}
 use Rattle.operator_wires.specs.Words.{Resizes, resized_word}

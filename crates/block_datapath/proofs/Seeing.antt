@@ -16,7 +16,7 @@ use Rattle.block_ir.specs.declared.operand.Source.{Source}
 use Rattle.block_ir.specs.declared.operand.Source.TheVariants.{Constant, Variable, Value}
 use Rattle.block_ir.specs.declared.operand.Operand.{Operand}
 use Rattle.planned_block.specs.Block.{operand_value, Operand as PlannedOperand, Through}
-use Rattle.planned_view.specs.View.{source_view, converted_to}
+use Rattle.thread_promise.specs.View.{source_view, converted_to}
 use Rattle.operator_wires.specs.declared.words.Word.{Word}
 use Rattle.operator_wires.specs.Words.{IsWord, Holds, Becomes}
 use Rattle.operator_wires.proofs.Giving.{grows_refl, grows_then}

@@ -3,7 +3,7 @@ use Rattle.std.proofs.Common.{◌≡◌, ℕ, suc, Bool, true, false, if◌then�
 use Rattle.hls_ints.specs.Types.{IntegerType, width_of}
 use Rattle.c_program.specs.declared.tree.BinaryOperator.{BinaryOperator}
 use Rattle.c_program.specs.declared.tree.BinaryOperator.TheVariants.{Multiply, Divide, Remainder}
-use Rattle.operator_words.specs.Shown.{binary_result}
+use Rattle.operator_wires.specs.Shown.{binary_result}
 use Rattle.planned_block.proofs.Bits.{both_true, is_same}
 use Rattle.block_datapath.specs.declared.registers.UnitResults.{UnitResults}
 use Rattle.block_ir.specs.declared.operand.Operand.{Operand}

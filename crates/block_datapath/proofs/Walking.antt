@@ -24,8 +24,8 @@ use Rattle.planned_block.specs.Block.{Operand as PlannedOperand, Through, Operat
 use Rattle.planned_block.specs.Plan.{last_state, further_states}
 use Rattle.planned_block.specs.Slot.{Slot, value_now, operand_now, register_value, result_of}
 use Rattle.planned_block.proofs.Bits.{same_is, other_is}
-use Rattle.planned_view.specs.View.{source_view, operand_view, operation_view, operations_view, converted_to, binary_kind, planned_view, plan_view}
-use Rattle.circuit.specs.Modules.{Obeys}
+use Rattle.thread_promise.specs.View.{source_view, operand_view, operation_view, operations_view, converted_to, binary_kind, planned_view, plan_view}
+use Rattle.operator_wires.specs.Modules.{Obeys}
 use Rattle.operator_wires.specs.Gives.{Grows}
 use Rattle.operator_wires.specs.Words.{IsWord}
 use Rattle.operator_wires.proofs.Giving.{grows_refl, grows_then}

@@ -2,7 +2,7 @@
 use Rattle.std.proofs.Common.{◌≡◌, ℕ, zero, ◌+◌, ◌/◌, ◌%◌, ◌<◌, ◌≤◌, ◌^◌, nat_eq, Bool, true, false, ◌&&◌, List, slice_get, slice_index, Option, Some, ℤ, pos}
 use Rattle.std.proofs.Common.{refl, sym, ap, subst, ◌∙◌, arith}
 use Rattle.std.proofs.lemmas.Bool.{and_parts, and_from, eqb-true}
-use Rattle.planned_view.proofs.Running.{size-view}
+use Rattle.thread_promise.proofs.Running.{size-view}
 use Rattle.lists.proofs.Places.{get_there}
 use Rattle.interleaving.specs.Memory.{Location}
 use Rattle.hls_ints.specs.Residues.{residue_of, bit_of}
@@ -20,7 +20,7 @@ use Rattle.planned_block.specs.Block.{Operation as PlannedOperation, operation_a
 use Rattle.planned_block.specs.Plan.{OfGlobal, target_of}
 use Rattle.planned_block.specs.Slot.{Slot, is_request, asks, value_now, operand_now}
 use Rattle.planned_block.proofs.Bits.{same_is}
-use Rattle.planned_view.specs.View.{operation_view, binary_kind, planned_view, plan_view}
+use Rattle.thread_promise.specs.View.{operation_view, binary_kind, planned_view, plan_view}
 use Rattle.c_program.specs.declared.tree.BinaryOperator.{BinaryOperator}
 use Rattle.c_program.specs.declared.tree.BinaryOperator.TheVariants as operator
 use Rattle.thread_promise.specs.Types.{or_int}

@@ -21,12 +21,12 @@ use Rattle.block_ir.specs.declared.block.Operation.{Operation}
 use Rattle.block_ir.specs.declared.block.Operation.TheVariants.{Unary, Binary, ReadGlobal, ReadArray}
 use Rattle.block_ir.specs.declared.code.Array.{Array}
 use Rattle.block_ir.specs.declared.code.ThreadCode.{ThreadCode}
-use Rattle.operator_words.specs.Shown.{unary_result, binary_result}
-use Rattle.operator_words.proofs.Residues.{residue_of-word}
-use Rattle.operator_words.proofs.Typed.{has_zero, residue_of-zero}
+use Rattle.operator_wires.specs.Shown.{unary_result, binary_result}
+use Rattle.operator_wires.proofs.Residues.{residue_of-word}
+use Rattle.operator_wires.proofs.Typed.{has_zero, residue_of-zero}
 use Rattle.operator_wires.specs.declared.words.Word.{Word}
 use Rattle.operator_wires.specs.Gives.{Grows, Gives}
-use Rattle.circuit.specs.Modules.{Obeys}
+use Rattle.operator_wires.specs.Modules.{Obeys}
 use Rattle.operator_wires.specs.Words.{IsWord, Holds, Becomes, Combine, Resizes, resized_word}
 use Rattle.operator_wires.proofs.Giving.{grows_refl, grows_then}
 use Rattle.operator_wires.proofs.Resizing.{resized_shows}
@@ -39,7 +39,7 @@ use Rattle.block_datapath.specs.Seen.{ShowsOperand}
 use Rattle.thread_promise.specs.Slots.{element_at}
 use Rattle.block_ir.specs.declared.plan.BlockPlan.{BlockPlan}
 use Rattle.planned_block.specs.Plan.{further_states}
-use Rattle.planned_view.specs.View.{operation_view, register_at}
+use Rattle.thread_promise.specs.View.{operation_view, register_at}
 use Rattle.block_datapath.specs.Units.{shared_place}
 use Rattle.block_datapath.specs.Operations.{seen_value, operation_value, HasArrays, IsOutside, result_place, Addresses, ReadsArray, ShowsOperation, GivesOperation}
 use Rattle.block_datapath.proofs.Seeing.{own_word}

@@ -13,12 +13,12 @@ use Rattle.block_ir.specs.declared.plan.BlockPlan.{BlockPlan}
 use Rattle.planned_block.specs.Plan.{further_states, KeepsOrders}
 use Rattle.planned_block.specs.Slot.{Slot, value_now}
 use Rattle.planned_block.specs.Advance.{last_of}
-use Rattle.planned_view.specs.View.{operation_view, planned_view, plan_view, register_at}
-use Rattle.right_plan.specs.Right.{WorksFromRegisters}
+use Rattle.thread_promise.specs.View.{operation_view, planned_view, plan_view, register_at}
+use Rattle.thread_promise.specs.Right.{WorksFromRegisters}
 use Rattle.netlist.specs.declared.netlist.Signal.{Signal}
 use Rattle.netlist.specs.declared.netlist.Module.{Module}
 use Rattle.verilog_meaning.specs.Readings.{Reading, width}
-use Rattle.circuit.specs.Modules.{Obeys}
+use Rattle.operator_wires.specs.Modules.{Obeys}
 use Rattle.operator_wires.specs.declared.words.Word.{Word}
 use Rattle.operator_wires.specs.Gives.{Grows}
 use Rattle.operator_wires.specs.Built.{Base, IsEarlier, StandsAs, AddsWord}

@@ -5,7 +5,7 @@ use Rattle.netlist.specs.declared.netlist.Signal.{Signal}
 use Rattle.netlist.specs.declared.netlist.Module.{Module}
 use Rattle.verilog_meaning.specs.Readings.{Reading, width}
 use Rattle.planned_block.specs.Advance.{last_of, is_register}
-use Rattle.circuit.specs.Modules.{Obeys}
+use Rattle.operator_wires.specs.Modules.{Obeys}
 use Rattle.operator_wires.specs.Gives.{Grows}
 use Rattle.operator_wires.specs.Words.{resized_word}
 use Rattle.block_datapath.specs.declared.registers.Held.{Held}

@@ -8,3 +8,8 @@ pub mod Requests
 pub mod Accesses
 pub mod Told
 pub mod Units
+pub use Rattle.thread_promise.specs.Moves
+pub use Rattle.thread_promise.specs.Types
+pub use Rattle.thread_promise.specs.Promise
+pub use Rattle.thread_promise.specs.View
+pub use Rattle.thread_promise.specs.Globals

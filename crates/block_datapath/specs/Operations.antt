@@ -16,12 +16,12 @@ use Rattle.block_ir.specs.declared.plan.BlockPlan.{BlockPlan}
 use Rattle.planned_block.specs.Block.{operand_value, element}
 use Rattle.planned_block.specs.Plan.{last_state, further_states, KeepsOrders}
 use Rattle.planned_block.specs.Slot.{Slot, IsWired}
-use Rattle.planned_view.specs.View.{operand_view, operation_view, planned_view, plan_view, register_at}
+use Rattle.thread_promise.specs.View.{operand_view, operation_view, planned_view, plan_view, register_at}
 use Rattle.netlist.specs.declared.netlist.Signal.{Signal}
 use Rattle.netlist.specs.declared.netlist.Memory.{Memory as Words}
 use Rattle.netlist.specs.declared.netlist.Module.{Module}
 use Rattle.verilog_meaning.specs.Readings.{Reading, width}
-use Rattle.circuit.specs.Modules.{Obeys}
+use Rattle.operator_wires.specs.Modules.{Obeys}
 use Rattle.operator_wires.specs.declared.words.Word.{Word}
 use Rattle.operator_wires.specs.Gives.{Grows}
 use Rattle.operator_wires.specs.Words.{IsWord}

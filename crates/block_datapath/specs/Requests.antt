@@ -6,7 +6,7 @@ use Rattle.thread_promise.specs.Globals.{IsSmallPower}
 use Rattle.netlist.specs.declared.netlist.Signal.{Signal}
 use Rattle.netlist.specs.declared.netlist.Module.{Module}
 use Rattle.verilog_meaning.specs.Readings.{Reading, width}
-use Rattle.circuit.specs.Modules.{Obeys}
+use Rattle.operator_wires.specs.Modules.{Obeys}
 use Rattle.operator_wires.specs.Gives.{Grows}
 use Rattle.operator_wires.specs.Built.{Base, IsEarlier, AreWires}
 use Rattle.block_datapath.specs.declared.registers.Held.{Held}

@@ -9,8 +9,8 @@ use Rattle.block_ir.specs.declared.operand.Source.{Source}
 use Rattle.block_ir.specs.declared.operand.Source.TheVariants.{Constant, Variable, Value}
 use Rattle.block_ir.specs.declared.operand.Operand.{Operand}
 use Rattle.planned_block.specs.Block.{operand_value, Operand as PlannedOperand}
-use Rattle.planned_view.specs.View.{source_view, operand_view, converted_to}
-use Rattle.circuit.specs.Modules.{Obeys}
+use Rattle.thread_promise.specs.View.{source_view, operand_view, converted_to}
+use Rattle.operator_wires.specs.Modules.{Obeys}
 use Rattle.operator_wires.specs.declared.words.Word.{Word}
 use Rattle.operator_wires.specs.Gives.{Grows}
 use Rattle.operator_wires.specs.Words.{IsWord, Resizes}

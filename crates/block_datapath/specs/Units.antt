@@ -13,7 +13,7 @@ use Rattle.block_ir.specs.declared.block.Block.{Block}
 use Rattle.block_ir.specs.declared.plan.BlockPlan.{BlockPlan}
 use Rattle.planned_block.specs.Plan.{last_state}
 use Rattle.planned_block.specs.Slot.{Slot, operand_now}
-use Rattle.planned_view.specs.View.{operand_view, planned_view, plan_view}
+use Rattle.thread_promise.specs.View.{operand_view, planned_view, plan_view}
 use Rattle.netlist.specs.declared.netlist.Module.{Module}
 use Rattle.verilog_meaning.specs.Readings.{Reading}
 use Rattle.operator_wires.specs.declared.words.Word.{Word}

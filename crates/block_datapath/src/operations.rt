@@ -1,10 +1,10 @@
 // The values of the operations of a block.
 
 ghost use Rattle.std.specs.Prelude.{◌≡◌, ◌<◌, ◌≤◌, ◌-◌, ◌^◌, ℕ, ℤ, None, slice_get, slice_index, length, List, IfOk, IsTrue};
-ghost use Rattle.operator_words.specs.Shown.{unary_result, binary_result};
+ghost use Rattle.operator_wires.specs.Shown.{unary_result, binary_result};
 ghost use Rattle.block_datapath.specs.Wired.{IsSourced, IsOperationWord, IsElementWord, IsAddress, AreGiven};
 ghost use Rattle.hls_ints.specs.Types.{IntegerType};
-ghost use Rattle.planned_view.specs.View.{register_at};
+ghost use Rattle.thread_promise.specs.View.{register_at};
 ghost use Rattle.thread_promise.specs.Types.{value_type, or_int, element_type};
 ghost use Rattle.block_datapath.specs.Operations.{Addresses, ReadsArray, ShowsOperation, GivesOperation, ShowsFirst};
 ghost use Rattle.block_ir.specs.declared.block.Operation.TheVariants as operation;

@@ -2,7 +2,7 @@
 
 ghost use Rattle.std.specs.Prelude.{◌≡◌, ◌≤◌, suc, ℤ};
 ghost use Rattle.planned_block.specs.Plan.{further_states};
-ghost use Rattle.planned_view.specs.View.{operation_view, binary_kind};
+ghost use Rattle.thread_promise.specs.View.{operation_view, binary_kind};
 
 use block_ir::block::Operation;
 use c_program::tree::BinaryOperator;

@@ -26,7 +26,7 @@ use Rattle.c_rules.specs.Constants.{constancy}
 use Rattle.c_rules.specs.Names.{same_kind}
 use Rattle.c_rules.specs.Specifiers.{c_type, spelled_by}
 use Rattle.c_rules.specs.Walks.{Finds, pure, finds, finds_if, through, visited, place_in_tree, ◌>>=◌, ◌>>◌}
-use Rattle.c_expressions.specs.Expressions.{value}
+use Rattle.c_calls.specs.Expressions.{value}
 use Rattle.c_resolution.specs.States.{Goes, finding}
 use Rattle.c_resolution.specs.Locals.{optional_length, declare}
 use Rattle.c_resolution.specs.Files.{Tables, Declares, going, tabling, with_global, with_thread, with_mutex, with_barrier}

@@ -22,7 +22,7 @@ use Rattle.c_rules.specs.Constants.{constancy, operator_count}
 use Rattle.c_rules.specs.Names.{is_taken, declaring}
 use Rattle.c_rules.specs.Specifiers.{c_type, plain, spelled_by}
 use Rattle.c_rules.specs.Walks.{Finds, pure, finds, finds_if, through, place_in_tree, ◌>>=◌, ◌>>◌}
-use Rattle.c_expressions.specs.Expressions.{value}
+use Rattle.c_calls.specs.Expressions.{value}
 use Rattle.c_calls.specs.Calls.{right_side}
 use Rattle.c_resolution.specs.States.{Goes, finding, scoping}
 

@@ -27,10 +27,10 @@ use Rattle.c_rules.specs.declared.names.Gives.{Gives}
 use Rattle.c_rules.specs.declared.names.Gives.TheVariants as gives
 use Rattle.c_rules.specs.declared.names.Scope.{Scope}
 use Rattle.c_rules.specs.Walks.{Finds, pure, finds, finds_if, place_in_tree, ◌>>=◌, ◌>>◌}
-use Rattle.c_expressions.specs.Expressions.{binary_operator, value}
+use Rattle.c_calls.specs.Expressions.{binary_operator, value}
 use Rattle.c_calls.specs.Arguments.{FormLayer, pointer_value}
 use Rattle.c_calls.specs.Calls.{call, right_side}
-use Rattle.c_expressions.specs.Targets.{target}
+use Rattle.c_calls.specs.Targets.{target}
 
 -- ---- assignments
 

@@ -15,7 +15,7 @@ use Rattle.c_program.specs.Tree.{Expression, Condition, Statement}
 use Rattle.c_rules.specs.declared.names.Scope.{Scope}
 use Rattle.c_rules.specs.Names.{opened, closed}
 use Rattle.c_rules.specs.Walks.{Finds, pure, through, ◌>>=◌, ◌>>◌}
-use Rattle.c_expressions.specs.Expressions.{condition}
+use Rattle.c_calls.specs.Expressions.{condition}
 use Rattle.c_resolution.specs.Simple.{simple, returned, check_jump}
 use Rattle.c_resolution.specs.Locals.{declaration}
 use Rattle.c_resolution.specs.States.{Goes, finding, scoping}

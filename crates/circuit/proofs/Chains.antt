@@ -3,7 +3,7 @@ use Rattle.std.proofs.Common.{◌≡◌, ◌≢◌, ℕ, zero, suc, ◌+◌, ◌
 use Rattle.std.specs.Prelude.{◌||◌}
 use Rattle.std.proofs.lemmas.Bool.Decides.{nat_tests}
 use Rattle.verilog_meaning.specs.Readings.{Reading}
-use Rattle.hls_ints.specs.Residues.{bit_of}
+use Rattle.verilog_meaning.specs.Residues.{bit_of}
 use Rattle.circuit.specs.Arbitration.{is_granted}
 
 -- the number of the granted thread, else the base

@@ -14,3 +14,4 @@ pub mod Stepping
 pub mod Staged
 pub mod Running
 pub mod States
+pub use Rattle.verilog_meaning.proofs.Operands

@@ -1,6 +1,6 @@
 -- One cycle of a net of threads, cores and arbiters is one step of its machine.
 use Rattle.std.proofs.Common.{◌≡◌, ℕ, zero, suc, ◌+◌, ◌-◌, ◌/◌, ◌%◌, ◌^◌, ◌<◌, Bool, nat_eq, List, [], ◌∷◌, Option, Some, None, slice_get, codes, refl, sym, ap, ◌∙◌, subst, inl, inr, arith}
-use Rattle.hls_ints.specs.Residues as bits
+use Rattle.verilog_meaning.specs.Residues as bits
 use Rattle.netlist.specs.declared.netlist.Value.TheVariants.{Copy, Constant, Select}
 use Rattle.netlist.specs.declared.netlist.Source.{Source}
 use Rattle.netlist.specs.declared.netlist.Source.TheVariants.{Input, Assigned, Port, Register}

@@ -4,8 +4,8 @@ use Rattle.std.proofs.Common.{bit_and, bit_or, refl, sym, ap, ◌∙◌, subst, 
 use Rattle.std.specs.Prelude.{not, ◌&&◌}
 use Rattle.std.proofs.lemmas.Bool.Decides.{nat_tests}
 use Rattle.std.proofs.Math.Nat.{mod-eq_of_lt}
-use Rattle.hls_ints.specs.Residues.{bit_of}
-use Rattle.hls_ints.specs.Words.{word}
+use Rattle.verilog_meaning.specs.Residues.{bit_of}
+use Rattle.verilog_meaning.specs.Words.{word}
 use Rattle.verilog_tree.specs.declared.tree.BinaryOperator.{BinaryOperator}
 use Rattle.verilog_tree.specs.declared.tree.BinaryOperator.TheVariants.{Add, Subtract, Multiply, And, Or, Xor, Equal, Less, ShiftLeft, ShiftRight}
 use Rattle.netlist.specs.declared.netlist.Value.{Value}

@@ -5,8 +5,8 @@ use Rattle.std.specs.Prelude.{int_div, ◌-ℤ◌}
 use Rattle.std.proofs.lemmas.Bool.Decides.{nat_tests}
 use Rattle.std.proofs.lemmas.Nat.{pow_pos, mod_below, and_le_l, or_lt, xor_lt, pow-add}
 use Rattle.std.proofs.Math.Nat.{div-le_self, mod-le, mul-le-mul_right, suc-mul, lt_of_le_of_lt}
-use Rattle.hls_ints.specs.Residues.{bit_of, residue_of, floor_quotient}
-use Rattle.hls_ints.specs.Words.{word, signed_word}
+use Rattle.verilog_meaning.specs.Residues.{bit_of, residue_of, floor_quotient}
+use Rattle.verilog_meaning.specs.Words.{word, signed_word}
 use Rattle.verilog_tree.specs.declared.tree.BinaryOperator.{BinaryOperator}
 use Rattle.verilog_tree.specs.declared.tree.BinaryOperator.TheVariants.{Add, Subtract, Multiply, And, Or, Xor, Equal, Less, ShiftLeft, ShiftRight}
 use Rattle.verilog_tree.specs.declared.tree.DivisionOperator.{DivisionOperator}

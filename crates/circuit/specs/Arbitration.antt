@@ -2,7 +2,7 @@
 use Rattle.std.specs.Prelude.{◌≡◌, ℕ, zero, suc, ◌+◌, ◌<◌, Bool, false, not, ◌&&◌, nat_eq, nat_lt, if◌then◌else◌, [], Option, Some, None}
 use Rattle.netlist.specs.declared.netlist.Module.{Module}
 use Rattle.verilog_meaning.specs.Readings.{Reading, written}
-use Rattle.hls_ints.specs.Residues.{bit_of}
+use Rattle.verilog_meaning.specs.Residues.{bit_of}
 use Rattle.circuit.specs.Modules.{Obeys, HasInput}
 
 -- the first of n threads from number k on that asks

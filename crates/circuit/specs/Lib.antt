@@ -6,3 +6,10 @@ pub mod Machines
 pub mod Nets
 pub mod Wiring
 pub mod Staging
+pub use Rattle.verilog_meaning.specs.Readings
+pub use Rattle.netlist.specs.declared.netlist.Action
+pub use Rattle.netlist.specs.declared.netlist.Module
+pub use Rattle.verilog_meaning.specs.Threads
+pub use Rattle.verilog_meaning.specs.Names
+pub use Rattle.verilog_meaning.specs.Residues
+pub use Rattle.verilog_meaning.specs.Cycles

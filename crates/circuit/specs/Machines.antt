@@ -2,7 +2,7 @@
 use Rattle.std.specs.Prelude.{◌≡◌, ℕ, ◌<◌, Bool, true, false, List, [], Option, Some, None}
 use Rattle.netlist.specs.declared.netlist.Module.{Module}
 use Rattle.verilog_meaning.specs.Readings.{Reading, next_reading, written, initial_reading}
-use Rattle.hls_ints.specs.Residues.{bit_of}
+use Rattle.verilog_meaning.specs.Residues.{bit_of}
 use Rattle.circuit.specs.Modules.{Obeys, Agree, HasInput}
 use Rattle.circuit.specs.Arbitration.{is_granted}
 

@@ -1,2 +1,5 @@
 pub mod Family
 pub mod Laws
+pub use Rattle.fork_join_cores.specs.Forks
+pub use Rattle.fork_join_cores.specs.Machine
+pub use Rattle.fork_join_cores.specs.declared.forks.Shape

@@ -7,9 +7,9 @@ use Rattle.circuit.specs.Modules.{IsLeaf, is_between}
 use Rattle.circuit.specs.Interfaces.{first_of, HasInterface}
 use Rattle.circuit.proofs.Growth.{length-laid}
 use Rattle.circuit.proofs.Tables.{between_on, between_behind}
-use Rattle.fork_join_cores.specs.declared.forks.Shape.{Shape}
-use Rattle.fork_join_cores.specs.Forks.{grants, zero_code, going_chain, offers, rows}
-use Rattle.fork_join_cores.specs.Machine.{forks_machine, forks_places, part_place, told_place, output_widths, is_late}
+use Rattle.core_family.specs.Shape.{Shape}
+use Rattle.core_family.specs.Forks.{grants, zero_code, going_chain, offers, rows}
+use Rattle.core_family.specs.Machine.{forks_machine, forks_places, part_place, told_place, output_widths, is_late}
 use Rattle.core_family.specs.Family.{Forks, port_of, IsCoreModule}
 use Rattle.core_layout.proofs.Ports.{inputs, outputs, length-ports}
 use Rattle.core_layout.proofs.Standing.{StandsFor}

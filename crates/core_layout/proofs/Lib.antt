@@ -6,3 +6,5 @@ pub mod Barriers
 pub mod Ids
 pub mod Printer
 pub mod Fitting
+pub use Rattle.core_family.proofs.Printing
+pub use Rattle.core_family.proofs.Waiting

@@ -1,1 +1,2 @@
 pub mod Ports
+pub use Rattle.leaf_machine.specs.Standing

@@ -1,8 +1,8 @@
 -- What a cycle does to a core, from the core's promise and the arbiter's.
 use Rattle.std.proofs.Common.{◌≡◌, ℕ, ◌<◌, Option, Some, None, Bool, true, false, nat_lt, refl, sym, ap, ◌∙◌, subst}
-use Rattle.hls_ints.specs.Residues.{bit_of}
-use Rattle.netlist.specs.declared.netlist.Module.{Module}
-use Rattle.verilog_meaning.specs.Readings.{Reading, next_reading}
+use Rattle.circuit.specs.Residues.{bit_of}
+use Rattle.circuit.specs.Module.{Module}
+use Rattle.circuit.specs.Readings.{Reading, next_reading}
 use Rattle.circuit.specs.Modules.{Obeys}
 use Rattle.circuit.specs.Arbitration.{granted_to, is_granted}
 use Rattle.circuit.specs.Machines.{CoreMachine, CorePlaces, IsCore, asked}

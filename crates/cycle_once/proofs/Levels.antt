@@ -12,13 +12,13 @@ use Rattle.verilog_meaning.proofs.Settling.{IsDeclared, IsLevelled}
 use Rattle.circuit.specs.Modules.{Has as HasWidth}
 use Rattle.circuit.specs.Nets.{FitsSource, FitsNet}
 use Rattle.circuit.proofs.Tables.{operand_of}
-use Rattle.sim_values.specs.declared.settle.Feed.TheVariants.{Copied, Computed}
-use Rattle.sim_values.specs.declared.settle.Step.{Step}
-use Rattle.sim_values.specs.declared.edge.Part.{Part}
-use Rattle.sim_values.specs.Flat.{EachOf}
-use Rattle.sim_values.specs.Order.{source_reads, signal_reads, module_reads, reads, rank}
-use Rattle.sim_values.specs.Stands.{word_of, spot_at, kind_at, step, Has, IsFree, StandsFor, IsPlan}
-use Rattle.sim_values.proofs.Settles.{each_one, rank_reads}
+use Rattle.cycle_sim.specs.Feed.TheVariants.{Copied, Computed}
+use Rattle.cycle_sim.specs.Step.{Step}
+use Rattle.cycle_sim.specs.Part.{Part}
+use Rattle.cycle_sim.specs.Flat.{EachOf}
+use Rattle.cycle_sim.specs.Order.{source_reads, signal_reads, module_reads, reads, rank}
+use Rattle.cycle_sim.specs.Stands.{word_of, spot_at, kind_at, step, Has, IsFree, StandsFor, IsPlan}
+use Rattle.cycle_sim.proofs.Settles.{each_one, rank_reads}
 
 pair_is : (q : Place) (path : Path) (x : ℕ) → q.0 ≡ path → q.1 ≡ x → q ≡ (path, x)
 pair_is q path x e f = let whole : Path → ℕ → Place = λ a b. (a, b) in ap (λ a. whole a q.1) e ∙ ap (whole path) f

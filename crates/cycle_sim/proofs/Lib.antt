@@ -21,3 +21,4 @@ pub mod Enables
 pub mod Elements
 pub mod Taking
 pub mod Putting
+pub use Rattle.sim_values.proofs.Settles

@@ -4,3 +4,10 @@ pub mod Right
 pub mod LaidOut
 pub mod Globals
 pub mod Putting
+pub use Rattle.sim_layout.specs.Running
+pub use Rattle.sim_values.specs.Flat
+pub use Rattle.sim_values.specs.Order
+pub use Rattle.sim_values.specs.Stands
+pub use Rattle.sim_values.specs.declared.edge.Part
+pub use Rattle.sim_values.specs.declared.settle.Feed
+pub use Rattle.sim_values.specs.declared.settle.Step

@@ -17,7 +17,7 @@ use Rattle.cycle_sim.proofs.Printing.{one_printer}
 use Rattle.cycle_sim.proofs.Right.{right_of_sound}
 use Rattle.cycle_sim.proofs.Taking.{turns_taken}
 use Rattle.journal_text.specs.declared.entry.Entry.{Entry}
-use Rattle.verdict_lines.specs.Lines.{summary}
+use Rattle.replay_command.specs.Lines.{summary}
 use Rattle.replay_command.specs.declared.replay.ReplayAnswer.{ReplayAnswer}
 use Rattle.replay_command.specs.declared.replay.ReplayAnswer.TheVariants as answers
 use Rattle.replay_command.specs.Replays.{AreRun, IsReplayAnswer}

@@ -1,2 +1,3 @@
 pub mod Answers
 pub mod Inside
+pub use Rattle.hls_compile.specs.Compiled

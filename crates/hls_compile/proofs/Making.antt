@@ -17,15 +17,15 @@ use Rattle.bank_partition.specs.declared.banks.Spread.{Spread}
 use Rattle.block_refine.specs.Routines.{RoutineCode}
 use Rattle.netlist.specs.declared.netlist.Module.{Module}
 use Rattle.netlist.specs.declared.netlist.Netlist.{Netlist}
-use Rattle.placed_cores.specs.declared.wanted.Wanted.{Wanted}
+use Rattle.table_text.specs.Wanted.{Wanted}
 use Rattle.thread_numbers.specs.Numbers.{place_in, number_in, module_numbers, has_idle, function_module}
 use Rattle.thread_numbers.proofs.Few.{no_more_modules}
 use Rattle.thread_numbers.proofs.Numbers as numbers
 use Rattle.table_text.specs.Written.{FitsTable, IsTextOf}
 use Rattle.program_cores.specs.Cores.{AreCoresOf}
-use Rattle.program_parts.specs.Parts.{code_at, AreBodies, IsGoodText}
-use Rattle.program_parts.proofs.Names.{same_function}
-use Rattle.program_parts.proofs.Parts.{parts_are_good}
+use Rattle.thread_bodies.specs.Parts.{code_at, AreBodies, IsGoodText}
+use Rattle.thread_bodies.proofs.Names.{same_function}
+use Rattle.thread_bodies.proofs.Parts.{parts_are_good}
 use Rattle.program_plans.specs.declared.PlannedFunction.{PlannedFunction}
 use Rattle.program_plans.specs.Plans.{routine_of}
 use Rattle.thread_bodies.specs.Bodies.{shape_of, IsLaid}
@@ -33,7 +33,7 @@ use Rattle.thread_bodies.specs.Modules.{AreLaid, name_of, module_shape, bodies_o
 use Rattle.thread_bodies.proofs.Served.{codes_are_served}
 use Rattle.hls_compile.specs.Banks.{AreBanksOf}
 use Rattle.hls_compile.specs.Plans.{RunsPlanned, RunPlanned}
-use Rattle.program_parts.proofs.Found.{first_named}
+use Rattle.thread_bodies.proofs.Found.{first_named}
 
 -- a program within the limits has few threads
 pub few_threads : (P : Program) → first_passed P ≡ None → thread_count P ≤ 64

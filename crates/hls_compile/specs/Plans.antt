@@ -8,10 +8,10 @@ use Rattle.global_naming.specs.Naming.{AreCounts}
 use Rattle.netlist.specs.declared.netlist.Module.{Module}
 use Rattle.netlist.specs.declared.netlist.Netlist.{Netlist}
 use Rattle.verilog_meaning.specs.Names.{module_named}
-use Rattle.placed_cores.specs.declared.wanted.Wanted.{Wanted}
+use Rattle.table_text.specs.Wanted.{Wanted}
 use Rattle.program_cores.specs.Cores.{AreCoresOf}
 use Rattle.thread_numbers.specs.Numbers.{function_module}
-use Rattle.thread_layout.specs.Thread.{IsServed}
+use Rattle.thread_bodies.specs.Thread.{IsServed}
 use Rattle.program_plans.specs.declared.PlannedFunction.{PlannedFunction}
 use Rattle.program_plans.specs.Plans.{routine_of, ArePlanned}
 use Rattle.thread_bodies.specs.Bodies.{shape_of, IsLaid}

@@ -4,7 +4,7 @@ ghost use Rattle.std.specs.Prelude.{◌≡◌, None, IfOk};
 ghost use Rattle.c_limits.specs.Counts.{first_passed};
 ghost use Rattle.c_program.specs.Plain.{program_of};
 ghost use Rattle.c_program.specs.Resolved.{IsResolved};
-ghost use Rattle.program_parts.specs.Parts.{IsGoodText};
+ghost use Rattle.thread_bodies.specs.Parts.{IsGoodText};
 ghost use Rattle.program_plans.specs.Plans.{ArePlanned};
 ghost use Rattle.thread_numbers.specs.Numbers.{module_numbers};
 ghost use Rattle.hls_compile.specs.Banks.{AreBanksOf};

@@ -12,7 +12,7 @@ ghost use Rattle.c_accepted.specs.Profile.{IsAccepted, IsRefused};
 ghost use Rattle.hls_compile.specs.Compiled.{IsCompiled};
 ghost use Rattle.hls_compile.specs.Plans.{ArePlans};
 ghost use Rattle.hls_compile.specs.declared.CompileError.TheVariants as error;
-ghost use Rattle.program_parts.specs.Parts.{IsGoodText};
+ghost use Rattle.thread_bodies.specs.Parts.{IsGoodText};
 
 use c_profile::{Accepted, ProfileError, accept};
 use c_program::tree::Program;

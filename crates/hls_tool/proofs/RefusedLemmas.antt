@@ -7,7 +7,7 @@ use Rattle.c_program.specs.Tree.{Program}
 use Rattle.c_accepted.specs.declared.refusal.Refusal.{Refusal}
 use Rattle.c_accepted.specs.declared.refusal.Refusal.TheVariants as refusal
 use Rattle.c_accepted.specs.Profile.{IsAccepted, IsRefused}
-use Rattle.c_profile.proofs.Stages.{refused_once, never_both}
+use Rattle.hls_status.proofs.Stages.{refused_once, never_both}
 use Rattle.journal_text.specs.declared.entry.Entry.{Entry}
 use Rattle.hls_tool.specs.declared.outcome.Outcome.{Outcome}
 use Rattle.hls_status.specs.declared.status.Status.{Status}

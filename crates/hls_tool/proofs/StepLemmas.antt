@@ -19,7 +19,7 @@ use Rattle.read_back.proofs.Once.{runs_alike}
 use Rattle.loop_path.specs.First.{IsLoopless}
 use Rattle.loop_path.specs.Dotted.{IsLoopPath}
 use Rattle.c_program.specs.Weight.{thread_count}
-use Rattle.hls_compile.specs.Compiled.{IsCompiled}
+use Rattle.hls_commands.specs.Compiled.{IsCompiled}
 use Rattle.hls_words.specs.declared.task.Task.{Task}
 use Rattle.hls_words.specs.declared.task.Task.TheVariants.{Sim}
 use Rattle.hls_tool.specs.declared.outcome.Outcome.{Outcome}

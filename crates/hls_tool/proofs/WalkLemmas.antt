@@ -9,7 +9,7 @@ use Rattle.c_interpreter.specs.declared.walk.WalkEnd.{WalkEnd as WalkEnds}
 use Rattle.c_interpreter.specs.Walk.{IsWalk}
 use Rattle.c_interpreter.proofs.Ends.{one_end}
 use Rattle.c_accepted.specs.Profile.{IsAccepted}
-use Rattle.c_profile.proofs.Stages.{accepted_once}
+use Rattle.hls_status.proofs.Stages.{accepted_once}
 use Rattle.hls_tool.specs.declared.outcome.Outcome.{Outcome}
 use Rattle.hls_status.specs.declared.status.Status.{Status}
 use Rattle.hls_status.specs.declared.status.Status.TheVariants as status

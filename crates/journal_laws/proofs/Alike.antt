@@ -9,7 +9,7 @@ use Rattle.verilog_meaning.specs.Cycles.{Valuation, Choice, IsSameIn, ShowsDone}
 use Rattle.verilog_meaning.specs.Threads.{alone, all_enabled, IsSame, IsStuck}
 use Rattle.sim_layout.specs.Rounds.{threads_of}
 use Rattle.sim_layout.specs.Running.{Running, Stands, state_of, IsSameNet, IsSameState, TellsDone}
-use Rattle.cycle_sim.proofs.Same.{same_refl, same_sym, same_trans, cycle_moved, shows_moved}
+use Rattle.slot_sim.proofs.Same.{same_refl, same_sym, same_trans, cycle_moved, shows_moved}
 use Rattle.slot_sim.specs.Slots.{IsThreadedIn, Moving}
 use Rattle.slot_sim.proofs.Going.{is_state}
 use Rattle.slot_sim.proofs.Moving.{state_in}

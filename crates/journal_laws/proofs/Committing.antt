@@ -8,7 +8,7 @@ use Rattle.verilog_meaning.specs.Cycles.{Valuation, Choice, IsState, Cycle, Runs
 use Rattle.verilog_meaning.specs.Threads.{slot, alone, all_enabled, IsSame, IsSameSlot, Needs, IsThreaded, Moves, times}
 use Rattle.sim_layout.specs.Rounds.{threads_of}
 use Rattle.sim_layout.specs.Running.{Running, Stands, state_of, settled_run, advanced}
-use Rattle.cycle_sim.proofs.Same.{same_refl, same_sym, cycle_moved, shows_moved, runs_to_same, runs_on}
+use Rattle.slot_sim.proofs.Same.{same_refl, same_sym, cycle_moved, shows_moved, runs_to_same, runs_on}
 use Rattle.slot_sim.specs.Threaded.{IsSameBut, Advances}
 use Rattle.slot_sim.specs.Laws.{Goes}
 use Rattle.slot_sim.proofs.Going.{closed_goes, is_state, goes_on, shown}

@@ -9,8 +9,8 @@ use Rattle.verilog_meaning.specs.Cycles.{Valuation, IsSameIn, Cycle, ShowsDone}
 use Rattle.verilog_meaning.specs.Threads.{slot, alone, all_enabled, IsSame, IsSameSlot, Needs, IsThreaded, Moves}
 use Rattle.sim_layout.specs.Rounds.{threads_of}
 use Rattle.sim_layout.specs.Running.{Running, Stands, state_of, IsSameNet, IsSameState, IsCycleOf, Prints}
-use Rattle.cycle_once.proofs.Standing.{cycle_once}
-use Rattle.cycle_sim.proofs.Same.{same_trans, cycle_moved}
+use Rattle.slot_sim.proofs.Standing.{cycle_once}
+use Rattle.slot_sim.proofs.Same.{same_trans, cycle_moved}
 use Rattle.slot_sim.specs.Slots.{IsThreadedIn, IsSameSlotOf, IsTaken}
 use Rattle.slot_sim.specs.Threaded.{IsSameBut}
 use Rattle.slot_sim.proofs.Moving.{state_in}

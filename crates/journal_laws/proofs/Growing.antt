@@ -6,7 +6,7 @@ use Rattle.netlist.specs.declared.netlist.Module.{Module}
 use Rattle.verilog_meaning.specs.Cycles.{Valuation, Choice, Runs, Reaches, initial_state}
 use Rattle.verilog_meaning.specs.Threads as threads
 use Rattle.verilog_meaning.specs.Threads.{IsSame, IsLegalEntry, IsFullEntry, IsLegal, IsJournal, entry_choices}
-use Rattle.cycle_sim.proofs.Same.{same_refl, same_trans, runs_to_same}
+use Rattle.slot_sim.proofs.Same.{same_refl, same_trans, runs_to_same}
 use Rattle.journal_text.specs.declared.entry.Entry.{Entry}
 use Rattle.journal_laws.specs.Journal.{entry, all_entries, choices}
 use Rattle.journal_laws.proofs.Moving.{moves_from, runs_append}

@@ -7,7 +7,7 @@ use Rattle.verilog_meaning.specs.Names.{top_of}
 use Rattle.verilog_meaning.specs.Cycles.{Path, Valuation, Choice, IsState, IsSameAt, Cycle, Runs, ShowsDone}
 use Rattle.verilog_meaning.specs.Threads.{slot, alone, all_enabled, IsSame, IsSameSlot, Needs, IsThreaded, Moves, times}
 use Rattle.sim_layout.specs.Running.{Running, Stands}
-use Rattle.cycle_sim.proofs.Same.{same_refl, same_trans, cycle_moved, shows_moved, runs_from_same}
+use Rattle.slot_sim.proofs.Same.{same_refl, same_trans, cycle_moved, shows_moved, runs_from_same}
 use Rattle.slot_sim.specs.Threaded.{IsSameBut}
 use Rattle.slot_sim.proofs.Bits.{first_not_set, alone_is_choice}
 use Rattle.slot_sim.proofs.Going.{keeps}

@@ -9,7 +9,7 @@ use Rattle.verilog_meaning.specs.Cycles.{Valuation, Cycle}
 use Rattle.verilog_meaning.specs.Threads.{alone, IsSame, Needs}
 use Rattle.sim_layout.specs.Rounds.{threads_of}
 use Rattle.sim_layout.specs.Running.{Running, Stands, state_of, IsSameNet, IsSameState, IsCycleOf}
-use Rattle.cycle_sim.proofs.Same.{same_refl, same_sym, same_trans, cycle_moved}
+use Rattle.slot_sim.proofs.Same.{same_refl, same_sym, same_trans, cycle_moved}
 use Rattle.slot_sim.specs.Slots.{IsThreadedIn, TellsNeed}
 use Rattle.slot_sim.specs.Threaded.{Advances}
 use Rattle.slot_sim.proofs.Going.{is_state}

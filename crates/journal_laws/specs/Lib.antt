@@ -1,2 +1,3 @@
 pub mod Journal
 pub mod Steps
+pub use Rattle.slot_sim.specs.Slots

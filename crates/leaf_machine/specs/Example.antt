@@ -1,6 +1,6 @@
 -- A module with the ports of a thread: it asks core 0 while it is enabled, needs it until it is granted, and is done then.
 use Rattle.std.specs.Prelude.{ℕ, nat_eq, List, [], ◌∷◌, codes, if◌then◌else◌}
-use Rattle.verilog_tree.specs.declared.tree.BinaryOperator.TheVariants.{Or}
+use Rattle.netlist.specs.BinaryOperator.TheVariants.{Or}
 use Rattle.netlist.specs.declared.netlist.Effect.TheVariants.{Set}
 use Rattle.netlist.specs.declared.netlist.Action.{Action}
 use Rattle.netlist.specs.declared.netlist.Module.{Module}

@@ -10,8 +10,8 @@ use Rattle.verilog_meaning.specs.Cycles.{Choice}
 use Rattle.circuit.specs.Modules.{Agree}
 use Rattle.circuit.specs.Wiring.{is_enabled}
 use Rattle.leaf_machine.proofs.Leaves.{leaf_keeps_slots}
-use Rattle.thread_cycle.specs.Thread.{Thread, IsThread, Shows}
-use Rattle.thread_cycle.proofs.Standing.{shows_of, where_on}
+use Rattle.net_cycle.specs.Thread.{Thread, IsThread, Shows}
+use Rattle.net_cycle.proofs.Standing.{shows_of, where_on}
 use Rattle.net_cycle.specs.Built.{Parts, Machine, IsBuilt, core_machine, core_count, thread_at}
 use Rattle.net_cycle.specs.Stage.{Stage, news, granted_to}
 use Rattle.net_cycle.proofs.Steps.{is_thread, fits}

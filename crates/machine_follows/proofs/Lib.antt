@@ -6,3 +6,5 @@ pub mod Clock
 pub mod Beats
 pub mod Seen
 pub mod Whole
+pub use Rattle.net_cycle.proofs.Cores
+pub use Rattle.bank_memory.proofs.Partitioned

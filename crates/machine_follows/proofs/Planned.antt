@@ -15,7 +15,7 @@ use Rattle.thread_promise.specs.Globals.{bank_of}
 use Rattle.thread_cores.specs.Cores.{Core}
 use Rattle.block_ir.specs.Asked.{Numbers}
 use Rattle.block_refine.specs.Routines.{Codes, blocks_of, plans_of}
-use Rattle.act_steps.specs.Requests.{AreNumbers}
+use Rattle.planned_threads.specs.Requests.{AreNumbers}
 use Rattle.block_refine.proofs.RoutineLaws.{blocks_are_steps}
 use Rattle.planned_threads.specs.Surroundings.{around, hardware_code}
 use Rattle.planned_threads.specs.Laws.{AreCoded}

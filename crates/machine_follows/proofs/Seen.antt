@@ -22,7 +22,7 @@ use Rattle.planned_hardware.specs.Hardware.{changes_left, hardware_of}
 use Rattle.planned_hardware.specs.Headline.{PlannedProgram}
 use Rattle.verilog_meaning.specs.Cycles.{Choice}
 use Rattle.block_ir.specs.Asked.{Numbers, printer_core}
-use Rattle.core_family.specs.Family.{CoreShape, Bank, Mutex, Barrier, Forks, Prints, machine_of}
+use Rattle.net_cycle.specs.Family.{CoreShape, Bank, Mutex, Barrier, Forks, Prints, machine_of}
 use Rattle.print_core.specs.declared.printer.Shape.{Shape as PrinterShape}
 use Rattle.thread_cores.specs.Cores.{Core, OfPrinter}
 use Rattle.thread_cores.specs.Stands.{StandsFor}

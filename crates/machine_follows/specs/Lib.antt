@@ -1,2 +1,6 @@
 pub mod Start
 pub mod Follows
+pub use Rattle.net_cycle.specs.Built
+pub use Rattle.net_cycle.specs.Thread
+pub use Rattle.planned_threads.specs.Surroundings
+pub use Rattle.net_cycle.specs.Family

@@ -20,7 +20,7 @@ use Rattle.thread_cores.specs.Cores.{Core, OfMutex, OfBarrier, OfIds, OfPrinter}
 use Rattle.thread_cores.specs.Stands.{lock_of, StandsFor}
 use Rattle.thread_promise.specs.Moves.{first_slot}
 use Rattle.block_refine.specs.Routines.{Codes, rest_of, blocks_of, plans_of}
-use Rattle.act_steps.specs.Requests.{AreNumbers}
+use Rattle.planned_threads.specs.Requests.{AreNumbers}
 use Rattle.planned_threads.specs.Surroundings.{routine_of, around, hardware_code}
 use Rattle.planned_threads.specs.Laws.{AreCoded, Rests}
 

@@ -17,7 +17,7 @@ use Rattle.netlist.specs.declared.netlist.Module.{Module}
 use Rattle.netlist.specs.Laid.{operands, memories_read, AreSignals, AreMemories}
 use Rattle.netlist.specs.Sound.{width_read, width, is_read, has_width, have_one_width, joint_width, is_filled, value_fits}
 use Rattle.netlist.specs.Sound.{words_of_memory, memory_words, width_of_memory, memory_width}
-use Rattle.circuit.specs.Modules.{Has, FitsParts, FitsValue}
+use Rattle.leaf_machine.specs.Modules.{Has, FitsParts, FitsValue}
 use Rattle.module_sound.specs.Kinds.{HasRange}
 
 -- the memory of a number

@@ -21,11 +21,11 @@ use Rattle.netlist.specs.declared.netlist.Action.{Action}
 use Rattle.netlist.specs.declared.netlist.Module.{Module}
 use Rattle.netlist.specs.NetlistOf.{Name}
 use Rattle.netlist.specs.Laid.{EachAt, AreApart, AreSignals, AreMemories, signal_names, memory_names, instance_names, declared_names, effect_signals, memories_stored, IsSource, IsLaidModule}
-use Rattle.verilog_meaning.specs.Cycles.{IsRegister}
+use Rattle.leaf_machine.specs.Cycles.{IsRegister}
 use Rattle.netlist.specs.Sound.{width, width_read, is_read, has_width, width_of_memory, memory_width, register_width}
 use Rattle.netlist.specs.Sound.{width_of_register, width_set, source_fits, effect_fits, action_fits, IsSet, IsSoundModule}
-use Rattle.circuit.specs.Rows.{EachOf}
-use Rattle.circuit.specs.Modules.{Has}
+use Rattle.leaf_machine.specs.Rows.{EachOf}
+use Rattle.leaf_machine.specs.Modules.{Has}
 use Rattle.module_sound.specs.Grades.{IsOperand, IsGradedSource, IsGradedSignal, AreGrades, SetsRight, ActsRight}
 use Rattle.module_sound.specs.Names.{place_of, last_number}
 use Rattle.module_sound.specs.Kinds.{SetsAt, IsKindAt, IsPlaced}

@@ -8,8 +8,8 @@ use Rattle.netlist.specs.declared.netlist.Effect.{Effect}
 use Rattle.netlist.specs.declared.netlist.Action.{Action}
 use Rattle.netlist.specs.declared.netlist.Module.{Module}
 use Rattle.netlist.specs.Sound.{is_write}
-use Rattle.circuit.specs.Rows.{EachOf}
-use Rattle.circuit.specs.Modules.{Has, FitsValue, FitsEffect}
+use Rattle.leaf_machine.specs.Rows.{EachOf}
+use Rattle.leaf_machine.specs.Modules.{Has, FitsValue, FitsEffect}
 use Rattle.leaf_machine.specs.Settled.{effect_operands}
 
 module _ (m : Module) (grades : List ℕ) (x : ℕ) where

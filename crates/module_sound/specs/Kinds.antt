@@ -9,7 +9,7 @@ use Rattle.netlist.specs.declared.netlist.Effect.{Effect}
 use Rattle.netlist.specs.declared.netlist.Effect.TheVariants as effect
 use Rattle.netlist.specs.declared.netlist.Action.{Action}
 use Rattle.netlist.specs.declared.netlist.Module.{Module}
-use Rattle.circuit.specs.Modules.{Has}
+use Rattle.leaf_machine.specs.Modules.{Has}
 use Rattle.module_sound.specs.Names.{place_of}
 
 -- an effect sets register x

@@ -7,8 +7,8 @@ use Rattle.netlist.specs.declared.netlist.Memory.{Memory}
 use Rattle.netlist.specs.declared.netlist.Module.{Module}
 use Rattle.netlist.specs.Laid.{AreApart, memory_names, IsLaidMemory, IsLaidModule, input_signals, output_signals}
 use Rattle.netlist.specs.Sound.{IsSoundModule}
-use Rattle.circuit.specs.Rows.{EachOf}
-use Rattle.circuit.specs.Modules.{FitsMemory}
+use Rattle.leaf_machine.specs.Rows.{EachOf}
+use Rattle.leaf_machine.specs.Modules.{FitsMemory}
 use Rattle.module_sound.specs.Grades.{AreGrades, ActsRight}
 use Rattle.module_sound.specs.Kinds.{IsPlaced}
 

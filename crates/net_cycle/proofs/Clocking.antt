@@ -27,7 +27,7 @@ use Rattle.thread_semantics.specs.State.{State}
 use Rattle.thread_semantics.specs.Step.{Stepped, Steps, Blocks, Undefines, is_blocked, step}
 use Rattle.verilog_meaning.specs.Cycles.{Choice}
 use Rattle.thread_promise.specs.Globals.{bank_of}
-use Rattle.act_steps.proofs.Requests.{all_are_steps}
+use Rattle.planned_threads.proofs.Requests.{all_are_steps}
 use Rattle.planned_threads.specs.Surroundings.{Waits, Absent, Over, Idle, Handed, Meeting, around, hardware_code}
 use Rattle.planned_threads.specs.Laws.{Stalls, AtAct, Rests_on as Rests_there}
 use Rattle.planned_threads.proofs.Counts.{past_states}

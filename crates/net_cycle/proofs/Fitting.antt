@@ -11,7 +11,7 @@ use Rattle.planned_block.specs.Plan.{KeepsOrders}
 use Rattle.block_refine.specs.Threads.{no_block, no_plan, block_at, plan_at}
 use Rattle.block_refine.specs.Routines.{blocks_of, plans_of}
 use Rattle.block_refine.proofs.RoutineLaws.{blocks_are_steps}
-use Rattle.act_steps.specs.Requests.{AreNumbers}
+use Rattle.planned_threads.specs.Requests.{AreNumbers}
 use Rattle.planned_threads.proofs.Fits.{fits_threads}
 use Rattle.net_cycle.specs.Built.{Parts, IsBuilt, numbers_of, core_count}
 use Rattle.net_cycle.specs.Cycle.{BuiltFits}

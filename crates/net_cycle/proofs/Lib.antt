@@ -13,3 +13,4 @@ pub mod Cycling
 pub mod Fitting
 pub mod Clocking
 pub mod Starting
+pub use Rattle.thread_cycle.proofs.Standing

@@ -16,11 +16,11 @@ use Rattle.top_wiring.specs.Top.{starts, arbiter_instance}
 use Rattle.top_wiring.specs.Wired.{IsWired}
 use Rattle.top_wiring.proofs.Standing as standing
 use Rattle.leaf_machine.specs.Leaves.{LeafPorts, leaf_thread, leaf_places}
-use Rattle.core_family.specs.Family.{machine_at}
-use Rattle.net_tables.specs.Tables.{Table, layout_of, modules_of, shapes_of}
-use Rattle.net_tables.specs.Whole.{IsWholeTable, AreThreads, places_of}
-use Rattle.net_tables.specs.Nets.{IsNetOfTable}
-use Rattle.net_tables.proofs.Netting.{tables_are_nets}
+use Rattle.net_threads.specs.Family.{machine_at}
+use Rattle.net_threads.specs.Tables.{Table, layout_of, modules_of, shapes_of}
+use Rattle.net_threads.specs.Whole.{IsWholeTable, AreThreads, places_of}
+use Rattle.net_threads.specs.Nets.{IsNetOfTable}
+use Rattle.net_threads.proofs.Netting.{tables_are_nets}
 use Rattle.steady_net.specs.Steady.{IsSteady}
 use Rattle.net_threads.specs.Threads.{AreSteady}
 use Rattle.net_threads.proofs.Steady.{is_steady}

@@ -9,8 +9,8 @@ use Rattle.verilog_meaning.specs.Cycles.{IsRegister}
 use Rattle.circuit.specs.Modules.{Obeys, Agree}
 use Rattle.top_wiring.specs.Wired.{IsWired}
 use Rattle.leaf_machine.specs.Leaves.{LeafPorts}
-use Rattle.net_tables.specs.Tables.{Table, layout_of, modules_of}
-use Rattle.net_tables.specs.Whole.{IsWholeTable, AreThreads}
+use Rattle.net_threads.specs.Tables.{Table, layout_of, modules_of}
+use Rattle.net_threads.specs.Whole.{IsWholeTable, AreThreads}
 use Rattle.net_threads.specs.Threads.{AreSteady}
 use Rattle.net_grants.specs.Grants.{IsGranting}
 

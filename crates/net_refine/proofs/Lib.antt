@@ -5,3 +5,4 @@ pub mod Counting
 pub mod Determined
 pub mod Existing
 pub mod Following
+pub use Rattle.machine_follows.proofs.Cores

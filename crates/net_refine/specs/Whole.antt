@@ -22,8 +22,8 @@ use Rattle.circuit.specs.Nets.{FitsChoice}
 use Rattle.circuit.specs.Staging.{Stages, IsStaged}
 use Rattle.circuit.specs.Wiring.{NetPlaces, IsNet}
 use Rattle.leaf_machine.specs.Leaves.{leaf_places}
-use Rattle.core_family.specs.Family.{places_at}
-use Rattle.net_cycle.specs.Built.{Parts, IsBuilt, cores_of, core_machine, core_count}
+use Rattle.machine_follows.specs.Family.{places_at}
+use Rattle.machine_follows.specs.Built.{Parts, IsBuilt, cores_of, core_machine, core_count}
 use Rattle.machine_follows.specs.Follows.{machine_of_thread, TurnsBeats}
 use Rattle.good_verilog.specs.Program.{seen_of}
 

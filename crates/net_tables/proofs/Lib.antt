@@ -10,3 +10,5 @@ pub mod Threads
 pub mod Sound
 pub mod Keeping
 pub mod Netting
+pub use Rattle.core_layout.proofs.Waiting
+pub use Rattle.core_layout.proofs.Printing

@@ -10,7 +10,7 @@ use Rattle.bank_arbiter.specs.Arbiter as arbiter
 use Rattle.top_wiring.specs.declared.layout.Core.{Core}
 use Rattle.top_wiring.specs.declared.layout.Layout.{Layout}
 use Rattle.core_ports.specs.Ports.{CorePort}
-use Rattle.core_family.specs.Family.{CoreShape, Bank, Mutex, Barrier, Forks, Prints, port_of, IsCoreModule}
+use Rattle.core_layout.specs.Family.{CoreShape, Bank, Mutex, Barrier, Forks, Prints, port_of, IsCoreModule}
 use Rattle.core_layout.specs.Fits.{core_of}
 
 -- a core, the place of its module among the modules of cores, and its number among the cores of its kind

@@ -1,1 +1,2 @@
 pub mod Steady
+pub use Rattle.net_tables.proofs.Netting

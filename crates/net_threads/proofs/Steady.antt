@@ -29,8 +29,8 @@ use Rattle.leaf_machine.specs.Steady.{KeepsToItself}
 use Rattle.leaf_machine.proofs.Leaves.{slot_bit_is}
 use Rattle.steady_net.proofs.Agreeing.{agree_on}
 use Rattle.print_core.specs.declared.printer.Shape.{Shape as PrinterShape}
-use Rattle.core_family.specs.Family.{CoreShape, Bank, Mutex, Barrier, Forks, Prints, machine_of, machine_at}
-use Rattle.core_family.proofs.Waiting.{each_waits}
+use Rattle.net_tables.specs.Family.{CoreShape, Bank, Mutex, Barrier, Forks, Prints, machine_of, machine_at}
+use Rattle.net_tables.proofs.Waiting.{each_waits}
 use Rattle.net_tables.specs.Tables.{PlacedCore, Table, laid_core, kinds_at, layout_of, modules_of, shapes_of}
 use Rattle.net_tables.specs.Laws.{SameCore, SameOf, parts, told}
 use Rattle.net_tables.specs.Whole.{IsWholeTable, AreThreads, places_of}

@@ -2,3 +2,9 @@ pub mod Graph
 pub mod Table
 pub mod Listed
 pub mod Reduced
+pub use Rattle.block_ir.specs.declared.block.Block
+pub use Rattle.block_ir.specs.declared.code.Stage
+pub use Rattle.block_ir.specs.declared.code.ThreadCode
+pub use Rattle.block_ir.specs.declared.plan.BlockPlan
+pub use Rattle.block_ir.specs.declared.plan.Planned
+pub use Rattle.block_ir.specs.declared.plan.StagePlan

@@ -6,7 +6,7 @@ use Rattle.netlist.specs.declared.netlist.Signal.{Signal}
 use Rattle.netlist.specs.declared.netlist.Source.{Source}
 use Rattle.netlist.specs.declared.netlist.Source.TheVariants as source
 use Rattle.netlist.specs.declared.netlist.Value.{Value}
-use Rattle.verilog_meaning.specs.Readings.{value, signal_width}
+use Rattle.circuit.specs.Readings.{value, signal_width}
 use Rattle.operator_wires.specs.Gives.{Grows, Stands, Gives}
 
 pub grows_refl : (a : List Signal) → Grows a a

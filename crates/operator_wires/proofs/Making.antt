@@ -7,13 +7,13 @@ use Rattle.c_program.specs.declared.tree.BinaryOperator.{BinaryOperator}
 use Rattle.verilog_tree.specs.declared.tree.BinaryOperator.{BinaryOperator as Gate}
 use Rattle.netlist.specs.declared.netlist.Signal.{Signal}
 use Rattle.netlist.specs.declared.netlist.Module.{Module}
-use Rattle.verilog_meaning.specs.Readings.{Reading, width, binary}
+use Rattle.circuit.specs.Readings.{Reading, width, binary}
 pub use Rattle.std.proofs.lemmas.Result.{IfOk-weaker as of_ok}
 use Rattle.hls_ints.specs.Residues.{residue_of}
 use Rattle.hls_ints.specs.Types.{IntegerType, width_of, wrapped}
 use Rattle.hls_ints.specs.Words.{word_difference, word_complement, word_equal}
 use Rattle.hls_ints.proofs.Conversions.{residue_of-wrapped, wrapped-range}
-use Rattle.block_ir.specs.Arithmetic.{unary_at, binary_at, unary_total, binary_total, is_shift}
+use Rattle.operator_words.specs.Arithmetic.{unary_at, binary_at, unary_total, binary_total, is_shift}
 use Rattle.operator_words.specs.Shown.{unary_result, binary_result, unary_word, binary_word, IsRight, truth_type, less_word}
 use Rattle.operator_words.proofs.Operators.{not_zero, unary_shows, unary_keeps_type, binary_shows, binary_keeps_type}
 use Rattle.operator_wires.specs.declared.words.Word.{Word}

@@ -4,7 +4,7 @@ use Rattle.std.proofs.Math.Nat.{add-sub_cancel_left}
 use Rattle.netlist.specs.declared.netlist.Signal.{Signal}
 use Rattle.netlist.specs.declared.netlist.Value.TheVariants.{Select, Replication}
 use Rattle.netlist.specs.declared.netlist.Module.{Module}
-use Rattle.verilog_meaning.specs.Readings.{Reading, width, value, joined, repeated}
+use Rattle.circuit.specs.Readings.{Reading, width, value, joined, repeated}
 use Rattle.hls_ints.specs.Residues.{residue_of}
 use Rattle.hls_ints.specs.Types.{IntegerType, HasType, width_of, wrapped}
 use Rattle.hls_ints.proofs.Ranges.{bits-at_least}

@@ -14,7 +14,7 @@ use Rattle.netlist.specs.declared.netlist.Value.{Value}
 use Rattle.netlist.specs.declared.netlist.Value.TheVariants.{SignedLess, ArithmeticShiftRight, Division, SignedDivision}
 use Rattle.hls_ints.specs.Types.{IntegerType, width_of}
 use Rattle.circuit.specs.Modules.{FitsBinary}
-use Rattle.block_ir.specs.Arithmetic.{is_shift}
+use Rattle.operator_words.specs.Arithmetic.{is_shift}
 use Rattle.operator_words.specs.Shown.{unary_result, binary_result, truth_type}
 use Rattle.operator_wires.specs.declared.words.Word.{Word}
 use Rattle.operator_wires.specs.Built.{Base, IsEarlier, IsRightSide, StandsAs, AddsWord}

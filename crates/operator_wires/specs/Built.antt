@@ -9,7 +9,7 @@ use Rattle.netlist.specs.declared.netlist.Source.{Source}
 use Rattle.netlist.specs.declared.netlist.Source.TheVariants.{Assigned}
 use Rattle.netlist.specs.declared.netlist.Signal.{Signal}
 use Rattle.netlist.specs.declared.netlist.Memory.{Memory}
-use Rattle.verilog_meaning.specs.Names.{numbered}
+use Rattle.circuit.specs.Names.{numbered}
 use Rattle.circuit.specs.Modules.{FitsValue}
 use Rattle.operator_wires.specs.declared.wires.Role.{Role}
 use Rattle.operator_wires.specs.declared.wires.Role.TheVariants as role

@@ -2,11 +2,11 @@
 use Rattle.std.specs.Prelude.{◌≡◌, ℕ, ◌+◌, ◌-◌, ◌*◌, ◌/◌, ◌%◌, ◌^◌, Bool, ◌&&◌, if◌then◌else◌, nat_lt, List, ℤ}
 use Rattle.netlist.specs.declared.netlist.Signal.{Signal}
 use Rattle.netlist.specs.declared.netlist.Module.{Module}
-use Rattle.verilog_meaning.specs.Readings.{Reading, width, repeated}
+use Rattle.circuit.specs.Readings.{Reading, width, repeated}
 use Rattle.hls_ints.specs.Residues.{residue_of, bit_of}
 use Rattle.hls_ints.specs.Types.{IntegerType, HasType, width_of, wrapped}
 use Rattle.c_program.specs.declared.tree.BinaryOperator.{BinaryOperator}
-use Rattle.block_ir.specs.Arithmetic.{is_shift}
+use Rattle.operator_words.specs.Arithmetic.{is_shift}
 use Rattle.operator_words.specs.Shown.{IsRight}
 use Rattle.hls_ints.specs.Operators.{is_zero}
 use Rattle.circuit.specs.Modules.{Obeys}

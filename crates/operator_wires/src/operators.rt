@@ -3,8 +3,8 @@
 ghost use Rattle.std.specs.Prelude.{◌≡◌, true, ℤ, if◌then◌else◌, IfOk, IsTrue};
 ghost use Rattle.hls_ints.specs.Types.{IntegerType};
 ghost use Rattle.hls_ints.specs.Words.{word_difference, word_complement, word_equal, right_shift, arithmetic_shift};
-ghost use Rattle.block_ir.specs.Arithmetic.{unary_at, binary_at, unary_total, binary_total, is_shift};
-ghost use Rattle.verilog_meaning.specs.Readings.{width, binary, divided, signed_divided};
+ghost use Rattle.operator_words.specs.Arithmetic.{unary_at, binary_at, unary_total, binary_total, is_shift};
+ghost use Rattle.circuit.specs.Readings.{width, binary, divided, signed_divided};
 ghost use Rattle.operator_words.specs.Shown.{unary_result, binary_result, IsRight};
 ghost use Rattle.operator_wires.specs.Gives.{Gives};
 ghost use Rattle.operator_wires.specs.Words.{Makes, Becomes, Combine, Applies, Joins, TakesRight};

@@ -7,7 +7,7 @@ ghost use Rattle.netlist.specs.declared.netlist.Value.TheVariants as right_side;
 ghost use Rattle.verilog_tree.specs.declared.tree.BinaryOperator.TheVariants as gate;
 ghost use Rattle.operator_wires.specs.declared.wires.Role.TheVariants as role_of;
 ghost use Rattle.hls_ints.specs.Words.{word_complement, word_and, word_inclusive_or, word_equal};
-ghost use Rattle.verilog_meaning.specs.Readings.{width, value, binary, joined};
+ghost use Rattle.circuit.specs.Readings.{width, value, binary, joined};
 ghost use Rattle.operator_wires.specs.Gives.{Stands, Gives};
 ghost use Rattle.operator_wires.specs.Built.{stem_of, is_single, name_at, Lays};
 ghost use Rattle.operator_wires.specs.Added.{IsAdded, ConstantAdds, NotAdds, BinaryAdds, BothAdds, NumberAdds, ChoiceAdds, BesideAdds};

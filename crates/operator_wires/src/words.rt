@@ -2,7 +2,7 @@
 
 ghost use Rattle.std.specs.Prelude.{◌≡◌, ◌+◌, ◌-◌, ◌*◌, ◌/◌, ◌%◌, ◌^◌, true, IfOk};
 ghost use Rattle.hls_ints.specs.Types.{width_of, wrapped};
-ghost use Rattle.verilog_meaning.specs.Readings.{width, repeated};
+ghost use Rattle.circuit.specs.Readings.{width, repeated};
 ghost use Rattle.operator_wires.specs.Gives.{Gives};
 ghost use Rattle.operator_wires.specs.Words.{Resizes, Makes, Holds, TestsZero, Becomes};
 ghost use Rattle.operator_wires.specs.Added.{ResizedAdds, LowAdds, SignAdds, ZerosAdds, IsConverted, IsConstant, TruthOf, BitOfOne};

@@ -9,10 +9,10 @@ use Rattle.hls_ints.specs.Types.{Width, IntegerType, HasType, bits, width_of, wr
 use Rattle.hls_ints.specs.Operators.{is_zero, is_count}
 use Rattle.hls_ints.proofs.Ranges.{rem_range}
 use Rattle.hls_ints.proofs.Conversions.{residue_of-wrapped, wrapped-range}
-use Rattle.c_program.specs.declared.tree.UnaryOperator.TheVariants.{Plus, Minus, Complement, Not}
-use Rattle.c_program.specs.declared.tree.BinaryOperator.{BinaryOperator}
-use Rattle.c_program.specs.declared.tree.BinaryOperator.TheVariants.{Multiply, Divide, Remainder, Add, Subtract, ShiftLeft, ShiftRight, Less, Greater, LessEqual, GreaterEqual}
-use Rattle.c_program.specs.declared.tree.BinaryOperator.TheVariants.{Equal, NotEqual, And, ExclusiveOr, InclusiveOr}
+use Rattle.block_ir.specs.UnaryOperator.TheVariants.{Plus, Minus, Complement, Not}
+use Rattle.block_ir.specs.BinaryOperator.{BinaryOperator}
+use Rattle.block_ir.specs.BinaryOperator.TheVariants.{Multiply, Divide, Remainder, Add, Subtract, ShiftLeft, ShiftRight, Less, Greater, LessEqual, GreaterEqual}
+use Rattle.block_ir.specs.BinaryOperator.TheVariants.{Equal, NotEqual, And, ExclusiveOr, InclusiveOr}
 use Rattle.block_ir.specs.Arithmetic.{binary_at, truth, sign_fill, shifted_right}
 use Rattle.hls_ints.specs.Words.{word_equal, word_complement}
 use Rattle.operator_words.specs.Shown.{truth_type, binary_result, binary_word, less_word, shown, UnaryShows, BinaryShows, UnaryKeepsType, BinaryKeepsType}

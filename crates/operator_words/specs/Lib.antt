@@ -1,1 +1,2 @@
 pub mod Shown
+pub use Rattle.block_ir.specs.Arithmetic

@@ -5,11 +5,11 @@ use Rattle.hls_ints.specs.Types.{IntegerType, HasType, width_of, bits_32}
 use Rattle.verilog_meaning.specs.Readings.{repeated}
 use Rattle.hls_ints.specs.Words.{word_sum, word_difference, word_product, word_quotient, word_remainder, signed_quotient, signed_remainder, word_less, signed_less, word_equal}
 use Rattle.hls_ints.specs.Words.{word_complement, word_and, word_exclusive_or, word_inclusive_or, left_shift, right_shift, arithmetic_shift}
-use Rattle.c_program.specs.declared.tree.UnaryOperator.{UnaryOperator}
-use Rattle.c_program.specs.declared.tree.UnaryOperator.TheVariants.{Plus, Minus, Complement, Not}
-use Rattle.c_program.specs.declared.tree.BinaryOperator.{BinaryOperator}
-use Rattle.c_program.specs.declared.tree.BinaryOperator.TheVariants.{Multiply, Divide, Remainder, Add, Subtract, ShiftLeft, ShiftRight, Less, Greater, LessEqual, GreaterEqual}
-use Rattle.c_program.specs.declared.tree.BinaryOperator.TheVariants.{Equal, NotEqual, And, ExclusiveOr, InclusiveOr}
+use Rattle.block_ir.specs.UnaryOperator.{UnaryOperator}
+use Rattle.block_ir.specs.UnaryOperator.TheVariants.{Plus, Minus, Complement, Not}
+use Rattle.block_ir.specs.BinaryOperator.{BinaryOperator}
+use Rattle.block_ir.specs.BinaryOperator.TheVariants.{Multiply, Divide, Remainder, Add, Subtract, ShiftLeft, ShiftRight, Less, Greater, LessEqual, GreaterEqual}
+use Rattle.block_ir.specs.BinaryOperator.TheVariants.{Equal, NotEqual, And, ExclusiveOr, InclusiveOr}
 use Rattle.block_ir.specs.Arithmetic.{unary_at, binary_at, is_shift}
 
 -- the type int

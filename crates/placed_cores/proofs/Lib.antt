@@ -2,3 +2,4 @@ pub mod Placing
 pub mod Modules
 pub mod Laying
 pub mod Scenes
+pub use Rattle.net_tables.proofs.Small

@@ -13,7 +13,7 @@ use Rattle.netlist.specs.declared.netlist.Module.{Module}
 use Rattle.circuit.specs.Rows.{EachOf}
 use Rattle.bank_cores.specs.declared.bank.Shape.{Shape as BankShape}
 use Rattle.mutex_cores.specs.declared.mutex.Shape.{Shape as MutexShape}
-use Rattle.core_family.specs.Family.{CoreShape, Bank, Mutex, Prints, IsCoreModule}
+use Rattle.net_tables.specs.Family.{CoreShape, Bank, Mutex, Prints, IsCoreModule}
 use Rattle.placed_cores.specs.declared.wanted.Wanted.{Wanted}
 use Rattle.placed_cores.specs.Placing.{barrier, forks, unset_at, free_at, barrier_at, forks_at, printer_at, mutex_at, HasKind, AreKinds}
 use Rattle.placed_cores.specs.Kinds.{IsWantedBank, HaveModules, AreBankModules, IsWhereWanted, unset_mutex, free_mutex, AreMutexModules, AreLastModules}

@@ -16,7 +16,7 @@ use Rattle.lists.proofs.Places.{get_there, get_front}
 use Rattle.top_wiring.proofs.Lists.{IsBehind, get_behind, get_either, get_each, each_back, get_spread, spread_back}
 use Rattle.bank_cores.specs.declared.bank.Shape.{Shape as BankShape}
 use Rattle.mutex_cores.specs.declared.mutex.Shape.{Shape as MutexShape}
-use Rattle.core_family.specs.Family.{CoreShape, Bank, Mutex, Prints, IsCoreModule}
+use Rattle.net_tables.specs.Family.{CoreShape, Bank, Mutex, Prints, IsCoreModule}
 use Rattle.net_tables.specs.Tables.{PlacedCore, IsNarrow}
 use Rattle.net_tables.specs.Whole.{SameModule}
 use Rattle.placed_cores.specs.declared.wanted.Wanted.{Wanted}

@@ -7,7 +7,7 @@ use Rattle.bank_cores.specs.declared.bank.Shape.{Shape as BankShape}
 use Rattle.bank_cores.specs.Bank.{IsShape as IsBankShape}
 use Rattle.mutex_cores.specs.declared.mutex.Shape.{Shape as MutexShape}
 use Rattle.print_core.specs.Printer.{IsShape as IsPrinterShape}
-use Rattle.core_family.specs.Family.{Bank, Mutex, Prints, IsCoreModule}
+use Rattle.net_tables.specs.Family.{Bank, Mutex, Prints, IsCoreModule}
 use Rattle.placed_cores.specs.declared.wanted.Wanted.{Wanted}
 use Rattle.placed_cores.specs.Placing.{barrier, forks, HasKind}
 

@@ -8,7 +8,7 @@ use Rattle.circuit.specs.Rows.{spread}
 use Rattle.top_wiring.specs.Parts.{each_from}
 use Rattle.bank_cores.specs.declared.bank.Shape.{Shape as BankShape}
 use Rattle.mutex_cores.specs.declared.mutex.Shape.{Shape as MutexShape}
-use Rattle.core_family.specs.Family.{CoreShape, Bank, Mutex, Barrier, Forks, Prints, IsCoreModule}
+use Rattle.net_tables.specs.Family.{CoreShape, Bank, Mutex, Barrier, Forks, Prints, IsCoreModule}
 use Rattle.net_tables.specs.Tables.{PlacedCore, Table, HasModule, shapes_of}
 use Rattle.net_tables.specs.Whole.{KindsStandOnce}
 use Rattle.placed_cores.specs.declared.wanted.Wanted.{Wanted}

@@ -3,7 +3,7 @@
 ghost use Rattle.std.specs.Prelude.{◌≡◌, ◌≤◌, ◌++◌, ◌∷◌, [], IfOk, length, not};
 ghost use Rattle.std.specs.List.{list_any};
 ghost use Rattle.circuit.specs.Rows.{EachOf};
-ghost use Rattle.core_family.specs.Family.{Barrier, Forks, IsCoreModule, Mutex, Prints};
+ghost use Rattle.net_tables.specs.Family.{Barrier, Forks, IsCoreModule, Mutex, Prints};
 ghost use Rattle.placed_cores.specs.Kinds.{AreBankModules, AreLastModules, AreMutexModules, HaveModules, IsWantedBank, IsWhereWanted};
 ghost use Rattle.placed_cores.specs.Placing.{AreKinds};
 

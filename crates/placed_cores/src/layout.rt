@@ -5,7 +5,7 @@ ghost use Rattle.std.specs.List.{list_any};
 ghost use Rattle.hls_ints.specs.Residues.{bit_of};
 ghost use Rattle.circuit.specs.Rows.{spread};
 ghost use Rattle.top_wiring.specs.Parts.{each_from};
-ghost use Rattle.core_layout.specs.Fits.{group};
+ghost use Rattle.net_tables.specs.Fits.{group};
 ghost use Rattle.net_tables.specs.Tables.{laid_core};
 ghost use Rattle.placed_cores.specs.Laying.{bank_core, barrier_core, either_mutex, either_place, forks_core, layout_of, mutex_core, places_of, printer_core};
 ghost use Rattle.placed_cores.specs.Placing.{placed};

@@ -8,3 +8,4 @@ pub mod Closed
 pub mod Law
 pub mod InFlight
 pub mod Example
+pub use Rattle.interleaving.specs.Memory

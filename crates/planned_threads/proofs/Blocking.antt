@@ -24,7 +24,7 @@ use Rattle.thread_promise.specs.Globals.{bank_of}
 use Rattle.thread_promise.specs.Promise.{went_on}
 use Rattle.thread_cores.specs.Cores.{Core, argument_at, waits_bit, may_grant}
 use Rattle.thread_promise.specs.Moves.{set_out}
-use Rattle.block_refine.specs.Routines.{Codes, rest_of}
+use Rattle.act_steps.specs.Routines.{Codes, rest_of}
 use Rattle.act_steps.specs.Requests.{AreNumbers}
 use Rattle.act_steps.proofs.Requests.{all_are_steps}
 use Rattle.planned_threads.specs.Surroundings.{Waits, Absent, Over, Idle, Handed, Meeting, Sets_out, Goes_on, around, hardware_code}

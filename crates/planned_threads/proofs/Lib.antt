@@ -6,3 +6,4 @@ pub mod Staying
 pub mod Fits
 pub mod Blocking
 mod Scenes
+pub use Rattle.act_steps.proofs.Requests

@@ -1,7 +1,7 @@
 -- What is in order in the code is in order in its view.
 use Rattle.std.specs.Prelude.{slice_index_or}
 use Rattle.std.proofs.Common.{◌≡◌, ℕ, zero, suc, ◌+◌, ◌<◌, List, [], ◌∷◌, length, subst, ⊎_elim, arith}
-use Rattle.hls_ints.specs.Types.{IntegerType, wrapped}
+use Rattle.block_ir.specs.Types.{IntegerType, wrapped}
 use Rattle.block_ir.specs.declared.operand.Source.{Source}
 use Rattle.block_ir.specs.declared.operand.Source.TheVariants.{Constant as FromConstant, Variable as FromVariable, Value as FromValue}
 use Rattle.block_ir.specs.declared.operand.Operand.{Operand as CodeOperand}

@@ -2,11 +2,11 @@
 use Rattle.std.specs.Prelude.{nat_eq, ℤ, pos, negsuc, Bool, if◌then◌else◌, ◌&&◌, slice_get, slice_index_or}
 use Rattle.std.proofs.Common.{◌≡◌, ℕ, zero, suc, ◌+◌, List, [], ◌∷◌, ◌++◌, length, refl, sym, ap, ◌∙◌, subst, arith, length-append, append-nil}
 use Rattle.std.proofs.Math.Dec.{eqb-suc-suc}
-use Rattle.hls_ints.specs.Operators.{is_zero as code_is_zero}
-use Rattle.hls_ints.specs.Types.{IntegerType, wrapped}
-use Rattle.c_program.specs.declared.tree.BinaryOperator.{BinaryOperator}
-use Rattle.c_program.specs.declared.tree.BinaryOperator.TheVariants.{Multiply as Times, Divide as Over, Remainder}
-use Rattle.interleaving.specs.Memory.{Location, Memory, Access, Read, Write, memory_after}
+use Rattle.block_ir.specs.Operators.{is_zero as code_is_zero}
+use Rattle.block_ir.specs.Types.{IntegerType, wrapped}
+use Rattle.block_ir.specs.BinaryOperator.{BinaryOperator}
+use Rattle.block_ir.specs.BinaryOperator.TheVariants.{Multiply as Times, Divide as Over, Remainder}
+use Rattle.planned_block.specs.Memory.{Location, Memory, Access, Read, Write, memory_after}
 use Rattle.block_ir.specs.Arithmetic.{unary_total, binary_total}
 use Rattle.block_ir.specs.Run.{Cells, or_zero, place_read, place_written, global_read, global_written, converted, source_value}
 use Rattle.block_ir.specs.Run.{operand_value as code_value, operation_run, operations_run, started as code_started, with_cell, index_of as code_index}

@@ -1,6 +1,6 @@
 -- A run of the code's block and one of what a plan sees of it are alike; and what is in order there is in order here.
 use Rattle.std.specs.Prelude.{◌≡◌, ℕ, suc, ◌<◌, ℤ, List, [], ◌∷◌, length, slice_get}
-use Rattle.interleaving.specs.Memory.{Location}
+use Rattle.planned_block.specs.Memory.{Location}
 use Rattle.block_ir.specs.Run.{Cells, or_zero, variables_after, stage_after, Running as CodeRunning, block_run as code_run}
 use Rattle.block_ir.specs.declared.operand.Source.{Source}
 use Rattle.block_ir.specs.declared.operand.Source.TheVariants.{Constant as FromConstant, Variable as FromVariable, Value as FromValue}

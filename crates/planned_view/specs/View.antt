@@ -1,9 +1,9 @@
 -- What a basic block of the code of a thread is to a plan: conversions become parts of operands, and each operation one of the kinds that plans know.
 use Rattle.std.specs.Prelude.{ℕ, zero, suc, ℤ, pos, List, [], ◌∷◌, slice_index, Option, None}
-use Rattle.hls_ints.specs.Types.{IntegerType, wrapped}
-use Rattle.c_program.specs.declared.tree.BinaryOperator.{BinaryOperator}
-use Rattle.c_program.specs.declared.tree.BinaryOperator.TheVariants.{Multiply as Times, Divide as Over, Remainder}
-use Rattle.interleaving.specs.Memory.{Memory, Access, Read, Write}
+use Rattle.block_ir.specs.Types.{IntegerType, wrapped}
+use Rattle.block_ir.specs.BinaryOperator.{BinaryOperator}
+use Rattle.block_ir.specs.BinaryOperator.TheVariants.{Multiply as Times, Divide as Over, Remainder}
+use Rattle.planned_block.specs.Memory.{Memory, Access, Read, Write}
 use Rattle.block_ir.specs.Arithmetic.{unary_total, binary_total}
 use Rattle.block_ir.specs.Run.{Cells, Access as CodeAccess, Read as CodeRead, Write as CodeWrite, place_read, place_written, global_read, global_written}
 use Rattle.block_ir.specs.declared.operand.Source.{Source}

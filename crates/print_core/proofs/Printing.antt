@@ -10,8 +10,8 @@ use Rattle.hls_ints.specs.Residues.{bit_of}
 use Rattle.netlist.specs.declared.netlist.Signal.{Signal}
 use Rattle.netlist.specs.declared.netlist.Memory.{Memory}
 use Rattle.netlist.specs.declared.netlist.Module.{Module}
-use Rattle.verilog_meaning.specs.Readings.{Reading, width, written, action_bytes}
-use Rattle.verilog_meaning.specs.Cycles.{IsRegister}
+use Rattle.circuit.specs.Readings.{Reading, width, written, action_bytes}
+use Rattle.circuit.specs.Cycles.{IsRegister}
 use Rattle.circuit.specs.Rows.{EachOf, spread}
 use Rattle.circuit.specs.Modules.{FitsArgument, FitsAction, FitsMemory, Obeys, Has, HasInput, Reads, IsSound, IsLeaf, is_between}
 use Rattle.circuit.specs.Machines.{Grants, IsCore, asked, printed}

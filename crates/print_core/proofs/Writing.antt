@@ -10,7 +10,7 @@ use Rattle.hls_ints.specs.Words.{signed_word}
 use Rattle.hls_ints.specs.Residues.{bit_of}
 use Rattle.netlist.specs.declared.netlist.Action.{Action}
 use Rattle.netlist.specs.declared.netlist.Module.{Module}
-use Rattle.verilog_meaning.specs.Readings.{Reading, width, Plain, Escape, Percent, plain_bytes, filled, all_arguments, action_bytes}
+use Rattle.circuit.specs.Readings.{Reading, width, Plain, Escape, Percent, plain_bytes, filled, all_arguments, action_bytes}
 use Rattle.print_core.specs.declared.format.Part.{Part}
 use Rattle.print_core.specs.declared.format.Part.TheVariants.{Text, Unsigned, Signed}
 use Rattle.print_core.specs.Format.{spelled_byte, spelled_bytes, spelled, values_of, arguments_of, IsSite}

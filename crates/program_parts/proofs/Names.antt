@@ -8,7 +8,7 @@ use Rattle.std.proofs.lemmas.Option.{none-some, same_Some}
 use Rattle.lists.proofs.Places.{get_there}
 use Rattle.c_program.specs.Tree.{Function, Program}
 use Rattle.c_program.specs.Resolved.{IsResolved}
-use Rattle.net_tables.specs.Whole.{IsThreadName, OfFunction, OfIdle}
+use Rattle.net_grants.specs.Whole.{IsThreadName, OfFunction, OfIdle}
 use Rattle.thread_numbers.specs.Numbers.{name_if, module_name, function_module}
 
 name_at : (fs : List Function) (y : ℕ) (h : Function) (n : List ℕ) → AllByRecursion (λ z. pointwise nat_eq n z ≡ false) (map (λ (g : Function). g.name) fs) →

@@ -20,32 +20,32 @@ use Rattle.verilog_meaning.specs.Threads.{slot, IsThreaded}
 use Rattle.leaf_machine.specs.Leaves.{IsSlotBit, IsThreadLeaf}
 use Rattle.leaf_machine.specs.Steady.{IsSteadyThread, IsSteadyMain}
 use Rattle.core_ports.specs.Ports.{CorePort, IsRoutineModule}
-use Rattle.core_family.specs.Family.{CoreShape, machine_at, port_of}
-use Rattle.net_tables.specs.Tables.{PlacedCore, Table, IsArbiterModule, shapes_of}
-use Rattle.net_tables.specs.Tables as table
-use Rattle.net_tables.specs.Whole.{IsThreadName, IsWholeTable, AreThreads}
-use Rattle.net_tables.specs.Nets.{IsNetOfTable}
-use Rattle.net_tables.proofs.Netting.{tables_are_nets}
-use Rattle.net_threads.specs.Threads.{AreSteady}
-use Rattle.net_threads.proofs.Steady.{net_of_table_is_threaded}
+use Rattle.routine_plans.specs.Family.{CoreShape, machine_at, port_of}
+use Rattle.net_grants.specs.Tables.{PlacedCore, Table, IsArbiterModule, shapes_of}
+use Rattle.net_grants.specs.Tables as table
+use Rattle.net_grants.specs.Whole.{IsThreadName, IsWholeTable, AreThreads}
+use Rattle.net_grants.specs.Nets.{IsNetOfTable}
+use Rattle.net_grants.proofs.Netting.{tables_are_nets}
+use Rattle.net_grants.specs.Threads.{AreSteady}
+use Rattle.net_grants.proofs.Steady.{net_of_table_is_threaded}
 use Rattle.net_grants.specs.Grants.{IsGranting}
 use Rattle.net_grants.specs.Laws.{TurnsBeat}
 use Rattle.net_grants.proofs.Tables.{net_of_table_grants}
-use Rattle.placed_cores.specs.declared.wanted.Wanted.{Wanted}
-use Rattle.placed_cores.specs.Placing.{cores_of, placed}
-use Rattle.placed_cores.proofs.Placing.{cores_are_placed}
-use Rattle.planned_threads.specs.Surroundings.{routine_in, routine_of}
+use Rattle.program_cores.specs.Wanted.{Wanted}
+use Rattle.program_cores.specs.Placing.{cores_of, placed}
+use Rattle.program_cores.proofs.Placing.{cores_are_placed}
+use Rattle.routine_plans.specs.Surroundings.{routine_in, routine_of}
 use Rattle.thread_promise.specs.Serving.{RunsCode}
 use Rattle.bank_memory.specs.Partition.{globals_of}
-use Rattle.net_cycle.specs.Built as built
-use Rattle.net_cycle.specs.Built.{Parts, IsBuilt, IsCode, IsPrinterOf}
-use Rattle.net_cycle.proofs.Cores.{count_is}
-use Rattle.machine_follows.specs.Follows.{TurnsBeats}
-use Rattle.table_refine.specs.Wired.{promised_ports, Serves}
-use Rattle.table_refine.proofs.Routines.{threads_serve}
+use Rattle.routine_plans.specs.Built as built
+use Rattle.routine_plans.specs.Built.{Parts, IsBuilt, IsCode, IsPrinterOf}
+use Rattle.routine_plans.proofs.Cores.{count_is}
+use Rattle.table_net.specs.Follows.{TurnsBeats}
+use Rattle.table_net.specs.Wired.{promised_ports, Serves}
+use Rattle.table_net.proofs.Routines.{threads_serve}
 use Rattle.routine_plans.specs.Plans.{IsRoutine, AreRoutines, chain_of}
 use Rattle.routine_plans.proofs.Routines.{routines_are_code, routines_are_coded}
-use Rattle.table_text.specs.Written.{table_of, IsTextOf}
+use Rattle.table_net.specs.Written.{table_of, IsTextOf}
 use Rattle.table_net.specs.Tables.{HaveThreads, IsLaidTable}
 use Rattle.table_net.specs.Texts.{IsNetOf}
 use Rattle.table_net.specs.Good.{IsPlacedTable}

@@ -15,20 +15,20 @@ use Rattle.verilog_meaning.specs.Threads.{slot, IsThreaded}
 use Rattle.leaf_machine.specs.Leaves.{LeafPorts, IsThreadLeaf, IsSlotBit}
 use Rattle.leaf_machine.specs.Steady.{IsSteadyThread, IsSteadyMain}
 use Rattle.core_ports.specs.Ports.{CorePort, IsRoutineModule}
-use Rattle.core_family.specs.Family.{machine_at, port_of}
-use Rattle.placed_cores.specs.declared.wanted.Wanted.{Wanted}
-use Rattle.placed_cores.specs.Placing.{cores_of}
+use Rattle.routine_plans.specs.Family.{machine_at, port_of}
+use Rattle.program_cores.specs.Wanted.{Wanted}
+use Rattle.program_cores.specs.Placing.{cores_of}
 use Rattle.block_ir.specs.Asked.{Numbers}
 use Rattle.thread_promise.specs.Slots.{Places}
 use Rattle.thread_promise.specs.Serving.{RunsCode}
 use Rattle.bank_memory.specs.Partition.{globals_of}
-use Rattle.net_cycle.specs.Built.{Parts}
-use Rattle.table_refine.specs.Wired.{promised_ports}
+use Rattle.routine_plans.specs.Built.{Parts}
+use Rattle.table_net.specs.Wired.{promised_ports}
 use Rattle.routine_plans.specs.Plans.{IsRoutine}
 use Rattle.good_verilog.specs.GoodVerilog.{IsGoodVerilog}
 use Rattle.net_grants.specs.Grants.{IsGranting}
 use Rattle.net_grants.specs.Laws.{TurnsBeat}
-use Rattle.table_text.specs.Written.{IsTextOf}
+use Rattle.table_net.specs.Written.{IsTextOf}
 use Rattle.table_net.specs.Texts.{IsNetOf}
 use Rattle.program_cores.specs.Cores.{AreCoresOf}
 use Rattle.thread_numbers.specs.Numbers.{place_in, module_numbers, has_idle, function_module}

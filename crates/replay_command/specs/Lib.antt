@@ -1,1 +1,2 @@
 pub mod Replays
+pub use Rattle.verdict_lines.specs.Lines

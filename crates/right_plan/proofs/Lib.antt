@@ -1,2 +1,3 @@
 pub mod Waiting
 pub mod Stages
+pub use Rattle.planned_view.proofs.Running

@@ -1,12 +1,12 @@
 -- Each block of a code by a right plan has its plan.
 use Rattle.std.proofs.Common.{◌≡◌, ℕ, zero, suc, ◌<◌, ◌^◌, List, [], ◌∷◌, length, Some, refl, subst}
 use Rattle.std.specs.Prelude.{slice_get}
-use Rattle.block_ir.specs.declared.block.Block.{Block}
-use Rattle.block_ir.specs.declared.code.Stage.{Stage}
-use Rattle.block_ir.specs.declared.code.Stage.TheVariants as stage
-use Rattle.block_ir.specs.declared.plan.BlockPlan.{BlockPlan}
-use Rattle.block_ir.specs.declared.plan.StagePlan.{StagePlan}
-use Rattle.block_ir.specs.declared.plan.StagePlan.TheVariants as planned
+use Rattle.op_graph.specs.Block.{Block}
+use Rattle.op_graph.specs.Stage.{Stage}
+use Rattle.op_graph.specs.Stage.TheVariants as stage
+use Rattle.op_graph.specs.BlockPlan.{BlockPlan}
+use Rattle.op_graph.specs.StagePlan.{StagePlan}
+use Rattle.op_graph.specs.StagePlan.TheVariants as planned
 use Rattle.right_plan.specs.Right.{IsRight, EachRight, RightPlansAreThere}
 
 each_at : (r : ℕ) (ss : List Stage) (ps : List StagePlan) (l : ℕ) (b : Block) → EachRight r ss ps → slice_get ss l ≡ Some (stage.Run b) → length b.operations < 2 ^ 32 →

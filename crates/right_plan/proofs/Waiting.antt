@@ -1,9 +1,9 @@
 -- What waits for its operands works on registers.
 use Rattle.std.proofs.Common.{◌≡◌, ◌<◌, true, false, ◌⊎◌, inl, inr, refl, arith}
 use Rattle.std.proofs.lemmas.Bool.{cases_Bool}
-use Rattle.planned_block.specs.Block.{Kind, Simple, Multiply, Divide, BankRead, BankWrite, ArrayRead, ArrayWrite, operation_at}
-use Rattle.planned_block.specs.Plan.{further_states, is_simple, last_state}
-use Rattle.planned_block.specs.Slot.{is_request}
+use Rattle.planned_view.specs.Block.{Kind, Simple, Multiply, Divide, BankRead, BankWrite, ArrayRead, ArrayWrite, operation_at}
+use Rattle.planned_view.specs.Plan.{further_states, is_simple, last_state}
+use Rattle.planned_view.specs.Slot.{is_request}
 use Rattle.right_plan.specs.Right.{TableGivesRegisters}
 
 simple_now : (kind : Kind) → is_simple kind ≡ true → further_states kind ≡ 0

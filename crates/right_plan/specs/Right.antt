@@ -1,16 +1,16 @@
 -- What a machine asks of the plan of a code, whatever made the plan.
 use Rattle.std.specs.Prelude.{◌≡◌, ℕ, ◌<◌, ◌≤◌, ◌^◌, ◌⊎◌, true, false, List, [], ◌∷◌, length, Some, slice_get, slice_index}
-use Rattle.block_ir.specs.declared.block.Block.{Block as CodeBlock}
-use Rattle.block_ir.specs.declared.code.Stage.{Stage}
-use Rattle.block_ir.specs.declared.code.Stage.TheVariants as stage
-use Rattle.block_ir.specs.declared.code.ThreadCode.{ThreadCode}
-use Rattle.block_ir.specs.declared.plan.BlockPlan.{BlockPlan}
-use Rattle.block_ir.specs.declared.plan.StagePlan.{StagePlan}
-use Rattle.block_ir.specs.declared.plan.StagePlan.TheVariants as planned
-use Rattle.block_ir.specs.declared.plan.Planned.{Planned}
-use Rattle.planned_block.specs.Block.{Block, operation_at, size, Uses}
-use Rattle.planned_block.specs.Plan.{Plan, is_simple, last_state, KeepsOrders}
-use Rattle.planned_block.specs.Table.{MeetsTable, sequential}
+use Rattle.op_graph.specs.Block.{Block as CodeBlock}
+use Rattle.op_graph.specs.Stage.{Stage}
+use Rattle.op_graph.specs.Stage.TheVariants as stage
+use Rattle.op_graph.specs.ThreadCode.{ThreadCode}
+use Rattle.op_graph.specs.BlockPlan.{BlockPlan}
+use Rattle.op_graph.specs.StagePlan.{StagePlan}
+use Rattle.op_graph.specs.StagePlan.TheVariants as planned
+use Rattle.op_graph.specs.Planned.{Planned}
+use Rattle.planned_view.specs.Block.{Block, operation_at, size, Uses}
+use Rattle.planned_view.specs.Plan.{Plan, is_simple, last_state, KeepsOrders}
+use Rattle.planned_view.specs.Table.{MeetsTable, sequential}
 use Rattle.planned_view.specs.View.{planned_view, plan_view, register_at}
 use Rattle.planned_view.specs.Alike.{IsInOrder}
 use Rattle.op_graph.specs.Graph.{nodes_of, kind_at, same_kind}

@@ -1,2 +1,3 @@
 pub mod Routines
 mod Scenes
+pub use Rattle.net_cycle.proofs.Cores

@@ -25,7 +25,7 @@ use Rattle.planned_hardware.specs.Following.{own_latencies, AreChains}
 use Rattle.block_refine.specs.Threads.{block_at, plan_at}
 use Rattle.block_refine.specs.Routines.{RoutineCode, Codes, stage_at, rest_of, blocks_of, plans_of, ArePlanned}
 use Rattle.planned_threads.specs.Laws.{AreChainsThere, AreCoded}
-use Rattle.thread_cycle.specs.Thread.{LeadsBelow, StageLeads}
+use Rattle.net_cycle.specs.Thread.{LeadsBelow, StageLeads}
 use Rattle.net_cycle.specs.Built.{IsCode}
 use Rattle.routine_plans.specs.Plans.{IsRoutine, AreRoutines, chain_of, RoutinesAreCoded, RoutinesAreCode}
 use Rattle.planned_code.proofs.Chains.{planned_at, short, busy, low}

@@ -3,7 +3,7 @@
 ghost use Rattle.std.specs.Prelude.{◌≡◌, ◌<◌, ◌≤◌, IfOk};
 ghost use Rattle.sim_layout.specs.Rounds.{threads_of};
 ghost use Rattle.cycle_sim.specs.Opened.{IsOpenable};
-ghost use Rattle.slot_sim.specs.Slots.{IsThreadedIn};
+ghost use Rattle.journal_laws.specs.Slots.{IsThreadedIn};
 ghost use Rattle.run_command.specs.Runs.{IsRunAnswer};
 
 use hardware_threads::gate::Gate;

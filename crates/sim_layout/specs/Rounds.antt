@@ -8,7 +8,7 @@ use Rattle.netlist.specs.declared.netlist.Module.{Module}
 use Rattle.verilog_meaning.specs.Names.{top_of}
 use Rattle.verilog_meaning.specs.Cycles.{Valuation, Choice, Runs, ShowsDone}
 use Rattle.verilog_meaning.specs.Threads.{all_enabled}
-use Rattle.circuit.specs.Nets.{FitsChoice}
+use Rattle.sim_values.specs.Nets.{FitsChoice}
 use Rattle.global_banks.specs.Banks.{behind, is_decimal}
 
 -- ---- the threads: the bits of the signal `en` of the outermost module

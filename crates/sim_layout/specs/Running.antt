@@ -8,9 +8,9 @@ use Rattle.verilog_meaning.specs.Ports.{HasDone}
 use Rattle.verilog_meaning.specs.Readings.{memory_words}
 use Rattle.verilog_meaning.specs.Names.{top_of}
 use Rattle.verilog_meaning.specs.Cycles.{Path, Valuation, Choice, module_at, IsAt, IsState, IsSameIn, Cycle, ShowsDone}
-use Rattle.circuit.specs.Rows.{EachOf as EachOfRows}
-use Rattle.circuit.specs.Modules.{FitsAction}
-use Rattle.circuit.specs.Nets.{FitsNet, FitsStatements, FitsChoice}
+use Rattle.sim_values.specs.Rows.{EachOf as EachOfRows}
+use Rattle.sim_values.specs.Modules.{FitsAction}
+use Rattle.sim_values.specs.Nets.{FitsNet, FitsStatements, FitsChoice}
 use Rattle.global_banks.specs.Elements.{AreNamed}
 use Rattle.sim_values.specs.declared.settle.Step.{Step}
 use Rattle.sim_values.specs.declared.settle.Choice as code

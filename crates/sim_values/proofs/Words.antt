@@ -6,7 +6,7 @@ use Rattle.std.proofs.lemmas.Nat.{mul-mod_first, mod_below, pow_pos}
 use Rattle.std.proofs.lemmas.List.{drop_all}
 use Rattle.hls_ints.specs.Words.{word}
 use Rattle.netlist.specs.declared.netlist.Module.{Module}
-use Rattle.verilog_meaning.specs.Readings.{Reading, joined, width}
+use Rattle.verilog_value.specs.Readings.{Reading, joined, width}
 use Rattle.sim_values.specs.Flat.{EachOf}
 
 is_small : (x v : ℕ) → x ≡ v → x < 2 ^ 64 → x ≡ word 64 v

@@ -2,7 +2,7 @@
 
 ghost use Rattle.std.specs.Prelude.{◌≡◌, ◌+◌, nat_lt, if◌then◌else◌, slice_index, slice_get};
 ghost use Rattle.hls_ints.specs.Words.{word};
-ghost use Rattle.verilog_meaning.specs.Readings.{width, value as value_of, joined, memory_words};
+ghost use Rattle.verilog_value.specs.Readings.{width, value as value_of, joined, memory_words};
 ghost use Rattle.sim_values.specs.Flat.{flat_of, reading, EachOf, IsWide, IsNarrow};
 
 use hls_ints::{v_not, v_sar, v_sless};

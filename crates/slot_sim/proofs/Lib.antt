@@ -15,3 +15,6 @@ pub mod Keeping
 pub mod Changes
 pub mod Altering
 pub mod Moving
+pub use Rattle.cycle_once.proofs.Standing
+pub use Rattle.cycle_sim.proofs.Same
+pub use Rattle.cycle_sim.proofs.Turning

@@ -6,16 +6,16 @@ use Rattle.verilog_tree.specs.declared.tree.Net.{Net}
 use Rattle.netlist.specs.declared.netlist.Netlist.{Netlist}
 use Rattle.leaf_machine.specs.Leaves.{IsSlotBit, IsThreadLeaf}
 use Rattle.core_ports.specs.Ports.{CorePort, IsRoutineModule}
-use Rattle.core_family.specs.Family.{CoreShape, Bank, Mutex, Barrier, Forks, Prints, machine_at, port_of}
+use Rattle.net_tables.specs.Family.{CoreShape, Bank, Mutex, Barrier, Forks, Prints, machine_at, port_of}
 use Rattle.net_tables.specs.Tables.{PlacedCore, Table, layout_of, modules_of, shapes_of, ports_of}
 use Rattle.net_tables.specs.Laws.{ThreadStands}
 use Rattle.net_tables.specs.Whole.{AreThreads}
 use Rattle.net_tables.proofs.Threads.{threads_fit}
-use Rattle.placed_cores.specs.Placing as placing
-use Rattle.placed_cores.proofs.Placing.{cores_are_placed}
-use Rattle.net_cycle.specs.Built.{Parts, core_count, IsBuilt}
-use Rattle.net_cycle.proofs.Cores.{count_is}
-use Rattle.machine_follows.specs.Follows.{TurnsBeats}
+use Rattle.table_text.specs.Placing as placing
+use Rattle.table_text.proofs.Placing.{cores_are_placed}
+use Rattle.table_refine.specs.Built.{Parts, core_count, IsBuilt}
+use Rattle.table_refine.proofs.Cores.{count_is}
+use Rattle.table_refine.specs.Follows.{TurnsBeats}
 use Rattle.table_refine.specs.Wired as refine
 use Rattle.table_refine.proofs.Whole.{wired_follow}
 use Rattle.table_net.specs.Tables.{IsNumbered, IsLaidTable}

@@ -14,15 +14,15 @@ use Rattle.circuit.specs.Rows.{EachOf}
 use Rattle.circuit.specs.Interfaces.{IsTableModule}
 use Rattle.leaf_machine.specs.Standing.{IsSilent}
 use Rattle.block_ir.specs.Asked.{ids_core, printer_core}
-use Rattle.bank_memory.proofs.Partitioned.{bank_is, count_low}
+use Rattle.table_refine.proofs.Partitioned.{bank_is, count_low}
 use Rattle.core_ports.specs.Ports as port
-use Rattle.core_family.specs.Family.{CoreShape, Bank, Mutex, Barrier, Forks, Prints}
+use Rattle.net_tables.specs.Family.{CoreShape, Bank, Mutex, Barrier, Forks, Prints}
 use Rattle.net_tables.specs.Tables.{PlacedCore, Table, HasCores, IsNarrow, IsArbiterModule, shapes_of, ports_of}
 use Rattle.net_tables.specs.Laws.{SameOf, IsLow, StandOnce, HasPrinter}
 use Rattle.net_tables.specs.Whole.{IsThreadName, HasRoutines, IsWholeTable}
 use Rattle.net_tables.proofs.Lists.{map_back, map_get}
-use Rattle.net_cycle.specs.Built.{Parts, numbers_of, core_at, core_count, IsBuilt}
-use Rattle.net_cycle.proofs.Cores.{count_is, printer_at, Kind, IsBank, IsMutex, IsBarrier, IsForks, IsPrinter, IsPast, kind_of}
+use Rattle.table_refine.specs.Built.{Parts, numbers_of, core_at, core_count, IsBuilt}
+use Rattle.table_refine.proofs.Cores.{count_is, printer_at, Kind, IsBank, IsMutex, IsBarrier, IsForks, IsPrinter, IsPast, kind_of}
 use Rattle.table_net.specs.Tables.{IsNumbered, IsRoutine, IsLaidTable, LaidTablesAreWhole}
 use Rattle.table_refine.proofs.Names.{same_name}
 

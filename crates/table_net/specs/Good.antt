@@ -6,10 +6,10 @@ use Rattle.netlist.specs.declared.netlist.Netlist.{Netlist}
 use Rattle.good_verilog.specs.GoodVerilog.{IsGoodVerilog}
 use Rattle.net_tables.specs.Tables.{Table, IsArbiterModule, layout_of, modules_of}
 use Rattle.net_tables.specs.Whole.{AreThreads}
-use Rattle.placed_cores.specs.declared.wanted.Wanted.{Wanted}
-use Rattle.placed_cores.specs.Placing.{AreKinds, placed}
-use Rattle.net_cycle.specs.Built.{Parts, IsBuilt}
-use Rattle.machine_follows.specs.Follows.{TurnsBeats}
+use Rattle.table_text.specs.Wanted.{Wanted}
+use Rattle.table_text.specs.Placing.{AreKinds, placed}
+use Rattle.table_refine.specs.Built.{Parts, IsBuilt}
+use Rattle.table_refine.specs.Follows.{TurnsBeats}
 use Rattle.table_net.specs.Tables.{HaveThreads, IsLaidTable}
 use Rattle.table_text.specs.Written.{IsWritten}
 use Rattle.table_net.specs.Texts.{IsNetOf}

@@ -4,10 +4,10 @@ use Rattle.c_program.specs.Tree.{Program}
 use Rattle.netlist.specs.declared.netlist.Module.{Module}
 use Rattle.block_ir.specs.Asked.{mutex_core, barrier_core}
 use Rattle.core_ports.specs.Ports.{IsRoutineModule}
-use Rattle.core_family.specs.Family.{CoreShape, Bank, Mutex, Barrier, Forks, Prints}
+use Rattle.net_tables.specs.Family.{CoreShape, Bank, Mutex, Barrier, Forks, Prints}
 use Rattle.net_tables.specs.Tables.{PlacedCore, Table, IsArbiterModule, HasModule, shapes_of, ports_of}
 use Rattle.net_tables.specs.Whole.{IsThreadName, KindsStandOnce, IsWholeTable}
-use Rattle.net_cycle.specs.Built.{Parts, cores_of, numbers_of, IsBuilt}
+use Rattle.table_refine.specs.Built.{Parts, cores_of, numbers_of, IsBuilt}
 
 -- mutexes and barriers are numbered from 0, by kind; of the others there is one
 abbrev pub IsNumbered : Parts → ℕ → CoreShape → ℕ → Type 0

@@ -10,15 +10,15 @@ use Rattle.lists.proofs.Places.{get_front, get_mapped, copies_there}
 use Rattle.top_wiring.proofs.Lists.{get_behind, get_flat_map}
 use Rattle.leaf_machine.specs.Leaves.{LeafPorts}
 use Rattle.core_ports.specs.Ports.{CorePort, asks_of, told_of, ask_place, told_place, thread_inputs, thread_outputs, IsRoutineModule}
-use Rattle.core_family.specs.Family.{CoreShape, machine_of, port_of, ask_width, told_width}
-use Rattle.core_family.proofs.Printing.{each_fits}
-use Rattle.net_cycle.specs.Built.{Parts, FitsCores, cores_of, core_at, core_count, core_machine, IsThreadModule, thread_at, numbers_of}
-use Rattle.net_cycle.proofs.Cores.{core_there, count_is}
+use Rattle.net_tables.specs.Family.{CoreShape, machine_of, port_of, ask_width, told_width}
+use Rattle.net_tables.proofs.Printing.{each_fits}
+use Rattle.net_refine.specs.Built.{Parts, FitsCores, cores_of, core_at, core_count, core_machine, IsThreadModule, thread_at, numbers_of}
+use Rattle.net_refine.proofs.Cores.{core_there, count_is}
 use Rattle.c_program.specs.Tree.{Program}
 use Rattle.thread_promise.specs.Serving.{Ports, RunsCode}
-use Rattle.planned_threads.specs.Surroundings.{routine_of}
+use Rattle.net_refine.specs.Surroundings.{routine_of}
 use Rattle.bank_memory.specs.Partition.{globals_of}
-use Rattle.thread_cycle.specs.Thread.{ArePorts}
+use Rattle.net_refine.specs.Thread.{ArePorts}
 use Rattle.table_refine.specs.Wired.{ports_of, RoutinesFit, promised_ports, Serves, ThreadsServe}
 
 module _ (K : Parts) (name : List ℕ) (m : Module) (inputs : ℕ) (leaf : LeafPorts) (routine : IsRoutineModule name (ports_of K) m inputs leaf) where

@@ -19,7 +19,7 @@ use Rattle.top_wiring.specs.Wired.{IsWired}
 use Rattle.bank_arbiter.specs.Arbiter as arbiter
 use Rattle.leaf_machine.specs.Leaves.{leaf_places, IsSlotBit, IsThreadLeaf}
 use Rattle.core_ports.specs.Ports.{CorePort, IsRoutineModule}
-use Rattle.core_family.specs.Family.{CoreShape, Bank, Mutex, Barrier, Forks, Prints, port_of, machine_at, places_at}
+use Rattle.net_tables.specs.Family.{CoreShape, Bank, Mutex, Barrier, Forks, Prints, port_of, machine_at, places_at}
 use Rattle.net_tables.specs.Tables.{PlacedCore, Table, kinds_at, laid_core, layout_of, modules_of, shapes_of}
 use Rattle.net_tables.specs.Tables as table
 use Rattle.net_tables.specs.Laws.{ThreadStands}
@@ -28,10 +28,10 @@ use Rattle.net_tables.specs.Nets.{IsNetOfTable}
 use Rattle.net_tables.proofs.Threads.{threads_fit}
 use Rattle.net_tables.proofs.Netting.{tables_are_nets}
 use Rattle.bank_memory.proofs.Partitioned.{core_of, bank_is}
-use Rattle.net_cycle.specs.Built.{Parts, cores_of, core_at, core_count}
-use Rattle.net_cycle.proofs.Cores.{Kind, kind_of, bank_at, count_is}
-use Rattle.net_cycle.proofs.Cores.Kind.{IsBank, IsMutex, IsBarrier, IsForks, IsPrinter, IsPast}
-use Rattle.machine_follows.specs.Follows.{machine_of_thread}
+use Rattle.net_refine.specs.Built.{Parts, cores_of, core_at, core_count}
+use Rattle.net_refine.proofs.Cores.{Kind, kind_of, bank_at, count_is}
+use Rattle.net_refine.proofs.Cores.Kind.{IsBank, IsMutex, IsBarrier, IsForks, IsPrinter, IsPast}
+use Rattle.net_refine.specs.Follows.{machine_of_thread}
 use Rattle.net_refine.specs.Whole.{Instances, TellsDone, AreBanked, IsWhole}
 use Rattle.net_refine.proofs.Following.{net_follows}
 use Rattle.table_refine.specs.Wired.{IsWholeTableOf, TablesAreWhole, WiredFollow}

@@ -8,16 +8,16 @@ use Rattle.netlist.specs.declared.netlist.Netlist.{Netlist}
 use Rattle.verilog_meaning.specs.Follows.{IsDetermined, FollowsAlways}
 use Rattle.leaf_machine.specs.Leaves.{LeafPorts, IsThreadLeaf, IsSlotBit}
 use Rattle.core_ports.specs.Ports.{CorePort, IsRoutineModule}
-use Rattle.core_family.specs.Family.{port_of}
+use Rattle.net_tables.specs.Family.{port_of}
 use Rattle.top_wiring.specs.Wired.{IsWired}
 use Rattle.net_tables.specs.Tables.{Table, layout_of, modules_of, shapes_of}
 use Rattle.net_tables.specs.Whole.{IsWholeTable}
 use Rattle.good_verilog.specs.Program.{seen_of}
 use Rattle.thread_promise.specs.Serving.{Ports, RunsCode}
-use Rattle.planned_threads.specs.Surroundings.{routine_of}
+use Rattle.net_refine.specs.Surroundings.{routine_of}
 use Rattle.bank_memory.specs.Partition.{globals_of}
-use Rattle.net_cycle.specs.Built.{Parts, IsBuilt, IsThreadModule, FitsCores, cores_of, core_machine, core_count, numbers_of}
-use Rattle.machine_follows.specs.Follows.{TurnsBeats}
+use Rattle.net_refine.specs.Built.{Parts, IsBuilt, IsThreadModule, FitsCores, cores_of, core_machine, core_count, numbers_of}
+use Rattle.net_refine.specs.Follows.{TurnsBeats}
 use Rattle.net_refine.specs.Whole.{IsWhole, RunsExist}
 
 -- what a thread's module asks of cores and is told by them, in the order of the cores

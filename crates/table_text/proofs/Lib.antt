@@ -1,1 +1,2 @@
 pub mod Tables
+pub use Rattle.placed_cores.proofs.Placing

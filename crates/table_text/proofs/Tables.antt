@@ -12,8 +12,8 @@ use Rattle.top_wiring.specs.declared.layout.Layout.{Layout}
 use Rattle.top_wiring.specs.Top.{IsSmall}
 use Rattle.top_wiring.specs.Sound.{AreSound}
 use Rattle.top_wiring.specs.Wired.{IsWired}
-use Rattle.net_tables.specs.Tables.{IsArbiterModule, HasCores, layout_of}
-use Rattle.net_tables.proofs.Small.{is_small}
+use Rattle.placed_cores.specs.Tables.{IsArbiterModule, HasCores, layout_of}
+use Rattle.placed_cores.proofs.Small.{is_small}
 use Rattle.placed_cores.specs.declared.wanted.Wanted.{Wanted}
 use Rattle.placed_cores.specs.Placing.{AreKinds, placed}
 use Rattle.placed_cores.specs.Kinds.{HaveModules}

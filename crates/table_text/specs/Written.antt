@@ -11,7 +11,7 @@ use Rattle.netlist.specs.Sound.{IsSound}
 use Rattle.top_wiring.specs.declared.layout.Layout.{Layout}
 use Rattle.top_wiring.specs.Sound.{AreSound}
 use Rattle.top_wiring.specs.Wired.{IsWired}
-use Rattle.net_tables.specs.Tables.{Table, IsArbiterModule, layout_of, modules_of}
+use Rattle.placed_cores.specs.Tables.{Table, IsArbiterModule, layout_of, modules_of}
 use Rattle.placed_cores.specs.declared.wanted.Wanted.{Wanted}
 use Rattle.placed_cores.specs.Placing.{AreKinds, placed}
 

@@ -2,7 +2,7 @@
 #![tactic(auto)]
 
 ghost use Rattle.std.specs.Prelude.{◌≡◌, ◌≤◌, ◌++◌, ◌∷◌, IfOk};
-ghost use Rattle.net_tables.specs.Tables.{IsArbiterModule};
+ghost use Rattle.placed_cores.specs.Tables.{IsArbiterModule};
 ghost use Rattle.placed_cores.specs.Kinds.{HaveModules};
 ghost use Rattle.table_text.specs.Written.{FitsTable, IsTextOf};
 

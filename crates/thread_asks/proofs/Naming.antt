@@ -15,7 +15,7 @@ use Rattle.operator_wires.specs.Added.{ConstantAdds}
 use Rattle.operator_wires.proofs.Giving.{grows_refl, grows_then}
 use Rattle.operator_wires.proofs.Building.{stands_after, wires_none, adds_after, room_of}
 use Rattle.planned_block.proofs.Bits.{other_is}
-use Rattle.thread_promise.specs.Moves.{meeting}
+use Rattle.block_datapath.specs.Moves.{meeting}
 use Rattle.block_datapath.specs.declared.registers.Registers.{Registers}
 use Rattle.block_datapath.specs.Chains.{TellsStage}
 use Rattle.thread_slots.specs.Numbers.{is_wait, numbers}

@@ -22,7 +22,7 @@ use Rattle.circuit.specs.Modules.{Obeys}
 use Rattle.operator_wires.specs.Gives.{Grows}
 use Rattle.operator_wires.specs.Words.{resized_word}
 use Rattle.operator_wires.specs.Built.{Base, IsEarlier}
-use Rattle.thread_promise.specs.Promise.{is_run}
+use Rattle.block_datapath.specs.Promise.{is_run}
 use Rattle.block_ir.specs.Asked.{act_value, Service, Mutexes, Barriers, Ids, Prints, Request as Call, request_of}
 use Rattle.block_datapath.specs.declared.registers.Held.{Held}
 use Rattle.block_datapath.specs.declared.registers.Registers.{Registers}

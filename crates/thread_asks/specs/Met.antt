@@ -13,7 +13,7 @@ use Rattle.verilog_meaning.specs.Readings.{Reading}
 use Rattle.circuit.specs.Modules.{Obeys}
 use Rattle.operator_wires.specs.Gives.{Grows}
 use Rattle.operator_wires.specs.Built.{Base, IsEarlier, Adds}
-use Rattle.thread_promise.specs.Moves.{meeting}
+use Rattle.block_datapath.specs.Moves.{meeting}
 use Rattle.block_datapath.specs.declared.registers.Registers.{Registers}
 use Rattle.thread_slots.specs.Numbers.{numbers}
 use Rattle.thread_slots.specs.Slots.{KnowsStage}

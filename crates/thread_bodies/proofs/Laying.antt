@@ -26,15 +26,15 @@ use Rattle.block_refine.specs.Routines.{RoutineCode}
 use Rattle.placed_cores.specs.declared.wanted.Wanted.{Wanted}
 use Rattle.thread_slots.specs.declared.shape.Shape.{Shape}
 use Rattle.thread_layout.specs.Thread.{IsServed}
-use Rattle.thread_runs.specs.Runs.{ServesCode}
-use Rattle.thread_sound.specs.Leaf.{IsLeafOfServedCode}
-use Rattle.thread_sound.specs.Routine.{IsRoutineOfServedCode}
-use Rattle.thread_steady.specs.Steady.{IsSteadyServedCode}
-use Rattle.routine_plans.specs.Plans.{IsRoutine}
+use Rattle.fsm_datapath.specs.Runs.{ServesCode}
+use Rattle.fsm_datapath.specs.Leaf.{IsLeafOfServedCode}
+use Rattle.fsm_datapath.specs.Routine.{IsRoutineOfServedCode}
+use Rattle.fsm_datapath.specs.Steady.{IsSteadyServedCode}
+use Rattle.program_parts.specs.Plans.{IsRoutine}
 use Rattle.thread_numbers.specs.Numbers.{has_idle, name_if, module_name, function_module}
 use Rattle.thread_numbers.proofs.Numbers.{function_there}
-use Rattle.program_cores.specs.Cores.{AreCoresOf}
-use Rattle.program_cores.proofs.Globals.{named}
+use Rattle.program_parts.specs.Cores.{AreCoresOf}
+use Rattle.program_parts.proofs.Globals.{named}
 use Rattle.program_parts.specs.Parts.{no_code, code_at, IsBody, AreBodies}
 use Rattle.program_plans.specs.declared.PlannedFunction.{PlannedFunction}
 use Rattle.program_plans.specs.Plans.{ArePlanned, routine_of, PlannedAreRoutines}

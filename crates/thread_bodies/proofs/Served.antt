@@ -30,14 +30,14 @@ use Rattle.code_following.specs.Typed.{types_of, IsTypedValue, IsTypedNumber, Is
 use Rattle.right_plan.specs.Right.{IsRight}
 use Rattle.right_plan.proofs.Stages.{right_plans_are_there}
 use Rattle.block_refine.specs.Routines.{RoutineCode}
-use Rattle.routine_plans.specs.Plans.{IsRoutine}
+use Rattle.program_parts.specs.Plans.{IsRoutine}
 use Rattle.bank_partition.specs.declared.banks.Spread.{Spread}
 use Rattle.placed_cores.specs.declared.wanted.Wanted.{Wanted}
-use Rattle.net_cycle.specs.Built.{part_of}
-use Rattle.thread_asks.specs.Fields.{IsTypedActOperand}
-use Rattle.thread_states.specs.Acts.{IsTypedArgument}
+use Rattle.program_parts.specs.Built.{part_of}
+use Rattle.thread_layout.specs.Fields.{IsTypedActOperand}
+use Rattle.thread_layout.specs.Acts.{IsTypedArgument}
 use Rattle.thread_layout.specs.Thread.{IsPrintable, IsServed}
-use Rattle.program_cores.specs.Cores.{AreCoresOf}
+use Rattle.program_parts.specs.Cores.{AreCoresOf}
 use Rattle.thread_bodies.specs.Bodies.{served_by, shape_of, CodesAreServed}
 use Rattle.thread_bodies.proofs.Spreads.{right_spreads}
 

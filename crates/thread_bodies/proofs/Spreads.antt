@@ -13,7 +13,7 @@ use Rattle.thread_promise.specs.Globals.{bank_total}
 use Rattle.thread_layout.specs.Thread.{AreRightSpreads}
 use Rattle.bank_memory.specs.Partition.{globals_of, ArePartitioned}
 use Rattle.bank_memory.proofs.Banks.{same_global}
-use Rattle.program_cores.proofs.Globals.{power_at, first_at, as_many, long_at, from, few_elements, total_few, within, all_there}
+use Rattle.program_parts.proofs.Globals.{power_at, first_at, as_many, long_at, from, few_elements, total_few, within, all_there}
 
 module _ (P : Program) (counts : List ℕ) (resolved : IsResolved P) (limits : first_passed P ≡ None) (parted : Banks) (is : IsPartition P counts parted)
     (are : AreBanks parted.spreads.items (shapes parted)) where

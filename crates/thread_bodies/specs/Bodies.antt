@@ -14,12 +14,12 @@ use Rattle.thread_slots.specs.declared.shape.Served.{Served}
 use Rattle.thread_slots.specs.declared.shape.Shape.{Shape}
 use Rattle.thread_layout.specs.Thread.{inputs_of, places_of, IsServed}
 use Rattle.thread_layout.specs.Leaf.{leaf_of}
-use Rattle.thread_runs.specs.Runs.{ServesCode}
-use Rattle.thread_sound.specs.Leaf.{IsLeafOfServedCode}
-use Rattle.thread_sound.specs.Routine.{IsRoutineOfServedCode}
-use Rattle.thread_steady.specs.Steady.{IsSteadyServedCode}
-use Rattle.routine_plans.specs.Plans.{IsRoutine}
-use Rattle.program_cores.specs.Cores.{AreCoresOf}
+use Rattle.fsm_datapath.specs.Runs.{ServesCode}
+use Rattle.fsm_datapath.specs.Leaf.{IsLeafOfServedCode}
+use Rattle.fsm_datapath.specs.Routine.{IsRoutineOfServedCode}
+use Rattle.fsm_datapath.specs.Steady.{IsSteadyServedCode}
+use Rattle.program_parts.specs.Plans.{IsRoutine}
+use Rattle.program_parts.specs.Cores.{AreCoresOf}
 use Rattle.program_parts.specs.Parts.{ThreadBody, core_count, IsBody}
 
 -- the cores that acts ask

@@ -8,7 +8,7 @@ ghost use Rattle.c_program.specs.Resolved.{IsResolved};
 ghost use Rattle.c_program.specs.Weight.{thread_functions};
 ghost use Rattle.verilog_tree.specs.Spelling.{all_pass, is_name_byte};
 ghost use Rattle.bank_memory.specs.Partition.{globals_of};
-ghost use Rattle.program_cores.specs.Cores.{AreCoresOf};
+ghost use Rattle.program_parts.specs.Cores.{AreCoresOf};
 ghost use Rattle.program_parts.specs.Parts.{AreBodies, no_code};
 ghost use Rattle.program_plans.specs.Plans.{ArePlanned, routine_of};
 ghost use Rattle.thread_bodies.specs.Bodies.{IsLaid, served_by, shape_of};

@@ -19,3 +19,7 @@ pub mod Shown
 pub mod Sight
 mod Slotting
 pub mod Tellings
+pub use Rattle.thread_requests.proofs.Opening
+pub use Rattle.thread_requests.proofs.Asking
+pub use Rattle.thread_requests.proofs.Spreading
+pub use Rattle.thread_states.proofs.Acting

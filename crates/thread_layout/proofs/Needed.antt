@@ -37,10 +37,10 @@ use Rattle.thread_slots.specs.Bits.{HasBit, HaveBits}
 use Rattle.thread_layout.specs.Modules.{IsModule}
 use Rattle.thread_promise.specs.Moves.{meeting}
 use Rattle.thread_slots.specs.Numbers.{is_wait}
-use Rattle.thread_needs.specs.Needing.{takes_word, takes_at, needs_in, meets_at, needs_at, IsInPlan, IsNeedOfFirst}
+use Rattle.thread_requests.specs.Needing.{takes_word, takes_at, needs_in, meets_at, needs_at, IsInPlan, IsNeedOfFirst}
 use Rattle.thread_slots.specs.Idle.{is_idle}
 use Rattle.thread_layout.specs.Thread.{inputs_of, places_of, ports_of, IsServed}
-use Rattle.thread_needs.proofs.Needs.{idle_needs}
+use Rattle.thread_requests.proofs.Needs.{idle_needs}
 use Rattle.thread_layout.proofs.Opened.{wired, earlier_wide, wants_count, want_wide, ask_wide, bit_told}
 use Rattle.thread_requests.specs.Early.{wants_of}
 use Rattle.block_ir.specs.Asked.{Service, Mutexes, Barriers, Ids, Prints}

@@ -27,7 +27,7 @@ use Rattle.thread_requests.specs.declared.early.Early.{Early}
 use Rattle.thread_asks.specs.Asking.{AsksAt}
 use Rattle.thread_requests.specs.Early.{with_banks, AsksGlobals, LaysEarly}
 use Rattle.thread_layout.specs.Modules.{worded}
-use Rattle.thread_needs.specs.Needing.{NeedsMore, FitStages, IsNeedOfFirst}
+use Rattle.thread_requests.specs.Needing.{NeedsMore, FitStages, IsNeedOfFirst}
 use Rattle.thread_slots.specs.Slots.{LaysSlot, KnowsStage}
 use Rattle.thread_asks.specs.Fields.{SeesVariables}
 use Rattle.thread_slots.specs.Wired.{AreSlots}

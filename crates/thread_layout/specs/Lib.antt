@@ -4,3 +4,13 @@ pub mod Modules
 pub mod Parts
 pub mod Telling
 pub mod Thread
+pub use Rattle.thread_requests.specs.Early
+pub use Rattle.thread_requests.specs.Outputs
+pub use Rattle.thread_requests.specs.declared.outputs.Row
+pub use Rattle.thread_asks.specs.Asking
+pub use Rattle.thread_states.specs.Actions
+pub use Rattle.thread_states.specs.Control
+pub use Rattle.thread_states.specs.Wired
+pub use Rattle.thread_states.specs.Acts
+pub use Rattle.thread_asks.specs.Fields
+pub use Rattle.thread_states.specs.Stages

@@ -15,7 +15,7 @@ use Rattle.netlist.specs.declared.netlist.Signal.{Signal}
 use Rattle.netlist.specs.declared.netlist.Module.{Module}
 use Rattle.verilog_meaning.specs.Readings.{Reading, width}
 use Rattle.circuit.specs.Modules.{Obeys}
-use Rattle.thread_promise.specs.Moves.{meeting}
+use Rattle.block_datapath.specs.Moves.{meeting}
 use Rattle.operator_wires.specs.Gives.{Grows}
 use Rattle.operator_wires.specs.Built.{Base, IsEarlier, Adds}
 use Rattle.planned_block.specs.Advance.{any_below}

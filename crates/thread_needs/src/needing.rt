@@ -5,7 +5,7 @@ ghost use Rattle.block_ir.specs.declared.code.Stage.TheVariants as taken;
 ghost use Rattle.block_ir.specs.declared.plan.StagePlan.TheVariants as stage_plan;
 ghost use Rattle.block_ir.specs.declared.plan.StagePlan.{StagePlan as PlanOfStage};
 ghost use Rattle.thread_needs.specs.Needing.{NeedsMore, HasStates, IsBehind, AreTaken, IsNeedOf, IsNeedOfFirst, FitsStage, FitStages, takes_word, IsThere, IsNumbered, IsTaken};
-ghost use Rattle.thread_promise.specs.Moves.{meeting};
+ghost use Rattle.block_datapath.specs.Moves.{meeting};
 
 use block_datapath::operations::start_of;
 use block_datapath::registers::Registers;

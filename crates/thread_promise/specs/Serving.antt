@@ -3,7 +3,7 @@
 use Rattle.std.specs.Prelude.{◌≡◌, ◌≢◌, ℕ, suc, ◌+◌, ◌<◌, ◌≤◌, Bool, true, false, List, length, ℤ, Option, Some, None, slice_get, nat_eq}
 use Rattle.hls_ints.specs.Residues.{residue_of, bit_of}
 use Rattle.hls_ints.specs.Types.{IntegerType, HasType, width_of}
-use Rattle.interleaving.specs.Memory.{Memory}
+use Rattle.right_plan.specs.Memory.{Memory}
 use Rattle.bank_partition.specs.declared.banks.Spread.{Spread}
 use Rattle.block_ir.specs.declared.block.Block.{Block}
 use Rattle.block_ir.specs.declared.code.Act.{Act}
@@ -14,11 +14,11 @@ use Rattle.block_ir.specs.declared.code.ThreadCode.{ThreadCode}
 use Rattle.block_ir.specs.declared.plan.BlockPlan.{BlockPlan}
 use Rattle.block_ir.specs.declared.plan.Planned.{Planned}
 use Rattle.block_ir.specs.Asked.{act_value, Asked, Numbers, barrier_core, ids_core, printer_core}
-use Rattle.planned_block.specs.Slot.{Slot}
-use Rattle.planned_block.specs.Advance.{is_ready, advance}
-use Rattle.planned_view.specs.View.{planned_view, plan_view}
-use Rattle.netlist.specs.declared.netlist.Module.{Module}
-use Rattle.verilog_meaning.specs.Readings.{Reading, next_reading, initial_reading}
+use Rattle.right_plan.specs.Slot.{Slot}
+use Rattle.right_plan.specs.Advance.{is_ready, advance}
+use Rattle.right_plan.specs.View.{planned_view, plan_view}
+use Rattle.circuit.specs.Module.{Module}
+use Rattle.circuit.specs.Readings.{Reading, next_reading, initial_reading}
 use Rattle.circuit.specs.Modules.{Obeys, Agree}
 use Rattle.thread_promise.specs.Slots.{Places, ShowsData, ShowsInBlock}
 use Rattle.thread_promise.specs.Globals.{bank_total, bank_of, place_now, bank_now, written_now, IsOpen}

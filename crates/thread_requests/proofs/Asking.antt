@@ -14,8 +14,8 @@ use Rattle.operator_wires.specs.Built.{Base, IsEarlier}
 use Rattle.operator_wires.proofs.Giving.{grows_then}
 use Rattle.operator_wires.proofs.Building.{stands_after, wires_then}
 use Rattle.operator_wires.proofs.Wording.{at_least, at_most}
-use Rattle.thread_promise.specs.Types.{or_int}
-use Rattle.thread_promise.specs.Globals.{bank_total}
+use Rattle.block_datapath.specs.Types.{or_int}
+use Rattle.block_datapath.specs.Globals.{bank_total}
 use Rattle.block_datapath.specs.declared.registers.Held.{Held}
 use Rattle.block_datapath.specs.declared.registers.Registers.{Registers}
 use Rattle.block_datapath.specs.declared.requests.BankRequests.{BankRequests}

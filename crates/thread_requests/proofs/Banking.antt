@@ -21,7 +21,7 @@ use Rattle.operator_wires.specs.Built.{Base, IsEarlier, AreWires, Adds}
 use Rattle.operator_wires.specs.Added.{IsAdded, ConstantAdds, NumberAdds, ChoiceAdds}
 use Rattle.operator_wires.proofs.Giving.{grows_refl, grows_then, listed}
 use Rattle.operator_wires.proofs.Building.{room_of, longer, stands_after, wires_none, wires_then}
-use Rattle.thread_promise.specs.Globals.{IsSmallPower, bank_total}
+use Rattle.block_datapath.specs.Globals.{IsSmallPower, bank_total}
 use Rattle.block_datapath.specs.declared.registers.Held.{Held}
 use Rattle.block_datapath.specs.declared.requests.BankRequests.{BankRequests}
 use Rattle.block_datapath.specs.Wired.{HasWidthAt, AreChains}

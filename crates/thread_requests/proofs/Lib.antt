@@ -6,3 +6,4 @@ pub mod Banking
 pub mod Spreading
 pub mod Wanted
 pub mod Wiring
+pub use Rattle.thread_needs.proofs.Needs

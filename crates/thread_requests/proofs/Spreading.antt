@@ -6,7 +6,7 @@ use Rattle.std.proofs.lemmas.Bool.{cases_lt}
 use Rattle.std.proofs.lemmas.List.{append-nil, length-replicate}
 use Rattle.lists.proofs.Places.{copies_front}
 use Rattle.bank_partition.specs.declared.banks.Spread.{Spread}
-use Rattle.thread_promise.specs.Globals.{bank_total}
+use Rattle.block_datapath.specs.Globals.{bank_total}
 use Rattle.thread_requests.specs.Early.{copies_of, spread_out}
 
 -- of one more global

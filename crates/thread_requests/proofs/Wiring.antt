@@ -2,7 +2,7 @@
 use Rattle.std.proofs.Common.{◌≡◌, ℕ, ◌+◌, ◌-◌, ◌<◌, ◌^◌, Bool, true, false, List, [], ◌∷◌, length, Some, sym, ap, subst, ◌∙◌, arith, length-append}
 use Rattle.netlist.specs.declared.netlist.Source.{Source}
 use Rattle.netlist.specs.declared.netlist.Signal.{Signal}
-use Rattle.module_sound.specs.Names.{place_of}
+use Rattle.thread_slots.specs.Names.{place_of}
 use Rattle.operator_wires.specs.declared.wires.Role.{Role}
 use Rattle.operator_wires.specs.declared.wires.Role.TheVariants.{Need, Done}
 use Rattle.operator_wires.specs.Gives.{Grows}

@@ -9,7 +9,7 @@ use Rattle.verilog_meaning.specs.Readings.{Reading, width}
 use Rattle.circuit.specs.Modules.{Obeys}
 use Rattle.operator_wires.specs.Gives.{Grows}
 use Rattle.operator_wires.specs.Built.{Base, IsEarlier, AreWires}
-use Rattle.thread_promise.specs.Globals.{IsSmallPower, bank_total}
+use Rattle.block_datapath.specs.Globals.{IsSmallPower, bank_total}
 use Rattle.block_datapath.specs.declared.registers.Held.{Held}
 use Rattle.block_datapath.specs.declared.requests.BankRequests.{BankRequests}
 use Rattle.block_datapath.specs.Wired.{HasWidthAt}

@@ -10,7 +10,7 @@ use Rattle.operator_wires.specs.Gives.{Grows}
 use Rattle.operator_wires.specs.Built.{Base, IsEarlier, AreWires, Adds}
 use Rattle.block_datapath.specs.declared.registers.Held.{Held}
 use Rattle.block_datapath.specs.declared.registers.Registers.{Registers}
-use Rattle.thread_promise.specs.Globals.{bank_total}
+use Rattle.block_datapath.specs.Globals.{bank_total}
 use Rattle.block_datapath.specs.declared.requests.BankRequests.{BankRequests}
 use Rattle.block_datapath.specs.Requests.{HaveWidths}
 use Rattle.block_datapath.specs.Accesses.{HaveBankWidths}

@@ -23,9 +23,9 @@ use Rattle.thread_promise.specs.Serving.{AsksCore}
 use Rattle.thread_slots.specs.declared.shape.Served.{Served}
 use Rattle.thread_slots.specs.declared.shape.Shape.{Shape}
 use Rattle.thread_slots.specs.Services.{number_width, value_count}
-use Rattle.thread_asks.specs.Asking.{call_of, values_of}
-use Rattle.thread_states.specs.Acts.{LeavesFor}
-use Rattle.thread_states.proofs.Acting.{leaves_later}
+use Rattle.thread_layout.specs.Asking.{call_of, values_of}
+use Rattle.thread_layout.specs.Acts.{LeavesFor}
+use Rattle.thread_layout.proofs.Acting.{leaves_later}
 use Rattle.thread_layout.specs.Leaf.{served_ports}
 use Rattle.thread_layout.specs.Modules.{IsModule}
 use Rattle.thread_layout.specs.Thread.{numbers_of, cores_of, is_core, IsServed}

@@ -15,11 +15,11 @@ use Rattle.thread_promise.specs.Globals.{bank_total}
 use Rattle.thread_promise.specs.Promise.{is_run}
 use Rattle.thread_slots.specs.declared.shape.Shape.{Shape}
 use Rattle.thread_slots.specs.Bits.{HaveBits}
-use Rattle.thread_states.specs.Control.{got, unmet, Steers}
+use Rattle.thread_layout.specs.Control.{got, unmet, Steers}
 use Rattle.thread_layout.specs.Modules.{IsModule}
 use Rattle.thread_layout.specs.Thread.{cores_of, is_core, IsServed}
 use Rattle.thread_layout.proofs.Opened.{raised_by, acts_by, all_count, marked_now, mark_bit, open_bits, bit_told}
-use Rattle.thread_requests.proofs.Opening.{joined_front, joined_back}
+use Rattle.thread_layout.proofs.Opening.{joined_front, joined_back}
 use Rattle.thread_layout.proofs.Placed.{from_control, opens_count}
 use Rattle.thread_layout.proofs.Quiet.{bank_bit, service_bit, asks_kind, target, raises}
 use Rattle.thread_layout.proofs.Shown.{Shows}

@@ -34,10 +34,10 @@ use Rattle.block_ir.specs.Asked.{act_value, Service, Prints, Request as Call, re
 use Rattle.thread_promise.specs.Moves.{asked_in, core_asked}
 use Rattle.thread_slots.specs.Requests.{group}
 use Rattle.thread_slots.specs.Services.{service_of, number_width, value_count}
-use Rattle.thread_asks.specs.Fields.{IsTypedActOperand}
-use Rattle.thread_asks.specs.Asking.{call_of, values_of}
+use Rattle.thread_layout.specs.Fields.{IsTypedActOperand}
+use Rattle.thread_layout.specs.Asking.{call_of, values_of}
 use Rattle.thread_slots.specs.Wired.{field_width}
-use Rattle.thread_states.specs.Acts.{LeavesFor}
+use Rattle.thread_layout.specs.Acts.{LeavesFor}
 use Rattle.thread_layout.specs.Modules.{IsModule}
 use Rattle.thread_layout.specs.Thread.{numbers_of, cores_of, inputs_of, is_core, places_of, port_at, done_at, IsPrintable, IsServed}
 use Rattle.thread_runs.proofs.Leaving.{IsTarget, act_leave, act_moved}
@@ -46,7 +46,7 @@ use Rattle.thread_layout.proofs.Cores.{HasKind, kind_there}
 use Rattle.thread_layout.proofs.Placed.{stands_copies, from_inside, from_rest, fields_count, field_stands, done_stands}
 use Rattle.thread_slots.proofs.Putting.{off_stores}
 use Rattle.thread_layout.proofs.Raising.{from_whole}
-use Rattle.thread_states.proofs.Acting.{leaves_later}
+use Rattle.thread_layout.proofs.Acting.{leaves_later}
 use Rattle.thread_layout.proofs.Losing.{found_not_lost, unasked_not_lost}
 use Rattle.thread_layout.proofs.Quiet.{ask_now, target, called}
 use Rattle.thread_layout.proofs.Resting.{agrees_off, left_moves, marks_left}

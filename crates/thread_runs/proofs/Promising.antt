@@ -35,7 +35,7 @@ use Rattle.thread_slots.specs.declared.shape.Shape.{Shape}
 use Rattle.thread_slots.specs.declared.stores.Store.{Store}
 use Rattle.thread_slots.specs.Cells.{store_action}
 use Rattle.thread_layout.specs.Modules.{IsModule}
-use Rattle.thread_states.specs.Stages.{LeavesState}
+use Rattle.thread_layout.specs.Stages.{LeavesState}
 use Rattle.thread_layout.specs.Thread.{inputs_of, places_of, ports_of, IsServed}
 use Rattle.thread_runs.proofs.Cells.{cells, next_arrays}
 use Rattle.thread_layout.proofs.Losing.{block_not_lost}

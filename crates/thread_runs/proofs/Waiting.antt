@@ -29,9 +29,9 @@ use Rattle.thread_slots.specs.declared.shape.Shape.{Shape}
 use Rattle.thread_slots.specs.Bits.{HasBit, HaveBits}
 use Rattle.thread_slots.specs.Cells.{AreOff}
 use Rattle.thread_slots.specs.Links.{ShowSame}
-use Rattle.thread_asks.specs.Asking.{call_of}
-use Rattle.thread_states.specs.Acts.{LeavesFor, SetsOut}
-use Rattle.thread_states.proofs.Acting.{leaves_later}
+use Rattle.thread_layout.specs.Asking.{call_of}
+use Rattle.thread_layout.specs.Acts.{LeavesFor, SetsOut}
+use Rattle.thread_layout.proofs.Acting.{leaves_later}
 use Rattle.thread_layout.specs.Leaf.{served_ports}
 use Rattle.thread_layout.specs.Modules.{IsModule}
 use Rattle.thread_layout.specs.Telling.{heard_place}

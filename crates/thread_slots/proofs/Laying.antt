@@ -10,7 +10,7 @@ use Rattle.block_ir.specs.declared.plan.BlockPlan.{BlockPlan}
 use Rattle.block_ir.specs.declared.plan.StagePlan.{StagePlan}
 use Rattle.block_ir.specs.declared.plan.StagePlan.TheVariants as planned
 use Rattle.block_ir.specs.declared.plan.Planned.{Planned}
-use Rattle.planned_view.specs.View.{register_at}
+use Rattle.block_datapath.specs.View.{register_at}
 use Rattle.netlist.specs.declared.netlist.Signal.{Signal}
 use Rattle.netlist.specs.declared.netlist.Source.{Source}
 use Rattle.netlist.specs.declared.netlist.Source.TheVariants as source
@@ -18,7 +18,7 @@ use Rattle.operator_wires.specs.declared.wires.Role.TheVariants.{Beat}
 use Rattle.operator_wires.specs.Built.{Lays}
 use Rattle.operator_wires.specs.Gives.{Grows, Stands}
 use Rattle.operator_wires.proofs.Giving.{grows_refl, grows_then, listed}
-use Rattle.thread_promise.specs.Types.{value_type}
+use Rattle.block_datapath.specs.Types.{value_type}
 use Rattle.block_datapath.specs.declared.registers.Held.{Held}
 use Rattle.block_datapath.specs.declared.registers.Registers.{Registers}
 use Rattle.std.specs.Prelude.{false, codes, string_bytes}

@@ -6,7 +6,7 @@ use Rattle.block_ir.specs.declared.code.ThreadCode.{ThreadCode}
 use Rattle.netlist.specs.declared.netlist.Module.{Module}
 use Rattle.verilog_meaning.specs.Readings.{Reading}
 use Rattle.planned_block.proofs.Bits.{is_same, same_is, other_is}
-use Rattle.thread_promise.specs.Moves.{meeting}
+use Rattle.block_datapath.specs.Moves.{meeting}
 use Rattle.block_datapath.specs.declared.registers.Registers.{Registers}
 use Rattle.block_datapath.specs.Leave.{HasStage}
 use Rattle.thread_slots.specs.Numbers.{is_wait, numbers}

@@ -24,7 +24,7 @@ use Rattle.operator_wires.proofs.Giving.{grows_refl, grows_then}
 use Rattle.block_datapath.specs.declared.registers.Registers.{Registers}
 use Rattle.block_datapath.specs.declared.states.Moment.{Moment}
 use Rattle.block_datapath.specs.Chains.{IsMoment, TellsState}
-use Rattle.thread_promise.specs.Types.{operand_type}
+use Rattle.block_datapath.specs.Types.{operand_type}
 use Rattle.block_datapath.specs.declared.operands.Given.{Given}
 use Rattle.block_datapath.specs.Seen.{ShowsOperand}
 use Rattle.block_datapath.specs.Operations.{seen_value, IsOutside, Addresses}

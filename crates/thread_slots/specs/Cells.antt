@@ -18,7 +18,7 @@ use Rattle.circuit.specs.Modules.{Obeys}
 use Rattle.operator_wires.specs.declared.words.Word.{Word}
 use Rattle.operator_wires.specs.Gives.{Grows}
 use Rattle.operator_wires.specs.Words.{IsWord}
-use Rattle.thread_promise.specs.Types.{IsOfLength, StoresInto}
+use Rattle.block_datapath.specs.Types.{IsOfLength, StoresInto}
 use Rattle.block_datapath.specs.declared.registers.Registers.{Registers}
 use Rattle.block_datapath.specs.declared.operands.Given.{Given}
 use Rattle.block_datapath.specs.declared.states.Moment.{Moment}

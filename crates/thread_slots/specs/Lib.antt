@@ -11,3 +11,4 @@ pub mod Services
 pub mod Slots
 pub mod Stores
 pub mod Wired
+pub use Rattle.module_sound.specs.Names

@@ -3,7 +3,7 @@ use Rattle.std.specs.Prelude.{ℕ, nat_eq, Bool, true, false, ◌&&◌, ◌||◌
 use Rattle.block_ir.specs.declared.code.Act.TheVariants.{BarrierWait}
 use Rattle.block_ir.specs.declared.code.Stage.{Stage}
 use Rattle.block_ir.specs.declared.code.Stage.TheVariants as stage
-use Rattle.thread_promise.specs.Moves.{meeting}
+use Rattle.block_datapath.specs.Moves.{meeting}
 
 -- a stage that the thread leaves for a meeting
 abbrev pub is_wait : Stage → Bool

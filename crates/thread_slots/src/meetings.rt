@@ -1,7 +1,7 @@
 // The numbers of meetings.
 
 ghost use Rattle.std.specs.Prelude.{◌≡◌, length, IfOk};
-ghost use Rattle.thread_promise.specs.Moves.{meeting};
+ghost use Rattle.block_datapath.specs.Moves.{meeting};
 
 use block_ir::code::ThreadCode;
 use std::alloc::AllocError;

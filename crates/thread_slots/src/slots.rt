@@ -2,7 +2,7 @@
 
 ghost use Rattle.std.specs.Prelude.{◌≡◌, ℕ, ◌+◌, ◌^◌, ◌<◌, ◌≤◌, false, [], map, length, slice_get, string_bytes, Some, IfOk, if◌then◌else◌};
 ghost use Rattle.hls_ints.specs.Types.{width_of as type_width};
-ghost use Rattle.planned_view.specs.View.{register_at};
+ghost use Rattle.block_datapath.specs.View.{register_at};
 ghost use Rattle.block_ir.specs.declared.plan.BlockPlan.{BlockPlan};
 ghost use Rattle.block_ir.specs.declared.code.Stage.TheVariants as taken;
 ghost use Rattle.block_ir.specs.declared.plan.StagePlan.TheVariants as planned;

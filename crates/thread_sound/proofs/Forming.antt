@@ -42,15 +42,15 @@ use Rattle.thread_slots.specs.declared.shape.Shape.{Shape}
 use Rattle.thread_slots.specs.Bits.{AreBitsOf}
 use Rattle.thread_slots.specs.Slots.{StandsAt}
 use Rattle.core_ports.specs.Ports.{asks_of, thread_outputs}
-use Rattle.thread_requests.specs.declared.outputs.Row.{Row}
-use Rattle.thread_requests.specs.Outputs.{CopiesAt, rows_at, fields_from}
+use Rattle.thread_layout.specs.Row.{Row}
+use Rattle.thread_layout.specs.Outputs.{CopiesAt, rows_at, fields_from}
 use Rattle.thread_slots.specs.Wired.{field_width, IsNoMemory, IsInnerInput, IsSlotRegister}
-use Rattle.thread_states.specs.Actions.{set_action, sets_from}
+use Rattle.thread_layout.specs.Actions.{set_action, sets_from}
 use Rattle.thread_slots.specs.Cells.{store_action}
 use Rattle.thread_layout.specs.Modules.{marks_of, IsWiredInside, IsModule}
 use Rattle.thread_layout.specs.Thread.{cores_of, inputs_of, core_ports, first_output, port_at, need_at, done_at, IsServed}
 use Rattle.thread_layout.specs.Memories.{memories_from, base_behind, control_base}
-use Rattle.thread_states.specs.Wired.{IsSteered, WiresControl}
+use Rattle.thread_layout.specs.Wired.{IsSteered, WiresControl}
 use Rattle.thread_sound.specs.Leaf.{IsChecked}
 use Rattle.thread_slots.proofs.Laying.{stands_later}
 use Rattle.thread_slots.proofs.Wiring.{name_tells, name_differs}

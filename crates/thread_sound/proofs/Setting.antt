@@ -21,7 +21,7 @@ use Rattle.thread_layout.specs.Memories.{control_base}
 use Rattle.thread_slots.specs.declared.stores.Store.{Store}
 use Rattle.thread_slots.specs.Stores.{IsRightStore}
 use Rattle.thread_slots.specs.Cells.{store_action}
-use Rattle.thread_states.specs.Actions.{set_action, sets_of, sets_from}
+use Rattle.thread_layout.specs.Actions.{set_action, sets_of, sets_from}
 use Rattle.thread_layout.proofs.Remembering.{each_append}
 
 pub stands_register : (m : Module) (place w n : ℕ) → StandsAt m.signals place w (Register n) → HasRegister m place w

@@ -24,8 +24,8 @@ use Rattle.thread_slots.specs.Services.{news_widths}
 use Rattle.thread_sound.proofs.Telling.{told_all}
 use Rattle.thread_slots.specs.declared.shape.Shape.{Shape}
 use Rattle.thread_slots.specs.Slots.{StandsAt}
-use Rattle.thread_requests.specs.Early.{spread_out}
-use Rattle.thread_requests.specs.Outputs.{joined}
+use Rattle.thread_layout.specs.Early.{spread_out}
+use Rattle.thread_layout.specs.Outputs.{joined}
 use Rattle.thread_layout.specs.Leaf.{leaf_of}
 use Rattle.thread_layout.specs.Modules.{IsModule}
 use Rattle.thread_layout.specs.Thread.{cores_of, inputs_of, core_ports, first_output, need_at, done_at, IsServed}

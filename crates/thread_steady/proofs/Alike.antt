@@ -20,7 +20,7 @@ use Rattle.operator_wires.proofs.Giving.{listed}
 use Rattle.operator_wires.proofs.Building.{within}
 use Rattle.block_datapath.specs.declared.registers.Held.{Held}
 use Rattle.thread_slots.specs.declared.stores.Store.{Store as Put}
-use Rattle.thread_states.specs.Actions.{set_action, sets_of, sets_from}
+use Rattle.thread_layout.specs.Actions.{set_action, sets_of, sets_from}
 use Rattle.thread_slots.specs.Cells.{store_action}
 use Rattle.thread_layout.proofs.Remembering.{each_append}
 

@@ -37,13 +37,13 @@ use Rattle.thread_promise.specs.Promise.{IsInside, is_run}
 use Rattle.block_datapath.specs.declared.registers.Held.{Held}
 use Rattle.block_datapath.specs.Requests.{Asked}
 use Rattle.thread_slots.specs.declared.shape.Shape.{Shape}
-use Rattle.thread_states.specs.Actions.{set_action, sets_from}
+use Rattle.thread_layout.specs.Actions.{set_action, sets_from}
 use Rattle.thread_slots.specs.Cells.{store_action}
 use Rattle.block_ir.specs.Asked.{Service}
 use Rattle.thread_slots.specs.Requests.{group}
-use Rattle.thread_asks.specs.Asking.{is_asked, AskSame}
+use Rattle.thread_layout.specs.Asking.{is_asked, AskSame}
 use Rattle.thread_slots.specs.Bits.{HasBit}
-use Rattle.thread_states.specs.Control.{got, unmet, is_left}
+use Rattle.thread_layout.specs.Control.{got, unmet, is_left}
 use Rattle.thread_layout.specs.Leaf.{leaf_of}
 use Rattle.thread_layout.specs.Memories.{base_behind}
 use Rattle.thread_layout.specs.Modules.{IsModule, IsWiredInside}
@@ -59,10 +59,10 @@ use Rattle.thread_layout.proofs.Moving.{asker}
 use Rattle.thread_layout.proofs.Needed.{asked_now, asked_bank, asked_kind, service_off, unneeded_asks, idle_needs_so, meeting_needs, end_needs, return_needs, closed_needs, some_below, none_below}
 use Rattle.thread_layout.proofs.Opened.{raised_by, acts_by, no_service, all_count, marked_now, mark_bit, open_bits, want_wide, wired, start_many, start_less, bit_told}
 use Rattle.thread_layout.proofs.Cores.{none_open}
-use Rattle.thread_requests.proofs.Opening.{joined_front, joined_back}
+use Rattle.thread_layout.proofs.Opening.{joined_front, joined_back}
 use Rattle.thread_slots.specs.declared.requests.Request.{Request}
-use Rattle.thread_requests.specs.Early.{with_banks}
-use Rattle.thread_requests.proofs.Asking.{group_kept}
+use Rattle.thread_layout.specs.Early.{with_banks}
+use Rattle.thread_layout.proofs.Asking.{group_kept}
 use Rattle.thread_layout.proofs.Placed.{wide_bit, stands_wide, stands_copies, stands_agrees, from_control}
 use Rattle.thread_layout.proofs.Placed.{from_inside, from_rest, from_heard, from_words_heard, from_early, from_slot, from_registers, opens_count}
 use Rattle.thread_layout.proofs.Placed.{ask_copied, need_stands, done_stands, before_need, beat_at, beat_stands, inputs_long}

@@ -37,7 +37,7 @@ use Rattle.operator_wires.specs.Built.{IsEarlier}
 use Rattle.operator_wires.specs.Added.{NumberAdds}
 use Rattle.operator_wires.proofs.Giving.{grows_refl, grows_then}
 use Rattle.operator_wires.proofs.Building.{stands_after, wires_none, wires_then}
-use Rattle.thread_promise.specs.Types.{value_type, IsTypedSource, IsTypedOperand}
+use Rattle.block_datapath.specs.Types.{value_type, IsTypedSource, IsTypedOperand}
 use Rattle.block_datapath.specs.declared.registers.Registers.{Registers}
 use Rattle.block_datapath.specs.declared.states.Moment.{Moment}
 use Rattle.block_datapath.specs.Seen.{IsKept}

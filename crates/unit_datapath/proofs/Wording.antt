@@ -16,7 +16,7 @@ use Rattle.operator_wires.specs.Added.{ResizedAdds, IsConstant, IsConverted}
 use Rattle.operator_wires.proofs.Giving.{grows_then}
 use Rattle.operator_wires.proofs.Building.{wires_then}
 use Rattle.operator_wires.proofs.Wording.{at_least, at_most, word_of, word_after}
-use Rattle.thread_promise.specs.Types.{source_type, operand_type}
+use Rattle.block_datapath.specs.Types.{source_type, operand_type}
 use Rattle.block_datapath.specs.declared.registers.Held.{Held}
 use Rattle.block_datapath.specs.declared.registers.Registers.{Registers}
 use Rattle.block_datapath.specs.Seen.{kept_register, ShowsVariable, Converts}

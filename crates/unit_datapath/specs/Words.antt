@@ -16,7 +16,7 @@ use Rattle.operator_wires.specs.declared.words.Word.{Word}
 use Rattle.operator_wires.specs.Gives.{Grows}
 use Rattle.operator_wires.specs.Words.{IsWord}
 use Rattle.operator_wires.specs.Built.{Base, IsEarlier, AddsWord}
-use Rattle.thread_promise.specs.Types.{source_type}
+use Rattle.block_datapath.specs.Types.{source_type}
 use Rattle.block_datapath.specs.declared.registers.Held.{Held}
 use Rattle.block_datapath.specs.declared.registers.Registers.{Registers}
 use Rattle.block_datapath.specs.Seen.{IsVariable, IsKept}

@@ -3,10 +3,10 @@ use Rattle.std.specs.Prelude.{ℕ, zero, suc, ◌+◌, ◌-◌, ◌*◌, ◌/◌
 use Rattle.std.specs.Fmt.{signed_decimal}
 use Rattle.hls_ints.specs.Words.{signed_word, word_sum, word_difference, word_product, word_quotient, word_remainder, signed_quotient, signed_remainder, word_less, signed_less, word_equal}
 use Rattle.hls_ints.specs.Words.{word_complement, word_and, word_exclusive_or, word_inclusive_or, left_shift, right_shift, arithmetic_shift}
-use Rattle.verilog_tree.specs.declared.tree.BinaryOperator.{BinaryOperator}
-use Rattle.verilog_tree.specs.declared.tree.BinaryOperator.TheVariants.{Add, Subtract, Multiply, And, Or, Xor, Equal, Less, ShiftLeft, ShiftRight}
-use Rattle.verilog_tree.specs.declared.tree.DivisionOperator.{DivisionOperator}
-use Rattle.verilog_tree.specs.declared.tree.DivisionOperator.TheVariants.{Quotient, Remainder}
+use Rattle.netlist.specs.BinaryOperator.{BinaryOperator}
+use Rattle.netlist.specs.BinaryOperator.TheVariants.{Add, Subtract, Multiply, And, Or, Xor, Equal, Less, ShiftLeft, ShiftRight}
+use Rattle.netlist.specs.DivisionOperator.{DivisionOperator}
+use Rattle.netlist.specs.DivisionOperator.TheVariants.{Quotient, Remainder}
 use Rattle.netlist.specs.declared.netlist.Value.{Value}
 use Rattle.netlist.specs.declared.netlist.Value.TheVariants.{Copy, Constant, BitwiseNot, Binary, SignedLess, ArithmeticShiftRight, Conditional, Division, SignedDivision, MemoryRead, Select}
 use Rattle.netlist.specs.declared.netlist.Value.TheVariants.{Concatenation, Replication}

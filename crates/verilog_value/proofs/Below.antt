@@ -14,8 +14,8 @@ use Rattle.netlist.specs.declared.netlist.Value.TheVariants as right
 use Rattle.netlist.specs.declared.netlist.Memory.{Memory}
 use Rattle.netlist.specs.declared.netlist.Module.{Module}
 use Rattle.netlist.specs.Laid.{memories_read}
-use Rattle.verilog_meaning.specs.Readings.{Reading, memory_words, or_zero, signal_width, width, value}
-use Rattle.verilog_meaning.specs.Threads.{operands, IsOneOf}
+use Rattle.circuit.specs.Readings.{Reading, memory_words, or_zero, signal_width, width, value}
+use Rattle.circuit.specs.Threads.{operands, IsOneOf}
 use Rattle.circuit.specs.Modules.{FitsValue}
 use Rattle.circuit.proofs.Tables.{fits_among, operand_of}
 use Rattle.circuit.proofs.Widths.{Fitting, value_below}

@@ -3,3 +3,4 @@ pub mod Words
 pub mod Declared
 pub mod Condition
 pub mod Below
+pub use Rattle.circuit.proofs.Operands

@@ -6,7 +6,7 @@ use Rattle.std.proofs.lemmas.List.{drop_all}
 use Rattle.hls_ints.specs.Words.{word}
 use Rattle.netlist.specs.declared.netlist.Module.{Module}
 use Rattle.netlist.specs.NetlistOf.{Name}
-use Rattle.verilog_meaning.specs.Readings.{Reading, joined, repeated, width}
+use Rattle.circuit.specs.Readings.{Reading, joined, repeated, width}
 use Rattle.verilog_value.specs.declared.valuation.Valuation.{Valuation}
 use Rattle.verilog_value.specs.Value.{EachOf, IsWide, IsWideName, module_of, places, reading_of, standing_for, width_at}
 use Rattle.verilog_value.proofs.Places.{rest_at}

@@ -9,8 +9,8 @@ use Rattle.netlist.specs.declared.netlist.Memory.{Memory}
 use Rattle.netlist.specs.declared.netlist.Module.{Module}
 use Rattle.netlist.specs.NetlistOf.{Name, place}
 use Rattle.netlist.specs.NetlistOf as text
-use Rattle.verilog_meaning.specs.Readings.{Reading, memory_words, or_zero, width, value}
-use Rattle.verilog_meaning.specs.Threads.{operands}
+use Rattle.circuit.specs.Readings.{Reading, memory_words, or_zero, width, value}
+use Rattle.circuit.specs.Threads.{operands}
 use Rattle.verilog_value.specs.declared.valuation.SignalValue.{SignalValue}
 use Rattle.verilog_value.specs.declared.valuation.MemoryValue.{MemoryValue}
 use Rattle.verilog_value.specs.declared.valuation.Valuation.{Valuation}

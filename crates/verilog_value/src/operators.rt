@@ -2,7 +2,7 @@
 
 ghost use Rattle.std.specs.Prelude.{◌≡◌, ◌+◌, ◌-◌, ◌*◌, ◌/◌, ◌%◌, ◌^◌, ◌≤◌, ◌<◌};
 ghost use Rattle.hls_ints.specs.Words.{word};
-ghost use Rattle.verilog_meaning.specs.Readings.{binary as binary_word, divided as divided_word, signed_divided as signed_divided_word, repeated as repeated_word};
+ghost use Rattle.circuit.specs.Readings.{binary as binary_word, divided as divided_word, signed_divided as signed_divided_word, repeated as repeated_word};
 
 use hls_ints::{
     v_add, v_and, v_div, v_equal, v_less, v_mul, v_or, v_rem, v_sdiv, v_shl, v_shr, v_srem, v_sub,

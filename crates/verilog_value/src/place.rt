@@ -3,7 +3,7 @@
 ghost use Rattle.std.specs.Prelude.{◌≡◌, length, slice_get, if◌then◌else◌, nat_lt};
 ghost use Rattle.std.specs.Str.{bytes_eq};
 ghost use Rattle.netlist.specs.NetlistOf.{place};
-ghost use Rattle.verilog_meaning.specs.Readings.{width, or_zero};
+ghost use Rattle.circuit.specs.Readings.{width, or_zero};
 ghost use Rattle.verilog_value.specs.Value.{IsWide, module_of, memory_names, number_at, signal_names, word_read};
 
 use crate::valuation::{MemoryValue, SignalValue, Valuation};

@@ -2,7 +2,7 @@
 
 ghost use Rattle.std.specs.Prelude.{◌≡◌, ◌≤◌, ◌+◌, ◌*◌, ◌^◌};
 ghost use Rattle.hls_ints.specs.Words.{word as to_word};
-ghost use Rattle.verilog_meaning.specs.Readings.{joined as joined_parts};
+ghost use Rattle.circuit.specs.Readings.{joined as joined_parts};
 ghost use Rattle.verilog_value.specs.Value.{EachOf, IsNarrow, IsWideName, module_of, places, reading_of, standing_for, value_of, width_at};
 ghost use Rattle.verilog_value.specs.Condition.{IsRightSide};
 

@@ -1,6 +1,6 @@
 use Rattle.std.proofs.Common.{arith, ap, ◌∙◌, sym, subst}
 use Rattle.top_wiring.specs.Top.{IsSmall}
-use Rattle.net_tables.specs.Tables.{layout_of, modules_of}
+use Rattle.placed_cores.specs.Tables.{layout_of, modules_of}
 use Rattle.placed_cores.specs.Laying as laying
 use Rattle.table_text.specs.Written.{table_of}
 use Rattle.table_text.proofs.Tables.{few_banks, layout_small, written_as}

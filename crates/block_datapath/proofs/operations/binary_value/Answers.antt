@@ -4,7 +4,7 @@ use Rattle.block_datapath.specs.Seen.{ShowsOperand}
 use Rattle.block_datapath.specs.Wired.{IsSourced}
 use Rattle.block_datapath.proofs.Working.{binary_given}
 use Rattle.block_datapath.proofs.Wiring.{binary_wired}
-use Rattle.operator_words.specs.Shown.{binary_result}
+use Rattle.operator_wires.specs.Shown.{binary_result}
 use Rattle.thread_promise.specs.Types.{operand_type}
 use Rattle.block_datapath.proofs.operations.binary_value.Goals as goal
 

@@ -3,7 +3,7 @@ use Rattle.block_ir.specs.declared.block.Operation.TheVariants.{Unary, Binary, R
 use Rattle.thread_promise.specs.Types.{value_type, or_int, element_type}
 use Rattle.block_datapath.proofs.Working.{of_start, of_shared, of_end, of_read, zero_given}
 use Rattle.block_datapath.proofs.Wiring.{operation_wired, read_wired, constant_wired}
-use Rattle.operator_words.specs.Shown.{truth_type, unary_result, binary_result}
+use Rattle.operator_wires.specs.Shown.{truth_type, unary_result, binary_result}
 use Rattle.block_datapath.proofs.operations.operation_word.Goals as goal
 
 pub returns-in-Unary-clause-shows : goal.returns-in-Unary-clause-shows

@@ -1,5 +1,5 @@
 use Rattle.std.proofs.Common.{List, Option, ap, sym, ◌∙◌}
-use Rattle.planned_view.specs.View.{register_at}
+use Rattle.thread_promise.specs.View.{register_at}
 use Rattle.std.proofs.Common.{ℕ}
 use Rattle.block_datapath.proofs.Working.{register_got, register_none}
 use Rattle.block_datapath.proofs.operations.register_of.Goals as goal

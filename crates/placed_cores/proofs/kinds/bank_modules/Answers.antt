@@ -1,7 +1,7 @@
 use Rattle.std.proofs.Common.{◌≡◌, ◌+◌, List, Some, slice_get, sym, ap, ◌∙◌, subst}
 use Rattle.std.proofs.lemmas.Option.{slice_get-get_or}
 use Rattle.netlist.specs.declared.netlist.Module.{Module}
-use Rattle.core_family.specs.Family.{Bank, IsCoreModule}
+use Rattle.net_tables.specs.Family.{Bank, IsCoreModule}
 use Rattle.placed_cores.specs.Kinds.{AreBankModules, IsWantedBank}
 use Rattle.placed_cores.proofs.Modules.{wanted_at, no_modules, one_module_more}
 use Rattle.placed_cores.proofs.kinds.bank_modules.Goals as goal

@@ -2,7 +2,7 @@ use Rattle.std.proofs.Common.{ap, ◌∙◌, subst}
 use Rattle.std.specs.Prelude.{not}
 use Rattle.std.specs.List.{list_any}
 use Rattle.mutex_cores.specs.declared.mutex.Shape.{Shape}
-use Rattle.core_family.specs.Family.{Mutex, IsCoreModule}
+use Rattle.net_tables.specs.Family.{Mutex, IsCoreModule}
 use Rattle.placed_cores.specs.Kinds.{IsWhereWanted, unset_mutex, free_mutex}
 use Rattle.placed_cores.proofs.kinds.mutex_modules.Goals as goal
 

@@ -3,7 +3,7 @@ use Rattle.operator_wires.proofs.Making.{of_ok}
 use Rattle.block_ir.specs.declared.code.Act.{Act}
 use Rattle.block_ir.specs.declared.code.Stage.TheVariants as stage
 use Rattle.block_ir.specs.declared.plan.StagePlan.{StagePlan}
-use Rattle.thread_promise.specs.Moves.{meeting}
+use Rattle.block_datapath.specs.Moves.{meeting}
 use Rattle.thread_slots.specs.Numbers.{is_wait}
 use Rattle.thread_needs.specs.Needing.{NeedsMore, FitsStage, IsNeedOf, IsNumbered, IsThere}
 use Rattle.thread_needs.proofs.Needs.{needs_meeting, needs_going, other_act}

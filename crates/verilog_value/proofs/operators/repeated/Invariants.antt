@@ -1,6 +1,6 @@
 use Rattle.std.proofs.Common.{◌≡◌}
 use Rattle.hls_ints.specs.Words.{word}
-use Rattle.verilog_meaning.specs.Readings.{repeated}
+use Rattle.circuit.specs.Readings.{repeated}
 use Rattle.verilog_value.proofs.operators.repeated.Given as goal
 
 abbrev pub invariant-loop-copy : goal.invariant-loop-copy

@@ -1,6 +1,6 @@
 use Rattle.std.proofs.Common.{arith}
 use Rattle.hls_ints.specs.Words.{word}
-use Rattle.verilog_meaning.specs.Readings.{joined}
+use Rattle.circuit.specs.Readings.{joined}
 use Rattle.verilog_value.specs.Value.{IsWideName, module_of, places, reading_of}
 use Rattle.verilog_value.proofs.Words.{joined_next, joined_end, each_next}
 use Rattle.verilog_value.proofs.value.joined.Goals as goal

@@ -1,6 +1,6 @@
 use Rattle.std.proofs.Common.{◌≡◌, ◌<◌, ◌^◌, drop}
 use Rattle.hls_ints.specs.Words.{word}
-use Rattle.verilog_meaning.specs.Readings.{joined}
+use Rattle.circuit.specs.Readings.{joined}
 use Rattle.verilog_value.specs.Value.{EachOf, IsWideName, module_of, places, reading_of}
 use Rattle.verilog_value.proofs.value.joined.Given as goal
 

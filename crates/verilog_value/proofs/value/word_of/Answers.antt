@@ -1,6 +1,6 @@
 use Rattle.std.proofs.Common.{sym, subst}
 use Rattle.verilog_tree.specs.declared.tree.Expression.{Expression}
-use Rattle.verilog_meaning.specs.Threads.{operands}
+use Rattle.circuit.specs.Threads.{operands}
 use Rattle.verilog_value.specs.Value.{EachOf, IsWide, IsWideName, fused}
 use Rattle.verilog_value.proofs.Words.{wide_parts}
 use Rattle.verilog_value.proofs.value.word_of.Goals as goal

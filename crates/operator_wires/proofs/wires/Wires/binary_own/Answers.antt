@@ -2,7 +2,7 @@ use Rattle.std.proofs.Common.{ap, refl, if◌then◌else◌}
 use Rattle.c_program.specs.declared.tree.BinaryOperator.TheVariants as operator
 use Rattle.verilog_tree.specs.declared.tree.BinaryOperator.TheVariants as gate
 use Rattle.verilog_tree.specs.declared.tree.DivisionOperator.TheVariants.{Quotient, Remainder}
-use Rattle.verilog_meaning.specs.Readings.{width, divided, signed_divided}
+use Rattle.circuit.specs.Readings.{width, divided, signed_divided}
 use Rattle.hls_ints.specs.Words.{word_complement, word_equal, right_shift, arithmetic_shift}
 use Rattle.operator_wires.specs.Numbers.{less_number}
 use Rattle.operator_wires.proofs.Making.{binary_arm, gate_arm, test_arm, less_is, right_less_is, signs_is}

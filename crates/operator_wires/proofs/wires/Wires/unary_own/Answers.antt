@@ -1,6 +1,6 @@
 use Rattle.std.proofs.Common.{ap, refl, true}
 use Rattle.c_program.specs.declared.tree.UnaryOperator.TheVariants.{Minus, Complement, Not}
-use Rattle.verilog_meaning.specs.Readings.{width}
+use Rattle.circuit.specs.Readings.{width}
 use Rattle.hls_ints.specs.Words.{word_difference, word_complement, word_equal}
 use Rattle.operator_wires.proofs.Making.{unary_arm}
 use Rattle.operator_wires.proofs.Working.{unary_arm as adds_arm, plus_kept}

@@ -1,0 +1,1 @@
+pub use Rattle.c_profile.proofs.Stages
