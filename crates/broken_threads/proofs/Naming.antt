@@ -78,7 +78,8 @@ module _ (D : List (List ℕ × ℕ)) where
   elsewhere_is : (s : Scope) (o : Option (ℕ × Function)) → BodyIs D s o → (is_none s.function || not (gives_pointer s.gives)) ≡ true → IsElsewhere o
   elsewhere_is s None h e = tt
   elsewhere_is s (Some body) h e =
-      λ r. both_ways (gives_pointer s.gives) (not-true (gives_pointer s.gives) (either (is_none s.function) (not (gives_pointer s.gives)) e h.some)) (ap gives_pointer h.gives ∙ pointer_back D body.1 r)
+      λ r. both_ways (gives_pointer s.gives) (not-true (gives_pointer s.gives) (either (is_none s.function) (not (gives_pointer s.gives)) e h.some))
+      (ap gives_pointer h.gives ∙ pointer_back D body.1 r)
 
   not_elsewhere : (s : Scope) (o : Option (ℕ × Function)) → BodyIs D s o → (is_none s.function || not (gives_pointer s.gives)) ≡ false → IsElsewhere o → ⊥
   not_elsewhere s None h e out = false≢true (sym (or_parts (is_none s.function) (not (gives_pointer s.gives)) e).0 ∙ ap is_none h)

@@ -81,7 +81,9 @@ module _ (m : Module) (r : Reading) where
   binary_below Less w x y f = bit_below (nat_lt (word (width m x) (r.signal x)) (word (width m x) (r.signal y))) w f.0
   binary_below ShiftLeft w x y f = along x w _ f.0.has (or_zero_below (nat_lt (r.signal y) (width m x)) (width m x) (word (width m x) (r.signal x * 2 ^ r.signal y)) (word_below
       (width m x) (r.signal x * 2 ^ r.signal y)))
-  binary_below ShiftRight w x y f = along x w _ f.0.has (or_zero_below (nat_lt (r.signal y) (width m x)) (width m x) (word (width m x) (r.signal x) / 2 ^ r.signal y) (lt_of_le_of_lt (div-le_self (word (width m x) (r.signal x)) (2 ^ r.signal y)) (word_below (width m x) (r.signal x))))
+  binary_below ShiftRight w x y f =
+      along x w _ f.0.has (or_zero_below (nat_lt (r.signal y) (width m x)) (width m x) (word (width m x) (r.signal x) / 2 ^ r.signal y)
+      (lt_of_le_of_lt (div-le_self (word (width m x) (r.signal x)) (2 ^ r.signal y)) (word_below (width m x) (r.signal x))))
 
   divided_below : (operator : DivisionOperator) (w a b : ℕ) → divided operator w a b < 2 ^ w
   divided_below Quotient w a b = zero_or_below (nat_eq (word w b) 0) w (word w a / word w b) (lt_of_le_of_lt (div-le_self (word w a) (word w b)) (word_below w a))

@@ -65,7 +65,8 @@ bank_name stem x digits = with_digits (stem ++ x) digits
 
 behind_by : (b : Bool) (stem name r : List ℕ) → bytes_eq (take (length stem) name) stem ≡ b → (if b then Some (drop (length stem) name) else None) ≡ Some r → name ≡ stem ++ r
 behind_by true stem name r q e =
-    sym (take-append-drop (length stem) name) ∙ ap (λ z. z ++ drop (length stem) name) ((bytes_eq-Decides (take (length stem) name) stem).0 q) ∙ ap (λ z. stem ++ z) (same_Some (drop (length stem) name) r e)
+    sym (take-append-drop (length stem) name) ∙ ap (λ z. z ++ drop (length stem) name) ((bytes_eq-Decides (take (length stem) name) stem).0 q)
+    ∙ ap (λ z. stem ++ z) (same_Some (drop (length stem) name) r e)
 behind_by false stem name r q e = absurd (none-some r e)
 
 behind_some : (stem name r : List ℕ) → behind stem name ≡ Some r → name ≡ stem ++ r
@@ -73,7 +74,8 @@ behind_some stem name r e = behind_by (bytes_eq (take (length stem) name) stem) 
 
 behind_is : (stem r : List ℕ) → behind stem (stem ++ r) ≡ Some r
 behind_is stem r =
-    ap (λ (b : Bool). if b then Some (drop (length stem) (stem ++ r)) else None) ((bytes_eq-Decides (take (length stem) (stem ++ r)) stem).1 (take-append_seam stem r)) ∙ ap Some (drop-append_seam stem r)
+    ap (λ (b : Bool). if b then Some (drop (length stem) (stem ++ r)) else None) ((bytes_eq-Decides (take (length stem) (stem ++ r)) stem).1 (take-append_seam stem r))
+    ∙ ap Some (drop-append_seam stem r)
 
 rest_by : (stem x name digits : List ℕ) (a b : Option (List ℕ)) → behind stem name ≡ a → option_and_then (behind x) a ≡ b → option_and_then (behind (codes "_")) b ≡ Some digits
     → name ≡ bank_name stem x digits

@@ -402,7 +402,8 @@ module _ (P : Program) (K : Parts) (built : IsBuilt P K) (chain : ℕ → ℕ �
             let is = runs_now both.0 in
             ⊎_elim
             (λ moved_on. absurd
-            (both_ways (is_ready block plan q (left.grant i) || is_answered block plan q (left.grant i)) (sym (ap (λ (b : Bool). b && (is_ready block plan q (left.grant i) || is_answered block plan q (left.grant i))) e) ∙ both.1)
+            (both_ways (is_ready block plan q (left.grant i) || is_answered block plan q (left.grant i))
+            (sym (ap (λ (b : Bool). b && (is_ready block plan q (left.grant i) || is_answered block plan q (left.grant i))) e) ∙ both.1)
             moved_on.1))
             (λ rest. rest.0)
             (advances (bank_of K.spreads) block plan q h.memory (left.grant i) wire r (is.on e) (is.inside e) is.within)

@@ -28,7 +28,8 @@ any_tells f (suc n) e = by_last (f n) refl (any_below f n) refl (any_tells f n)
 
 none_tells : (f : ℕ → Bool) (n k : ℕ) → any_below f n ≡ false → k < n → f k ≡ false
 none_tells f zero k e lt = absurd (omega arith)
-none_tells f (suc n) k e lt = ⊎_elim (λ (s : k ≡ n). ap f s ∙ (or_parts (any_below f n) (f n) e).1) (λ (ne : k ≢ n). none_tells f n k ((or_parts (any_below f n) (f n) e).0) (omega arith)) (cases_eq k n)
+none_tells f (suc n) k e lt =
+    ⊎_elim (λ (s : k ≡ n). ap f s ∙ (or_parts (any_below f n) (f n) e).1) (λ (ne : k ≢ n). none_tells f n k ((or_parts (any_below f n) (f n) e).0) (omega arith)) (cases_eq k n)
 
 pub all_true : (f : ℕ → Bool) (n : ℕ) → ((k : ℕ) → k < n → f k ≡ true) → all_below f n ≡ true
 all_true f zero each = refl

@@ -70,7 +70,8 @@ module _ (modules : List Module) (wires : List Step) (place : ℕ) where
             (λ other.
             absurd (both_ways (slice_index_or (slice_set (replicate n true) place false) k false)
             clear
-            (get_or-set_other (replicate n true) place k false false other ∙ get_or-replicate n k true false (let z = length-replicate n true in let y = length-set (replicate n true) place false in omega (arith, inside, z, y)))))
+            (get_or-set_other (replicate n true) place k false false other
+            ∙ get_or-replicate n k true false (let z = length-replicate n true in let y = length-set (replicate n true) place false in omega (arith, inside, z, y)))))
             (cases_eq k place);
       })
 

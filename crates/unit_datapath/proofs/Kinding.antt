@@ -39,7 +39,8 @@ node_shared kind true e =
     ap (λ (z : Bool). same_kind (if z then Divide (width_of kind.ty) kind.ty.signed else Multiply (width_of kind.ty))
     (if z then Divide (width_of kind.ty) kind.ty.signed else Multiply
     (width_of kind.ty))) e
-    ∙ and_from (nat_eq (width_of kind.ty) (width_of kind.ty)) (beq kind.ty.signed kind.ty.signed) (eq-eqb (width_of kind.ty) (width_of kind.ty) refl) ((booleans_Decides kind.ty.signed kind.ty.signed).1 refl)
+    ∙ and_from (nat_eq (width_of kind.ty) (width_of kind.ty)) (beq kind.ty.signed kind.ty.signed)
+    (eq-eqb (width_of kind.ty) (width_of kind.ty) refl) ((booleans_Decides kind.ty.signed kind.ty.signed).1 refl)
 node_shared kind false e =
     ap (λ (z : Bool). same_kind (if z then Divide (width_of kind.ty) kind.ty.signed else Multiply (width_of kind.ty))
     (if z then Divide (width_of kind.ty) kind.ty.signed else Multiply

@@ -282,7 +282,8 @@ initial_constant_means =
     flat : (c : InitialConstant) → t.Name c.name ∷ (v.index c.word ++ (t.Mark m.Equal ∷ (v.constant c.value ++ v.mark m.Semicolon))) ≡ v.initial_constant c
     flat c =
         ap (λ l. t.Name c.name ∷ l)
-        (sym (append_assoc (v.index c.word) (v.mark m.Equal) (v.constant c.value ++ v.mark m.Semicolon)) ∙ sym (append_assoc (v.index c.word ++ v.mark m.Equal) (v.constant c.value) (v.mark m.Semicolon)))
+        (sym (append_assoc (v.index c.word) (v.mark m.Equal) (v.constant c.value ++ v.mark m.Semicolon))
+        ∙ sym (append_assoc (v.index c.word ++ v.mark m.Equal) (v.constant c.value) (v.mark m.Semicolon)))
 
     one_index : Means g.index (λ z k. z ≡ v.index (Some k))
     one_index =

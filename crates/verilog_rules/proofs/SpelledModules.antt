@@ -261,7 +261,8 @@ port_means =
     flat : (p : Port) → t.Word (direction_word p.direction) ∷ (t.Word w.Wire ∷ (v.range p.high ++ (t.Name p.name ∷ []))) ≡ v.port p
     flat p =
         ap (λ l. l ++ (t.Word w.Wire ∷ (v.range p.high ++ v.name p.name))) (sym (direction_tokens p.direction))
-        ∙ sym (append_assoc (v.direction p.direction) (v.word w.Wire) (v.range p.high ++ v.name p.name)) ∙ sym (append_assoc (v.direction p.direction ++ v.word w.Wire) (v.range p.high) (v.name p.name))
+        ∙ sym (append_assoc (v.direction p.direction) (v.word w.Wire) (v.range p.high ++ v.name p.name))
+        ∙ sym (append_assoc (v.direction p.direction ++ v.word w.Wire) (v.range p.high) (v.name p.name))
 
 -- ---- modules
 

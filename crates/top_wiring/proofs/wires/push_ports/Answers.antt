@@ -7,4 +7,5 @@ use Rattle.top_wiring.proofs.wires.push_ports.Goals as goal
 pub loop-number-preserved : goal.loop-number-preserved
 loop-number-preserved c =
     each_onto (port_wire c.args.instance c.args.first) c.args.wires.now c.loop-number.wires c.push.new.self c.args.widths.now c.loop-number.number _
-    c.loop-number.invariant c.in_ok-push.ensures.ok (get_or_default c.args.widths.now c.loop-number.number 0 (get_or c.args.widths.now c.loop-number.number 0) c.loop-number-test.true) c.loop-number-test.true
+    c.loop-number.invariant c.in_ok-push.ensures.ok
+    (get_or_default c.args.widths.now c.loop-number.number 0 (get_or c.args.widths.now c.loop-number.number 0) c.loop-number-test.true) c.loop-number-test.true
