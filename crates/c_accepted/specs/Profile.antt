@@ -1,5 +1,5 @@
 -- The texts that are accepted, and why others are refused, by what each stage of the front end is.
-use Rattle.std.specs.Prelude.{◌≡◌, ◌≢◌, ℕ, ◌<◌, ◌≤◌, List, length, Option, Some, None, Result, Ok, Err}
+use Rattle.std.specs.Prelude.{◌≡◌, ℕ, ◌<◌, ◌≤◌, List, length, Some, None, Ok, Err}
 use Rattle.c_token.specs.declared.token.Token.{Token}
 use Rattle.c_token.specs.Spelling.{Bytes}
 use Rattle.c_lexer.specs.Texts.{LexesAs}
@@ -16,7 +16,6 @@ use Rattle.c_program.specs.Counting.{capped}
 use Rattle.c_limits.specs.Counts.{first_passed}
 use Rattle.c_limits.specs.declared.limit.Limit.{Limit}
 use Rattle.c_limits.specs.declared.limit.Limit.TheVariants.{Tokens, NameLength, Nesting}
-use Rattle.c_limits.specs.declared.limit.Passed.{Passed}
 use Rattle.c_resolution.specs.Resolving.{IsFirstFault, Spells, LacksMain}
 use Rattle.c_accepted.specs.declared.refusal.Refusal.{Refusal}
 use Rattle.c_accepted.specs.declared.refusal.Refusal.TheVariants as refusal

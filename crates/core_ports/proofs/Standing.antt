@@ -1,5 +1,5 @@
 -- Where parts of asks stand.
-use Rattle.std.proofs.Common.{◌≡◌, zero, suc, ◌+◌, ◌<◌, [], ◌∷◌, ◌++◌, length, take, slice_get, Some, refl, ap, ◌∙◌, arith, length-append}
+use Rattle.std.proofs.Common.{◌≡◌, zero, suc, ◌+◌, ◌<◌, [], ◌∷◌, ◌++◌, length, take, slice_get, refl, ap, ◌∙◌, arith, length-append}
 use Rattle.lists.proofs.Places.{get_right, get_left}
 use Rattle.core_ports.specs.Ports.{CorePort, asks_of, ask_place, PartsStand}
 

@@ -1,6 +1,6 @@
 -- Lists: places of names, facts that hold of each of a list by what stands before it.
 use Rattle.std.proofs.Common.{◌≡◌, ℕ, zero, suc, ◌+◌, ◌<◌, List, [], ◌∷◌, Bool, true, false, cond, Option, Some, None, refl, sym, ap, ◌∙◌, subst, inl, inr, take, arith}
-use Rattle.std.specs.Prelude.{not, ◌||◌, slice_get}
+use Rattle.std.specs.Prelude.{not, slice_get}
 use Rattle.std.specs.Str.{bytes_eq}
 use Rattle.std.proofs.lemmas.Option.{same_Some, none-some}
 use Rattle.std.proofs.lemmas.Slice.Eq.{bytes_eq-Decides}

@@ -1,6 +1,6 @@
 -- What is seen of a C program: where lists of thread numbers lead it, what it has printed, whether it is ended or
 -- deadlocked, and the words of its integer globals.
-use Rattle.std.specs.Prelude.{◌≡◌, ℕ, List, length, ℤ, Option, Some, slice_get, true}
+use Rattle.std.specs.Prelude.{◌≡◌, ℕ, List, ℤ, Some, slice_get, true}
 use Rattle.hls_ints.specs.Types.{width_of}
 use Rattle.hls_ints.specs.Residues.{residue_of}
 use Rattle.c_program.specs.Tree.{GlobalVariable, Program}

@@ -1,13 +1,12 @@
 -- Right sides that fit: their operands are signals, and their widths are those that a text asks for.
-use Rattle.std.proofs.Common.{◌≡◌, ◌≢◌, ℕ, zero, suc, ◌+◌, ◌-◌, ◌*◌, ◌<◌, ◌≤◌, ◌^◌, Bool, true, false, ◌&&◌, ◌==◌, nat_lt, nat_le, if◌then◌else◌, List, [], ◌∷◌, length, slice_get, Option, Some, None}
+use Rattle.std.proofs.Common.{◌≡◌, ℕ, zero, suc, ◌+◌, ◌-◌, ◌*◌, ◌<◌, ◌≤◌, ◌^◌, true, ◌&&◌, ◌==◌, nat_lt, nat_le, List, [], ◌∷◌, length, slice_get, Option, Some}
 use Rattle.std.proofs.Common.{refl, sym, ap, subst, ◌∙◌, arith}
 use Rattle.std.proofs.lemmas.Bool.Decides.{nat_tests}
 use Rattle.std.proofs.lemmas.Option.{slice_get_within}
 use Rattle.std.proofs.lemmas.Bool.{and_from, eq-eqb, lt-ltb}
 use Rattle.verilog_tree.specs.declared.tree.BinaryOperator.{BinaryOperator}
 use Rattle.verilog_tree.specs.declared.tree.BinaryOperator.TheVariants.{Add, Subtract, Multiply, And, Or, Xor, Equal, Less, ShiftLeft, ShiftRight}
-use Rattle.verilog_tree.specs.Scope.{is_clk}
-use Rattle.verilog_tree.specs.Rules.{all_right, is_comparison, is_shift}
+use Rattle.verilog_tree.specs.Rules.{all_right}
 use Rattle.netlist.specs.declared.netlist.Value.{Value}
 use Rattle.netlist.specs.declared.netlist.Value.TheVariants.{Copy, Constant, BitwiseNot, Binary, SignedLess, ArithmeticShiftRight, Conditional, Division, SignedDivision, MemoryRead, Select}
 use Rattle.netlist.specs.declared.netlist.Value.TheVariants.{Concatenation, Replication}
@@ -15,7 +14,7 @@ use Rattle.netlist.specs.declared.netlist.Signal.{Signal}
 use Rattle.netlist.specs.declared.netlist.Memory.{Memory}
 use Rattle.netlist.specs.declared.netlist.Module.{Module}
 use Rattle.netlist.specs.Laid.{operands, memories_read, AreSignals, AreMemories}
-use Rattle.netlist.specs.Sound.{width_read, width, is_read, has_width, have_one_width, joint_width, is_filled, value_fits}
+use Rattle.netlist.specs.Sound.{width, is_read, has_width, have_one_width, joint_width, is_filled, value_fits}
 use Rattle.netlist.specs.Sound.{words_of_memory, memory_words, width_of_memory, memory_width}
 use Rattle.leaf_machine.specs.Modules.{Has, FitsParts, FitsValue}
 use Rattle.module_sound.specs.Kinds.{HasRange}

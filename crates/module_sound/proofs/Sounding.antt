@@ -1,10 +1,10 @@
 -- A module whose signals are graded and stand at their places is sound.
-use Rattle.std.proofs.Common.{◌≡◌, ◌≢◌, ℕ, zero, suc, ◌+◌, ◌-◌, ◌<◌, ◌≤◌, ◌^◌, Bool, true, false, ◌&&◌, nat_eq, nat_lt, if◌then◌else◌, List, [], ◌∷◌, ◌++◌, length, map, slice_get, Some, None}
+use Rattle.std.proofs.Common.{◌≡◌, ◌≢◌, ℕ, zero, suc, ◌+◌, ◌-◌, ◌<◌, ◌^◌, Bool, true, false, nat_eq, nat_lt, if◌then◌else◌, List, [], ◌∷◌, ◌++◌, length, map, slice_get, Some}
 use Rattle.std.proofs.Common.{refl, sym, ap, subst, ◌∙◌, arith, inl, ⊎_elim, zero-add, ◌==◌}
-use Rattle.std.specs.Prelude.{option_map, codes}
+use Rattle.std.specs.Prelude.{codes}
 use Rattle.std.specs.Str.{bytes_eq}
 use Rattle.std.proofs.lemmas.List.{append-nil}
-use Rattle.std.proofs.lemmas.Option.{slice_get-map, slice_get_within}
+use Rattle.std.proofs.lemmas.Option.{slice_get_within}
 use Rattle.std.proofs.lemmas.Bool.{and_from, lt-ltb, eq-eqb, cases_eq, cond-true}
 use Rattle.std.proofs.Math.Dec.{eqb-suc-zero}
 use Rattle.lists.proofs.Places.{get_nothing}
@@ -20,15 +20,15 @@ use Rattle.netlist.specs.declared.netlist.Effect.TheVariants as effect
 use Rattle.netlist.specs.declared.netlist.Action.{Action}
 use Rattle.netlist.specs.declared.netlist.Module.{Module}
 use Rattle.netlist.specs.NetlistOf.{Name}
-use Rattle.netlist.specs.Laid.{EachAt, AreApart, AreSignals, AreMemories, signal_names, memory_names, instance_names, declared_names, effect_signals, memories_stored, IsSource, IsLaidModule}
+use Rattle.netlist.specs.Laid.{AreApart, AreSignals, AreMemories, signal_names, memory_names, instance_names, declared_names, effect_signals, memories_stored, IsSource}
 use Rattle.leaf_machine.specs.Cycles.{IsRegister}
 use Rattle.netlist.specs.Sound.{width, width_read, is_read, has_width, width_of_memory, memory_width, register_width}
-use Rattle.netlist.specs.Sound.{width_of_register, width_set, source_fits, effect_fits, action_fits, IsSet, IsSoundModule}
+use Rattle.netlist.specs.Sound.{width_of_register, width_set, source_fits, effect_fits, IsSet}
 use Rattle.leaf_machine.specs.Rows.{EachOf}
 use Rattle.leaf_machine.specs.Modules.{Has}
 use Rattle.module_sound.specs.Grades.{IsOperand, IsGradedSource, IsGradedSignal, AreGrades, SetsRight, ActsRight}
 use Rattle.module_sound.specs.Names.{place_of, last_number}
-use Rattle.module_sound.specs.Kinds.{SetsAt, IsKindAt, IsPlaced}
+use Rattle.module_sound.specs.Kinds.{IsKindAt, IsPlaced}
 use Rattle.module_sound.specs.Sounds.{BeginsWithClock, AreRightMemories, IsSoundAlone, PlacedIsSound}
 use Rattle.module_sound.proofs.Ordering.{in_order, input_count, output_count}
 use Rattle.module_sound.proofs.Fitting.{value_signals, value_memories, value_right}

@@ -1,5 +1,5 @@
 -- The place of a signal, as its name tells it.
-use Rattle.std.specs.Prelude.{ℕ, ◌+◌, ◌-◌, ◌*◌, Bool, ◌==◌, ◌&&◌, nat_le, if◌then◌else◌, List, Option, Some, None, fold, codes}
+use Rattle.std.specs.Prelude.{ℕ, ◌+◌, ◌-◌, ◌*◌, ◌==◌, ◌&&◌, nat_le, if◌then◌else◌, List, Option, Some, None, fold, codes}
 use Rattle.std.specs.Str.{bytes_eq}
 
 -- a digit behind a number

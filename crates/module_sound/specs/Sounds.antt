@@ -1,5 +1,5 @@
 -- A module that a text can tell, and whose text is well formed, by itself: it has no instances.
-use Rattle.std.specs.Prelude.{◌≡◌, ◌≢◌, ℕ, ◌-◌, ◌<◌, true, false, nat_eq, List, [], length, Some, slice_get}
+use Rattle.std.specs.Prelude.{◌≡◌, ◌≢◌, ℕ, ◌-◌, true, false, nat_eq, List, [], length, Some, slice_get}
 use Rattle.verilog_tree.specs.Scope.{is_clk}
 use Rattle.netlist.specs.declared.netlist.Source.TheVariants.{Input}
 use Rattle.netlist.specs.declared.netlist.Signal.{Signal}

@@ -7,7 +7,7 @@ use Rattle.hls_ints.specs.Residues.{residue_of, floor_quotient}
 use Rattle.hls_ints.specs.Types.{Width, IntegerType, HasType, bits, width_of, wrapped, bits_8, bits_16, bits_32, bits_64}
 use Rattle.hls_ints.specs.Operators.{is_count}
 use Rattle.hls_ints.specs.Words.{word, left_shift, right_shift, arithmetic_shift}
-use Rattle.hls_ints.proofs.Ranges.{bits-at_least, bits-at_most}
+use Rattle.hls_ints.proofs.Ranges.{bits-at_most}
 use Rattle.hls_ints.proofs.Conversions.{residue_of-below, residue_of-wrapped, at_least_1, double}
 use Rattle.block_ir.specs.Arithmetic.{sign_fill, shifted_left, shifted_right}
 use Rattle.operator_words.proofs.Residues.{word-residue_of, residue_of-word, residue_of-zero, product_is}

@@ -12,7 +12,6 @@ use Rattle.verilog_tree.specs.declared.tree.Port.{Port}
 use Rattle.verilog_tree.specs.declared.tree.Module as text
 use Rattle.verilog_tree.specs.declared.tree.Net.{Net}
 use Rattle.verilog_tree.specs.Facts.{nothing, after, after_module}
-use Rattle.verilog_tree.specs.Grammar.{clk}
 use Rattle.verilog_tree.specs.Rules.{has_port, port_named}
 use Rattle.verilog_tree.specs.Scope as scope
 use Rattle.verilog_tree.specs.WellFormed.{IsWellFormed}
