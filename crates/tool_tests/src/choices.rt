@@ -44,12 +44,7 @@ fn is_done(
 
 /// The same of the net that a Verilog text spells.
 #[tactic(auto, using(crate::proofs::Opens::opens))]
-fn is_done_by(
-    alloc: Global,
-    text: &[u8],
-    cycles: u32,
-    printed: &[u8],
-) -> Result<bool, ReadError> {
+fn is_done_by(alloc: Global, text: &[u8], cycles: u32, printed: &[u8]) -> Result<bool, ReadError> {
     let net = read(alloc, text)?;
     let made = netlist(alloc, &net)?;
     let is_done = is_done(alloc, made.modules.as_slice(), cycles, printed)?;
