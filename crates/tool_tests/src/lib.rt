@@ -1,5 +1,5 @@
-//! Tests of the tool as one call, with words, source and sinks in memory. They stand in a crate of their own, since a crate with
-//! tests is proved twice.
+//! Tests of the tool as one call, with words, source and sinks in memory, and of the net that it builds under other choices than its
+//! own. They stand in a crate of their own, since a crate with tests is proved twice.
 #![tactic(auto)]
 
 #[cfg(test)]
