@@ -1,4 +1,5 @@
 //! The lexer: the tokens of a C text with their places, or the first fault of the text from left to right.
+//! `rt plant`: all 10 wrong bodies in 2 functions are refused.
 #![tactic(auto)]
 
 pub mod fault;

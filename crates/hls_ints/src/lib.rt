@@ -1,4 +1,5 @@
 //! Integer arithmetic: the operators of C on its integer types, and the operators of Verilog on words of 1 to 64 bits.
+//! `rt plant`: of 179 wrong bodies in 46 functions 178 are refused and 1 could not be judged; 256 more were not tried.
 #![tactic(auto)]
 
 pub mod arithmetic;

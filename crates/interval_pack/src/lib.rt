@@ -1,4 +1,5 @@
 // Left-edge packing: intervals into as few rows as the most crowded place needs.
+// `rt plant`: of 19 wrong bodies in 6 functions 13 are refused, 1 answers the same and 5 could not be judged.
 #![tactic(auto)]
 
 pub mod interval;

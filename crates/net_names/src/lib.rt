@@ -1,5 +1,6 @@
 //! What the names in a module of a net stand for: places of signals and memories, modules, assigns, initial constants
 //! and outputs of instances. Each is found without a search through the text.
+//! `rt plant`: all 21 wrong bodies in 18 functions are refused; 19 more were not tried.
 #![tactic(auto)]
 
 pub mod assigns;

@@ -1,4 +1,5 @@
 //! A netlist laid out as the tree of a Verilog text, whose netlist it is.
+//! `rt plant`: of 47 wrong bodies in 17 functions 46 are refused and 1 answers the same.
 #![tactic(auto)]
 
 ghost use Rattle.std.specs.Prelude.{◌≡◌, IfOk, map};

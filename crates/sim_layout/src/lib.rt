@@ -1,4 +1,5 @@
 //! A net laid out in flat words: the tree of its instances, the places of its signals, the order in which they settle, and what it prints.
+//! `rt plant`: of 83 wrong bodies in 16 functions 74 are refused, 2 by the premise of a callee alone, 1 answers the same and 6 could not be judged; 2 functions only steer, and have no contract.
 #![tactic(auto)]
 
 mod components;

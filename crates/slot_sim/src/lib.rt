@@ -1,4 +1,5 @@
 //! A net of threads at work, a slot at a time.
+//! `rt plant`: of 91 wrong bodies in 25 functions 38 are refused, 2 by the premise of a callee alone, 3 answer the same and 48 could not be judged.
 #![tactic(auto)]
 
 pub mod changing;

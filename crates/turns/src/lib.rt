@@ -1,4 +1,5 @@
 //! Lists of turns, by which a user says which thread takes the next steps of a program: `0*11,1*3,2`.
+//! `rt plant`: all 4 wrong bodies in 1 function are refused.
 #![tactic(auto)]
 
 ghost use Rattle.std.specs.Prelude.{◌≡◌, ◌==◌, map, nat_eq, nat_le, slice_index, IfOk};

@@ -1,4 +1,5 @@
 //! The tokens of a Verilog text, each with the offset at which it begins.
+//! `rt plant`: all 3 wrong bodies in 1 function are refused.
 #![tactic(auto)]
 
 mod blanks;
