@@ -1,5 +1,6 @@
 //! The slot of a thread's module: its inputs and registers, the chains of what registers hold next, and the lists of wires that
 //! the parts above share.
+//! `rt plant`: of 78 wrong bodies in 23 functions 74 are refused, 1 by the premise of a callee alone, 1 answers the same and 2 could not be judged.
 #![tactic(auto)]
 
 // A function that adds signals promises what they show in every module that begins with them and every reading which that

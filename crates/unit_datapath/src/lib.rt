@@ -1,4 +1,5 @@
 //! The functional units of a thread: multipliers and dividers that the operations of all its blocks share.
+//! `rt plant`: of 67 wrong bodies in 14 functions 59 are refused, 4 answer the same and 4 could not be judged.
 #![tactic(auto)]
 
 // Products, quotients and remainders have units, and each kind of them, as multipliers of 32 bits or dividers of 64 bits
