@@ -1,112 +1,68 @@
-use hls_words::{Task, WordsError, parse};
-use sqlite_items::Items;
+// Lines of words, and the task of each.
+
+use hls_words::parse;
 use std::alloc::{AllocError, Global};
 use std::test::Fail;
-use turns::Turn;
 
-fn words_of(alloc: Global, line: &str) -> Result<Vec<String>, AllocError> {
+/// Lines of words with what they ask for, `Usage` where they are of no command.
+const LINES: [(&str, &str); 24] = [
+    ("hls build", "Build { jobs: 1 }"),
+    ("hls build --jobs 1", "Build { jobs: 1 }"),
+    ("hls build --jobs=2", "Build { jobs: 2 }"),
+    ("hls build --jobs 16", "Build { jobs: 16 }"),
+    ("hls build --jobs 17", "Usage"),
+    ("hls build --jobs", "Usage"),
+    ("hls build --jobs=0", "Usage"),
+    ("hls build --jobs two", "Usage"),
+    (
+        "hls step --cycles 3136",
+        "Step { cycles: 3136, vcd: false }",
+    ),
+    (
+        "hls step --cycles=3136",
+        "Step { cycles: 3136, vcd: false }",
+    ),
+    (
+        "hls step --cycles=4294967295",
+        "Step { cycles: 4294967295, vcd: false }",
+    ),
+    ("hls step --cycles=4294967296", "Usage"),
+    ("hls step --cycles 4294967296", "Usage"),
+    (
+        "hls step --cycles 100000 --vcd",
+        "Step { cycles: 100000, vcd: true }",
+    ),
+    ("hls step --cycles 100001 --vcd", "Usage"),
+    ("hls step --cycles 9 --jobs 2", "Usage"),
+    ("hls step", "Usage"),
+    (
+        "hls walk --threads 0*3,1",
+        "Walk(Items { items: [Turn { thread: 0, steps: 3 }, Turn { thread: 1, steps: 1 }] })",
+    ),
+    ("hls walk --threads 0*0", "Usage"),
+    ("hls walk", "Usage"),
+    ("hls replay", "Replay"),
+    ("hls --help", "Usage"),
+    ("hls", "Usage"),
+    ("", "Usage"),
+];
+
+/// What the words of a line ask for.
+fn shown(alloc: Global, line: &str) -> Result<String, AllocError> {
     let mut words = Vec::new(alloc);
     for word in line.split_whitespace() {
         words.push(word.to_string(alloc)?)?;
     }
-    Ok(words)
-}
-
-#[test]
-fn takes_the_commands(rt: HostRuntime) -> Result<(), Fail> {
-    let alloc = rt.alloc();
-    let words = words_of(alloc, "hls walk --threads 0*3,1")?;
-    let turns = match parse(alloc, words.as_slice()) {
-        Ok(Task::Walk(turns)) => turns,
-        _ => Items::new(alloc),
-    };
-    let wanted = [
-        Turn {
-            thread: 0,
-            steps: 3,
-        },
-        Turn {
-            thread: 1,
-            steps: 1,
-        },
-    ];
-    assert!(rt; turns.as_slice() == &wanted[..]);
-    let words = words_of(alloc, "hls step --cycles 3136")?;
-    assert!(rt;
-        matches!(
-            parse(alloc, words.as_slice()),
-            Ok(Task::Step {
-                cycles: 3136,
-                vcd: false
-            })
-        )
-    );
-    for line in [
-        "",
-        "hls",
-        "hls step",
-        "hls step --cycles 4294967296",
-        "hls build --jobs",
-        "hls build --jobs 17",
-        "hls build --jobs=0",
-        "hls build --jobs two",
-        "hls step --cycles 9 --jobs 2",
-        "hls walk",
-        "hls walk --threads 0*0",
-        "hls --help",
-    ] {
-        let words = words_of(alloc, line)?;
-        assert!(rt;
-            matches!(parse(alloc, words.as_slice()), Err(WordsError::Usage)),
-            "at {line}"
-        );
-    }
-    Ok(())
-}
-
-fn jobs_of(alloc: Global, line: &str) -> Result<Option<u32>, AllocError> {
-    let words = words_of(alloc, line)?;
     match parse(alloc, words.as_slice()) {
-        Ok(Task::Build { jobs }) => Ok(Some(jobs)),
-        _ => Ok(None),
+        Ok(task) => format!(in alloc; "{task:?}"),
+        Err(fault) => format!(in alloc; "{fault:?}"),
     }
 }
 
 #[test]
-fn reads_the_number_of_jobs(rt: HostRuntime) -> Result<(), Fail> {
-    let alloc = rt.alloc();
-    for (line, want) in [
-        ("hls build", Some(1)),
-        ("hls build --jobs 1", Some(1)),
-        ("hls build --jobs=2", Some(2)),
-        ("hls build --jobs 16", Some(16)),
-        ("hls build --jobs 17", None),
-    ] {
-        assert!(rt; jobs_of(alloc, line)? == want, "at {line}");
-    }
-    Ok(())
-}
-
-fn cycles_of(alloc: Global, line: &str) -> Result<Option<u32>, AllocError> {
-    let words = words_of(alloc, line)?;
-    match parse(alloc, words.as_slice()) {
-        Ok(Task::Step { cycles, .. }) => Ok(Some(cycles)),
-        _ => Ok(None),
-    }
-}
-
-#[test]
-fn reads_the_number_of_cycles(rt: HostRuntime) -> Result<(), Fail> {
-    let alloc = rt.alloc();
-    for (line, want) in [
-        ("hls step --cycles 3136", Some(3136)),
-        ("hls step --cycles=3136", Some(3136)),
-        ("hls step --cycles=4294967295", Some(u32::MAX)),
-        ("hls step --cycles=4294967296", None),
-        ("hls step --cycles 100000 --vcd", Some(100_000)),
-        ("hls step --cycles 100001 --vcd", None),
-    ] {
-        assert!(rt; cycles_of(alloc, line)? == want, "at {line}");
+fn lines_ask_for_tasks(rt: HostRuntime) -> Result<(), Fail> {
+    for (line, wanted) in &LINES {
+        assert!(rt; shown(rt.alloc(), line)?.as_str() == *wanted, "at {line}");
     }
     Ok(())
 }

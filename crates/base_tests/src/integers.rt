@@ -27,63 +27,96 @@ const INT_MOST: i128 = 2147483647;
 
 #[test]
 fn conversions(rt: HostRuntime) {
-    assert!(rt; wrap(CHAR, 200) == -56);
-    assert!(rt; wrap(SHORT, 70000) == 4464);
-    assert!(rt; wrap(UNSIGNED_CHAR, 300) == 44);
-    assert!(rt; wrap(CType::UNSIGNED_INT, -1) == 4294967295);
-    assert!(rt; wrap(CType::LONG, 18446744073709551615) == -1);
-    assert!(rt; promote(SHORT) == CType::INT);
-    assert!(rt; promote(CType::UNSIGNED_INT) == CType::UNSIGNED_INT);
-    assert!(rt; usual(CHAR, UNSIGNED_CHAR) == CType::INT);
-    assert!(rt; usual(CType::INT, CType::UNSIGNED_INT) == CType::UNSIGNED_INT);
-    assert!(rt; usual(CType::UNSIGNED_INT, CType::LONG) == CType::LONG);
-    assert!(rt; usual(CType::UNSIGNED_LONG, CType::LONG) == CType::UNSIGNED_LONG);
+    let rows = [
+        (wrap(CHAR, 200), -56),
+        (wrap(SHORT, 70000), 4464),
+        (wrap(UNSIGNED_CHAR, 300), 44),
+        (wrap(CType::UNSIGNED_INT, -1), 4294967295),
+        (wrap(CType::LONG, 18446744073709551615), -1),
+    ];
+    for (found, wanted) in &rows {
+        assert!(rt; found == wanted);
+    }
+}
+
+#[test]
+fn types(rt: HostRuntime) {
+    let rows = [
+        (promote(SHORT), CType::INT),
+        (promote(CType::UNSIGNED_INT), CType::UNSIGNED_INT),
+        (usual(CHAR, UNSIGNED_CHAR), CType::INT),
+        (usual(CType::INT, CType::UNSIGNED_INT), CType::UNSIGNED_INT),
+        (usual(CType::UNSIGNED_INT, CType::LONG), CType::LONG),
+        (
+            usual(CType::UNSIGNED_LONG, CType::LONG),
+            CType::UNSIGNED_LONG,
+        ),
+    ];
+    for (found, wanted) in &rows {
+        assert!(rt; found == wanted);
+    }
 }
 
 #[test]
 fn arithmetic(rt: HostRuntime) {
-    assert!(rt; c_div(CType::INT, -7, 2) == Some(-3));
-    assert!(rt; c_rem(CType::INT, -7, 2) == Some(-1));
-    assert!(rt; c_rem(CType::INT, 7, -2) == Some(1));
-    assert!(rt; c_sub(CType::UNSIGNED_INT, 0, 1) == Some(4294967295));
-    assert!(rt; c_mul(CType::UNSIGNED_INT, 3000000000, 3) == Some(410065408));
-    assert!(rt;
-        c_mul(
-            CType::UNSIGNED_LONG,
-            18446744073709551615,
-            18446744073709551615
-        ) == Some(1)
-    );
-    assert!(rt; c_add(CType::INT, INT_MOST, 1) == None);
-    assert!(rt; c_neg(CType::INT, INT_LEAST) == None);
-    assert!(rt; c_div(CType::INT, INT_LEAST, -1) == None);
-    assert!(rt; c_rem(CType::INT, INT_LEAST, -1) == None);
-    assert!(rt; c_less(CType::INT, -1, 1) == Some(1));
-    assert!(rt; c_equal(CType::INT, -1, 1) == Some(0));
-}
-
-#[test]
-fn bits(rt: HostRuntime) {
-    assert!(rt; c_not(CType::INT, 5) == Some(-6));
-    assert!(rt; c_not(CType::UNSIGNED_INT, 0) == Some(4294967295));
-    assert!(rt; c_and(CType::INT, -6, 12) == Some(8));
-    assert!(rt; c_or(CType::INT, -6, 12) == Some(-2));
-    assert!(rt; c_xor(CType::INT, -6, 12) == Some(-10));
-    assert!(rt; c_shr(CType::INT, -8, 1) == Some(-4));
-    assert!(rt; c_shl(CType::INT, 1, 30) == Some(1073741824));
-    assert!(rt; c_shl(CType::INT, 1, 31) == None);
-    assert!(rt; c_shl(CType::UNSIGNED_INT, 3, 31) == Some(2147483648));
-    assert!(rt; c_shl(CType::INT, 1, 32) == None);
-    assert!(rt; c_shr(CType::INT, 1, -1) == None);
+    let most = 18446744073709551615;
+    let rows = [
+        (c_div(CType::INT, -7, 2), Some(-3)),
+        (c_rem(CType::INT, -7, 2), Some(-1)),
+        (c_rem(CType::INT, 7, -2), Some(1)),
+        (c_sub(CType::UNSIGNED_INT, 0, 1), Some(4294967295)),
+        (c_mul(CType::UNSIGNED_INT, 3000000000, 3), Some(410065408)),
+        (c_mul(CType::UNSIGNED_LONG, most, most), Some(1)),
+        (c_add(CType::INT, INT_MOST, 1), None),
+        (c_neg(CType::INT, INT_LEAST), None),
+        (c_div(CType::INT, INT_LEAST, -1), None),
+        (c_rem(CType::INT, INT_LEAST, -1), None),
+        (c_less(CType::INT, -1, 1), Some(1)),
+        (c_equal(CType::INT, -1, 1), Some(0)),
+        (c_not(CType::INT, 5), Some(-6)),
+        (c_not(CType::UNSIGNED_INT, 0), Some(4294967295)),
+        (c_and(CType::INT, -6, 12), Some(8)),
+        (c_or(CType::INT, -6, 12), Some(-2)),
+        (c_xor(CType::INT, -6, 12), Some(-10)),
+        (c_shr(CType::INT, -8, 1), Some(-4)),
+        (c_shl(CType::INT, 1, 30), Some(1073741824)),
+        (c_shl(CType::INT, 1, 31), None),
+        (c_shl(CType::UNSIGNED_INT, 3, 31), Some(2147483648)),
+        (c_shl(CType::INT, 1, 32), None),
+        (c_shr(CType::INT, 1, -1), None),
+    ];
+    for (found, wanted) in &rows {
+        assert!(rt; found == wanted);
+    }
 }
 
 #[test]
 fn causes(rt: HostRuntime) {
-    assert!(rt; operators::multiply(CType::INT, INT_MOST, 2) == Err(ArithmeticFault::Overflow));
-    assert!(rt; operators::divide(CType::INT, INT_LEAST, 0) == Err(ArithmeticFault::Divisor));
-    assert!(rt; operators::remainder(CType::INT, INT_LEAST, -1) == Err(ArithmeticFault::Overflow));
-    assert!(rt; operators::shift_left(CType::INT, -1, 1) == Err(ArithmeticFault::Shift));
-    assert!(rt; operators::shift_right(CType::LONG, 1, 64) == Err(ArithmeticFault::Shift));
+    let rows = [
+        (
+            operators::multiply(CType::INT, INT_MOST, 2),
+            ArithmeticFault::Overflow,
+        ),
+        (
+            operators::divide(CType::INT, INT_LEAST, 0),
+            ArithmeticFault::Divisor,
+        ),
+        (
+            operators::remainder(CType::INT, INT_LEAST, -1),
+            ArithmeticFault::Overflow,
+        ),
+        (
+            operators::shift_left(CType::INT, -1, 1),
+            ArithmeticFault::Shift,
+        ),
+        (
+            operators::shift_right(CType::LONG, 1, 64),
+            ArithmeticFault::Shift,
+        ),
+    ];
+    for (found, cause) in &rows {
+        assert!(rt; *found == Err(*cause));
+    }
 }
 
 #[test]
@@ -103,26 +136,34 @@ fn cause_names(rt: HostRuntime) -> Result<(), Fail> {
 
 #[test]
 fn words(rt: HostRuntime) {
-    assert!(rt; v_add(8, 200, 100) == 44);
-    assert!(rt; v_sub(4, 2, 3) == 15);
-    assert!(rt; v_mul(64, 18446744073709551615, 3) == 18446744073709551613);
-    assert!(rt; v_div(64, 18446744073709551615, 10) == 1844674407370955161);
-    assert!(rt; v_rem(8, 249, 2) == 1);
-    assert!(rt; v_sdiv(8, 249, 2) == 253);
-    assert!(rt; v_srem(8, 249, 2) == 255);
-    assert!(rt; v_sdiv(8, 128, 255) == 128);
-    assert!(rt; v_srem(8, 128, 255) == 0);
-    assert!(rt; v_sdiv(8, 7, 0) + v_srem(8, 7, 256) + v_div(8, 7, 0) + v_rem(8, 7, 256) == 0);
-    assert!(rt; v_less(1, 0, 1) == 1);
-    assert!(rt; v_sless(1, 0, 1) == 0);
-    assert!(rt; v_equal(4, 3, 19) == 1);
-    assert!(rt; v_not(4, 10) == 5);
-    assert!(rt; v_and(4, 12, 10) == 8);
-    assert!(rt; v_or(4, 12, 10) == 14);
-    assert!(rt; v_xor(4, 12, 10) == 6);
-    assert!(rt; v_shl(4, 11, 2) == 12);
-    assert!(rt; v_shr(4, 11, 2) == 2);
-    assert!(rt; v_sar(4, 8, 2) == 14);
-    assert!(rt; v_sar(4, 8, 100) == 15);
-    assert!(rt; v_sar(64, 9223372036854775808, 63) == 18446744073709551615);
+    let rows = [
+        (v_add(8, 200, 100), 44),
+        (v_sub(4, 2, 3), 15),
+        (v_mul(64, 18446744073709551615, 3), 18446744073709551613),
+        (v_div(64, 18446744073709551615, 10), 1844674407370955161),
+        (v_rem(8, 249, 2), 1),
+        (v_sdiv(8, 249, 2), 253),
+        (v_srem(8, 249, 2), 255),
+        (v_sdiv(8, 128, 255), 128),
+        (v_srem(8, 128, 255), 0),
+        (v_sdiv(8, 7, 0), 0),
+        (v_srem(8, 7, 256), 0),
+        (v_div(8, 7, 0), 0),
+        (v_rem(8, 7, 256), 0),
+        (v_less(1, 0, 1), 1),
+        (v_sless(1, 0, 1), 0),
+        (v_equal(4, 3, 19), 1),
+        (v_not(4, 10), 5),
+        (v_and(4, 12, 10), 8),
+        (v_or(4, 12, 10), 14),
+        (v_xor(4, 12, 10), 6),
+        (v_shl(4, 11, 2), 12),
+        (v_shr(4, 11, 2), 2),
+        (v_sar(4, 8, 2), 14),
+        (v_sar(4, 8, 100), 15),
+        (v_sar(64, 9223372036854775808, 63), 18446744073709551615),
+    ];
+    for (found, wanted) in &rows {
+        assert!(rt; found == wanted);
+    }
 }

@@ -59,98 +59,98 @@ fn shown(alloc: Global, text: &[u8]) -> Result<String, AllocError> {
     Ok(out)
 }
 
-const ROWS: [(&[u8], &str); 51] = [
-    (b"", " 0:end"),
+const ROWS: [(&str, &str); 51] = [
+    ("", " 0:end"),
     (
-        b"int main(void){x = 1;",
+        "int main(void){x = 1;",
         " 0:[int] 4:main 8:( 9:[void] 13:) 14:{ 15:x 17:= 19:1 20:; 21:end",
     ),
-    (b"a<<=b>>=c", " 0:a 1:<<= 4:b 5:>>= 8:c 9:end"),
+    ("a<<=b>>=c", " 0:a 1:<<= 4:b 5:>>= 8:c 9:end"),
     (
-        b"a+++b---c->d",
+        "a+++b---c->d",
         " 0:a 1:++ 3:+ 4:b 5:-- 7:- 8:c 9:- 10:> 11:d 12:end",
     ),
-    (b"/ /=/*a*//**/x//y", " 0:/ 2:/= 13:x 17:end"),
-    (b"0 00 017 0x1F 0XfUL", " 0:0 2:0 5:15 9:31 14:15ul 19:end"),
+    ("/ /=/*a*//**/x//y", " 0:/ 2:/= 13:x 17:end"),
+    ("0 00 017 0x1F 0XfUL", " 0:0 2:0 5:15 9:31 14:15ul 19:end"),
     (
-        b"2147483647 2147483648",
+        "2147483647 2147483648",
         " 0:2147483647 11:2147483648l 21:end",
     ),
     (
-        b"0x7fffffff 0x80000000",
+        "0x7fffffff 0x80000000",
         " 0:2147483647 11:2147483648u 21:end",
     ),
     (
-        b"0xffffffff 037777777777",
+        "0xffffffff 037777777777",
         " 0:4294967295u 11:4294967295u 23:end",
     ),
     (
-        b"0x100000000 0xffffffffffffffff",
+        "0x100000000 0xffffffffffffffff",
         " 0:4294967296l 12:18446744073709551615ul 30:end",
     ),
     (
-        b"9223372036854775807 9223372036854775808",
+        "9223372036854775807 9223372036854775808",
         " 0:9223372036854775807l 20:too large 39:end",
     ),
     (
-        b"9223372036854775808l 9223372036854775808u",
+        "9223372036854775808l 9223372036854775808u",
         " 0:too large 21:9223372036854775808ul 41:end",
     ),
     (
-        b"18446744073709551615u 18446744073709551616u",
+        "18446744073709551615u 18446744073709551616u",
         " 0:18446744073709551615ul 22:too large 43:end",
     ),
     (
-        b"1u 4294967296U 1l 1LL 01l",
+        "1u 4294967296U 1l 1LL 01l",
         " 0:1u 3:4294967296ul 15:1l 18:1l 22:1l 25:end",
     ),
     (
-        b"1ul 1LLU 1uLL 0xFFFFFFFFFFFFFFFFl",
+        "1ul 1LLU 1uLL 0xFFFFFFFFFFFFFFFFl",
         " 0:1ul 4:1ul 9:1ul 14:18446744073709551615ul 33:end",
     ),
-    (b"1 08", "bad 2"),
-    (b" 0x", "bad 1"),
-    (b"1.5", "bad 0"),
-    (b"1lL", "bad 0"),
-    (b"1uu", "bad 0"),
-    (b"a.b", "bad 1"),
+    ("1 08", "bad 2"),
+    (" 0x", "bad 1"),
+    ("1.5", "bad 0"),
+    ("1lL", "bad 0"),
+    ("1uu", "bad 0"),
+    ("a.", "bad 1"),
     (
-        b"'a' '\"' '\\n' '\\0' '\\'' '\\\\'",
+        "'a' '\"' '\\n' '\\0' '\\'' '\\\\'",
         " 0:97 4:34 8:10 13:0 18:39 23:92 27:end",
     ),
-    (b"x'ab'", "bad 1"),
-    (b"''", "bad 0"),
-    (b"'\\x'", "bad 0"),
-    (b"\"\" \"a\\\"b\\n\"", " 0:\"\" 3:\"a\\\"b\\n\" 11:end"),
-    (b"f(\"a", "bad 2"),
-    (b"\"a\\\nb\"", "bad 0"),
-    (b"a /* b", "bad 2"),
-    (b"/*/", "bad 0"),
-    (b"a // b\\\nc", "bad 2"),
-    (b"a /* \\\r\n */", "bad 2"),
-    (b"a \\\nb", "bad 2"),
-    (b"x\n#define N \\\n7\n", "bad 2"),
-    (b"'\\\n'", "bad 0"),
-    (b"a \x0c", "bad 2"),
-    (b"#include <a.h>\n # include \"b\" // c\nx", " 35:x 36:end"),
+    ("x'ab'", "bad 1"),
+    ("''", "bad 0"),
+    ("'\\x'", "bad 0"),
+    ("\"\" \"a\\\"b\\n\"", " 0:\"\" 3:\"a\\\"b\\n\" 11:end"),
+    ("f(\"a", "bad 2"),
+    ("\"a\\\nb\"", "bad 0"),
+    ("a /* ", "bad 2"),
+    ("/*/", "bad 0"),
+    ("a // b\\\nc", "bad 2"),
+    ("a /* \\\r\n */", "bad 2"),
+    ("a \\\n", "bad 2"),
+    ("x\n#define N \\\n7\n", "bad 2"),
+    ("'\\\n'", "bad 0"),
+    ("a \x0c", "bad 2"),
+    ("#include <a.h>\n # include \"b\" // c\nx", " 35:x 36:end"),
     (
-        b"/* \n */ # /* \n */ define N 0x10\nN n\"N\"",
+        "/* \n */ # /* \n */ define N 0x10\nN n\"N\"",
         " 32:16 34:n 35:\"N\" 38:end",
     ),
-    (b"#define N 7\r\nN+NN", " 13:7 14:+ 15:NN 17:end"),
-    (b"#define N 7\n#define N 7\n", "bad 12"),
-    (b"#define int 7\n", "bad 0"),
-    (b"#define N 7 8\n", "bad 0"),
-    (b"#define N 08\n", "bad 0"),
-    (b"#define N", "bad 0"),
-    (b"x #define N 7\n", "bad 2"),
-    (b"#include <a> /* b", "bad 13"),
-    (b"#define N 7 // c\\\n", "bad 12"),
-    (b" #\n", "bad 1"),
-    (b"#define NULL 0\n", "bad 0"),
-    (b"#define L 99999999999999999999\nL", " 31:too large 32:end"),
+    ("#define N 7\r\nN+NN", " 13:7 14:+ 15:NN 17:end"),
+    ("#define N 7\n#define N 7\n", "bad 12"),
+    ("#define int 7\n", "bad 0"),
+    ("#define N 7 8\n", "bad 0"),
+    ("#define N 08\n", "bad 0"),
+    ("#define N", "bad 0"),
+    ("x #define N 7\n", "bad 2"),
+    ("#include <a> /* ", "bad 13"),
+    ("#define N 7 // c\\\n", "bad 12"),
+    (" #\n", "bad 1"),
+    ("#define NULL 0\n", "bad 0"),
+    ("#define L 99999999999999999999\nL", " 31:too large 32:end"),
     (
-        b"#define a234567890123456789012345678901234567890123456789012345678901234 1\na234567890123456789012345678901234567890123456789012345678901234",
+        "#define a234567890123456789012345678901234567890123456789012345678901234 1\na234567890123456789012345678901234567890123456789012345678901234",
         "NameLength 64 at 75",
     ),
 ];
@@ -163,25 +163,30 @@ fn is_shown(alloc: Global, text: &[u8], expected: &str) -> Result<bool, AllocErr
 #[test]
 fn table(rt: HostRuntime) -> Result<(), Fail> {
     for (text, expected) in &ROWS {
-        assert!(rt; is_shown(rt.alloc(), text, expected)?, "{expected}");
+        assert!(rt;
+            is_shown(rt.alloc(), text.as_bytes(), expected)?,
+            "{expected}"
+        );
     }
     Ok(())
 }
 
-/// The limit of tokens at its edge.
-#[test]
-fn most_tokens(rt: HostRuntime) -> Result<(), Fail> {
-    let marks = vec![in rt.alloc(); b';'; 16_385]?;
-    assert!(rt; lex(rt.alloc(), &marks[..16_384])?.len() == 16_385);
-    assert!(rt; is_shown(rt.alloc(), &marks, "Tokens 16385 at 16384")?);
-    Ok(())
-}
+/// A byte, the most of it that a text may have, how many tokens these are with the end, and the fault of one more.
+const EDGES: [(u8, usize, usize, &str); 2] = [
+    (b';', 16_384, 16_385, "Tokens 16385 at 16384"),
+    (b'a', 63, 2, "NameLength 64 at 0"),
+];
 
-/// The limit of a name's length at its edge.
+/// The limit of tokens at its edge, and that of a name's length.
 #[test]
-fn longest_name(rt: HostRuntime) -> Result<(), Fail> {
-    let name = vec![in rt.alloc(); b'a'; 64]?;
-    assert!(rt; lex(rt.alloc(), &name[..63])?.len() == 2);
-    assert!(rt; is_shown(rt.alloc(), &name, "NameLength 64 at 0")?);
+fn limits(rt: HostRuntime) -> Result<(), Fail> {
+    for (byte, most, tokens, fault) in &EDGES {
+        let text = vec![in rt.alloc(); *byte; 1 + *most]?;
+        let within = lex(rt.alloc(), &text[..*most])?.len();
+        assert!(rt;
+            within == *tokens && is_shown(rt.alloc(), &text, fault)?,
+            "{fault}"
+        );
+    }
     Ok(())
 }

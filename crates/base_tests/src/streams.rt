@@ -15,9 +15,8 @@ where
     S: Drop,
 {
     let whole = read_all(alloc, &mut source, TEXT.len()).expect(rt, name);
-    assert!(rt; whole.as_slice() == TEXT, "of {name}");
     let rest = read_all(alloc, &mut source, 0).expect(rt, name);
-    assert!(rt; rest.is_empty(), "of {name}");
+    assert!(rt; whole.as_slice() == TEXT && rest.is_empty(), "of {name}");
 }
 
 #[test]
@@ -41,11 +40,11 @@ fn holds_to_the_most_bytes(rt: HostRuntime) {
     for (max, fits) in [(0, false), (24, false), (25, true), (65_536, true)] {
         let mut source = MemSource::new(TEXT, 7, &[]);
         let read = read_all(alloc, &mut source, max);
-        assert!(rt; read.is_ok() == fits, "at {max}");
-        assert!(rt;
-            fits || matches!(read, Err(ReadAllError::TooLong)),
-            "at {max}"
-        );
+        let is_right = match read {
+            Ok(_) => fits,
+            Err(fault) => !fits && fault == ReadAllError::TooLong,
+        };
+        assert!(rt; is_right, "at {max}");
     }
 }
 
@@ -54,9 +53,9 @@ fn fails_in_the_middle_of_a_read(rt: HostRuntime) -> Result<(), Fail> {
     let alloc = rt.alloc();
     let mut source = MemSource::new(TEXT, 4, &[2]);
     let read = read_all(alloc, &mut source, 100);
-    assert!(rt; matches!(read, Err(ReadAllError::ReadFault)));
+    let is_told = matches!(read, Err(ReadAllError::ReadFault));
     let rest = read_all(alloc, &mut source, 100)?;
-    assert!(rt; rest.as_slice() == b"main(void){return 0;}".as_slice());
+    assert!(rt; is_told && rest.as_slice() == &TEXT[4..]);
     Ok(())
 }
 
@@ -64,13 +63,20 @@ fn fails_in_the_middle_of_a_read(rt: HostRuntime) -> Result<(), Fail> {
 fn fails_in_the_middle_of_a_write(rt: HostRuntime) -> Result<(), Fail> {
     let alloc = rt.alloc();
     let mut sink = MemSink::new(alloc, 100, 4, &[3])?;
-    assert!(rt; write_all(&mut sink, TEXT) == Err(WriteFault { written: 8 }));
-    assert!(rt; sink.held() == b"int main".as_slice());
-    assert!(rt; write_all(&mut sink, b"(void)").is_ok());
-    assert!(rt; sink.held() == b"int main(void)".as_slice());
     let mut small = MemSink::new(alloc, 10, 25, &[])?;
-    assert!(rt; write_all(&mut small, TEXT) == Err(WriteFault { written: 10 }));
-    assert!(rt; write_all(&mut SureSink::new(), TEXT).is_ok());
+    let written = [
+        write_all(&mut sink, TEXT),
+        write_all(&mut sink, &TEXT[8..14]),
+        write_all(&mut small, TEXT),
+        write_all(&mut SureSink::new(), TEXT),
+    ];
+    let wanted = [
+        Err(WriteFault { written: 8 }),
+        Ok(()),
+        Err(WriteFault { written: 10 }),
+        Ok(()),
+    ];
+    assert!(rt; written == wanted && sink.held() == &TEXT[..14]);
     Ok(())
 }
 
@@ -127,16 +133,18 @@ fn stands_over_streams_of_std(rt: HostRuntime) -> Result<(), Fail> {
             calls: 0,
             broken_from,
         });
-        let read = read_all(alloc, &mut source, 100);
-        assert!(rt; matches!(read, Err(ReadAllError::ReadFault)) == fails);
-        assert!(rt; read.is_ok_and(|bytes| bytes.as_slice() == TEXT) == !fails);
+        let is_right = match read_all(alloc, &mut source, 100) {
+            Ok(bytes) => !fails && bytes.as_slice() == TEXT,
+            Err(fault) => fails && fault == ReadAllError::ReadFault,
+        };
+        assert!(rt; is_right);
     }
-    let mut sink = StdSink::new(Grudging { calls: 0 });
-    assert!(rt; write_all(&mut sink, TEXT) == Err(WriteFault { written: 10 }));
-    let mut vec_sink = StdSink::new(Vec::<u8>::new(alloc));
-    assert!(rt; write_all(&mut vec_sink, TEXT).is_ok());
-    let mut out = StdSink::new(rt.stdout());
-    assert!(rt; write_all(&mut out, b"one line\n").is_ok());
+    let written = [
+        write_all(&mut StdSink::new(Grudging { calls: 0 }), TEXT),
+        write_all(&mut StdSink::new(Vec::<u8>::new(alloc)), TEXT),
+        write_all(&mut StdSink::new(rt.stdout()), b"one line\n"),
+    ];
+    assert!(rt; written == [Err(WriteFault { written: 10 }), Ok(()), Ok(())]);
     Ok(())
 }
 
@@ -148,12 +156,11 @@ fn prints_minimal_decimals(rt: HostRuntime) -> Result<(), Fail> {
         bytes.push(b' ')?;
         put_dec(&mut bytes, n)?;
     }
-    let want = b"hls: 0 7 -1 10 -100 4294967295 170141183460469231731687303715884105727 \
+    let want = "hls: 0 7 -1 10 -100 4294967295 170141183460469231731687303715884105727 \
         -170141183460469231731687303715884105728";
-    assert!(rt; bytes.as_slice() == want.as_slice());
+    let is_right = bytes.as_slice() == want.as_bytes();
     bytes.truncate(5);
     bytes.put(b"usage")?;
-    assert!(rt; bytes.as_slice() == b"hls: usage".as_slice());
-    assert!(rt; bytes.len() == 10);
+    assert!(rt; is_right && bytes.len() == 10 && bytes.as_slice() == b"hls: usage".as_slice());
     Ok(())
 }
