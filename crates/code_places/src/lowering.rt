@@ -12,7 +12,7 @@ ghost use Rattle.code_places.specs.Labels as spec;
 use crate::stages::Stages;
 use crate::targets::Back;
 use block_ir::block::Next;
-use block_ir::code::{Act, ActOperand, Array, ThreadCode};
+use block_ir::code::{Act, Array, ThreadCode};
 use block_ir::operand::Operand;
 use hls_ints::CType;
 use sqlite_items::Items;
@@ -21,7 +21,6 @@ use std::mem;
 use straight_code::fault::{LoweringFault, number_of};
 use straight_code::homes::Home;
 use straight_code::open_block::OpenBlock;
-use straight_code::operands::converted;
 use thread_rooms::objects::Objects;
 use thread_rooms::rooms::{Room, Rooms, room_of};
 
@@ -182,28 +181,6 @@ impl Lowering {
         ensures full { IfErr result (IsFull (length self.now.variables + 1)) }
     {
         number_of(self.variables.len())
-    }
-
-    /// An operand of an act is put into the variable for operands at that position.
-    pub fn act_operand(
-        &mut self,
-        alloc: Global,
-        position: usize,
-        value: &Operand,
-    ) -> Result<ActOperand, LoweringFault>
-        ensures stages { OnOk result (self.new.stages ≡ self.old.stages) }
-        ensures reached { OnOk result (self.new.reached ≡ self.old.reached) }
-        ensures back { OnOk result (self.new.back ≡ self.old.back) }
-    {
-        if position >= ACT_OPERANDS {
-            return Err(LoweringFault::TooLarge);
-        }
-        let number = self.variables.len().checked_add(position);
-        let variable = number_of(number.ok_or(LoweringFault::TooLarge)?)?;
-        let value = converted(alloc, value, CType::LONG)?;
-        self.block.set(variable, value)?;
-        self.act_operands = self.act_operands.max(position + 1);
-        Ok(ActOperand::Variable(variable, CType::LONG))
     }
 
     pub fn new_label(&mut self) -> Result<usize, AllocError>
