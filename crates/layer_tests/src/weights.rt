@@ -78,6 +78,10 @@ const BOUNDS: [(&str, u32); 2] = [
     ),
 ];
 
+fn bound_rows() -> &'static [(&'static str, u32)] {
+    &BOUNDS
+}
+
 fn bound_of(alloc: Global, text: &str) -> Result<u32, Fail> {
     let accepted = accept(alloc, text.as_bytes())?;
     Ok(bound(alloc, &accepted.program)?)
@@ -85,7 +89,7 @@ fn bound_of(alloc: Global, text: &str) -> Result<u32, Fail> {
 
 #[test]
 fn bounds_the_cycles_of_a_program(rt: HostRuntime) -> Result<(), Fail> {
-    for (text, expected) in &BOUNDS {
+    for (text, expected) in bound_rows() {
         assert!(rt; bound_of(rt.alloc(), text)? == *expected, "at {text}");
     }
     Ok(())

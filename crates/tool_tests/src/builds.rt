@@ -122,9 +122,13 @@ const BUILT: [Row; 16] = [
     ),
 ];
 
+fn built_rows() -> &'static [Row] {
+    &BUILT
+}
+
 #[test]
 fn builds(rt: HostRuntime) -> Result<(), Fail> {
-    each(&rt, rt.alloc(), &BUILT)?;
+    each(&rt, rt.alloc(), built_rows())?;
     Ok(())
 }
 

@@ -1,7 +1,7 @@
 // The table of faults: words, journals, texts that end too early, reads and writes that fail; and the number of each status.
 
 use crate::call::{
-    BUILD, Moves, REPLAY, RUN, Row, SIM, SURE, Streams, each, is_ended, is_right, is_told, told,
+    BUILD, REPLAY, RUN, Row, SIM, SURE, Streams, each, is_ended, is_right, is_told, told,
 };
 use crate::programs::{COUNTING, ENDLESS, MAIN, SUMMING};
 use crate::sims::CLIMBING;
@@ -42,6 +42,10 @@ const CASES: [Case; 12] = [
     (CLIMBING, SIM),
 ];
 
+fn cases() -> &'static [Case] {
+    &CASES
+}
+
 /// Whether a fault of this read is told, where each read takes 16 bytes.
 fn read_fails<R: Threads + Wait + Sync>(
     rt: &R,
@@ -61,7 +65,7 @@ fn read_fails<R: Threads + Wait + Sync>(
 /// The last read finds the text's end.
 #[test]
 fn tells_a_fault_of_each_read(rt: HostRuntime) -> Result<(), Fail> {
-    for case in &CASES {
+    for case in cases() {
         for number in 0..=case.0.as_bytes().chunks(16).count() as u64 {
             let is_right = read_fails(&rt, rt.alloc(), case, number.saturating_add(1))?;
             assert!(rt; is_right, "at read {number}");
@@ -131,7 +135,7 @@ fn err_fails<R: Threads + Wait + Sync>(
 
 #[test]
 fn tells_a_fault_of_each_write(rt: HostRuntime) -> Result<(), Fail> {
-    for case in &CASES {
+    for case in cases() {
         let due = told(&rt, rt.alloc(), case.0.as_bytes(), case.1, &SURE)?;
         let (out, err) = (due.out.held(), due.err.held());
         for number in 0..4 {
@@ -145,16 +149,27 @@ fn tells_a_fault_of_each_write(rt: HostRuntime) -> Result<(), Fail> {
 
 /// The calls of out and of err that fail in a build, each taking so many bytes, how many bytes out takes, and what err takes: where out
 /// failed, err owes the line of a write fault.
-type Fault = (Moves<'static>, Moves<'static>, usize, &'static [u8]);
+type Fault = (
+    usize,
+    &'static [u64],
+    usize,
+    &'static [u64],
+    usize,
+    &'static [u8],
+);
 
 const FAULTS: [Fault; 6] = [
-    ((16, &[3]), (4096, &[]), 32, WRITE_FAULT),
-    ((16, &[1]), (4096, &[1]), 0, b""),
-    ((16, &[3]), (5, &[1]), 32, b""),
-    ((16, &[3]), (5, &[2]), 32, b"hls: "),
-    ((16, &[3]), (5, &[3]), 32, b"hls: write"),
-    ((16, &[3]), (5, &[4]), 32, b"hls: write faul"),
+    (16, &[3], 4096, &[], 32, WRITE_FAULT),
+    (16, &[1], 4096, &[1], 0, b""),
+    (16, &[3], 5, &[1], 32, b""),
+    (16, &[3], 5, &[2], 32, b"hls: "),
+    (16, &[3], 5, &[3], 32, b"hls: write"),
+    (16, &[3], 5, &[4], 32, b"hls: write faul"),
 ];
+
+fn fault_rows() -> &'static [Fault] {
+    &FAULTS
+}
 
 /// Whether such a build is told, of which the text is this one.
 fn is_faulty<R: Threads + Wait + Sync>(
@@ -164,25 +179,26 @@ fn is_faulty<R: Threads + Wait + Sync>(
     source: &str,
     text: &[u8],
 ) -> Result<bool, AllocError> {
+    let (out_chunk, out_fails, err_chunk, err_fails, out, err) = *fault;
     let streams = Streams {
-        outs: fault.0,
-        errs: fault.1,
+        outs: (out_chunk, out_fails),
+        errs: (err_chunk, err_fails),
         ..SURE
     };
     let told = told(rt, alloc, source.as_bytes(), BUILD, &streams)?;
-    let out = fault.2.min(text.len());
+    let out = out.min(text.len());
     let status = Status::WriteFault {
         out,
-        err: fault.3.len(),
+        err: err.len(),
     };
-    Ok(told.outcome.text.as_slice() == text && is_ended(&told, status, &text[..out], fault.3))
+    Ok(told.outcome.text.as_slice() == text && is_ended(&told, status, &text[..out], err))
 }
 
 #[test]
 fn tells_what_both_sinks_took(rt: HostRuntime) -> Result<(), Fail> {
     for source in [MAIN, COUNTING] {
         let built = told(&rt, rt.alloc(), source.as_bytes(), BUILD, &SURE)?;
-        for fault in &FAULTS {
+        for fault in fault_rows() {
             let is_right = is_faulty(&rt, rt.alloc(), fault, source, built.out.held())?;
             assert!(rt; is_right);
         }
@@ -235,6 +251,10 @@ const WORDS: [&[&str]; 42] = [
     &["hls", "walk", "--threads", "00000000000"],
     &["hls", "walk", "--threads", "0*00000000001"],
 ];
+
+fn word_rows() -> &'static [&'static [&'static str]] {
+    &WORDS
+}
 
 /// Numbers at their edges.
 const EDGES: [Row; 8] = [
@@ -296,29 +316,49 @@ const EDGES: [Row; 8] = [
     ),
 ];
 
+fn edge_rows() -> &'static [Row] {
+    &EDGES
+}
+
 #[test]
 fn judges_the_words(rt: HostRuntime) -> Result<(), Fail> {
-    for words in &WORDS {
+    for words in word_rows() {
         let text = MAIN.as_bytes();
         let is_usage = is_right(&rt, rt.alloc(), text, words, &SURE, 2, "", USAGE)?;
         let count = words.len();
         assert!(rt; is_usage, "at {count} words");
     }
-    each(&rt, rt.alloc(), &EDGES)?;
+    each(&rt, rt.alloc(), edge_rows())?;
     Ok(())
 }
 
 /// The second read of four bytes fails. Words are judged before a byte is read, and a text only where it is read to its end.
-const ORDER: [(Case, u8, &str); 8] = [
-    (("int x", &["hls", "step"]), 2, USAGE),
-    (("int x", BUILD), 3, READ_FAULT),
-    (("int x", RUN), 3, READ_FAULT),
-    (("int x", &["hls", "step", "--cycles", "9"]), 3, READ_FAULT),
-    (("int x", &["hls", "walk", "--threads", "0"]), 3, READ_FAULT),
-    (("modul", SIM), 3, READ_FAULT),
-    (("//@ 5 0 -\nint x", REPLAY), 3, READ_FAULT),
-    ((MAIN, BUILD), 3, READ_FAULT),
+const ORDER: [Row; 8] = [
+    ("int x", &["hls", "step"], 2, "", USAGE),
+    ("int x", BUILD, 3, "", READ_FAULT),
+    ("int x", RUN, 3, "", READ_FAULT),
+    (
+        "int x",
+        &["hls", "step", "--cycles", "9"],
+        3,
+        "",
+        READ_FAULT,
+    ),
+    (
+        "int x",
+        &["hls", "walk", "--threads", "0"],
+        3,
+        "",
+        READ_FAULT,
+    ),
+    ("modul", SIM, 3, "", READ_FAULT),
+    ("//@ 5 0 -\nint x", REPLAY, 3, "", READ_FAULT),
+    (MAIN, BUILD, 3, "", READ_FAULT),
 ];
+
+fn order_rows() -> &'static [Row] {
+    &ORDER
+}
 
 #[test]
 fn judges_in_order(rt: HostRuntime) -> Result<(), Fail> {
@@ -326,9 +366,18 @@ fn judges_in_order(rt: HostRuntime) -> Result<(), Fail> {
         reads: (4, &[2]),
         ..SURE
     };
-    for ((text, words), number, line) in &ORDER {
+    for (text, words, number, printed, line) in order_rows() {
         let text = text.as_bytes();
-        let is_right = is_right(&rt, rt.alloc(), text, words, &streams, *number, "", line)?;
+        let is_right = is_right(
+            &rt,
+            rt.alloc(),
+            text,
+            words,
+            &streams,
+            *number,
+            printed,
+            line,
+        )?;
         assert!(rt; is_right, "at {line}");
     }
     Ok(())
@@ -376,9 +425,13 @@ const JOURNALS: [(&str, usize); 35] = [
     ),
 ];
 
+fn journal_rows() -> &'static [(&'static str, usize)] {
+    &JOURNALS
+}
+
 #[test]
 fn tells_the_first_bad_entry(rt: HostRuntime) -> Result<(), Fail> {
-    for (journal, index) in &JOURNALS {
+    for (journal, index) in journal_rows() {
         let text = format!(in rt.alloc(); "{journal}{ENDLESS}")?;
         let line = format!(in rt.alloc(); "hls: bad entry {index}\n")?;
         let (text, line) = (text.as_bytes(), line.as_str());
@@ -393,21 +446,25 @@ const SMALL: &str = "int main(void){int i = 4; return i;}";
 const BEHIND: &str = "//@ 0 4096 -\n//@ 0 1 s\nint main(void){while (1) ; return 0;}";
 
 /// Each proper beginning of these is refused. One that ends inside of a journal has no program behind it.
-const CUTS: [(Case, u8, &str); 6] = [
-    ((SUMMING, BUILD), 1, REFUSED),
-    ((SMALL, &["hls", "step", "--cycles", "9"]), 1, REFUSED),
-    ((SMALL, &["hls", "walk", "--threads", "0"]), 1, REFUSED),
-    ((SMALL, RUN), 1, REFUSED),
-    ((BEHIND, REPLAY), 1, REFUSED),
-    ((CLIMBING, SIM), 11, NOT_NET),
+const CUTS: [Row; 6] = [
+    (SUMMING, BUILD, 1, "", REFUSED),
+    (SMALL, &["hls", "step", "--cycles", "9"], 1, "", REFUSED),
+    (SMALL, &["hls", "walk", "--threads", "0"], 1, "", REFUSED),
+    (SMALL, RUN, 1, "", REFUSED),
+    (BEHIND, REPLAY, 1, "", REFUSED),
+    (CLIMBING, SIM, 11, "", NOT_NET),
 ];
+
+fn cut_rows() -> &'static [Row] {
+    &CUTS
+}
 
 #[test]
 fn refuses_each_cut(rt: HostRuntime) -> Result<(), Fail> {
-    for ((text, words), number, line) in &CUTS {
+    for (text, words, number, printed, line) in cut_rows() {
         for length in 0..text.len() {
             let cut = &text.as_bytes()[..length];
-            let is_right = is_right(&rt, rt.alloc(), cut, words, &SURE, *number, "", line)?;
+            let is_right = is_right(&rt, rt.alloc(), cut, words, &SURE, *number, printed, line)?;
             assert!(rt; is_right, "at {length} bytes");
         }
     }
@@ -418,11 +475,11 @@ fn refuses_each_cut(rt: HostRuntime) -> Result<(), Fail> {
 fn tells_that_memory_is_wanting(rt: HostRuntime) -> Result<(), Fail> {
     let alloc = rt.alloc();
     let mut err = MemSink::new(alloc, 1000, 16, &[])?;
-    assert!(rt; tell_memory(&mut err) == Status::Memory);
-    assert!(rt; err.held() == b"hls: out of memory\n".as_slice());
     let mut full = MemSink::new(alloc, 1000, 16, &[1])?;
-    assert!(rt; tell_memory(&mut full) == Status::Memory);
-    assert!(rt; full.held().is_empty());
+    let told = [tell_memory(&mut err), tell_memory(&mut full)];
+    let is_told = told == [Status::Memory, Status::Memory];
+    let held = err.held() == b"hls: out of memory\n".as_slice() && full.held().is_empty();
+    assert!(rt; is_told && held);
     Ok(())
 }
 

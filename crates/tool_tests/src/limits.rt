@@ -101,6 +101,10 @@ const LENGTHS: [Length; 20] = [
     (EMPTY, b';', 8_216, "return 0;}", BUILD, 1, "", TOO_HEAVY),
 ];
 
+fn length_rows() -> &'static [Length] {
+    &LENGTHS
+}
+
 fn is_kept<R: Threads + Wait + Sync>(
     rt: &R,
     alloc: Global,
@@ -114,7 +118,7 @@ fn is_kept<R: Threads + Wait + Sync>(
 
 #[test]
 fn keeps_the_limits_of_bytes(rt: HostRuntime) -> Result<(), Fail> {
-    for length in &LENGTHS {
+    for length in length_rows() {
         let is_kept = is_kept(&rt, rt.alloc(), length)?;
         let bytes = length.2;
         assert!(rt; is_kept, "at {bytes} bytes");
@@ -154,6 +158,10 @@ const TOKENS: [Limit; 4] = [
         "hls: refused E12 at byte 19: name length 64, at most 63\n",
     ),
 ];
+
+fn token_rows() -> &'static [Limit] {
+    &TOKENS
+}
 
 const OBJECTS: [Limit; 11] = [
     ("pthread_t t[16]; ", "", 0, MAIN, ENDED),
@@ -211,6 +219,10 @@ const OBJECTS: [Limit; 11] = [
     ),
 ];
 
+fn object_rows() -> &'static [Limit] {
+    &OBJECTS
+}
+
 const CODE: [Limit; 6] = [
     (
         "int main(void){",
@@ -244,9 +256,13 @@ const CODE: [Limit; 6] = [
     ("int main(void){", ";", 8191, "return 0;}", TOO_HEAVY),
 ];
 
+fn code_rows() -> &'static [Limit] {
+    &CODE
+}
+
 #[test]
 fn keeps_the_limits(rt: HostRuntime) -> Result<(), Fail> {
-    for limits in [&TOKENS[..], &OBJECTS[..], &CODE[..]] {
+    for limits in [token_rows(), object_rows(), code_rows()] {
         for (front, part, count, back, line) in limits {
             let text = repeating(rt.alloc(), front, part, *count, back)?;
             let is_told = is_told(&rt, rt.alloc(), text.as_str(), line)?;
@@ -286,9 +302,13 @@ const CALLING: [(u32, u32, &str, &str); 3] = [
     ),
 ];
 
+fn calling_rows() -> &'static [(u32, u32, &'static str, &'static str)] {
+    &CALLING
+}
+
 #[test]
 fn counts_functions_and_what_is_inlined(rt: HostRuntime) -> Result<(), Fail> {
-    for (functions, calls, main, line) in &CALLING {
+    for (functions, calls, main, line) in calling_rows() {
         let text = calling(rt.alloc(), *functions, *calls, main)?;
         let is_told = is_told(&rt, rt.alloc(), text.as_str(), line)?;
         assert!(rt; is_told, "at {functions} functions");

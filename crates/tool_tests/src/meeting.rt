@@ -89,9 +89,13 @@ fn all_meet<R: Threads + Wait + Sync>(
 /// Programs, and how many workers run them: one for each hardware thread.
 const MEETINGS: [(&str, u32); 3] = [(COUNTING, 1), (PRINTING, 3), (ADDING, 4)];
 
+fn meeting_rows() -> &'static [(&'static str, u32)] {
+    &MEETINGS
+}
+
 #[test]
 fn workers_meet(rt: HostRuntime) -> Result<(), Fail> {
-    for (text, workers) in &MEETINGS {
+    for (text, workers) in meeting_rows() {
         let met = all_meet(&rt, rt.alloc(), text, RUN, *workers, Status::Ok)?;
         assert!(rt; met, "at {text}");
     }

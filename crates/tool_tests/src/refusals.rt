@@ -212,8 +212,12 @@ const REFUSED: [Row; 31] = [
     ),
 ];
 
+fn refused_rows() -> &'static [Row] {
+    &REFUSED
+}
+
 #[test]
 fn refuses(rt: HostRuntime) -> Result<(), Fail> {
-    each(&rt, rt.alloc(), &REFUSED)?;
+    each(&rt, rt.alloc(), refused_rows())?;
     Ok(())
 }

@@ -1,6 +1,6 @@
 // What is read as Verilog, where it is none, and what it prints.
 
-use crate::call::{BUILD, Row, SURE, each, told};
+use crate::call::{BUILD, Ended, Row, SURE, each, told};
 use crate::programs::{COUNTING, SUMMING};
 use hls_tool::Status;
 use std::alloc::{AllocError, Global};
@@ -135,10 +135,26 @@ const SIMS: [Row; 14] = [
     ),
 ];
 
+fn sim_rows() -> &'static [Row] {
+    &SIMS
+}
+
 #[test]
 fn simulates(rt: HostRuntime) -> Result<(), Fail> {
-    each(&rt, rt.alloc(), &SIMS)?;
+    each(&rt, rt.alloc(), sim_rows())?;
     Ok(())
+}
+
+/// What `step` or `sim` answers on a text within so many cycles.
+fn in_cycles<R: Threads + Wait + Sync>(
+    rt: &R,
+    alloc: Global,
+    text: &[u8],
+    command: &str,
+    cycles: &str,
+) -> Result<Box<Ended<'static>>, AllocError> {
+    let words = ["hls", command, "--cycles", cycles];
+    told(rt, alloc, text, &words, &SURE)
 }
 
 /// Whether the text of a build, read as Verilog, answers and writes what the steps of the C text do.
@@ -149,10 +165,8 @@ fn is_as_step<R: Threads + Wait + Sync>(
     cycles: &str,
 ) -> Result<bool, AllocError> {
     let built = told(rt, alloc, text.as_bytes(), BUILD, &SURE)?;
-    let words = ["hls", "step", "--cycles", cycles];
-    let stepped = told(rt, alloc, text.as_bytes(), &words, &SURE)?;
-    let words = ["hls", "sim", "--cycles", cycles];
-    let simulated = told(rt, alloc, built.out.held(), &words, &SURE)?;
+    let stepped = in_cycles(rt, alloc, text.as_bytes(), "step", cycles)?;
+    let simulated = in_cycles(rt, alloc, built.out.held(), "sim", cycles)?;
     Ok(
         simulated.outcome.status == stepped.outcome.status
             && simulated.outcome.text.as_slice().is_empty()
@@ -164,9 +178,13 @@ fn is_as_step<R: Threads + Wait + Sync>(
 /// A C text, and the cycles of both runs.
 const BUILT: [(&str, &str); 3] = [(COUNTING, "11520"), (COUNTING, "3"), (SUMMING, "10000000")];
 
+fn built_rows() -> &'static [(&'static str, &'static str)] {
+    &BUILT
+}
+
 #[test]
 fn simulates_a_build_as_steps(rt: HostRuntime) -> Result<(), Fail> {
-    for (text, cycles) in &BUILT {
+    for (text, cycles) in built_rows() {
         let is_right = is_as_step(&rt, rt.alloc(), text, cycles)?;
         assert!(rt; is_right, "at {cycles} cycles of {text}");
     }

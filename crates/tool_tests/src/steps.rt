@@ -161,9 +161,13 @@ const STEPS: [Row; 19] = [
     ),
 ];
 
+fn step_rows() -> &'static [Row] {
+    &STEPS
+}
+
 #[test]
 fn steps(rt: HostRuntime) -> Result<(), Fail> {
-    each(&rt, rt.alloc(), &STEPS)?;
+    each(&rt, rt.alloc(), step_rows())?;
     Ok(())
 }
 

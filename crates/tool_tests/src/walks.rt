@@ -179,8 +179,12 @@ const WALKS: [Row; 22] = [
     ),
 ];
 
+fn walk_rows() -> &'static [Row] {
+    &WALKS
+}
+
 #[test]
 fn walks(rt: HostRuntime) -> Result<(), Fail> {
-    each(&rt, rt.alloc(), &WALKS)?;
+    each(&rt, rt.alloc(), walk_rows())?;
     Ok(())
 }
