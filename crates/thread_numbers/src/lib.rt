@@ -1,5 +1,6 @@
 //! The modules of a program's hardware threads, by number: one for each function that threads run, main's first, and behind them
 //! one for threads without a function.
+//! `rt plant`: of 6 wrong bodies in 3 functions 5 are refused and 1 by the premise of a callee alone.
 #![tactic(auto)]
 
 ghost use Rattle.std.specs.Prelude.{◌≡◌, ◌++◌, ◌∷◌, IfOk, OnOk};
