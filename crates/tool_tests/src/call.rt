@@ -156,16 +156,3 @@ pub fn each<R: Threads + Wait + Sync + Abort>(
     }
     Ok(())
 }
-
-/// Whether a call on the text of two threads that print a line each is done, with the lines in one of the two orders.
-pub fn is_either<R: Threads + Wait + Sync>(
-    rt: &R,
-    alloc: Global,
-    text: &str,
-    words: &[&str],
-) -> Result<bool, AllocError> {
-    let told = told(rt, alloc, text.as_bytes(), words, &SURE)?;
-    let out = told.out.held();
-    let is_one = out == b"a\nb\n".as_slice() || out == b"b\na\n".as_slice();
-    Ok(told.outcome.status == Status::Ok && is_one)
-}

@@ -1,9 +1,7 @@
-// The table of faults: words, journals, texts that end too early, reads and writes that fail; and the number of each status.
+// Reads and writes that fail, and the number of each status.
 
-use crate::call::{
-    BUILD, REPLAY, RUN, Row, SIM, SURE, Streams, each, is_ended, is_right, is_told, told,
-};
-use crate::programs::{COUNTING, ENDLESS, MAIN, SUMMING};
+use crate::call::{BUILD, REPLAY, RUN, Row, SIM, SURE, Streams, is_ended, is_right, is_told, told};
+use crate::programs::{COUNTING, ENDLESS, MAIN};
 use crate::sims::CLIMBING;
 use c_profile::Refusal;
 use hls_io::MemSink;
@@ -18,10 +16,6 @@ const READ_FAULT: &str = "hls: read fault\n";
 const WRITE_FAULT: &[u8] = b"hls: write fault\n";
 
 const USAGE: &str = "hls: usage\n";
-
-const REFUSED: &str = "hls: refused E";
-
-const NOT_NET: &str = "hls: not a net at byte ";
 
 /// A text and the words behind it.
 type Case = (&'static str, &'static [&'static str]);
@@ -206,132 +200,6 @@ fn tells_what_both_sinks_took(rt: HostRuntime) -> Result<(), Fail> {
     Ok(())
 }
 
-/// Words of no command.
-const WORDS: [&[&str]; 42] = [
-    &[],
-    &["hls"],
-    &["hls", "compile"],
-    &["hls", "--help"],
-    &["hls", "--version"],
-    &["hls", "Build"],
-    &["hls", "build", "x"],
-    &["hls", "build", "--help"],
-    &["hls", "build", "--jobs"],
-    &["hls", "build", "--jobs", "0"],
-    &["hls", "build", "--jobs", "17"],
-    &["hls", "build", "--jobs", "two"],
-    &["hls", "build", "--cycles", "1"],
-    &["hls", "step"],
-    &["hls", "step", "--cycles"],
-    &["hls", "step", "--cycles", "4294967296"],
-    &["hls", "step", "--cycles", "-1"],
-    &["hls", "step", "--cycles", "1x"],
-    &["hls", "step", "--cycles", "9", "9"],
-    &["hls", "step", "--vcd"],
-    &["hls", "step", "--cycles", "100001", "--vcd"],
-    &["hls", "run", "x"],
-    &["hls", "run", "--entries"],
-    &["hls", "run", "--entries", "-1"],
-    &["hls", "run", "--entries", "0"],
-    &["hls", "run", "--entries", "1000001"],
-    &["hls", "run", "--cycles", "9"],
-    &["hls", "replay", "x"],
-    &["hls", "replay", "--journal"],
-    &["hls", "walk"],
-    &["hls", "walk", "--threads", ""],
-    &["hls", "walk", "--threads", "0,"],
-    &["hls", "walk", "--threads", ",0"],
-    &["hls", "walk", "--threads", "0*"],
-    &["hls", "walk", "--threads", "*1"],
-    &["hls", "walk", "--threads", "0*0"],
-    &["hls", "walk", "--threads", "0*1000001"],
-    &["hls", "walk", "--threads", "0*1000000,0"],
-    &["hls", "walk", "--threads", "4294967296"],
-    &["hls", "walk", "--threads", "0 0"],
-    &["hls", "walk", "--threads", "00000000000"],
-    &["hls", "walk", "--threads", "0*00000000001"],
-];
-
-fn word_rows() -> &'static [&'static [&'static str]] {
-    &WORDS
-}
-
-/// Numbers at their edges.
-const EDGES: [Row; 8] = [
-    (
-        MAIN,
-        &["hls", "build", "--jobs=16"],
-        0,
-        "module ",
-        "hls: built, ",
-    ),
-    (
-        MAIN,
-        &["hls", "step", "--cycles", "0"],
-        9,
-        "",
-        "hls: not done, 0 cycles\n",
-    ),
-    (
-        MAIN,
-        &["hls", "step", "--cycles=4294967295"],
-        0,
-        "",
-        "hls: done, ",
-    ),
-    (
-        MAIN,
-        &["hls", "run", "--entries", "1000000"],
-        0,
-        "",
-        "hls: done, ",
-    ),
-    (
-        MAIN,
-        &["hls", "run", "--journal", "--entries", "1000"],
-        0,
-        "",
-        "//@ 0 ",
-    ),
-    (
-        MAIN,
-        &["hls", "walk", "--threads", "0*1000000"],
-        0,
-        "",
-        "hls: ended, 1 steps\n",
-    ),
-    (
-        MAIN,
-        &["hls", "walk", "--threads", "0000000000*0000000001"],
-        0,
-        "",
-        "hls: ended, 1 steps\n",
-    ),
-    (
-        MAIN,
-        &["hls", "walk", "--threads", "4294967295"],
-        10,
-        "",
-        "hls: blocked at step 0, thread 4294967295: not running\n",
-    ),
-];
-
-fn edge_rows() -> &'static [Row] {
-    &EDGES
-}
-
-#[test]
-fn judges_the_words(rt: HostRuntime) -> Result<(), Fail> {
-    for words in word_rows() {
-        let text = MAIN.as_bytes();
-        let is_usage = is_right(&rt, rt.alloc(), text, words, &SURE, 2, "", USAGE)?;
-        let count = words.len();
-        assert!(rt; is_usage, "at {count} words");
-    }
-    each(&rt, rt.alloc(), edge_rows())?;
-    Ok(())
-}
-
 /// The second read of four bytes fails. Words are judged before a byte is read, and a text only where it is read to its end.
 const ORDER: [Row; 8] = [
     ("int x", &["hls", "step"], 2, "", USAGE),
@@ -379,94 +247,6 @@ fn judges_in_order(rt: HostRuntime) -> Result<(), Fail> {
             line,
         )?;
         assert!(rt; is_right, "at {line}");
-    }
-    Ok(())
-}
-
-/// Journals before a program without an end, whose main never asks a core, and the first entry that is misspelt or not legal.
-const JOURNALS: [(&str, usize); 35] = [
-    ("//@ 5 0 -\n", 0),
-    ("//@ 0 0 -\n", 0),
-    ("//@ 0 0 s\n", 0),
-    ("//@ 0 1 s\n", 0),
-    ("//@ 0 4097 -\n", 0),
-    ("//@ 1 1 -\n", 0),
-    ("//@ 4294967296 1 -\n", 0),
-    ("//@ 00 1 -\n", 0),
-    ("//@ 0 01 -\n", 0),
-    ("//@ 12345678901 1 -\n", 0),
-    ("//@ 0 12345678901 -\n", 0),
-    ("//@\n", 0),
-    ("//@ \n", 0),
-    ("//@ 0\n", 0),
-    ("//@ 0 1\n", 0),
-    ("//@ 0 1 \n", 0),
-    ("//@ 0 1 x\n", 0),
-    ("//@ 0 1 S\n", 0),
-    ("//@ 0 1 -x\n", 0),
-    ("//@ 0 1 - \n", 0),
-    ("//@ 0 1 -\r\n", 0),
-    ("//@0 1 -\n", 0),
-    ("//@  0 1 -\n", 0),
-    ("//@ 0  1 -\n", 0),
-    ("//@\t0 1 -\n", 0),
-    ("//@ +0 1 -\n", 0),
-    ("//@ -1 1 -\n", 0),
-    ("//@ 0x0 1 -\n", 0),
-    ("//@ 0 9 -\n//@ 0 1\n", 1),
-    ("//@ 0 9 -\n//@ 0 1 -\n//@ 1 1 -\n", 2),
-    ("//@ 1 1 -\n//@ 0 1\n", 0),
-    ("//@ 0 1\n//@ 1 1 -\n", 0),
-    ("//@ 0 1 -\n//@ 0 1 x\n//@ 1 1 -\n", 1),
-    ("//@ 0 1 -\n//@ 1 1 -\n//@ 0 1 x\n", 1),
-    (
-        "//@ 0 1 -\n//@ 0 1 -\n//@ 0 1 -\n//@ 0 4097 -\n//@ 0 1 -\n",
-        3,
-    ),
-];
-
-fn journal_rows() -> &'static [(&'static str, usize)] {
-    &JOURNALS
-}
-
-#[test]
-fn tells_the_first_bad_entry(rt: HostRuntime) -> Result<(), Fail> {
-    for (journal, index) in journal_rows() {
-        let text = format!(in rt.alloc(); "{journal}{ENDLESS}")?;
-        let line = format!(in rt.alloc(); "hls: bad entry {index}\n")?;
-        let (text, line) = (text.as_bytes(), line.as_str());
-        let is_right = is_right(&rt, rt.alloc(), text, REPLAY, &SURE, 8, "", line)?;
-        assert!(rt; is_right, "at {journal}");
-    }
-    Ok(())
-}
-
-const SMALL: &str = "int main(void){int i = 4; return i;}";
-
-const BEHIND: &str = "//@ 0 4096 -\n//@ 0 1 s\nint main(void){while (1) ; return 0;}";
-
-/// Each proper beginning of these is refused. One that ends inside of a journal has no program behind it.
-const CUTS: [Row; 6] = [
-    (SUMMING, BUILD, 1, "", REFUSED),
-    (SMALL, &["hls", "step", "--cycles", "9"], 1, "", REFUSED),
-    (SMALL, &["hls", "walk", "--threads", "0"], 1, "", REFUSED),
-    (SMALL, RUN, 1, "", REFUSED),
-    (BEHIND, REPLAY, 1, "", REFUSED),
-    (CLIMBING, SIM, 11, "", NOT_NET),
-];
-
-fn cut_rows() -> &'static [Row] {
-    &CUTS
-}
-
-#[test]
-fn refuses_each_cut(rt: HostRuntime) -> Result<(), Fail> {
-    for (text, words, number, printed, line) in cut_rows() {
-        for length in 0..text.len() {
-            let cut = &text.as_bytes()[..length];
-            let is_right = is_right(&rt, rt.alloc(), cut, words, &SURE, *number, printed, line)?;
-            assert!(rt; is_right, "at {length} bytes");
-        }
     }
     Ok(())
 }
