@@ -1,4 +1,5 @@
 //! The wires of a block of operations in the module of a thread: what each state of its plan shows, keeps and leaves.
+//! `rt plant`: all 63 wrong bodies in 38 functions are refused; 58 more were not tried.
 #![tactic(auto)]
 
 // A stage has a bit `at`, that it is this stage. Each operation has the wires of its operands, as they are in the one

@@ -1,4 +1,5 @@
 //! The module of a thread, put together of its parts.
+//! `rt plant`: all 2 wrong bodies in 2 functions are refused; 3 more were not tried.
 #![tactic(auto)]
 
 // Ports. Inputs: `clk`, `en`, for each core that the thread asks whether it grants, the word that each bank tells, for each

@@ -1,4 +1,5 @@
 //! What the module of a thread asks of cores in a state, by wires that read registers alone, and the output ports.
+//! `rt plant`: of 10 wrong bodies in 7 functions 8 are refused and 2 could not be judged; 17 more were not tried.
 #![tactic(auto)]
 
 // - banks: what each bank is asked, of what is asked of each global (`SpreadsRequests`);
