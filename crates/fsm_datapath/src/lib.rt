@@ -1,5 +1,5 @@
 //! The module of a thread: a state machine with datapath that runs the thread's code by its plan.
-//! `rt plant`: it finds no wrong body for the 1 function.
+//! `rt plant`: no wrong body that it makes for the 1 function compiles.
 #![tactic(auto)]
 
 // What it is made of stands in `thread_slots`, `thread_asks`, `thread_needs`, `thread_requests`, `thread_states` and, put

@@ -1,5 +1,5 @@
 //! The text of the net of a table: the modules of threads, the arbiter and the cores that are wanted, wired to one net.
-//! `rt plant`: it finds no wrong body for the 1 function.
+//! `rt plant`: no wrong body that it makes for the 1 function compiles.
 #![tactic(auto)]
 
 ghost use Rattle.std.specs.Prelude.{◌≡◌, ◌≤◌, ◌++◌, ◌∷◌, IfOk};

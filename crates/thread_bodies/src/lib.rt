@@ -1,5 +1,5 @@
 //! The modules of a program's threads, as they are laid out beside its cores.
-//! `rt plant`: of 4 wrong bodies in 3 functions 1 are refused, 1 by the premise of a callee alone and 2 could not be judged.
+//! `rt plant`: of 4 wrong bodies in 3 functions 1 is refused, 1 by the premise of a callee alone and 2 could not be judged.
 #![tactic(auto)]
 
 mod threads;
