@@ -12,7 +12,6 @@ use hls_ints::residue;
 use std::alloc::{AllocError, Global};
 
 /// A bank of a global.
-#[derive(Drop)]
 pub struct Bank {
     /// The number of the global in order of declaration.
     pub global: usize,
@@ -53,7 +52,6 @@ pub struct Element {
 }
 
 /// The banks of a program, in order of declaration of their globals, and for each global where its banks stand.
-#[derive(Drop)]
 pub struct Banks {
     pub banks: Vec<Bank>,
     pub spreads: Vec<Spread>,
@@ -187,5 +185,30 @@ impl Banks {
         } else {
             None
         }
+    }
+}
+
+// A drop that is written here is proved here; a derived one is proved again in each crate that drops the type.
+
+impl Drop for Bank {
+    fn drop(self) {
+        let Bank {
+            global: _,
+            name: _,
+            number: _,
+            count: _,
+            words: _,
+            width: _,
+            initial: _,
+        } = self;
+    }
+}
+
+impl Drop for Banks {
+    fn drop(self) {
+        let Banks {
+            banks: _,
+            spreads: _,
+        } = self;
     }
 }

@@ -3,6 +3,7 @@
 use c_lexer::{LexFault, lex};
 use c_token::{Constant, ConstantType, Kind};
 use std::alloc::{AllocError, Global};
+use std::process::Abort;
 use std::test::Fail;
 
 fn push_bytes(out: &mut String, bytes: &[u8]) -> Result<(), AllocError> {
@@ -155,6 +156,10 @@ const ROWS: [(&str, &str); 51] = [
     ),
 ];
 
+fn rows() -> &'static [(&'static str, &'static str)] {
+    &ROWS
+}
+
 fn is_shown(alloc: Global, text: &[u8], expected: &str) -> Result<bool, AllocError> {
     let out = shown(alloc, text)?;
     Ok(out.as_str() == expected)
@@ -162,11 +167,10 @@ fn is_shown(alloc: Global, text: &[u8], expected: &str) -> Result<bool, AllocErr
 
 #[test]
 fn table(rt: HostRuntime) -> Result<(), Fail> {
-    for (text, expected) in &ROWS {
-        assert!(rt;
-            is_shown(rt.alloc(), text.as_bytes(), expected)?,
-            "{expected}"
-        );
+    for (text, expected) in rows() {
+        if !is_shown(rt.alloc(), text.as_bytes(), expected)? {
+            rt.panic(*expected);
+        }
     }
     Ok(())
 }
@@ -183,10 +187,9 @@ fn limits(rt: HostRuntime) -> Result<(), Fail> {
     for (byte, most, tokens, fault) in &EDGES {
         let text = vec![in rt.alloc(); *byte; 1 + *most]?;
         let within = lex(rt.alloc(), &text[..*most])?.len();
-        assert!(rt;
-            within == *tokens && is_shown(rt.alloc(), &text, fault)?,
-            "{fault}"
-        );
+        if within != *tokens || !is_shown(rt.alloc(), &text, fault)? {
+            rt.panic(*fault);
+        }
     }
     Ok(())
 }

@@ -1,9 +1,7 @@
-//! Tests of the base layers: integers, bytes in and out, the words of the command line, lists of turns, the tokens of a text. They
-//! stand in a crate of their own, since a crate with tests is proved twice.
+//! Tests of the base layers: integers, bytes in and out, lists of turns, the tokens of a text. They stand
+//! in a crate of their own, since a crate with tests is proved twice.
 #![tactic(auto)]
 
-#[cfg(test)]
-mod command_words;
 #[cfg(test)]
 mod integers;
 #[cfg(test)]

@@ -16,7 +16,9 @@ where
 {
     let whole = read_all(alloc, &mut source, TEXT.len()).expect(rt, name);
     let rest = read_all(alloc, &mut source, 0).expect(rt, name);
-    assert!(rt; whole.as_slice() == TEXT && rest.is_empty(), "of {name}");
+    if whole.as_slice() != TEXT || !rest.is_empty() {
+        rt.panic(name);
+    }
 }
 
 #[test]
@@ -44,7 +46,9 @@ fn holds_to_the_most_bytes(rt: HostRuntime) {
             Ok(_) => fits,
             Err(fault) => !fits && fault == ReadAllError::TooLong,
         };
-        assert!(rt; is_right, "at {max}");
+        if !is_right {
+            rt.panic(max);
+        }
     }
 }
 

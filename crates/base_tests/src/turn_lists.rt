@@ -1,4 +1,5 @@
 use std::alloc::{AllocError, Global};
+use std::process::Abort;
 use std::test::Fail;
 use turns::{Turn, turns};
 
@@ -51,7 +52,9 @@ fn is_read(alloc: Global, list: &str, wanted: Option<&[Turn]>) -> Result<bool, A
 #[test]
 fn lists(rt: HostRuntime) -> Result<(), Fail> {
     for (list, wanted) in &LISTS {
-        assert!(rt; is_read(rt.alloc(), list, *wanted)?, "at {list}");
+        if !is_read(rt.alloc(), list, *wanted)? {
+            rt.panic(*list);
+        }
     }
     Ok(())
 }

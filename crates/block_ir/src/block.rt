@@ -10,7 +10,6 @@ use sqlite_items::Items;
 /// An operator converts its operands to the type in which it works, but for the count of a shift. Operations are total:
 /// where C leaves a step undefined they give what the hardware gives. So an access of a global or of a local array says
 /// how many elements that has; a scalar has one.
-#[derive(Drop)]
 pub enum Operation {
     Unary {
         operator: UnaryOperator,
@@ -48,7 +47,6 @@ pub enum Operation {
 }
 
 /// What a variable holds after the block.
-#[derive(Drop)]
 pub struct Final {
     pub variable: u32,
     pub value: Operand,
@@ -74,4 +72,55 @@ pub struct Block {
     pub finals: Items<Final>,
     pub next: Next,
     pub steps: u32,
+}
+
+// A drop that is written here is proved here; a derived one is proved again in each crate that drops the type.
+
+impl Drop for Operation {
+    fn drop(self) {
+        match self {
+            Operation::Unary {
+                operator: _,
+                ty: _,
+                operand: _,
+            } => {}
+            Operation::Binary {
+                operator: _,
+                ty: _,
+                left: _,
+                right: _,
+            } => {}
+            Operation::ReadGlobal {
+                global: _,
+                length: _,
+                index: _,
+            } => {}
+            Operation::WriteGlobal {
+                global: _,
+                length: _,
+                index: _,
+                value: _,
+            } => {}
+            Operation::ReadArray {
+                array: _,
+                length: _,
+                index: _,
+            } => {}
+            Operation::WriteArray {
+                array: _,
+                length: _,
+                index: _,
+                value: _,
+            } => {}
+        }
+    }
+}
+
+impl Drop for Final {
+    fn drop(self) {
+        let Final {
+            variable: _,
+            value: _,
+        } = self;
+    }
 }

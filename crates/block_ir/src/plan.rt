@@ -3,7 +3,6 @@
 use sqlite_items::Items;
 
 /// The plan of a block.
-#[derive(Drop)]
 pub struct BlockPlan {
     /// For each operation the state in which it starts, counted from 0.
     pub starts: Items<u64>,
@@ -16,15 +15,44 @@ pub struct BlockPlan {
 }
 
 /// The plan of a stage; an act takes one state.
-#[derive(Drop)]
 pub enum StagePlan {
     Run(BlockPlan),
     Act,
 }
 
 /// The plan of a thread's code: one for each stage, and how many registers there are.
-#[derive(Drop)]
 pub struct Planned {
     pub stages: Items<StagePlan>,
     pub registers: u32,
+}
+
+// A drop that is written here is proved here; a derived one is proved again in each crate that drops the type.
+
+impl Drop for BlockPlan {
+    fn drop(self) {
+        let BlockPlan {
+            starts: _,
+            states: _,
+            units: _,
+            registers: _,
+        } = self;
+    }
+}
+
+impl Drop for StagePlan {
+    fn drop(self) {
+        match self {
+            StagePlan::Run(_) => {}
+            StagePlan::Act => {}
+        }
+    }
+}
+
+impl Drop for Planned {
+    fn drop(self) {
+        let Planned {
+            stages: _,
+            registers: _,
+        } = self;
+    }
 }

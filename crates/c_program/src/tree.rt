@@ -44,7 +44,6 @@ pub enum BinaryOperator {
 }
 
 /// An expression without calls and short circuits.
-#[derive(Drop)]
 pub enum Expression {
     /// A constant of a type, with its value.
     Constant(CType, i128),
@@ -61,14 +60,12 @@ pub enum Expression {
 }
 
 /// What is assigned to: storage, number, type, and of an element the length before the type and the index at the end.
-#[derive(Drop)]
 pub enum Place {
     Scalar(Storage, u32, CType),
     Element(Storage, u32, u64, CType, Box<Expression>),
 }
 
 /// A condition: operands, each with its offset, joined by short circuits (C99 6.5.13, 6.5.14) and `!`.
-#[derive(Drop)]
 pub enum Condition {
     Operand(u32, Box<Expression>),
     Both(Box<Condition>, Box<Condition>),
@@ -77,7 +74,6 @@ pub enum Condition {
 }
 
 /// A value that may come from a call: the right side of `=`, an initialiser or the operand of a return.
-#[derive(Drop)]
 pub enum RightSide {
     Value(Box<Expression>),
     /// A call of the function of that number, with its arguments.
@@ -86,14 +82,12 @@ pub enum RightSide {
 
 /// A pthread object of a kind, by its number in order of declaration, or an element of an array of such objects:
 /// the array's number, its length and the index.
-#[derive(Drop)]
 pub enum ObjectPlace {
     Single(u32),
     Element(u32, u64, Box<Expression>),
 }
 
 /// A pthread call but `pthread_exit`, which is a return.
-#[derive(Drop)]
 pub enum ThreadCall {
     /// The thread, the number of its start routine, the argument.
     Create(ObjectPlace, u32, Box<Expression>),
@@ -109,7 +103,6 @@ pub enum ThreadCall {
 }
 
 /// A part of printf's format: bytes as they are, or a conversion to a type.
-#[derive(Drop)]
 pub enum Piece {
     Text(Vec<u8>),
     Conversion(CType),
@@ -117,7 +110,6 @@ pub enum Piece {
 
 /// A statement or a declarator. The first number, where there is one, is its offset: that of the statement's first
 /// byte, of a declarator that of its name.
-#[derive(Drop)]
 pub enum Statement {
     /// The end of a list of statements; also a missing part of the head of a `for`.
     Done,
@@ -165,7 +157,6 @@ pub enum ReturnType {
 }
 
 /// A function. Its parameters are the first of its locals; a start routine's parameter has the type long.
-#[derive(Drop)]
 pub struct Function {
     pub name: String,
     pub returns: ReturnType,
@@ -180,7 +171,6 @@ pub struct Function {
 
 /// A global: the type of its elements, their number (1 of a scalar) and the given initial values; those that are
 /// not given are 0.
-#[derive(Drop)]
 pub struct GlobalVariable {
     pub name: String,
     pub ty: CType,
@@ -209,7 +199,6 @@ pub struct BarrierObject {
 }
 
 /// A program: its declarations of each kind in their order, and which function is main.
-#[derive(Drop)]
 pub struct Program {
     pub functions: Vec<Function>,
     pub main: u32,
@@ -217,4 +206,144 @@ pub struct Program {
     pub threads: Vec<ThreadObject>,
     pub mutexes: Vec<MutexObject>,
     pub barriers: Vec<BarrierObject>,
+}
+
+// A drop that is written here is proved here; a derived one is proved again in each crate that drops the type.
+
+impl Drop for Expression {
+    fn drop(self) {
+        match self {
+            Expression::Constant(_, _) => {}
+            Expression::Variable(_, _, _) => {}
+            Expression::Element(_, _, _, _, _) => {}
+            Expression::Unary(_, _, _) => {}
+            Expression::Binary(_, _, _, _) => {}
+            Expression::Cast(_, _) => {}
+        }
+    }
+}
+
+impl Drop for Place {
+    fn drop(self) {
+        match self {
+            Place::Scalar(_, _, _) => {}
+            Place::Element(_, _, _, _, _) => {}
+        }
+    }
+}
+
+impl Drop for Condition {
+    fn drop(self) {
+        match self {
+            Condition::Operand(_, _) => {}
+            Condition::Both(_, _) => {}
+            Condition::Either(_, _) => {}
+            Condition::Opposite(_) => {}
+        }
+    }
+}
+
+impl Drop for RightSide {
+    fn drop(self) {
+        match self {
+            RightSide::Value(_) => {}
+            RightSide::Call(_, _) => {}
+        }
+    }
+}
+
+impl Drop for ObjectPlace {
+    fn drop(self) {
+        match self {
+            ObjectPlace::Single(_) => {}
+            ObjectPlace::Element(_, _, _) => {}
+        }
+    }
+}
+
+impl Drop for ThreadCall {
+    fn drop(self) {
+        match self {
+            ThreadCall::Create(_, _, _) => {}
+            ThreadCall::Join(_) => {}
+            ThreadCall::MutexInit(_) => {}
+            ThreadCall::MutexDestroy(_) => {}
+            ThreadCall::MutexLock(_) => {}
+            ThreadCall::MutexUnlock(_) => {}
+            ThreadCall::BarrierInit(_, _) => {}
+            ThreadCall::BarrierDestroy(_) => {}
+            ThreadCall::BarrierWait(_) => {}
+        }
+    }
+}
+
+impl Drop for Piece {
+    fn drop(self) {
+        match self {
+            Piece::Text(_) => {}
+            Piece::Conversion(_) => {}
+        }
+    }
+}
+
+impl Drop for Statement {
+    fn drop(self) {
+        match self {
+            Statement::Done => {}
+            Statement::Sequence(_, _) => {}
+            Statement::Empty => {}
+            Statement::Block(_) => {}
+            Statement::Declare(_, _, _) => {}
+            Statement::Assign(_, _, _) => {}
+            Statement::Update(_, _, _, _, _) => {}
+            Statement::If(_, _, _) => {}
+            Statement::While(_, _) => {}
+            Statement::DoWhile(_, _) => {}
+            Statement::For(_, _, _, _) => {}
+            Statement::Break => {}
+            Statement::Continue => {}
+            Statement::Return(_, _) => {}
+            Statement::Call(_, _, _) => {}
+            Statement::Print(_, _, _) => {}
+            Statement::Thread(_, _) => {}
+        }
+    }
+}
+
+impl Drop for Function {
+    fn drop(self) {
+        let Function {
+            name: _,
+            returns: _,
+            parameters: _,
+            locals: _,
+            local_names: _,
+            body: _,
+            end: _,
+        } = self;
+    }
+}
+
+impl Drop for GlobalVariable {
+    fn drop(self) {
+        let GlobalVariable {
+            name: _,
+            ty: _,
+            length: _,
+            initial: _,
+        } = self;
+    }
+}
+
+impl Drop for Program {
+    fn drop(self) {
+        let Program {
+            functions: _,
+            main: _,
+            globals: _,
+            threads: _,
+            mutexes: _,
+            barriers: _,
+        } = self;
+    }
 }

@@ -9,7 +9,6 @@ use std::alloc::{AllocError, Global};
 use std::marker::Model;
 
 /// The names that one scope declares, and what each stands for there.
-#[derive(Drop)]
 pub struct Level<'t> {
     names: IndexMap<&'t [u8], Meaning>,
 }
@@ -51,7 +50,6 @@ impl<'t> Level<'t> {
 }
 
 /// The functions that a text defines, by their names, each with the number of its first definition.
-#[derive(Drop)]
 pub struct Definitions<'t> {
     numbers: IndexMap<&'t [u8], u32>,
 }
@@ -102,7 +100,6 @@ impl<'t> Definitions<'t> {
 }
 
 /// The names of the locals that a function declares, in the order of their declarations.
-#[derive(Drop)]
 pub struct LocalNames<'t> {
     names: Vec<&'t [u8]>,
 }
@@ -146,5 +143,25 @@ impl<'t> LocalNames<'t> {
         ensures { map spec.pointed result.now ≡ self.now }
     {
         self.names.as_slice()
+    }
+}
+
+// A drop that is written here is proved here; a derived one is proved again in each crate that drops the type.
+
+impl Drop for Level<'_> {
+    fn drop(self) {
+        let Level { names: _ } = self;
+    }
+}
+
+impl Drop for Definitions<'_> {
+    fn drop(self) {
+        let Definitions { numbers: _ } = self;
+    }
+}
+
+impl Drop for LocalNames<'_> {
+    fn drop(self) {
+        let LocalNames { names: _ } = self;
     }
 }

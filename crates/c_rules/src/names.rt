@@ -147,7 +147,6 @@ impl DeclaredType {
 }
 
 /// What is known of a function from its declarations so far.
-#[derive(Drop)]
 pub struct Header {
     pub returns: DeclaredType,
     pub parameters: Items<DeclaredType>,
@@ -197,7 +196,6 @@ impl Gives {
 }
 
 /// The names in scope at a place of the text, and the function that it stands in.
-#[derive(Drop)]
 pub struct Scope<'t> {
     /// The functions that the text defines.
     pub definitions: Definitions<'t>,
@@ -304,5 +302,34 @@ impl<'t> Scope<'t> {
             let outer = self.outer.remove(last);
             let _left = mem::replace(&mut self.inner, outer);
         }
+    }
+}
+
+// A drop that is written here is proved here; a derived one is proved again in each crate that drops the type.
+
+impl Drop for Header {
+    fn drop(self) {
+        let Header {
+            returns: _,
+            parameters: _,
+            is_main: _,
+            definition: _,
+        } = self;
+    }
+}
+
+impl Drop for Scope<'_> {
+    fn drop(self) {
+        let Scope {
+            definitions: _,
+            outer: _,
+            inner: _,
+            headers: _,
+            function: _,
+            gives: _,
+            locals: _,
+            local_names: _,
+            loops: _,
+        } = self;
     }
 }

@@ -5,14 +5,12 @@ use crate::statement::Block;
 use sqlite_items::Items;
 
 /// Variables of a block.
-#[derive(Drop)]
 pub struct Declaration {
     pub specifiers: Specifiers,
     pub declarators: Items<Declarator>,
 }
 
 /// A variable of a block.
-#[derive(Drop)]
 pub struct Declarator {
     pub name: Name,
     /// Between brackets.
@@ -22,19 +20,16 @@ pub struct Declarator {
 }
 
 /// A whole text.
-#[derive(Drop)]
 pub struct TranslationUnit {
     pub declarations: Items<ExternalDeclaration>,
 }
 
-#[derive(Drop)]
 pub enum ExternalDeclaration {
     Function(Function),
     Objects(GlobalDeclaration),
 }
 
 /// A function's definition, or its prototype.
-#[derive(Drop)]
 pub struct Function {
     pub specifiers: Specifiers,
     /// Whether a `*` stands before the name.
@@ -45,7 +40,6 @@ pub struct Function {
     pub body: Option<Block>,
 }
 
-#[derive(Drop)]
 pub struct Parameter {
     pub specifiers: Specifiers,
     pub is_pointer: bool,
@@ -53,7 +47,6 @@ pub struct Parameter {
 }
 
 /// Variables at file scope.
-#[derive(Drop)]
 pub struct GlobalDeclaration {
     pub specifiers: Specifiers,
     /// Whether a `*` stands before the first name; none stands before the others.
@@ -62,7 +55,6 @@ pub struct GlobalDeclaration {
 }
 
 /// A variable at file scope.
-#[derive(Drop)]
 pub struct GlobalDeclarator {
     pub name: Name,
     /// Between brackets.
@@ -71,11 +63,98 @@ pub struct GlobalDeclarator {
     pub initializer: Option<Initializer>,
 }
 
-#[derive(Drop)]
 pub enum Initializer {
     Value(Expression),
     /// Between braces; at least one.
     List(Items<Expression>),
     /// `PTHREAD_MUTEX_INITIALIZER`
     Mutex,
+}
+
+// A drop that is written here is proved here; a derived one is proved again in each crate that drops the type.
+
+impl Drop for Declaration {
+    fn drop(self) {
+        let Declaration {
+            specifiers: _,
+            declarators: _,
+        } = self;
+    }
+}
+
+impl Drop for Declarator {
+    fn drop(self) {
+        let Declarator {
+            name: _,
+            length: _,
+            initializer: _,
+        } = self;
+    }
+}
+
+impl Drop for TranslationUnit {
+    fn drop(self) {
+        let TranslationUnit { declarations: _ } = self;
+    }
+}
+
+impl Drop for ExternalDeclaration {
+    fn drop(self) {
+        match self {
+            ExternalDeclaration::Function(_) => {}
+            ExternalDeclaration::Objects(_) => {}
+        }
+    }
+}
+
+impl Drop for Function {
+    fn drop(self) {
+        let Function {
+            specifiers: _,
+            is_pointer: _,
+            name: _,
+            parameters: _,
+            body: _,
+        } = self;
+    }
+}
+
+impl Drop for Parameter {
+    fn drop(self) {
+        let Parameter {
+            specifiers: _,
+            is_pointer: _,
+            name: _,
+        } = self;
+    }
+}
+
+impl Drop for GlobalDeclaration {
+    fn drop(self) {
+        let GlobalDeclaration {
+            specifiers: _,
+            is_pointer: _,
+            declarators: _,
+        } = self;
+    }
+}
+
+impl Drop for GlobalDeclarator {
+    fn drop(self) {
+        let GlobalDeclarator {
+            name: _,
+            length: _,
+            initializer: _,
+        } = self;
+    }
+}
+
+impl Drop for Initializer {
+    fn drop(self) {
+        match self {
+            Initializer::Value(_) => {}
+            Initializer::List(_) => {}
+            Initializer::Mutex => {}
+        }
+    }
 }

@@ -7,7 +7,6 @@ use c_token::Constant;
 use sqlite_items::{Boxed, Items};
 
 /// A name where it stands.
-#[derive(Drop)]
 pub struct Name {
     pub bytes: Items<u8>,
     /// Of its first byte.
@@ -35,7 +34,6 @@ pub enum TypeWord {
 }
 
 /// One or more words, as they are written: not each combination is a type.
-#[derive(Drop)]
 pub struct Specifiers {
     pub words: Items<TypeWord>,
     /// Of the first word.
@@ -159,4 +157,24 @@ pub struct Pointer {
     pub operand: Option<Boxed<Expression>>,
     /// Of its first byte.
     pub offset: usize,
+}
+
+// A drop that is written here is proved here; a derived one is proved again in each crate that drops the type.
+
+impl Drop for Name {
+    fn drop(self) {
+        let Name {
+            bytes: _,
+            offset: _,
+        } = self;
+    }
+}
+
+impl Drop for Specifiers {
+    fn drop(self) {
+        let Specifiers {
+            words: _,
+            offset: _,
+        } = self;
+    }
 }

@@ -19,14 +19,12 @@ pub enum Direction {
 }
 
 /// What stands as a statement by itself, or in the head of a `for`.
-#[derive(Drop)]
 pub struct SimpleStatement {
     pub form: SimpleForm,
     /// Of its first byte.
     pub offset: usize,
 }
 
-#[derive(Drop)]
 pub enum SimpleForm {
     Assign(Place, AssignmentOperator, Expression),
     /// `++` or `--`, before the place or behind it.
@@ -35,7 +33,6 @@ pub enum SimpleForm {
 }
 
 /// What a `return` gives back.
-#[derive(Drop)]
 pub enum Returned {
     Nothing,
     Value(Expression),
@@ -43,7 +40,6 @@ pub enum Returned {
 }
 
 /// What the head of a `for` begins with.
-#[derive(Drop)]
 pub enum ForStart {
     Nothing,
     Declaration(Declaration),
@@ -84,4 +80,42 @@ pub enum Statement {
     /// The start, the condition, the step and the body.
     For(ForStart, Option<Expression>, Option<SimpleStatement>, Boxed<Statement>),
     Return(Returned, usize),
+}
+
+// A drop that is written here is proved here; a derived one is proved again in each crate that drops the type.
+
+impl Drop for SimpleStatement {
+    fn drop(self) {
+        let SimpleStatement { form: _, offset: _ } = self;
+    }
+}
+
+impl Drop for SimpleForm {
+    fn drop(self) {
+        match self {
+            SimpleForm::Assign(_, _, _) => {}
+            SimpleForm::Step(_, _) => {}
+            SimpleForm::Call(_) => {}
+        }
+    }
+}
+
+impl Drop for Returned {
+    fn drop(self) {
+        match self {
+            Returned::Nothing => {}
+            Returned::Value(_) => {}
+            Returned::Pointer(_) => {}
+        }
+    }
+}
+
+impl Drop for ForStart {
+    fn drop(self) {
+        match self {
+            ForStart::Nothing => {}
+            ForStart::Declaration(_) => {}
+            ForStart::Simple(_) => {}
+        }
+    }
 }

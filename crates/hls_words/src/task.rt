@@ -3,7 +3,7 @@ use thiserror::Error;
 use turns::Turn;
 
 /// What the program is asked to do.
-#[derive(Debug, Drop)]
+#[derive(Drop)]
 pub enum Task {
     /// Write the Verilog text of the C text; so many threads at most make it.
     Build { jobs: u32 },

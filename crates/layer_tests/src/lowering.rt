@@ -79,11 +79,26 @@ fn has_argument(codes: &Items<ThreadCode>, number: usize, wanted: Option<u32>) -
     }
 }
 
+fn straight() -> &'static str {
+    "int main(void){int x; x = 6; x = x * 7; printf(\"%d\", x); return 0;}"
+}
+
+fn looping() -> &'static str {
+    "int main(void){int x; for (x = 1; x < 4; x = x + 1){if (x < 3) continue; printf(\"%d\", x);}}"
+}
+
+fn calling() -> &'static str {
+    "int f(int x){return x * 7;} int main(void){int x; x = f(6); return 0;}"
+}
+
+fn creating() -> &'static str {
+    "pthread_t t; void *w(void *arg){return NULL;} int main(void){pthread_create(&t, NULL, w, NULL); pthread_join(t, NULL); return 0;}"
+}
+
 /// The declarator, both assignments and the values of the printf are one block.
 #[test]
 fn lowers_straight_code(rt: HostRuntime) -> Result<(), Fail> {
-    let text = b"int main(void){int x; x = 6; x = x * 7; printf(\"%d\", x); return 0;}";
-    let codes = codes_of(rt.alloc(), text)?;
+    let codes = codes_of(rt.alloc(), straight().as_bytes())?;
     assert!(rt; codes.len() == 1);
     assert!(rt; are_shapes(&codes, 0, &[(1, 1, 4), (2, 2, 0), (0, 0, 0)]));
     Ok(())
@@ -122,9 +137,7 @@ const LOOP: [(usize, usize, u32); 7] = [
 
 #[test]
 fn lowers_a_loop(rt: HostRuntime) -> Result<(), Fail> {
-    let text =
-        b"int main(void){int x; for (x = 1; x < 4; x = x + 1){if (x < 3) continue; printf(\"%d\", x);}}";
-    let codes = codes_of(rt.alloc(), text)?;
+    let codes = codes_of(rt.alloc(), looping().as_bytes())?;
     assert!(rt; are_shapes(&codes, 0, &LOOP));
     Ok(())
 }
@@ -132,8 +145,7 @@ fn lowers_a_loop(rt: HostRuntime) -> Result<(), Fail> {
 /// The steps that pass the argument and return are in one block; the next stores the value.
 #[test]
 fn lowers_a_call(rt: HostRuntime) -> Result<(), Fail> {
-    let text = b"int f(int x){return x * 7;} int main(void){int x; x = f(6); return 0;}";
-    let codes = codes_of(rt.alloc(), text)?;
+    let codes = codes_of(rt.alloc(), calling().as_bytes())?;
     assert!(rt; are_shapes(&codes, 0, &[(1, 1, 3), (2, 2, 1), (0, 0, 0)]));
     assert!(rt; has_variables(&codes, &[CType::INT, CType::INT, CType::LONG]));
     Ok(())
@@ -143,9 +155,7 @@ fn lowers_a_call(rt: HostRuntime) -> Result<(), Fail> {
 /// returns at once, and has its argument in its only local.
 #[test]
 fn lowers_a_start_routine(rt: HostRuntime) -> Result<(), Fail> {
-    let text =
-        b"pthread_t t; void *w(void *arg){return NULL;} int main(void){pthread_create(&t, NULL, w, NULL); pthread_join(t, NULL); return 0;}";
-    let codes = codes_of(rt.alloc(), text)?;
+    let codes = codes_of(rt.alloc(), creating().as_bytes())?;
     assert!(rt; codes.len() == 2);
     let wanted = [(1, 1, 1), (2, 2, 0), (3, 3, 1), (4, 4, 0), (0, 0, 0)];
     assert!(rt; are_shapes(&codes, 0, &wanted));

@@ -4,71 +4,33 @@ use c_interpreter::step::step;
 use c_profile::accept;
 use c_program::tree::Program;
 use c_state::state::{State, start};
-use race_check::access::{Access, Location};
+use race_check::access::Access;
 use race_check::footprint::footprint;
 use race_check::race::{Race, races};
+use sqlite_items::Items;
 use std::alloc::{AllocError, Global};
+use std::process::Abort;
 use std::test::Fail;
+use turns::{Turn, turns};
 
-/// The state after these steps, each turn a thread and how many steps it takes.
-fn after<'p>(
-    alloc: Global,
-    program: &'p Program,
-    turns: &[(u32, u32)],
-) -> Result<State<'p>, AllocError> {
+/// The state after these turns.
+fn after<'p>(alloc: Global, program: &'p Program, turns: &[Turn]) -> Result<State<'p>, AllocError> {
     let mut state = start(alloc, program)?;
-    for (thread, steps) in turns {
-        for _ in 0..*steps {
-            step(alloc, program, &mut state, *thread)?;
+    for turn in turns {
+        for _ in 0..turn.steps {
+            step(alloc, program, &mut state, turn.thread)?;
         }
     }
     Ok(state)
 }
 
-const FIRST: Location = Location {
-    global: 0,
-    index: 0,
-};
-
-const THIRD: Location = Location {
-    global: 0,
-    index: 2,
-};
-
-const FOURTH: Location = Location {
-    global: 0,
-    index: 3,
-};
-
-const OTHER: Location = Location {
-    global: 1,
-    index: 0,
-};
-
-const READ_FIRST: Access = Access {
-    location: FIRST,
-    written: false,
-};
-
-const WRITE_FIRST: Access = Access {
-    location: FIRST,
-    written: true,
-};
-
-const READ_THIRD: Access = Access {
-    location: THIRD,
-    written: false,
-};
-
-const WRITE_THIRD: Access = Access {
-    location: THIRD,
-    written: true,
-};
-
-const READ_OTHER: Access = Access {
-    location: OTHER,
-    written: false,
-};
+/// The turns of a list, or none.
+fn listed(alloc: Global, list: &str) -> Result<Items<Turn>, AllocError> {
+    match turns(alloc, list)? {
+        Some(turns) => Ok(turns),
+        None => Ok(Items::new(alloc)),
+    }
+}
 
 /// Two threads add to one global, without a mutex.
 const ADDING: &str =
@@ -86,153 +48,147 @@ const CROSSING: &str =
     "pthread_t t[2]; int g[4]; int h; void *w(void *arg){h = g[3] + g[1]; return NULL;} int main(void){pthread_create(&t[0], NULL, w, NULL); \
     pthread_create(&t[1], NULL, w, NULL); g[3] = 5; return 0;}";
 
-/// A text, its turns, and the first race of the next steps.
-const RACES: [(&str, &[(u32, u32)], Option<Race>); 7] = [
-    (ADDING, &[], None),
-    (ADDING, &[(0, 11), (1, 3)], None),
-    (
-        ADDING,
-        &[(0, 11), (1, 3), (2, 3)],
-        Some(Race {
-            first: 1,
-            second: 2,
-            location: FIRST,
-        }),
-    ),
+/// A text, its turns, and the first race of the next steps, if there is one: its threads, and the global and the index that both touch.
+const RACES: [(&str, &str, &str); 7] = [
+    (ADDING, "", ""),
+    (ADDING, "0*11,1*3", ""),
+    (ADDING, "0*11,1*3,2*3", "1 and 2 at 0[0]"),
     // a thread that waits at the barrier races with none, though its next statement writes what main's does
-    (WAITING, &[(0, 4), (1, 2)], None),
-    (
-        WAITING,
-        &[(0, 4), (1, 2), (0, 3)],
-        Some(Race {
-            first: 0,
-            second: 1,
-            location: FIRST,
-        }),
-    ),
+    (WAITING, "0*4,1*2", ""),
+    (WAITING, "0*4,1*2,0*3", "0 and 1 at 0[0]"),
     // main writes g[3], which both threads read; after it the threads write h
-    (
-        CROSSING,
-        &[(0, 4)],
-        Some(Race {
-            first: 0,
-            second: 1,
-            location: FOURTH,
-        }),
-    ),
-    (
-        CROSSING,
-        &[(0, 5)],
-        Some(Race {
-            first: 1,
-            second: 2,
-            location: OTHER,
-        }),
-    ),
+    (CROSSING, "0*4", "0 and 1 at 0[3]"),
+    (CROSSING, "0*5", "1 and 2 at 1[0]"),
 ];
+
+fn race_rows() -> &'static [(&'static str, &'static str, &'static str)] {
+    &RACES
+}
 
 fn first_race(
     alloc: Global,
     program: &Program,
-    turns: &[(u32, u32)],
+    turns: &[Turn],
 ) -> Result<Option<Race>, AllocError> {
     let state = after(alloc, program, turns)?;
     races(alloc, program, &state)
 }
 
-fn has_race(
-    alloc: Global,
-    text: &str,
-    turns: &[(u32, u32)],
-    race: &Option<Race>,
-) -> Result<bool, Fail> {
+fn shown_race(alloc: Global, race: &Race) -> Result<String, AllocError> {
+    let at = race.location;
+    format!(in alloc;
+        "{} and {} at {}[{}]",
+        race.first, race.second, at.global, at.index
+    )
+}
+
+fn has_race(alloc: Global, text: &str, list: &str, expected: &str) -> Result<bool, Fail> {
     let accepted = accept(alloc, text.as_bytes())?;
-    let found = first_race(alloc, &accepted.program, turns)?;
-    Ok(found == *race)
+    let turns = listed(alloc, list)?;
+    match first_race(alloc, &accepted.program, turns.as_slice())? {
+        Some(race) => Ok(shown_race(alloc, &race)?.as_str() == expected),
+        None => Ok(expected.is_empty()),
+    }
 }
 
 #[test]
 fn tells_the_first_race(rt: HostRuntime) -> Result<(), Fail> {
-    for (text, turns, race) in &RACES {
-        assert!(rt; has_race(rt.alloc(), text, turns, race)?, "at {text}");
+    for (text, list, expected) in race_rows() {
+        if !has_race(rt.alloc(), text, list, expected)? {
+            rt.panic(*text);
+        }
     }
     Ok(())
 }
 
-/// A text, its turns, a thread, and what its next step touches.
-const TOUCHES: [(&str, &[(u32, u32)], usize, &[Access]); 10] = [
-    (ADDING, &[(0, 11), (1, 3)], 1, &[READ_FIRST, WRITE_FIRST]),
+/// A text, its turns, a thread, and what its next step touches: for each read and write the global and the index.
+const TOUCHES: [(&str, &str, usize, &str); 10] = [
+    (ADDING, "0*11,1*3", 1, "r0[0] w0[0] "),
     // the right side, then the index, which reads k and an element itself
     (
         "int g[4]; int k; int main(void){k = 2; g[g[k]] = g[k] + 1; return 0;}",
-        &[(0, 1)],
+        "0",
         0,
-        &[READ_OTHER, READ_THIRD, READ_OTHER, READ_THIRD, WRITE_FIRST],
+        "r1[0] r0[2] r1[0] r0[2] w0[0] ",
     ),
     // the right side, the index, the old value
     (
         "int g[4]; int k; int main(void){k = 2; g[k] += k; return 0;}",
-        &[(0, 1)],
+        "0",
         0,
-        &[READ_OTHER, READ_OTHER, READ_THIRD, WRITE_THIRD],
+        "r1[0] r1[0] r0[2] w0[2] ",
     ),
-    ("int x; int main(void){return x;}", &[], 0, &[READ_FIRST]),
+    ("int x; int main(void){return x;}", "", 0, "r0[0] "),
     // the arguments of printf, and then its act
     (
         "int x; int main(void){printf(\"%d\\n\", x); return 0;}",
-        &[],
+        "",
         0,
-        &[READ_FIRST],
+        "r0[0] ",
     ),
     (
         "int x; int main(void){printf(\"%d\\n\", x); return 0;}",
-        &[(0, 1)],
+        "0",
         0,
-        &[],
+        "",
     ),
     // an undefined step: a divisor of 0, and a return of main while a thread lives
-    ("int x; int main(void){x = 1 / x; return 0;}", &[], 0, &[]),
+    ("int x; int main(void){x = 1 / x; return 0;}", "", 0, ""),
     (
         "pthread_t t; int x; void *w(void *arg){return NULL;} int main(void){pthread_create(&t, NULL, w, NULL); return x;}",
-        &[(0, 2)],
+        "0*2",
         0,
-        &[],
+        "",
     ),
     // a waiter at a barrier, and no thread at all
-    (WAITING, &[(0, 4), (1, 2)], 1, &[]),
-    (WAITING, &[], 7, &[]),
+    (WAITING, "0*4,1*2", 1, ""),
+    (WAITING, "", 7, ""),
 ];
 
-fn step_touches(
+fn touch_rows() -> &'static [(&'static str, &'static str, usize, &'static str)] {
+    &TOUCHES
+}
+
+fn shown_accesses(alloc: Global, accesses: &[Access]) -> Result<String, AllocError> {
+    let mut out = String::new(alloc);
+    for access in accesses {
+        let kind = if access.written { "w" } else { "r" };
+        let at = access.location;
+        write!(out, "{kind}{}[{}] ", at.global, at.index)?;
+    }
+    Ok(out)
+}
+
+fn touched(
     alloc: Global,
     program: &Program,
-    turns: &[(u32, u32)],
+    turns: &[Turn],
     thread: usize,
-    accesses: &[Access],
-) -> Result<bool, AllocError> {
+) -> Result<String, AllocError> {
     let state = after(alloc, program, turns)?;
-    let touched = footprint(alloc, program, &state, thread)?;
-    Ok(touched.as_slice() == accesses)
+    let accesses = footprint(alloc, program, &state, thread)?;
+    shown_accesses(alloc, accesses.as_slice())
 }
 
 fn touches(
     alloc: Global,
     text: &str,
-    turns: &[(u32, u32)],
+    list: &str,
     thread: usize,
-    accesses: &[Access],
+    expected: &str,
 ) -> Result<bool, Fail> {
     let accepted = accept(alloc, text.as_bytes())?;
-    Ok(step_touches(alloc, &accepted.program, turns, thread, accesses)?)
+    let turns = listed(alloc, list)?;
+    let touched = touched(alloc, &accepted.program, turns.as_slice(), thread)?;
+    Ok(touched.as_str() == expected)
 }
 
 #[test]
 fn tells_what_a_step_touches(rt: HostRuntime) -> Result<(), Fail> {
-    for (text, turns, thread, accesses) in &TOUCHES {
-        assert!(rt;
-            touches(rt.alloc(), text, turns, *thread, accesses)?,
-            "at {text}"
-        );
+    for (text, list, thread, expected) in touch_rows() {
+        if !touches(rt.alloc(), text, list, *thread, expected)? {
+            rt.panic(*text);
+        }
     }
     Ok(())
 }

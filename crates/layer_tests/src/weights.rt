@@ -7,6 +7,7 @@ use c_program::tree::{BinaryOperator, Function, Program, RightSide, Statement, T
 use c_program::types::expression_type;
 use c_program::weight::{Amount, inlined_amounts};
 use std::alloc::{AllocError, Global};
+use std::process::Abort;
 use std::test::Fail;
 
 /// `int f(int x){return x < 1;} int main(void){int x = f(x);}`
@@ -90,7 +91,9 @@ fn bound_of(alloc: Global, text: &str) -> Result<u32, Fail> {
 #[test]
 fn bounds_the_cycles_of_a_program(rt: HostRuntime) -> Result<(), Fail> {
     for (text, expected) in bound_rows() {
-        assert!(rt; bound_of(rt.alloc(), text)? == *expected, "at {text}");
+        if bound_of(rt.alloc(), text)? != *expected {
+            rt.panic(*text);
+        }
     }
     Ok(())
 }

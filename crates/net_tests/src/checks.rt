@@ -1,14 +1,15 @@
 // The check of a net that counts up to 2, and of the same with one rule broken.
 
-use crate::small::{COUNTER, parsed};
+use crate::small::{counter, parsed};
 use grammar::Fault;
 use net_check::check::check_net;
 use net_check::fault::{ModulePart, NetFault, NetPart};
 use sqlite_items::Items;
 use std::alloc::{AllocError, Global};
+use std::process::Abort;
 use std::test::Fail;
 use verilog_tree::name::Identifier;
-use verilog_tree::tree::{Assign, Expression, Item, Module, Net};
+use verilog_tree::tree::{Assign, Expression, Item, Net};
 
 /// What the check says of the tree of a text.
 fn checked(alloc: Global, text: &str) -> Result<Result<(), NetFault>, Fault> {
@@ -20,16 +21,17 @@ fn in_module(number: usize, part: ModulePart) -> Result<(), NetFault> {
     Err(NetFault::BadNet(NetPart::Module { number, part }))
 }
 
-const TOP: &str =
-    "module top(input wire clk, input wire en, output wire done); counter u(.clk(clk), .en(en), .done(done)); endmodule";
+fn top() -> &'static str {
+    "module top(input wire clk, input wire en, output wire done); counter u(.clk(clk), .en(en), .done(done)); endmodule"
+}
 
 /// A net is well formed, but not with two modules of one name, and not without a module.
 #[test]
 fn nets(rt: HostRuntime) -> Result<(), Fail> {
     let alloc = rt.alloc();
-    let net = format!(in alloc; "{COUNTER}{TOP}")?;
+    let net = format!(in alloc; "{}{}", counter(), top())?;
     assert!(rt; checked(alloc, net.as_str())?.is_ok());
-    let twice = format!(in alloc; "{COUNTER}{TOP} {COUNTER}")?;
+    let twice = format!(in alloc; "{net} {}", counter())?;
     assert!(rt; checked(alloc, twice.as_str())? == in_module(2, ModulePart::Head));
     let none = Net {
         modules: Items::new(alloc),
@@ -41,9 +43,10 @@ fn nets(rt: HostRuntime) -> Result<(), Fail> {
 const PORTS: &str = "input wire clk, input wire en, output wire done";
 
 /// The eight items of the counter.
-const ITEMS: &str =
+fn items() -> &'static str {
     "reg [1:0] q_0; wire [1:0] n_1; wire [1:0] c_2; assign n_1 = q_0 + c_2; assign c_2 = 2'd1; assign done = q_0[1]; \
-    initial begin q_0 = 2'd0; end always @(posedge clk) begin q_0 <= n_1; end";
+    initial begin q_0 = 2'd0; end always @(posedge clk) begin q_0 <= n_1; end"
+}
 
 const NINTH: ModulePart = ModulePart::Item(8);
 
@@ -108,9 +111,11 @@ fn changes() -> &'static [(&'static str, &'static str, &'static str, ModulePart)
 #[test]
 fn broken_rules(rt: HostRuntime) -> Result<(), Fail> {
     for (rule, ports, item, part) in changes() {
-        let text = format!(in rt.alloc(); "module counter({ports}); {ITEMS} {item} endmodule")?;
+        let text = format!(in rt.alloc(); "module counter({ports}); {} {item} endmodule", items())?;
         let found = checked(rt.alloc(), text.as_str())?;
-        assert!(rt; found == in_module(0, *part), "{rule}");
+        if found != in_module(0, *part) {
+            rt.panic(*rule);
+        }
     }
     Ok(())
 }
@@ -124,24 +129,16 @@ fn nothing(alloc: Global) -> Result<Item, AllocError> {
     }))
 }
 
-fn without_ports(alloc: Global, counter: Module) -> Module {
-    Module {
-        name: counter.name,
-        ports: Items::new(alloc),
-        items: counter.items,
-    }
-}
-
 /// What the check says of a counter without ports, or with an assignment of nothing behind its items: no text has either.
 fn emptied(alloc: Global, has_ports: bool) -> Result<Result<(), NetFault>, Fault> {
-    let mut net = parsed(alloc, COUNTER)?;
+    let mut net = parsed(alloc, counter())?;
     if let Some(mut counter) = net.modules.pop() {
         if has_ports {
             counter.items.push(nothing(alloc)?)?;
-            net.modules.push(counter)?;
         } else {
-            net.modules.push(without_ports(alloc, counter))?;
+            counter.ports = Items::new(alloc);
         }
+        net.modules.push(counter)?;
     }
     Ok(check_net(alloc, &net))
 }

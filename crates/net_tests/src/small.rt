@@ -11,7 +11,8 @@ use verilog_parser::modules::net;
 use verilog_tree::tree::Net;
 
 /// Three ports, one register, two wires, three assigns, the initial block and the always block.
-pub const COUNTER: &str = "module counter(input wire clk, input wire en, output wire done);
+pub fn counter() -> &'static str {
+    "module counter(input wire clk, input wire en, output wire done);
   reg [1:0] q_0;
   wire [1:0] n_1;
   wire [1:0] c_2;
@@ -25,7 +26,8 @@ pub const COUNTER: &str = "module counter(input wire clk, input wire en, output 
     q_0 <= n_1;
   end
 endmodule
-";
+"
+}
 
 /// The tree of a text, well formed or not.
 pub fn parsed(alloc: Global, text: &str) -> Result<Net, Fault> {

@@ -1,13 +1,13 @@
 // Netlists laid out, and their texts, compared with texts by hand.
 
-use crate::small::{COUNTER, laid, parsed};
+use crate::small::{counter, laid, parsed};
 use std::test::Fail;
 use verilog_tree::name::Quoted;
 use verilog_writer::write;
 
 #[test]
 fn lays_a_counter_out(rt: HostRuntime) -> Result<(), Fail> {
-    let net = laid(rt.alloc(), COUNTER)?;
+    let net = laid(rt.alloc(), counter())?;
     match net.modules.as_slice() {
         [laid] => {
             assert!(rt; laid.name.as_str() == "counter");
@@ -18,7 +18,8 @@ fn lays_a_counter_out(rt: HostRuntime) -> Result<(), Fail> {
     Ok(())
 }
 
-const EACH_FORM: &str = "module bank(input wire clk, input wire [7:0] value);
+fn each_form() -> &'static str {
+    "module bank(input wire clk, input wire [7:0] value);
 endmodule
 module forms(input wire clk, input wire [7:0] x, input wire [7:0] x_0);
   wire [7:0] x_1;
@@ -48,12 +49,13 @@ module forms(input wire clk, input wire [7:0] x, input wire [7:0] x_0);
   end
   bank u_x_0(.clk(clk), .value(x));
 endmodule
-";
+"
+}
 
 /// What is laid out of a netlist is written as the text that has it.
 #[test]
 fn writes_what_is_laid_out(rt: HostRuntime) -> Result<(), Fail> {
-    for text in [COUNTER, EACH_FORM] {
+    for text in [counter(), each_form()] {
         let net = laid(rt.alloc(), text)?;
         let written = write(rt.alloc(), &net)?;
         assert!(rt; written.as_slice() == text.as_bytes());
@@ -62,7 +64,8 @@ fn writes_what_is_laid_out(rt: HostRuntime) -> Result<(), Fail> {
 }
 
 /// A block with a condition round two statements.
-const PRINTING: &str = "module printing(input wire clk);
+fn printing() -> &'static str {
+    "module printing(input wire clk);
   always @(posedge clk) begin
     if (x_2) begin
       $write(\"%0d, %0d\\n\", x, $signed(x_0));
@@ -70,13 +73,14 @@ const PRINTING: &str = "module printing(input wire clk);
     end
   end
 endmodule
-";
+"
+}
 
 #[test]
 fn writes_a_block(rt: HostRuntime) -> Result<(), Fail> {
-    let net = parsed(rt.alloc(), PRINTING)?;
+    let net = parsed(rt.alloc(), printing())?;
     let text = write(rt.alloc(), &net)?;
-    assert!(rt; text.as_slice() == PRINTING.as_bytes());
+    assert!(rt; text.as_slice() == printing().as_bytes());
     Ok(())
 }
 

@@ -6,7 +6,6 @@ use verilog_tree::name::{Identifier, Quoted};
 use verilog_tree::tree::{BinaryOperator, DivisionOperator};
 
 /// The right side of a continuous assignment (IEEE 1364-2005, 5.1), over places.
-#[derive(Drop)]
 pub enum Value {
     Copy(usize),
     Constant(u64),
@@ -61,7 +60,6 @@ pub enum Value {
 }
 
 /// What gives a signal its number.
-#[derive(Drop)]
 pub enum Source {
     /// An input port: the signal that the instance is connected to, and outermost the choice.
     Input,
@@ -74,7 +72,6 @@ pub enum Source {
 }
 
 /// A port, a wire or a register of `width` bits, 1 to 64.
-#[derive(Drop)]
 pub struct Signal {
     pub name: Identifier,
     pub width: u64,
@@ -83,7 +80,6 @@ pub struct Signal {
 }
 
 /// A memory, with the initial constant of each word.
-#[derive(Drop)]
 pub struct Memory {
     pub name: Identifier,
     pub width: u64,
@@ -98,7 +94,6 @@ pub enum Argument {
 }
 
 /// What one statement of an edge does, where its conditions hold.
-#[derive(Drop)]
 pub enum Effect {
     Set {
         register: usize,
@@ -116,7 +111,6 @@ pub enum Effect {
 }
 
 /// A statement under the conditions of the ifs round it, the outermost first.
-#[derive(Drop)]
 pub struct Action {
     pub conditions: Items<usize>,
     pub effect: Effect,
@@ -124,7 +118,6 @@ pub struct Action {
 
 /// An instance of an earlier module: for each input port and each output port of that module, in order, the signal of
 /// this module that it is connected to.
-#[derive(Drop)]
 pub struct Instance {
     pub name: Identifier,
     pub of: usize,
@@ -133,7 +126,6 @@ pub struct Instance {
 }
 
 /// A module. Its input ports stand first among its signals, and its output ports last.
-#[derive(Drop)]
 pub struct Module {
     pub name: Identifier,
     pub signals: Items<Signal>,
@@ -143,7 +135,144 @@ pub struct Module {
 }
 
 /// The modules, each after those that it has instances of.
-#[derive(Drop)]
 pub struct Netlist {
     pub modules: Items<Module>,
+}
+
+// A drop that is written here is proved here; a derived one is proved again in each crate that drops the type.
+
+impl Drop for Signal {
+    fn drop(self) {
+        let Signal {
+            name: _,
+            width: _,
+            is_output: _,
+            source: _,
+        } = self;
+    }
+}
+
+impl Drop for Memory {
+    fn drop(self) {
+        let Memory {
+            name: _,
+            width: _,
+            initial: _,
+        } = self;
+    }
+}
+
+impl Drop for Action {
+    fn drop(self) {
+        let Action {
+            conditions: _,
+            effect: _,
+        } = self;
+    }
+}
+
+impl Drop for Instance {
+    fn drop(self) {
+        let Instance {
+            name: _,
+            of: _,
+            inputs: _,
+            outputs: _,
+        } = self;
+    }
+}
+
+impl Drop for Module {
+    fn drop(self) {
+        let Module {
+            name: _,
+            signals: _,
+            memories: _,
+            actions: _,
+            instances: _,
+        } = self;
+    }
+}
+
+impl Drop for Value {
+    fn drop(self) {
+        match self {
+            Value::Copy(_) => {}
+            Value::Constant(_) => {}
+            Value::BitwiseNot(_) => {}
+            Value::Binary {
+                operator: _,
+                left: _,
+                right: _,
+            } => {}
+            Value::SignedLess { left: _, right: _ } => {}
+            Value::ArithmeticShiftRight { left: _, right: _ } => {}
+            Value::Conditional {
+                condition: _,
+                if_true: _,
+                if_false: _,
+            } => {}
+            Value::Division {
+                operator: _,
+                left: _,
+                right: _,
+            } => {}
+            Value::SignedDivision {
+                operator: _,
+                left: _,
+                right: _,
+            } => {}
+            Value::MemoryRead {
+                memory: _,
+                address: _,
+            } => {}
+            Value::Select {
+                of: _,
+                high: _,
+                low: _,
+            } => {}
+            Value::Concatenation(_) => {}
+            Value::Replication { count: _, of: _ } => {}
+        }
+    }
+}
+
+impl Drop for Source {
+    fn drop(self) {
+        match self {
+            Source::Input => {}
+            Source::Register(_) => {}
+            Source::Assigned(_) => {}
+            Source::Port {
+                instance: _,
+                port: _,
+            } => {}
+        }
+    }
+}
+
+impl Drop for Effect {
+    fn drop(self) {
+        match self {
+            Effect::Set {
+                register: _,
+                source: _,
+            } => {}
+            Effect::Store {
+                memory: _,
+                address: _,
+                source: _,
+            } => {}
+            Effect::Write {
+                text: _,
+                arguments: _,
+            } => {}
+        }
+    }
+}
+
+impl Drop for Netlist {
+    fn drop(self) {
+        let Netlist { modules: _ } = self;
+    }
 }

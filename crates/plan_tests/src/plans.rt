@@ -6,6 +6,7 @@ use block_ir::plan::{Planned, StagePlan};
 use c_program::tree::BinaryOperator::{Add, Divide, Multiply};
 use least_plan::plan;
 use std::alloc::{AllocError, Global};
+use std::process::Abort;
 use std::test::Fail;
 
 fn planned(alloc: Global, list: &[Small], last: u32) -> Result<Planned, AllocError> {
@@ -95,7 +96,9 @@ const PLANS: [(&[Small], u32, &str); 5] = [
 fn plans(rt: HostRuntime) -> Result<(), Fail> {
     for (list, last, expected) in &PLANS {
         let out = shown(rt.alloc(), list, *last)?;
-        assert!(rt; out.as_str() == *expected, "{expected}");
+        if out.as_str() != *expected {
+            rt.panic(*expected);
+        }
     }
     Ok(())
 }

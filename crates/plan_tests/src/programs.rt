@@ -5,13 +5,15 @@ use c_profile::accept;
 use program_plans::{PlannedFunction, plan_functions};
 use sqlite_items::Items;
 use std::alloc::Global;
+use std::process::Abort;
 use std::test::Fail;
 use std::thread::Threads;
 
 /// Main, which stands last, first creates the thread whose function stands second.
-const TEXT: &str =
+fn text() -> &'static str {
     "pthread_t t; pthread_t u; int x; void *late(void *p){return NULL;} void *early(void *q){x = (int)(long)q; return NULL;} \
-    int main(void){pthread_create(&t, NULL, early, (void *)(long)3); pthread_create(&u, NULL, late, NULL); pthread_join(t, NULL); pthread_join(u, NULL); return 0;}";
+    int main(void){pthread_create(&t, NULL, early, (void *)(long)3); pthread_create(&u, NULL, late, NULL); pthread_join(t, NULL); pthread_join(u, NULL); return 0;}"
+}
 
 /// Main comes first, then the others in the order of their definitions. Of each the variable of the argument, and how
 /// many steps of C a stage does as a block; the stages with 0 are acts. Operands of an act are evaluated by a step of their own,
@@ -76,13 +78,12 @@ fn is_planned(
 #[test]
 fn plans_each_thread_function(rt: HostRuntime) -> Result<(), Fail> {
     for jobs in [1, 2] {
-        let plans = plans_of(&rt, rt.alloc(), TEXT, jobs)?;
+        let plans = plans_of(&rt, rt.alloc(), text(), jobs)?;
         assert!(rt; plans.len() == 3);
         for (planned, (name, argument, wanted)) in plans.as_slice().iter().zip(&PLANNED) {
-            assert!(rt;
-                is_planned(planned, name, *argument, wanted),
-                "{name} at {jobs}"
-            );
+            if !is_planned(planned, name, *argument, wanted) {
+                rt.panic(*name);
+            }
         }
     }
     Ok(())

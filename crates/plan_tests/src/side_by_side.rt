@@ -8,6 +8,7 @@ use c_program::tree::BinaryOperator::Multiply;
 use least_plan::plan;
 use parallel_plan::plan_all;
 use std::alloc::{AllocError, Global};
+use std::process::Abort;
 use std::test::Fail;
 
 const FIRST: Small = Binary(Multiply, Local, Local);
@@ -55,10 +56,14 @@ fn plans_each_code(rt: HostRuntime) -> Result<(), Fail> {
     let codes = codes(rt.alloc())?;
     for jobs in [0, 1, 2, 3, 16] {
         let plans = plan_all(&rt, rt.alloc(), codes.as_slice(), jobs)?;
-        assert!(rt; plans.len() == codes.len(), "at {jobs}");
+        if plans.len() != codes.len() {
+            rt.panic(jobs);
+        }
         for (code, planned) in codes.as_slice().iter().zip(plans.as_slice()) {
             let is_planned = is_planned(rt.alloc(), code, planned)?;
-            assert!(rt; is_planned, "at {jobs}");
+            if !is_planned {
+                rt.panic(jobs);
+            }
         }
     }
     Ok(())

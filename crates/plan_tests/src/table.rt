@@ -7,6 +7,7 @@ use op_graph::node::nodes;
 use op_graph::{constraints, reduced_constraints};
 use schedule_sdc::Constraint;
 use std::alloc::{AllocError, Global};
+use std::process::Abort;
 use std::test::Fail;
 
 fn table(alloc: Global, list: &[Small]) -> Result<Vec<Constraint>, AllocError> {
@@ -128,8 +129,9 @@ fn are_rows(list: &[Constraint], rows: &[Row]) -> bool {
 fn tables(rt: HostRuntime) -> Result<(), Fail> {
     for (list, rows) in &TABLES {
         let table = table(rt.alloc(), list)?;
-        let count = rows.len();
-        assert!(rt; are_rows(table.as_slice(), rows), "at {count} rows");
+        if !are_rows(table.as_slice(), rows) {
+            rt.panic(rows.len());
+        }
     }
     Ok(())
 }
@@ -138,8 +140,9 @@ fn tables(rt: HostRuntime) -> Result<(), Fail> {
 fn reduced_tables(rt: HostRuntime) -> Result<(), Fail> {
     for (list, rows) in &REDUCED {
         let reduced = reduced(rt.alloc(), list)?;
-        let count = rows.len();
-        assert!(rt; are_rows(reduced.as_slice(), rows), "at {count} rows");
+        if !are_rows(reduced.as_slice(), rows) {
+            rt.panic(rows.len());
+        }
     }
     Ok(())
 }

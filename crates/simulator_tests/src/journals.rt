@@ -3,6 +3,7 @@
 use journal_text::entry::Entry;
 use journal_text::spelling::spelled;
 use journal_text::text::parted;
+use std::process::Abort;
 use std::test::Fail;
 
 /// Two lines and what stands behind them.
@@ -44,7 +45,9 @@ fn a_misspelt_line_is_found(rt: HostRuntime) -> Result<(), Fail> {
     ] {
         let text = format!(in rt.alloc(); "//@ 1 2 -\n{line}")?;
         let parts = parted(rt.alloc(), text.as_bytes())?;
-        assert!(rt; parts.bad == Some(1usize), "{line}");
+        if parts.bad != Some(1usize) {
+            rt.panic(line);
+        }
         assert!(rt; parts.entries.as_slice().len() == 1);
     }
     Ok(())

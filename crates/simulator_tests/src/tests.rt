@@ -2,18 +2,19 @@
 
 ghost use Rattle.cycle_sim.specs.Opened.{IsOpenable};
 
-use crate::nets::{COUNTER, LOOPED, net_of};
+use crate::nets::{counter, looped, net_of};
 use cycle_sim::sim::{OpenError, Sim};
 use hls_io::Bytes;
 use netlist::netlist::Module;
 use round_robin::run::run;
 use std::alloc::{AllocError, Global};
+use std::process::Abort;
 use std::test::Fail;
 
 /// `left` and `right` depend on themselves, and `left` stands first: behind `clk` and `ready`.
 #[test]
 fn a_loop_is_named_by_its_first_signal(rt: HostRuntime) -> Result<(), Fail> {
-    let net = net_of(rt.alloc(), LOOPED)?;
+    let net = net_of(rt.alloc(), looped())?;
     let is_named = match Sim::open(rt.alloc(), net.modules.as_slice()) {
         Err(OpenError::Loop { module, signal }) => module == 0 && signal == 2,
         Err(OpenError::Memory) | Ok(_) => false,
@@ -40,7 +41,7 @@ fn takes_its_choice(sim: &mut Sim<'_>, out: &mut Bytes) -> Result<bool, AllocErr
 /// Both threads are enabled, `en` is 3, and `pref_0` is 5.
 #[test]
 fn a_cycle_takes_its_choice(rt: HostRuntime) -> Result<(), Fail> {
-    let net = net_of(rt.alloc(), COUNTER)?;
+    let net = net_of(rt.alloc(), counter())?;
     let mut sim = Sim::open(rt.alloc(), net.modules.as_slice())?;
     let mut out = Bytes::new(rt.alloc());
     let is_right = takes_its_choice(&mut sim, &mut out)?;
@@ -59,7 +60,7 @@ fn copy_ends(sim: &Sim<'_>, out: &mut Bytes, cycles: u32) -> Result<bool, AllocE
 /// A copy goes its own way.
 #[test]
 fn a_copy_leaves_its_original(rt: HostRuntime) -> Result<(), Fail> {
-    let net = net_of(rt.alloc(), COUNTER)?;
+    let net = net_of(rt.alloc(), counter())?;
     let mut sim = Sim::open(rt.alloc(), net.modules.as_slice())?;
     let mut out = Bytes::new(rt.alloc());
     let is_ended = copy_ends(&sim, &mut out, 2)?;
@@ -104,7 +105,7 @@ fn stand(sim: &mut Sim<'_>, out: &mut Bytes) -> Result<bool, AllocError> {
 /// Element j is word j / 2 of bank j modulo 2. The first edge makes word 1 of both banks 1.
 #[test]
 fn an_element_stands_in_its_bank(rt: HostRuntime) -> Result<(), Fail> {
-    let net = net_of(rt.alloc(), COUNTER)?;
+    let net = net_of(rt.alloc(), counter())?;
     let mut sim = Sim::open(rt.alloc(), net.modules.as_slice())?;
     let mut out = Bytes::new(rt.alloc());
     let is_right = stand(&mut sim, &mut out)?;
@@ -122,7 +123,7 @@ fn ends(sim: &mut Sim<'_>, out: &mut Bytes) -> Result<bool, AllocError> {
 /// In cycle k both threads are enabled, and `pref_0` is k.
 #[test]
 fn lockstep_ends_where_done_is_shown(rt: HostRuntime) -> Result<(), Fail> {
-    let net = net_of(rt.alloc(), COUNTER)?;
+    let net = net_of(rt.alloc(), counter())?;
     let mut sim = Sim::open(rt.alloc(), net.modules.as_slice())?;
     let mut out = Bytes::new(rt.alloc());
     let is_ended = ends(&mut sim, &mut out)?;
@@ -150,11 +151,12 @@ fn is_run(alloc: Global, modules: &[Module], row: &Row) -> Result<bool, OpenErro
 
 #[test]
 fn a_run_tells_its_cycles(rt: HostRuntime) -> Result<(), Fail> {
-    let net = net_of(rt.alloc(), COUNTER)?;
+    let net = net_of(rt.alloc(), counter())?;
     for row in &RUNS {
         let is_run = is_run(rt.alloc(), net.modules.as_slice(), row)?;
-        let most = row.0;
-        assert!(rt; is_run, "of {most}");
+        if !is_run {
+            rt.panic(row.0);
+        }
     }
     Ok(())
 }

@@ -152,7 +152,9 @@ pub fn each<R: Threads + Wait + Sync + Abort>(
     for (source, words, number, printed, line) in rows {
         let text = source.as_bytes();
         let is_right = is_right(rt, alloc, text, words, &SURE, *number, printed, line)?;
-        assert!(rt; is_right, "at {source}");
+        if !is_right {
+            rt.panic(*source);
+        }
     }
     Ok(())
 }

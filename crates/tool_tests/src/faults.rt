@@ -7,6 +7,7 @@ use c_profile::Refusal;
 use hls_io::MemSink;
 use hls_tool::{Status, WalkEnd, tell_memory};
 use std::alloc::{AllocError, Global};
+use std::process::Abort;
 use std::sync::Wait;
 use std::test::Fail;
 use std::thread::Threads;
@@ -62,7 +63,9 @@ fn tells_a_fault_of_each_read(rt: HostRuntime) -> Result<(), Fail> {
     for case in cases() {
         for number in 0..=case.0.as_bytes().chunks(16).count() as u64 {
             let is_right = read_fails(&rt, rt.alloc(), case, number.saturating_add(1))?;
-            assert!(rt; is_right, "at read {number}");
+            if !is_right {
+                rt.panic(number);
+            }
         }
     }
     Ok(())
@@ -135,7 +138,9 @@ fn tells_a_fault_of_each_write(rt: HostRuntime) -> Result<(), Fail> {
         for number in 0..4 {
             let is_right = out_fails(&rt, rt.alloc(), case, number, out)?
                 && err_fails(&rt, rt.alloc(), case, number, out, err)?;
-            assert!(rt; is_right, "at write {number}");
+            if !is_right {
+                rt.panic(number);
+            }
         }
     }
     Ok(())
@@ -246,7 +251,9 @@ fn judges_in_order(rt: HostRuntime) -> Result<(), Fail> {
             printed,
             line,
         )?;
-        assert!(rt; is_right, "at {line}");
+        if !is_right {
+            rt.panic(*line);
+        }
     }
     Ok(())
 }

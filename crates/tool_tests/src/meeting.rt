@@ -1,10 +1,11 @@
 // Workers that run side by side.
 
 use crate::call::{RUN, SURE, told_at};
-use crate::programs::{ADDING, COUNTING, PRINTING, SIXTY_THREE};
+use crate::programs::{ADDING, COUNTING, PRINTING, sixty_three};
 use hardware_threads::gate::Gate;
 use hls_tool::Status;
 use std::alloc::{AllocError, Global};
+use std::process::Abort;
 use std::sync::Wait;
 use std::sync::atomic::{AtomicBool, AtomicU64, Ordering};
 use std::test::Fail;
@@ -97,7 +98,9 @@ fn meeting_rows() -> &'static [(&'static str, u32)] {
 fn workers_meet(rt: HostRuntime) -> Result<(), Fail> {
     for (text, workers) in meeting_rows() {
         let met = all_meet(&rt, rt.alloc(), text, RUN, *workers, Status::Ok)?;
-        assert!(rt; met, "at {text}");
+        if !met {
+            rt.panic(*text);
+        }
     }
     Ok(())
 }
@@ -106,7 +109,7 @@ fn workers_meet(rt: HostRuntime) -> Result<(), Fail> {
 #[test]
 fn sixty_four_workers_meet(rt: HostRuntime) -> Result<(), Fail> {
     let words = ["hls", "run", "--entries", "1"];
-    let met = all_meet(&rt, rt.alloc(), SIXTY_THREE, &words, 64, Status::Entries)?;
+    let met = all_meet(&rt, rt.alloc(), sixty_three(), &words, 64, Status::Entries)?;
     assert!(rt; met);
     Ok(())
 }

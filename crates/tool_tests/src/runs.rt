@@ -3,6 +3,7 @@
 use crate::call::{Ended, REPLAY, SURE, told};
 use crate::programs::{ADDING, COUNTING, PRINTING, RACING, WAITING};
 use std::alloc::{AllocError, Global};
+use std::process::Abort;
 use std::sync::Wait;
 use std::test::Fail;
 use std::thread::Threads;
@@ -68,7 +69,9 @@ fn replayed_rows() -> &'static [(&'static str, u8)] {
 fn replays_a_run(rt: HostRuntime) -> Result<(), Fail> {
     for (text, number) in replayed_rows() {
         let is_right = is_replayed(&rt, rt.alloc(), text, *number, 2)?;
-        assert!(rt; is_right, "at {text}");
+        if !is_right {
+            rt.panic(*text);
+        }
     }
     Ok(())
 }

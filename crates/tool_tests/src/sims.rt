@@ -5,8 +5,9 @@ use hls_tool::Status;
 use std::test::Fail;
 
 /// A net of which `a_0` depends on itself.
-const CIRCLE: &str =
-    "module top(input wire clk, output wire done); wire a_0; assign a_0 = ~a_0; assign done = a_0 == a_0; endmodule";
+fn circle() -> &'static str {
+    "module top(input wire clk, output wire done); wire a_0; assign a_0 = ~a_0; assign done = a_0 == a_0; endmodule"
+}
 
 /// `done` after two cycles.
 pub const CLIMBING: &str =
@@ -15,7 +16,7 @@ pub const CLIMBING: &str =
 
 #[test]
 fn names_the_signal_of_a_loop(rt: HostRuntime) -> Result<(), Fail> {
-    let told = told(&rt, rt.alloc(), CIRCLE.as_bytes(), SIM, &SURE)?;
+    let told = told(&rt, rt.alloc(), circle().as_bytes(), SIM, &SURE)?;
     let is_right = match &told.outcome.status {
         Status::Loop { signal } => signal.as_str() == "a_0",
         _ => false,

@@ -62,7 +62,6 @@ pub enum Mark {
 }
 
 /// A token of a Verilog text.
-#[derive(Drop)]
 pub enum Token {
     Word(Word),
     Mark(Mark),
@@ -70,4 +69,18 @@ pub enum Token {
     /// A decimal number without leading zeros, below 2 to the 64.
     Number(u64),
     Quoted(Quoted),
+}
+
+// A drop that is written here is proved here; a derived one is proved again in each crate that drops the type.
+
+impl Drop for Token {
+    fn drop(self) {
+        match self {
+            Token::Word(_) => {}
+            Token::Mark(_) => {}
+            Token::Name(_) => {}
+            Token::Number(_) => {}
+            Token::Quoted(_) => {}
+        }
+    }
 }

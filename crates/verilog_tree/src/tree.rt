@@ -33,7 +33,6 @@ pub enum DivisionOperator {
 }
 
 /// The right side of a continuous assignment (IEEE 1364-2005, 5.1).
-#[derive(Drop)]
 pub enum Expression {
     /// `of`
     Copy(Identifier),
@@ -116,7 +115,6 @@ pub enum Direction {
 }
 
 /// `input wire [high:0] name`; without `high` there is no range.
-#[derive(Drop)]
 pub struct Port {
     pub direction: Direction,
     pub high: Option<u64>,
@@ -124,7 +122,6 @@ pub struct Port {
 }
 
 /// `name = value;` for a register, or `name[word] = value;` for a word of a memory.
-#[derive(Drop)]
 pub struct InitialConstant {
     pub name: Identifier,
     pub word: Option<u64>,
@@ -132,7 +129,6 @@ pub struct InitialConstant {
 }
 
 /// A value of `$write`: `name`, or `$signed(name)`.
-#[derive(Drop)]
 pub enum WriteArgument {
     Unsigned(Identifier),
     Signed(Identifier),
@@ -165,28 +161,24 @@ pub enum Statement {
 }
 
 /// `.port(signal)`
-#[derive(Drop)]
 pub struct Connection {
     pub port: Identifier,
     pub signal: Identifier,
 }
 
 /// `wire [high:0] name;`
-#[derive(Drop)]
 pub struct Wire {
     pub high: Option<u64>,
     pub name: Identifier,
 }
 
 /// `reg [high:0] name;`
-#[derive(Drop)]
 pub struct Register {
     pub high: Option<u64>,
     pub name: Identifier,
 }
 
 /// `reg [high:0] name [0:last];`
-#[derive(Drop)]
 pub struct Memory {
     pub high: u64,
     pub name: Identifier,
@@ -194,26 +186,22 @@ pub struct Memory {
 }
 
 /// `assign target = value;`
-#[derive(Drop)]
 pub struct Assign {
     pub target: Identifier,
     pub value: Expression,
 }
 
 /// `initial begin .. end`
-#[derive(Drop)]
 pub struct Initial {
     pub constants: Items<InitialConstant>,
 }
 
 /// `always @(posedge clk) begin .. end`
-#[derive(Drop)]
 pub struct Always {
     pub body: Items<Statement>,
 }
 
 /// `module_name name (.port(signal), .port(signal));`
-#[derive(Drop)]
 pub struct Instance {
     pub module_name: Identifier,
     pub name: Identifier,
@@ -221,7 +209,6 @@ pub struct Instance {
 }
 
 /// An item of a module.
-#[derive(Drop)]
 pub enum Item {
     Wire(Wire),
     Register(Register),
@@ -233,7 +220,6 @@ pub enum Item {
 }
 
 /// `module name (port, port); item item endmodule`
-#[derive(Drop)]
 pub struct Module {
     pub name: Identifier,
     pub ports: Items<Port>,
@@ -241,7 +227,179 @@ pub struct Module {
 }
 
 /// The modules of a text. A text reads as at most one net.
-#[derive(Drop)]
 pub struct Net {
     pub modules: Items<Module>,
+}
+
+// A drop that is written here is proved here; a derived one is proved again in each crate that drops the type.
+
+impl Drop for Expression {
+    fn drop(self) {
+        match self {
+            Expression::Copy(_) => {}
+            Expression::Constant(_) => {}
+            Expression::BitwiseNot(_) => {}
+            Expression::Binary {
+                operator: _,
+                left: _,
+                right: _,
+            } => {}
+            Expression::SignedLess { left: _, right: _ } => {}
+            Expression::ArithmeticShiftRight { left: _, right: _ } => {}
+            Expression::Conditional {
+                condition: _,
+                if_true: _,
+                if_false: _,
+            } => {}
+            Expression::Division {
+                tested: _,
+                zero: _,
+                guarded: _,
+                operator: _,
+                left: _,
+                right: _,
+            } => {}
+            Expression::SignedDivision {
+                tested: _,
+                zero: _,
+                guarded: _,
+                operator: _,
+                left: _,
+                right: _,
+            } => {}
+            Expression::MemoryRead {
+                tested: _,
+                bound: _,
+                memory: _,
+                address: _,
+                guarded: _,
+            } => {}
+            Expression::BitSelect { of: _, bit: _ } => {}
+            Expression::PartSelect {
+                of: _,
+                high: _,
+                low: _,
+            } => {}
+            Expression::Concatenation(_) => {}
+            Expression::Replication { count: _, of: _ } => {}
+        }
+    }
+}
+
+impl Drop for Port {
+    fn drop(self) {
+        let Port {
+            direction: _,
+            high: _,
+            name: _,
+        } = self;
+    }
+}
+
+impl Drop for InitialConstant {
+    fn drop(self) {
+        let InitialConstant {
+            name: _,
+            word: _,
+            value: _,
+        } = self;
+    }
+}
+
+impl Drop for WriteArgument {
+    fn drop(self) {
+        match self {
+            WriteArgument::Unsigned(_) => {}
+            WriteArgument::Signed(_) => {}
+        }
+    }
+}
+
+impl Drop for Connection {
+    fn drop(self) {
+        let Connection { port: _, signal: _ } = self;
+    }
+}
+
+impl Drop for Wire {
+    fn drop(self) {
+        let Wire { high: _, name: _ } = self;
+    }
+}
+
+impl Drop for Register {
+    fn drop(self) {
+        let Register { high: _, name: _ } = self;
+    }
+}
+
+impl Drop for Memory {
+    fn drop(self) {
+        let Memory {
+            high: _,
+            name: _,
+            last: _,
+        } = self;
+    }
+}
+
+impl Drop for Assign {
+    fn drop(self) {
+        let Assign {
+            target: _,
+            value: _,
+        } = self;
+    }
+}
+
+impl Drop for Initial {
+    fn drop(self) {
+        let Initial { constants: _ } = self;
+    }
+}
+
+impl Drop for Always {
+    fn drop(self) {
+        let Always { body: _ } = self;
+    }
+}
+
+impl Drop for Instance {
+    fn drop(self) {
+        let Instance {
+            module_name: _,
+            name: _,
+            connections: _,
+        } = self;
+    }
+}
+
+impl Drop for Item {
+    fn drop(self) {
+        match self {
+            Item::Wire(_) => {}
+            Item::Register(_) => {}
+            Item::Memory(_) => {}
+            Item::Assign(_) => {}
+            Item::Initial(_) => {}
+            Item::Always(_) => {}
+            Item::Instance(_) => {}
+        }
+    }
+}
+
+impl Drop for Module {
+    fn drop(self) {
+        let Module {
+            name: _,
+            ports: _,
+            items: _,
+        } = self;
+    }
+}
+
+impl Drop for Net {
+    fn drop(self) {
+        let Net { modules: _ } = self;
+    }
 }
