@@ -8,4 +8,5 @@ pub mod Alike
 pub mod Found
 pub mod Counting
 pub mod Stepped
+pub mod Rounded
 pub mod Prefs

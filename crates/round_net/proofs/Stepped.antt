@@ -38,7 +38,7 @@ module _ (layout : Layout) (modules : List Module) (n : Netlist) (w : IsWired mo
   threads_are = ap enables top_there ∙ ap enable_width w.is_top.signals
 
   -- each core has its pref
-  prefs_enough : K ≤ 2 ^ 64 → K ≤ P
+  pub prefs_enough : K ≤ 2 ^ 64 → K ≤ P
   prefs_enough l =
       let counted = cores_counted layout modules w.top w.is_top l in
       let same = ap prefs_in top_there in

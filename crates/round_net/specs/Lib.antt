@@ -1,4 +1,5 @@
 pub mod Alike
 pub mod Found
+pub mod Rounded
 pub mod Stepped
 pub mod Prefs

@@ -3,6 +3,7 @@
 ghost use Rattle.round_net.specs.Alike.{EndsAsTop, RunsAsTop, WritesAsTop};
 ghost use Rattle.round_net.specs.Found.{RoundIsFound};
 ghost use Rattle.round_net.specs.Prefs.{PrefsAreCounted};
+ghost use Rattle.round_net.specs.Rounded.{RoundsStand};
 ghost use Rattle.round_net.specs.Stepped.{StepsAsRound};
 
 /// After n cycles of `top_rr` the `top` in it is where n cycles of `top` under the choices of the rounds lead, and each run
@@ -35,4 +36,10 @@ pub fn prefs_are_counted()
 /// What `hls step` answers, which runs `top` under the choices of the rounds until it is done, `top_rr` does.
 pub fn steps_as_round()
     ensures { StepsAsRound }
+{}
+
+/// In a net that is wired of sound modules `top_rr` stands beside `top`, has the output `done`, and writes and shows what `top` does under
+/// the choices of the rounds.
+pub fn rounds_stand()
+    ensures { RoundsStand }
 {}

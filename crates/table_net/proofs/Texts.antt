@@ -20,6 +20,7 @@ use Rattle.net_tables.specs.Whole.{IsWholeTable, AreThreads}
 use Rattle.net_tables.specs.Nets.{IsNetOfTable}
 use Rattle.net_tables.proofs.Sound.{tables_are_sound}
 use Rattle.net_tables.proofs.Netting.{tables_are_nets}
+use Rattle.round_net.proofs.Rounded.{rounds_stand}
 use Rattle.table_text.specs.Written.{IsWritten}
 use Rattle.table_net.specs.Texts.{IsNetOf, FollowsProgram, TextsAreNets, TextsAreGood}
 
@@ -51,6 +52,7 @@ module _ (t : Table) (modules : ℕ → Module) (leaves : ℕ → LeafPorts) (n 
     done = is_net.done.shows;
     loopless = is_net.loopless;
     takes = λ z e c choice. subst (λ m. FitsChoice n.modules m c) (same_Some top z (sym is_net.is_top ∙ e)) (is_net.fits c choice);
+    round = rounds_stand (layout_of t) (modules_of t) n written.wired (tables_are_sound t whole);
   }
 
   module _ (P : Program) (many : length t.threads ≡ thread_count P) (follows : FollowsProgram P n.modules top) where

@@ -20,10 +20,11 @@ use Rattle.good_verilog.specs.Program.{seen_of}
 use Rattle.good_verilog.specs.GoodVerilog.{IsGoodVerilog}
 use Rattle.net_tables.specs.Tables.{Table, layout_of, modules_of}
 use Rattle.net_tables.specs.Whole.{IsWholeTable, AreThreads}
+use Rattle.round_net.specs.Rounded.{HasRound}
 use Rattle.table_text.specs.Written.{IsWritten}
 
--- the netlist that a text reads as: it is sound, its `top` has the output `done`, no signal depends on itself, and it takes the choices of
--- so many threads
+-- the netlist that a text reads as: it is sound, its `top` has the output `done`, no signal depends on itself, it takes the choices of
+-- so many threads, and `top_rr` stands beside `top`
 pub record IsNetOf (threads : ℕ) (n : Netlist) (text : List ℕ) : Type 0 where
   pub net : Net
   pub reads : Reads text net
@@ -34,6 +35,7 @@ pub record IsNetOf (threads : ℕ) (n : Netlist) (text : List ℕ) : Type 0 wher
   pub done : HasDone top
   pub loopless : (p : Place) → Depends n.modules top p p → ⊥
   pub takes : (top : Module) → top_of n.modules ≡ Some top → (c : Choice) → IsChoice threads c → FitsChoice n.modules top c
+  pub round : HasRound n.modules top threads
 
 -- THE TEXT READS AS THE NET: so does that of a whole table
 abbrev pub TextsAreNets : Type 0
