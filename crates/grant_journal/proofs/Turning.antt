@@ -1,5 +1,5 @@
 -- A thread that has the board alone: its commit is neither stale, nor does it wait.
-use Rattle.std.specs.Prelude.{◌≡◌, ℕ, ◌+◌, ◌<◌, ◌≤◌, ◌⊎◌, List, [], ◌∷◌, length}
+use Rattle.std.specs.Prelude.{◌≡◌, ℕ, ◌+◌, ◌<◌, ◌≤◌, ◌⊎◌, List, [], ◌∷◌, ◌++◌, length}
 use Rattle.std.proofs.Common.{ap, sym, ◌∙◌, subst, ⊎_elim, arith, length-append}
 use Rattle.netlist.specs.declared.netlist.Module.{Module}
 use Rattle.verilog_meaning.specs.Cycles.{Valuation}
@@ -113,6 +113,12 @@ module _ (modules : List Module) (count most i closed : ℕ) (start local : Held
       let g : IsGiven modules count most i start closed journal local grown left answers.Committed =
       subst (λ (x : Answer). IsGiven modules count most i start closed journal local grown left x) e given in
       let x = g.holds in ap length x.added ∙ length-append journal (made i closed x.opened ∷ [])
+
+  pub grown_added : a ≡ answers.Committed → (entry : Entry) × (grown ≡ journal ++ entry ∷ [])
+  grown_added e =
+      let g : IsGiven modules count most i start closed journal local grown left answers.Committed =
+      subst (λ (x : Answer). IsGiven modules count most i start closed journal local grown left x) e given in
+      let x = g.holds in (made i closed x.opened, x.added)
 
   pub grown_within : a ≡ answers.Committed → length journal ≤ most → length journal < most
   grown_within e l =

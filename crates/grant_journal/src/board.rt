@@ -1,6 +1,7 @@
 // What lies under the lock.
 
-ghost use Rattle.std.specs.Prelude.{◌≡◌, ◌<◌, ◌≤◌, ◌+◌, [], length, IfOk, IfSome, IfNone, OnErr};
+ghost use Rattle.std.specs.Prelude.{◌≡◌, ◌<◌, ◌≤◌, ◌+◌, [], ◌∷◌, ◌++◌, length, IfOk, IfSome, IfNone, OnErr};
+ghost use Rattle.journal_text.specs.declared.entry.Entry.{Entry};
 ghost use Rattle.sim_layout.specs.Running.{IsSameNet};
 ghost use Rattle.cycle_sim.specs.Opened.{IsOpened};
 ghost use Rattle.journal_laws.specs.Steps.{InTop};
@@ -133,6 +134,7 @@ impl<'a, J: Case> Board<'a, J> {
     ) -> Result<Option<Verdict>, AllocError>
         ensures ended { IfOk result (λ r. IfSome r (λ v. IsOver J.modules J.threads J.most self.old v × (self.new ≡ self.old))) }
         ensures more { IfOk result (λ r. IfNone r (length self.new ≡ length self.old + 1)) }
+        ensures added { IfOk result (λ r. IfNone r ((entry : Entry) × (self.new ≡ self.old ++ entry ∷ []))) }
         ensures within { IfOk result (λ r. IfNone r (length self.old < J.most)) }
     {
         let _ = self.sim.threads();

@@ -1,4 +1,4 @@
-use Rattle.std.specs.Prelude.{◌≡◌, ◌+◌, ◌≤◌, List, length, vec_capacity, refl}
+use Rattle.std.specs.Prelude.{◌≡◌, ◌+◌, ◌≤◌, List, [], ◌∷◌, ◌++◌, length, vec_capacity, refl}
 use Rattle.std.proofs.Common.{subst, arith, rules, ap, ◌∙◌}
 use Rattle.verilog_meaning.specs.Cycles.{Valuation}
 use Rattle.verilog_meaning.specs.Threads.{IsSame}
@@ -6,7 +6,7 @@ use Rattle.journal_text.specs.declared.entry.Entry.{Entry}
 use Rattle.journal_laws.specs.Journal.{LeadsTo}
 use Rattle.grant_journal.specs.Boards.{IsSlotAt, IsGiven}
 use Rattle.grant_journal.proofs.Offering.{one_state}
-use Rattle.grant_journal.proofs.Turning.{runs_on, goes_through, grown_more, grown_within, grown_over}
+use Rattle.grant_journal.proofs.Turning.{runs_on, goes_through, grown_more, grown_added, grown_within, grown_over}
 use Rattle.grant_journal.proofs.board.Board.turn.Goals as goal
 
 pub same-self : goal.same-self
@@ -39,6 +39,9 @@ returns-in_err-commit-clause-ended g c = search rules
 
 pub returns-in_err-commit-clause-more : goal.returns-in_err-commit-clause-more
 returns-in_err-commit-clause-more g c = search rules
+
+pub returns-in_err-commit-clause-added : goal.returns-in_err-commit-clause-added
+returns-in_err-commit-clause-added g c = search rules
 
 pub returns-in_err-commit-clause-within : goal.returns-in_err-commit-clause-within
 returns-in_err-commit-clause-within g c = search rules
@@ -73,6 +76,13 @@ returns-in-Committed-clause-more g c =
     c.next.new.self c.commit.new.self c.commit.new.local
     c.in_ok-commit.field-0 c.in_ok-commit.ensures.given c.in-Committed.is
     ∙ ap (λ (j : List Entry). length j + 1) c.in-Thread.ensures.journal
+
+pub returns-in-Committed-clause-added : goal.returns-in-Committed-clause-added
+returns-in-Committed-clause-added g c =
+    let grown = grown_added g.J.Case.modules g.J.Case.threads g.J.Case.most c.in-Thread.thread c.closed-closed.result c.copy_slot.new.local c.closed-closed.new.self
+    c.next.new.self c.commit.new.self c.commit.new.local
+    c.in_ok-commit.field-0 c.in_ok-commit.ensures.given c.in-Committed.is in
+    (grown.0, grown.1 ∙ ap (λ (j : List Entry). j ++ grown.0 ∷ []) c.in-Thread.ensures.journal)
 
 pub returns-in-Committed-clause-within : goal.returns-in-Committed-clause-within
 returns-in-Committed-clause-within g c =
