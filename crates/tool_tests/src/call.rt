@@ -1,6 +1,6 @@
 // Calls of the tool.
 
-use hardware_threads::gate::{Gate, OpenGate};
+use crate::meeting::Meeting;
 use hls_io::{MemSink, MemSource};
 use hls_tool::{Outcome, Status, hls};
 use std::alloc::{AllocError, Global};
@@ -56,14 +56,15 @@ fn words_of(alloc: Global, words: &[&str]) -> Result<Vec<String>, AllocError> {
         .try_collect(alloc)
 }
 
-/// What a call on the text answers over such streams, where workers stop at the gate.
-pub fn told_at<'a, R: Threads + Wait + Sync, G: Gate + Sync>(
+/// What a call on the text answers over such streams, where workers meet at the gate. There is one kind of gate in all tests, since the whole
+/// call is compiled for each kind.
+pub fn told_at<'a, R: Threads + Wait + Sync>(
     rt: &R,
     alloc: Global,
     text: &[u8],
     words: &[&str],
     streams: &Streams<'a>,
-    gate: &G,
+    gate: &Meeting,
 ) -> Result<Box<Ended<'a>>, AllocError> {
     let (reads, outs, errs) = (streams.reads, streams.outs, streams.errs);
     let words = words_of(alloc, words)?;
@@ -83,7 +84,7 @@ pub fn told<'a, R: Threads + Wait + Sync>(
     words: &[&str],
     streams: &Streams<'a>,
 ) -> Result<Box<Ended<'a>>, AllocError> {
-    told_at(rt, alloc, text, words, streams, &OpenGate)
+    told_at(rt, alloc, text, words, streams, &Meeting::of(0))
 }
 
 /// Whether the call ended so, and out and err took just these bytes.

@@ -16,9 +16,9 @@ use std::thread::Threads;
 const TURNS: u64 = 1_000_000_000;
 
 /// A gate at which each worker raises a flag, at its first `before_closed` and at its first `after_closed`, and waits there for the flags of
-/// all.
+/// all. For no workers it is open.
 #[derive(Drop)]
-struct Meeting {
+pub struct Meeting {
     all: u64,
     before: AtomicU64,
     after: AtomicU64,
@@ -26,7 +26,7 @@ struct Meeting {
 }
 
 impl Meeting {
-    fn of(workers: u32) -> Meeting {
+    pub fn of(workers: u32) -> Meeting {
         let all = if workers < 64 {
             (1u64 << workers) - 1
         } else {
@@ -41,7 +41,7 @@ impl Meeting {
     }
 
     fn meet(&self, flags: &AtomicU64, worker: u32) {
-        if worker >= 64 {
+        if worker >= 64 || self.all == 0 {
             return;
         }
         let flag = 1u64 << worker;
