@@ -36,6 +36,7 @@ impl GlobalName {
         })
     }
 
+    /// The name as a text.
     pub fn as_str(&self) -> &str
         ensures bytes { result.now ≡ self.now }
         ensures name { all_pass is_name_byte self.now ≡ true }

@@ -33,8 +33,8 @@
 // which reads earlier signals of right widths, and none of the first ones, the inputs; and the words, bits and last links
 // that it answers stand, as wide as they say. There the memories are the arrays of the code.
 //
-// Of accesses past an array's end nothing is said: a step of the source that makes one is undefined. Arrays that are
-// written are not spoken of yet.
+// Of accesses past an array's end nothing is said: a step of the source that makes one is undefined. Of arrays that are
+// written `thread_slots` speaks.
 
 pub mod accesses;
 pub mod ending;

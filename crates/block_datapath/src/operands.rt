@@ -39,6 +39,7 @@ pub fn operand_word(
     all_converted(wires, word, operand.conversions.as_slice())
 }
 
+/// Wires for the conversions of a word, one behind the other.
 pub fn all_converted(wires: &mut Wires, word: Word, types: &[CType]) -> Result<Word, AllocError>
     ensures shows { IfOk result (Converts wires.old.signals wires.new.signals word types.now) }
     ensures wired { IfOk result (AreConverted wires.old.signals wires.new.signals word types.now) }
@@ -170,12 +171,14 @@ pub fn kept_in(registers: &Registers, number: Option<u32>) -> Option<Held>
     }
 }
 
+/// The register with this number, if there is one.
 pub fn held_at(registers: &[Held], number: usize) -> Option<Held>
     ensures { result ≡ slice_get registers.now number }
 {
     registers.get(number).copied()
 }
 
+/// The type with this number, if there is one.
 pub fn type_at(types: &[CType], number: usize) -> Option<CType>
     ensures { result ≡ slice_get types.now number }
 {

@@ -105,6 +105,7 @@ pub fn value_argument(
     }
 }
 
+/// The values of a call of a function of the text, each an integer.
 #[tactic(auto, unfolding(crate::specs::Arguments::value_arguments))]
 pub fn value_arguments(
     alloc: Global,
@@ -199,6 +200,7 @@ fn object_of(kind: ObjectKind, known: Known) -> Option<Object>
     }
 }
 
+/// Whether a name is not declared (C99 6.2.1).
 pub fn is_unknown(known: Known) -> bool
     ensures { result ≡ spec.is_unknown known }
 {

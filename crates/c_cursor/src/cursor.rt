@@ -32,18 +32,21 @@ impl<'a> Model for Cursor<'a> {
 
 /// A fact of the next token.
 impl<'a> Cursor<'a> {
+    /// A cursor before the first of the tokens.
     pub fn new(tokens: &'a [Token]) -> Cursor<'a>
         ensures { result ≡ tokens.now }
     {
         Cursor { rest: tokens }
     }
 
+    /// How many tokens are left.
     pub fn left(&self) -> usize
         ensures { result ≡ length self.now }
     {
         self.rest.len()
     }
 
+    /// Whether the sign, a keyword or a punctuator, is next.
     pub fn sees(&self, sign: Sign) -> bool
         ensures { result ≡ sees (tokens_of.is sign) self.now }
     {
@@ -53,6 +56,7 @@ impl<'a> Cursor<'a> {
         }
     }
 
+    /// Whether an identifier is next (C99 6.4.2).
     pub fn sees_name(&self) -> bool
         ensures { result ≡ sees tokens_of.is_name self.now }
     {
@@ -62,6 +66,7 @@ impl<'a> Cursor<'a> {
         }
     }
 
+    /// Whether a constant is next (C99 6.4.4).
     pub fn sees_constant(&self) -> bool
         ensures { result ≡ sees tokens_of.is_constant self.now }
     {
@@ -71,6 +76,7 @@ impl<'a> Cursor<'a> {
         }
     }
 
+    /// Whether a string literal is next (C99 6.4.5).
     pub fn sees_text(&self) -> bool
         ensures { result ≡ sees tokens_of.is_text self.now }
     {
@@ -80,6 +86,7 @@ impl<'a> Cursor<'a> {
         }
     }
 
+    /// Whether a word of a type is next (C99 6.7.2).
     pub fn sees_type_word(&self) -> bool
         ensures { result ≡ sees tokens_of.is_type_word self.now }
     {
@@ -89,6 +96,7 @@ impl<'a> Cursor<'a> {
         }
     }
 
+    /// Whether `+`, `-`, `~` or `!` is next (C99 6.5.3).
     pub fn sees_unary_operator(&self) -> bool
         ensures { result ≡ sees tokens_of.is_unary self.now }
     {
@@ -98,6 +106,7 @@ impl<'a> Cursor<'a> {
         }
     }
 
+    /// Whether `++` or `--` is next.
     pub fn sees_direction(&self) -> bool
         ensures { result ≡ sees tokens_of.is_direction self.now }
     {
@@ -117,6 +126,7 @@ impl<'a> Cursor<'a> {
         }
     }
 
+    /// Whether the next token can begin a cast expression (C99 6.5.4).
     pub fn begins_cast(&self) -> bool
         ensures { result ≡ sees spec.begins_cast self.now }
     {
@@ -126,6 +136,7 @@ impl<'a> Cursor<'a> {
         }
     }
 
+    /// Whether the next token can begin an argument of a call.
     pub fn begins_argument(&self) -> bool
         ensures { result ≡ sees spec.begins_argument self.now }
     {
@@ -135,6 +146,7 @@ impl<'a> Cursor<'a> {
         }
     }
 
+    /// Whether the next token can begin an assignment, a step or a call as a statement.
     pub fn begins_simple(&self) -> bool
         ensures { result ≡ sees spec.begins_simple self.now }
     {
@@ -144,6 +156,7 @@ impl<'a> Cursor<'a> {
         }
     }
 
+    /// Whether the next token can begin a statement with statements inside.
     pub fn begins_compound(&self) -> bool
         ensures { result ≡ sees spec.begins_compound self.now }
     {
@@ -153,6 +166,7 @@ impl<'a> Cursor<'a> {
         }
     }
 
+    /// Whether the next token can begin a statement (C99 6.8).
     pub fn begins_statement(&self) -> bool
         ensures { result ≡ sees spec.begins_statement self.now }
     {
@@ -162,6 +176,7 @@ impl<'a> Cursor<'a> {
         }
     }
 
+    /// Whether the next token can begin an item of a block (C99 6.8.2).
     pub fn begins_item(&self) -> bool
         ensures { result ≡ sees spec.begins_item self.now }
     {
@@ -230,18 +245,21 @@ impl<'a> Cursor<'a> {
         }
     }
 
+    /// Takes the punctuator, and gives its place. `Syntax` where another token is next.
     pub fn mark(&mut self, mark: Punctuator) -> Result<usize, Fault>
         ensures { Steps (spec.expect (Sign.Mark mark) self.old) result self.new }
     {
         self.expect(Sign::Mark(mark))
     }
 
+    /// Takes the keyword, and gives its place. `Syntax` where another token is next.
     pub fn word(&mut self, word: Keyword) -> Result<usize, Fault>
         ensures { Steps (spec.expect (Sign.Word word) self.old) result self.new }
     {
         self.expect(Sign::Word(word))
     }
 
+    /// Takes an identifier with its place. `Syntax` where another token is next.
     #[tactic(auto, unfolding(c_reading::specs::Tokens::read_name))]
     pub fn name(&mut self, alloc: Global) -> Result<Name, Fault>
         ensures { Steps (spec.read_name self.old) result self.new }
@@ -274,6 +292,7 @@ impl<'a> Cursor<'a> {
         Ok((Items::from_slice(alloc, bytes.as_slice())?, token.offset))
     }
 
+    /// Takes a constant as an expression. `Syntax` where another token is next.
     #[tactic(auto, unfolding(c_reading::specs::Tokens::read_constant))]
     pub fn constant(&mut self) -> Result<Expression, Fault>
         ensures { Steps (spec.read_constant self.old) result self.new }
@@ -321,6 +340,7 @@ impl<'a> Cursor<'a> {
         Ok((operator, token.offset))
     }
 
+    /// Takes a word of a type. `Syntax` where another token is next.
     #[tactic(auto, unfolding(c_reading::specs::Tokens::read_type_word))]
     pub fn type_word(&mut self) -> Result<TypeWord, Fault>
         ensures { Steps (spec.read_type_word self.old) result self.new }
@@ -350,6 +370,7 @@ impl<'a> Cursor<'a> {
         Ok((operator, token.offset))
     }
 
+    /// Takes `=` or a compound operator (C99 6.5.16). `Syntax` where another token is next.
     #[tactic(auto, unfolding(c_reading::specs::Tokens::read_assignment_operator))]
     pub fn assignment_operator(&mut self) -> Result<AssignmentOperator, Fault>
         ensures { Steps (spec.read_assignment_operator self.old) result self.new }

@@ -131,6 +131,7 @@ fn conversion_to_pointer(cursor: &mut Cursor<'_>, room: usize) -> Result<usize, 
     Ok(offset)
 }
 
+/// Reads `NULL`.
 #[tactic(auto, unfolding(c_reading::specs::Expressions::read_null))]
 pub fn null(cursor: &mut Cursor<'_>) -> Result<Pointer, Fault>
     ensures { Steps (spec.read_null cursor.old) result cursor.new }
@@ -231,6 +232,7 @@ impl<F: Fn(Global, &mut Cursor<'_>, usize, Part) -> Result<Boxed<Expression>, Fa
         Ok(Some(self.index(cursor, room)?))
     }
 
+    /// Reads a name, with its index where one stands behind it.
     #[tactic(auto, unfolding(c_reading::specs::Expressions::read_place))]
     pub fn place(&self, cursor: &mut Cursor<'_>, room: usize) -> Result<Place, Fault>
         requires { Nests room (F.pre self.now.read) (F.post self.now.read) }
@@ -241,6 +243,7 @@ impl<F: Fn(Global, &mut Cursor<'_>, usize, Part) -> Result<Boxed<Expression>, Fa
         Ok(Place { name, index })
     }
 
+    /// Reads `(void *)` and its operand.
     #[tactic(auto, unfolding(c_reading::specs::Expressions::read_converted_pointer))]
     pub fn converted_pointer(&self, cursor: &mut Cursor<'_>, room: usize) -> Result<Pointer, Fault>
         requires { Nests room (F.pre self.now.read) (F.post self.now.read) }

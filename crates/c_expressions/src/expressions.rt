@@ -365,6 +365,7 @@ pub fn argument(
     }
 }
 
+/// Looks at each argument of a call for the faults in it.
 #[cycle(expressions)]
 pub fn arguments(
     alloc: Global,

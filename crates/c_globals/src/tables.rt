@@ -2,6 +2,7 @@
 
 use c_program::tree as resolved;
 
+/// What a text has declared so far at file scope, by kind, each in the order of the declarations.
 #[derive(Drop)]
 pub struct Tables {
     pub functions: Vec<resolved::Function>,

@@ -23,6 +23,7 @@ pub struct Creation {
     pub offset: usize,
 }
 
+/// What is found so far.
 pub struct Findings {
     /// The first fault so far.
     pub fault: Option<Fault>,
@@ -32,6 +33,7 @@ pub struct Findings {
 }
 
 impl Findings {
+    /// Nothing is found.
     pub fn new(alloc: Global) -> Findings
         ensures { result ≡ spec.nothing }
     {
@@ -68,6 +70,7 @@ impl Findings {
         }
     }
 
+    /// A call of the function with this definition, in that of the caller; a call outside of definitions is not kept.
     pub fn add_call(
         &mut self,
         caller: Option<u32>,

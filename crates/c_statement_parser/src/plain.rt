@@ -225,6 +225,7 @@ fn on_name(
     }
 }
 
+/// Reads an assignment, a step or a call.
 #[tactic(auto, unfolding(c_reading::specs::Statements::read_simple))]
 pub fn simple(
     alloc: Global,
@@ -482,6 +483,7 @@ pub fn plain_statement(
 
 // ---- the heads of control statements
 
+/// Reads the condition of a control statement, with its parentheses.
 #[tactic(auto, unfolding(c_reading::specs::Statements::read_condition))]
 pub fn condition(
     alloc: Global,

@@ -82,6 +82,7 @@ impl<F: Fn(Global, &mut Cursor<'_>, usize) -> Result<Boxed<Statement>, Fault>> B
         Ok(found)
     }
 
+    /// Reads `{`, items and `}` (C99 6.8.2).
     #[tactic(auto, unfolding(c_reading::specs::Statements::read_block))]
     pub fn block(&self, cursor: &mut Cursor<'_>, room: usize) -> Result<Block, Fault>
         requires { NestsStatements room (F.pre self.now.read) (F.post self.now.read) }

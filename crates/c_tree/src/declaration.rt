@@ -24,6 +24,7 @@ pub struct TranslationUnit {
     pub declarations: Items<ExternalDeclaration>,
 }
 
+/// A declaration at file scope (C99 6.9).
 pub enum ExternalDeclaration {
     Function(Function),
     Objects(GlobalDeclaration),
@@ -40,6 +41,7 @@ pub struct Function {
     pub body: Option<Block>,
 }
 
+/// A parameter of a function (C99 6.7.5.3).
 pub struct Parameter {
     pub specifiers: Specifiers,
     pub is_pointer: bool,
@@ -63,6 +65,7 @@ pub struct GlobalDeclarator {
     pub initializer: Option<Initializer>,
 }
 
+/// What stands behind the `=` of a global (C99 6.7.8).
 pub enum Initializer {
     Value(Expression),
     /// Between braces; at least one.

@@ -40,6 +40,7 @@ pub struct Specifiers {
     pub offset: usize,
 }
 
+/// A unary operator (C99 6.5.3.3).
 #[derive(Clone, Copy, PartialEq, Eq)]
 pub enum UnaryOperator {
     Plus,
@@ -75,6 +76,7 @@ pub enum BinaryOperator {
     Remainder,
 }
 
+/// An expression and where it begins.
 #[cycle(expressions)]
 #[derive(Drop)]
 pub struct Expression {
@@ -131,6 +133,7 @@ pub struct Place {
     pub index: Option<Boxed<Expression>>,
 }
 
+/// A call by the called name (C99 6.5.2.2).
 #[cycle(expressions)]
 #[derive(Drop)]
 pub struct Call {
@@ -138,6 +141,7 @@ pub struct Call {
     pub arguments: Items<Argument>,
 }
 
+/// An argument of a call.
 #[cycle(expressions)]
 #[derive(Drop)]
 pub enum Argument {

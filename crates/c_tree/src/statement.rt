@@ -25,6 +25,7 @@ pub struct SimpleStatement {
     pub offset: usize,
 }
 
+/// What a simple statement is made of.
 pub enum SimpleForm {
     Assign(Place, AssignmentOperator, Expression),
     /// `++` or `--`, before the place or behind it.
@@ -55,6 +56,7 @@ pub struct Block {
     pub close: usize,
 }
 
+/// An item of a block (C99 6.8.2).
 #[cycle(statements)]
 #[derive(Drop)]
 pub enum BlockItem {

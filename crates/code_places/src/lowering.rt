@@ -148,18 +148,21 @@ impl Lowering {
         self.site = site;
     }
 
+    /// Whether the place at hand can be reached.
     pub fn is_reached(&self) -> bool
         ensures { result ≡ self.now.reached }
     {
         self.reached
     }
 
+    /// The number of the next printf call.
     pub fn site(&self) -> u32
         ensures { result ≡ self.now.site }
     {
         self.site
     }
 
+    /// The next printf call has this number.
     pub fn set_site(&mut self, site: u32)
         ensures { self.new ≡ record self.old { site = site } }
     {
@@ -183,6 +186,7 @@ impl Lowering {
         number_of(self.variables.len())
     }
 
+    /// A further label, which leads nowhere yet.
     pub fn new_label(&mut self) -> Result<usize, AllocError>
         ensures label { IfOk result (λ label. label ≡ length self.old.stages.labels) }
         ensures after { OnOk result (self.new ≡ control.with_label self.old) }

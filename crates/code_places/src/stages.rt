@@ -30,6 +30,7 @@ pub struct Stages {
 }
 
 impl Stages {
+    /// There are no stages and no labels.
     pub fn new(alloc: Global) -> Stages
         ensures stages { result.stages.items ≡ [] }
         ensures labels { result.labels ≡ [] }
@@ -44,6 +45,7 @@ impl Stages {
         }
     }
 
+    /// A further label, which leads nowhere yet.
     pub fn new_label(&mut self) -> Result<usize, AllocError>
         ensures label { IfOk result (λ label. label ≡ length self.old.labels) }
         ensures after { OnOk result (self.new ≡ record self.old { labels = self.old.labels ++ None ∷ [] }) }
@@ -69,6 +71,7 @@ impl Stages {
         Ok(())
     }
 
+    /// Whether something leads to the label.
     pub fn is_used(&self, label: usize) -> bool
         ensures { result ≡ spec.is_used self.now.used label }
     {
@@ -133,12 +136,14 @@ impl Stages {
         Ok(())
     }
 
+    /// Puts a stage that runs a block to the place at hand.
     pub fn push_block(&mut self, block: Block) -> Result<(), AllocError>
         ensures { OnOk result (spec.Pushes (Stage.Run block) self.old self.new) }
     {
         self.push(Stage::Run(block))
     }
 
+    /// Puts a stage of an act, and of where it leads, to the place at hand.
     pub fn push_act(&mut self, act: Act, next: usize) -> Result<(), AllocError>
         ensures { OnOk result (spec.Pushes (Stage.Act act next) self.old self.new) }
     {

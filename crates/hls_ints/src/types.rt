@@ -28,21 +28,25 @@ impl Model for CType {
 }
 
 impl CType {
+    /// `int`, of 32 bits.
     pub const INT: CType = CType {
         width: 32,
         signed: true,
     };
 
+    /// `unsigned int`, of 32 bits.
     pub const UNSIGNED_INT: CType = CType {
         width: 32,
         signed: false,
     };
 
+    /// `long`, of 64 bits.
     pub const LONG: CType = CType {
         width: 64,
         signed: true,
     };
 
+    /// `unsigned long`, of 64 bits.
     pub const UNSIGNED_LONG: CType = CType {
         width: 64,
         signed: false,

@@ -20,6 +20,7 @@ impl<R: Read> Model for StdSource<R> {
 }
 
 impl<R: Read> StdSource<R> {
+    /// A source over a reader, of which no read has failed.
     pub fn new(inner: R) -> Self
         ensures { result ≡ record { inner = inner; faults = 0 } }
     {
@@ -66,6 +67,7 @@ impl<W: Write> Model for StdSink<W> {
 }
 
 impl<W: Write> StdSink<W> {
+    /// A sink over a writer, of which no write has failed.
     pub fn new(inner: W) -> Self
         ensures { result ≡ record { inner = inner; faults = 0 } }
     {

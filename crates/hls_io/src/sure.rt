@@ -60,6 +60,7 @@ impl Source for SureSource<'_> {
 pub struct SureSink;
 
 impl SureSink {
+    /// It is always the same.
     pub fn new() -> Self {
         SureSink
     }

@@ -11,12 +11,16 @@ use hls_ints::ArithmeticFault;
 use std::alloc::{AllocError, Global};
 use thread_semantics::{BlockedCause, UndefinedCause};
 
+/// The line of words that are not of the command line.
 pub const USAGE: &[u8] = b"hls: usage\n";
 
+/// The line of a read that failed.
 pub const READ_FAULT: &[u8] = b"hls: read fault\n";
 
+/// The line of a write that failed.
 pub const WRITE_FAULT: &[u8] = b"hls: write fault\n";
 
+/// The line of want of memory.
 pub const MEMORY: &[u8] = b"hls: out of memory\n";
 
 /// What a rule says.

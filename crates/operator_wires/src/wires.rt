@@ -140,6 +140,7 @@ impl Wires {
         Ok(place)
     }
 
+    /// An input of `bits` bits.
     pub fn input(&mut self, role: Role, bits: u64) -> Result<usize, AllocError>
         ensures stands { IfOk result (Stands self.old.signals self.new.signals bits source.Input) }
         ensures laid { IfOk result (Lays self.old.signals self.new.signals role bits false source.Input) }
@@ -147,6 +148,7 @@ impl Wires {
         self.push(role, bits, false, Source::Input)
     }
 
+    /// A register of `bits` bits that begins with a number.
     pub fn register(&mut self, role: Role, bits: u64, initial: u64) -> Result<usize, AllocError>
         ensures stands { IfOk result (Stands self.old.signals self.new.signals bits (source.Register initial)) }
         ensures laid { IfOk result (Lays self.old.signals self.new.signals role bits false (source.Register initial)) }
@@ -171,6 +173,7 @@ impl Wires {
         self.push(Role::Wire, bits, false, Source::Assigned(right))
     }
 
+    /// A number of `bits` bits.
     pub fn constant(&mut self, bits: u64, number: u64) -> Result<usize, AllocError>
         ensures shows { IfOk result (λ place. Gives self.old.signals self.new.signals place bits (λ m r. number)) }
         ensures wired { IfOk result (ConstantAdds self.old.signals self.new.signals bits number) }
@@ -178,6 +181,7 @@ impl Wires {
         self.wire(bits, Value::Constant(number))
     }
 
+    /// The complement of a signal, in `bits` bits.
     pub fn not(&mut self, bits: u64, of: usize) -> Result<usize, AllocError>
         ensures shows { IfOk result (λ place. Gives self.old.signals self.new.signals place bits (λ m r. word_complement (width m of) (r.signal of))) }
         ensures wired { IfOk result (NotAdds self.old.signals self.new.signals bits of) }
@@ -233,6 +237,7 @@ impl Wires {
         self.binary(1, BinaryOperator::Equal, of, constant)
     }
 
+    /// One of two signals, by whether a condition is 0.
     pub fn choice(
         &mut self,
         bits: u64,

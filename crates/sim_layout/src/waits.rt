@@ -1,4 +1,4 @@
-// The steps that wait for words.
+// The steps that wait for words. The clauses say that no wait is lost; a step that is listed beyond them costs one look more.
 
 ghost use Rattle.std.specs.Prelude.{◌≡◌, ℕ, ◌<◌, ◌≤◌, None, length, option_and_then, slice_get, slice_index_or, IfOk, OnOk};
 ghost use Rattle.sim_layout.specs.Waits.{IsWaiting, IsListed};

@@ -65,6 +65,7 @@ pub fn memory_size(module: &Module, memory: usize) -> u64
     }
 }
 
+/// The width of a signal in bits; 0 where the module has none of this number.
 pub fn width_at(module: &Module, signal: usize) -> u32
     requires { IsWide module.now signal }
     ensures { result ≡ width module.now signal }

@@ -9,6 +9,7 @@ ghost use Rattle.thread_rooms.specs.Values as values;
 use c_program::tree::{Function, RightSide, Statement, ThreadCall};
 use straight_code::fault::LoweringFault;
 
+/// The sum, and `TooLarge` where it has no number of 32 bits.
 pub fn sum_of(a: u32, b: u32) -> Result<u32, LoweringFault>
     ensures sum { IfOk result (λ n. n ≡ a + b) }
     ensures full { IfErr result (IsFull (a + b)) }

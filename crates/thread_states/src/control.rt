@@ -18,7 +18,7 @@ use verilog_tree::tree::BinaryOperator;
 /// What happens at an edge.
 #[derive(Drop)]
 pub struct Edge {
-    /// Whether each bank is asked, and last the printer.
+    /// Whether each core is asked: banks, mutexes, barriers, the thread ids and the printer, in this order.
     pub asks: Items<usize>,
     /// Whether the state is left.
     pub leave: usize,
@@ -33,7 +33,7 @@ pub struct Edge {
 }
 
 /// Enabled, the state is left unless it waits or a request is not granted. What cores are asked that have not granted yet
-/// comes in as bits of banks, and last of the printer; what has been granted as a bit of each global.
+/// comes in as a bit of each core, in their order; what has been granted as a bit of each global.
 pub fn control(
     wires: &mut Wires,
     registers: &Registers,

@@ -149,6 +149,7 @@ impl<'a> Model for Cursor<'a> {
 
 /// A fact of the next token.
 impl<'a> Cursor<'a> {
+    /// A cursor before the first of the tokens.
     pub fn new(tokens: &'a [Token]) -> Cursor<'a>
         ensures { result ≡ tokens.now }
     {
@@ -162,6 +163,7 @@ impl<'a> Cursor<'a> {
         self.rest.len()
     }
 
+    /// Whether the sign is next.
     pub fn sees(&self, sign: Sign) -> bool
         ensures { result ≡ sees (signs.is sign) self.now }
     {
@@ -171,18 +173,21 @@ impl<'a> Cursor<'a> {
         }
     }
 
+    /// Whether the mark is next.
     pub fn sees_mark(&self, mark: Mark) -> bool
         ensures { result ≡ sees (signs.is (Sign.Mark mark)) self.now }
     {
         self.sees(Sign::Mark(mark))
     }
 
+    /// Whether the keyword is next.
     pub fn sees_word(&self, word: Word) -> bool
         ensures { result ≡ sees (signs.is (Sign.Word word)) self.now }
     {
         self.sees(Sign::Word(word))
     }
 
+    /// Whether an identifier is next (IEEE 1364-2005 section 3.7).
     pub fn sees_name(&self) -> bool
         ensures { result ≡ sees signs.is_name self.now }
     {
@@ -192,6 +197,7 @@ impl<'a> Cursor<'a> {
         }
     }
 
+    /// Whether a number is next.
     pub fn sees_number(&self) -> bool
         ensures { result ≡ sees signs.is_number self.now }
     {
@@ -201,6 +207,7 @@ impl<'a> Cursor<'a> {
         }
     }
 
+    /// Whether a binary operator is next.
     pub fn sees_operator(&self) -> bool
         ensures { result ≡ sees signs.is_operator self.now }
     {
@@ -210,6 +217,7 @@ impl<'a> Cursor<'a> {
         }
     }
 
+    /// Whether the next token can begin a statement.
     pub fn begins_statement(&self) -> bool
         ensures { result ≡ sees spec.begins_statement self.now }
     {
@@ -219,6 +227,7 @@ impl<'a> Cursor<'a> {
         }
     }
 
+    /// Whether the next token can begin an item of a module.
     pub fn begins_item(&self) -> bool
         ensures { result ≡ sees spec.begins_item self.now }
     {
@@ -231,6 +240,7 @@ impl<'a> Cursor<'a> {
 
 /// Taking a token.
 impl<'a> Cursor<'a> {
+    /// Takes the sign. `Syntax` where another token is next.
     #[tactic(auto, unfolding(verilog_rules::specs::Reading::expect))]
     pub fn expect(&mut self, sign: Sign) -> Result<(), Fault>
         ensures { Steps (spec.expect sign self.old) result self.new }
@@ -244,18 +254,21 @@ impl<'a> Cursor<'a> {
         }
     }
 
+    /// Takes the mark. `Syntax` where another token is next.
     pub fn mark(&mut self, mark: Mark) -> Result<(), Fault>
         ensures { Steps (spec.expect (Sign.Mark mark) self.old) result self.new }
     {
         self.expect(Sign::Mark(mark))
     }
 
+    /// Takes the keyword. `Syntax` where another token is next.
     pub fn word(&mut self, word: Word) -> Result<(), Fault>
         ensures { Steps (spec.expect (Sign.Word word) self.old) result self.new }
     {
         self.expect(Sign::Word(word))
     }
 
+    /// Takes an identifier. `Syntax` where another token is next.
     #[tactic(auto, unfolding(verilog_rules::specs::Reading::read_name))]
     pub fn name(&mut self) -> Result<Identifier, Fault>
         ensures { Steps (spec.read_name self.old) result self.new }
@@ -270,6 +283,7 @@ impl<'a> Cursor<'a> {
         Ok(name.clone()?)
     }
 
+    /// Takes a number. `Syntax` where another token is next.
     #[tactic(auto, unfolding(verilog_rules::specs::Reading::read_number))]
     pub fn number(&mut self) -> Result<u64, Fault>
         ensures { Steps (spec.read_number self.old) result self.new }
@@ -284,6 +298,7 @@ impl<'a> Cursor<'a> {
         Ok(*number)
     }
 
+    /// Takes a string. `Syntax` where another token is next.
     #[tactic(auto, unfolding(verilog_rules::specs::Reading::read_quoted))]
     pub fn quoted(&mut self) -> Result<Quoted, Fault>
         ensures { Steps (spec.read_quoted self.old) result self.new }
@@ -298,6 +313,7 @@ impl<'a> Cursor<'a> {
         Ok(text.clone()?)
     }
 
+    /// Takes a binary operator other than those of division. `Syntax` where another token is next.
     #[tactic(auto, unfolding(verilog_rules::specs::Reading::read_operator))]
     pub fn operator(&mut self) -> Result<BinaryOperator, Fault>
         ensures { Steps (spec.read_operator self.old) result self.new }
@@ -312,6 +328,7 @@ impl<'a> Cursor<'a> {
         Ok(operator)
     }
 
+    /// Takes `/` or `%`. `Syntax` where another token is next.
     #[tactic(auto, unfolding(verilog_rules::specs::Reading::read_division))]
     pub fn division(&mut self) -> Result<DivisionOperator, Fault>
         ensures { Steps (spec.read_division self.old) result self.new }
@@ -326,6 +343,7 @@ impl<'a> Cursor<'a> {
         Ok(operator)
     }
 
+    /// Takes `input` or `output`. `Syntax` where another token is next.
     #[tactic(auto, unfolding(verilog_rules::specs::Reading::read_direction))]
     pub fn direction(&mut self) -> Result<Direction, Fault>
         ensures { Steps (spec.read_direction self.old) result self.new }

@@ -24,6 +24,7 @@ fn range(cursor: &mut Cursor<'_>) -> Result<u64, Fault>
     Ok(high)
 }
 
+/// Reads `[high:0]` where a bracket is next, and gives `high`.
 #[tactic(auto, unfolding(verilog_rules::specs::Reading::read_optional_range))]
 pub fn optional_range(cursor: &mut Cursor<'_>) -> Result<Option<u64>, Fault>
     ensures { Steps (spec.read_optional_range cursor.old) result cursor.new }
@@ -35,6 +36,7 @@ pub fn optional_range(cursor: &mut Cursor<'_>) -> Result<Option<u64>, Fault>
     }
 }
 
+/// Reads a sized decimal constant, as `8'd255`.
 #[tactic(auto, unfolding(verilog_rules::specs::Reading::read_constant))]
 pub fn constant(cursor: &mut Cursor<'_>) -> Result<Constant, Fault>
     ensures { Steps (spec.read_constant cursor.old) result cursor.new }

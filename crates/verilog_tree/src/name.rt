@@ -44,6 +44,7 @@ impl Identifier {
         })
     }
 
+    /// The text.
     pub fn as_str(&self) -> &str
         ensures bytes { result.now ≡ self.now }
         ensures name { is_name self.now ≡ true }
@@ -118,6 +119,7 @@ impl Quoted {
         })
     }
 
+    /// The text.
     pub fn as_str(&self) -> &str
         ensures bytes { result.now ≡ self.now }
         ensures quoted { is_quoted false self.now ≡ true }

@@ -108,6 +108,7 @@ pub enum Expression {
     },
 }
 
+/// The direction of a port.
 #[derive(Clone, Copy, PartialEq, Eq)]
 pub enum Direction {
     Input,
